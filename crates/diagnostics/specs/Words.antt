@@ -1,0 +1,66 @@
+-- The numbers and the words of faults and refusals.
+use Rattle.std.specs.Prelude.{ℕ, List, codes}
+use Rattle.diagnostics.specs.declared.fault.Fault.{Fault}
+use Rattle.diagnostics.specs.declared.fault.Fault.TheVariants as fault
+use Rattle.diagnostics.specs.declared.refusal.Refusal.{Refusal}
+use Rattle.diagnostics.specs.declared.refusal.Refusal.TheVariants as refusal
+
+abbrev pub fault_number : Fault → ℕ
+fault_number fault.AssertionViolated = 1
+fault_number fault.ZeroDivisor = 2
+fault_number fault.IndexOutOfRange = 3
+fault_number fault.NoSuchChannel = 4
+fault_number fault.WrongNumberOfFields = 5
+fault_number fault.TooManyChannels = 6
+fault_number fault.DStepBlocks = 7
+fault_number fault.DStepTooLong = 8
+
+abbrev pub fault_words : Fault → List ℕ
+fault_words fault.AssertionViolated = codes "assertion violated"
+fault_words fault.ZeroDivisor = codes "zero divisor"
+fault_words fault.IndexOutOfRange = codes "index out of range"
+fault_words fault.NoSuchChannel = codes "no such channel"
+fault_words fault.WrongNumberOfFields = codes "wrong number of fields"
+fault_words fault.TooManyChannels = codes "too many channels"
+fault_words fault.DStepBlocks = codes "d_step blocks"
+fault_words fault.DStepTooLong = codes "d_step too long"
+
+abbrev pub refusal_number : Refusal → ℕ
+refusal_number refusal.TextTooLong = 1
+refusal_number refusal.Lexical = 2
+refusal_number refusal.LeftOut = 3
+refusal_number refusal.TooDeep = 4
+refusal_number refusal.Syntax = 5
+refusal_number refusal.NameTwice = 6
+refusal_number refusal.UnknownName = 7
+refusal_number refusal.WrongKind = 8
+refusal_number refusal.ArgumentCount = 9
+refusal_number refusal.Label = 10
+refusal_number refusal.BreakOutsideDo = 11
+refusal_number refusal.DStep = 12
+refusal_number refusal.CircleOfGotos = 13
+refusal_number refusal.NumberOutOfRange = 14
+refusal_number refusal.TooManyCells = 15
+refusal_number refusal.NoProcess = 16
+refusal_number refusal.TooManyAtStart = 17
+refusal_number refusal.Initialiser = 18
+
+abbrev pub refusal_words : Refusal → List ℕ
+refusal_words refusal.TextTooLong = codes "text too long"
+refusal_words refusal.Lexical = codes "lexical"
+refusal_words refusal.LeftOut = codes "left out"
+refusal_words refusal.TooDeep = codes "too deep"
+refusal_words refusal.Syntax = codes "syntax"
+refusal_words refusal.NameTwice = codes "name twice"
+refusal_words refusal.UnknownName = codes "unknown name"
+refusal_words refusal.WrongKind = codes "wrong kind"
+refusal_words refusal.ArgumentCount = codes "wrong number of arguments"
+refusal_words refusal.Label = codes "label"
+refusal_words refusal.BreakOutsideDo = codes "break outside do"
+refusal_words refusal.DStep = codes "d_step"
+refusal_words refusal.CircleOfGotos = codes "circle of gotos"
+refusal_words refusal.NumberOutOfRange = codes "number out of range"
+refusal_words refusal.TooManyCells = codes "too many cells"
+refusal_words refusal.NoProcess = codes "no process"
+refusal_words refusal.TooManyAtStart = codes "too many at the start"
+refusal_words refusal.Initialiser = codes "initialiser"

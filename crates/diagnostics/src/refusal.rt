@@ -1,0 +1,81 @@
+// Why a model is refused.
+ghost use Rattle.std.specs.Prelude.{◌≡◌};
+ghost use Rattle.diagnostics.specs.Words.{refusal_number, refusal_words};
+
+/// Why a model is refused, in the order in which refusals go before one another: of those that apply, the first is
+/// answered. The numbers are this program's own.
+#[derive(Clone, Copy, Debug, PartialEq, Eq)]
+pub enum Refusal {
+    TextTooLong,
+    Lexical,
+    LeftOut,
+    TooDeep,
+    Syntax,
+    NameTwice,
+    UnknownName,
+    WrongKind,
+    ArgumentCount,
+    Label,
+    BreakOutsideDo,
+    DStep,
+    CircleOfGotos,
+    NumberOutOfRange,
+    TooManyCells,
+    NoProcess,
+    TooManyAtStart,
+    Initialiser,
+}
+
+impl Refusal {
+    /// Its number, from 1.
+    pub fn number(self) -> u8
+        ensures { result ≡ refusal_number self }
+    {
+        match self {
+            Refusal::TextTooLong => 1,
+            Refusal::Lexical => 2,
+            Refusal::LeftOut => 3,
+            Refusal::TooDeep => 4,
+            Refusal::Syntax => 5,
+            Refusal::NameTwice => 6,
+            Refusal::UnknownName => 7,
+            Refusal::WrongKind => 8,
+            Refusal::ArgumentCount => 9,
+            Refusal::Label => 10,
+            Refusal::BreakOutsideDo => 11,
+            Refusal::DStep => 12,
+            Refusal::CircleOfGotos => 13,
+            Refusal::NumberOutOfRange => 14,
+            Refusal::TooManyCells => 15,
+            Refusal::NoProcess => 16,
+            Refusal::TooManyAtStart => 17,
+            Refusal::Initialiser => 18,
+        }
+    }
+
+    /// What it is, as a refusal's line says it.
+    pub fn words(self) -> &'static [u8]
+        ensures { result.now ≡ refusal_words self }
+    {
+        match self {
+            Refusal::TextTooLong => b"text too long",
+            Refusal::Lexical => b"lexical",
+            Refusal::LeftOut => b"left out",
+            Refusal::TooDeep => b"too deep",
+            Refusal::Syntax => b"syntax",
+            Refusal::NameTwice => b"name twice",
+            Refusal::UnknownName => b"unknown name",
+            Refusal::WrongKind => b"wrong kind",
+            Refusal::ArgumentCount => b"wrong number of arguments",
+            Refusal::Label => b"label",
+            Refusal::BreakOutsideDo => b"break outside do",
+            Refusal::DStep => b"d_step",
+            Refusal::CircleOfGotos => b"circle of gotos",
+            Refusal::NumberOutOfRange => b"number out of range",
+            Refusal::TooManyCells => b"too many cells",
+            Refusal::NoProcess => b"no process",
+            Refusal::TooManyAtStart => b"too many at the start",
+            Refusal::Initialiser => b"initialiser",
+        }
+    }
+}

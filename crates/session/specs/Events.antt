@@ -1,0 +1,74 @@
+-- What a session does, one thing after another, and what of it each device sees.
+use Rattle.std.specs.Prelude.{ℕ, List, [], ◌∷◌, ◌++◌, map, sum_by, Bool, if◌then◌else◌}
+use Rattle.std.specs.List.{flat_map}
+
+-- what a piece of output is for
+pub data Role : Type 0 where
+  -- a list, its prompt, the text of a step, a last piece
+  Told : Role
+  -- the answer to a bad line, or the prompt that follows it
+  Corrected : Role
+
+pub data Event : Type 0 where
+  -- a piece of output
+  Put : Role → List ℕ → Event
+  -- a byte of the choices is asked for, and this one comes
+  Asked : ℕ → Event
+  -- a byte is asked for, and the end comes
+  AskedEnd : Event
+  -- an accepted number, as its line in the record
+  Recorded : List ℕ → Event
+  -- a step has succeeded
+  Stepped : Event
+
+abbrev pub output_of : Event → List ℕ
+output_of (Put role piece) = piece
+output_of (Asked b) = []
+output_of AskedEnd = []
+output_of (Recorded line) = []
+output_of Stepped = []
+
+abbrev pub bytes_of : Event → List ℕ
+bytes_of (Put role piece) = []
+bytes_of (Asked b) = b ∷ []
+bytes_of AskedEnd = []
+bytes_of (Recorded line) = []
+bytes_of Stepped = []
+
+abbrev pub record_of : Event → List ℕ
+record_of (Put role piece) = []
+record_of (Asked b) = []
+record_of AskedEnd = []
+record_of (Recorded line) = line
+record_of Stepped = []
+
+abbrev pub step_of : Event → ℕ
+step_of (Put role piece) = 0
+step_of (Asked b) = 0
+step_of AskedEnd = 0
+step_of (Recorded line) = 0
+step_of Stepped = 1
+
+-- the output, the bytes that are read, the record, and the count of steps
+abbrev pub output : List Event → List ℕ
+output events = flat_map output_of events
+
+abbrev pub front : List Event → List ℕ
+front events = flat_map bytes_of events
+
+abbrev pub recorded : List Event → List ℕ
+recorded events = flat_map record_of events
+
+abbrev pub steps_in : List Event → ℕ
+steps_in events = sum_by step_of events
+
+-- these bytes are asked for and come, and then perhaps the end
+abbrev pub asks : List ℕ → Bool → List Event
+asks bytes ended = map Asked bytes ++ (if ended then AskedEnd ∷ [] else [])
+
+abbrev pub IsAsk : Event → Type 0
+IsAsk (Put role piece) = ⊥
+IsAsk (Asked b) = Unit {0}
+IsAsk AskedEnd = Unit {0}
+IsAsk (Recorded line) = ⊥
+IsAsk Stepped = ⊥

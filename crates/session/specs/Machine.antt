@@ -1,0 +1,22 @@
+-- A machine as a session sees it: states, their moves, what a move does, and texts.
+use Rattle.std.specs.Prelude.{ℕ, List, Bool}
+use Rattle.diagnostics.specs.declared.fault.Fault.{Fault}
+
+-- a step leads to a state and prints bytes, or it is a fault
+pub data Outcome (S : Type 0) : Type 0 where
+  Goes : S → List ℕ → Outcome S
+  Faults : Fault → Outcome S
+
+-- What a machine with these states and moves does.
+pub record Rules (S M : Type 0) : Type 0 where
+  pub moves : S → List M
+  -- what a move leads to
+  pub step : S → M → Outcome S
+  -- the text of a move
+  pub place : S → M → List ℕ
+  -- the value lines of the step that led here: of globals, of locals
+  pub values : S → Bool → Bool → List ℕ
+  -- a state without a move is a valid end
+  pub is_valid : S → Bool
+  -- the lines of an invalid end
+  pub stuck : S → List ℕ

@@ -1,0 +1,73 @@
+-- The lines that a session writes.
+use Rattle.std.specs.Prelude.{ℕ, ◌+◌, List, [], ◌∷◌, ◌++◌, codes}
+use Rattle.std.specs.Fmt.{decimal}
+use Rattle.diagnostics.specs.declared.fault.Fault.{Fault}
+use Rattle.diagnostics.specs.declared.refusal.Refusal.{Refusal}
+use Rattle.diagnostics.specs.Words.{fault_number, fault_words, refusal_number, refusal_words}
+use Rattle.session.specs.declared.Cause.{Cause}
+use Rattle.session.specs.declared.Cause.TheVariants as cause
+
+-- the list of a question, its moves counted from k
+abbrev pub list_from : {M : Type 0} → (M → List ℕ) → ℕ → List M → List ℕ
+list_from place k [] = []
+list_from place k (m ∷ ms) = (codes "choice " ++ (decimal k ++ (codes ": " ++ (place m ++ 10 ∷ [])))) ++ list_from place (k + 1) ms
+
+-- `choose 1..K`
+abbrev pub prompt : ℕ → List ℕ
+prompt most = codes "choose 1.." ++ (decimal most ++ 10 ∷ [])
+
+-- `bad choice`
+abbrev pub bad_line : List ℕ
+bad_line = codes "bad choice" ++ 10 ∷ []
+
+-- an accepted number in the record
+abbrev pub record_line : ℕ → List ℕ
+record_line n = decimal n ++ 10 ∷ []
+
+-- how a last line begins, by its cause
+abbrev pub last_words : Cause → List ℕ
+last_words cause.Valid = codes "end: valid, steps "
+last_words cause.Quit = codes "end: quit, steps "
+last_words cause.Invalid = codes "end: invalid, steps "
+last_words cause.ChoicesEnded = codes "stop: choices ended, steps "
+last_words cause.LineTooLong = codes "stop: line too long, steps "
+last_words cause.BadChoices = codes "stop: 100 bad choices, steps "
+last_words cause.StepLimit = codes "stop: step limit, steps "
+last_words (cause.Fault f) = []
+last_words (cause.Refused r line) = []
+last_words cause.SourceFailed = []
+last_words cause.OutFailed = []
+last_words cause.RecordFailed = []
+last_words cause.Memory = []
+
+-- the last line of a session that its own course ends
+abbrev pub last_line : Cause → ℕ → List ℕ
+last_line cause steps = last_words cause ++ (decimal steps ++ 10 ∷ [])
+
+-- `step N: MOVE`
+abbrev pub step_line : ℕ → List ℕ → List ℕ
+step_line n place = codes "step " ++ (decimal n ++ (codes ": " ++ (place ++ 10 ∷ [])))
+
+-- `fault FK (WORDS): step N: MOVE`
+abbrev pub fault_line : Fault → ℕ → List ℕ → List ℕ
+fault_line f n place = codes "fault F" ++ (decimal (fault_number f) ++ (codes " (" ++ (fault_words f ++ (codes "): " ++ step_line n place))))
+
+-- `refused MK (WORDS)`
+abbrev pub refusal_line : Refusal → List ℕ
+refusal_line r = codes "refused M" ++ (decimal (refusal_number r) ++ (codes " (" ++ (refusal_words r ++ codes ")\n")))
+
+-- the exit status of a cause
+abbrev pub status_of : Cause → ℕ
+status_of cause.Valid = 0
+status_of cause.Quit = 0
+status_of cause.Invalid = 1
+status_of (cause.Fault f) = 2
+status_of (cause.Refused r line) = 3
+status_of cause.ChoicesEnded = 5
+status_of cause.LineTooLong = 5
+status_of cause.BadChoices = 5
+status_of cause.StepLimit = 5
+status_of cause.SourceFailed = 6
+status_of cause.OutFailed = 6
+status_of cause.RecordFailed = 6
+status_of cause.Memory = 6
