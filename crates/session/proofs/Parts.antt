@@ -15,26 +15,26 @@ use Rattle.session.specs.Reads.{AsksPart, AsksBroken}
 
 -- ---- what the devices see
 
-front-append : (xs ys : List Event) → front (xs ++ ys) ≡ front xs ++ front ys
+pub front-append : (xs ys : List Event) → front (xs ++ ys) ≡ front xs ++ front ys
 front-append xs ys = flat_map-append bytes_of xs ys
 
-output-append : (xs ys : List Event) → output (xs ++ ys) ≡ output xs ++ output ys
+pub output-append : (xs ys : List Event) → output (xs ++ ys) ≡ output xs ++ output ys
 output-append xs ys = flat_map-append output_of xs ys
 
-recorded-append : (xs ys : List Event) → recorded (xs ++ ys) ≡ recorded xs ++ recorded ys
+pub recorded-append : (xs ys : List Event) → recorded (xs ++ ys) ≡ recorded xs ++ recorded ys
 recorded-append xs ys = flat_map-append record_of xs ys
 
-front-asks : (bytes : List ℕ) (ended : Bool) → front (asks bytes ended) ≡ bytes
+pub front-asks : (bytes : List ℕ) (ended : Bool) → front (asks bytes ended) ≡ bytes
 front-asks [] true = refl
 front-asks [] false = refl
 front-asks (b ∷ bs) ended = ap (λ l. b ∷ l) (front-asks bs ended)
 
-output-asks : (bytes : List ℕ) (ended : Bool) → output (asks bytes ended) ≡ []
+pub output-asks : (bytes : List ℕ) (ended : Bool) → output (asks bytes ended) ≡ []
 output-asks [] true = refl
 output-asks [] false = refl
 output-asks (b ∷ bs) ended = output-asks bs ended
 
-recorded-asks : (bytes : List ℕ) (ended : Bool) → recorded (asks bytes ended) ≡ []
+pub recorded-asks : (bytes : List ℕ) (ended : Bool) → recorded (asks bytes ended) ≡ []
 recorded-asks [] true = refl
 recorded-asks [] false = refl
 recorded-asks (b ∷ bs) ended = recorded-asks bs ended

@@ -156,12 +156,12 @@ module _ {S M : Type 0} (rules : Rules S M) (options : Options) (at : S) (moves 
 -- ---- the whole
 
 module _ {S M : Type 0} (rules : Rules S M) (options : Options) (at : S) (steps : ℕ) (over : Bool) where
-  story_none : (fuel : ℕ) → rules.moves at ≡ [] → (rest : List ℕ) → story rules options fuel at steps over rest ≡ finished (rules.is_valid at) (rules.stuck at) steps over rest
+  pub story_none : (fuel : ℕ) → rules.moves at ≡ [] → (rest : List ℕ) → story rules options fuel at steps over rest ≡ finished (rules.is_valid at) (rules.stuck at) steps over rest
   unfolding story
   story_none zero none rest = rw none refl
   story_none (suc fuel) none rest = rw none refl
 
-  story_limit : (m : M) (ms : List M) → rules.moves at ≡ m ∷ ms → (rest : List ℕ) → story rules options 0 at steps over rest ≡ stopped cause.StepLimit steps over rest
+  pub story_limit : (m : M) (ms : List M) → rules.moves at ≡ m ∷ ms → (rest : List ℕ) → story rules options 0 at steps over rest ≡ stopped cause.StepLimit steps over rest
   unfolding story
   story_limit m ms some rest = rw some refl
 
@@ -169,7 +169,7 @@ module _ {S M : Type 0} (rules : Rules S M) (options : Options) (at : S) (steps 
   abbrev pub answer_part : ℕ → List M → M → List ℕ → Part End
   answer_part fuel moves m rest = followed (select rules at moves over rest) (answered rules options at moves m steps (λ t o q. story rules options fuel t (steps + 1) o q))
 
-  story_some : (fuel : ℕ) (m : M) (ms : List M) → rules.moves at ≡ m ∷ ms → (rest : List ℕ) → story rules options (suc fuel) at steps over rest ≡ answer_part fuel (m ∷ ms) m rest
+  pub story_some : (fuel : ℕ) (m : M) (ms : List M) → rules.moves at ≡ m ∷ ms → (rest : List ℕ) → story rules options (suc fuel) at steps over rest ≡ answer_part fuel (m ∷ ms) m rest
   unfolding story
   story_some fuel m ms some rest = rw some refl
 

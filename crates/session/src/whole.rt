@@ -2,6 +2,7 @@
 ghost use Rattle.std.specs.Prelude.{◌≡◌, ◌<◌, ◌≤◌, ◌+◌, ◌-◌, ◌^◌, List, ℕ, Bool, length, IfOk, IfErr, IfNone, IfSome, ◌≢◌};
 ghost use Rattle.session.specs.Lines.{IsPickUpTo};
 ghost use Rattle.session.specs.Session.{choose, select, cause_of, final_lines, final_cause, end_of, story, transcript};
+ghost use Rattle.session.specs.Replay.{CanBeReplayed, HasFewMoves};
 ghost use Rattle.session.specs.Stands.{Does, Breaks, Leads, CountsAll, CountsBroken};
 ghost use Rattle.session.specs.Texts.{last_line, status_of};
 ghost use Rattle.session.specs.Writes.{Writes, CountsWrite, TurnsTo, ActsTo, ActBreaks, IsOwnEnd, failure_of};
@@ -241,7 +242,9 @@ pub fn failure(broken: Broken) -> Cause
 
 /// Plays the session of a machine. Where the status is not 6, the two sinks have taken the output and the record of
 /// its transcript, exactly the bytes that it asks for were read, and its end is answered. Where it is 6, what the
-/// devices hold is where a beginning of the transcript's events leaves them.
+/// devices hold is where a beginning of the transcript's events leaves them. A run can be played again on its record:
+/// one that came to an end of its own, or to the limit, is then the same but for its bad lines, and one that the choices
+/// cut short takes the same steps and ends where they ended.
 pub fn play<M: Machine, S: Source, O: Sink, R: Sink>(
     alloc: Global,
     machine: &mut M,
@@ -257,6 +260,7 @@ pub fn play<M: Machine, S: Source, O: Sink, R: Sink>(
     ensures broken { result.status ≡ 6 → (broken : Broken) × (result.cause ≡ failure_of broken)
         × Breaks broken (S.may_give source.old) (S.may_give source.new) (O.taken out.old) (O.taken out.new) (R.taken rec.old) (R.taken rec.new) 0 result.steps (transcript M.rules options.now machine.old)
         × CountsBroken broken (S.failures source.old) (S.failures source.new) (O.failures out.old) (O.failures out.new) (R.failures rec.old) (R.failures rec.new) }
+    ensures replay { HasFewMoves M.rules → CanBeReplayed (transcript M.rules options.now machine.old) }
 {
     let mut steps = 0;
     match run(alloc, machine, options, &mut steps, source, out, rec) {
