@@ -1,0 +1,12 @@
+// Small machines, and sessions of them over devices that fail.
+#![tactic(auto)]
+
+#[cfg(test)]
+mod failing;
+#[cfg(test)]
+mod player;
+#[cfg(test)]
+mod replays;
+mod sample;
+
+pub use sample::{Pair, Rounds, Sample};

@@ -1,0 +1,155 @@
+// Three small machines.
+ghost use Rattle.session_rows.specs.Samples.{sample_rules};
+
+use diagnostics::Fault;
+use session::{Machine, Stop};
+use std::alloc::{AllocError, Global};
+
+/// One process that sets `x` to 1 or 2, for some rounds or without end, and then dies.
+#[derive(Clone, Copy, Debug, PartialEq, Eq)]
+pub struct Rounds {
+    pub endless: bool,
+    pub left: u32,
+    pub x: u8,
+    pub changed: bool,
+    pub dead: bool,
+}
+
+/// Two processes of one assignment each. Each is at 0 before it, at 1 behind it, and at 2 where it is dead.
+#[derive(Clone, Copy, Debug, PartialEq, Eq)]
+pub struct Pair {
+    pub a: u8,
+    pub b: u8,
+}
+
+/// A machine of the tests. The last one counts down: one or two are taken away, a star is printed, and two from two is a
+/// fault.
+#[derive(Clone, Copy, Debug, PartialEq, Eq)]
+pub enum Sample {
+    Rounds(Rounds),
+    Pair(Pair),
+    Countdown(u32),
+}
+
+impl Machine for Sample {
+    type Move = u8;
+
+    ghost rules = { sample_rules };
+
+    fn moves(&self, alloc: Global) -> Result<Vec<u8>, AllocError> {
+        let mut moves = Vec::new(alloc);
+        match *self {
+            Sample::Rounds(r) => {
+                if r.endless || r.left > 0 {
+                    moves.push(1)?;
+                    moves.push(2)?;
+                } else if !r.dead {
+                    moves.push(3)?;
+                }
+            }
+            Sample::Pair(p) => {
+                if p.a == 0 || p.a == 1 && p.b == 2 {
+                    moves.push(1)?;
+                }
+                if p.b < 2 {
+                    moves.push(2)?;
+                }
+            }
+            Sample::Countdown(n) => {
+                if n > 0 {
+                    moves.push(1)?;
+                }
+                if n > 1 {
+                    moves.push(2)?;
+                }
+            }
+        }
+        Ok(moves)
+    }
+
+    fn show(&self, m: &u8, text: &mut Vec<u8>) -> Result<(), AllocError> {
+        match *self {
+            Sample::Rounds(_) => match *m {
+                1 => text.extend_from_slice(b"proc 0 (:init:) line 1 [x = 1]"),
+                2 => text.extend_from_slice(b"proc 0 (:init:) line 1 [x = 2]"),
+                _ => text.extend_from_slice(b"proc 0 (:init:) line 1 [-end-]"),
+            },
+            Sample::Pair(p) => match *m {
+                1 if p.a == 0 => text.extend_from_slice(b"proc 0 (A) line 2 [x = 1]"),
+                1 => text.extend_from_slice(b"proc 0 (A) line 2 [-end-]"),
+                _ if p.b == 0 => text.extend_from_slice(b"proc 1 (B) line 3 [y = 2]"),
+                _ => text.extend_from_slice(b"proc 1 (B) line 3 [-end-]"),
+            },
+            Sample::Countdown(_) => match *m {
+                1 => text.extend_from_slice(b"1"),
+                _ => text.extend_from_slice(b"2"),
+            },
+        }
+    }
+
+    fn take(&mut self, m: &u8, text: &mut Vec<u8>) -> Result<(), Stop> {
+        match *self {
+            Sample::Rounds(r) => {
+                let next = if *m == 3 {
+                    Rounds {
+                        dead: true,
+                        changed: false,
+                        ..r
+                    }
+                } else {
+                    Rounds {
+                        left: r.left.saturating_sub(1),
+                        x: *m,
+                        changed: r.x != *m,
+                        ..r
+                    }
+                };
+                *self = Sample::Rounds(next);
+                Ok(())
+            }
+            Sample::Pair(p) => {
+                let next = if *m == 1 {
+                    Pair {
+                        a: p.a.saturating_add(1),
+                        ..p
+                    }
+                } else {
+                    Pair {
+                        b: p.b.saturating_add(1),
+                        ..p
+                    }
+                };
+                *self = Sample::Pair(next);
+                Ok(())
+            }
+            Sample::Countdown(n) => {
+                if text.push(b'*').is_err() {
+                    return Err(Stop::Memory);
+                }
+                if n == 2 && *m == 2 {
+                    return Err(Stop::Fault(Fault::ZeroDivisor));
+                }
+                *self = Sample::Countdown(n.saturating_sub(u32::from(*m)));
+                Ok(())
+            }
+        }
+    }
+
+    fn values(&self, globals: bool, _: bool, text: &mut Vec<u8>) -> Result<(), AllocError> {
+        match *self {
+            Sample::Rounds(r) if globals && r.changed => match r.x {
+                1 => text.extend_from_slice(b"global x = 1\n"),
+                _ => text.extend_from_slice(b"global x = 2\n"),
+            },
+            _ => Ok(()),
+        }
+    }
+
+    fn is_valid(&self) -> bool {
+        true
+    }
+
+    fn stuck(&self, _: &mut Vec<u8>) -> Result<(), AllocError> {
+        Ok(())
+    }
+}
