@@ -1,0 +1,72 @@
+-- The command line of `spinplay`, as what `clap` reads of it.
+use Rattle.std.specs.Prelude.{◌≡◌, ℕ, Some, List, [], ◌∷◌, codes, map, pos, true, false, All}
+use Rattle.std.specs.List.{slice_index_or}
+use Rattle.clap.specs.Built.{TakesValue}
+use Rattle.clap.specs.Words.{AddsArg, AddsInTurn, App, IsPlainArg, Rule, Text, app_of, args_of}
+use Rattle.clap.specs.Words.{groups_of, new_app, new_rule, with_rule}
+use Rattle.clap.specs.declared.builder.arg.Arg.{Arg}
+use Rattle.clap.specs.declared.builder.command.Command.{Command}
+use Rattle.clap.specs.declared.builder.command.Command.TheViews.{out-Command as fields_of}
+use Rattle.clap.specs.declared.builder.action.ArgAction.TheVariants.{Set, Count}
+use Rattle.clap.specs.declared.builder.value_parser.ValueParser.TheVariants as vp
+
+-- a flag, whose uses are counted
+abbrev pub counted_letter : Text → ℕ → Rule
+counted_letter id letter = record (new_rule id) { short = Some letter; action = Some Count }
+
+-- `-uN`, a number of 32 bits
+abbrev pub limit_rule : Rule
+limit_rule = record (new_rule (codes "u")) {
+  short = Some 117;
+  action = Some Set;
+  value_names = 1;
+  parser = Some (vp.Signed (pos 0) (pos 4294967295));
+}
+
+-- `--choices FILE` and `--record FILE`
+abbrev pub file_rule : Text → Rule
+file_rule id = record (new_rule id) { long = Some id; action = Some Set; value_names = 1 }
+
+-- `MODEL`, which must be there
+abbrev pub model_rule : Rule
+model_rule = record (new_rule (codes "MODEL")) { action = Some Set; required = true }
+
+-- with these arguments, one after another
+abbrev pub with_all : App → List Rule → App
+with_all a [] = a
+with_all a (r ∷ rs) = with_all (with_rule a r) rs
+
+-- `spinplay [-i] [-p] [-T] [-uN] [--choices FILE] [--record FILE] MODEL`
+unfoldable pub command_line : App
+command_line = with_all (new_app (codes "spinplay")) (
+    counted_letter (codes "i") 105
+    ∷ counted_letter (codes "p") 112
+    ∷ counted_letter (codes "T") 84
+    ∷ limit_rule
+    ∷ file_rule (codes "choices")
+    ∷ file_rule (codes "record")
+    ∷ model_rule
+    ∷ [])
+
+-- the ids of the arguments, in their order
+abbrev pub ids : List Text
+ids =
+    codes "i" ∷ codes "p" ∷ codes "T" ∷ codes "u" ∷ codes "choices"
+    ∷ codes "record" ∷ codes "MODEL" ∷ []
+
+-- the argument excludes no other, belongs to this command alone and has this id
+abbrev pub IsArgument : Text → Arg → Type 0
+IsArgument id a = IsPlainArg a × (a.global ≡ false) × (a.id.now ≡ id)
+
+-- the command is `command_line`, and was made by adding these arguments in turn
+pub record IsCommandLine (c : Command) : Type 0 where
+  pub app : app_of c ≡ command_line
+  pub start : Command
+  pub empty : (args_of start ≡ []) × (groups_of start ≡ [])
+  pub local : (fields_of start).has_globals ≡ false
+  pub negates : (fields_of start).subcommand_negates_reqs ≡ false
+  pub added : List Arg
+  pub in_turn : AddsInTurn AddsArg start added c
+  pub plain : All (λ a. IsPlainArg a × (a.global ≡ false)) added
+  pub ids : map (λ a. a.id.now) added ≡ ids
+  pub model : (d : Arg) → TakesValue (slice_index_or added 6 d)

@@ -1,0 +1,24 @@
+-- What `arguments` hands out, by the matches of `clap`.
+use Rattle.std.specs.Prelude.{◌≡◌, ◌<◌, ◌^◌, ◌↔◌, ◌⊎◌, ℕ, List, Option, Some, IsTrue, false, codes, option_map}
+use Rattle.std.specs.String.{string_bytes}
+use Rattle.std.specs.Str.Parse.{IsNumeral, digits_value, without_leading_plus}
+use Rattle.clap.specs.Words.{Row, Text, count_of, first_of, one_of}
+use Rattle.command_line.specs.declared.options.Arguments.{Arguments}
+
+-- n is the number that the text spells in decimal digits, perhaps after a plus
+abbrev pub Spells : Text → ℕ → Type 0
+Spells t n = IsNumeral 10 (without_leading_plus t) × (n ≡ digits_value 10 (without_leading_plus t))
+
+-- n is the number that the text of `-u` spells, or 1,000,000 where there is no text, or none that spells a number of 32 bits
+abbrev pub IsLimit : Option Text → ℕ → Type 0
+IsLimit text n = ((t : Text) × (text ≡ Some t) × Spells t n) ⊎ (((t : Text) (m : ℕ) → text ≡ Some t → m < 2 ^ 32 → Spells t m → ⊥) × (n ≡ 1000000))
+
+-- These arguments are what the matches of the words hold.
+pub record IsReadFrom (rows : List Row) (a : Arguments) : Type 0 where
+  pub steps : IsTrue a.options.steps ↔ (0 < count_of (codes "p") rows)
+  pub globals : a.options.globals ≡ false
+  pub locals : a.options.locals ≡ false
+  pub limit : IsLimit (one_of (codes "u") rows) a.options.limit
+  pub model : first_of (codes "MODEL") rows ≡ Some (string_bytes a.model)
+  pub choices : first_of (codes "choices") rows ≡ option_map string_bytes a.choices
+  pub rec : first_of (codes "record") rows ≡ option_map string_bytes a.rec

@@ -1,0 +1,8 @@
+// What a command line asks for.
+#![tactic(auto)]
+
+mod options;
+mod words;
+
+pub use options::Arguments;
+pub use words::arguments;

@@ -1,0 +1,14 @@
+// What the words of a command line ask for.
+use session::Options;
+
+/// What the words of a command line ask for.
+#[derive(Debug, Drop)]
+pub struct Arguments {
+    pub options: Options,
+    /// The file of the model.
+    pub model: String,
+    /// The file of the choices; without one they come from standard input.
+    pub choices: Option<String>,
+    /// The file of the record; without one nothing is recorded.
+    pub rec: Option<String>,
+}

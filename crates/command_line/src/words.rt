@@ -1,0 +1,111 @@
+// The words of the command line.
+ghost use Rattle.std.specs.Prelude.{◌≡◌, IfOk, codes, map, option_map};
+ghost use Rattle.std.specs.String.{string_bytes};
+ghost use Rattle.clap.specs.Built.{TakesValue};
+ghost use Rattle.clap.specs.Words.{FailsBy, fault_of, first_value, found_of, matches_of, rule_of};
+ghost use Rattle.command_line.specs.CommandLine.{command_line, counted_letter, file_rule, limit_rule};
+ghost use Rattle.command_line.specs.CommandLine.{model_rule, IsArgument, IsCommandLine};
+ghost use Rattle.command_line.specs.Matched.{IsReadFrom};
+
+use crate::options::Arguments;
+use clap::{Arg, ArgAction, ArgMatches, Command, Error, value_parser};
+use session::Options;
+use std::alloc::{AllocError, Global};
+
+// How many steps are taken at most where the command line says nothing of it.
+const USUAL_LIMIT: u32 = 1_000_000;
+
+// A flag that may be repeated and joined with others.
+fn flag<'a>(alloc: Global, id: &'a str, letter: char, help: &'a str) -> Arg<'a>
+    ensures rule { rule_of result ≡ counted_letter id.entry.now letter }
+    ensures plain { IsArgument id.entry.now result }
+{
+    Arg::new(alloc, id)
+        .short(letter)
+        .action(ArgAction::Count)
+        .help(help)
+}
+
+// `-uN`.
+fn limit<'a>(alloc: Global) -> Arg<'a>
+    ensures rule { rule_of result ≡ limit_rule }
+    ensures plain { IsArgument (codes "u") result }
+{
+    Arg::new(alloc, "u")
+        .short('u')
+        .action(ArgAction::Set)
+        .value_name("N")
+        .value_parser(value_parser!(u32))
+        .help("Take at most N steps (1000000 where it is not given)")
+}
+
+// `--choices FILE` and `--record FILE`.
+fn file<'a>(alloc: Global, id: &'a str, help: &'a str) -> Arg<'a>
+    ensures rule { rule_of result ≡ file_rule id.entry.now }
+    ensures plain { IsArgument id.entry.now result }
+{
+    Arg::new(alloc, id)
+        .long(id)
+        .action(ArgAction::Set)
+        .value_name("FILE")
+        .help(help)
+}
+
+// `MODEL`.
+fn model<'a>(alloc: Global) -> Arg<'a>
+    ensures rule { rule_of result ≡ model_rule }
+    ensures plain { IsArgument (codes "MODEL") result }
+    ensures value { TakesValue result }
+{
+    Arg::new(alloc, "MODEL")
+        .required(true)
+        .action(ArgAction::Set)
+        .help("The file of the model")
+}
+
+// The command line that `command_line` writes out.
+fn command<'a>(alloc: Global) -> Result<Command<'a>, AllocError>
+    ensures { IfOk result IsCommandLine }
+{
+    Command::new(alloc, "spinplay")
+        .arg(flag(alloc, "i", 'i', "Accepted, and changes nothing"))?
+        .arg(flag(alloc, "p", 'p', "Show each step"))?
+        .arg(flag(alloc, "T", 'T', "Accepted, and changes nothing"))?
+        .arg(limit(alloc))?
+        .arg(file(alloc, "choices", "Read the choices from FILE"))?
+        .arg(file(alloc, "record", "Write the accepted choices to FILE"))?
+        .arg(model(alloc))
+}
+
+// The text of an option, on the heap.
+fn text_of(alloc: Global, matches: &ArgMatches<'_>, id: &str) -> Result<Option<String>, AllocError>
+    ensures { IfOk result (λ o. option_map string_bytes o ≡ first_value (found_of matches.now) id.now) }
+{
+    match matches.get_str(id) {
+        Some(text) => Ok(Some(String::from_str(alloc, text)?)),
+        None => Ok(None),
+    }
+}
+
+/// What the words of a command line ask for. The first word is the program's name.
+pub fn arguments<'a>(alloc: Global, words: &'a [&'a str]) -> Result<Arguments, Error>
+    ensures ok { IfOk result (IsReadFrom (matches_of command_line (map (λ w. w.now) words.entry.now))) }
+    ensures kinds { FailsBy (fault_of command_line (map (λ w. w.now) words.entry.now)) result }
+{
+    let matches = command(alloc)?.try_get_matches_from(words)?;
+    let model = String::from_str(alloc, matches.get_str("MODEL").unwrap())?;
+    let options = Options {
+        steps: matches.get_count("p") > 0,
+        globals: false,
+        locals: false,
+        limit: matches.get_one::<u32>("u").unwrap_or(USUAL_LIMIT),
+    };
+    let choices = text_of(alloc, &matches, "choices")?;
+    let rec = text_of(alloc, &matches, "record")?;
+    Ok(Arguments {
+        options,
+        model,
+        choices,
+        rec,
+    })
+}
