@@ -1,0 +1,101 @@
+//! How rows write texts and answers.
+//!
+//! In a text, a grave accent and two hexadecimal digits are one byte. An answer is `Kind@LINE=TEXT` for each token,
+//! with blanks between them, `none` where there is no token, or the refusal. In a token's text every byte but the
+//! visible ones of ASCII is written by its digits.
+use crate::MARK;
+use pml_lex::cut;
+use pml_lex::fault::LexFault;
+use pml_lex::token::Token;
+use std::alloc::{AllocError, Global};
+use std::test::Fail;
+
+fn digit_value(digit: u8) -> u8 {
+    if b'0' <= digit && digit <= b'9' {
+        digit - b'0'
+    } else {
+        digit.wrapping_sub(b'a').wrapping_add(10)
+    }
+}
+
+/// The bytes that a row writes.
+pub fn text_of(alloc: Global, written: &str) -> Result<Vec<u8>, Fail> {
+    let mut text = Vec::new(alloc);
+    let mut parts = written.split(MARK);
+    if let Some(plain) = parts.next() {
+        text.extend_from_slice(plain.as_bytes())?;
+    }
+    for part in parts {
+        let [high, low, plain @ ..] = part.as_bytes() else {
+            return Err(Fail::from("a byte has two digits"));
+        };
+        let byte = digit_value(*high)
+            .wrapping_mul(16)
+            .wrapping_add(digit_value(*low));
+        text.push(byte)?;
+        text.extend_from_slice(plain)?;
+    }
+    Ok(text)
+}
+
+fn push_token(alloc: Global, answer: &mut String, token: &Token<'_>) -> Result<(), AllocError> {
+    let kind = token.kind();
+    let line = token.line();
+    answer.push_str(format!(in alloc; "{kind:?}@{line}=")?.as_str())?;
+    for byte in token.text() {
+        if b'!' <= *byte && *byte <= b'~' {
+            answer.push(char::from(*byte))?;
+        } else {
+            answer.push_str(format!(in alloc; "`{byte:02x}")?.as_str())?;
+        }
+    }
+    Ok(())
+}
+
+/// Tokens as a row writes them.
+pub fn tokens_written(alloc: Global, tokens: &[Token<'_>]) -> Result<String, AllocError> {
+    let mut answer = String::new(alloc);
+    for token in tokens {
+        if !answer.is_empty() {
+            answer.push(' ')?;
+        }
+        push_token(alloc, &mut answer, token)?;
+    }
+    if answer.is_empty() {
+        answer.push_str("none")?;
+    }
+    Ok(answer)
+}
+
+/// What `cut` answers, as a row writes it.
+pub fn answer_to(alloc: Global, text: &[u8]) -> Result<String, Fail> {
+    match cut(alloc, text) {
+        Ok(tokens) => Ok(tokens_written(alloc, tokens.as_slice())?),
+        Err(LexFault::Memory) => Err(Fail::from("memory was refused")),
+        Err(fault) => Ok(format!(in alloc; "{fault:?}")?),
+    }
+}
+
+/// How many rows were read, and what is wrong in the first that is not answered as it wants.
+#[derive(Drop)]
+pub struct Outcome {
+    pub count: u32,
+    pub wrong: String,
+}
+
+/// Reads rows, one a line as `TEXT => ANSWER`, up to the first with another answer.
+pub fn outcome_of(alloc: Global, rows: &str) -> Result<Outcome, Fail> {
+    let mut count = 0u32;
+    for row in rows.lines() {
+        let (written, wanted) = row.split_once(" => ").ok_or("a row has an arrow")?;
+        let text = text_of(alloc, written)?;
+        let answer = answer_to(alloc, text.as_slice())?;
+        if answer.as_str() != wanted {
+            let wrong = format!(in alloc; "{written} => {answer}, wanted: {wanted}")?;
+            return Ok(Outcome { count, wrong });
+        }
+        count = count.saturating_add(1);
+    }
+    let wrong = String::new(alloc);
+    Ok(Outcome { count, wrong })
+}

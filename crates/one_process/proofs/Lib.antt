@@ -1,0 +1,4 @@
+pub mod Lines
+pub mod Silent
+pub mod Outcomes
+pub mod Playing

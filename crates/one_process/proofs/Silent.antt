@@ -1,0 +1,105 @@
+-- Where no state has more than one move, nothing is read and nothing is recorded.
+use Rattle.std.proofs.Common.{◌≡◌, ℕ, zero, suc, ◌+◌, ◌<◌, ◌≤◌, List, [], ◌∷◌, ◌++◌, length, Option, Bool, true, false, Result, Ok, Err, IfOk, IfErr, refl, sym, ap, ◌∙◌, subst, arith}
+use Rattle.std.specs.Prelude.{if◌then◌else◌}
+use Rattle.std.specs.Io.KnownBytes.{Appends}
+use Rattle.session.specs.declared.Options.{Options}
+use Rattle.session.specs.declared.End.{End}
+use Rattle.session.specs.declared.Broken.{Broken}
+use Rattle.session.specs.declared.Broken.TheVariants as broken
+use Rattle.session.specs.declared.Cause.TheVariants as cause
+use Rattle.session.specs.Events.{Event, front, recorded}
+use Rattle.session.specs.Part.{Part, followed}
+use Rattle.session.specs.Machine.{Rules, Outcome, Goes, Faults}
+use Rattle.session.specs.Session.{select, stepped, stopped, answered, at_moves, story, transcript}
+use Rattle.session.specs.Stands.{Gave, Begins, Does, Breaks}
+use Rattle.session.proofs.Parts.{front-append, recorded-append}
+use Rattle.one_process.specs.declared.engine.OnlyMove.{OnlyMove}
+use Rattle.one_process.specs.State.{State}
+use Rattle.one_process.specs.Engine.{can_move, moves, rules}
+
+record IsSilent (events : List Event) : Type 0 where
+  no_byte : front events ≡ []
+  no_line : recorded events ≡ []
+
+-- ---- the story
+
+module _ {S M : Type 0} (rules : Rules S M) (options : Options) where
+  step_silent : (s : S) (m : M) (steps : ℕ) (later : S → Part End) (over : Bool) (left : List ℕ) → ((t : S) → IsSilent (later t).events) → (o : Outcome S) → IsSilent (stepped rules options s m steps later over left o).events
+  unfolding stepped
+  step_silent s m steps later over left h (Goes t printed) = record { no_byte = (h t).no_byte; no_line = (h t).no_line }
+  step_silent s m steps later over left h (Faults f) = record { no_byte = refl; no_line = refl }
+
+  turn_silent : (s : S) (steps : ℕ) (over : Bool) (rest : List ℕ) (later : S → Bool → List ℕ → Part End) → ((t : S) (o : Bool) (r : List ℕ) → IsSilent (later t o r).events) → (ms : List M) → length ms ≤ 1
+      → IsSilent (at_moves rules s steps over rest (λ moves m. followed (select rules s moves over rest) (answered rules options s moves m steps later)) ms).events
+  unfolding select answered
+  turn_silent s steps over rest later h [] few = record { no_byte = refl; no_line = refl }
+  turn_silent s steps over rest later h (m ∷ []) few = let x = step_silent s m steps (λ t. later t over rest) over rest (λ t. h t over rest) (rules.step s m) in record { no_byte = x.no_byte; no_line = x.no_line }
+  turn_silent s steps over rest later h (m ∷ n ∷ ms) few = absurd (omega arith)
+
+  limit_silent : (s : S) (steps : ℕ) (over : Bool) (rest : List ℕ) (ms : List M) → IsSilent (at_moves rules s steps over rest (λ moves m. stopped cause.StepLimit steps over rest) ms).events
+  limit_silent s steps over rest [] = record { no_byte = refl; no_line = refl }
+  limit_silent s steps over rest (m ∷ ms) = record { no_byte = refl; no_line = refl }
+
+  story_silent : ((s : S) → length (rules.moves s) ≤ 1) → (fuel : ℕ) (s : S) (steps : ℕ) (over : Bool) (rest : List ℕ) → IsSilent (story rules options fuel s steps over rest).events
+  unfolding story
+  story_silent few zero s steps over rest = limit_silent s steps over rest (rules.moves s)
+  story_silent few (suc fuel) s steps over rest = turn_silent s steps over rest (λ t o r. story rules options fuel t (steps + 1) o r) (λ t o r. story_silent few fuel t (steps + 1) o r) (rules.moves s) (few s)
+
+one_if : (b : Bool) → length {A = OnlyMove} (if b then record {} ∷ [] else []) ≤ 1
+one_if true = omega arith
+one_if false = omega arith
+
+-- a state of the process has one move at most
+pub few_moves : (s : State) → length (moves s) ≤ 1
+few_moves s = one_if (can_move s)
+
+-- ---- what was done
+
+nil_front : {A : Type 0} (xs ys : List A) → xs ++ ys ≡ [] → xs ≡ []
+nil_front [] ys h = refl
+nil_front (x ∷ xs) ys h = absurd cc
+
+nil_back : {A : Type 0} (xs ys : List A) → xs ++ ys ≡ [] → ys ≡ []
+nil_back [] ys h = h
+nil_back (x ∷ xs) ys h = absurd cc
+
+front_silent : (xs ys : List Event) → IsSilent (xs ++ ys) → IsSilent xs
+front_silent xs ys h = record { no_byte = nil_front _ _ (sym (front-append xs ys) ∙ h.no_byte); no_line = nil_front _ _ (sym (recorded-append xs ys) ∙ h.no_line) }
+
+back_silent : (xs ys : List Event) → IsSilent (xs ++ ys) → IsSilent ys
+back_silent xs ys h = record { no_byte = nil_back _ _ (sym (front-append xs ys) ∙ h.no_byte); no_line = nil_back _ _ (sym (recorded-append xs ys) ∙ h.no_line) }
+
+both_silent : (xs ys : List Event) → IsSilent xs → IsSilent ys → IsSilent (xs ++ ys)
+both_silent xs ys g h = record { no_byte = rw (front-append xs ys, g.no_byte, h.no_byte) refl; no_line = rw (recorded-append xs ys, g.no_line, h.no_line) refl }
+
+begun_silent : (e : Broken) (done all : List Event) → Begins e done all → IsSilent all → IsSilent done
+begun_silent broken.Memory done all b h = front_silent done b.0 (subst IsSilent b.1 h)
+begun_silent broken.Source done all b h = front_silent done (b.0 ∷ b.1) (subst IsSilent b.3 h)
+begun_silent broken.Out done all b h = subst IsSilent (sym b.6) (both_silent b.0 _ (front_silent b.0 _ (subst IsSilent b.7 h)) (record { no_byte = refl; no_line = refl }))
+begun_silent broken.Record done all b h =
+    let line : b.1 ≡ [] = nil_front b.1 _ (back_silent b.0 _ (subst IsSilent b.6 h)).no_line in
+    let none : length b.1 ≡ 0 = ap length line in
+    let some = b.4 in absurd (omega arith)
+
+module _ (options : Options) (state : State) (s s' : List ℕ → Type 0) (o o' k k' : Option (List ℕ)) (n : ℕ) where
+  is_silent : (choices : List ℕ) → IsSilent (transcript rules options state choices).events
+  is_silent choices = story_silent rules options few_moves options.limit state 0 false choices
+
+  -- what a session of the process reads and records
+  record IsUntouched : Type 0 where
+    read : Gave s s' []
+    kept : Appends k k' []
+
+  untouched : (done : List Event) → Gave s s' (front done) → Appends k k' (recorded done) → IsSilent done → IsUntouched
+  untouched done read kept h = record { read = subst (λ (l : List ℕ). Gave s s' l) h.no_byte read; kept = subst (λ (l : List ℕ). Appends k k' l) h.no_line kept }
+
+  done_untouched : (end : End) (over : Bool) (left : List ℕ) → s' left → Does s s' o o' k k' 0 n (transcript rules options state) end over → IsUntouched
+  done_untouched end over left now d = untouched d.done d.moved.read d.moved.kept (subst IsSilent (ap (λ (p : Part End). p.events) (d.is left now)) (is_silent (front d.done ++ left)))
+
+  broken_untouched : (e : Broken) (left : List ℕ) → s' left → Breaks e s s' o o' k k' 0 n (transcript rules options state) → IsUntouched
+  broken_untouched e left now b = untouched b.done b.moved.read b.moved.kept (begun_silent e b.done _ (b.begins left now) (is_silent (front b.done ++ left)))
+
+  pub run_untouched : (result : Result End Broken) (left : List ℕ) → s' left → IfOk result (λ end. (over : Bool) × Does s s' o o' k k' 0 n (transcript rules options state) end over)
+      → IfErr result (λ e. Breaks e s s' o o' k k' 0 n (transcript rules options state)) → Gave s s' [] × Appends k k' []
+  run_untouched (Ok end) left now ok err = let x = done_untouched end ok.0 left now ok.1 in (x.read, x.kept)
+  run_untouched (Err e) left now ok err = let x = broken_untouched e left now err in (x.read, x.kept)

@@ -1,0 +1,11 @@
+use Rattle.one_process.proofs.Outcomes.{one_refusal, no_model, one_model}
+use Rattle.one_process.proofs.laws.one_outcome.Goals as goal
+
+pub returns-clause-refusal : goal.returns-clause-refusal
+returns-clause-refusal c text a b m n = one_refusal
+
+pub returns-clause-either : goal.returns-clause-either
+returns-clause-either c text a m checked = no_model
+
+pub returns-clause-model : goal.returns-clause-model
+returns-clause-model c text a b = one_model

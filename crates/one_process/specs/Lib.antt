@@ -1,0 +1,6 @@
+pub mod Values
+pub mod Texts
+pub mod State
+pub mod Engine
+pub mod Transcript
+pub mod Plays

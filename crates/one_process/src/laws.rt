@@ -1,0 +1,25 @@
+//! Laws of the definitions, which functions without a body state.
+
+ghost use Rattle.std.specs.Prelude.{◌≡◌, ◌≤◌, ℕ, List, length};
+ghost use Rattle.diagnostics.specs.declared.refusal.Refusal.{Refusal};
+ghost use Rattle.one_process_model.specs.declared.checked.Checked.{Checked};
+ghost use Rattle.one_process.specs.State.{State};
+ghost use Rattle.one_process.specs.Engine.{moves};
+ghost use Rattle.one_process.specs.Transcript.{IsModel, IsRefused, HasLine};
+
+/// A text is refused in one way at most, or it stands for one model at most, and not both.
+pub fn one_outcome()
+    ensures refusal { (text : List ℕ) (a b : Refusal) (m n : ℕ) → IsRefused text a m → IsRefused text b n → a ≡ b }
+    ensures either { (text : List ℕ) (a : Refusal) (m : ℕ) (checked : Checked) → IsRefused text a m → IsModel text checked → ⊥ }
+    ensures model { (text : List ℕ) (a b : Checked) → IsModel text a → IsModel text b → a ≡ b }
+{}
+
+/// Four refusals have a line of the text, and the others have none.
+pub fn refusal_line()
+    ensures { (text : List ℕ) (refusal : Refusal) (line : ℕ) → IsRefused text refusal line → HasLine text refusal line }
+{}
+
+/// A state of the process has one move at most.
+pub fn one_move()
+    ensures { (s : State) → length (moves s) ≤ 1 }
+{}

@@ -1,0 +1,14 @@
+use Rattle.one_process_model.proofs.Whole.{is_found, is_only, is_none}
+use Rattle.one_process_model.proofs.program.parse.Goals as goal
+
+pub returns-in-Ok-clause-found : goal.returns-in-Ok-clause-found
+returns-in-Ok-clause-found c = is_found c.args.tokens.now _ c.in-Ok.program _ c.new-cursor.ensures c.in-Ok.ensures
+
+pub returns-in-Ok-clause-only : goal.returns-in-Ok-clause-only
+returns-in-Ok-clause-only c = is_only c.args.tokens.now _ c.in-Ok.program _ c.new-cursor.ensures c.in-Ok.ensures
+
+pub returns-in-Err-Syntax-clause-only : goal.returns-in-Err-Syntax-clause-only
+returns-in-Err-Syntax-clause-only c = is_none c.args.tokens.now _ _ c.new-cursor.ensures (rw c.in-Err-Syntax.field-0-is at c.in-Err-Syntax.ensures)
+
+pub returns-in-Err-Syntax-clause-none : goal.returns-in-Err-Syntax-clause-none
+returns-in-Err-Syntax-clause-none c line is = is_none c.args.tokens.now _ _ c.new-cursor.ensures (rw c.in-Err-Syntax.field-0-is at c.in-Err-Syntax.ensures)

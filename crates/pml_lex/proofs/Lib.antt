@@ -1,0 +1,10 @@
+pub mod Turns
+pub mod Ends
+pub mod Longest
+pub mod Scan
+pub mod Rows
+pub mod Places
+pub mod Wholes
+pub mod Steps
+pub mod Fresh
+pub mod Order

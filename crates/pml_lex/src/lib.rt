@@ -1,0 +1,105 @@
+//! Cuts the text of a model into tokens.
+#![tactic(auto)]
+
+pub mod fault;
+pub mod laws;
+pub mod limits;
+pub mod piece;
+pub mod token;
+mod words;
+
+ghost use Rattle.std.specs.Prelude.{◌≡◌, ◌≤◌, ◌<◌, ◌+◌, ◌^◌, ℕ, List, length, count_by, MatchResult, IfOk, IfErr, IfSome};
+ghost use Rattle.pml_lex.specs.Word.{Word};
+ghost use Rattle.pml_lex.specs.Division.{is_line_feed, fresh_from};
+ghost use Rattle.pml_lex.specs.Cut.{AreTokens, IsLeast, IsUncut, IsDivided, most_bytes};
+
+use fault::LexFault;
+use limits::{first_left_out, first_too_deep};
+use piece::{Piece, is_blank, next};
+use std::alloc::Global;
+use token::Token;
+
+/// How many bytes a text has at most. A longer one is refused.
+pub const MOST_BYTES: usize = 1_048_576;
+
+/// How many line feeds a text has.
+fn line_feeds(text: &[u8]) -> u32
+    requires { length text.now ≤ most_bytes }
+    ensures value { result ≡ count_by is_line_feed text.now }
+    ensures few { result ≤ length text.now }
+{
+    let mut count = 0;
+    for b in text {
+        if *b == b'\n' {
+            count += 1;
+        }
+    }
+    count
+}
+
+/// Whether the line that a text ends in has only blanks, where `fresh` says so of what stands before the text.
+fn fresh_behind(fresh: bool, text: &[u8]) -> bool
+    ensures { result ≡ fresh_from fresh text.now }
+{
+    let mut fresh = fresh;
+    for b in text {
+        fresh = *b == b'\n' || (fresh && is_blank(*b));
+    }
+    fresh
+}
+
+/// The tokens of a text, as far as it can be cut.
+fn divide<'t>(alloc: Global, text: &'t [u8]) -> Result<Vec<Token<'t>>, LexFault>
+    requires { length text.now ≤ most_bytes }
+    ensures ok { IfOk result (λ v. IsDivided text.now v.items) }
+    ensures err { IfErr result (λ f. IsUncut text.now f) }
+{
+    let mut tokens = Vec::new(alloc);
+    let mut rest = text;
+    let mut line = 1u32;
+    let mut fresh = true;
+    while !rest.is_empty() {
+        let Some((length, piece)) = next(fresh, rest) else {
+            return Err(LexFault::Lexical(line));
+        };
+        let (front, behind) = rest.split_at(length);
+        match piece {
+            Piece::Token(kind) => {
+                tokens.push(Token::new(kind, front, line))?;
+                fresh = false;
+            }
+            Piece::Skipped => {
+                line += line_feeds(front);
+                fresh = fresh_behind(fresh, front);
+            }
+        }
+        rest = behind;
+    }
+    Ok(tokens)
+}
+
+/// The tokens of a text of Promela, in order, or the least fault that applies.
+///
+/// Blanks, comments and the `# 3 "file"` or `#line 3` lines that a preprocessor leaves are skipped. Between them the
+/// text is cut into longest tokens, as chapter 3 of Holzmann's *The SPIN Model Checker* has them. The tokens borrow the
+/// text, and memory is taken for the list alone.
+pub fn cut<'t>(alloc: Global, text: &'t [u8]) -> Result<Vec<Token<'t>>, LexFault>
+    // What is answered are the text's tokens, and nothing speaks against them.
+    ensures ok { IfOk result (λ v. AreTokens text.now v.items) }
+    // A fault is the least that applies.
+    ensures err { IfErr result (λ f. IsLeast text.now f) }
+    // No other tokens can be answered, and where there are some, no fault but want of memory.
+    ensures only { (ts : List Word) → AreTokens text.now ts → MatchResult result (λ v. v.items ≡ ts) (λ f. f ≡ LexFault.Memory) }
+{
+    if text.len() > MOST_BYTES {
+        return Err(LexFault::TooLong);
+    }
+    let tokens = divide(alloc, text)?;
+    if let Some(line) = first_left_out(&tokens) {
+        return Err(LexFault::LeftOut(line));
+    }
+    if let Some(line) = first_too_deep(&tokens) {
+        return Err(LexFault::TooDeep(line));
+    }
+    Ok(tokens)
+}

@@ -1,0 +1,9 @@
+// An interactive simulator of Promela models: plays the text of a model over a source of choices and two sinks, and reads
+// its command line.
+#![tactic(auto)]
+
+pub use command_line::{Arguments, arguments};
+pub use devices::{ByteReader, Either, Failed, Failures, Next, Nowhere, PieceWriter, Sink, Source};
+pub use diagnostics::{Fault, Refusal};
+pub use one_process::play;
+pub use session::{Cause, End, Options};
