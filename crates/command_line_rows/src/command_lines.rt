@@ -1,0 +1,112 @@
+// Command lines as words with spaces between them, and what is read of them.
+use command_line::{Arguments, arguments};
+use std::alloc::{AllocError, Global};
+use std::test::Fail;
+
+// A row a line: the words, ` => ` and what is read of them.
+fn rows() -> &'static str {
+    r#"spinplay m.pml => - 1000000 m.pml - -
+spinplay --choices c m.pml => - 1000000 m.pml c -
+spinplay --record=r m.pml => - 1000000 m.pml - r
+spinplay --choices c --record=r m.pml => - 1000000 m.pml c r
+spinplay -u0 m.pml => - 0 m.pml - -
+spinplay -u0 --choices c m.pml => - 0 m.pml c -
+spinplay -u0 --record=r m.pml => - 0 m.pml - r
+spinplay -u0 --choices c --record=r m.pml => - 0 m.pml c r
+spinplay -u7 m.pml => - 7 m.pml - -
+spinplay -u7 --choices c m.pml => - 7 m.pml c -
+spinplay -u7 --record=r m.pml => - 7 m.pml - r
+spinplay -u7 --choices c --record=r m.pml => - 7 m.pml c r
+spinplay -u4294967295 m.pml => - 4294967295 m.pml - -
+spinplay -u4294967295 --choices c m.pml => - 4294967295 m.pml c -
+spinplay -u4294967295 --record=r m.pml => - 4294967295 m.pml - r
+spinplay -u4294967295 --choices c --record=r m.pml => - 4294967295 m.pml c r
+spinplay -p m.pml => p 1000000 m.pml - -
+spinplay -p --choices c m.pml => p 1000000 m.pml c -
+spinplay -p --record=r m.pml => p 1000000 m.pml - r
+spinplay -p --choices c --record=r m.pml => p 1000000 m.pml c r
+spinplay -p -u0 m.pml => p 0 m.pml - -
+spinplay -p -u0 --choices c m.pml => p 0 m.pml c -
+spinplay -p -u0 --record=r m.pml => p 0 m.pml - r
+spinplay -p -u0 --choices c --record=r m.pml => p 0 m.pml c r
+spinplay -p -u7 m.pml => p 7 m.pml - -
+spinplay -p -u7 --choices c m.pml => p 7 m.pml c -
+spinplay -p -u7 --record=r m.pml => p 7 m.pml - r
+spinplay -p -u7 --choices c --record=r m.pml => p 7 m.pml c r
+spinplay -p -u4294967295 m.pml => p 4294967295 m.pml - -
+spinplay -p -u4294967295 --choices c m.pml => p 4294967295 m.pml c -
+spinplay -p -u4294967295 --record=r m.pml => p 4294967295 m.pml - r
+spinplay -p -u4294967295 --choices c --record=r m.pml => p 4294967295 m.pml c r
+spinplay -iTpp m.pml -p -u 3 => p 3 m.pml - -
+spinplay -i -T -u=+3 m.pml => - 3 m.pml - -
+spinplay -u007 -- -p => - 7 -p - -
+spinplay m.pml --record r -pu9 => p 9 m.pml - r
+"#
+}
+
+fn mark(set: bool, letter: &'static str) -> &'static str {
+    if set { letter } else { "-" }
+}
+
+// The flags, the limit and the files, with a dash for what is not there.
+fn shown(alloc: Global, read: &Arguments) -> Result<String, AllocError> {
+    let p = mark(read.options.steps, "p");
+    let limit = read.options.limit;
+    let model = read.model.as_str();
+    let choices = match &read.choices {
+        Some(name) => name.as_str(),
+        None => "-",
+    };
+    let rec = match &read.rec {
+        Some(name) => name.as_str(),
+        None => "-",
+    };
+    format!(in alloc; "{p} {limit} {model} {choices} {rec}")
+}
+
+fn answer(alloc: Global, words: &str) -> Result<String, AllocError> {
+    let words: Vec<&str> = words.split(' ').collect(alloc)?;
+    match arguments(alloc, words.as_slice()) {
+        Ok(read) => shown(alloc, &read),
+        Err(error) => {
+            let kind = error.kind();
+            format!(in alloc; "{kind:?}")
+        }
+    }
+}
+
+#[test]
+fn read_as_written(rt: HostRuntime) -> Result<(), Fail> {
+    let mut count = 0u32;
+    for row in rows().lines() {
+        let (words, wanted) = row.split_once(" => ").ok_or("a row has an arrow")?;
+        let read = answer(rt.alloc(), words)?;
+        assert_eq!(rt; read.as_str(), wanted, "at {words}");
+        count = count.saturating_add(1);
+    }
+    assert_eq!(rt; count, 36);
+    Ok(())
+}
+
+#[test]
+fn refused(rt: HostRuntime) -> Result<(), Fail> {
+    let rows = [
+        ("spinplay", "MissingRequiredArgument"),
+        ("spinplay -x m.pml", "UnknownArgument"),
+        ("spinplay -u4294967296 m.pml", "ValueValidation"),
+        ("spinplay -u m.pml", "ValueValidation"),
+        ("spinplay -u1 -u2 m.pml", "ArgumentConflict"),
+        ("spinplay m.pml n.pml", "UnknownArgument"),
+        ("spinplay -h", "DisplayHelp"),
+        ("spinplay --help m.pml", "DisplayHelp"),
+        ("spinplay -m m.pml", "UnknownArgument"),
+        ("spinplay -g m.pml", "UnknownArgument"),
+        ("spinplay -V", "UnknownArgument"),
+        ("spinplay --choices", "InvalidValue"),
+    ];
+    for (words, kind) in rows {
+        let read = answer(rt.alloc(), words)?;
+        assert_eq!(rt; read.as_str(), kind, "at {words}");
+    }
+    Ok(())
+}

@@ -1,0 +1,5 @@
+// Rows of command lines.
+#![tactic(auto)]
+
+#[cfg(test)]
+mod command_lines;

@@ -1,0 +1,9 @@
+// Sessions over the texts of models.
+#![tactic(auto)]
+
+#[cfg(test)]
+mod player;
+#[cfg(test)]
+mod refusals;
+#[cfg(test)]
+mod sessions;
