@@ -308,3 +308,24 @@ fn refuses_by_the_least_condition(rt: HostRuntime) -> Result<(), Fail> {
         0,
     )
 }
+
+#[test]
+fn reads_a_text_of_many_names(rt: HostRuntime) -> Result<(), Fail> {
+    let alloc = rt.alloc();
+    let mut text = Vec::new(alloc);
+    for i in 0..80_000u32 {
+        let name = i.to_string(alloc)?;
+        text.extend_from_slice(b"byte a")?;
+        text.extend_from_slice(name.as_bytes())?;
+        text.push(b';')?;
+    }
+    text.extend_from_slice(b"active proctype P() { a79999++; a79999 == 1 }")?;
+    row(
+        &rt,
+        alloc,
+        &text,
+        &STEPS,
+        b"step 1: proc 0 (P) line 1 [a79999 ++]\nstep 2: proc 0 (P) line 1 [a79999 == 1]\nstep 3: proc 0 (P) line 1 [-end-]\nend: valid, steps 3\n",
+        ends(0, 3, Cause::Valid),
+    )
+}

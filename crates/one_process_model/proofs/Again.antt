@@ -1,12 +1,11 @@
 -- What is spelled is read, as that very tree.
-use Rattle.std.proofs.Common.{◌≡◌, ℕ, zero, suc, ◌+◌, ◌<◌, ◌≤◌, Bool, true, false, not, ◌&&◌, List, [], ◌∷◌, ◌++◌, length, drop, Option, Some, None, Ok, refl, sym, ap, subst, ◌∙◌, append_assoc, arith}
+use Rattle.std.proofs.Common.{◌≡◌, ℕ, zero, suc, ◌<◌, ◌≤◌, Bool, true, false, ◌&&◌, List, [], ◌∷◌, ◌++◌, length, drop, Some, None, Ok, refl, sym, ap, subst, ◌∙◌, append_assoc, arith}
 use Rattle.std.proofs.lemmas.List.{append-nil}
 use Rattle.pml_lex.specs.Word.{Word}
 use Rattle.pml_lex.specs.Kinds.{same_kind}
 use Rattle.pml_lex.specs.declared.token.Kind.{Kind}
 use Rattle.pml_lex.specs.declared.token.Kind.TheVariants as k
 use Rattle.one_process_model.specs.declared.tree.Atom.{Atom}
-use Rattle.one_process_model.specs.declared.tree.Atom.TheVariants as a
 use Rattle.one_process_model.specs.declared.tree.Sign.{Sign}
 use Rattle.one_process_model.specs.declared.tree.Term.{Term}
 use Rattle.one_process_model.specs.declared.tree.Sum.{Sum}
@@ -18,7 +17,7 @@ use Rattle.one_process_model.specs.declared.tree.Statement.{Statement}
 use Rattle.one_process_model.specs.declared.tree.Variable.{Variable}
 use Rattle.one_process_model.specs.declared.tree.Process.{Process}
 use Rattle.one_process_model.specs.declared.tree.Program.{Program}
-use Rattle.one_process_model.specs.Grammar.{is_name, is_separator, sign_of, SpellsAtom, variable, number, skip, SpellsTerms, no_term, one_term, SpellsSum, sum, SpellsComparison, alone, equal, less, SpellsAction, assign, increment, decrement, condition, SpellsStatement, statement, SpellsSeparators, no_separator, one_separator, SpellsBody, last_statement, more_statements, SpellsVariable, plain, with_number, SpellsVariables, last_variable, more_variables, SpellsDeclarations, no_declaration, semicolon, declaration, SpellsProcess, process, Spells, only_variables, with_process}
+use Rattle.one_process_model.specs.Grammar.{is_separator, sign_of, SpellsAtom, variable, number, skip, SpellsTerms, no_term, one_term, SpellsSum, sum, SpellsComparison, alone, equal, less, SpellsAction, assign, increment, decrement, condition, SpellsStatement, statement, SpellsSeparators, no_separator, one_separator, SpellsBody, last_statement, more_statements, SpellsVariable, plain, with_number, SpellsVariables, last_variable, more_variables, SpellsDeclarations, no_declaration, semicolon, declaration, SpellsProcess, process, Spells, only_variables, with_process}
 use Rattle.one_process_model.specs.Reading as reading
 use Rattle.one_process_model.specs.Reading.{Read, and_then, pick, next, sees, expect, behind_separators}
 use Rattle.one_process_model.proofs.Steps.{at, is_kind, not_kind, expect_again, name_again, name_kind}

@@ -1,8 +1,7 @@
 -- What is read is spelled so.
-use Rattle.std.proofs.Common.{◌≡◌, ℕ, zero, suc, Bool, true, false, not, ◌&&◌, List, [], ◌∷◌, ◌++◌, length, drop, Option, Some, None, Ok, inl, inr, refl, sym, ap, subst, ◌∙◌, append_assoc}
+use Rattle.std.proofs.Common.{◌≡◌, ℕ, zero, suc, Bool, true, false, ◌&&◌, List, [], ◌∷◌, ◌++◌, drop, Option, Some, None, Ok, inl, inr, refl, sym, ap, subst, ◌∙◌, append_assoc}
 use Rattle.std.proofs.lemmas.List.{append-nil}
 use Rattle.pml_lex.specs.Word.{Word}
-use Rattle.pml_lex.specs.Kinds.{same_kind}
 use Rattle.pml_lex.specs.declared.token.Kind.{Kind}
 use Rattle.pml_lex.specs.declared.token.Kind.TheVariants as k
 use Rattle.one_process_model.specs.declared.tree.Atom.{Atom}

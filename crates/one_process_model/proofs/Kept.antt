@@ -1,5 +1,5 @@
 -- What an action keeps as its tokens is what stands there: the relations take tokens from the front alone.
-use Rattle.std.proofs.Common.{◌≡◌, ℕ, ◌-◌, List, [], ◌∷◌, ◌++◌, length, refl, sym, ap, ◌∙◌, append_assoc, arith, length-append}
+use Rattle.std.proofs.Common.{◌≡◌, ◌-◌, List, [], ◌∷◌, ◌++◌, length, refl, sym, ap, ◌∙◌, append_assoc, arith, length-append}
 use Rattle.std.proofs.lemmas.List.{take_at}
 use Rattle.pml_lex.specs.Word.{Word}
 use Rattle.one_process_model.specs.declared.tree.Atom.{Atom}

@@ -4,3 +4,4 @@ pub mod Kept
 pub mod Found
 pub mod Again
 pub mod Whole
+pub mod Naming

@@ -1,5 +1,5 @@
 -- The steps of reading: what a step that did not fail read, and what a step reads.
-use Rattle.std.proofs.Common.{◌≡◌, ℕ, Bool, true, false, ◌&&◌, List, [], ◌∷◌, ◌++◌, Result, Ok, Err, ◌⊎◌, inl, inr, refl, sym, ap, subst, ◌∙◌, append_assoc}
+use Rattle.std.proofs.Common.{◌≡◌, ℕ, Bool, true, false, ◌&&◌, List, [], ◌∷◌, ◌++◌, Result, Ok, Err, ◌⊎◌, inl, inr, refl, sym, subst, ◌∙◌, append_assoc}
 use denote.Enum.Bare.{same_true, true_same}
 use Rattle.pml_lex.specs.contracts.token.Kind.{the_type}
 use Rattle.pml_lex.specs.declared.token.Kind.{Kind}

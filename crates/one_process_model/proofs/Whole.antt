@@ -1,5 +1,5 @@
 -- All of the tokens: what was read is the only tree, and where nothing was read there is none.
-use Rattle.std.proofs.Common.{◌≡◌, ℕ, List, [], Ok, Err, sym, ap, ◌∙◌}
+use Rattle.std.proofs.Common.{◌≡◌, ℕ, List, Ok, Err, sym, ap, ◌∙◌}
 use Rattle.pml_lex.specs.Word.{Word}
 use Rattle.one_process_model.specs.declared.tree.Program.{Program}
 use Rattle.one_process_model.specs.Grammar.{Spells}

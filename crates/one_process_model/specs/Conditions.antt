@@ -1,5 +1,5 @@
 -- The conditions on the whole tree, each by itself, and the least refusal that applies.
-use Rattle.std.specs.Prelude.{ℕ, Bool, true, false, not, ◌||◌, List, [], ◌∷◌, Option, Some, None, is_none, bytes_eq, if◌then◌else◌}
+use Rattle.std.specs.Prelude.{ℕ, Bool, false, not, ◌||◌, List, [], ◌∷◌, ◌++◌, Option, Some, None, is_none, bytes_eq, if◌then◌else◌}
 use Rattle.std.specs.List.{list_any}
 use Rattle.diagnostics.specs.declared.refusal.Refusal.{Refusal}
 use Rattle.diagnostics.specs.declared.refusal.Refusal.TheVariants.{NameTwice, UnknownName, NumberOutOfRange, NoProcess}
@@ -20,13 +20,17 @@ use Rattle.one_process_model.specs.Number.{is_large}
 
 -- one of the variables has this name
 abbrev pub declares : List ℕ → List Variable → Bool
-declares name xs = list_any (λ x. bytes_eq x.name.text name) xs
+declares name xs = list_any (λ x. bytes_eq name x.name.text) xs
 
 -- ---- a name stands twice: variables and the proctype share one space
 
+-- one of the variables behind some has the name of one before it
+abbrev pub is_again : List Variable → List Variable → Bool
+is_again before [] = false
+is_again before (x ∷ xs) = declares x.name.text before || is_again (before ++ x ∷ []) xs
+
 abbrev pub has_name_twice : List Variable → Bool
-has_name_twice [] = false
-has_name_twice (x ∷ xs) = declares x.name.text xs || has_name_twice xs
+has_name_twice xs = is_again [] xs
 
 abbrev pub is_declared : Option Process → List Variable → Bool
 is_declared None xs = false

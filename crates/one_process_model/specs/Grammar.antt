@@ -1,5 +1,5 @@
 -- The grammar. Each relation says that the tokens of the first list, up to where the second begins, spell a tree.
-use Rattle.std.specs.Prelude.{◌≡◌, ℕ, Bool, true, false, not, ◌&&◌, List, [], ◌∷◌, ◌++◌, Option, Some, None, codes, bytes_eq}
+use Rattle.std.specs.Prelude.{◌≡◌, Bool, true, false, not, ◌&&◌, List, [], ◌∷◌, ◌++◌, Option, Some, None, codes, bytes_eq}
 use Rattle.pml_lex.specs.Word.{Word}
 use Rattle.pml_lex.specs.Kinds.{same_kind}
 use Rattle.pml_lex.specs.declared.token.Kind.{Kind}

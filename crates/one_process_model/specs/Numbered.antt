@@ -1,5 +1,5 @@
 -- The checked model of a tree.
-use Rattle.std.specs.Prelude.{◌≡◌, ℕ, ◌+◌, ℤ, pos, List, [], ◌∷◌, map, Option, Some, None, bytes_eq, if◌then◌else◌}
+use Rattle.std.specs.Prelude.{◌≡◌, ℕ, ◌+◌, pos, List, [], ◌∷◌, map, Option, Some, None, bytes_eq, if◌then◌else◌}
 use Rattle.pml_lex.specs.Word.{Word}
 use Rattle.one_process_model.specs.declared.tree.Atom.{Atom}
 use Rattle.one_process_model.specs.declared.tree.Atom.TheVariants as a
@@ -29,7 +29,7 @@ use Rattle.one_process_model.specs.Conditions.{refusal_of}
 -- the place of a name among the variables
 abbrev pub place_of : List Variable → List ℕ → ℕ
 place_of [] name = 0
-place_of (x ∷ xs) name = if bytes_eq x.name.text name then 0 else 1 + place_of xs name
+place_of (x ∷ xs) name = if bytes_eq name x.name.text then 0 else 1 + place_of xs name
 
 abbrev pub operand_of : List Variable → Atom → Operand
 operand_of xs (a.Variable n) = Cell (place_of xs n.text)

@@ -8,6 +8,7 @@ ghost use Rattle.diagnostics.specs.declared.refusal.Refusal.{Refusal};
 
 use crate::checked::{Checked, Code, Effect, Operand, Part, Step, Total, Value};
 use crate::conditions::fitting;
+use crate::names::Names;
 use crate::number::{byte, constant};
 use crate::tree::{Action, Atom, Comparison, Process, Program, Statement, Sum, Term, Variable};
 use diagnostics::Refusal;
@@ -32,34 +33,20 @@ impl From<AllocError> for CheckFault {
     }
 }
 
-/// The place of a name among the variables, which have it.
-fn place_of(name: &[u8], variables: &[Variable<'_>]) -> usize
-    ensures { result ≡ numbered.place_of variables.now name.now }
-{
-    let mut place = 0;
-    for variable in variables {
-        if variable.name.text() == name {
-            return place;
-        }
-        place += 1;
-    }
-    place
-}
-
-fn operand_of(variables: &[Variable<'_>], atom: &Atom<'_>) -> Operand
+fn operand_of<'a>(variables: &Names<'_, 'a>, atom: &Atom<'a>) -> Operand
     ensures { result ≡ numbered.operand_of variables.now atom.now }
 {
     match atom {
-        Atom::Variable(name) => Operand::Cell(place_of(name.text(), variables)),
+        Atom::Variable(name) => Operand::Cell(variables.place_of(name.text())),
         Atom::Number(number) => Operand::Constant(constant(number)),
         Atom::Skip => Operand::Constant(1),
     }
 }
 
-fn parts_of(
+fn parts_of<'a>(
     alloc: Global,
-    variables: &[Variable<'_>],
-    terms: &[Term<'_>],
+    variables: &Names<'_, 'a>,
+    terms: &[Term<'a>],
 ) -> Result<Items<Part>, AllocError>
     ensures { IfOk result (λ parts. parts ≡ map (numbered.part_of variables.now) terms.now) }
 {
@@ -74,7 +61,11 @@ fn parts_of(
     Ok(parts)
 }
 
-fn total_of(alloc: Global, variables: &[Variable<'_>], sum: &Sum<'_>) -> Result<Total, AllocError>
+fn total_of<'a>(
+    alloc: Global,
+    variables: &Names<'_, 'a>,
+    sum: &Sum<'a>,
+) -> Result<Total, AllocError>
     ensures { IfOk result (λ total. total ≡ numbered.total_of variables.now sum.now) }
 {
     let first = operand_of(variables, &sum.first);
@@ -82,10 +73,10 @@ fn total_of(alloc: Global, variables: &[Variable<'_>], sum: &Sum<'_>) -> Result<
     Ok(Total { first, rest })
 }
 
-fn value_of(
+fn value_of<'a>(
     alloc: Global,
-    variables: &[Variable<'_>],
-    comparison: &Comparison<'_>,
+    variables: &Names<'_, 'a>,
+    comparison: &Comparison<'a>,
 ) -> Result<Value, AllocError>
     ensures { IfOk result (λ value. value ≡ numbered.value_of variables.now comparison.now) }
 {
@@ -104,27 +95,27 @@ fn value_of(
     }
 }
 
-fn effect_of(
+fn effect_of<'a>(
     alloc: Global,
-    variables: &[Variable<'_>],
-    action: &Action<'_>,
+    variables: &Names<'_, 'a>,
+    action: &Action<'a>,
 ) -> Result<Effect, AllocError>
     ensures { IfOk result (λ effect. effect ≡ numbered.effect_of variables.now action.now) }
 {
     match action {
         Action::Assign(target, value) => {
             let value = value_of(alloc, variables, value)?;
-            Ok(Effect::Store(place_of(target.text(), variables), value))
+            Ok(Effect::Store(variables.place_of(target.text()), value))
         }
-        Action::Increment(target) => Ok(Effect::Increment(place_of(target.text(), variables))),
-        Action::Decrement(target) => Ok(Effect::Decrement(place_of(target.text(), variables))),
+        Action::Increment(target) => Ok(Effect::Increment(variables.place_of(target.text()))),
+        Action::Decrement(target) => Ok(Effect::Decrement(variables.place_of(target.text()))),
         Action::Condition(value) => Ok(Effect::Condition(value_of(alloc, variables, value)?)),
     }
 }
 
 fn steps_of<'a>(
     alloc: Global,
-    variables: &[Variable<'a>],
+    variables: &Names<'_, 'a>,
     body: &[Statement<'a>],
 ) -> Result<Items<Step<'a>>, AllocError>
     ensures { IfOk result (λ steps. steps ≡ map (numbered.step_of variables.now) body.now) }
@@ -159,13 +150,15 @@ fn initials_of(alloc: Global, variables: &[Variable<'_>]) -> Result<Items<u8>, A
 
 fn number_all<'a>(
     alloc: Global,
+    names: &Names<'_, 'a>,
     variables: &[Variable<'a>],
     process: &Process<'a>,
 ) -> Result<Checked<'a>, AllocError>
+    requires { names.now ≡ variables.now }
     ensures { IfOk result (λ checked. checked ≡ numbered.numbered variables.now process.now) }
 {
     let initial = initials_of(alloc, variables)?;
-    let steps = steps_of(alloc, variables, process.body.as_slice())?;
+    let steps = steps_of(alloc, names, process.body.as_slice())?;
     let code = Code {
         name: process.name.copied(),
         steps,
@@ -181,8 +174,6 @@ pub fn check<'a>(alloc: Global, program: &Program<'a>) -> Result<Checked<'a>, Ch
     // A refusal is the least that applies.
     ensures err { (refusal : Refusal) → result ≡ Err (CheckFault.Refused refusal) → refusal_of program.now ≡ Some refusal }
 {
-    match fitting(program) {
-        Err(refusal) => Err(CheckFault::Refused(refusal)),
-        Ok(process) => Ok(number_all(alloc, program.variables.as_slice(), process)?),
-    }
+    let (names, process) = fitting(alloc, program)?;
+    Ok(number_all(alloc, &names, program.variables.as_slice(), process)?)
 }

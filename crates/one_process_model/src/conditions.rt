@@ -1,56 +1,37 @@
 //! The conditions on the whole tree.
 
-ghost use Rattle.std.specs.Prelude.{◌≡◌, Bool, ◌||◌, not, Some, None, OnOk, IfOk, IfErr};
+ghost use Rattle.std.specs.Prelude.{◌≡◌, Some, None, Err, OnOk, IfOk};
+ghost use Rattle.diagnostics.specs.declared.refusal.Refusal.{Refusal};
 ghost use Rattle.one_process_model.specs.Conditions as conditions;
 
+use crate::checks::CheckFault;
+use crate::names::Names;
 use crate::number::is_large;
 use crate::tree::{Action, Atom, Comparison, Process, Program, Statement, Sum, Term, Variable};
 use diagnostics::Refusal;
+use std::alloc::Global;
 
-/// Whether one of the variables has this name.
-pub fn declares(name: &[u8], variables: &[Variable<'_>]) -> bool
-    ensures { result ≡ conditions.declares name.now variables.now }
+/// Whether the process has the name of a variable.
+fn is_process_declared<'a>(variables: &Names<'_, 'a>, program: &Program<'a>) -> bool
+    ensures { result ≡ conditions.is_declared program.now.process variables.now }
 {
-    variables.iter().any(|x| x.name.text() == name)
-}
-
-fn has_name_twice(variables: &[Variable<'_>]) -> bool
-    ensures { result ≡ conditions.has_name_twice variables.now }
-{
-    let mut rest = variables;
-    while let [first, behind @ ..] = rest {
-        if declares(first.name.text(), behind) {
-            return true;
-        }
-        rest = behind;
-    }
-    false
-}
-
-fn is_name_twice(program: &Program<'_>) -> bool
-    ensures { result ≡ conditions.is_name_twice program.now }
-{
-    let variables = program.variables.as_slice();
-    if has_name_twice(variables) {
-        return true;
-    }
     match &program.process {
         None => false,
-        Some(process) => declares(process.name.text(), variables),
+        Some(process) => variables.declares(process.name.text()),
     }
 }
 
-fn is_atom_unknown(variables: &[Variable<'_>], atom: &Atom<'_>) -> bool
+fn is_atom_unknown<'a>(variables: &Names<'_, 'a>, atom: &Atom<'a>) -> bool
     ensures { result ≡ conditions.is_atom_unknown variables.now atom.now }
 {
     match atom {
-        Atom::Variable(name) => !declares(name.text(), variables),
+        Atom::Variable(name) => !variables.declares(name.text()),
         Atom::Number(_) => false,
         Atom::Skip => false,
     }
 }
 
-fn is_term_unknown(variables: &[Variable<'_>], terms: &[Term<'_>]) -> bool
+fn is_term_unknown<'a>(variables: &Names<'_, 'a>, terms: &[Term<'a>]) -> bool
     ensures { result ≡ conditions.is_term_unknown variables.now terms.now }
 {
     terms
@@ -58,13 +39,13 @@ fn is_term_unknown(variables: &[Variable<'_>], terms: &[Term<'_>]) -> bool
         .any(|term| is_atom_unknown(variables, &term.atom))
 }
 
-fn is_sum_unknown(variables: &[Variable<'_>], sum: &Sum<'_>) -> bool
+fn is_sum_unknown<'a>(variables: &Names<'_, 'a>, sum: &Sum<'a>) -> bool
     ensures { result ≡ conditions.is_sum_unknown variables.now sum.now }
 {
     is_atom_unknown(variables, &sum.first) || is_term_unknown(variables, sum.rest.as_slice())
 }
 
-fn is_comparison_unknown(variables: &[Variable<'_>], comparison: &Comparison<'_>) -> bool
+fn is_comparison_unknown<'a>(variables: &Names<'_, 'a>, comparison: &Comparison<'a>) -> bool
     ensures { result ≡ conditions.is_comparison_unknown variables.now comparison.now }
 {
     match comparison {
@@ -75,21 +56,21 @@ fn is_comparison_unknown(variables: &[Variable<'_>], comparison: &Comparison<'_>
     }
 }
 
-fn is_action_unknown(variables: &[Variable<'_>], action: &Action<'_>) -> bool
+fn is_action_unknown<'a>(variables: &Names<'_, 'a>, action: &Action<'a>) -> bool
     ensures { result ≡ conditions.is_action_unknown variables.now action.now }
 {
     match action {
         Action::Assign(target, value) => {
-            !declares(target.text(), variables) || is_comparison_unknown(variables, value)
+            !variables.declares(target.text()) || is_comparison_unknown(variables, value)
         }
         Action::Increment(target) | Action::Decrement(target) => {
-            !declares(target.text(), variables)
+            !variables.declares(target.text())
         }
         Action::Condition(value) => is_comparison_unknown(variables, value),
     }
 }
 
-fn is_name_unknown(variables: &[Variable<'_>], body: &[Statement<'_>]) -> bool
+fn is_name_unknown<'a>(variables: &Names<'_, 'a>, body: &[Statement<'a>]) -> bool
     ensures { result ≡ conditions.is_name_unknown variables.now body.now }
 {
     body.iter().any(|statement| is_action_unknown(variables, &statement.action))
@@ -169,26 +150,32 @@ fn body_of<'p, 'a>(program: &'p Program<'a>) -> &'p [Statement<'a>]
     }
 }
 
-/// The process of a program to which no refusal applies, and else the least that does.
+/// The names and the process of a program to which no refusal applies, and else the least that does.
 #[tactic(auto, unfolding(crate::specs::Conditions::refusal_of))]
-pub fn fitting<'p, 'a>(program: &'p Program<'a>) -> Result<&'p Process<'a>, Refusal>
+pub fn fitting<'p, 'a>(
+    alloc: Global,
+    program: &'p Program<'a>,
+) -> Result<(Names<'p, 'a>, &'p Process<'a>), CheckFault>
     ensures fits { OnOk result (conditions.refusal_of program.now ≡ None) }
-    ensures process { IfOk result (λ process. program.now.process ≡ Some process.now) }
-    ensures err { IfErr result (λ refusal. conditions.refusal_of program.now ≡ Some refusal) }
+    ensures names { IfOk result (λ fitting. fitting.0 ≡ program.now.variables) }
+    ensures process { IfOk result (λ fitting. program.now.process ≡ Some fitting.1.now) }
+    ensures err { (refusal : Refusal) → result ≡ Err (CheckFault.Refused refusal) → conditions.refusal_of program.now ≡ Some refusal }
 {
-    let variables = program.variables.as_slice();
+    let Some(names) = Names::new(alloc, program.variables.as_slice())? else {
+        return Err(CheckFault::Refused(Refusal::NameTwice));
+    };
+    if is_process_declared(&names, program) {
+        return Err(CheckFault::Refused(Refusal::NameTwice));
+    }
     let body = body_of(program);
-    if is_name_twice(program) {
-        return Err(Refusal::NameTwice);
+    if is_name_unknown(&names, body) {
+        return Err(CheckFault::Refused(Refusal::UnknownName));
     }
-    if is_name_unknown(variables, body) {
-        return Err(Refusal::UnknownName);
-    }
-    if is_initial_large(variables) || is_body_large(body) {
-        return Err(Refusal::NumberOutOfRange);
+    if is_initial_large(program.variables.as_slice()) || is_body_large(body) {
+        return Err(CheckFault::Refused(Refusal::NumberOutOfRange));
     }
     match &program.process {
-        None => Err(Refusal::NoProcess),
-        Some(process) => Ok(process),
+        None => Err(CheckFault::Refused(Refusal::NoProcess)),
+        Some(process) => Ok((names, process)),
     }
 }

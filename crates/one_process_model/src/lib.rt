@@ -10,6 +10,7 @@ mod declaration;
 mod expression;
 mod fault;
 pub mod laws;
+mod names;
 mod number;
 pub mod program;
 mod statement;
