@@ -10,9 +10,9 @@ use Rattle.session.specs.declared.Cause.TheVariants as cause
 use Rattle.session.specs.declared.Broken.{Broken}
 use Rattle.session.specs.declared.Broken.TheVariants as broken
 use Rattle.session.specs.Part.{Part}
-use Rattle.session.specs.Session.{outcome, end_of, refused, transcript}
+use Rattle.session.specs.Session.{outcome, end_of, refused, not_served, transcript}
 use Rattle.session.specs.Stands.{Does, Breaks}
-use Rattle.session.specs.Texts.{refusal_line}
+use Rattle.session.specs.Texts.{refusal_line, not_served_line}
 use Rattle.session.specs.Writes.{WriteBreaks}
 use Rattle.session.proofs.Parts.{Leads-does, puts, put_breaks, memory_breaks, outcome_does}
 use Rattle.pml_lex.specs.Word.{Word}
@@ -21,8 +21,13 @@ use Rattle.pml_lex.specs.Limits.{IsOnLine}
 use Rattle.pml_lex.specs.Cut.{AreTokens, IsLeast}
 use Rattle.pml_lex.specs.declared.fault.LexFault.{LexFault}
 use Rattle.pml_lex.specs.declared.fault.LexFault.TheVariants as lex
-use Rattle.one_process_model.specs.declared.program.SyntaxFault.{SyntaxFault}
-use Rattle.one_process_model.specs.declared.program.SyntaxFault.TheVariants as syntax
+use Rattle.pml_tree.specs.declared.tree.Tree.{Tree}
+use Rattle.pml_syntax.specs.declared.program.SyntaxFault.{SyntaxFault}
+use Rattle.pml_syntax.specs.declared.program.SyntaxFault.TheVariants as syntax
+use Rattle.pml_syntax.specs.Grammar as promela
+use Rattle.pml_syntax.specs.Answer as promela_answer
+use Rattle.one_process_model.specs.declared.program.SyntaxFault.{SyntaxFault as ProgramFault}
+use Rattle.one_process_model.specs.declared.program.SyntaxFault.TheVariants as small
 use Rattle.one_process_model.specs.declared.checks.CheckFault.{CheckFault}
 use Rattle.one_process_model.specs.declared.checks.CheckFault.TheVariants as check
 use Rattle.one_process_model.specs.declared.tree.Program.{Program}
@@ -31,13 +36,13 @@ use Rattle.one_process_model.specs.Answer.{Answers}
 use Rattle.one_process_model.specs.Grammar.{Spells}
 use Rattle.one_process_model.specs.Conditions.{refusal_of}
 use Rattle.one_process.specs.declared.whole.Rejection.{Rejection}
-use Rattle.one_process.specs.declared.whole.Rejection.TheVariants.{Memory, Refused}
+use Rattle.one_process.specs.declared.whole.Rejection.TheVariants.{Memory, NotServed, Refused}
 use Rattle.one_process.specs.State.{State}
 use Rattle.one_process.specs.Engine.{first, rules}
-use Rattle.one_process.specs.Transcript.{IsModel, too_long, lexical, left_out, too_deep, unspelled, unfit, IsTranscript, of_refusal, of_model}
-use Rattle.one_process.specs.Plays.{IsRejected, of_lexical, of_syntax, of_check, Rejects, PlaysWhole}
+use Rattle.one_process.specs.Transcript.{IsPromela, IsModel, too_long, lexical, left_out, too_deep, unspelled, unfit, IsTranscript, of_unserved, of_refusal, of_model}
+use Rattle.one_process.specs.Plays.{IsRejected, of_lexical, of_syntax, of_program, of_check, Rejects, PlaysWhole}
 use Rattle.one_process.proofs.Lines.{token_lines}
-use Rattle.one_process.proofs.Outcomes.{when_refused, when_modelled}
+use Rattle.one_process.proofs.Outcomes.{when_refused, when_unserved, when_modelled}
 
 -- ---- reading
 
@@ -48,15 +53,19 @@ rejected_lexical text (lex.Lexical line) h = lexical h
 rejected_lexical text (lex.LeftOut line) h = left_out h
 rejected_lexical text (lex.TooDeep line) h = too_deep h
 
-pub rejected_syntax : (text : List ℕ) (ts : List Word) (fault : SyntaxFault) → AreTokens text ts → ((t : Program) → Spells t ts → Answers t (Err fault))
-    → ((most : ℕ) → 1 ≤ most → All (λ w. IsOnLine most w.line) ts → (at : ℕ) → ◌≡◌ {A = Result Program SyntaxFault} (Err fault) (Err (syntax.Syntax at)) → IsOnLine most at) → IsRejected text (of_syntax fault)
+pub rejected_syntax : (text : List ℕ) (ts : List Word) (fault : SyntaxFault) → AreTokens text ts → ((t : Tree) → promela.Spells t ts → promela_answer.Answers t (Err fault))
+    → ((most : ℕ) → 1 ≤ most → All (λ w. IsOnLine most w.line) ts → (at : ℕ) → ◌≡◌ {A = Result Tree SyntaxFault} (Err fault) (Err (syntax.Syntax at)) → IsOnLine most at) → IsRejected text (of_syntax fault)
 rejected_syntax text ts syntax.Memory are none line = tt
 rejected_syntax text ts (syntax.Syntax at) are none line = unspelled (record { tokens = ts; are_tokens = are; none = none; on_line = line (line_behind text) (omega arith) (token_lines text ts are) at refl })
 
-pub rejected_check : (text : List ℕ) (ts : List Word) (program : Program) (fault : CheckFault) → AreTokens text ts → Spells program ts
+pub rejected_program : (text : List ℕ) (ts : List Word) (fault : ProgramFault) → AreTokens text ts → IsPromela ts → ((t : Program) → Spells t ts → Answers t (Err fault)) → IsRejected text (of_program fault)
+rejected_program text ts small.Memory are is none = tt
+rejected_program text ts (small.Syntax at) are is none = record { tokens = ts; are_tokens = are; is_promela = is; none = none }
+
+pub rejected_check : (text : List ℕ) (ts : List Word) (program : Program) (fault : CheckFault) → AreTokens text ts → IsPromela ts → Spells program ts
     → ((r : Refusal) → ◌≡◌ {A = Result Checked CheckFault} (Err fault) (Err (check.Refused r)) → refusal_of program ≡ Some r) → IsRejected text (of_check fault)
-rejected_check text ts program check.Memory are spells least = tt
-rejected_check text ts program (check.Refused r) are spells least = unfit (record { tokens = ts; are_tokens = are; program = program; spells = spells; least = least r refl })
+rejected_check text ts program check.Memory are is spells least = tt
+rejected_check text ts program (check.Refused r) are is spells least = unfit (record { tokens = ts; are_tokens = are; is_promela = is; program = program; spells = spells; least = least r refl })
 
 -- ---- a rejected text
 
@@ -64,6 +73,13 @@ module _ (text : List ℕ) (options : Options) (s : List ℕ → Type 0) (o o' k
   pub rejected_plays : (rejection : Rejection) (result : Result End Broken) → n ≡ 0 → IsRejected text rejection → Rejects rejection result o o' → IfOk result (PlaysWhole text options s s o o' k k 0 n)
   rejected_plays Memory (Ok end) zero is h = absurd cc
   rejected_plays Memory (Err e) zero is h = tt
+  rejected_plays NotServed (Err e) zero is h = tt
+  rejected_plays NotServed (Ok end) zero is h = subst (λ (m : ℕ). PlaysWhole text options s s o o' k k 0 m end) (sym zero) (subst (λ (x : End). PlaysWhole text options s s o o' k k 0 0 x) (sym h.1) (record {
+    part = not_served false;
+    is_transcript = of_unserved is;
+    over = false;
+    does = Leads-does (puts not_served_line (outcome (end_of cause.NotServed 0) false) h.0) (outcome_does (end_of cause.NotServed 0) false);
+  }))
   rejected_plays (Refused r line) (Err e) zero is h = tt
   rejected_plays (Refused r line) (Ok end) zero is h = subst (λ (m : ℕ). PlaysWhole text options s s o o' k k 0 m end) (sym zero) (subst (λ (x : End). PlaysWhole text options s s o o' k k 0 0 x) (sym h.1) (record {
     part = refused r line false;
@@ -82,11 +98,20 @@ module _ (text : List ℕ) (options : Options) (s : List ℕ → Type 0) (o o' k
   refusal_breaks r line broken.Source h = absurd h
   refusal_breaks r line broken.Record h = absurd h
 
+  unserved_breaks : (e : Broken) → WriteBreaks e o o' not_served_line → Breaks e s s o o' k k 0 0 (not_served false)
+  unserved_breaks broken.Memory h = written_none (not_served false) h
+  unserved_breaks broken.Out h = put_breaks not_served_line (outcome (end_of cause.NotServed 0) false) h
+  unserved_breaks broken.Source h = absurd h
+  unserved_breaks broken.Record h = absurd h
+
   pub rejected_breaks : (rejection : Rejection) (result : Result End Broken) → n ≡ 0 → IsRejected text rejection → Rejects rejection result o o' → IfErr result (λ e. (part : List ℕ → Part End) → IsTranscript text options part → Breaks e s s o o' k k 0 n part)
   rejected_breaks Memory (Ok end) zero is h = tt
   rejected_breaks Memory (Err e) zero is h = λ part given.
       let e_is : e ≡ broken.Memory = (let w = h.0 in cc) in
       subst (λ (m : ℕ). Breaks e s s o o' k k 0 m part) (sym zero) (subst (λ (x : Broken). Breaks x s s o o' k k 0 0 part) (sym e_is) (subst (λ (l : Option (List ℕ)). Breaks broken.Memory s s o l k k 0 0 part) (sym h.1) (memory_breaks part)))
+  rejected_breaks NotServed (Ok end) zero is h = tt
+  rejected_breaks NotServed (Err e) zero is h = λ part given.
+      subst (λ (m : ℕ). Breaks e s s o o' k k 0 m part) (sym zero) (subst (λ (x : List ℕ → Part End). Breaks e s s o o' k k 0 0 x) (sym (when_unserved is given)) (unserved_breaks e h.0))
   rejected_breaks (Refused r line) (Ok end) zero is h = tt
   rejected_breaks (Refused r line) (Err e) zero is h = λ part given.
       let p = when_refused is given in

@@ -9,21 +9,24 @@ use Rattle.session.specs.declared.Broken.TheVariants as broken
 use Rattle.session.specs.Part.{Part}
 use Rattle.session.specs.Session.{end_of}
 use Rattle.session.specs.Stands.{Does}
-use Rattle.session.specs.Texts.{refusal_line}
+use Rattle.session.specs.Texts.{refusal_line, not_served_line}
 use Rattle.session.specs.Writes.{Writes}
 use Rattle.pml_lex.specs.declared.fault.LexFault.{LexFault}
 use Rattle.pml_lex.specs.declared.fault.LexFault.TheVariants as lex
-use Rattle.one_process_model.specs.declared.program.SyntaxFault.{SyntaxFault}
-use Rattle.one_process_model.specs.declared.program.SyntaxFault.TheVariants as syntax
+use Rattle.pml_syntax.specs.declared.program.SyntaxFault.{SyntaxFault}
+use Rattle.pml_syntax.specs.declared.program.SyntaxFault.TheVariants as syntax
+use Rattle.one_process_model.specs.declared.program.SyntaxFault.{SyntaxFault as ProgramFault}
+use Rattle.one_process_model.specs.declared.program.SyntaxFault.TheVariants as small
 use Rattle.one_process_model.specs.declared.checks.CheckFault.{CheckFault}
 use Rattle.one_process_model.specs.declared.checks.CheckFault.TheVariants as check
 use Rattle.one_process.specs.declared.whole.Rejection.{Rejection}
-use Rattle.one_process.specs.declared.whole.Rejection.TheVariants.{Memory, Refused}
-use Rattle.one_process.specs.Transcript.{IsRefused, IsTranscript}
+use Rattle.one_process.specs.declared.whole.Rejection.TheVariants.{Memory, NotServed, Refused}
+use Rattle.one_process.specs.Transcript.{IsRefused, IsUnserved, IsTranscript}
 
--- memory ran out, or the text is refused so
+-- memory ran out, or the text uses what is not served yet, or it is refused so
 abbrev pub IsRejected : List ℕ → Rejection → Type 0
 IsRejected text Memory = Unit {0}
+IsRejected text NotServed = IsUnserved text
 IsRejected text (Refused r line) = IsRefused text r line
 
 -- what a fault of cutting, of reading or of the checks makes of a text
@@ -38,6 +41,10 @@ abbrev pub of_syntax : SyntaxFault → Rejection
 of_syntax syntax.Memory = Memory
 of_syntax (syntax.Syntax line) = Refused refusal.Syntax line
 
+abbrev pub of_program : ProgramFault → Rejection
+of_program small.Memory = Memory
+of_program (small.Syntax line) = NotServed
+
 abbrev pub of_check : CheckFault → Rejection
 of_check check.Memory = Memory
 of_check (check.Refused r) = Refused r 0
@@ -45,6 +52,7 @@ of_check (check.Refused r) = Refused r 0
 -- what is written of a rejected text, and how its session ends
 abbrev pub Rejects : Rejection → Result End Broken → Option (List ℕ) → Option (List ℕ) → Type 0
 Rejects Memory result old new = (result ≡ Err broken.Memory) × (new ≡ old)
+Rejects NotServed result old new = Writes result old new not_served_line × IfOk result (λ end. end ≡ end_of cause.NotServed 0)
 Rejects (Refused r line) result old new = Writes result old new (refusal_line r) × IfOk result (λ end. end ≡ end_of (cause.Refused r line) 0)
 
 -- a session over the text was done whole, with this end

@@ -5,12 +5,14 @@ ghost use Rattle.diagnostics.specs.declared.refusal.Refusal.{Refusal};
 ghost use Rattle.one_process_model.specs.declared.checked.Checked.{Checked};
 ghost use Rattle.one_process.specs.State.{State};
 ghost use Rattle.one_process.specs.Engine.{moves};
-ghost use Rattle.one_process.specs.Transcript.{IsModel, IsRefused, HasLine};
+ghost use Rattle.one_process.specs.Transcript.{IsModel, IsRefused, IsUnserved, HasLine};
 
-/// A text is refused in one way at most, or it stands for one model at most, and not both.
+/// A text is refused in one way at most, or uses what is not served, or stands for one model at most, and only one of these.
 pub fn one_outcome()
     ensures refusal { (text : List ℕ) (a b : Refusal) (m n : ℕ) → IsRefused text a m → IsRefused text b n → a ≡ b }
     ensures either { (text : List ℕ) (a : Refusal) (m : ℕ) (checked : Checked) → IsRefused text a m → IsModel text checked → ⊥ }
+    ensures unserved { (text : List ℕ) (a : Refusal) (m : ℕ) → IsRefused text a m → IsUnserved text → ⊥ }
+    ensures served { (text : List ℕ) (checked : Checked) → IsModel text checked → IsUnserved text → ⊥ }
     ensures model { (text : List ℕ) (a b : Checked) → IsModel text a → IsModel text b → a ≡ b }
 {}
 

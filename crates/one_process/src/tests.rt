@@ -217,7 +217,7 @@ fn refuses_what_no_tree_spells(rt: HostRuntime) -> Result<(), Fail> {
     refused(
         &rt,
         alloc,
-        b"byte x; active proctype A() { x x }",
+        b"byte x; active proctype A() { skip skip }",
         line,
         Refusal::Syntax,
         1,
@@ -225,27 +225,32 @@ fn refuses_what_no_tree_spells(rt: HostRuntime) -> Result<(), Fail> {
     refused(
         &rt,
         alloc,
-        b"byte _pid; active proctype A() { skip }",
-        line,
-        Refusal::Syntax,
-        1,
-    )?;
-    refused(
-        &rt,
-        alloc,
-        b"active proctype A() { printf(\"\") }",
-        line,
-        Refusal::Syntax,
-        1,
-    )?;
-    refused(
-        &rt,
-        alloc,
-        b"active proctype A() { }",
+        b"active proctype A() { ; skip }",
         line,
         Refusal::Syntax,
         1,
     )
+}
+
+#[test]
+fn says_what_is_not_served(rt: HostRuntime) -> Result<(), Fail> {
+    let alloc = rt.alloc();
+    for text in [
+        b"init { skip }".as_slice(),
+        b"byte _pid; active proctype A() { skip }",
+        b"active proctype A() { printf(\"\") }",
+        b"active proctype A() { }",
+    ] {
+        row(
+            &rt,
+            alloc,
+            text,
+            &STEPS,
+            b"refused M99 (not served)\n",
+            ends(3, 0, Cause::NotServed),
+        )?;
+    }
+    Ok(())
 }
 
 #[test]

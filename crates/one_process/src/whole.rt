@@ -1,6 +1,6 @@
 //! The session over a text.
 
-ghost use Rattle.std.specs.Prelude.{◌≡◌, ◌≢◌, ◌<◌, [], ℕ, List, Err, IfOk, IfErr};
+ghost use Rattle.std.specs.Prelude.{◌≡◌, ◌≢◌, ◌<◌, [], ℕ, List, Err, IfOk, IfErr, OnOk};
 ghost use Rattle.std.specs.Io.KnownBytes.{Appends};
 ghost use Rattle.session.specs.declared.Broken.{Broken};
 ghost use Rattle.session.specs.declared.End.{End};
@@ -9,7 +9,7 @@ ghost use Rattle.session.specs.Replay.{CanBeReplayed};
 ghost use Rattle.session.specs.Stands.{Gave, Does, Breaks, CountsAll, CountsBroken};
 ghost use Rattle.session.specs.Writes.{CountsWrite, IsOwnEnd, failure_of};
 ghost use Rattle.pml_lex.specs.Cut.{AreTokens};
-ghost use Rattle.one_process.specs.Transcript.{IsModel, IsTranscript};
+ghost use Rattle.one_process.specs.Transcript.{IsModel, IsPromela, IsTranscript};
 ghost use Rattle.one_process.specs.Plays as plays;
 ghost use Rattle.one_process.specs.Plays.{IsRejected, Rejects, PlaysWhole};
 
@@ -17,17 +17,20 @@ use crate::engine::Engine;
 use devices::{Sink, Source};
 use diagnostics::Refusal;
 use one_process_model::checked::Checked;
-use one_process_model::{CheckFault, SyntaxFault, check, parse};
+use one_process_model::{CheckFault, check, parse};
 use pml_lex::cut;
 use pml_lex::fault::LexFault;
 use pml_lex::token::Token;
-use session::{Broken, End, Options, end_of, failure, refuse, run};
+use pml_syntax::SyntaxFault;
+use session::{Broken, End, Options, end_of, failure, refuse, refuse_unserved, run};
 use std::alloc::Global;
 
 /// Why a text has no model.
 #[derive(Clone, Copy, Debug, PartialEq, Eq)]
 enum Rejection {
     Memory,
+    /// It is a model of Promela, and uses something that is not served yet.
+    NotServed,
     /// It is refused, on this line, or 0 where the refusal has none.
     Refused(Refusal, u32),
 }
@@ -63,6 +66,15 @@ fn of_syntax(fault: SyntaxFault) -> Rejection
     }
 }
 
+fn of_program(fault: one_process_model::SyntaxFault) -> Rejection
+    ensures { result ≡ plays.of_program fault }
+{
+    match fault {
+        one_process_model::SyntaxFault::Memory => Rejection::Memory,
+        one_process_model::SyntaxFault::Syntax(_) => Rejection::NotServed,
+    }
+}
+
 fn of_check(fault: CheckFault) -> Rejection
     ensures { result ≡ plays.of_check fault }
 {
@@ -72,13 +84,26 @@ fn of_check(fault: CheckFault) -> Rejection
     }
 }
 
+/// Reads the tree of Promela that the tokens spell, and lets it go: what is served is read from the tokens.
+fn read_tree<'a>(alloc: Global, tokens: &'a [Token<'a>]) -> Result<(), Rejection>
+    ensures ok { OnOk result (IsPromela tokens.now) }
+    ensures err { (text : List ℕ) → AreTokens text tokens.now → IfErr result (IsRejected text) }
+{
+    let _tree = match pml_syntax::parse(alloc, tokens) {
+        Ok(tree) => tree,
+        Err(fault) => return Err(of_syntax(fault)),
+    };
+    Ok(())
+}
+
 fn model_of<'a>(alloc: Global, tokens: &'a [Token<'a>]) -> Result<Checked<'a>, Rejection>
     ensures ok { (text : List ℕ) → AreTokens text tokens.now → IfOk result (IsModel text) }
     ensures err { (text : List ℕ) → AreTokens text tokens.now → IfErr result (IsRejected text) }
 {
+    read_tree(alloc, tokens)?;
     let program = match parse(alloc, tokens) {
         Ok(program) => program,
-        Err(fault) => return Err(of_syntax(fault)),
+        Err(fault) => return Err(of_program(fault)),
     };
     match check(alloc, &program) {
         Ok(checked) => Ok(checked),
@@ -94,6 +119,7 @@ fn reject<O: Sink>(alloc: Global, rejection: Rejection, out: &mut O) -> Result<E
 {
     match rejection {
         Rejection::Memory => Err(Broken::Memory),
+        Rejection::NotServed => refuse_unserved(out),
         Rejection::Refused(refusal, line) => refuse(alloc, refusal, line, out),
     }
 }

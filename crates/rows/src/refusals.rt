@@ -20,18 +20,25 @@ never { skip } => M3 (left out) 1
 byte never; byte x, x; => M3 (left out) 1
 #define N 3 => M3 (left out) 1
 active proctype A() { skip => M5 (syntax) 1
-active proctype A() { } => M5 (syntax) 1
+active proctype A() { } => M99 (not served) 0
 active proctype A() { skip skip } => M5 (syntax) 1
 active proctype A() { ; skip } => M5 (syntax) 1
 active proctype A { skip } => M5 (syntax) 1
-active proctype _() { skip } => M5 (syntax) 1
-byte _pid; active proctype A() { skip } => M5 (syntax) 1
+active proctype _() { skip } => M99 (not served) 0
+byte _pid; active proctype A() { skip } => M99 (not served) 0
 byte x byte y; active proctype A() { x => M5 (syntax) 1
-byte x = y; active proctype A() { skip } => M5 (syntax) 1
-byte x; active proctype A() { x = 1 == 1 == 1 } => M5 (syntax) 1
+byte x = y; active proctype A() { skip } => M99 (not served) 0
+byte x; active proctype A() { x = 1 == 1 == 1 } => M99 (not served) 0
 byte x; active proctype A() { x = } => M5 (syntax) 1
 byte x; active proctype A() { x ++ ++ } => M5 (syntax) 1
 active proctype A() { "x" } => M5 (syntax) 1
+init { skip } => M99 (not served) 0
+byte x, x; init { break } => M99 (not served) 0
+proctype P(byte b; chan c) { c ! b } init { run P(1, 2) } => M99 (not served) 0
+init { { skip } unless { skip } } => M99 (not served) 0
+init { skip => M5 (syntax) 1
+init { goto } => M5 (syntax) 1
+init { d_step { } } => M5 (syntax) 1
 byte x, x; active proctype A() { skip } => M6 (name twice) 0
 byte x; byte x; active proctype A() { skip } => M6 (name twice) 0
 byte A; active proctype A() { skip } => M6 (name twice) 0
@@ -65,6 +72,7 @@ fn refused<R: Abort>(
     assert_eq!(rt; behind.end.steps, 0);
     match behind.end.cause {
         Cause::Refused(_, at) => assert_eq!(rt; at, line),
+        Cause::NotServed => assert_eq!(rt; line, 0),
         _ => assert!(rt; false),
     }
     Ok(())
@@ -80,7 +88,7 @@ fn rows_are_refused(rt: HostRuntime) -> Result<(), Fail> {
         refused(&rt, rt.alloc(), text.as_bytes(), words, at)?;
         count = count.saturating_add(1);
     }
-    assert_eq!(rt; count, 39);
+    assert_eq!(rt; count, 46);
     Ok(())
 }
 

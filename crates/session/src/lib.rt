@@ -19,7 +19,7 @@ mod writing;
 pub use choice::Answer;
 pub use line::{Cut, Line};
 pub use machine::{Machine, Stop};
-pub use refused::refuse;
+pub use refused::{refuse, refuse_unserved};
 pub use whole::{end_of, failure, play, run};
 
 /// What is printed of each step, and how many steps are taken at most.
@@ -48,6 +48,8 @@ pub enum Cause {
     Fault(Fault),
     /// The model was refused, at this line of its text, or 0 where the refusal has none.
     Refused(Refusal, u32),
+    /// The model is one of Promela's, and uses something that is not served yet.
+    NotServed,
     /// The choices ended at a question.
     ChoicesEnded,
     /// A line of the choices has more than 80 bytes.

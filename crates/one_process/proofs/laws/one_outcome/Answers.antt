@@ -1,4 +1,4 @@
-use Rattle.one_process.proofs.Outcomes.{one_refusal, no_model, one_model}
+use Rattle.one_process.proofs.Outcomes.{one_refusal, no_model, one_model, not_both, model_is_served}
 use Rattle.one_process.proofs.laws.one_outcome.Goals as goal
 
 pub returns-clause-refusal : goal.returns-clause-refusal
@@ -9,3 +9,9 @@ returns-clause-either c text a m checked = no_model
 
 pub returns-clause-model : goal.returns-clause-model
 returns-clause-model c text a b = one_model
+
+pub returns-clause-unserved : goal.returns-clause-unserved
+returns-clause-unserved c text a m = not_both
+
+pub returns-clause-served : goal.returns-clause-served
+returns-clause-served c text checked = model_is_served

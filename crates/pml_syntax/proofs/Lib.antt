@@ -1,0 +1,16 @@
+pub mod Turns
+pub mod Steps
+pub mod Lists
+pub mod Found
+pub mod Again
+pub mod FoundActions
+pub mod FoundDeclarations
+pub mod FoundBodies
+pub mod Begins
+pub mod AgainActions
+pub mod AgainDeclarations
+pub mod AgainBodies
+pub mod FoundUnits
+pub mod AgainUnits
+pub mod Whole
+pub mod Kept

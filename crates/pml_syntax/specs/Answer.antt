@@ -1,0 +1,15 @@
+-- What is answered for a tree.
+use Rattle.std.specs.Prelude.{◌≡◌, ℕ, ◌≤◌, Result, Ok, Err}
+use Rattle.pml_tree.specs.declared.tree.Tree.{Tree}
+use Rattle.pml_syntax.specs.declared.program.SyntaxFault.{SyntaxFault}
+use Rattle.pml_syntax.specs.declared.program.SyntaxFault.TheVariants as fault
+
+-- this tree, unless memory ran out
+abbrev pub Answers : Tree → Result Tree SyntaxFault → Type 0
+Answers t (Ok x) = x ≡ t
+Answers t (Err fault.Memory) = Unit {0}
+Answers t (Err (fault.Syntax line)) = ⊥
+
+-- one of the lines of a text of this many
+abbrev pub IsOnLine : ℕ → ℕ → Type 0
+IsOnLine most line = (1 ≤ line) × (line ≤ most)

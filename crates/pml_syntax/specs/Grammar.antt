@@ -1,0 +1,437 @@
+-- The grammar of Promela: which tree the tokens from one place up to another spell. Each relation has one rule for each
+-- production. `from` is the list of the tokens from a place on, and `to` the list of those that are left behind it.
+use Rattle.std.specs.Prelude.{◌≡◌, ◌≤◌, ℕ, ◌-◌, ◌+◌, Bool, true, false, ◌||◌, List, [], ◌∷◌, ◌++◌, length, take, Option, Some, None}
+use Rattle.pml_lex.specs.Word.{Word}
+use Rattle.pml_lex.specs.declared.token.Kind.{Kind}
+use Rattle.pml_lex.specs.declared.token.Kind.TheVariants as k
+use Rattle.pml_tree.specs.declared.tree.Infix.{Infix}
+use Rattle.pml_tree.specs.declared.tree.Infix.TheVariants as op
+use Rattle.pml_tree.specs.declared.tree.Prefix.{Prefix}
+use Rattle.pml_tree.specs.declared.tree.Prefix.TheVariants as sign
+use Rattle.pml_tree.specs.declared.tree.Fill.{Fill}
+use Rattle.pml_tree.specs.declared.tree.Fill.TheVariants as fills
+use Rattle.pml_tree.specs.declared.tree.Scalar.{Scalar}
+use Rattle.pml_tree.specs.declared.tree.Scalar.TheVariants as scalars
+use Rattle.pml_tree.specs.declared.tree.Expr.{Expr}
+use Rattle.pml_tree.specs.declared.tree.Expr.TheVariants as e
+use Rattle.pml_tree.specs.declared.tree.Argument.{Argument}
+use Rattle.pml_tree.specs.declared.tree.Argument.TheVariants as g
+use Rattle.pml_tree.specs.declared.tree.Reference.{Reference, roll-Reference}
+use Rattle.pml_tree.specs.declared.tree.Step.{Step, roll-Step}
+use Rattle.pml_tree.specs.declared.tree.Sort.{Sort}
+use Rattle.pml_tree.specs.declared.tree.Sort.TheVariants as sort
+use Rattle.pml_tree.specs.declared.tree.Initial.{Initial}
+use Rattle.pml_tree.specs.declared.tree.Initial.TheVariants as ini
+use Rattle.pml_tree.specs.declared.tree.Variable.{Variable}
+use Rattle.pml_tree.specs.declared.tree.Run.{Run}
+use Rattle.pml_tree.specs.declared.tree.Action.{Action}
+use Rattle.pml_tree.specs.declared.tree.Action.TheVariants as a
+use Rattle.pml_tree.specs.declared.tree.Basic.{Basic}
+use Rattle.pml_tree.specs.declared.tree.Basic.TheVariants as b
+use Rattle.pml_tree.specs.declared.tree.Item.{Item, roll-Item}
+use Rattle.pml_tree.specs.declared.tree.Seq.{Seq, roll-Seq}
+use Rattle.pml_tree.specs.declared.tree.Starts.{Starts}
+use Rattle.pml_tree.specs.declared.tree.Starts.TheVariants as starts
+use Rattle.pml_tree.specs.declared.tree.Proctype.{Proctype}
+use Rattle.pml_tree.specs.declared.tree.Unit.{Unit as ModelUnit}
+use Rattle.pml_tree.specs.declared.tree.Unit.TheVariants as u
+use Rattle.pml_tree.specs.declared.tree.Tree.{Tree}
+use Rattle.pml_syntax.specs.declared.form.Form.{Form}
+use Rattle.pml_syntax.specs.declared.form.Form.TheVariants as form
+
+-- ---- what the tokens mean alone
+
+-- between two operands
+abbrev pub operator : Kind → Option Infix
+operator k.OrOr = Some op.Or
+operator k.AndAnd = Some op.And
+operator k.Bar = Some op.BitOr
+operator k.Caret = Some op.BitXor
+operator k.Ampersand = Some op.BitAnd
+operator k.Equal = Some op.Equal
+operator k.Unequal = Some op.Unequal
+operator k.Less = Some op.Below
+operator k.AtMost = Some op.AtMost
+operator k.Greater = Some op.Above
+operator k.AtLeast = Some op.AtLeast
+operator k.ShiftLeft = Some op.ShiftLeft
+operator k.ShiftRight = Some op.ShiftRight
+operator k.Plus = Some op.Plus
+operator k.Minus = Some op.Minus
+operator k.Star = Some op.Times
+operator k.Slash = Some op.Divide
+operator k.Percent = Some op.Remainder
+operator _ = None
+
+-- how tightly an operator binds its operands, from 1
+abbrev pub level : Infix → ℕ
+level op.Or = 1
+level op.And = 2
+level op.BitOr = 3
+level op.BitXor = 4
+level op.BitAnd = 5
+level op.Equal = 6
+level op.Unequal = 6
+level op.Below = 7
+level op.AtMost = 7
+level op.Above = 7
+level op.AtLeast = 7
+level op.ShiftLeft = 8
+level op.ShiftRight = 8
+level op.Plus = 9
+level op.Minus = 9
+level op.Times = 10
+level op.Divide = 10
+level op.Remainder = 10
+
+-- the operators before an operand bind tighter than all of these
+abbrev pub prefix_level : ℕ
+prefix_level = 11
+
+abbrev pub prefix_operator : Kind → Option Prefix
+prefix_operator k.Bang = Some sign.Not
+prefix_operator k.Tilde = Some sign.Complement
+prefix_operator k.Minus = Some sign.Minus
+prefix_operator _ = None
+
+abbrev pub truth : Kind → Option Bool
+truth k.True = Some true
+truth k.Skip = Some true
+truth k.False = Some false
+truth _ = None
+
+abbrev pub fill : Kind → Option Fill
+fill k.Len = Some fills.Length
+fill k.Empty = Some fills.IsEmpty
+fill k.Full = Some fills.IsFull
+fill k.Nempty = Some fills.IsNotEmpty
+fill k.Nfull = Some fills.IsNotFull
+fill _ = None
+
+-- `?`, or with true `??`
+abbrev pub query : Kind → Option Bool
+query k.Query = Some false
+query k.QueryQuery = Some true
+query _ = None
+
+-- `!`, or with true `!!`
+abbrev pub bang : Kind → Option Bool
+bang k.Bang = Some false
+bang k.BangBang = Some true
+bang _ = None
+
+abbrev pub scalar : Kind → Option Scalar
+scalar k.Bit = Some scalars.Bit
+scalar k.Bool = Some scalars.Bool
+scalar k.Byte = Some scalars.Byte
+scalar k.Chan = Some scalars.Chan
+scalar k.Mtype = Some scalars.Mtype
+scalar k.Pid = Some scalars.Pid
+scalar k.Short = Some scalars.Short
+scalar k.Int = Some scalars.Int
+scalar _ = None
+
+abbrev pub is_visibility : Kind → Bool
+is_visibility k.Hidden = true
+is_visibility k.Show = true
+is_visibility k.Local = true
+is_visibility _ = false
+
+abbrev pub is_exclusive : Kind → Bool
+is_exclusive k.Xr = true
+is_exclusive k.Xs = true
+is_exclusive _ = false
+
+abbrev pub is_separator : Kind → Bool
+is_separator k.Semicolon = true
+is_separator k.Arrow = true
+is_separator _ = false
+
+-- ---- the trees, by their parts
+
+abbrev pub step_of : Word → Option Expr → Step
+step_of name index = roll-Step (record { name = name; index = index })
+
+abbrev pub reference_of : Step → List Step → Reference
+reference_of first fields = roll-Reference (record { first = first; fields = fields })
+
+abbrev pub run_of : Word → List Expr → Run
+run_of name arguments = record { name = name; arguments = arguments }
+
+abbrev pub variable_of : Sort → Word → Option Expr → Option Initial → Variable
+variable_of sort name size initial = record { sort = sort; name = name; size = size; initial = initial }
+
+abbrev pub item_of : List Word → Basic → List Word → Item
+item_of labels basic tokens = roll-Item (record { labels = labels; basic = basic; tokens = tokens })
+
+abbrev pub seq_of : List Item → Seq
+seq_of items = roll-Seq (record { items = items })
+
+abbrev pub proctype_of : Starts → Word → List Variable → Seq → Word → Proctype
+proctype_of starts name parameters body end = record { starts = starts; name = name; parameters = parameters; body = body; end = end }
+
+abbrev pub tree_of : List ModelUnit → Tree
+tree_of units = record { units = units }
+
+-- the tokens from one place up to another
+abbrev pub between : List Word → List Word → List Word
+between from to = take (length from - length to) from
+
+-- ---- expressions. The number is the least level that the outermost operator may have.
+
+mutual
+  pub data SpellsIndex : Option Expr → List Word → List Word → Type 0 where
+    no_index : {to : List Word} → SpellsIndex None to to
+    index : {o c : Word} {x : Expr} {from to : List Word} → o.kind ≡ k.OpenBracket → SpellsExpr 1 x from (c ∷ to) → c.kind ≡ k.CloseBracket → SpellsIndex (Some x) (o ∷ from) to
+
+  pub data SpellsStep : Step → List Word → List Word → Type 0 where
+    step : {n : Word} {i : Option Expr} {from to : List Word} → n.kind ≡ k.Name → SpellsIndex i from to → SpellsStep (step_of n i) (n ∷ from) to
+
+  pub data SpellsFields : List Step → List Word → List Word → Type 0 where
+    no_field : {to : List Word} → SpellsFields [] to to
+    one_field : {d : Word} {s : Step} {ss : List Step} {from middle to : List Word} → d.kind ≡ k.Dot → SpellsStep s from middle → SpellsFields ss middle to → SpellsFields (s ∷ ss) (d ∷ from) to
+
+  pub data SpellsReference : Reference → List Word → List Word → Type 0 where
+    reference : {s : Step} {ss : List Step} {from middle to : List Word} → SpellsStep s from middle → SpellsFields ss middle to → SpellsReference (reference_of s ss) from to
+
+  pub data SpellsExpr : ℕ → Expr → List Word → List Word → Type 0 where
+    number : {least : ℕ} {n : Word} {to : List Word} → n.kind ≡ k.Number → SpellsExpr least (e.Number n) (n ∷ to) to
+    truth_value : {least : ℕ} {w : Word} {v : Bool} {to : List Word} → truth w.kind ≡ Some v → SpellsExpr least (e.Truth v) (w ∷ to) to
+    timeout : {least : ℕ} {w : Word} {to : List Word} → w.kind ≡ k.Timeout → SpellsExpr least e.Timeout (w ∷ to) to
+    read : {least : ℕ} {r : Reference} {from to : List Word} → SpellsReference r from to → SpellsExpr least (e.Read r) from to
+    poll : {least : ℕ} {r : Reference} {q o c : Word} {any : Bool} {xs : List Argument} {from middle to : List Word} → SpellsReference r from (q ∷ o ∷ middle) → query q.kind ≡ Some any → o.kind ≡ k.OpenBracket
+        → SpellsArguments xs middle (c ∷ to) → c.kind ≡ k.CloseBracket → SpellsExpr least (e.Poll r any xs) from to
+    ask : {least : ℕ} {w o c : Word} {f : Fill} {r : Reference} {from to : List Word} → fill w.kind ≡ Some f → o.kind ≡ k.OpenParen → SpellsReference r from (c ∷ to) → c.kind ≡ k.CloseParen
+        → SpellsExpr least (e.Ask f r) (w ∷ o ∷ from) to
+    unary : {least : ℕ} {o : Word} {p : Prefix} {x : Expr} {from to : List Word} → prefix_operator o.kind ≡ Some p → least ≤ prefix_level → SpellsExpr prefix_level x from to
+        → SpellsExpr least (e.Unary p x) (o ∷ from) to
+    -- left associative: the left side may have the same level, and the right side is above it
+    binary : {least : ℕ} {o : Word} {i : Infix} {x y : Expr} {from middle to : List Word} → operator o.kind ≡ Some i → least ≤ level i
+        → SpellsExpr (level i) x from (o ∷ middle) → SpellsExpr (level i + 1) y middle to → SpellsExpr least (e.Binary i x y) from to
+    parentheses : {least : ℕ} {o c : Word} {x : Expr} {from to : List Word} → o.kind ≡ k.OpenParen → SpellsExpr 1 x from (c ∷ to) → c.kind ≡ k.CloseParen
+        → SpellsExpr least x (o ∷ from) to
+    choice : {least : ℕ} {o q d c : Word} {x y z : Expr} {from chosen other to : List Word} → o.kind ≡ k.OpenParen → SpellsExpr 1 x from (q ∷ chosen) → q.kind ≡ k.Arrow
+        → SpellsExpr 1 y chosen (d ∷ other) → d.kind ≡ k.Colon → SpellsExpr 1 z other (c ∷ to) → c.kind ≡ k.CloseParen
+        → SpellsExpr least (e.Choice x y z) (o ∷ from) to
+
+  -- an argument of a receive or a poll
+  pub data SpellsArgument : Argument → List Word → List Word → Type 0 where
+    into : {r : Reference} {from to : List Word} → SpellsReference r from to → SpellsArgument (g.Into r) from to
+    exactly : {n : Word} {to : List Word} → n.kind ≡ k.Number → SpellsArgument (g.Exactly false n) (n ∷ to) to
+    exactly_minus : {m n : Word} {to : List Word} → m.kind ≡ k.Minus → n.kind ≡ k.Number → SpellsArgument (g.Exactly true n) (m ∷ n ∷ to) to
+    fixed : {w : Word} {v : Bool} {to : List Word} → truth w.kind ≡ Some v → SpellsArgument (g.Fixed v) (w ∷ to) to
+    eval : {v o c : Word} {x : Expr} {from to : List Word} → v.kind ≡ k.Eval → o.kind ≡ k.OpenParen → SpellsExpr 1 x from (c ∷ to) → c.kind ≡ k.CloseParen
+        → SpellsArgument (g.Eval x) (v ∷ o ∷ from) to
+
+  -- one or more, with commas
+  pub data SpellsArgumentList : List Argument → List Word → List Word → Type 0 where
+    last_argument : {x : Argument} {from to : List Word} → SpellsArgument x from to → SpellsArgumentList (x ∷ []) from to
+    more_arguments : {x : Argument} {xs : List Argument} {c : Word} {from middle to : List Word} → SpellsArgument x from (c ∷ middle) → c.kind ≡ k.Comma → SpellsArgumentList xs middle to
+        → SpellsArgumentList (x ∷ xs) from to
+
+  -- `x,y`, `x(y)` and `(x,y)` are the same arguments
+  pub data SpellsArguments : List Argument → List Word → List Word → Type 0 where
+    argument_list : {xs : List Argument} {from to : List Word} → SpellsArgumentList xs from to → SpellsArguments xs from to
+    argument_call : {x : Argument} {xs : List Argument} {o c : Word} {from middle to : List Word} → SpellsArgument x from (o ∷ middle) → o.kind ≡ k.OpenParen → SpellsArgumentList xs middle (c ∷ to) → c.kind ≡ k.CloseParen
+        → SpellsArguments (x ∷ xs) from to
+    argument_group : {xs : List Argument} {o c : Word} {from to : List Word} → o.kind ≡ k.OpenParen → SpellsArgumentList xs from (c ∷ to) → c.kind ≡ k.CloseParen
+        → SpellsArguments xs (o ∷ from) to
+
+-- ---- lists with commas
+
+-- one or more
+pub data SpellsList {A : Type 0} (Spell : A → List Word → List Word → Type 0) : List A → List Word → List Word → Type 0 where
+  last_listed : {x : A} {from to : List Word} → Spell x from to → SpellsList Spell (x ∷ []) from to
+  more_listed : {x : A} {xs : List A} {c : Word} {from middle to : List Word} → Spell x from (c ∷ middle) → c.kind ≡ k.Comma → SpellsList Spell xs middle to → SpellsList Spell (x ∷ xs) from to
+
+pub data SpellsName : Word → List Word → List Word → Type 0 where
+  name : {n : Word} {to : List Word} → n.kind ≡ k.Name → SpellsName n (n ∷ to) to
+
+pub data SpellsScalar : Scalar → List Word → List Word → Type 0 where
+  scalar_type : {w : Word} {s : Scalar} {to : List Word} → scalar w.kind ≡ Some s → SpellsScalar s (w ∷ to) to
+
+-- ---- statements without a structure. Their first argument says that they end with `}`, `fi`, `od` or `else`.
+
+pub data SpellsRun : Run → List Word → List Word → Type 0 where
+  run_nothing : {r n o c : Word} {to : List Word} → r.kind ≡ k.Run → n.kind ≡ k.Name → o.kind ≡ k.OpenParen → c.kind ≡ k.CloseParen → SpellsRun (run_of n []) (r ∷ n ∷ o ∷ c ∷ to) to
+  run_with : {r n o c : Word} {xs : List Expr} {from to : List Word} → r.kind ≡ k.Run → n.kind ≡ k.Name → o.kind ≡ k.OpenParen → SpellsList (SpellsExpr 1) xs from (c ∷ to) → c.kind ≡ k.CloseParen
+      → SpellsRun (run_of n xs) (r ∷ n ∷ o ∷ from) to
+  run_group : {o c : Word} {x : Run} {from to : List Word} → o.kind ≡ k.OpenParen → SpellsRun x from (c ∷ to) → c.kind ≡ k.CloseParen → SpellsRun x (o ∷ from) to
+
+-- what is sent: `x,y` and `x(y)` are the same values
+pub data SpellsValues : List Expr → List Word → List Word → Type 0 where
+  value_list : {xs : List Expr} {from to : List Word} → SpellsList (SpellsExpr 1) xs from to → SpellsValues xs from to
+  value_call : {x : Expr} {xs : List Expr} {o c : Word} {from middle to : List Word} → SpellsExpr 1 x from (o ∷ middle) → o.kind ≡ k.OpenParen → SpellsList (SpellsExpr 1) xs middle (c ∷ to) → c.kind ≡ k.CloseParen
+      → SpellsValues (x ∷ xs) from to
+
+pub data SpellsAction : Bool → Action → List Word → List Word → Type 0 where
+  otherwise : {w : Word} {to : List Word} → w.kind ≡ k.Else → SpellsAction true a.Else (w ∷ to) to
+  assign : {r : Reference} {x : Expr} {o : Word} {from middle to : List Word} → SpellsReference r from (o ∷ middle) → o.kind ≡ k.Assign → SpellsExpr 1 x middle to
+      → SpellsAction false (a.Assign r x) from to
+  assign_run : {r : Reference} {x : Run} {o : Word} {from middle to : List Word} → SpellsReference r from (o ∷ middle) → o.kind ≡ k.Assign → SpellsRun x middle to
+      → SpellsAction false (a.AssignRun r x) from to
+  increment : {r : Reference} {o : Word} {from to : List Word} → SpellsReference r from (o ∷ to) → o.kind ≡ k.Increment → SpellsAction false (a.Increment r) from to
+  decrement : {r : Reference} {o : Word} {from to : List Word} → SpellsReference r from (o ∷ to) → o.kind ≡ k.Decrement → SpellsAction false (a.Decrement r) from to
+  run : {x : Run} {from to : List Word} → SpellsRun x from to → SpellsAction false (a.Run x) from to
+  send : {r : Reference} {o : Word} {sorted : Bool} {xs : List Expr} {from middle to : List Word} → SpellsReference r from (o ∷ middle) → bang o.kind ≡ Some sorted → SpellsValues xs middle to
+      → SpellsAction false (a.Send r sorted xs) from to
+  receive : {r : Reference} {q : Word} {any : Bool} {xs : List Argument} {from middle to : List Word} → SpellsReference r from (q ∷ middle) → query q.kind ≡ Some any → SpellsArguments xs middle to
+      → SpellsAction false (a.Receive r any false xs) from to
+  -- in `<>` the message stays in the channel
+  copy : {r : Reference} {q o c : Word} {any : Bool} {xs : List Argument} {from middle to : List Word} → SpellsReference r from (q ∷ o ∷ middle) → query q.kind ≡ Some any → o.kind ≡ k.Less
+      → SpellsArguments xs middle (c ∷ to) → c.kind ≡ k.Greater → SpellsAction false (a.Receive r any true xs) from to
+  printf : {w o s c : Word} {to : List Word} → w.kind ≡ k.Printf → o.kind ≡ k.OpenParen → s.kind ≡ k.Quoted → c.kind ≡ k.CloseParen → SpellsAction false (a.Printf s []) (w ∷ o ∷ s ∷ c ∷ to) to
+  printf_with : {w o s m c : Word} {xs : List Expr} {from to : List Word} → w.kind ≡ k.Printf → o.kind ≡ k.OpenParen → s.kind ≡ k.Quoted → m.kind ≡ k.Comma → SpellsList (SpellsExpr 1) xs from (c ∷ to) → c.kind ≡ k.CloseParen
+      → SpellsAction false (a.Printf s xs) (w ∷ o ∷ s ∷ m ∷ from) to
+  printm : {w o c : Word} {x : Expr} {from to : List Word} → w.kind ≡ k.Printm → o.kind ≡ k.OpenParen → SpellsExpr 1 x from (c ∷ to) → c.kind ≡ k.CloseParen → SpellsAction false (a.Printm x) (w ∷ o ∷ from) to
+  assert : {w : Word} {x : Expr} {from to : List Word} → w.kind ≡ k.Assert → SpellsExpr 1 x from to → SpellsAction false (a.Assert x) (w ∷ from) to
+  holds : {x : Expr} {from to : List Word} → SpellsExpr 1 x from to → SpellsAction false (a.Holds x) from to
+
+-- ---- declarations. Here too the first argument says that they end with `}`.
+
+pub data SpellsVisibility : List Word → List Word → Type 0 where
+  no_visibility : {to : List Word} → SpellsVisibility to to
+  visibility : {w : Word} {to : List Word} → is_visibility w.kind ≡ true → SpellsVisibility (w ∷ to) to
+
+pub data SpellsForm : Form → List Word → List Word → Type 0 where
+  of_scalar : {w : Word} {s : Scalar} {to : List Word} → scalar w.kind ≡ Some s → SpellsForm (form.Plain s) (w ∷ to) to
+  of_unsigned : {w : Word} {to : List Word} → w.kind ≡ k.Unsigned → SpellsForm form.Unsigned (w ∷ to) to
+  of_typedef : {w : Word} {to : List Word} → w.kind ≡ k.Name → SpellsForm (form.Named w) (w ∷ to) to
+
+pub data SpellsInitial : Bool → Option Initial → List Word → List Word → Type 0 where
+  no_initial : {to : List Word} → SpellsInitial false None to to
+  value : {o : Word} {x : Expr} {from to : List Word} → o.kind ≡ k.Assign → SpellsExpr 1 x from to → SpellsInitial false (Some (ini.Value x)) (o ∷ from) to
+  channel : {w o c f d z : Word} {x : Expr} {ss : List Scalar} {from types to : List Word} → w.kind ≡ k.Assign → o.kind ≡ k.OpenBracket → SpellsExpr 1 x from (c ∷ f ∷ d ∷ types) → c.kind ≡ k.CloseBracket
+      → f.kind ≡ k.Of → d.kind ≡ k.OpenBrace → SpellsList SpellsScalar ss types (z ∷ to) → z.kind ≡ k.CloseBrace → SpellsInitial true (Some (ini.Channel x ss)) (w ∷ o ∷ from) to
+
+pub data SpellsVariable : Bool → Form → Variable → List Word → List Word → Type 0 where
+  plain : {closed : Bool} {s : Scalar} {n : Word} {x : Option Expr} {i : Option Initial} {from middle to : List Word} → n.kind ≡ k.Name → SpellsIndex x from middle → SpellsInitial closed i middle to
+      → SpellsVariable closed (form.Plain s) (variable_of (sort.Plain s) n x i) (n ∷ from) to
+  structured : {t n : Word} {x : Option Expr} {from to : List Word} → n.kind ≡ k.Name → SpellsIndex x from to → SpellsVariable false (form.Named t) (variable_of (sort.Named t) n x None) (n ∷ from) to
+  packed : {n c w : Word} {to : List Word} → n.kind ≡ k.Name → c.kind ≡ k.Colon → w.kind ≡ k.Number → SpellsVariable false form.Unsigned (variable_of (sort.Unsigned w) n None None) (n ∷ c ∷ w ∷ to) to
+  packed_value : {n c w o : Word} {x : Expr} {from to : List Word} → n.kind ≡ k.Name → c.kind ≡ k.Colon → w.kind ≡ k.Number → o.kind ≡ k.Assign → SpellsExpr 1 x from to
+      → SpellsVariable false form.Unsigned (variable_of (sort.Unsigned w) n None (Some (ini.Value x))) (n ∷ c ∷ w ∷ o ∷ from) to
+
+pub data SpellsVariables : Bool → Form → List Variable → List Word → List Word → Type 0 where
+  last_variable : {closed : Bool} {f : Form} {v : Variable} {from to : List Word} → SpellsVariable closed f v from to → SpellsVariables closed f (v ∷ []) from to
+  more_variables : {closed later : Bool} {f : Form} {v : Variable} {vs : List Variable} {c : Word} {from middle to : List Word} → SpellsVariable closed f v from (c ∷ middle) → c.kind ≡ k.Comma → SpellsVariables later f vs middle to
+      → SpellsVariables later f (v ∷ vs) from to
+
+pub data SpellsDeclaration : Bool → List Variable → List Word → List Word → Type 0 where
+  declaration : {closed : Bool} {f : Form} {vs : List Variable} {from typed named to : List Word} → SpellsVisibility from typed → SpellsForm f typed named → SpellsVariables closed f vs named to
+      → SpellsDeclaration closed vs from to
+
+-- ---- bodies
+
+pub data SpellsSeparators : List Word → List Word → Type 0 where
+  no_separator : {to : List Word} → SpellsSeparators to to
+  one_separator : {s : Word} {from to : List Word} → is_separator s.kind ≡ true → SpellsSeparators from to → SpellsSeparators (s ∷ from) to
+
+-- between two items; `closed` says that the one before ends with `}`, `fi`, `od` or `else`
+pub data SpellsGap : Bool → List Word → List Word → Type 0 where
+  separated : {closed : Bool} {s : Word} {from to : List Word} → is_separator s.kind ≡ true → SpellsSeparators from to → SpellsGap closed (s ∷ from) to
+  joined : {to : List Word} → SpellsGap true to to
+
+pub data SpellsLabels : List Word → List Word → List Word → Type 0 where
+  no_label : {to : List Word} → SpellsLabels [] to to
+  one_label : {n c : Word} {labels from to : List Word} → n.kind ≡ k.Name → c.kind ≡ k.Colon → SpellsLabels labels from to → SpellsLabels (n ∷ labels) (n ∷ c ∷ from) to
+
+-- The first argument of a list of items says that one of them is a statement.
+mutual
+  pub data SpellsBasic : Bool → Basic → List Word → List Word → Type 0 where
+    if_fi : {o c : Word} {options : List Seq} {from to : List Word} → o.kind ≡ k.If → SpellsOptions options from (c ∷ to) → c.kind ≡ k.Fi → SpellsBasic true (b.If options) (o ∷ from) to
+    do_od : {o c : Word} {options : List Seq} {from to : List Word} → o.kind ≡ k.Do → SpellsOptions options from (c ∷ to) → c.kind ≡ k.Od → SpellsBasic true (b.Do options) (o ∷ from) to
+    block : {o c : Word} {xs : List Item} {from to : List Word} → o.kind ≡ k.OpenBrace → SpellsItems true xs from (c ∷ to) → c.kind ≡ k.CloseBrace → SpellsBasic true (b.Block (seq_of xs)) (o ∷ from) to
+    atomic : {w o c : Word} {xs : List Item} {from to : List Word} → w.kind ≡ k.Atomic → o.kind ≡ k.OpenBrace → SpellsItems true xs from (c ∷ to) → c.kind ≡ k.CloseBrace
+        → SpellsBasic true (b.Atomic (seq_of xs)) (w ∷ o ∷ from) to
+    d_step : {w o c : Word} {xs : List Item} {from to : List Word} → w.kind ≡ k.DStep → o.kind ≡ k.OpenBrace → SpellsItems true xs from (c ∷ to) → c.kind ≡ k.CloseBrace
+        → SpellsBasic true (b.DStep (seq_of xs)) (w ∷ o ∷ from) to
+    goto : {w n : Word} {to : List Word} → w.kind ≡ k.Goto → n.kind ≡ k.Name → SpellsBasic false (b.Goto n) (w ∷ n ∷ to) to
+    break : {w : Word} {to : List Word} → w.kind ≡ k.Break → SpellsBasic false b.Break (w ∷ to) to
+    action : {closed : Bool} {x : Action} {from to : List Word} → SpellsAction closed x from to → SpellsBasic closed (b.Plain x) from to
+
+  pub data SpellsStatement : Bool → Item → List Word → List Word → Type 0 where
+    statement : {closed : Bool} {labels : List Word} {x : Basic} {from middle to : List Word} → SpellsLabels labels from middle → SpellsBasic closed x middle to
+        → SpellsStatement closed (item_of labels x (between middle to)) from to
+
+  pub data SpellsItem : Bool → Bool → Item → List Word → List Word → Type 0 where
+    declared : {closed : Bool} {vs : List Variable} {from to : List Word} → SpellsDeclaration closed vs from to → SpellsItem false closed (item_of [] (b.Declare vs) (between from to)) from to
+    exclusive : {w : Word} {rs : List Reference} {from to : List Word} → is_exclusive w.kind ≡ true → SpellsList SpellsReference rs from to → SpellsItem false false (item_of [] (b.Exclusive rs) (between (w ∷ from) to)) (w ∷ from) to
+    only : {closed : Bool} {x : Item} {from to : List Word} → SpellsStatement closed x from to → SpellsItem true closed x from to
+    unless : {inner closed : Bool} {x y : Item} {w : Word} {from middle to : List Word} → SpellsStatement inner x from (w ∷ middle) → w.kind ≡ k.Unless → SpellsStatement closed y middle to
+        → SpellsItem true closed (item_of [] (b.Unless (seq_of (x ∷ [])) (seq_of (y ∷ []))) (between from to)) from to
+
+  pub data SpellsItems : Bool → List Item → List Word → List Word → Type 0 where
+    last_item : {step closed : Bool} {x : Item} {from middle to : List Word} → SpellsItem step closed x from middle → SpellsSeparators middle to → SpellsItems step (x ∷ []) from to
+    more_items : {step steps closed : Bool} {x : Item} {xs : List Item} {from middle later to : List Word} → SpellsItem step closed x from middle → SpellsGap closed middle later → SpellsItems steps xs later to
+        → SpellsItems (step || steps) (x ∷ xs) from to
+
+  pub data SpellsOptions : List Seq → List Word → List Word → Type 0 where
+    last_option : {o : Word} {xs : List Item} {from to : List Word} → o.kind ≡ k.DoubleColon → SpellsItems true xs from to → SpellsOptions (seq_of xs ∷ []) (o ∷ from) to
+    more_options : {o : Word} {xs : List Item} {options : List Seq} {from middle to : List Word} → o.kind ≡ k.DoubleColon → SpellsItems true xs from middle → SpellsOptions options middle to
+        → SpellsOptions (seq_of xs ∷ options) (o ∷ from) to
+
+-- the body of a process, which may be empty
+pub data SpellsBody : List Item → List Word → List Word → Type 0 where
+  no_item : {to : List Word} → SpellsBody [] to to
+  some_items : {steps : Bool} {xs : List Item} {from to : List Word} → SpellsItems steps xs from to → SpellsBody xs from to
+
+-- ---- units
+
+pub data SpellsSemicolons : List Word → List Word → Type 0 where
+  no_semicolon : {to : List Word} → SpellsSemicolons to to
+  one_semicolon : {s : Word} {from to : List Word} → s.kind ≡ k.Semicolon → SpellsSemicolons from to → SpellsSemicolons (s ∷ from) to
+
+-- the declarations of a typedef, with a semicolon at least between two
+pub data SpellsMembers : List Variable → List Word → List Word → Type 0 where
+  last_members : {closed : Bool} {vs : List Variable} {from middle to : List Word} → SpellsDeclaration closed vs from middle → SpellsSemicolons middle to → SpellsMembers vs from to
+  more_members : {closed : Bool} {s : Word} {vs ws : List Variable} {from middle later to : List Word} → SpellsDeclaration closed vs from (s ∷ middle) → s.kind ≡ k.Semicolon → SpellsSemicolons middle later → SpellsMembers ws later to
+      → SpellsMembers (vs ++ ws) from to
+
+-- a parameter, behind its type
+pub data SpellsParameter : Form → Variable → List Word → List Word → Type 0 where
+  plain_parameter : {s : Scalar} {n : Word} {to : List Word} → n.kind ≡ k.Name → SpellsParameter (form.Plain s) (variable_of (sort.Plain s) n None None) (n ∷ to) to
+  packed_parameter : {n c w : Word} {to : List Word} → n.kind ≡ k.Name → c.kind ≡ k.Colon → w.kind ≡ k.Number → SpellsParameter form.Unsigned (variable_of (sort.Unsigned w) n None None) (n ∷ c ∷ w ∷ to) to
+
+-- behind a parameter of this type: a comma may leave the type out, and the next has the same
+pub data SpellsMoreParameters : Form → List Variable → List Word → List Word → Type 0 where
+  no_more_parameters : {f : Form} {to : List Word} → SpellsMoreParameters f [] to to
+  same_type : {f : Form} {c : Word} {v : Variable} {vs : List Variable} {from middle to : List Word} → c.kind ≡ k.Comma → SpellsParameter f v from middle → SpellsMoreParameters f vs middle to
+      → SpellsMoreParameters f (v ∷ vs) (c ∷ from) to
+  comma_parameter : {f t : Form} {c : Word} {v : Variable} {vs : List Variable} {from typed named middle to : List Word} → c.kind ≡ k.Comma → SpellsVisibility from typed → SpellsForm t typed named
+      → SpellsParameter t v named middle → SpellsMoreParameters t vs middle to → SpellsMoreParameters f (v ∷ vs) (c ∷ from) to
+  semicolon_parameter : {f t : Form} {c : Word} {v : Variable} {vs : List Variable} {from typed named middle to : List Word} → c.kind ≡ k.Semicolon → SpellsVisibility from typed → SpellsForm t typed named
+      → SpellsParameter t v named middle → SpellsMoreParameters t vs middle to → SpellsMoreParameters f (v ∷ vs) (c ∷ from) to
+
+pub data SpellsParameters : List Variable → List Word → List Word → Type 0 where
+  no_parameters : {to : List Word} → SpellsParameters [] to to
+  parameters : {t : Form} {v : Variable} {vs : List Variable} {from typed named middle to : List Word} → SpellsVisibility from typed → SpellsForm t typed named → SpellsParameter t v named middle
+      → SpellsMoreParameters t vs middle to → SpellsParameters (v ∷ vs) from to
+
+pub data SpellsStarts : Starts → List Word → List Word → Type 0 where
+  never : {to : List Word} → SpellsStarts starts.Never to to
+  once : {w : Word} {to : List Word} → w.kind ≡ k.Active → SpellsStarts starts.Once (w ∷ to) to
+  times : {w o c : Word} {x : Expr} {from to : List Word} → w.kind ≡ k.Active → o.kind ≡ k.OpenBracket → SpellsExpr 1 x from (c ∷ to) → c.kind ≡ k.CloseBracket → SpellsStarts (starts.Times x) (w ∷ o ∷ from) to
+
+pub data SpellsUnit : ModelUnit → List Word → List Word → Type 0 where
+  variables : {closed : Bool} {vs : List Variable} {from to : List Word} → SpellsDeclaration closed vs from to → SpellsUnit (u.Variables vs) from to
+  constants : {w o c : Word} {ns from to : List Word} → w.kind ≡ k.Mtype → o.kind ≡ k.OpenBrace → SpellsList SpellsName ns from (c ∷ to) → c.kind ≡ k.CloseBrace → SpellsUnit (u.Constants ns) (w ∷ o ∷ from) to
+  equal_constants : {w q o c : Word} {ns from to : List Word} → w.kind ≡ k.Mtype → q.kind ≡ k.Assign → o.kind ≡ k.OpenBrace → SpellsList SpellsName ns from (c ∷ to) → c.kind ≡ k.CloseBrace
+      → SpellsUnit (u.Constants ns) (w ∷ q ∷ o ∷ from) to
+  typedef : {w n o c : Word} {vs : List Variable} {from to : List Word} → w.kind ≡ k.Typedef → n.kind ≡ k.Name → o.kind ≡ k.OpenBrace → SpellsMembers vs from (c ∷ to) → c.kind ≡ k.CloseBrace
+      → SpellsUnit (u.Typedef n vs) (w ∷ n ∷ o ∷ from) to
+  proctype : {s : Starts} {p n o c d z : Word} {vs : List Variable} {xs : List Item} {from inner body to : List Word} → SpellsStarts s from (p ∷ n ∷ o ∷ inner) → p.kind ≡ k.Proctype → n.kind ≡ k.Name → o.kind ≡ k.OpenParen
+      → SpellsParameters vs inner (c ∷ d ∷ body) → c.kind ≡ k.CloseParen → d.kind ≡ k.OpenBrace → SpellsBody xs body (z ∷ to) → z.kind ≡ k.CloseBrace
+      → SpellsUnit (u.Process (proctype_of s n vs (seq_of xs) z)) from to
+  init : {w o c : Word} {xs : List Item} {from to : List Word} → w.kind ≡ k.Init → o.kind ≡ k.OpenBrace → SpellsBody xs from (c ∷ to) → c.kind ≡ k.CloseBrace
+      → SpellsUnit (u.Process (proctype_of starts.Once w [] (seq_of xs) c)) (w ∷ o ∷ from) to
+
+-- units up to the end
+pub data SpellsUnits : List ModelUnit → List Word → Type 0 where
+  no_unit : SpellsUnits [] []
+  semicolon : {s : Word} {us : List ModelUnit} {from : List Word} → s.kind ≡ k.Semicolon → SpellsUnits us from → SpellsUnits us (s ∷ from)
+  unit : {x : ModelUnit} {us : List ModelUnit} {from to : List Word} → SpellsUnit x from to → SpellsUnits us to → SpellsUnits (x ∷ us) from
+
+-- a model, by all of the tokens
+pub data Spells : Tree → List Word → Type 0 where
+  model : {us : List ModelUnit} {from : List Word} → SpellsUnits us from → Spells (tree_of us) from

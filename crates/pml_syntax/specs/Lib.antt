@@ -1,0 +1,6 @@
+pub mod Answer
+pub mod Grammar
+pub mod Starts
+pub mod Reading
+pub mod ReadingStatements
+pub mod ReadingUnits

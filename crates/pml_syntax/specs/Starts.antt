@@ -1,0 +1,103 @@
+-- What tokens begin, for readers that are to choose.
+use Rattle.std.specs.Prelude.{Bool, true, false}
+use Rattle.pml_lex.specs.declared.token.Kind.{Kind}
+use Rattle.pml_lex.specs.declared.token.Kind.TheVariants as k
+use Rattle.pml_tree.specs.declared.tree.Prefix.TheVariants as sign
+use Rattle.pml_tree.specs.declared.tree.Fill.TheVariants as fills
+use Rattle.pml_syntax.specs.declared.operators.Start.{Start}
+use Rattle.pml_syntax.specs.declared.operators.Start.TheVariants as s
+use Rattle.pml_syntax.specs.declared.starts.Opening.{Opening}
+use Rattle.pml_syntax.specs.declared.starts.Opening.TheVariants as o
+use Rattle.pml_syntax.specs.declared.starts.Deed.{Deed}
+use Rattle.pml_syntax.specs.declared.starts.Deed.TheVariants as d
+use Rattle.pml_syntax.specs.declared.starts.Change.{Change}
+use Rattle.pml_syntax.specs.declared.starts.Change.TheVariants as c
+use Rattle.pml_syntax.specs.declared.starts.Head.{Head}
+use Rattle.pml_syntax.specs.declared.starts.Head.TheVariants as h
+
+-- an operand or an argument, by its first token
+abbrev pub start : Kind → Start
+start k.Name = s.Name
+start k.Number = s.Number
+start k.True = s.Truth true
+start k.Skip = s.Truth true
+start k.False = s.Truth false
+start k.Timeout = s.Timeout
+start k.Len = s.Ask fills.Length
+start k.Empty = s.Ask fills.IsEmpty
+start k.Full = s.Ask fills.IsFull
+start k.Nempty = s.Ask fills.IsNotEmpty
+start k.Nfull = s.Ask fills.IsNotFull
+start k.Bang = s.Prefix sign.Not
+start k.Tilde = s.Prefix sign.Complement
+start k.Minus = s.Prefix sign.Minus
+start k.OpenParen = s.Group
+start k.Eval = s.Eval
+start _ = s.Other
+
+-- a statement, by its first token: its structure
+abbrev pub opening : Kind → Opening
+opening k.If = o.If
+opening k.Do = o.Do
+opening k.OpenBrace = o.Block
+opening k.Atomic = o.Atomic
+opening k.DStep = o.DStep
+opening k.Goto = o.Goto
+opening k.Break = o.Break
+opening _ = o.Other
+
+-- a statement without structure, by its first token
+abbrev pub deed : Kind → Deed
+deed k.Else = d.Else
+deed k.Name = d.Name
+deed k.Run = d.Run
+deed k.OpenParen = d.Group
+deed k.Printf = d.Printf
+deed k.Printm = d.Printm
+deed k.Assert = d.Assert
+deed _ = d.Other
+
+-- such a statement that begins with a reference, by the token behind that
+abbrev pub change : Kind → Change
+change k.Assign = c.Assign
+change k.Increment = c.Increment
+change k.Decrement = c.Decrement
+change k.Bang = c.Send false
+change k.BangBang = c.Send true
+change k.Query = c.Receive false
+change k.QueryQuery = c.Receive true
+change _ = c.Other
+
+-- what begins a declaration, but a typedef's name
+abbrev pub declares : Kind → Bool
+declares k.Hidden = true
+declares k.Show = true
+declares k.Local = true
+declares k.Bit = true
+declares k.Bool = true
+declares k.Byte = true
+declares k.Chan = true
+declares k.Mtype = true
+declares k.Pid = true
+declares k.Short = true
+declares k.Int = true
+declares k.Unsigned = true
+declares _ = false
+
+-- what comes behind a body
+abbrev pub is_end : Kind → Bool
+is_end k.CloseBrace = true
+is_end k.Fi = true
+is_end k.Od = true
+is_end k.DoubleColon = true
+is_end k.End = true
+is_end _ = false
+
+-- a unit, by its first token
+abbrev pub head : Kind → Head
+head k.Mtype = h.Mtype
+head k.Typedef = h.Typedef
+head k.Active = h.Proctype
+head k.Proctype = h.Proctype
+head k.Init = h.Init
+head _ = h.Other

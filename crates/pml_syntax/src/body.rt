@@ -1,0 +1,333 @@
+//! Bodies: items one after another. An item is read with whether it is a statement, and whether it ends with `}`, `fi`, `od`
+//! or `else`.
+
+ghost use Rattle.std.specs.Prelude.{◌≡◌, ◌||◌, IfOk, length, [], ◌∷◌, false};
+ghost use Rattle.pml_tree.specs.declared.tree.Basic.TheVariants as b;
+ghost use Rattle.pml_syntax.specs.Grammar as grammar;
+ghost use Rattle.pml_syntax.specs.Reading.{Reads};
+ghost use Rattle.pml_syntax.specs.ReadingStatements as reading;
+
+use crate::action::action;
+use crate::cursor::Cursor;
+use crate::declaration::{declaration, references};
+use crate::fault::Fault;
+use crate::starts::{Opening, is_end, is_exclusive, is_separator, opening_of};
+use pml_lex::token::{Kind, Token};
+use pml_tree::tokens::Tokens;
+use pml_tree::tree::{Basic, Item, Seq};
+use sqlite_items::Items;
+use std::alloc::{AllocError, Global};
+
+#[tactic(auto, unfolding(crate::specs::ReadingStatements::labels_from, crate::specs::Reading::and_then, crate::specs::Reading::pick))]
+fn labels<'a>(alloc: Global, tokens: &mut Cursor<'a>) -> Result<Items<Token<'a>>, Fault>
+    ensures { Reads (reading.labels_from (length tokens.old) [] tokens.old) result tokens.new }
+{
+    let mut found = Items::new(alloc);
+    for _turn in 0..tokens.left() {
+        if !tokens.is_label() {
+            return Ok(found);
+        }
+        let name = tokens.expect(Kind::Name)?;
+        tokens.expect(Kind::Colon)?;
+        found.push(name)?;
+    }
+    Ok(found)
+}
+
+fn either(a: bool, b: bool) -> bool
+    ensures { result ≡ (a || b) }
+{
+    a || b
+}
+
+/// One statement, as items.
+fn alone<'a>(alloc: Global, item: Item<'a>) -> Result<Items<Item<'a>>, AllocError>
+    ensures { IfOk result (λ r. r ≡ item.entry ∷ []) }
+{
+    let mut items = Items::new(alloc);
+    items.push(item)?;
+    Ok(items)
+}
+
+/// A statement that gives way to another.
+fn unless<'a>(
+    alloc: Global,
+    main: Items<Item<'a>>,
+    escape: Items<Item<'a>>,
+    tokens: Tokens<'a>,
+) -> Item<'a>
+    ensures { result ≡ grammar.item_of [] (b.Unless (grammar.seq_of main.entry) (grammar.seq_of escape.entry)) tokens.entry }
+{
+    Item {
+        labels: Items::new(alloc),
+        basic: Basic::Unless(Seq { items: main }, Seq { items: escape }),
+        tokens,
+    }
+}
+
+#[tactic(auto, unfolding(crate::specs::ReadingStatements::declared, crate::specs::Reading::and_then))]
+fn declared<'a>(
+    alloc: Global,
+    depth: usize,
+    tokens: &mut Cursor<'a>,
+) -> Result<(Item<'a>, bool, bool), Fault>
+    ensures { Reads (reading.declared depth tokens.old) result tokens.new }
+{
+    let start = tokens.ahead();
+    let (variables, closed) = declaration(alloc, depth, Items::new(alloc), tokens)?;
+    let item = Item {
+        labels: Items::new(alloc),
+        basic: Basic::Declare(variables),
+        tokens: tokens.since(start),
+    };
+    Ok((item, false, closed))
+}
+
+#[tactic(auto, unfolding(crate::specs::ReadingStatements::exclusive, crate::specs::Reading::and_then))]
+fn exclusive<'a>(
+    alloc: Global,
+    depth: usize,
+    tokens: &mut Cursor<'a>,
+) -> Result<(Item<'a>, bool, bool), Fault>
+    ensures { Reads (reading.exclusive depth tokens.old) result tokens.new }
+{
+    let start = tokens.ahead();
+    tokens.skip();
+    let channels = references(alloc, depth, tokens)?;
+    let item = Item {
+        labels: Items::new(alloc),
+        basic: Basic::Exclusive(channels),
+        tokens: tokens.since(start),
+    };
+    Ok((item, false, false))
+}
+
+#[tactic(auto, unfolding(crate::specs::ReadingStatements::plainly, crate::specs::Reading::and_then))]
+fn plainly<'a>(
+    alloc: Global,
+    depth: usize,
+    tokens: &mut Cursor<'a>,
+) -> Result<(Basic<'a>, bool), Fault>
+    ensures { Reads (reading.plainly depth tokens.old) result tokens.new }
+{
+    let (x, closed) = action(alloc, depth, tokens)?;
+    Ok((Basic::Plain(x), closed))
+}
+
+/// The items of a body with a statement.
+#[cycle(body)]
+#[tactic(auto, unfolding(crate::specs::ReadingStatements::seq, crate::specs::Reading::and_then, crate::specs::Reading::pick))]
+fn seq<'a>(alloc: Global, depth: usize, tokens: &mut Cursor<'a>) -> Result<Items<Item<'a>>, Fault>
+    ensures { Reads (reading.seq depth (reading.items depth) tokens.old) result tokens.new }
+{
+    let (found, step) = body(alloc, depth, tokens)?;
+    if !step {
+        return Err(tokens.refuse());
+    }
+    Ok(found)
+}
+
+#[cycle(body)]
+#[tactic(auto, unfolding(crate::specs::ReadingStatements::options_from, crate::specs::Reading::and_then, crate::specs::Reading::pick))]
+fn option_list<'a>(
+    alloc: Global,
+    depth: usize,
+    tokens: &mut Cursor<'a>,
+) -> Result<Items<Seq<'a>>, Fault>
+    ensures { Reads (reading.options_from depth (reading.items depth) (length tokens.old) [] tokens.old) result tokens.new }
+{
+    let mut found = Items::new(alloc);
+    for _turn in 0..tokens.left() {
+        tokens.expect(Kind::DoubleColon)?;
+        let items = seq(alloc, depth, tokens)?;
+        found.push(Seq { items })?;
+        if !tokens.sees(Kind::DoubleColon) {
+            return Ok(found);
+        }
+    }
+    Err(tokens.refuse())
+}
+
+/// Options, and the word that ends them.
+#[cycle(body)]
+#[tactic(auto, unfolding(crate::specs::ReadingStatements::options, crate::specs::Reading::and_then))]
+fn options<'a>(
+    alloc: Global,
+    depth: usize,
+    last: Kind,
+    tokens: &mut Cursor<'a>,
+) -> Result<Items<Seq<'a>>, Fault>
+    ensures { Reads (reading.options depth (reading.items depth) last tokens.old) result tokens.new }
+{
+    let found = option_list(alloc, depth, tokens)?;
+    tokens.expect(last)?;
+    Ok(found)
+}
+
+/// A body in braces.
+#[cycle(body)]
+#[tactic(auto, unfolding(crate::specs::ReadingStatements::braces, crate::specs::Reading::and_then))]
+fn braces<'a>(
+    alloc: Global,
+    depth: usize,
+    tokens: &mut Cursor<'a>,
+) -> Result<Items<Item<'a>>, Fault>
+    ensures { Reads (reading.braces depth (reading.items depth) tokens.old) result tokens.new }
+{
+    tokens.expect(Kind::OpenBrace)?;
+    let items = seq(alloc, depth, tokens)?;
+    tokens.expect(Kind::CloseBrace)?;
+    Ok(items)
+}
+
+#[cycle(body)]
+#[tactic(auto, unfolding(crate::specs::ReadingStatements::basic, crate::specs::ReadingStatements::if_fi, crate::specs::ReadingStatements::do_od, crate::specs::ReadingStatements::block, crate::specs::ReadingStatements::atomic, crate::specs::ReadingStatements::d_step, crate::specs::ReadingStatements::goto, crate::specs::Reading::and_then))]
+fn basic<'a>(
+    alloc: Global,
+    depth: usize,
+    tokens: &mut Cursor<'a>,
+) -> Result<(Basic<'a>, bool), Fault>
+    ensures { Reads (reading.basic depth (reading.items depth) tokens.old) result tokens.new }
+{
+    match opening_of(tokens.peek()) {
+        Opening::If => {
+            tokens.skip();
+            let found = options(alloc, depth, Kind::Fi, tokens)?;
+            Ok((Basic::If(found), true))
+        }
+        Opening::Do => {
+            tokens.skip();
+            let found = options(alloc, depth, Kind::Od, tokens)?;
+            Ok((Basic::Do(found), true))
+        }
+        Opening::Block => {
+            let items = braces(alloc, depth, tokens)?;
+            Ok((Basic::Block(Seq { items }), true))
+        }
+        Opening::Atomic => {
+            tokens.skip();
+            let items = braces(alloc, depth, tokens)?;
+            Ok((Basic::Atomic(Seq { items }), true))
+        }
+        Opening::DStep => {
+            tokens.skip();
+            let items = braces(alloc, depth, tokens)?;
+            Ok((Basic::DStep(Seq { items }), true))
+        }
+        Opening::Goto => {
+            tokens.skip();
+            Ok((Basic::Goto(tokens.expect(Kind::Name)?), false))
+        }
+        Opening::Break => {
+            tokens.skip();
+            Ok((Basic::Break, false))
+        }
+        Opening::Other => Ok(plainly(alloc, depth, tokens)?),
+    }
+}
+
+#[cycle(body)]
+#[tactic(auto, unfolding(crate::specs::ReadingStatements::statement, crate::specs::Reading::and_then))]
+fn statement<'a>(
+    alloc: Global,
+    depth: usize,
+    tokens: &mut Cursor<'a>,
+) -> Result<(Item<'a>, bool), Fault>
+    ensures { Reads (reading.statement depth (reading.items depth) tokens.old) result tokens.new }
+{
+    let labels = labels(alloc, tokens)?;
+    let start = tokens.ahead();
+    let (basic, closed) = basic(alloc, depth, tokens)?;
+    let tokens = tokens.since(start);
+    Ok((
+        Item {
+            labels,
+            basic,
+            tokens,
+        },
+        closed,
+    ))
+}
+
+#[cycle(body)]
+#[tactic(auto, unfolding(crate::specs::ReadingStatements::stepped, crate::specs::Reading::and_then, crate::specs::Reading::pick))]
+fn stepped<'a>(
+    alloc: Global,
+    depth: usize,
+    tokens: &mut Cursor<'a>,
+) -> Result<(Item<'a>, bool, bool), Fault>
+    ensures { Reads (reading.stepped depth (reading.items depth) tokens.old) result tokens.new }
+{
+    let start = tokens.ahead();
+    let (main, closed) = statement(alloc, depth, tokens)?;
+    if !tokens.sees(Kind::Unless) {
+        return Ok((main, true, closed));
+    }
+    let main = alone(alloc, main)?;
+    tokens.expect(Kind::Unless)?;
+    let (escape, closed) = statement(alloc, depth, tokens)?;
+    let escape = alone(alloc, escape)?;
+    let item = unless(alloc, main, escape, tokens.since(start));
+    Ok((item, true, closed))
+}
+
+#[cycle(body)]
+#[tactic(auto, unfolding(crate::specs::ReadingStatements::item, crate::specs::Reading::pick))]
+fn item<'a>(
+    alloc: Global,
+    depth: usize,
+    tokens: &mut Cursor<'a>,
+) -> Result<(Item<'a>, bool, bool), Fault>
+    ensures { Reads (reading.item depth (reading.items depth) tokens.old) result tokens.new }
+{
+    if tokens.is_declaration() {
+        return Ok(declared(alloc, depth, tokens)?);
+    }
+    if is_exclusive(tokens.peek()) {
+        return Ok(exclusive(alloc, depth, tokens)?);
+    }
+    Ok(stepped(alloc, depth, tokens)?)
+}
+
+#[cycle(body)]
+#[tactic(auto, unfolding(crate::specs::ReadingStatements::items_from, crate::specs::Reading::and_then, crate::specs::Reading::pick))]
+fn items<'a>(
+    alloc: Global,
+    depth: usize,
+    tokens: &mut Cursor<'a>,
+) -> Result<(Items<Item<'a>>, bool), Fault>
+    ensures { Reads (reading.items_from depth (reading.items depth) (length tokens.old) false [] tokens.old) result tokens.new }
+{
+    let mut found = Items::new(alloc);
+    let mut step = false;
+    for _turn in 0..tokens.left() {
+        let (x, is_step, closed) = item(alloc, depth, tokens)?;
+        found.push(x)?;
+        step = either(step, is_step);
+        let joined = either(closed, is_separator(tokens.peek()));
+        tokens.skip_separators();
+        if is_end(tokens.peek()) {
+            return Ok((found, step));
+        }
+        if !joined {
+            return Err(tokens.refuse());
+        }
+    }
+    Err(tokens.refuse())
+}
+
+/// The items of a body, and whether one of them is a statement. It nests no deeper than `depth`.
+#[cycle(body)]
+#[tactic(auto, unfolding(crate::specs::ReadingStatements::items))]
+pub fn body<'a>(
+    alloc: Global,
+    depth: usize,
+    tokens: &mut Cursor<'a>,
+) -> Result<(Items<Item<'a>>, bool), Fault>
+    ensures { Reads (reading.items depth tokens.old) result tokens.new }
+{
+    if depth == 0 {
+        return Err(tokens.refuse());
+    }
+    items(alloc, depth - 1, tokens)
+}

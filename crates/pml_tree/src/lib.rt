@@ -1,0 +1,5 @@
+//! The syntax tree of a model.
+#![tactic(auto)]
+
+pub mod tokens;
+pub mod tree;
