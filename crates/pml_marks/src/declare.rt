@@ -1,0 +1,148 @@
+//! The marks of declarations.
+
+ghost use Rattle.std.specs.Prelude.{◌≡◌, ◌++◌, OnOk, IfOk};
+ghost use Rattle.pml_marks.specs.Marks.{of_sort, of_size, size_of, of_initial, makes_channels, is_chan, of_variable, of_variables, preset_layer};
+ghost use Rattle.pml_tree.specs.declared.tree.Expr.{out-Expr};
+
+use crate::constant::constant;
+use crate::expr::{add, expr, reference};
+use crate::mark::{Constant, Declared, Mark, Use, What};
+use pml_tree::tree::{Expr, Initial, Scalar, Sort, Variable};
+use sqlite_items::Items;
+use std::alloc::{AllocError, Global};
+
+/// Adds the marks of variables, parameters or fields, which are declared as `holder`'s.
+pub fn variables<'a>(
+    alloc: Global,
+    field: bool,
+    holder: usize,
+    all: &[Variable<'a>],
+    owner: usize,
+    out: &mut Items<Mark<'a>>,
+) -> Result<(), AllocError>
+    ensures { OnOk result (out.new ≡ out.old ++ of_variables field holder all.now owner) }
+{
+    for one in all {
+        variable(alloc, field, holder, one, owner, out)?;
+    }
+    Ok(())
+}
+
+fn variable<'a>(
+    alloc: Global,
+    field: bool,
+    holder: usize,
+    v: &Variable<'a>,
+    owner: usize,
+    out: &mut Items<Mark<'a>>,
+) -> Result<(), AllocError>
+    ensures { OnOk result (out.new ≡ out.old ++ of_variable field holder v.now owner) }
+{
+    sort(&v.sort, owner, out)?;
+    let size = size(alloc, &v.size, owner, out)?;
+    let makes = initial(alloc, field, &v.sort, &v.initial, owner, out)?;
+    let declared = Declared::Variable(field, copied(&v.sort), size, makes);
+    add(What::Declares(v.name.copied(), declared), holder, out)
+}
+
+fn copied<'a>(sort: &Sort<'a>) -> Sort<'a>
+    ensures { result ≡ sort.now }
+{
+    match sort {
+        Sort::Plain(t) => Sort::Plain(*t),
+        Sort::Unsigned(n) => Sort::Unsigned(n.copied()),
+        Sort::Named(t) => Sort::Named(t.copied()),
+    }
+}
+
+fn sort<'a>(sort: &Sort<'a>, owner: usize, out: &mut Items<Mark<'a>>) -> Result<(), AllocError>
+    ensures { OnOk result (out.new ≡ out.old ++ of_sort sort.now owner) }
+{
+    match sort {
+        Sort::Plain(_) => Ok(()),
+        Sort::Unsigned(n) => {
+            add(What::Number(n.copied()), owner, out)?;
+            add(What::Width(n.copied()), owner, out)
+        }
+        Sort::Named(t) => add(What::Typedef(t.copied()), owner, out),
+    }
+}
+
+fn size<'a>(
+    alloc: Global,
+    size: &Option<Expr<'a>>,
+    owner: usize,
+    out: &mut Items<Mark<'a>>,
+) -> Result<Option<Constant>, AllocError>
+    ensures size { IfOk result (λ n. n ≡ size_of size.now) }
+    ensures marks { OnOk result (out.new ≡ out.old ++ of_size size.now owner) }
+{
+    match size {
+        None => Ok(None),
+        Some(e) => {
+            expr(alloc, e, owner, out)?;
+            let n = constant(e);
+            add(What::Size(n), owner, out)?;
+            Ok(Some(n))
+        }
+    }
+}
+
+fn initial<'a>(
+    alloc: Global,
+    field: bool,
+    sort: &Sort<'a>,
+    initial: &Option<Initial<'a>>,
+    owner: usize,
+    out: &mut Items<Mark<'a>>,
+) -> Result<bool, AllocError>
+    ensures makes { IfOk result (λ b. b ≡ makes_channels initial.now) }
+    ensures marks { OnOk result (out.new ≡ out.old ++ of_initial field sort.now initial.now owner) }
+{
+    match initial {
+        None => Ok(false),
+        Some(Initial::Value(e)) => {
+            if field {
+                preset(alloc, e, owner, out)?;
+            } else {
+                expr(alloc, e, owner, out)?;
+            }
+            Ok(false)
+        }
+        Some(Initial::Channel(e, types)) => {
+            expr(alloc, e, owner, out)?;
+            add(
+                What::Channel(is_chan(sort), constant(e), types.len()),
+                owner,
+                out,
+            )?;
+            Ok(true)
+        }
+    }
+}
+
+fn is_chan(sort: &Sort) -> bool
+    ensures { result ≡ is_chan sort.now }
+{
+    match sort {
+        Sort::Plain(Scalar::Chan) => true,
+        _ => false,
+    }
+}
+
+fn preset<'a>(
+    alloc: Global,
+    e: &Expr<'a>,
+    owner: usize,
+    out: &mut Items<Mark<'a>>,
+) -> Result<(), AllocError>
+    ensures { OnOk result (out.new ≡ out.old ++ preset_layer e.now (out-Expr e.now) owner) }
+{
+    match e {
+        Expr::Read(r) => reference(alloc, r, Use::Preset, owner, out),
+        _ => {
+            expr(alloc, e, owner, out)?;
+            add(What::Preset(constant(e)), owner, out)
+        }
+    }
+}

@@ -1,0 +1,4 @@
+pub mod Entry
+pub mod Env
+pub mod Meaning
+pub mod Totals

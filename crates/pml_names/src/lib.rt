@@ -1,0 +1,8 @@
+//! What the names of a model stand for.
+#![tactic(auto)]
+
+pub mod meaning;
+pub mod names;
+pub mod table;
+pub mod thing;
+pub mod totals;

@@ -1,0 +1,72 @@
+//! What names stand for.
+
+ghost use Rattle.std.specs.Prelude.{◌≡◌, Some, option_map};
+ghost use Rattle.pml_names.specs.Meaning.{is_any, is_pid, is_count, is_special, only_process, meaning, field};
+ghost use Rattle.pml_names.specs.Entry.{found};
+
+use crate::table::Table;
+use crate::thing::Thing;
+use pml_program::form::Form;
+
+/// `_`.
+#[tactic(auto, unfolding(crate::specs::Meaning::is_any))]
+pub fn is_any(name: &[u8]) -> bool
+    ensures { result ≡ is_any name.now }
+{
+    name == b"_".as_slice()
+}
+
+/// `_pid`.
+#[tactic(auto, unfolding(crate::specs::Meaning::is_pid))]
+pub fn is_pid(name: &[u8]) -> bool
+    ensures { result ≡ is_pid name.now }
+{
+    name == b"_pid".as_slice()
+}
+
+/// `_nr_pr`.
+#[tactic(auto, unfolding(crate::specs::Meaning::is_count))]
+pub fn is_count(name: &[u8]) -> bool
+    ensures { result ≡ is_count name.now }
+{
+    name == b"_nr_pr".as_slice()
+}
+
+/// Whether no text declares this name.
+pub fn is_special(name: &[u8]) -> bool
+    ensures { result ≡ is_special name.now }
+{
+    is_any(name) || is_pid(name) || is_count(name)
+}
+
+fn only_process(found: Option<Thing>) -> Option<Thing>
+    ensures { result ≡ only_process found }
+{
+    match found {
+        Some(Thing::Process(o, n)) => Some(Thing::Process(o, n)),
+        _ => None,
+    }
+}
+
+/// What a name stands for: a name of the owner, a global name, a proctype of the whole text.
+pub fn meaning(all: &Table, table: &Table, owner: usize, name: &[u8]) -> Option<Thing>
+    ensures { result ≡ meaning all.now table.now owner name.now }
+{
+    match table.find(owner, false, name) {
+        Some(t) => Some(t),
+        None => match table.find(0, false, name) {
+            Some(t) => Some(t),
+            None => only_process(all.find(0, false, name)),
+        },
+    }
+}
+
+/// What stands for a field of this type.
+pub fn field(table: &Table, form: Form, name: &[u8]) -> Option<Option<Thing>>
+    ensures { result ≡ field table.now form name.now }
+{
+    match form {
+        Form::Struct(t) => Some(table.find(t, false, name)),
+        _ => None,
+    }
+}

@@ -1,0 +1,6 @@
+//! The checked model: its names are replaced by what they stand for, and its statements are what control goes through.
+#![tactic(auto)]
+
+pub mod form;
+pub mod program;
+pub mod value;

@@ -1,0 +1,110 @@
+//! Statements, processes and variables of the checked model.
+
+use crate::form::Form;
+use crate::value::{Target, Value, Want};
+use pml_lex::token::Token;
+use pml_tree::tokens::Tokens;
+use sqlite_items::Items;
+
+/// A run of the proctype whose names have this owner.
+#[derive(Drop)]
+pub struct Run {
+    pub process: usize,
+    pub arguments: Items<Value>,
+}
+
+/// A statement that gives no structure. A store without a target is one to `_`.
+#[derive(Drop)]
+pub enum Action<'a> {
+    Else,
+    Assign(Option<Target>, Value),
+    AssignRun(Option<Target>, Run),
+    Increment(Target),
+    Decrement(Target),
+    Run(Run),
+    Send(Target, bool, Items<Value>),
+    Receive(Target, bool, bool, Items<Want>),
+    Printf(Token<'a>, Items<Value>),
+    Printm(Value),
+    Assert(Value),
+    Holds(Value),
+}
+
+#[cycle(program)]
+#[derive(Drop)]
+pub enum Basic<'a> {
+    Plain(Action<'a>),
+    Goto(Token<'a>),
+    Break,
+    If(Items<Seq<'a>>),
+    Do(Items<Seq<'a>>),
+    Block(Seq<'a>),
+    Atomic(Seq<'a>),
+    DStep(Seq<'a>),
+    Unless(Seq<'a>, Seq<'a>),
+}
+
+/// A statement with its labels, and its tokens behind them.
+#[cycle(program)]
+#[derive(Drop)]
+pub struct Stmt<'a> {
+    pub labels: Items<Token<'a>>,
+    pub basic: Basic<'a>,
+    pub tokens: Tokens<'a>,
+}
+
+#[cycle(program)]
+#[derive(Drop)]
+pub struct Seq<'a> {
+    pub steps: Items<Stmt<'a>>,
+}
+
+/// What a variable begins with.
+#[derive(Drop)]
+pub enum Initial {
+    Zero,
+    Value(Value),
+    /// Channels of this capacity, with fields of these types.
+    Channel(u32, Items<Form>),
+}
+
+/// A variable, in order of declaration: `length` elements of `stride` cells each, from `offset` on among those of its owner.
+#[derive(Drop)]
+pub struct Slot<'a> {
+    pub name: Token<'a>,
+    pub form: Form,
+    pub offset: u32,
+    pub length: u32,
+    pub stride: u32,
+    pub initial: Initial,
+}
+
+/// A proctype: its parameters are the first of its variables. Behind them come all variables of its body, in the order of the
+/// text.
+#[derive(Drop)]
+pub struct Process<'a> {
+    pub name: Token<'a>,
+    pub owner: usize,
+    pub starts: u32,
+    pub parameters: usize,
+    pub variables: Items<Slot<'a>>,
+    pub body: Seq<'a>,
+    pub end: Token<'a>,
+}
+
+/// A typedef's fields, by their owner.
+#[derive(Drop)]
+pub struct Fields<'a> {
+    pub owner: usize,
+    pub fields: Items<Slot<'a>>,
+}
+
+/// A model that fits.
+#[derive(Drop)]
+pub struct Program<'a> {
+    pub globals: Items<Slot<'a>>,
+    /// mtype names, by number.
+    pub constants: Items<Token<'a>>,
+    pub typedefs: Items<Fields<'a>>,
+    pub processes: Items<Process<'a>>,
+}
