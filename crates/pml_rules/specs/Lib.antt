@@ -1,0 +1,5 @@
+pub mod Conditions
+pub mod Structure
+pub mod Start
+pub mod Decided
+pub mod Laws

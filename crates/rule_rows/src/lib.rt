@@ -1,0 +1,15 @@
+//! Rows of models, each a line, with the least rule of those decided on marks that refuses it.
+#![tactic(auto)]
+
+#[cfg(test)]
+mod counts;
+#[cfg(test)]
+mod least;
+#[cfg(test)]
+mod names;
+#[cfg(test)]
+mod several;
+#[cfg(test)]
+mod start;
+#[cfg(test)]
+mod structure;
