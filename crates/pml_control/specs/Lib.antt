@@ -1,0 +1,5 @@
+pub mod Control
+pub mod Ends
+pub mod Graph
+pub mod Labels
+pub mod Offers

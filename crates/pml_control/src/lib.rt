@@ -1,0 +1,12 @@
+//! Control: what a process still has to do, and the checks that speak of it.
+#![tactic(auto)]
+
+pub mod circle;
+mod ends;
+pub mod first_point;
+mod graph;
+mod labels;
+pub mod laws;
+mod node;
+#[cfg(test)]
+mod tests;
