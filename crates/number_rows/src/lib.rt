@@ -1,0 +1,7 @@
+//! Rows of texts, each with its checked model written out by hand.
+#![tactic(auto)]
+
+#[cfg(test)]
+mod models;
+#[cfg(test)]
+mod written;

@@ -1,0 +1,6 @@
+pub mod Declared
+pub mod Laying
+pub mod Making
+pub mod References
+pub mod Bodies
+pub mod Threading

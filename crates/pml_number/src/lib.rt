@@ -1,0 +1,10 @@
+//! The checked model of a syntax tree: the tree with each name replaced by what it stands for.
+#![tactic(auto)]
+
+mod action;
+mod declare;
+mod expression;
+pub mod laws;
+pub mod model;
+mod reached;
+mod statement;
