@@ -1,0 +1,14 @@
+-- Lists of different lengths do not match.
+use Rattle.std.proofs.Common.{◌≡◌, suc, Bool, true, false, ◌&&◌, List, [], ◌∷◌, length, ℤ, refl, ap, ◌∙◌}
+use Rattle.pml_eval.specs.declared.pattern.Sought.{Sought}
+use Rattle.pml_eval.specs.Pattern.{matched, taken}
+
+and_false : (b : Bool) → (b && false) ≡ false
+and_false true = refl
+and_false false = refl
+
+pub matched-length : (ws : List Sought) (xs : List ℤ) → (length ws ≡ length xs → ⊥) → matched ws xs ≡ false
+matched-length [] [] h = absurd (h refl)
+matched-length [] (x ∷ xs) h = refl
+matched-length (w ∷ ws) [] h = refl
+matched-length (w ∷ ws) (x ∷ xs) h = ap (λ b. taken w x && b) (matched-length ws xs (λ e. h (ap suc e))) ∙ and_false (taken w x)

@@ -1,0 +1,139 @@
+-- The value of an expression.
+use Rattle.std.specs.Prelude.{ℕ, ◌+◌, ◌*◌, Bool, true, false, not, ◌||◌, if◌then◌else◌, ◌==◌, nat_lt, length, List, [], ◌∷◌, ℤ, pos, negsuc, Option, Some, None, Result, Ok, Err}
+use Rattle.pml_tree.specs.declared.tree.Infix.{Infix}
+use Rattle.pml_tree.specs.declared.tree.Fill.{Fill}
+use Rattle.pml_tree.specs.declared.tree.Fill.TheVariants.{Length, IsEmpty, IsFull, IsNotEmpty, IsNotFull}
+use Rattle.diagnostics.specs.declared.fault.Fault.{Fault}
+use Rattle.diagnostics.specs.declared.fault.Fault.TheVariants.{IndexOutOfRange, NoSuchChannel, WrongNumberOfFields}
+use Rattle.pml_program.specs.declared.value.Value.{Value, Value-F, fold-Value}
+use Rattle.pml_program.specs.declared.value.Want.{Want, Want-F, fold-Want}
+use Rattle.pml_eval.specs.declared.pattern.Sought.{Sought}
+use Rattle.pml_eval.specs.declared.pattern.Sought.TheVariants.{Exactly, Into, Anything}
+use Rattle.pml_eval.specs.Pattern.{matched}
+use Rattle.pml_program.specs.declared.value.Target.{Target, Target-F, fold-Target}
+use Rattle.pml_program.specs.declared.value.Turn.{Turn, Turn-F, fold-Turn}
+use Rattle.pml_eval.specs.declared.ground.Place.{Place}
+use Rattle.pml_eval.specs.Operators.{truth, is_zero, prefixed, infixed, decided}
+
+-- a channel as an expression sees it: how many messages and fields it may have, and its messages
+pub record Filling : Type 0 where
+  pub capacity : ℕ
+  pub fields : ℕ
+  pub messages : List (List ℤ)
+
+-- what an expression may read
+pub record Reading : Type 0 where
+  pub holds : Place → ℤ
+  pub process : ℤ
+  pub living : ℤ
+  pub timeout : Bool
+  pub channel : ℤ → Option Filling
+
+-- the second goes on with what the first gives, or the first's fault stands
+infixl 10 ◌>>=◌
+abbrev pub ◌>>=◌ : {A B : Type 0} → Result A Fault → (A → Result B Fault) → Result B Fault
+(Ok x) >>= f = f x
+(Err e) >>= f = Err e
+
+abbrev pub filled : Fill → Filling → ℤ
+filled Length c = pos (length c.messages)
+filled IsEmpty c = truth (length c.messages == 0)
+filled IsFull c = truth (not (nat_lt (length c.messages) c.capacity))
+filled IsNotEmpty c = truth (not (length c.messages == 0))
+filled IsNotFull c = truth (nat_lt (length c.messages) c.capacity)
+
+abbrev pub asked : Fill → Option Filling → Result ℤ Fault
+asked fill None = Err NoSuchChannel
+asked fill (Some c) = Ok (filled fill c)
+
+-- whether the oldest message matches, or any
+abbrev pub is_match : Bool → List Sought → List (List ℤ) → Bool
+is_match any ws [] = false
+is_match false ws (m ∷ ms) = matched ws m
+is_match true ws (m ∷ ms) = matched ws m || is_match true ws ms
+
+-- a poll of a channel that is there: the number of fields, then the fill, then the pattern
+abbrev pub polled : Bool → ℕ → Result (List Sought) Fault → Option Filling → Result ℤ Fault
+polled any count wants None = Err NoSuchChannel
+polled any count wants (Some c) =
+    if not (count == c.fields) then Err WrongNumberOfFields
+    else (if length c.messages == 0 || c.capacity == 0 then Ok (pos 0) else (wants >>= λ ws. Ok (truth (is_match any ws c.messages))))
+
+-- an index within its array
+abbrev pub within : ℕ → ℤ → Result ℕ Fault
+within size (pos i) = if nat_lt i size then Ok i else Err IndexOutOfRange
+within size (negsuc i) = Err IndexOutOfRange
+
+-- ---- one level of the tree, each part replaced by what it gives
+
+-- an expression gives a value, a reference a place, and a step the cells that it goes on by
+abbrev pub Valued : Type 0
+Valued = Reading → Result ℤ Fault
+
+abbrev pub Placed : Type 0
+Placed = Reading → Result Place Fault
+
+abbrev pub Turned : Type 0
+Turned = Reading → Result ℕ Fault
+
+-- what is not evaluated has no fault
+abbrev pub if_zero : ℤ → Result ℤ Fault → Result ℤ Fault → Result ℤ Fault
+if_zero x a b = if is_zero x then a else b
+
+-- the left operand decides, or both are evaluated
+abbrev pub or_both : Infix → ℤ → Option ℤ → Result ℤ Fault → Result ℤ Fault
+or_both op x (Some y) right = Ok y
+or_both op x None right = right >>= λ y. infixed op x y
+
+abbrev pub Wanted : Type 0
+Wanted = Reading → Result Sought Fault
+
+abbrev pub wants_of : List Wanted → Reading → Result (List Sought) Fault
+wants_of [] r = Ok []
+wants_of (a ∷ more) r = a r >>= λ w. wants_of more r >>= λ ws. Ok (w ∷ ws)
+
+abbrev pub value_step : Value-F Valued Wanted Placed Turned → Valued
+value_step (Value-F.Number n) r = Ok n
+value_step Value-F.Process r = Ok r.process
+value_step Value-F.Living r = Ok r.living
+value_step Value-F.Timeout r = Ok (truth r.timeout)
+value_step (Value-F.Read p) r = p r >>= λ at. Ok (r.holds at)
+value_step (Value-F.Ask fill p) r = p r >>= λ at. asked fill (r.channel (r.holds at))
+value_step (Value-F.Poll p any args) r = p r >>= λ at. polled any (length args) (wants_of args r) (r.channel (r.holds at))
+value_step (Value-F.Unary op a) r = a r >>= λ x. Ok (prefixed op x)
+value_step (Value-F.Binary op a b) r = a r >>= λ x. or_both op x (decided op x) (b r)
+value_step (Value-F.Choice a b c) r = a r >>= λ x. if_zero x (c r) (b r)
+
+abbrev pub want_step : Want-F Valued Wanted Placed Turned → Wanted
+want_step (Want-F.Exactly n) r = Ok (Exactly n)
+want_step (Want-F.Equal a) r = a r >>= λ n. Ok (Exactly n)
+want_step (Want-F.Into p) r = p r >>= λ at. Ok (Into at)
+want_step Want-F.Anything r = Ok Anything
+
+abbrev pub cells_of : List Turned → ℕ → Reading → Result ℕ Fault
+cells_of [] cell r = Ok cell
+cells_of (s ∷ ss) cell r = s r >>= λ n. cells_of ss (cell + n) r
+
+abbrev pub target_step : Target-F Valued Wanted Placed Turned → Placed
+target_step p r = cells_of p.turns 0 r >>= λ cell. Ok (record { local = p.local; variable = p.variable; cell = cell })
+
+abbrev pub index_of : Option Valued → ℕ → Reading → Result ℕ Fault
+index_of None length r = Ok 0
+index_of (Some a) length r = a r >>= within length
+
+abbrev pub turn_step : Turn-F Valued Wanted Placed Turned → Turned
+turn_step s r = index_of s.index s.length r >>= λ i. Ok (s.offset + i * s.stride)
+
+-- ---- the whole tree
+
+abbrev pub val : Value → Valued
+val = fold-Value Valued Wanted Placed Turned value_step want_step target_step turn_step
+
+abbrev pub place : Target → Placed
+place = fold-Target Valued Wanted Placed Turned value_step want_step target_step turn_step
+
+abbrev pub cells : Turn → Turned
+cells = fold-Turn Valued Wanted Placed Turned value_step want_step target_step turn_step
+
+abbrev pub want : Want → Wanted
+want = fold-Want Valued Wanted Placed Turned value_step want_step target_step turn_step

@@ -1,0 +1,87 @@
+//! What a variable keeps of a number.
+
+ghost use Rattle.std.specs.Prelude.{◌≡◌, ◌≤◌, ◌<◌, ◌^◌, false, pos, ℤ};
+ghost use Rattle.pml_program.specs.declared.form.Form.{Form};
+ghost use Rattle.pml_eval.specs.Clip.{bits_of, bits_of_word, is_signed, is_word_signed, HasBits, clipped, IsClip};
+
+use pml_program::form::Form;
+use pml_tree::tree::Scalar;
+
+/// What a variable of this type keeps of a number: the one number in the type's range that differs from it by a multiple of
+/// 2 ^ n, n its bits.
+pub fn clip(form: Form, v: i32) -> i32
+    requires { HasBits form }
+    ensures { result ≡ clipped form v }
+{
+    let whole = modulus(bits(form));
+    let low = i64::from(v).rem_euclid(whole);
+    if !is_signed(form) {
+        return low as i32;
+    }
+    if low < whole / 2 {
+        return low as i32;
+    }
+    (low - whole) as i32
+}
+
+/// There is one such number, and it is what `clip` answers.
+pub fn one_clip()
+    ensures there { (form : Form) (v : ℤ) → HasBits form → IsClip form v (clipped form v) }
+    ensures only { (form : Form) (v r : ℤ) → HasBits form → IsClip form v r → r ≡ clipped form v }
+{}
+
+fn word_bits(word: Scalar) -> u32
+    ensures value { result ≡ bits_of_word word }
+    ensures narrow { is_word_signed word ≡ false → result < 32 }
+    ensures least { 1 ≤ result }
+    ensures most { result ≤ 32 }
+{
+    match word {
+        Scalar::Bit | Scalar::Bool => 1,
+        Scalar::Byte | Scalar::Chan | Scalar::Mtype | Scalar::Pid => 8,
+        Scalar::Short => 16,
+        Scalar::Int => 32,
+    }
+}
+
+#[tactic(auto, unfolding(crate::specs::Clip::bits_of, crate::specs::Clip::is_signed))]
+fn bits(form: Form) -> u32
+    requires { HasBits form }
+    ensures value { result ≡ bits_of form }
+    ensures narrow { is_signed form ≡ false → result < 32 }
+    ensures least { 1 ≤ result }
+    ensures most { result ≤ 32 }
+{
+    match form {
+        Form::Plain(word) => word_bits(word),
+        Form::Unsigned(width) => width,
+        Form::Struct(_) | Form::Unknown => 32,
+    }
+}
+
+fn is_word_signed(word: Scalar) -> bool
+    ensures { result ≡ is_word_signed word }
+{
+    match word {
+        Scalar::Short | Scalar::Int => true,
+        _ => false,
+    }
+}
+
+#[tactic(auto, unfolding(crate::specs::Clip::is_signed))]
+fn is_signed(form: Form) -> bool
+    ensures { result ≡ is_signed form }
+{
+    match form {
+        Form::Plain(word) => is_word_signed(word),
+        Form::Unsigned(width) => width == 32,
+        Form::Struct(_) | Form::Unknown => true,
+    }
+}
+
+fn modulus(bits: u32) -> i64
+    requires { bits ≤ 32 }
+    ensures { result ≡ pos (2 ^ bits) }
+{
+    1i64 << bits
+}

@@ -1,0 +1,144 @@
+-- A place among the cells of one vector.
+use Rattle.std.proofs.Common.{◌≡◌, ℕ, zero, suc, ◌+◌, ◌<◌, ◌≤◌, List, [], ◌∷◌, ◌++◌, length, get_or, take, drop, map, ℤ, pos, refl, sym, ap, ◌∙◌, arith, append_assoc, append-nil, length-append, length-drop, length-take, drop-drop}
+use Rattle.std.proofs.Math.ListN.{get_or-map}
+use Rattle.std.proofs.lemmas.List.{length-map, get_or-drop, get_or-take, take-append-drop, drop_all}
+use Rattle.pml_store.specs.declared.place.Place.{Place}
+use Rattle.pml_store.specs.declared.store.Slot.{Slot}
+use Rattle.pml_store.specs.declared.store.Owner.{Owner}
+use Rattle.pml_store.specs.Store.{Frame, Cells, frame_at, cells_at, number_at, HasPlace, flat, joined, index_of}
+use Rattle.pml_store.specs.Laid.{cells_of, frame_of, frames_of, nowhere, nobody, owner_at, slot_at, SlotsLie, slots_end, OwnersLie, owners_end, IsLaid}
+
+pub frame_is : (os : List Owner) (cells : List ℤ) (o : ℕ) → frame_at (frames_of os cells) o ≡ frame_of cells (owner_at os o)
+frame_is os cells o = get_or-map (frame_of cells) os o nobody
+
+pub cells_is : (os : List Owner) (cells : List ℤ) (p : Place) → cells_at (frames_of os cells) p ≡ cells_of cells (slot_at os p)
+cells_is os cells p =
+    ap (λ (f : Frame). get_or f p.variable []) (frame_is os cells p.owner)
+    ∙ get_or-map (cells_of cells) (owner_at os p.owner).slots p.variable nowhere
+
+-- what a place that is there has among the slots
+pub record Found (os : List Owner) (cells : List ℤ) (p : Place) : Type 0 where
+  pub owner : p.owner < length os
+  pub variable : p.variable < length (owner_at os p.owner).slots
+  pub cell : p.cell < (slot_at os p).size
+  pub within : (slot_at os p).start + p.cell < length cells
+
+pub found : (os : List Owner) (cells : List ℤ) (p : Place) → HasPlace (frames_of os cells) p → Found os cells p
+found os cells p h =
+    let c = rw (cells_is os cells p) at h.cell in
+    let e = length-take (slot_at os p).size (drop (slot_at os p).start cells) in
+    let d = length-drop (slot_at os p).start cells in
+    let v = rw (frame_is os cells p.owner) at h.variable in
+    record {
+      owner = omega (arith, h.owner, length-map os (frame_of cells));
+      variable = omega (arith, v, length-map (owner_at os p.owner).slots (cells_of cells));
+      cell = omega arith;
+      within = omega arith;
+    }
+
+pub number_is : (os : List Owner) (cells : List ℤ) (p : Place) → HasPlace (frames_of os cells) p → number_at (frames_of os cells) p ≡ get_or cells ((slot_at os p).start + p.cell) (pos 0)
+number_is os cells p h =
+    ap (λ (c : Cells). get_or c p.cell (pos 0)) (cells_is os cells p)
+    ∙ get_or-take (slot_at os p).size (drop (slot_at os p).start cells) p.cell (pos 0) (found os cells p h).cell
+    ∙ get_or-drop (slot_at os p).start cells p.cell (pos 0)
+
+-- ---- all of them, in order
+
+abbrev frame_flat : List ℤ → Owner → List ℤ
+frame_flat cells o = flat (frame_of cells o)
+
+flat_is : (ss : List Slot) (cells : List ℤ) (at : ℕ) → SlotsLie ss at → flat (map (cells_of cells) ss) ++ drop (slots_end ss at) cells ≡ drop at cells
+flat_is [] cells at h = refl
+flat_is (s ∷ ss) cells at h =
+    rw (append_assoc, flat_is ss cells (at + s.size) h.1, h.0, ← drop-drop s.size at cells) (take-append-drop s.size (drop at cells))
+
+joined_to : (os : List Owner) (cells : List ℤ) (at : ℕ) → OwnersLie os at → joined (frames_of os cells) ++ drop (owners_end os at) cells ≡ drop at cells
+joined_to [] cells at h = refl
+joined_to (o ∷ os) cells at h =
+    rw (append_assoc, joined_to os cells (slots_end o.slots at) h.2) (flat_is o.slots cells at h.1)
+
+pub joined_is : (most : ℕ) (os : List Owner) (cells : List ℤ) → IsLaid most os cells → joined (frames_of os cells) ≡ cells
+joined_is most os cells h =
+    let e = joined_to os cells 0 h.lie in
+    let d = drop_all (owners_end os 0) cells (omega (arith, h.cover)) in
+    sym (append-nil (joined (frames_of os cells))) ∙ ap (λ (x : List ℤ). joined (frames_of os cells) ++ x) (sym d) ∙ e
+
+-- ---- where a place stands among them
+
+pub slots_on : (ss : List Slot) (at : ℕ) → at ≤ slots_end ss at
+slots_on [] at = omega arith
+slots_on (s ∷ ss) at = let r = slots_on ss (at + s.size) in omega arith
+
+pub owners_on : (os : List Owner) (at : ℕ) → at ≤ owners_end os at
+owners_on [] at = omega arith
+owners_on (o ∷ os) at = let r = owners_on os (slots_end o.slots at) in let q = slots_on o.slots at in omega arith
+
+length-cells_of : (cells : List ℤ) (s : Slot) → s.start + s.size ≤ length cells → length (cells_of cells s) ≡ s.size
+length-cells_of cells s h = let e = length-take s.size (drop s.start cells) in let d = length-drop s.start cells in omega arith
+
+flat_len : (ss : List Slot) (cells : List ℤ) (at : ℕ) → SlotsLie ss at → slots_end ss at ≤ length cells → length (flat (map (cells_of cells) ss)) + at ≡ slots_end ss at
+flat_len [] cells at h l = omega arith
+flat_len (s ∷ ss) cells at h l =
+    let on = slots_on ss (at + s.size) in
+    let st = h.0 in
+    let e = length-cells_of cells s (omega arith) in
+    let r = flat_len ss cells (at + s.size) h.1 l in
+    let a = length-append (cells_of cells s) (flat (map (cells_of cells) ss)) in
+    omega arith
+
+flat_to : (ss : List Slot) (cells : List ℤ) (at v : ℕ) → SlotsLie ss at → slots_end ss at ≤ length cells → v < length ss → length (flat (take v (map (cells_of cells) ss))) + at ≡ (get_or ss v nowhere).start
+flat_to [] cells at v h l k = absurd (omega arith)
+flat_to (s ∷ ss) cells at zero h l k = let st = h.0 in omega arith
+flat_to (s ∷ ss) cells at (suc v) h l k =
+    let on = slots_on ss (at + s.size) in
+    let st = h.0 in
+    let e = length-cells_of cells s (omega arith) in
+    let r = flat_to ss cells (at + s.size) v h.1 l (omega arith) in
+    let a = length-append (cells_of cells s) (flat (take v (map (cells_of cells) ss))) in
+    omega arith
+
+joined_len_to : (os : List Owner) (cells : List ℤ) (at o : ℕ) → OwnersLie os at → owners_end os at ≤ length cells → o < length os → length (joined (take o (frames_of os cells))) + at ≡ (owner_at os o).base
+joined_len_to [] cells at o h l k = absurd (omega arith)
+joined_len_to (w ∷ os) cells at zero h l k = let st = h.0 in omega arith
+joined_len_to (w ∷ os) cells at (suc o) h l k =
+    let on = owners_on os (slots_end w.slots at) in
+    let e = flat_len w.slots cells at h.1 (omega arith) in
+    let r = joined_len_to os cells (slots_end w.slots at) o h.2 l (omega arith) in
+    let a = length-append (frame_flat cells w) (joined (take o (frames_of os cells))) in
+    omega arith
+
+pub record Lies (o : Owner) (n : ℕ) : Type 0 where
+  pub slots : SlotsLie o.slots o.base
+  pub below : slots_end o.slots o.base ≤ n
+
+owner_lies : (os : List Owner) (at n o : ℕ) → OwnersLie os at → owners_end os at ≤ n → o < length os → Lies (owner_at os o) n
+owner_lies [] at n o h l k = absurd (omega arith)
+owner_lies (w ∷ os) at n zero h l k =
+    let on = owners_on os (slots_end w.slots at) in
+    record { slots = rw h.0 h.1; below = rw h.0 (omega arith) }
+owner_lies (w ∷ os) at n (suc o) h l k = owner_lies os (slots_end w.slots at) n o h.2 l (omega arith)
+
+pub index_is : (most : ℕ) (os : List Owner) (cells : List ℤ) (p : Place) → IsLaid most os cells → HasPlace (frames_of os cells) p → index_of (frames_of os cells) p ≡ (slot_at os p).start + p.cell
+index_is most os cells p h there =
+    let f = found os cells p there in
+    let a = joined_len_to os cells 0 p.owner h.lie (omega (arith, h.cover)) f.owner in
+    let l = owner_lies os 0 (length cells) p.owner h.lie (omega (arith, h.cover)) f.owner in
+    let b = flat_to (owner_at os p.owner).slots cells (owner_at os p.owner).base p.variable l.slots l.below f.variable in
+    let e = ap (λ (x : Frame). length (flat (take p.variable x))) (frame_is os cells p.owner) in
+    omega arith
+
+-- all that is known of an index
+pub record IsIndex (frames : List Frame) (p : Place) (i : ℕ) : Type 0 where
+  pub value : i ≡ index_of frames p
+  pub within : i < length (joined frames)
+  pub holds : get_or (joined frames) i (pos 0) ≡ number_at frames p
+
+pub is_index : (most : ℕ) (os : List Owner) (cells : List ℤ) (p : Place) → IsLaid most os cells → HasPlace (frames_of os cells) p → IsIndex (frames_of os cells) p ((slot_at os p).start + p.cell)
+is_index most os cells p h there =
+    let f = found os cells p there in
+    let j = ap length (joined_is most os cells h) in
+    record {
+      value = sym (index_is most os cells p h there);
+      within = omega (arith, f.within, j);
+      holds = ap (λ (x : List ℤ). get_or x ((slot_at os p).start + p.cell) (pos 0)) (joined_is most os cells h) ∙ sym (number_is os cells p there);
+    }

@@ -1,0 +1,6 @@
+//! The numbers of variables, by place.
+#![tactic(auto)]
+
+pub mod law;
+pub mod place;
+pub mod store;
