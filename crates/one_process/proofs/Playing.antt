@@ -24,23 +24,18 @@ use Rattle.pml_lex.specs.declared.fault.LexFault.TheVariants as lex
 use Rattle.pml_tree.specs.declared.tree.Tree.{Tree}
 use Rattle.pml_syntax.specs.declared.program.SyntaxFault.{SyntaxFault}
 use Rattle.pml_syntax.specs.declared.program.SyntaxFault.TheVariants as syntax
-use Rattle.pml_syntax.specs.Grammar as promela
-use Rattle.pml_syntax.specs.Answer as promela_answer
-use Rattle.one_process_model.specs.declared.program.SyntaxFault.{SyntaxFault as ProgramFault}
-use Rattle.one_process_model.specs.declared.program.SyntaxFault.TheVariants as small
-use Rattle.one_process_model.specs.declared.checks.CheckFault.{CheckFault}
-use Rattle.one_process_model.specs.declared.checks.CheckFault.TheVariants as check
-use Rattle.one_process_model.specs.declared.tree.Program.{Program}
-use Rattle.one_process_model.specs.declared.checked.Checked.{Checked}
-use Rattle.one_process_model.specs.Answer.{Answers}
-use Rattle.one_process_model.specs.Grammar.{Spells}
-use Rattle.one_process_model.specs.Conditions.{refusal_of}
+use Rattle.pml_syntax.specs.Grammar.{Spells}
+use Rattle.pml_syntax.specs.Answer.{Answers}
+use Rattle.pml_check.specs.declared.checked.CheckFault.{CheckFault}
+use Rattle.pml_check.specs.declared.checked.CheckFault.TheVariants as check
+use Rattle.pml_check.specs.Checked.{IsRefused}
+use Rattle.one_process_model.specs.declared.model.OneProcess.{OneProcess}
 use Rattle.one_process.specs.declared.whole.Rejection.{Rejection}
 use Rattle.one_process.specs.declared.whole.Rejection.TheVariants.{Memory, NotServed, Refused}
 use Rattle.one_process.specs.State.{State}
 use Rattle.one_process.specs.Engine.{first, rules}
-use Rattle.one_process.specs.Transcript.{IsPromela, IsModel, too_long, lexical, left_out, too_deep, unspelled, unfit, IsTranscript, of_unserved, of_refusal, of_model}
-use Rattle.one_process.specs.Plays.{IsRejected, of_lexical, of_syntax, of_program, of_check, Rejects, PlaysWhole}
+use Rattle.one_process.specs.Transcript.{IsSpelled, IsModel, too_long, lexical, left_out, too_deep, unspelled, unfit, IsTranscript, of_unserved, of_refusal, of_model}
+use Rattle.one_process.specs.Plays.{IsRejected, of_lexical, of_syntax, of_check, Rejects, PlaysWhole}
 use Rattle.one_process.proofs.Lines.{token_lines}
 use Rattle.one_process.proofs.Outcomes.{when_refused, when_unserved, when_modelled}
 
@@ -53,19 +48,14 @@ rejected_lexical text (lex.Lexical line) h = lexical h
 rejected_lexical text (lex.LeftOut line) h = left_out h
 rejected_lexical text (lex.TooDeep line) h = too_deep h
 
-pub rejected_syntax : (text : List ℕ) (ts : List Word) (fault : SyntaxFault) → AreTokens text ts → ((t : Tree) → promela.Spells t ts → promela_answer.Answers t (Err fault))
+pub rejected_syntax : (text : List ℕ) (ts : List Word) (fault : SyntaxFault) → AreTokens text ts → ((t : Tree) → Spells t ts → Answers t (Err fault))
     → ((most : ℕ) → 1 ≤ most → All (λ w. IsOnLine most w.line) ts → (at : ℕ) → ◌≡◌ {A = Result Tree SyntaxFault} (Err fault) (Err (syntax.Syntax at)) → IsOnLine most at) → IsRejected text (of_syntax fault)
 rejected_syntax text ts syntax.Memory are none line = tt
 rejected_syntax text ts (syntax.Syntax at) are none line = unspelled (record { tokens = ts; are_tokens = are; none = none; on_line = line (line_behind text) (omega arith) (token_lines text ts are) at refl })
 
-pub rejected_program : (text : List ℕ) (ts : List Word) (fault : ProgramFault) → AreTokens text ts → IsPromela ts → ((t : Program) → Spells t ts → Answers t (Err fault)) → IsRejected text (of_program fault)
-rejected_program text ts small.Memory are is none = tt
-rejected_program text ts (small.Syntax at) are is none = record { tokens = ts; are_tokens = are; is_promela = is; none = none }
-
-pub rejected_check : (text : List ℕ) (ts : List Word) (program : Program) (fault : CheckFault) → AreTokens text ts → IsPromela ts → Spells program ts
-    → ((r : Refusal) → ◌≡◌ {A = Result Checked CheckFault} (Err fault) (Err (check.Refused r)) → refusal_of program ≡ Some r) → IsRejected text (of_check fault)
-rejected_check text ts program check.Memory are is spells least = tt
-rejected_check text ts program (check.Refused r) are is spells least = unfit (record { tokens = ts; are_tokens = are; is_promela = is; program = program; spells = spells; least = least r refl })
+pub rejected_check : (text : List ℕ) (t : Tree) (fault : CheckFault) → IsSpelled text t → IsRefused t fault → IsRejected text (of_check fault)
+rejected_check text t check.Memory is h = tt
+rejected_check text t (check.Refused r) is h = unfit (record { tree = t; is_spelled = is; least = h })
 
 -- ---- a rejected text
 
@@ -120,18 +110,18 @@ module _ (text : List ℕ) (options : Options) (s : List ℕ → Type 0) (o o' k
 -- ---- a model
 
 module _ (text : List ℕ) (options : Options) (s s' : List ℕ → Type 0) (o o' k k' : Option (List ℕ)) (n : ℕ) where
-  pub model_plays : (result : Result End Broken) (checked : Checked) (state : State) → state ≡ first checked → IsModel text checked
+  pub model_plays : (result : Result End Broken) (model : OneProcess) (state : State) → state ≡ first model → IsModel text model
       → IfOk result (λ end. (over : Bool) × Does s s' o o' k k' 0 n (transcript rules options state) end over) → IfOk result (PlaysWhole text options s s' o o' k k' 0 n)
-  model_plays (Err e) checked state starts is h = tt
-  model_plays (Ok end) checked state starts is h = record {
-    part = transcript rules options (first checked);
+  model_plays (Err e) model state starts is h = tt
+  model_plays (Ok end) model state starts is h = record {
+    part = transcript rules options (first model);
     is_transcript = of_model is;
     over = h.0;
     does = subst (λ (x : State). Does s s' o o' k k' 0 n (transcript rules options x) end h.0) starts h.1;
   }
 
-  pub model_breaks : (result : Result End Broken) (checked : Checked) (state : State) → state ≡ first checked → IsModel text checked
+  pub model_breaks : (result : Result End Broken) (model : OneProcess) (state : State) → state ≡ first model → IsModel text model
       → IfErr result (λ e. Breaks e s s' o o' k k' 0 n (transcript rules options state)) → IfErr result (λ e. (part : List ℕ → Part End) → IsTranscript text options part → Breaks e s s' o o' k k' 0 n part)
-  model_breaks (Ok end) checked state starts is h = tt
-  model_breaks (Err e) checked state starts is h = λ part given.
+  model_breaks (Ok end) model state starts is h = tt
+  model_breaks (Err e) model state starts is h = λ part given.
       subst (λ (x : List ℕ → Part End). Breaks e s s' o o' k k' 0 n x) (sym (when_modelled is given)) (subst (λ (x : State). Breaks e s s' o o' k k' 0 n (transcript rules options x)) starts h)

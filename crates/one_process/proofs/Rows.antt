@@ -9,12 +9,13 @@ use Rattle.session.specs.declared.Options.{Options}
 use Rattle.session.specs.declared.Cause.TheVariants as cause
 use Rattle.session.specs.Events.{output}
 use Rattle.session.specs.Session.{select, stepped, answered, story, transcript, end_of}
-use Rattle.one_process_model.specs.declared.tree.Sign.TheVariants.{Plus, Minus}
-use Rattle.one_process_model.specs.declared.checked.Operand.TheVariants.{Cell, Constant}
-use Rattle.one_process_model.specs.declared.checked.Value.TheVariants as v
-use Rattle.one_process_model.specs.declared.checked.Effect.TheVariants as e
-use Rattle.one_process_model.specs.declared.checked.Checked.{Checked}
-use Rattle.one_process.specs.Values.{added, low_byte, value}
+use Rattle.one_process_model.specs.declared.model.Sign.TheVariants.{Plus, Minus}
+use Rattle.one_process_model.specs.declared.model.Operand.TheVariants.{Cell, Constant}
+use Rattle.one_process_model.specs.declared.model.Value.TheVariants as v
+use Rattle.one_process_model.specs.declared.model.Effect.TheVariants as e
+use Rattle.one_process_model.specs.declared.model.OneProcess.{OneProcess}
+use Rattle.one_process.specs.Values.{added, value}
+use Rattle.one_process_model.specs.Served.{low_byte}
 use Rattle.one_process.specs.Engine.{first, rules}
 
 -- sums wrap at 32 bits, and a byte keeps the lowest 8
@@ -37,7 +38,7 @@ signed : value [] (v.Less (record { first = Constant (negsuc 0); rest = [] }) (r
 signed = refl
 
 -- `byte x = 255; active proctype A() { x ++ }`, its brace on line 2
-model : Checked
+model : OneProcess
 model = record {
   initial = 255 ∷ [];
   code = record {

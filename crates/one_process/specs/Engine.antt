@@ -1,8 +1,8 @@
 -- The process as a machine: its first state, its moves, its steps, and the texts.
 use Rattle.std.specs.Prelude.{ℕ, ◌+◌, Bool, true, false, nat_lt, if◌then◌else◌, List, [], ◌∷◌, ◌++◌, length, Option, Some, None, slice_get, codes}
 use Rattle.session.specs.Machine.{Rules, Goes}
-use Rattle.one_process_model.specs.declared.checked.Checked.{Checked}
-use Rattle.one_process_model.specs.declared.checked.Step.{Step}
+use Rattle.one_process_model.specs.declared.model.OneProcess.{OneProcess}
+use Rattle.one_process_model.specs.declared.model.Step.{Step}
 use Rattle.one_process.specs.declared.engine.Control.{Control}
 use Rattle.one_process.specs.declared.engine.Control.TheVariants.{At, Dead}
 use Rattle.one_process.specs.declared.engine.OnlyMove.{OnlyMove}
@@ -11,7 +11,7 @@ use Rattle.one_process.specs.Values.{is_executable, changed}
 use Rattle.one_process.specs.Texts.{joined, first_line, place}
 
 -- each variable has its initial number, and the process stands before its first statement
-abbrev pub first : Checked → State
+abbrev pub first : OneProcess → State
 first m = record { code = m.code; cells = m.initial; control = At 0 }
 
 -- the statement that stands first, if one does

@@ -15,10 +15,8 @@ use Rattle.pml_lex.specs.declared.fault.LexFault.{LexFault}
 use Rattle.pml_lex.specs.declared.fault.LexFault.TheVariants as lex
 use Rattle.pml_syntax.specs.declared.program.SyntaxFault.{SyntaxFault}
 use Rattle.pml_syntax.specs.declared.program.SyntaxFault.TheVariants as syntax
-use Rattle.one_process_model.specs.declared.program.SyntaxFault.{SyntaxFault as ProgramFault}
-use Rattle.one_process_model.specs.declared.program.SyntaxFault.TheVariants as small
-use Rattle.one_process_model.specs.declared.checks.CheckFault.{CheckFault}
-use Rattle.one_process_model.specs.declared.checks.CheckFault.TheVariants as check
+use Rattle.pml_check.specs.declared.checked.CheckFault.{CheckFault}
+use Rattle.pml_check.specs.declared.checked.CheckFault.TheVariants as check
 use Rattle.one_process.specs.declared.whole.Rejection.{Rejection}
 use Rattle.one_process.specs.declared.whole.Rejection.TheVariants.{Memory, NotServed, Refused}
 use Rattle.one_process.specs.Transcript.{IsRefused, IsUnserved, IsTranscript}
@@ -40,10 +38,6 @@ of_lexical (lex.TooDeep line) = Refused refusal.TooDeep line
 abbrev pub of_syntax : SyntaxFault → Rejection
 of_syntax syntax.Memory = Memory
 of_syntax (syntax.Syntax line) = Refused refusal.Syntax line
-
-abbrev pub of_program : ProgramFault → Rejection
-of_program small.Memory = Memory
-of_program (small.Syntax line) = NotServed
 
 abbrev pub of_check : CheckFault → Rejection
 of_check check.Memory = Memory

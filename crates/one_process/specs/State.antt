@@ -1,6 +1,6 @@
 -- The state of the process.
 use Rattle.std.specs.Prelude.{ℕ, List}
-use Rattle.one_process_model.specs.declared.checked.Code.{Code}
+use Rattle.one_process_model.specs.declared.model.Code.{Code}
 use Rattle.one_process.specs.declared.engine.Control.{Control}
 
 pub record State : Type 0 where

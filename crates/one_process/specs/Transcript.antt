@@ -1,5 +1,5 @@
 -- What a text stands for: a refusal, or a model; and the session over it.
-use Rattle.std.specs.Prelude.{◌≡◌, ◌<◌, ℕ, List, length, Some, false}
+use Rattle.std.specs.Prelude.{◌≡◌, ◌<◌, ℕ, List, length, Option, Some, None, false}
 use Rattle.diagnostics.specs.declared.refusal.Refusal.{Refusal}
 use Rattle.diagnostics.specs.declared.refusal.Refusal.TheVariants as r
 use Rattle.session.specs.declared.Options.{Options}
@@ -9,49 +9,45 @@ use Rattle.session.specs.Session.{refused, not_served, transcript}
 use Rattle.pml_lex.specs.Word.{Word}
 use Rattle.pml_lex.specs.Cut.{most_bytes, IsLine, AreTokens, CannotBeCut, HoldsLeftOut, GoesTooDeep}
 use Rattle.pml_tree.specs.declared.tree.Tree.{Tree}
-use Rattle.pml_syntax.specs.Grammar as promela
-use Rattle.one_process_model.specs.declared.tree.Program.{Program}
-use Rattle.one_process_model.specs.declared.checked.Checked.{Checked}
-use Rattle.one_process_model.specs.Grammar.{Spells}
-use Rattle.one_process_model.specs.Conditions.{refusal_of}
-use Rattle.one_process_model.specs.Numbered.{IsChecked}
+use Rattle.pml_syntax.specs.Grammar.{Spells}
+use Rattle.pml_number.specs.Model.{numbered_model}
+use Rattle.pml_check.specs.Judged.{IsFit, IsLeast}
+use Rattle.one_process_model.specs.declared.model.OneProcess.{OneProcess}
+use Rattle.one_process_model.specs.Served.{served}
 use Rattle.one_process.specs.Engine.{first, rules}
 
--- some tree of Promela spells these tokens
-abbrev pub IsPromela : List Word → Type 0
-IsPromela tokens = (tree : Tree) × promela.Spells tree tokens
-
--- The text's tokens spell a program of the part that is served, no condition applies to it, and this is its checked model.
-pub record IsModel (text : List ℕ) (checked : Checked) : Type 0 where
+-- The text's tokens spell this tree.
+pub record IsSpelled (text : List ℕ) (tree : Tree) : Type 0 where
   pub tokens : List Word
   pub are_tokens : AreTokens text tokens
-  pub is_promela : IsPromela tokens
-  pub program : Program
-  pub spells : Spells program tokens
-  pub is_checked : IsChecked program checked
+  pub spells : Spells tree tokens
 
--- The text has tokens, and no tree of Promela spells them.
+-- The text has a tree that fits all conditions, and its checked model is of the part that is served: this one.
+pub record IsModel (text : List ℕ) (model : OneProcess) : Type 0 where
+  pub tree : Tree
+  pub is_spelled : IsSpelled text tree
+  pub fits : IsFit tree
+  pub is : served (numbered_model tree) ≡ Some model
+
+-- The text has tokens, and no tree spells them.
 pub record IsUnspelled (text : List ℕ) (line : ℕ) : Type 0 where
   pub tokens : List Word
   pub are_tokens : AreTokens text tokens
-  pub none : (tree : Tree) → promela.Spells tree tokens → ⊥
+  pub none : (tree : Tree) → Spells tree tokens → ⊥
   pub on_line : IsLine text line
 
--- A tree of Promela spells the text's tokens, and no program of the part that is served.
+-- The text has a tree that fits all conditions, and its checked model is not of the part that is served.
 pub record IsUnserved (text : List ℕ) : Type 0 where
-  pub tokens : List Word
-  pub are_tokens : AreTokens text tokens
-  pub is_promela : IsPromela tokens
-  pub none : (program : Program) → Spells program tokens → ⊥
+  pub tree : Tree
+  pub is_spelled : IsSpelled text tree
+  pub fits : IsFit tree
+  pub none : served (numbered_model tree) ≡ None
 
--- The text's tokens spell a program, and of the conditions that apply to it this is the least.
+-- The text has a tree, and of the conditions that apply to it this is the least.
 pub record IsUnfit (text : List ℕ) (refusal : Refusal) : Type 0 where
-  pub tokens : List Word
-  pub are_tokens : AreTokens text tokens
-  pub is_promela : IsPromela tokens
-  pub program : Program
-  pub spells : Spells program tokens
-  pub least : refusal_of program ≡ Some refusal
+  pub tree : Tree
+  pub is_spelled : IsSpelled text tree
+  pub least : IsLeast tree refusal
 
 -- The text is refused so, and the refusal has this line: one of the text's, or 0 where it has none.
 pub data IsRefused (text : List ℕ) : Refusal → ℕ → Type 0 where
@@ -75,4 +71,4 @@ HasLine text _ line = line ≡ 0
 pub data IsTranscript (text : List ℕ) (options : Options) : (List ℕ → Part End) → Type 0 where
   of_unserved : IsUnserved text → IsTranscript text options (not_served false)
   of_refusal : {refusal : Refusal} {line : ℕ} → IsRefused text refusal line → IsTranscript text options (refused refusal line false)
-  of_model : {checked : Checked} → IsModel text checked → IsTranscript text options (transcript rules options (first checked))
+  of_model : {model : OneProcess} → IsModel text model → IsTranscript text options (transcript rules options (first model))

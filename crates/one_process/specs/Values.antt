@@ -2,15 +2,16 @@
 use Rattle.std.specs.Prelude.{ℕ, ◌-◌, ◌%◌, Bool, true, false, not, List, fold, slice_index, slice_set, ℤ, pos, negsuc, ◌+ℤ◌, ◌-ℤ◌, int_lt}
 use Rattle.std.specs.Int.{w32, int_wrap}
 use Rattle.std.specs.Ordering.{int_eq}
-use Rattle.one_process_model.specs.declared.tree.Sign.{Sign}
-use Rattle.one_process_model.specs.declared.tree.Sign.TheVariants.{Plus, Minus}
-use Rattle.one_process_model.specs.declared.checked.Operand.{Operand}
-use Rattle.one_process_model.specs.declared.checked.Operand.TheVariants.{Cell, Constant}
-use Rattle.one_process_model.specs.declared.checked.Total.{Total}
-use Rattle.one_process_model.specs.declared.checked.Value.{Value}
-use Rattle.one_process_model.specs.declared.checked.Value.TheVariants as v
-use Rattle.one_process_model.specs.declared.checked.Effect.{Effect}
-use Rattle.one_process_model.specs.declared.checked.Effect.TheVariants as e
+use Rattle.one_process_model.specs.declared.model.Sign.{Sign}
+use Rattle.one_process_model.specs.declared.model.Sign.TheVariants.{Plus, Minus}
+use Rattle.one_process_model.specs.declared.model.Operand.{Operand}
+use Rattle.one_process_model.specs.declared.model.Operand.TheVariants.{Cell, Constant}
+use Rattle.one_process_model.specs.declared.model.Total.{Total}
+use Rattle.one_process_model.specs.declared.model.Value.{Value}
+use Rattle.one_process_model.specs.declared.model.Value.TheVariants as v
+use Rattle.one_process_model.specs.declared.model.Effect.{Effect}
+use Rattle.one_process_model.specs.declared.model.Effect.TheVariants as e
+use Rattle.one_process_model.specs.Served.{low_byte}
 
 abbrev pub operand : List ℕ → Operand → ℤ
 operand cells (Cell at) = pos (slice_index cells at)
@@ -32,11 +33,6 @@ abbrev pub value : List ℕ → Value → ℤ
 value cells (v.Total t) = total cells t
 value cells (v.Equal t u) = truth (int_eq (total cells t) (total cells u))
 value cells (v.Less t u) = truth (int_lt (total cells t) (total cells u))
-
--- the lowest 8 bits: the one number from 0 to 255 that differs by a multiple of 256
-abbrev pub low_byte : ℤ → ℕ
-low_byte (pos n) = n % 256
-low_byte (negsuc n) = 255 - n % 256
 
 abbrev pub stored : List ℕ → ℕ → ℤ → List ℕ
 stored cells at number = slice_set cells at (low_byte number)

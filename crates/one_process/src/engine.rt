@@ -6,7 +6,7 @@ ghost use Rattle.one_process.specs.Engine as engine;
 
 use crate::texts::{add_place, add_tokens, first_line};
 use crate::values::{apply, is_executable};
-use one_process_model::checked::{Checked, Code, Step};
+use one_process_model::model::{Code, OneProcess, Step};
 use session::{Machine, Stop};
 use sqlite_items::Items;
 use std::alloc::{AllocError, Global};
@@ -42,10 +42,10 @@ impl<'a> Model for Engine<'a> {
 
 impl<'a> Engine<'a> {
     /// The first state: each variable has its initial number, and the process stands before its first statement.
-    pub fn start(checked: Checked<'a>) -> Engine<'a>
-        ensures { result ≡ engine.first checked.entry }
+    pub fn start(model: OneProcess<'a>) -> Engine<'a>
+        ensures { result ≡ engine.first model.entry }
     {
-        let Checked { initial, code } = checked;
+        let OneProcess { initial, code } = model;
         Engine {
             code,
             cells: initial,

@@ -2,7 +2,7 @@
 
 ghost use Rattle.std.specs.Prelude.{◌≡◌, ◌≤◌, ℕ, List, length};
 ghost use Rattle.diagnostics.specs.declared.refusal.Refusal.{Refusal};
-ghost use Rattle.one_process_model.specs.declared.checked.Checked.{Checked};
+ghost use Rattle.one_process_model.specs.declared.model.OneProcess.{OneProcess};
 ghost use Rattle.one_process.specs.State.{State};
 ghost use Rattle.one_process.specs.Engine.{moves};
 ghost use Rattle.one_process.specs.Transcript.{IsModel, IsRefused, IsUnserved, HasLine};
@@ -10,10 +10,10 @@ ghost use Rattle.one_process.specs.Transcript.{IsModel, IsRefused, IsUnserved, H
 /// A text is refused in one way at most, or uses what is not served, or stands for one model at most, and only one of these.
 pub fn one_outcome()
     ensures refusal { (text : List ℕ) (a b : Refusal) (m n : ℕ) → IsRefused text a m → IsRefused text b n → a ≡ b }
-    ensures either { (text : List ℕ) (a : Refusal) (m : ℕ) (checked : Checked) → IsRefused text a m → IsModel text checked → ⊥ }
+    ensures either { (text : List ℕ) (a : Refusal) (m : ℕ) (model : OneProcess) → IsRefused text a m → IsModel text model → ⊥ }
     ensures unserved { (text : List ℕ) (a : Refusal) (m : ℕ) → IsRefused text a m → IsUnserved text → ⊥ }
-    ensures served { (text : List ℕ) (checked : Checked) → IsModel text checked → IsUnserved text → ⊥ }
-    ensures model { (text : List ℕ) (a b : Checked) → IsModel text a → IsModel text b → a ≡ b }
+    ensures served { (text : List ℕ) (model : OneProcess) → IsModel text model → IsUnserved text → ⊥ }
+    ensures model { (text : List ℕ) (a b : OneProcess) → IsModel text a → IsModel text b → a ≡ b }
 {}
 
 /// Four refusals have a line of the text, and the others have none.

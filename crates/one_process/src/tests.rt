@@ -237,9 +237,10 @@ fn says_what_is_not_served(rt: HostRuntime) -> Result<(), Fail> {
     let alloc = rt.alloc();
     for text in [
         b"init { skip }".as_slice(),
-        b"byte _pid; active proctype A() { skip }",
+        b"active proctype A() { byte x; skip }",
         b"active proctype A() { printf(\"\") }",
-        b"active proctype A() { }",
+        b"byte x; active proctype A() { x = x * 2 }",
+        b"byte a[2]; active proctype A() { a[1] = 1 }",
     ] {
         row(
             &rt,

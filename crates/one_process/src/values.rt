@@ -1,10 +1,10 @@
 //! What expressions are worth, and what effects do to the variables.
 
 ghost use Rattle.std.specs.Prelude.{◌≡◌, slice_index, slice_set};
+ghost use Rattle.one_process_model.specs.Served.{low_byte};
 ghost use Rattle.one_process.specs.Values as values;
 
-use one_process_model::checked::{Effect, Operand, Total, Value};
-use one_process_model::tree::Sign;
+use one_process_model::model::{Effect, Operand, Sign, Total, Value};
 use sqlite_items::Items;
 
 fn cell(cells: &[u8], at: usize) -> u8
@@ -61,7 +61,7 @@ fn value(cells: &[u8], value: &Value) -> i32
 }
 
 fn low_byte(number: i32) -> u8
-    ensures { result ≡ values.low_byte number }
+    ensures { result ≡ low_byte number }
 {
     i64::from(number).rem_euclid(256) as u8
 }

@@ -9,21 +9,23 @@ ghost use Rattle.session.specs.Replay.{CanBeReplayed};
 ghost use Rattle.session.specs.Stands.{Gave, Does, Breaks, CountsAll, CountsBroken};
 ghost use Rattle.session.specs.Writes.{CountsWrite, IsOwnEnd, failure_of};
 ghost use Rattle.pml_lex.specs.Cut.{AreTokens};
-ghost use Rattle.one_process.specs.Transcript.{IsModel, IsPromela, IsTranscript};
+ghost use Rattle.pml_syntax.specs.Grammar.{Spells};
+ghost use Rattle.one_process.specs.Transcript.{IsModel, IsSpelled, IsTranscript};
 ghost use Rattle.one_process.specs.Plays as plays;
 ghost use Rattle.one_process.specs.Plays.{IsRejected, Rejects, PlaysWhole};
 
 use crate::engine::Engine;
 use devices::{Sink, Source};
 use diagnostics::Refusal;
-use one_process_model::checked::Checked;
-use one_process_model::{CheckFault, check, parse};
+use one_process_model::model::OneProcess;
+use one_process_model::serve;
+use pml_check::{CheckFault, Parsed, check};
 use pml_lex::cut;
 use pml_lex::fault::LexFault;
 use pml_lex::token::Token;
-use pml_syntax::SyntaxFault;
+use pml_syntax::{SyntaxFault, parse};
 use session::{Broken, End, Options, end_of, failure, refuse, refuse_unserved, run};
-use std::alloc::Global;
+use std::alloc::{AllocError, Global};
 
 /// Why a text has no model.
 #[derive(Clone, Copy, Debug, PartialEq, Eq)]
@@ -66,15 +68,6 @@ fn of_syntax(fault: SyntaxFault) -> Rejection
     }
 }
 
-fn of_program(fault: one_process_model::SyntaxFault) -> Rejection
-    ensures { result ≡ plays.of_program fault }
-{
-    match fault {
-        one_process_model::SyntaxFault::Memory => Rejection::Memory,
-        one_process_model::SyntaxFault::Syntax(_) => Rejection::NotServed,
-    }
-}
-
 fn of_check(fault: CheckFault) -> Rejection
     ensures { result ≡ plays.of_check fault }
 {
@@ -84,30 +77,43 @@ fn of_check(fault: CheckFault) -> Rejection
     }
 }
 
-/// Reads the tree of Promela that the tokens spell, and lets it go: what is served is read from the tokens.
-fn read_tree<'a>(alloc: Global, tokens: &'a [Token<'a>]) -> Result<(), Rejection>
-    ensures ok { OnOk result (IsPromela tokens.now) }
+/// The tree that the tokens spell.
+fn tree_of<'a>(alloc: Global, tokens: &'a [Token<'a>]) -> Result<Parsed<'a>, Rejection>
+    ensures ok { IfOk result (λ tree. Spells tree tokens.now) }
     ensures err { (text : List ℕ) → AreTokens text tokens.now → IfErr result (IsRejected text) }
 {
-    let _tree = match pml_syntax::parse(alloc, tokens) {
-        Ok(tree) => tree,
-        Err(fault) => return Err(of_syntax(fault)),
-    };
-    Ok(())
+    match parse(alloc, tokens) {
+        Ok(tree) => match Parsed::new(alloc, tree) {
+            Ok(parsed) => Ok(parsed),
+            Err(AllocError) => Err(Rejection::Memory),
+        },
+        Err(fault) => Err(of_syntax(fault)),
+    }
 }
 
-fn model_of<'a>(alloc: Global, tokens: &'a [Token<'a>]) -> Result<Checked<'a>, Rejection>
+/// The model that a tree stands for, where it is checked and of the part that is served.
+fn served_of<'a>(alloc: Global, parsed: &Parsed<'a>) -> Result<OneProcess<'a>, Rejection>
+    ensures ok { (text : List ℕ) → IsSpelled text parsed.now → IfOk result (IsModel text) }
+    ensures err { (text : List ℕ) → IsSpelled text parsed.now → IfErr result (IsRejected text) }
+{
+    let checked = match check(alloc, parsed.tree()) {
+        Ok(checked) => checked,
+        Err(fault) => return Err(of_check(fault)),
+    };
+    match serve(alloc, checked.program()) {
+        Ok(Some(model)) => Ok(model),
+        Ok(None) => Err(Rejection::NotServed),
+        Err(AllocError) => Err(Rejection::Memory),
+    }
+}
+
+fn model_of<'a>(alloc: Global, tokens: &'a [Token<'a>]) -> Result<OneProcess<'a>, Rejection>
     ensures ok { (text : List ℕ) → AreTokens text tokens.now → IfOk result (IsModel text) }
     ensures err { (text : List ℕ) → AreTokens text tokens.now → IfErr result (IsRejected text) }
 {
-    read_tree(alloc, tokens)?;
-    let program = match parse(alloc, tokens) {
-        Ok(program) => program,
-        Err(fault) => return Err(of_program(fault)),
-    };
-    match check(alloc, &program) {
-        Ok(checked) => Ok(checked),
-        Err(fault) => Err(of_check(fault)),
+    match tree_of(alloc, tokens) {
+        Ok(parsed) => served_of(alloc, &parsed),
+        Err(rejection) => Err(rejection),
     }
 }
 
@@ -147,8 +153,8 @@ fn stages<S: Source, O: Sink, R: Sink>(
         Err(rejection) => return reject(alloc, rejection, out),
     };
     match model_of(alloc, &tokens) {
-        Ok(checked) => {
-            let mut engine = Engine::start(checked);
+        Ok(model) => {
+            let mut engine = Engine::start(model);
             run(alloc, &mut engine, options, steps, source, out, rec)
         }
         Err(rejection) => reject(alloc, rejection, out),

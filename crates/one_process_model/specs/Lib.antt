@@ -1,7 +1,3 @@
-pub mod Grammar
-pub mod Reading
-pub mod Answer
-pub mod Number
-pub mod Names
-pub mod Conditions
-pub mod Numbered
+pub mod Values
+pub mod Statements
+pub mod Served

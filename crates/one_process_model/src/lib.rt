@@ -1,20 +1,10 @@
-//! The smallest part of Promela, one process over byte variables: its trees, its grammar, and the conditions that a
-//! program has to meet (Holzmann, The SPIN Model Checker, chapter 3).
+//! The part of Promela that is played: one process over byte variables (Holzmann, *The SPIN Model Checker*, chapter 3). A
+//! checked model of this part is one of these models, and of any other this crate says so.
 #![tactic(auto)]
 
-pub mod checked;
-mod checks;
-mod conditions;
-mod cursor;
-mod declaration;
-mod expression;
-mod fault;
-pub mod laws;
-mod names;
-mod number;
-pub mod program;
+pub mod model;
+mod served;
 mod statement;
-pub mod tree;
+mod value;
 
-pub use checks::{CheckFault, check};
-pub use program::{SyntaxFault, parse};
+pub use served::serve;

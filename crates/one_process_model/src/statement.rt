@@ -1,79 +1,100 @@
-//! Statements.
+//! Statements of this part.
 
-ghost use Rattle.std.specs.Prelude.{◌≡◌, length, []};
-ghost use Rattle.one_process_model.specs.Reading as reading;
-ghost use Rattle.one_process_model.specs.Reading.{Reads};
+ghost use Rattle.std.specs.Prelude.{◌≡◌, IfOk};
+ghost use Rattle.one_process_model.specs.Statements.{stored, stored_in, effect_of, with_tokens, step_by, step_of, steps_of};
 
-use crate::cursor::{Cursor, is_separator};
-use crate::expression::comparison;
-use crate::fault::Fault;
-use crate::tree::{Action, Statement};
-use pml_lex::token::Kind;
+use crate::model::{Effect, Step, Value};
+use crate::value::{cell, value};
+use pml_program::program::{Action, Basic, Stmt};
+use pml_program::value::Target;
+use pml_tree::tokens::Tokens;
 use sqlite_items::Items;
-use std::alloc::Global;
+use std::alloc::{AllocError, Global};
 
-#[tactic(auto, unfolding(crate::specs::Reading::action, crate::specs::Reading::and_then))]
-fn action<'a>(alloc: Global, tokens: &mut Cursor<'a>) -> Result<Action<'a>, Fault>
-    ensures { Reads (reading.action tokens.old) result tokens.new }
+fn stored(at: Option<usize>, number: Option<Value>) -> Option<Effect>
+    ensures { result ≡ stored at number }
 {
-    match tokens.peek_second() {
-        Kind::Assign => {
-            let target = tokens.name()?;
-            tokens.skip();
-            let value = comparison(alloc, tokens)?;
-            Ok(Action::Assign(target, value))
-        }
-        Kind::Increment => {
-            let target = tokens.name()?;
-            tokens.skip();
-            Ok(Action::Increment(target))
-        }
-        Kind::Decrement => {
-            let target = tokens.name()?;
-            tokens.skip();
-            Ok(Action::Decrement(target))
-        }
-        _ => {
-            let condition = comparison(alloc, tokens)?;
-            Ok(Action::Condition(condition))
-        }
+    match at {
+        None => None,
+        Some(at) => match number {
+            None => None,
+            Some(number) => Some(Effect::Store(at, number)),
+        },
     }
 }
 
-#[tactic(auto, unfolding(crate::specs::Reading::statement, crate::specs::Reading::and_then))]
-fn statement<'a>(alloc: Global, tokens: &mut Cursor<'a>) -> Result<Statement<'a>, Fault>
-    ensures { Reads (reading.statement tokens.old) result tokens.new }
+fn stored_in(target: &Option<Target>, number: Option<Value>) -> Option<Effect>
+    ensures { result ≡ stored_in target.now number }
 {
-    let start = tokens.ahead();
-    let action = action(alloc, tokens)?;
-    let tokens = tokens.since(start);
-    Ok(Statement { action, tokens })
+    match target {
+        None => None,
+        Some(target) => stored(cell(target), number),
+    }
 }
 
-/// A statement and the separators behind it, and whether another one follows.
-#[tactic(auto, unfolding(crate::specs::Reading::item, crate::specs::Reading::and_then))]
-fn item<'a>(alloc: Global, tokens: &mut Cursor<'a>) -> Result<(Statement<'a>, bool), Fault>
-    ensures { Reads (reading.item tokens.old) result tokens.new }
+/// What a statement does, where it is of this part.
+fn effect(alloc: Global, action: &Action) -> Result<Option<Effect>, AllocError>
+    ensures { IfOk result (λ x. x ≡ effect_of action.now) }
 {
-    let read = statement(alloc, tokens)?;
-    let separated = is_separator(true, tokens.peek());
-    tokens.skip_separators(true);
-    let follows = separated && !tokens.sees(Kind::CloseBrace);
-    Ok((read, follows))
+    match action {
+        Action::Assign(target, number) => {
+            let number = value(alloc, number)?;
+            Ok(stored_in(target, number))
+        }
+        Action::Increment(target) => Ok(match cell(target) {
+            Some(at) => Some(Effect::Increment(at)),
+            None => None,
+        }),
+        Action::Decrement(target) => Ok(match cell(target) {
+            Some(at) => Some(Effect::Decrement(at)),
+            None => None,
+        }),
+        Action::Holds(condition) => match value(alloc, condition)? {
+            Some(condition) => Ok(Some(Effect::Condition(condition))),
+            None => Ok(None),
+        },
+        _ => Ok(None),
+    }
 }
 
-/// The statements of a body, up to what is neither a separator nor another statement behind one.
-#[tactic(auto, unfolding(crate::specs::Reading::body_from, crate::specs::Reading::and_then, crate::specs::Reading::pick))]
-pub fn body<'a>(alloc: Global, tokens: &mut Cursor<'a>) -> Result<Items<Statement<'a>>, Fault>
-    ensures { Reads (reading.body_from (length tokens.old) [] tokens.old) result tokens.new }
+fn with_tokens<'a>(tokens: &Tokens<'a>, effect: Option<Effect>) -> Option<Step<'a>>
+    ensures { result ≡ with_tokens tokens.now effect }
 {
-    let mut found = Items::new(alloc);
-    for _turn in 0..tokens.left() {
-        let (read, follows) = item(alloc, tokens)?;
-        found.push(read)?;
-        if !follows {
-            return Ok(found);
+    match effect {
+        None => None,
+        Some(effect) => Some(Step {
+            effect,
+            tokens: Tokens::new(tokens.as_slice()),
+        }),
+    }
+}
+
+/// A statement with its tokens, where it is of this part.
+fn step<'a>(alloc: Global, stmt: &Stmt<'a>) -> Result<Option<Step<'a>>, AllocError>
+    ensures { IfOk result (λ x. x ≡ step_of stmt.now) }
+{
+    if stmt.labels.len() != 0 {
+        return Ok(None);
+    }
+    match &stmt.basic {
+        Basic::Plain(action) => {
+            let effect = effect(alloc, action)?;
+            Ok(with_tokens(&stmt.tokens, effect))
+        }
+        _ => Ok(None),
+    }
+}
+
+/// Statements with their tokens, where each is of this part.
+pub fn steps<'a>(alloc: Global, body: &[Stmt<'a>]) -> Result<Option<Items<Step<'a>>>, AllocError>
+    ensures { IfOk result (λ x. x ≡ steps_of body.now) }
+{
+    let mut all = Items::new(alloc);
+    for stmt in body {
+        match step(alloc, stmt)? {
+            Some(one) => all.push(one)?,
+            None => return Ok(None),
         }
     }
-    Err(tokens.refuse())
+    Ok(Some(all))
 }

@@ -20,20 +20,20 @@ never { skip } => M3 (left out) 1
 byte never; byte x, x; => M3 (left out) 1
 #define N 3 => M3 (left out) 1
 active proctype A() { skip => M5 (syntax) 1
-active proctype A() { } => M99 (not served) 0
+active proctype A() { byte x; } => M99 (not served) 0
 active proctype A() { skip skip } => M5 (syntax) 1
 active proctype A() { ; skip } => M5 (syntax) 1
 active proctype A { skip } => M5 (syntax) 1
-active proctype _() { skip } => M99 (not served) 0
-byte _pid; active proctype A() { skip } => M99 (not served) 0
+active proctype _() { skip } => M6 (name twice) 0
+byte _pid; active proctype A() { skip } => M6 (name twice) 0
 byte x byte y; active proctype A() { x => M5 (syntax) 1
-byte x = y; active proctype A() { skip } => M99 (not served) 0
+byte x = y; active proctype A() { skip } => M7 (unknown name) 0
 byte x; active proctype A() { x = 1 == 1 == 1 } => M99 (not served) 0
 byte x; active proctype A() { x = } => M5 (syntax) 1
 byte x; active proctype A() { x ++ ++ } => M5 (syntax) 1
 active proctype A() { "x" } => M5 (syntax) 1
 init { skip } => M99 (not served) 0
-byte x, x; init { break } => M99 (not served) 0
+byte x, x; init { break } => M6 (name twice) 0
 proctype P(byte b; chan c) { c ! b } init { run P(1, 2) } => M99 (not served) 0
 init { { skip } unless { skip } } => M99 (not served) 0
 init { skip => M5 (syntax) 1
@@ -56,7 +56,7 @@ byte x = 4294967296; => M14 (number out of range) 0
 "#
 }
 
-fn refused<R: Abort>(
+pub fn refused<R: Abort>(
     rt: &R,
     alloc: Global,
     text: &[u8],
@@ -78,17 +78,22 @@ fn refused<R: Abort>(
     Ok(())
 }
 
-#[test]
-fn rows_are_refused(rt: HostRuntime) -> Result<(), Fail> {
+// How many rows there are, each of which is refused as it says.
+pub fn each<R: Abort>(rt: &R, alloc: Global, rows: &str) -> Result<u32, Fail> {
     let mut count = 0u32;
-    for row in rows().lines() {
+    for row in rows.lines() {
         let (text, answer) = row.split_once(" => ").ok_or("a row has an arrow")?;
         let (words, line) = answer.rsplit_once(" ").ok_or("an answer has a line")?;
         let at = if line == "1" { 1 } else { 0 };
-        refused(&rt, rt.alloc(), text.as_bytes(), words, at)?;
+        refused(rt, alloc, text.as_bytes(), words, at)?;
         count = count.saturating_add(1);
     }
-    assert_eq!(rt; count, 46);
+    Ok(count)
+}
+
+#[test]
+fn rows_are_refused(rt: HostRuntime) -> Result<(), Fail> {
+    assert_eq!(rt; each(&rt, rt.alloc(), rows())?, 46);
     Ok(())
 }
 

@@ -5,7 +5,7 @@ pub returns-clause-refusal : goal.returns-clause-refusal
 returns-clause-refusal c text a b m n = one_refusal
 
 pub returns-clause-either : goal.returns-clause-either
-returns-clause-either c text a m checked = no_model
+returns-clause-either c text a m model = no_model
 
 pub returns-clause-model : goal.returns-clause-model
 returns-clause-model c text a b = one_model
@@ -14,4 +14,4 @@ pub returns-clause-unserved : goal.returns-clause-unserved
 returns-clause-unserved c text a m = not_both
 
 pub returns-clause-served : goal.returns-clause-served
-returns-clause-served c text checked = model_is_served
+returns-clause-served c text model = model_is_served

@@ -10,11 +10,11 @@ returns-in-Err-clause-err g c = rejected_breaks _ _ _ _ _ _ _ c.in-Err.rejection
 
 pub returns-in-Ok-model_of-clause-ok : goal.returns-in-Ok-model_of-clause-ok
 returns-in-Ok-model_of-clause-ok g c =
-    model_plays _ _ _ _ _ _ _ _ _ c.run.result c.in-Ok-model_of.checked _ c.start-engine.ensures (c.in-Ok-model_of.ensures.ok c.args.text.now (rw c.deref.ensures.value c.in-Ok.ensures.ok)) c.run.ensures.ok
+    model_plays _ _ _ _ _ _ _ _ _ c.run.result c.in-Ok-model_of.model _ c.start-engine.ensures (c.in-Ok-model_of.ensures.ok c.args.text.now (rw c.deref.ensures.value c.in-Ok.ensures.ok)) c.run.ensures.ok
 
 pub returns-in-Ok-model_of-clause-err : goal.returns-in-Ok-model_of-clause-err
 returns-in-Ok-model_of-clause-err g c =
-    model_breaks _ _ _ _ _ _ _ _ _ c.run.result c.in-Ok-model_of.checked _ c.start-engine.ensures (c.in-Ok-model_of.ensures.ok c.args.text.now (rw c.deref.ensures.value c.in-Ok.ensures.ok)) c.run.ensures.err
+    model_breaks _ _ _ _ _ _ _ _ _ c.run.result c.in-Ok-model_of.model _ c.start-engine.ensures (c.in-Ok-model_of.ensures.ok c.args.text.now (rw c.deref.ensures.value c.in-Ok.ensures.ok)) c.run.ensures.err
 
 pub returns-clause-ok : goal.returns-clause-ok
 returns-clause-ok g c =

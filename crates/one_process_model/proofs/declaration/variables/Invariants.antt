@@ -1,6 +1,0 @@
-use Rattle.std.proofs.Common.{◌≡◌, length, [], ◌-◌}
-use Rattle.one_process_model.specs.Reading as reading
-use Rattle.one_process_model.proofs.declaration.variables.Given as goal
-
-abbrev pub invariant-loop-turn : goal.invariant-loop-turn
-invariant-loop-turn l = reading.variables_from (length l.fn.tokens) [] l.fn.tokens ≡ reading.variables_from (l._turn-end - l._turn) l.found l.tokens

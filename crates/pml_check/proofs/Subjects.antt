@@ -1,0 +1,17 @@
+-- What is found of a subject is found of its tree.
+use Rattle.std.proofs.Common.{◌≡◌, List, Option, subst}
+use Rattle.diagnostics.specs.declared.refusal.Refusal.{Refusal}
+use Rattle.pml_tree.specs.declared.tree.Tree.{Tree}
+use Rattle.pml_marks.specs.declared.mark.Mark.{Mark}
+use Rattle.pml_marks.specs.Marks.{of_tree}
+use Rattle.pml_program.specs.declared.program.Program.{Program}
+use Rattle.pml_number.specs.Model.{numbered_model}
+use Rattle.pml_check.specs.declared.subject.Subject.{Subject}
+use Rattle.pml_check.specs.Subject.{IsSubject}
+use Rattle.pml_check.specs.Judged.{all_judged}
+use Rattle.pml_check.specs.Decided.{Finds}
+
+pub found_of : (t : Tree) (s : Subject) → IsSubject t s → (o p : Option Refusal) → o ≡ p → Finds all_judged s.marks s.program.processes o → Finds all_judged (of_tree t) (numbered_model t).processes p
+found_of t s h o p e f =
+    subst (λ (q : Option Refusal). Finds all_judged (of_tree t) (numbered_model t).processes q) e
+    (subst (λ (m : Program). Finds all_judged (of_tree t) m.processes o) h.program (subst (λ (ms : List Mark). Finds all_judged ms s.program.processes o) h.marks f))

@@ -1,0 +1,19 @@
+-- What a check answers, and what a checked model is.
+use Rattle.std.specs.Prelude.{◌≡◌}
+use Rattle.pml_tree.specs.declared.tree.Tree.{Tree}
+use Rattle.pml_program.specs.declared.program.Program.{Program}
+use Rattle.pml_number.specs.Model.{numbered_model}
+use Rattle.pml_check.specs.declared.checked.CheckFault.{CheckFault}
+use Rattle.pml_check.specs.declared.checked.CheckFault.TheVariants as fault
+use Rattle.pml_check.specs.Judged.{IsFit, IsLeast}
+
+-- memory ran out, or this is the least refusal that applies
+abbrev pub IsRefused : Tree → CheckFault → Type 0
+IsRefused t fault.Memory = Unit {0}
+IsRefused t (fault.Refused x) = IsLeast t x
+
+-- the model of a tree that fits all conditions
+pub record IsChecked (p : Program) : Type 0 where
+  pub tree : Tree
+  pub fits : IsFit tree
+  pub is : p ≡ numbered_model tree

@@ -1,0 +1,4 @@
+pub mod Judged
+pub mod Decided
+pub mod Subject
+pub mod Checked

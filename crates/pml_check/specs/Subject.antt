@@ -1,0 +1,13 @@
+-- What is asked of a tree.
+use Rattle.std.specs.Prelude.{◌≡◌}
+use Rattle.pml_tree.specs.declared.tree.Tree.{Tree}
+use Rattle.pml_marks.specs.Marks.{of_tree}
+use Rattle.pml_names.specs.Env.{env}
+use Rattle.pml_number.specs.Model.{numbered_model}
+use Rattle.pml_check.specs.declared.subject.Subject.{Subject}
+
+-- the marks, the names and the numbered model of a tree
+pub record IsSubject (t : Tree) (s : Subject) : Type 0 where
+  pub marks : s.marks ≡ of_tree t
+  pub names : s.names.table ≡ env (of_tree t)
+  pub program : s.program ≡ numbered_model t

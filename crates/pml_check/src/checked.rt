@@ -1,0 +1,96 @@
+//! The checks.
+
+ghost use Rattle.std.specs.Prelude.{◌≡◌, IfOk, IfErr, OnOk};
+ghost use Rattle.pml_check.specs.Judged.{IsFit, IsLeast};
+ghost use Rattle.pml_check.specs.Checked.{IsRefused};
+ghost use Rattle.pml_number.specs.Model.{numbered_model};
+
+use crate::judge::first_of;
+use crate::subject::{Subject, subject_of};
+use diagnostics::Refusal;
+use pml_program::program::Program;
+use pml_tree::tree::Tree;
+use sqlite_items::Boxed;
+use std::alloc::{AllocError, Global};
+use std::marker::Model;
+
+/// Why a tree has no checked model.
+#[derive(Clone, Copy, Debug, PartialEq, Eq)]
+pub enum CheckFault {
+    Refused(Refusal),
+    Memory,
+}
+
+impl From<AllocError> for CheckFault {
+    ghost use Rattle.std.specs.Prelude.{◌≡◌};
+    ghost use Rattle.pml_check.specs.declared.checked.CheckFault.TheVariants.{Memory};
+
+    ghost from_gives = { λ _ e. e ≡ Memory };
+
+    fn from(_: AllocError) -> CheckFault {
+        CheckFault::Memory
+    }
+}
+
+/// The refusals that are judged on a tree, in the order in which they go before one another.
+const JUDGED: [Refusal; 12] = [
+    Refusal::NameTwice,
+    Refusal::UnknownName,
+    Refusal::WrongKind,
+    Refusal::ArgumentCount,
+    Refusal::Label,
+    Refusal::BreakOutsideDo,
+    Refusal::DStep,
+    Refusal::CircleOfGotos,
+    Refusal::NumberOutOfRange,
+    Refusal::TooManyCells,
+    Refusal::NoProcess,
+    Refusal::TooManyAtStart,
+];
+
+/// A model that fits all conditions, with its names replaced by what they stand for.
+#[derive(Drop)]
+pub struct Checked<'a> {
+    program: Boxed<Program<'a>>,
+}
+
+impl<'a> Model for Checked<'a> {
+    ghost use Rattle.pml_program.specs.declared.program.Program.{Program};
+    ghost use Rattle.pml_check.specs.Checked.{IsChecked};
+    ghost use Rattle.pml_program.specs.contracts.value.Value as worth;
+    ghost use Rattle.pml_program.specs.contracts.program.Seq as seq;
+    ghost use Rattle.std.specs.Coded.{codes};
+    ghost use mir.Syntax.{named};
+    ghost use Rattle.std.specs.Prelude.{[]};
+
+    ghost Value = { Program };
+
+    ghost coded = { Prim.hlevel (codes, worth.the_row.coded, (seq.the_row (record { mir = named 0; lft = [] })).coded) };
+
+    ghost view = { λ c. c.program };
+
+    ghost invariant = { λ c. IsChecked c.program };
+}
+
+impl<'a> Checked<'a> {
+    /// The model.
+    pub fn program(&self) -> &Program<'a>
+        ensures { result.now ≡ self.now }
+    {
+        self.program.get()
+    }
+}
+
+/// Checks a tree. It answers the least refusal that applies, exactly where one does, and else the checked model.
+pub fn check<'a>(alloc: Global, tree: &Tree<'a>) -> Result<Checked<'a>, CheckFault>
+    ensures fits { OnOk result (IsFit tree.now) }
+    ensures model { IfOk result (λ checked. checked ≡ numbered_model tree.now) }
+    ensures refused { IfErr result (IsRefused tree.now) }
+{
+    let subject = subject_of(alloc, tree)?;
+    if let Some(refusal) = first_of(alloc, &JUDGED, &subject)? {
+        return Err(CheckFault::Refused(refusal));
+    }
+    let Subject { program, .. } = subject;
+    Ok(Checked { program })
+}

@@ -1,0 +1,36 @@
+//! What is asked of a tree is asked of this.
+
+ghost use Rattle.std.specs.Prelude.{◌≡◌, IfOk};
+ghost use Rattle.pml_check.specs.Subject.{IsSubject};
+
+use pml_marks::mark::Mark;
+use pml_marks::model::marks;
+use pml_names::names::{Names, all_names};
+use pml_number::model::number;
+use pml_program::program::Program;
+use pml_tree::tree::Tree;
+use sqlite_items::{Boxed, Items};
+use std::alloc::{AllocError, Global};
+
+/// The marks of a tree, its names, and the model with its names replaced.
+#[derive(Drop)]
+pub struct Subject<'a> {
+    pub marks: Items<Mark<'a>>,
+    pub names: Names<'a>,
+    pub program: Boxed<Program<'a>>,
+}
+
+/// What is asked of a tree.
+pub fn subject_of<'a>(alloc: Global, tree: &Tree<'a>) -> Result<Subject<'a>, AllocError>
+    ensures { IfOk result (λ subject. IsSubject tree.now subject) }
+{
+    let marks = marks(alloc, tree)?;
+    let names = all_names(alloc, marks.as_slice())?;
+    let program = number(alloc, tree, &names.table)?;
+    let program = Boxed::new(alloc, program)?;
+    Ok(Subject {
+        marks,
+        names,
+        program,
+    })
+}
