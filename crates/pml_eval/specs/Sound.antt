@@ -69,7 +69,3 @@ fitting = fold-Turn Tested Tested Tested Fitting sound_value sound_want sound_ta
 
 abbrev pub is_sound_want : Want → Tested
 is_sound_want = fold-Want Tested Tested Tested Fitting sound_value sound_want sound_target sound_turn
-
--- each variable has four cells
-abbrev pub fours : Sizes
-fours local variable = 4

@@ -1,5 +1,6 @@
-ghost use Rattle.std.specs.Prelude.{None, true, pos, IsTrue, IfOk};
-ghost use Rattle.pml_eval.specs.Sound.{is_sound, is_sound_target, fours};
+ghost use Rattle.std.specs.Prelude.{IsTrue, IfOk};
+ghost use Rattle.pml_eval.specs.Sound.{is_sound, is_sound_target};
+ghost use Rattle.pml_eval.specs.Sample.{fours, sevens};
 
 use crate::clip::clip;
 use crate::eval::{eval, pattern, place};
@@ -14,12 +15,12 @@ use sqlite_items::{Boxed, Items};
 use std::alloc::{AllocError, Global};
 use std::test::Fail;
 
-/// Each variable has four cells, which hold 7, and there is no channel.
+/// Each variable has four cells, which hold 7, and channel 1 is empty.
 #[derive(Drop)]
 struct Sevens;
 
 impl Ground for Sevens {
-    ghost reading = { λ s. record { holds = λ p. pos 7; process = pos 3; living = pos 5; timeout = true; channel = λ c. None } };
+    ghost reading = { λ s. sevens };
 
     ghost sizes = { λ s. fours };
 
@@ -39,8 +40,16 @@ impl Ground for Sevens {
         true
     }
 
-    fn channel(&self, _: i32) -> Option<Filled> {
-        None
+    fn channel(&self, number: i32) -> Option<Filled> {
+        if number == 1 {
+            Some(Filled {
+                capacity: 2,
+                fields: 1,
+                length: 0,
+            })
+        } else {
+            None
+        }
     }
 
     fn has_match(&self, _: i32, _: bool, _: &Pattern) -> bool {

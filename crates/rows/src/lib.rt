@@ -4,6 +4,8 @@
 #[cfg(test)]
 mod checks;
 #[cfg(test)]
+mod large;
+#[cfg(test)]
 mod player;
 #[cfg(test)]
 mod refusals;
