@@ -1,6 +1,7 @@
 //! Texts, and what their names stand for.
 use crate::written::written;
 use pml_lex::cut;
+use pml_lex::token::Token;
 use pml_marks::model::marks;
 use pml_names::names::all_names;
 use pml_number::model::number;
@@ -16,14 +17,23 @@ fn model_of_tree(alloc: Global, tree: &Tree<'_>) -> Result<String, AllocError> {
     written(alloc, &program)
 }
 
+// The tree as a parameter: where it is a local, the check of its loan does not end.
+fn model_of_owned<'a>(alloc: Global, tree: Tree<'a>) -> Result<String, AllocError> {
+    model_of_tree(alloc, &tree)
+}
+
+fn model_of_tokens<'a>(alloc: Global, tokens: &'a [Token<'a>]) -> Result<String, Fail> {
+    match parse(alloc, tokens) {
+        Ok(tree) => Ok(model_of_owned(alloc, tree)?),
+        Err(_) => Err(Fail::from("no tree spells the text")),
+    }
+}
+
 fn model_of(alloc: Global, text: &str) -> Result<String, Fail> {
-    let Ok(tokens) = cut(alloc, text.as_bytes()) else {
-        return Err(Fail::from("the text is not cut"));
-    };
-    let Ok(tree) = parse(alloc, tokens.as_slice()) else {
-        return Err(Fail::from("the tokens are no model"));
-    };
-    Ok(model_of_tree(alloc, &tree)?)
+    match cut(alloc, text.as_bytes()) {
+        Ok(tokens) => model_of_tokens(alloc, tokens.as_slice()),
+        Err(_) => Err(Fail::from("the text is not cut")),
+    }
 }
 
 #[test]
