@@ -4,3 +4,5 @@
 pub mod law;
 pub mod place;
 pub mod store;
+#[cfg(test)]
+mod tests;

@@ -1,0 +1,25 @@
+use crate::place::Place;
+use crate::store::Store;
+use std::test::Fail;
+
+/// Globals of two cells and one, and a process of one variable of two cells.
+#[test]
+fn owners_come_and_go(rt: HostRuntime) -> Result<(), Fail> {
+    let mut store = Store::new(rt.alloc(), 9);
+    store.push_frame(&[2, 1])?;
+    let global = Place {
+        owner: 0,
+        variable: 0,
+        cell: 1,
+    };
+    store.set(global, -7)?;
+    assert_eq!(rt; store.get(global), -7);
+    assert_eq!(rt; store.written(), [(1, 0)].as_slice());
+    store.forget();
+    store.push_frame(&[2])?;
+    assert_eq!(rt; store.cells().as_slice(), [0, -7, 0, 0, 0].as_slice());
+    store.pop_frame();
+    assert_eq!(rt; store.cells().as_slice(), [0, -7, 0].as_slice());
+    assert_eq!(rt; store.written().len(), 0);
+    Ok(())
+}
