@@ -23,7 +23,7 @@ use Rattle.pml_program.specs.declared.form.Form.{Form}
 use Rattle.pml_program.specs.declared.form.Form.TheVariants as kind
 use Rattle.pml_program.specs.declared.value.Value.{Value}
 use Rattle.pml_number.specs.Numbered.{Scope, Path, Stepped, into, through}
-use Rattle.pml_number.specs.Layout.{ends, IsTypedef, HasForm, IsPlaced, Lies, IsLaid, Within}
+use Rattle.pml_number.specs.Layout.{ends, IsTypedef, HasForm, IsPlaced, Lies, IsLaid, Within, HasCells, Reaches}
 
 -- ---- one entry more
 
@@ -31,7 +31,7 @@ held-more : (es : List Entry) (e : Entry) (o : ℕ) → held (es ++ e ∷ []) o 
 held-more [] e o = omega arith
 held-more (f ∷ es) e o = omega (arith, held-more es e o)
 
-elsewhere : (a o n : ℕ) → a ≢ o → cond (nat_eq a o) n 0 ≡ 0
+pub elsewhere : (a o n : ℕ) → a ≢ o → cond (nat_eq a o) n 0 ≡ 0
 elsewhere a o n h = elim (eqb_tells a o) [
   | inl e ↦ absurd (h e.1)
   | inr e ↦ ap (λ b. cond b n 0) e.0
@@ -100,12 +100,12 @@ found-lies P (e ∷ es) o l n t h f = elim (found_at (is_named o l n e) e.thing 
 -- ---- one declaration more
 
 form_of-lies : (es : List Entry) (k o : ℕ) (r : Option Thing) → ((t : Thing) → r ≡ Some t → Lies es k o t) → HasForm es k (form_of r) (stride_of r)
-form_of-lies es k o None h = tt
+form_of-lies es k o None h = refl
 form_of-lies es k o (Some (thing.Typedef t n)) h = h (thing.Typedef t n) refl
-form_of-lies es k o (Some (thing.Variable x)) h = tt
-form_of-lies es k o (Some (thing.Constant n)) h = tt
-form_of-lies es k o (Some (thing.Process p n)) h = tt
-form_of-lies es k o (Some thing.Label) h = tt
+form_of-lies es k o (Some (thing.Variable x)) h = refl
+form_of-lies es k o (Some (thing.Constant n)) h = refl
+form_of-lies es k o (Some (thing.Process p n)) h = refl
+form_of-lies es k o (Some thing.Label) h = refl
 
 -- a name of the owner, or else a global one
 visible-lies : (es : List Entry) (k o : ℕ) (r q : Option Thing) → ((t : Thing) → r ≡ Some t → Lies es k o t) → ((t : Thing) → q ≡ Some t → Lies es k 0 t) → HasForm es k (form_of (or_else r q)) (stride_of (or_else r q))
@@ -113,8 +113,8 @@ visible-lies es k o None q f g = form_of-lies es k 0 q g
 visible-lies es k o (Some x) q f g = form_of-lies es k o (Some x) f
 
 form-lies : (es : List Entry) (k o : ℕ) (s : Sort) → IsLaid k es → HasForm es k (form es o s) (stride es o s)
-form-lies es k o (sort.Plain t) h = tt
-form-lies es k o (sort.Unsigned w) h = tt
+form-lies es k o (sort.Plain t) h = refl
+form-lies es k o (sort.Unsigned w) h = refl
 form-lies es k o (sort.Named t) h =
     visible-lies es k o (found es o false t.text) (found es 0 false t.text) (λ x e. found-lies (Lies es k) es o false t.text x h e) (λ x e. found-lies (Lies es k) es 0 false t.text x h e)
 
@@ -130,7 +130,7 @@ length-lies (Some (constant.Is (negsuc n))) = omega arith
 length-lies (Some constant.Faulty) = omega arith
 length-lies (Some constant.Open) = omega arith
 
-here : (o n : ℕ) → cond (nat_eq o o) n 0 ≡ n
+pub here : (o n : ℕ) → cond (nat_eq o o) n 0 ≡ n
 here o n = elim (eqb_tells o o) [
   | inl e ↦ ap (λ b. cond b n 0) e.0
   | inr e ↦ absurd (e.1 refl)
@@ -230,3 +230,32 @@ module _ (k : ℕ) (sc : Scope) (laid : IsLaid k sc.names) where
   through-fits (s ∷ ss) (kind.Plain t) w h m = tt
   through-fits (s ∷ ss) (kind.Unsigned b) w h m = tt
   through-fits (s ∷ ss) kind.Unknown w h m = tt
+
+  -- ---- what is reached has the cells of its type
+
+  cells-of : (f : Form) (w : ℕ) → HasForm sc.names k f w → HasCells f w
+  cells-of (kind.Struct t) w h = tt
+  cells-of (kind.Plain t) w h = h
+  cells-of (kind.Unsigned b) w h = h
+  cells-of kind.Unknown w h = h
+
+  into-reaches : (t w : ℕ) (r : Option Thing) (i : Option Value) (rest : Form → Path)
+      → ((x : Thing) → r ≡ Some x → Lies sc.names k t x)
+      → ((f : Form) (v : ℕ) → HasForm sc.names k f v → Reaches (rest f).0 v (rest f).1)
+      → let p = into (Some r) i (kind.Struct t) rest in Reaches p.0 w p.1
+  into-reaches t w None i rest h g = tt
+  into-reaches t w (Some (thing.Variable x)) i rest h g = g x.form x.stride (h (thing.Variable x) refl).form
+  into-reaches t w (Some (thing.Typedef u n)) i rest h g = tt
+  into-reaches t w (Some (thing.Constant n)) i rest h g = tt
+  into-reaches t w (Some (thing.Process p n)) i rest h g = tt
+  into-reaches t w (Some thing.Label) i rest h g = tt
+
+  pub through-reaches : (ss : List Stepped) (f : Form) (w : ℕ) → HasForm sc.names k f w → Reaches (through f ss sc).0 w (through f ss sc).1
+  through-reaches [] f w h = cells-of f w h
+  through-reaches (s ∷ ss) (kind.Struct t) w h =
+      into-reaches t w (found sc.names t false s.name) (s.index sc) (λ g. through g ss sc)
+      (λ x e. found-lies (Lies sc.names k) sc.names t false s.name x laid e)
+      (λ f v hf. through-reaches ss f v hf)
+  through-reaches (s ∷ ss) (kind.Plain t) w h = h
+  through-reaches (s ∷ ss) (kind.Unsigned b) w h = h
+  through-reaches (s ∷ ss) kind.Unknown w h = h

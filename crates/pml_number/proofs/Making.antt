@@ -1,5 +1,5 @@
 -- Values whose parts fit.
-use Rattle.std.proofs.Common.{◌≡◌, ℕ, Bool, ℤ, List, [], ◌∷◌, map, Option, Some, None, refl, ap, sym, subst}
+use Rattle.std.proofs.Common.{◌≡◌, ℕ, ◌<◌, Bool, ℤ, List, [], ◌∷◌, map, Option, Some, None, refl, ap, sym, subst}
 use Rattle.std.specs.List.{AllByRecursion}
 use Rattle.pml_names.specs.declared.thing.Variable.{Variable}
 use Rattle.pml_tree.specs.declared.tree.Fill.{Fill}
@@ -13,20 +13,8 @@ use Rattle.pml_program.specs.declared.value.Want.TheVariants as w
 use Rattle.pml_program.specs.declared.value.Target.{Target, Target-F, map-Target, roll-Target, every_made-Target}
 use Rattle.pml_program.specs.declared.value.Turn.{Turn, Turn-F, map-Turn, roll-Turn, every_made-Turn}
 use Rattle.pml_number.specs.Numbered.{target_of, turn_of}
-use Rattle.pml_number.specs.Layout.{TurnsFit}
-use Rattle.pml_number.specs.Fits.{AnyValue, AnyWant, AnyTurn, ItsTurnsFit, ValueFits, WantFits, TargetFits, TurnFits, IndexFits}
-
-abbrev V : Type 0
-V = (x : Value) × ValueFits x
-
-abbrev W : Type 0
-W = (x : Want) × WantFits x
-
-abbrev T : Type 0
-T = (x : Target) × TargetFits x
-
-abbrev U : Type 0
-U = (x : Turn) × TurnFits x
+use Rattle.pml_program.specs.declared.program.Slot.{Slot}
+use Rattle.pml_number.specs.Fits.{AnyValue, AnyWant, HasElement, ItFits, ValueFits, WantFits, TargetFits, TurnFits, IndexFits}
 
 -- ---- lists of what fits
 
@@ -39,73 +27,89 @@ unfolding paired
 paired-is P [] h = refl
 paired-is {A = A} P (x ∷ xs) h = ap (λ (ys : List A). x ∷ ys) (paired-is P xs h.1)
 
--- ---- values
+module _ (gs ls : List Slot) where
+  abbrev V : Type 0
+  V = (x : Value) × ValueFits gs ls x
 
-value-made : (y : Value-F V W T U) → ValueFits (roll-Value (map-Value V W T U Value Want Target Turn (λ e. e.0) (λ e. e.0) (λ e. e.0) (λ e. e.0) y))
-value-made y = every_made-Value AnyValue AnyWant ItsTurnsFit AnyTurn _ y refl tt
+  abbrev W : Type 0
+  W = (x : Want) × WantFits gs ls x
 
-pub number-fits : (x : ℤ) → ValueFits (v.Number x)
-number-fits x = subst ValueFits (v.rolls-Number x) (value-made (Value-F.Number x))
+  abbrev T : Type 0
+  T = (x : Target) × TargetFits gs ls x
 
-pub process-fits : ValueFits v.Process
-process-fits = subst ValueFits v.rolls-Process (value-made Value-F.Process)
+  abbrev U : Type 0
+  U = (x : Turn) × TurnFits gs ls x
 
-pub living-fits : ValueFits v.Living
-living-fits = subst ValueFits v.rolls-Living (value-made Value-F.Living)
+  -- ---- values
 
-pub timeout-fits : ValueFits v.Timeout
-timeout-fits = subst ValueFits v.rolls-Timeout (value-made Value-F.Timeout)
+  value-made : (y : Value-F V W T U) → ValueFits gs ls (roll-Value (map-Value V W T U Value Want Target Turn (λ e. e.0) (λ e. e.0) (λ e. e.0) (λ e. e.0) y))
+  value-made y = every_made-Value AnyValue AnyWant (ItFits gs ls) HasElement _ y refl tt
 
-pub read-fits : (t : Target) → TargetFits t → ValueFits (v.Read t)
-read-fits t h = subst ValueFits (v.rolls-Read t) (value-made (Value-F.Read (t, h)))
+  pub number-fits : (x : ℤ) → ValueFits gs ls (v.Number x)
+  number-fits x = subst (ValueFits gs ls) (v.rolls-Number x) (value-made (Value-F.Number x))
 
-pub ask-fits : (f : Fill) (t : Target) → TargetFits t → ValueFits (v.Ask f t)
-ask-fits f t h = subst ValueFits (v.rolls-Ask f t) (value-made (Value-F.Ask f (t, h)))
+  pub process-fits : ValueFits gs ls v.Process
+  process-fits = subst (ValueFits gs ls) v.rolls-Process (value-made Value-F.Process)
 
-pub poll-fits : (t : Target) (any : Bool) (ws : List Want) → TargetFits t → AllByRecursion WantFits ws → ValueFits (v.Poll t any ws)
-poll-fits t any ws h g =
-    subst (λ (us : List Want). ValueFits (v.Poll t any us)) (paired-is WantFits ws g)
-    (subst ValueFits (v.rolls-Poll t any (map (λ (e : W). e.0) (paired WantFits ws g))) (value-made (Value-F.Poll (t, h) any (paired WantFits ws g))))
+  pub living-fits : ValueFits gs ls v.Living
+  living-fits = subst (ValueFits gs ls) v.rolls-Living (value-made Value-F.Living)
 
-pub unary-fits : (op : Prefix) (a : Value) → ValueFits a → ValueFits (v.Unary op a)
-unary-fits op a h = subst ValueFits (v.rolls-Unary op a) (value-made (Value-F.Unary op (a, h)))
+  pub timeout-fits : ValueFits gs ls v.Timeout
+  timeout-fits = subst (ValueFits gs ls) v.rolls-Timeout (value-made Value-F.Timeout)
 
-pub binary-fits : (op : Infix) (a b : Value) → ValueFits a → ValueFits b → ValueFits (v.Binary op a b)
-binary-fits op a b h g = subst ValueFits (v.rolls-Binary op a b) (value-made (Value-F.Binary op (a, h) (b, g)))
+  pub read-fits : (t : Target) → TargetFits gs ls t → ValueFits gs ls (v.Read t)
+  read-fits t h = subst (ValueFits gs ls) (v.rolls-Read t) (value-made (Value-F.Read (t, h)))
 
-pub choice-fits : (a b c : Value) → ValueFits a → ValueFits b → ValueFits c → ValueFits (v.Choice a b c)
-choice-fits a b c h g f = subst ValueFits (v.rolls-Choice a b c) (value-made (Value-F.Choice (a, h) (b, g) (c, f)))
+  pub ask-fits : (f : Fill) (t : Target) → TargetFits gs ls t → ValueFits gs ls (v.Ask f t)
+  ask-fits f t h = subst (ValueFits gs ls) (v.rolls-Ask f t) (value-made (Value-F.Ask f (t, h)))
 
--- ---- what is asked of fields
+  pub poll-fits : (t : Target) (any : Bool) (ws : List Want) → TargetFits gs ls t → AllByRecursion (WantFits gs ls) ws → ValueFits gs ls (v.Poll t any ws)
+  poll-fits t any ws h g =
+      subst (λ (us : List Want). (ValueFits gs ls) (v.Poll t any us)) (paired-is (WantFits gs ls) ws g)
+      (subst (ValueFits gs ls) (v.rolls-Poll t any (map (λ (e : W). e.0) (paired (WantFits gs ls) ws g))) (value-made (Value-F.Poll (t, h) any (paired (WantFits gs ls) ws g))))
 
-want-made : (y : Want-F V W T U) → WantFits (roll-Want (map-Want V W T U Value Want Target Turn (λ e. e.0) (λ e. e.0) (λ e. e.0) (λ e. e.0) y))
-want-made y = every_made-Want AnyValue AnyWant ItsTurnsFit AnyTurn _ y refl tt
+  pub unary-fits : (op : Prefix) (a : Value) → ValueFits gs ls a → ValueFits gs ls (v.Unary op a)
+  unary-fits op a h = subst (ValueFits gs ls) (v.rolls-Unary op a) (value-made (Value-F.Unary op (a, h)))
 
-pub exactly-fits : (x : ℤ) → WantFits (w.Exactly x)
-exactly-fits x = subst WantFits (w.rolls-Exactly x) (want-made (Want-F.Exactly x))
+  pub binary-fits : (op : Infix) (a b : Value) → ValueFits gs ls a → ValueFits gs ls b → ValueFits gs ls (v.Binary op a b)
+  binary-fits op a b h g = subst (ValueFits gs ls) (v.rolls-Binary op a b) (value-made (Value-F.Binary op (a, h) (b, g)))
 
-pub anything-fits : WantFits w.Anything
-anything-fits = subst WantFits w.rolls-Anything (want-made Want-F.Anything)
+  pub choice-fits : (a b c : Value) → ValueFits gs ls a → ValueFits gs ls b → ValueFits gs ls c → ValueFits gs ls (v.Choice a b c)
+  choice-fits a b c h g f = subst (ValueFits gs ls) (v.rolls-Choice a b c) (value-made (Value-F.Choice (a, h) (b, g) (c, f)))
 
-pub equal-fits : (a : Value) → ValueFits a → WantFits (w.Equal a)
-equal-fits a h = subst WantFits (w.rolls-Equal a) (want-made (Want-F.Equal (a, h)))
+  -- ---- what is asked of fields
 
-pub into-fits : (t : Target) → TargetFits t → WantFits (w.Into t)
-into-fits t h = subst WantFits (w.rolls-Into t) (want-made (Want-F.Into (t, h)))
+  want-made : (y : Want-F V W T U) → WantFits gs ls (roll-Want (map-Want V W T U Value Want Target Turn (λ e. e.0) (λ e. e.0) (λ e. e.0) (λ e. e.0) y))
+  want-made y = every_made-Want AnyValue AnyWant (ItFits gs ls) HasElement _ y refl tt
 
--- ---- targets
+  pub exactly-fits : (x : ℤ) → WantFits gs ls (w.Exactly x)
+  exactly-fits x = subst (WantFits gs ls) (w.rolls-Exactly x) (want-made (Want-F.Exactly x))
 
-turn-made : (y : Turn-F V W T U) → TurnFits (roll-Turn (map-Turn V W T U Value Want Target Turn (λ e. e.0) (λ e. e.0) (λ e. e.0) (λ e. e.0) y))
-turn-made y = every_made-Turn AnyValue AnyWant ItsTurnsFit AnyTurn _ y refl tt
+  pub anything-fits : WantFits gs ls w.Anything
+  anything-fits = subst (WantFits gs ls) w.rolls-Anything (want-made Want-F.Anything)
 
-pub turn-fits : (offset : ℕ) (x : Variable) (i : Option Value) → IndexFits i → TurnFits (turn_of offset x i)
-turn-fits offset x None h = turn-made (record { offset = offset; length = x.length; stride = x.stride; index = None })
-turn-fits offset x (Some a) h = turn-made (record { offset = offset; length = x.length; stride = x.stride; index = Some (a, h) })
+  pub equal-fits : (a : Value) → ValueFits gs ls a → WantFits gs ls (w.Equal a)
+  equal-fits a h = subst (WantFits gs ls) (w.rolls-Equal a) (want-made (Want-F.Equal (a, h)))
 
-target-made : (y : Target-F V W T U) → TurnsFit (map (λ (e : U). e.0) y.turns) → TargetFits (roll-Target (map-Target V W T U Value Want Target Turn (λ e. e.0) (λ e. e.0) (λ e. e.0) (λ e. e.0) y))
-target-made y h = every_made-Target AnyValue AnyWant ItsTurnsFit AnyTurn _ y refl h
+  pub into-fits : (t : Target) → TargetFits gs ls t → WantFits gs ls (w.Into t)
+  into-fits t h = subst (WantFits gs ls) (w.rolls-Into t) (want-made (Want-F.Into (t, h)))
 
-pub target-fits : (local : Bool) (n : ℕ) (f : Form) (ts : List Turn) → AllByRecursion TurnFits ts → TurnsFit ts → TargetFits (target_of local n f ts)
-target-fits local n f ts h g =
-    subst (λ (us : List Turn). TargetFits (target_of local n f us)) (paired-is TurnFits ts h)
-    (target-made (record { local = local; variable = n; form = f; turns = paired TurnFits ts h }) (subst TurnsFit (sym (paired-is TurnFits ts h)) g))
+  -- ---- targets
+
+  turn-made : (y : Turn-F V W T U) → 0 < y.length → TurnFits gs ls (roll-Turn (map-Turn V W T U Value Want Target Turn (λ e. e.0) (λ e. e.0) (λ e. e.0) (λ e. e.0) y))
+  turn-made y h = every_made-Turn AnyValue AnyWant (ItFits gs ls) HasElement _ y refl h
+
+  pub turn-fits : (offset : ℕ) (x : Variable) (i : Option Value) → 0 < x.length → IndexFits gs ls i → TurnFits gs ls (turn_of offset x i)
+  turn-fits offset x None p h = turn-made (record { offset = offset; length = x.length; stride = x.stride; index = None }) p
+  turn-fits offset x (Some a) p h = turn-made (record { offset = offset; length = x.length; stride = x.stride; index = Some (a, h) }) p
+
+  abbrev with_turns : Bool → ℕ → Form → List Turn → Target-F Value Want Target Turn
+  with_turns local n f ts = record { local = local; variable = n; form = f; turns = ts }
+
+  target-made : (y : Target-F V W T U) → ItFits gs ls (with_turns y.local y.variable y.form (map (λ (e : U). e.0) y.turns)) → TargetFits gs ls (roll-Target (map-Target V W T U Value Want Target Turn (λ e. e.0) (λ e. e.0) (λ e. e.0) (λ e. e.0) y))
+  target-made y h = every_made-Target AnyValue AnyWant (ItFits gs ls) HasElement _ y refl h
+
+  pub target-fits : (local : Bool) (n : ℕ) (f : Form) (ts : List Turn) → AllByRecursion (TurnFits gs ls) ts → ItFits gs ls (with_turns local n f ts) → TargetFits gs ls (target_of local n f ts)
+  target-fits local n f ts h g =
+      subst (λ (us : List Turn). TargetFits gs ls (target_of local n f us)) (paired-is (TurnFits gs ls) ts h)
+      (target-made (record { local = local; variable = n; form = f; turns = paired (TurnFits gs ls) ts h }) (subst (λ (us : List Turn). ItFits gs ls (with_turns local n f us)) (sym (paired-is (TurnFits gs ls) ts h)) g))

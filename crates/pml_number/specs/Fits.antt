@@ -1,5 +1,5 @@
--- The places of a checked model stay within their variables.
-use Rattle.std.specs.Prelude.{List, Option, Some, None}
+-- The places of a checked model stay within their variables: gs are the global ones, ls those of the process, or none.
+use Rattle.std.specs.Prelude.{◌<◌, Bool, true, false, List, [], Option, Some, None}
 use Rattle.std.specs.List.{AllByRecursion}
 use Rattle.pml_program.specs.declared.value.Value.{Value, Value-F, every-Value}
 use Rattle.pml_program.specs.declared.value.Want.{Want, Want-F, every-Want}
@@ -18,7 +18,7 @@ use Rattle.pml_program.specs.declared.program.Process.{Process}
 use Rattle.pml_program.specs.declared.program.Program.{Program}
 use Rattle.pml_number.specs.declared.reached.Reached.{Reached}
 use Rattle.pml_number.specs.declared.reached.Reached.TheVariants as r
-use Rattle.pml_number.specs.Layout.{TurnsFit}
+use Rattle.pml_number.specs.Layout.{TurnsFit, IsSlot, EndsIn}
 
 abbrev pub AnyValue : Value-F Value Want Target Turn → Type 0
 AnyValue v = Unit {0}
@@ -26,59 +26,67 @@ AnyValue v = Unit {0}
 abbrev pub AnyWant : Want-F Value Want Target Turn → Type 0
 AnyWant w = Unit {0}
 
-abbrev pub AnyTurn : Turn-F Value Want Target Turn → Type 0
-AnyTurn t = Unit {0}
+abbrev pub HasElement : Turn-F Value Want Target Turn → Type 0
+HasElement t = 0 < t.length
 
-abbrev pub ItsTurnsFit : Target-F Value Want Target Turn → Type 0
-ItsTurnsFit t = TurnsFit t.turns
+-- the global variables, or the local ones
+abbrev pub slots_of : Bool → List Slot → List Slot → List Slot
+slots_of true gs ls = ls
+slots_of false gs ls = gs
+
+-- a target among these global variables and these local ones
+pub record ItFits (gs ls : List Slot) (t : Target-F Value Want Target Turn) : Type 0 where
+  pub turns : TurnsFit t.turns
+  pub slot : IsSlot (slots_of t.local gs ls) t.variable t.turns
+  pub ends : EndsIn t.form t.turns
 
 -- the turns of each target in a value fit, those in its indices too
-abbrev pub ValueFits : Value → Type 0
-ValueFits = every-Value AnyValue AnyWant ItsTurnsFit AnyTurn
+abbrev pub ValueFits : List Slot → List Slot → Value → Type 0
+ValueFits gs ls = every-Value AnyValue AnyWant (ItFits gs ls) HasElement
 
-abbrev pub WantFits : Want → Type 0
-WantFits = every-Want AnyValue AnyWant ItsTurnsFit AnyTurn
+abbrev pub WantFits : List Slot → List Slot → Want → Type 0
+WantFits gs ls = every-Want AnyValue AnyWant (ItFits gs ls) HasElement
 
-abbrev pub TargetFits : Target → Type 0
-TargetFits = every-Target AnyValue AnyWant ItsTurnsFit AnyTurn
+abbrev pub TargetFits : List Slot → List Slot → Target → Type 0
+TargetFits gs ls = every-Target AnyValue AnyWant (ItFits gs ls) HasElement
 
-abbrev pub TurnFits : Turn → Type 0
-TurnFits = every-Turn AnyValue AnyWant ItsTurnsFit AnyTurn
+abbrev pub TurnFits : List Slot → List Slot → Turn → Type 0
+TurnFits gs ls = every-Turn AnyValue AnyWant (ItFits gs ls) HasElement
 
-abbrev pub IndexFits : Option Value → Type 0
-IndexFits None = Unit {0}
-IndexFits (Some v) = ValueFits v
+abbrev pub IndexFits : List Slot → List Slot → Option Value → Type 0
+IndexFits gs ls None = Unit {0}
+IndexFits gs ls (Some v) = ValueFits gs ls v
 
-abbrev pub ReachedFits : Reached → Type 0
-ReachedFits (r.Place t) = TargetFits t
-ReachedFits _ = Unit {0}
+abbrev pub ReachedFits : List Slot → List Slot → Reached → Type 0
+ReachedFits gs ls (r.Place t) = TargetFits gs ls t
+ReachedFits gs ls _ = Unit {0}
 
 -- ---- statements
 
-abbrev pub StoreFits : Option Target → Type 0
-StoreFits None = Unit {0}
-StoreFits (Some t) = TargetFits t
+abbrev pub StoreFits : List Slot → List Slot → Option Target → Type 0
+StoreFits gs ls None = Unit {0}
+StoreFits gs ls (Some t) = TargetFits gs ls t
 
-abbrev pub ValuesFit : List Value → Type 0
-ValuesFit = AllByRecursion ValueFits
+abbrev pub ValuesFit : List Slot → List Slot → List Value → Type 0
+ValuesFit gs ls = AllByRecursion (ValueFits gs ls)
 
-abbrev pub ActionFits : Action → Type 0
-ActionFits a.Else = Unit {0}
-ActionFits (a.Assign t v) = StoreFits t × ValueFits v
-ActionFits (a.AssignRun t q) = StoreFits t × ValuesFit q.arguments
-ActionFits (a.Increment t) = TargetFits t
-ActionFits (a.Decrement t) = TargetFits t
-ActionFits (a.Run q) = ValuesFit q.arguments
-ActionFits (a.Send t sorted vs) = TargetFits t × ValuesFit vs
-ActionFits (a.Receive t any kept ws) = TargetFits t × AllByRecursion WantFits ws
-ActionFits (a.Printf s vs) = ValuesFit vs
-ActionFits (a.Printm v) = ValueFits v
-ActionFits (a.Assert v) = ValueFits v
-ActionFits (a.Holds v) = ValueFits v
+abbrev pub ActionFits : List Slot → List Slot → Action → Type 0
+ActionFits gs ls a.Else = Unit {0}
+ActionFits gs ls (a.Assign t v) = StoreFits gs ls t × ValueFits gs ls v
+ActionFits gs ls (a.AssignRun t q) = StoreFits gs ls t × ValuesFit gs ls q.arguments
+ActionFits gs ls (a.Increment t) = TargetFits gs ls t
+ActionFits gs ls (a.Decrement t) = TargetFits gs ls t
+ActionFits gs ls (a.Run q) = ValuesFit gs ls q.arguments
+ActionFits gs ls (a.Send t sorted vs) = TargetFits gs ls t × ValuesFit gs ls vs
+ActionFits gs ls (a.Receive t any kept ws) = TargetFits gs ls t × AllByRecursion (WantFits gs ls) ws
+ActionFits gs ls (a.Printf s vs) = ValuesFit gs ls vs
+ActionFits gs ls (a.Printm v) = ValueFits gs ls v
+ActionFits gs ls (a.Assert v) = ValueFits gs ls v
+ActionFits gs ls (a.Holds v) = ValueFits gs ls v
 
-abbrev pub ItsActionFits : Basic-F Basic Seq Stmt → Type 0
-ItsActionFits (Basic-F.Plain x) = ActionFits x
-ItsActionFits _ = Unit {0}
+abbrev pub ItsActionFits : List Slot → List Slot → Basic-F Basic Seq Stmt → Type 0
+ItsActionFits gs ls (Basic-F.Plain x) = ActionFits gs ls x
+ItsActionFits gs ls _ = Unit {0}
 
 abbrev pub AnySeq : Seq-F Basic Seq Stmt → Type 0
 AnySeq s = Unit {0}
@@ -87,32 +95,36 @@ abbrev pub AnyStmt : Stmt-F Basic Seq Stmt → Type 0
 AnyStmt s = Unit {0}
 
 -- each action in a body fits
-abbrev pub SeqFits : Seq → Type 0
-SeqFits = every-Seq ItsActionFits AnySeq AnyStmt
+abbrev pub SeqFits : List Slot → List Slot → Seq → Type 0
+SeqFits gs ls = every-Seq (ItsActionFits gs ls) AnySeq AnyStmt
 
-abbrev pub BasicFits : Basic → Type 0
-BasicFits = every-Basic ItsActionFits AnySeq AnyStmt
+abbrev pub BasicFits : List Slot → List Slot → Basic → Type 0
+BasicFits gs ls = every-Basic (ItsActionFits gs ls) AnySeq AnyStmt
 
-abbrev pub StmtFits : Stmt → Type 0
-StmtFits = every-Stmt ItsActionFits AnySeq AnyStmt
+abbrev pub StmtFits : List Slot → List Slot → Stmt → Type 0
+StmtFits gs ls = every-Stmt (ItsActionFits gs ls) AnySeq AnyStmt
 
 -- ---- the whole model
 
-abbrev pub InitialFits : Initial → Type 0
-InitialFits (i.Value v) = ValueFits v
-InitialFits _ = Unit {0}
+abbrev pub InitialFits : List Slot → List Slot → Initial → Type 0
+InitialFits gs ls (i.Value v) = ValueFits gs ls v
+InitialFits gs ls _ = Unit {0}
 
-abbrev pub SlotsFit : List Slot → Type 0
-SlotsFit = AllByRecursion (λ (s : Slot). InitialFits s.initial)
+abbrev pub SlotsFit : List Slot → List Slot → List Slot → Type 0
+SlotsFit gs ls = AllByRecursion (λ (s : Slot). InitialFits gs ls s.initial)
 
-abbrev pub ProcessFits : Process → Type 0
-ProcessFits p = SlotsFit p.variables × SeqFits p.body
+abbrev pub ProcessFits : List Slot → Process → Type 0
+ProcessFits gs p = SlotsFit gs p.variables p.variables × SeqFits gs p.variables p.body
 
-abbrev pub FieldsFit : Fields → Type 0
-FieldsFit f = SlotsFit f.fields
+abbrev pub FieldsFit : List Slot → Fields → Type 0
+FieldsFit gs f = SlotsFit gs [] f.fields
+
+-- the parts of a model, among these global variables
+pub record PartsFit (gs : List Slot) (p : Program) : Type 0 where
+  pub globals : SlotsFit gs [] p.globals
+  pub typedefs : AllByRecursion (FieldsFit gs) p.typedefs
+  pub processes : AllByRecursion (ProcessFits gs) p.processes
 
 -- the turns of each target that a model reads, stores to or names as a channel fit
-pub record ProgramFits (p : Program) : Type 0 where
-  pub globals : SlotsFit p.globals
-  pub typedefs : AllByRecursion FieldsFit p.typedefs
-  pub processes : AllByRecursion ProcessFits p.processes
+abbrev pub ProgramFits : Program → Type 0
+ProgramFits p = PartsFit p.globals p

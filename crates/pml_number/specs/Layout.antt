@@ -1,5 +1,5 @@
 -- Where variables lie among the cells of their owners, and fields among those of their typedefs.
-use Rattle.std.specs.Prelude.{◌≡◌, ℕ, ◌+◌, ◌*◌, ◌<◌, ◌≤◌, min, List, [], ◌∷◌}
+use Rattle.std.specs.Prelude.{◌≡◌, ℕ, ◌+◌, ◌*◌, ◌<◌, ◌≤◌, min, List, [], ◌∷◌, slice_get, Some}
 use Rattle.std.specs.List.{AllByRecursion}
 use Rattle.pml_names.specs.Entry.{Entry}
 use Rattle.pml_names.specs.Env.{held, most_cells, env}
@@ -9,6 +9,7 @@ use Rattle.pml_names.specs.declared.thing.Variable.{Variable}
 use Rattle.pml_program.specs.declared.form.Form.{Form}
 use Rattle.pml_program.specs.declared.form.Form.TheVariants as kind
 use Rattle.pml_program.specs.declared.value.Turn.{Turn, out-Turn}
+use Rattle.pml_program.specs.declared.program.Slot.{Slot}
 use Rattle.pml_tree.specs.declared.tree.Tree.{Tree}
 use Rattle.pml_marks.specs.Marks.{of_tree}
 use Rattle.pml_number.specs.Model.{made, no_program, with_units}
@@ -23,10 +24,10 @@ pub record IsTypedef (es : List Entry) (k t cells : ℕ) : Type 0 where
   pub closed : t < k
   pub total : cells ≡ min (held es t) most_cells
 
--- an element of a typedef's type has the cells of its fields
+-- an element of a typedef's type has the cells of its fields, and each other one cell
 abbrev pub HasForm : List Entry → ℕ → Form → ℕ → Type 0
 HasForm es k (kind.Struct t) stride = IsTypedef es k t stride
-HasForm es k _ stride = Unit {0}
+HasForm es k _ stride = stride ≡ 1
 
 -- A variable has an element at least, and lies within its owner's cells, where these are not too many.
 pub record IsPlaced (es : List Entry) (k o : ℕ) (x : Variable) : Type 0 where
@@ -52,6 +53,25 @@ Within cells (t ∷ ts) = ((out-Turn t).offset + (out-Turn t).length * (out-Turn
 abbrev pub TurnsFit : List Turn → Type 0
 TurnsFit [] = Unit {0}
 TurnsFit (t ∷ ts) = ((out-Turn t).offset ≡ 0) × ((out-Turn t).stride < most_cells → Within (out-Turn t).stride ts)
+
+-- the first turn has as many elements as the variable's slot, of as many cells
+abbrev pub IsSlot : List Slot → ℕ → List Turn → Type 0
+IsSlot ss n [] = Unit {0}
+IsSlot ss n (t ∷ ts) = (s : Slot) × (slice_get ss n ≡ Some s) × ((out-Turn t).length ≡ s.length) × ((out-Turn t).stride ≡ s.stride)
+
+-- an element of this type has one cell, where the type is no typedef's
+abbrev pub HasCells : Form → ℕ → Type 0
+HasCells (kind.Struct t) stride = Unit {0}
+HasCells _ stride = stride ≡ 1
+
+-- what is reached behind elements of so many cells has the cells of this type
+abbrev pub Reaches : Form → ℕ → List Turn → Type 0
+Reaches f stride [] = HasCells f stride
+Reaches f stride (t ∷ ts) = Reaches f (out-Turn t).stride ts
+
+abbrev pub EndsIn : Form → List Turn → Type 0
+EndsIn f [] = Unit {0}
+EndsIn f (t ∷ ts) = Reaches f (out-Turn t).stride ts
 
 -- the names behind the units of a model, as they are numbered
 abbrev pub names_of : Tree → List Entry

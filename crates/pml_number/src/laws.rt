@@ -12,8 +12,9 @@ pub fn names_are_laid()
     ensures { (t : Tree) → (k : ℕ) × IsLaid k (names_of t) }
 {}
 
-/// In a model, the fields behind a variable stay within one element of it, each within one element of what it is a field of, where
-/// an element has at most 1,000,000 cells. That the first turn is as the variable's slot says is not said here.
+/// In a model, a reference begins with a variable of the globals, or of its process, whose slot has as many elements of as many
+/// cells as its first turn. The fields behind it stay within one element, each within one element of what it is a field of, where an
+/// element has at most 1,000,000 cells. Each turn has an element at least, and what is reached has one cell, where it is no typedef's.
 pub fn places_fit()
     ensures { (t : Tree) → ProgramFits (numbered_model t) }
 {}
