@@ -36,11 +36,13 @@ abbrev pub with_all : App → List Rule → App
 with_all a [] = a
 with_all a (r ∷ rs) = with_all (with_rule a r) rs
 
--- `spinplay [-i] [-p] [-T] [-uN] [--choices FILE] [--record FILE] MODEL`
+-- `spinplay [-i] [-p] [-g] [-l] [-T] [-uN] [--choices FILE] [--record FILE] MODEL`
 unfoldable pub command_line : App
 command_line = with_all (new_app (codes "spinplay")) (
     counted_letter (codes "i") 105
     ∷ counted_letter (codes "p") 112
+    ∷ counted_letter (codes "g") 103
+    ∷ counted_letter (codes "l") 108
     ∷ counted_letter (codes "T") 84
     ∷ limit_rule
     ∷ file_rule (codes "choices")
@@ -51,8 +53,8 @@ command_line = with_all (new_app (codes "spinplay")) (
 -- the ids of the arguments, in their order
 abbrev pub ids : List Text
 ids =
-    codes "i" ∷ codes "p" ∷ codes "T" ∷ codes "u" ∷ codes "choices"
-    ∷ codes "record" ∷ codes "MODEL" ∷ []
+    codes "i" ∷ codes "p" ∷ codes "g" ∷ codes "l" ∷ codes "T" ∷ codes "u"
+    ∷ codes "choices" ∷ codes "record" ∷ codes "MODEL" ∷ []
 
 -- the argument excludes no other, belongs to this command alone and has this id
 abbrev pub IsArgument : Text → Arg → Type 0
@@ -69,4 +71,4 @@ pub record IsCommandLine (c : Command) : Type 0 where
   pub in_turn : AddsInTurn AddsArg start added c
   pub plain : All (λ a. IsPlainArg a × (a.global ≡ false)) added
   pub ids : map (λ a. a.id.now) added ≡ ids
-  pub model : (d : Arg) → TakesValue (slice_index_or added 6 d)
+  pub model : (d : Arg) → TakesValue (slice_index_or added 8 d)

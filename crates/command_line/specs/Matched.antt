@@ -1,5 +1,5 @@
 -- What `arguments` hands out, by the matches of `clap`.
-use Rattle.std.specs.Prelude.{◌≡◌, ◌<◌, ◌^◌, ◌↔◌, ◌⊎◌, ℕ, List, Option, Some, IsTrue, false, codes, option_map}
+use Rattle.std.specs.Prelude.{◌≡◌, ◌<◌, ◌^◌, ◌↔◌, ◌⊎◌, ℕ, List, Option, Some, IsTrue, codes, option_map}
 use Rattle.std.specs.String.{string_bytes}
 use Rattle.std.specs.Str.Parse.{IsNumeral, digits_value, without_leading_plus}
 use Rattle.clap.specs.Words.{Row, Text, count_of, first_of, one_of}
@@ -16,8 +16,8 @@ IsLimit text n = ((t : Text) × (text ≡ Some t) × Spells t n) ⊎ (((t : Text
 -- These arguments are what the matches of the words hold.
 pub record IsReadFrom (rows : List Row) (a : Arguments) : Type 0 where
   pub steps : IsTrue a.options.steps ↔ (0 < count_of (codes "p") rows)
-  pub globals : a.options.globals ≡ false
-  pub locals : a.options.locals ≡ false
+  pub globals : IsTrue a.options.globals ↔ (0 < count_of (codes "g") rows)
+  pub locals : IsTrue a.options.locals ↔ (0 < count_of (codes "l") rows)
   pub limit : IsLimit (one_of (codes "u") rows) a.options.limit
   pub model : first_of (codes "MODEL") rows ≡ Some (string_bytes a.model)
   pub choices : first_of (codes "choices") rows ≡ option_map string_bytes a.choices

@@ -70,6 +70,18 @@ fn command<'a>(alloc: Global) -> Result<Command<'a>, AllocError>
     Command::new(alloc, "spinplay")
         .arg(flag(alloc, "i", 'i', "Accepted, and changes nothing"))?
         .arg(flag(alloc, "p", 'p', "Show each step"))?
+        .arg(flag(
+            alloc,
+            "g",
+            'g',
+            "Show each global variable that a step changed",
+        ))?
+        .arg(flag(
+            alloc,
+            "l",
+            'l',
+            "Show each local variable that a step changed",
+        ))?
         .arg(flag(alloc, "T", 'T', "Accepted, and changes nothing"))?
         .arg(limit(alloc))?
         .arg(file(alloc, "choices", "Read the choices from FILE"))?
@@ -96,8 +108,8 @@ pub fn arguments<'a>(alloc: Global, words: &'a [&'a str]) -> Result<Arguments, E
     let model = String::from_str(alloc, matches.get_str("MODEL").unwrap())?;
     let options = Options {
         steps: matches.get_count("p") > 0,
-        globals: false,
-        locals: false,
+        globals: matches.get_count("g") > 0,
+        locals: matches.get_count("l") > 0,
         limit: matches.get_one::<u32>("u").unwrap_or(USUAL_LIMIT),
     };
     let choices = text_of(alloc, &matches, "choices")?;

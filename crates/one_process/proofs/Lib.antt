@@ -2,4 +2,3 @@ pub mod Lines
 pub mod Silent
 pub mod Outcomes
 pub mod Playing
-mod Rows

@@ -15,16 +15,15 @@ use Rattle.pml_syntax.specs.Grammar.{Spells}
 use Rattle.pml_syntax.proofs.Whole as trees
 use Rattle.pml_number.specs.Model.{numbered_model}
 use Rattle.pml_marks.specs.declared.mark.Mark.{Mark}
-use Rattle.pml_program.specs.declared.program.Process.{Process}
+use Rattle.pml_program.specs.declared.program.Program.{Program}
 use Rattle.pml_check.specs.Judged.{all_judged, IsFit, IsLeast, IsFirst}
 use Rattle.pml_check.proofs.Exclusive.{one_first, none_first}
-use Rattle.one_process_model.specs.declared.model.OneProcess.{OneProcess}
-use Rattle.one_process_model.specs.Served.{served}
+use Rattle.pml_sim.specs.State.{State}
+use Rattle.pml_sim.specs.World.{rules}
+use Rattle.pml_sim.proofs.Moves.{few_moves}
 use Rattle.session.specs.Replay.{CanBeReplayed}
 use Rattle.session.proofs.CutShort.{can_be_replayed, refused_can_be_replayed, not_served_can_be_replayed}
-use Rattle.one_process.specs.Engine.{first, rules}
-use Rattle.one_process.proofs.Silent.{few_moves}
-use Rattle.one_process.specs.Transcript.{IsSpelled, IsModel, IsUnspelled, IsUnserved, IsRefused, too_long, lexical, left_out, too_deep, unspelled, unfit, IsTranscript, HasLine, of_unserved, of_refusal, of_model}
+use Rattle.one_process.specs.Transcript.{begins, IsSpelled, IsModel, IsUnspelled, IsUnserved, IsRefused, too_long, lexical, left_out, too_deep, unspelled, unfit, IsTranscript, HasLine, of_unserved, of_refusal, of_model}
 
 some_is : {A : Type 0} {x y : A} → ◌≡◌ {A = Option A} (Some x) (Some y) → x ≡ y
 some_is h = cc
@@ -34,14 +33,14 @@ abbrev NoLines : List ℕ → List Refusal → Type 0
 NoLines text [] = Unit {0}
 NoLines text (x ∷ xs) = HasLine text x 0 × NoLines text xs
 
-first_line : (text : List ℕ) (xs : List Refusal) (ms : List Mark) (ps : List Process) (x : Refusal) → NoLines text xs → IsFirst xs ms ps x → HasLine text x 0
+first_line : (text : List ℕ) (xs : List Refusal) (ms : List Mark) (ps : Program) (x : Refusal) → NoLines text xs → IsFirst xs ms ps x → HasLine text x 0
 first_line text [] ms ps x n h = absurd h
 first_line text (y ∷ ys) ms ps x n (inl h) = subst (λ (z : Refusal). HasLine text z 0) h.0 n.0
 first_line text (y ∷ ys) ms ps x n (inr h) = first_line text ys ms ps x n.1 h.1
 
 -- a condition on the tree has no line
 condition_line : (text : List ℕ) (t : Tree) (x : Refusal) → IsLeast t x → HasLine text x 0
-condition_line text t x h = first_line text all_judged _ _ x (refl, (refl, (refl, (refl, (refl, (refl, (refl, (refl, (refl, (refl, (refl, (refl, tt)))))))))))) h
+condition_line text t x h = first_line text all_judged _ _ x (refl, (refl, (refl, (refl, (refl, (refl, (refl, (refl, (refl, (refl, (refl, (refl, (refl, tt))))))))))))) h
 
 module _ {text : List ℕ} where
   same_tokens : {ts us : List Word} → AreTokens text ts → AreTokens text us → ts ≡ us
@@ -130,19 +129,19 @@ module _ {text : List ℕ} where
   no_fit (unspelled h) is fits = not_unspelled is h
   no_fit {a} (unfit h) is fits = none_first all_judged _ _ a fits (subst (λ (t : Tree). IsLeast t a) (same_tree h.is_spelled is) h.least)
 
-  pub no_model : {a : Refusal} {m : ℕ} {model : OneProcess} → IsRefused text a m → IsModel text model → ⊥
+  pub no_model : {a : Refusal} {m : ℕ} {model : State} → IsRefused text a m → IsModel text model → ⊥
   no_model h m = no_fit h m.is_spelled m.fits
 
   pub not_both : {a : Refusal} {m : ℕ} → IsRefused text a m → IsUnserved text → ⊥
   not_both h u = no_fit h u.is_spelled u.fits
 
-  same_served : {t u : Tree} → IsSpelled text t → IsSpelled text u → served (numbered_model t) ≡ served (numbered_model u)
-  same_served a b = ap (λ (t : Tree). served (numbered_model t)) (same_tree a b)
+  same_served : {t u : Tree} → IsSpelled text t → IsSpelled text u → begins (numbered_model t) ≡ begins (numbered_model u)
+  same_served a b = ap (λ (t : Tree). begins (numbered_model t)) (same_tree a b)
 
-  pub model_is_served : {model : OneProcess} → IsModel text model → IsUnserved text → ⊥
+  pub model_is_served : {model : State} → IsModel text model → IsUnserved text → ⊥
   model_is_served m u = let e = sym m.is ∙ same_served m.is_spelled u.is_spelled ∙ u.none in absurd cc
 
-  pub one_model : {a b : OneProcess} → IsModel text a → IsModel text b → a ≡ b
+  pub one_model : {a b : State} → IsModel text a → IsModel text b → a ≡ b
   one_model {a} {b} m n = some_is (sym m.is ∙ same_served m.is_spelled n.is_spelled ∙ n.is)
 
   pub line_of : {a : Refusal} {line : ℕ} → IsRefused text a line → HasLine text a line
@@ -158,10 +157,10 @@ module _ {text : List ℕ} where
   when_refused h (of_refusal {line} g) = (line, ap (λ (x : Refusal). refused x line false) (one_refusal g h))
   when_refused h (of_model g) = absurd (no_model h g)
 
-  pub when_modelled : {options : Options} {part : List ℕ → Part End} {model : OneProcess} → IsModel text model → IsTranscript text options part → part ≡ transcript rules options (first model)
+  pub when_modelled : {options : Options} {part : List ℕ → Part End} {model : State} → IsModel text model → IsTranscript text options part → part ≡ transcript rules options model
   when_modelled h (of_unserved u) = absurd (model_is_served h u)
   when_modelled h (of_refusal g) = absurd (no_model g h)
-  when_modelled {options} h (of_model g) = ap (λ (x : OneProcess). transcript rules options (first x)) (one_model g h)
+  when_modelled {options} h (of_model g) = ap (λ (x : State). transcript rules options x) (one_model g h)
 
   pub when_unserved : {options : Options} {part : List ℕ → Part End} → IsUnserved text → IsTranscript text options part → part ≡ not_served false
   when_unserved h (of_unserved u) = refl
@@ -175,4 +174,4 @@ few h = omega arith
 pub replays : {text : List ℕ} {options : Options} {part : List ℕ → Part End} → IsTranscript text options part → CanBeReplayed part
 replays (of_unserved h) = not_served_can_be_replayed
 replays (of_refusal {refusal} {line} h) = refused_can_be_replayed refusal line
-replays {options} (of_model {model} h) = can_be_replayed rules options (first model) (λ s. few (few_moves s))
+replays {options} (of_model {state} h) = can_be_replayed rules options state (λ s. few (few_moves s))

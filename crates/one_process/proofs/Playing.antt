@@ -1,8 +1,9 @@
 -- From what the parts of playing a text answer to what the whole does.
-use Rattle.std.proofs.Common.{◌≡◌, ℕ, ◌≤◌, List, [], Option, Some, Bool, false, Result, Ok, Err, IfOk, IfErr, refl, sym, subst, arith}
+use Rattle.std.proofs.Common.{◌≡◌, ℕ, ◌≤◌, List, [], Option, Some, Bool, false, Result, Ok, Err, IfOk, IfErr, refl, sym, ap, ◌∙◌, subst, arith}
 use Rattle.std.specs.Prelude.{All}
 use Rattle.std.specs.Io.KnownBytes.{Appends}
 use Rattle.std.proofs.KnownBytes.{Appends-nil}
+use Rattle.diagnostics.specs.declared.fault.Fault.{Fault}
 use Rattle.diagnostics.specs.declared.refusal.Refusal.{Refusal}
 use Rattle.session.specs.declared.Options.{Options}
 use Rattle.session.specs.declared.End.{End}
@@ -29,13 +30,19 @@ use Rattle.pml_syntax.specs.Answer.{Answers}
 use Rattle.pml_check.specs.declared.checked.CheckFault.{CheckFault}
 use Rattle.pml_check.specs.declared.checked.CheckFault.TheVariants as check
 use Rattle.pml_check.specs.Checked.{IsRefused}
-use Rattle.one_process_model.specs.declared.model.OneProcess.{OneProcess}
+use Rattle.pml_check.specs.Judged.{FitsTo, HasGoodStart, IsFit}
+use Rattle.pml_program.specs.declared.program.Program.{Program}
+use Rattle.pml_number.specs.Model.{numbered_model}
+use Rattle.pml_value.specs.declared.stop.Stop.{Stop}
+use Rattle.pml_value.specs.declared.stop.Stop.TheVariants as stop
+use Rattle.pml_start.specs.Begin.{Begun}
+use Rattle.pml_start.specs.Start.{Starts, first_state}
 use Rattle.one_process.specs.declared.whole.Rejection.{Rejection}
 use Rattle.one_process.specs.declared.whole.Rejection.TheVariants.{Memory, NotServed, Refused}
-use Rattle.one_process.specs.State.{State}
-use Rattle.one_process.specs.Engine.{first, rules}
+use Rattle.pml_sim.specs.State.{State}
+use Rattle.pml_sim.specs.World.{rules}
 use Rattle.one_process.specs.Transcript.{IsSpelled, IsModel, too_long, lexical, left_out, too_deep, unspelled, unfit, IsTranscript, of_unserved, of_refusal, of_model}
-use Rattle.one_process.specs.Plays.{IsRejected, of_lexical, of_syntax, of_check, Rejects, PlaysWhole}
+use Rattle.one_process.specs.Plays.{IsReady, IsRejected, of_lexical, of_syntax, of_check, Rejects, PlaysWhole}
 use Rattle.one_process.proofs.Lines.{token_lines}
 use Rattle.one_process.proofs.Outcomes.{when_refused, when_unserved, when_modelled}
 
@@ -56,6 +63,21 @@ rejected_syntax text ts (syntax.Syntax at) are none line = unspelled (record { t
 pub rejected_check : (text : List ℕ) (t : Tree) (fault : CheckFault) → IsSpelled text t → IsRefused t fault → IsRejected text (of_check fault)
 rejected_check text t check.Memory is h = tt
 rejected_check text t (check.Refused r) is h = unfit (record { tree = t; is_spelled = is; least = h })
+
+-- ---- the first state
+
+-- in a tree that fits, no initialiser of the first state has a fault
+good_start : (t : Tree) → IsFit t → HasGoodStart (numbered_model t)
+unfolding FitsTo
+good_start t f = f.1.1.1.1.1.1.1.1.1.1.1.1.0.1
+
+no_fault : (b : Begun) (d : Result Begun Fault) (e : Stop) (f : Fault) → d ≡ Ok b → e ≡ stop.Fault f → Starts d (Err e) → ⊥
+no_fault b d e f is of h = subst (λ (k : Stop). Starts (Ok b) (Err k)) of (subst (λ (x : Result Begun Fault). Starts x (Err e)) is h)
+
+pub no_start_fault : (text : List ℕ) (p q : Program) (e : Stop) (f : Fault) → IsReady text p → q ≡ p → e ≡ stop.Fault f → Starts (first_state q) (Err e) → ⊥
+no_start_fault text p q e f ready same of h =
+    let start = good_start ready.tree ready.fits in
+    no_fault start.0 (first_state q) e f (ap first_state (same ∙ ready.is) ∙ start.1) of h
 
 -- ---- a rejected text
 
@@ -110,18 +132,12 @@ module _ (text : List ℕ) (options : Options) (s : List ℕ → Type 0) (o o' k
 -- ---- a model
 
 module _ (text : List ℕ) (options : Options) (s s' : List ℕ → Type 0) (o o' k k' : Option (List ℕ)) (n : ℕ) where
-  pub model_plays : (result : Result End Broken) (model : OneProcess) (state : State) → state ≡ first model → IsModel text model
+  pub model_plays : (result : Result End Broken) (state : State) → IsModel text state
       → IfOk result (λ end. (over : Bool) × Does s s' o o' k k' 0 n (transcript rules options state) end over) → IfOk result (PlaysWhole text options s s' o o' k k' 0 n)
-  model_plays (Err e) model state starts is h = tt
-  model_plays (Ok end) model state starts is h = record {
-    part = transcript rules options (first model);
-    is_transcript = of_model is;
-    over = h.0;
-    does = subst (λ (x : State). Does s s' o o' k k' 0 n (transcript rules options x) end h.0) starts h.1;
-  }
+  model_plays (Err e) state is h = tt
+  model_plays (Ok end) state is h = record { part = transcript rules options state; is_transcript = of_model is; over = h.0; does = h.1 }
 
-  pub model_breaks : (result : Result End Broken) (model : OneProcess) (state : State) → state ≡ first model → IsModel text model
+  pub model_breaks : (result : Result End Broken) (state : State) → IsModel text state
       → IfErr result (λ e. Breaks e s s' o o' k k' 0 n (transcript rules options state)) → IfErr result (λ e. (part : List ℕ → Part End) → IsTranscript text options part → Breaks e s s' o o' k k' 0 n part)
-  model_breaks (Ok end) model state starts is h = tt
-  model_breaks (Err e) model state starts is h = λ part given.
-      subst (λ (x : List ℕ → Part End). Breaks e s s' o o' k k' 0 n x) (sym (when_modelled is given)) (subst (λ (x : State). Breaks e s s' o o' k k' 0 n (transcript rules options x)) starts h)
+  model_breaks (Ok end) state is h = tt
+  model_breaks (Err e) state is h = λ part given. subst (λ (x : List ℕ → Part End). Breaks e s s' o o' k k' 0 n x) (sym (when_modelled is given)) h

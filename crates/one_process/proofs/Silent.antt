@@ -13,9 +13,9 @@ use Rattle.session.specs.Machine.{Rules, Outcome, Goes, Faults}
 use Rattle.session.specs.Session.{select, stepped, stopped, answered, at_moves, story, transcript}
 use Rattle.session.specs.Stands.{Gave, Begins, Does, Breaks}
 use Rattle.session.proofs.Parts.{front-append, recorded-append}
-use Rattle.one_process.specs.declared.engine.OnlyMove.{OnlyMove}
-use Rattle.one_process.specs.State.{State}
-use Rattle.one_process.specs.Engine.{can_move, moves, rules}
+use Rattle.pml_sim.specs.State.{State}
+use Rattle.pml_sim.specs.World.{rules}
+use Rattle.pml_sim.proofs.Moves.{few_moves}
 
 record IsSilent (events : List Event) : Type 0 where
   no_byte : front events ≡ []
@@ -44,14 +44,6 @@ module _ {S M : Type 0} (rules : Rules S M) (options : Options) where
   unfolding story
   story_silent few zero s steps over rest = limit_silent s steps over rest (rules.moves s)
   story_silent few (suc fuel) s steps over rest = turn_silent s steps over rest (λ t o r. story rules options fuel t (steps + 1) o r) (λ t o r. story_silent few fuel t (steps + 1) o r) (rules.moves s) (few s)
-
-one_if : (b : Bool) → length {A = OnlyMove} (if b then record {} ∷ [] else []) ≤ 1
-one_if true = omega arith
-one_if false = omega arith
-
--- a state of the process has one move at most
-pub few_moves : (s : State) → length (moves s) ≤ 1
-few_moves s = one_if (can_move s)
 
 -- ---- what was done
 

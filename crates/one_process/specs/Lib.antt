@@ -1,6 +1,2 @@
-pub mod Values
-pub mod Texts
-pub mod State
-pub mod Engine
 pub mod Transcript
 pub mod Plays

@@ -15,11 +15,15 @@ use Rattle.pml_lex.specs.declared.fault.LexFault.{LexFault}
 use Rattle.pml_lex.specs.declared.fault.LexFault.TheVariants as lex
 use Rattle.pml_syntax.specs.declared.program.SyntaxFault.{SyntaxFault}
 use Rattle.pml_syntax.specs.declared.program.SyntaxFault.TheVariants as syntax
+use Rattle.pml_tree.specs.declared.tree.Tree.{Tree}
+use Rattle.pml_program.specs.declared.program.Program.{Program}
+use Rattle.pml_number.specs.Model.{numbered_model}
+use Rattle.pml_check.specs.Judged.{IsFit}
 use Rattle.pml_check.specs.declared.checked.CheckFault.{CheckFault}
 use Rattle.pml_check.specs.declared.checked.CheckFault.TheVariants as check
 use Rattle.one_process.specs.declared.whole.Rejection.{Rejection}
 use Rattle.one_process.specs.declared.whole.Rejection.TheVariants.{Memory, NotServed, Refused}
-use Rattle.one_process.specs.Transcript.{IsRefused, IsUnserved, IsTranscript}
+use Rattle.one_process.specs.Transcript.{IsSpelled, IsRefused, IsUnserved, IsTranscript}
 
 -- memory ran out, or the text uses what is not served yet, or it is refused so
 abbrev pub IsRejected : List ℕ → Rejection → Type 0
@@ -42,6 +46,13 @@ of_syntax (syntax.Syntax line) = Refused refusal.Syntax line
 abbrev pub of_check : CheckFault → Rejection
 of_check check.Memory = Memory
 of_check (check.Refused r) = Refused r 0
+
+-- the text has a tree that fits all conditions, and this is its checked model
+pub record IsReady (text : List ℕ) (p : Program) : Type 0 where
+  pub tree : Tree
+  pub is_spelled : IsSpelled text tree
+  pub fits : IsFit tree
+  pub is : p ≡ numbered_model tree
 
 -- what is written of a rejected text, and how its session ends
 abbrev pub Rejects : Rejection → Result End Broken → Option (List ℕ) → Option (List ℕ) → Type 0

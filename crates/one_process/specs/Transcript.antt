@@ -12,9 +12,10 @@ use Rattle.pml_tree.specs.declared.tree.Tree.{Tree}
 use Rattle.pml_syntax.specs.Grammar.{Spells}
 use Rattle.pml_number.specs.Model.{numbered_model}
 use Rattle.pml_check.specs.Judged.{IsFit, IsLeast}
-use Rattle.one_process_model.specs.declared.model.OneProcess.{OneProcess}
-use Rattle.one_process_model.specs.Served.{served}
-use Rattle.one_process.specs.Engine.{first, rules}
+use Rattle.pml_program.specs.declared.program.Program.{Program}
+use Rattle.pml_start.specs.Start.{first_state}
+use Rattle.pml_sim.specs.State.{State}
+use Rattle.pml_sim.specs.World.{first, rules}
 
 -- The text's tokens spell this tree.
 pub record IsSpelled (text : List ℕ) (tree : Tree) : Type 0 where
@@ -22,12 +23,16 @@ pub record IsSpelled (text : List ℕ) (tree : Tree) : Type 0 where
   pub are_tokens : AreTokens text tokens
   pub spells : Spells tree tokens
 
--- The text has a tree that fits all conditions, and its checked model is of the part that is served: this one.
-pub record IsModel (text : List ℕ) (model : OneProcess) : Type 0 where
+-- what the first state of a checked model is, where the model is of the part that is served
+abbrev pub begins : Program → Option State
+begins p = first p (first_state p)
+
+-- The text has a tree that fits all conditions, and its checked model is of the part that is served: it begins in this state.
+pub record IsModel (text : List ℕ) (state : State) : Type 0 where
   pub tree : Tree
   pub is_spelled : IsSpelled text tree
   pub fits : IsFit tree
-  pub is : served (numbered_model tree) ≡ Some model
+  pub is : begins (numbered_model tree) ≡ Some state
 
 -- The text has tokens, and no tree spells them.
 pub record IsUnspelled (text : List ℕ) (line : ℕ) : Type 0 where
@@ -41,7 +46,7 @@ pub record IsUnserved (text : List ℕ) : Type 0 where
   pub tree : Tree
   pub is_spelled : IsSpelled text tree
   pub fits : IsFit tree
-  pub none : served (numbered_model tree) ≡ None
+  pub none : begins (numbered_model tree) ≡ None
 
 -- The text has a tree, and of the conditions that apply to it this is the least.
 pub record IsUnfit (text : List ℕ) (refusal : Refusal) : Type 0 where
@@ -71,4 +76,4 @@ HasLine text _ line = line ≡ 0
 pub data IsTranscript (text : List ℕ) (options : Options) : (List ℕ → Part End) → Type 0 where
   of_unserved : IsUnserved text → IsTranscript text options (not_served false)
   of_refusal : {refusal : Refusal} {line : ℕ} → IsRefused text refusal line → IsTranscript text options (refused refusal line false)
-  of_model : {model : OneProcess} → IsModel text model → IsTranscript text options (transcript rules options (first model))
+  of_model : {state : State} → IsModel text state → IsTranscript text options (transcript rules options state)

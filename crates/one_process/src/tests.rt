@@ -236,11 +236,12 @@ fn refuses_what_no_tree_spells(rt: HostRuntime) -> Result<(), Fail> {
 fn says_what_is_not_served(rt: HostRuntime) -> Result<(), Fail> {
     let alloc = rt.alloc();
     for text in [
-        b"init { skip }".as_slice(),
-        b"active proctype A() { byte x; skip }",
+        b"init { atomic { skip } }".as_slice(),
+        b"active proctype A() { byte x; L: skip }",
         b"active proctype A() { printf(\"\") }",
-        b"byte x; active proctype A() { x = x * 2 }",
-        b"byte a[2]; active proctype A() { a[1] = 1 }",
+        b"active [2] proctype A() { skip }",
+        b"chan c = [1] of { byte }; init { c ! 1 }",
+        b"proctype P() { skip } init { run P() }",
     ] {
         row(
             &rt,

@@ -12,18 +12,18 @@ ghost use Rattle.pml_lex.specs.Cut.{AreTokens};
 ghost use Rattle.pml_syntax.specs.Grammar.{Spells};
 ghost use Rattle.one_process.specs.Transcript.{IsModel, IsSpelled, IsTranscript};
 ghost use Rattle.one_process.specs.Plays as plays;
-ghost use Rattle.one_process.specs.Plays.{IsRejected, Rejects, PlaysWhole};
+ghost use Rattle.one_process.specs.Plays.{IsReady, IsRejected, Rejects, PlaysWhole};
 
-use crate::engine::Engine;
 use devices::{Sink, Source};
 use diagnostics::Refusal;
-use one_process_model::model::OneProcess;
-use one_process_model::serve;
-use pml_check::{CheckFault, Parsed, check};
+use pml_check::{CheckFault, Checked, Parsed, check};
 use pml_lex::cut;
 use pml_lex::fault::LexFault;
 use pml_lex::token::Token;
+use pml_sim::world::World;
+use pml_start::start::start;
 use pml_syntax::{SyntaxFault, parse};
+use pml_value::stop::Stop;
 use session::{Broken, End, Options, end_of, failure, refuse, refuse_unserved, run};
 use std::alloc::{AllocError, Global};
 
@@ -91,29 +91,42 @@ fn tree_of<'a>(alloc: Global, tokens: &'a [Token<'a>]) -> Result<Parsed<'a>, Rej
     }
 }
 
-/// The model that a tree stands for, where it is checked and of the part that is served.
-fn served_of<'a>(alloc: Global, parsed: &Parsed<'a>) -> Result<OneProcess<'a>, Rejection>
-    ensures ok { (text : List ℕ) → IsSpelled text parsed.now → IfOk result (IsModel text) }
+/// The checked model of a tree.
+fn model_of<'a>(alloc: Global, parsed: &Parsed<'a>) -> Result<Checked<'a>, Rejection>
+    ensures ok { (text : List ℕ) → IsSpelled text parsed.now → IfOk result (IsReady text) }
     ensures err { (text : List ℕ) → IsSpelled text parsed.now → IfErr result (IsRejected text) }
 {
-    let checked = match check(alloc, parsed.tree()) {
-        Ok(checked) => checked,
-        Err(fault) => return Err(of_check(fault)),
-    };
-    match serve(alloc, checked.program()) {
-        Ok(Some(model)) => Ok(model),
-        Ok(None) => Err(Rejection::NotServed),
-        Err(AllocError) => Err(Rejection::Memory),
+    match check(alloc, parsed.tree()) {
+        Ok(checked) => Ok(checked),
+        Err(fault) => Err(of_check(fault)),
     }
 }
 
-fn model_of<'a>(alloc: Global, tokens: &'a [Token<'a>]) -> Result<OneProcess<'a>, Rejection>
-    ensures ok { (text : List ℕ) → AreTokens text tokens.now → IfOk result (IsModel text) }
+/// The checked model of the tree that the tokens spell.
+fn checked_of<'a>(alloc: Global, tokens: &'a [Token<'a>]) -> Result<Checked<'a>, Rejection>
+    ensures ok { (text : List ℕ) → AreTokens text tokens.now → IfOk result (IsReady text) }
     ensures err { (text : List ℕ) → AreTokens text tokens.now → IfErr result (IsRejected text) }
 {
     match tree_of(alloc, tokens) {
-        Ok(parsed) => served_of(alloc, &parsed),
+        Ok(parsed) => model_of(alloc, &parsed),
         Err(rejection) => Err(rejection),
+    }
+}
+
+/// The first state of a checked model, where it is of the part that is served. The check has evaluated what it begins with before,
+/// so no fault comes here.
+fn world_of<'p, 'a>(alloc: Global, checked: &'p Checked<'a>) -> Result<World<'p, 'a>, Rejection>
+    ensures ok { (text : List ℕ) → IsReady text checked.now → IfOk result (IsModel text) }
+    ensures err { (text : List ℕ) → IsReady text checked.now → IfErr result (IsRejected text) }
+{
+    let program = checked.program();
+    match start(alloc, program) {
+        Ok(started) => match World::first(program, started) {
+            Some(world) => Ok(world),
+            None => Err(Rejection::NotServed),
+        },
+        Err(Stop::Fault(_)) => Err(Rejection::Refused(Refusal::Initialiser, 0)),
+        Err(Stop::Memory) => Err(Rejection::Memory),
     }
 }
 
@@ -127,6 +140,33 @@ fn reject<O: Sink>(alloc: Global, rejection: Rejection, out: &mut O) -> Result<E
         Rejection::Memory => Err(Broken::Memory),
         Rejection::NotServed => refuse_unserved(out),
         Rejection::Refused(refusal, line) => refuse(alloc, refusal, line, out),
+    }
+}
+
+/// Plays a checked model, and counts its steps.
+fn play_checked<S: Source, O: Sink, R: Sink>(
+    alloc: Global,
+    checked: &Checked<'_>,
+    options: &Options,
+    steps: &mut u32,
+    source: &mut S,
+    out: &mut O,
+    rec: &mut R,
+) -> Result<End, Broken>
+    requires { steps.old ≡ 0 }
+    ensures ok { (text : List ℕ) → IsReady text checked.now → IfOk result (PlaysWhole text options.now (S.may_give source.old) (S.may_give source.new) (O.taken out.old) (O.taken out.new) (R.taken rec.old) (R.taken rec.new) 0 steps.new) }
+    ensures own { IfOk result (IsOwnEnd steps.new) }
+    ensures err { (text : List ℕ) → IsReady text checked.now → IfErr result (λ broken. (part : List ℕ → Part End) → IsTranscript text options.now part → Breaks broken (S.may_give source.old) (S.may_give source.new) (O.taken out.old) (O.taken out.new) (R.taken rec.old) (R.taken rec.new) 0 steps.new part) }
+    ensures count { CountsAll result (S.failures source.old) (S.failures source.new) (O.failures out.old) (O.failures out.new) (R.failures rec.old) (R.failures rec.new) }
+    ensures unread { Gave (S.may_give source.old) (S.may_give source.new) [] }
+    ensures unrecorded { Appends (R.taken rec.old) (R.taken rec.new) [] }
+{
+    match world_of(alloc, checked) {
+        Ok(world) => {
+            let mut world = world;
+            run(alloc, &mut world, options, steps, source, out, rec)
+        }
+        Err(rejection) => reject(alloc, rejection, out),
     }
 }
 
@@ -152,11 +192,8 @@ fn stages<S: Source, O: Sink, R: Sink>(
         Ok(tokens) => tokens,
         Err(rejection) => return reject(alloc, rejection, out),
     };
-    match model_of(alloc, &tokens) {
-        Ok(model) => {
-            let mut engine = Engine::start(model);
-            run(alloc, &mut engine, options, steps, source, out, rec)
-        }
+    match checked_of(alloc, &tokens) {
+        Ok(checked) => play_checked(alloc, &checked, options, steps, source, out, rec),
         Err(rejection) => reject(alloc, rejection, out),
     }
 }

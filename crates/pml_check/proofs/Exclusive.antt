@@ -1,5 +1,5 @@
 -- A refusal does not apply to what fits it, so the least one is one.
-use Rattle.std.proofs.Common.{◌≡◌, ℕ, Bool, true, false, arith, List, [], ◌∷◌, Some, None, sym, ap, subst, ◌∙◌, inl, inr, Option}
+use Rattle.std.proofs.Common.{◌≡◌, ℕ, Bool, true, false, arith, List, [], ◌∷◌, Some, None, sym, ap, subst, ◌∙◌, inl, inr, Option, Result, Ok, Err}
 use Rattle.std.specs.Prelude.{slice_get}
 use Rattle.diagnostics.specs.declared.refusal.Refusal.{Refusal}
 use Rattle.diagnostics.specs.declared.refusal.Refusal.TheVariants as r
@@ -13,7 +13,8 @@ use Rattle.pml_program.specs.declared.program.Seq.{Seq}
 use Rattle.pml_control.specs.Control.{Circle, SettlesEverywhere, BadFirstPoint, FirstPointsFit, begins_else}
 use Rattle.pml_control.proofs.Settling.{circle_not}
 use Rattle.pml_program.specs.declared.program.Process.{Process}
-use Rattle.pml_check.specs.Judged.{rule_of, BreaksRule, KeepsRule, BreaksControl, KeepsControl, HasCircle, SettleEverywhere, HasBadStep, HaveGoodSteps, AppliesTo, FitsTo, FitsAll, IsFirst, IsFit, IsLeast, all_judged}
+use Rattle.pml_program.specs.declared.program.Program.{Program}
+use Rattle.pml_check.specs.Judged.{rule_of, BreaksRule, KeepsRule, BreaksModel, KeepsModel, HasCircle, SettleEverywhere, HasBadStep, HaveGoodSteps, HasBadStart, HasGoodStart, AppliesTo, FitsTo, FitsAll, IsFirst, IsFit, IsLeast, all_judged}
 
 some_none : (p : List Mark → Mark → Bool) (ms : List Mark) → Somewhere p ms → Nowhere p ms → ⊥
 some_none p ms h f = let e : true ≡ false = sym h.3 ∙ f h.0 h.1 h.2 in absurd cc
@@ -50,39 +51,45 @@ point_apart b h fits =
 step_apart : (ps : List Process) → HasBadStep ps → HaveGoodSteps ps → ⊥
 step_apart ps h all = point_apart h.1.body h.3 (all h.0 h.1 h.2)
 
-control_apart : (x : Refusal) (ps : List Process) → BreaksControl x ps → KeepsControl x ps → ⊥
-control_apart r.DStep ps a f = step_apart ps a f
-control_apart r.CircleOfGotos ps a f = circle_apart ps a f
-control_apart r.TextTooLong ps a f = a
-control_apart r.Lexical ps a f = a
-control_apart r.LeftOut ps a f = a
-control_apart r.TooDeep ps a f = a
-control_apart r.Syntax ps a f = a
-control_apart r.NameTwice ps a f = a
-control_apart r.UnknownName ps a f = a
-control_apart r.WrongKind ps a f = a
-control_apart r.ArgumentCount ps a f = a
-control_apart r.Label ps a f = a
-control_apart r.BreakOutsideDo ps a f = a
-control_apart r.NumberOutOfRange ps a f = a
-control_apart r.TooManyCells ps a f = a
-control_apart r.NoProcess ps a f = a
-control_apart r.TooManyAtStart ps a f = a
-control_apart r.Initialiser ps a f = a
+start_apart : (p : Program) → HasBadStart p → HasGoodStart p → ⊥
+start_apart p h g = apart_results (sym h.1 ∙ g.1)
+  where
+    apart_results : {A B : Type 0} {x : A} {y : B} → ◌≡◌ {A = Result B A} (Err x) (Ok y) → ⊥
+    apart_results e = cc
 
-apart : (x : Refusal) (ms : List Mark) (ps : List Process) → AppliesTo x ms ps → FitsTo x ms ps → ⊥
+model_apart : (x : Refusal) (p : Program) → BreaksModel x p → KeepsModel x p → ⊥
+model_apart r.DStep p a f = step_apart p.processes a f
+model_apart r.CircleOfGotos p a f = circle_apart p.processes a f
+model_apart r.TextTooLong p a f = a
+model_apart r.Lexical p a f = a
+model_apart r.LeftOut p a f = a
+model_apart r.TooDeep p a f = a
+model_apart r.Syntax p a f = a
+model_apart r.NameTwice p a f = a
+model_apart r.UnknownName p a f = a
+model_apart r.WrongKind p a f = a
+model_apart r.ArgumentCount p a f = a
+model_apart r.Label p a f = a
+model_apart r.BreakOutsideDo p a f = a
+model_apart r.NumberOutOfRange p a f = a
+model_apart r.TooManyCells p a f = a
+model_apart r.NoProcess p a f = a
+model_apart r.TooManyAtStart p a f = a
+model_apart r.Initialiser p a f = start_apart p a f
+
+apart : (x : Refusal) (ms : List Mark) (p : Program) → AppliesTo x ms p → FitsTo x ms p → ⊥
 unfolding AppliesTo FitsTo
-apart x ms ps (inl a) f = rule_apart (rule_of x) ms a f.0
-apart x ms ps (inr a) f = control_apart x ps a f.1
+apart x ms p (inl a) f = rule_apart (rule_of x) ms a f.0
+apart x ms p (inr a) f = model_apart x p a f.1
 
-pub one_first : (xs : List Refusal) (ms : List Mark) (ps : List Process) (x y : Refusal) → IsFirst xs ms ps x → IsFirst xs ms ps y → x ≡ y
-one_first [] ms ps x y a b = absurd a
-one_first (z ∷ zs) ms ps x y (inl a) (inl b) = sym a.0 ∙ b.0
-one_first (z ∷ zs) ms ps x y (inl a) (inr b) = absurd (apart x ms ps a.1 (subst (λ (w : Refusal). FitsTo w ms ps) a.0 b.0))
-one_first (z ∷ zs) ms ps x y (inr a) (inl b) = absurd (apart y ms ps b.1 (subst (λ (w : Refusal). FitsTo w ms ps) b.0 a.0))
-one_first (z ∷ zs) ms ps x y (inr a) (inr b) = one_first zs ms ps x y a.1 b.1
+pub one_first : (xs : List Refusal) (ms : List Mark) (p : Program) (x y : Refusal) → IsFirst xs ms p x → IsFirst xs ms p y → x ≡ y
+one_first [] ms p x y a b = absurd a
+one_first (z ∷ zs) ms p x y (inl a) (inl b) = sym a.0 ∙ b.0
+one_first (z ∷ zs) ms p x y (inl a) (inr b) = absurd (apart x ms p a.1 (subst (λ (w : Refusal). FitsTo w ms p) a.0 b.0))
+one_first (z ∷ zs) ms p x y (inr a) (inl b) = absurd (apart y ms p b.1 (subst (λ (w : Refusal). FitsTo w ms p) b.0 a.0))
+one_first (z ∷ zs) ms p x y (inr a) (inr b) = one_first zs ms p x y a.1 b.1
 
-pub none_first : (xs : List Refusal) (ms : List Mark) (ps : List Process) (x : Refusal) → FitsAll xs ms ps → IsFirst xs ms ps x → ⊥
-none_first [] ms ps x f a = a
-none_first (z ∷ zs) ms ps x f (inl a) = apart x ms ps a.1 (subst (λ (w : Refusal). FitsTo w ms ps) a.0 f.0)
-none_first (z ∷ zs) ms ps x f (inr a) = none_first zs ms ps x f.1 a.1
+pub none_first : (xs : List Refusal) (ms : List Mark) (p : Program) (x : Refusal) → FitsAll xs ms p → IsFirst xs ms p x → ⊥
+none_first [] ms p x f a = a
+none_first (z ∷ zs) ms p x f (inl a) = apart x ms p a.1 (subst (λ (w : Refusal). FitsTo w ms p) a.0 f.0)
+none_first (z ∷ zs) ms p x f (inr a) = none_first zs ms p x f.1 a.1

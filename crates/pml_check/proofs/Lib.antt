@@ -1,3 +1,4 @@
 pub mod Looking
 pub mod Subjects
 pub mod Exclusive
+pub mod Models

@@ -11,7 +11,7 @@ use Rattle.pml_check.specs.Subject.{IsSubject}
 use Rattle.pml_check.specs.Judged.{all_judged}
 use Rattle.pml_check.specs.Decided.{Finds}
 
-pub found_of : (t : Tree) (s : Subject) → IsSubject t s → (o p : Option Refusal) → o ≡ p → Finds all_judged s.marks s.program.processes o → Finds all_judged (of_tree t) (numbered_model t).processes p
+pub found_of : (t : Tree) (s : Subject) → IsSubject t s → (o p : Option Refusal) → o ≡ p → Finds all_judged s.marks s.program o → Finds all_judged (of_tree t) (numbered_model t) p
 found_of t s h o p e f =
-    subst (λ (q : Option Refusal). Finds all_judged (of_tree t) (numbered_model t).processes q) e
-    (subst (λ (m : Program). Finds all_judged (of_tree t) m.processes o) h.program (subst (λ (ms : List Mark). Finds all_judged ms s.program.processes o) h.marks f))
+    subst (λ (q : Option Refusal). Finds all_judged (of_tree t) (numbered_model t) q) e
+    (subst (λ (m : Program). Finds all_judged (of_tree t) m o) h.program (subst (λ (ms : List Mark). Finds all_judged ms s.program o) h.marks f))

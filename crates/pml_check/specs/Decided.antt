@@ -4,7 +4,8 @@ use Rattle.diagnostics.specs.declared.refusal.Refusal.{Refusal}
 use Rattle.pml_marks.specs.declared.mark.Mark.{Mark}
 use Rattle.pml_rules.specs.declared.rule.Rule.{Rule}
 use Rattle.pml_program.specs.declared.program.Process.{Process}
-use Rattle.pml_check.specs.Judged.{HasCircle, SettleEverywhere, HasBadStep, HaveGoodSteps, BreaksRule, KeepsRule, BreaksControl, KeepsControl, AppliesTo, FitsTo, FitsAll, IsFirst}
+use Rattle.pml_program.specs.declared.program.Program.{Program}
+use Rattle.pml_check.specs.Judged.{HasCircle, SettleEverywhere, HasBadStep, HaveGoodSteps, HasBadStart, HasGoodStart, BreaksRule, KeepsRule, BreaksModel, KeepsModel, AppliesTo, FitsTo, FitsAll, IsFirst}
 
 abbrev pub DecidesCircles : Bool → List Process → Type 0
 DecidesCircles true ps = HasCircle ps
@@ -18,15 +19,19 @@ abbrev pub DecidesRule : Bool → Option Rule → List Mark → Type 0
 DecidesRule true x ms = BreaksRule x ms
 DecidesRule false x ms = KeepsRule x ms
 
-abbrev pub DecidesControl : Bool → Refusal → List Process → Type 0
-DecidesControl true x ps = BreaksControl x ps
-DecidesControl false x ps = KeepsControl x ps
+abbrev pub DecidesStart : Bool → Program → Type 0
+DecidesStart true p = HasBadStart p
+DecidesStart false p = HasGoodStart p
 
-abbrev pub Decides : Bool → Refusal → List Mark → List Process → Type 0
-Decides true x ms ps = AppliesTo x ms ps
-Decides false x ms ps = FitsTo x ms ps
+abbrev pub DecidesModel : Bool → Refusal → Program → Type 0
+DecidesModel true x p = BreaksModel x p
+DecidesModel false x p = KeepsModel x p
+
+abbrev pub Decides : Bool → Refusal → List Mark → Program → Type 0
+Decides true x ms p = AppliesTo x ms p
+Decides false x ms p = FitsTo x ms p
 
 -- the first of these that applies, or none does
-abbrev pub Finds : List Refusal → List Mark → List Process → Option Refusal → Type 0
-Finds xs ms ps None = FitsAll xs ms ps
-Finds xs ms ps (Some x) = IsFirst xs ms ps x
+abbrev pub Finds : List Refusal → List Mark → Program → Option Refusal → Type 0
+Finds xs ms p None = FitsAll xs ms p
+Finds xs ms p (Some x) = IsFirst xs ms p x

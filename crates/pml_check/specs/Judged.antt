@@ -1,5 +1,6 @@
 -- The conditions that refuse a model, each by itself, and the least that applies.
-use Rattle.std.specs.Prelude.{◌≡◌, ◌⊎◌, ℕ, Bool, true, false, List, [], ◌∷◌, Option, Some, None, slice_get}
+use Rattle.std.specs.Prelude.{◌≡◌, ◌⊎◌, ℕ, Bool, true, false, List, [], ◌∷◌, Option, Some, None, Result, Ok, Err, slice_get}
+use Rattle.diagnostics.specs.declared.fault.Fault.{Fault}
 use Rattle.diagnostics.specs.declared.refusal.Refusal.{Refusal}
 use Rattle.diagnostics.specs.declared.refusal.Refusal.TheVariants as r
 use Rattle.pml_tree.specs.declared.tree.Tree.{Tree}
@@ -9,10 +10,13 @@ use Rattle.pml_rules.specs.declared.rule.Rule.{Rule}
 use Rattle.pml_rules.specs.declared.rule.Rule.TheVariants as rule
 use Rattle.pml_rules.specs.Decided as marks
 use Rattle.pml_program.specs.declared.program.Process.{Process}
+use Rattle.pml_program.specs.declared.program.Program.{Program}
 use Rattle.pml_number.specs.Model.{numbered_model}
+use Rattle.pml_start.specs.Begin.{Begun}
+use Rattle.pml_start.specs.Start.{first_state}
 use Rattle.pml_control.specs.Control.{Circle, SettlesEverywhere, BadFirstPoint, FirstPointsFit}
 
--- ---- what is asked of control, of the body of each process
+-- ---- what is asked of control, of the body of each process, and of the first state
 
 -- settling comes to itself again somewhere in a body
 abbrev pub HasCircle : List Process → Type 0
@@ -27,6 +31,13 @@ HasBadStep ps = (k : ℕ) × (p : Process) × (slice_get ps k ≡ Some p) × Bad
 
 abbrev pub HaveGoodSteps : List Process → Type 0
 HaveGoodSteps ps = (k : ℕ) (p : Process) → slice_get ps k ≡ Some p → FirstPointsFit p.body
+
+-- what a variable of the first state begins with cannot be evaluated
+abbrev pub HasBadStart : Program → Type 0
+HasBadStart p = (f : Fault) × (first_state p ≡ Err f)
+
+abbrev pub HasGoodStart : Program → Type 0
+HasGoodStart p = (b : Begun) × (first_state p ≡ Ok b)
 
 -- ---- what is decided on the marks of the tree alone
 
@@ -52,51 +63,53 @@ abbrev pub KeepsRule : Option Rule → List Mark → Type 0
 KeepsRule None ms = Unit {0}
 KeepsRule (Some x) ms = marks.Fits x ms
 
--- ---- what is asked of control as well
+-- ---- what is asked of the model with its names replaced
 
-abbrev pub BreaksControl : Refusal → List Process → Type 0
-BreaksControl r.DStep ps = HasBadStep ps
-BreaksControl r.CircleOfGotos ps = HasCircle ps
-BreaksControl _ ps = ⊥
+abbrev pub BreaksModel : Refusal → Program → Type 0
+BreaksModel r.DStep p = HasBadStep p.processes
+BreaksModel r.CircleOfGotos p = HasCircle p.processes
+BreaksModel r.Initialiser p = HasBadStart p
+BreaksModel _ p = ⊥
 
-abbrev pub KeepsControl : Refusal → List Process → Type 0
-KeepsControl r.DStep ps = HaveGoodSteps ps
-KeepsControl r.CircleOfGotos ps = SettleEverywhere ps
-KeepsControl _ ps = Unit {0}
+abbrev pub KeepsModel : Refusal → Program → Type 0
+KeepsModel r.DStep p = HaveGoodSteps p.processes
+KeepsModel r.CircleOfGotos p = SettleEverywhere p.processes
+KeepsModel r.Initialiser p = HasGoodStart p
+KeepsModel _ p = Unit {0}
 
 -- ---- a refusal applies to a tree, or the tree fits it
 
-unfoldable pub AppliesTo : Refusal → List Mark → List Process → Type 0
-AppliesTo x ms ps = BreaksRule (rule_of x) ms ⊎ BreaksControl x ps
+unfoldable pub AppliesTo : Refusal → List Mark → Program → Type 0
+AppliesTo x ms p = BreaksRule (rule_of x) ms ⊎ BreaksModel x p
 
-unfoldable pub FitsTo : Refusal → List Mark → List Process → Type 0
-FitsTo x ms ps = KeepsRule (rule_of x) ms × KeepsControl x ps
+unfoldable pub FitsTo : Refusal → List Mark → Program → Type 0
+FitsTo x ms p = KeepsRule (rule_of x) ms × KeepsModel x p
 
 abbrev pub Applies : Refusal → Tree → Type 0
-Applies x t = AppliesTo x (of_tree t) (numbered_model t).processes
+Applies x t = AppliesTo x (of_tree t) (numbered_model t)
 
 abbrev pub Fits : Refusal → Tree → Type 0
-Fits x t = FitsTo x (of_tree t) (numbered_model t).processes
+Fits x t = FitsTo x (of_tree t) (numbered_model t)
 
 -- the refusals that are judged on the tree, in the order in which they go before one another
 abbrev pub all_judged : List Refusal
 all_judged =
     r.NameTwice ∷ r.UnknownName ∷ r.WrongKind ∷ r.ArgumentCount ∷ r.Label ∷ r.BreakOutsideDo ∷ r.DStep ∷ r.CircleOfGotos ∷ r.NumberOutOfRange
-    ∷ r.TooManyCells ∷ r.NoProcess ∷ r.TooManyAtStart ∷ []
+    ∷ r.TooManyCells ∷ r.NoProcess ∷ r.TooManyAtStart ∷ r.Initialiser ∷ []
 
-abbrev pub FitsAll : List Refusal → List Mark → List Process → Type 0
-FitsAll [] ms ps = Unit {0}
-FitsAll (x ∷ xs) ms ps = FitsTo x ms ps × FitsAll xs ms ps
+abbrev pub FitsAll : List Refusal → List Mark → Program → Type 0
+FitsAll [] ms p = Unit {0}
+FitsAll (x ∷ xs) ms p = FitsTo x ms p × FitsAll xs ms p
 
 -- the first of these that applies: those before it are fitted
-abbrev pub IsFirst : List Refusal → List Mark → List Process → Refusal → Type 0
-IsFirst [] ms ps x = ⊥
-IsFirst (y ∷ ys) ms ps x = ((y ≡ x) × AppliesTo x ms ps) ⊎ (FitsTo y ms ps × IsFirst ys ms ps x)
+abbrev pub IsFirst : List Refusal → List Mark → Program → Refusal → Type 0
+IsFirst [] ms p x = ⊥
+IsFirst (y ∷ ys) ms p x = ((y ≡ x) × AppliesTo x ms p) ⊎ (FitsTo y ms p × IsFirst ys ms p x)
 
 -- the tree fits all conditions
 abbrev pub IsFit : Tree → Type 0
-IsFit t = FitsAll all_judged (of_tree t) (numbered_model t).processes
+IsFit t = FitsAll all_judged (of_tree t) (numbered_model t)
 
 -- the least refusal that applies to the tree
 abbrev pub IsLeast : Tree → Refusal → Type 0
-IsLeast t x = IsFirst all_judged (of_tree t) (numbered_model t).processes x
+IsLeast t x = IsFirst all_judged (of_tree t) (numbered_model t) x

@@ -33,7 +33,7 @@ impl From<AllocError> for CheckFault {
 }
 
 /// The refusals that are judged on a tree, in the order in which they go before one another.
-const JUDGED: [Refusal; 12] = [
+const JUDGED: [Refusal; 13] = [
     Refusal::NameTwice,
     Refusal::UnknownName,
     Refusal::WrongKind,
@@ -46,6 +46,7 @@ const JUDGED: [Refusal; 12] = [
     Refusal::TooManyCells,
     Refusal::NoProcess,
     Refusal::TooManyAtStart,
+    Refusal::Initialiser,
 ];
 
 /// A model that fits all conditions, with its names replaced by what they stand for.

@@ -3,12 +3,13 @@
 ghost use Rattle.std.specs.Prelude.{◌≡◌, IfOk};
 ghost use Rattle.pml_names.specs.Env.{env};
 ghost use Rattle.pml_check.specs.Judged.{rule_of};
-ghost use Rattle.pml_check.specs.Decided.{DecidesRule, DecidesControl, Decides, Finds};
+ghost use Rattle.pml_check.specs.Decided.{DecidesRule, DecidesModel, Decides, Finds};
 
 use crate::control::{have_bad_step, have_circle};
+use crate::start::has_bad_start;
 use crate::subject::Subject;
 use diagnostics::Refusal;
-use pml_program::program::Process;
+use pml_program::program::Program;
 use pml_rules::decide::applies;
 use pml_rules::rule::Rule;
 use std::alloc::{AllocError, Global};
@@ -48,17 +49,14 @@ fn breaks_rule<'a>(
     }
 }
 
-/// Whether what is asked of control is broken.
-fn breaks_control(
-    alloc: Global,
-    refusal: Refusal,
-    processes: &[Process],
-) -> Result<bool, AllocError>
-    ensures { IfOk result (λ b. DecidesControl b refusal processes.now) }
+/// Whether what is asked of the model with its names replaced is broken.
+fn breaks_model(alloc: Global, refusal: Refusal, program: &Program) -> Result<bool, AllocError>
+    ensures { IfOk result (λ b. DecidesModel b refusal program.now) }
 {
     match refusal {
-        Refusal::DStep => have_bad_step(alloc, processes),
-        Refusal::CircleOfGotos => have_circle(alloc, processes),
+        Refusal::DStep => have_bad_step(alloc, program.processes.as_slice()),
+        Refusal::CircleOfGotos => have_circle(alloc, program.processes.as_slice()),
+        Refusal::Initialiser => has_bad_start(alloc, program),
         _ => Ok(false),
     }
 }
@@ -67,12 +65,12 @@ fn breaks_control(
 #[tactic(auto, unfolding(crate::specs::Judged::AppliesTo, crate::specs::Judged::FitsTo))]
 fn refuses<'a>(alloc: Global, refusal: Refusal, subject: &Subject<'a>) -> Result<bool, AllocError>
     requires { subject.now.names.table ≡ env subject.now.marks }
-    ensures { IfOk result (λ b. Decides b refusal subject.now.marks subject.now.program.processes) }
+    ensures { IfOk result (λ b. Decides b refusal subject.now.marks subject.now.program) }
 {
     if breaks_rule(alloc, refusal, subject)? {
         return Ok(true);
     }
-    breaks_control(alloc, refusal, subject.program.get().processes.as_slice())
+    breaks_model(alloc, refusal, subject.program.get())
 }
 
 /// The first of these refusals that applies.
@@ -82,7 +80,7 @@ pub fn first_of<'a>(
     subject: &Subject<'a>,
 ) -> Result<Option<Refusal>, AllocError>
     requires { subject.now.names.table ≡ env subject.now.marks }
-    ensures { IfOk result (Finds refusals.now subject.now.marks subject.now.program.processes) }
+    ensures { IfOk result (Finds refusals.now subject.now.marks subject.now.program) }
 {
     for refusal in refusals {
         if refuses(alloc, *refusal, subject)? {

@@ -7,6 +7,7 @@ mod control;
 mod judge;
 pub mod laws;
 mod parsed;
+mod start;
 mod subject;
 
 pub use checked::{CheckFault, Checked, check};

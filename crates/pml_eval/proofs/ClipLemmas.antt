@@ -2,14 +2,14 @@
 use Rattle.std.proofs.Common.{◌≡◌, ℕ, zero, suc, ◌+◌, ◌-◌, ◌*◌, ◌/◌, ◌%◌, ◌^◌, ◌<◌, ◌≤◌, Bool, true, false, cond, refl, sym, ap, ◌∙◌, arith, ℤ, pos, negsuc, ◌+ℤ◌, ◌-ℤ◌, ◌≤ℤ◌, ◌<ℤ◌, neg_ℤ, nat_lt}
 use Rattle.std.proofs.lemmas.Int.{ints}
 use Rattle.std.proofs.lemmas.Nat.{pow_pos, mod-mul-add}
-use Rattle.std.proofs.lemmas.Bool.{ltb-true, ltb-false}
+use Rattle.std.proofs.lemmas.Bool.{ltb-true, ltb-false, leb-true}
 use Rattle.std.proofs.Math.Nat.{pow-suc}
 use Rattle.std.proofs.Math.Numerals.{sub-one}
 use Rattle.pml_program.specs.declared.form.Form.{Form}
 use Rattle.pml_program.specs.declared.form.Form.TheVariants.{Plain, Unsigned, Struct, Unknown}
 use Rattle.pml_tree.specs.declared.tree.Scalar.{Scalar}
 use Rattle.pml_tree.specs.declared.tree.Scalar.TheVariants as word
-use Rattle.pml_eval.specs.Clip.{HasBits, bits_of, bits_of_word, is_signed, residue, placed, clipped, InBits, Differ, IsClip}
+use Rattle.pml_eval.specs.Clip.{bits_of, bits_of_word, is_signed, residue, placed, clipped, InBits, Differ, IsClip}
 
 -- ---- it is there
 
@@ -34,9 +34,9 @@ signed_is : (b : Bool) (half d low : ℕ) (v : ℤ) → (b ≡ true → low < ha
 signed_is true half d low v y n e below h = let l : low < half = y refl in ((omega (arith, ints), omega (arith, ints)), h)
 signed_is false half d low v y n e below h = let l : half ≤ low = n refl in ((omega (arith, ints), omega (arith, ints)), lowered d low v h)
 
-placed_is : (b : Bool) (n low : ℕ) (v : ℤ) → 1 ≤ n → low < 2 ^ n → Differ (2 ^ n) v (pos low) → InBits b n (placed b n low) × Differ (2 ^ n) v (placed b n low)
+placed_is : (b : Bool) (n low : ℕ) (v : ℤ) → (b ≡ true → 1 ≤ n) → low < 2 ^ n → Differ (2 ^ n) v (pos low) → InBits b n (placed b n low) × Differ (2 ^ n) v (placed b n low)
 placed_is false n low v h below d = ((omega (arith, ints), omega (arith, ints)), d)
-placed_is true n low v h below d = signed_is (nat_lt low (2 ^ (n - 1))) (2 ^ (n - 1)) (2 ^ n) low v (ltb-true _ _) (ltb-false _ _) (halves n h) below d
+placed_is true n low v h below d = signed_is (nat_lt low (2 ^ (n - 1))) (2 ^ (n - 1)) (2 ^ n) low v (ltb-true _ _) (ltb-false _ _) (halves n (h refl)) below d
 
 word_at_least : (t : Scalar) → 1 ≤ bits_of_word t
 word_at_least word.Bit = omega arith
@@ -48,16 +48,17 @@ word_at_least word.Pid = omega arith
 word_at_least word.Short = omega arith
 word_at_least word.Int = omega arith
 
-bits_at_least : (form : Form) → HasBits form → 1 ≤ bits_of form
-unfolding bits_of
+-- a type with a sign has a bit for it
+bits_at_least : (form : Form) → is_signed form ≡ true → 1 ≤ bits_of form
+unfolding bits_of is_signed
 bits_at_least (Plain t) h = word_at_least t
-bits_at_least (Unsigned width) h = h.0
+bits_at_least (Unsigned width) h = let l : 32 ≤ width = leb-true _ _ h in omega arith
 bits_at_least (Struct o) h = omega arith
 bits_at_least Unknown h = omega arith
 
-pub IsClip-clipped : (form : Form) (v : ℤ) → HasBits form → IsClip form v (clipped form v)
-IsClip-clipped form v h =
-    let p = placed_is (is_signed form) (bits_of form) (residue (bits_of form) v) v (bits_at_least form h) (residue_below (bits_of form) v) (residue_differs (bits_of form) v) in
+pub IsClip-clipped : (form : Form) (v : ℤ) → IsClip form v (clipped form v)
+IsClip-clipped form v =
+    let p = placed_is (is_signed form) (bits_of form) (residue (bits_of form) v) v (bits_at_least form) (residue_below (bits_of form) v) (residue_differs (bits_of form) v) in
     record { range = p.0; differ = p.1 }
 
 -- ---- there is no other
@@ -84,11 +85,11 @@ window lo hi d v r s e p q f g =
     let z = same_low d x.0 y.0 (f.1 + g.0) (g.1 + f.0) l k t in
     omega (arith, ints)
 
-one_in_bits : (b : Bool) (n : ℕ) (v r s : ℤ) → 1 ≤ n → InBits b n r → InBits b n s → Differ (2 ^ n) v r → Differ (2 ^ n) v s → r ≡ s
+one_in_bits : (b : Bool) (n : ℕ) (v r s : ℤ) → (b ≡ true → 1 ≤ n) → InBits b n r → InBits b n s → Differ (2 ^ n) v r → Differ (2 ^ n) v s → r ≡ s
 one_in_bits false n v r s h p q f g = window 0 (2 ^ n) (2 ^ n) v r s (omega arith) (p.0, p.1) (q.0, q.1) f g
-one_in_bits true n v r s h p q f g = window (2 ^ (n - 1)) (2 ^ (n - 1)) (2 ^ n) v r s (halves n h) p q f g
+one_in_bits true n v r s h p q f g = window (2 ^ (n - 1)) (2 ^ (n - 1)) (2 ^ n) v r s (halves n (h refl)) p q f g
 
-pub clipped-only : (form : Form) (v r : ℤ) → HasBits form → IsClip form v r → r ≡ clipped form v
-clipped-only form v r h c =
-    let d = IsClip-clipped form v h in
-    one_in_bits (is_signed form) (bits_of form) v r (clipped form v) (bits_at_least form h) c.range d.range c.differ d.differ
+pub clipped-only : (form : Form) (v r : ℤ) → IsClip form v r → r ≡ clipped form v
+clipped-only form v r c =
+    let d = IsClip-clipped form v in
+    one_in_bits (is_signed form) (bits_of form) v r (clipped form v) (bits_at_least form) c.range d.range c.differ d.differ

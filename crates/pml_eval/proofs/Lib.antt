@@ -1,3 +1,3 @@
-pub mod Turns
 pub mod ClipLemmas
 pub mod Matching
+pub mod Asking

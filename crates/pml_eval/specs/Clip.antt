@@ -1,14 +1,9 @@
 -- What a variable of a type keeps of a number.
-use Rattle.std.specs.Prelude.{◌≡◌, ℕ, ◌-◌, ◌*◌, ◌%◌, ◌^◌, ◌≤◌, Bool, true, false, if◌then◌else◌, ◌==◌, nat_lt, ℤ, pos, negsuc, ◌+ℤ◌, ◌-ℤ◌, ◌≤ℤ◌, ◌<ℤ◌, neg_ℤ}
+use Rattle.std.specs.Prelude.{◌≡◌, ℕ, min, nat_le, ◌-◌, ◌*◌, ◌%◌, ◌^◌, Bool, true, false, if◌then◌else◌, nat_lt, ℤ, pos, negsuc, ◌+ℤ◌, ◌-ℤ◌, ◌≤ℤ◌, ◌<ℤ◌, neg_ℤ}
 use Rattle.pml_program.specs.declared.form.Form.{Form}
 use Rattle.pml_program.specs.declared.form.Form.TheVariants.{Plain, Unsigned}
 use Rattle.pml_tree.specs.declared.tree.Scalar.{Scalar}
 use Rattle.pml_tree.specs.declared.tree.Scalar.TheVariants as word
-
--- an unsigned type has 1 to 32 bits
-abbrev pub HasBits : Form → Type 0
-HasBits (Unsigned width) = (1 ≤ width) × (width ≤ 32)
-HasBits _ = Unit {0}
 
 abbrev pub bits_of_word : Scalar → ℕ
 bits_of_word word.Bit = 1
@@ -20,10 +15,10 @@ bits_of_word word.Pid = 8
 bits_of_word word.Short = 16
 bits_of_word word.Int = 32
 
--- (no plain variable is of a typedef, or of a name that is none)
+-- at most 32 (no plain variable is of a typedef, or of a name that is none)
 unfoldable pub bits_of : Form → ℕ
 bits_of (Plain t) = bits_of_word t
-bits_of (Unsigned width) = width
+bits_of (Unsigned width) = min width 32
 bits_of _ = 32
 
 abbrev pub is_word_signed : Scalar → Bool
@@ -34,7 +29,7 @@ is_word_signed _ = false
 -- 32 bits are read with a sign
 unfoldable pub is_signed : Form → Bool
 is_signed (Plain t) = is_word_signed t
-is_signed (Unsigned width) = width == 32
+is_signed (Unsigned width) = nat_le 32 width
 is_signed _ = true
 
 -- the least number that v differs from by a multiple of 2 ^ n

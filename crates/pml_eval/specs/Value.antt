@@ -21,8 +21,9 @@ pub record Filling : Type 0 where
   pub fields : ℕ
   pub messages : List (List ℤ)
 
--- what an expression may read
+-- what an expression may read: how many cells a variable has, by whether it is local and by its number, what a place holds, and so on
 pub record Reading : Type 0 where
+  pub cells : Bool → ℕ → ℕ
   pub holds : Place → ℤ
   pub process : ℤ
   pub living : ℤ
@@ -52,6 +53,10 @@ is_match any ws [] = false
 is_match false ws (m ∷ ms) = matched ws m
 is_match true ws (m ∷ ms) = matched ws m || is_match true ws ms
 
+abbrev pub messages_of : Option Filling → List (List ℤ)
+messages_of None = []
+messages_of (Some c) = c.messages
+
 -- a poll of a channel that is there: the number of fields, then the fill, then the pattern
 abbrev pub polled : Bool → ℕ → Result (List Sought) Fault → Option Filling → Result ℤ Fault
 polled any count wants None = Err NoSuchChannel
@@ -63,6 +68,10 @@ polled any count wants (Some c) =
 abbrev pub within : ℕ → ℤ → Result ℕ Fault
 within size (pos i) = if nat_lt i size then Ok i else Err IndexOutOfRange
 within size (negsuc i) = Err IndexOutOfRange
+
+-- a cell of a variable that has so many; in a checked model only an index leads out of its variable
+abbrev pub inside : ℕ → ℕ → Result ℕ Fault
+inside whole cell = if nat_lt cell whole then Ok cell else Err IndexOutOfRange
 
 -- ---- one level of the tree, each part replaced by what it gives
 
@@ -92,6 +101,11 @@ abbrev pub wants_of : List Wanted → Reading → Result (List Sought) Fault
 wants_of [] r = Ok []
 wants_of (a ∷ more) r = a r >>= λ w. wants_of more r >>= λ ws. Ok (w ∷ ws)
 
+-- whether all that is asked has a value, or the first fault
+abbrev pub settled : Result (List Sought) Fault → Result (Unit {0}) Fault
+settled (Ok ws) = Ok tt
+settled (Err f) = Err f
+
 abbrev pub value_step : Value-F Valued Wanted Placed Turned → Valued
 value_step (Value-F.Number n) r = Ok n
 value_step Value-F.Process r = Ok r.process
@@ -110,12 +124,14 @@ want_step (Want-F.Equal a) r = a r >>= λ n. Ok (Exactly n)
 want_step (Want-F.Into p) r = p r >>= λ at. Ok (Into at)
 want_step Want-F.Anything r = Ok Anything
 
-abbrev pub cells_of : List Turned → ℕ → Reading → Result ℕ Fault
-cells_of [] cell r = Ok cell
-cells_of (s ∷ ss) cell r = s r >>= λ n. cells_of ss (cell + n) r
+-- from a cell on by each turn, never out of the whole
+abbrev pub cells_of : List Turned → ℕ → ℕ → Reading → Result ℕ Fault
+cells_of [] whole cell r = Ok cell
+cells_of (s ∷ ss) whole cell r = s r >>= λ n. inside whole (cell + n) >>= λ c. cells_of ss whole c r
 
 abbrev pub target_step : Target-F Valued Wanted Placed Turned → Placed
-target_step p r = cells_of p.turns 0 r >>= λ cell. Ok (record { local = p.local; variable = p.variable; cell = cell })
+target_step p r =
+    inside (r.cells p.local p.variable) 0 >>= λ c. cells_of p.turns (r.cells p.local p.variable) c r >>= λ cell. Ok (record { local = p.local; variable = p.variable; cell = cell })
 
 abbrev pub index_of : Option Valued → ℕ → Reading → Result ℕ Fault
 index_of None length r = Ok 0

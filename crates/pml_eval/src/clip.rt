@@ -1,16 +1,15 @@
 //! What a variable keeps of a number.
 
-ghost use Rattle.std.specs.Prelude.{◌≡◌, ◌≤◌, ◌<◌, ◌^◌, false, pos, ℤ};
+ghost use Rattle.std.specs.Prelude.{◌≡◌, ◌≤◌, ◌<◌, ◌^◌, true, false, pos, ℤ};
 ghost use Rattle.pml_program.specs.declared.form.Form.{Form};
-ghost use Rattle.pml_eval.specs.Clip.{bits_of, bits_of_word, is_signed, is_word_signed, HasBits, clipped, IsClip};
+ghost use Rattle.pml_eval.specs.Clip.{bits_of, bits_of_word, is_signed, is_word_signed, clipped, IsClip};
 
 use pml_program::form::Form;
 use pml_tree::tree::Scalar;
 
 /// What a variable of this type keeps of a number: the one number in the type's range that differs from it by a multiple of
-/// 2 ^ n, n its bits.
+/// 2 ^ n, n its bits. An unsigned type of 32 bits is kept with a sign, and so is one of more, of which no model has any.
 pub fn clip(form: Form, v: i32) -> i32
-    requires { HasBits form }
     ensures { result ≡ clipped form v }
 {
     let whole = modulus(bits(form));
@@ -26,14 +25,14 @@ pub fn clip(form: Form, v: i32) -> i32
 
 /// There is one such number, and it is what `clip` answers.
 pub fn one_clip()
-    ensures there { (form : Form) (v : ℤ) → HasBits form → IsClip form v (clipped form v) }
-    ensures only { (form : Form) (v r : ℤ) → HasBits form → IsClip form v r → r ≡ clipped form v }
+    ensures there { (form : Form) (v : ℤ) → IsClip form v (clipped form v) }
+    ensures only { (form : Form) (v r : ℤ) → IsClip form v r → r ≡ clipped form v }
 {}
 
 fn word_bits(word: Scalar) -> u32
     ensures value { result ≡ bits_of_word word }
     ensures narrow { is_word_signed word ≡ false → result < 32 }
-    ensures least { 1 ≤ result }
+    ensures least { is_word_signed word ≡ true → 1 ≤ result }
     ensures most { result ≤ 32 }
 {
     match word {
@@ -46,15 +45,14 @@ fn word_bits(word: Scalar) -> u32
 
 #[tactic(auto, unfolding(crate::specs::Clip::bits_of, crate::specs::Clip::is_signed))]
 fn bits(form: Form) -> u32
-    requires { HasBits form }
     ensures value { result ≡ bits_of form }
     ensures narrow { is_signed form ≡ false → result < 32 }
-    ensures least { 1 ≤ result }
+    ensures least { is_signed form ≡ true → 1 ≤ result }
     ensures most { result ≤ 32 }
 {
     match form {
         Form::Plain(word) => word_bits(word),
-        Form::Unsigned(width) => width,
+        Form::Unsigned(width) => width.min(32),
         Form::Struct(_) | Form::Unknown => 32,
     }
 }
@@ -74,7 +72,7 @@ fn is_signed(form: Form) -> bool
 {
     match form {
         Form::Plain(word) => is_word_signed(word),
-        Form::Unsigned(width) => width == 32,
+        Form::Unsigned(width) => width >= 32,
         Form::Struct(_) | Form::Unknown => true,
     }
 }

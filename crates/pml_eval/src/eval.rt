@@ -1,21 +1,23 @@
 //! The value of an expression, and the place of a reference.
 
-ghost use Rattle.std.specs.Prelude.{◌≡◌, ◌+◌, ◌*◌, ◌<◌, ◌≤◌, IsTrue, IfOk, Option, length, map, option_map};
-ghost use Rattle.pml_eval.specs.Value.{val, place, cells, want, wants_of, asked, within, polled, Filling};
+ghost use Rattle.std.specs.Prelude.{◌≡◌, ◌+◌, ◌*◌, ◌<◌, IfOk, List, Option, Ok, length, map, option_map};
+ghost use Rattle.pml_eval.specs.declared.pattern.Sought.{Sought};
+ghost use Rattle.pml_eval.specs.Value.{val, place, cells, want, wants_of, asked, within, inside, polled, is_match, messages_of, Filling, settled};
+ghost use Rattle.pml_eval.specs.Pattern.{matched};
 ghost use Rattle.pml_eval.specs.Ground.{shown};
-ghost use Rattle.pml_eval.specs.Sound.{is_sound, is_sound_target, is_sound_want, all_sound, fitting, most_cells};
 
 use crate::ground::{Filled, Ground, Place};
 use crate::operators::{decide, infix, number_of, prefix};
-use crate::pattern::{Pattern, Sought};
+use crate::pattern::{Sought, takes};
 use diagnostics::Fault;
 use pml_program::value::{Target, Turn, Value, Want};
 use pml_tree::tree::Fill;
+use sqlite_items::Items;
+use std::alloc::{AllocError, Global};
 
 /// The value of an expression, or the first fault from the left.
 #[cycle(eval)]
 pub fn eval<G: Ground>(e: &Value, ground: &G) -> Result<i32, Fault>
-    requires { IsTrue (is_sound e.now (G.sizes ground.now)) }
     ensures { result ≡ val e.now (G.reading ground.now) }
 {
     match e {
@@ -61,43 +63,95 @@ pub fn eval<G: Ground>(e: &Value, ground: &G) -> Result<i32, Fault>
 /// Whether the oldest message matches, or with `any` one of them.
 #[cycle(eval)]
 fn poll<G: Ground>(arguments: &[Want], any: bool, at: Place, ground: &G) -> Result<i32, Fault>
-    requires there { at.cell < G.sizes ground.now at.local at.variable }
-    requires few { length arguments.now ≤ 255 }
-    requires sound { IsTrue (all_sound (map is_sound_want arguments.now) (G.sizes ground.now)) }
+    requires { at.cell < (G.reading ground.now).cells at.local at.variable }
     ensures { result ≡ polled any (length arguments.now) (wants_of (map want arguments.now) (G.reading ground.now)) ((G.reading ground.now).channel ((G.reading ground.now).holds at)) }
 {
     let number = ground.number(at);
     let Some(c) = ground.channel(number) else {
         return Err(Fault::NoSuchChannel);
     };
-    if arguments.len() != c.fields as usize {
+    if arguments.len() != c.fields {
         return Err(Fault::WrongNumberOfFields);
     }
     if c.length == 0 || c.capacity == 0 {
         return Ok(0);
     }
-    let sought = pattern(arguments, ground)?;
-    Ok(number_of(ground.has_match(number, any, &sought)))
+    first_fault(arguments, ground)?;
+    Ok(number_of(has_match(arguments, any, number, c.length, ground)?))
+}
+
+/// The first fault from the left in what is asked, if there is one.
+#[cycle(eval)]
+fn first_fault<G: Ground>(arguments: &[Want], ground: &G) -> Result<(), Fault>
+    ensures { result ≡ settled (wants_of (map want arguments.now) (G.reading ground.now)) }
+{
+    for argument in arguments {
+        want(argument, ground)?;
+    }
+    Ok(())
+}
+
+/// Whether a message of this channel matches: the oldest, or with `any` one of them. What is asked has no fault.
+#[cycle(eval)]
+fn has_match<G: Ground>(
+    arguments: &[Want],
+    any: bool,
+    number: i32,
+    messages: u16,
+    ground: &G,
+) -> Result<bool, Fault>
+    requires { messages ≡ length (messages_of ((G.reading ground.now).channel number)) }
+    ensures { (ws : List Sought) → wants_of (map want arguments.now) (G.reading ground.now) ≡ Ok ws → result ≡ Ok (is_match any ws (messages_of ((G.reading ground.now).channel number))) }
+{
+    for place in 0..messages as usize {
+        if is_asked(arguments, ground.message(number, place), ground)? {
+            return Ok(true);
+        }
+        if !any {
+            return Ok(false);
+        }
+    }
+    Ok(false)
+}
+
+/// Whether each field is what is asked. What is asked has no fault, and is evaluated as far as the first field that is not.
+#[cycle(eval)]
+fn is_asked<G: Ground>(arguments: &[Want], fields: &[i32], ground: &G) -> Result<bool, Fault>
+    ensures { (ws : List Sought) → wants_of (map want arguments.now) (G.reading ground.now) ≡ Ok ws → result ≡ Ok (matched ws fields.now) }
+{
+    if arguments.len() != fields.len() {
+        return Ok(false);
+    }
+    for i in 0..arguments.len() {
+        let one = want(&arguments[i], ground)?;
+        if !takes(one, fields[i]) {
+            return Ok(false);
+        }
+    }
+    Ok(true)
 }
 
 /// What the arguments of a receive ask, or the first fault from the left.
-#[cycle(eval)]
-pub fn pattern<G: Ground>(arguments: &[Want], ground: &G) -> Result<Pattern, Fault>
-    requires few { length arguments.now ≤ 255 }
-    requires sound { IsTrue (all_sound (map is_sound_want arguments.now) (G.sizes ground.now)) }
-    ensures { result ≡ wants_of (map want arguments.now) (G.reading ground.now) }
+pub fn pattern<G: Ground>(
+    alloc: Global,
+    arguments: &[Want],
+    ground: &G,
+) -> Result<Result<Items<Sought>, Fault>, AllocError>
+    ensures { IfOk result (λ found. found ≡ wants_of (map want arguments.now) (G.reading ground.now)) }
 {
-    let mut wants = Pattern::new();
+    let mut wants = Items::new(alloc);
     for argument in arguments {
-        wants.push(want(argument, ground)?);
+        match want(argument, ground) {
+            Ok(one) => wants.push(one)?,
+            Err(fault) => return Ok(Err(fault)),
+        }
     }
-    Ok(wants)
+    Ok(Ok(wants))
 }
 
 /// What an argument asks of its field.
 #[cycle(eval)]
 fn want<G: Ground>(argument: &Want, ground: &G) -> Result<Sought, Fault>
-    requires { IsTrue (is_sound_want argument.now (G.sizes ground.now)) }
     ensures { result ≡ want argument.now (G.reading ground.now) }
 {
     match argument {
@@ -111,13 +165,13 @@ fn want<G: Ground>(argument: &Want, ground: &G) -> Result<Sought, Fault>
 /// The place of a reference, or the first fault from the left.
 #[cycle(eval)]
 pub fn place<G: Ground>(target: &Target, ground: &G) -> Result<Place, Fault>
-    requires { IsTrue (is_sound_target target.now (G.sizes ground.now)) }
     ensures value { result ≡ place target.now (G.reading ground.now) }
-    ensures there { IfOk result (λ p. p.cell < G.sizes ground.now p.local p.variable) }
+    ensures there { IfOk result (λ p. p.cell < (G.reading ground.now).cells p.local p.variable) }
 {
-    let mut cell = 0;
+    let whole = ground.size(target.local, target.variable);
+    let mut cell = further(whole, 0, 0)?;
     for turn in target.turns.as_slice() {
-        cell += cells(turn, ground)?;
+        cell = further(whole, cell, cells(turn, ground)?)?;
     }
     Ok(Place {
         local: target.local,
@@ -126,22 +180,37 @@ pub fn place<G: Ground>(target: &Target, ground: &G) -> Result<Place, Fault>
     })
 }
 
-/// How many cells a step goes on by.
+/// How many cells a turn goes on by.
 #[cycle(eval)]
-fn cells<G: Ground>(turn: &Turn, ground: &G) -> Result<u32, Fault>
-    requires few { turn.now.offset + turn.now.length * turn.now.stride ≤ most_cells }
-    requires sound { IsTrue ((fitting turn.now).index (G.sizes ground.now)) }
-    ensures value { result ≡ cells turn.now (G.reading ground.now) }
-    ensures room { IfOk result (λ n. n + turn.now.stride ≤ turn.now.offset + turn.now.length * turn.now.stride) }
+fn cells<G: Ground>(turn: &Turn, ground: &G) -> Result<usize, Fault>
+    ensures { result ≡ cells turn.now (G.reading ground.now) }
 {
     match &turn.index {
-        None => Ok(turn.offset),
+        None => Ok(turn.offset as usize),
         Some(index) => {
             let x = eval(index.get(), ground)?;
             let i = index_within(turn.length, x)?;
-            Ok(turn.offset + i * turn.stride)
+            Ok(element(turn.offset, i, turn.stride))
         }
     }
+}
+
+/// The cell so many cells further on, in a variable that has `whole`.
+fn further(whole: usize, cell: usize, by: usize) -> Result<usize, Fault>
+    ensures value { result ≡ inside whole (cell + by) }
+    ensures there { IfOk result (λ c. c < whole) }
+{
+    match cell.checked_add(by) {
+        Some(next) if next < whole => Ok(next),
+        _ => Err(Fault::IndexOutOfRange),
+    }
+}
+
+/// The first cell of an element.
+fn element(offset: u32, index: u32, stride: u32) -> usize
+    ensures { result ≡ offset + index * stride }
+{
+    offset as usize + index as usize * stride as usize
 }
 
 fn index_within(length: u32, x: i32) -> Result<u32, Fault>

@@ -1,38 +1,36 @@
 //! What an expression may read.
 
-use crate::pattern::Pattern;
-
 /// A cell of a variable.
 #[derive(Clone, Copy, PartialEq, Eq, Debug)]
 pub struct Place {
     pub local: bool,
     pub variable: usize,
-    pub cell: u32,
+    pub cell: usize,
 }
 
 /// How full a channel is.
 #[derive(Clone, Copy, PartialEq, Eq, Debug)]
 pub struct Filled {
     pub capacity: u16,
-    pub fields: u16,
+    pub fields: usize,
     pub length: u16,
 }
 
 ///! What an expression may read.
 pub trait Ground {
-    ghost use Rattle.std.specs.Prelude.{◌≡◌, ◌<◌, ℕ, option_map, Some, IsSome};
-    ghost use Rattle.pml_eval.specs.Sound.{Sizes};
-    ghost use Rattle.pml_eval.specs.Value.{Reading, is_match};
+    ghost use Rattle.std.specs.Prelude.{◌≡◌, ◌<◌, [], length, option_map, slice_index_or};
+    ghost use Rattle.pml_eval.specs.Value.{Reading, messages_of};
     ghost use Rattle.pml_eval.specs.Ground.{shown};
 
     ghost reading: { Self → Reading };
 
-    /// How many cells each variable has.
-    ghost sizes: { Self → Sizes };
+    /// How many cells a variable has: none if it is not there.
+    fn size(&self, local: bool, variable: usize) -> usize
+        ensures { result ≡ (reading self.now).cells local variable };
 
     /// What a place holds.
     fn number(&self, place: Place) -> i32
-        requires { place.cell < sizes self.now place.local place.variable }
+        requires { place.cell < (reading self.now).cells place.local place.variable }
         ensures { result ≡ (reading self.now).holds place };
 
     /// The number of the process.
@@ -51,8 +49,8 @@ pub trait Ground {
     fn channel(&self, number: i32) -> Option<Filled>
         ensures { result ≡ option_map shown ((reading self.now).channel number) };
 
-    /// Whether the oldest message of this channel matches, or any.
-    fn has_match(&self, number: i32, any: bool, pattern: &Pattern) -> bool
-        requires { IsSome ((reading self.now).channel number) }
-        ensures { Some result ≡ option_map (λ c. is_match any pattern.now c.messages) ((reading self.now).channel number) };
+    /// A message of the channel with this number, the oldest at place 0.
+    fn message(&self, number: i32, place: usize) -> &[i32]
+        requires { place < length (messages_of ((reading self.now).channel number)) }
+        ensures { result.now ≡ slice_index_or (messages_of ((reading self.now).channel number)) place [] };
 }

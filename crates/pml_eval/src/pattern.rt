@@ -1,10 +1,9 @@
 //! What a receive asks of each field of a message.
 
-ghost use Rattle.std.specs.Prelude.{◌≡◌, ◌<◌, ◌++◌, ◌∷◌, [], length};
+ghost use Rattle.std.specs.Prelude.{◌≡◌};
 ghost use Rattle.pml_eval.specs.Pattern.{matched, taken};
 
 use crate::ground::Place;
-use std::marker::Model;
 
 /// What a receive asks of one field.
 #[derive(Clone, Copy, PartialEq, Eq, Debug)]
@@ -16,50 +15,7 @@ pub enum Sought {
     Anything,
 }
 
-/// What a receive asks, field by field: at most 255.
-#[derive(Drop)]
-pub struct Pattern {
-    sought: [Sought; 255],
-    len: usize,
-}
-
-impl Model for Pattern {
-    ghost use Rattle.std.specs.Prelude.{List, ◌≤◌, take};
-    ghost use Rattle.pml_eval.specs.declared.pattern.Sought.{Sought};
-
-    ghost Value = { List Sought };
-
-    ghost view = { λ p. take p.len p.sought };
-
-    ghost invariant = { λ p. p.len ≤ 255 };
-}
-
-impl Pattern {
-    pub fn new() -> Pattern
-        ensures { result ≡ [] }
-    {
-        Pattern {
-            sought: [Sought::Anything; 255],
-            len: 0,
-        }
-    }
-
-    pub fn push(&mut self, one: Sought)
-        requires { length self.old < 255 }
-        ensures { self.new ≡ self.old ++ one ∷ [] }
-    {
-        self.sought[self.len] = one;
-        self.len += 1;
-    }
-
-    pub fn sought(&self) -> &[Sought]
-        ensures { result.now ≡ self.now }
-    {
-        &self.sought[..self.len]
-    }
-}
-
-/// Whether each field is what the pattern asks.
+/// Whether each field is what is asked of it.
 pub fn matches(sought: &[Sought], fields: &[i32]) -> bool
     ensures { result ≡ matched sought.now fields.now }
 {
@@ -74,7 +30,8 @@ pub fn matches(sought: &[Sought], fields: &[i32]) -> bool
     true
 }
 
-fn takes(one: Sought, field: i32) -> bool
+/// Whether a field is what is asked of it.
+pub fn takes(one: Sought, field: i32) -> bool
     ensures { result ≡ taken one field }
 {
     match one {

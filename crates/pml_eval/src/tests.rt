@@ -1,12 +1,10 @@
-ghost use Rattle.std.specs.Prelude.{IsTrue, IfOk};
-ghost use Rattle.pml_eval.specs.Sound.{is_sound, is_sound_target};
-ghost use Rattle.pml_eval.specs.Sample.{fours, sevens};
+ghost use Rattle.pml_eval.specs.Sample.{holding};
 
 use crate::clip::clip;
 use crate::eval::{eval, pattern, place};
 use crate::ground::{Filled, Ground, Place};
 use crate::operators::{decide, infix, prefix};
-use crate::pattern::{Pattern, matches};
+use crate::pattern::{Sought, matches};
 use diagnostics::Fault;
 use pml_program::form::Form;
 use pml_program::value::{Target, Turn, Value, Want};
@@ -15,17 +13,19 @@ use sqlite_items::{Boxed, Items};
 use std::alloc::{AllocError, Global};
 use std::test::Fail;
 
-/// Each variable has four cells, which hold 7, and channel 1 is empty.
+/// Each variable has four cells, which hold this number, channel 1 is empty, and channel 2 holds (2, 9) and (7, 1).
 #[derive(Drop)]
-struct Sevens;
+struct Holding(i32);
 
-impl Ground for Sevens {
-    ghost reading = { λ s. sevens };
+impl Ground for Holding {
+    ghost reading = { λ s. holding s.0 };
 
-    ghost sizes = { λ s. fours };
+    fn size(&self, _: bool, _: usize) -> usize {
+        4
+    }
 
     fn number(&self, _: Place) -> i32 {
-        7
+        self.0
     }
 
     fn process(&self) -> i32 {
@@ -41,19 +41,23 @@ impl Ground for Sevens {
     }
 
     fn channel(&self, number: i32) -> Option<Filled> {
-        if number == 1 {
-            Some(Filled {
+        match number {
+            1 => Some(Filled {
                 capacity: 2,
                 fields: 1,
                 length: 0,
-            })
-        } else {
-            None
+            }),
+            2 => Some(Filled {
+                capacity: 2,
+                fields: 2,
+                length: 2,
+            }),
+            _ => None,
         }
     }
 
-    fn has_match(&self, _: i32, _: bool, _: &Pattern) -> bool {
-        false
+    fn message(&self, _: i32, place: usize) -> &[i32] {
+        if place == 0 { &[2, 9] } else { &[7, 1] }
     }
 }
 
@@ -123,18 +127,18 @@ fn clips(rt: HostRuntime) -> Result<(), Fail> {
     assert_eq!(rt; clip(Form::Unsigned(3), 9), 1);
     assert_eq!(rt; clip(Form::Unsigned(32), -1), -1);
     assert_eq!(rt; clip(Form::Unsigned(31), -1), 2_147_483_647);
+    assert_eq!(rt; clip(Form::Unsigned(40), -1), -1);
+    assert_eq!(rt; clip(Form::Unsigned(0), 5), 0);
     Ok(())
 }
 
-/// An element of an array of four cells.
-fn element(alloc: Global, index: i32) -> Result<Target, AllocError>
-    ensures { IfOk result (λ target. IsTrue (is_sound_target target fours)) }
-{
+/// An element of an array of `length` elements, from the cell `offset` on.
+fn element(alloc: Global, offset: u32, length: u32, index: i32) -> Result<Target, AllocError> {
     let index = Boxed::new(alloc, Value::Number(index))?;
     let mut turns = Items::new(alloc);
     turns.push(Turn {
-        offset: 0,
-        length: 4,
+        offset,
+        length,
         stride: 1,
         index: Some(index),
     })?;
@@ -146,17 +150,15 @@ fn element(alloc: Global, index: i32) -> Result<Target, AllocError>
     })
 }
 
-fn read_of(alloc: Global, index: i32) -> Result<Boxed<Value>, AllocError>
-    ensures { IfOk result (λ value. IsTrue (is_sound value fours)) }
-{
-    let target = element(alloc, index)?;
+fn read_of(alloc: Global, index: i32) -> Result<Boxed<Value>, AllocError> {
+    let target = element(alloc, 0, 4, index)?;
     Boxed::new(alloc, Value::Read(target))
 }
 
 /// What an element of the array is worth.
 fn worth(alloc: Global, index: i32) -> Result<Result<i32, Fault>, AllocError> {
     let read = read_of(alloc, index)?;
-    Ok(eval(read.get(), &Sevens))
+    Ok(eval(read.get(), &Holding(7)))
 }
 
 /// What `0 && a[index]` is worth.
@@ -164,20 +166,20 @@ fn worth_of_both(alloc: Global, index: i32) -> Result<Result<i32, Fault>, AllocE
     let left = Boxed::new(alloc, Value::Number(0))?;
     let right = read_of(alloc, index)?;
     let both = Value::Binary(Infix::And, left, right);
-    Ok(eval(&both, &Sevens))
+    Ok(eval(&both, &Holding(7)))
 }
 
 /// What `len(a[index])` is worth.
 fn worth_of_length(alloc: Global, index: i32) -> Result<Result<i32, Fault>, AllocError> {
-    let ask = Value::Ask(Fill::Length, element(alloc, index)?);
-    Ok(eval(&ask, &Sevens))
+    let ask = Value::Ask(Fill::Length, element(alloc, 0, 4, index)?);
+    Ok(eval(&ask, &Holding(7)))
 }
 
 /// Values over the ground.
 #[test]
 fn values(rt: HostRuntime) -> Result<(), Fail> {
     let alloc = rt.alloc();
-    assert_eq!(rt; eval(&Value::Timeout, &Sevens), Ok(1));
+    assert_eq!(rt; eval(&Value::Timeout, &Holding(7)), Ok(1));
     assert_eq!(rt; worth(alloc, 3)?, Ok(7));
     assert_eq!(rt; worth(alloc, 4)?, Err(Fault::IndexOutOfRange));
     assert_eq!(rt; worth_of_both(alloc, 4)?, Ok(0));
@@ -185,16 +187,55 @@ fn values(rt: HostRuntime) -> Result<(), Fail> {
     Ok(())
 }
 
-/// The place of an element.
+/// The place of an element, and of one beyond the cells that the variable has.
 #[test]
 fn places(rt: HostRuntime) -> Result<(), Fail> {
-    let target = element(rt.alloc(), 2)?;
+    let alloc = rt.alloc();
     let there = Place {
         local: true,
         variable: 2,
         cell: 2,
     };
-    assert_eq!(rt; place(&target, &Sevens), Ok(there));
+    let out = Err(Fault::IndexOutOfRange);
+    assert_eq!(rt; place(&element(alloc, 0, 4, 2)?, &Holding(7)), Ok(there));
+    assert_eq!(rt; place(&element(alloc, 1, 4, 1)?, &Holding(7)), Ok(there));
+    assert_eq!(rt; place(&element(alloc, 0, 9, 4)?, &Holding(7)), out);
+    assert_eq!(rt;
+        place(&element(alloc, 4_294_967_295, 4, 3)?, &Holding(7)),
+        out
+    );
+    Ok(())
+}
+
+/// What it is worth to poll this channel for a message of these fields.
+fn polled(
+    alloc: Global,
+    channel: i32,
+    any: bool,
+    fields: &[i32],
+) -> Result<Result<i32, Fault>, AllocError> {
+    let mut wants = Items::new(alloc);
+    for field in fields {
+        wants.push(Want::Exactly(*field))?;
+    }
+    let poll = Value::Poll(element(alloc, 0, 4, 0)?, any, wants);
+    Ok(eval(&poll, &Holding(channel)))
+}
+
+/// Polls of the oldest message, and of any.
+#[test]
+fn polls(rt: HostRuntime) -> Result<(), Fail> {
+    let alloc = rt.alloc();
+    assert_eq!(rt; polled(alloc, 1, false, &[2])?, Ok(0));
+    assert_eq!(rt;
+        polled(alloc, 1, false, &[2, 9])?,
+        Err(Fault::WrongNumberOfFields)
+    );
+    assert_eq!(rt; polled(alloc, 2, false, &[2, 9])?, Ok(1));
+    assert_eq!(rt; polled(alloc, 2, false, &[7, 1])?, Ok(0));
+    assert_eq!(rt; polled(alloc, 2, true, &[7, 1])?, Ok(1));
+    assert_eq!(rt; polled(alloc, 2, true, &[7, 2])?, Ok(0));
+    assert_eq!(rt; polled(alloc, 3, true, &[7, 2])?, Err(Fault::NoSuchChannel));
     Ok(())
 }
 
@@ -202,11 +243,14 @@ fn places(rt: HostRuntime) -> Result<(), Fail> {
 #[test]
 fn patterns(rt: HostRuntime) -> Result<(), Fail> {
     let wanted = [Want::Exactly(2), Want::Anything];
-    match pattern(&wanted, &Sevens) {
+    match pattern(rt.alloc(), &wanted, &Holding(7))? {
         Ok(sought) => {
-            assert_eq!(rt; sought.sought().len(), 2);
-            assert_eq!(rt; matches(sought.sought(), &[2, 9]), true);
-            assert_eq!(rt; matches(sought.sought(), &[3, 9]), false);
+            assert_eq!(rt;
+                sought.as_slice(),
+                [Sought::Exactly(2), Sought::Anything].as_slice()
+            );
+            assert_eq!(rt; matches(sought.as_slice(), &[2, 9]), true);
+            assert_eq!(rt; matches(sought.as_slice(), &[3, 9]), false);
         }
         Err(_) => assert_eq!(rt; 0, 1),
     }

@@ -47,8 +47,8 @@ initial (Some (t.Channel e ss)) sc = i.Channel (natural (constant e)) (map plain
 -- a variable as its name is declared
 abbrev pub slot : Word → Initial → Option Thing → Slot
 slot n begins (Some (thing.Variable x)) =
-    record { name = n; form = x.form; offset = x.offset; length = x.length; stride = x.stride; initial = begins }
-slot n begins _ = record { name = n; form = kind.Unknown; offset = 0; length = 1; stride = 1; initial = begins }
+    record { name = n; form = x.form; array = x.array; offset = x.offset; length = x.length; stride = x.stride; initial = begins }
+slot n begins _ = record { name = n; form = kind.Unknown; array = false; offset = 0; length = 1; stride = 1; initial = begins }
 
 abbrev pub declares : Bool → Variable → What
 declares field v = what.Declares v.name (declared_as.Variable field v.sort (size_of v.size) (makes_channels v.initial))

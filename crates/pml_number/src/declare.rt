@@ -112,6 +112,7 @@ fn slot<'a>(name: Token<'a>, initial: Initial, found: Option<Thing>) -> Slot<'a>
         Some(Thing::Variable(v)) => Slot {
             name,
             form: v.form,
+            array: v.array,
             offset: v.offset,
             length: v.length,
             stride: v.stride,
@@ -120,6 +121,7 @@ fn slot<'a>(name: Token<'a>, initial: Initial, found: Option<Thing>) -> Slot<'a>
         _ => Slot {
             name,
             form: Form::Unknown,
+            array: false,
             offset: 0,
             length: 1,
             stride: 1,

@@ -69,10 +69,12 @@ pub enum Initial {
 }
 
 /// A variable, in order of declaration: `length` elements of `stride` cells each, from `offset` on among those of its owner.
+/// An array of one element is an array all the same.
 #[derive(Drop)]
 pub struct Slot<'a> {
     pub name: Token<'a>,
     pub form: Form,
+    pub array: bool,
     pub offset: u32,
     pub length: u32,
     pub stride: u32,

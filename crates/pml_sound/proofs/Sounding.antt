@@ -1,5 +1,5 @@
 -- What fits and is used as it may be is sound.
-use Rattle.std.proofs.Common.{◌≡◌, ℕ, zero, suc, ◌+◌, ◌*◌, ◌<◌, ◌≤◌, Bool, true, false, ◌&&◌, nat_le, List, [], ◌∷◌, length, map, Option, Some, None, refl, ap, sym, subst, ◌∙◌, IsTrue, arith}
+use Rattle.std.proofs.Common.{◌≡◌, ℕ, zero, suc, ◌+◌, ◌*◌, ◌<◌, ◌≤◌, Bool, true, false, ◌&&◌, nat_lt, nat_le, List, [], ◌∷◌, map, Option, Some, None, refl, ap, sym, subst, ◌∙◌, IsTrue, arith}
 use Rattle.std.specs.Prelude.{slice_get}
 use Rattle.std.specs.List.{AllByRecursion}
 use Rattle.std.proofs.lemmas.Bool.{lt-ltb, le-leb}
@@ -13,9 +13,9 @@ use Rattle.pml_program.specs.declared.value.Turn.{Turn, Turn-F, map-Turn, roll-T
 use Rattle.pml_program.specs.declared.program.Slot.{Slot}
 use Rattle.pml_number.specs.Layout.{Within, TurnsFit, IsSlot, HasCells, Reaches, EndsIn}
 use Rattle.pml_number.specs.Fits.{slots_of, AnyValue, AnyWant, HasElement, ItFits, ValueFits, WantFits, TargetFits, TurnFits}
-use Rattle.pml_eval.specs.Sound.{Sizes, Tested, Fitting, most_cells, all_fit, all_sound, fitting, is_sound, is_sound_want, is_sound_target, sound_value, sound_want, sound_target, sound_turn}
-use Rattle.pml_sound.specs.Used.{cells_of, cells_at, sizes, AreFew, HasTurn, IsCell, ItIsUsed, PollIsFew, AnyTurn, ValueUsed, WantUsed, TargetUsed, TurnUsed}
-use Rattle.pml_sound.proofs.Parts.{InValue, InWant, InIndex, value-parts, want-parts, target-parts, turn-parts, value-here, target-here, turn-here}
+use Rattle.pml_sound.specs.Sound.{Sizes, Tested, Fitting, all_fit, all_sound, fitting, is_sound, is_sound_want, is_sound_target, sound_value, sound_want, sound_target, sound_turn}
+use Rattle.pml_sound.specs.Used.{most_cells, cells_of, cells_at, sizes, AreFew, HasTurn, IsCell, ItIsUsed, AnyTurn, ValueUsed, WantUsed, TargetUsed, TurnUsed}
+use Rattle.pml_sound.proofs.Parts.{InValue, InWant, InIndex, value-parts, want-parts, target-parts, turn-parts, target-here, turn-here}
 
 both : (a b : Bool) → IsTrue a → IsTrue b → IsTrue (a && b)
 both true true h g = refl
@@ -65,7 +65,7 @@ module _ (gs ls : List Slot) (few-g : AreFew gs) (few-l : AreFew ls) where
 
   -- of a target whose variable is among these slots
   target-fit : (ss : List Slot) → AreFew ss → (n : ℕ) (f : Form) (ts : List Turn) → HasTurn ts → TurnsFit ts → IsSlot ss n ts → EndsIn f ts → IsCell f → AllByRecursion (TurnFits gs ls) ts → AllByRecursion Indexed ts
-      → IsTrue (nat_le (cells_at (slice_get ss n)) most_cells && all_fit (map fitting ts) (cells_at (slice_get ss n)) z)
+      → IsTrue (all_fit (map fitting ts) (cells_at (slice_get ss n)) z)
   target-fit ss few n f [] some fits slot ends c h i = absurd some
   target-fit ss few n f (t ∷ ts) some fits slot ends c h i =
       let s : Slot = slot.0 in
@@ -76,8 +76,7 @@ module _ (gs ls : List Slot) (few-g : AreFew gs) (few-l : AreFew ls) where
       let least : (out-Turn t).stride ≤ (out-Turn t).length * (out-Turn t).stride = stride-le (out-Turn t).length (out-Turn t).stride element in
       let within : (out-Turn t).offset + (out-Turn t).length * (out-Turn t).stride ≤ cells_of s = omega (arith, fits.0, product) in
       let rest : Within (out-Turn t).stride ts = fits.1 (omega (arith, least, product, most)) in
-      subst (λ (k : ℕ). IsTrue (nat_le k most_cells && all_fit (map fitting (t ∷ ts)) k z)) (sym is)
-      (both (nat_le (cells_of s) most_cells) (all_fit (map fitting (t ∷ ts)) (cells_of s) z) (le-leb (cells_of s) most_cells most) (fit-all (t ∷ ts) f (cells_of s) (within, rest) i ends c))
+      subst (λ (k : ℕ). IsTrue (all_fit (map fitting (t ∷ ts)) k z)) (sym is) (fit-all (t ∷ ts) f (cells_of s) (within, rest) i ends c)
 
   few-of : (local : Bool) → AreFew (slots_of local gs ls)
   few-of true = few-l
@@ -113,7 +112,7 @@ module _ (gs ls : List Slot) (few-g : AreFew gs) (few-l : AreFew ls) where
   FitsIn = InValue AnyValue AnyWant (ItFits gs ls) HasElement
 
   abbrev UsedIn : Value-F Value Want Target Turn → Type 0
-  UsedIn = InValue PollIsFew AnyWant ItIsUsed AnyTurn
+  UsedIn = InValue AnyValue AnyWant ItIsUsed AnyTurn
 
   abbrev bare : Value-F V W T U → Value-F Value Want Target Turn
   bare = map-Value V W T U Value Want Target Turn (λ e. e.0) (λ e. e.0) (λ e. e.0) (λ e. e.0)
@@ -131,26 +130,21 @@ module _ (gs ls : List Slot) (few-g : AreFew gs) (few-l : AreFew ls) where
   wants-sound [] h u = refl
   wants-sound (w ∷ ws) h u = both (is_sound_want w.0 z) (all_sound (map is_sound_want (map (λ (e : W). e.0) ws)) z) (w.1 h.0 u.0) (wants-sound ws h.1 u.1)
 
-  same-length : (ws : List Want) → length (map is_sound_want ws) ≡ length ws
-  same-length [] = refl
-  same-length (w ∷ ws) = ap (λ (n : ℕ). suc n) (same-length ws)
-
-  value-step : (y : Value-F V W T U) → FitsIn (bare y) → UsedIn (bare y) → PollIsFew (bare y) → IsTrue (sound_value (map-Value Value Want Target Turn Tested Tested Tested Fitting is_sound is_sound_want is_sound_target fitting (bare y)) z)
-  value-step (Value-F.Number n) h u f = refl
-  value-step Value-F.Process h u f = refl
-  value-step Value-F.Living h u f = refl
-  value-step Value-F.Timeout h u f = refl
-  value-step (Value-F.Read p) h u f = p.1 h u
-  value-step (Value-F.Ask g p) h u f = p.1 h u
-  value-step (Value-F.Poll p any ws) h u f =
+  value-step : (y : Value-F V W T U) → FitsIn (bare y) → UsedIn (bare y) → IsTrue (sound_value (map-Value Value Want Target Turn Tested Tested Tested Fitting is_sound is_sound_want is_sound_target fitting (bare y)) z)
+  value-step (Value-F.Number n) h u = refl
+  value-step Value-F.Process h u = refl
+  value-step Value-F.Living h u = refl
+  value-step Value-F.Timeout h u = refl
+  value-step (Value-F.Read p) h u = p.1 h u
+  value-step (Value-F.Ask g p) h u = p.1 h u
+  value-step (Value-F.Poll p any ws) h u =
       let xs : List Want = map (λ (e : W). e.0) ws in
-      both (is_sound_target p.0 z) (nat_le (length (map is_sound_want xs)) 255 && all_sound (map is_sound_want xs) z) (p.1 h.0 u.0)
-      (both (nat_le (length (map is_sound_want xs)) 255) (all_sound (map is_sound_want xs) z) (le-leb (length (map is_sound_want xs)) 255 (subst (λ (n : ℕ). n ≤ 255) (sym (same-length xs)) f)) (wants-sound ws h.1 u.1))
-  value-step (Value-F.Unary op a) h u f = a.1 h u
-  value-step (Value-F.Binary op a b) h u f = both (is_sound a.0 z) (is_sound b.0 z) (a.1 h.0 u.0) (b.1 h.1 u.1)
-  value-step (Value-F.Choice a b c) h u f = both (is_sound a.0 z) (is_sound b.0 z && is_sound c.0 z) (a.1 h.0 u.0) (both (is_sound b.0 z) (is_sound c.0 z) (b.1 h.1.0 u.1.0) (c.1 h.1.1 u.1.1))
+      both (is_sound_target p.0 z) (all_sound (map is_sound_want xs) z) (p.1 h.0 u.0) (wants-sound ws h.1 u.1)
+  value-step (Value-F.Unary op a) h u = a.1 h u
+  value-step (Value-F.Binary op a b) h u = both (is_sound a.0 z) (is_sound b.0 z) (a.1 h.0 u.0) (b.1 h.1 u.1)
+  value-step (Value-F.Choice a b c) h u = both (is_sound a.0 z) (is_sound b.0 z && is_sound c.0 z) (a.1 h.0 u.0) (both (is_sound b.0 z) (is_sound c.0 z) (b.1 h.1.0 u.1.0) (c.1 h.1.1 u.1.1))
 
-  want-step : (y : Want-F V W T U) → InWant AnyValue AnyWant (ItFits gs ls) HasElement (bare-want y) → InWant PollIsFew AnyWant ItIsUsed AnyTurn (bare-want y) → IsTrue (sound_want (map-Want Value Want Target Turn Tested Tested Tested Fitting is_sound is_sound_want is_sound_target fitting (bare-want y)) z)
+  want-step : (y : Want-F V W T U) → InWant AnyValue AnyWant (ItFits gs ls) HasElement (bare-want y) → InWant AnyValue AnyWant ItIsUsed AnyTurn (bare-want y) → IsTrue (sound_want (map-Want Value Want Target Turn Tested Tested Tested Fitting is_sound is_sound_want is_sound_target fitting (bare-want y)) z)
   want-step (Want-F.Exactly n) h u = refl
   want-step (Want-F.Equal a) h u = a.1 h u
   want-step (Want-F.Into p) h u = p.1 h u
@@ -161,34 +155,34 @@ module _ (gs ls : List Slot) (few-g : AreFew gs) (few-l : AreFew ls) where
   turns-indexed (e ∷ us) h u = (e.1 h.0 u.0, turns-indexed us h.1 u.1)
 
   index-step : (i : Option V) (n : ℕ) (offset stride : ℕ) → 0 < n → let y : Turn-F V W T U = record { offset = offset; length = n; stride = stride; index = i } in
-      InIndex AnyValue AnyWant (ItFits gs ls) HasElement (bare-turn y).index → InIndex PollIsFew AnyWant ItIsUsed AnyTurn (bare-turn y).index → IsTrue ((sound_turn (map-Turn Value Want Target Turn Tested Tested Tested Fitting is_sound is_sound_want is_sound_target fitting (bare-turn y))).index z)
-  index-step None n offset stride p h u = lt-ltb 0 n p
-  index-step (Some a) n offset stride p h u = a.1 h u
+      InIndex AnyValue AnyWant (ItFits gs ls) HasElement (bare-turn y).index → InIndex AnyValue AnyWant ItIsUsed AnyTurn (bare-turn y).index → IsTrue ((sound_turn (map-Turn Value Want Target Turn Tested Tested Tested Fitting is_sound is_sound_want is_sound_target fitting (bare-turn y))).index z)
+  index-step None n offset stride p h u = both (nat_lt 0 n) true (lt-ltb 0 n p) refl
+  index-step (Some a) n offset stride p h u = both (nat_lt 0 n) (is_sound a.0 z) (lt-ltb 0 n p) (a.1 h u)
 
   value-proof : (x : Value-F Value Want Target Turn) (y : Value-F V W T U) → bare y ≡ x → PV (roll-Value x)
   value-proof x y is = subst (λ (w : Value-F Value Want Target Turn). PV (roll-Value w)) is (λ h u.
       subst (λ (f : Tested). IsTrue (f z)) (sym (fold-roll-Value Tested Tested Tested Fitting sound_value sound_want sound_target sound_turn (bare y)))
-      (value-step y (value-parts AnyValue AnyWant (ItFits gs ls) HasElement (bare y) h) (value-parts PollIsFew AnyWant ItIsUsed AnyTurn (bare y) u) (value-here PollIsFew AnyWant ItIsUsed AnyTurn (bare y) u)))
+      (value-step y (value-parts AnyValue AnyWant (ItFits gs ls) HasElement (bare y) h) (value-parts AnyValue AnyWant ItIsUsed AnyTurn (bare y) u)))
 
   want-proof : (x : Want-F Value Want Target Turn) (y : Want-F V W T U) → bare-want y ≡ x → PW (roll-Want x)
   want-proof x y is = subst (λ (w : Want-F Value Want Target Turn). PW (roll-Want w)) is (λ h u.
       subst (λ (f : Tested). IsTrue (f z)) (sym (fold-roll-Want Tested Tested Tested Fitting sound_value sound_want sound_target sound_turn (bare-want y)))
-      (want-step y (want-parts AnyValue AnyWant (ItFits gs ls) HasElement (bare-want y) h) (want-parts PollIsFew AnyWant ItIsUsed AnyTurn (bare-want y) u)))
+      (want-step y (want-parts AnyValue AnyWant (ItFits gs ls) HasElement (bare-want y) h) (want-parts AnyValue AnyWant ItIsUsed AnyTurn (bare-want y) u)))
 
   target-proof : (x : Target-F Value Want Target Turn) (y : Target-F V W T U) → bare-target y ≡ x → PT (roll-Target x)
   target-proof x y is = subst (λ (w : Target-F Value Want Target Turn). PT (roll-Target w)) is (λ h u.
       let x : Target-F Value Want Target Turn = bare-target y in
       let fits : ItFits gs ls x = target-here AnyValue AnyWant (ItFits gs ls) HasElement x h in
-      let used : ItIsUsed x = target-here PollIsFew AnyWant ItIsUsed AnyTurn x u in
+      let used : ItIsUsed x = target-here AnyValue AnyWant ItIsUsed AnyTurn x u in
       let turns : AllByRecursion (TurnFits gs ls) x.turns = target-parts AnyValue AnyWant (ItFits gs ls) HasElement x h in
       subst (λ (f : Tested). IsTrue (f z)) (sym (fold-roll-Target Tested Tested Tested Fitting sound_value sound_want sound_target sound_turn x))
       (target-fit (slots_of x.local gs ls) (few-of x.local) x.variable x.form x.turns used.some fits.turns fits.slot fits.ends used.cell turns
-      (turns-indexed y.turns turns (target-parts PollIsFew AnyWant ItIsUsed AnyTurn x u))))
+      (turns-indexed y.turns turns (target-parts AnyValue AnyWant ItIsUsed AnyTurn x u))))
 
   turn-proof : (x : Turn-F Value Want Target Turn) (y : Turn-F V W T U) → bare-turn y ≡ x → PU (roll-Turn x)
   turn-proof x y is = subst (λ (w : Turn-F Value Want Target Turn). PU (roll-Turn w)) is (λ h u.
       subst (λ (f : Fitting). IsTrue (f.index z)) (sym (fold-roll-Turn Tested Tested Tested Fitting sound_value sound_want sound_target sound_turn (bare-turn y)))
-      (index-step y.index y.length y.offset y.stride (turn-here AnyValue AnyWant (ItFits gs ls) HasElement (bare-turn y) h) (turn-parts AnyValue AnyWant (ItFits gs ls) HasElement (bare-turn y) h) (turn-parts PollIsFew AnyWant ItIsUsed AnyTurn (bare-turn y) u)))
+      (index-step y.index y.length y.offset y.stride (turn-here AnyValue AnyWant (ItFits gs ls) HasElement (bare-turn y) h) (turn-parts AnyValue AnyWant (ItFits gs ls) HasElement (bare-turn y) h) (turn-parts AnyValue AnyWant ItIsUsed AnyTurn (bare-turn y) u)))
 
   pub value-sound : (v : Value) → PV v
   value-sound = ind-Value PV PW PT PU value-proof want-proof target-proof turn-proof

@@ -1,1 +1,3 @@
+pub mod Sound
 pub mod Used
+pub mod Plain

@@ -1,15 +1,15 @@
 -- What is used as it may be, and that it is sound.
-use Rattle.std.specs.Prelude.{ℕ, ◌*◌, ◌≤◌, List, [], ◌∷◌, length, slice_get, Option, Some, None, IsTrue}
+use Rattle.std.specs.Prelude.{ℕ, ◌*◌, ◌≤◌, List, [], ◌∷◌, slice_get, Option, Some, None, IsTrue}
 use Rattle.std.specs.List.{AllByRecursion}
 use Rattle.pml_program.specs.declared.form.Form.{Form}
 use Rattle.pml_program.specs.declared.form.Form.TheVariants as kind
-use Rattle.pml_program.specs.declared.value.Value.{Value, Value-F, every-Value}
+use Rattle.pml_program.specs.declared.value.Value.{Value, every-Value}
 use Rattle.pml_program.specs.declared.value.Want.{Want, every-Want}
 use Rattle.pml_program.specs.declared.value.Target.{Target, Target-F, every-Target}
 use Rattle.pml_program.specs.declared.value.Turn.{Turn, Turn-F, every-Turn}
 use Rattle.pml_program.specs.declared.program.Slot.{Slot}
-use Rattle.pml_number.specs.Fits.{slots_of, AnyWant, ValueFits, WantFits, TargetFits}
-use Rattle.pml_eval.specs.Sound.{Sizes, most_cells, is_sound, is_sound_want, is_sound_target}
+use Rattle.pml_number.specs.Fits.{slots_of, AnyValue, AnyWant, ValueFits, WantFits, TargetFits}
+use Rattle.pml_sound.specs.Sound.{Sizes, is_sound, is_sound_want, is_sound_target}
 
 abbrev pub cells_of : Slot → ℕ
 cells_of s = s.length * s.stride
@@ -21,6 +21,9 @@ cells_at (Some s) = cells_of s
 -- how many cells a variable has among these global ones and these local ones
 abbrev pub sizes : List Slot → List Slot → Sizes
 sizes gs ls local n = cells_at (slice_get (slots_of local gs ls) n)
+
+abbrev pub most_cells : ℕ
+most_cells = 1000000
 
 -- no variable has too many cells
 abbrev pub AreFew : List Slot → Type 0
@@ -39,24 +42,20 @@ pub record ItIsUsed (t : Target-F Value Want Target Turn) : Type 0 where
   pub some : HasTurn t.turns
   pub cell : IsCell t.form
 
-abbrev pub PollIsFew : Value-F Value Want Target Turn → Type 0
-PollIsFew (Value-F.Poll p any args) = length args ≤ 255
-PollIsFew _ = Unit {0}
-
 abbrev pub AnyTurn : Turn-F Value Want Target Turn → Type 0
 AnyTurn t = Unit {0}
 
 abbrev pub ValueUsed : Value → Type 0
-ValueUsed = every-Value PollIsFew AnyWant ItIsUsed AnyTurn
+ValueUsed = every-Value AnyValue AnyWant ItIsUsed AnyTurn
 
 abbrev pub WantUsed : Want → Type 0
-WantUsed = every-Want PollIsFew AnyWant ItIsUsed AnyTurn
+WantUsed = every-Want AnyValue AnyWant ItIsUsed AnyTurn
 
 abbrev pub TargetUsed : Target → Type 0
-TargetUsed = every-Target PollIsFew AnyWant ItIsUsed AnyTurn
+TargetUsed = every-Target AnyValue AnyWant ItIsUsed AnyTurn
 
 abbrev pub TurnUsed : Turn → Type 0
-TurnUsed = every-Turn PollIsFew AnyWant ItIsUsed AnyTurn
+TurnUsed = every-Turn AnyValue AnyWant ItIsUsed AnyTurn
 
 abbrev pub SoundValues : Type 0
 SoundValues = (gs ls : List Slot) → AreFew gs → AreFew ls → (v : Value) → ValueFits gs ls v → ValueUsed v → IsTrue (is_sound v (sizes gs ls))

@@ -1,4 +1,4 @@
-//! That the references of a checked model stay within their variables, as the evaluator asks: laws alone.
+//! That the references of a checked model stay within their variables: laws alone.
 #![tactic(auto)]
 
 pub mod laws;

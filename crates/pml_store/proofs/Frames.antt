@@ -49,8 +49,8 @@ zeros_at cells (n ∷ ns) k m h =
     (ap (take n) (drop-append-add cells (replicate m (pos 0)) k ∙ drop-replicate k m (pos 0)) ∙ take-replicate n (m - k) (pos 0) (omega arith))
     (ap (λ (a : ℕ). map (cells_of (cells ++ replicate m (pos 0))) (slots_of a ns)) (add_assoc (length cells) k n) ∙ zeros_at cells ns (k + n) m (omega arith))
 
-pub IsLaid-push : (most : ℕ) (os : List Owner) (cells : List ℤ) (ns : List ℕ) → IsLaid most os cells → length cells + sum ns ≤ most → IsLaid most (os ++ record { base = length cells; slots = slots_of (length cells) ns } ∷ []) (cells ++ replicate (sum ns) (pos 0))
-IsLaid-push most os cells ns h room =
+pub IsLaid-push : (os : List Owner) (cells : List ℤ) (ns : List ℕ) → IsLaid os cells → IsLaid (os ++ record { base = length cells; slots = slots_of (length cells) ns } ∷ []) (cells ++ replicate (sum ns) (pos 0))
+IsLaid-push os cells ns h =
     let l = slots_of_lie (length cells) ns in
     let c = h.cover in
     let o : Owner = record { base = length cells; slots = slots_of (length cells) ns } in
@@ -60,10 +60,10 @@ IsLaid-push most os cells ns h room =
     let r = length-replicate (sum ns) (pos 0) in
     let k = m.1 in
     let q = l.1 in
-    record { lie = m.0; cover = omega arith; few = omega arith }
+    record { lie = m.0; cover = omega arith }
 
-pub frames_of-push : (most : ℕ) (os : List Owner) (cells : List ℤ) (ns : List ℕ) → IsLaid most os cells → frames_of (os ++ record { base = length cells; slots = slots_of (length cells) ns } ∷ []) (cells ++ replicate (sum ns) (pos 0)) ≡ frames_of os cells ++ zeros ns ∷ []
-frames_of-push most os cells ns h =
+pub frames_of-push : (os : List Owner) (cells : List ℤ) (ns : List ℕ) → IsLaid os cells → frames_of (os ++ record { base = length cells; slots = slots_of (length cells) ns } ∷ []) (cells ++ replicate (sum ns) (pos 0)) ≡ frames_of os cells ++ zeros ns ∷ []
+frames_of-push os cells ns h =
     let o : Owner = record { base = length cells; slots = slots_of (length cells) ns } in
     let more = replicate (sum ns) (pos 0) in
     let front = owners_front cells more os 0 h.lie (omega (arith, h.cover)) in
@@ -78,12 +78,12 @@ lie_less : (os : List Owner) (o : Owner) (at : ℕ) → OwnersLie (os ++ o ∷ [
 lie_less [] o at h = let on = slots_on o.slots at in (tt, h.0, on)
 lie_less (w ∷ os) o at h = let r = lie_less os o (slots_end w.slots at) h.2 in ((h.0, h.1, r.0), r.1, r.2)
 
-pub IsLaid-pop : (most : ℕ) (os : List Owner) (o : Owner) (cells : List ℤ) → IsLaid most (os ++ o ∷ []) cells → IsLaid most os (take o.base cells)
-IsLaid-pop most os o cells h =
+pub IsLaid-pop : (os : List Owner) (o : Owner) (cells : List ℤ) → IsLaid (os ++ o ∷ []) cells → IsLaid os (take o.base cells)
+IsLaid-pop os o cells h =
     let r = lie_less os o 0 h.lie in
     let t = length-take o.base cells in
-    let b = r.1 in let m = r.2 in let c = h.cover in let f = h.few in
-    record { lie = r.0; cover = omega arith; few = omega arith }
+    let b = r.1 in let m = r.2 in let c = h.cover in
+    record { lie = r.0; cover = omega arith }
 
 but_last-push : (fs : List Frame) (f : Frame) → but_last (fs ++ f ∷ []) ≡ fs
 but_last-push fs f =
@@ -91,8 +91,8 @@ but_last-push fs f =
     let e : length (fs ++ f ∷ []) - 1 ≡ length fs = omega arith in
     ap (λ (k : ℕ). take k (fs ++ f ∷ [])) e ∙ take-append_seam fs (f ∷ [])
 
-pub frames_of-pop : (most : ℕ) (os : List Owner) (o : Owner) (cells : List ℤ) → IsLaid most (os ++ o ∷ []) cells → frames_of os (take o.base cells) ≡ but_last (frames_of (os ++ o ∷ []) cells)
-frames_of-pop most os o cells h =
+pub frames_of-pop : (os : List Owner) (o : Owner) (cells : List ℤ) → IsLaid (os ++ o ∷ []) cells → frames_of os (take o.base cells) ≡ but_last (frames_of (os ++ o ∷ []) cells)
+frames_of-pop os o cells h =
     let r = lie_less os o 0 h.lie in
     let b = r.1 in
     let m = r.2 in

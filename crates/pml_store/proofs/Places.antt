@@ -5,8 +5,8 @@ use Rattle.std.proofs.lemmas.List.{length-map, get_or-drop, get_or-take, take-ap
 use Rattle.pml_store.specs.declared.place.Place.{Place}
 use Rattle.pml_store.specs.declared.store.Slot.{Slot}
 use Rattle.pml_store.specs.declared.store.Owner.{Owner}
-use Rattle.pml_store.specs.Store.{Frame, Cells, frame_at, cells_at, number_at, HasPlace, flat, joined, index_of}
-use Rattle.pml_store.specs.Laid.{cells_of, frame_of, frames_of, nowhere, nobody, owner_at, slot_at, SlotsLie, slots_end, OwnersLie, owners_end, IsLaid}
+use Rattle.pml_store.specs.Store.{Frame, Cells, frame_at, cells_at, number_at, HasPlace, flat, joined, index_of, size_at}
+use Rattle.pml_store.specs.Laid.{cells_of, frame_of, frames_of, nowhere, nobody, owner_at, slot_of, slot_at, SlotsLie, slots_end, OwnersLie, owners_end, IsLaid}
 
 pub frame_is : (os : List Owner) (cells : List ℤ) (o : ℕ) → frame_at (frames_of os cells) o ≡ frame_of cells (owner_at os o)
 frame_is os cells o = get_or-map (frame_of cells) os o nobody
@@ -57,8 +57,8 @@ joined_to [] cells at h = refl
 joined_to (o ∷ os) cells at h =
     rw (append_assoc, joined_to os cells (slots_end o.slots at) h.2) (flat_is o.slots cells at h.1)
 
-pub joined_is : (most : ℕ) (os : List Owner) (cells : List ℤ) → IsLaid most os cells → joined (frames_of os cells) ≡ cells
-joined_is most os cells h =
+pub joined_is : (os : List Owner) (cells : List ℤ) → IsLaid os cells → joined (frames_of os cells) ≡ cells
+joined_is os cells h =
     let e = joined_to os cells 0 h.lie in
     let d = drop_all (owners_end os 0) cells (omega (arith, h.cover)) in
     sym (append-nil (joined (frames_of os cells))) ∙ ap (λ (x : List ℤ). joined (frames_of os cells) ++ x) (sym d) ∙ e
@@ -107,6 +107,23 @@ joined_len_to (w ∷ os) cells at (suc o) h l k =
     let a = length-append (frame_flat cells w) (joined (take o (frames_of os cells))) in
     omega arith
 
+slot_below : (ss : List Slot) (at n v : ℕ) → SlotsLie ss at → slots_end ss at ≤ n → (get_or ss v nowhere).start + (get_or ss v nowhere).size ≤ n
+slot_below [] at n v h l = omega arith
+slot_below (s ∷ ss) at n zero h l = let st = h.0 in let on = slots_on ss (at + s.size) in omega arith
+slot_below (s ∷ ss) at n (suc v) h l = slot_below ss (at + s.size) n v h.1 l
+
+slot_of_below : (os : List Owner) (at n o v : ℕ) → OwnersLie os at → owners_end os at ≤ n → (slot_of os o v).start + (slot_of os o v).size ≤ n
+slot_of_below [] at n o v h l = omega arith
+slot_of_below (w ∷ os) at n zero v h l = let on = owners_on os (slots_end w.slots at) in slot_below w.slots at n v h.1 (omega arith)
+slot_of_below (w ∷ os) at n (suc o) v h l = slot_of_below os (slots_end w.slots at) n o v h.2 l
+
+-- how many cells a variable has, if it is there
+pub size_is : (os : List Owner) (cells : List ℤ) (o v : ℕ) → IsLaid os cells → (slot_of os o v).size ≡ size_at (frames_of os cells) o v
+size_is os cells o v h =
+    let p : Place = record { owner = o; variable = v; cell = 0 } in
+    let below = slot_of_below os 0 (length cells) o v h.lie (omega (arith, h.cover)) in
+    sym (ap length (cells_is os cells p) ∙ length-cells_of cells (slot_of os o v) below)
+
 pub record Lies (o : Owner) (n : ℕ) : Type 0 where
   pub slots : SlotsLie o.slots o.base
   pub below : slots_end o.slots o.base ≤ n
@@ -118,8 +135,8 @@ owner_lies (w ∷ os) at n zero h l k =
     record { slots = rw h.0 h.1; below = rw h.0 (omega arith) }
 owner_lies (w ∷ os) at n (suc o) h l k = owner_lies os (slots_end w.slots at) n o h.2 l (omega arith)
 
-pub index_is : (most : ℕ) (os : List Owner) (cells : List ℤ) (p : Place) → IsLaid most os cells → HasPlace (frames_of os cells) p → index_of (frames_of os cells) p ≡ (slot_at os p).start + p.cell
-index_is most os cells p h there =
+pub index_is : (os : List Owner) (cells : List ℤ) (p : Place) → IsLaid os cells → HasPlace (frames_of os cells) p → index_of (frames_of os cells) p ≡ (slot_at os p).start + p.cell
+index_is os cells p h there =
     let f = found os cells p there in
     let a = joined_len_to os cells 0 p.owner h.lie (omega (arith, h.cover)) f.owner in
     let l = owner_lies os 0 (length cells) p.owner h.lie (omega (arith, h.cover)) f.owner in
@@ -133,12 +150,12 @@ pub record IsIndex (frames : List Frame) (p : Place) (i : ℕ) : Type 0 where
   pub within : i < length (joined frames)
   pub holds : get_or (joined frames) i (pos 0) ≡ number_at frames p
 
-pub is_index : (most : ℕ) (os : List Owner) (cells : List ℤ) (p : Place) → IsLaid most os cells → HasPlace (frames_of os cells) p → IsIndex (frames_of os cells) p ((slot_at os p).start + p.cell)
-is_index most os cells p h there =
+pub is_index : (os : List Owner) (cells : List ℤ) (p : Place) → IsLaid os cells → HasPlace (frames_of os cells) p → IsIndex (frames_of os cells) p ((slot_at os p).start + p.cell)
+is_index os cells p h there =
     let f = found os cells p there in
-    let j = ap length (joined_is most os cells h) in
+    let j = ap length (joined_is os cells h) in
     record {
-      value = sym (index_is most os cells p h there);
+      value = sym (index_is os cells p h there);
       within = omega (arith, f.within, j);
-      holds = ap (λ (x : List ℤ). get_or x ((slot_at os p).start + p.cell) (pos 0)) (joined_is most os cells h) ∙ sym (number_is os cells p there);
+      holds = ap (λ (x : List ℤ). get_or x ((slot_at os p).start + p.cell) (pos 0)) (joined_is os cells h) ∙ sym (number_is os cells p there);
     }

@@ -72,16 +72,16 @@ module _ (cells : List ℤ) where
       let i = owner_slot_in os (slots_end w.slots at) o v h.2 (omega arith) m in
       both _ _ _ _ (slots_before w.slots at ((get_or (owner_at os o).slots v nowhere).start + k) x h.1 (omega arith)) (frames_set os (slots_end w.slots at) o v k x h.2 (omega arith) m b)
 
-pub frames_of-set : (most : ℕ) (os : List Owner) (cells : List ℤ) (p : Place) (x : ℤ) → IsLaid most os cells → HasPlace (frames_of os cells) p → frames_of os (set cells ((slot_at os p).start + p.cell) x) ≡ with_number (frames_of os cells) p x
-frames_of-set most os cells p x h there =
+pub frames_of-set : (os : List Owner) (cells : List ℤ) (p : Place) (x : ℤ) → IsLaid os cells → HasPlace (frames_of os cells) p → frames_of os (set cells ((slot_at os p).start + p.cell) x) ≡ with_number (frames_of os cells) p x
+frames_of-set os cells p x h there =
     let f = found os cells p there in
     frames_set cells os 0 p.owner p.variable p.cell x h.lie f.owner f.variable f.cell
     ∙ ap (λ (w : Frame). set (frames_of os cells) p.owner (set w p.variable (set (cells_of cells (slot_at os p)) p.cell x))) (sym (frame_is os cells p.owner))
     ∙ ap (λ (c : Cells). set (frames_of os cells) p.owner (set (frame_at (frames_of os cells) p.owner) p.variable (set c p.cell x))) (sym (cells_is os cells p))
 
 -- the contents by their parts
-pub contents_is : (a b : List Frame) (w v : List (ℕ × ℤ)) (m : ℕ) → a ≡ b → w ≡ v → ◌≡◌ {A = Contents} (record { frames = a; written = w; most = m }) (record { frames = b; written = v; most = m })
-contents_is a b w v m e f = ap (λ (x : List Frame). let r : Contents = record { frames = x; written = w; most = m } in r) e ∙ ap (λ (x : List (ℕ × ℤ)). let r : Contents = record { frames = b; written = x; most = m } in r) f
+pub contents_is : (a b : List Frame) (w v : List (ℕ × ℤ)) → a ≡ b → w ≡ v → ◌≡◌ {A = Contents} (record { frames = a; written = w }) (record { frames = b; written = v })
+contents_is a b w v e f = ap (λ (x : List Frame). let r : Contents = record { frames = x; written = w } in r) e ∙ ap (λ (x : List (ℕ × ℤ)). let r : Contents = record { frames = b; written = x } in r) f
 
 pub noted : (ws : List (ℕ × ℤ)) (i j : ℕ) (x y : ℤ) → i ≡ j → x ≡ y → ws ++ (i, x) ∷ [] ≡ ws ++ (j, y) ∷ []
 noted ws i j x y e f = ap (λ (n : ℕ). ws ++ (n, x) ∷ []) e ∙ ap (λ (n : ℤ). ws ++ (j, n) ∷ []) f

@@ -1,5 +1,5 @@
 -- How the numbers lie in one vector.
-use Rattle.std.specs.Prelude.{◌≡◌, ℕ, ◌+◌, ◌≤◌, List, [], ◌∷◌, length, take, drop, ℤ, map, slice_index_or}
+use Rattle.std.specs.Prelude.{◌≡◌, ℕ, ◌+◌, List, [], ◌∷◌, length, take, drop, ℤ, map, slice_index_or}
 use Rattle.pml_store.specs.declared.store.Slot.{Slot}
 use Rattle.pml_store.specs.declared.store.Owner.{Owner}
 use Rattle.pml_store.specs.declared.place.Place.{Place}
@@ -23,8 +23,11 @@ nobody = record { base = 0; slots = [] }
 abbrev pub owner_at : List Owner → ℕ → Owner
 owner_at owners n = slice_index_or owners n nobody
 
+abbrev pub slot_of : List Owner → ℕ → ℕ → Slot
+slot_of owners owner variable = slice_index_or (owner_at owners owner).slots variable nowhere
+
 abbrev pub slot_at : List Owner → Place → Slot
-slot_at owners p = slice_index_or (owner_at owners p.owner).slots p.variable nowhere
+slot_at owners p = slot_of owners p.owner p.variable
 
 -- the slots lie one after another, from here on
 abbrev pub SlotsLie : List Slot → ℕ → Type 0
@@ -48,8 +51,7 @@ abbrev pub slots_of : ℕ → List ℕ → List Slot
 slots_of at [] = []
 slots_of at (n ∷ ns) = record { start = at; size = n } ∷ slots_of (at + n) ns
 
--- the slots cover the vector, which is no longer than allowed
-pub record IsLaid (most : ℕ) (owners : List Owner) (cells : List ℤ) : Type 0 where
+-- the slots cover the vector
+pub record IsLaid (owners : List Owner) (cells : List ℤ) : Type 0 where
   pub lie : OwnersLie owners 0
   pub cover : owners_end owners 0 ≡ length cells
-  pub few : length cells ≤ most

@@ -1,5 +1,5 @@
 -- A store: what each owner's variables hold.
-use Rattle.std.specs.Prelude.{ℕ, ◌+◌, ◌-◌, ◌<◌, Bool, ◌&&◌, nat_eq, List, [], ◌∷◌, ◌++◌, length, take, ℤ, pos, slice_set, slice_index_or, map, replicate}
+use Rattle.std.specs.Prelude.{ℕ, ◌+◌, ◌-◌, ◌<◌, Bool, ◌&&◌, nat_eq, ltb, if◌then◌else◌, List, [], ◌∷◌, ◌++◌, length, take, ℤ, pos, slice_set, slice_index_or, map, replicate}
 use Rattle.pml_store.specs.declared.place.Place.{Place}
 
 -- the cells of a variable; the variables of an owner; the owners
@@ -13,13 +13,16 @@ Frame = List Cells
 pub record Contents : Type 0 where
   pub frames : List Frame
   pub written : List (ℕ × ℤ)
-  pub most : ℕ
 
 abbrev pub frame_at : List Frame → ℕ → Frame
 frame_at frames owner = slice_index_or frames owner []
 
 abbrev pub cells_at : List Frame → Place → Cells
 cells_at frames p = slice_index_or (frame_at frames p.owner) p.variable []
+
+-- how many cells a variable has
+abbrev pub size_at : List Frame → ℕ → ℕ → ℕ
+size_at frames owner variable = length (slice_index_or (frame_at frames owner) variable [])
 
 -- the place is there
 pub record HasPlace (frames : List Frame) (p : Place) : Type 0 where
@@ -58,3 +61,24 @@ but_last frames = take (length frames - 1) frames
 
 abbrev pub is_same : Place → Place → Bool
 is_same p q = nat_eq p.owner q.owner && (nat_eq p.variable q.variable && nat_eq p.cell q.cell)
+
+-- ---- a log of writes
+
+-- an owner's variables with another number in the cell of an index among theirs, if they have as many
+abbrev pub frame_with : Frame → ℕ → ℤ → Frame
+frame_with [] i v = []
+frame_with (c ∷ cs) i v = if ltb i (length c) then slice_set c i v ∷ cs else c ∷ frame_with cs (i - length c) v
+
+-- the same among all
+abbrev pub index_with : List Frame → ℕ → ℤ → List Frame
+index_with [] i v = []
+index_with (f ∷ fs) i v = if ltb i (length (flat f)) then frame_with f i v ∷ fs else f ∷ index_with fs (i - length (flat f)) v
+
+-- the frames before writes, by the indices and the numbers before them: the last write is undone first
+abbrev pub undone : List Frame → List (ℕ × ℤ) → List Frame
+undone frames [] = frames
+undone frames (w ∷ ws) = index_with (undone frames ws) w.0 w.1
+
+-- the frames before the writes of the log
+abbrev pub before : Contents → List Frame
+before now = undone now.frames now.written

@@ -3,7 +3,7 @@
 /// A cell of a variable. Owner 0 has the globals, and owner n + 1 is process n.
 #[derive(Clone, Copy, PartialEq, Eq, Debug)]
 pub struct Place {
-    pub owner: u32,
-    pub variable: u32,
-    pub cell: u32,
+    pub owner: usize,
+    pub variable: usize,
+    pub cell: usize,
 }

@@ -1,8 +1,8 @@
 //! All numbers in one vector, the youngest owner last.
 
-ghost use Rattle.std.specs.Prelude.{◌≡◌, ◌+◌, ◌<◌, ◌≤◌, ◌^◌, ◌++◌, ◌∷◌, [], length, OnOk, OnErr, IfOk, sum, slice_index_or, pos};
-ghost use Rattle.pml_store.specs.Store.{HasPlace, number_at, with_number, index_of, zeros, joined, but_last};
-ghost use Rattle.pml_store.specs.Laid.{owner_at, slot_at, slots_of};
+ghost use Rattle.std.specs.Prelude.{◌≡◌, ◌+◌, ◌<◌, ◌++◌, ◌∷◌, [], length, OnOk, OnErr, IfOk, sum, slice_index_or, pos};
+ghost use Rattle.pml_store.specs.Store.{HasPlace, number_at, with_number, index_of, size_at, zeros, joined, but_last};
+ghost use Rattle.pml_store.specs.Laid.{nowhere, slot_of, slots_of};
 
 use crate::place::Place;
 use sqlite_items::Items;
@@ -12,24 +12,23 @@ use std::marker::Model;
 /// Where the cells of a variable are.
 #[derive(Clone, Copy, PartialEq, Eq, Debug)]
 pub struct Slot {
-    start: u32,
-    size: u32,
+    start: usize,
+    size: usize,
 }
 
 /// Where the cells of an owner begin, and those of its variables.
 #[derive(Drop)]
 pub struct Owner {
-    base: u32,
+    base: usize,
     slots: Items<Slot>,
 }
 
 /// The numbers of variables.
 #[derive(Drop)]
 pub struct Store {
-    most: u32,
     owners: Vec<Owner>,
     cells: Vec<i32>,
-    written: Vec<(u32, i32)>,
+    written: Vec<(usize, i32)>,
 }
 
 impl Model for Store {
@@ -38,18 +37,17 @@ impl Model for Store {
 
     ghost Value = { Contents };
 
-    ghost view = { λ s. record { frames = frames_of s.owners.items s.cells.items; written = s.written.items; most = s.most } };
+    ghost view = { λ s. record { frames = frames_of s.owners.items s.cells.items; written = s.written.items } };
 
-    ghost invariant = { λ s. IsLaid s.most s.owners.items s.cells.items };
+    ghost invariant = { λ s. IsLaid s.owners.items s.cells.items };
 }
 
 impl Store {
     /// No places.
-    pub fn new(alloc: Global, most: u32) -> Store
-        ensures { result ≡ record { frames = []; written = []; most = most } }
+    pub fn new(alloc: Global) -> Store
+        ensures { result ≡ record { frames = []; written = [] } }
     {
         Store {
-            most,
             owners: Vec::new(alloc),
             cells: Vec::new(alloc),
             written: Vec::new(alloc),
@@ -71,8 +69,15 @@ impl Store {
         ensures within { result < length (joined self.now.frames) }
         ensures holds { slice_index_or (joined self.now.frames) result (pos 0) ≡ number_at self.now.frames place }
     {
-        let slot = find_slot(self.owners.as_slice(), place);
-        slot.start as usize + place.cell as usize
+        let slot = find_slot(self.owners.as_slice(), place.owner, place.variable);
+        slot.start + place.cell
+    }
+
+    /// How many cells a variable has: none where it is not there.
+    pub fn size(&self, owner: usize, variable: usize) -> usize
+        ensures { result ≡ size_at self.now.frames owner variable }
+    {
+        find_slot(self.owners.as_slice(), owner, variable).size
     }
 
     /// Stores a number. Want of memory changes nothing.
@@ -86,25 +91,21 @@ impl Store {
     {
         let at = self.index(place);
         let before = self.cells[at];
-        self.written.push((at as u32, before))?;
+        self.written.push((at, before))?;
         self.cells[at] = number;
         Ok(())
     }
 
-    /// Adds an owner with variables of these sizes, each cell 0. Want of memory changes nothing.
-    pub fn push_frame(&mut self, sizes: &[u32]) -> Result<(), AllocError>
-        requires { length (joined self.old.frames) + sum sizes.now ≤ self.old.most }
+    /// Adds an owner with variables of these sizes, each cell 0. Want of memory changes nothing; no memory has more cells than
+    /// a `usize` counts.
+    pub fn push_frame(&mut self, sizes: &[usize]) -> Result<(), AllocError>
         ensures ok { OnOk result (self.new ≡ record self.old { frames = self.old.frames ++ zeros sizes.now ∷ [] }) }
         ensures err { OnErr result (self.new ≡ self.old) }
     {
         let base = self.cells.len();
-        let more = total(sizes);
-        let slots = slots_from(*self.owners.allocator(), base as u32, sizes)?;
-        self.cells.resize(base + more as usize, 0)?;
-        let owner = Owner {
-            base: base as u32,
-            slots,
-        };
+        let (slots, end) = slots_from(*self.owners.allocator(), base, sizes)?;
+        self.cells.resize(end, 0)?;
+        let owner = Owner { base, slots };
         match self.owners.push(owner) {
             Ok(()) => Ok(()),
             Err(refused) => {
@@ -120,20 +121,19 @@ impl Store {
         ensures { self.new ≡ record self.old { frames = but_last self.old.frames } }
     {
         if let Some(owner) = self.owners.pop() {
-            self.cells.truncate(owner.base as usize);
+            self.cells.truncate(owner.base);
         }
     }
 
     /// The numbers, owner by owner, each variable's cells in order.
     pub fn cells(&self) -> &Vec<i32>
-        ensures value { result.now.items ≡ joined self.now.frames }
-        ensures few { length result.now.items ≤ self.now.most }
+        ensures { result.now.items ≡ joined self.now.frames }
     {
         &self.cells
     }
 
     /// The cells that were stored since `forget`, by index, with their numbers before.
-    pub fn written(&self) -> &[(u32, i32)]
+    pub fn written(&self) -> &[(usize, i32)]
         ensures { result.now ≡ self.now.written }
     {
         self.written.as_slice()
@@ -146,20 +146,33 @@ impl Store {
     }
 }
 
-/// Where the cells of a variable are.
-fn find_slot(owners: &[Owner], place: Place) -> Slot
-    requires owner { place.owner < length owners.now }
-    requires variable { place.variable < length (owner_at owners.now place.owner).slots }
-    ensures { result ≡ slot_at owners.now place }
+/// Where the cells of a variable are: nowhere, where it is not there.
+fn find_slot(owners: &[Owner], owner: usize, variable: usize) -> Slot
+    ensures { result ≡ slot_of owners.now owner variable }
 {
-    let owner = &owners[place.owner as usize];
-    owner.slots.as_slice()[place.variable as usize]
+    match owners.get(owner) {
+        Some(owner) => slot_in(owner.slots.as_slice(), variable),
+        None => Slot { start: 0, size: 0 },
+    }
 }
 
-/// Slots of these sizes, one after another.
-fn slots_from(alloc: Global, base: u32, sizes: &[u32]) -> Result<Items<Slot>, AllocError>
-    requires { base + sum sizes.now < 2 ^ 32 }
-    ensures { IfOk result (λ slots. slots ≡ slots_of base sizes.now) }
+/// The same among an owner's variables.
+fn slot_in(slots: &[Slot], variable: usize) -> Slot
+    ensures { result ≡ slice_index_or slots.now variable nowhere }
+{
+    match slots.get(variable) {
+        Some(slot) => *slot,
+        None => Slot { start: 0, size: 0 },
+    }
+}
+
+/// Slots of these sizes, one after another, and where they end.
+fn slots_from(
+    alloc: Global,
+    base: usize,
+    sizes: &[usize],
+) -> Result<(Items<Slot>, usize), AllocError>
+    ensures { IfOk result (λ r. (r.0 ≡ slots_of base sizes.now) × (r.1 ≡ base + sum sizes.now)) }
 {
     let mut at = base;
     let mut slots = Items::new(alloc);
@@ -168,14 +181,7 @@ fn slots_from(alloc: Global, base: u32, sizes: &[u32]) -> Result<Items<Slot>, Al
             start: at,
             size: *size,
         })?;
-        at += *size;
+        at = at.checked_add(*size).ok_or(AllocError)?;
     }
-    Ok(slots)
-}
-
-fn total(sizes: &[u32]) -> u32
-    requires { sum sizes.now < 2 ^ 32 }
-    ensures { result ≡ sum sizes.now }
-{
-    sizes.iter().sum()
+    Ok((slots, at))
 }

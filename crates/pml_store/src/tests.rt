@@ -5,7 +5,7 @@ use std::test::Fail;
 /// Globals of two cells and one, and a process of one variable of two cells.
 #[test]
 fn owners_come_and_go(rt: HostRuntime) -> Result<(), Fail> {
-    let mut store = Store::new(rt.alloc(), 9);
+    let mut store = Store::new(rt.alloc());
     store.push_frame(&[2, 1])?;
     let global = Place {
         owner: 0,
@@ -18,6 +18,10 @@ fn owners_come_and_go(rt: HostRuntime) -> Result<(), Fail> {
     store.forget();
     store.push_frame(&[2])?;
     assert_eq!(rt; store.cells().as_slice(), [0, -7, 0, 0, 0].as_slice());
+    assert_eq!(rt;
+        (store.size(0, 1), store.size(1, 0), store.size(2, 0)),
+        (1, 2, 0)
+    );
     store.pop_frame();
     assert_eq!(rt; store.cells().as_slice(), [0, -7, 0].as_slice());
     assert_eq!(rt; store.written().len(), 0);

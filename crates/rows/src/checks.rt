@@ -97,7 +97,7 @@ fn a_line_of_a_preprocessor(rt: HostRuntime) -> Result<(), Fail> {
     refused(
         &rt,
         rt.alloc(),
-        b"# 1 \"m.pml\"\ninit { skip }",
+        b"# 1 \"m.pml\"\ninit { atomic { skip } }",
         "M99 (not served)",
         0,
     )

@@ -22,7 +22,7 @@ fn constants(alloc: Global, count: u32) -> Result<String, Fail> {
         let name = format!(in alloc; ", m{i}")?;
         text.push_str(&name)?;
     }
-    text.push_str(" }; init { skip }")?;
+    text.push_str(" }; init { atomic { skip } }")?;
     Ok(text)
 }
 
@@ -32,7 +32,7 @@ fn declarations(alloc: Global, count: u32) -> Result<String, Fail> {
         let one = format!(in alloc; "byte v{i}; ")?;
         text.push_str(&one)?;
     }
-    text.push_str("init { skip }")?;
+    text.push_str("init { atomic { skip } }")?;
     Ok(text)
 }
 

@@ -11,3 +11,5 @@ mod player;
 mod refusals;
 #[cfg(test)]
 mod sessions;
+#[cfg(test)]
+mod values;

@@ -20,7 +20,7 @@ never { skip } => M3 (left out) 1
 byte never; byte x, x; => M3 (left out) 1
 #define N 3 => M3 (left out) 1
 active proctype A() { skip => M5 (syntax) 1
-active proctype A() { byte x; } => M99 (not served) 0
+active proctype A() { byte x; L: skip } => M99 (not served) 0
 active proctype A() { skip skip } => M5 (syntax) 1
 active proctype A() { ; skip } => M5 (syntax) 1
 active proctype A { skip } => M5 (syntax) 1
@@ -28,11 +28,11 @@ active proctype _() { skip } => M6 (name twice) 0
 byte _pid; active proctype A() { skip } => M6 (name twice) 0
 byte x byte y; active proctype A() { x => M5 (syntax) 1
 byte x = y; active proctype A() { skip } => M7 (unknown name) 0
-byte x; active proctype A() { x = 1 == 1 == 1 } => M99 (not served) 0
+byte x; active proctype A() { if :: x = 1 == 1 == 1 fi } => M99 (not served) 0
 byte x; active proctype A() { x = } => M5 (syntax) 1
 byte x; active proctype A() { x ++ ++ } => M5 (syntax) 1
 active proctype A() { "x" } => M5 (syntax) 1
-init { skip } => M99 (not served) 0
+init { { skip } } => M99 (not served) 0
 byte x, x; init { break } => M6 (name twice) 0
 proctype P(byte b; chan c) { c ! b } init { run P(1, 2) } => M99 (not served) 0
 init { { skip } unless { skip } } => M99 (not served) 0

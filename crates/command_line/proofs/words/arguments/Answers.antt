@@ -65,8 +65,8 @@ returns-clause-ok c =
     let limit = limit_read (λ bs r. ParsesUnsigned 32 10 bs r × ExplainsUnsignedError 10 bs r × HasUnsignedDigitsIfOk bs r) _ c.get_one.result (λ u x g. g.0) c.get_one.ensures.none c.get_one.ensures.value in
     record {
       steps = set_where _ _ (c.get_count.ensures.value ∙ counted (codes "p"));
-      globals = refl;
-      locals = refl;
+      globals = set_where _ _ (c.get_count-2.ensures.value ∙ counted (codes "g"));
+      locals = set_where _ _ (c.get_count-3.ensures.value ∙ counted (codes "l"));
       limit = subst (λ (o : Option Text). IsLimit o c.unwrap_or.result) (one_text-rows f (codes "u") ∙ ap (one_of (codes "u")) rows_are) (rw c.unwrap_or.ensures limit);
       model = sym (first (codes "MODEL")) ∙ (sym c.get_str.ensures ∙ (ap (option_map (λ s. s.now)) c.unwrap.ensures ∙ ap Some (sym c.in_ok-model.ensures.ok)));
       choices = sym (first (codes "choices")) ∙ sym c.in_ok-choices.ensures;

@@ -11,10 +11,12 @@ returns c =
     let none = starts c.new.result (new_app (codes "spinplay")) c.new.ensures.app in
     let one = more (codes "i") _ _ _ _ _ _ _ _ none c.in_ok-arg.ensures c.flag.ensures.plain c.flag.ensures.rule in
     let two = more (codes "p") _ _ _ _ _ _ _ _ one c.in_ok-arg-2.ensures c.flag-2.ensures.plain c.flag-2.ensures.rule in
-    let three = more (codes "T") _ _ _ _ _ _ _ _ two c.in_ok-arg-3.ensures c.flag-3.ensures.plain c.flag-3.ensures.rule in
-    let four = more (codes "u") _ _ _ _ _ _ _ _ three c.in_ok-arg-4.ensures c.limit.ensures.plain c.limit.ensures.rule in
-    let five = more (codes "choices") _ _ _ _ _ _ _ _ four c.in_ok-arg-5.ensures c.file.ensures.plain c.file.ensures.rule in
-    let six = more (codes "record") _ _ _ _ _ _ _ _ five c.in_ok-arg-6.ensures c.file-2.ensures.plain c.file-2.ensures.rule in
-    IfOk-weaker c.arg-7.result _ _ (λ d last.
-    finished c.new.result d _ (more (codes "MODEL") _ _ d _ _ _ _ _ six last c.model.ensures.plain c.model.ensures.rule)
-    (c.new.ensures.empty.0, c.new.ensures.empty.1) c.new.ensures.local c.new.ensures.negates (λ _. c.model.ensures.value)) c.arg-7.ensures
+    let three = more (codes "g") _ _ _ _ _ _ _ _ two c.in_ok-arg-3.ensures c.flag-3.ensures.plain c.flag-3.ensures.rule in
+    let four = more (codes "l") _ _ _ _ _ _ _ _ three c.in_ok-arg-4.ensures c.flag-4.ensures.plain c.flag-4.ensures.rule in
+    let five = more (codes "T") _ _ _ _ _ _ _ _ four c.in_ok-arg-5.ensures c.flag-5.ensures.plain c.flag-5.ensures.rule in
+    let six = more (codes "u") _ _ _ _ _ _ _ _ five c.in_ok-arg-6.ensures c.limit.ensures.plain c.limit.ensures.rule in
+    let seven = more (codes "choices") _ _ _ _ _ _ _ _ six c.in_ok-arg-7.ensures c.file.ensures.plain c.file.ensures.rule in
+    let eight = more (codes "record") _ _ _ _ _ _ _ _ seven c.in_ok-arg-8.ensures c.file-2.ensures.plain c.file-2.ensures.rule in
+    IfOk-weaker c.arg-9.result _ _ (λ d last.
+    finished c.new.result d _ (more (codes "MODEL") _ _ d _ _ _ _ _ eight last c.model.ensures.plain c.model.ensures.rule)
+    (c.new.ensures.empty.0, c.new.ensures.empty.1) c.new.ensures.local c.new.ensures.negates (λ _. c.model.ensures.value)) c.arg-9.ensures

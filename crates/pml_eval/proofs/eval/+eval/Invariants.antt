@@ -1,29 +1,31 @@
-use Rattle.std.proofs.Common.{◌≡◌, ◌≤◌, ◌++◌, IsTrue, Ok, length, map, drop}
-use Rattle.pml_program.specs.declared.value.Target.{out-Target}
-use Rattle.pml_eval.specs.Value.{cells_of, cells, want, wants_of, ◌>>=◌}
-use Rattle.pml_eval.specs.Sound.{most_cells, all_sound, is_sound_want}
-use Rattle.pml_eval.proofs.Turns.{Room}
+use Rattle.std.proofs.Common.{◌≡◌, ◌<◌, List, Ok, map, drop}
+use Rattle.pml_eval.specs.declared.pattern.Sought.{Sought}
+use Rattle.pml_eval.specs.Value.{cells_of, cells, want, wants_of, is_match, messages_of, settled}
+use Rattle.pml_eval.proofs.Asking.{Rest}
 use Rattle.pml_eval.proofs.eval.+eval.Given as goal
 
--- the cells so far and those of the rest are those of all, and the rest has room
+-- from the cell so far on by the rest is from the first on by all
 abbrev pub invariant-place-loop-turn : goal.invariant-place-loop-turn
 invariant-place-loop-turn g l =
     let r = g.G.Ground.reading l.ground in
-    let z = g.G.Ground.sizes l.ground in
-    let total = z (out-Target l.target).local (out-Target l.target).variable in
     record {
-      same : cells_of (map cells (drop l.turn-index l.turn-items)) l.cell r ≡ cells_of (map cells l.turn-items) 0 r;
-      few : total ≤ most_cells;
-      room : Room (drop l.turn-index l.turn-items) l.cell total z;
+      same : cells_of (map cells (drop l.turn-index l.turn-items)) l.whole l.cell r ≡ cells_of (map cells l.turn-items) l.whole 0 r;
+      there : l.cell < l.whole;
     }
 
--- what is asked so far and by the rest is what all ask
-abbrev pub invariant-pattern-loop-argument : goal.invariant-pattern-loop-argument
-invariant-pattern-loop-argument g l =
+-- the first fault of the rest is that of all
+abbrev pub invariant-first_fault-loop-argument : goal.invariant-first_fault-loop-argument
+invariant-first_fault-loop-argument g l =
     let r = g.G.Ground.reading l.ground in
-    let z = g.G.Ground.sizes l.ground in
-    record {
-      same : (wants_of (map want (drop l.argument-index l.arguments)) r >>= λ more. Ok (l.wants ++ more)) ≡ wants_of (map want l.arguments) r;
-      count : length l.wants ≡ l.argument-index;
-      sound : IsTrue (all_sound (map is_sound_want (drop l.argument-index l.arguments)) z);
-    }
+    settled (wants_of (map want (drop l.argument-index l.arguments)) r) ≡ settled (wants_of (map want l.arguments) r)
+
+-- whether one of the rest matches is whether one of all does
+abbrev pub invariant-has_match-loop-place : goal.invariant-has_match-loop-place
+invariant-has_match-loop-place g l =
+    let r = g.G.Ground.reading l.ground in
+    let messages = messages_of (r.channel l.number) in
+    (ws : List Sought) → wants_of (map want l.arguments) r ≡ Ok ws → is_match l.any ws (drop l.place messages) ≡ is_match l.any ws messages
+
+-- the rest of what is asked decides
+abbrev pub invariant-is_asked-loop-i : goal.invariant-is_asked-loop-i
+invariant-is_asked-loop-i g l = (ws : List Sought) → Rest l.i l.arguments l.fields (g.G.Ground.reading l.ground) ws

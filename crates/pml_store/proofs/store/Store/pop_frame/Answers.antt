@@ -9,10 +9,10 @@ use Rattle.pml_store.proofs.store.Store.pop_frame.Goals as goal
 pub invariant_of-self : goal.invariant_of-self
 invariant_of-self c =
     let laid = rw c.in-Some.ensures.items at c.self.invariant in
-    rw c.truncate.ensures.items (IsLaid-pop _ _ _ _ laid)
+    rw c.truncate.ensures.items (IsLaid-pop _ _ _ laid)
 
 pub returns-in-Some : goal.returns-in-Some
 returns-in-Some c =
     let laid = rw c.in-Some.ensures.items at c.self.invariant in
-    let frames = frames_of-pop _ _ _ _ laid ∙ ap (λ (os : List Owner). but_last (frames_of os c.self.inside.cells.items)) (sym c.in-Some.ensures.items) in
-    rw (← c.self.view_is, c.truncate.ensures.items) (contents_is _ _ _ _ _ frames refl)
+    let frames = frames_of-pop _ _ _ laid ∙ ap (λ (os : List Owner). but_last (frames_of os c.self.inside.cells.items)) (sym c.in-Some.ensures.items) in
+    rw (← c.self.view_is, c.truncate.ensures.items) (contents_is _ _ _ _ frames refl)

@@ -1,37 +1,28 @@
 use Rattle.std.proofs.Common.{arith, ◌≡◌, ◌++◌, ◌∷◌, [], pos, sum, replicate, ◌∙◌, ap, refl, length}
 use Rattle.pml_store.specs.declared.store.Owner.{Owner}
 use Rattle.pml_store.specs.Laid.{slots_of}
-use Rattle.pml_store.proofs.Places.{joined_is}
 use Rattle.pml_store.proofs.Frames.{IsLaid-push, frames_of-push, owner_is, grown}
 use Rattle.pml_store.proofs.Storing.{contents_is}
 use Rattle.pml_store.proofs.store.Store.push_frame.Goals as goal
 use Rattle.pml_store.proofs.store.Store.push_frame.Goals.{In-Ok}
-
-pub slots_from-requires : goal.slots_from-requires
-slots_from-requires c =
-    let j = joined_is _ _ _ c.self.invariant in
-    let room = rw (← c.self.view_is, j) at c.requires in
-    omega (arith, c.self.ranges, c.self.inside.cells.ok.0)
 
 -- the new owner and the new cells
 made : (c : In-Ok) → (c.push.new.self.items ≡ c.self.inside.owners.items ++ record { base = length c.self.inside.cells.items; slots = slots_of (length c.self.inside.cells.items) c.args.sizes.now } ∷ []) × (c.resize.new.self.items ≡ c.self.inside.cells.items ++ replicate (sum c.args.sizes.now) (pos 0))
 made c =
     let n = c.self.inside.cells.ok.0 in
     let b : c.len-base.result ≡ length c.self.inside.cells.items = c.len-base.ensures ∙ n in
-    let s : c.in_ok-slots.slots ≡ slots_of (length c.self.inside.cells.items) c.args.sizes.now = c.in_ok-slots.ensures ∙ ap (λ k. slots_of k c.args.sizes.now) b in
+    let s : c.in_ok-slots.slots ≡ slots_of (length c.self.inside.cells.items) c.args.sizes.now = c.in_ok-slots.ensures.0 ∙ ap (λ k. slots_of k c.args.sizes.now) b in
     let o : ◌≡◌ {A = Owner} (record { base = c.len-base.result; slots = c.in_ok-slots.slots }) (record { base = length c.self.inside.cells.items; slots = slots_of (length c.self.inside.cells.items) c.args.sizes.now }) = owner_is _ _ _ _ b s in (
       c.in-Ok.ensures.items ∙ ap (λ (x : Owner). c.self.inside.owners.items ++ x ∷ []) o,
-      c.in_ok-resize.ensures.items ∙ grown c.self.inside.cells.items _ _ (sum c.args.sizes.now) n (omega (arith, b, c.total-more.ensures, n)),
+      c.in_ok-resize.ensures.items ∙ grown c.self.inside.cells.items _ _ (sum c.args.sizes.now) n (omega (arith, b, c.in_ok-slots.ensures.1, n)),
     )
 
 pub returns-in-Ok-clause-ok : goal.returns-in-Ok-clause-ok
 returns-in-Ok-clause-ok c =
     let m = made (goal.at.returns-in-Ok-clause-ok c).In-Ok in
-    rw (← c.self.view_is, m.0, m.1) (contents_is _ _ _ _ _ (frames_of-push _ _ _ _ c.self.invariant) refl)
+    rw (← c.self.view_is, m.0, m.1) (contents_is _ _ _ _ (frames_of-push _ _ _ c.self.invariant) refl)
 
 pub invariant_of-self-in-Ok : goal.invariant_of-self-in-Ok
 invariant_of-self-in-Ok c =
-    let j = joined_is _ _ _ c.self.invariant in
-    let room = rw (← c.self.view_is, j) at c.requires in
     let m = made (goal.at.invariant_of-self-in-Ok c).In-Ok in
-    rw (m.0, m.1) (IsLaid-push _ _ _ _ c.self.invariant room)
+    rw (m.0, m.1) (IsLaid-push _ _ _ c.self.invariant)

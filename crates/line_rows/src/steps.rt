@@ -1,0 +1,66 @@
+//! Stores before and after writes, by the cells' indices.
+use pml_lex::cut;
+use pml_lines::change::{Wanted, value_lines};
+use pml_marks::model::marks;
+use pml_names::names::all_names;
+use pml_number::model::number;
+use pml_syntax::parse;
+use pml_tree::tree::Tree;
+use std::alloc::{AllocError, Global};
+use std::test::Fail;
+
+fn lines_of_tree(
+    alloc: Global,
+    tree: &Tree<'_>,
+    wanted: Wanted,
+    before: &[i32],
+    after: &[i32],
+) -> Result<Vec<u8>, AllocError> {
+    let marks = marks(alloc, tree)?;
+    let names = all_names(alloc, marks.as_slice())?;
+    let program = number(alloc, tree, &names.table)?;
+    let mut text = Vec::new(alloc);
+    value_lines(&program, &[0, 1, 0], wanted, before, after, &mut text)?;
+    Ok(text)
+}
+
+fn lines(alloc: Global, wanted: Wanted, before: &[i32], after: &[i32]) -> Result<Vec<u8>, Fail> {
+    let model = r##"typedef R { byte f[2]; short g };
+mtype = { ack, nak };
+R r[2];
+mtype m;
+int i;
+proctype P(byte v) { byte a[1]; skip }
+init { byte k; skip }
+"##;
+    let Ok(tokens) = cut(alloc, model.as_bytes()) else {
+        return Err(Fail::from("the text is not cut"));
+    };
+    let Ok(tree) = parse(alloc, tokens.as_slice()) else {
+        return Err(Fail::from("the tokens are no model"));
+    };
+    Ok(lines_of_tree(alloc, &tree, wanted, before, after)?)
+}
+
+#[test]
+fn changed_places_are_named(rt: HostRuntime) -> Result<(), Fail> {
+    let before = [0, 0, 0, 0, 0, 0, 0, 0, 7, 0, 0];
+    let after = [0, 0, 25536, 0, 44, 0, 1, -1, 7, 3, 11, 5, 6];
+    let all = r##"global r[0].g = 25536
+global r[1].f[1] = 44
+global m = nak
+global i = -1
+local 0 (P) a[0] = 3
+local 1 (:init:) k = 11
+"##;
+    let locals = r##"local 0 (P) a[0] = 3
+local 1 (:init:) k = 11
+"##;
+    let wanted = Wanted { globals: true, locals: true };
+    let text = lines(rt.alloc(), wanted, &before, &after)?;
+    assert_eq!(rt; text.as_slice(), all.as_bytes());
+    let wanted = Wanted { globals: false, locals: true };
+    let text = lines(rt.alloc(), wanted, &before, &after)?;
+    assert_eq!(rt; text.as_slice(), locals.as_bytes());
+    Ok(())
+}

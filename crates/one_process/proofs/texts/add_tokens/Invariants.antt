@@ -1,7 +1,0 @@
-use Rattle.std.proofs.Common.{◌≡◌, ◌++◌, take}
-use Rattle.std.specs.List.{flat_map}
-use Rattle.one_process.specs.Texts.{spaced}
-use Rattle.one_process.proofs.texts.add_tokens.Given as goal
-
-abbrev pub invariant-loop-token : goal.invariant-loop-token
-invariant-loop-token l = l.text.items ≡ l.initial.text.items ++ flat_map spaced (take l.token-index l.rest)

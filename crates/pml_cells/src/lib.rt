@@ -1,0 +1,4 @@
+//! Which variable or field has a cell.
+#![tactic(auto)]
+
+pub mod cells;

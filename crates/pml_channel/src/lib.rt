@@ -1,0 +1,6 @@
+//! Channels of messages (Holzmann, *The SPIN Model Checker*, chapter 3).
+#![tactic(auto)]
+
+pub mod channel;
+#[cfg(test)]
+mod tests;

@@ -1,0 +1,20 @@
+//! What is asked of the first state.
+
+ghost use Rattle.std.specs.Prelude.{IfOk};
+ghost use Rattle.pml_check.specs.Decided.{DecidesStart};
+
+use pml_program::program::Program;
+use pml_start::start::start;
+use pml_value::stop::Stop;
+use std::alloc::{AllocError, Global};
+
+/// Whether what a variable of the first state begins with cannot be evaluated.
+pub fn has_bad_start(alloc: Global, program: &Program) -> Result<bool, AllocError>
+    ensures { IfOk result (λ b. DecidesStart b program.now) }
+{
+    match start(alloc, program) {
+        Ok(_) => Ok(false),
+        Err(Stop::Fault(_)) => Ok(true),
+        Err(Stop::Memory) => Err(AllocError),
+    }
+}

@@ -1,0 +1,4 @@
+pub mod Leading
+pub mod Flat
+pub mod Seeking
+pub mod Undoing

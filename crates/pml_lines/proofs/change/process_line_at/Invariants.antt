@@ -1,0 +1,10 @@
+use Rattle.std.proofs.Common.{◌≡◌, ℤ, true, drop}
+use Rattle.pml_lines.specs.Changes.{process_owners, line_at}
+use Rattle.pml_lines.proofs.change.process_line_at.Given as goal
+
+-- the processes that are left, for the rest of the index
+abbrev pub invariant-loop-i : goal.invariant-loop-i
+invariant-loop-i l = record {
+  text : l.text.items ≡ l.initial.text.items;
+  left : (v : ℤ) → line_at l.program (process_owners l.program true l.i (drop l.i l.kinds)) l.at v ≡ line_at l.program (process_owners l.program true 0 l.kinds) l.fn.at v;
+}

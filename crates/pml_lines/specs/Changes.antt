@@ -1,0 +1,141 @@
+-- The places that a step changed, and their lines.
+use Rattle.std.specs.Prelude.{◌≡◌, ℕ, length, ◌+◌, ◌-◌, ◌*◌, Bool, true, ltb, if◌then◌else◌, List, [], ◌∷◌, ◌++◌, map, slice_get, Option, Some, None, ℤ, codes}
+use Rattle.std.specs.Ordering.{int_eq, nat_cmp}
+use Rattle.std.specs.BTreeMap.{insert_entry}
+use Rattle.std.specs.Fmt.{decimal}
+use Rattle.pml_lex.specs.Word.{Word}
+use Rattle.pml_lex.specs.Kinds.{same_kind}
+use Rattle.pml_lex.specs.declared.token.Kind.TheVariants.{Init}
+use Rattle.pml_program.specs.declared.program.Slot.{Slot}
+use Rattle.pml_program.specs.declared.program.Process.{Process}
+use Rattle.pml_program.specs.declared.program.Program.{Program}
+use Rattle.pml_store.specs.Store.{Cells, Frame, joined}
+use Rattle.pml_lines.specs.Places.{place_line}
+
+-- the name of a proctype, or of init
+abbrev pub proctype_name : Word → List ℕ
+proctype_name w = if same_kind w.kind Init then codes ":init:" else w.text
+
+-- whose variables these are: whether their lines are wanted, how they begin, and the variables
+pub record Owner : Type 0 where
+  pub wanted : Bool
+  pub heading : List ℕ
+  pub slots : List Slot
+
+-- how a process's lines begin: `local I (NAME) `
+abbrev pub local_heading : ℕ → Process → List ℕ
+local_heading i p = codes "local " ++ (decimal i ++ (codes " (" ++ (proctype_name p.name ++ codes ") ")))
+
+-- how the lines of the process i begin, and its variables, by its proctype
+abbrev pub heading_of : ℕ → Option Process → List ℕ
+heading_of i None = []
+heading_of i (Some p) = local_heading i p
+
+abbrev pub slots_of : Option Process → List Slot
+slots_of None = []
+slots_of (Some p) = p.variables
+
+abbrev pub process_owner : Bool → ℕ → Option Process → Owner
+process_owner wanted i p = record { wanted = wanted; heading = heading_of i p; slots = slots_of p }
+
+-- processes, numbered from i on, each by the number of its proctype in the model
+abbrev pub process_owners : Program → Bool → ℕ → List ℕ → List Owner
+process_owners p wanted i [] = []
+process_owners p wanted i (k ∷ ks) = process_owner wanted i (slice_get p.processes k) ∷ process_owners p wanted (i + 1) ks
+
+-- the globals
+abbrev pub global_owner : Program → Bool → Owner
+global_owner p wanted = record { wanted = wanted; heading = codes "global "; slots = p.globals }
+
+-- the globals, and then the processes
+abbrev pub owners : Program → Bool → Bool → List ℕ → List Owner
+owners p globals locals kinds = global_owner p globals ∷ process_owners p locals 0 kinds
+
+-- the line of a cell and its number
+abbrev pub line : Program → Owner → Slot → ℕ → ℤ → List ℕ
+line p o s cell number = if o.wanted then o.heading ++ place_line p s cell number else []
+
+-- ---- two states compared
+
+-- the lines of the cells that differ, where the first of them has the number k
+abbrev pub cell_lines : (ℕ → ℤ → List ℕ) → ℕ → Cells → Cells → List ℕ
+cell_lines f k [] after = []
+cell_lines f k (x ∷ xs) [] = []
+cell_lines f k (x ∷ xs) (y ∷ ys) = (if int_eq x y then [] else f k y) ++ cell_lines f (k + 1) xs ys
+
+-- those of the variables of an owner
+abbrev pub variable_lines : (Slot → ℕ → ℤ → List ℕ) → List Slot → Frame → Frame → List ℕ
+variable_lines f [] before after = []
+variable_lines f (s ∷ ss) [] after = []
+variable_lines f (s ∷ ss) (x ∷ xs) [] = []
+variable_lines f (s ∷ ss) (x ∷ xs) (y ∷ ys) = cell_lines (f s) 0 x y ++ variable_lines f ss xs ys
+
+-- those of all owners
+abbrev pub owner_lines : Program → List Owner → List Frame → List Frame → List ℕ
+owner_lines p [] before after = []
+owner_lines p (o ∷ os) [] after = []
+owner_lines p (o ∷ os) (x ∷ xs) [] = []
+owner_lines p (o ∷ os) (x ∷ xs) (y ∷ ys) = variable_lines (line p o) o.slots x y ++ owner_lines p os xs ys
+
+-- The lines of the places that are there before and after and whose numbers differ: globals, and then the variables of each
+-- process, whose proctypes are known by their numbers in the model.
+abbrev pub value_lines : Program → List ℕ → List Frame → List Frame → Bool → Bool → List ℕ
+value_lines p kinds before after globals locals = owner_lines p (owners p globals locals kinds) before after
+
+-- ---- the same by the index of a cell among all
+
+abbrev pub size : Slot → ℕ
+size s = s.length * s.stride
+
+-- the variable with the cell of this index among those of its owner, if it has as many
+abbrev pub slot_of : List Slot → ℕ → Option Slot
+slot_of [] i = None
+slot_of (s ∷ ss) i = if ltb i (size s) then Some s else slot_of ss (i - size s)
+
+-- the number of this cell in the variable, or the index among the cells of the next owners
+abbrev pub cell_of : List Slot → ℕ → ℕ
+cell_of [] i = i
+cell_of (s ∷ ss) i = if ltb i (size s) then i else cell_of ss (i - size s)
+
+-- a cell's line, by the index
+abbrev pub line_at : Program → List Owner → ℕ → ℤ → List ℕ
+line_at p [] i number = []
+line_at p (o ∷ os) i number = elim (slot_of o.slots i) as (λ _. List ℕ) [
+  | None ↦ line_at p os (cell_of o.slots i) number
+  | Some s ↦ line p o s (cell_of o.slots i) number
+]
+
+-- an owner's variables have the cells that their declarations ask for
+abbrev pub IsFrame : List Slot → Frame → Type 0
+IsFrame ss f = map length f ≡ map size ss
+
+-- so have those of each owner that is there
+abbrev pub AreFrames : List Owner → List Frame → Type 0
+AreFrames os [] = Unit {0}
+AreFrames [] (f ∷ fs) = Unit {0}
+AreFrames (o ∷ os) (f ∷ fs) = IsFrame o.slots f × AreFrames os fs
+
+-- each owner's variables have the cells that the model asks for
+abbrev pub AreDeclared : Program → List ℕ → List Frame → Type 0
+AreDeclared p kinds frames = AreFrames (owners p true true kinds) frames
+
+-- a state whose cells are these, owner by owner
+pub record IsState (p : Program) (kinds : List ℕ) (frames : List Frame) (cells : List ℤ) : Type 0 where
+  pub numbers : joined frames ≡ cells
+  pub declared : AreDeclared p kinds frames
+
+-- ---- a log of writes
+
+-- the oldest number of each cell of a log, by index
+abbrev pub oldest : List (ℕ × ℤ) → List (ℕ × ℤ)
+oldest [] = []
+oldest (w ∷ ws) = insert_entry nat_cmp (oldest ws) w.0 w.1
+
+-- the line of a cell that was written, by its index and its number before, if it is still there and its number is another now
+abbrev pub write_line : (ℕ → ℤ → List ℕ) → ℕ × ℤ → Option ℤ → List ℕ
+write_line f w None = []
+write_line f w (Some number) = if int_eq w.1 number then [] else f w.0 number
+
+abbrev pub write_lines : (ℕ → ℤ → List ℕ) → Cells → List (ℕ × ℤ) → List ℕ
+write_lines f cells [] = []
+write_lines f cells (w ∷ ws) = write_line f w (slice_get cells w.0) ++ write_lines f cells ws

@@ -1,0 +1,307 @@
+//! The lines of the places that a step changed.
+
+ghost use Rattle.std.specs.Prelude.{◌≡◌, ◌+◌, ◌*◌, ◌++◌, List, [], true, slice_get, if◌then◌else◌, OnOk, IfOk, codes};
+ghost use Rattle.std.specs.Fmt.{decimal};
+ghost use Rattle.std.specs.Ordering.{int_eq};
+ghost use Rattle.std.specs.Option.{option_copied};
+ghost use Rattle.pml_store.specs.Store.{Frame, before};
+ghost use Rattle.pml_lines.specs.Places.{place_line};
+ghost use Rattle.pml_lines.specs.Changes.{proctype_name, local_heading, heading_of, slots_of, process_owners, owners, value_lines, size, slot_of, cell_of, line_at, cell_lines, AreDeclared, IsState, oldest, write_line, write_lines};
+
+use crate::place::place_line;
+use itoa::Buffer;
+use pml_lex::token::{Kind, Token, same_kind};
+use pml_program::program::{Process, Program, Slot};
+use pml_store::store::Store;
+use std::alloc::{AllocError, Global};
+use std::collections::BTreeMap;
+
+/// Whose lines are wanted.
+#[derive(Clone, Copy, PartialEq, Eq, Debug)]
+pub struct Wanted {
+    pub globals: bool,
+    pub locals: bool,
+}
+
+/// Appends the name of a proctype, or `:init:`.
+pub fn proctype_name(name: &Token<'_>, text: &mut Vec<u8>) -> Result<(), AllocError>
+    ensures { OnOk result (text.new.items ≡ text.old.items ++ proctype_name name.now) }
+{
+    if same_kind(name.kind(), Kind::Init) {
+        text.extend_from_slice(b":init:")
+    } else {
+        text.extend_from_slice(name.text())
+    }
+}
+
+/// Appends the line of a global variable's cell.
+pub fn global_line(
+    program: &Program<'_>,
+    slot: &Slot<'_>,
+    cell: usize,
+    number: i32,
+    text: &mut Vec<u8>,
+) -> Result<(), AllocError>
+    ensures { OnOk result (text.new.items ≡ text.old.items ++ (codes "global " ++ place_line program.now slot.now cell number)) }
+{
+    text.extend_from_slice(b"global ")?;
+    place_line(program, slot, cell, number, text)
+}
+
+// Appends how the lines of a process begin.
+fn local_heading(number: usize, process: &Process<'_>, text: &mut Vec<u8>) -> Result<(), AllocError>
+    ensures { OnOk result (text.new.items ≡ text.old.items ++ local_heading number process.now) }
+{
+    let mut digits = Buffer::new();
+    text.extend_from_slice(b"local ")?;
+    text.extend_from_slice(digits.format(number).as_bytes())?;
+    text.extend_from_slice(b" (")?;
+    proctype_name(&process.name, text)?;
+    text.extend_from_slice(b") ")
+}
+
+// Appends how the lines of a process begin, by the number of its proctype in the model.
+fn heading_of(
+    program: &Program<'_>,
+    process: usize,
+    kind: usize,
+    text: &mut Vec<u8>,
+) -> Result<(), AllocError>
+    ensures { OnOk result (text.new.items ≡ text.old.items ++ heading_of process (slice_get program.now.processes kind)) }
+{
+    match program.processes.as_slice().get(kind) {
+        Some(proctype) => local_heading(process, proctype, text),
+        None => Ok(()),
+    }
+}
+
+/// Appends the line of a cell of a variable of the process with this number, of a proctype by its number in the model.
+pub fn local_line(
+    program: &Program<'_>,
+    process: usize,
+    kind: usize,
+    slot: &Slot<'_>,
+    cell: usize,
+    number: i32,
+    text: &mut Vec<u8>,
+) -> Result<(), AllocError>
+    ensures { OnOk result (text.new.items ≡ text.old.items ++ (heading_of process (slice_get program.now.processes kind) ++ place_line program.now slot.now cell number)) }
+{
+    heading_of(program, process, kind, text)?;
+    place_line(program, slot, cell, number, text)
+}
+
+fn size(slot: &Slot<'_>) -> usize
+    ensures { result ≡ size slot.now }
+{
+    slot.length as usize * slot.stride as usize
+}
+
+// The variable with the cell of this index, and the number of the cell in it. Past the last variable, the index among the
+// cells of the next owners.
+fn find_slot<'s, 'a>(slots: &'s [Slot<'a>], at: usize) -> (Option<&'s Slot<'a>>, usize)
+    ensures slot { option_copied result.0 ≡ slot_of slots.now at }
+    ensures cell { result.1 ≡ cell_of slots.now at }
+{
+    let mut at = at;
+    for slot in slots {
+        let size = size(slot);
+        if at < size {
+            return (Some(slot), at);
+        }
+        at -= size;
+    }
+    (None, at)
+}
+
+// The same among the variables of a proctype.
+fn find_local<'s, 'a>(
+    program: &'s Program<'a>,
+    kind: usize,
+    at: usize,
+) -> (Option<&'s Slot<'a>>, usize)
+    ensures slot { option_copied result.0 ≡ slot_of (slots_of (slice_get program.now.processes kind)) at }
+    ensures cell { result.1 ≡ cell_of (slots_of (slice_get program.now.processes kind)) at }
+{
+    match program.processes.as_slice().get(kind) {
+        Some(process) => find_slot(process.variables.as_slice(), at),
+        None => (None, at),
+    }
+}
+
+// Appends the line of the cell with this index among those of the processes.
+fn process_line_at(
+    program: &Program<'_>,
+    kinds: &[usize],
+    at: usize,
+    number: i32,
+    text: &mut Vec<u8>,
+) -> Result<(), AllocError>
+    ensures { OnOk result (text.new.items ≡ text.old.items ++ line_at program.now (process_owners program.now true 0 kinds.now) at number) }
+{
+    let mut at = at;
+    for (i, kind) in kinds.iter().enumerate() {
+        let (found, rest) = find_local(program, *kind, at);
+        match found {
+            Some(slot) => return local_line(program, i, *kind, slot, rest, number, text),
+            None => at = rest,
+        }
+    }
+    Ok(())
+}
+
+// Appends the line of the cell with this index among all, where it is wanted.
+fn line_at(
+    program: &Program<'_>,
+    kinds: &[usize],
+    wanted: Wanted,
+    at: usize,
+    number: i32,
+    text: &mut Vec<u8>,
+) -> Result<(), AllocError>
+    ensures { OnOk result (text.new.items ≡ text.old.items ++ line_at program.now (owners program.now wanted.globals wanted.locals kinds.now) at number) }
+{
+    let (found, rest) = find_slot(program.globals.as_slice(), at);
+    match found {
+        Some(slot) => {
+            if wanted.globals {
+                global_line(program, slot, rest, number, text)
+            } else {
+                Ok(())
+            }
+        }
+        None => {
+            if wanted.locals {
+                process_line_at(program, kinds, rest, number, text)
+            } else {
+                Ok(())
+            }
+        }
+    }
+}
+
+// Appends the line of the cell with this index, where its numbers differ.
+fn line_of_change(
+    program: &Program<'_>,
+    kinds: &[usize],
+    wanted: Wanted,
+    at: usize,
+    numbers: (i32, i32),
+    text: &mut Vec<u8>,
+) -> Result<(), AllocError>
+    ensures { OnOk result (text.new.items ≡ text.old.items ++ (if int_eq numbers.0 numbers.1 then [] else line_at program.now (owners program.now wanted.globals wanted.locals kinds.now) at numbers.1)) }
+{
+    let (before, after) = numbers;
+    if before == after {
+        Ok(())
+    } else {
+        line_at(program, kinds, wanted, at, after, text)
+    }
+}
+
+// Appends the lines of the cells that differ.
+fn lines_of_cells(
+    program: &Program<'_>,
+    kinds: &[usize],
+    wanted: Wanted,
+    before: &[i32],
+    after: &[i32],
+    text: &mut Vec<u8>,
+) -> Result<(), AllocError>
+    ensures { OnOk result (text.new.items ≡ text.old.items ++ cell_lines (line_at program.now (owners program.now wanted.globals wanted.locals kinds.now)) 0 before.now after.now) }
+{
+    let count = before.len().min(after.len());
+    for at in 0..count {
+        line_of_change(program, kinds, wanted, at, (before[at], after[at]), text)?;
+    }
+    Ok(())
+}
+
+/// Appends the lines of the places that are there before and after and whose numbers differ, from all cells before and all
+/// cells after, owner by owner. The processes are known by the numbers of their proctypes in the model.
+pub fn value_lines(
+    program: &Program<'_>,
+    kinds: &[usize],
+    wanted: Wanted,
+    before: &[i32],
+    after: &[i32],
+    text: &mut Vec<u8>,
+) -> Result<(), AllocError>
+    ensures { (b a : List Frame) → IsState program.now kinds.now b before.now → IsState program.now kinds.now a after.now →
+        OnOk result (text.new.items ≡ text.old.items ++ value_lines program.now kinds.now b a wanted.globals wanted.locals) }
+{
+    lines_of_cells(program, kinds, wanted, before, after, text)
+}
+
+// The oldest number of each cell of a log, by index.
+fn oldest(alloc: Global, written: &[(usize, i32)]) -> Result<BTreeMap<usize, i32>, AllocError>
+    ensures { IfOk result (λ m. m.entries ≡ oldest written.now) }
+{
+    let mut numbers = BTreeMap::new(alloc);
+    let mut left = written.len();
+    while 0 < left {
+        left -= 1;
+        let (at, number) = written[left];
+        numbers.insert(at, number)?;
+    }
+    Ok(numbers)
+}
+
+// Appends the line of a cell that was written, from its index and its number before.
+fn line_of_write(
+    program: &Program<'_>,
+    kinds: &[usize],
+    wanted: Wanted,
+    write: (usize, i32),
+    cells: &[i32],
+    text: &mut Vec<u8>,
+) -> Result<(), AllocError>
+    ensures { OnOk result (text.new.items ≡ text.old.items ++ write_line (line_at program.now (owners program.now wanted.globals wanted.locals kinds.now)) write (slice_get cells.now write.0)) }
+{
+    let (at, before) = write;
+    match cells.get(at) {
+        Some(after) => line_of_change(program, kinds, wanted, at, (before, *after), text),
+        None => Ok(()),
+    }
+}
+
+// Appends the lines of cells that were written.
+fn lines_of_writes(
+    program: &Program<'_>,
+    kinds: &[usize],
+    wanted: Wanted,
+    writes: &BTreeMap<usize, i32>,
+    cells: &[i32],
+    text: &mut Vec<u8>,
+) -> Result<(), AllocError>
+    ensures { OnOk result (text.new.items ≡ text.old.items ++ write_lines (line_at program.now (owners program.now wanted.globals wanted.locals kinds.now)) cells.now writes.now.entries) }
+{
+    for (at, before) in writes {
+        line_of_write(program, kinds, wanted, (*at, *before), cells, text)?;
+    }
+    Ok(())
+}
+
+/// Appends the lines of the places whose numbers differ from those before the writes of a store's log. The processes are known by
+/// the numbers of their proctypes in the model. Only cells that were written are looked at.
+pub fn logged_lines(
+    alloc: Global,
+    program: &Program<'_>,
+    kinds: &[usize],
+    wanted: Wanted,
+    store: &Store,
+    text: &mut Vec<u8>,
+) -> Result<(), AllocError>
+    ensures { AreDeclared program.now kinds.now store.now.frames →
+        OnOk result (text.new.items ≡ text.old.items ++ value_lines program.now kinds.now (before store.now) store.now.frames wanted.globals wanted.locals) }
+{
+    let writes = oldest(alloc, store.written())?;
+    lines_of_writes(
+        program,
+        kinds,
+        wanted,
+        &writes,
+        store.cells().as_slice(),
+        text,
+    )
+}

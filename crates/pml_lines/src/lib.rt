@@ -1,0 +1,5 @@
+//! The lines that name the places which a step changed.
+#![tactic(auto)]
+
+pub mod change;
+pub mod place;

@@ -1,0 +1,129 @@
+//! The texts of places and of their numbers.
+
+ghost use Rattle.std.specs.Prelude.{◌≡◌, ◌-◌, ◌/◌, ◌%◌, ◌++◌, length, slice_get, OnOk};
+ghost use Rattle.std.specs.Fmt.{decimal, signed_decimal};
+ghost use Rattle.pml_cells.specs.Cells.{leaf};
+ghost use Rattle.pml_lines.specs.Places.{named, worth, element, fields_path, path, place_line};
+
+use itoa::Buffer;
+use pml_cells::cells::{field_at, leaf, remainder};
+use pml_lex::token::Token;
+use pml_program::form::Form;
+use pml_program::program::{Fields, Program, Slot};
+use pml_tree::tree::Scalar;
+use std::alloc::AllocError;
+
+/// Appends the mtype name with a number, counted from 1, or the number in decimal where there is none.
+pub fn named(constants: &[Token<'_>], number: i32, text: &mut Vec<u8>) -> Result<(), AllocError>
+    ensures { OnOk result (text.new.items ≡ text.old.items ++ named constants.now number) }
+{
+    if 0 < number {
+        if let Some(name) = constants.get(number as usize - 1) {
+            return text.extend_from_slice(name.text());
+        }
+    }
+    let mut digits = Buffer::new();
+    text.extend_from_slice(digits.format(number).as_bytes())
+}
+
+/// Appends a number as its type has it written: an mtype by name.
+pub fn worth(
+    constants: &[Token<'_>],
+    form: Form,
+    number: i32,
+    text: &mut Vec<u8>,
+) -> Result<(), AllocError>
+    ensures { OnOk result (text.new.items ≡ text.old.items ++ worth constants.now form number) }
+{
+    if let Form::Plain(Scalar::Mtype) = form {
+        named(constants, number, text)
+    } else {
+        let mut digits = Buffer::new();
+        text.extend_from_slice(digits.format(number).as_bytes())
+    }
+}
+
+// The element that a cell is in.
+fn quotient(cell: usize, stride: u32) -> usize
+    ensures { result ≡ cell / stride }
+{
+    if stride == 0 {
+        0
+    } else {
+        cell / stride as usize
+    }
+}
+
+// Appends a variable or a field at one of its cells.
+fn element(slot: &Slot<'_>, cell: usize, text: &mut Vec<u8>) -> Result<(), AllocError>
+    ensures { OnOk result (text.new.items ≡ text.old.items ++ element slot.now cell) }
+{
+    text.extend_from_slice(slot.name.text())?;
+    if slot.array {
+        let mut digits = Buffer::new();
+        text.push(b'[')?;
+        text.extend_from_slice(digits.format(quotient(cell, slot.stride)).as_bytes())?;
+        text.push(b']')?;
+    }
+    Ok(())
+}
+
+// Appends the fields that lead to a cell within an element of a type.
+fn fields_path(
+    typedefs: &[Fields<'_>],
+    form: Form,
+    cell: usize,
+    text: &mut Vec<u8>,
+) -> Result<(), AllocError>
+    ensures { OnOk result (text.new.items ≡ text.old.items ++ fields_path typedefs.now (length typedefs.now) form cell) }
+{
+    let mut form = form;
+    let mut cell = cell;
+    let mut first = typedefs.len();
+    while 0 < first {
+        first -= 1;
+        match field_at(typedefs, first, form, cell) {
+            None => {}
+            Some(field) => {
+                let within = cell.saturating_sub(field.offset as usize);
+                text.push(b'.')?;
+                element(field, within, text)?;
+                form = field.form;
+                cell = remainder(within, field.stride);
+            }
+        }
+    }
+    Ok(())
+}
+
+/// Appends the path of a cell of a variable, as `a[2]` or `r.f[1].g`.
+pub fn path(
+    program: &Program<'_>,
+    slot: &Slot<'_>,
+    cell: usize,
+    text: &mut Vec<u8>,
+) -> Result<(), AllocError>
+    ensures { OnOk result (text.new.items ≡ text.old.items ++ path program.now slot.now cell) }
+{
+    element(slot, cell, text)?;
+    let within = remainder(cell, slot.stride);
+    fields_path(program.typedefs.as_slice(), slot.form, within, text)
+}
+
+/// Appends the path of a cell, its number and a line feed.
+pub fn place_line(
+    program: &Program<'_>,
+    slot: &Slot<'_>,
+    cell: usize,
+    number: i32,
+    text: &mut Vec<u8>,
+) -> Result<(), AllocError>
+    ensures { OnOk result (text.new.items ≡ text.old.items ++ place_line program.now slot.now cell number) }
+{
+    path(program, slot, cell, text)?;
+    text.extend_from_slice(b" = ")?;
+    let leaf = leaf(program.typedefs.as_slice(), slot, cell);
+    worth(program.constants.as_slice(), leaf.form, number, text)?;
+    text.push(b'\n')?;
+    Ok(())
+}

@@ -1,0 +1,3 @@
+pub mod Moves
+pub mod Declared
+pub mod Stepping

@@ -1,0 +1,4 @@
+pub mod Served
+pub mod State
+pub mod Texts
+pub mod World

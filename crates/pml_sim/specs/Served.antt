@@ -1,0 +1,38 @@
+-- Which checked models are played: those in whose first state one process begins, a sequence of simple statements.
+use Rattle.std.specs.Prelude.{ℕ, Bool, true, false, ◌&&◌, List, [], ◌∷◌, Option, Some, None, slice_get}
+use Rattle.pml_lex.specs.Word.{Word}
+use Rattle.pml_program.specs.declared.program.Action.{Action}
+use Rattle.pml_program.specs.declared.program.Action.TheVariants as a
+use Rattle.pml_program.specs.declared.program.Basic.{Basic, Plain}
+use Rattle.pml_program.specs.declared.program.Stmt.{Stmt}
+use Rattle.pml_program.specs.declared.program.Seq.{Seq, out-Seq}
+use Rattle.pml_program.specs.declared.program.Process.{Process}
+use Rattle.pml_program.specs.declared.program.Program.{Program}
+
+-- an assignment, an increment, a decrement or a condition
+abbrev pub is_simple : Action → Bool
+is_simple (a.Assign t v) = true
+is_simple (a.Increment t) = true
+is_simple (a.Decrement t) = true
+is_simple (a.Holds v) = true
+is_simple _ = false
+
+-- no label stands before it
+abbrev pub is_served_by : List Word → Basic → Bool
+is_served_by [] (Plain x) = is_simple x
+is_served_by _ _ = false
+
+abbrev pub is_served : Stmt → Bool
+is_served s = is_served_by s.labels s.basic
+
+abbrev pub are_served : List Stmt → Bool
+are_served [] = true
+are_served (s ∷ ss) = is_served s && are_served ss
+
+abbrev pub steps_of : Option Process → List Stmt
+steps_of None = []
+steps_of (Some p) = (out-Seq p.body).steps
+
+-- the statements of a proctype, by its number in the model
+abbrev pub body_of : Program → ℕ → List Stmt
+body_of p kind = steps_of (slice_get p.processes kind)

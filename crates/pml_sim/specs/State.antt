@@ -1,0 +1,15 @@
+-- The state of a model with one process.
+use Rattle.std.specs.Prelude.{ℕ, List}
+use Rattle.pml_program.specs.declared.program.Program.{Program}
+use Rattle.pml_store.specs.Store.{Contents}
+use Rattle.pml_value.specs.declared.owned.Owned.{Owned}
+use Rattle.pml_sim.specs.declared.control.Control.{Control}
+
+pub record State : Type 0 where
+  pub program : Program
+  -- the proctype of the process, by its number in the model
+  pub kind : ℕ
+  -- what the variables hold, and what they held before the last step
+  pub store : Contents
+  pub channels : List Owned
+  pub control : Control

@@ -1,0 +1,69 @@
+//! The texts of a move and of a place.
+
+ghost use Rattle.std.specs.Prelude.{◌≡◌, ◌++◌, OnOk};
+ghost use Rattle.std.specs.Option.{option_copied};
+ghost use Rattle.std.specs.Fmt.{decimal};
+ghost use Rattle.pml_sim.specs.Texts as texts;
+ghost use Rattle.pml_sim.specs.World.{name_by};
+
+use itoa::Buffer;
+use pml_lex::token::Token;
+use pml_lines::change::proctype_name;
+use pml_program::program::Process;
+use std::alloc::AllocError;
+
+fn add_number(text: &mut Vec<u8>, number: u32) -> Result<(), AllocError>
+    ensures { OnOk result (text.new.items ≡ text.old.items ++ decimal number) }
+{
+    let mut digits = Buffer::new();
+    text.extend_from_slice(digits.format(number).as_bytes())
+}
+
+/// Appends tokens, joined by one space.
+pub fn add_tokens(text: &mut Vec<u8>, tokens: &[Token<'_>]) -> Result<(), AllocError>
+    ensures { OnOk result (text.new.items ≡ text.old.items ++ texts.joined tokens.now) }
+{
+    let [first, rest @ ..] = tokens else {
+        return Ok(());
+    };
+    text.extend_from_slice(first.text())?;
+    for token in rest {
+        text.push(b' ')?;
+        text.extend_from_slice(token.text())?;
+    }
+    Ok(())
+}
+
+/// Appends the name of a proctype, by its number in the model.
+fn add_name(text: &mut Vec<u8>, process: Option<&Process<'_>>) -> Result<(), AllocError>
+    ensures { OnOk result (text.new.items ≡ text.old.items ++ name_by (option_copied process.entry)) }
+{
+    match process {
+        None => Ok(()),
+        Some(process) => proctype_name(&process.name, text),
+    }
+}
+
+/// Appends where a process of this proctype stands.
+pub fn add_place(
+    text: &mut Vec<u8>,
+    process: Option<&Process<'_>>,
+    line: u32,
+) -> Result<(), AllocError>
+    ensures { OnOk result (text.new.items ≡ text.old.items ++ texts.place (name_by (option_copied process.entry)) line) }
+{
+    text.extend_from_slice(b"proc 0 (")?;
+    add_name(text, process)?;
+    text.extend_from_slice(b") line ")?;
+    add_number(text, line)
+}
+
+/// The line of the first token.
+pub fn first_line(tokens: &[Token<'_>]) -> u32
+    ensures { result ≡ texts.first_line tokens.now }
+{
+    match tokens {
+        [] => 0,
+        [first, ..] => first.line(),
+    }
+}

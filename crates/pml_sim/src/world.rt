@@ -1,0 +1,311 @@
+//! A model with one process as a machine.
+
+ghost use Rattle.std.specs.Prelude.{◌≡◌, ◌++◌, [], OnOk, length, slice_get};
+ghost use Rattle.std.specs.Option.{option_copied};
+ghost use Rattle.pml_value.specs.Reads.{reading_of};
+ghost use Rattle.pml_value.specs.Statement.{Does};
+ghost use Rattle.pml_start.specs.Begin.{shown};
+ghost use Rattle.pml_start.specs.Start.{IsDeclared};
+ghost use Rattle.pml_sim.specs.Served.{steps_of};
+ghost use Rattle.pml_sim.specs.World as world;
+
+use crate::control::{Control, OnlyMove};
+use crate::served::is_played;
+use crate::text::{add_place, add_tokens, first_line};
+use pml_lines::change::{Wanted, logged_lines};
+use pml_program::program::{Basic, Process, Program, Stmt};
+use pml_start::started::Started;
+use pml_store::store::Store;
+use pml_value::owned::Owned;
+use pml_value::statement::{can_be_taken, take};
+use pml_value::stop::Stop as Unstored;
+use pml_value::view::View;
+use session::{Machine, Stop};
+use std::alloc::{AllocError, Global};
+use std::marker::Model;
+
+/// A model with one process, what its variables hold, and where the process stands.
+#[derive(Drop)]
+pub struct World<'p, 'a> {
+    program: &'p Program<'a>,
+    kind: usize,
+    store: Store,
+    channels: Vec<Owned>,
+    control: Control,
+}
+
+impl<'p, 'a> Model for World<'p, 'a> {
+    ghost use Rattle.pml_sim.specs.State.{State};
+    ghost use Rattle.pml_lines.specs.Changes.{AreDeclared};
+    ghost use Rattle.std.specs.Prelude.{◌∷◌, []};
+    ghost use Rattle.pml_program.specs.contracts.value.Value as worth;
+    ghost use Rattle.pml_program.specs.contracts.program.Seq as seq;
+    ghost use Rattle.std.specs.Coded.{codes};
+    ghost use mir.Syntax.{named};
+
+    ghost Value = { State };
+
+    ghost coded = { Prim.hlevel (codes, worth.the_row.coded, (seq.the_row (record { mir = named 0; lft = [] })).coded) };
+
+    ghost view = { λ w. record { program = w.program.now; kind = w.kind; store = w.store; channels = w.channels.items; control = w.control } };
+
+    ghost invariant = { λ w. AreDeclared w.program.now (w.kind ∷ []) w.store.frames };
+}
+
+impl<'p, 'a> World<'p, 'a> {
+    /// The first state, where the model is one that is played.
+    pub fn first(program: &'p Program<'a>, started: Started) -> Option<World<'p, 'a>>
+        requires declared { IsDeclared program.now (shown started) }
+        requires fresh { started.store.written ≡ [] }
+        ensures { result ≡ world.first_by program.now (shown started) started.kinds.items }
+    {
+        let Started {
+            store,
+            channels,
+            kinds,
+        } = started;
+        let kind = match kinds.as_slice() {
+            [kind] => *kind,
+            _ => return None,
+        };
+        if !is_played(process_at(program, kind)) {
+            return None;
+        }
+        Some(World {
+            program,
+            kind,
+            store,
+            channels,
+            control: Control::At(0),
+        })
+    }
+
+    /// The statement that stands first, if one does.
+    fn standing(&self) -> Option<&Stmt<'a>>
+        ensures { option_copied result ≡ world.standing self.now }
+    {
+        standing_of(self.process(), self.control)
+    }
+
+    fn can_move(&self, timeout: bool) -> bool
+        ensures { result ≡ world.can_move self.now timeout }
+    {
+        if !is_alive(self.control) {
+            return false;
+        }
+        let view = View {
+            store: &self.store,
+            channels: self.channels.as_slice(),
+            process: 0,
+            living: 1,
+            timeout,
+        };
+        can_take(self.standing(), &view)
+    }
+
+    fn process(&self) -> Option<&Process<'a>>
+        ensures { option_copied result ≡ world.process_of self.now }
+    {
+        process_at(self.program, self.kind)
+    }
+
+    fn add_place(&self, text: &mut Vec<u8>) -> Result<(), AllocError>
+        ensures { OnOk result (text.new.items ≡ text.old.items ++ world.place_of self.now) }
+    {
+        let process = self.process();
+        let line = line(closing(process), self.standing());
+        add_place(text, process, line)
+    }
+}
+
+fn process_at<'p, 'a>(program: &'p Program<'a>, kind: usize) -> Option<&'p Process<'a>>
+    ensures { option_copied result ≡ slice_get program.now.processes kind }
+{
+    program.processes.as_slice().get(kind)
+}
+
+fn is_alive(control: Control) -> bool
+    ensures { result ≡ world.is_alive control }
+{
+    match control {
+        Control::At(_) => true,
+        Control::Dead => false,
+    }
+}
+
+fn standing_at<'s, 'a>(body: &'s [Stmt<'a>], control: Control) -> Option<&'s Stmt<'a>>
+    ensures { option_copied result ≡ world.standing_at body.now control }
+{
+    match control {
+        Control::At(place) => body.get(place),
+        Control::Dead => None,
+    }
+}
+
+fn standing_of<'s, 'a>(process: Option<&'s Process<'a>>, control: Control) -> Option<&'s Stmt<'a>>
+    ensures { option_copied result ≡ world.standing_at (steps_of (option_copied process.entry)) control }
+{
+    match process {
+        None => None,
+        Some(process) => standing_at(process.body.steps.as_slice(), control),
+    }
+}
+
+fn count_of(process: Option<&Process<'_>>) -> usize
+    ensures { result ≡ length (steps_of (option_copied process.entry)) }
+{
+    match process {
+        None => 0,
+        Some(process) => process.body.steps.len(),
+    }
+}
+
+fn can_do(basic: &Basic<'_>, view: &View<'_>) -> bool
+    ensures { result ≡ world.can_do basic.now (reading_of view.now.store.now.frames view.now.channels.now view.now.process view.now.living view.now.timeout) }
+{
+    match basic {
+        Basic::Plain(action) => can_be_taken(action, view),
+        _ => false,
+    }
+}
+
+fn can_take(standing: Option<&Stmt<'_>>, view: &View<'_>) -> bool
+    ensures { result ≡ world.can_take (option_copied standing.entry) (reading_of view.now.store.now.frames view.now.channels.now view.now.process view.now.living view.now.timeout) }
+{
+    match standing {
+        Some(stmt) => can_do(&stmt.basic, view),
+        None => true,
+    }
+}
+
+/// Does what a statement does to the variables.
+fn do_basic(
+    store: &mut Store,
+    channels: &[Owned],
+    timeout: bool,
+    basic: &Basic<'_>,
+) -> Result<(), Unstored>
+    ensures { Does 0 (world.done_by basic.now (reading_of store.old.frames channels.now 0 1 timeout)) result store.old store.new }
+{
+    match basic {
+        Basic::Plain(action) => take(store, channels, 0, 1, timeout, action),
+        _ => Ok(()),
+    }
+}
+
+/// Does what the statement does that stands first. A process dies without a trace among the variables.
+fn do_first(
+    store: &mut Store,
+    channels: &[Owned],
+    timeout: bool,
+    standing: Option<&Stmt<'_>>,
+) -> Result<(), Unstored>
+    ensures { Does 0 (world.done_first (option_copied standing.entry) (reading_of store.old.frames channels.now 0 1 timeout)) result store.old store.new }
+{
+    match standing {
+        Some(stmt) => do_basic(store, channels, timeout, &stmt.basic),
+        None => Ok(()),
+    }
+}
+
+/// Where a process with so many statements stands once what stood first was taken.
+fn beyond(control: Control, count: usize) -> Control
+    ensures { result ≡ world.beyond count control }
+{
+    match control {
+        Control::At(place) => {
+            if place < count {
+                Control::At(place + 1)
+            } else {
+                Control::Dead
+            }
+        }
+        Control::Dead => Control::Dead,
+    }
+}
+
+fn line(closing: u32, standing: Option<&Stmt<'_>>) -> u32
+    ensures { result ≡ world.line closing (option_copied standing.entry) }
+{
+    match standing {
+        Some(stmt) => first_line(stmt.tokens.as_slice()),
+        None => closing,
+    }
+}
+
+fn closing(process: Option<&Process<'_>>) -> u32
+    ensures { result ≡ world.closing_by (option_copied process.entry) }
+{
+    match process {
+        Some(process) => process.end.line(),
+        None => 0,
+    }
+}
+
+fn add_action(text: &mut Vec<u8>, standing: Option<&Stmt<'_>>) -> Result<(), AllocError>
+    ensures { OnOk result (text.new.items ≡ text.old.items ++ world.action (option_copied standing.entry)) }
+{
+    match standing {
+        Some(stmt) => add_tokens(text, stmt.tokens.as_slice()),
+        None => text.extend_from_slice(b"-end-"),
+    }
+}
+
+impl Machine for World<'_, '_> {
+    type Move = OnlyMove;
+
+    ghost rules = { world.rules };
+
+    fn moves(&self, alloc: Global) -> Result<Vec<OnlyMove>, AllocError> {
+        let mut moves = Vec::new(alloc);
+        if self.can_move(false) {
+            moves.push(OnlyMove { timeout: false })?;
+        } else if self.can_move(true) {
+            moves.push(OnlyMove { timeout: true })?;
+        }
+        Ok(moves)
+    }
+
+    fn show(&self, _: &OnlyMove, text: &mut Vec<u8>) -> Result<(), AllocError> {
+        self.add_place(text)?;
+        text.extend_from_slice(b" [")?;
+        add_action(text, self.standing())?;
+        text.extend_from_slice(b"]")
+    }
+
+    fn take(&mut self, m: &OnlyMove, _: &mut Vec<u8>) -> Result<(), Stop> {
+        let process = process_at(self.program, self.kind);
+        let standing = standing_of(process, self.control);
+        self.store.forget();
+        match do_first(
+            &mut self.store,
+            self.channels.as_slice(),
+            m.timeout,
+            standing,
+        ) {
+            Ok(()) => {
+                self.control = beyond(self.control, count_of(process));
+                Ok(())
+            }
+            Err(Unstored::Fault(fault)) => Err(Stop::Fault(fault)),
+            Err(Unstored::Memory) => Err(Stop::Memory),
+        }
+    }
+
+    fn values(&self, globals: bool, locals: bool, text: &mut Vec<u8>) -> Result<(), AllocError> {
+        let alloc = *text.allocator();
+        let kinds = [self.kind];
+        let wanted = Wanted { globals, locals };
+        logged_lines(alloc, self.program, &kinds, wanted, &self.store, text)
+    }
+
+    fn is_valid(&self) -> bool {
+        !is_alive(self.control)
+    }
+
+    fn stuck(&self, text: &mut Vec<u8>) -> Result<(), AllocError> {
+        text.extend_from_slice(b"at: ")?;
+        self.add_place(text)?;
+        text.extend_from_slice(b"\n")
+    }
+}

@@ -1,0 +1,157 @@
+-- What the cells of a variable hold when it is begun.
+use Rattle.std.proofs.Common.{◌≡◌, ℕ, zero, suc, ◌+◌, ◌<◌, ◌≤◌, ◌%◌, Bool, true, false, ◌&&◌, nat_eq, nat_lt, if◌then◌else◌, List, length, ℤ, pos, Option, None, Some, slice_get, Result, Ok, Err, IfOk, refl, sym, ap, ◌∙◌, arith}
+use Rattle.std.proofs.Math.Logic.{⊎_elim}
+use Rattle.std.proofs.lemmas.Bool.{cases_eq, eq-eqb, ne_eqb}
+use Rattle.diagnostics.specs.declared.fault.Fault.{Fault}
+use Rattle.diagnostics.specs.declared.fault.Fault.TheVariants.{TooManyChannels}
+use Rattle.pml_program.specs.declared.form.Form.{Form}
+use Rattle.pml_program.specs.declared.form.Form.TheVariants as form
+use Rattle.pml_program.specs.declared.value.Value.{Value}
+use Rattle.pml_program.specs.declared.program.Initial.{Initial}
+use Rattle.pml_program.specs.declared.program.Initial.TheVariants as i
+use Rattle.pml_program.specs.declared.program.Slot.{Slot}
+use Rattle.pml_program.specs.declared.program.Fields.{Fields}
+use Rattle.pml_eval.specs.Value.{◌>>=◌}
+use Rattle.pml_store.specs.declared.place.Place.{Place as Spot}
+use Rattle.pml_store.specs.Store.{Frame, HasPlace, size_at, number_at, with_number, is_same}
+use Rattle.pml_store.proofs.Back.{has_cell}
+use Rattle.pml_store.proofs.OnePlace.{number_at-with_number}
+use Rattle.pml_cells.specs.Cells.{leaf, last_field, field_in}
+use Rattle.pml_value.specs.declared.owned.Owned.{Owned}
+use Rattle.pml_start.specs.Begin.{Begun, cell_in, initial_value, with_value, with_values, cell_begun, fields_begun, variable_begun, size}
+use Rattle.pml_start.specs.Known.{is_of, IsPlain}
+use Rattle.pml_start.proofs.Chaining.{chain, chain_any}
+use Rattle.pml_start.proofs.Shapes.{same_size, shape-with_number}
+
+-- ---- one write
+
+apart : (a b c : Bool) → (a && b) ≡ false → (a && (b && c)) ≡ false
+apart true b c h = rw h refl
+apart false b c h = refl
+
+write_elsewhere : (fs : List Frame) (p q : Spot) (v : ℤ) → HasPlace fs p → is_same p q ≡ false → number_at (with_number fs p v) q ≡ number_at fs q
+write_elsewhere fs p q v h e = let w = number_at-with_number fs p q v h in rw e at w
+
+write_here : (fs : List Frame) (p q : Spot) (v : ℤ) → HasPlace fs p → is_same p q ≡ true → number_at (with_number fs p v) q ≡ v
+write_here fs p q v h e = let w = number_at-with_number fs p q v h in rw e at w
+
+-- the youngest owner's variable has so many cells
+abbrev Has : Begun → ℕ → ℕ → Type 0
+Has b v z = size_at b.frames (length b.kinds) v ≡ z
+
+there : (b : Begun) (v c z : ℕ) → Has b v z → c < z → HasPlace b.frames (cell_in b v c)
+there b v c z s h = has_cell b.frames (cell_in b v c) (omega (arith, s, h))
+
+still : (b : Begun) (v c z : ℕ) (x : ℤ) → Has b v z → size_at (with_number b.frames (cell_in b v c) x) (length b.kinds) v ≡ z
+still b v c z x s = same_size b.frames (with_number b.frames (cell_in b v c) x) (length b.kinds) v (shape-with_number b.frames (cell_in b v c) x) ∙ s
+
+last : (a b c : Bool) → c ≡ false → (a && (b && c)) ≡ false
+last true true c h = h
+last true false c h = refl
+last false b c h = refl
+
+other_cell : (b : Begun) (v c d : ℕ) → nat_eq c d ≡ false → is_same (cell_in b v c) (cell_in b v d) ≡ false
+other_cell b v c d h = last (nat_eq (length b.kinds) (length b.kinds)) (nat_eq v v) (nat_eq c d) h
+
+same_cell : (b : Begun) (v c : ℕ) → is_same (cell_in b v c) (cell_in b v c) ≡ true
+same_cell b v c = rw (eq-eqb (length b.kinds) (length b.kinds) refl, eq-eqb v v refl, eq-eqb c c refl) refl
+
+-- ---- a number in each cell
+
+values_elsewhere : (v : ℕ) (x : ℤ) (c n z : ℕ) (b : Begun) (q : Spot) → Has b v z → c + n ≤ z → is_of b v q ≡ false → number_at (with_values v x c n b).frames q ≡ number_at b.frames q
+values_elsewhere v x c zero z b q s h e = refl
+values_elsewhere v x c (suc n) z b q s h e =
+    values_elsewhere v x (c + 1) n z (with_value v c x b) q (still b v c z x s) (omega (arith, h)) e
+    ∙ write_elsewhere b.frames (cell_in b v c) q x (there b v c z s (omega (arith, h))) (apart (nat_eq (length b.kinds) q.owner) (nat_eq v q.variable) (nat_eq c q.cell) e)
+
+values_before : (v : ℕ) (x : ℤ) (c n z d : ℕ) (b : Begun) → Has b v z → c + n ≤ z → d < c → number_at (with_values v x c n b).frames (cell_in b v d) ≡ number_at b.frames (cell_in b v d)
+values_before v x c zero z d b s h l = refl
+values_before v x c (suc n) z d b s h l =
+    values_before v x (c + 1) n z d (with_value v c x b) (still b v c z x s) (omega (arith, h)) (omega (arith, l))
+    ∙ write_elsewhere b.frames (cell_in b v c) (cell_in b v d) x (there b v c z s (omega (arith, h))) (other_cell b v c d (ne_eqb c d (λ e. omega (arith, l, e))))
+
+values_here : (v : ℕ) (x : ℤ) (c n z d : ℕ) (b : Begun) → Has b v z → c + n ≤ z → c ≤ d → d < c + n → number_at (with_values v x c n b).frames (cell_in b v d) ≡ x
+values_here v x c zero z d b s h l m = absurd (omega (arith, l, m))
+values_here v x c (suc n) z d b s h l m =
+    ⊎_elim
+    (λ (e : c ≡ d). rw (← e) (values_before v x (c + 1) n z c (with_value v c x b) (still b v c z x s) (omega (arith, h)) (omega arith)
+    ∙ write_here b.frames (cell_in b v c) (cell_in b v c) x (there b v c z s (omega (arith, h))) (same_cell b v c)))
+    (λ k. values_here v x (c + 1) n z d (with_value v c x b) (still b v c z x s) (omega (arith, h)) (omega (arith, l, k)) (omega (arith, m)))
+    (cases_eq c d)
+
+-- each cell holds what the type keeps of the one value
+pub each_holds : (ts : List Fields) (s : Slot) (e : Value) (v c : ℕ) (b : Begun) → Has b v (size s) → c < size s → IfOk (variable_begun ts (i.Value e) s v b) (λ n. initial_value e s.form b ≡ Ok (number_at n.frames (cell_in b v c)))
+each_holds ts s e v c b h l = from (initial_value e s.form b)
+  where
+    from : (r : Result ℤ Fault) → IfOk {T = Begun} (r >>= λ x. Ok (with_values v x 0 (size s) b)) (λ n. r ≡ Ok (number_at n.frames (cell_in b v c)))
+    from (Ok x) = ap Ok (sym (values_here v x 0 (size s) (size s) c b h (omega arith) (omega arith) (omega (arith, l))))
+    from (Err f) = tt
+
+-- ---- no other cell changes
+
+record Kept (b : Begun) (v z : ℕ) (q : Spot) (n : Begun) : Type 0 where
+  kinds : n.kinds ≡ b.kinds
+  has : size_at n.frames (length n.kinds) v ≡ z
+  number : number_at n.frames q ≡ number_at b.frames q
+
+kept-after : (r : Result Begun Fault) (b m : Begun) (v z : ℕ) (q : Spot) → Kept b v z q m → IfOk r (Kept m v z q) → IfOk r (Kept b v z q)
+kept-after (Ok n) b m v z q h k = record { kinds = k.kinds ∙ h.kinds; has = k.has; number = k.number ∙ h.number }
+kept-after (Err f) b m v z q h k = tt
+
+kept-write : (v c z : ℕ) (x : ℤ) (b : Begun) (q : Spot) → Has b v z → c < z → is_of b v q ≡ false → Kept b v z q (with_value v c x b)
+kept-write v c z x b q s h e = record {
+  kinds = refl;
+  has = still b v c z x s;
+  number = write_elsewhere b.frames (cell_in b v c) q x (there b v c z s h) (apart (nat_eq (length b.kinds) q.owner) (nat_eq v q.variable) (nat_eq c q.cell) e);
+}
+
+kept-channel : (t : Bool) (v c z : ℕ) (x : ℤ) (m : List Owned) (b : Begun) (q : Spot) → Kept b v z q (with_value v c x b) → IfOk {T = Begun} (if t then Ok (record b { frames = with_number b.frames (cell_in b v c) x; channels = m }) else Err TooManyChannels) (Kept b v z q)
+kept-channel true v c z x m b q k = record { kinds = refl; has = k.has; number = k.number }
+kept-channel false v c z x m b q k = tt
+
+cell_kept : (x : Initial) (f : Form) (v c z : ℕ) (b : Begun) (q : Spot) → Has b v z → c < z → is_of b v q ≡ false → IfOk (cell_begun x f v c b) (Kept b v z q)
+cell_kept i.Zero f v c z b q s h e = record { kinds = refl; has = s; number = refl }
+cell_kept (i.Value w) f v c z b q s h e =
+    chain_any (Kept b v z q) (initial_value w f b) (λ n. Ok (with_value v c n b)) (λ n. kept-write v c z n b q s h e)
+cell_kept (i.Channel capacity types) f v c z b q s h e =
+    kept-channel (nat_lt (length b.channels) 255) v c z (pos (length b.channels + 1)) _ b q (kept-write v c z (pos (length b.channels + 1)) b q s h e)
+
+fields_kept : (ts : List Fields) (s : Slot) (v c n z : ℕ) (b : Begun) (q : Spot) → Has b v z → c + n ≤ z → is_of b v q ≡ false → IfOk (fields_begun ts s v c n b) (Kept b v z q)
+fields_kept ts s v c zero z b q h l e = record { kinds = refl; has = h; number = refl }
+fields_kept ts s v c (suc n) z b q h l e =
+    chain (Kept b v z q) (Kept b v z q) (cell_begun (leaf ts s c).initial (leaf ts s c).form v c b) (fields_begun ts s v (c + 1) n) (cell_kept (leaf ts s c).initial (leaf ts s c).form v c z b q h (omega (arith, l)) e)
+    (λ m k. kept-after (fields_begun ts s v (c + 1) n m) b m v z q k (fields_kept ts s v (c + 1) n z m q k.has (omega (arith, l)) (ap (λ (ks : List ℕ). nat_eq (length ks) q.owner && nat_eq v q.variable) k.kinds ∙ e)))
+
+number_of : (r : Result Begun Fault) (b : Begun) (v z : ℕ) (q : Spot) → IfOk r (Kept b v z q) → IfOk r (λ n. number_at n.frames q ≡ number_at b.frames q)
+number_of (Ok n) b v z q k = k.number
+number_of (Err f) b v z q k = tt
+
+pub others_hold : (ts : List Fields) (x : Initial) (s : Slot) (v : ℕ) (b : Begun) (q : Spot) → Has b v (size s) → is_of b v q ≡ false → IfOk (variable_begun ts x s v b) (λ n. number_at n.frames q ≡ number_at b.frames q)
+others_hold ts i.Zero s v b q h e = number_of (fields_begun ts s v 0 (size s) b) b v (size s) q (fields_kept ts s v 0 (size s) (size s) b q h (omega arith) e)
+others_hold ts (i.Value w) s v b q h e =
+    chain_any (λ n. number_at n.frames q ≡ number_at b.frames q) (initial_value w s.form b) (λ n. Ok (with_values v n 0 (size s) b))
+    (λ n. values_elsewhere v n 0 (size s) (size s) b q h (omega arith) e)
+others_hold ts (i.Channel capacity types) s v b q h e = number_of (fields_begun ts s v 0 (size s) b) b v (size s) q (fields_kept ts s v 0 (size s) (size s) b q h (omega arith) e)
+
+-- ---- no initialiser
+
+field_none : (t : Option Fields) (f : Form) (c : ℕ) → IsPlain f → field_in t f c ≡ None
+field_none None f c h = refl
+field_none (Some t) (form.Plain w) c h = refl
+field_none (Some t) (form.Unsigned w) c h = refl
+field_none (Some t) (form.Struct o) c h = absurd h
+field_none (Some t) form.Unknown c h = refl
+
+last_plain : (ts : List Fields) (n : ℕ) (s : Slot) (c : ℕ) → IsPlain s.form → last_field ts n s c ≡ s
+last_plain ts zero s c h = refl
+last_plain ts (suc n) s c h = rw (field_none (slice_get ts n) s.form c h) (last_plain ts n s c h)
+
+fields_nothing : (ts : List Fields) (s : Slot) (v c n : ℕ) (b : Begun) → IsPlain s.form → s.initial ≡ i.Zero → fields_begun ts s v c n b ≡ Ok b
+fields_nothing ts s v c zero b h e = refl
+fields_nothing ts s v c (suc n) b h e =
+    let l : leaf ts s c ≡ s = last_plain ts (length ts) s (c % s.stride) h in
+    let x : (leaf ts s c).initial ≡ i.Zero = ap (λ (f : Slot). f.initial) l ∙ e in
+    rw x (fields_nothing ts s v (c + 1) n b h e)
+
+pub nothing_begins : (ts : List Fields) (s : Slot) (v : ℕ) (b : Begun) → IsPlain s.form → s.initial ≡ i.Zero → variable_begun ts s.initial s v b ≡ Ok b
+nothing_begins ts s v b h e = ap (λ (x : Initial). variable_begun ts x s v b) e ∙ fields_nothing ts s v 0 (size s) b h e

@@ -1,0 +1,7 @@
+pub mod Shapes
+pub mod Stepping
+pub mod Declaring
+pub mod Chaining
+pub mod Living
+pub mod Holding
+mod Samples

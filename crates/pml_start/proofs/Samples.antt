@@ -1,0 +1,52 @@
+-- Worked examples, computed.
+use Rattle.std.proofs.Common.{◌≡◌, ℕ, [], ◌∷◌, pos, refl, true, Ok}
+use Rattle.pml_lex.specs.declared.token.Kind.TheVariants as kind
+use Rattle.pml_tree.specs.declared.tree.Scalar.TheVariants as scalar
+use Rattle.pml_program.specs.declared.form.Form.{Form}
+use Rattle.pml_program.specs.declared.form.Form.TheVariants as form
+use Rattle.pml_program.specs.declared.program.Initial.{Initial}
+use Rattle.pml_program.specs.declared.program.Initial.TheVariants as initial
+use Rattle.pml_program.specs.declared.program.Slot.{Slot}
+use Rattle.pml_program.specs.declared.program.Fields.{Fields}
+use Rattle.pml_eval.specs.Clip.{clipped, bits_of, is_signed}
+use Rattle.pml_value.specs.declared.owned.Owned.{Owned}
+use Rattle.pml_start.specs.Begin.{owner_begun, with_values}
+use Rattle.pml_start.specs.Start.{nothing}
+
+abbrev byte : Form
+byte = form.Plain scalar.Byte
+
+abbrev variable : Form → ℕ → ℕ → ℕ → Initial → Slot
+variable f offset length stride x = record {
+  name = record { kind = kind.Name; text = []; line = 1 };
+  form = f;
+  array = true;
+  offset = offset;
+  length = length;
+  stride = stride;
+  initial = x;
+}
+
+abbrev owned : ℕ → Owned
+owned owner = record { owner = owner; channel = record { capacity = 3; types = byte ∷ []; messages = [] } }
+
+-- a byte keeps 44 of 300, in each element
+bytes : with_values 0 (clipped byte (pos 300)) 0 2 (record nothing { frames = ((pos 0 ∷ pos 0 ∷ []) ∷ []) ∷ [] }) ≡ record nothing { frames = ((pos 44 ∷ pos 44 ∷ []) ∷ []) ∷ [] }
+unfolding bits_of is_signed
+bytes = refl
+
+-- each element has a channel of its own
+channels : owner_begun [] (variable (form.Plain scalar.Chan) 0 2 1 (initial.Channel 3 (byte ∷ [])) ∷ []) nothing ≡ Ok (record { frames = ((pos 1 ∷ pos 2 ∷ []) ∷ []) ∷ []; channels = owned 0 ∷ owned 0 ∷ []; kinds = [] })
+channels = refl
+
+-- a typedef with a byte and a channel: its fields begin anew in each element
+pair : Fields
+pair = record { owner = 9; fields = variable byte 0 1 1 initial.Zero ∷ variable (form.Plain scalar.Chan) 1 1 1 (initial.Channel 3 (byte ∷ [])) ∷ [] }
+
+fields : owner_begun (pair ∷ []) (variable (form.Struct 9) 0 2 2 initial.Zero ∷ []) nothing ≡ Ok (record { frames = ((pos 0 ∷ pos 1 ∷ pos 0 ∷ pos 2 ∷ []) ∷ []) ∷ []; channels = owned 0 ∷ owned 0 ∷ []; kinds = [] })
+unfolding pair
+fields = refl
+
+-- a process's channels are its own
+second : owner_begun [] (variable (form.Plain scalar.Chan) 0 1 1 (initial.Channel 3 (byte ∷ [])) ∷ []) (record { frames = [] ∷ [] ∷ []; channels = []; kinds = 4 ∷ 4 ∷ [] }) ≡ Ok (record { frames = [] ∷ [] ∷ ((pos 1 ∷ []) ∷ []) ∷ []; channels = owned 2 ∷ []; kinds = 4 ∷ 4 ∷ [] })
+second = refl

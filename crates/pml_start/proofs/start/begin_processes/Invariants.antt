@@ -1,0 +1,11 @@
+use Rattle.std.proofs.Common.{◌≡◌, ◌-◌}
+use Rattle.pml_start.specs.Begin.{shown}
+use Rattle.pml_start.specs.Start.{IsDeclared, kind_begun}
+use Rattle.pml_start.proofs.start.begin_processes.Given as goal
+
+-- the processes that are begun by now, and then the others, are all
+abbrev pub invariant-loop-start : goal.invariant-loop-start
+invariant-loop-start l = record {
+  same : kind_begun l.program l.kind (l.starts - l._start) (shown l.started) ≡ kind_begun l.program l.kind l.starts (shown l.initial.started);
+  declared : IsDeclared l.program (shown l.started);
+}

@@ -1,0 +1,11 @@
+use Rattle.std.proofs.Common.{◌≡◌, drop}
+use Rattle.pml_start.specs.Begin.{shown}
+use Rattle.pml_start.specs.Start.{IsDeclared, first_state, kinds_begun}
+use Rattle.pml_start.proofs.start.start.Given as goal
+
+-- what is begun by now, and then the processes of the other proctypes, is the first state
+abbrev pub invariant-loop-kind : goal.invariant-loop-kind
+invariant-loop-kind l = record {
+  same : kinds_begun l.program l.kind (drop l.kind l.program.processes) (shown l.started) ≡ first_state l.program;
+  declared : IsDeclared l.program (shown l.started);
+}

@@ -1,0 +1,110 @@
+-- What the variables of an owner begin with.
+use Rattle.std.specs.Prelude.{◌≡◌, ℕ, zero, suc, ◌+◌, ◌-◌, ◌*◌, ◌++◌, List, [], ◌∷◌, length, map, pos, ℤ, false, nat_lt, if◌then◌else◌, Result, Ok, Err}
+use Rattle.diagnostics.specs.declared.fault.Fault.{Fault}
+use Rattle.diagnostics.specs.declared.fault.Fault.TheVariants.{TooManyChannels}
+use Rattle.pml_program.specs.declared.form.Form.{Form}
+use Rattle.pml_program.specs.declared.value.Value.{Value}
+use Rattle.pml_program.specs.declared.program.Initial.{Initial}
+use Rattle.pml_program.specs.declared.program.Initial.TheVariants as i
+use Rattle.pml_program.specs.declared.program.Slot.{Slot}
+use Rattle.pml_program.specs.declared.program.Fields.{Fields}
+use Rattle.pml_eval.specs.Clip.{clipped}
+use Rattle.pml_eval.specs.Value.{Reading, val, ◌>>=◌}
+use Rattle.pml_store.specs.declared.place.Place.{Place as Spot}
+use Rattle.pml_store.specs.Store.{Frame, with_number, zeros}
+use Rattle.pml_channel.specs.Contents.{Contents as Messages}
+use Rattle.pml_cells.specs.Cells.{leaf}
+use Rattle.pml_value.specs.declared.owned.Owned.{Owned}
+use Rattle.pml_value.specs.declared.stop.Stop.{Stop}
+use Rattle.pml_value.specs.declared.stop.Stop.TheVariants as stop
+use Rattle.pml_value.specs.Reads.{reading_of}
+use Rattle.pml_start.specs.declared.started.Started.{Started}
+
+-- What the variables of each owner hold, the live channels, and the proctypes of the live processes by their numbers in the
+-- model. Owner 0 is the globals, and owner n + 1 is process n.
+pub record Begun : Type 0 where
+  pub frames : List Frame
+  pub channels : List Owned
+  pub kinds : List ℕ
+
+abbrev pub shown : Started → Begun
+shown s = record { frames = s.store.frames; channels = s.channels.items; kinds = s.kinds.items }
+
+-- what the initialisers of the youngest owner read: its number, how many processes live, and what is there by now
+abbrev pub read_in : Begun → Reading
+read_in b = reading_of b.frames b.channels (length b.kinds - 1) (length b.kinds) false
+
+-- a cell of a variable of the youngest owner
+abbrev pub cell_in : Begun → ℕ → ℕ → Spot
+cell_in b variable cell = record { owner = length b.kinds; variable = variable; cell = cell }
+
+-- a number in a cell
+abbrev pub with_value : ℕ → ℕ → ℤ → Begun → Begun
+with_value variable cell v b = record b { frames = with_number b.frames (cell_in b variable cell) v }
+
+-- a channel has a capacity of at most 65535, which is all that a checked model asks for
+abbrev pub empty_channel : ℕ → List Form → Messages
+empty_channel capacity types = record { capacity = if nat_lt capacity 65536 then capacity else 65535; types = types; messages = [] }
+
+-- a new channel, and its number in a cell
+abbrev pub with_channel : ℕ → ℕ → Messages → Begun → Result Begun Fault
+with_channel variable cell c b =
+    if nat_lt (length b.channels) 255 then Ok (record b {
+      frames = with_number b.frames (cell_in b variable cell) (pos (length b.channels + 1));
+      channels = b.channels ++ record { owner = length b.kinds; channel = c } ∷ [];
+    }) else Err TooManyChannels
+
+-- what a type keeps of the value of an initialiser
+abbrev pub initial_value : Value → Form → Begun → Result ℤ Fault
+initial_value v form b = val v (read_in b) >>= λ n. Ok (clipped form n)
+
+-- what a cell begins with
+abbrev pub cell_begun : Initial → Form → ℕ → ℕ → Begun → Result Begun Fault
+cell_begun i.Zero form variable cell b = Ok b
+cell_begun (i.Value v) form variable cell b = initial_value v form b >>= λ n. Ok (with_value variable cell n b)
+cell_begun (i.Channel capacity types) form variable cell b = with_channel variable cell (empty_channel capacity types) b
+
+-- a number in n cells, from this one on
+abbrev pub with_values : ℕ → ℤ → ℕ → ℕ → Begun → Begun
+with_values variable v cell zero b = b
+with_values variable v cell (suc n) b = with_values variable v (cell + 1) n (with_value variable cell v b)
+
+-- n cells of a variable in order, from this one on: each begins with what the field that has it begins with, or the variable
+-- itself where its type has no fields
+abbrev pub fields_begun : List Fields → Slot → ℕ → ℕ → ℕ → Begun → Result Begun Fault
+fields_begun ts s variable cell zero b = Ok b
+fields_begun ts s variable cell (suc n) b =
+    cell_begun (leaf ts s cell).initial (leaf ts s cell).form variable cell b >>= fields_begun ts s variable (cell + 1) n
+
+abbrev pub size : Slot → ℕ
+size s = s.length * s.stride
+
+-- what a variable begins with: a value is evaluated once, for all cells; without one, each cell begins by itself, and a channel
+-- is made for each
+abbrev pub variable_begun : List Fields → Initial → Slot → ℕ → Begun → Result Begun Fault
+variable_begun ts (i.Value v) s variable b = initial_value v s.form b >>= λ n. Ok (with_values variable n 0 (size s) b)
+variable_begun ts _ s variable b = fields_begun ts s variable 0 (size s) b
+
+-- the variables of an owner in order of declaration, from this number on
+abbrev pub variables_begun : List Fields → List Slot → ℕ → Begun → Result Begun Fault
+variables_begun ts [] variable b = Ok b
+variables_begun ts (s ∷ ss) variable b = variable_begun ts s.initial s variable b >>= variables_begun ts ss (variable + 1)
+
+-- the variables of one more owner: 0 in each cell, and then the initialisers
+abbrev pub owner_begun : List Fields → List Slot → Begun → Result Begun Fault
+owner_begun ts ss b = variables_begun ts ss 0 (record b { frames = b.frames ++ zeros (map size ss) ∷ [] })
+
+-- ---- what is known of it
+
+-- how many cells the variables of each owner have
+abbrev pub shape : List Frame → List (List ℕ)
+shape = map (map length)
+
+-- all are begun, or the first fault is answered; where memory is refused, nothing is said
+abbrev pub Begins : Result Begun Fault → Result (Unit {0}) Stop → Begun → Type 0
+Begins (Ok b) (Ok u) new = new ≡ b
+Begins (Ok b) (Err stop.Memory) new = Unit {0}
+Begins (Ok b) (Err (stop.Fault f)) new = ⊥
+Begins (Err f) (Err (stop.Fault g)) new = g ≡ f
+Begins (Err f) (Err stop.Memory) new = Unit {0}
+Begins (Err f) (Ok u) new = ⊥

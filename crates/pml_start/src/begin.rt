@@ -1,0 +1,215 @@
+//! What the variables of the youngest owner begin with. Owner 0 is the globals, and owner n + 1 is process n.
+
+ghost use Rattle.std.specs.Prelude.{◌≡◌, ◌<◌, ◌≤◌, ◌++◌, ◌∷◌, [], IfOk, OnOk, Ok, length, map};
+ghost use Rattle.pml_store.specs.Store.{HasPlace, frame_at, size_at};
+ghost use Rattle.pml_start.specs.Begin.{Begins, shown, shape, initial_value, cell_in, with_value, with_channel, empty_channel, cell_begun, with_values, fields_begun, variable_begun, variables_begun, owner_begun, size};
+ghost use Rattle.pml_start.specs.Known.{Keeps};
+
+use crate::started::Started;
+use diagnostics::Fault;
+use pml_cells::cells::leaf;
+use pml_channel::channel::Channel;
+use pml_eval::clip::clip;
+use pml_eval::eval::eval;
+use pml_program::form::Form;
+use pml_program::program::{Fields, Initial, Slot};
+use pml_program::value::Value;
+use pml_store::place::Place as Spot;
+use pml_value::owned::Owned;
+use pml_value::stop::Stop;
+use pml_value::view::View;
+use sqlite_items::Items;
+use std::alloc::{AllocError, Global};
+
+/// What a type keeps of the value of an initialiser.
+fn initial_value(started: &Started, value: &Value, form: Form) -> Result<i32, Fault>
+    requires { length started.now.kinds.items ≤ 255 }
+    ensures { result ≡ initial_value value.now form (shown started.now) }
+{
+    let living = started.kinds.len();
+    let view = View {
+        store: &started.store,
+        channels: started.channels.as_slice(),
+        process: living.saturating_sub(1) as u8,
+        living: living as u8,
+        timeout: false,
+    };
+    let number = eval(value, &view)?;
+    Ok(clip(form, number))
+}
+
+/// Stores a number in a cell.
+fn store_number(
+    started: &mut Started,
+    variable: usize,
+    cell: usize,
+    number: i32,
+) -> Result<(), Stop>
+    requires { HasPlace started.old.store.frames (cell_in (shown started.old) variable cell) }
+    ensures value { Begins (Ok (with_value variable cell number (shown started.old))) result (shown started.new) }
+    ensures keeps { Keeps (shown started.old) (shown started.new) }
+{
+    let place = Spot {
+        owner: started.kinds.len(),
+        variable,
+        cell,
+    };
+    started.store.set(place, number).map_err(|_| Stop::Memory)
+}
+
+/// Makes a channel, and stores its number in a cell.
+fn make_channel(
+    started: &mut Started,
+    variable: usize,
+    cell: usize,
+    capacity: u32,
+    types: &[Form],
+) -> Result<(), Stop>
+    requires { HasPlace started.old.store.frames (cell_in (shown started.old) variable cell) }
+    ensures value { Begins (with_channel variable cell (empty_channel capacity types.now) (shown started.old)) result (shown started.new) }
+    ensures keeps { Keeps (shown started.old) (shown started.new) }
+{
+    let before = started.channels.len();
+    if before >= 255 {
+        return Err(Stop::Fault(Fault::TooManyChannels));
+    }
+    let alloc = *started.channels.allocator();
+    let types = Items::from_slice(alloc, types).map_err(|_| Stop::Memory)?;
+    let owner = started.kinds.len();
+    let owned = Owned {
+        owner,
+        channel: Channel::new(alloc, capacity.min(65535) as u16, types),
+    };
+    started.channels.push(owned).map_err(|_| Stop::Memory)?;
+    store_number(started, variable, cell, before as i32 + 1)
+}
+
+/// What a cell begins with, by the variable or the field that has it.
+fn begin_cell(
+    started: &mut Started,
+    variable: usize,
+    cell: usize,
+    slot: &Slot<'_>,
+) -> Result<(), Stop>
+    requires few { length started.old.kinds.items ≤ 255 }
+    requires there { HasPlace started.old.store.frames (cell_in (shown started.old) variable cell) }
+    ensures value { Begins (cell_begun slot.now.initial slot.now.form variable cell (shown started.old)) result (shown started.new) }
+    ensures keeps { Keeps (shown started.old) (shown started.new) }
+{
+    match &slot.initial {
+        Initial::Zero => Ok(()),
+        Initial::Value(value) => match initial_value(&*started, value, slot.form) {
+            Err(fault) => Err(Stop::Fault(fault)),
+            Ok(number) => store_number(started, variable, cell, number),
+        },
+        Initial::Channel(capacity, types) => {
+            make_channel(started, variable, cell, *capacity, types.as_slice())
+        }
+    }
+}
+
+fn size(slot: &Slot<'_>) -> usize
+    ensures { result ≡ size slot.now }
+{
+    slot.length as usize * slot.stride as usize
+}
+
+/// What each cell of a variable begins with, by the field that has it.
+fn begin_fields<'a>(
+    typedefs: &[Fields<'a>],
+    started: &mut Started,
+    variable: usize,
+    slot: &Slot<'a>,
+) -> Result<(), Stop>
+    requires few { length started.old.kinds.items ≤ 255 }
+    requires there { size_at started.old.store.frames (length started.old.kinds.items) variable ≡ size slot.now }
+    ensures value { Begins (fields_begun typedefs.now slot.now variable 0 (size slot.now) (shown started.old)) result (shown started.new) }
+    ensures keeps { Keeps (shown started.old) (shown started.new) }
+{
+    for cell in 0..size(slot) {
+        begin_cell(started, variable, cell, leaf(&*typedefs, &*slot, cell))?;
+    }
+    Ok(())
+}
+
+/// Stores a number in each cell of a variable.
+fn fill(started: &mut Started, variable: usize, cells: usize, number: i32) -> Result<(), Stop>
+    requires { size_at started.old.store.frames (length started.old.kinds.items) variable ≡ cells }
+    ensures value { Begins (Ok (with_values variable number 0 cells (shown started.old))) result (shown started.new) }
+    ensures keeps { Keeps (shown started.old) (shown started.new) }
+{
+    for cell in 0..cells {
+        store_number(started, variable, cell, number)?;
+    }
+    Ok(())
+}
+
+/// What a variable begins with.
+fn begin_variable(
+    typedefs: &[Fields<'_>],
+    started: &mut Started,
+    variable: usize,
+    slot: &Slot<'_>,
+) -> Result<(), Stop>
+    requires few { length started.old.kinds.items ≤ 255 }
+    requires there { size_at started.old.store.frames (length started.old.kinds.items) variable ≡ size slot.now }
+    ensures value { Begins (variable_begun typedefs.now slot.now.initial slot.now variable (shown started.old)) result (shown started.new) }
+    ensures keeps { Keeps (shown started.old) (shown started.new) }
+{
+    match &slot.initial {
+        Initial::Value(value) => match initial_value(&*started, value, slot.form) {
+            Err(fault) => Err(Stop::Fault(fault)),
+            Ok(number) => fill(started, variable, size(slot), number),
+        },
+        _ => begin_fields(typedefs, started, variable, slot),
+    }
+}
+
+/// What the variables of the youngest owner begin with.
+fn begin_variables(
+    typedefs: &[Fields<'_>],
+    started: &mut Started,
+    slots: &[Slot<'_>],
+) -> Result<(), Stop>
+    requires few { length started.old.kinds.items ≤ 255 }
+    requires there { map length (frame_at started.old.store.frames (length started.old.kinds.items)) ≡ map size slots.now }
+    ensures value { Begins (variables_begun typedefs.now slots.now 0 (shown started.old)) result (shown started.new) }
+    ensures keeps { Keeps (shown started.old) (shown started.new) }
+{
+    for variable in 0..slots.len() {
+        begin_variable(typedefs, started, variable, &slots[variable])?;
+    }
+    Ok(())
+}
+
+/// How many cells each variable has.
+fn sizes(alloc: Global, slots: &[Slot<'_>]) -> Result<Vec<usize>, AllocError>
+    ensures { IfOk result (λ sizes. sizes.items ≡ map size slots.now) }
+{
+    let mut sizes = Vec::new(alloc);
+    for slot in slots {
+        sizes.push(size(slot))?;
+    }
+    Ok(sizes)
+}
+
+/// Adds the variables of the owner that is still without, and initialises them.
+pub fn begin_owner(
+    alloc: Global,
+    typedefs: &[Fields<'_>],
+    started: &mut Started,
+    slots: &[Slot<'_>],
+) -> Result<(), Stop>
+    requires few { length started.old.kinds.items ≤ 255 }
+    requires next { length started.old.store.frames ≡ length started.old.kinds.items }
+    ensures value { Begins (owner_begun typedefs.now slots.now (shown started.old)) result (shown started.new) }
+    ensures sizes { OnOk result (shape started.new.store.frames ≡ shape started.old.store.frames ++ map size slots.now ∷ []) }
+    ensures kinds { started.new.kinds.items ≡ started.old.kinds.items }
+{
+    let sizes = sizes(alloc, slots).map_err(|_| Stop::Memory)?;
+    started
+        .store
+        .push_frame(sizes.as_slice())
+        .map_err(|_| Stop::Memory)?;
+    begin_variables(typedefs, started, slots)
+}

@@ -1,0 +1,29 @@
+//! What is known of the first state.
+
+ghost use Rattle.std.specs.Prelude.{◌≡◌, ◌<◌, ℕ, List, false, length, take, Ok, IfOk};
+ghost use Rattle.pml_program.specs.declared.value.Value.{Value};
+ghost use Rattle.pml_program.specs.declared.program.Initial.TheVariants.{Zero, Value as Given};
+ghost use Rattle.pml_program.specs.declared.program.Slot.{Slot};
+ghost use Rattle.pml_program.specs.declared.program.Fields.{Fields};
+ghost use Rattle.pml_program.specs.declared.program.Program.{Program};
+ghost use Rattle.pml_store.specs.declared.place.Place.{Place};
+ghost use Rattle.pml_store.specs.Store.{number_at, size_at};
+ghost use Rattle.pml_start.specs.Begin.{Begun, cell_in, initial_value, variable_begun, size};
+ghost use Rattle.pml_start.specs.Known.{IsPlain, is_of};
+ghost use Rattle.pml_start.specs.Start.{first_state, starting};
+
+/// The processes are those that the model starts with, as far as 255 go.
+pub fn living()
+    ensures { (p : Program) → IfOk (first_state p) (λ b. b.kinds ≡ take 255 (starting 0 p.processes)) }
+{}
+
+/// A variable begins with the one value of its initialiser in each of its cells, with nothing where it has none, and changes no
+/// other variable.
+pub fn holding()
+    ensures each { (ts : List Fields) (s : Slot) (e : Value) (v c : ℕ) (b : Begun) → size_at b.frames (length b.kinds) v ≡ size s → c < size s →
+        IfOk (variable_begun ts (Given e) s v b) (λ n. initial_value e s.form b ≡ Ok (number_at n.frames (cell_in b v c))) }
+    ensures none { (ts : List Fields) (s : Slot) (v : ℕ) (b : Begun) → IsPlain s.form → s.initial ≡ Zero →
+        variable_begun ts s.initial s v b ≡ Ok b }
+    ensures others { (ts : List Fields) (s : Slot) (v : ℕ) (b : Begun) (q : Place) → size_at b.frames (length b.kinds) v ≡ size s → is_of b v q ≡ false →
+        IfOk (variable_begun ts s.initial s v b) (λ n. number_at n.frames q ≡ number_at b.frames q) }
+{}

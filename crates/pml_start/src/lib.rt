@@ -1,0 +1,9 @@
+//! The first state of a checked model (Holzmann, *The SPIN Model Checker*, chapter 3).
+#![tactic(auto)]
+
+mod begin;
+pub mod law;
+pub mod start;
+pub mod started;
+#[cfg(test)]
+mod tests;

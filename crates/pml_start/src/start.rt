@@ -1,0 +1,76 @@
+//! The globals and the processes that a model begins with.
+
+ghost use Rattle.std.specs.Prelude.{◌≡◌, ◌<◌, [], IfOk, OnOk, length};
+ghost use Rattle.pml_start.specs.Begin.{Begins, shown};
+ghost use Rattle.pml_start.specs.Start.{Starts, IsDeclared, first_state, process_begun, kind_begun};
+
+use crate::begin::begin_owner;
+use crate::started::Started;
+use pml_program::program::Program;
+use pml_store::store::Store;
+use pml_value::stop::Stop;
+use std::alloc::Global;
+
+/// Begins a process of the proctype with this number.
+fn begin_process(
+    alloc: Global,
+    program: &Program<'_>,
+    kind: usize,
+    started: &mut Started,
+) -> Result<(), Stop>
+    requires there { kind < length program.now.processes }
+    requires declared { IsDeclared program.now (shown started.old) }
+    ensures value { Begins (process_begun program.now kind (shown started.old)) result (shown started.new) }
+    ensures declared { OnOk result (IsDeclared program.now (shown started.new)) }
+{
+    if started.kinds.len() >= 255 {
+        return Ok(());
+    }
+    started.kinds.push(kind).map_err(|_| Stop::Memory)?;
+    let variables = program.processes.as_slice()[kind].variables.as_slice();
+    begin_owner(alloc, program.typedefs.as_slice(), started, variables)
+}
+
+/// Begins the processes that a proctype starts with.
+fn begin_processes(
+    alloc: Global,
+    program: &Program<'_>,
+    kind: usize,
+    starts: u32,
+    started: &mut Started,
+) -> Result<(), Stop>
+    requires there { kind < length program.now.processes }
+    requires declared { IsDeclared program.now (shown started.old) }
+    ensures value { Begins (kind_begun program.now kind starts (shown started.old)) result (shown started.new) }
+    ensures declared { OnOk result (IsDeclared program.now (shown started.new)) }
+{
+    for _start in 0..starts {
+        begin_process(alloc, program, kind, started)?;
+    }
+    Ok(())
+}
+
+/// The first state of a checked model.
+pub fn start(alloc: Global, program: &Program<'_>) -> Result<Started, Stop>
+    ensures value { Starts (first_state program.now) result }
+    ensures forgotten { IfOk result (λ s. s.store.written ≡ []) }
+    ensures declared { IfOk result (λ s. IsDeclared program.now (shown s)) }
+{
+    let mut started = Started {
+        store: Store::new(alloc),
+        channels: Vec::new(alloc),
+        kinds: Vec::new(alloc),
+    };
+    begin_owner(
+        alloc,
+        program.typedefs.as_slice(),
+        &mut started,
+        program.globals.as_slice(),
+    )?;
+    let processes = program.processes.as_slice();
+    for kind in 0..processes.len() {
+        begin_processes(alloc, program, kind, processes[kind].starts, &mut started)?;
+    }
+    started.store.forget();
+    Ok(started)
+}

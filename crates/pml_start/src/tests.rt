@@ -1,0 +1,155 @@
+ghost use Rattle.std.specs.Prelude.{◌≡◌, []};
+
+use crate::begin::begin_owner;
+use crate::start::start;
+use crate::started::Started;
+use diagnostics::Fault;
+use pml_lex::token::{Kind, Token};
+use pml_program::form::Form;
+use pml_program::program::{Fields, Initial, Process, Program, Seq, Slot};
+use pml_program::value::Value;
+use pml_store::store::Store;
+use pml_tree::tree::{Infix, Scalar};
+use pml_value::stop::Stop;
+use sqlite_items::{Boxed, Items};
+use std::alloc::{AllocError, Global};
+use std::test::Fail;
+
+/// A variable or a field of so many elements.
+fn slot(form: Form, offset: u32, length: u32, stride: u32, initial: Initial) -> Slot<'static> {
+    Slot {
+        name: Token::new(Kind::Name, b"x", 1),
+        form,
+        array: true,
+        offset,
+        length,
+        stride,
+        initial,
+    }
+}
+
+/// Channels with one field, a byte.
+fn channels(alloc: Global, capacity: u32) -> Result<Initial, AllocError> {
+    let mut types = Items::new(alloc);
+    types.push(Form::Plain(Scalar::Byte))?;
+    Ok(Initial::Channel(capacity, types))
+}
+
+/// `1 / 0`.
+fn quotient(alloc: Global) -> Result<Value, AllocError> {
+    let left = Boxed::new(alloc, Value::Number(1))?;
+    let right = Boxed::new(alloc, Value::Number(0))?;
+    Ok(Value::Binary(Infix::Divide, left, right))
+}
+
+fn nothing(alloc: Global) -> Started
+    ensures frames { result.store.frames ≡ [] }
+    ensures kinds { result.kinds.items ≡ [] }
+{
+    Started {
+        store: Store::new(alloc),
+        channels: Vec::new(alloc),
+        kinds: Vec::new(alloc),
+    }
+}
+
+/// Two bytes keep 300 as 44, and each of two channels has a number and the globals for its owner.
+#[test]
+fn elements(rt: HostRuntime) -> Result<(), Fail> {
+    let alloc = rt.alloc();
+    let byte = Form::Plain(Scalar::Byte);
+    let mut slots = Items::new(alloc);
+    slots.push(slot(byte, 0, 2, 1, Initial::Value(Value::Number(300))))?;
+    slots.push(slot(Form::Plain(Scalar::Chan), 2, 2, 1, channels(alloc, 3)?))?;
+    slots.push(slot(byte, 4, 1, 1, Initial::Zero))?;
+    let mut started = nothing(alloc);
+    assert_eq!(rt;
+        begin_owner(alloc, &[], &mut started, slots.as_slice()),
+        Ok(())
+    );
+    assert_eq!(rt;
+        started.store.cells().as_slice(),
+        [44, 44, 1, 2, 0].as_slice()
+    );
+    assert_eq!(rt; started.channels.len(), 2);
+    assert_eq!(rt; started.channels[1].owner, 0);
+    assert_eq!(rt; started.channels[1].channel.capacity(), 3);
+    Ok(())
+}
+
+/// The first fault ends it, and so does the 256th channel.
+#[test]
+fn faults(rt: HostRuntime) -> Result<(), Fail> {
+    let alloc = rt.alloc();
+    let mut slots = Items::new(alloc);
+    slots.push(slot(
+        Form::Plain(Scalar::Int),
+        0,
+        1,
+        1,
+        Initial::Value(quotient(alloc)?),
+    ))?;
+    slots.push(slot(Form::Plain(Scalar::Chan), 1, 256, 1, channels(alloc, 0)?))?;
+    assert_eq!(rt;
+        begin_owner(alloc, &[], &mut nothing(alloc), slots.as_slice()),
+        Err(Stop::Fault(Fault::ZeroDivisor))
+    );
+    assert_eq!(rt;
+        begin_owner(alloc, &[], &mut nothing(alloc), &slots.as_slice()[1..]),
+        Err(Stop::Fault(Fault::TooManyChannels))
+    );
+    Ok(())
+}
+
+/// A typedef with a byte of 7 and a channel; two globals of its type; and a proctype that starts twice, each process with its
+/// number and how many live by then.
+fn program(alloc: Global) -> Result<Program<'static>, AllocError> {
+    let byte = Form::Plain(Scalar::Byte);
+    let mut fields = Items::new(alloc);
+    fields.push(slot(byte, 0, 1, 1, Initial::Value(Value::Number(7))))?;
+    fields.push(slot(Form::Plain(Scalar::Chan), 1, 1, 1, channels(alloc, 0)?))?;
+    let mut typedefs = Items::new(alloc);
+    typedefs.push(Fields { owner: 9, fields })?;
+    let mut globals = Items::new(alloc);
+    globals.push(slot(Form::Struct(9), 0, 2, 2, Initial::Zero))?;
+    let mut variables = Items::new(alloc);
+    variables.push(slot(byte, 0, 1, 1, Initial::Value(Value::Process)))?;
+    variables.push(slot(byte, 1, 1, 1, Initial::Value(Value::Living)))?;
+    let mut processes = Items::new(alloc);
+    processes.push(Process {
+        name: Token::new(Kind::Name, b"p", 2),
+        owner: 1,
+        starts: 2,
+        parameters: 0,
+        variables,
+        body: Seq {
+            steps: Items::new(alloc),
+        },
+        end: Token::new(Kind::Name, b"p", 3),
+    })?;
+    Ok(Program {
+        globals,
+        constants: Items::new(alloc),
+        typedefs,
+        processes,
+    })
+}
+
+#[test]
+fn fields_and_processes(rt: HostRuntime) -> Result<(), Fail> {
+    let alloc = rt.alloc();
+    let program = program(alloc)?;
+    match start(alloc, &program) {
+        Err(_) => assert_eq!(rt; 0, 1),
+        Ok(started) => {
+            assert_eq!(rt;
+                started.store.cells().as_slice(),
+                [7, 1, 7, 2, 0, 1, 1, 2].as_slice()
+            );
+            assert_eq!(rt; started.store.written().len(), 0);
+            assert_eq!(rt; started.kinds.as_slice(), [0, 0].as_slice());
+            assert_eq!(rt; started.channels.len(), 2);
+        }
+    }
+    Ok(())
+}

@@ -1,0 +1,65 @@
+-- What an assignment, an increment, a decrement and a condition do.
+use Rattle.std.specs.Prelude.{◌≡◌, ℕ, ◌++◌, [], ◌∷◌, ℤ, pos, negsuc, ◌+ℤ◌, Bool, true, not, Option, Some, None, Result, Ok, Err}
+use Rattle.diagnostics.specs.declared.fault.Fault.{Fault}
+use Rattle.pml_program.specs.declared.value.Value.{Value}
+use Rattle.pml_program.specs.declared.value.Target.{Target, out-Target}
+use Rattle.pml_program.specs.declared.program.Action.{Action}
+use Rattle.pml_program.specs.declared.program.Action.TheVariants as a
+use Rattle.pml_eval.specs.Clip.{clipped}
+use Rattle.pml_eval.specs.Operators.{is_zero, wrapped}
+use Rattle.pml_eval.specs.Value.{Reading, val, place, ◌>>=◌}
+use Rattle.pml_store.specs.declared.place.Place.{Place as Spot}
+use Rattle.pml_store.specs.Store.{Contents, with_number, number_at, index_of}
+use Rattle.pml_value.specs.declared.statement.Goes.{Goes}
+use Rattle.pml_value.specs.declared.stop.Stop.{Stop}
+use Rattle.pml_value.specs.declared.stop.Stop.TheVariants as stop
+use Rattle.pml_value.specs.Reads.{spot_of}
+
+-- a condition holds where its value is not 0; where its value is a fault, to take it is that fault
+abbrev pub is_met : Result ℤ Fault → Bool
+is_met (Ok v) = not (is_zero v)
+is_met (Err f) = true
+
+abbrev pub is_executable : Action → Reading → Bool
+is_executable (a.Holds v) r = is_met (val v r)
+is_executable s r = true
+
+-- what the target's type keeps of a number, and the place that it goes to
+abbrev pub goes : Target → ℤ → Reading → Result Goes Fault
+goes t v r = place t r >>= λ p. Ok (record { place = p; number = clipped (out-Target t).form v })
+
+-- a store without a target is one to `_`
+abbrev pub goes_to : Option Target → ℤ → Reading → Result (Option Goes) Fault
+goes_to None v r = Ok None
+goes_to (Some t) v r = goes t v r >>= λ g. Ok (Some g)
+
+-- the value of the right side, then the place
+abbrev pub assigned : Option Target → Value → Reading → Result (Option Goes) Fault
+assigned t v r = val v r >>= λ n. goes_to t n r
+
+-- what a variable holds, so much more, back into it
+abbrev pub counted : Target → ℤ → Reading → Result (Option Goes) Fault
+counted t by r = place t r >>= λ p. goes_to (Some t) (wrapped (r.holds p +ℤ by)) r
+
+-- what such a statement stores, if anything (the other kinds are not spoken of here, and store nothing by it)
+abbrev pub outcome : Action → Reading → Result (Option Goes) Fault
+outcome (a.Assign t v) r = assigned t v r
+outcome (a.Increment t) r = counted t (pos 1) r
+outcome (a.Decrement t) r = counted t (negsuc 0) r
+outcome (a.Holds v) r = val v r >>= λ n. Ok None
+outcome s r = Ok None
+
+-- one place has another number, and the log what it had before
+abbrev pub stored : Contents → Spot → ℤ → Contents
+stored s p v = record s { frames = with_number s.frames p v; written = s.written ++ (index_of s.frames p, number_at s.frames p) ∷ [] }
+
+-- what is to be stored is stored, or the fault is answered and nothing changes; want of memory changes nothing
+abbrev pub Does : ℕ → Result (Option Goes) Fault → Result (Unit {0}) Stop → Contents → Contents → Type 0
+Does process (Ok None) (Ok u) old new = new ≡ old
+Does process (Ok None) (Err s) old new = ⊥
+Does process (Ok (Some g)) (Ok u) old new = new ≡ stored old (spot_of process g.place) g.number
+Does process (Ok (Some g)) (Err stop.Memory) old new = new ≡ old
+Does process (Ok (Some g)) (Err (stop.Fault f)) old new = ⊥
+Does process (Err f) (Err (stop.Fault g)) old new = (g ≡ f) × (new ≡ old)
+Does process (Err f) (Err stop.Memory) old new = ⊥
+Does process (Err f) (Ok u) old new = ⊥

@@ -1,0 +1,116 @@
+//! Assignments, increments, decrements and conditions (Holzmann, *The SPIN Model Checker*, chapter 3).
+
+ghost use Rattle.std.specs.Prelude.{◌≡◌, ◌<◌, IfOk, IfSome};
+ghost use Rattle.pml_store.specs.Store.{size_at};
+ghost use Rattle.pml_value.specs.Statement.{is_executable, goes, assigned, counted, outcome, Does};
+ghost use Rattle.pml_value.specs.Reads.{owner_of, reading_of};
+
+use crate::owned::Owned;
+use crate::stop::Stop;
+use crate::view::{View, spot};
+use diagnostics::Fault;
+use pml_eval::clip::clip;
+use pml_eval::eval::{eval, place};
+use pml_eval::ground::{Ground, Place};
+use pml_program::program::Action;
+use pml_program::value::{Target, Value};
+use pml_store::store::Store;
+
+/// Where a number goes.
+#[derive(Clone, Copy, PartialEq, Eq, Debug)]
+pub struct Goes {
+    pub place: Place,
+    pub number: i32,
+}
+
+/// Whether a statement can be taken. A condition that comes to a fault can: to take it is the fault.
+pub fn can_be_taken(action: &Action<'_>, view: &View<'_>) -> bool
+    ensures { result ≡ is_executable action.now (reading_of view.now.store.now.frames view.now.channels.now view.now.process view.now.living view.now.timeout) }
+{
+    match action {
+        Action::Holds(value) => match eval(value, view) {
+            Ok(number) => number != 0,
+            Err(_) => true,
+        },
+        _ => true,
+    }
+}
+
+/// Where a number goes that is stored to this target.
+fn store_to(target: &Target, number: i32, view: &View<'_>) -> Result<Goes, Fault>
+    ensures value { result ≡ goes target.now number (reading_of view.now.store.now.frames view.now.channels.now view.now.process view.now.living view.now.timeout) }
+    ensures there { IfOk result (λ g. g.place.cell < size_at view.now.store.now.frames (owner_of view.now.process g.place.local) g.place.variable) }
+{
+    let at = place(target, view)?;
+    Ok(Goes {
+        place: at,
+        number: clip(target.form, number),
+    })
+}
+
+/// The value of the right side, then the place of the left.
+fn assigned(target: &Option<Target>, value: &Value, view: &View<'_>) -> Result<Option<Goes>, Fault>
+    ensures value { result ≡ assigned target.now value.now (reading_of view.now.store.now.frames view.now.channels.now view.now.process view.now.living view.now.timeout) }
+    ensures there { IfOk result (λ s. IfSome s (λ g. g.place.cell < size_at view.now.store.now.frames (owner_of view.now.process g.place.local) g.place.variable)) }
+{
+    let number = eval(value, view)?;
+    match target {
+        None => Ok(None),
+        Some(target) => Ok(Some(store_to(target, number, view)?)),
+    }
+}
+
+/// What a variable holds, and so much more.
+fn counted(target: &Target, by: i32, view: &View<'_>) -> Result<Option<Goes>, Fault>
+    ensures value { result ≡ counted target.now by (reading_of view.now.store.now.frames view.now.channels.now view.now.process view.now.living view.now.timeout) }
+    ensures there { IfOk result (λ s. IfSome s (λ g. g.place.cell < size_at view.now.store.now.frames (owner_of view.now.process g.place.local) g.place.variable)) }
+{
+    let at = place(target, view)?;
+    let number = view.number(at).wrapping_add(by);
+    Ok(Some(store_to(target, number, view)?))
+}
+
+/// What a statement stores, if anything.
+fn resolved(action: &Action<'_>, view: &View<'_>) -> Result<Option<Goes>, Fault>
+    ensures value { result ≡ outcome action.now (reading_of view.now.store.now.frames view.now.channels.now view.now.process view.now.living view.now.timeout) }
+    ensures there { IfOk result (λ s. IfSome s (λ g. g.place.cell < size_at view.now.store.now.frames (owner_of view.now.process g.place.local) g.place.variable)) }
+{
+    match action {
+        Action::Assign(target, value) => assigned(target, value, view),
+        Action::Increment(target) => counted(target, 1, view),
+        Action::Decrement(target) => counted(target, -1, view),
+        Action::Holds(value) => {
+            eval(value, view)?;
+            Ok(None)
+        }
+        _ => Ok(None),
+    }
+}
+
+/// Takes a statement of a process.
+pub fn take(
+    store: &mut Store,
+    channels: &[Owned],
+    process: u8,
+    living: u8,
+    timeout: bool,
+    action: &Action<'_>,
+) -> Result<(), Stop>
+    ensures { Does process (outcome action.now (reading_of store.old.frames channels.now process living timeout)) result store.old store.new }
+{
+    let view = View {
+        store: &*store,
+        channels,
+        process,
+        living,
+        timeout,
+    };
+    match resolved(action, &view) {
+        Err(fault) => Err(Stop::Fault(fault)),
+        Ok(None) => Ok(()),
+        Ok(Some(goes)) => match store.set(spot(process, goes.place), goes.number) {
+            Ok(()) => Ok(()),
+            Err(_) => Err(Stop::Memory),
+        },
+    }
+}
