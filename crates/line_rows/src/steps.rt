@@ -1,13 +1,24 @@
 //! Stores before and after writes, by the cells' indices.
 use pml_lex::cut;
-use pml_lines::change::{Wanted, value_lines};
+use pml_lines::change::{Wanted, logged_lines, value_lines};
 use pml_marks::model::marks;
 use pml_names::names::all_names;
 use pml_number::model::number;
+use pml_store::place::Place;
+use pml_store::store::Store;
 use pml_syntax::parse;
 use pml_tree::tree::Tree;
 use std::alloc::{AllocError, Global};
 use std::test::Fail;
+
+const MODEL: &str = r##"typedef R { byte f[2]; short g };
+mtype = { ack, nak };
+R r[2];
+mtype m;
+int i;
+proctype P(byte v) { byte a[1]; skip }
+init { byte k; skip }
+"##;
 
 fn lines_of_tree(
     alloc: Global,
@@ -25,21 +36,64 @@ fn lines_of_tree(
 }
 
 fn lines(alloc: Global, wanted: Wanted, before: &[i32], after: &[i32]) -> Result<Vec<u8>, Fail> {
-    let model = r##"typedef R { byte f[2]; short g };
-mtype = { ack, nak };
-R r[2];
-mtype m;
-int i;
-proctype P(byte v) { byte a[1]; skip }
-init { byte k; skip }
-"##;
-    let Ok(tokens) = cut(alloc, model.as_bytes()) else {
+    let Ok(tokens) = cut(alloc, MODEL.as_bytes()) else {
         return Err(Fail::from("the text is not cut"));
     };
     let Ok(tree) = parse(alloc, tokens.as_slice()) else {
         return Err(Fail::from("the tokens are no model"));
     };
     Ok(lines_of_tree(alloc, &tree, wanted, before, after)?)
+}
+
+fn write(store: &mut Store, place: Place, number: i32) -> Result<(), AllocError> {
+    if place.cell < store.size(place.owner, place.variable) {
+        store.set(place, number)?;
+    }
+    Ok(())
+}
+
+// The globals, a process of P and one of init, after these writes.
+fn written(alloc: Global, places: &[Place], numbers: &[i32]) -> Result<Store, AllocError> {
+    let mut store = Store::new(alloc);
+    store.push_frame(&[6, 1, 1])?;
+    store.push_frame(&[1, 1])?;
+    store.push_frame(&[1])?;
+    let count = places.len().min(numbers.len());
+    for at in 0..count {
+        write(&mut store, places[at], numbers[at])?;
+    }
+    Ok(store)
+}
+
+fn logged_of_tree(
+    alloc: Global,
+    tree: &Tree<'_>,
+    wanted: Wanted,
+    places: &[Place],
+    numbers: &[i32],
+) -> Result<Vec<u8>, AllocError> {
+    let marks = marks(alloc, tree)?;
+    let names = all_names(alloc, marks.as_slice())?;
+    let program = number(alloc, tree, &names.table)?;
+    let store = written(alloc, places, numbers)?;
+    let mut text = Vec::new(alloc);
+    logged_lines(alloc, &program, &[0], wanted, &store, &mut text)?;
+    Ok(text)
+}
+
+fn logged(
+    alloc: Global,
+    wanted: Wanted,
+    places: &[Place],
+    numbers: &[i32],
+) -> Result<Vec<u8>, Fail> {
+    let Ok(tokens) = cut(alloc, MODEL.as_bytes()) else {
+        return Err(Fail::from("the text is not cut"));
+    };
+    let Ok(tree) = parse(alloc, tokens.as_slice()) else {
+        return Err(Fail::from("the tokens are no model"));
+    };
+    Ok(logged_of_tree(alloc, &tree, wanted, places, numbers)?)
 }
 
 #[test]
@@ -56,11 +110,44 @@ local 1 (:init:) k = 11
     let locals = r##"local 0 (P) a[0] = 3
 local 1 (:init:) k = 11
 "##;
-    let wanted = Wanted { globals: true, locals: true };
+    let wanted = Wanted {
+        globals: true,
+        locals: true,
+    };
     let text = lines(rt.alloc(), wanted, &before, &after)?;
     assert_eq!(rt; text.as_slice(), all.as_bytes());
-    let wanted = Wanted { globals: false, locals: true };
+    let wanted = Wanted {
+        globals: false,
+        locals: true,
+    };
     let text = lines(rt.alloc(), wanted, &before, &after)?;
     assert_eq!(rt; text.as_slice(), locals.as_bytes());
+    Ok(())
+}
+
+fn place(owner: usize, variable: usize, cell: usize) -> Place {
+    Place {
+        owner,
+        variable,
+        cell,
+    }
+}
+
+/// A cell written twice, one written back, and a process that is left out.
+#[test]
+fn a_log_leads_back(rt: HostRuntime) -> Result<(), Fail> {
+    let cell = place(0, 0, 4);
+    let back = place(0, 2, 0);
+    let places = [place(1, 1, 0), cell, cell, back, back, place(2, 0, 0)];
+    let numbers = [3, 9, 44, 1, 0, 7];
+    let lines = r##"global r[1].f[1] = 44
+local 0 (P) a[0] = 3
+"##;
+    let wanted = Wanted {
+        globals: true,
+        locals: true,
+    };
+    let text = logged(rt.alloc(), wanted, &places, &numbers)?;
+    assert_eq!(rt; text.as_slice(), lines.as_bytes());
     Ok(())
 }

@@ -1,5 +1,5 @@
 -- Which variable or field has a cell.
-use Rattle.std.specs.Prelude.{ℕ, zero, suc, length, ◌+◌, ◌-◌, ◌*◌, ◌%◌, Bool, false, ◌&&◌, if◌then◌else◌, nat_eq, ltb, leb, List, [], ◌∷◌, slice_get, Option, Some, None}
+use Rattle.std.specs.Prelude.{ℕ, zero, suc, length, ◌+◌, ◌-◌, ◌*◌, ◌%◌, Bool, true, false, ◌&&◌, if◌then◌else◌, nat_eq, ltb, leb, List, [], ◌∷◌, slice_get, Option, Some, None}
 use Rattle.pml_program.specs.declared.form.Form.{Form}
 use Rattle.pml_program.specs.declared.form.Form.TheVariants as kind
 use Rattle.pml_program.specs.declared.program.Slot.{Slot}
@@ -22,6 +22,11 @@ is_of owner _ = false
 abbrev pub field_in : Option Fields → Form → ℕ → Option Slot
 field_in None form cell = None
 field_in (Some t) form cell = if is_of t.owner form then slot_with t.fields cell else None
+
+-- a type is a typedef's
+abbrev pub has_fields : Form → Bool
+has_fields (kind.Struct o) = true
+has_fields _ = false
 
 -- one field more on the way to a cell, if there is one, and the cell within its element
 abbrev pub into : Option Slot → Slot → ℕ → Slot × ℕ

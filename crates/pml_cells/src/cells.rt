@@ -2,7 +2,7 @@
 
 ghost use Rattle.std.specs.Prelude.{◌≡◌, ◌%◌, slice_get, Some};
 ghost use Rattle.std.specs.Option.{option_copied};
-ghost use Rattle.pml_cells.specs.Cells.{has_cell, slot_with, field_in, step, leaf};
+ghost use Rattle.pml_cells.specs.Cells.{has_fields, has_cell, slot_with, field_in, step, leaf};
 
 use pml_program::form::Form;
 use pml_program::program::{Fields, Slot};
@@ -96,6 +96,16 @@ fn step<'s, 'a>(way: Way<'s, 'a>, number: usize) -> Way<'s, 'a>
     }
 }
 
+// Whether a type is a typedef's.
+fn has_fields(form: Form) -> bool
+    ensures { result ≡ has_fields form }
+{
+    match form {
+        Form::Struct(_) => true,
+        _ => false,
+    }
+}
+
 /// The field of no typedef's type that a cell of a variable is in: the variable itself, where its type is no typedef's.
 pub fn leaf<'s, 'a>(typedefs: &'s [Fields<'a>], slot: &'s Slot<'a>, cell: usize) -> &'s Slot<'a>
     ensures { result.now ≡ leaf typedefs.now slot.now cell }
@@ -106,7 +116,7 @@ pub fn leaf<'s, 'a>(typedefs: &'s [Fields<'a>], slot: &'s Slot<'a>, cell: usize)
         cell: remainder(cell, slot.stride),
     };
     let mut first = typedefs.len();
-    while 0 < first {
+    while 0 < first && has_fields(way.slot.form) {
         first -= 1;
         way = step(way, first);
     }

@@ -283,7 +283,8 @@ fn lines_of_writes(
 }
 
 /// Appends the lines of the places whose numbers differ from those before the writes of a store's log. The processes are known by
-/// the numbers of their proctypes in the model. Only cells that were written are looked at.
+/// the numbers of their proctypes in the model; the youngest may be left out, and have no lines then. Only cells that were
+/// written are looked at.
 pub fn logged_lines(
     alloc: Global,
     program: &Program<'_>,

@@ -1,5 +1,5 @@
 -- A state has one move at most.
-use Rattle.std.proofs.Common.{◌≤◌, List, [], ◌∷◌, length, Bool, true, false, arith}
+use Rattle.std.proofs.Common.{◌≤◌, [], ◌∷◌, length, Bool, true, false, arith}
 use Rattle.std.specs.Prelude.{if◌then◌else◌}
 use Rattle.pml_sim.specs.declared.control.OnlyMove.{OnlyMove}
 use Rattle.pml_sim.specs.State.{State}

@@ -1,7 +1,7 @@
 -- What a step does to the store is what it does to the state.
-use Rattle.std.proofs.Common.{◌≡◌, ℕ, List, [], ◌∷◌, ◌++◌, length, Option, Some, None, Result, Ok, Err, ℤ, refl, sym, ap, ◌∙◌, subst}
+use Rattle.std.proofs.Common.{◌≡◌, ℕ, List, [], length, Option, Some, None, Result, Ok, Err, sym, ap, ◌∙◌, subst}
 use Rattle.diagnostics.specs.declared.fault.Fault.{Fault}
-use Rattle.session.specs.Machine.{Outcome, Goes, Faults}
+use Rattle.session.specs.Machine.{Goes, Faults}
 use Rattle.pml_program.specs.declared.program.Program.{Program}
 use Rattle.pml_program.specs.declared.program.Stmt.{Stmt}
 use Rattle.pml_store.specs.Store.{Contents}
@@ -10,13 +10,13 @@ use Rattle.pml_value.specs.declared.owned.Owned.{Owned}
 use Rattle.pml_value.specs.declared.stop.Stop.{Stop}
 use Rattle.pml_value.specs.declared.stop.Stop.TheVariants as stop
 use Rattle.pml_value.specs.Reads.{reading_of, spot_of}
-use Rattle.pml_value.specs.Statement.{Does, stored}
+use Rattle.pml_value.specs.Statement.{Does}
 use Rattle.pml_lines.specs.Changes.{AreDeclared}
 use Rattle.pml_sim.specs.declared.control.Control.{Control}
 use Rattle.pml_sim.specs.declared.control.OnlyMove.{OnlyMove}
 use Rattle.pml_sim.specs.Served.{body_of}
 use Rattle.pml_sim.specs.State.{State}
-use Rattle.pml_sim.specs.World.{standing, reading, forgotten, with_stored, beyond, done_first, went, step}
+use Rattle.pml_sim.specs.World.{standing, reading, forgotten, beyond, done_first, went, step}
 use Rattle.pml_sim.proofs.Declared.{stored_declared}
 
 -- the variables stay those that are declared

@@ -5,7 +5,7 @@ use Rattle.pml_program.specs.declared.program.Action.{Action}
 use Rattle.pml_program.specs.declared.program.Action.TheVariants as a
 use Rattle.pml_program.specs.declared.program.Basic.{Basic, Plain}
 use Rattle.pml_program.specs.declared.program.Stmt.{Stmt}
-use Rattle.pml_program.specs.declared.program.Seq.{Seq, out-Seq}
+use Rattle.pml_program.specs.declared.program.Seq.{out-Seq}
 use Rattle.pml_program.specs.declared.program.Process.{Process}
 use Rattle.pml_program.specs.declared.program.Program.{Program}
 

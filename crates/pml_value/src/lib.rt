@@ -7,3 +7,6 @@ pub mod stop;
 #[cfg(test)]
 mod tests;
 pub mod view;
+
+pub use pml_eval::clip::clip;
+pub use pml_eval::eval::{eval, pattern, place};
