@@ -1,5 +1,5 @@
 -- A channel as a list of messages.
-use Rattle.std.specs.Prelude.{◌≡◌, ℕ, ◌≤◌, Bool, true, false, if◌then◌else◌, List, [], ◌∷◌, length, sum_by, ℤ, int_lt}
+use Rattle.std.specs.Prelude.{◌≡◌, ℕ, ◌≤◌, Bool, true, false, if◌then◌else◌, List, [], ◌∷◌, length, ℤ, int_lt}
 use Rattle.std.specs.List.{AllByRecursion}
 use Rattle.std.specs.Ordering.{int_eq}
 use Rattle.pml_program.specs.declared.form.Form.{Form}
@@ -31,7 +31,3 @@ is_greater (x ∷ xs) (y ∷ ys) = if int_eq x y then is_greater xs ys else int_
 abbrev pub sorted_in : List ℤ → List (List ℤ) → List (List ℤ)
 sorted_in new [] = new ∷ []
 sorted_in new (m ∷ ms) = if is_greater m new then new ∷ m ∷ ms else m ∷ sorted_in new ms
-
--- how many numbers the messages have
-abbrev pub numbers : Contents → ℕ
-numbers c = sum_by length c.messages

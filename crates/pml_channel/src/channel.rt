@@ -1,10 +1,9 @@
 //! A channel: messages in order, never more than its capacity.
 
-ghost use Rattle.std.specs.Prelude.{◌≡◌, ◌<◌, ◌≤◌, ◌^◌, ◌++◌, ◌∷◌, [], length, OnOk, OnErr, IfOk, remove, slice_get, Some, insert, sum_by};
+ghost use Rattle.std.specs.Prelude.{◌≡◌, ◌<◌, ◌≤◌, ◌++◌, ◌∷◌, [], length, OnOk, OnErr, IfOk, remove, slice_get, Some, insert};
 ghost use Rattle.std.specs.List.{AllByRecursion, position_from};
 ghost use Rattle.pml_eval.specs.Pattern.{matched};
-ghost use Rattle.pml_eval.specs.Value.{is_match};
-ghost use Rattle.pml_channel.specs.Contents.{cut, sorted_in, is_greater, numbers};
+ghost use Rattle.pml_channel.specs.Contents.{cut, sorted_in, is_greater};
 
 use pml_eval::clip::clip;
 use pml_eval::pattern::{Sought, matches};
@@ -70,14 +69,6 @@ impl Channel {
         self.messages[place].as_slice()
     }
 
-    /// How many numbers the messages have.
-    pub fn numbers(&self) -> usize
-        requires { numbers self.now < 2 ^ 64 }
-        ensures { result ≡ numbers self.now }
-    {
-        numbers_in(self.messages.as_slice())
-    }
-
     /// Puts a message at the end, each field cut to its type.
     pub fn send(&mut self, fields: &[i32]) -> Result<(), AllocError>
         requires room { length self.old.messages < self.old.capacity }
@@ -110,13 +101,6 @@ impl Channel {
         ensures { result ≡ position_from (matched sought.now) 0 self.now.messages }
     {
         first_match(self.messages.as_slice(), sought)
-    }
-
-    /// Whether the oldest message matches, or any.
-    pub fn has_match(&self, any: bool, sought: &[Sought]) -> bool
-        ensures { result ≡ is_match any sought.now self.now.messages }
-    {
-        match_among(self.messages.as_slice(), any, sought)
     }
 
     /// Removes a message.
@@ -174,29 +158,4 @@ fn first_match(messages: &[Items<i32>], sought: &[Sought]) -> Option<usize>
         }
     }
     None
-}
-
-fn numbers_in(messages: &[Items<i32>]) -> usize
-    requires { sum_by length messages.now < 2 ^ 64 }
-    ensures { result ≡ sum_by length messages.now }
-{
-    let mut total = 0;
-    for message in messages {
-        total += message.len();
-    }
-    total
-}
-
-fn match_among(messages: &[Items<i32>], any: bool, sought: &[Sought]) -> bool
-    ensures { result ≡ is_match any sought.now messages.now }
-{
-    for message in messages {
-        if matches(sought, message.as_slice()) {
-            return true;
-        }
-        if !any {
-            return false;
-        }
-    }
-    false
 }

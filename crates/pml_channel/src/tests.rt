@@ -33,11 +33,8 @@ fn messages(rt: HostRuntime) -> Result<(), Fail> {
     assert_eq!(rt; channel.len(), 3);
     assert_eq!(rt; channel.capacity(), 3);
     assert_eq!(rt; channel.types().len(), 2);
-    assert_eq!(rt; channel.numbers(), 6);
     let sought = [Sought::Anything, Sought::Exactly(7)];
     assert_eq!(rt; channel.find(&sought), Some(2));
-    assert_eq!(rt; channel.has_match(false, &sought), false);
-    assert_eq!(rt; channel.has_match(true, &sought), true);
     channel.take(0);
     assert_eq!(rt; channel.message(0), [2, 0].as_slice());
     Ok(())

@@ -21,7 +21,8 @@ pub record Filling : Type 0 where
   pub fields : ℕ
   pub messages : List (List ℤ)
 
--- what an expression may read: how many cells a variable has, by whether it is local and by its number, what a place holds, and so on
+-- what an expression may read: how many cells a variable has, by whether it is local and by its number; what a place holds; the
+-- number of the process and of the live ones; `timeout`; and what a channel's number names
 pub record Reading : Type 0 where
   pub cells : Bool → ℕ → ℕ
   pub holds : Place → ℤ
@@ -75,7 +76,7 @@ inside whole cell = if nat_lt cell whole then Ok cell else Err IndexOutOfRange
 
 -- ---- one level of the tree, each part replaced by what it gives
 
--- an expression gives a value, a reference a place, and a step the cells that it goes on by
+-- an expression gives a value, a reference a place, and a turn the cells that it goes on by
 abbrev pub Valued : Type 0
 Valued = Reading → Result ℤ Fault
 

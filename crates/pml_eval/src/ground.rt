@@ -16,7 +16,7 @@ pub struct Filled {
     pub length: u16,
 }
 
-///! What an expression may read.
+/// Where the evaluator reads: a state as one process sees it, under a value of `timeout`.
 pub trait Ground {
     ghost use Rattle.std.specs.Prelude.{◌≡◌, ◌<◌, [], length, option_map, slice_index_or};
     ghost use Rattle.pml_eval.specs.Value.{Reading, messages_of};

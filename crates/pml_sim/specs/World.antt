@@ -1,5 +1,5 @@
 -- A model with one process as a machine: its first state, its moves, its steps, and the texts.
-use Rattle.std.specs.Prelude.{ℕ, ◌+◌, nat_lt, Bool, true, false, if◌then◌else◌, List, [], ◌∷◌, ◌++◌, length, Option, Some, None, Result, Ok, Err, slice_get, codes}
+use Rattle.std.specs.Prelude.{ℕ, ◌+◌, nat_lt, Bool, true, false, not, if◌then◌else◌, List, [], ◌∷◌, ◌++◌, length, Option, Some, None, Result, Ok, Err, slice_get, codes}
 use Rattle.diagnostics.specs.declared.fault.Fault.{Fault}
 use Rattle.session.specs.Machine.{Rules, Outcome, Goes, Faults}
 use Rattle.pml_program.specs.declared.program.Basic.{Basic, Plain}
@@ -137,16 +137,12 @@ stuck_line s = codes "at: " ++ (place_of s ++ 10 ∷ [])
 abbrev pub changed_lines : State → Bool → Bool → List ℕ
 changed_lines s globals locals = value_lines s.program (s.kind ∷ []) (before s.store) s.store.frames globals locals
 
-abbrev pub is_dead : Control → Bool
-is_dead (At i) = false
-is_dead Dead = true
-
 abbrev pub rules : Rules State OnlyMove
 rules = record {
   moves = moves;
   step = step;
   place = λ s m. move_text s;
   values = changed_lines;
-  is_valid = λ s. is_dead s.control;
+  is_valid = λ s. not (is_alive s.control);
   stuck = stuck_line;
 }
