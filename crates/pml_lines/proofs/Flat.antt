@@ -1,11 +1,11 @@
 -- The lines by index are the lines by place.
-use Rattle.std.proofs.Common.{◌≡◌, ℕ, suc, ◌+◌, ◌-◌, ◌<◌, ◌≤◌, Bool, true, false, if◌then◌else◌, List, [], ◌∷◌, ◌++◌, map, length, Option, Some, None, ℤ, refl, sym, ap, ◌∙◌, arith, append_assoc, length-append}
+use Rattle.std.proofs.Common.{◌≡◌, ℕ, suc, ◌+◌, ◌-◌, ◌<◌, ◌≤◌, Bool, true, false, if◌then◌else◌, List, [], ◌∷◌, ◌++◌, map, length, slice_get, Option, Some, None, ℤ, refl, sym, ap, ◌∙◌, arith, append_assoc, length-append}
 use Rattle.std.proofs.lemmas.Bool.{lt-ltb, le-ltb}
 use Rattle.std.specs.Ordering.{int_eq}
 use Rattle.pml_program.specs.declared.program.Slot.{Slot}
 use Rattle.pml_program.specs.declared.program.Program.{Program}
 use Rattle.pml_store.specs.Store.{Frame, flat, joined}
-use Rattle.pml_lines.specs.Changes.{Owner, line, cell_lines, variable_lines, owner_lines, size, slot_of, cell_of, line_at, IsFrame, AreFrames, IsState, process_owners, owners, value_lines}
+use Rattle.pml_lines.specs.Changes.{Owner, line, cell_lines, variable_lines, owner_lines, size, slot_of, cell_of, line_at, IsFrame, AreFrames, IsState, global_owner, process_owner, process_owners, owners, slots_of, value_lines}
 
 abbrev Line : Type 0
 Line = ℕ → ℤ → List ℕ
@@ -152,3 +152,27 @@ lines_flat p ks b a before after globals locals h k =
     let os = owners p globals locals ks in
     let whole = owners_flat p os b a (line_at p os) (owners_wanted p true true globals locals ks b h.declared) (owners_wanted p true true globals locals ks a k.declared) (λ i v. refl) in
     ap (λ (xs : List ℤ). cell_lines (line_at p os) 0 xs after) (sym h.numbers) ∙ ap (λ (ys : List ℤ). cell_lines (line_at p os) 0 (joined b) ys) (sym k.numbers) ∙ whole
+
+-- ---- nothing is wanted
+
+variables-none : (f : Slot → ℕ → ℤ → List ℕ) (ss : List Slot) (x y : Frame) → ((s : Slot) (i : ℕ) (v : ℤ) → f s i v ≡ []) → variable_lines f ss x y ≡ []
+variables-none f [] x y h = refl
+variables-none f (s ∷ ss) [] y h = refl
+variables-none f (s ∷ ss) (c ∷ cs) [] h = refl
+variables-none f (s ∷ ss) (c ∷ cs) (d ∷ ds) h = ap (λ (l : List ℕ). l ++ variable_lines f ss cs ds) (cell_lines-none (f s) 0 c d (h s)) ∙ variables-none f ss cs ds h
+
+processes-none : (p : Program) (i : ℕ) (ks : List ℕ) (b a : List Frame) → owner_lines p (process_owners p false i ks) b a ≡ []
+processes-none p i [] b a = refl
+processes-none p i (k ∷ ks) [] a = refl
+processes-none p i (k ∷ ks) (x ∷ xs) [] = refl
+processes-none p i (k ∷ ks) (x ∷ xs) (y ∷ ys) =
+    let o = process_owner false i (slice_get p.processes k) in
+    ap (λ (l : List ℕ). l ++ owner_lines p (process_owners p false (i + 1) ks) xs ys) (variables-none (line p o) (slots_of (slice_get p.processes k)) x y (λ s c v. refl))
+    ∙ processes-none p (i + 1) ks xs ys
+
+pub lines-none : (p : Program) (ks : List ℕ) (b a : List Frame) → value_lines p ks b a false false ≡ []
+lines-none p ks [] a = refl
+lines-none p ks (x ∷ xs) [] = refl
+lines-none p ks (x ∷ xs) (y ∷ ys) =
+    ap (λ (l : List ℕ). l ++ owner_lines p (process_owners p false 0 ks) xs ys) (variables-none (line p (global_owner p false)) p.globals x y (λ s c v. refl))
+    ∙ processes-none p 0 ks xs ys

@@ -284,7 +284,7 @@ fn lines_of_writes(
 
 /// Appends the lines of the places whose numbers differ from those before the writes of a store's log. The processes are known by
 /// the numbers of their proctypes in the model; the youngest may be left out, and have no lines then. Only cells that were
-/// written are looked at.
+/// written are looked at, and none where no lines are wanted.
 pub fn logged_lines(
     alloc: Global,
     program: &Program<'_>,
@@ -296,6 +296,9 @@ pub fn logged_lines(
     ensures { AreDeclared program.now kinds.now store.now.frames →
         OnOk result (text.new.items ≡ text.old.items ++ value_lines program.now kinds.now (before store.now) store.now.frames wanted.globals wanted.locals) }
 {
+    if !wanted.globals && !wanted.locals {
+        return Ok(());
+    }
     let writes = oldest(alloc, store.written())?;
     lines_of_writes(
         program,

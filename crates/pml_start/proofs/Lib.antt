@@ -4,4 +4,5 @@ pub mod Declaring
 pub mod Chaining
 pub mod Living
 pub mod Holding
+pub mod Zeroed
 mod Samples

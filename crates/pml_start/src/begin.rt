@@ -3,7 +3,7 @@
 ghost use Rattle.std.specs.Prelude.{◌≡◌, ◌<◌, ◌≤◌, ◌++◌, ◌∷◌, [], IfOk, OnOk, Ok, length, map};
 ghost use Rattle.pml_store.specs.Store.{HasPlace, frame_at, size_at};
 ghost use Rattle.pml_start.specs.Begin.{Begins, shown, shape, initial_value, cell_in, with_value, with_channel, empty_channel, cell_begun, with_values, fields_begun, variable_begun, variables_begun, owner_begun, size};
-ghost use Rattle.pml_start.specs.Known.{Keeps};
+ghost use Rattle.pml_start.specs.Known.{Keeps, is_zero, are_zero, have_no_initials};
 
 use crate::started::Started;
 use diagnostics::Fault;
@@ -38,7 +38,7 @@ fn initial_value(started: &Started, value: &Value, form: Form) -> Result<i32, Fa
     Ok(clip(form, number))
 }
 
-/// Stores a number in a cell.
+/// Stores a number in a cell, and remembers none before it: nothing is undone here.
 fn store_number(
     started: &mut Started,
     variable: usize,
@@ -54,7 +54,9 @@ fn store_number(
         variable,
         cell,
     };
-    started.store.set(place, number).map_err(|_| Stop::Memory)
+    started.store.set(place, number).map_err(|_| Stop::Memory)?;
+    started.store.forget();
+    Ok(())
 }
 
 /// Makes a channel, and stores its number in a cell.
@@ -114,18 +116,56 @@ fn size(slot: &Slot<'_>) -> usize
     slot.length as usize * slot.stride as usize
 }
 
-/// What each cell of a variable begins with, by the field that has it.
+fn is_zero(initial: &Initial) -> bool
+    ensures { result ≡ is_zero initial.now }
+{
+    match initial {
+        Initial::Zero => true,
+        _ => false,
+    }
+}
+
+fn are_zero(fields: &[Slot<'_>]) -> bool
+    ensures { result ≡ are_zero fields.now }
+{
+    for field in fields {
+        if !is_zero(&field.initial) {
+            return false;
+        }
+    }
+    true
+}
+
+/// Whether no field of a typedef has an initialiser.
+fn have_no_initials(typedefs: &[Fields<'_>]) -> bool
+    ensures { result ≡ have_no_initials typedefs.now }
+{
+    for fields in typedefs {
+        if !are_zero(fields.fields.as_slice()) {
+            return false;
+        }
+    }
+    true
+}
+
+/// What each cell of a variable begins with, by the field that has it. `zeroed` says that no field has an initialiser, so that
+/// a variable without one need not be gone through.
 fn begin_fields<'a>(
     typedefs: &[Fields<'a>],
+    zeroed: bool,
     started: &mut Started,
     variable: usize,
     slot: &Slot<'a>,
 ) -> Result<(), Stop>
+    requires zeroed { zeroed ≡ have_no_initials typedefs.now }
     requires few { length started.old.kinds.items ≤ 255 }
     requires there { size_at started.old.store.frames (length started.old.kinds.items) variable ≡ size slot.now }
     ensures value { Begins (fields_begun typedefs.now slot.now variable 0 (size slot.now) (shown started.old)) result (shown started.new) }
     ensures keeps { Keeps (shown started.old) (shown started.new) }
 {
+    if zeroed && is_zero(&slot.initial) {
+        return Ok(());
+    }
     for cell in 0..size(slot) {
         begin_cell(started, variable, cell, leaf(&*typedefs, &*slot, cell))?;
     }
@@ -147,10 +187,12 @@ fn fill(started: &mut Started, variable: usize, cells: usize, number: i32) -> Re
 /// What a variable begins with.
 fn begin_variable(
     typedefs: &[Fields<'_>],
+    zeroed: bool,
     started: &mut Started,
     variable: usize,
     slot: &Slot<'_>,
 ) -> Result<(), Stop>
+    requires zeroed { zeroed ≡ have_no_initials typedefs.now }
     requires few { length started.old.kinds.items ≤ 255 }
     requires there { size_at started.old.store.frames (length started.old.kinds.items) variable ≡ size slot.now }
     ensures value { Begins (variable_begun typedefs.now slot.now.initial slot.now variable (shown started.old)) result (shown started.new) }
@@ -161,23 +203,25 @@ fn begin_variable(
             Err(fault) => Err(Stop::Fault(fault)),
             Ok(number) => fill(started, variable, size(slot), number),
         },
-        _ => begin_fields(typedefs, started, variable, slot),
+        _ => begin_fields(typedefs, zeroed, started, variable, slot),
     }
 }
 
 /// What the variables of the youngest owner begin with.
 fn begin_variables(
     typedefs: &[Fields<'_>],
+    zeroed: bool,
     started: &mut Started,
     slots: &[Slot<'_>],
 ) -> Result<(), Stop>
+    requires zeroed { zeroed ≡ have_no_initials typedefs.now }
     requires few { length started.old.kinds.items ≤ 255 }
     requires there { map length (frame_at started.old.store.frames (length started.old.kinds.items)) ≡ map size slots.now }
     ensures value { Begins (variables_begun typedefs.now slots.now 0 (shown started.old)) result (shown started.new) }
     ensures keeps { Keeps (shown started.old) (shown started.new) }
 {
     for variable in 0..slots.len() {
-        begin_variable(typedefs, started, variable, &slots[variable])?;
+        begin_variable(typedefs, zeroed, started, variable, &slots[variable])?;
     }
     Ok(())
 }
@@ -211,5 +255,6 @@ pub fn begin_owner(
         .store
         .push_frame(sizes.as_slice())
         .map_err(|_| Stop::Memory)?;
-    begin_variables(typedefs, started, slots)
+    let zeroed = have_no_initials(typedefs);
+    begin_variables(typedefs, zeroed, started, slots)
 }

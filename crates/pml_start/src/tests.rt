@@ -71,9 +71,33 @@ fn elements(rt: HostRuntime) -> Result<(), Fail> {
         started.store.cells().as_slice(),
         [44, 44, 1, 2, 0].as_slice()
     );
+    assert_eq!(rt; started.store.written().len(), 0);
     assert_eq!(rt; started.channels.len(), 2);
     assert_eq!(rt; started.channels[1].owner, 0);
     assert_eq!(rt; started.channels[1].channel.capacity(), 3);
+    Ok(())
+}
+
+/// Fields without initialisers hold 0, and channels beside them are made all the same.
+#[test]
+fn fields_of_nought(rt: HostRuntime) -> Result<(), Fail> {
+    let alloc = rt.alloc();
+    let mut fields = Items::new(alloc);
+    fields.push(slot(Form::Plain(Scalar::Int), 0, 2, 1, Initial::Zero))?;
+    let mut typedefs = Items::new(alloc);
+    typedefs.push(Fields { owner: 9, fields })?;
+    let mut slots = Items::new(alloc);
+    slots.push(slot(Form::Struct(9), 0, 2, 2, Initial::Zero))?;
+    slots.push(slot(Form::Plain(Scalar::Chan), 4, 1, 1, channels(alloc, 3)?))?;
+    let mut started = nothing(alloc);
+    assert_eq!(rt;
+        begin_owner(alloc, typedefs.as_slice(), &mut started, slots.as_slice()),
+        Ok(())
+    );
+    assert_eq!(rt;
+        started.store.cells().as_slice(),
+        [0, 0, 0, 0, 1].as_slice()
+    );
     Ok(())
 }
 

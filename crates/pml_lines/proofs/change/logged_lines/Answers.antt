@@ -1,8 +1,24 @@
-use Rattle.std.proofs.Common.{◌≡◌, ◌++◌, ◌∙◌, ap, subst, List, ℕ, ℤ, OnOk}
-use Rattle.pml_store.specs.Store.{joined}
-use Rattle.pml_lines.specs.Changes.{owners, line_at, oldest, write_lines}
+use Rattle.std.proofs.Common.{◌≡◌, ◌++◌, ◌∙◌, ap, sym, append-nil, subst, List, ℕ, ℤ, Bool, false, OnOk}
+use Rattle.std.proofs.lemmas.Bool.{not-true}
+use Rattle.pml_store.specs.Store.{joined, before}
+use Rattle.pml_lines.specs.Changes.{owners, line_at, oldest, write_lines, value_lines}
+use Rattle.pml_lines.proofs.Flat.{lines-none}
 use Rattle.pml_lines.proofs.Undoing.{writes_flat}
 use Rattle.pml_lines.proofs.change.logged_lines.Goals as goal
+
+pub returns-then-not-wanted-2 : goal.returns-then-not-wanted-2
+returns-then-not-wanted-2 c = λ a.
+    let p = c.args.program.now in
+    let ks = c.args.kinds.now in
+    let now = c.args.store.now in
+    let old = c.args.text.now.items in
+    let globals : c.args.wanted.globals ≡ false = not-true c.args.wanted.globals c.if-not-wanted.true in
+    let locals : c.args.wanted.locals ≡ false = not-true c.args.wanted.locals c.if-not-wanted-2.true in
+    let none =
+    ap (λ (w : Bool). value_lines p ks (before now) now.frames w c.args.wanted.locals) globals
+    ∙ ap (λ (w : Bool). value_lines p ks (before now) now.frames false w) locals
+    ∙ lines-none p ks (before now) now.frames in
+    sym (append-nil old) ∙ ap (λ (x : List ℕ). old ++ x) (sym none)
 
 pub returns : goal.returns
 returns c = λ a.

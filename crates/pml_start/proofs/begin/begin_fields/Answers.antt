@@ -1,8 +1,16 @@
-use Rattle.std.proofs.Common.{◌≡◌, Err, rules}
+use Rattle.std.proofs.Common.{◌≡◌, Err, true, refl, sym, ◌∙◌, rules}
 use Rattle.pml_start.specs.Begin.{shown, size}
+use Rattle.pml_start.specs.Known.{is_zero, have_no_initials}
 use Rattle.pml_start.proofs.Shapes.{cell_there, keeps-then}
 use Rattle.pml_start.proofs.Stepping.{fields_made, fields_stopped}
+use Rattle.pml_start.proofs.Zeroed.{nothing_begun}
 use Rattle.pml_start.proofs.begin.begin_fields.Goals as goal
+
+pub returns-then-is_zero-clause-value : goal.returns-then-is_zero-clause-value
+returns-then-is_zero-clause-value c =
+    let t : have_no_initials c.args.typedefs.now ≡ true = sym c.requires.zeroed ∙ c.if-zeroed.true in
+    let z : is_zero c.args.slot.now.initial ≡ true = sym c.is_zero.ensures ∙ c.if-is_zero.true in
+    rw (nothing_begun c.args.typedefs.now c.args.slot.now c.args.variable 0 (size c.args.slot.now) (shown c.args.started.now) t z) refl
 
 pub begin_cell-requires-clause-there : goal.begin_cell-requires-clause-there
 begin_cell-requires-clause-there c =
