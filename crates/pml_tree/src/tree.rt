@@ -59,6 +59,34 @@ pub enum Fill {
     IsNotFull,
 }
 
+/// The sign of a number.
+#[derive(Clone, Copy, Debug, PartialEq, Eq)]
+pub enum Sign {
+    Plus,
+    Minus,
+}
+
+/// Where a send puts its message: behind the others (`!`), or in order (`!!`).
+#[derive(Clone, Copy, Debug, PartialEq, Eq)]
+pub enum SendOrder {
+    Fifo,
+    Sorted,
+}
+
+/// Which message a receive or a poll looks at: the first one (`?`), or the first one that matches (`??`).
+#[derive(Clone, Copy, Debug, PartialEq, Eq)]
+pub enum Search {
+    First,
+    Matching,
+}
+
+/// Whether a receive takes its message out of the channel, or leaves it there (`<..>`).
+#[derive(Clone, Copy, Debug, PartialEq, Eq)]
+pub enum Removal {
+    Remove,
+    Keep,
+}
+
 /// An expression, without its parentheses.
 #[cycle(expr)]
 #[derive(Drop)]
@@ -69,8 +97,8 @@ pub enum Expr<'a> {
     Timeout,
     Read(Reference<'a>),
     Ask(Fill, Reference<'a>),
-    /// `q?[..]`, or with `true` `q??[..]`.
-    Poll(Reference<'a>, bool, Items<Argument<'a>>),
+    /// `q?[..]` or `q??[..]`.
+    Poll(Reference<'a>, Search, Items<Argument<'a>>),
     Unary(Prefix, Boxed<Expr<'a>>),
     Binary(Infix, Boxed<Expr<'a>>, Boxed<Expr<'a>>),
     Choice(Boxed<Expr<'a>>, Boxed<Expr<'a>>, Boxed<Expr<'a>>),
@@ -80,8 +108,8 @@ pub enum Expr<'a> {
 #[cycle(expr)]
 #[derive(Drop)]
 pub enum Argument<'a> {
-    /// A number, with `true` behind a `-`.
-    Exactly(bool, Token<'a>),
+    /// A number, alone or behind a `-`.
+    Exactly(Sign, Token<'a>),
     /// `true` and `skip`, or `false`.
     Fixed(bool),
     Eval(Boxed<Expr<'a>>),
@@ -147,10 +175,8 @@ pub enum Action<'a> {
     Increment(Reference<'a>),
     Decrement(Reference<'a>),
     Run(Run<'a>),
-    /// `!`, or with `true` `!!`.
-    Send(Reference<'a>, bool, Items<Expr<'a>>),
-    /// `?`, or with the first `true` `??`; with the second `true` in `<>`.
-    Receive(Reference<'a>, bool, bool, Items<Argument<'a>>),
+    Send(Reference<'a>, SendOrder, Items<Expr<'a>>),
+    Receive(Reference<'a>, Search, Removal, Items<Argument<'a>>),
     Printf(Token<'a>, Items<Expr<'a>>),
     Printm(Expr<'a>),
     Assert(Expr<'a>),
@@ -219,7 +245,7 @@ pub enum Unit<'a> {
     Variables(Items<Variable<'a>>),
     Constants(Items<Token<'a>>),
     Typedef(Token<'a>, Items<Variable<'a>>),
-    Process(Proctype<'a>),
+    Proctype(Proctype<'a>),
 }
 
 /// A model.
