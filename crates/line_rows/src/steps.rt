@@ -3,7 +3,7 @@ use pml_lex::cut;
 use pml_lines::change::{Wanted, logged_lines, value_lines};
 use pml_marks::model::marks;
 use pml_names::names::all_names;
-use pml_number::model::number;
+use pml_resolve::model::number;
 use pml_store::place::Place;
 use pml_store::store::Store;
 use pml_syntax::parse;

@@ -5,14 +5,14 @@ use Rattle.diagnostics.specs.declared.refusal.Refusal.{Refusal}
 use Rattle.diagnostics.specs.declared.refusal.Refusal.TheVariants as r
 use Rattle.pml_tree.specs.declared.tree.Tree.{Tree}
 use Rattle.pml_marks.specs.declared.mark.Mark.{Mark}
-use Rattle.pml_rules.specs.declared.rule.Rule.{Rule}
-use Rattle.pml_rules.specs.Decided as marks
-use Rattle.pml_rules.specs.declared.rule.Rule.TheVariants as rule
-use Rattle.pml_rules.specs.Decided.{Somewhere, Nowhere, broken, breaks_loose, crosses_step, begins_there}
+use Rattle.pml_conditions.specs.declared.rule.Rule.{Rule}
+use Rattle.pml_conditions.specs.Decided as marks
+use Rattle.pml_conditions.specs.declared.rule.Rule.TheVariants as rule
+use Rattle.pml_conditions.specs.Decided.{Somewhere, Nowhere, broken, breaks_loose, crosses_step, begins_there}
 use Rattle.pml_program.specs.declared.program.Seq.{Seq}
 use Rattle.pml_control.specs.Control.{Circle, SettlesEverywhere, BadFirstPoint, FirstPointsFit, begins_else}
 use Rattle.pml_control.proofs.Settling.{circle_not}
-use Rattle.pml_program.specs.declared.program.Process.{Process}
+use Rattle.pml_program.specs.declared.program.Proctype.{Proctype}
 use Rattle.pml_program.specs.declared.program.Program.{Program}
 use Rattle.pml_check.specs.Judged.{rule_of, BreaksRule, KeepsRule, BreaksModel, KeepsModel, HasCircle, SettleEverywhere, HasBadStep, HaveGoodSteps, HasBadStart, HasGoodStart, AppliesTo, FitsTo, FitsAll, IsFirst, IsFit, IsLeast, all_judged}
 
@@ -29,7 +29,7 @@ marks_apart rule.Break ms a f = some_none breaks_loose ms a f
 marks_apart rule.Step ms a f = some_none (crosses_step ms) ms a f
 marks_apart rule.Range ms a f = some_none (broken rule.Range ms) ms a f
 marks_apart rule.Cells ms a f = some_none (broken rule.Cells ms) ms a f
-marks_apart rule.Process ms a f = some_none begins_there ms f a
+marks_apart rule.NoProcess ms a f = some_none begins_there ms f a
 marks_apart rule.Start ms (inl a) f = let g = f.0 in omega arith
 marks_apart rule.Start ms (inr a) f = let g = f.1 in omega arith
 
@@ -37,7 +37,7 @@ rule_apart : (x : Option Rule) (ms : List Mark) → BreaksRule x ms → KeepsRul
 rule_apart None ms a f = a
 rule_apart (Some x) ms a f = marks_apart x ms a f
 
-circle_apart : (ps : List Process) → HasCircle ps → SettleEverywhere ps → ⊥
+circle_apart : (ps : List Proctype) → HasCircle ps → SettleEverywhere ps → ⊥
 circle_apart ps h all = circle_not h.1.body (all h.0 h.1 h.2) h.3
 
 point_apart : (b : Seq) → BadFirstPoint b → FirstPointsFit b → ⊥
@@ -48,7 +48,7 @@ point_apart b h fits =
       | inr out ↦ out fit.1
     ]
 
-step_apart : (ps : List Process) → HasBadStep ps → HaveGoodSteps ps → ⊥
+step_apart : (ps : List Proctype) → HasBadStep ps → HaveGoodSteps ps → ⊥
 step_apart ps h all = point_apart h.1.body h.3 (all h.0 h.1 h.2)
 
 start_apart : (p : Program) → HasBadStart p → HasGoodStart p → ⊥
@@ -58,8 +58,8 @@ start_apart p h g = apart_results (sym h.1 ∙ g.1)
     apart_results e = cc
 
 model_apart : (x : Refusal) (p : Program) → BreaksModel x p → KeepsModel x p → ⊥
-model_apart r.DStep p a f = step_apart p.processes a f
-model_apart r.CircleOfGotos p a f = circle_apart p.processes a f
+model_apart r.DStep p a f = step_apart p.proctypes a f
+model_apart r.CircleOfGotos p a f = circle_apart p.proctypes a f
 model_apart r.TextTooLong p a f = a
 model_apart r.Lexical p a f = a
 model_apart r.LeftOut p a f = a

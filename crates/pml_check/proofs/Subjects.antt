@@ -5,7 +5,7 @@ use Rattle.pml_tree.specs.declared.tree.Tree.{Tree}
 use Rattle.pml_marks.specs.declared.mark.Mark.{Mark}
 use Rattle.pml_marks.specs.Marks.{of_tree}
 use Rattle.pml_program.specs.declared.program.Program.{Program}
-use Rattle.pml_number.specs.Model.{numbered_model}
+use Rattle.pml_resolve.specs.Model.{numbered_model}
 use Rattle.pml_check.specs.declared.subject.Subject.{Subject}
 use Rattle.pml_check.specs.Subject.{IsSubject}
 use Rattle.pml_check.specs.Judged.{all_judged}

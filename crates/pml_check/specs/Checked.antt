@@ -2,7 +2,7 @@
 use Rattle.std.specs.Prelude.{◌≡◌}
 use Rattle.pml_tree.specs.declared.tree.Tree.{Tree}
 use Rattle.pml_program.specs.declared.program.Program.{Program}
-use Rattle.pml_number.specs.Model.{numbered_model}
+use Rattle.pml_resolve.specs.Model.{numbered_model}
 use Rattle.pml_check.specs.declared.checked.CheckFault.{CheckFault}
 use Rattle.pml_check.specs.declared.checked.CheckFault.TheVariants as fault
 use Rattle.pml_check.specs.Judged.{IsFit, IsLeast}

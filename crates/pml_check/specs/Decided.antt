@@ -2,16 +2,16 @@
 use Rattle.std.specs.Prelude.{Bool, true, false, List, Option, Some, None}
 use Rattle.diagnostics.specs.declared.refusal.Refusal.{Refusal}
 use Rattle.pml_marks.specs.declared.mark.Mark.{Mark}
-use Rattle.pml_rules.specs.declared.rule.Rule.{Rule}
-use Rattle.pml_program.specs.declared.program.Process.{Process}
+use Rattle.pml_conditions.specs.declared.rule.Rule.{Rule}
+use Rattle.pml_program.specs.declared.program.Proctype.{Proctype}
 use Rattle.pml_program.specs.declared.program.Program.{Program}
 use Rattle.pml_check.specs.Judged.{HasCircle, SettleEverywhere, HasBadStep, HaveGoodSteps, HasBadStart, HasGoodStart, BreaksRule, KeepsRule, BreaksModel, KeepsModel, AppliesTo, FitsTo, FitsAll, IsFirst}
 
-abbrev pub DecidesCircles : Bool → List Process → Type 0
+abbrev pub DecidesCircles : Bool → List Proctype → Type 0
 DecidesCircles true ps = HasCircle ps
 DecidesCircles false ps = SettleEverywhere ps
 
-abbrev pub DecidesSteps : Bool → List Process → Type 0
+abbrev pub DecidesSteps : Bool → List Proctype → Type 0
 DecidesSteps true ps = HasBadStep ps
 DecidesSteps false ps = HaveGoodSteps ps
 

@@ -6,31 +6,31 @@ use Rattle.diagnostics.specs.declared.refusal.Refusal.TheVariants as r
 use Rattle.pml_tree.specs.declared.tree.Tree.{Tree}
 use Rattle.pml_marks.specs.declared.mark.Mark.{Mark}
 use Rattle.pml_marks.specs.Marks.{of_tree}
-use Rattle.pml_rules.specs.declared.rule.Rule.{Rule}
-use Rattle.pml_rules.specs.declared.rule.Rule.TheVariants as rule
-use Rattle.pml_rules.specs.Decided as marks
-use Rattle.pml_program.specs.declared.program.Process.{Process}
+use Rattle.pml_conditions.specs.declared.rule.Rule.{Rule}
+use Rattle.pml_conditions.specs.declared.rule.Rule.TheVariants as rule
+use Rattle.pml_conditions.specs.Decided as marks
+use Rattle.pml_program.specs.declared.program.Proctype.{Proctype}
 use Rattle.pml_program.specs.declared.program.Program.{Program}
-use Rattle.pml_number.specs.Model.{numbered_model}
+use Rattle.pml_resolve.specs.Model.{numbered_model}
 use Rattle.pml_start.specs.Begin.{Begun}
 use Rattle.pml_start.specs.Start.{first_state}
 use Rattle.pml_control.specs.Control.{Circle, SettlesEverywhere, BadFirstPoint, FirstPointsFit}
 
--- ---- what is asked of control, of the body of each process, and of the first state
+-- ---- what is asked of control, of the body of each proctype, and of the first state
 
 -- settling comes to itself again somewhere in a body
-abbrev pub HasCircle : List Process → Type 0
-HasCircle ps = (k : ℕ) × (p : Process) × (slice_get ps k ≡ Some p) × Circle p.body
+abbrev pub HasCircle : List Proctype → Type 0
+HasCircle ps = (k : ℕ) × (p : Proctype) × (slice_get ps k ≡ Some p) × Circle p.body
 
-abbrev pub SettleEverywhere : List Process → Type 0
-SettleEverywhere ps = (k : ℕ) (p : Process) → slice_get ps k ≡ Some p → SettlesEverywhere p.body
+abbrev pub SettleEverywhere : List Proctype → Type 0
+SettleEverywhere ps = (k : ℕ) (p : Proctype) → slice_get ps k ≡ Some p → SettlesEverywhere p.body
 
 -- control cannot begin one of the d_steps of a body
-abbrev pub HasBadStep : List Process → Type 0
-HasBadStep ps = (k : ℕ) × (p : Process) × (slice_get ps k ≡ Some p) × BadFirstPoint p.body
+abbrev pub HasBadStep : List Proctype → Type 0
+HasBadStep ps = (k : ℕ) × (p : Proctype) × (slice_get ps k ≡ Some p) × BadFirstPoint p.body
 
-abbrev pub HaveGoodSteps : List Process → Type 0
-HaveGoodSteps ps = (k : ℕ) (p : Process) → slice_get ps k ≡ Some p → FirstPointsFit p.body
+abbrev pub HaveGoodSteps : List Proctype → Type 0
+HaveGoodSteps ps = (k : ℕ) (p : Proctype) → slice_get ps k ≡ Some p → FirstPointsFit p.body
 
 -- what a variable of the first state begins with cannot be evaluated
 abbrev pub HasBadStart : Program → Type 0
@@ -51,7 +51,7 @@ rule_of r.BreakOutsideDo = Some rule.Break
 rule_of r.DStep = Some rule.Step
 rule_of r.NumberOutOfRange = Some rule.Range
 rule_of r.TooManyCells = Some rule.Cells
-rule_of r.NoProcess = Some rule.Process
+rule_of r.NoProcess = Some rule.NoProcess
 rule_of r.TooManyAtStart = Some rule.Start
 rule_of _ = None
 
@@ -66,14 +66,14 @@ KeepsRule (Some x) ms = marks.Fits x ms
 -- ---- what is asked of the model with its names replaced
 
 abbrev pub BreaksModel : Refusal → Program → Type 0
-BreaksModel r.DStep p = HasBadStep p.processes
-BreaksModel r.CircleOfGotos p = HasCircle p.processes
+BreaksModel r.DStep p = HasBadStep p.proctypes
+BreaksModel r.CircleOfGotos p = HasCircle p.proctypes
 BreaksModel r.Initialiser p = HasBadStart p
 BreaksModel _ p = ⊥
 
 abbrev pub KeepsModel : Refusal → Program → Type 0
-KeepsModel r.DStep p = HaveGoodSteps p.processes
-KeepsModel r.CircleOfGotos p = SettleEverywhere p.processes
+KeepsModel r.DStep p = HaveGoodSteps p.proctypes
+KeepsModel r.CircleOfGotos p = SettleEverywhere p.proctypes
 KeepsModel r.Initialiser p = HasGoodStart p
 KeepsModel _ p = Unit {0}
 

@@ -3,7 +3,7 @@ use Rattle.std.specs.Prelude.{◌≡◌}
 use Rattle.pml_tree.specs.declared.tree.Tree.{Tree}
 use Rattle.pml_marks.specs.Marks.{of_tree}
 use Rattle.pml_names.specs.Env.{env}
-use Rattle.pml_number.specs.Model.{numbered_model}
+use Rattle.pml_resolve.specs.Model.{numbered_model}
 use Rattle.pml_check.specs.declared.subject.Subject.{Subject}
 
 -- the marks, the names and the numbered model of a tree

@@ -3,7 +3,7 @@
 ghost use Rattle.std.specs.Prelude.{◌≡◌, IfOk, IfErr, OnOk};
 ghost use Rattle.pml_check.specs.Judged.{IsFit, IsLeast};
 ghost use Rattle.pml_check.specs.Checked.{IsRefused};
-ghost use Rattle.pml_number.specs.Model.{numbered_model};
+ghost use Rattle.pml_resolve.specs.Model.{numbered_model};
 
 use crate::judge::first_of;
 use crate::subject::{Subject, subject_of};
@@ -58,7 +58,7 @@ pub struct Checked<'a> {
 impl<'a> Model for Checked<'a> {
     ghost use Rattle.pml_program.specs.declared.program.Program.{Program};
     ghost use Rattle.pml_check.specs.Checked.{IsChecked};
-    ghost use Rattle.pml_program.specs.contracts.value.Value as worth;
+    ghost use Rattle.pml_program.specs.contracts.expr.Expr as worth;
     ghost use Rattle.pml_program.specs.contracts.program.Seq as seq;
     ghost use Rattle.std.specs.Coded.{codes};
     ghost use mir.Syntax.{named};

@@ -10,8 +10,8 @@ use crate::start::has_bad_start;
 use crate::subject::Subject;
 use diagnostics::Refusal;
 use pml_program::program::Program;
-use pml_rules::decide::applies;
-use pml_rules::rule::Rule;
+use pml_conditions::decide::applies;
+use pml_conditions::rule::Rule;
 use std::alloc::{AllocError, Global};
 
 /// The rule of a refusal that is decided on the marks.
@@ -28,7 +28,7 @@ fn rule_of(refusal: Refusal) -> Option<Rule>
         Refusal::DStep => Some(Rule::Step),
         Refusal::NumberOutOfRange => Some(Rule::Range),
         Refusal::TooManyCells => Some(Rule::Cells),
-        Refusal::NoProcess => Some(Rule::Process),
+        Refusal::NoProcess => Some(Rule::NoProcess),
         Refusal::TooManyAtStart => Some(Rule::Start),
         _ => None,
     }
@@ -54,8 +54,8 @@ fn breaks_model(alloc: Global, refusal: Refusal, program: &Program) -> Result<bo
     ensures { IfOk result (λ b. DecidesModel b refusal program.now) }
 {
     match refusal {
-        Refusal::DStep => have_bad_step(alloc, program.processes.as_slice()),
-        Refusal::CircleOfGotos => have_circle(alloc, program.processes.as_slice()),
+        Refusal::DStep => have_bad_step(alloc, program.proctypes.as_slice()),
+        Refusal::CircleOfGotos => have_circle(alloc, program.proctypes.as_slice()),
         Refusal::Initialiser => has_bad_start(alloc, program),
         _ => Ok(false),
     }

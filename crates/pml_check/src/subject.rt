@@ -6,7 +6,7 @@ ghost use Rattle.pml_check.specs.Subject.{IsSubject};
 use pml_marks::mark::Mark;
 use pml_marks::model::marks;
 use pml_names::names::{Names, all_names};
-use pml_number::model::number;
+use pml_resolve::model::number;
 use pml_program::program::Program;
 use pml_tree::tree::Tree;
 use sqlite_items::{Boxed, Items};

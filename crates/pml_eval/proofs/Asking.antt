@@ -2,7 +2,7 @@
 use Rattle.std.proofs.Common.{◌≡◌, ℕ, ◌+◌, ◌<◌, Bool, true, false, ◌||◌, ◌&&◌, List, [], ◌∷◌, length, get_or, Result, Ok, Err, ℤ, pos, map, drop, refl, sym, ap, subst, ◌∙◌, arith}
 use Rattle.std.proofs.lemmas.List.{at_drop_more}
 use Rattle.diagnostics.specs.declared.fault.Fault.{Fault}
-use Rattle.pml_program.specs.declared.value.Want.{Want}
+use Rattle.pml_program.specs.declared.expr.Want.{Want}
 use Rattle.pml_eval.specs.declared.pattern.Sought.{Sought}
 use Rattle.pml_eval.specs.Pattern.{matched, taken}
 use Rattle.pml_eval.specs.Value.{Reading, Wanted, want, wants_of, is_match, ◌>>=◌}

@@ -5,13 +5,13 @@ use Rattle.pml_tree.specs.declared.tree.Fill.{Fill}
 use Rattle.pml_tree.specs.declared.tree.Fill.TheVariants.{Length, IsEmpty, IsFull, IsNotEmpty, IsNotFull}
 use Rattle.diagnostics.specs.declared.fault.Fault.{Fault}
 use Rattle.diagnostics.specs.declared.fault.Fault.TheVariants.{IndexOutOfRange, NoSuchChannel, WrongNumberOfFields}
-use Rattle.pml_program.specs.declared.value.Value.{Value, Value-F, fold-Value}
-use Rattle.pml_program.specs.declared.value.Want.{Want, Want-F, fold-Want}
+use Rattle.pml_program.specs.declared.expr.Expr.{Expr, Expr-F, fold-Expr}
+use Rattle.pml_program.specs.declared.expr.Want.{Want, Want-F, fold-Want}
 use Rattle.pml_eval.specs.declared.pattern.Sought.{Sought}
 use Rattle.pml_eval.specs.declared.pattern.Sought.TheVariants.{Exactly, Into, Anything}
 use Rattle.pml_eval.specs.Pattern.{matched}
-use Rattle.pml_program.specs.declared.value.Target.{Target, Target-F, fold-Target}
-use Rattle.pml_program.specs.declared.value.Turn.{Turn, Turn-F, fold-Turn}
+use Rattle.pml_program.specs.declared.expr.Target.{Target, Target-F, fold-Target}
+use Rattle.pml_program.specs.declared.expr.Turn.{Turn, Turn-F, fold-Turn}
 use Rattle.pml_eval.specs.declared.ground.Place.{Place}
 use Rattle.pml_eval.specs.Operators.{truth, is_zero, prefixed, infixed, decided}
 
@@ -107,17 +107,17 @@ abbrev pub settled : Result (List Sought) Fault → Result (Unit {0}) Fault
 settled (Ok ws) = Ok tt
 settled (Err f) = Err f
 
-abbrev pub value_step : Value-F Valued Wanted Placed Turned → Valued
-value_step (Value-F.Number n) r = Ok n
-value_step Value-F.Process r = Ok r.process
-value_step Value-F.Living r = Ok r.living
-value_step Value-F.Timeout r = Ok (truth r.timeout)
-value_step (Value-F.Read p) r = p r >>= λ at. Ok (r.holds at)
-value_step (Value-F.Ask fill p) r = p r >>= λ at. asked fill (r.channel (r.holds at))
-value_step (Value-F.Poll p any args) r = p r >>= λ at. polled any (length args) (wants_of args r) (r.channel (r.holds at))
-value_step (Value-F.Unary op a) r = a r >>= λ x. Ok (prefixed op x)
-value_step (Value-F.Binary op a b) r = a r >>= λ x. or_both op x (decided op x) (b r)
-value_step (Value-F.Choice a b c) r = a r >>= λ x. if_zero x (c r) (b r)
+abbrev pub value_step : Expr-F Valued Wanted Placed Turned → Valued
+value_step (Expr-F.Number n) r = Ok n
+value_step Expr-F.Pid r = Ok r.process
+value_step Expr-F.ProcessCount r = Ok r.living
+value_step Expr-F.Timeout r = Ok (truth r.timeout)
+value_step (Expr-F.Read p) r = p r >>= λ at. Ok (r.holds at)
+value_step (Expr-F.Ask fill p) r = p r >>= λ at. asked fill (r.channel (r.holds at))
+value_step (Expr-F.Poll p any args) r = p r >>= λ at. polled any (length args) (wants_of args r) (r.channel (r.holds at))
+value_step (Expr-F.Unary op a) r = a r >>= λ x. Ok (prefixed op x)
+value_step (Expr-F.Binary op a b) r = a r >>= λ x. or_both op x (decided op x) (b r)
+value_step (Expr-F.Choice a b c) r = a r >>= λ x. if_zero x (c r) (b r)
 
 abbrev pub want_step : Want-F Valued Wanted Placed Turned → Wanted
 want_step (Want-F.Exactly n) r = Ok (Exactly n)
@@ -143,8 +143,8 @@ turn_step s r = index_of s.index s.length r >>= λ i. Ok (s.offset + i * s.strid
 
 -- ---- the whole tree
 
-abbrev pub val : Value → Valued
-val = fold-Value Valued Wanted Placed Turned value_step want_step target_step turn_step
+abbrev pub val : Expr → Valued
+val = fold-Expr Valued Wanted Placed Turned value_step want_step target_step turn_step
 
 abbrev pub place : Target → Placed
 place = fold-Target Valued Wanted Placed Turned value_step want_step target_step turn_step

@@ -10,30 +10,30 @@ use crate::ground::{Filled, Ground, Place};
 use crate::operators::{decide, infix, number_of, prefix};
 use crate::pattern::{Sought, takes};
 use diagnostics::Fault;
-use pml_program::value::{Target, Turn, Value, Want};
+use pml_program::expr::{Target, Turn, Expr, Want};
 use pml_tree::tree::Fill;
 use sqlite_items::Items;
 use std::alloc::{AllocError, Global};
 
 /// The value of an expression, or the first fault from the left.
 #[cycle(eval)]
-pub fn eval<G: Ground>(e: &Value, ground: &G) -> Result<i32, Fault>
+pub fn eval<G: Ground>(e: &Expr, ground: &G) -> Result<i32, Fault>
     ensures { result ≡ val e.now (G.reading ground.now) }
 {
     match e {
-        Value::Number(n) => Ok(*n),
-        Value::Process => Ok(ground.process()),
-        Value::Living => Ok(ground.living()),
-        Value::Timeout => Ok(number_of(ground.timeout())),
-        Value::Poll(target, any, arguments) => {
+        Expr::Number(n) => Ok(*n),
+        Expr::Pid => Ok(ground.process()),
+        Expr::ProcessCount => Ok(ground.living()),
+        Expr::Timeout => Ok(number_of(ground.timeout())),
+        Expr::Poll(target, any, arguments) => {
             let at = place(target, ground)?;
             poll(arguments.as_slice(), *any, at, ground)
         }
-        Value::Unary(op, a) => {
+        Expr::Unary(op, a) => {
             let x = eval(a.get(), ground)?;
             Ok(prefix(*op, x))
         }
-        Value::Binary(op, a, b) => {
+        Expr::Binary(op, a, b) => {
             let x = eval(a.get(), ground)?;
             if let Some(y) = decide(*op, x) {
                 return Ok(y);
@@ -41,7 +41,7 @@ pub fn eval<G: Ground>(e: &Value, ground: &G) -> Result<i32, Fault>
             let y = eval(b.get(), ground)?;
             infix(*op, x, y)
         }
-        Value::Choice(a, b, c) => {
+        Expr::Choice(a, b, c) => {
             let x = eval(a.get(), ground)?;
             if x == 0 {
                 eval(c.get(), ground)
@@ -49,11 +49,11 @@ pub fn eval<G: Ground>(e: &Value, ground: &G) -> Result<i32, Fault>
                 eval(b.get(), ground)
             }
         }
-        Value::Read(target) => {
+        Expr::Read(target) => {
             let at = place(target, ground)?;
             Ok(ground.number(at))
         }
-        Value::Ask(fill, target) => {
+        Expr::Ask(fill, target) => {
             let at = place(target, ground)?;
             ask(*fill, ground.channel(ground.number(at)))
         }

@@ -7,7 +7,7 @@ use crate::operators::{decide, infix, prefix};
 use crate::pattern::{Sought, matches};
 use diagnostics::Fault;
 use pml_program::form::Form;
-use pml_program::value::{Target, Turn, Value, Want};
+use pml_program::expr::{Target, Turn, Expr, Want};
 use pml_tree::tree::{Fill, Infix, Prefix, Scalar};
 use sqlite_items::{Boxed, Items};
 use std::alloc::{AllocError, Global};
@@ -134,7 +134,7 @@ fn clips(rt: HostRuntime) -> Result<(), Fail> {
 
 /// An element of an array of `length` elements, from the cell `offset` on.
 fn element(alloc: Global, offset: u32, length: u32, index: i32) -> Result<Target, AllocError> {
-    let index = Boxed::new(alloc, Value::Number(index))?;
+    let index = Boxed::new(alloc, Expr::Number(index))?;
     let mut turns = Items::new(alloc);
     turns.push(Turn {
         offset,
@@ -150,9 +150,9 @@ fn element(alloc: Global, offset: u32, length: u32, index: i32) -> Result<Target
     })
 }
 
-fn read_of(alloc: Global, index: i32) -> Result<Boxed<Value>, AllocError> {
+fn read_of(alloc: Global, index: i32) -> Result<Boxed<Expr>, AllocError> {
     let target = element(alloc, 0, 4, index)?;
-    Boxed::new(alloc, Value::Read(target))
+    Boxed::new(alloc, Expr::Read(target))
 }
 
 /// What an element of the array is worth.
@@ -163,15 +163,15 @@ fn worth(alloc: Global, index: i32) -> Result<Result<i32, Fault>, AllocError> {
 
 /// What `0 && a[index]` is worth.
 fn worth_of_both(alloc: Global, index: i32) -> Result<Result<i32, Fault>, AllocError> {
-    let left = Boxed::new(alloc, Value::Number(0))?;
+    let left = Boxed::new(alloc, Expr::Number(0))?;
     let right = read_of(alloc, index)?;
-    let both = Value::Binary(Infix::And, left, right);
+    let both = Expr::Binary(Infix::And, left, right);
     Ok(eval(&both, &Holding(7)))
 }
 
 /// What `len(a[index])` is worth.
 fn worth_of_length(alloc: Global, index: i32) -> Result<Result<i32, Fault>, AllocError> {
-    let ask = Value::Ask(Fill::Length, element(alloc, 0, 4, index)?);
+    let ask = Expr::Ask(Fill::Length, element(alloc, 0, 4, index)?);
     Ok(eval(&ask, &Holding(7)))
 }
 
@@ -179,7 +179,7 @@ fn worth_of_length(alloc: Global, index: i32) -> Result<Result<i32, Fault>, Allo
 #[test]
 fn values(rt: HostRuntime) -> Result<(), Fail> {
     let alloc = rt.alloc();
-    assert_eq!(rt; eval(&Value::Timeout, &Holding(7)), Ok(1));
+    assert_eq!(rt; eval(&Expr::Timeout, &Holding(7)), Ok(1));
     assert_eq!(rt; worth(alloc, 3)?, Ok(7));
     assert_eq!(rt; worth(alloc, 4)?, Err(Fault::IndexOutOfRange));
     assert_eq!(rt; worth_of_both(alloc, 4)?, Ok(0));
@@ -218,7 +218,7 @@ fn polled(
     for field in fields {
         wants.push(Want::Exactly(*field))?;
     }
-    let poll = Value::Poll(element(alloc, 0, 4, 0)?, any, wants);
+    let poll = Expr::Poll(element(alloc, 0, 4, 0)?, any, wants);
     Ok(eval(&poll, &Holding(channel)))
 }
 

@@ -166,8 +166,8 @@ processes-none p i [] b a = refl
 processes-none p i (k ∷ ks) [] a = refl
 processes-none p i (k ∷ ks) (x ∷ xs) [] = refl
 processes-none p i (k ∷ ks) (x ∷ xs) (y ∷ ys) =
-    let o = process_owner false i (slice_get p.processes k) in
-    ap (λ (l : List ℕ). l ++ owner_lines p (process_owners p false (i + 1) ks) xs ys) (variables-none (line p o) (slots_of (slice_get p.processes k)) x y (λ s c v. refl))
+    let o = process_owner false i (slice_get p.proctypes k) in
+    ap (λ (l : List ℕ). l ++ owner_lines p (process_owners p false (i + 1) ks) xs ys) (variables-none (line p o) (slots_of (slice_get p.proctypes k)) x y (λ s c v. refl))
     ∙ processes-none p (i + 1) ks xs ys
 
 pub lines-none : (p : Program) (ks : List ℕ) (b a : List Frame) → value_lines p ks b a false false ≡ []

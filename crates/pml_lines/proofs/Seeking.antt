@@ -22,22 +22,22 @@ unwanted p o os i v (Some t) w h = rw w refl
 pub line-unwanted : (p : Program) (ks : List ℕ) (n i : ℕ) (v : ℤ) → line_at p (process_owners p false n ks) i v ≡ []
 line-unwanted p [] n i v = refl
 line-unwanted p (k ∷ ks) n i v =
-    unwanted p (process_owner false n (slice_get p.processes k)) (process_owners p false (n + 1) ks) i v (slot_of (slots_of (slice_get p.processes k)) i) refl (line-unwanted p ks (n + 1) (cell_of (slots_of (slice_get p.processes k)) i) v)
+    unwanted p (process_owner false n (slice_get p.proctypes k)) (process_owners p false (n + 1) ks) i v (slot_of (slots_of (slice_get p.proctypes k)) i) refl (line-unwanted p ks (n + 1) (cell_of (slots_of (slice_get p.proctypes k)) i) v)
 
 -- the process n stands for the index, or one after it
-pub process-here : (p : Program) (ks : List ℕ) (n i : ℕ) (v : ℤ) (s : Slot) → n < length ks → Some s ≡ slot_of (slots_of (slice_get p.processes (get_or ks n 0))) i → line_at p (process_owners p true n (drop n ks)) i v ≡ heading_of n (slice_get p.processes (get_or ks n 0)) ++ place_line p s (cell_of (slots_of (slice_get p.processes (get_or ks n 0))) i) v
+pub process-here : (p : Program) (ks : List ℕ) (n i : ℕ) (v : ℤ) (s : Slot) → n < length ks → Some s ≡ slot_of (slots_of (slice_get p.proctypes (get_or ks n 0))) i → line_at p (process_owners p true n (drop n ks)) i v ≡ heading_of n (slice_get p.proctypes (get_or ks n 0)) ++ place_line p s (cell_of (slots_of (slice_get p.proctypes (get_or ks n 0))) i) v
 process-here p ks n i v s l h =
     let d : drop n ks ≡ get_or ks n 0 ∷ drop (suc n) ks = drop-cons ks n 0 l in
     ap (λ (x : List ℕ). line_at p (process_owners p true n x) i v) d
-    ∙ line-here p (process_owner true n (slice_get p.processes (get_or ks n 0))) (process_owners p true (n + 1) (drop (suc n) ks)) i v s h
+    ∙ line-here p (process_owner true n (slice_get p.proctypes (get_or ks n 0))) (process_owners p true (n + 1) (drop (suc n) ks)) i v s h
 
-pub process-after : (p : Program) (ks : List ℕ) (n i : ℕ) (v : ℤ) → n < length ks → None ≡ slot_of (slots_of (slice_get p.processes (get_or ks n 0))) i → line_at p (process_owners p true n (drop n ks)) i v ≡ line_at p (process_owners p true (n + 1) (drop (n + 1) ks)) (cell_of (slots_of (slice_get p.processes (get_or ks n 0))) i) v
+pub process-after : (p : Program) (ks : List ℕ) (n i : ℕ) (v : ℤ) → n < length ks → None ≡ slot_of (slots_of (slice_get p.proctypes (get_or ks n 0))) i → line_at p (process_owners p true n (drop n ks)) i v ≡ line_at p (process_owners p true (n + 1) (drop (n + 1) ks)) (cell_of (slots_of (slice_get p.proctypes (get_or ks n 0))) i) v
 process-after p ks n i v l h =
     let d : drop n ks ≡ get_or ks n 0 ∷ drop (suc n) ks = drop-cons ks n 0 l in
     let e : suc n ≡ n + 1 = omega arith in
     ap (λ (x : List ℕ). line_at p (process_owners p true n x) i v) d
-    ∙ line-after p (process_owner true n (slice_get p.processes (get_or ks n 0))) (process_owners p true (n + 1) (drop (suc n) ks)) i v h
-    ∙ ap (λ (m : ℕ). line_at p (process_owners p true (n + 1) (drop m ks)) (cell_of (slots_of (slice_get p.processes (get_or ks n 0))) i) v) e
+    ∙ line-after p (process_owner true n (slice_get p.proctypes (get_or ks n 0))) (process_owners p true (n + 1) (drop (suc n) ks)) i v h
+    ∙ ap (λ (m : ℕ). line_at p (process_owners p true (n + 1) (drop m ks)) (cell_of (slots_of (slice_get p.proctypes (get_or ks n 0))) i) v) e
 
 -- the cell k and those after it
 pub cells-more : (f : ℕ → ℤ → List ℕ) (xs ys : List ℤ) (k : ℕ) → k < length xs → k < length ys → cell_lines f k (drop k xs) (drop k ys) ≡ (if int_eq (get_or xs k (pos 0)) (get_or ys k (pos 0)) then [] else f k (get_or ys k (pos 0))) ++ cell_lines f (k + 1) (drop (k + 1) xs) (drop (k + 1) ys)

@@ -7,7 +7,7 @@ use Rattle.pml_lex.specs.Word.{Word}
 use Rattle.pml_lex.specs.Kinds.{same_kind}
 use Rattle.pml_lex.specs.declared.token.Kind.TheVariants.{Init}
 use Rattle.pml_program.specs.declared.program.Slot.{Slot}
-use Rattle.pml_program.specs.declared.program.Process.{Process}
+use Rattle.pml_program.specs.declared.program.Proctype.{Proctype}
 use Rattle.pml_program.specs.declared.program.Program.{Program}
 use Rattle.pml_store.specs.Store.{Cells, Frame, joined}
 use Rattle.pml_lines.specs.Places.{place_line}
@@ -23,25 +23,25 @@ pub record Owner : Type 0 where
   pub slots : List Slot
 
 -- how a process's lines begin: `local I (NAME) `
-abbrev pub local_heading : ℕ → Process → List ℕ
+abbrev pub local_heading : ℕ → Proctype → List ℕ
 local_heading i p = codes "local " ++ (decimal i ++ (codes " (" ++ (proctype_name p.name ++ codes ") ")))
 
 -- how the lines of the process i begin, and its variables, by its proctype
-abbrev pub heading_of : ℕ → Option Process → List ℕ
+abbrev pub heading_of : ℕ → Option Proctype → List ℕ
 heading_of i None = []
 heading_of i (Some p) = local_heading i p
 
-abbrev pub slots_of : Option Process → List Slot
+abbrev pub slots_of : Option Proctype → List Slot
 slots_of None = []
 slots_of (Some p) = p.variables
 
-abbrev pub process_owner : Bool → ℕ → Option Process → Owner
+abbrev pub process_owner : Bool → ℕ → Option Proctype → Owner
 process_owner wanted i p = record { wanted = wanted; heading = heading_of i p; slots = slots_of p }
 
 -- processes, numbered from i on, each by the number of its proctype in the model
 abbrev pub process_owners : Program → Bool → ℕ → List ℕ → List Owner
 process_owners p wanted i [] = []
-process_owners p wanted i (k ∷ ks) = process_owner wanted i (slice_get p.processes k) ∷ process_owners p wanted (i + 1) ks
+process_owners p wanted i (k ∷ ks) = process_owner wanted i (slice_get p.proctypes k) ∷ process_owners p wanted (i + 1) ks
 
 -- the globals
 abbrev pub global_owner : Program → Bool → Owner

@@ -11,7 +11,7 @@ ghost use Rattle.pml_lines.specs.Changes.{proctype_name, local_heading, heading_
 use crate::place::place_line;
 use itoa::Buffer;
 use pml_lex::token::{Kind, Token, same_kind};
-use pml_program::program::{Process, Program, Slot};
+use pml_program::program::{Proctype, Program, Slot};
 use pml_store::store::Store;
 use std::alloc::{AllocError, Global};
 use std::collections::BTreeMap;
@@ -49,7 +49,7 @@ pub fn global_line(
 }
 
 // Appends how the lines of a process begin.
-fn local_heading(number: usize, process: &Process<'_>, text: &mut Vec<u8>) -> Result<(), AllocError>
+fn local_heading(number: usize, proctype: &Proctype<'_>, text: &mut Vec<u8>) -> Result<(), AllocError>
     ensures { OnOk result (text.new.items ≡ text.old.items ++ local_heading number process.now) }
 {
     let mut digits = Buffer::new();
@@ -67,9 +67,9 @@ fn heading_of(
     kind: usize,
     text: &mut Vec<u8>,
 ) -> Result<(), AllocError>
-    ensures { OnOk result (text.new.items ≡ text.old.items ++ heading_of process (slice_get program.now.processes kind)) }
+    ensures { OnOk result (text.new.items ≡ text.old.items ++ heading_of process (slice_get program.now.proctypes kind)) }
 {
-    match program.processes.as_slice().get(kind) {
+    match program.proctypes.as_slice().get(kind) {
         Some(proctype) => local_heading(process, proctype, text),
         None => Ok(()),
     }
@@ -85,7 +85,7 @@ pub fn local_line(
     number: i32,
     text: &mut Vec<u8>,
 ) -> Result<(), AllocError>
-    ensures { OnOk result (text.new.items ≡ text.old.items ++ (heading_of process (slice_get program.now.processes kind) ++ place_line program.now slot.now cell number)) }
+    ensures { OnOk result (text.new.items ≡ text.old.items ++ (heading_of process (slice_get program.now.proctypes kind) ++ place_line program.now slot.now cell number)) }
 {
     heading_of(program, process, kind, text)?;
     place_line(program, slot, cell, number, text)
@@ -120,10 +120,10 @@ fn find_local<'s, 'a>(
     kind: usize,
     at: usize,
 ) -> (Option<&'s Slot<'a>>, usize)
-    ensures slot { option_copied result.0 ≡ slot_of (slots_of (slice_get program.now.processes kind)) at }
-    ensures cell { result.1 ≡ cell_of (slots_of (slice_get program.now.processes kind)) at }
+    ensures slot { option_copied result.0 ≡ slot_of (slots_of (slice_get program.now.proctypes kind)) at }
+    ensures cell { result.1 ≡ cell_of (slots_of (slice_get program.now.proctypes kind)) at }
 {
-    match program.processes.as_slice().get(kind) {
+    match program.proctypes.as_slice().get(kind) {
         Some(process) => find_slot(process.variables.as_slice(), at),
         None => (None, at),
     }

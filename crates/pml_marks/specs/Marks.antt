@@ -29,6 +29,13 @@ use Rattle.pml_marks.specs.declared.mark.Use.{Use}
 use Rattle.pml_marks.specs.declared.mark.Use.TheVariants.{Read, Store, Update, Receive, Channel}
 use Rattle.pml_marks.specs.declared.mark.Use.TheVariants as use_of
 use Rattle.pml_marks.specs.declared.mark.Shape.{Shape}
+use Rattle.pml_marks.specs.declared.mark.Role.{Role}
+use Rattle.pml_marks.specs.declared.mark.Role.TheVariants as role
+use Rattle.pml_marks.specs.declared.mark.Makes.{Makes}
+use Rattle.pml_marks.specs.declared.mark.Makes.TheVariants.{Numbers, Channels}
+use Rattle.pml_marks.specs.declared.mark.Holder.{Holder}
+use Rattle.pml_marks.specs.declared.mark.Holder.TheVariants as holder_of
+use Rattle.pml_marks.specs.declared.mark.Structure.TheVariants.{Do, DStep}
 use Rattle.pml_marks.specs.declared.mark.Declared.TheVariants as declared_as
 use Rattle.pml_marks.specs.declared.mark.What.{What}
 use Rattle.pml_marks.specs.declared.mark.What.TheVariants as what
@@ -134,34 +141,36 @@ abbrev pub size_of : Option Expr → Option Constant
 size_of None = None
 size_of (Some e) = Some (constant e)
 
-abbrev pub is_chan : Sort → Bool
-is_chan (sort.Plain Chan) = true
-is_chan _ = false
+-- what a channel initialiser stands behind
+abbrev pub holder : Sort → Holder
+holder (sort.Plain Chan) = holder_of.Chan
+holder _ = holder_of.Other
 
 -- the initialiser of a typedef's field: a name alone is to be an mtype name
 abbrev pub preset_layer : Expr → Expr-F Argument Expr Reference Step → Marked
 preset_layer e (Expr-F.Read r) o = of_reference r use_of.Preset o
 preset_layer e _ o = of_expr e o ++ one (what.Preset (constant e)) o
 
-abbrev pub of_initial : Bool → Sort → Option Initial → Marked
-of_initial field s None o = []
-of_initial true s (Some (initial.Value e)) o = preset_layer e (out-Expr e) o
-of_initial false s (Some (initial.Value e)) o = of_expr e o
-of_initial field s (Some (initial.Channel e ts)) o = of_expr e o ++ one (what.Channel (is_chan s) (constant e) (length ts)) o
+abbrev pub of_initial : Role → Sort → Option Initial → Marked
+of_initial x s None o = []
+of_initial role.Field s (Some (initial.Value e)) o = preset_layer e (out-Expr e) o
+of_initial role.Variable s (Some (initial.Value e)) o = of_expr e o
+of_initial x s (Some (initial.Channel e ts)) o = of_expr e o ++ one (what.Channel (holder s) (constant e) (length ts)) o
 
-abbrev pub makes_channels : Option Initial → Bool
-makes_channels (Some (initial.Channel e ts)) = true
-makes_channels _ = false
+-- what an initialiser makes
+abbrev pub made_by : Option Initial → Makes
+made_by (Some (initial.Channel e ts)) = Channels
+made_by _ = Numbers
 
 -- What is used stands for o, and what is declared is p's; it is declared behind its initialiser.
-abbrev pub of_variable : Bool → ℕ → Variable → Marked
-of_variable field p v o =
-    of_sort v.sort o ++ (of_size v.size o ++ (of_initial field v.sort v.initial o
-    ++ one (what.Declares v.name (declared_as.Variable field v.sort (size_of v.size) (makes_channels v.initial))) p))
+abbrev pub of_variable : Role → ℕ → Variable → Marked
+of_variable x p v o =
+    of_sort v.sort o ++ (of_size v.size o ++ (of_initial x v.sort v.initial o
+    ++ one (what.Declares v.name (declared_as.Variable x v.sort (size_of v.size) (made_by v.initial))) p))
 
-abbrev pub of_variables : Bool → ℕ → List Variable → Marked
-of_variables field p [] o = []
-of_variables field p (v ∷ vs) o = of_variable field p v o ++ of_variables field p vs o
+abbrev pub of_variables : Role → ℕ → List Variable → Marked
+of_variables x p [] o = []
+of_variables x p (v ∷ vs) o = of_variable x p v o ++ of_variables x p vs o
 
 -- ---- statements
 
@@ -187,16 +196,16 @@ of_references [] o = []
 of_references (r ∷ rs) o = of_reference r Channel o ++ of_references rs o
 
 abbrev pub basic_layer : Basic-F Marked Marked Marked → Marked
-basic_layer (Basic-F.Declare vs) o = of_variables false o vs o
+basic_layer (Basic-F.Declare vs) o = of_variables role.Variable o vs o
 basic_layer (Basic-F.Exclusive rs) o = of_references rs o
 basic_layer (Basic-F.Plain a) o = of_action a o
 basic_layer (Basic-F.Goto l) o = one (what.Goto l) o
 basic_layer Basic-F.Break o = one what.Break o
 basic_layer (Basic-F.If ms) o = all_marks ms o
-basic_layer (Basic-F.Do ms) o = one (what.Enter false) o ++ (all_marks ms o ++ one what.Leave o)
+basic_layer (Basic-F.Do ms) o = one (what.Enter Do) o ++ (all_marks ms o ++ one what.Leave o)
 basic_layer (Basic-F.Block m) o = m o
 basic_layer (Basic-F.Atomic m) o = m o
-basic_layer (Basic-F.DStep m) o = one (what.Enter true) o ++ (m o ++ one what.Leave o)
+basic_layer (Basic-F.DStep m) o = one (what.Enter DStep) o ++ (m o ++ one what.Leave o)
 basic_layer (Basic-F.Unless m e) o = one what.Unless o ++ (m o ++ e o)
 
 abbrev pub of_labels : List Word → Marked
@@ -234,15 +243,15 @@ of_constants ns = map constant_mark (reverse ns)
 
 abbrev pub of_process : ℕ → Proctype → List Mark
 of_process o p =
-    mark 0 (what.Declares p.name (declared_as.Process o (length p.parameters))) ∷ (of_starts p.starts o
-    ++ (of_variables false o p.parameters o ++ of_seq p.body o))
+    mark 0 (what.Declares p.name (declared_as.Proctype o (length p.parameters))) ∷ (of_starts p.starts o
+    ++ (of_variables role.Variable o p.parameters o ++ of_seq p.body o))
 
 -- o is the unit's number from 1
 abbrev pub of_unit : ℕ → Part → List Mark
-of_unit o (part.Variables vs) = of_variables false 0 vs 0
+of_unit o (part.Variables vs) = of_variables role.Variable 0 vs 0
 of_unit o (part.Constants ns) = of_constants ns
-of_unit o (part.Typedef t vs) = of_variables true o vs 0 ++ one (what.Declares t (declared_as.Typedef o)) 0
-of_unit o (part.Process p) = of_process o p
+of_unit o (part.Typedef t vs) = of_variables role.Field o vs 0 ++ one (what.Declares t (declared_as.Typedef o)) 0
+of_unit o (part.Proctype p) = of_process o p
 
 abbrev pub of_units : ℕ → List Part → List Mark
 of_units o [] = []

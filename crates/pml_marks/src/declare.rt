@@ -1,12 +1,12 @@
 //! The marks of declarations.
 
 ghost use Rattle.std.specs.Prelude.{◌≡◌, ◌++◌, OnOk, IfOk};
-ghost use Rattle.pml_marks.specs.Marks.{of_sort, of_size, size_of, of_initial, makes_channels, is_chan, of_variable, of_variables, preset_layer};
+ghost use Rattle.pml_marks.specs.Marks.{of_sort, of_size, size_of, of_initial, made_by, holder, of_variable, of_variables, preset_layer};
 ghost use Rattle.pml_tree.specs.declared.tree.Expr.{out-Expr};
 
 use crate::constant::constant;
 use crate::expr::{add, expr, reference};
-use crate::mark::{Constant, Declared, Mark, Use, What};
+use crate::mark::{Constant, Declared, Holder, Makes, Mark, Role, Use, What};
 use pml_tree::tree::{Expr, Initial, Scalar, Sort, Variable};
 use sqlite_items::Items;
 use std::alloc::{AllocError, Global};
@@ -14,34 +14,34 @@ use std::alloc::{AllocError, Global};
 /// Adds the marks of variables, parameters or fields, which are declared as `holder`'s.
 pub fn variables<'a>(
     alloc: Global,
-    field: bool,
+    role: Role,
     holder: usize,
     all: &[Variable<'a>],
     owner: usize,
     out: &mut Items<Mark<'a>>,
 ) -> Result<(), AllocError>
-    ensures { OnOk result (out.new ≡ out.old ++ of_variables field holder all.now owner) }
+    ensures { OnOk result (out.new ≡ out.old ++ of_variables role holder all.now owner) }
 {
     for one in all {
-        variable(alloc, field, holder, one, owner, out)?;
+        variable(alloc, role, holder, one, owner, out)?;
     }
     Ok(())
 }
 
 fn variable<'a>(
     alloc: Global,
-    field: bool,
+    role: Role,
     holder: usize,
     v: &Variable<'a>,
     owner: usize,
     out: &mut Items<Mark<'a>>,
 ) -> Result<(), AllocError>
-    ensures { OnOk result (out.new ≡ out.old ++ of_variable field holder v.now owner) }
+    ensures { OnOk result (out.new ≡ out.old ++ of_variable role holder v.now owner) }
 {
     sort(&v.sort, owner, out)?;
     let size = size(alloc, &v.size, owner, out)?;
-    let makes = initial(alloc, field, &v.sort, &v.initial, owner, out)?;
-    let declared = Declared::Variable(field, copied(&v.sort), size, makes);
+    let makes = initial(alloc, role, &v.sort, &v.initial, owner, out)?;
+    let declared = Declared::Variable(role, copied(&v.sort), size, makes);
     add(What::Declares(v.name.copied(), declared), holder, out)
 }
 
@@ -90,43 +90,42 @@ fn size<'a>(
 
 fn initial<'a>(
     alloc: Global,
-    field: bool,
+    role: Role,
     sort: &Sort<'a>,
     initial: &Option<Initial<'a>>,
     owner: usize,
     out: &mut Items<Mark<'a>>,
-) -> Result<bool, AllocError>
-    ensures makes { IfOk result (λ b. b ≡ makes_channels initial.now) }
-    ensures marks { OnOk result (out.new ≡ out.old ++ of_initial field sort.now initial.now owner) }
+) -> Result<Makes, AllocError>
+    ensures makes { IfOk result (λ made. made ≡ made_by initial.now) }
+    ensures marks { OnOk result (out.new ≡ out.old ++ of_initial role sort.now initial.now owner) }
 {
     match initial {
-        None => Ok(false),
+        None => Ok(Makes::Numbers),
         Some(Initial::Value(e)) => {
-            if field {
-                preset(alloc, e, owner, out)?;
-            } else {
-                expr(alloc, e, owner, out)?;
+            match role {
+                Role::Field => preset(alloc, e, owner, out)?,
+                Role::Variable => expr(alloc, e, owner, out)?,
             }
-            Ok(false)
+            Ok(Makes::Numbers)
         }
         Some(Initial::Channel(e, types)) => {
             expr(alloc, e, owner, out)?;
             add(
-                What::Channel(is_chan(sort), constant(e), types.len()),
+                What::Channel(holder(sort), constant(e), types.len()),
                 owner,
                 out,
             )?;
-            Ok(true)
+            Ok(Makes::Channels)
         }
     }
 }
 
-fn is_chan(sort: &Sort) -> bool
-    ensures { result ≡ is_chan sort.now }
+fn holder(sort: &Sort) -> Holder
+    ensures { result ≡ holder sort.now }
 {
     match sort {
-        Sort::Plain(Scalar::Chan) => true,
-        _ => false,
+        Sort::Plain(Scalar::Chan) => Holder::Chan,
+        _ => Holder::Other,
     }
 }
 

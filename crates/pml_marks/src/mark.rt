@@ -35,19 +35,48 @@ pub struct Shape<'a> {
     pub indexed: bool,
 }
 
+/// What a variable is declared in: a typedef, as its field, or anything else.
+#[derive(Clone, Copy, Debug, PartialEq, Eq)]
+pub enum Role {
+    Variable,
+    Field,
+}
+
+/// What an initialiser makes of the cells of its variable.
+#[derive(Clone, Copy, Debug, PartialEq, Eq)]
+pub enum Makes {
+    Numbers,
+    Channels,
+}
+
+/// What a channel initialiser stands behind: a `chan`, or a variable of another type, where it is wrong.
+#[derive(Clone, Copy, Debug, PartialEq, Eq)]
+pub enum Holder {
+    Chan,
+    Other,
+}
+
+/// A structure that a `break` or a `goto` may leave.
+#[derive(Clone, Copy, Debug, PartialEq, Eq)]
+pub enum Structure {
+    Do,
+    DStep,
+}
+
 /// What a name is declared as.
 #[derive(Drop)]
 pub enum Declared<'a> {
-    /// Whether it is a typedef's field, its sort, the size of an array, and whether its initialiser makes channels.
-    Variable(bool, Sort<'a>, Option<Constant>, bool),
+    /// Its role, its sort, the size of an array, and what its initialiser makes.
+    Variable(Role, Sort<'a>, Option<Constant>, Makes),
     /// An mtype name, whose number is by how many stand before it.
     Constant,
     /// The owner of its fields.
     Typedef(usize),
     /// The owner of its names, and how many parameters it has.
-    Process(usize, usize),
+    Proctype(usize, usize),
 }
 
+/// What a mark says.
 #[derive(Drop)]
 pub enum What<'a> {
     Declares(Token<'a>, Declared<'a>),
@@ -67,14 +96,15 @@ pub enum What<'a> {
     Starts(Constant),
     /// An initialiser of a typedef's field.
     Preset(Constant),
-    /// A channel initialiser: whether it is one of a `chan`, its capacity, and its number of fields.
-    Channel(bool, Constant, usize),
+    /// A channel initialiser: what it stands behind, its capacity, and its number of fields.
+    Channel(Holder, Constant, usize),
     Label(Token<'a>),
     Goto(Token<'a>),
     Break,
     Unless,
-    /// A `do`, or with `true` a d_step, begins.
-    Enter(bool),
+    /// A structure begins.
+    Enter(Structure),
+    /// The innermost structure ends.
     Leave,
 }
 

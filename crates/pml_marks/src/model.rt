@@ -6,7 +6,7 @@ ghost use Rattle.pml_marks.specs.Marks.{of_starts, of_constants, of_process, of_
 use crate::constant::constant;
 use crate::declare::variables;
 use crate::expr::{add, expr};
-use crate::mark::{Constant, Declared, Mark, What};
+use crate::mark::{Constant, Declared, Mark, Role, What};
 use crate::statement::seq;
 use pml_lex::token::Token;
 use pml_tree::tree::{Proctype, Starts, Tree, Unit};
@@ -39,10 +39,10 @@ fn process<'a>(
 ) -> Result<(), AllocError>
     ensures { OnOk result (out.new ≡ out.old ++ of_process owner p.now) }
 {
-    let declared = Declared::Process(owner, p.parameters.len());
+    let declared = Declared::Proctype(owner, p.parameters.len());
     add(What::Declares(p.name.copied(), declared), 0, out)?;
     starts(alloc, &p.starts, owner, out)?;
-    variables(alloc, false, owner, p.parameters.as_slice(), owner, out)?;
+    variables(alloc, Role::Variable, owner, p.parameters.as_slice(), owner, out)?;
     seq(alloc, &p.body, owner, out)
 }
 
@@ -68,17 +68,17 @@ fn unit<'a>(
     ensures { OnOk result (out.new ≡ out.old ++ of_unit number u.now) }
 {
     match u {
-        Unit::Variables(all) => variables(alloc, false, 0, all.as_slice(), 0, out),
+        Unit::Variables(all) => variables(alloc, Role::Variable, 0, all.as_slice(), 0, out),
         Unit::Constants(names) => constants(names.as_slice(), out),
         Unit::Typedef(name, fields) => {
-            variables(alloc, true, number, fields.as_slice(), 0, out)?;
+            variables(alloc, Role::Field, number, fields.as_slice(), 0, out)?;
             add(
                 What::Declares(name.copied(), Declared::Typedef(number)),
                 0,
                 out,
             )
         }
-        Unit::Process(p) => process(alloc, p, number, out),
+        Unit::Proctype(p) => process(alloc, p, number, out),
     }
 }
 

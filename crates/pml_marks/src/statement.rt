@@ -5,7 +5,7 @@ ghost use Rattle.pml_marks.specs.Marks.{of_run, of_action, of_references, of_bas
 
 use crate::declare::variables;
 use crate::expr::{add, arguments, expr, exprs, reference};
-use crate::mark::{Mark, Use, What};
+use crate::mark::{Mark, Role, Structure, Use, What};
 use pml_lex::token::Token;
 use pml_tree::tree::{Action, Basic, Item, Reference, Run, Seq};
 use sqlite_items::Items;
@@ -96,21 +96,21 @@ fn basic<'a>(
     ensures { OnOk result (out.new ≡ out.old ++ of_basic b.now owner) }
 {
     match b {
-        Basic::Declare(all) => Ok(variables(alloc, false, owner, all.as_slice(), owner, out)?),
+        Basic::Declare(all) => Ok(variables(alloc, Role::Variable, owner, all.as_slice(), owner, out)?),
         Basic::Exclusive(all) => Ok(references(alloc, all.as_slice(), owner, out)?),
         Basic::Plain(a) => Ok(action(alloc, a, owner, out)?),
         Basic::Goto(l) => Ok(add(What::Goto(l.copied()), owner, out)?),
         Basic::Break => Ok(add(What::Break, owner, out)?),
         Basic::If(options) => Ok(seqs(alloc, options.as_slice(), owner, out)?),
         Basic::Do(options) => {
-            add(What::Enter(false), owner, out)?;
+            add(What::Enter(Structure::Do), owner, out)?;
             seqs(alloc, options.as_slice(), owner, out)?;
             Ok(add(What::Leave, owner, out)?)
         }
         Basic::Block(s) => Ok(seq(alloc, s, owner, out)?),
         Basic::Atomic(s) => Ok(seq(alloc, s, owner, out)?),
         Basic::DStep(s) => {
-            add(What::Enter(true), owner, out)?;
+            add(What::Enter(Structure::DStep), owner, out)?;
             seq(alloc, s, owner, out)?;
             Ok(add(What::Leave, owner, out)?)
         }

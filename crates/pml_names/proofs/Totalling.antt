@@ -14,14 +14,14 @@ variables_in-le : (t : Thing) → variables_in t ≤ 1
 variables_in-le (thing.Variable v) = omega arith
 variables_in-le (thing.Constant n) = omega arith
 variables_in-le (thing.Typedef o n) = omega arith
-variables_in-le (thing.Process o n) = omega arith
+variables_in-le (thing.Proctype o n) = omega arith
 variables_in-le thing.Label = omega arith
 
 constants_in-le : (t : Thing) → constants_in t ≤ 1
 constants_in-le (thing.Variable v) = omega arith
 constants_in-le (thing.Constant n) = omega arith
 constants_in-le (thing.Typedef o n) = omega arith
-constants_in-le (thing.Process o n) = omega arith
+constants_in-le (thing.Proctype o n) = omega arith
 constants_in-le thing.Label = omega arith
 
 at_most : (b : Bool) (n : ℕ) → cond b n 0 ≤ n

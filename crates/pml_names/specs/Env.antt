@@ -5,6 +5,8 @@ use Rattle.pml_tree.specs.declared.tree.Sort.TheVariants as sort
 use Rattle.pml_marks.specs.Constant.{numeral}
 use Rattle.pml_marks.specs.declared.mark.Constant.{Constant}
 use Rattle.pml_marks.specs.declared.mark.Constant.TheVariants.{Is}
+use Rattle.pml_marks.specs.declared.mark.Role.{Role}
+use Rattle.pml_marks.specs.declared.mark.Role.TheVariants.{Field, Variable}
 use Rattle.pml_marks.specs.declared.mark.Declared.{Declared}
 use Rattle.pml_marks.specs.declared.mark.Declared.TheVariants as declared_as
 use Rattle.pml_marks.specs.declared.mark.What.{What}
@@ -76,9 +78,9 @@ stride es o (sort.Named t) = stride_of (visible es o t.text)
 stride es o _ = 1
 
 -- whose names the declaration of one of o's variables uses: a typedef's field only global ones
-abbrev pub user : Bool → ℕ → ℕ
-user true o = 0
-user false o = o
+abbrev pub user : Role → ℕ → ℕ
+user Field o = 0
+user Variable o = o
 
 -- how many elements: a size that is out of range is refused by itself
 abbrev pub length_of : Option Constant → ℕ
@@ -87,18 +89,18 @@ length_of _ = 1
 
 -- what a name is declared as, where es is declared before it
 abbrev pub thing_of : List Entry → ℕ → Declared → Thing
-thing_of es o (declared_as.Variable field s size makes) =
+thing_of es o (declared_as.Variable x s size makes) =
     thing.Variable (record {
-      form = form es (user field o) s;
+      form = form es (user x o) s;
       array = is_some size;
       length = length_of size;
-      stride = stride es (user field o) s;
+      stride = stride es (user x o) s;
       offset = min (held es o) most_cells;
       number = variables es o;
     })
 thing_of es o declared_as.Constant = thing.Constant (constants es + 1)
 thing_of es o (declared_as.Typedef t) = thing.Typedef t (min (held es t) most_cells)
-thing_of es o (declared_as.Process p n) = thing.Process p n
+thing_of es o (declared_as.Proctype p n) = thing.Proctype p n
 
 -- of two declarations of one name the first counts
 unfoldable pub add : List Entry → ℕ → Bool → List ℕ → Thing → List Entry

@@ -25,7 +25,7 @@ or_else (Some t) r = Some t
 or_else None r = r
 
 abbrev pub only_process : Option Thing → Option Thing
-only_process (Some (thing.Process o n)) = Some (thing.Process o n)
+only_process (Some (thing.Proctype o n)) = Some (thing.Proctype o n)
 only_process _ = None
 
 -- What a name stands for where es is declared before it: a name of the owner, a global name, a proctype of the whole text.

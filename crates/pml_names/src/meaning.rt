@@ -43,7 +43,7 @@ fn only_process(found: Option<Thing>) -> Option<Thing>
     ensures { result ≡ only_process found }
 {
     match found {
-        Some(Thing::Process(o, n)) => Some(Thing::Process(o, n)),
+        Some(Thing::Proctype(o, n)) => Some(Thing::Proctype(o, n)),
         _ => None,
     }
 }

@@ -9,7 +9,7 @@ use crate::table::Table;
 use crate::thing::{Thing, Variable};
 use crate::totals::{Total, at, grow, grown};
 use pml_marks::arithmetic::read;
-use pml_marks::mark::{Constant, Declared, Mark, What};
+use pml_marks::mark::{Constant, Declared, Mark, Role, What};
 use pml_program::form::Form;
 use pml_tree::tree::Sort;
 use sqlite_items::Items;
@@ -75,10 +75,13 @@ pub fn stride(table: &Table, owner: usize, sort: &Sort) -> u32
     }
 }
 
-fn user(field: bool, owner: usize) -> usize
-    ensures { result ≡ user field owner }
+fn user(role: Role, owner: usize) -> usize
+    ensures { result ≡ user role owner }
 {
-    if field { 0 } else { owner }
+    match role {
+        Role::Field => 0,
+        Role::Variable => owner,
+    }
 }
 
 /// How many elements a variable has.
@@ -120,8 +123,8 @@ impl<'a> Names<'a> {
         ensures { result ≡ thing_of self.now.table owner declared.now }
     {
         match declared {
-            Declared::Variable(field, sort, size, _) => {
-                let user = user(*field, owner);
+            Declared::Variable(role, sort, size, _) => {
+                let user = user(*role, owner);
                 let total = at(self.totals.as_slice(), owner);
                 Thing::Variable(Variable {
                     form: form(&self.table, user, sort),
@@ -134,7 +137,7 @@ impl<'a> Names<'a> {
             }
             Declared::Constant => Thing::Constant(self.constants + 1),
             Declared::Typedef(t) => Thing::Typedef(*t, at(self.totals.as_slice(), *t).cells),
-            Declared::Process(p, n) => Thing::Process(*p, *n),
+            Declared::Proctype(p, n) => Thing::Proctype(*p, *n),
         }
     }
 

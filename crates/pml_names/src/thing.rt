@@ -24,6 +24,6 @@ pub enum Thing {
     /// A typedef: the owner of its fields, and its cells.
     Typedef(usize, u32),
     /// A proctype: the owner of its names, and how many parameters it has.
-    Process(usize, usize),
+    Proctype(usize, usize),
     Label,
 }

@@ -1,33 +1,34 @@
 //! Statements, processes and variables of the checked model.
 
 use crate::form::Form;
-use crate::value::{Target, Value, Want};
+use crate::expr::{Expr, Target, Want};
 use pml_lex::token::Token;
 use pml_tree::tokens::Tokens;
+use pml_tree::tree::{Removal, Search, SendOrder};
 use sqlite_items::Items;
 
 /// A run of the proctype whose names have this owner.
 #[derive(Drop)]
 pub struct Run {
-    pub process: usize,
-    pub arguments: Items<Value>,
+    pub proctype: usize,
+    pub arguments: Items<Expr>,
 }
 
 /// A statement that gives no structure. A store without a target is one to `_`.
 #[derive(Drop)]
 pub enum Action<'a> {
     Else,
-    Assign(Option<Target>, Value),
+    Assign(Option<Target>, Expr),
     AssignRun(Option<Target>, Run),
     Increment(Target),
     Decrement(Target),
     Run(Run),
-    Send(Target, bool, Items<Value>),
-    Receive(Target, bool, bool, Items<Want>),
-    Printf(Token<'a>, Items<Value>),
-    Printm(Value),
-    Assert(Value),
-    Holds(Value),
+    Send(Target, SendOrder, Items<Expr>),
+    Receive(Target, Search, Removal, Items<Want>),
+    Printf(Token<'a>, Items<Expr>),
+    Printm(Expr),
+    Assert(Expr),
+    Holds(Expr),
 }
 
 #[cycle(program)]
@@ -63,7 +64,7 @@ pub struct Seq<'a> {
 #[derive(Drop)]
 pub enum Initial {
     Zero,
-    Value(Value),
+    Value(Expr),
     /// Channels of this capacity, with fields of these types.
     Channel(u32, Items<Form>),
 }
@@ -84,7 +85,7 @@ pub struct Slot<'a> {
 /// A proctype: its parameters are the first of its variables. Behind them come all variables of its body, in the order of the
 /// text.
 #[derive(Drop)]
-pub struct Process<'a> {
+pub struct Proctype<'a> {
     pub name: Token<'a>,
     pub owner: usize,
     pub starts: u32,
@@ -108,5 +109,5 @@ pub struct Program<'a> {
     /// mtype names, by number.
     pub constants: Items<Token<'a>>,
     pub typedefs: Items<Fields<'a>>,
-    pub processes: Items<Process<'a>>,
+    pub proctypes: Items<Proctype<'a>>,
 }

@@ -2,7 +2,7 @@
 use Rattle.std.proofs.Common.{◌≡◌, ℕ, ◌+◌, ◌<◌, ◌≤◌, true, List, [], ◌∷◌, map, length, slice_index_or, arith, Option, Some, None, ℤ, refl, sym, ap, ◌∙◌, subst}
 use Rattle.std.specs.Prelude.{slice_get}
 use Rattle.pml_program.specs.declared.program.Slot.{Slot}
-use Rattle.pml_program.specs.declared.program.Process.{Process}
+use Rattle.pml_program.specs.declared.program.Proctype.{Proctype}
 use Rattle.pml_program.specs.declared.program.Program.{Program}
 use Rattle.pml_store.specs.declared.place.Place.{Place as Spot}
 use Rattle.pml_store.specs.Store.{Frame, with_number}
@@ -17,7 +17,7 @@ head_is h = cc
 tail_is : {A : Type 0} {x y : A} {xs ys : List A} → x ∷ xs ≡ y ∷ ys → xs ≡ ys
 tail_is h = cc
 
-same_slots : (o : Option Process) → variables_of o ≡ slots_of o
+same_slots : (o : Option Proctype) → variables_of o ≡ slots_of o
 same_slots None = refl
 same_slots (Some p) = refl
 
@@ -25,7 +25,7 @@ locals : (p : Program) (i : ℕ) (kinds : List ℕ) (frames : List Frame) → sh
 locals p i [] [] h = tt
 locals p i [] (f ∷ fs) h = tt
 locals p i (k ∷ ks) [] h = tt
-locals p i (k ∷ ks) (f ∷ fs) h = (head_is h ∙ ap (λ (l : List Slot). map size l) (same_slots (slice_get p.processes k)), locals p (i + 1) ks fs (tail_is h))
+locals p i (k ∷ ks) (f ∷ fs) h = (head_is h ∙ ap (λ (l : List Slot). map size l) (same_slots (slice_get p.proctypes k)), locals p (i + 1) ks fs (tail_is h))
 
 -- what begins has them
 pub begins_declared : (p : Program) (b : Begun) → IsDeclared p b → AreDeclared p b.kinds b.frames

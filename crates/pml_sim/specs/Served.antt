@@ -6,7 +6,7 @@ use Rattle.pml_program.specs.declared.program.Action.TheVariants as a
 use Rattle.pml_program.specs.declared.program.Basic.{Basic, Plain}
 use Rattle.pml_program.specs.declared.program.Stmt.{Stmt}
 use Rattle.pml_program.specs.declared.program.Seq.{out-Seq}
-use Rattle.pml_program.specs.declared.program.Process.{Process}
+use Rattle.pml_program.specs.declared.program.Proctype.{Proctype}
 use Rattle.pml_program.specs.declared.program.Program.{Program}
 
 -- an assignment, an increment, a decrement or a condition
@@ -29,10 +29,10 @@ abbrev pub are_served : List Stmt → Bool
 are_served [] = true
 are_served (s ∷ ss) = is_served s && are_served ss
 
-abbrev pub steps_of : Option Process → List Stmt
+abbrev pub steps_of : Option Proctype → List Stmt
 steps_of None = []
 steps_of (Some p) = (out-Seq p.body).steps
 
 -- the statements of a proctype, by its number in the model
 abbrev pub body_of : Program → ℕ → List Stmt
-body_of p kind = steps_of (slice_get p.processes kind)
+body_of p kind = steps_of (slice_get p.proctypes kind)

@@ -4,7 +4,7 @@ use Rattle.diagnostics.specs.declared.fault.Fault.{Fault}
 use Rattle.session.specs.Machine.{Rules, Outcome, Goes, Faults}
 use Rattle.pml_program.specs.declared.program.Basic.{Basic, Plain}
 use Rattle.pml_program.specs.declared.program.Stmt.{Stmt}
-use Rattle.pml_program.specs.declared.program.Process.{Process}
+use Rattle.pml_program.specs.declared.program.Proctype.{Proctype}
 use Rattle.pml_program.specs.declared.program.Program.{Program}
 use Rattle.pml_eval.specs.Value.{Reading}
 use Rattle.pml_store.specs.Store.{Contents, before}
@@ -103,16 +103,16 @@ step s m = went s (done_first (standing s) (reading s m.timeout))
 
 -- ---- texts
 
-abbrev pub name_by : Option Process → List ℕ
+abbrev pub name_by : Option Proctype → List ℕ
 name_by None = []
 name_by (Some p) = proctype_name p.name
 
-abbrev pub closing_by : Option Process → ℕ
+abbrev pub closing_by : Option Proctype → ℕ
 closing_by None = 0
 closing_by (Some p) = p.end.line
 
-abbrev pub process_of : State → Option Process
-process_of s = slice_get s.program.processes s.kind
+abbrev pub process_of : State → Option Proctype
+process_of s = slice_get s.program.proctypes s.kind
 
 -- the line of the first token of what stands first, or of the closing brace
 abbrev pub line : ℕ → Option Stmt → ℕ

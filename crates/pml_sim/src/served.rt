@@ -4,7 +4,7 @@ ghost use Rattle.std.specs.Prelude.{◌≡◌};
 ghost use Rattle.std.specs.Option.{option_copied};
 ghost use Rattle.pml_sim.specs.Served.{is_simple, is_served, are_served, steps_of};
 
-use pml_program::program::{Action, Basic, Process, Stmt};
+use pml_program::program::{Action, Basic, Proctype, Stmt};
 
 /// Whether an action is an assignment, an increment, a decrement or a condition.
 fn is_simple(action: &Action<'_>) -> bool
@@ -42,7 +42,7 @@ fn are_served(body: &[Stmt<'_>]) -> bool
 }
 
 /// Whether a proctype is one that is played.
-pub fn is_played(process: Option<&Process<'_>>) -> bool
+pub fn is_played(proctype: Option<&Proctype<'_>>) -> bool
     ensures { result ≡ are_served (steps_of (option_copied process.entry)) }
 {
     match process {

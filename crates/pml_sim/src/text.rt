@@ -9,7 +9,7 @@ ghost use Rattle.pml_sim.specs.World.{name_by};
 use itoa::Buffer;
 use pml_lex::token::Token;
 use pml_lines::change::proctype_name;
-use pml_program::program::Process;
+use pml_program::program::Proctype;
 use std::alloc::AllocError;
 
 fn add_number(text: &mut Vec<u8>, number: u32) -> Result<(), AllocError>
@@ -35,7 +35,7 @@ pub fn add_tokens(text: &mut Vec<u8>, tokens: &[Token<'_>]) -> Result<(), AllocE
 }
 
 /// Appends the name of a proctype, by its number in the model.
-fn add_name(text: &mut Vec<u8>, process: Option<&Process<'_>>) -> Result<(), AllocError>
+fn add_name(text: &mut Vec<u8>, proctype: Option<&Proctype<'_>>) -> Result<(), AllocError>
     ensures { OnOk result (text.new.items ≡ text.old.items ++ name_by (option_copied process.entry)) }
 {
     match process {
@@ -47,7 +47,7 @@ fn add_name(text: &mut Vec<u8>, process: Option<&Process<'_>>) -> Result<(), All
 /// Appends where a process of this proctype stands.
 pub fn add_place(
     text: &mut Vec<u8>,
-    process: Option<&Process<'_>>,
+    proctype: Option<&Proctype<'_>>,
     line: u32,
 ) -> Result<(), AllocError>
     ensures { OnOk result (text.new.items ≡ text.old.items ++ texts.place (name_by (option_copied process.entry)) line) }

@@ -13,7 +13,7 @@ use crate::control::{Control, OnlyMove};
 use crate::served::is_played;
 use crate::text::{add_place, add_tokens, first_line};
 use pml_lines::change::{Wanted, logged_lines};
-use pml_program::program::{Basic, Process, Program, Stmt};
+use pml_program::program::{Basic, Proctype, Program, Stmt};
 use pml_start::started::Started;
 use pml_store::store::Store;
 use pml_value::owned::Owned;
@@ -38,7 +38,7 @@ impl<'p, 'a> Model for World<'p, 'a> {
     ghost use Rattle.pml_sim.specs.State.{State};
     ghost use Rattle.pml_lines.specs.Changes.{AreDeclared};
     ghost use Rattle.std.specs.Prelude.{◌∷◌, []};
-    ghost use Rattle.pml_program.specs.contracts.value.Value as worth;
+    ghost use Rattle.pml_program.specs.contracts.expr.Expr as worth;
     ghost use Rattle.pml_program.specs.contracts.program.Seq as seq;
     ghost use Rattle.std.specs.Coded.{codes};
     ghost use mir.Syntax.{named};
@@ -103,7 +103,7 @@ impl<'p, 'a> World<'p, 'a> {
         can_take(self.standing(), &view)
     }
 
-    fn process(&self) -> Option<&Process<'a>>
+    fn process(&self) -> Option<&Proctype<'a>>
         ensures { option_copied result ≡ world.process_of self.now }
     {
         process_at(self.program, self.kind)
@@ -118,10 +118,10 @@ impl<'p, 'a> World<'p, 'a> {
     }
 }
 
-fn process_at<'p, 'a>(program: &'p Program<'a>, kind: usize) -> Option<&'p Process<'a>>
-    ensures { option_copied result ≡ slice_get program.now.processes kind }
+fn process_at<'p, 'a>(program: &'p Program<'a>, kind: usize) -> Option<&'p Proctype<'a>>
+    ensures { option_copied result ≡ slice_get program.now.proctypes kind }
 {
-    program.processes.as_slice().get(kind)
+    program.proctypes.as_slice().get(kind)
 }
 
 fn is_alive(control: Control) -> bool
@@ -142,7 +142,7 @@ fn standing_at<'s, 'a>(body: &'s [Stmt<'a>], control: Control) -> Option<&'s Stm
     }
 }
 
-fn standing_of<'s, 'a>(process: Option<&'s Process<'a>>, control: Control) -> Option<&'s Stmt<'a>>
+fn standing_of<'s, 'a>(proctype: Option<&'s Proctype<'a>>, control: Control) -> Option<&'s Stmt<'a>>
     ensures { option_copied result ≡ world.standing_at (steps_of (option_copied process.entry)) control }
 {
     match process {
@@ -151,7 +151,7 @@ fn standing_of<'s, 'a>(process: Option<&'s Process<'a>>, control: Control) -> Op
     }
 }
 
-fn count_of(process: Option<&Process<'_>>) -> usize
+fn count_of(proctype: Option<&Proctype<'_>>) -> usize
     ensures { result ≡ length (steps_of (option_copied process.entry)) }
 {
     match process {
@@ -233,7 +233,7 @@ fn line(closing: u32, standing: Option<&Stmt<'_>>) -> u32
     }
 }
 
-fn closing(process: Option<&Process<'_>>) -> u32
+fn closing(proctype: Option<&Proctype<'_>>) -> u32
     ensures { result ≡ world.closing_by (option_copied process.entry) }
 {
     match process {

@@ -5,12 +5,12 @@ use Rattle.std.proofs.lemmas.List.{length-map}
 use Rattle.std.proofs.Math.Nat.{mul-le-mul_right}
 use Rattle.diagnostics.specs.declared.fault.Fault.{Fault}
 use Rattle.diagnostics.specs.declared.fault.Fault.TheVariants.{IndexOutOfRange}
-use Rattle.pml_program.specs.declared.value.Value.{Value, Value-F, map-Value, roll-Value, fold-roll-Value, ind-Value}
-use Rattle.pml_program.specs.declared.value.Want.{Want, Want-F, map-Want, roll-Want, fold-roll-Want, ind-Want}
-use Rattle.pml_program.specs.declared.value.Target.{Target, Target-F, map-Target, roll-Target, fold-roll-Target, ind-Target}
-use Rattle.pml_program.specs.declared.value.Turn.{Turn, Turn-F, map-Turn, roll-Turn, out-Turn, fold-roll-Turn, fold_out-Turn}
+use Rattle.pml_program.specs.declared.expr.Expr.{Expr, Expr-F, map-Expr, roll-Expr, fold-roll-Expr, ind-Expr}
+use Rattle.pml_program.specs.declared.expr.Want.{Want, Want-F, map-Want, roll-Want, fold-roll-Want, ind-Want}
+use Rattle.pml_program.specs.declared.expr.Target.{Target, Target-F, map-Target, roll-Target, fold-roll-Target, ind-Target}
+use Rattle.pml_program.specs.declared.expr.Turn.{Turn, Turn-F, map-Turn, roll-Turn, out-Turn, fold-roll-Turn, fold_out-Turn}
 use Rattle.pml_program.specs.declared.program.Slot.{Slot}
-use Rattle.pml_number.specs.Fits.{ValueFits}
+use Rattle.pml_resolve.specs.Fits.{ExprFits}
 use Rattle.pml_eval.specs.declared.ground.Place.{Place}
 use Rattle.pml_eval.specs.declared.pattern.Sought.{Sought}
 use Rattle.pml_eval.specs.declared.pattern.Sought.TheVariants.{Exactly, Into}
@@ -67,7 +67,7 @@ module _ (r : Reading) where
   z = r.cells
 
   abbrev held : Turn → Turn-F Tested Tested Tested Fitting
-  held t = map-Turn Value Want Target Turn Tested Tested Tested Fitting is_sound is_sound_want is_sound_target fitting (out-Turn t)
+  held t = map-Turn Expr Want Target Turn Tested Tested Tested Fitting is_sound is_sound_want is_sound_target fitting (out-Turn t)
 
   abbrev opened : Turn → Fitting
   opened t = sound_turn (held t)
@@ -103,7 +103,7 @@ module _ (r : Reading) where
 
   -- ---- by induction over values
 
-  abbrev PV : Value → Type 0
+  abbrev PV : Expr → Type 0
   PV v = IsTrue (is_sound v z) → val v r ≡ plain_val v r
 
   abbrev PW : Want → Type 0
@@ -116,7 +116,7 @@ module _ (r : Reading) where
   PU t = IsTrue ((fitting t).index z) → cells t r ≡ plain_cells t r
 
   abbrev V : Type 0
-  V = (x : Value) × PV x
+  V = (x : Expr) × PV x
 
   abbrev W : Type 0
   W = (x : Want) × PW x
@@ -127,22 +127,22 @@ module _ (r : Reading) where
   abbrev U : Type 0
   U = (x : Turn) × PU x
 
-  abbrev bare : Value-F V W T U → Value-F Value Want Target Turn
-  bare = map-Value V W T U Value Want Target Turn (λ e. e.0) (λ e. e.0) (λ e. e.0) (λ e. e.0)
+  abbrev bare : Expr-F V W T U → Expr-F Expr Want Target Turn
+  bare = map-Expr V W T U Expr Want Target Turn (λ e. e.0) (λ e. e.0) (λ e. e.0) (λ e. e.0)
 
-  abbrev bare-want : Want-F V W T U → Want-F Value Want Target Turn
-  bare-want = map-Want V W T U Value Want Target Turn (λ e. e.0) (λ e. e.0) (λ e. e.0) (λ e. e.0)
+  abbrev bare-want : Want-F V W T U → Want-F Expr Want Target Turn
+  bare-want = map-Want V W T U Expr Want Target Turn (λ e. e.0) (λ e. e.0) (λ e. e.0) (λ e. e.0)
 
-  abbrev bare-target : Target-F V W T U → Target-F Value Want Target Turn
-  bare-target = map-Target V W T U Value Want Target Turn (λ e. e.0) (λ e. e.0) (λ e. e.0) (λ e. e.0)
+  abbrev bare-target : Target-F V W T U → Target-F Expr Want Target Turn
+  bare-target = map-Target V W T U Expr Want Target Turn (λ e. e.0) (λ e. e.0) (λ e. e.0) (λ e. e.0)
 
-  abbrev bare-turn : Turn-F V W T U → Turn-F Value Want Target Turn
-  bare-turn = map-Turn V W T U Value Want Target Turn (λ e. e.0) (λ e. e.0) (λ e. e.0) (λ e. e.0)
+  abbrev bare-turn : Turn-F V W T U → Turn-F Expr Want Target Turn
+  bare-turn = map-Turn V W T U Expr Want Target Turn (λ e. e.0) (λ e. e.0) (λ e. e.0) (λ e. e.0)
 
   -- how many cells a turn goes on by, and those of its elements
   turn-ends : (t : Turn) (n : ℕ) → 0 < (out-Turn t).length → cells t r ≡ Ok n → n + (out-Turn t).stride ≤ (out-Turn t).offset + (out-Turn t).length * (out-Turn t).stride
   turn-ends t n p h =
-      let y : Turn-F Valued Wanted Placed Turned = map-Turn Value Want Target Turn Valued Wanted Placed Turned val want place cells (out-Turn t) in
+      let y : Turn-F Valued Wanted Placed Turned = map-Turn Expr Want Target Turn Valued Wanted Placed Turned val want place cells (out-Turn t) in
       let e : cells t ≡ turn_step y = fold_out-Turn Valued Wanted Placed Turned value_step want_step target_step turn_step t in
       element-ends (index_of y.index y.length r) y.offset y.length y.stride n (index-below y.index y.length r p) (sym (ap (λ (f : Turned). f r) e) ∙ h)
 
@@ -170,16 +170,16 @@ module _ (r : Reading) where
       ap (λ (x : Result Sought Fault). x >>= λ one. wants_of (map want xs) r >>= λ more. Ok (one ∷ more)) (w.1 (left (is_sound_want w.0 z) (all_sound (map is_sound_want xs) z) h))
       ∙ ap (λ (x : Result (List Sought) Fault). plain_want w.0 r >>= λ one. x >>= λ more. Ok (one ∷ more)) (wants-same ws (right (is_sound_want w.0 z) (all_sound (map is_sound_want xs) z) h))
 
-  value-same : (y : Value-F V W T U) → IsTrue (sound_value (map-Value Value Want Target Turn Tested Tested Tested Fitting is_sound is_sound_want is_sound_target fitting (bare y)) z)
-      → value_step (map-Value Value Want Target Turn Valued Wanted Placed Turned val want place cells (bare y)) r
-      ≡ value_step (map-Value Value Want Target Turn Valued Wanted Placed Turned plain_val plain_want plain_place plain_cells (bare y)) r
-  value-same (Value-F.Number n) h = refl
-  value-same Value-F.Process h = refl
-  value-same Value-F.Living h = refl
-  value-same Value-F.Timeout h = refl
-  value-same (Value-F.Read p) h = ap (λ (x : Result Place Fault). x >>= λ at. Ok (r.holds at)) (p.1 h)
-  value-same (Value-F.Ask g p) h = ap (λ (x : Result Place Fault). x >>= λ at. asked g (r.channel (r.holds at))) (p.1 h)
-  value-same (Value-F.Poll p any ws) h =
+  value-same : (y : Expr-F V W T U) → IsTrue (sound_value (map-Expr Expr Want Target Turn Tested Tested Tested Fitting is_sound is_sound_want is_sound_target fitting (bare y)) z)
+      → value_step (map-Expr Expr Want Target Turn Valued Wanted Placed Turned val want place cells (bare y)) r
+      ≡ value_step (map-Expr Expr Want Target Turn Valued Wanted Placed Turned plain_val plain_want plain_place plain_cells (bare y)) r
+  value-same (Expr-F.Number n) h = refl
+  value-same Expr-F.Pid h = refl
+  value-same Expr-F.ProcessCount h = refl
+  value-same Expr-F.Timeout h = refl
+  value-same (Expr-F.Read p) h = ap (λ (x : Result Place Fault). x >>= λ at. Ok (r.holds at)) (p.1 h)
+  value-same (Expr-F.Ask g p) h = ap (λ (x : Result Place Fault). x >>= λ at. asked g (r.channel (r.holds at))) (p.1 h)
+  value-same (Expr-F.Poll p any ws) h =
       let xs : List Want = map (λ (e : W). e.0) ws in
       let sought : Result (List Sought) Fault = wants_of (map want xs) r in
       let lengths : length (map want xs) ≡ length (map plain_want xs) = length-map xs want ∙ sym (length-map xs plain_want) in
@@ -187,27 +187,27 @@ module _ (r : Reading) where
       ∙ ap (λ (n : ℕ). plain_place p.0 r >>= λ at. polled any n sought (r.channel (r.holds at))) lengths
       ∙ ap (λ (x : Result (List Sought) Fault). plain_place p.0 r >>= λ at. polled any (length (map plain_want xs)) x (r.channel (r.holds at)))
       (wants-same ws (right (is_sound_target p.0 z) (all_sound (map is_sound_want xs) z) h))
-  value-same (Value-F.Unary op a) h = ap (λ (x : Result ℤ Fault). x >>= λ v. Ok (prefixed op v)) (a.1 h)
-  value-same (Value-F.Binary op a b) h =
+  value-same (Expr-F.Unary op a) h = ap (λ (x : Result ℤ Fault). x >>= λ v. Ok (prefixed op v)) (a.1 h)
+  value-same (Expr-F.Binary op a b) h =
       ap (λ (x : Result ℤ Fault). x >>= λ v. or_both op v (decided op v) (val b.0 r)) (a.1 (left (is_sound a.0 z) (is_sound b.0 z) h))
       ∙ ap (λ (y : Result ℤ Fault). plain_val a.0 r >>= λ v. or_both op v (decided op v) y) (b.1 (right (is_sound a.0 z) (is_sound b.0 z) h))
-  value-same (Value-F.Choice a b c) h =
+  value-same (Expr-F.Choice a b c) h =
       let more = right (is_sound a.0 z) (is_sound b.0 z && is_sound c.0 z) h in
       ap (λ (x : Result ℤ Fault). x >>= λ v. if_zero v (val c.0 r) (val b.0 r)) (a.1 (left (is_sound a.0 z) (is_sound b.0 z && is_sound c.0 z) h))
       ∙ ap (λ (x : Result ℤ Fault). plain_val a.0 r >>= λ v. if_zero v (val c.0 r) x) (b.1 (left (is_sound b.0 z) (is_sound c.0 z) more))
       ∙ ap (λ (x : Result ℤ Fault). plain_val a.0 r >>= λ v. if_zero v x (plain_val b.0 r)) (c.1 (right (is_sound b.0 z) (is_sound c.0 z) more))
 
-  want-same : (y : Want-F V W T U) → IsTrue (sound_want (map-Want Value Want Target Turn Tested Tested Tested Fitting is_sound is_sound_want is_sound_target fitting (bare-want y)) z)
-      → want_step (map-Want Value Want Target Turn Valued Wanted Placed Turned val want place cells (bare-want y)) r
-      ≡ want_step (map-Want Value Want Target Turn Valued Wanted Placed Turned plain_val plain_want plain_place plain_cells (bare-want y)) r
+  want-same : (y : Want-F V W T U) → IsTrue (sound_want (map-Want Expr Want Target Turn Tested Tested Tested Fitting is_sound is_sound_want is_sound_target fitting (bare-want y)) z)
+      → want_step (map-Want Expr Want Target Turn Valued Wanted Placed Turned val want place cells (bare-want y)) r
+      ≡ want_step (map-Want Expr Want Target Turn Valued Wanted Placed Turned plain_val plain_want plain_place plain_cells (bare-want y)) r
   want-same (Want-F.Exactly n) h = refl
   want-same (Want-F.Equal a) h = ap (λ (x : Result ℤ Fault). x >>= λ n. Ok (Exactly n)) (a.1 h)
   want-same (Want-F.Into p) h = ap (λ (x : Result Place Fault). x >>= λ at. Ok (Into at)) (p.1 h)
   want-same Want-F.Anything h = refl
 
-  target-same : (y : Target-F V W T U) → IsTrue (sound_target (map-Target Value Want Target Turn Tested Tested Tested Fitting is_sound is_sound_want is_sound_target fitting (bare-target y)) z)
-      → target_step (map-Target Value Want Target Turn Valued Wanted Placed Turned val want place cells (bare-target y)) r
-      ≡ plain_step (map-Target Value Want Target Turn Valued Wanted Placed Turned plain_val plain_want plain_place plain_cells (bare-target y)) r
+  target-same : (y : Target-F V W T U) → IsTrue (sound_target (map-Target Expr Want Target Turn Tested Tested Tested Fitting is_sound is_sound_want is_sound_target fitting (bare-target y)) z)
+      → target_step (map-Target Expr Want Target Turn Valued Wanted Placed Turned val want place cells (bare-target y)) r
+      ≡ plain_step (map-Target Expr Want Target Turn Valued Wanted Placed Turned plain_val plain_want plain_place plain_cells (bare-target y)) r
   target-same y h =
       let ts : List Turn = map (λ (e : U). e.0) y.turns in
       let whole : ℕ = z y.local y.variable in
@@ -216,39 +216,39 @@ module _ (r : Reading) where
       ∙ ap there (turns-same y.turns whole whole 0 (omega arith) h)
 
   turn-same : (i : Option V) (offset n stride : ℕ) → let y : Turn-F V W T U = record { offset = offset; length = n; stride = stride; index = i } in
-      IsTrue ((sound_turn (map-Turn Value Want Target Turn Tested Tested Tested Fitting is_sound is_sound_want is_sound_target fitting (bare-turn y))).index z)
-      → turn_step (map-Turn Value Want Target Turn Valued Wanted Placed Turned val want place cells (bare-turn y)) r
-      ≡ turn_step (map-Turn Value Want Target Turn Valued Wanted Placed Turned plain_val plain_want plain_place plain_cells (bare-turn y)) r
+      IsTrue ((sound_turn (map-Turn Expr Want Target Turn Tested Tested Tested Fitting is_sound is_sound_want is_sound_target fitting (bare-turn y))).index z)
+      → turn_step (map-Turn Expr Want Target Turn Valued Wanted Placed Turned val want place cells (bare-turn y)) r
+      ≡ turn_step (map-Turn Expr Want Target Turn Valued Wanted Placed Turned plain_val plain_want plain_place plain_cells (bare-turn y)) r
   turn-same None offset n stride h = refl
   turn-same (Some a) offset n stride h =
       ap (λ (x : Result ℤ Fault). (x >>= within n) >>= λ i. Ok (offset + i * stride)) (a.1 (right (nat_lt 0 n) (is_sound a.0 z) h))
 
-  value-proof : (x : Value-F Value Want Target Turn) (y : Value-F V W T U) → bare y ≡ x → PV (roll-Value x)
-  value-proof x y is = subst (λ (w : Value-F Value Want Target Turn). PV (roll-Value w)) is (λ h.
-      ap (λ (f : Valued). f r) (fold-roll-Value Valued Wanted Placed Turned value_step want_step target_step turn_step (bare y))
-      ∙ value-same y (subst (λ (f : Tested). IsTrue (f z)) (fold-roll-Value Tested Tested Tested Fitting sound_value sound_want sound_target sound_turn (bare y)) h)
-      ∙ sym (ap (λ (f : Valued). f r) (fold-roll-Value Valued Wanted Placed Turned value_step want_step plain_step turn_step (bare y))))
+  value-proof : (x : Expr-F Expr Want Target Turn) (y : Expr-F V W T U) → bare y ≡ x → PV (roll-Expr x)
+  value-proof x y is = subst (λ (w : Expr-F Expr Want Target Turn). PV (roll-Expr w)) is (λ h.
+      ap (λ (f : Valued). f r) (fold-roll-Expr Valued Wanted Placed Turned value_step want_step target_step turn_step (bare y))
+      ∙ value-same y (subst (λ (f : Tested). IsTrue (f z)) (fold-roll-Expr Tested Tested Tested Fitting sound_value sound_want sound_target sound_turn (bare y)) h)
+      ∙ sym (ap (λ (f : Valued). f r) (fold-roll-Expr Valued Wanted Placed Turned value_step want_step plain_step turn_step (bare y))))
 
-  want-proof : (x : Want-F Value Want Target Turn) (y : Want-F V W T U) → bare-want y ≡ x → PW (roll-Want x)
-  want-proof x y is = subst (λ (w : Want-F Value Want Target Turn). PW (roll-Want w)) is (λ h.
+  want-proof : (x : Want-F Expr Want Target Turn) (y : Want-F V W T U) → bare-want y ≡ x → PW (roll-Want x)
+  want-proof x y is = subst (λ (w : Want-F Expr Want Target Turn). PW (roll-Want w)) is (λ h.
       ap (λ (f : Wanted). f r) (fold-roll-Want Valued Wanted Placed Turned value_step want_step target_step turn_step (bare-want y))
       ∙ want-same y (subst (λ (f : Tested). IsTrue (f z)) (fold-roll-Want Tested Tested Tested Fitting sound_value sound_want sound_target sound_turn (bare-want y)) h)
       ∙ sym (ap (λ (f : Wanted). f r) (fold-roll-Want Valued Wanted Placed Turned value_step want_step plain_step turn_step (bare-want y))))
 
-  target-proof : (x : Target-F Value Want Target Turn) (y : Target-F V W T U) → bare-target y ≡ x → PT (roll-Target x)
-  target-proof x y is = subst (λ (w : Target-F Value Want Target Turn). PT (roll-Target w)) is (λ h.
+  target-proof : (x : Target-F Expr Want Target Turn) (y : Target-F V W T U) → bare-target y ≡ x → PT (roll-Target x)
+  target-proof x y is = subst (λ (w : Target-F Expr Want Target Turn). PT (roll-Target w)) is (λ h.
       ap (λ (f : Placed). f r) (fold-roll-Target Valued Wanted Placed Turned value_step want_step target_step turn_step (bare-target y))
       ∙ target-same y (subst (λ (f : Tested). IsTrue (f z)) (fold-roll-Target Tested Tested Tested Fitting sound_value sound_want sound_target sound_turn (bare-target y)) h)
       ∙ sym (ap (λ (f : Placed). f r) (fold-roll-Target Valued Wanted Placed Turned value_step want_step plain_step turn_step (bare-target y))))
 
-  turn-proof : (x : Turn-F Value Want Target Turn) (y : Turn-F V W T U) → bare-turn y ≡ x → PU (roll-Turn x)
-  turn-proof x y is = subst (λ (w : Turn-F Value Want Target Turn). PU (roll-Turn w)) is (λ h.
+  turn-proof : (x : Turn-F Expr Want Target Turn) (y : Turn-F V W T U) → bare-turn y ≡ x → PU (roll-Turn x)
+  turn-proof x y is = subst (λ (w : Turn-F Expr Want Target Turn). PU (roll-Turn w)) is (λ h.
       ap (λ (f : Turned). f r) (fold-roll-Turn Valued Wanted Placed Turned value_step want_step target_step turn_step (bare-turn y))
       ∙ turn-same y.index y.offset y.length y.stride (subst (λ (f : Fitting). IsTrue (f.index z)) (fold-roll-Turn Tested Tested Tested Fitting sound_value sound_want sound_target sound_turn (bare-turn y)) h)
       ∙ sym (ap (λ (f : Turned). f r) (fold-roll-Turn Valued Wanted Placed Turned value_step want_step plain_step turn_step (bare-turn y))))
 
-  pub value-plain : (v : Value) → PV v
-  value-plain = ind-Value PV PW PT PU value-proof want-proof target-proof turn-proof
+  pub value-plain : (v : Expr) → PV v
+  value-plain = ind-Expr PV PW PT PU value-proof want-proof target-proof turn-proof
 
   pub want-plain : (w : Want) → PW w
   want-plain = ind-Want PV PW PT PU value-proof want-proof target-proof turn-proof
@@ -257,6 +257,6 @@ module _ (r : Reading) where
   target-plain = ind-Target PV PW PT PU value-proof want-proof target-proof turn-proof
 
 -- what fits and is used as it may be is sound, and so the same
-pub used-plain : (gs ls : List Slot) → AreFew gs → AreFew ls → (v : Value) → ValueFits gs ls v → ValueUsed v → (r : Reading) → r.cells ≡ sizes gs ls → val v r ≡ plain_val v r
+pub used-plain : (gs ls : List Slot) → AreFew gs → AreFew ls → (v : Expr) → ExprFits gs ls v → ValueUsed v → (r : Reading) → r.cells ≡ sizes gs ls → val v r ≡ plain_val v r
 used-plain gs ls few-g few-l v fits used r e =
     value-plain r v (subst (λ (s : Sizes). IsTrue (is_sound v s)) (sym e) (value-sound gs ls few-g few-l v fits used))

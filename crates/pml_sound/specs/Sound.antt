@@ -1,9 +1,9 @@
 -- References that no turn leads out of its variable.
 use Rattle.std.specs.Prelude.{ℕ, ◌+◌, ◌*◌, Bool, true, ◌&&◌, nat_lt, nat_le, List, [], ◌∷◌, Option, Some, None}
-use Rattle.pml_program.specs.declared.value.Value.{Value, Value-F, fold-Value}
-use Rattle.pml_program.specs.declared.value.Want.{Want, Want-F, fold-Want}
-use Rattle.pml_program.specs.declared.value.Target.{Target, Target-F, fold-Target}
-use Rattle.pml_program.specs.declared.value.Turn.{Turn, Turn-F, fold-Turn}
+use Rattle.pml_program.specs.declared.expr.Expr.{Expr, Expr-F, fold-Expr}
+use Rattle.pml_program.specs.declared.expr.Want.{Want, Want-F, fold-Want}
+use Rattle.pml_program.specs.declared.expr.Target.{Target, Target-F, fold-Target}
+use Rattle.pml_program.specs.declared.expr.Turn.{Turn, Turn-F, fold-Turn}
 
 -- how many cells a variable has, by whether it is local and by its number
 abbrev pub Sizes : Type 0
@@ -22,17 +22,17 @@ abbrev pub all_sound : List Tested → Tested
 all_sound [] z = true
 all_sound (a ∷ more) z = a z && all_sound more z
 
-abbrev pub sound_value : Value-F Tested Tested Tested Fitting → Tested
-sound_value (Value-F.Number n) z = true
-sound_value Value-F.Process z = true
-sound_value Value-F.Living z = true
-sound_value Value-F.Timeout z = true
-sound_value (Value-F.Read p) z = p z
-sound_value (Value-F.Ask fill p) z = p z
-sound_value (Value-F.Poll p any args) z = p z && all_sound args z
-sound_value (Value-F.Unary op a) z = a z
-sound_value (Value-F.Binary op a b) z = a z && b z
-sound_value (Value-F.Choice a b c) z = a z && (b z && c z)
+abbrev pub sound_value : Expr-F Tested Tested Tested Fitting → Tested
+sound_value (Expr-F.Number n) z = true
+sound_value Expr-F.Pid z = true
+sound_value Expr-F.ProcessCount z = true
+sound_value Expr-F.Timeout z = true
+sound_value (Expr-F.Read p) z = p z
+sound_value (Expr-F.Ask fill p) z = p z
+sound_value (Expr-F.Poll p any args) z = p z && all_sound args z
+sound_value (Expr-F.Unary op a) z = a z
+sound_value (Expr-F.Binary op a b) z = a z && b z
+sound_value (Expr-F.Choice a b c) z = a z && (b z && c z)
 
 abbrev pub sound_want : Want-F Tested Tested Tested Fitting → Tested
 sound_want (Want-F.Exactly n) z = true
@@ -59,8 +59,8 @@ sound_turn s = record {
   index = λ z. nat_lt 0 s.length && sound_index s.index z;
 }
 
-abbrev pub is_sound : Value → Tested
-is_sound = fold-Value Tested Tested Tested Fitting sound_value sound_want sound_target sound_turn
+abbrev pub is_sound : Expr → Tested
+is_sound = fold-Expr Tested Tested Tested Fitting sound_value sound_want sound_target sound_turn
 
 abbrev pub is_sound_target : Target → Tested
 is_sound_target = fold-Target Tested Tested Tested Fitting sound_value sound_want sound_target sound_turn

@@ -3,12 +3,12 @@ use Rattle.std.specs.Prelude.{ℕ, ◌*◌, ◌≤◌, List, [], ◌∷◌, slic
 use Rattle.std.specs.List.{AllByRecursion}
 use Rattle.pml_program.specs.declared.form.Form.{Form}
 use Rattle.pml_program.specs.declared.form.Form.TheVariants as kind
-use Rattle.pml_program.specs.declared.value.Value.{Value, every-Value}
-use Rattle.pml_program.specs.declared.value.Want.{Want, every-Want}
-use Rattle.pml_program.specs.declared.value.Target.{Target, Target-F, every-Target}
-use Rattle.pml_program.specs.declared.value.Turn.{Turn, Turn-F, every-Turn}
+use Rattle.pml_program.specs.declared.expr.Expr.{Expr, every-Expr}
+use Rattle.pml_program.specs.declared.expr.Want.{Want, every-Want}
+use Rattle.pml_program.specs.declared.expr.Target.{Target, Target-F, every-Target}
+use Rattle.pml_program.specs.declared.expr.Turn.{Turn, Turn-F, every-Turn}
 use Rattle.pml_program.specs.declared.program.Slot.{Slot}
-use Rattle.pml_number.specs.Fits.{slots_of, AnyValue, AnyWant, ValueFits, WantFits, TargetFits}
+use Rattle.pml_resolve.specs.Fits.{slots_of, AnyExpr, AnyWant, ExprFits, WantFits, TargetFits}
 use Rattle.pml_sound.specs.Sound.{Sizes, is_sound, is_sound_want, is_sound_target}
 
 abbrev pub cells_of : Slot → ℕ
@@ -38,27 +38,27 @@ IsCell (kind.Struct t) = ⊥
 IsCell _ = Unit {0}
 
 -- a part of a variable that is no typedef's
-pub record ItIsUsed (t : Target-F Value Want Target Turn) : Type 0 where
+pub record ItIsUsed (t : Target-F Expr Want Target Turn) : Type 0 where
   pub some : HasTurn t.turns
   pub cell : IsCell t.form
 
-abbrev pub AnyTurn : Turn-F Value Want Target Turn → Type 0
+abbrev pub AnyTurn : Turn-F Expr Want Target Turn → Type 0
 AnyTurn t = Unit {0}
 
-abbrev pub ValueUsed : Value → Type 0
-ValueUsed = every-Value AnyValue AnyWant ItIsUsed AnyTurn
+abbrev pub ValueUsed : Expr → Type 0
+ValueUsed = every-Expr AnyExpr AnyWant ItIsUsed AnyTurn
 
 abbrev pub WantUsed : Want → Type 0
-WantUsed = every-Want AnyValue AnyWant ItIsUsed AnyTurn
+WantUsed = every-Want AnyExpr AnyWant ItIsUsed AnyTurn
 
 abbrev pub TargetUsed : Target → Type 0
-TargetUsed = every-Target AnyValue AnyWant ItIsUsed AnyTurn
+TargetUsed = every-Target AnyExpr AnyWant ItIsUsed AnyTurn
 
 abbrev pub TurnUsed : Turn → Type 0
-TurnUsed = every-Turn AnyValue AnyWant ItIsUsed AnyTurn
+TurnUsed = every-Turn AnyExpr AnyWant ItIsUsed AnyTurn
 
 abbrev pub SoundValues : Type 0
-SoundValues = (gs ls : List Slot) → AreFew gs → AreFew ls → (v : Value) → ValueFits gs ls v → ValueUsed v → IsTrue (is_sound v (sizes gs ls))
+SoundValues = (gs ls : List Slot) → AreFew gs → AreFew ls → (v : Expr) → ExprFits gs ls v → ValueUsed v → IsTrue (is_sound v (sizes gs ls))
 
 abbrev pub SoundWants : Type 0
 SoundWants = (gs ls : List Slot) → AreFew gs → AreFew ls → (w : Want) → WantFits gs ls w → WantUsed w → IsTrue (is_sound_want w (sizes gs ls))

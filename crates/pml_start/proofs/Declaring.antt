@@ -3,7 +3,7 @@ use Rattle.std.proofs.Common.{◌≡◌, ℕ, ◌<◌, ◌+◌, refl, List, [], 
 use Rattle.std.specs.List.{AllByRecursion}
 use Rattle.std.proofs.lemmas.List.{length_push, length-map, map-append}
 use Rattle.std.proofs.lemmas.Option.{slice_get_read}
-use Rattle.pml_program.specs.declared.program.Process.{Process}
+use Rattle.pml_program.specs.declared.program.Proctype.{Proctype}
 use Rattle.pml_program.specs.declared.program.Program.{Program}
 use Rattle.pml_start.specs.Begin.{Begun, shape, size}
 use Rattle.pml_start.specs.Start.{IsDeclared, variables_of, variables_at}
@@ -12,16 +12,16 @@ All-push : {X : Type 0} (P : X → Type 0) (xs : List X) (x : X) → AllByRecurs
 All-push P [] x h p = (p, tt)
 All-push P (y ∷ ys) x h p = (h.0, All-push P ys x h.1 p)
 
-pub variables_at_is : (p : Program) (k : ℕ) (q : Process) → k < length p.processes → q ≡ get_or p.processes k q → variables_at p k ≡ q.variables
-variables_at_is p k q h e = ap variables_of (slice_get_read p.processes (length p.processes) k q refl h e)
+pub variables_at_is : (p : Program) (k : ℕ) (q : Proctype) → k < length p.proctypes → q ≡ get_or p.proctypes k q → variables_at p k ≡ q.variables
+variables_at_is p k q h e = ap variables_of (slice_get_read p.proctypes (length p.proctypes) k q refl h e)
 
 -- one process more
-pub declared_next : (p : Program) (old new : Begun) (k : ℕ) → IsDeclared p old → length old.kinds < 255 → k < length p.processes → shape new.frames ≡ shape old.frames ++ map size (variables_at p k) ∷ [] → new.kinds ≡ old.kinds ++ k ∷ [] → IsDeclared p new
+pub declared_next : (p : Program) (old new : Begun) (k : ℕ) → IsDeclared p old → length old.kinds < 255 → k < length p.proctypes → shape new.frames ≡ shape old.frames ++ map size (variables_at p k) ∷ [] → new.kinds ≡ old.kinds ++ k ∷ [] → IsDeclared p new
 declared_next p old new k d few h e g =
     let l : length new.kinds ≡ length old.kinds + 1 = ap length g ∙ length_push old.kinds k in
     record {
       few = omega (arith, l, few);
-      kinds = subst (AllByRecursion (λ x. x < length p.processes)) (sym g) (All-push (λ x. x < length p.processes) old.kinds k d.kinds h);
+      kinds = subst (AllByRecursion (λ x. x < length p.proctypes)) (sym g) (All-push (λ x. x < length p.proctypes) old.kinds k d.kinds h);
       sizes =
           e ∙ ap (λ (x : List (List ℕ)). x ++ map size (variables_at p k) ∷ []) d.sizes
           ∙ ap (λ (x : List (List ℕ)). map size p.globals ∷ x) (sym (map-append (λ (x : ℕ). map size (variables_at p x)) old.kinds (k ∷ [])))

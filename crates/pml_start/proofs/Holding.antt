@@ -7,7 +7,7 @@ use Rattle.diagnostics.specs.declared.fault.Fault.{Fault}
 use Rattle.diagnostics.specs.declared.fault.Fault.TheVariants.{TooManyChannels}
 use Rattle.pml_program.specs.declared.form.Form.{Form}
 use Rattle.pml_program.specs.declared.form.Form.TheVariants as form
-use Rattle.pml_program.specs.declared.value.Value.{Value}
+use Rattle.pml_program.specs.declared.expr.Expr.{Expr}
 use Rattle.pml_program.specs.declared.program.Initial.{Initial}
 use Rattle.pml_program.specs.declared.program.Initial.TheVariants as i
 use Rattle.pml_program.specs.declared.program.Slot.{Slot}
@@ -82,7 +82,7 @@ values_here v x c (suc n) z d b s h l m =
     (cases_eq c d)
 
 -- each cell holds what the type keeps of the one value
-pub each_holds : (ts : List Fields) (s : Slot) (e : Value) (v c : ℕ) (b : Begun) → Has b v (size s) → c < size s → IfOk (variable_begun ts (i.Value e) s v b) (λ n. initial_value e s.form b ≡ Ok (number_at n.frames (cell_in b v c)))
+pub each_holds : (ts : List Fields) (s : Slot) (e : Expr) (v c : ℕ) (b : Begun) → Has b v (size s) → c < size s → IfOk (variable_begun ts (i.Value e) s v b) (λ n. initial_value e s.form b ≡ Ok (number_at n.frames (cell_in b v c)))
 each_holds ts s e v c b h l = from (initial_value e s.form b)
   where
     from : (r : Result ℤ Fault) → IfOk {T = Begun} (r >>= λ x. Ok (with_values v x 0 (size s) b)) (λ n. r ≡ Ok (number_at n.frames (cell_in b v c)))

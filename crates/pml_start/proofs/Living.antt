@@ -8,7 +8,7 @@ use Rattle.pml_program.specs.declared.program.Initial.{Initial}
 use Rattle.pml_program.specs.declared.program.Initial.TheVariants as i
 use Rattle.pml_program.specs.declared.program.Slot.{Slot}
 use Rattle.pml_program.specs.declared.program.Fields.{Fields}
-use Rattle.pml_program.specs.declared.program.Process.{Process}
+use Rattle.pml_program.specs.declared.program.Proctype.{Proctype}
 use Rattle.pml_program.specs.declared.program.Program.{Program}
 use Rattle.pml_store.specs.Store.{zeros}
 use Rattle.pml_channel.specs.Contents.{Contents as Messages}
@@ -97,14 +97,14 @@ kind_are p k (suc n) xs b e =
     (λ m h. weaker (Are ((xs ++ k ∷ []) ++ replicate n k)) (Are (xs ++ (k ∷ replicate n k))) (kind_begun p k n m)
     (λ a g. g ∙ ap (take 255) (append_assoc xs (k ∷ []) (replicate n k))) (kind_are p k n (xs ++ k ∷ []) m h))
 
-kinds_are : (p : Program) (k : ℕ) (qs : List Process) (xs : List ℕ) (b : Begun) → Are xs b → IfOk (kinds_begun p k qs b) (Are (xs ++ starting k qs))
+kinds_are : (p : Program) (k : ℕ) (qs : List Proctype) (xs : List ℕ) (b : Begun) → Are xs b → IfOk (kinds_begun p k qs b) (Are (xs ++ starting k qs))
 kinds_are p k [] xs b e = e ∙ ap (take 255) (sym (append-nil xs))
 kinds_are p k (q ∷ qs) xs b e =
     chain (Are (xs ++ replicate q.starts k)) (Are (xs ++ (replicate q.starts k ++ starting (k + 1) qs))) (kind_begun p k q.starts b) (kinds_begun p (k + 1) qs) (kind_are p k q.starts xs b e)
     (λ m h. weaker (Are ((xs ++ replicate q.starts k) ++ starting (k + 1) qs)) (Are (xs ++ (replicate q.starts k ++ starting (k + 1) qs))) (kinds_begun p (k + 1) qs m)
     (λ a g. g ∙ ap (take 255) (append_assoc xs (replicate q.starts k) (starting (k + 1) qs))) (kinds_are p (k + 1) qs (xs ++ replicate q.starts k) m h))
 
-pub living_are : (p : Program) → IfOk (first_state p) (Are (starting 0 p.processes))
+pub living_are : (p : Program) → IfOk (first_state p) (Are (starting 0 p.proctypes))
 living_are p =
-    chain (Same nothing) (Are (starting 0 p.processes)) (owner_begun p.typedefs p.globals nothing) (kinds_begun p 0 p.processes) (owner_same p.typedefs p.globals nothing)
-    (λ m k. kinds_are p 0 p.processes [] m k)
+    chain (Same nothing) (Are (starting 0 p.proctypes)) (owner_begun p.typedefs p.globals nothing) (kinds_begun p 0 p.proctypes) (owner_same p.typedefs p.globals nothing)
+    (λ m k. kinds_are p 0 p.proctypes [] m k)

@@ -4,7 +4,7 @@ use Rattle.std.proofs.lemmas.List.{drop_more}
 use Rattle.diagnostics.specs.declared.fault.Fault.{Fault}
 use Rattle.pml_program.specs.declared.program.Slot.{Slot}
 use Rattle.pml_program.specs.declared.program.Fields.{Fields}
-use Rattle.pml_program.specs.declared.program.Process.{Process}
+use Rattle.pml_program.specs.declared.program.Proctype.{Proctype}
 use Rattle.pml_program.specs.declared.program.Program.{Program}
 use Rattle.pml_eval.specs.Value.{◌>>=◌}
 use Rattle.pml_value.specs.declared.stop.Stop.{Stop}
@@ -89,15 +89,15 @@ kind_stopped p k i n b new last y t h e m =
 
 -- ---- the processes of a proctype
 
-kinds_next : (p : Program) (i : ℕ) (q : Process) (b : Begun) → i < length p.processes → q ≡ get_or p.processes i q → kinds_begun p i (drop i p.processes) b ≡ (kind_begun p i q.starts b >>= kinds_begun p (i + 1) (drop (i + 1) p.processes))
+kinds_next : (p : Program) (i : ℕ) (q : Proctype) (b : Begun) → i < length p.proctypes → q ≡ get_or p.proctypes i q → kinds_begun p i (drop i p.proctypes) b ≡ (kind_begun p i q.starts b >>= kinds_begun p (i + 1) (drop (i + 1) p.proctypes))
 kinds_next p i q b h e =
-    let d : drop i p.processes ≡ q ∷ drop (i + 1) p.processes = drop_more p.processes i q h ∙ ap (λ (x : Process). x ∷ drop (i + 1) p.processes) (sym e) in
-    ap (λ (x : List Process). kinds_begun p i x b) d
+    let d : drop i p.proctypes ≡ q ∷ drop (i + 1) p.proctypes = drop_more p.proctypes i q h ∙ ap (λ (x : Proctype). x ∷ drop (i + 1) p.proctypes) (sym e) in
+    ap (λ (x : List Proctype). kinds_begun p i x b) d
 
-pub kinds_made : (p : Program) (i : ℕ) (q : Process) (b new : Begun) (y : Result Begun Fault) (u : Unit {0}) → i < length p.processes → q ≡ get_or p.processes i q → kinds_begun p i (drop i p.processes) b ≡ y → Begins (kind_begun p i q.starts b) (Ok u) new → kinds_begun p (i + 1) (drop (i + 1) p.processes) new ≡ y
+pub kinds_made : (p : Program) (i : ℕ) (q : Proctype) (b new : Begun) (y : Result Begun Fault) (u : Unit {0}) → i < length p.proctypes → q ≡ get_or p.proctypes i q → kinds_begun p i (drop i p.proctypes) b ≡ y → Begins (kind_begun p i q.starts b) (Ok u) new → kinds_begun p (i + 1) (drop (i + 1) p.proctypes) new ≡ y
 kinds_made p i q b new y u h e k m =
-    sym (made (kind_begun p i q.starts b) u new (kinds_begun p (i + 1) (drop (i + 1) p.processes)) m) ∙ sym (kinds_next p i q b h e) ∙ k
+    sym (made (kind_begun p i q.starts b) u new (kinds_begun p (i + 1) (drop (i + 1) p.proctypes)) m) ∙ sym (kinds_next p i q b h e) ∙ k
 
-pub kinds_stopped : (p : Program) (i : ℕ) (q : Process) (b new : Begun) (y : Result Begun Fault) (t : Stop) → i < length p.processes → q ≡ get_or p.processes i q → kinds_begun p i (drop i p.processes) b ≡ y → Begins (kind_begun p i q.starts b) (Err t) new → Starts y (Err t)
+pub kinds_stopped : (p : Program) (i : ℕ) (q : Proctype) (b new : Begun) (y : Result Begun Fault) (t : Stop) → i < length p.proctypes → q ≡ get_or p.proctypes i q → kinds_begun p i (drop i p.proctypes) b ≡ y → Begins (kind_begun p i q.starts b) (Err t) new → Starts y (Err t)
 kinds_stopped p i q b new y t h e k m =
-    start_stopped (kind_begun p i q.starts b) y t new (kinds_begun p (i + 1) (drop (i + 1) p.processes)) (sym (kinds_next p i q b h e) ∙ k) m
+    start_stopped (kind_begun p i q.starts b) y t new (kinds_begun p (i + 1) (drop (i + 1) p.proctypes)) (sym (kinds_next p i q b h e) ∙ k) m

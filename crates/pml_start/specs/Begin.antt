@@ -3,7 +3,7 @@ use Rattle.std.specs.Prelude.{◌≡◌, ℕ, zero, suc, ◌+◌, ◌-◌, ◌*�
 use Rattle.diagnostics.specs.declared.fault.Fault.{Fault}
 use Rattle.diagnostics.specs.declared.fault.Fault.TheVariants.{TooManyChannels}
 use Rattle.pml_program.specs.declared.form.Form.{Form}
-use Rattle.pml_program.specs.declared.value.Value.{Value}
+use Rattle.pml_program.specs.declared.expr.Expr.{Expr}
 use Rattle.pml_program.specs.declared.program.Initial.{Initial}
 use Rattle.pml_program.specs.declared.program.Initial.TheVariants as i
 use Rattle.pml_program.specs.declared.program.Slot.{Slot}
@@ -55,7 +55,7 @@ with_channel variable cell c b =
     }) else Err TooManyChannels
 
 -- what a type keeps of the value of an initialiser
-abbrev pub initial_value : Value → Form → Begun → Result ℤ Fault
+abbrev pub initial_value : Expr → Form → Begun → Result ℤ Fault
 initial_value v form b = val v (read_in b) >>= λ n. Ok (clipped form n)
 
 -- what a cell begins with

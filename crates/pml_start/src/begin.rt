@@ -13,7 +13,7 @@ use pml_eval::clip::clip;
 use pml_eval::eval::eval;
 use pml_program::form::Form;
 use pml_program::program::{Fields, Initial, Slot};
-use pml_program::value::Value;
+use pml_program::expr::Expr;
 use pml_store::place::Place as Spot;
 use pml_value::owned::Owned;
 use pml_value::stop::Stop;
@@ -22,7 +22,7 @@ use sqlite_items::Items;
 use std::alloc::{AllocError, Global};
 
 /// What a type keeps of the value of an initialiser.
-fn initial_value(started: &Started, value: &Value, form: Form) -> Result<i32, Fault>
+fn initial_value(started: &Started, value: &Expr, form: Form) -> Result<i32, Fault>
     requires { length started.now.kinds.items ≤ 255 }
     ensures { result ≡ initial_value value.now form (shown started.now) }
 {

@@ -2,8 +2,8 @@
 
 ghost use Rattle.std.specs.Prelude.{◌≡◌, ◌<◌, ◌+◌, ◌++◌, ℕ, List, false, length, take, replicate, pos, Ok, IfOk};
 ghost use Rattle.pml_program.specs.declared.form.Form.{Form};
-ghost use Rattle.pml_program.specs.declared.value.Value.{Value};
-ghost use Rattle.pml_program.specs.declared.program.Initial.TheVariants.{Zero, Value as Given, Channel as Made};
+ghost use Rattle.pml_program.specs.declared.expr.Expr.{Expr};
+ghost use Rattle.pml_program.specs.declared.program.Initial.TheVariants.{Zero, Expr as Given, Channel as Made};
 ghost use Rattle.pml_program.specs.declared.program.Slot.{Slot};
 ghost use Rattle.pml_program.specs.declared.program.Fields.{Fields};
 ghost use Rattle.pml_program.specs.declared.program.Program.{Program};
@@ -15,13 +15,13 @@ ghost use Rattle.pml_start.specs.Start.{first_state, starting};
 
 /// The processes are those that the model starts with, as far as 255 go.
 pub fn living()
-    ensures { (p : Program) → IfOk (first_state p) (λ b. b.kinds ≡ take 255 (starting 0 p.processes)) }
+    ensures { (p : Program) → IfOk (first_state p) (λ b. b.kinds ≡ take 255 (starting 0 p.proctypes)) }
 {}
 
 /// A variable begins with the one value of its initialiser in each of its cells, with nothing where it has none, and changes no
 /// other variable.
 pub fn holding()
-    ensures each { (ts : List Fields) (s : Slot) (e : Value) (v c : ℕ) (b : Begun) → size_at b.frames (length b.kinds) v ≡ size s → c < size s →
+    ensures each { (ts : List Fields) (s : Slot) (e : Expr) (v c : ℕ) (b : Begun) → size_at b.frames (length b.kinds) v ≡ size s → c < size s →
         IfOk (variable_begun ts (Given e) s v b) (λ n. initial_value e s.form b ≡ Ok (number_at n.frames (cell_in b v c))) }
     ensures none { (ts : List Fields) (s : Slot) (v : ℕ) (b : Begun) → IsPlain s.form → s.initial ≡ Zero →
         variable_begun ts s.initial s v b ≡ Ok b }

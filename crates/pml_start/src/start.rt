@@ -18,7 +18,7 @@ fn begin_process(
     kind: usize,
     started: &mut Started,
 ) -> Result<(), Stop>
-    requires there { kind < length program.now.processes }
+    requires there { kind < length program.now.proctypes }
     requires declared { IsDeclared program.now (shown started.old) }
     ensures value { Begins (process_begun program.now kind (shown started.old)) result (shown started.new) }
     ensures declared { OnOk result (IsDeclared program.now (shown started.new)) }
@@ -27,7 +27,7 @@ fn begin_process(
         return Ok(());
     }
     started.kinds.push(kind).map_err(|_| Stop::Memory)?;
-    let variables = program.processes.as_slice()[kind].variables.as_slice();
+    let variables = program.proctypes.as_slice()[kind].variables.as_slice();
     begin_owner(alloc, program.typedefs.as_slice(), started, variables)
 }
 
@@ -39,7 +39,7 @@ fn begin_processes(
     starts: u32,
     started: &mut Started,
 ) -> Result<(), Stop>
-    requires there { kind < length program.now.processes }
+    requires there { kind < length program.now.proctypes }
     requires declared { IsDeclared program.now (shown started.old) }
     ensures value { Begins (kind_begun program.now kind starts (shown started.old)) result (shown started.new) }
     ensures declared { OnOk result (IsDeclared program.now (shown started.new)) }
@@ -67,7 +67,7 @@ pub fn start(alloc: Global, program: &Program<'_>) -> Result<Started, Stop>
         &mut started,
         program.globals.as_slice(),
     )?;
-    let processes = program.processes.as_slice();
+    let processes = program.proctypes.as_slice();
     for kind in 0..processes.len() {
         begin_processes(alloc, program, kind, processes[kind].starts, &mut started)?;
     }

@@ -6,8 +6,8 @@ use crate::started::Started;
 use diagnostics::Fault;
 use pml_lex::token::{Kind, Token};
 use pml_program::form::Form;
-use pml_program::program::{Fields, Initial, Process, Program, Seq, Slot};
-use pml_program::value::Value;
+use pml_program::program::{Fields, Initial, Proctype, Program, Seq, Slot};
+use pml_program::expr::Expr;
 use pml_store::store::Store;
 use pml_tree::tree::{Infix, Scalar};
 use pml_value::stop::Stop;
@@ -36,10 +36,10 @@ fn channels(alloc: Global, capacity: u32) -> Result<Initial, AllocError> {
 }
 
 /// `1 / 0`.
-fn quotient(alloc: Global) -> Result<Value, AllocError> {
-    let left = Boxed::new(alloc, Value::Number(1))?;
-    let right = Boxed::new(alloc, Value::Number(0))?;
-    Ok(Value::Binary(Infix::Divide, left, right))
+fn quotient(alloc: Global) -> Result<Expr, AllocError> {
+    let left = Boxed::new(alloc, Expr::Number(1))?;
+    let right = Boxed::new(alloc, Expr::Number(0))?;
+    Ok(Expr::Binary(Infix::Divide, left, right))
 }
 
 fn nothing(alloc: Global) -> Started
@@ -59,7 +59,7 @@ fn elements(rt: HostRuntime) -> Result<(), Fail> {
     let alloc = rt.alloc();
     let byte = Form::Plain(Scalar::Byte);
     let mut slots = Items::new(alloc);
-    slots.push(slot(byte, 0, 2, 1, Initial::Value(Value::Number(300))))?;
+    slots.push(slot(byte, 0, 2, 1, Initial::Value(Expr::Number(300))))?;
     slots.push(slot(Form::Plain(Scalar::Chan), 2, 2, 1, channels(alloc, 3)?))?;
     slots.push(slot(byte, 4, 1, 1, Initial::Zero))?;
     let mut started = nothing(alloc);
@@ -130,17 +130,17 @@ fn faults(rt: HostRuntime) -> Result<(), Fail> {
 fn program(alloc: Global) -> Result<Program<'static>, AllocError> {
     let byte = Form::Plain(Scalar::Byte);
     let mut fields = Items::new(alloc);
-    fields.push(slot(byte, 0, 1, 1, Initial::Value(Value::Number(7))))?;
+    fields.push(slot(byte, 0, 1, 1, Initial::Value(Expr::Number(7))))?;
     fields.push(slot(Form::Plain(Scalar::Chan), 1, 1, 1, channels(alloc, 0)?))?;
     let mut typedefs = Items::new(alloc);
     typedefs.push(Fields { owner: 9, fields })?;
     let mut globals = Items::new(alloc);
     globals.push(slot(Form::Struct(9), 0, 2, 2, Initial::Zero))?;
     let mut variables = Items::new(alloc);
-    variables.push(slot(byte, 0, 1, 1, Initial::Value(Value::Process)))?;
-    variables.push(slot(byte, 1, 1, 1, Initial::Value(Value::Living)))?;
+    variables.push(slot(byte, 0, 1, 1, Initial::Value(Expr::Pid)))?;
+    variables.push(slot(byte, 1, 1, 1, Initial::Value(Expr::ProcessCount)))?;
     let mut processes = Items::new(alloc);
-    processes.push(Process {
+    processes.push(Proctype {
         name: Token::new(Kind::Name, b"p", 2),
         owner: 1,
         starts: 2,

@@ -1,8 +1,8 @@
 -- What an assignment, an increment, a decrement and a condition do.
 use Rattle.std.specs.Prelude.{◌≡◌, ℕ, ◌++◌, [], ◌∷◌, ℤ, pos, negsuc, ◌+ℤ◌, Bool, true, not, Option, Some, None, Result, Ok, Err}
 use Rattle.diagnostics.specs.declared.fault.Fault.{Fault}
-use Rattle.pml_program.specs.declared.value.Value.{Value}
-use Rattle.pml_program.specs.declared.value.Target.{Target, out-Target}
+use Rattle.pml_program.specs.declared.expr.Expr.{Expr}
+use Rattle.pml_program.specs.declared.expr.Target.{Target, out-Target}
 use Rattle.pml_program.specs.declared.program.Action.{Action}
 use Rattle.pml_program.specs.declared.program.Action.TheVariants as a
 use Rattle.pml_eval.specs.Clip.{clipped}
@@ -34,7 +34,7 @@ goes_to None v r = Ok None
 goes_to (Some t) v r = goes t v r >>= λ g. Ok (Some g)
 
 -- the value of the right side, then the place
-abbrev pub assigned : Option Target → Value → Reading → Result (Option Goes) Fault
+abbrev pub assigned : Option Target → Expr → Reading → Result (Option Goes) Fault
 assigned t v r = val v r >>= λ n. goes_to t n r
 
 -- what a variable holds, so much more, back into it

@@ -13,7 +13,7 @@ use pml_eval::clip::clip;
 use pml_eval::eval::{eval, place};
 use pml_eval::ground::{Ground, Place};
 use pml_program::program::Action;
-use pml_program::value::{Target, Value};
+use pml_program::expr::{Target, Expr};
 use pml_store::store::Store;
 
 /// Where a number goes.
@@ -49,7 +49,7 @@ fn store_to(target: &Target, number: i32, view: &View<'_>) -> Result<Goes, Fault
 }
 
 /// The value of the right side, then the place of the left.
-fn assigned(target: &Option<Target>, value: &Value, view: &View<'_>) -> Result<Option<Goes>, Fault>
+fn assigned(target: &Option<Target>, value: &Expr, view: &View<'_>) -> Result<Option<Goes>, Fault>
     ensures value { result ≡ assigned target.now value.now (reading_of view.now.store.now.frames view.now.channels.now view.now.process view.now.living view.now.timeout) }
     ensures there { IfOk result (λ s. IfSome s (λ g. g.place.cell < size_at view.now.store.now.frames (owner_of view.now.process g.place.local) g.place.variable)) }
 {

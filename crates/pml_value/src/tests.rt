@@ -7,7 +7,7 @@ use pml_channel::channel::Channel;
 use pml_eval::eval::eval;
 use pml_program::form::Form;
 use pml_program::program::Action;
-use pml_program::value::{Target, Turn, Value, Want};
+use pml_program::expr::{Target, Turn, Expr, Want};
 use pml_store::store::Store;
 use pml_tree::tree::{Infix, Scalar};
 use sqlite_items::{Boxed, Items};
@@ -15,10 +15,10 @@ use std::alloc::{AllocError, Global};
 use std::test::Fail;
 
 /// `1 / 0`.
-fn quotient(alloc: Global) -> Result<Value, AllocError> {
-    let left = Boxed::new(alloc, Value::Number(1))?;
-    let right = Boxed::new(alloc, Value::Number(0))?;
-    Ok(Value::Binary(Infix::Divide, left, right))
+fn quotient(alloc: Global) -> Result<Expr, AllocError> {
+    let left = Boxed::new(alloc, Expr::Number(1))?;
+    let right = Boxed::new(alloc, Expr::Number(0))?;
+    Ok(Expr::Binary(Infix::Divide, left, right))
 }
 
 /// A condition that comes to a fault can be taken, and then is that fault.
@@ -46,7 +46,7 @@ fn faults(rt: HostRuntime) -> Result<(), Fail> {
             0,
             1,
             false,
-            &Action::Assign(None, Value::Number(7))
+            &Action::Assign(None, Expr::Number(7))
         ),
         Ok(())
     );
@@ -60,7 +60,7 @@ fn element(alloc: Global, local: bool, variable: usize, index: i32) -> Result<Ta
         offset: 0,
         length: 9,
         stride: 1,
-        index: Some(Boxed::new(alloc, Value::Number(index))?),
+        index: Some(Boxed::new(alloc, Expr::Number(index))?),
     })?;
     Ok(Target {
         local,
@@ -79,8 +79,8 @@ fn assignments(rt: HostRuntime) -> Result<(), Fail> {
     store.push_frame(&[])?;
     store.push_frame(&[1, 3])?;
     let out = Err(Stop::Fault(Fault::IndexOutOfRange));
-    let assigned = Action::Assign(Some(element(alloc, true, 1, 2)?), Value::Number(300));
-    let beyond = Action::Assign(Some(element(alloc, true, 1, 3)?), Value::Number(300));
+    let assigned = Action::Assign(Some(element(alloc, true, 1, 2)?), Expr::Number(300));
+    let beyond = Action::Assign(Some(element(alloc, true, 1, 3)?), Expr::Number(300));
     let nowhere = Action::Increment(element(alloc, true, 2, 0)?);
     let counted = Action::Decrement(element(alloc, true, 1, 2)?);
     assert_eq!(rt; take(&mut store, &[], 1, 2, false, &assigned), Ok(()));
@@ -104,14 +104,14 @@ fn seven(alloc: Global) -> Result<Channel, AllocError> {
 }
 
 /// A poll of the channel whose number the global holds.
-fn poll(alloc: Global, field: i32) -> Result<Value, AllocError> {
+fn poll(alloc: Global, field: i32) -> Result<Expr, AllocError> {
     let mut wants = Items::new(alloc);
     wants.push(Want::Exactly(field))?;
-    Ok(Value::Poll(element(alloc, false, 0, 0)?, false, wants))
+    Ok(Expr::Poll(element(alloc, false, 0, 0)?, false, wants))
 }
 
 /// What a value is worth where there is one channel.
-fn worth(value: &Value, store: &Store, channel: Channel) -> Result<i32, Fault> {
+fn worth(value: &Expr, store: &Store, channel: Channel) -> Result<i32, Fault> {
     let owned = [Owned { owner: 0, channel }];
     let view = View {
         store,

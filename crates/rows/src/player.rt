@@ -2,7 +2,7 @@
 ghost use Rattle.std.specs.Prelude.{◌≡◌};
 
 use devices::{FailsOnce, Failures, OneByte, SliceSource, VecSink};
-use one_process::play;
+use pml_play::play;
 use session::{End, Options};
 use std::alloc::Global;
 use std::marker::Brand;

@@ -5,5 +5,5 @@
 pub use command_line::{Arguments, arguments};
 pub use devices::{ByteReader, Either, Failed, Failures, Next, Nowhere, PieceWriter, Sink, Source};
 pub use diagnostics::{Fault, Refusal};
-pub use one_process::play;
+pub use pml_play::play;
 pub use session::{Cause, End, Options};

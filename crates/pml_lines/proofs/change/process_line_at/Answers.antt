@@ -22,7 +22,7 @@ returns-in-Some c =
     let found = rw c.in-Some.is at c.find_local-rest.ensures.slot in
     let p = c.args.program.now in
     let old = c.args.text.now.items in
-    let heading = heading_of c.loop-i.i (slice_get p.processes (get_or c.args.kinds.now c.loop-i.i 0)) in
+    let heading = heading_of c.loop-i.i (slice_get p.proctypes (get_or c.args.kinds.now c.loop-i.i 0)) in
     let fits : FitsSigned w32 c.args.number = search rules in
     let same = to_z-of_z w32 c.args.number fits in
     subst (λ (l : List ℕ). OnOk c.local_line.result (c.local_line.new.text.items ≡ l))

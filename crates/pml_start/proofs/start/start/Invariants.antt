@@ -6,6 +6,6 @@ use Rattle.pml_start.proofs.start.start.Given as goal
 -- what is begun by now, and then the processes of the other proctypes, is the first state
 abbrev pub invariant-loop-kind : goal.invariant-loop-kind
 invariant-loop-kind l = record {
-  same : kinds_begun l.program l.kind (drop l.kind l.program.processes) (shown l.started) ≡ first_state l.program;
+  same : kinds_begun l.program l.kind (drop l.kind l.program.proctypes) (shown l.started) ≡ first_state l.program;
   declared : IsDeclared l.program (shown l.started);
 }

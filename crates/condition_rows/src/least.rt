@@ -1,0 +1,81 @@
+//! The least rule that refuses a text.
+ghost use Rattle.std.specs.Prelude.{◌≡◌};
+ghost use Rattle.pml_names.specs.Env.{env};
+
+use pml_lex::cut;
+use pml_lex::token::Token;
+use pml_marks::mark::Mark;
+use pml_marks::model::marks;
+use pml_names::names::all_names;
+use pml_names::table::Table;
+use pml_conditions::decide::applies;
+use pml_conditions::rule::{Rule, place};
+use pml_syntax::parse;
+use pml_tree::tree::Tree;
+use std::alloc::{AllocError, Global};
+use std::process::Abort;
+use std::test::Fail;
+
+const RULES: [Rule; 11] = [
+    Rule::Twice,
+    Rule::Unknown,
+    Rule::Wrong,
+    Rule::Arguments,
+    Rule::Label,
+    Rule::Break,
+    Rule::Step,
+    Rule::Range,
+    Rule::Cells,
+    Rule::NoProcess,
+    Rule::Start,
+];
+
+// The number of the least rule that refuses the model with these marks, or 0.
+fn first<'a>(alloc: Global, all: &Table<'a>, marks: &[Mark<'a>]) -> Result<u8, AllocError>
+    requires { all.now ≡ env marks.now }
+{
+    for rule in &RULES {
+        if applies(alloc, *rule, all, marks)? {
+            return Ok(place(*rule));
+        }
+    }
+    Ok(0)
+}
+
+fn of_marks<'a>(alloc: Global, marks: &[Mark<'a>]) -> Result<u8, AllocError> {
+    let names = all_names(alloc, marks)?;
+    first(alloc, &names.table, marks)
+}
+
+fn of_tree<'a>(alloc: Global, tree: &Tree<'a>) -> Result<u8, AllocError> {
+    let marks = marks(alloc, tree)?;
+    of_marks(alloc, marks.as_slice())
+}
+
+// The tree as a parameter: where it is a local, the check of its loan does not end.
+fn of_owned<'a>(alloc: Global, tree: Tree<'a>) -> Result<u8, AllocError> {
+    of_tree(alloc, &tree)
+}
+
+fn of_tokens<'a>(alloc: Global, tokens: &'a [Token<'a>]) -> Result<u8, Fail> {
+    match parse(alloc, tokens) {
+        Ok(tree) => Ok(of_owned(alloc, tree)?),
+        Err(_) => Err(Fail::from("no tree spells the text")),
+    }
+}
+
+/// The number of the least rule that refuses a text, or 0.
+pub fn least(alloc: Global, text: &[u8]) -> Result<u8, Fail> {
+    match cut(alloc, text) {
+        Ok(tokens) => of_tokens(alloc, tokens.as_slice()),
+        Err(_) => Err(Fail::from("the text is not cut")),
+    }
+}
+
+/// Each text, a line, is refused by the rule of this number; by none, where it is 0.
+pub fn each<R: Abort>(rt: &R, alloc: Global, number: u8, texts: &str) -> Result<(), Fail> {
+    for text in texts.lines() {
+        assert_eq!(rt; (least(alloc, text.as_bytes())?, text), (number, text));
+    }
+    Ok(())
+}

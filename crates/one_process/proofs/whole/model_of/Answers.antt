@@ -1,5 +1,0 @@
-use Rattle.one_process.proofs.Playing.{rejected_check}
-use Rattle.one_process.proofs.whole.model_of.Goals as goal
-
-pub returns-in-Err-clause-err : goal.returns-in-Err-clause-err
-returns-in-Err-clause-err c text is = rw c.of_check.ensures (rejected_check text c.args.parsed.now c.in-Err.fault is (rw (← c.tree.ensures) c.in-Err.ensures.refused))

@@ -1,0 +1,65 @@
+-- Counts up to 256.
+use Rattle.std.proofs.Common.{◌≡◌, ℕ, ◌+◌, ◌*◌, ◌≤◌, ◌<◌, min, cond, nat_eq, zero, suc, Bool, true, false, List, [], ◌∷◌, refl, ap, sym, subst, ◌∙◌, inl, inr, arith}
+use Rattle.std.proofs.lemmas.Nat.{mul-le}
+use Rattle.std.proofs.lemmas.Bool.{cases_lt, cases_Bool, ltb-true, ltb-false}
+use Rattle.std.specs.Prelude.{nat_lt}
+use Rattle.pml_program.specs.declared.form.Form.{Form}
+use Rattle.pml_program.specs.declared.form.Form.TheVariants as kind
+use Rattle.pml_marks.specs.declared.mark.Makes.TheVariants.{Numbers, Channels}
+use Rattle.pml_marks.specs.declared.mark.Declared.TheVariants as declared_as
+use Rattle.pml_marks.specs.declared.mark.What.{What}
+use Rattle.pml_marks.specs.declared.mark.What.TheVariants as what
+use Rattle.pml_marks.specs.declared.mark.Mark.{Mark}
+use Rattle.pml_names.specs.Entry.{Entry}
+use Rattle.pml_names.specs.Env.{form, length_of}
+use Rattle.pml_conditions.specs.declared.rule.Rule.TheVariants as rule
+use Rattle.pml_conditions.specs.Start.{channels_of, made, channels, channels_in, started, processes, by_processes}
+use Rattle.pml_conditions.specs.Decided.{Decides}
+
+large : (n c : ℕ) → 256 < c → min (n * 256) 256 ≡ min (n * c) 256
+large zero c h = omega arith
+large (suc n) c h = omega (arith, mul-le 1 256 (suc n) 256 (omega arith) (omega arith), mul-le 1 c (suc n) c (omega arith) (omega arith))
+
+-- a factor that is capped changes no capped product
+pub capped : (n c : ℕ) → min (n * min c 256) 256 ≡ min (n * c) 256
+capped n c = elim (cases_lt 256 c) [
+  | inl h ↦ let e : min c 256 ≡ 256 = omega arith in ap (λ x. min (n * x) 256) e ∙ large n c h
+  | inr h ↦ let e : min c 256 ≡ c = omega arith in ap (λ x. min (n * x) 256) e
+]
+
+-- f and g are the channels of each owner, and those counted up to 256
+module _ (f g : ℕ → ℕ) (h : (o : ℕ) → g o ≡ min (f o) 256) where
+  product : (n : ℕ) (x : Form) → min (n * channels_of x g) 256 ≡ min (n * channels_of x f) 256
+  product n (kind.Struct t) = ap (λ c. min (n * c) 256) (h t) ∙ capped n (f t)
+  product n _ = refl
+
+  pub made_capped : (all : List Entry) (w : What) → min (made all g w) 256 ≡ min (made all f w) 256
+  made_capped all (what.Declares n (declared_as.Variable x s size Channels)) = refl
+  made_capped all (what.Declares n (declared_as.Variable x s size Numbers)) = product (length_of size) (form all 0 s)
+  made_capped all _ = refl
+
+  pub by_processes_capped : (ms : List Mark) → min (by_processes g ms) 256 ≡ min (by_processes f ms) 256
+  by_processes_capped [] = refl
+  by_processes_capped (m ∷ ms) =
+      let n = started m.what in
+      let a : min (n * g m.owner) 256 ≡ min (n * f m.owner) 256 = ap (λ c. min (n * c) 256) (h m.owner) ∙ capped n (f m.owner) in
+      omega (arith, a, by_processes_capped ms)
+
+  module _ (all : List Entry) (m : Mark) (more : ℕ) (e : more ≡ min (made all g m.what) 256) where
+    by_case : (b : Bool) (o : ℕ) → cond b (min (g o + more) 256) (g o) ≡ min (cond b (made all f m.what) 0 + f o) 256
+    by_case true o = omega (arith, e, made_capped all m.what, h o)
+    by_case false o = omega (arith, h o)
+
+-- one mark more
+pub channels_more : (all : List Entry) (ms : List Mark) (m : Mark) (g : ℕ → ℕ) (more : ℕ) → ((o : ℕ) → g o ≡ min (channels all ms o) 256) → more ≡ min (made all g m.what) 256 → (o : ℕ) → cond (nat_eq m.owner o) (min (g o + more) 256) (g o) ≡ min (channels all (m ∷ ms) o) 256
+channels_more all ms m g more h e o = by_case (channels all ms) g h all m more e (nat_eq m.owner o) o
+
+-- whether there are too many, by counts up to 256
+pub decided : (ms : List Mark) (g : ℕ → ℕ) (t a b : ℕ) → min (processes ms) 256 ≤ 255 → ((o : ℕ) → g o ≡ min (channels_in ms o) 256) → t ≡ a + b → a ≡ g 0 → b ≡ min (by_processes g ms) 256 → Decides (nat_lt 255 t) rule.Start ms
+decided ms g t a b few h e ea eb =
+    let f = by_processes_capped (channels_in ms) g h ms in
+    let z = h 0 in
+    elim (cases_Bool (nat_lt 255 t)) [
+      | inl y ↦ let k = ltb-true 255 t y in subst (λ (d : Bool). Decides d rule.Start ms) (sym y) (inr (omega arith))
+      | inr n ↦ let k = ltb-false 255 t n in subst (λ (d : Bool). Decides d rule.Start ms) (sym n) (omega arith, omega arith)
+    ]

@@ -1,0 +1,26 @@
+-- A loop over marks.
+use Rattle.std.proofs.Common.{◌≡◌, ℕ, ◌+◌, ◌<◌, Bool, true, false, List, [], ◌∷◌, length, take, reverse, get_or, Some, refl, ap, sym, subst, ◌∙◌, inl, inr, arith}
+use Rattle.std.specs.Prelude.{slice_get}
+use Rattle.std.proofs.lemmas.List.{take_more, reverse-append}
+use Rattle.std.proofs.lemmas.Option.{slice_get_read}
+use Rattle.std.proofs.lemmas.Bool.{cases_eq}
+use Rattle.pml_marks.specs.declared.mark.Mark.{Mark}
+use Rattle.pml_conditions.specs.Decided.{Somewhere}
+
+pub here : (p : List Mark → Mark → Bool) (ms : List Mark) (i : ℕ) (m : Mark) → i < length ms → m ≡ get_or ms i m → p (take i ms) m ≡ true → Somewhere p ms
+here p ms i m h e b = (i, m, slice_get_read ms (length ms) i m refl h e, b)
+
+-- none so far, and not here
+pub none_more : (p : List Mark → Mark → Bool) (ms : List Mark) (i : ℕ) (m : Mark) → i < length ms → m ≡ get_or ms i m → p (take i ms) m ≡ false → ((k : ℕ) (x : Mark) → k < i → slice_get ms k ≡ Some x → p (take k ms) x ≡ false) → (k : ℕ) (x : Mark) → k < i + 1 → slice_get ms k ≡ Some x → p (take k ms) x ≡ false
+none_more p ms i m h e b before k x lt s =
+    elim (cases_eq k i) [
+      | inl same ↦
+          let at : slice_get ms k ≡ Some m = ap (slice_get ms) same ∙ slice_get_read ms (length ms) i m refl h e in
+          let is : x ≡ m = cc in
+          subst (λ (y : Mark). p (take k ms) y ≡ false) (sym is) (subst (λ (j : ℕ). p (take j ms) m ≡ false) (sym same) b)
+      | inr other ↦ before k x (omega arith) s
+    ]
+
+-- one mark more, from the last to the first
+pub back_more : (ms : List Mark) (i : ℕ) (m : Mark) → i < length ms → m ≡ get_or ms i m → reverse (take (i + 1) ms) ≡ m ∷ reverse (take i ms)
+back_more ms i m h e = ap reverse (take_more ms i m h) ∙ reverse-append (take i ms) (get_or ms i m ∷ []) ∙ ap (λ (x : Mark). x ∷ reverse (take i ms)) (sym e)

@@ -1,0 +1,6 @@
+use Rattle.std.proofs.Common.{◌≡◌, drop}
+use Rattle.pml_conditions.specs.Conditions.{lacks}
+use Rattle.pml_conditions.proofs.unknown.lacks.Given as goal
+
+abbrev pub invariant-loop-step : goal.invariant-loop-step
+invariant-loop-step l = lacks l.table l.here (drop l.step-index l.steps) ≡ lacks l.table l.fn.form l.steps

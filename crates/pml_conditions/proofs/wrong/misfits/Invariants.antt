@@ -1,0 +1,6 @@
+use Rattle.std.proofs.Common.{◌≡◌, drop}
+use Rattle.pml_conditions.specs.Conditions.{misfits}
+use Rattle.pml_conditions.proofs.wrong.misfits.Given as goal
+
+abbrev pub invariant-loop-step : goal.invariant-loop-step
+invariant-loop-step l = misfits l.table l.used l.here (drop l.step-index l.steps) ≡ misfits l.table l.used l.fn.form l.steps

@@ -1,0 +1,261 @@
+-- The conditions on names, kinds, counts and ranges: each is asked of one mark and what is declared before it.
+use Rattle.std.specs.List.{list_any}
+use Rattle.std.specs.Prelude.{codes, ℕ, ◌+◌, ◌*◌, nat_eq, nat_lt, ◌-◌, Bool, true, false, not, ◌&&◌, ◌||◌, if◌then◌else◌, is_some, is_none, List, [], ◌∷◌, length, take, Option, Some, None, pos, negsuc}
+use mathlib.Core.Bool.{beq}
+use Rattle.pml_tree.specs.declared.tree.Scalar.TheVariants.{Chan}
+use Rattle.pml_marks.specs.Constant.{numeral}
+use Rattle.pml_marks.specs.declared.mark.Constant.{Constant}
+use Rattle.pml_marks.specs.declared.mark.Constant.TheVariants.{Is, Faulty, Open}
+use Rattle.pml_marks.specs.declared.mark.Use.{Use}
+use Rattle.pml_marks.specs.declared.mark.Use.TheVariants.{Read, Store, Receive, Channel, Preset}
+use Rattle.pml_marks.specs.declared.mark.Shape.{Shape}
+use Rattle.pml_marks.specs.declared.mark.Role.TheVariants as role
+use Rattle.pml_marks.specs.declared.mark.Holder.TheVariants.{Chan, Other}
+use Rattle.pml_marks.specs.declared.mark.Declared.TheVariants as declared_as
+use Rattle.pml_marks.specs.declared.mark.What.{What}
+use Rattle.pml_marks.specs.declared.mark.What.TheVariants as what
+use Rattle.pml_conditions.specs.declared.rule.Rule.{Rule}
+use Rattle.pml_conditions.specs.declared.rule.Rule.TheVariants as rule
+use Rattle.pml_program.specs.declared.form.Form.{Form}
+use Rattle.pml_program.specs.declared.form.Form.TheVariants as kind
+use Rattle.pml_names.specs.declared.thing.Thing.{Thing}
+use Rattle.pml_names.specs.declared.thing.Thing.TheVariants as thing
+use Rattle.pml_names.specs.Entry.{Entry, found}
+use Rattle.pml_names.specs.Meaning.{is_any, is_pid, is_special, meaning, field}
+use Rattle.pml_names.specs.Env.{stride, length_of, constants, held}
+
+-- ---- a name is declared twice, or one that none declares
+abbrev pub twice : List Entry → ℕ → What → Bool
+twice es o (what.Declares n d) = is_special n.text || is_some (found es o false n.text)
+twice es o _ = false
+
+-- ---- a name that is not declared, or a field that its typedef lacks
+
+abbrev pub lacks_in : Option (Option Thing) → (Form → Bool) → Bool
+lacks_in None rest = false
+lacks_in (Some None) rest = true
+lacks_in (Some (Some (thing.Variable v))) rest = rest v.form
+lacks_in (Some (Some _)) rest = false
+
+abbrev pub lacks : List Entry → Form → List Shape → Bool
+lacks es f [] = false
+lacks es f (s ∷ ss) = lacks_in (field es f s.name.text) (λ g. lacks es g ss)
+
+-- where a variable or an mtype name is wanted
+abbrev pub lost : List Entry → Option Thing → List Shape → Bool
+lost es (Some (thing.Variable v)) ss = lacks es v.form ss
+lost es (Some (thing.Constant n)) ss = false
+lost es _ ss = true
+
+abbrev pub unknown_in : List Entry → List Entry → ℕ → List Shape → Bool
+unknown_in all es o [] = false
+unknown_in all es o (s ∷ ss) = if is_special s.name.text then false else lost es (meaning all es o s.name.text) ss
+
+abbrev pub unknown_name : List Entry → List Entry → ℕ → List ℕ → Bool
+unknown_name all es o n = if is_special n then false else is_none (meaning all es o n)
+
+abbrev pub unknown : List Entry → List Entry → ℕ → What → Bool
+unknown all es o (what.Uses u ss) = unknown_in all es o ss
+unknown all es o (what.Typedef t) = unknown_name all es o t.text
+unknown all es o (what.Runs n k) = unknown_name all es o n.text
+unknown all es o _ = false
+
+-- ---- a name or a value of the wrong kind
+
+abbrev pub is_empty : List Shape → Bool
+is_empty [] = true
+is_empty (s ∷ ss) = false
+
+-- a name alone
+abbrev pub is_plain : Shape → List Shape → Bool
+is_plain s ss = not s.indexed && is_empty ss
+
+abbrev pub is_read : Use → Bool
+is_read Read = true
+is_read _ = false
+
+abbrev pub is_stored : Use → Bool
+is_stored Store = true
+is_stored Receive = true
+is_stored _ = false
+
+-- an mtype name is read, compared with a field, or an initialiser of a typedef's field
+abbrev pub is_compared : Use → Bool
+is_compared Read = true
+is_compared Receive = true
+is_compared Preset = true
+is_compared _ = false
+
+abbrev pub is_channel : Use → Bool
+is_channel Channel = true
+is_channel _ = false
+
+abbrev pub is_preset : Use → Bool
+is_preset Preset = true
+is_preset _ = false
+
+-- a value of this type: no typedef's, and `chan` where it is used as a channel
+abbrev pub misused : Use → Form → Bool
+misused u (kind.Struct t) = true
+misused u kind.Unknown = false
+misused u (kind.Plain Chan) = false
+misused u _ = is_channel u
+
+abbrev pub misfits_in : Bool → Option (Option Thing) → (Form → Bool) → Bool
+misfits_in indexed None rest = true
+misfits_in indexed (Some None) rest = false
+misfits_in indexed (Some (Some (thing.Variable v))) rest = not (beq indexed v.array) || rest v.form
+misfits_in indexed (Some (Some _)) rest = false
+
+-- a name that is no typedef's is refused by itself
+abbrev pub is_unknown : Form → Bool
+is_unknown kind.Unknown = true
+is_unknown _ = false
+
+-- the steps behind a variable of this type
+abbrev pub misfits : List Entry → Use → Form → List Shape → Bool
+misfits es u f [] = misused u f
+misfits es u f (s ∷ ss) =
+    if is_unknown f then false else misfits_in s.indexed (field es f s.name.text) (λ g. misfits es u g ss)
+
+abbrev pub wrong_thing : List Entry → Use → Option Thing → Shape → List Shape → Bool
+wrong_thing es u (Some (thing.Variable v)) s ss = is_preset u || (not (beq s.indexed v.array) || misfits es u v.form ss)
+wrong_thing es u (Some (thing.Constant n)) s ss = not (is_plain s ss && is_compared u)
+wrong_thing es u _ s ss = false
+
+-- `_` is only stored, and `_pid`, in a proctype, and `_nr_pr` are only read
+abbrev pub wrong_special : ℕ → Use → Shape → List Shape → Bool
+wrong_special o u s ss =
+    if is_any s.name.text then not (is_plain s ss && is_stored u)
+    else (if is_pid s.name.text then not (is_plain s ss && (is_read u && nat_lt 0 o)) else not (is_plain s ss && is_read u))
+
+abbrev pub wrong_in : List Entry → List Entry → ℕ → Use → List Shape → Bool
+wrong_in all es o u [] = false
+wrong_in all es o u (s ∷ ss) =
+    if is_special s.name.text then wrong_special o u s ss else wrong_thing es u (meaning all es o s.name.text) s ss
+
+abbrev pub no_typedef : Option Thing → Bool
+no_typedef None = false
+no_typedef (Some (thing.Typedef t n)) = false
+no_typedef (Some _) = true
+
+abbrev pub no_process : Option Thing → Bool
+no_process None = false
+no_process (Some (thing.Proctype o n)) = false
+no_process (Some _) = true
+
+abbrev pub is_open : Constant → Bool
+is_open Open = true
+is_open _ = false
+
+abbrev pub wrong : List Entry → List Entry → ℕ → What → Bool
+wrong all es o (what.Uses u ss) = wrong_in all es o u ss
+wrong all es o (what.Typedef t) = is_special t.text || no_typedef (meaning all es o t.text)
+wrong all es o (what.Runs n k) = is_special n.text || no_process (meaning all es o n.text)
+wrong all es o (what.Size c) = is_open c
+wrong all es o (what.Starts c) = is_open c
+wrong all es o (what.Preset c) = is_open c
+wrong all es o (what.Channel Other c n) = true
+wrong all es o (what.Channel Chan c n) = is_open c
+wrong all es o _ = false
+
+-- ---- run against its parameters, printf against its conversions
+
+abbrev pub is_conversion : ℕ → Bool
+is_conversion c = list_any (nat_eq c) (codes "duoxce")
+
+-- how many values the text of a printf takes, or none where it has a conversion that is lacking; `\%` begins none
+abbrev pub one_more : Option ℕ → Option ℕ
+one_more None = None
+one_more (Some n) = Some (n + 1)
+
+abbrev pub conversion : ℕ → Option ℕ → Option ℕ
+conversion c rest = if nat_eq c 37 then rest else (if is_conversion c then one_more rest else None)
+
+abbrev pub conversions : List ℕ → Option ℕ
+conversions [] = Some 0
+conversions (c ∷ []) = if nat_eq c 37 then None else Some 0
+conversions (c ∷ d ∷ cs) =
+    if nat_eq c 37 then conversion d (conversions cs)
+    else (if nat_eq c 92 then conversions cs else conversions (d ∷ cs))
+
+-- n and those of a rest
+abbrev pub with_rest : ℕ → Option ℕ → Option ℕ
+with_rest n None = None
+with_rest n (Some k) = Some (n + k)
+
+abbrev pub differs : Option ℕ → ℕ → Bool
+differs None k = true
+differs (Some n) k = not (nat_eq n k)
+
+abbrev pub takes_other : Option Thing → ℕ → Bool
+takes_other (Some (thing.Proctype o n)) k = not (nat_eq n k)
+takes_other _ k = false
+
+-- without the quotes round it
+abbrev pub inside : List ℕ → List ℕ
+inside [] = []
+inside (c ∷ cs) = take (length cs - 1) cs
+
+abbrev pub other_count : List Entry → List Entry → ℕ → What → Bool
+other_count all es o (what.Runs n k) = takes_other (meaning all es o n.text) k
+other_count all es o (what.Prints t k) = differs (conversions (inside t.text)) k
+other_count all es o _ = false
+
+-- ---- a label stands twice, or is missing
+abbrev pub mislabelled : List Entry → List Entry → ℕ → What → Bool
+mislabelled all es o (what.Label l) = is_some (found es o true l.text)
+mislabelled all es o (what.Goto l) = is_none (found all o true l.text)
+mislabelled all es o _ = false
+
+-- ---- a number out of range
+
+abbrev pub is_outside : ℕ → ℕ → Constant → Bool
+is_outside least most Open = false
+is_outside least most Faulty = true
+is_outside least most (Is (negsuc n)) = true
+is_outside least most (Is (pos n)) = nat_lt n least || nat_lt most n
+
+abbrev pub is_faulty : Constant → Bool
+is_faulty Faulty = true
+is_faulty _ = false
+
+abbrev pub out_of : ℕ → ℕ → Option ℕ → Bool
+out_of least most None = true
+out_of least most (Some n) = nat_lt n least || nat_lt most n
+
+abbrev pub out_of_range : List Entry → What → Bool
+out_of_range es (what.Number n) = is_none (numeral n.text)
+out_of_range es (what.Width n) = out_of 1 32 (numeral n.text)
+out_of_range es (what.Size c) = is_outside 1 1000000 c
+out_of_range es (what.Starts c) = is_outside 1 255 c
+out_of_range es (what.Preset c) = is_faulty c
+out_of_range es (what.Channel h c n) = is_outside 0 65535 c || nat_lt 255 n
+out_of_range es (what.Declares n declared_as.Constant) = nat_lt 254 (constants es)
+out_of_range es _ = false
+
+-- ---- too many cells
+
+abbrev pub capacity : Constant → ℕ
+capacity (Is (pos n)) = n
+capacity _ = 0
+
+-- of the globals, of a proctype's parameters and locals, of one channel; a typedef's own are not asked
+abbrev pub too_many : List Entry → ℕ → What → Bool
+too_many es o (what.Declares n (declared_as.Variable role.Variable s size makes)) =
+    nat_lt 1000000 (held es o + length_of size * stride es o s)
+too_many es o (what.Channel h c n) = nat_lt 1000000 (capacity c * n)
+too_many es o _ = false
+
+-- ---- all of these
+
+-- whether a mark breaks one of these rules: all are the names of the text, es those before it
+unfoldable pub judged : Rule → List Entry → List Entry → ℕ → What → Bool
+judged rule.Twice all es o w = twice es o w
+judged rule.Unknown all es o w = unknown all es o w
+judged rule.Wrong all es o w = wrong all es o w
+judged rule.Arguments all es o w = other_count all es o w
+judged rule.Label all es o w = mislabelled all es o w
+judged rule.Range all es o w = out_of_range es w
+judged rule.Cells all es o w = too_many es o w
+judged _ all es o w = false

@@ -1,0 +1,180 @@
+//! Names that stand twice, labels, arguments, ranges and cells.
+
+ghost use Rattle.std.specs.Prelude.{◌≡◌, ◌+◌, ◌*◌, ◌<◌, ◌^◌, nat_lt, ℕ, pos};
+ghost use Rattle.pml_conditions.specs.Conditions.{twice, conversions, is_conversion, inside, other_count, mislabelled, is_outside, out_of, out_of_range, capacity, too_many};
+ghost use Rattle.pml_names.specs.Env.{held, stride, length_of};
+ghost use Rattle.pml_names.specs.Totals.{IsTotalled};
+
+use pml_marks::arithmetic::read;
+use pml_marks::mark::{Constant, Declared, Role, What};
+use pml_names::meaning::{is_special, meaning};
+use pml_names::names::{Names, length_of, stride};
+use pml_names::table::Table;
+use pml_names::thing::Thing;
+use pml_names::totals::at;
+
+/// Whether a name is declared twice, or one that no text declares.
+pub fn twice(table: &Table, owner: usize, what: &What) -> bool
+    ensures { result ≡ twice table.now owner what.now }
+{
+    match what {
+        What::Declares(name, _) => {
+            if is_special(name.text()) {
+                return true;
+            }
+            table.find(owner, false, name.text()).is_some()
+        }
+        _ => false,
+    }
+}
+
+/// Whether a label stands twice, or is missing.
+pub fn mislabelled(all: &Table, table: &Table, owner: usize, what: &What) -> bool
+    ensures { result ≡ mislabelled all.now table.now owner what.now }
+{
+    match what {
+        What::Label(name) => table.find(owner, true, name.text()).is_some(),
+        What::Goto(name) => all.find(owner, true, name.text()).is_none(),
+        _ => false,
+    }
+}
+
+fn is_outside(least: i32, most: i32, constant: Constant) -> bool
+    ensures { (l m : ℕ) → least ≡ pos l → most ≡ pos m → result ≡ is_outside l m constant }
+{
+    match constant {
+        Constant::Open => false,
+        Constant::Faulty => true,
+        Constant::Is(n) => n < least || most < n,
+    }
+}
+
+fn out_of(least: u32, most: u32, found: Option<u32>) -> bool
+    ensures { result ≡ out_of least most found }
+{
+    match found {
+        None => true,
+        Some(n) => n < least || most < n,
+    }
+}
+
+/// Whether a number is out of range.
+pub fn out_of_range(names: &Names, what: &What) -> bool
+    requires { IsTotalled names.now.table names.now.totals names.now.constants }
+    ensures { result ≡ out_of_range names.now.table what.now }
+{
+    match what {
+        What::Number(n) => read(n.text()).is_none(),
+        What::Width(n) => out_of(1, 32, read(n.text())),
+        What::Size(c) => is_outside(1, 1_000_000, *c),
+        What::Starts(c) => is_outside(1, 255, *c),
+        What::Preset(Constant::Faulty) => true,
+        What::Channel(_, c, n) => is_outside(0, 65_535, *c) || 255 < *n,
+        What::Declares(_, Declared::Constant) => 254 < names.constants,
+        _ => false,
+    }
+}
+
+pub fn capacity(constant: Constant) -> u64
+    ensures value { result ≡ capacity constant }
+    ensures small { result < 2 ^ 32 }
+{
+    match constant {
+        Constant::Is(n) => match u64::try_from(n) {
+            Ok(n) => n,
+            Err(_) => 0,
+        },
+        _ => 0,
+    }
+}
+
+/// Whether there are too many cells.
+pub fn too_many(names: &Names, owner: usize, what: &What) -> bool
+    requires { IsTotalled names.now.table names.now.totals names.now.constants }
+    ensures { result ≡ too_many names.now.table owner what.now }
+{
+    match what {
+        What::Declares(_, Declared::Variable(Role::Variable, sort, size, _)) => {
+            let before = u64::from(at(names.totals.as_slice(), owner).cells);
+            let more = u64::from(length_of(*size)) * u64::from(stride(&names.table, owner, sort));
+            1_000_000 < before + more
+        }
+        What::Channel(_, c, n) => match u32::try_from(*n) {
+            Ok(n) => 1_000_000 < capacity(*c) * u64::from(n),
+            Err(_) => 0 < capacity(*c),
+        },
+        _ => false,
+    }
+}
+
+pub fn is_conversion(c: u8) -> bool
+    ensures { result ≡ is_conversion c }
+{
+    match c {
+        b'd' | b'u' | b'o' | b'x' | b'c' | b'e' => true,
+        _ => false,
+    }
+}
+
+/// How many values the text of a printf takes, if each of its conversions is there.
+fn conversions(text: &[u8]) -> Option<usize>
+    ensures { result ≡ conversions text.now }
+{
+    let mut rest = text;
+    let mut count = 0usize;
+    while let [c, more @ ..] = rest {
+        match more {
+            [] => {
+                if *c == 37 {
+                    return None;
+                }
+                return Some(count);
+            }
+            [d, behind @ ..] => {
+                if *c == 37 {
+                    if *d != 37 {
+                        if !is_conversion(*d) {
+                            return None;
+                        }
+                        count += 1;
+                    }
+                    rest = behind;
+                } else if *c == 92 {
+                    rest = behind;
+                } else {
+                    rest = more;
+                }
+            }
+        }
+    }
+    Some(count)
+}
+
+fn inside(text: &[u8]) -> &[u8]
+    ensures { result.now ≡ inside text.now }
+{
+    match text {
+        [] => text,
+        [_, rest @ ..] => match rest {
+            [] => rest,
+            [front @ .., _] => front,
+        },
+    }
+}
+
+/// Whether a run or a printf has another number of arguments.
+pub fn other_count(all: &Table, table: &Table, owner: usize, what: &What) -> bool
+    ensures { result ≡ other_count all.now table.now owner what.now }
+{
+    match what {
+        What::Runs(n, k) => match meaning(all, table, owner, n.text()) {
+            Some(Thing::Proctype(_, m)) => m != *k,
+            _ => false,
+        },
+        What::Prints(t, k) => match conversions(inside(t.text())) {
+            None => true,
+            Some(n) => n != *k,
+        },
+        _ => false,
+    }
+}

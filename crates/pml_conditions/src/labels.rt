@@ -1,0 +1,67 @@
+//! The labels of a text, each with the innermost d_step round it.
+
+ghost use Rattle.std.specs.Prelude.{◌≡◌, ◌++◌, ◌∷◌, [], None, OnOk};
+
+use crate::round::Round;
+use indexmap::IndexMap;
+use pml_marks::mark::What;
+use std::alloc::{AllocError, Global};
+use std::marker::Model;
+
+/// Labels in the order of the text, with the innermost d_step round each.
+#[derive(Drop)]
+pub struct Labels<'a> {
+    map: IndexMap<(usize, &'a [u8]), Option<usize>>,
+}
+
+impl<'a> Model for Labels<'a> {
+    ghost use Rattle.std.specs.Prelude.{List};
+    ghost use Rattle.pml_conditions.specs.Structure.{Place, places_of};
+
+    ghost Value = { List Place };
+
+    ghost view = { λ l. places_of l.map.entries };
+}
+
+impl<'a> Labels<'a> {
+    ghost use Rattle.pml_conditions.specs.Structure.{place, placed, labelled};
+
+    pub fn new(alloc: Global) -> Labels<'a>
+        ensures { result ≡ [] }
+    {
+        Labels {
+            map: IndexMap::new(alloc),
+        }
+    }
+
+    /// The innermost d_step round a label, if there is the label.
+    pub fn find(&self, owner: usize, name: &[u8]) -> Option<Option<usize>>
+        ensures { result ≡ placed self.now owner name.now }
+    {
+        self.map.get(&(owner, name)).copied()
+    }
+
+    fn add(&mut self, owner: usize, name: &'a [u8], step: Option<usize>) -> Result<(), AllocError>
+        requires { placed self.old owner name.now ≡ None }
+        ensures { OnOk result (self.new ≡ self.old ++ place owner name.entry.now step ∷ []) }
+    {
+        self.map.insert((owner, name), step)?;
+        Ok(())
+    }
+
+    /// Adds the label of a mark, unless it is there.
+    #[tactic(auto, unfolding(crate::specs::Structure::labelled))]
+    pub fn mark(&mut self, round: Round, owner: usize, what: &What<'a>) -> Result<(), AllocError>
+        ensures { OnOk result (self.new ≡ labelled self.old round owner what.now) }
+    {
+        match what {
+            What::Label(name) => {
+                if self.find(owner, name.text()).is_some() {
+                    return Ok(());
+                }
+                self.add(owner, name.text(), round.step)
+            }
+            _ => Ok(()),
+        }
+    }
+}

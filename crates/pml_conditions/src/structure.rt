@@ -1,0 +1,96 @@
+//! Breaks and d_steps.
+
+ghost use Rattle.std.specs.Prelude.{◌≡◌, IfOk, reverse};
+ghost use Rattle.pml_conditions.specs.Structure.{loose, same_step, elsewhere, crosses, labels_in};
+ghost use Rattle.pml_conditions.specs.Decided.{Finds, breaks_loose, crosses_step};
+
+use crate::labels::Labels;
+use crate::round::{Round, Rounds};
+use pml_marks::mark::{Mark, What};
+use std::alloc::{AllocError, Global};
+
+fn loose(round: Round, what: &What) -> bool
+    ensures { result ≡ loose round what.now }
+{
+    match what {
+        What::Break => !round.looped,
+        _ => false,
+    }
+}
+
+/// Whether a break stands somewhere that no `do` is round.
+pub fn breaks_loose(alloc: Global, marks: &[Mark]) -> Result<bool, AllocError>
+    ensures { IfOk result (λ b. Finds b breaks_loose marks.now) }
+{
+    let mut rounds = Rounds::new(alloc);
+    for (i, mark) in marks.iter().enumerate() {
+        if loose(rounds.here(), &mark.what) {
+            return Ok(true);
+        }
+        rounds.pass(i, &mark.what)?;
+    }
+    Ok(false)
+}
+
+fn same_step(a: Option<usize>, b: Option<usize>) -> bool
+    ensures { result ≡ same_step a b }
+{
+    match a {
+        None => match b {
+            None => true,
+            Some(_) => false,
+        },
+        Some(x) => match b {
+            None => false,
+            Some(y) => x == y,
+        },
+    }
+}
+
+fn elsewhere(label: Option<Option<usize>>, round: Round) -> bool
+    ensures { result ≡ elsewhere label round }
+{
+    match label {
+        None => false,
+        Some(step) => !same_step(step, round.step),
+    }
+}
+
+fn crosses(labels: &Labels, round: Round, owner: usize, what: &What) -> bool
+    ensures { result ≡ crosses labels.now round owner what.now }
+{
+    match what {
+        What::Break => round.cut,
+        What::Unless => round.step.is_some(),
+        What::Goto(name) => elsewhere(labels.find(owner, name.text()), round),
+        _ => false,
+    }
+}
+
+/// The labels of a text.
+fn labels<'a>(alloc: Global, marks: &[Mark<'a>]) -> Result<Labels<'a>, AllocError>
+    ensures { IfOk result (λ labels. labels ≡ labels_in marks.now) }
+{
+    let mut rounds = Rounds::new(alloc);
+    let mut labels = Labels::new(alloc);
+    for (i, mark) in marks.iter().enumerate() {
+        labels.mark(rounds.here(), mark.owner, &mark.what)?;
+        rounds.pass(i, &mark.what)?;
+    }
+    Ok(labels)
+}
+
+/// Whether a goto or a break somewhere enters or leaves a d_step, or an unless stands in one.
+pub fn crosses_step(alloc: Global, marks: &[Mark]) -> Result<bool, AllocError>
+    ensures { IfOk result (λ b. Finds b (crosses_step marks.now) marks.now) }
+{
+    let labels = labels(alloc, marks)?;
+    let mut rounds = Rounds::new(alloc);
+    for (i, mark) in marks.iter().enumerate() {
+        if crosses(&labels, rounds.here(), mark.owner, &mark.what) {
+            return Ok(true);
+        }
+        rounds.pass(i, &mark.what)?;
+    }
+    Ok(false)
+}

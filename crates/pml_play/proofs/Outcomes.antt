@@ -1,0 +1,177 @@
+-- A text is refused in one way, or stands for one model.
+use Rattle.std.proofs.Common.{if◌then◌else◌, ◌≡◌, ℕ, ◌<◌, true, false, List, length, Some, refl, sym, ap, ◌∙◌, subst, arith, Option, Bool, [], ◌∷◌, inl, inr, ◌≤◌, ◌^◌, None}
+use Rattle.diagnostics.specs.declared.refusal.Refusal.{Refusal}
+use Rattle.diagnostics.specs.declared.refusal.Refusal.TheVariants as r
+use Rattle.session.specs.declared.Options.{Options}
+use Rattle.session.specs.declared.End.{End}
+use Rattle.session.specs.Part.{Part}
+use Rattle.session.specs.Session.{refused, not_served, transcript}
+use Rattle.pml_lex.specs.Word.{Word}
+use Rattle.pml_lex.specs.Limits.{has_left_out, IsTooDeep}
+use Rattle.pml_lex.specs.Cut.{most_bytes, AreTokens, CannotBeCut, HoldsLeftOut, GoesTooDeep}
+use Rattle.pml_lex.proofs.Steps.{one_list}
+use Rattle.pml_tree.specs.declared.tree.Tree.{Tree}
+use Rattle.pml_syntax.specs.Grammar.{Spells}
+use Rattle.pml_syntax.proofs.Whole as trees
+use Rattle.pml_resolve.specs.Model.{numbered_model}
+use Rattle.pml_marks.specs.declared.mark.Mark.{Mark}
+use Rattle.pml_program.specs.declared.program.Program.{Program}
+use Rattle.pml_check.specs.Judged.{all_judged, IsFit, IsLeast, IsFirst}
+use Rattle.pml_check.proofs.Exclusive.{one_first, none_first}
+use Rattle.pml_sim.specs.State.{State}
+use Rattle.pml_sim.specs.World.{rules}
+use Rattle.pml_sim.proofs.Moves.{few_moves}
+use Rattle.session.specs.Replay.{CanBeReplayed}
+use Rattle.session.proofs.CutShort.{can_be_replayed, refused_can_be_replayed, not_served_can_be_replayed}
+use Rattle.pml_play.specs.Transcript.{begins, IsSpelled, IsModel, IsUnspelled, IsUnserved, IsRefused, too_long, lexical, left_out, too_deep, unspelled, unfit, IsTranscript, HasLine, of_unserved, of_refusal, of_model}
+
+some_is : {A : Type 0} {x y : A} → ◌≡◌ {A = Option A} (Some x) (Some y) → x ≡ y
+some_is h = cc
+
+-- none of these refusals has a line
+abbrev NoLines : List ℕ → List Refusal → Type 0
+NoLines text [] = Unit {0}
+NoLines text (x ∷ xs) = HasLine text x 0 × NoLines text xs
+
+first_line : (text : List ℕ) (xs : List Refusal) (ms : List Mark) (ps : Program) (x : Refusal) → NoLines text xs → IsFirst xs ms ps x → HasLine text x 0
+first_line text [] ms ps x n h = absurd h
+first_line text (y ∷ ys) ms ps x n (inl h) = subst (λ (z : Refusal). HasLine text z 0) h.0 n.0
+first_line text (y ∷ ys) ms ps x n (inr h) = first_line text ys ms ps x n.1 h.1
+
+-- a condition on the tree has no line
+condition_line : (text : List ℕ) (t : Tree) (x : Refusal) → IsLeast t x → HasLine text x 0
+condition_line text t x h = first_line text all_judged _ _ x (refl, (refl, (refl, (refl, (refl, (refl, (refl, (refl, (refl, (refl, (refl, (refl, (refl, tt))))))))))))) h
+
+module _ {text : List ℕ} where
+  same_tokens : {ts us : List Word} → AreTokens text ts → AreTokens text us → ts ≡ us
+  same_tokens {ts} {us} a b = one_list text ts us a.are_cut b.are_cut
+
+  same_tree : {t u : Tree} → IsSpelled text t → IsSpelled text u → t ≡ u
+  same_tree {t} {u} a b = trees.one_tree t u b.tokens (subst (λ (l : List Word). Spells t l) (same_tokens a.are_tokens b.are_tokens) a.spells) b.spells
+
+  -- a text with tokens is refused for none of the reasons before them
+  not_long : {ts : List Word} → AreTokens text ts → most_bytes < length text → ⊥
+  not_long a long = let short = a.short in omega arith
+
+  not_uncut : {ts : List Word} {line : ℕ} → AreTokens text ts → CannotBeCut text line → ⊥
+  not_uncut {ts} a c = c.never ts a.are_cut
+
+  not_left_out : {ts : List Word} {line : ℕ} → AreTokens text ts → HoldsLeftOut text line → ⊥
+  not_left_out {ts} a h =
+      let e = ap has_left_out (one_list text ts h.tokens a.are_cut h.are_cut) in
+      let c : true ≡ false = sym h.left_out ∙ sym e ∙ a.all_served in absurd cc
+
+  not_deep : {ts : List Word} {line : ℕ} → AreTokens text ts → GoesTooDeep text line → ⊥
+  not_deep {ts} a d = a.shallow (subst (λ (l : List Word). IsTooDeep l) (one_list text d.tokens ts d.are_cut a.are_cut) d.deep)
+
+  -- the reasons before the tokens exclude one another
+  long_uncut : {line : ℕ} → most_bytes < length text → CannotBeCut text line → ⊥
+  long_uncut long c = let short = c.short in omega arith
+
+  long_left_out : {line : ℕ} → most_bytes < length text → HoldsLeftOut text line → ⊥
+  long_left_out long h = let short = h.short in omega arith
+
+  long_deep : {line : ℕ} → most_bytes < length text → GoesTooDeep text line → ⊥
+  long_deep long d = let short = d.short in omega arith
+
+  left_out_deep : {line line' : ℕ} → HoldsLeftOut text line → GoesTooDeep text line' → ⊥
+  left_out_deep h d =
+      let e = ap has_left_out (one_list text h.tokens d.tokens h.are_cut d.are_cut) in
+      let c : true ≡ false = sym h.left_out ∙ e ∙ d.all_served in absurd cc
+
+  not_unspelled : {t : Tree} {line : ℕ} → IsSpelled text t → IsUnspelled text line → ⊥
+  not_unspelled {t} a u = u.none t (subst (λ (l : List Word). Spells t l) (same_tokens a.are_tokens u.are_tokens) a.spells)
+
+  pub one_refusal : {a b : Refusal} {m n : ℕ} → IsRefused text a m → IsRefused text b n → a ≡ b
+  one_refusal (too_long h) (too_long g) = refl
+  one_refusal (too_long h) (lexical g) = absurd (long_uncut h g)
+  one_refusal (too_long h) (left_out g) = absurd (long_left_out h g)
+  one_refusal (too_long h) (too_deep g) = absurd (long_deep h g)
+  one_refusal (too_long h) (unspelled g) = absurd (not_long g.are_tokens h)
+  one_refusal (too_long h) (unfit g) = absurd (not_long g.is_spelled.are_tokens h)
+  one_refusal (lexical h) (too_long g) = absurd (long_uncut g h)
+  one_refusal (lexical h) (lexical g) = refl
+  one_refusal (lexical h) (left_out g) = absurd (h.never g.tokens g.are_cut)
+  one_refusal (lexical h) (too_deep g) = absurd (h.never g.tokens g.are_cut)
+  one_refusal (lexical h) (unspelled g) = absurd (not_uncut g.are_tokens h)
+  one_refusal (lexical h) (unfit g) = absurd (not_uncut g.is_spelled.are_tokens h)
+  one_refusal (left_out h) (too_long g) = absurd (long_left_out g h)
+  one_refusal (left_out h) (lexical g) = absurd (g.never h.tokens h.are_cut)
+  one_refusal (left_out h) (left_out g) = refl
+  one_refusal (left_out h) (too_deep g) = absurd (left_out_deep h g)
+  one_refusal (left_out h) (unspelled g) = absurd (not_left_out g.are_tokens h)
+  one_refusal (left_out h) (unfit g) = absurd (not_left_out g.is_spelled.are_tokens h)
+  one_refusal (too_deep h) (too_long g) = absurd (long_deep g h)
+  one_refusal (too_deep h) (lexical g) = absurd (g.never h.tokens h.are_cut)
+  one_refusal (too_deep h) (left_out g) = absurd (left_out_deep g h)
+  one_refusal (too_deep h) (too_deep g) = refl
+  one_refusal (too_deep h) (unspelled g) = absurd (not_deep g.are_tokens h)
+  one_refusal (too_deep h) (unfit g) = absurd (not_deep g.is_spelled.are_tokens h)
+  one_refusal (unspelled h) (too_long g) = absurd (not_long h.are_tokens g)
+  one_refusal (unspelled h) (lexical g) = absurd (not_uncut h.are_tokens g)
+  one_refusal (unspelled h) (left_out g) = absurd (not_left_out h.are_tokens g)
+  one_refusal (unspelled h) (too_deep g) = absurd (not_deep h.are_tokens g)
+  one_refusal (unspelled h) (unspelled g) = refl
+  one_refusal (unspelled h) (unfit g) = absurd (not_unspelled g.is_spelled h)
+  one_refusal (unfit h) (too_long g) = absurd (not_long h.is_spelled.are_tokens g)
+  one_refusal (unfit h) (lexical g) = absurd (not_uncut h.is_spelled.are_tokens g)
+  one_refusal (unfit h) (left_out g) = absurd (not_left_out h.is_spelled.are_tokens g)
+  one_refusal (unfit h) (too_deep g) = absurd (not_deep h.is_spelled.are_tokens g)
+  one_refusal (unfit h) (unspelled g) = absurd (not_unspelled h.is_spelled g)
+  one_refusal {a} {b} (unfit h) (unfit g) = one_first all_judged _ _ a b (subst (λ (t : Tree). IsLeast t a) (same_tree h.is_spelled g.is_spelled) h.least) g.least
+
+  -- a refused text has no tree that fits
+  no_fit : {a : Refusal} {m : ℕ} {t : Tree} → IsRefused text a m → IsSpelled text t → IsFit t → ⊥
+  no_fit (too_long h) is fits = not_long is.are_tokens h
+  no_fit (lexical h) is fits = not_uncut is.are_tokens h
+  no_fit (left_out h) is fits = not_left_out is.are_tokens h
+  no_fit (too_deep h) is fits = not_deep is.are_tokens h
+  no_fit (unspelled h) is fits = not_unspelled is h
+  no_fit {a} (unfit h) is fits = none_first all_judged _ _ a fits (subst (λ (t : Tree). IsLeast t a) (same_tree h.is_spelled is) h.least)
+
+  pub no_model : {a : Refusal} {m : ℕ} {model : State} → IsRefused text a m → IsModel text model → ⊥
+  no_model h m = no_fit h m.is_spelled m.fits
+
+  pub not_both : {a : Refusal} {m : ℕ} → IsRefused text a m → IsUnserved text → ⊥
+  not_both h u = no_fit h u.is_spelled u.fits
+
+  same_served : {t u : Tree} → IsSpelled text t → IsSpelled text u → begins (numbered_model t) ≡ begins (numbered_model u)
+  same_served a b = ap (λ (t : Tree). begins (numbered_model t)) (same_tree a b)
+
+  pub model_is_served : {model : State} → IsModel text model → IsUnserved text → ⊥
+  model_is_served m u = let e = sym m.is ∙ same_served m.is_spelled u.is_spelled ∙ u.none in absurd cc
+
+  pub one_model : {a b : State} → IsModel text a → IsModel text b → a ≡ b
+  one_model {a} {b} m n = some_is (sym m.is ∙ same_served m.is_spelled n.is_spelled ∙ n.is)
+
+  pub line_of : {a : Refusal} {line : ℕ} → IsRefused text a line → HasLine text a line
+  line_of (too_long h) = refl
+  line_of (lexical h) = h.on_line
+  line_of (left_out h) = h.on_line
+  line_of (too_deep h) = h.on_line
+  line_of (unspelled h) = h.on_line
+  line_of {a} (unfit h) = condition_line text h.tree a h.least
+
+  pub when_refused : {options : Options} {part : List ℕ → Part End} {a : Refusal} {m : ℕ} → IsRefused text a m → IsTranscript text options part → (line : ℕ) × (part ≡ refused a line false)
+  when_refused h (of_unserved u) = absurd (not_both h u)
+  when_refused h (of_refusal {line} g) = (line, ap (λ (x : Refusal). refused x line false) (one_refusal g h))
+  when_refused h (of_model g) = absurd (no_model h g)
+
+  pub when_modelled : {options : Options} {part : List ℕ → Part End} {model : State} → IsModel text model → IsTranscript text options part → part ≡ transcript rules options model
+  when_modelled h (of_unserved u) = absurd (model_is_served h u)
+  when_modelled h (of_refusal g) = absurd (no_model g h)
+  when_modelled {options} h (of_model g) = ap (λ (x : State). transcript rules options x) (one_model g h)
+
+  pub when_unserved : {options : Options} {part : List ℕ → Part End} → IsUnserved text → IsTranscript text options part → part ≡ not_served false
+  when_unserved h (of_unserved u) = refl
+  when_unserved h (of_refusal g) = absurd (not_both g h)
+  when_unserved h (of_model g) = absurd (model_is_served g h)
+
+few : {n : ℕ} → n ≤ 1 → n < 2 ^ 64
+few h = omega arith
+
+-- a session over a text can be played again on its record
+pub replays : {text : List ℕ} {options : Options} {part : List ℕ → Part End} → IsTranscript text options part → CanBeReplayed part
+replays (of_unserved h) = not_served_can_be_replayed
+replays (of_refusal {refusal} {line} h) = refused_can_be_replayed refusal line
+replays {options} (of_model {state} h) = can_be_replayed rules options state (λ s. few (few_moves s))

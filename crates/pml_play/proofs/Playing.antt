@@ -1,0 +1,143 @@
+-- From what the parts of playing a text answer to what the whole does.
+use Rattle.std.proofs.Common.{◌≡◌, ℕ, ◌≤◌, List, [], Option, Some, Bool, false, Result, Ok, Err, IfOk, IfErr, refl, sym, ap, ◌∙◌, subst, arith}
+use Rattle.std.specs.Prelude.{All}
+use Rattle.std.specs.Io.KnownBytes.{Appends}
+use Rattle.std.proofs.KnownBytes.{Appends-nil}
+use Rattle.diagnostics.specs.declared.fault.Fault.{Fault}
+use Rattle.diagnostics.specs.declared.refusal.Refusal.{Refusal}
+use Rattle.session.specs.declared.Options.{Options}
+use Rattle.session.specs.declared.End.{End}
+use Rattle.session.specs.declared.Cause.TheVariants as cause
+use Rattle.session.specs.declared.Broken.{Broken}
+use Rattle.session.specs.declared.Broken.TheVariants as broken
+use Rattle.session.specs.Part.{Part}
+use Rattle.session.specs.Session.{outcome, end_of, refused, not_served, transcript}
+use Rattle.session.specs.Stands.{Does, Breaks}
+use Rattle.session.specs.Texts.{refusal_line, not_served_line}
+use Rattle.session.specs.Writes.{WriteBreaks}
+use Rattle.session.proofs.Parts.{Leads-does, puts, put_breaks, memory_breaks, outcome_does}
+use Rattle.pml_lex.specs.Word.{Word}
+use Rattle.pml_lex.specs.Division.{line_behind}
+use Rattle.pml_lex.specs.Limits.{IsOnLine}
+use Rattle.pml_lex.specs.Cut.{AreTokens, IsLeast}
+use Rattle.pml_lex.specs.declared.fault.LexFault.{LexFault}
+use Rattle.pml_lex.specs.declared.fault.LexFault.TheVariants as lex
+use Rattle.pml_tree.specs.declared.tree.Tree.{Tree}
+use Rattle.pml_syntax.specs.declared.program.SyntaxFault.{SyntaxFault}
+use Rattle.pml_syntax.specs.declared.program.SyntaxFault.TheVariants as syntax
+use Rattle.pml_syntax.specs.Grammar.{Spells}
+use Rattle.pml_syntax.specs.Answer.{Answers}
+use Rattle.pml_check.specs.declared.checked.CheckFault.{CheckFault}
+use Rattle.pml_check.specs.declared.checked.CheckFault.TheVariants as check
+use Rattle.pml_check.specs.Checked.{IsRefused}
+use Rattle.pml_check.specs.Judged.{FitsTo, HasGoodStart, IsFit}
+use Rattle.pml_program.specs.declared.program.Program.{Program}
+use Rattle.pml_resolve.specs.Model.{numbered_model}
+use Rattle.pml_value.specs.declared.stop.Stop.{Stop}
+use Rattle.pml_value.specs.declared.stop.Stop.TheVariants as stop
+use Rattle.pml_start.specs.Begin.{Begun}
+use Rattle.pml_start.specs.Start.{Starts, first_state}
+use Rattle.pml_play.specs.declared.whole.Rejection.{Rejection}
+use Rattle.pml_play.specs.declared.whole.Rejection.TheVariants.{Memory, NotServed, Refused}
+use Rattle.pml_sim.specs.State.{State}
+use Rattle.pml_sim.specs.World.{rules}
+use Rattle.pml_play.specs.Transcript.{IsSpelled, IsModel, too_long, lexical, left_out, too_deep, unspelled, unfit, IsTranscript, of_unserved, of_refusal, of_model}
+use Rattle.pml_play.specs.Plays.{IsReady, IsRejected, of_lexical, of_syntax, of_check, Rejects, PlaysWhole}
+use Rattle.pml_play.proofs.Lines.{token_lines}
+use Rattle.pml_play.proofs.Outcomes.{when_refused, when_unserved, when_modelled}
+
+-- ---- reading
+
+pub rejected_lexical : (text : List ℕ) (fault : LexFault) → IsLeast text fault → IsRejected text (of_lexical fault)
+rejected_lexical text lex.Memory h = tt
+rejected_lexical text lex.TooLong h = too_long h
+rejected_lexical text (lex.Lexical line) h = lexical h
+rejected_lexical text (lex.LeftOut line) h = left_out h
+rejected_lexical text (lex.TooDeep line) h = too_deep h
+
+pub rejected_syntax : (text : List ℕ) (ts : List Word) (fault : SyntaxFault) → AreTokens text ts → ((t : Tree) → Spells t ts → Answers t (Err fault))
+    → ((most : ℕ) → 1 ≤ most → All (λ w. IsOnLine most w.line) ts → (at : ℕ) → ◌≡◌ {A = Result Tree SyntaxFault} (Err fault) (Err (syntax.Syntax at)) → IsOnLine most at) → IsRejected text (of_syntax fault)
+rejected_syntax text ts syntax.Memory are none line = tt
+rejected_syntax text ts (syntax.Syntax at) are none line = unspelled (record { tokens = ts; are_tokens = are; none = none; on_line = line (line_behind text) (omega arith) (token_lines text ts are) at refl })
+
+pub rejected_check : (text : List ℕ) (t : Tree) (fault : CheckFault) → IsSpelled text t → IsRefused t fault → IsRejected text (of_check fault)
+rejected_check text t check.Memory is h = tt
+rejected_check text t (check.Refused r) is h = unfit (record { tree = t; is_spelled = is; least = h })
+
+-- ---- the first state
+
+-- in a tree that fits, no initialiser of the first state has a fault
+good_start : (t : Tree) → IsFit t → HasGoodStart (numbered_model t)
+unfolding FitsTo
+good_start t f = f.1.1.1.1.1.1.1.1.1.1.1.1.0.1
+
+no_fault : (b : Begun) (d : Result Begun Fault) (e : Stop) (f : Fault) → d ≡ Ok b → e ≡ stop.Fault f → Starts d (Err e) → ⊥
+no_fault b d e f is of h = subst (λ (k : Stop). Starts (Ok b) (Err k)) of (subst (λ (x : Result Begun Fault). Starts x (Err e)) is h)
+
+pub no_start_fault : (text : List ℕ) (p q : Program) (e : Stop) (f : Fault) → IsReady text p → q ≡ p → e ≡ stop.Fault f → Starts (first_state q) (Err e) → ⊥
+no_start_fault text p q e f ready same of h =
+    let start = good_start ready.tree ready.fits in
+    no_fault start.0 (first_state q) e f (ap first_state (same ∙ ready.is) ∙ start.1) of h
+
+-- ---- a rejected text
+
+module _ (text : List ℕ) (options : Options) (s : List ℕ → Type 0) (o o' k : Option (List ℕ)) (n : ℕ) where
+  pub rejected_plays : (rejection : Rejection) (result : Result End Broken) → n ≡ 0 → IsRejected text rejection → Rejects rejection result o o' → IfOk result (PlaysWhole text options s s o o' k k 0 n)
+  rejected_plays Memory (Ok end) zero is h = absurd cc
+  rejected_plays Memory (Err e) zero is h = tt
+  rejected_plays NotServed (Err e) zero is h = tt
+  rejected_plays NotServed (Ok end) zero is h = subst (λ (m : ℕ). PlaysWhole text options s s o o' k k 0 m end) (sym zero) (subst (λ (x : End). PlaysWhole text options s s o o' k k 0 0 x) (sym h.1) (record {
+    part = not_served false;
+    is_transcript = of_unserved is;
+    over = false;
+    does = Leads-does (puts not_served_line (outcome (end_of cause.NotServed 0) false) h.0) (outcome_does (end_of cause.NotServed 0) false);
+  }))
+  rejected_plays (Refused r line) (Err e) zero is h = tt
+  rejected_plays (Refused r line) (Ok end) zero is h = subst (λ (m : ℕ). PlaysWhole text options s s o o' k k 0 m end) (sym zero) (subst (λ (x : End). PlaysWhole text options s s o o' k k 0 0 x) (sym h.1) (record {
+    part = refused r line false;
+    is_transcript = of_refusal is;
+    over = false;
+    does = Leads-does (puts (refusal_line r) (outcome (end_of (cause.Refused r line) 0) false) h.0) (outcome_does (end_of (cause.Refused r line) 0) false);
+  }))
+
+  -- nothing was written
+  written_none : (part : List ℕ → Part End) → Appends o o' [] → Breaks broken.Memory s s o o' k k 0 0 part
+  written_none part none = record { done = []; moved = record { read = record { gave = λ left now. now }; written = none; kept = Appends-nil k; count = refl }; begins = λ left now. ((part left).events, refl) }
+
+  refusal_breaks : (r : Refusal) (line : ℕ) (e : Broken) → WriteBreaks e o o' (refusal_line r) → Breaks e s s o o' k k 0 0 (refused r line false)
+  refusal_breaks r line broken.Memory h = written_none (refused r line false) h
+  refusal_breaks r line broken.Out h = put_breaks (refusal_line r) (outcome (end_of (cause.Refused r line) 0) false) h
+  refusal_breaks r line broken.Source h = absurd h
+  refusal_breaks r line broken.Record h = absurd h
+
+  unserved_breaks : (e : Broken) → WriteBreaks e o o' not_served_line → Breaks e s s o o' k k 0 0 (not_served false)
+  unserved_breaks broken.Memory h = written_none (not_served false) h
+  unserved_breaks broken.Out h = put_breaks not_served_line (outcome (end_of cause.NotServed 0) false) h
+  unserved_breaks broken.Source h = absurd h
+  unserved_breaks broken.Record h = absurd h
+
+  pub rejected_breaks : (rejection : Rejection) (result : Result End Broken) → n ≡ 0 → IsRejected text rejection → Rejects rejection result o o' → IfErr result (λ e. (part : List ℕ → Part End) → IsTranscript text options part → Breaks e s s o o' k k 0 n part)
+  rejected_breaks Memory (Ok end) zero is h = tt
+  rejected_breaks Memory (Err e) zero is h = λ part given.
+      let e_is : e ≡ broken.Memory = (let w = h.0 in cc) in
+      subst (λ (m : ℕ). Breaks e s s o o' k k 0 m part) (sym zero) (subst (λ (x : Broken). Breaks x s s o o' k k 0 0 part) (sym e_is) (subst (λ (l : Option (List ℕ)). Breaks broken.Memory s s o l k k 0 0 part) (sym h.1) (memory_breaks part)))
+  rejected_breaks NotServed (Ok end) zero is h = tt
+  rejected_breaks NotServed (Err e) zero is h = λ part given.
+      subst (λ (m : ℕ). Breaks e s s o o' k k 0 m part) (sym zero) (subst (λ (x : List ℕ → Part End). Breaks e s s o o' k k 0 0 x) (sym (when_unserved is given)) (unserved_breaks e h.0))
+  rejected_breaks (Refused r line) (Ok end) zero is h = tt
+  rejected_breaks (Refused r line) (Err e) zero is h = λ part given.
+      let p = when_refused is given in
+      subst (λ (m : ℕ). Breaks e s s o o' k k 0 m part) (sym zero) (subst (λ (x : List ℕ → Part End). Breaks e s s o o' k k 0 0 x) (sym p.1) (refusal_breaks r p.0 e h.0))
+
+-- ---- a model
+
+module _ (text : List ℕ) (options : Options) (s s' : List ℕ → Type 0) (o o' k k' : Option (List ℕ)) (n : ℕ) where
+  pub model_plays : (result : Result End Broken) (state : State) → IsModel text state
+      → IfOk result (λ end. (over : Bool) × Does s s' o o' k k' 0 n (transcript rules options state) end over) → IfOk result (PlaysWhole text options s s' o o' k k' 0 n)
+  model_plays (Err e) state is h = tt
+  model_plays (Ok end) state is h = record { part = transcript rules options state; is_transcript = of_model is; over = h.0; does = h.1 }
+
+  pub model_breaks : (result : Result End Broken) (state : State) → IsModel text state
+      → IfErr result (λ e. Breaks e s s' o o' k k' 0 n (transcript rules options state)) → IfErr result (λ e. (part : List ℕ → Part End) → IsTranscript text options part → Breaks e s s' o o' k k' 0 n part)
+  model_breaks (Ok end) state is h = tt
+  model_breaks (Err e) state is h = λ part given. subst (λ (x : List ℕ → Part End). Breaks e s s' o o' k k' 0 n x) (sym (when_modelled is given)) h

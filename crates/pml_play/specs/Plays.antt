@@ -1,0 +1,68 @@
+-- What the parts of playing a text answer.
+use Rattle.std.specs.Prelude.{◌≡◌, ℕ, List, Option, Bool, Result, Err, IfOk}
+use Rattle.diagnostics.specs.declared.refusal.Refusal.TheVariants as refusal
+use Rattle.session.specs.declared.Options.{Options}
+use Rattle.session.specs.declared.End.{End}
+use Rattle.session.specs.declared.Cause.TheVariants as cause
+use Rattle.session.specs.declared.Broken.{Broken}
+use Rattle.session.specs.declared.Broken.TheVariants as broken
+use Rattle.session.specs.Part.{Part}
+use Rattle.session.specs.Session.{end_of}
+use Rattle.session.specs.Stands.{Does}
+use Rattle.session.specs.Texts.{refusal_line, not_served_line}
+use Rattle.session.specs.Writes.{Writes}
+use Rattle.pml_lex.specs.declared.fault.LexFault.{LexFault}
+use Rattle.pml_lex.specs.declared.fault.LexFault.TheVariants as lex
+use Rattle.pml_syntax.specs.declared.program.SyntaxFault.{SyntaxFault}
+use Rattle.pml_syntax.specs.declared.program.SyntaxFault.TheVariants as syntax
+use Rattle.pml_tree.specs.declared.tree.Tree.{Tree}
+use Rattle.pml_program.specs.declared.program.Program.{Program}
+use Rattle.pml_resolve.specs.Model.{numbered_model}
+use Rattle.pml_check.specs.Judged.{IsFit}
+use Rattle.pml_check.specs.declared.checked.CheckFault.{CheckFault}
+use Rattle.pml_check.specs.declared.checked.CheckFault.TheVariants as check
+use Rattle.pml_play.specs.declared.whole.Rejection.{Rejection}
+use Rattle.pml_play.specs.declared.whole.Rejection.TheVariants.{Memory, NotServed, Refused}
+use Rattle.pml_play.specs.Transcript.{IsSpelled, IsRefused, IsUnserved, IsTranscript}
+
+-- memory ran out, or the text uses what is not served yet, or it is refused so
+abbrev pub IsRejected : List ℕ → Rejection → Type 0
+IsRejected text Memory = Unit {0}
+IsRejected text NotServed = IsUnserved text
+IsRejected text (Refused r line) = IsRefused text r line
+
+-- what a fault of cutting, of reading or of the checks makes of a text
+abbrev pub of_lexical : LexFault → Rejection
+of_lexical lex.Memory = Memory
+of_lexical lex.TooLong = Refused refusal.TextTooLong 0
+of_lexical (lex.Lexical line) = Refused refusal.Lexical line
+of_lexical (lex.LeftOut line) = Refused refusal.LeftOut line
+of_lexical (lex.TooDeep line) = Refused refusal.TooDeep line
+
+abbrev pub of_syntax : SyntaxFault → Rejection
+of_syntax syntax.Memory = Memory
+of_syntax (syntax.Syntax line) = Refused refusal.Syntax line
+
+abbrev pub of_check : CheckFault → Rejection
+of_check check.Memory = Memory
+of_check (check.Refused r) = Refused r 0
+
+-- the text has a tree that fits all conditions, and this is its checked model
+pub record IsReady (text : List ℕ) (p : Program) : Type 0 where
+  pub tree : Tree
+  pub is_spelled : IsSpelled text tree
+  pub fits : IsFit tree
+  pub is : p ≡ numbered_model tree
+
+-- what is written of a rejected text, and how its session ends
+abbrev pub Rejects : Rejection → Result End Broken → Option (List ℕ) → Option (List ℕ) → Type 0
+Rejects Memory result old new = (result ≡ Err broken.Memory) × (new ≡ old)
+Rejects NotServed result old new = Writes result old new not_served_line × IfOk result (λ end. end ≡ end_of cause.NotServed 0)
+Rejects (Refused r line) result old new = Writes result old new (refusal_line r) × IfOk result (λ end. end ≡ end_of (cause.Refused r line) 0)
+
+-- a session over the text was done whole, with this end
+pub record PlaysWhole (text : List ℕ) (options : Options) (source source' : List ℕ → Type 0) (out out' rec rec' : Option (List ℕ)) (steps steps' : ℕ) (end : End) : Type 0 where
+  pub part : List ℕ → Part End
+  pub is_transcript : IsTranscript text options part
+  pub over : Bool
+  pub does : Does source source' out out' rec rec' steps steps' part end over

@@ -1,0 +1,79 @@
+-- What a text stands for: a refusal, or a model; and the session over it.
+use Rattle.std.specs.Prelude.{◌≡◌, ◌<◌, ℕ, List, length, Option, Some, None, false}
+use Rattle.diagnostics.specs.declared.refusal.Refusal.{Refusal}
+use Rattle.diagnostics.specs.declared.refusal.Refusal.TheVariants as r
+use Rattle.session.specs.declared.Options.{Options}
+use Rattle.session.specs.declared.End.{End}
+use Rattle.session.specs.Part.{Part}
+use Rattle.session.specs.Session.{refused, not_served, transcript}
+use Rattle.pml_lex.specs.Word.{Word}
+use Rattle.pml_lex.specs.Cut.{most_bytes, IsLine, AreTokens, CannotBeCut, HoldsLeftOut, GoesTooDeep}
+use Rattle.pml_tree.specs.declared.tree.Tree.{Tree}
+use Rattle.pml_syntax.specs.Grammar.{Spells}
+use Rattle.pml_resolve.specs.Model.{numbered_model}
+use Rattle.pml_check.specs.Judged.{IsFit, IsLeast}
+use Rattle.pml_program.specs.declared.program.Program.{Program}
+use Rattle.pml_start.specs.Start.{first_state}
+use Rattle.pml_sim.specs.State.{State}
+use Rattle.pml_sim.specs.World.{first, rules}
+
+-- The text's tokens spell this tree.
+pub record IsSpelled (text : List ℕ) (tree : Tree) : Type 0 where
+  pub tokens : List Word
+  pub are_tokens : AreTokens text tokens
+  pub spells : Spells tree tokens
+
+-- what the first state of a checked model is, where the model is of the part that is served
+abbrev pub begins : Program → Option State
+begins p = first p (first_state p)
+
+-- The text has a tree that fits all conditions, and its checked model is of the part that is served: it begins in this state.
+pub record IsModel (text : List ℕ) (state : State) : Type 0 where
+  pub tree : Tree
+  pub is_spelled : IsSpelled text tree
+  pub fits : IsFit tree
+  pub is : begins (numbered_model tree) ≡ Some state
+
+-- The text has tokens, and no tree spells them.
+pub record IsUnspelled (text : List ℕ) (line : ℕ) : Type 0 where
+  pub tokens : List Word
+  pub are_tokens : AreTokens text tokens
+  pub none : (tree : Tree) → Spells tree tokens → ⊥
+  pub on_line : IsLine text line
+
+-- The text has a tree that fits all conditions, and its checked model is not of the part that is served.
+pub record IsUnserved (text : List ℕ) : Type 0 where
+  pub tree : Tree
+  pub is_spelled : IsSpelled text tree
+  pub fits : IsFit tree
+  pub none : begins (numbered_model tree) ≡ None
+
+-- The text has a tree, and of the conditions that apply to it this is the least.
+pub record IsUnfit (text : List ℕ) (refusal : Refusal) : Type 0 where
+  pub tree : Tree
+  pub is_spelled : IsSpelled text tree
+  pub least : IsLeast tree refusal
+
+-- The text is refused so, and the refusal has this line: one of the text's, or 0 where it has none.
+pub data IsRefused (text : List ℕ) : Refusal → ℕ → Type 0 where
+  too_long : most_bytes < length text → IsRefused text r.TextTooLong 0
+  lexical : {line : ℕ} → CannotBeCut text line → IsRefused text r.Lexical line
+  left_out : {line : ℕ} → HoldsLeftOut text line → IsRefused text r.LeftOut line
+  too_deep : {line : ℕ} → GoesTooDeep text line → IsRefused text r.TooDeep line
+  unspelled : {line : ℕ} → IsUnspelled text line → IsRefused text r.Syntax line
+  unfit : {refusal : Refusal} → IsUnfit text refusal → IsRefused text refusal 0
+
+-- a line of the text, or 0 where the refusal has none
+abbrev pub HasLine : List ℕ → Refusal → ℕ → Type 0
+HasLine text r.Lexical line = IsLine text line
+HasLine text r.LeftOut line = IsLine text line
+HasLine text r.TooDeep line = IsLine text line
+HasLine text r.Syntax line = IsLine text line
+HasLine text _ line = line ≡ 0
+
+-- The session over a text: one line where it is refused or uses what is not served yet, and else that of the process that it
+-- describes.
+pub data IsTranscript (text : List ℕ) (options : Options) : (List ℕ → Part End) → Type 0 where
+  of_unserved : IsUnserved text → IsTranscript text options (not_served false)
+  of_refusal : {refusal : Refusal} {line : ℕ} → IsRefused text refusal line → IsTranscript text options (refused refusal line false)
+  of_model : {state : State} → IsModel text state → IsTranscript text options (transcript rules options state)

@@ -1,0 +1,291 @@
+//! Expressions, with their names replaced by what they stand for.
+
+ghost use Rattle.std.specs.Prelude.{◌≡◌, ◌++◌, map, IfOk, OnOk};
+ghost use Rattle.pml_tree.specs.declared.tree.Reference.{out-Reference};
+ghost use Rattle.pml_resolve.specs.Numbered.{scope, through, placed, numbered, numbered_argument, numbered_reference, numbered_step, at_scope, is_local, literal, signed, mtype, read, target, received, turn_of, target_of, no_target};
+
+use crate::reached::Reached;
+use pml_marks::arithmetic::{negative, value as number_value};
+use pml_marks::mark::Constant;
+use pml_names::meaning::{field, is_any, is_count, is_pid, meaning};
+use pml_names::table::Table;
+use pml_names::thing::{Thing, Variable};
+use pml_program::form::Form;
+use pml_program::expr::{Target, Turn, Expr, Want};
+use pml_tree::tree::{Argument, Expr as TreeExpr, Reference, Step};
+use sqlite_items::{Boxed, Items};
+use std::alloc::{AllocError, Global};
+
+fn literal(constant: Constant) -> i32
+    ensures { result ≡ literal constant }
+{
+    match constant {
+        Constant::Is(x) => x,
+        _ => 0,
+    }
+}
+
+fn signed(minus: bool, constant: Constant) -> Constant
+    ensures { result ≡ signed minus constant }
+{
+    if minus { negative(constant) } else { constant }
+}
+
+fn mtype(number: usize) -> i32
+    ensures { result ≡ mtype number }
+{
+    if number < 256 { number as i32 } else { 0 }
+}
+
+fn is_local(table: &Table, owner: usize, name: &[u8]) -> bool
+    ensures { result ≡ is_local table.now owner name.now }
+{
+    0 < owner && table.find(owner, false, name).is_some()
+}
+
+fn no_target(alloc: Global) -> Target
+    ensures { result ≡ no_target }
+{
+    Target {
+        local: false,
+        variable: 0,
+        form: Form::Unknown,
+        turns: Items::new(alloc),
+    }
+}
+
+pub fn target(alloc: Global, reached: Reached) -> Target
+    ensures { result ≡ target reached }
+{
+    match reached {
+        Reached::Place(t) => t,
+        _ => no_target(alloc),
+    }
+}
+
+fn read(reached: Reached) -> Expr
+    ensures { result ≡ read reached }
+{
+    match reached {
+        Reached::Place(t) => Expr::Read(t),
+        Reached::Constant(n) => Expr::Number(mtype(n)),
+        Reached::Pid => Expr::Pid,
+        Reached::ProcessCount => Expr::ProcessCount,
+        _ => Expr::Number(0),
+    }
+}
+
+fn received(reached: Reached) -> Want
+    ensures { result ≡ received reached }
+{
+    match reached {
+        Reached::Place(t) => Want::Into(t),
+        Reached::Constant(n) => Want::Exactly(mtype(n)),
+        _ => Want::Anything,
+    }
+}
+
+fn turn(offset: u32, v: Variable, index: Option<Boxed<Expr>>) -> Turn
+    ensures { result ≡ turn_of offset v index }
+{
+    Turn {
+        offset,
+        length: v.length,
+        stride: v.stride,
+        index,
+    }
+}
+
+/// An expression with its names replaced.
+#[cycle(expression)]
+pub fn expr(
+    alloc: Global,
+    e: &TreeExpr,
+    all: &Table,
+    table: &Table,
+    owner: usize,
+) -> Result<Expr, AllocError>
+    ensures { IfOk result (λ x. x ≡ numbered e.now (scope all.now table.now owner)) }
+{
+    match e {
+        TreeExpr::Number(n) => Ok(Expr::Number(literal(number_value(n.text())))),
+        TreeExpr::Truth(b) => Ok(Expr::Number(if *b { 1 } else { 0 })),
+        TreeExpr::Timeout => Ok(Expr::Timeout),
+        TreeExpr::Read(r) => Ok(read(reference(alloc, r, all, table, owner)?)),
+        TreeExpr::Ask(fill, r) => {
+            let at = reference(alloc, r, all, table, owner)?;
+            Ok(Expr::Ask(*fill, target(alloc, at)))
+        }
+        TreeExpr::Poll(r, any, arguments) => {
+            let at = reference(alloc, r, all, table, owner)?;
+            let wants = wants(alloc, arguments.as_slice(), all, table, owner)?;
+            Ok(Expr::Poll(target(alloc, at), *any, wants))
+        }
+        TreeExpr::Unary(op, a) => {
+            let x = expr(alloc, a.get(), all, table, owner)?;
+            Ok(Expr::Unary(*op, Boxed::new(alloc, x)?))
+        }
+        TreeExpr::Binary(op, a, b) => {
+            let x = expr(alloc, a.get(), all, table, owner)?;
+            let y = expr(alloc, b.get(), all, table, owner)?;
+            Ok(Expr::Binary(*op, Boxed::new(alloc, x)?, Boxed::new(alloc, y)?))
+        }
+        TreeExpr::Choice(a, b, c) => {
+            let x = expr(alloc, a.get(), all, table, owner)?;
+            let y = expr(alloc, b.get(), all, table, owner)?;
+            let z = expr(alloc, c.get(), all, table, owner)?;
+            let x = Boxed::new(alloc, x)?;
+            let y = Boxed::new(alloc, y)?;
+            Ok(Expr::Choice(x, y, Boxed::new(alloc, z)?))
+        }
+    }
+}
+
+/// What arguments ask.
+#[cycle(expression)]
+pub fn wants(
+    alloc: Global,
+    arguments: &[Argument],
+    all: &Table,
+    table: &Table,
+    owner: usize,
+) -> Result<Items<Want>, AllocError>
+    ensures { IfOk result (λ ws. ws ≡ at_scope (map numbered_argument arguments.now) (scope all.now table.now owner)) }
+{
+    let mut wants = Items::new(alloc);
+    for argument in arguments {
+        wants.push(want(alloc, argument, all, table, owner)?)?;
+    }
+    Ok(wants)
+}
+
+#[cycle(expression)]
+fn want(
+    alloc: Global,
+    argument: &Argument,
+    all: &Table,
+    table: &Table,
+    owner: usize,
+) -> Result<Want, AllocError>
+    ensures { IfOk result (λ w. w ≡ numbered_argument argument.now (scope all.now table.now owner)) }
+{
+    match argument {
+        Argument::Exactly(minus, n) => Ok(Want::Exactly(literal(signed(
+            *minus,
+            number_value(n.text()),
+        )))),
+        Argument::Fixed(b) => Ok(Want::Exactly(if *b { 1 } else { 0 })),
+        Argument::Eval(a) => {
+            let x = expr(alloc, a.get(), all, table, owner)?;
+            Ok(Want::Equal(Boxed::new(alloc, x)?))
+        }
+        Argument::Into(r) => Ok(received(reference(alloc, r, all, table, owner)?)),
+    }
+}
+
+/// What a reference stands for.
+#[cycle(expression)]
+pub fn reference(
+    alloc: Global,
+    r: &Reference,
+    all: &Table,
+    table: &Table,
+    owner: usize,
+) -> Result<Reached, AllocError>
+    ensures { IfOk result (λ p. p ≡ numbered_reference r.now (scope all.now table.now owner)) }
+{
+    let name = r.first.name.text();
+    if is_any(name) {
+        return Ok(Reached::Anything);
+    }
+    if is_pid(name) {
+        return Ok(Reached::Pid);
+    }
+    if is_count(name) {
+        return Ok(Reached::ProcessCount);
+    }
+    match meaning(all, table, owner, name) {
+        Some(Thing::Variable(v)) => {
+            let local = is_local(table, owner, name);
+            Ok(place(alloc, local, v, r, all, table, owner)?)
+        }
+        Some(Thing::Constant(n)) => Ok(Reached::Constant(n)),
+        _ => Ok(Reached::Nothing),
+    }
+}
+
+#[cycle(expression)]
+fn place(
+    alloc: Global,
+    local: bool,
+    v: Variable,
+    r: &Reference,
+    all: &Table,
+    table: &Table,
+    owner: usize,
+) -> Result<Reached, AllocError>
+    ensures { IfOk result (λ p. p ≡ placed local v (numbered_step (out-Reference r.now).first) (map numbered_step (out-Reference r.now).fields) (scope all.now table.now owner)) }
+{
+    let mut turns = Items::new(alloc);
+    turns.push(turn(0, v, index(alloc, &r.first, all, table, owner)?))?;
+    let form = through(
+        alloc,
+        v.form,
+        r.fields.as_slice(),
+        all,
+        table,
+        owner,
+        &mut turns,
+    )?;
+    Ok(Reached::Place(Target {
+        local,
+        variable: v.number,
+        form,
+        turns,
+    }))
+}
+
+#[cycle(expression)]
+fn through(
+    alloc: Global,
+    form: Form,
+    steps: &[Step],
+    all: &Table,
+    table: &Table,
+    owner: usize,
+    turns: &mut Items<Turn>,
+) -> Result<Form, AllocError>
+    ensures form { IfOk result (λ f. f ≡ (through form (map numbered_step steps.now) (scope all.now table.now owner)).0) }
+    ensures turns { OnOk result (turns.new ≡ turns.old ++ (through form (map numbered_step steps.now) (scope all.now table.now owner)).1) }
+{
+    let mut here = form;
+    for step in steps {
+        match field(table, here, step.name.text()) {
+            Some(Some(Thing::Variable(v))) => {
+                turns.push(turn(v.offset, v, index(alloc, step, all, table, owner)?))?;
+                here = v.form;
+            }
+            _ => return Ok(here),
+        }
+    }
+    Ok(here)
+}
+
+#[cycle(expression)]
+fn index(
+    alloc: Global,
+    step: &Step,
+    all: &Table,
+    table: &Table,
+    owner: usize,
+) -> Result<Option<Boxed<Expr>>, AllocError>
+    ensures { IfOk result (λ i. i ≡ (numbered_step step.now).index (scope all.now table.now owner)) }
+{
+    match &step.index {
+        None => Ok(None),
+        Some(e) => {
+            let x = expr(alloc, e.get(), all, table, owner)?;
+            Ok(Some(Boxed::new(alloc, x)?))
+        }
+    }
+}

@@ -1,0 +1,143 @@
+//! Bodies, with their names replaced.
+
+ghost use Rattle.std.specs.Prelude.{◌≡◌, ◌++◌, map, IfOk, OnOk};
+ghost use Rattle.pml_names.specs.Totals.{IsTotalled};
+ghost use Rattle.pml_resolve.specs.Declarations.{known};
+ghost use Rattle.pml_resolve.specs.Statements.{each, two, stmts, numbered_basic, numbered_item, numbered_seq};
+
+use crate::action::action;
+use crate::declare::variables;
+use pml_lex::token::Token;
+use pml_marks::mark::Role;
+use pml_names::names::Names;
+use pml_names::table::Table;
+use pml_program::program::{Basic, Seq, Slot, Stmt};
+use pml_tree::tokens::Tokens;
+use pml_tree::tree::{Basic as TreeBasic, Item, Seq as TreeSeq};
+use sqlite_items::Items;
+use std::alloc::{AllocError, Global};
+
+fn copied<'a>(alloc: Global, labels: &[Token<'a>]) -> Result<Items<Token<'a>>, AllocError>
+    ensures { IfOk result (λ ls. ls ≡ labels.now) }
+{
+    let mut copies = Items::new(alloc);
+    for label in labels {
+        copies.push(label.copied())?;
+    }
+    Ok(copies)
+}
+
+#[cycle(statement)]
+fn basic<'a>(
+    alloc: Global,
+    b: &TreeBasic<'a>,
+    all: &Table,
+    owner: usize,
+    names: &mut Names<'a>,
+    slots: &mut Items<Slot<'a>>,
+) -> Result<Option<Basic<'a>>, AllocError>
+    requires { IsTotalled names.old.table names.old.totals names.old.constants }
+    ensures basic { IfOk result (λ x. x ≡ (numbered_basic b.now all.now owner (known names.old.table slots.old)).0) }
+    ensures known { OnOk result (known names.new.table slots.new ≡ (numbered_basic b.now all.now owner (known names.old.table slots.old)).1) }
+    ensures totalled { OnOk result (IsTotalled names.new.table names.new.totals names.new.constants) }
+{
+    match b {
+        TreeBasic::Declare(vs) => {
+            variables(alloc, all, Role::Variable, owner, vs.as_slice(), names, slots)?;
+            Ok(None)
+        }
+        TreeBasic::Exclusive(_) => Ok(None),
+        TreeBasic::Plain(a) => {
+            let x = action(alloc, a, all, &names.table, owner)?;
+            Ok(Some(Basic::Plain(x)))
+        }
+        TreeBasic::Goto(l) => Ok(Some(Basic::Goto(l.copied()))),
+        TreeBasic::Break => Ok(Some(Basic::Break)),
+        TreeBasic::If(options) => {
+            let xs = seqs(alloc, options.as_slice(), all, owner, names, slots)?;
+            Ok(Some(Basic::If(xs)))
+        }
+        TreeBasic::Do(options) => {
+            let xs = seqs(alloc, options.as_slice(), all, owner, names, slots)?;
+            Ok(Some(Basic::Do(xs)))
+        }
+        TreeBasic::Block(s) => Ok(Some(Basic::Block(seq(alloc, s, all, owner, names, slots)?))),
+        TreeBasic::Atomic(s) => Ok(Some(Basic::Atomic(seq(alloc, s, all, owner, names, slots)?))),
+        TreeBasic::DStep(s) => Ok(Some(Basic::DStep(seq(alloc, s, all, owner, names, slots)?))),
+        TreeBasic::Unless(main, escape) => {
+            let x = seq(alloc, main, all, owner, names, slots)?;
+            let y = seq(alloc, escape, all, owner, names, slots)?;
+            Ok(Some(Basic::Unless(x, y)))
+        }
+    }
+}
+
+#[cycle(statement)]
+fn item<'a>(
+    alloc: Global,
+    i: &Item<'a>,
+    all: &Table,
+    owner: usize,
+    names: &mut Names<'a>,
+    slots: &mut Items<Slot<'a>>,
+    steps: &mut Items<Stmt<'a>>,
+) -> Result<(), AllocError>
+    requires { IsTotalled names.old.table names.old.totals names.old.constants }
+    ensures steps { OnOk result (steps.new ≡ steps.old ++ (numbered_item i.now all.now owner (known names.old.table slots.old)).0) }
+    ensures known { OnOk result (known names.new.table slots.new ≡ (numbered_item i.now all.now owner (known names.old.table slots.old)).1) }
+    ensures totalled { OnOk result (IsTotalled names.new.table names.new.totals names.new.constants) }
+{
+    let labels = copied(alloc, i.labels.as_slice())?;
+    let tokens = Tokens::new(i.tokens.as_slice());
+    match basic(alloc, &i.basic, all, owner, names, slots)? {
+        None => Ok(()),
+        Some(basic) => Ok(steps.push(Stmt {
+            labels,
+            basic,
+            tokens,
+        })?),
+    }
+}
+
+#[cycle(statement)]
+fn seqs<'a>(
+    alloc: Global,
+    ss: &[TreeSeq<'a>],
+    all: &Table,
+    owner: usize,
+    names: &mut Names<'a>,
+    slots: &mut Items<Slot<'a>>,
+) -> Result<Items<Seq<'a>>, AllocError>
+    requires { IsTotalled names.old.table names.old.totals names.old.constants }
+    ensures seqs { IfOk result (λ xs. xs ≡ (each (map numbered_seq ss.now) all.now owner (known names.old.table slots.old)).0) }
+    ensures known { OnOk result (known names.new.table slots.new ≡ (each (map numbered_seq ss.now) all.now owner (known names.old.table slots.old)).1) }
+    ensures totalled { OnOk result (IsTotalled names.new.table names.new.totals names.new.constants) }
+{
+    let mut seqs = Items::new(alloc);
+    for s in ss {
+        seqs.push(seq(alloc, s, all, owner, names, slots)?)?;
+    }
+    Ok(seqs)
+}
+
+/// A sequence with its names replaced. Its declarations take no step: they are added to the names and the variables.
+#[cycle(statement)]
+pub fn seq<'a>(
+    alloc: Global,
+    s: &TreeSeq<'a>,
+    all: &Table,
+    owner: usize,
+    names: &mut Names<'a>,
+    slots: &mut Items<Slot<'a>>,
+) -> Result<Seq<'a>, AllocError>
+    requires { IsTotalled names.old.table names.old.totals names.old.constants }
+    ensures seq { IfOk result (λ x. x ≡ (numbered_seq s.now all.now owner (known names.old.table slots.old)).0) }
+    ensures known { OnOk result (known names.new.table slots.new ≡ (numbered_seq s.now all.now owner (known names.old.table slots.old)).1) }
+    ensures totalled { OnOk result (IsTotalled names.new.table names.new.totals names.new.constants) }
+{
+    let mut steps = Items::new(alloc);
+    for i in s.items.as_slice() {
+        item(alloc, i, all, owner, names, slots, &mut steps)?;
+    }
+    Ok(Seq { steps })
+}

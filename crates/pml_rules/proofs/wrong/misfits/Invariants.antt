@@ -1,6 +1,0 @@
-use Rattle.std.proofs.Common.{◌≡◌, drop}
-use Rattle.pml_rules.specs.Conditions.{misfits}
-use Rattle.pml_rules.proofs.wrong.misfits.Given as goal
-
-abbrev pub invariant-loop-step : goal.invariant-loop-step
-invariant-loop-step l = misfits l.table l.used l.here (drop l.step-index l.steps) ≡ misfits l.table l.used l.fn.form l.steps

@@ -1,0 +1,304 @@
+//! How rows write a checked model.
+//!
+//! A place is `G` or `L` (global or local) and the variable's number, then for each turn `+offset:length*stride[index]`. A variable is
+//! its name, `+offset:length*stride`, and what it begins with.
+use pml_lex::token::Token;
+use pml_program::program::{
+    Action, Basic, Fields, Initial, Proctype, Program, Run, Seq, Slot, Stmt,
+};
+use pml_program::expr::{Target, Turn, Expr, Want};
+use sqlite_items::Items;
+use std::alloc::{AllocError, Global};
+
+fn word(out: &mut String, text: &str) -> Result<(), AllocError> {
+    out.push_str(text)
+}
+
+fn number(alloc: Global, out: &mut String, n: usize) -> Result<(), AllocError> {
+    out.push_str(format!(in alloc; "{n}")?.as_str())
+}
+
+fn token(out: &mut String, t: &Token<'_>) -> Result<(), AllocError> {
+    for byte in t.text() {
+        out.push(char::from(*byte))?;
+    }
+    Ok(())
+}
+
+#[cycle(value)]
+fn value(alloc: Global, out: &mut String, v: &Expr) -> Result<(), AllocError> {
+    match v {
+        Expr::Number(n) => {
+            let n = *n;
+            Ok(out.push_str(format!(in alloc; "{n}")?.as_str())?)
+        }
+        Expr::Pid => Ok(word(out, "_pid")?),
+        Expr::ProcessCount => Ok(word(out, "_nr_pr")?),
+        Expr::Timeout => Ok(word(out, "timeout")?),
+        Expr::Read(t) => Ok(target(alloc, out, t)?),
+        Expr::Ask(_, t) => {
+            word(out, "ask ")?;
+            Ok(target(alloc, out, t)?)
+        }
+        Expr::Poll(t, _, ws) => {
+            word(out, "poll ")?;
+            target(alloc, out, t)?;
+            Ok(wants(alloc, out, ws)?)
+        }
+        Expr::Unary(_, a) => {
+            word(out, "(op ")?;
+            value(alloc, out, a.get())?;
+            Ok(word(out, ")")?)
+        }
+        Expr::Binary(_, a, b) => {
+            word(out, "(")?;
+            value(alloc, out, a.get())?;
+            word(out, " op ")?;
+            value(alloc, out, b.get())?;
+            Ok(word(out, ")")?)
+        }
+        Expr::Choice(a, b, c) => {
+            word(out, "(")?;
+            value(alloc, out, a.get())?;
+            word(out, " -> ")?;
+            value(alloc, out, b.get())?;
+            word(out, " : ")?;
+            value(alloc, out, c.get())?;
+            Ok(word(out, ")")?)
+        }
+    }
+}
+
+#[cycle(value)]
+fn wants(alloc: Global, out: &mut String, ws: &Items<Want>) -> Result<(), AllocError> {
+    for w in ws.as_slice() {
+        word(out, " ")?;
+        want(alloc, out, w)?;
+    }
+    Ok(())
+}
+
+#[cycle(value)]
+fn want(alloc: Global, out: &mut String, w: &Want) -> Result<(), AllocError> {
+    match w {
+        Want::Exactly(n) => {
+            let n = *n;
+            Ok(out.push_str(format!(in alloc; "={n}")?.as_str())?)
+        }
+        Want::Equal(a) => {
+            word(out, "==")?;
+            Ok(value(alloc, out, a.get())?)
+        }
+        Want::Into(t) => Ok(target(alloc, out, t)?),
+        Want::Anything => Ok(word(out, "_")?),
+    }
+}
+
+#[cycle(value)]
+fn target(alloc: Global, out: &mut String, t: &Target) -> Result<(), AllocError> {
+    word(out, if t.local { "L" } else { "G" })?;
+    number(alloc, out, t.variable)?;
+    for one in t.turns.as_slice() {
+        turn(alloc, out, one)?;
+    }
+    Ok(())
+}
+
+#[cycle(value)]
+fn turn(alloc: Global, out: &mut String, t: &Turn) -> Result<(), AllocError> {
+    let (offset, length, stride) = (t.offset, t.length, t.stride);
+    out.push_str(format!(in alloc; "+{offset}:{length}*{stride}")?.as_str())?;
+    match &t.index {
+        None => Ok(()),
+        Some(a) => {
+            word(out, "[")?;
+            value(alloc, out, a.get())?;
+            Ok(word(out, "]")?)
+        }
+    }
+}
+
+fn values(alloc: Global, out: &mut String, vs: &Items<Expr>) -> Result<(), AllocError> {
+    for v in vs.as_slice() {
+        word(out, " ")?;
+        value(alloc, out, v)?;
+    }
+    Ok(())
+}
+
+fn run(alloc: Global, out: &mut String, r: &Run) -> Result<(), AllocError> {
+    word(out, "run ")?;
+    number(alloc, out, r.process)?;
+    values(alloc, out, &r.arguments)
+}
+
+fn store(alloc: Global, out: &mut String, to: &Option<Target>) -> Result<(), AllocError> {
+    match to {
+        None => word(out, "_ = "),
+        Some(t) => {
+            target(alloc, out, t)?;
+            word(out, " = ")
+        }
+    }
+}
+
+fn action(alloc: Global, out: &mut String, a: &Action<'_>) -> Result<(), AllocError> {
+    match a {
+        Action::Else => word(out, "else"),
+        Action::Assign(t, v) => {
+            store(alloc, out, t)?;
+            value(alloc, out, v)
+        }
+        Action::AssignRun(t, r) => {
+            store(alloc, out, t)?;
+            run(alloc, out, r)
+        }
+        Action::Increment(t) => {
+            word(out, "++")?;
+            target(alloc, out, t)
+        }
+        Action::Decrement(t) => {
+            word(out, "--")?;
+            target(alloc, out, t)
+        }
+        Action::Run(r) => run(alloc, out, r),
+        Action::Send(t, sorted, vs) => {
+            target(alloc, out, t)?;
+            word(out, if *sorted { " !!" } else { " !" })?;
+            values(alloc, out, vs)
+        }
+        Action::Receive(t, _, _, ws) => {
+            target(alloc, out, t)?;
+            word(out, " ?")?;
+            wants(alloc, out, ws)
+        }
+        Action::Printf(text, vs) => {
+            token(out, text)?;
+            values(alloc, out, vs)
+        }
+        Action::Printm(v) => value(alloc, out, v),
+        Action::Assert(v) => {
+            word(out, "assert ")?;
+            value(alloc, out, v)
+        }
+        Action::Holds(v) => value(alloc, out, v),
+    }
+}
+
+#[cycle(statement)]
+fn basic(alloc: Global, out: &mut String, b: &Basic<'_>) -> Result<(), AllocError> {
+    match b {
+        Basic::Plain(a) => Ok(action(alloc, out, a)?),
+        Basic::Goto(l) => {
+            word(out, "goto ")?;
+            Ok(token(out, l)?)
+        }
+        Basic::Break => Ok(word(out, "break")?),
+        Basic::If(options) => {
+            word(out, "if")?;
+            Ok(seqs(alloc, out, options)?)
+        }
+        Basic::Do(options) => {
+            word(out, "do")?;
+            Ok(seqs(alloc, out, options)?)
+        }
+        Basic::Block(s) => Ok(seq(alloc, out, s)?),
+        Basic::Atomic(s) => Ok(seq(alloc, out, s)?),
+        Basic::DStep(s) => Ok(seq(alloc, out, s)?),
+        Basic::Unless(main, escape) => {
+            seq(alloc, out, main)?;
+            word(out, " unless ")?;
+            Ok(seq(alloc, out, escape)?)
+        }
+    }
+}
+
+#[cycle(statement)]
+fn seqs(alloc: Global, out: &mut String, ss: &Items<Seq<'_>>) -> Result<(), AllocError> {
+    for s in ss.as_slice() {
+        word(out, " ::")?;
+        seq(alloc, out, s)?;
+    }
+    Ok(())
+}
+
+#[cycle(statement)]
+fn seq(alloc: Global, out: &mut String, s: &Seq<'_>) -> Result<(), AllocError> {
+    word(out, "{")?;
+    for one in s.steps.as_slice() {
+        stmt(alloc, out, one)?;
+    }
+    Ok(word(out, "}")?)
+}
+
+#[cycle(statement)]
+fn stmt(alloc: Global, out: &mut String, s: &Stmt<'_>) -> Result<(), AllocError> {
+    for label in s.labels.as_slice() {
+        token(out, label)?;
+        word(out, ": ")?;
+    }
+    basic(alloc, out, &s.basic)?;
+    Ok(word(out, "; ")?)
+}
+
+fn slot(alloc: Global, out: &mut String, s: &Slot<'_>) -> Result<(), AllocError> {
+    token(out, &s.name)?;
+    let (offset, length, stride) = (s.offset, s.length, s.stride);
+    out.push_str(format!(in alloc; "+{offset}:{length}*{stride}")?.as_str())?;
+    match &s.initial {
+        Initial::Zero => word(out, "; "),
+        Initial::Value(v) => {
+            word(out, " = ")?;
+            value(alloc, out, v)?;
+            word(out, "; ")
+        }
+        Initial::Channel(n, fields) => {
+            let (n, m) = (*n, fields.len());
+            out.push_str(format!(in alloc; " = [{n}] of {m}; ")?.as_str())
+        }
+    }
+}
+
+fn slots(alloc: Global, out: &mut String, all: &Items<Slot<'_>>) -> Result<(), AllocError> {
+    for one in all.as_slice() {
+        slot(alloc, out, one)?;
+    }
+    Ok(())
+}
+
+fn fields(alloc: Global, out: &mut String, f: &Fields<'_>) -> Result<(), AllocError> {
+    word(out, "typedef ")?;
+    number(alloc, out, f.owner)?;
+    word(out, " ")?;
+    slots(alloc, out, &f.fields)?;
+    word(out, "\n")
+}
+
+fn process(alloc: Global, out: &mut String, p: &Proctype<'_>) -> Result<(), AllocError> {
+    let (owner, starts, parameters) = (p.owner, p.starts, p.parameters);
+    token(out, &p.name)?;
+    out.push_str(format!(in alloc; " {owner} starts {starts} parameters {parameters} ")?.as_str())?;
+    slots(alloc, out, &p.variables)?;
+    seq(alloc, out, &p.body)?;
+    token(out, &p.end)?;
+    word(out, "\n")
+}
+
+/// A checked model as a row writes it, a line for the globals, one for the mtype names, and one for each typedef and proctype.
+pub fn written(alloc: Global, program: &Program<'_>) -> Result<String, AllocError> {
+    let mut out = String::new(alloc);
+    slots(alloc, &mut out, &program.globals)?;
+    word(&mut out, "\n")?;
+    for name in program.constants.as_slice() {
+        token(&mut out, name)?;
+        word(&mut out, " ")?;
+    }
+    word(&mut out, "\n")?;
+    for one in program.typedefs.as_slice() {
+        fields(alloc, &mut out, one)?;
+    }
+    for one in program.proctypes.as_slice() {
+        process(alloc, &mut out, one)?;
+    }
+    Ok(out)
+}
