@@ -17,8 +17,9 @@ mod whole;
 mod writing;
 
 pub use choice::Answer;
+pub use diagnostics::Stop;
 pub use line::{Cut, Line};
-pub use machine::{Machine, Stop};
+pub use machine::Machine;
 pub use refused::{refuse, refuse_unserved};
 pub use whole::{end_of, failure, play, run};
 

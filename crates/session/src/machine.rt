@@ -4,17 +4,8 @@ ghost use Rattle.std.specs.List.{Contains};
 ghost use Rattle.session.specs.Machine.{Rules};
 ghost use Rattle.session.specs.Takes.{Takes};
 
-use diagnostics::Fault;
+use diagnostics::Stop;
 use std::alloc::{AllocError, Global};
-
-/// Why a step was not taken.
-#[derive(Clone, Copy, Debug, PartialEq, Eq)]
-pub enum Stop {
-    /// The step is a fault of the run.
-    Fault(Fault),
-    /// There was no memory for it.
-    Memory,
-}
 
 /// A machine whose moves are taken one by one. Its `rules` are what contracts know of it: as functions of its state, the
 /// list of moves, what a step leads to, and the texts.
