@@ -5,7 +5,7 @@ use Rattle.pml_program.specs.declared.form.Form.{Form}
 use Rattle.pml_program.specs.declared.form.Form.TheVariants.{Plain}
 use Rattle.pml_tree.specs.declared.tree.Scalar.TheVariants.{Bit}
 use Rattle.pml_eval.specs.Clip.{clipped}
-use Rattle.pml_channel.specs.Contents.{cut, is_greater, sorted_in, IsChannel}
+use Rattle.pml_channel.specs.State.{cut, is_greater, sorted_in, IsChannel}
 use Rattle.std.proofs.lemmas.List.{length_push, at_drop_more}
 
 pub length-cut : (ks : List Form) (xs : List ℤ) → length xs ≡ length ks → length (cut ks xs) ≡ length ks

@@ -3,7 +3,7 @@
 ghost use Rattle.std.specs.Prelude.{◌≡◌, ◌<◌, ◌≤◌, ◌++◌, ◌∷◌, [], length, OnOk, OnErr, IfOk, remove, slice_get, Some, insert};
 ghost use Rattle.std.specs.List.{AllByRecursion, position_from};
 ghost use Rattle.pml_eval.specs.Pattern.{matched};
-ghost use Rattle.pml_channel.specs.Contents.{cut, sorted_in, is_greater};
+ghost use Rattle.pml_channel.specs.State.{cut, sorted_in, is_greater};
 
 use pml_eval::clip::clip;
 use pml_eval::pattern::{Sought, matches};
@@ -22,9 +22,9 @@ pub struct Channel {
 
 impl Model for Channel {
     ghost use Rattle.std.specs.Prelude.{◌≤◌, vec_len};
-    ghost use Rattle.pml_channel.specs.Contents.{Contents, IsChannel};
+    ghost use Rattle.pml_channel.specs.State.{ChannelState, IsChannel};
 
-    ghost Value = { Contents };
+    ghost Value = { ChannelState };
 
     ghost view = { λ c. record { capacity = c.capacity; types = c.types; messages = c.messages.items } };
 

@@ -5,7 +5,7 @@ ghost use Rattle.pml_check.specs.Decided.{DecidesStart};
 
 use pml_program::program::Program;
 use pml_start::start::start;
-use pml_value::stop::Stop;
+use diagnostics::Stop;
 use std::alloc::{AllocError, Global};
 
 /// Whether what a variable of the first state begins with cannot be evaluated.

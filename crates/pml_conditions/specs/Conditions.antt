@@ -1,7 +1,7 @@
 -- The conditions on names, kinds, counts and ranges: each is asked of one mark and what is declared before it.
-use Rattle.std.specs.List.{list_any}
-use Rattle.std.specs.Prelude.{codes, ℕ, ◌+◌, ◌*◌, nat_eq, nat_lt, ◌-◌, Bool, true, false, not, ◌&&◌, ◌||◌, if◌then◌else◌, is_some, is_none, List, [], ◌∷◌, length, take, Option, Some, None, pos, negsuc}
+use Rattle.std.specs.Prelude.{ℕ, ◌+◌, ◌*◌, nat_eq, nat_lt, ◌-◌, Bool, true, false, not, ◌&&◌, ◌||◌, if◌then◌else◌, is_some, is_none, List, [], ◌∷◌, length, take, Option, Some, None, pos, negsuc}
 use mathlib.Core.Bool.{beq}
+use Rattle.limits.specs.declared.TheConstants.{MOST_BITS, MOST_CELLS, MOST_CONSTANTS, MOST_FIELDS, MOST_MESSAGES, MOST_PROCESSES}
 use Rattle.pml_tree.specs.declared.tree.Scalar.TheVariants.{Chan}
 use Rattle.pml_marks.specs.Constant.{numeral}
 use Rattle.pml_marks.specs.declared.mark.Constant.{Constant}
@@ -162,7 +162,7 @@ wrong all es o _ = false
 -- ---- run against its parameters, printf against its conversions
 
 abbrev pub is_conversion : ℕ → Bool
-is_conversion c = list_any (nat_eq c) (codes "duoxce")
+is_conversion c = nat_eq c 100 || (nat_eq c 117 || (nat_eq c 111 || (nat_eq c 120 || (nat_eq c 99 || nat_eq c 101))))
 
 -- how many values the text of a printf takes, or none where it has a conversion that is lacking; `\%` begins none
 abbrev pub one_more : Option ℕ → Option ℕ
@@ -226,12 +226,12 @@ out_of least most (Some n) = nat_lt n least || nat_lt most n
 
 abbrev pub out_of_range : List Entry → What → Bool
 out_of_range es (what.Number n) = is_none (numeral n.text)
-out_of_range es (what.Width n) = out_of 1 32 (numeral n.text)
-out_of_range es (what.Size c) = is_outside 1 1000000 c
-out_of_range es (what.Starts c) = is_outside 1 255 c
+out_of_range es (what.Width n) = out_of 1 MOST_BITS (numeral n.text)
+out_of_range es (what.Size c) = is_outside 1 MOST_CELLS c
+out_of_range es (what.Starts c) = is_outside 1 MOST_PROCESSES c
 out_of_range es (what.Preset c) = is_faulty c
-out_of_range es (what.Channel h c n) = is_outside 0 65535 c || nat_lt 255 n
-out_of_range es (what.Declares n declared_as.Constant) = nat_lt 254 (constants es)
+out_of_range es (what.Channel h c n) = is_outside 0 MOST_MESSAGES c || nat_lt MOST_FIELDS n
+out_of_range es (what.Declares n declared_as.Constant) = not (nat_lt (constants es) MOST_CONSTANTS)
 out_of_range es _ = false
 
 -- ---- too many cells
@@ -243,8 +243,8 @@ capacity _ = 0
 -- of the globals, of a proctype's parameters and locals, of one channel; a typedef's own are not asked
 abbrev pub too_many : List Entry → ℕ → What → Bool
 too_many es o (what.Declares n (declared_as.Variable role.Variable s size makes)) =
-    nat_lt 1000000 (held es o + length_of size * stride es o s)
-too_many es o (what.Channel h c n) = nat_lt 1000000 (capacity c * n)
+    nat_lt MOST_CELLS (held es o + length_of size * stride es o s)
+too_many es o (what.Channel h c n) = nat_lt MOST_CELLS (capacity c * n)
 too_many es o _ = false
 
 -- ---- all of these

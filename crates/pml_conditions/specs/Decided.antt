@@ -1,5 +1,6 @@
 -- Which rules refuse a model.
 use Rattle.std.specs.Prelude.{◌≡◌, ◌⊎◌, ℕ, ◌<◌, ◌≤◌, Bool, true, false, List, take, slice_get, Some}
+use Rattle.limits.specs.declared.TheConstants.{MOST_CHANNELS, MOST_PROCESSES}
 use Rattle.pml_marks.specs.declared.mark.Mark.{Mark}
 use Rattle.pml_names.specs.Env.{env}
 use Rattle.pml_conditions.specs.declared.rule.Rule.{Rule}
@@ -35,7 +36,7 @@ abbrev pub Applies : Rule → List Mark → Type 0
 Applies rule.Break ms = Somewhere breaks_loose ms
 Applies rule.Step ms = Somewhere (crosses_step ms) ms
 Applies rule.NoProcess ms = Nowhere begins_there ms
-Applies rule.Start ms = (255 < processes ms) ⊎ (255 < first_channels ms)
+Applies rule.Start ms = (MOST_PROCESSES < processes ms) ⊎ (MOST_CHANNELS < first_channels ms)
 Applies r ms = Somewhere (broken r ms) ms
 
 -- it does not
@@ -43,7 +44,7 @@ abbrev pub Fits : Rule → List Mark → Type 0
 Fits rule.Break ms = Nowhere breaks_loose ms
 Fits rule.Step ms = Nowhere (crosses_step ms) ms
 Fits rule.NoProcess ms = Somewhere begins_there ms
-Fits rule.Start ms = (processes ms ≤ 255) × (first_channels ms ≤ 255)
+Fits rule.Start ms = (processes ms ≤ MOST_PROCESSES) × (first_channels ms ≤ MOST_CHANNELS)
 Fits r ms = Nowhere (broken r ms) ms
 
 abbrev pub Decides : Bool → Rule → List Mark → Type 0

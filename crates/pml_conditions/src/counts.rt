@@ -6,6 +6,7 @@ ghost use Rattle.pml_names.specs.Env.{held, stride, length_of};
 ghost use Rattle.pml_names.specs.Totals.{IsTotalled};
 
 use pml_marks::arithmetic::read;
+use limits::{MOST_BITS, MOST_CELLS, MOST_CONSTANTS, MOST_FIELDS, MOST_MESSAGES, MOST_PROCESSES};
 use pml_marks::mark::{Constant, Declared, Role, What};
 use pml_names::meaning::{is_special, meaning};
 use pml_names::names::{Names, length_of, stride};
@@ -65,12 +66,14 @@ pub fn out_of_range(names: &Names, what: &What) -> bool
 {
     match what {
         What::Number(n) => read(n.text()).is_none(),
-        What::Width(n) => out_of(1, 32, read(n.text())),
-        What::Size(c) => is_outside(1, 1_000_000, *c),
-        What::Starts(c) => is_outside(1, 255, *c),
+        What::Width(n) => out_of(1, MOST_BITS, read(n.text())),
+        What::Size(c) => is_outside(1, MOST_CELLS as i32, *c),
+        What::Starts(c) => is_outside(1, MOST_PROCESSES as i32, *c),
         What::Preset(Constant::Faulty) => true,
-        What::Channel(_, c, n) => is_outside(0, 65_535, *c) || 255 < *n,
-        What::Declares(_, Declared::Constant) => 254 < names.constants,
+        What::Channel(_, c, n) => {
+            is_outside(0, MOST_MESSAGES as i32, *c) || MOST_FIELDS < *n
+        },
+        What::Declares(_, Declared::Constant) => MOST_CONSTANTS <= names.constants,
         _ => false,
     }
 }
@@ -97,10 +100,10 @@ pub fn too_many(names: &Names, owner: usize, what: &What) -> bool
         What::Declares(_, Declared::Variable(Role::Variable, sort, size, _)) => {
             let before = u64::from(at(names.totals.as_slice(), owner).cells);
             let more = u64::from(length_of(*size)) * u64::from(stride(&names.table, owner, sort));
-            1_000_000 < before + more
+            u64::from(MOST_CELLS) < before + more
         }
         What::Channel(_, c, n) => match u32::try_from(*n) {
-            Ok(n) => 1_000_000 < capacity(*c) * u64::from(n),
+            Ok(n) => u64::from(MOST_CELLS) < capacity(*c) * u64::from(n),
             Err(_) => 0 < capacity(*c),
         },
         _ => false,

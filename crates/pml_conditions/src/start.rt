@@ -7,6 +7,7 @@ ghost use Rattle.pml_conditions.specs.Decided.{Finds, begins_there, Decides};
 ghost use Rattle.pml_conditions.specs.declared.rule.Rule.TheVariants as rule;
 
 use crate::counts::capacity;
+use limits::{MOST_CHANNELS, MOST_PROCESSES};
 use pml_marks::mark::{Declared, Makes, Mark, What};
 use pml_names::names::{form, length_of};
 use pml_names::table::Table;
@@ -141,10 +142,10 @@ pub fn starts_too_many(alloc: Global, all: &Table, marks: &[Mark]) -> Result<boo
     requires { all.now ≡ env marks.now }
     ensures { IfOk result (λ b. Decides b rule.Start marks.now) }
 {
-    if 255 < processes(marks) {
+    if (MOST_PROCESSES as u64) < processes(marks) {
         return Ok(true);
     }
     let counts = channels(alloc, all, marks)?;
     let total = u64::from(at(counts.as_slice(), 0)) + by_processes(counts.as_slice(), marks);
-    Ok(255 < total)
+    Ok((MOST_CHANNELS as u64) < total)
 }

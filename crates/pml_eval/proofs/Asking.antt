@@ -2,6 +2,8 @@
 use Rattle.std.proofs.Common.{◌≡◌, ℕ, ◌+◌, ◌<◌, Bool, true, false, ◌||◌, ◌&&◌, List, [], ◌∷◌, length, get_or, Result, Ok, Err, ℤ, pos, map, drop, refl, sym, ap, subst, ◌∙◌, arith}
 use Rattle.std.proofs.lemmas.List.{at_drop_more}
 use Rattle.diagnostics.specs.declared.fault.Fault.{Fault}
+use Rattle.pml_tree.specs.declared.tree.Search.{Search}
+use Rattle.pml_tree.specs.declared.tree.Search.TheVariants.{Matching}
 use Rattle.pml_program.specs.declared.expr.Want.{Want}
 use Rattle.pml_eval.specs.declared.pattern.Sought.{Sought}
 use Rattle.pml_eval.specs.Pattern.{matched, taken}
@@ -49,7 +51,7 @@ Rest-next i wants xs r ws d w l k e t h all =
     )
 
 -- a message that does not match is passed over
-pub match-next : (any : Bool) (ws : List Sought) (ms : List (List ℤ)) (i : ℕ) → i < length ms → any ≡ true → matched ws (get_or ms i []) ≡ false → is_match any ws (drop (i + 1) ms) ≡ is_match any ws (drop i ms)
-match-next any ws ms i l a e =
-    subst (λ (b : Bool). is_match b ws (drop (i + 1) ms) ≡ is_match b ws (drop i ms)) (sym a)
-    (sym (at_drop_more (is_match true ws) ms i [] l ∙ ap (λ (b : Bool). b || is_match true ws (drop (i + 1) ms)) e))
+pub match-next : (search : Search) (ws : List Sought) (ms : List (List ℤ)) (i : ℕ) → i < length ms → search ≡ Matching → matched ws (get_or ms i []) ≡ false → is_match search ws (drop (i + 1) ms) ≡ is_match search ws (drop i ms)
+match-next search ws ms i l a e =
+    subst (λ (b : Search). is_match b ws (drop (i + 1) ms) ≡ is_match b ws (drop i ms)) (sym a)
+    (sym (at_drop_more (is_match Matching ws) ms i [] l ∙ ap (λ (b : Bool). b || is_match Matching ws (drop (i + 1) ms)) e))

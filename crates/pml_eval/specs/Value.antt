@@ -1,6 +1,8 @@
 -- The value of an expression.
 use Rattle.std.specs.Prelude.{ℕ, ◌+◌, ◌*◌, Bool, true, false, not, ◌||◌, if◌then◌else◌, ◌==◌, nat_lt, length, List, [], ◌∷◌, ℤ, pos, negsuc, Option, Some, None, Result, Ok, Err}
 use Rattle.pml_tree.specs.declared.tree.Infix.{Infix}
+use Rattle.pml_tree.specs.declared.tree.Search.{Search}
+use Rattle.pml_tree.specs.declared.tree.Search.TheVariants.{First, Matching}
 use Rattle.pml_tree.specs.declared.tree.Fill.{Fill}
 use Rattle.pml_tree.specs.declared.tree.Fill.TheVariants.{Length, IsEmpty, IsFull, IsNotEmpty, IsNotFull}
 use Rattle.diagnostics.specs.declared.fault.Fault.{Fault}
@@ -12,7 +14,7 @@ use Rattle.pml_eval.specs.declared.pattern.Sought.TheVariants.{Exactly, Into, An
 use Rattle.pml_eval.specs.Pattern.{matched}
 use Rattle.pml_program.specs.declared.expr.Target.{Target, Target-F, fold-Target}
 use Rattle.pml_program.specs.declared.expr.Turn.{Turn, Turn-F, fold-Turn}
-use Rattle.pml_eval.specs.declared.ground.Place.{Place}
+use Rattle.pml_store.specs.declared.place.Place.{Place}
 use Rattle.pml_eval.specs.Operators.{truth, is_zero, prefixed, infixed, decided}
 
 -- a channel as an expression sees it: how many messages and fields it may have, and its messages
@@ -21,13 +23,14 @@ pub record Filling : Type 0 where
   pub fields : ℕ
   pub messages : List (List ℤ)
 
--- what an expression may read: how many cells a variable has, by whether it is local and by its number; what a place holds; the
--- number of the process and of the live ones; `timeout`; and what a channel's number names
+-- what an expression may read: the frame of local variables and that of global ones; how many cells a variable of a frame has;
+-- what a place holds; the number of the process, and how many live; `timeout`; and what a channel's number names
 pub record Reading : Type 0 where
-  pub cells : Bool → ℕ → ℕ
+  pub frame : Bool → ℕ
+  pub cells : ℕ → ℕ → ℕ
   pub holds : Place → ℤ
-  pub process : ℤ
-  pub living : ℤ
+  pub pid : ℤ
+  pub process_count : ℤ
   pub timeout : Bool
   pub channel : ℤ → Option Filling
 
@@ -49,21 +52,21 @@ asked fill None = Err NoSuchChannel
 asked fill (Some c) = Ok (filled fill c)
 
 -- whether the oldest message matches, or any
-abbrev pub is_match : Bool → List Sought → List (List ℤ) → Bool
-is_match any ws [] = false
-is_match false ws (m ∷ ms) = matched ws m
-is_match true ws (m ∷ ms) = matched ws m || is_match true ws ms
+abbrev pub is_match : Search → List Sought → List (List ℤ) → Bool
+is_match search ws [] = false
+is_match First ws (m ∷ ms) = matched ws m
+is_match Matching ws (m ∷ ms) = matched ws m || is_match Matching ws ms
 
 abbrev pub messages_of : Option Filling → List (List ℤ)
 messages_of None = []
 messages_of (Some c) = c.messages
 
 -- a poll of a channel that is there: the number of fields, then the fill, then the pattern
-abbrev pub polled : Bool → ℕ → Result (List Sought) Fault → Option Filling → Result ℤ Fault
-polled any count wants None = Err NoSuchChannel
-polled any count wants (Some c) =
+abbrev pub polled : Search → ℕ → Result (List Sought) Fault → Option Filling → Result ℤ Fault
+polled search count wants None = Err NoSuchChannel
+polled search count wants (Some c) =
     if not (count == c.fields) then Err WrongNumberOfFields
-    else (if length c.messages == 0 || c.capacity == 0 then Ok (pos 0) else (wants >>= λ ws. Ok (truth (is_match any ws c.messages))))
+    else (if length c.messages == 0 || c.capacity == 0 then Ok (pos 0) else (wants >>= λ ws. Ok (truth (is_match search ws c.messages))))
 
 -- an index within its array
 abbrev pub within : ℕ → ℤ → Result ℕ Fault
@@ -109,12 +112,12 @@ settled (Err f) = Err f
 
 abbrev pub value_step : Expr-F Valued Wanted Placed Turned → Valued
 value_step (Expr-F.Number n) r = Ok n
-value_step Expr-F.Pid r = Ok r.process
-value_step Expr-F.ProcessCount r = Ok r.living
+value_step Expr-F.Pid r = Ok r.pid
+value_step Expr-F.ProcessCount r = Ok r.process_count
 value_step Expr-F.Timeout r = Ok (truth r.timeout)
 value_step (Expr-F.Read p) r = p r >>= λ at. Ok (r.holds at)
 value_step (Expr-F.Ask fill p) r = p r >>= λ at. asked fill (r.channel (r.holds at))
-value_step (Expr-F.Poll p any args) r = p r >>= λ at. polled any (length args) (wants_of args r) (r.channel (r.holds at))
+value_step (Expr-F.Poll p search args) r = p r >>= λ at. polled search (length args) (wants_of args r) (r.channel (r.holds at))
 value_step (Expr-F.Unary op a) r = a r >>= λ x. Ok (prefixed op x)
 value_step (Expr-F.Binary op a b) r = a r >>= λ x. or_both op x (decided op x) (b r)
 value_step (Expr-F.Choice a b c) r = a r >>= λ x. if_zero x (c r) (b r)
@@ -132,7 +135,8 @@ cells_of (s ∷ ss) whole cell r = s r >>= λ n. inside whole (cell + n) >>= λ 
 
 abbrev pub target_step : Target-F Valued Wanted Placed Turned → Placed
 target_step p r =
-    inside (r.cells p.local p.variable) 0 >>= λ c. cells_of p.turns (r.cells p.local p.variable) c r >>= λ cell. Ok (record { local = p.local; variable = p.variable; cell = cell })
+    let whole = r.cells (r.frame p.local) p.variable in
+    inside whole 0 >>= λ c. cells_of p.turns whole c r >>= λ cell. Ok (record { frame = r.frame p.local; variable = p.variable; cell = cell })
 
 abbrev pub index_of : Option Valued → ℕ → Reading → Result ℕ Fault
 index_of None length r = Ok 0

@@ -6,12 +6,13 @@ ghost use Rattle.pml_eval.specs.Value.{val, place, cells, want, wants_of, asked,
 ghost use Rattle.pml_eval.specs.Pattern.{matched};
 ghost use Rattle.pml_eval.specs.Ground.{shown};
 
-use crate::ground::{Filled, Ground, Place};
+use crate::ground::{Filled, Ground};
+use pml_store::place::Place;
 use crate::operators::{decide, infix, number_of, prefix};
 use crate::pattern::{Sought, takes};
 use diagnostics::Fault;
 use pml_program::expr::{Target, Turn, Expr, Want};
-use pml_tree::tree::Fill;
+use pml_tree::tree::{Fill, Search};
 use sqlite_items::Items;
 use std::alloc::{AllocError, Global};
 
@@ -22,12 +23,12 @@ pub fn eval<G: Ground>(e: &Expr, ground: &G) -> Result<i32, Fault>
 {
     match e {
         Expr::Number(n) => Ok(*n),
-        Expr::Pid => Ok(ground.process()),
-        Expr::ProcessCount => Ok(ground.living()),
+        Expr::Pid => Ok(ground.pid()),
+        Expr::ProcessCount => Ok(ground.process_count()),
         Expr::Timeout => Ok(number_of(ground.timeout())),
-        Expr::Poll(target, any, arguments) => {
+        Expr::Poll(target, search, arguments) => {
             let at = place(target, ground)?;
-            poll(arguments.as_slice(), *any, at, ground)
+            poll(arguments.as_slice(), *search, at, ground)
         }
         Expr::Unary(op, a) => {
             let x = eval(a.get(), ground)?;
@@ -60,11 +61,11 @@ pub fn eval<G: Ground>(e: &Expr, ground: &G) -> Result<i32, Fault>
     }
 }
 
-/// Whether the oldest message matches, or with `any` one of them.
+/// Whether the oldest message matches, or any of them, as the search has it.
 #[cycle(eval)]
-fn poll<G: Ground>(arguments: &[Want], any: bool, at: Place, ground: &G) -> Result<i32, Fault>
-    requires { at.cell < (G.reading ground.now).cells at.local at.variable }
-    ensures { result ≡ polled any (length arguments.now) (wants_of (map want arguments.now) (G.reading ground.now)) ((G.reading ground.now).channel ((G.reading ground.now).holds at)) }
+fn poll<G: Ground>(arguments: &[Want], search: Search, at: Place, ground: &G) -> Result<i32, Fault>
+    requires { at.cell < (G.reading ground.now).cells at.frame at.variable }
+    ensures { result ≡ polled search (length arguments.now) (wants_of (map want arguments.now) (G.reading ground.now)) ((G.reading ground.now).channel ((G.reading ground.now).holds at)) }
 {
     let number = ground.number(at);
     let Some(c) = ground.channel(number) else {
@@ -77,7 +78,7 @@ fn poll<G: Ground>(arguments: &[Want], any: bool, at: Place, ground: &G) -> Resu
         return Ok(0);
     }
     first_fault(arguments, ground)?;
-    Ok(number_of(has_match(arguments, any, number, c.length, ground)?))
+    Ok(number_of(has_match(arguments, search, number, c.length, ground)?))
 }
 
 /// The first fault from the left in what is asked, if there is one.
@@ -91,23 +92,23 @@ fn first_fault<G: Ground>(arguments: &[Want], ground: &G) -> Result<(), Fault>
     Ok(())
 }
 
-/// Whether a message of this channel matches: the oldest, or with `any` one of them. What is asked has no fault.
+/// Whether a message of this channel matches: the oldest, or any of them. What is asked has no fault.
 #[cycle(eval)]
 fn has_match<G: Ground>(
     arguments: &[Want],
-    any: bool,
+    search: Search,
     number: i32,
     messages: u16,
     ground: &G,
 ) -> Result<bool, Fault>
     requires { messages ≡ length (messages_of ((G.reading ground.now).channel number)) }
-    ensures { (ws : List Sought) → wants_of (map want arguments.now) (G.reading ground.now) ≡ Ok ws → result ≡ Ok (is_match any ws (messages_of ((G.reading ground.now).channel number))) }
+    ensures { (ws : List Sought) → wants_of (map want arguments.now) (G.reading ground.now) ≡ Ok ws → result ≡ Ok (is_match search ws (messages_of ((G.reading ground.now).channel number))) }
 {
     for place in 0..messages as usize {
         if is_asked(arguments, ground.message(number, place), ground)? {
             return Ok(true);
         }
-        if !any {
+        if let Search::First = search {
             return Ok(false);
         }
     }
@@ -166,15 +167,16 @@ fn want<G: Ground>(argument: &Want, ground: &G) -> Result<Sought, Fault>
 #[cycle(eval)]
 pub fn place<G: Ground>(target: &Target, ground: &G) -> Result<Place, Fault>
     ensures value { result ≡ place target.now (G.reading ground.now) }
-    ensures there { IfOk result (λ p. p.cell < (G.reading ground.now).cells p.local p.variable) }
+    ensures there { IfOk result (λ p. p.cell < (G.reading ground.now).cells p.frame p.variable) }
 {
-    let whole = ground.size(target.local, target.variable);
+    let frame = ground.frame(target.local);
+    let whole = ground.size(frame, target.variable);
     let mut cell = further(whole, 0, 0)?;
     for turn in target.turns.as_slice() {
         cell = further(whole, cell, cells(turn, ground)?)?;
     }
     Ok(Place {
-        local: target.local,
+        frame,
         variable: target.variable,
         cell,
     })

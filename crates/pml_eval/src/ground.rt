@@ -1,12 +1,6 @@
 //! What an expression may read.
 
-/// A cell of a variable.
-#[derive(Clone, Copy, PartialEq, Eq, Debug)]
-pub struct Place {
-    pub local: bool,
-    pub variable: usize,
-    pub cell: usize,
-}
+use pml_store::place::Place;
 
 /// How full a channel is.
 #[derive(Clone, Copy, PartialEq, Eq, Debug)]
@@ -24,22 +18,26 @@ pub trait Ground {
 
     ghost reading: { Self → Reading };
 
-    /// How many cells a variable has: none if it is not there.
-    fn size(&self, local: bool, variable: usize) -> usize
-        ensures { result ≡ (reading self.now).cells local variable };
+    /// The frame of the process's own variables, or of the globals.
+    fn frame(&self, local: bool) -> usize
+        ensures { result ≡ (reading self.now).frame local };
+
+    /// How many cells a variable of a frame has: none if it is not there.
+    fn size(&self, frame: usize, variable: usize) -> usize
+        ensures { result ≡ (reading self.now).cells frame variable };
 
     /// What a place holds.
     fn number(&self, place: Place) -> i32
-        requires { place.cell < (reading self.now).cells place.local place.variable }
+        requires { place.cell < (reading self.now).cells place.frame place.variable }
         ensures { result ≡ (reading self.now).holds place };
 
     /// The number of the process.
-    fn process(&self) -> i32
-        ensures { result ≡ (reading self.now).process };
+    fn pid(&self) -> i32
+        ensures { result ≡ (reading self.now).pid };
 
     /// How many processes live.
-    fn living(&self) -> i32
-        ensures { result ≡ (reading self.now).living };
+    fn process_count(&self) -> i32
+        ensures { result ≡ (reading self.now).process_count };
 
     /// Whether nothing else can be done.
     fn timeout(&self) -> bool

@@ -3,7 +3,7 @@
 ghost use Rattle.std.specs.Prelude.{◌≡◌};
 ghost use Rattle.pml_eval.specs.Pattern.{matched, taken};
 
-use crate::ground::Place;
+use pml_store::place::Place;
 
 /// What a receive asks of one field.
 #[derive(Clone, Copy, PartialEq, Eq, Debug)]

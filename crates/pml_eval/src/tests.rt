@@ -2,7 +2,8 @@ ghost use Rattle.pml_eval.specs.Sample.{holding};
 
 use crate::clip::clip;
 use crate::eval::{eval, pattern, place};
-use crate::ground::{Filled, Ground, Place};
+use crate::ground::{Filled, Ground};
+use pml_store::place::Place;
 use crate::operators::{decide, infix, prefix};
 use crate::pattern::{Sought, matches};
 use diagnostics::Fault;

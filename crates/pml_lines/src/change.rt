@@ -50,13 +50,13 @@ pub fn global_line(
 
 // Appends how the lines of a process begin.
 fn local_heading(number: usize, proctype: &Proctype<'_>, text: &mut Vec<u8>) -> Result<(), AllocError>
-    ensures { OnOk result (text.new.items ≡ text.old.items ++ local_heading number process.now) }
+    ensures { OnOk result (text.new.items ≡ text.old.items ++ local_heading number proctype.now) }
 {
     let mut digits = Buffer::new();
     text.extend_from_slice(b"local ")?;
     text.extend_from_slice(digits.format(number).as_bytes())?;
     text.extend_from_slice(b" (")?;
-    proctype_name(&process.name, text)?;
+    proctype_name(&proctype.name, text)?;
     text.extend_from_slice(b") ")
 }
 
@@ -124,7 +124,7 @@ fn find_local<'s, 'a>(
     ensures cell { result.1 ≡ cell_of (slots_of (slice_get program.now.proctypes kind)) at }
 {
     match program.proctypes.as_slice().get(kind) {
-        Some(process) => find_slot(process.variables.as_slice(), at),
+        Some(proctype) => find_slot(proctype.variables.as_slice(), at),
         None => (None, at),
     }
 }

@@ -2,6 +2,7 @@
 use Rattle.std.specs.Prelude.{ℕ, ◌+◌, ◌*◌, nat_eq, nat_lt, min, Bool, true, false, ◌&&◌, if◌then◌else◌, is_some, List, [], ◌∷◌, ◌++◌, Option, Some, None, pos}
 use Rattle.pml_tree.specs.declared.tree.Sort.{Sort}
 use Rattle.pml_tree.specs.declared.tree.Sort.TheVariants as sort
+use Rattle.limits.specs.declared.TheConstants.{MOST_CELLS}
 use Rattle.pml_marks.specs.Constant.{numeral}
 use Rattle.pml_marks.specs.declared.mark.Constant.{Constant}
 use Rattle.pml_marks.specs.declared.mark.Constant.TheVariants.{Is}
@@ -21,7 +22,7 @@ use Rattle.pml_names.specs.Meaning.{or_else}
 
 -- cells are counted up to one more than there may be
 abbrev pub most_cells : ℕ
-most_cells = 1000001
+most_cells = MOST_CELLS + 1
 
 abbrev pub cells_in : Thing → ℕ
 cells_in (thing.Variable v) = v.length * v.stride

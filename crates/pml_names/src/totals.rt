@@ -4,6 +4,7 @@ ghost use Rattle.std.specs.Prelude.{◌≡◌, ℕ, ◌+◌, ◌<◌, ◌^◌, l
 ghost use Rattle.pml_names.specs.Totals.{none, grown, total_at};
 
 use crate::thing::Thing;
+use limits::MOST_CELLS;
 use sqlite_items::Items;
 use std::alloc::AllocError;
 
@@ -32,14 +33,14 @@ pub fn grown(total: Total, thing: Thing) -> Total
     match thing {
         Thing::Variable(v) => {
             let more = u64::from(v.length) * u64::from(v.stride);
-            let cells = (u64::from(total.cells) + more).min(1_000_001);
+            let cells = (u64::from(total.cells) + more).min(u64::from(MOST_CELLS) + 1);
             Total {
                 cells: cells as u32,
                 variables: total.variables + 1,
             }
         }
         _ => Total {
-            cells: total.cells.min(1_000_001),
+            cells: total.cells.min(MOST_CELLS + 1),
             variables: total.variables,
         },
     }

@@ -33,8 +33,8 @@ use Rattle.pml_check.specs.Checked.{IsRefused}
 use Rattle.pml_check.specs.Judged.{FitsTo, HasGoodStart, IsFit}
 use Rattle.pml_program.specs.declared.program.Program.{Program}
 use Rattle.pml_resolve.specs.Model.{numbered_model}
-use Rattle.pml_value.specs.declared.stop.Stop.{Stop}
-use Rattle.pml_value.specs.declared.stop.Stop.TheVariants as stop
+use Rattle.diagnostics.specs.declared.stop.Stop.{Stop}
+use Rattle.diagnostics.specs.declared.stop.Stop.TheVariants as stop
 use Rattle.pml_start.specs.Begin.{Begun}
 use Rattle.pml_start.specs.Start.{Starts, first_state}
 use Rattle.pml_play.specs.declared.whole.Rejection.{Rejection}

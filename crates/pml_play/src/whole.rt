@@ -23,7 +23,7 @@ use pml_lex::token::Token;
 use pml_sim::world::World;
 use pml_start::start::start;
 use pml_syntax::{SyntaxFault, parse};
-use pml_value::stop::Stop;
+use diagnostics::Stop;
 use session::{Broken, End, Options, end_of, failure, refuse, refuse_unserved, run};
 use std::alloc::{AllocError, Global};
 

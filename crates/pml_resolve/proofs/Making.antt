@@ -2,6 +2,7 @@
 use Rattle.std.proofs.Common.{◌≡◌, ℕ, ◌<◌, Bool, ℤ, List, [], ◌∷◌, map, Option, Some, None, refl, ap, sym, subst}
 use Rattle.std.specs.List.{AllByRecursion}
 use Rattle.pml_names.specs.declared.thing.Variable.{Variable}
+use Rattle.pml_tree.specs.declared.tree.Search.{Search}
 use Rattle.pml_tree.specs.declared.tree.Fill.{Fill}
 use Rattle.pml_tree.specs.declared.tree.Infix.{Infix}
 use Rattle.pml_tree.specs.declared.tree.Prefix.{Prefix}
@@ -63,10 +64,10 @@ module _ (gs ls : List Slot) where
   pub ask-fits : (f : Fill) (t : Target) → TargetFits gs ls t → ExprFits gs ls (v.Ask f t)
   ask-fits f t h = subst (ExprFits gs ls) (v.rolls-Ask f t) (value-made (Expr-F.Ask f (t, h)))
 
-  pub poll-fits : (t : Target) (any : Bool) (ws : List Want) → TargetFits gs ls t → AllByRecursion (WantFits gs ls) ws → ExprFits gs ls (v.Poll t any ws)
-  poll-fits t any ws h g =
-      subst (λ (us : List Want). (ExprFits gs ls) (v.Poll t any us)) (paired-is (WantFits gs ls) ws g)
-      (subst (ExprFits gs ls) (v.rolls-Poll t any (map (λ (e : W). e.0) (paired (WantFits gs ls) ws g))) (value-made (Expr-F.Poll (t, h) any (paired (WantFits gs ls) ws g))))
+  pub poll-fits : (t : Target) (search : Search) (ws : List Want) → TargetFits gs ls t → AllByRecursion (WantFits gs ls) ws → ExprFits gs ls (v.Poll t search ws)
+  poll-fits t search ws h g =
+      subst (λ (us : List Want). (ExprFits gs ls) (v.Poll t search us)) (paired-is (WantFits gs ls) ws g)
+      (subst (ExprFits gs ls) (v.rolls-Poll t search (map (λ (e : W). e.0) (paired (WantFits gs ls) ws g))) (value-made (Expr-F.Poll (t, h) search (paired (WantFits gs ls) ws g))))
 
   pub unary-fits : (op : Prefix) (a : Expr) → ExprFits gs ls a → ExprFits gs ls (v.Unary op a)
   unary-fits op a h = subst (ExprFits gs ls) (v.rolls-Unary op a) (value-made (Expr-F.Unary op (a, h)))

@@ -33,7 +33,7 @@ use Rattle.pml_marks.specs.declared.mark.Declared.TheVariants as declared_as
 use Rattle.pml_marks.specs.declared.mark.What.TheVariants as what
 use Rattle.pml_marks.specs.declared.mark.Declared.{Declared}
 use Rattle.pml_names.specs.Entry.{Entry, entry, found}
-use Rattle.pml_names.specs.Env.{after, add, thing_of, variables, env, env_from}
+use Rattle.pml_names.specs.Env.{after, add, thing_of, user, variables, env, env_from}
 use Rattle.pml_program.specs.declared.program.Basic.{Basic as ProgramBasic}
 use Rattle.pml_program.specs.declared.program.Seq.{Seq as ProgramSeq}
 use Rattle.pml_program.specs.declared.program.Stmt.{Stmt}

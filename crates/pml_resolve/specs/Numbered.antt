@@ -1,6 +1,9 @@
 -- Expressions with each name replaced by what it stands for.
 use Rattle.std.specs.Prelude.{ℕ, nat_lt, Bool, true, false, ◌&&◌, is_some, if◌then◌else◌, List, [], ◌∷◌, Option, Some, None, ℤ, pos}
+use Rattle.limits.specs.declared.TheConstants.{MOST_CONSTANTS}
 use Rattle.pml_tree.specs.declared.tree.Expr.{Expr as TreeExpr, Expr-F, fold-Expr}
+use Rattle.pml_tree.specs.declared.tree.Sign.{Sign}
+use Rattle.pml_tree.specs.declared.tree.Sign.TheVariants.{Plus, Minus}
 use Rattle.pml_tree.specs.declared.tree.Argument.{Argument, Argument-F, fold-Argument}
 use Rattle.pml_tree.specs.declared.tree.Reference.{Reference, Reference-F, fold-Reference}
 use Rattle.pml_tree.specs.declared.tree.Step.{Step, Step-F, fold-Step}
@@ -96,9 +99,9 @@ literal _ = pos 0
 abbrev pub no_target : Target
 no_target = target_of false 0 kind.Unknown []
 
--- there are at most 255 mtype names
+-- the number of an mtype name: there are at most 255
 abbrev pub mtype : ℕ → ℤ
-mtype n = if nat_lt n 256 then pos n else pos 0
+mtype n = if nat_lt MOST_CONSTANTS n then pos 0 else pos n
 
 abbrev pub read : Reached → Expr
 read (r.Place t) = v.Read t
@@ -122,9 +125,9 @@ abbrev pub truth : Bool → ℤ
 truth true = pos 1
 truth false = pos 0
 
-abbrev pub signed : Bool → Constant → Constant
-signed true c = negated c
-signed false c = c
+abbrev pub signed : Sign → Constant → Constant
+signed Plus c = c
+signed Minus c = negated c
 
 abbrev pub Wanted : Type 0
 Wanted = Scope → Want
@@ -145,7 +148,7 @@ expr_layer (Expr-F.Binary op a b) sc = v.Binary op (a sc) (b sc)
 expr_layer (Expr-F.Choice a b c) sc = v.Choice (a sc) (b sc) (c sc)
 
 abbrev pub argument_layer : Argument-F Wanted Valued Reaching Stepped → Wanted
-argument_layer (Argument-F.Exactly minus n) sc = w.Exactly (literal (signed minus (number n.text)))
+argument_layer (Argument-F.Exactly sign n) sc = w.Exactly (literal (signed sign (number n.text)))
 argument_layer (Argument-F.Fixed b) sc = w.Exactly (truth b)
 argument_layer (Argument-F.Eval a) sc = w.Equal (a sc)
 argument_layer (Argument-F.Into p) sc = received (p sc)

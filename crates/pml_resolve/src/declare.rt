@@ -5,7 +5,7 @@ ghost use Rattle.pml_marks.specs.Marks.{size_of, made_by};
 ghost use Rattle.pml_names.specs.Env.{after};
 ghost use Rattle.pml_names.specs.Totals.{IsTotalled};
 ghost use Rattle.pml_resolve.specs.Numbered.{scope};
-ghost use Rattle.pml_resolve.specs.Declarations.{known, natural, plain, initial, slot, declares, user, with_variable, with_variables};
+ghost use Rattle.pml_resolve.specs.Declarations.{known, natural, plain, initial, slot, declares, with_variable, with_variables};
 
 use crate::expression::expr;
 use pml_lex::token::Token;

@@ -5,6 +5,7 @@ ghost use Rattle.pml_tree.specs.declared.tree.Reference.{out-Reference};
 ghost use Rattle.pml_resolve.specs.Numbered.{scope, through, placed, numbered, numbered_argument, numbered_reference, numbered_step, at_scope, is_local, literal, signed, mtype, read, target, received, turn_of, target_of, no_target};
 
 use crate::reached::Reached;
+use limits::MOST_CONSTANTS;
 use pml_marks::arithmetic::{negative, value as number_value};
 use pml_marks::mark::Constant;
 use pml_names::meaning::{field, is_any, is_count, is_pid, meaning};
@@ -12,7 +13,7 @@ use pml_names::table::Table;
 use pml_names::thing::{Thing, Variable};
 use pml_program::form::Form;
 use pml_program::expr::{Target, Turn, Expr, Want};
-use pml_tree::tree::{Argument, Expr as TreeExpr, Reference, Step};
+use pml_tree::tree::{Sign, Argument, Expr as TreeExpr, Reference, Step};
 use sqlite_items::{Boxed, Items};
 use std::alloc::{AllocError, Global};
 
@@ -25,16 +26,19 @@ fn literal(constant: Constant) -> i32
     }
 }
 
-fn signed(minus: bool, constant: Constant) -> Constant
-    ensures { result ≡ signed minus constant }
+fn signed(sign: Sign, constant: Constant) -> Constant
+    ensures { result ≡ signed sign constant }
 {
-    if minus { negative(constant) } else { constant }
+    match sign {
+        Sign::Plus => constant,
+        Sign::Minus => negative(constant),
+    }
 }
 
 fn mtype(number: usize) -> i32
     ensures { result ≡ mtype number }
 {
-    if number < 256 { number as i32 } else { 0 }
+    if number <= MOST_CONSTANTS { number as i32 } else { 0 }
 }
 
 fn is_local(table: &Table, owner: usize, name: &[u8]) -> bool
@@ -170,8 +174,8 @@ fn want(
     ensures { IfOk result (λ w. w ≡ numbered_argument argument.now (scope all.now table.now owner)) }
 {
     match argument {
-        Argument::Exactly(minus, n) => Ok(Want::Exactly(literal(signed(
-            *minus,
+        Argument::Exactly(sign, n) => Ok(Want::Exactly(literal(signed(
+            *sign,
             number_value(n.text()),
         )))),
         Argument::Fixed(b) => Ok(Want::Exactly(if *b { 1 } else { 0 })),

@@ -9,9 +9,9 @@ pub enum Reached {
     /// An mtype name, by its number.
     Constant(usize),
     /// `_pid`.
-    Proctype,
+    Pid,
     /// `_nr_pr`.
-    Living,
+    ProcessCount,
     /// `_`.
     Anything,
     /// Nothing: such a model is refused.

@@ -4,7 +4,7 @@ use Rattle.std.specs.Prelude.{slice_get}
 use Rattle.pml_program.specs.declared.program.Slot.{Slot}
 use Rattle.pml_program.specs.declared.program.Proctype.{Proctype}
 use Rattle.pml_program.specs.declared.program.Program.{Program}
-use Rattle.pml_store.specs.declared.place.Place.{Place as Spot}
+use Rattle.pml_store.specs.declared.place.Place.{Place}
 use Rattle.pml_store.specs.Store.{Frame, with_number}
 use Rattle.pml_start.specs.Begin.{Begun, shape, size}
 use Rattle.pml_start.specs.Start.{IsDeclared, variables_of, variables_at}
@@ -43,7 +43,7 @@ same_frames [] (f ∷ fs) (g ∷ gs) e h = tt
 same_frames (o ∷ os) (f ∷ fs) (g ∷ gs) e h = (head_is e ∙ h.0, same_frames os fs gs (tail_is e) h.1)
 
 -- and to store a number keeps them
-pub stored_declared : (p : Program) (kinds : List ℕ) (fs : List Frame) (at : Spot) (v : ℤ) → AreDeclared p kinds fs → AreDeclared p kinds (with_number fs at v)
+pub stored_declared : (p : Program) (kinds : List ℕ) (fs : List Frame) (at : Place) (v : ℤ) → AreDeclared p kinds fs → AreDeclared p kinds (with_number fs at v)
 stored_declared p kinds fs at v h = same_frames (owners p true true kinds) fs (with_number fs at v) (shape-with_number fs at v) h
 
 -- of one process

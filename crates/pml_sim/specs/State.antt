@@ -2,7 +2,7 @@
 use Rattle.std.specs.Prelude.{ℕ, List}
 use Rattle.pml_program.specs.declared.program.Program.{Program}
 use Rattle.pml_store.specs.Store.{Contents}
-use Rattle.pml_value.specs.declared.owned.Owned.{Owned}
+use Rattle.pml_value.specs.declared.live_channel.LiveChannel.{LiveChannel}
 use Rattle.pml_sim.specs.declared.control.Control.{Control}
 
 pub record State : Type 0 where
@@ -11,5 +11,5 @@ pub record State : Type 0 where
   pub kind : ℕ
   -- what the variables hold, and what they held before the last step
   pub store : Contents
-  pub channels : List Owned
+  pub channels : List LiveChannel
   pub control : Control

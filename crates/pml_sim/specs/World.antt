@@ -9,7 +9,7 @@ use Rattle.pml_program.specs.declared.program.Program.{Program}
 use Rattle.pml_eval.specs.Value.{Reading}
 use Rattle.pml_store.specs.Store.{Contents, before}
 use Rattle.pml_value.specs.declared.statement.Goes.{Goes as Stores}
-use Rattle.pml_value.specs.Reads.{reading_of, spot_of}
+use Rattle.pml_value.specs.Reads.{reading_of}
 use Rattle.pml_value.specs.Statement.{is_executable, outcome, stored}
 use Rattle.pml_start.specs.Begin.{Begun}
 use Rattle.pml_lines.specs.Changes.{proctype_name, value_lines}
@@ -77,7 +77,7 @@ forgotten c = record c { written = [] }
 
 abbrev pub with_stored : Contents → Option Stores → Contents
 with_stored c None = c
-with_stored c (Some g) = stored c (spot_of 0 g.place) g.number
+with_stored c (Some g) = stored c g.place g.number
 
 -- where a process with so many statements stands once what stood first was taken
 abbrev pub beyond : ℕ → Control → Control
@@ -111,8 +111,8 @@ abbrev pub closing_by : Option Proctype → ℕ
 closing_by None = 0
 closing_by (Some p) = p.end.line
 
-abbrev pub process_of : State → Option Proctype
-process_of s = slice_get s.program.proctypes s.kind
+abbrev pub proctype_of : State → Option Proctype
+proctype_of s = slice_get s.program.proctypes s.kind
 
 -- the line of the first token of what stands first, or of the closing brace
 abbrev pub line : ℕ → Option Stmt → ℕ
@@ -124,7 +124,7 @@ action (Some x) = joined x.tokens
 action None = codes "-end-"
 
 abbrev pub place_of : State → List ℕ
-place_of s = place (name_by (process_of s)) (line (closing_by (process_of s)) (standing s))
+place_of s = place (name_by (proctype_of s)) (line (closing_by (proctype_of s)) (standing s))
 
 -- `PLACE [TEXT]`
 abbrev pub move_text : State → List ℕ
@@ -141,7 +141,7 @@ abbrev pub rules : Rules State OnlyMove
 rules = record {
   moves = moves;
   step = step;
-  place = λ s m. move_text s;
+  text = λ s m. move_text s;
   values = changed_lines;
   is_valid = λ s. not (is_alive s.control);
   stuck = stuck_line;

@@ -43,10 +43,10 @@ fn are_served(body: &[Stmt<'_>]) -> bool
 
 /// Whether a proctype is one that is played.
 pub fn is_played(proctype: Option<&Proctype<'_>>) -> bool
-    ensures { result ≡ are_served (steps_of (option_copied process.entry)) }
+    ensures { result ≡ are_served (steps_of (option_copied proctype.entry)) }
 {
-    match process {
+    match proctype {
         None => true,
-        Some(process) => are_served(process.body.steps.as_slice()),
+        Some(proctype) => are_served(proctype.body.steps.as_slice()),
     }
 }

@@ -36,11 +36,11 @@ pub fn add_tokens(text: &mut Vec<u8>, tokens: &[Token<'_>]) -> Result<(), AllocE
 
 /// Appends the name of a proctype, by its number in the model.
 fn add_name(text: &mut Vec<u8>, proctype: Option<&Proctype<'_>>) -> Result<(), AllocError>
-    ensures { OnOk result (text.new.items ≡ text.old.items ++ name_by (option_copied process.entry)) }
+    ensures { OnOk result (text.new.items ≡ text.old.items ++ name_by (option_copied proctype.entry)) }
 {
-    match process {
+    match proctype {
         None => Ok(()),
-        Some(process) => proctype_name(&process.name, text),
+        Some(proctype) => proctype_name(&proctype.name, text),
     }
 }
 
@@ -50,10 +50,10 @@ pub fn add_place(
     proctype: Option<&Proctype<'_>>,
     line: u32,
 ) -> Result<(), AllocError>
-    ensures { OnOk result (text.new.items ≡ text.old.items ++ texts.place (name_by (option_copied process.entry)) line) }
+    ensures { OnOk result (text.new.items ≡ text.old.items ++ texts.place (name_by (option_copied proctype.entry)) line) }
 {
     text.extend_from_slice(b"proc 0 (")?;
-    add_name(text, process)?;
+    add_name(text, proctype)?;
     text.extend_from_slice(b") line ")?;
     add_number(text, line)
 }

@@ -2,8 +2,8 @@
 
 ghost use Rattle.std.specs.Prelude.{◌≡◌, ◌++◌, [], OnOk, length, slice_get};
 ghost use Rattle.std.specs.Option.{option_copied};
-ghost use Rattle.pml_value.specs.Reads.{reading_of};
-ghost use Rattle.pml_value.specs.Statement.{Does};
+ghost use Rattle.pml_value.specs.Reads.{reading_of, seen};
+ghost use Rattle.pml_value.specs.Statement.{Takes};
 ghost use Rattle.pml_start.specs.Begin.{shown};
 ghost use Rattle.pml_start.specs.Start.{IsDeclared};
 ghost use Rattle.pml_sim.specs.Served.{steps_of};
@@ -12,15 +12,15 @@ ghost use Rattle.pml_sim.specs.World as world;
 use crate::control::{Control, OnlyMove};
 use crate::served::is_played;
 use crate::text::{add_place, add_tokens, first_line};
+use diagnostics::Stop;
 use pml_lines::change::{Wanted, logged_lines};
 use pml_program::program::{Basic, Proctype, Program, Stmt};
 use pml_start::started::Started;
 use pml_store::store::Store;
-use pml_value::owned::Owned;
+use pml_value::live_channel::LiveChannel;
 use pml_value::statement::{can_be_taken, take};
-use pml_value::stop::Stop as Unstored;
 use pml_value::view::View;
-use session::{Machine, Stop};
+use session::Machine;
 use std::alloc::{AllocError, Global};
 use std::marker::Model;
 
@@ -30,7 +30,7 @@ pub struct World<'p, 'a> {
     program: &'p Program<'a>,
     kind: usize,
     store: Store,
-    channels: Vec<Owned>,
+    channels: Vec<LiveChannel>,
     control: Control,
 }
 
@@ -68,7 +68,7 @@ impl<'p, 'a> World<'p, 'a> {
             [kind] => *kind,
             _ => return None,
         };
-        if !is_played(process_at(program, kind)) {
+        if !is_played(proctype_at(program, kind)) {
             return None;
         }
         Some(World {
@@ -84,7 +84,7 @@ impl<'p, 'a> World<'p, 'a> {
     fn standing(&self) -> Option<&Stmt<'a>>
         ensures { option_copied result ≡ world.standing self.now }
     {
-        standing_of(self.process(), self.control)
+        standing_of(self.proctype(), self.control)
     }
 
     fn can_move(&self, timeout: bool) -> bool
@@ -96,29 +96,29 @@ impl<'p, 'a> World<'p, 'a> {
         let view = View {
             store: &self.store,
             channels: self.channels.as_slice(),
-            process: 0,
-            living: 1,
+            pid: 0,
+            process_count: 1,
             timeout,
         };
         can_take(self.standing(), &view)
     }
 
-    fn process(&self) -> Option<&Proctype<'a>>
-        ensures { option_copied result ≡ world.process_of self.now }
+    fn proctype(&self) -> Option<&Proctype<'a>>
+        ensures { option_copied result ≡ world.proctype_of self.now }
     {
-        process_at(self.program, self.kind)
+        proctype_at(self.program, self.kind)
     }
 
     fn add_place(&self, text: &mut Vec<u8>) -> Result<(), AllocError>
         ensures { OnOk result (text.new.items ≡ text.old.items ++ world.place_of self.now) }
     {
-        let process = self.process();
-        let line = line(closing(process), self.standing());
-        add_place(text, process, line)
+        let proctype = self.proctype();
+        let line = line(closing(proctype), self.standing());
+        add_place(text, proctype, line)
     }
 }
 
-fn process_at<'p, 'a>(program: &'p Program<'a>, kind: usize) -> Option<&'p Proctype<'a>>
+fn proctype_at<'p, 'a>(program: &'p Program<'a>, kind: usize) -> Option<&'p Proctype<'a>>
     ensures { option_copied result ≡ slice_get program.now.proctypes kind }
 {
     program.proctypes.as_slice().get(kind)
@@ -143,25 +143,25 @@ fn standing_at<'s, 'a>(body: &'s [Stmt<'a>], control: Control) -> Option<&'s Stm
 }
 
 fn standing_of<'s, 'a>(proctype: Option<&'s Proctype<'a>>, control: Control) -> Option<&'s Stmt<'a>>
-    ensures { option_copied result ≡ world.standing_at (steps_of (option_copied process.entry)) control }
+    ensures { option_copied result ≡ world.standing_at (steps_of (option_copied proctype.entry)) control }
 {
-    match process {
+    match proctype {
         None => None,
-        Some(process) => standing_at(process.body.steps.as_slice(), control),
+        Some(proctype) => standing_at(proctype.body.steps.as_slice(), control),
     }
 }
 
 fn count_of(proctype: Option<&Proctype<'_>>) -> usize
-    ensures { result ≡ length (steps_of (option_copied process.entry)) }
+    ensures { result ≡ length (steps_of (option_copied proctype.entry)) }
 {
-    match process {
+    match proctype {
         None => 0,
-        Some(process) => process.body.steps.len(),
+        Some(proctype) => proctype.body.steps.len(),
     }
 }
 
 fn can_do(basic: &Basic<'_>, view: &View<'_>) -> bool
-    ensures { result ≡ world.can_do basic.now (reading_of view.now.store.now.frames view.now.channels.now view.now.process view.now.living view.now.timeout) }
+    ensures { result ≡ world.can_do basic.now (seen view.now) }
 {
     match basic {
         Basic::Plain(action) => can_be_taken(action, view),
@@ -170,7 +170,7 @@ fn can_do(basic: &Basic<'_>, view: &View<'_>) -> bool
 }
 
 fn can_take(standing: Option<&Stmt<'_>>, view: &View<'_>) -> bool
-    ensures { result ≡ world.can_take (option_copied standing.entry) (reading_of view.now.store.now.frames view.now.channels.now view.now.process view.now.living view.now.timeout) }
+    ensures { result ≡ world.can_take (option_copied standing.entry) (seen view.now) }
 {
     match standing {
         Some(stmt) => can_do(&stmt.basic, view),
@@ -181,11 +181,11 @@ fn can_take(standing: Option<&Stmt<'_>>, view: &View<'_>) -> bool
 /// Does what a statement does to the variables.
 fn do_basic(
     store: &mut Store,
-    channels: &[Owned],
+    channels: &[LiveChannel],
     timeout: bool,
     basic: &Basic<'_>,
-) -> Result<(), Unstored>
-    ensures { Does 0 (world.done_by basic.now (reading_of store.old.frames channels.now 0 1 timeout)) result store.old store.new }
+) -> Result<(), Stop>
+    ensures { Takes (world.done_by basic.now (reading_of store.old.frames channels.now 0 1 timeout)) result store.old store.new }
 {
     match basic {
         Basic::Plain(action) => take(store, channels, 0, 1, timeout, action),
@@ -196,11 +196,11 @@ fn do_basic(
 /// Does what the statement does that stands first. A process dies without a trace among the variables.
 fn do_first(
     store: &mut Store,
-    channels: &[Owned],
+    channels: &[LiveChannel],
     timeout: bool,
     standing: Option<&Stmt<'_>>,
-) -> Result<(), Unstored>
-    ensures { Does 0 (world.done_first (option_copied standing.entry) (reading_of store.old.frames channels.now 0 1 timeout)) result store.old store.new }
+) -> Result<(), Stop>
+    ensures { Takes (world.done_first (option_copied standing.entry) (reading_of store.old.frames channels.now 0 1 timeout)) result store.old store.new }
 {
     match standing {
         Some(stmt) => do_basic(store, channels, timeout, &stmt.basic),
@@ -234,10 +234,10 @@ fn line(closing: u32, standing: Option<&Stmt<'_>>) -> u32
 }
 
 fn closing(proctype: Option<&Proctype<'_>>) -> u32
-    ensures { result ≡ world.closing_by (option_copied process.entry) }
+    ensures { result ≡ world.closing_by (option_copied proctype.entry) }
 {
-    match process {
-        Some(process) => process.end.line(),
+    match proctype {
+        Some(proctype) => proctype.end.line(),
         None => 0,
     }
 }
@@ -274,8 +274,8 @@ impl Machine for World<'_, '_> {
     }
 
     fn take(&mut self, m: &OnlyMove, _: &mut Vec<u8>) -> Result<(), Stop> {
-        let process = process_at(self.program, self.kind);
-        let standing = standing_of(process, self.control);
+        let proctype = proctype_at(self.program, self.kind);
+        let standing = standing_of(proctype, self.control);
         self.store.forget();
         match do_first(
             &mut self.store,
@@ -284,11 +284,10 @@ impl Machine for World<'_, '_> {
             standing,
         ) {
             Ok(()) => {
-                self.control = beyond(self.control, count_of(process));
+                self.control = beyond(self.control, count_of(proctype));
                 Ok(())
             }
-            Err(Unstored::Fault(fault)) => Err(Stop::Fault(fault)),
-            Err(Unstored::Memory) => Err(Stop::Memory),
+            Err(stop) => Err(stop),
         }
     }
 

@@ -13,13 +13,13 @@ use Rattle.pml_program.specs.declared.program.Initial.TheVariants as i
 use Rattle.pml_program.specs.declared.program.Slot.{Slot}
 use Rattle.pml_program.specs.declared.program.Fields.{Fields}
 use Rattle.pml_eval.specs.Value.{◌>>=◌}
-use Rattle.pml_store.specs.declared.place.Place.{Place as Spot}
+use Rattle.pml_store.specs.declared.place.Place.{Place}
 use Rattle.pml_store.specs.Store.{Frame, HasPlace, size_at, number_at, with_number, is_same}
 use Rattle.pml_store.proofs.Back.{has_cell}
 use Rattle.pml_store.proofs.OnePlace.{number_at-with_number}
 use Rattle.pml_cells.specs.Cells.{leaf, last_field, field_in}
-use Rattle.pml_value.specs.declared.owned.Owned.{Owned}
-use Rattle.pml_channel.specs.Contents.{Contents as Messages}
+use Rattle.pml_value.specs.declared.live_channel.LiveChannel.{LiveChannel}
+use Rattle.pml_channel.specs.State.{ChannelState}
 use Rattle.pml_start.specs.Begin.{Begun, cell_in, initial_value, with_value, with_values, cell_begun, fields_begun, variable_begun, size, with_channel, empty_channel}
 use Rattle.pml_start.specs.Known.{is_of, IsPlain}
 use Rattle.pml_start.proofs.Chaining.{chain, chain_any, weaker}
@@ -31,13 +31,13 @@ apart : (a b c : Bool) → (a && b) ≡ false → (a && (b && c)) ≡ false
 apart true b c h = rw h refl
 apart false b c h = refl
 
-write_elsewhere : (fs : List Frame) (p q : Spot) (v : ℤ) → HasPlace fs p → is_same p q ≡ false → number_at (with_number fs p v) q ≡ number_at fs q
+write_elsewhere : (fs : List Frame) (p q : Place) (v : ℤ) → HasPlace fs p → is_same p q ≡ false → number_at (with_number fs p v) q ≡ number_at fs q
 write_elsewhere fs p q v h e = let w = number_at-with_number fs p q v h in rw e at w
 
-write_here : (fs : List Frame) (p q : Spot) (v : ℤ) → HasPlace fs p → is_same p q ≡ true → number_at (with_number fs p v) q ≡ v
+write_here : (fs : List Frame) (p q : Place) (v : ℤ) → HasPlace fs p → is_same p q ≡ true → number_at (with_number fs p v) q ≡ v
 write_here fs p q v h e = let w = number_at-with_number fs p q v h in rw e at w
 
--- the youngest owner's variable has so many cells
+-- the youngest frame's variable has so many cells
 abbrev Has : Begun → ℕ → ℕ → Type 0
 Has b v z = size_at b.frames (length b.kinds) v ≡ z
 
@@ -60,11 +60,11 @@ same_cell b v c = rw (eq-eqb (length b.kinds) (length b.kinds) refl, eq-eqb v v 
 
 -- ---- a number in each cell
 
-values_elsewhere : (v : ℕ) (x : ℤ) (c n z : ℕ) (b : Begun) (q : Spot) → Has b v z → c + n ≤ z → is_of b v q ≡ false → number_at (with_values v x c n b).frames q ≡ number_at b.frames q
+values_elsewhere : (v : ℕ) (x : ℤ) (c n z : ℕ) (b : Begun) (q : Place) → Has b v z → c + n ≤ z → is_of b v q ≡ false → number_at (with_values v x c n b).frames q ≡ number_at b.frames q
 values_elsewhere v x c zero z b q s h e = refl
 values_elsewhere v x c (suc n) z b q s h e =
     values_elsewhere v x (c + 1) n z (with_value v c x b) q (still b v c z x s) (omega (arith, h)) e
-    ∙ write_elsewhere b.frames (cell_in b v c) q x (there b v c z s (omega (arith, h))) (apart (nat_eq (length b.kinds) q.owner) (nat_eq v q.variable) (nat_eq c q.cell) e)
+    ∙ write_elsewhere b.frames (cell_in b v c) q x (there b v c z s (omega (arith, h))) (apart (nat_eq (length b.kinds) q.frame) (nat_eq v q.variable) (nat_eq c q.cell) e)
 
 values_before : (v : ℕ) (x : ℤ) (c n z d : ℕ) (b : Begun) → Has b v z → c + n ≤ z → d < c → number_at (with_values v x c n b).frames (cell_in b v d) ≡ number_at b.frames (cell_in b v d)
 values_before v x c zero z d b s h l = refl
@@ -91,27 +91,27 @@ each_holds ts s e v c b h l = from (initial_value e s.form b)
 
 -- ---- no other cell changes
 
-record Kept (b : Begun) (v z : ℕ) (q : Spot) (n : Begun) : Type 0 where
+record Kept (b : Begun) (v z : ℕ) (q : Place) (n : Begun) : Type 0 where
   kinds : n.kinds ≡ b.kinds
   has : size_at n.frames (length n.kinds) v ≡ z
   number : number_at n.frames q ≡ number_at b.frames q
 
-kept-after : (r : Result Begun Fault) (b m : Begun) (v z : ℕ) (q : Spot) → Kept b v z q m → IfOk r (Kept m v z q) → IfOk r (Kept b v z q)
+kept-after : (r : Result Begun Fault) (b m : Begun) (v z : ℕ) (q : Place) → Kept b v z q m → IfOk r (Kept m v z q) → IfOk r (Kept b v z q)
 kept-after (Ok n) b m v z q h k = record { kinds = k.kinds ∙ h.kinds; has = k.has; number = k.number ∙ h.number }
 kept-after (Err f) b m v z q h k = tt
 
-kept-write : (v c z : ℕ) (x : ℤ) (b : Begun) (q : Spot) → Has b v z → c < z → is_same (cell_in b v c) q ≡ false → Kept b v z q (with_value v c x b)
+kept-write : (v c z : ℕ) (x : ℤ) (b : Begun) (q : Place) → Has b v z → c < z → is_same (cell_in b v c) q ≡ false → Kept b v z q (with_value v c x b)
 kept-write v c z x b q s h e = record {
   kinds = refl;
   has = still b v c z x s;
   number = write_elsewhere b.frames (cell_in b v c) q x (there b v c z s h) e;
 }
 
-kept-channel : (t : Bool) (v c z : ℕ) (x : ℤ) (m : List Owned) (b : Begun) (q : Spot) → Kept b v z q (with_value v c x b) → IfOk {T = Begun} (if t then Ok (record b { frames = with_number b.frames (cell_in b v c) x; channels = m }) else Err TooManyChannels) (Kept b v z q)
+kept-channel : (t : Bool) (v c z : ℕ) (x : ℤ) (m : List LiveChannel) (b : Begun) (q : Place) → Kept b v z q (with_value v c x b) → IfOk {T = Begun} (if t then Ok (record b { frames = with_number b.frames (cell_in b v c) x; channels = m }) else Err TooManyChannels) (Kept b v z q)
 kept-channel true v c z x m b q k = record { kinds = refl; has = k.has; number = k.number }
 kept-channel false v c z x m b q k = tt
 
-cell_kept : (x : Initial) (f : Form) (v c z : ℕ) (b : Begun) (q : Spot) → Has b v z → c < z → is_same (cell_in b v c) q ≡ false → IfOk (cell_begun x f v c b) (Kept b v z q)
+cell_kept : (x : Initial) (f : Form) (v c z : ℕ) (b : Begun) (q : Place) → Has b v z → c < z → is_same (cell_in b v c) q ≡ false → IfOk (cell_begun x f v c b) (Kept b v z q)
 cell_kept i.Zero f v c z b q s h e = record { kinds = refl; has = s; number = refl }
 cell_kept (i.Value w) f v c z b q s h e =
     chain_any (Kept b v z q) (initial_value w f b) (λ n. Ok (with_value v c n b)) (λ n. kept-write v c z n b q s h e)
@@ -119,28 +119,28 @@ cell_kept (i.Channel capacity types) f v c z b q s h e =
     kept-channel (nat_lt (length b.channels) 255) v c z (pos (length b.channels + 1)) _ b q (kept-write v c z (pos (length b.channels + 1)) b q s h e)
 
 -- the variable's cells from this one on are no such place
-abbrev Past : Begun → ℕ → ℕ → Spot → Type 0
+abbrev Past : Begun → ℕ → ℕ → Place → Type 0
 Past b v c q = (k : ℕ) → c ≤ k → is_same (cell_in b v k) q ≡ false
 
-past_now : (b m : Begun) (v c : ℕ) (q : Spot) → m.kinds ≡ b.kinds → Past b v c q → Past m v (c + 1) q
-past_now b m v c q e p k h = ap (λ (ks : List ℕ). is_same (record { owner = length ks; variable = v; cell = k }) q) e ∙ p k (omega (arith, h))
+past_now : (b m : Begun) (v c : ℕ) (q : Place) → m.kinds ≡ b.kinds → Past b v c q → Past m v (c + 1) q
+past_now b m v c q e p k h = ap (λ (ks : List ℕ). is_same (record { frame = length ks; variable = v; cell = k }) q) e ∙ p k (omega (arith, h))
 
-fields_kept : (ts : List Fields) (s : Slot) (v c n z : ℕ) (b : Begun) (q : Spot) → Has b v z → c + n ≤ z → Past b v c q → IfOk (fields_begun ts s v c n b) (Kept b v z q)
+fields_kept : (ts : List Fields) (s : Slot) (v c n z : ℕ) (b : Begun) (q : Place) → Has b v z → c + n ≤ z → Past b v c q → IfOk (fields_begun ts s v c n b) (Kept b v z q)
 fields_kept ts s v c zero z b q h l e = record { kinds = refl; has = h; number = refl }
 fields_kept ts s v c (suc n) z b q h l e =
     chain (Kept b v z q) (Kept b v z q) (cell_begun (leaf ts s c).initial (leaf ts s c).form v c b) (fields_begun ts s v (c + 1) n) (cell_kept (leaf ts s c).initial (leaf ts s c).form v c z b q h (omega (arith, l)) (e c (omega arith)))
     (λ m k. kept-after (fields_begun ts s v (c + 1) n m) b m v z q k (fields_kept ts s v (c + 1) n z m q k.has (omega (arith, l)) (past_now b m v c q k.kinds e)))
 
-number_of : (r : Result Begun Fault) (b : Begun) (v z : ℕ) (q : Spot) → IfOk r (Kept b v z q) → IfOk r (λ n. number_at n.frames q ≡ number_at b.frames q)
+number_of : (r : Result Begun Fault) (b : Begun) (v z : ℕ) (q : Place) → IfOk r (Kept b v z q) → IfOk r (λ n. number_at n.frames q ≡ number_at b.frames q)
 number_of (Ok n) b v z q k = k.number
 number_of (Err f) b v z q k = tt
 
-pub others_hold : (ts : List Fields) (x : Initial) (s : Slot) (v : ℕ) (b : Begun) (q : Spot) → Has b v (size s) → is_of b v q ≡ false → IfOk (variable_begun ts x s v b) (λ n. number_at n.frames q ≡ number_at b.frames q)
-others_hold ts i.Zero s v b q h e = number_of (fields_begun ts s v 0 (size s) b) b v (size s) q (fields_kept ts s v 0 (size s) (size s) b q h (omega arith) (λ k l. apart (nat_eq (length b.kinds) q.owner) (nat_eq v q.variable) (nat_eq k q.cell) e))
+pub others_hold : (ts : List Fields) (x : Initial) (s : Slot) (v : ℕ) (b : Begun) (q : Place) → Has b v (size s) → is_of b v q ≡ false → IfOk (variable_begun ts x s v b) (λ n. number_at n.frames q ≡ number_at b.frames q)
+others_hold ts i.Zero s v b q h e = number_of (fields_begun ts s v 0 (size s) b) b v (size s) q (fields_kept ts s v 0 (size s) (size s) b q h (omega arith) (λ k l. apart (nat_eq (length b.kinds) q.frame) (nat_eq v q.variable) (nat_eq k q.cell) e))
 others_hold ts (i.Value w) s v b q h e =
     chain_any (λ n. number_at n.frames q ≡ number_at b.frames q) (initial_value w s.form b) (λ n. Ok (with_values v n 0 (size s) b))
     (λ n. values_elsewhere v n 0 (size s) (size s) b q h (omega arith) e)
-others_hold ts (i.Channel capacity types) s v b q h e = number_of (fields_begun ts s v 0 (size s) b) b v (size s) q (fields_kept ts s v 0 (size s) (size s) b q h (omega arith) (λ k l. apart (nat_eq (length b.kinds) q.owner) (nat_eq v q.variable) (nat_eq k q.cell) e))
+others_hold ts (i.Channel capacity types) s v b q h e = number_of (fields_begun ts s v 0 (size s) b) b v (size s) q (fields_kept ts s v 0 (size s) (size s) b q h (omega arith) (λ k l. apart (nat_eq (length b.kinds) q.frame) (nat_eq v q.variable) (nat_eq k q.cell) e))
 
 -- ---- no initialiser
 
@@ -167,13 +167,13 @@ nothing_begins ts s v b h e = ap (λ (x : Initial). variable_begun ts x s v b) e
 
 -- ---- a channel for each cell
 
-record Numbered (b : Begun) (v c z : ℕ) (m : Messages) (n : Begun) : Type 0 where
+record Numbered (b : Begun) (v c z : ℕ) (m : ChannelState) (n : Begun) : Type 0 where
   kinds : n.kinds ≡ b.kinds
   has : size_at n.frames (length n.kinds) v ≡ z
-  channels : n.channels ≡ b.channels ++ record { owner = length b.kinds; channel = m } ∷ []
+  channels : n.channels ≡ b.channels ++ record { frame = length b.kinds; channel = m } ∷ []
   number : number_at n.frames (cell_in b v c) ≡ pos (length b.channels + 1)
 
-numbered : (t : Bool) (v c z : ℕ) (m : Messages) (b : Begun) → Has b v z → c < z → IfOk {T = Begun} (if t then Ok (record b { frames = with_number b.frames (cell_in b v c) (pos (length b.channels + 1)); channels = b.channels ++ record { owner = length b.kinds; channel = m } ∷ [] }) else Err TooManyChannels) (Numbered b v c z m)
+numbered : (t : Bool) (v c z : ℕ) (m : ChannelState) (b : Begun) → Has b v z → c < z → IfOk {T = Begun} (if t then Ok (record b { frames = with_number b.frames (cell_in b v c) (pos (length b.channels + 1)); channels = b.channels ++ record { frame = length b.kinds; channel = m } ∷ [] }) else Err TooManyChannels) (Numbered b v c z m)
 numbered true v c z m b s h = record {
   kinds = refl;
   has = still b v c z (pos (length b.channels + 1)) s;
@@ -196,14 +196,14 @@ unfolding IsChannel
 first_numbered ts s v c z capacity types b h l e =
     subst (λ (r : Result Begun Fault). IfOk r (Numbered b v c z (empty_channel capacity types))) (sym (e c v b)) (numbered (nat_lt (length b.channels) 255) v c z (empty_channel capacity types) b h l)
 
-channels_are : (ts : List Fields) (s : Slot) (v c n z capacity : ℕ) (types : List Form) (b : Begun) → Has b v z → c + n ≤ z → IsChannel ts s capacity types → IfOk (fields_begun ts s v c n b) (λ m. m.channels ≡ b.channels ++ replicate n (record { owner = length b.kinds; channel = empty_channel capacity types }))
+channels_are : (ts : List Fields) (s : Slot) (v c n z capacity : ℕ) (types : List Form) (b : Begun) → Has b v z → c + n ≤ z → IsChannel ts s capacity types → IfOk (fields_begun ts s v c n b) (λ m. m.channels ≡ b.channels ++ replicate n (record { frame = length b.kinds; channel = empty_channel capacity types }))
 channels_are ts s v c zero z capacity types b h l e = sym (append-nil b.channels)
 channels_are ts s v c (suc n) z capacity types b h l e =
-    let o : ℕ → Owned = λ owner. record { owner = owner; channel = empty_channel capacity types } in
+    let o : ℕ → LiveChannel = λ frame. record { frame = frame; channel = empty_channel capacity types } in
     chain (Numbered b v c z (empty_channel capacity types)) (λ m. m.channels ≡ b.channels ++ replicate (suc n) (o (length b.kinds)))
     (cell_begun (leaf ts s c).initial (leaf ts s c).form v c b) (fields_begun ts s v (c + 1) n) (first_numbered ts s v c z capacity types b h (omega (arith, l)) e)
     (λ m k. weaker (λ a. a.channels ≡ m.channels ++ replicate n (o (length m.kinds))) (λ a. a.channels ≡ b.channels ++ replicate (suc n) (o (length b.kinds))) (fields_begun ts s v (c + 1) n m)
-    (λ a g. g ∙ ap (λ (ks : List ℕ). m.channels ++ replicate n (o (length ks))) k.kinds ∙ ap (λ (cs : List Owned). cs ++ replicate n (o (length b.kinds))) k.channels ∙ append_assoc b.channels (o (length b.kinds) ∷ []) (replicate n (o (length b.kinds))))
+    (λ a g. g ∙ ap (λ (ks : List ℕ). m.channels ++ replicate n (o (length ks))) k.kinds ∙ ap (λ (cs : List LiveChannel). cs ++ replicate n (o (length b.kinds))) k.channels ∙ append_assoc b.channels (o (length b.kinds) ∷ []) (replicate n (o (length b.kinds))))
     (channels_are ts s v (c + 1) n z capacity types m k.has (omega (arith, l)) e))
 
 numbers_are : (ts : List Fields) (s : Slot) (v c n z d capacity : ℕ) (types : List Form) (b : Begun) → Has b v z → c + n ≤ z → c ≤ d → d < c + n → IsChannel ts s capacity types → IfOk (fields_begun ts s v c n b) (λ m. number_at m.frames (cell_in b v d) ≡ pos (length b.channels + (d - c) + 1))
@@ -219,7 +219,7 @@ numbers_are ts s v c (suc n) z d capacity types b h l p q e =
     here : (m : Begun) → Numbered b v c z (empty_channel capacity types) m → c ≡ d → IfOk (fields_begun ts s v (c + 1) n m) Answer
     here m k f =
         let past : Past m v (c + 1) (cell_in b v c) =
-        λ j g. ap (λ (ks : List ℕ). is_same (record { owner = length ks; variable = v; cell = j }) (cell_in b v c)) k.kinds ∙ other_cell b v j c (ne_eqb j c (λ t. omega (arith, g, t))) in
+        λ j g. ap (λ (ks : List ℕ). is_same (record { frame = length ks; variable = v; cell = j }) (cell_in b v c)) k.kinds ∙ other_cell b v j c (ne_eqb j c (λ t. omega (arith, g, t))) in
         let x : length b.channels + 1 ≡ length b.channels + (d - c) + 1 = omega (arith, f) in
         weaker (Kept m v z (cell_in b v c)) Answer (fields_begun ts s v (c + 1) n m)
         (λ a g. ap (λ (j : ℕ). number_at a.frames (cell_in b v j)) (sym f) ∙ g.number ∙ k.number ∙ ap pos x)
@@ -227,17 +227,17 @@ numbers_are ts s v c (suc n) z d capacity types b h l p q e =
 
     later : (m : Begun) → Numbered b v c z (empty_channel capacity types) m → (c ≡ d → ⊥) → IfOk (fields_begun ts s v (c + 1) n m) (λ a. number_at a.frames (cell_in m v d) ≡ pos (length m.channels + (d - (c + 1)) + 1)) → IfOk (fields_begun ts s v (c + 1) n m) Answer
     later m k f r =
-        let y = ap length k.channels ∙ length_push b.channels (record { owner = length b.kinds; channel = empty_channel capacity types }) in
+        let y = ap length k.channels ∙ length_push b.channels (record { frame = length b.kinds; channel = empty_channel capacity types }) in
         let x : length m.channels + (d - (c + 1)) + 1 ≡ length b.channels + (d - c) + 1 = omega (arith, y, f, p) in
         weaker (λ a. number_at a.frames (cell_in m v d) ≡ pos (length m.channels + (d - (c + 1)) + 1)) Answer (fields_begun ts s v (c + 1) n m)
-        (λ a g. ap (λ (ks : List ℕ). number_at a.frames (record { owner = length ks; variable = v; cell = d })) (sym k.kinds) ∙ g ∙ ap pos x)
+        (λ a g. ap (λ (ks : List ℕ). number_at a.frames (record { frame = length ks; variable = v; cell = d })) (sym k.kinds) ∙ g ∙ ap pos x)
         r
 
 variable_channels : (ts : List Fields) (s : Slot) (v capacity : ℕ) (types : List Form) (b : Begun) (P : Begun → Type 0) → s.initial ≡ i.Channel capacity types → IfOk (fields_begun ts s v 0 (size s) b) P → IfOk (variable_begun ts s.initial s v b) P
 variable_channels ts s v capacity types b P e h =
     subst (λ (r : Result Begun Fault). IfOk r P) (sym (ap (λ (x : Initial). variable_begun ts x s v b) e)) h
 
-pub channels_begin : (ts : List Fields) (s : Slot) (v capacity : ℕ) (types : List Form) (b : Begun) → size_at b.frames (length b.kinds) v ≡ size s → IsPlain s.form → s.initial ≡ i.Channel capacity types → IfOk (variable_begun ts s.initial s v b) (λ n. n.channels ≡ b.channels ++ replicate (size s) (record { owner = length b.kinds; channel = empty_channel capacity types }))
+pub channels_begin : (ts : List Fields) (s : Slot) (v capacity : ℕ) (types : List Form) (b : Begun) → size_at b.frames (length b.kinds) v ≡ size s → IsPlain s.form → s.initial ≡ i.Channel capacity types → IfOk (variable_begun ts s.initial s v b) (λ n. n.channels ≡ b.channels ++ replicate (size s) (record { frame = length b.kinds; channel = empty_channel capacity types }))
 channels_begin ts s v capacity types b h p e =
     variable_channels ts s v capacity types b _ e (channels_are ts s v 0 (size s) (size s) capacity types b h (omega arith) (is_channel ts s capacity types p e))
 

@@ -11,10 +11,10 @@ use Rattle.pml_program.specs.declared.program.Fields.{Fields}
 use Rattle.pml_program.specs.declared.program.Proctype.{Proctype}
 use Rattle.pml_program.specs.declared.program.Program.{Program}
 use Rattle.pml_store.specs.Store.{zeros}
-use Rattle.pml_channel.specs.Contents.{Contents as Messages}
+use Rattle.pml_channel.specs.State.{ChannelState}
 use Rattle.pml_cells.specs.Cells.{leaf}
 use Rattle.pml_start.proofs.Chaining.{chain, chain_any, weaker}
-use Rattle.pml_start.specs.Begin.{Begun, initial_value, with_value, with_values, with_channel, empty_channel, cell_begun, fields_begun, variable_begun, variables_begun, owner_begun, size}
+use Rattle.pml_start.specs.Begin.{Begun, initial_value, with_value, with_values, with_channel, empty_channel, cell_begun, fields_begun, variable_begun, variables_begun, frame_begun, size}
 use Rattle.pml_start.specs.Start.{nothing, process_begun, kind_begun, kinds_begun, first_state, variables_at, starting}
 
 -- ---- to begin with variables leaves the processes as they are
@@ -26,7 +26,7 @@ if_same : (t : Bool) (x : Begun) (f : Fault) (b : Begun) → Same b x → IfOk {
 if_same true x f b h = h
 if_same false x f b h = tt
 
-channel_same : (v c : ℕ) (m : Messages) (b : Begun) → IfOk (with_channel v c m b) (Same b)
+channel_same : (v c : ℕ) (m : ChannelState) (b : Begun) → IfOk (with_channel v c m b) (Same b)
 channel_same v c m b = if_same (nat_lt (length b.channels) 255) _ _ b refl
 
 cell_same : (x : Initial) (f : Form) (v c : ℕ) (b : Begun) → IfOk (cell_begun x f v c b) (Same b)
@@ -56,8 +56,8 @@ variables_same ts (s ∷ ss) v b =
     chain (Same b) (Same b) (variable_begun ts s.initial s v b) (variables_begun ts ss (v + 1)) (variable_same ts s.initial s v b)
     (λ m h. weaker (Same m) (Same b) (variables_begun ts ss (v + 1) m) (λ k e. e ∙ h) (variables_same ts ss (v + 1) m))
 
-owner_same : (ts : List Fields) (ss : List Slot) (b : Begun) → IfOk (owner_begun ts ss b) (Same b)
-owner_same ts ss b = variables_same ts ss 0 (record b { frames = b.frames ++ zeros (map size ss) ∷ [] })
+frame_same : (ts : List Fields) (ss : List Slot) (b : Begun) → IfOk (frame_begun ts ss b) (Same b)
+frame_same ts ss b = variables_same ts ss 0 (record b { frames = b.frames ++ zeros (map size ss) ∷ [] })
 
 -- ---- no more than 255 of a list
 
@@ -82,12 +82,12 @@ process_are : (p : Program) (k : ℕ) (xs : List ℕ) (b : Begun) → Are xs b �
 process_are p k xs b e = cases (nat_lt (length b.kinds) 255) refl
   where
     made : Result Begun Fault
-    made = owner_begun p.typedefs (variables_at p k) (record b { kinds = b.kinds ++ k ∷ [] })
+    made = frame_begun p.typedefs (variables_at p k) (record b { kinds = b.kinds ++ k ∷ [] })
 
     cases : (t : Bool) → nat_lt (length b.kinds) 255 ≡ t → IfOk (if t then made else Ok b) (Are (xs ++ k ∷ []))
     cases true h =
         weaker (Same (record b { kinds = b.kinds ++ k ∷ [] })) (Are (xs ++ k ∷ [])) made (λ n g. g ∙ short xs b.kinds k e (ltb-true (length b.kinds) 255 h))
-        (owner_same p.typedefs (variables_at p k) (record b { kinds = b.kinds ++ k ∷ [] }))
+        (frame_same p.typedefs (variables_at p k) (record b { kinds = b.kinds ++ k ∷ [] }))
     cases false h = full xs b.kinds k e (ltb-false (length b.kinds) 255 h)
 
 kind_are : (p : Program) (k n : ℕ) (xs : List ℕ) (b : Begun) → Are xs b → IfOk (kind_begun p k n b) (Are (xs ++ replicate n k))
@@ -106,5 +106,5 @@ kinds_are p k (q ∷ qs) xs b e =
 
 pub living_are : (p : Program) → IfOk (first_state p) (Are (starting 0 p.proctypes))
 living_are p =
-    chain (Same nothing) (Are (starting 0 p.proctypes)) (owner_begun p.typedefs p.globals nothing) (kinds_begun p 0 p.proctypes) (owner_same p.typedefs p.globals nothing)
+    chain (Same nothing) (Are (starting 0 p.proctypes)) (frame_begun p.typedefs p.globals nothing) (kinds_begun p 0 p.proctypes) (frame_same p.typedefs p.globals nothing)
     (λ m k. kinds_are p 0 p.proctypes [] m k)

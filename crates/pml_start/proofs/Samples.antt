@@ -9,8 +9,8 @@ use Rattle.pml_program.specs.declared.program.Initial.TheVariants as initial
 use Rattle.pml_program.specs.declared.program.Slot.{Slot}
 use Rattle.pml_program.specs.declared.program.Fields.{Fields}
 use Rattle.pml_eval.specs.Clip.{clipped, bits_of, is_signed}
-use Rattle.pml_value.specs.declared.owned.Owned.{Owned}
-use Rattle.pml_start.specs.Begin.{owner_begun, with_values}
+use Rattle.pml_value.specs.declared.live_channel.LiveChannel.{LiveChannel}
+use Rattle.pml_start.specs.Begin.{frame_begun, with_values}
 use Rattle.pml_start.specs.Start.{nothing}
 
 abbrev byte : Form
@@ -27,8 +27,8 @@ variable f offset length stride x = record {
   initial = x;
 }
 
-abbrev owned : ℕ → Owned
-owned owner = record { owner = owner; channel = record { capacity = 3; types = byte ∷ []; messages = [] } }
+abbrev owned : ℕ → LiveChannel
+owned frame = record { frame = frame; channel = record { capacity = 3; types = byte ∷ []; messages = [] } }
 
 -- a byte keeps 44 of 300, in each element
 bytes : with_values 0 (clipped byte (pos 300)) 0 2 (record nothing { frames = ((pos 0 ∷ pos 0 ∷ []) ∷ []) ∷ [] }) ≡ record nothing { frames = ((pos 44 ∷ pos 44 ∷ []) ∷ []) ∷ [] }
@@ -36,17 +36,17 @@ unfolding bits_of is_signed
 bytes = refl
 
 -- each element has a channel of its own
-channels : owner_begun [] (variable (form.Plain scalar.Chan) 0 2 1 (initial.Channel 3 (byte ∷ [])) ∷ []) nothing ≡ Ok (record { frames = ((pos 1 ∷ pos 2 ∷ []) ∷ []) ∷ []; channels = owned 0 ∷ owned 0 ∷ []; kinds = [] })
+channels : frame_begun [] (variable (form.Plain scalar.Chan) 0 2 1 (initial.Channel 3 (byte ∷ [])) ∷ []) nothing ≡ Ok (record { frames = ((pos 1 ∷ pos 2 ∷ []) ∷ []) ∷ []; channels = owned 0 ∷ owned 0 ∷ []; kinds = [] })
 channels = refl
 
 -- a typedef with a byte and a channel: its fields begin anew in each element
 pair : Fields
 pair = record { owner = 9; fields = variable byte 0 1 1 initial.Zero ∷ variable (form.Plain scalar.Chan) 1 1 1 (initial.Channel 3 (byte ∷ [])) ∷ [] }
 
-fields : owner_begun (pair ∷ []) (variable (form.Struct 9) 0 2 2 initial.Zero ∷ []) nothing ≡ Ok (record { frames = ((pos 0 ∷ pos 1 ∷ pos 0 ∷ pos 2 ∷ []) ∷ []) ∷ []; channels = owned 0 ∷ owned 0 ∷ []; kinds = [] })
+fields : frame_begun (pair ∷ []) (variable (form.Struct 9) 0 2 2 initial.Zero ∷ []) nothing ≡ Ok (record { frames = ((pos 0 ∷ pos 1 ∷ pos 0 ∷ pos 2 ∷ []) ∷ []) ∷ []; channels = owned 0 ∷ owned 0 ∷ []; kinds = [] })
 unfolding pair
 fields = refl
 
 -- a process's channels are its own
-second : owner_begun [] (variable (form.Plain scalar.Chan) 0 1 1 (initial.Channel 3 (byte ∷ [])) ∷ []) (record { frames = [] ∷ [] ∷ []; channels = []; kinds = 4 ∷ 4 ∷ [] }) ≡ Ok (record { frames = [] ∷ [] ∷ ((pos 1 ∷ []) ∷ []) ∷ []; channels = owned 2 ∷ []; kinds = 4 ∷ 4 ∷ [] })
+second : frame_begun [] (variable (form.Plain scalar.Chan) 0 1 1 (initial.Channel 3 (byte ∷ [])) ∷ []) (record { frames = [] ∷ [] ∷ []; channels = []; kinds = 4 ∷ 4 ∷ [] }) ≡ Ok (record { frames = [] ∷ [] ∷ ((pos 1 ∷ []) ∷ []) ∷ []; channels = owned 2 ∷ []; kinds = 4 ∷ 4 ∷ [] })
 second = refl

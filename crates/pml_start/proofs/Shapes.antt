@@ -4,16 +4,16 @@ use Rattle.std.proofs.lemmas.List.{length-set, length-replicate, get_or_push, ma
 use Rattle.std.proofs.Math.ListN.{get_or-map}
 use Rattle.std.proofs.Math.Seq.{map-set_same}
 use Rattle.pml_program.specs.declared.program.Slot.{Slot}
-use Rattle.pml_store.specs.declared.place.Place.{Place as Spot}
+use Rattle.pml_store.specs.declared.place.Place.{Place}
 use Rattle.pml_store.specs.Store.{Contents, Frame, HasPlace, frame_at, cells_at, size_at, with_number, zeros}
 use Rattle.pml_store.proofs.Back.{has_cell}
 use Rattle.pml_start.specs.Begin.{Begun, cell_in, shape, size}
 use Rattle.pml_start.specs.Known.{Keeps}
 
-pub shape-with_number : (fs : List Frame) (p : Spot) (v : ℤ) → shape (with_number fs p v) ≡ shape fs
+pub shape-with_number : (fs : List Frame) (p : Place) (v : ℤ) → shape (with_number fs p v) ≡ shape fs
 shape-with_number fs p v =
-    map-set_same (map length) fs p.owner (set (frame_at fs p.owner) p.variable (set (cells_at fs p) p.cell v)) []
-    (map-set_same length (frame_at fs p.owner) p.variable (set (cells_at fs p) p.cell v) [] (length-set (cells_at fs p) p.cell v))
+    map-set_same (map length) fs p.frame (set (frame_at fs p.frame) p.variable (set (cells_at fs p) p.cell v)) []
+    (map-set_same length (frame_at fs p.frame) p.variable (set (cells_at fs p) p.cell v) [] (length-set (cells_at fs p) p.cell v))
 
 -- the size of a variable is known by the shape alone
 size_in : (fs : List Frame) (o i : ℕ) → get_or (get_or (shape fs) o []) i 0 ≡ size_at fs o i
@@ -23,7 +23,7 @@ pub same_size : (fs gs : List Frame) (o i : ℕ) → shape gs ≡ shape fs → s
 same_size fs gs o i e = sym (size_in gs o i) ∙ ap (λ (x : List (List ℕ)). get_or (get_or x o []) i 0) e ∙ size_in fs o i
 
 -- a store or a refused one
-pub set_keeps : {E : Type 0} (r : Result (Unit {0}) E) (old new : Contents) (p : Spot) (v : ℤ) (w : List (ℕ × ℤ)) → OnOk r (new ≡ record old { frames = with_number old.frames p v; written = w }) → OnErr r (new ≡ old) → shape new.frames ≡ shape old.frames
+pub set_keeps : {E : Type 0} (r : Result (Unit {0}) E) (old new : Contents) (p : Place) (v : ℤ) (w : List (ℕ × ℤ)) → OnOk r (new ≡ record old { frames = with_number old.frames p v; written = w }) → OnErr r (new ≡ old) → shape new.frames ≡ shape old.frames
 set_keeps (Ok u) old new p v w h k = ap (λ (x : Contents). shape x.frames) h ∙ shape-with_number old.frames p v
 set_keeps (Err e) old new p v w h k = ap (λ (x : Contents). shape x.frames) k
 
@@ -44,7 +44,7 @@ variable_there old new ss i d k e h =
     size_now old new i (size (get_or ss i d)) k
     (sym (get_or-map length (frame_at old.frames (length old.kinds)) i []) ∙ ap (λ (x : List ℕ). get_or x i 0) e ∙ get_or-map_within size ss i d 0 h)
 
--- the frame of an owner that is added
+-- the frame of a frame that is added
 zero_sizes : (ns : List ℕ) → map length (zeros ns) ≡ ns
 zero_sizes [] = refl
 zero_sizes (n ∷ ns) = ap (λ (x : ℕ). x ∷ map length (zeros ns)) (length-replicate n (pos 0)) ∙ ap (λ (x : List ℕ). n ∷ x) (zero_sizes ns)

@@ -7,8 +7,8 @@ use Rattle.pml_program.specs.declared.program.Fields.{Fields}
 use Rattle.pml_program.specs.declared.program.Proctype.{Proctype}
 use Rattle.pml_program.specs.declared.program.Program.{Program}
 use Rattle.pml_eval.specs.Value.{◌>>=◌}
-use Rattle.pml_value.specs.declared.stop.Stop.{Stop}
-use Rattle.pml_value.specs.declared.stop.Stop.TheVariants as stop
+use Rattle.diagnostics.specs.declared.stop.Stop.{Stop}
+use Rattle.diagnostics.specs.declared.stop.Stop.TheVariants as stop
 use Rattle.pml_cells.specs.Cells.{leaf}
 use Rattle.pml_start.specs.Begin.{Begun, Begins, cell_begun, fields_begun, with_value, with_values, variable_begun, variables_begun}
 use Rattle.pml_start.specs.Start.{process_begun, kind_begun, kinds_begun, Starts}

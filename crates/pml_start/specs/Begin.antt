@@ -1,5 +1,6 @@
--- What the variables of an owner begin with.
-use Rattle.std.specs.Prelude.{◌≡◌, ℕ, zero, suc, ◌+◌, ◌-◌, ◌*◌, ◌++◌, List, [], ◌∷◌, length, map, pos, ℤ, false, nat_lt, if◌then◌else◌, Result, Ok, Err}
+-- What the variables of a frame begin with.
+use Rattle.std.specs.Prelude.{min, ◌≡◌, ℕ, zero, suc, ◌+◌, ◌-◌, ◌*◌, ◌++◌, List, [], ◌∷◌, length, map, pos, ℤ, false, nat_lt, if◌then◌else◌, Result, Ok, Err}
+use Rattle.limits.specs.declared.TheConstants.{MOST_CHANNELS, MOST_MESSAGES}
 use Rattle.diagnostics.specs.declared.fault.Fault.{Fault}
 use Rattle.diagnostics.specs.declared.fault.Fault.TheVariants.{TooManyChannels}
 use Rattle.pml_program.specs.declared.form.Form.{Form}
@@ -10,48 +11,48 @@ use Rattle.pml_program.specs.declared.program.Slot.{Slot}
 use Rattle.pml_program.specs.declared.program.Fields.{Fields}
 use Rattle.pml_eval.specs.Clip.{clipped}
 use Rattle.pml_eval.specs.Value.{Reading, val, ◌>>=◌}
-use Rattle.pml_store.specs.declared.place.Place.{Place as Spot}
+use Rattle.pml_store.specs.declared.place.Place.{Place}
 use Rattle.pml_store.specs.Store.{Frame, with_number, zeros}
-use Rattle.pml_channel.specs.Contents.{Contents as Messages}
+use Rattle.pml_channel.specs.State.{ChannelState}
 use Rattle.pml_cells.specs.Cells.{leaf}
-use Rattle.pml_value.specs.declared.owned.Owned.{Owned}
-use Rattle.pml_value.specs.declared.stop.Stop.{Stop}
-use Rattle.pml_value.specs.declared.stop.Stop.TheVariants as stop
+use Rattle.pml_value.specs.declared.live_channel.LiveChannel.{LiveChannel}
+use Rattle.diagnostics.specs.declared.stop.Stop.{Stop}
+use Rattle.diagnostics.specs.declared.stop.Stop.TheVariants as stop
 use Rattle.pml_value.specs.Reads.{reading_of}
 use Rattle.pml_start.specs.declared.started.Started.{Started}
 
--- What the variables of each owner hold, the live channels, and the proctypes of the live processes by their numbers in the
--- model. Owner 0 is the globals, and owner n + 1 is process n.
+-- What the variables of each frame hold, the live channels, and the proctypes of the live processes by their numbers in the
+-- model. Frame 0 has the globals, and frame n + 1 the variables of process n.
 pub record Begun : Type 0 where
   pub frames : List Frame
-  pub channels : List Owned
+  pub channels : List LiveChannel
   pub kinds : List ℕ
 
 abbrev pub shown : Started → Begun
 shown s = record { frames = s.store.frames; channels = s.channels.items; kinds = s.kinds.items }
 
--- what the initialisers of the youngest owner read: its number, how many processes live, and what is there by now
+-- what the initialisers of the youngest frame read: its number, how many processes live, and what is there by now
 abbrev pub read_in : Begun → Reading
 read_in b = reading_of b.frames b.channels (length b.kinds - 1) (length b.kinds) false
 
--- a cell of a variable of the youngest owner
-abbrev pub cell_in : Begun → ℕ → ℕ → Spot
-cell_in b variable cell = record { owner = length b.kinds; variable = variable; cell = cell }
+-- a cell of a variable of the youngest frame
+abbrev pub cell_in : Begun → ℕ → ℕ → Place
+cell_in b variable cell = record { frame = length b.kinds; variable = variable; cell = cell }
 
 -- a number in a cell
 abbrev pub with_value : ℕ → ℕ → ℤ → Begun → Begun
 with_value variable cell v b = record b { frames = with_number b.frames (cell_in b variable cell) v }
 
--- a channel has a capacity of at most 65535, which is all that a checked model asks for
-abbrev pub empty_channel : ℕ → List Form → Messages
-empty_channel capacity types = record { capacity = if nat_lt capacity 65536 then capacity else 65535; types = types; messages = [] }
+-- a channel has a capacity of at most 65,535, which is all that a checked model asks for
+abbrev pub empty_channel : ℕ → List Form → ChannelState
+empty_channel capacity types = record { capacity = min capacity MOST_MESSAGES; types = types; messages = [] }
 
 -- a new channel, and its number in a cell
-abbrev pub with_channel : ℕ → ℕ → Messages → Begun → Result Begun Fault
+abbrev pub with_channel : ℕ → ℕ → ChannelState → Begun → Result Begun Fault
 with_channel variable cell c b =
-    if nat_lt (length b.channels) 255 then Ok (record b {
+    if nat_lt (length b.channels) MOST_CHANNELS then Ok (record b {
       frames = with_number b.frames (cell_in b variable cell) (pos (length b.channels + 1));
-      channels = b.channels ++ record { owner = length b.kinds; channel = c } ∷ [];
+      channels = b.channels ++ record { frame = length b.kinds; channel = c } ∷ [];
     }) else Err TooManyChannels
 
 -- what a type keeps of the value of an initialiser
@@ -85,14 +86,14 @@ abbrev pub variable_begun : List Fields → Initial → Slot → ℕ → Begun �
 variable_begun ts (i.Value v) s variable b = initial_value v s.form b >>= λ n. Ok (with_values variable n 0 (size s) b)
 variable_begun ts _ s variable b = fields_begun ts s variable 0 (size s) b
 
--- the variables of an owner in order of declaration, from this number on
+-- the variables of a frame in order of declaration, from this number on
 abbrev pub variables_begun : List Fields → List Slot → ℕ → Begun → Result Begun Fault
 variables_begun ts [] variable b = Ok b
 variables_begun ts (s ∷ ss) variable b = variable_begun ts s.initial s variable b >>= variables_begun ts ss (variable + 1)
 
--- the variables of one more owner: 0 in each cell, and then the initialisers
-abbrev pub owner_begun : List Fields → List Slot → Begun → Result Begun Fault
-owner_begun ts ss b = variables_begun ts ss 0 (record b { frames = b.frames ++ zeros (map size ss) ∷ [] })
+-- the variables of one more frame: 0 in each cell, and then the initialisers
+abbrev pub frame_begun : List Fields → List Slot → Begun → Result Begun Fault
+frame_begun ts ss b = variables_begun ts ss 0 (record b { frames = b.frames ++ zeros (map size ss) ∷ [] })
 
 -- ---- what is known of it
 

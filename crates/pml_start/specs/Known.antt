@@ -9,14 +9,14 @@ use Rattle.pml_program.specs.declared.program.Fields.{Fields}
 use Rattle.pml_store.specs.declared.place.Place.{Place}
 use Rattle.pml_start.specs.Begin.{Begun, shape}
 
--- no owner, no variable and no cell comes or goes
+-- no frame, no variable and no cell comes or goes
 pub record Keeps (old new : Begun) : Type 0 where
   pub shape : shape new.frames ≡ shape old.frames
   pub kinds : new.kinds ≡ old.kinds
 
--- a place in the youngest owner's variable with this number
+-- a place in the youngest frame's variable with this number
 abbrev pub is_of : Begun → ℕ → Place → Bool
-is_of b variable q = nat_eq (length b.kinds) q.owner && nat_eq variable q.variable
+is_of b variable q = nat_eq (length b.kinds) q.frame && nat_eq variable q.variable
 
 -- a type without fields
 abbrev pub IsPlain : Form → Type 0

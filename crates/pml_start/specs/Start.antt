@@ -1,15 +1,16 @@
 -- The first state of a checked model.
 use Rattle.std.specs.Prelude.{◌≡◌, ℕ, zero, suc, ◌+◌, ◌<◌, ◌≤◌, ◌++◌, List, [], ◌∷◌, length, map, replicate, nat_lt, if◌then◌else◌, Option, None, Some, slice_get, Result, Ok, Err}
 use Rattle.std.specs.List.{AllByRecursion}
+use Rattle.limits.specs.declared.TheConstants.{MOST_PROCESSES}
 use Rattle.diagnostics.specs.declared.fault.Fault.{Fault}
 use Rattle.pml_program.specs.declared.program.Slot.{Slot}
 use Rattle.pml_program.specs.declared.program.Proctype.{Proctype}
 use Rattle.pml_program.specs.declared.program.Program.{Program}
 use Rattle.pml_eval.specs.Value.{◌>>=◌}
-use Rattle.pml_value.specs.declared.stop.Stop.{Stop}
-use Rattle.pml_value.specs.declared.stop.Stop.TheVariants as stop
+use Rattle.diagnostics.specs.declared.stop.Stop.{Stop}
+use Rattle.diagnostics.specs.declared.stop.Stop.TheVariants as stop
 use Rattle.pml_start.specs.declared.started.Started.{Started}
-use Rattle.pml_start.specs.Begin.{Begun, shown, owner_begun, size, shape}
+use Rattle.pml_start.specs.Begin.{Begun, shown, frame_begun, size, shape}
 
 abbrev pub nothing : Begun
 nothing = record { frames = []; channels = []; kinds = [] }
@@ -25,7 +26,7 @@ variables_at p k = variables_of (slice_get p.proctypes k)
 -- a process of the proctype with this number; none is the 256th
 abbrev pub process_begun : Program → ℕ → Begun → Result Begun Fault
 process_begun p k b =
-    if nat_lt (length b.kinds) 255 then owner_begun p.typedefs (variables_at p k) (record b { kinds = b.kinds ++ k ∷ [] }) else Ok b
+    if nat_lt (length b.kinds) MOST_PROCESSES then frame_begun p.typedefs (variables_at p k) (record b { kinds = b.kinds ++ k ∷ [] }) else Ok b
 
 -- n such processes
 abbrev pub kind_begun : Program → ℕ → ℕ → Begun → Result Begun Fault
@@ -39,7 +40,7 @@ kinds_begun p k (q ∷ qs) b = kind_begun p k q.starts b >>= kinds_begun p (k + 
 
 -- the globals, and then the processes one after the other
 abbrev pub first_state : Program → Result Begun Fault
-first_state p = owner_begun p.typedefs p.globals nothing >>= kinds_begun p 0 p.proctypes
+first_state p = frame_begun p.typedefs p.globals nothing >>= kinds_begun p 0 p.proctypes
 
 -- the first state, or the first fault; where memory is refused, nothing is said
 abbrev pub Starts : Result Begun Fault → Result Started Stop → Type 0
@@ -63,6 +64,6 @@ declared_sizes p kinds = map size p.globals ∷ map (λ k. map size (variables_a
 
 -- the processes are of proctypes that are there, and each variable has the cells that it is declared with
 pub record IsDeclared (p : Program) (b : Begun) : Type 0 where
-  pub few : length b.kinds ≤ 255
+  pub few : length b.kinds ≤ MOST_PROCESSES
   pub kinds : AllByRecursion (λ k. k < length p.proctypes) b.kinds
   pub sizes : shape b.frames ≡ declared_sizes p b.kinds

@@ -1,12 +1,14 @@
-//! What the variables of the youngest owner begin with. Owner 0 is the globals, and owner n + 1 is process n.
+//! What the variables of the youngest frame begin with. Frame 0 has the globals, and frame n + 1 the variables of process n.
 
 ghost use Rattle.std.specs.Prelude.{◌≡◌, ◌<◌, ◌≤◌, ◌++◌, ◌∷◌, [], IfOk, OnOk, Ok, length, map};
+ghost use Rattle.limits.specs.declared.TheConstants.{MOST_PROCESSES};
 ghost use Rattle.pml_store.specs.Store.{HasPlace, frame_at, size_at};
-ghost use Rattle.pml_start.specs.Begin.{Begins, shown, shape, initial_value, cell_in, with_value, with_channel, empty_channel, cell_begun, with_values, fields_begun, variable_begun, variables_begun, owner_begun, size};
+ghost use Rattle.pml_start.specs.Begin.{Begins, shown, shape, initial_value, cell_in, with_value, with_channel, empty_channel, cell_begun, with_values, fields_begun, variable_begun, variables_begun, frame_begun, size};
 ghost use Rattle.pml_start.specs.Known.{Keeps, is_zero, are_zero, have_no_initials};
 
 use crate::started::Started;
 use diagnostics::Fault;
+use limits::{MOST_CHANNELS, MOST_MESSAGES};
 use pml_cells::cells::leaf;
 use pml_channel::channel::Channel;
 use pml_eval::clip::clip;
@@ -14,24 +16,24 @@ use pml_eval::eval::eval;
 use pml_program::form::Form;
 use pml_program::program::{Fields, Initial, Slot};
 use pml_program::expr::Expr;
-use pml_store::place::Place as Spot;
-use pml_value::owned::Owned;
-use pml_value::stop::Stop;
+use pml_store::place::Place;
+use pml_value::live_channel::LiveChannel;
+use diagnostics::Stop;
 use pml_value::view::View;
 use sqlite_items::Items;
 use std::alloc::{AllocError, Global};
 
 /// What a type keeps of the value of an initialiser.
 fn initial_value(started: &Started, value: &Expr, form: Form) -> Result<i32, Fault>
-    requires { length started.now.kinds.items ≤ 255 }
+    requires { length started.now.kinds.items ≤ MOST_PROCESSES }
     ensures { result ≡ initial_value value.now form (shown started.now) }
 {
-    let living = started.kinds.len();
+    let count = started.kinds.len();
     let view = View {
         store: &started.store,
         channels: started.channels.as_slice(),
-        process: living.saturating_sub(1) as u8,
-        living: living as u8,
+        pid: count.saturating_sub(1) as u8,
+        process_count: count as u8,
         timeout: false,
     };
     let number = eval(value, &view)?;
@@ -49,8 +51,8 @@ fn store_number(
     ensures value { Begins (Ok (with_value variable cell number (shown started.old))) result (shown started.new) }
     ensures keeps { Keeps (shown started.old) (shown started.new) }
 {
-    let place = Spot {
-        owner: started.kinds.len(),
+    let place = Place {
+        frame: started.kinds.len(),
         variable,
         cell,
     };
@@ -72,15 +74,15 @@ fn make_channel(
     ensures keeps { Keeps (shown started.old) (shown started.new) }
 {
     let before = started.channels.len();
-    if before >= 255 {
+    if before >= MOST_CHANNELS {
         return Err(Stop::Fault(Fault::TooManyChannels));
     }
     let alloc = *started.channels.allocator();
     let types = Items::from_slice(alloc, types).map_err(|_| Stop::Memory)?;
-    let owner = started.kinds.len();
-    let owned = Owned {
-        owner,
-        channel: Channel::new(alloc, capacity.min(65535) as u16, types),
+    let frame = started.kinds.len();
+    let owned = LiveChannel {
+        frame,
+        channel: Channel::new(alloc, capacity.min(MOST_MESSAGES) as u16, types),
     };
     started.channels.push(owned).map_err(|_| Stop::Memory)?;
     store_number(started, variable, cell, before as i32 + 1)
@@ -93,7 +95,7 @@ fn begin_cell(
     cell: usize,
     slot: &Slot<'_>,
 ) -> Result<(), Stop>
-    requires few { length started.old.kinds.items ≤ 255 }
+    requires few { length started.old.kinds.items ≤ MOST_PROCESSES }
     requires there { HasPlace started.old.store.frames (cell_in (shown started.old) variable cell) }
     ensures value { Begins (cell_begun slot.now.initial slot.now.form variable cell (shown started.old)) result (shown started.new) }
     ensures keeps { Keeps (shown started.old) (shown started.new) }
@@ -158,7 +160,7 @@ fn begin_fields<'a>(
     slot: &Slot<'a>,
 ) -> Result<(), Stop>
     requires zeroed { zeroed ≡ have_no_initials typedefs.now }
-    requires few { length started.old.kinds.items ≤ 255 }
+    requires few { length started.old.kinds.items ≤ MOST_PROCESSES }
     requires there { size_at started.old.store.frames (length started.old.kinds.items) variable ≡ size slot.now }
     ensures value { Begins (fields_begun typedefs.now slot.now variable 0 (size slot.now) (shown started.old)) result (shown started.new) }
     ensures keeps { Keeps (shown started.old) (shown started.new) }
@@ -193,7 +195,7 @@ fn begin_variable(
     slot: &Slot<'_>,
 ) -> Result<(), Stop>
     requires zeroed { zeroed ≡ have_no_initials typedefs.now }
-    requires few { length started.old.kinds.items ≤ 255 }
+    requires few { length started.old.kinds.items ≤ MOST_PROCESSES }
     requires there { size_at started.old.store.frames (length started.old.kinds.items) variable ≡ size slot.now }
     ensures value { Begins (variable_begun typedefs.now slot.now.initial slot.now variable (shown started.old)) result (shown started.new) }
     ensures keeps { Keeps (shown started.old) (shown started.new) }
@@ -207,7 +209,7 @@ fn begin_variable(
     }
 }
 
-/// What the variables of the youngest owner begin with.
+/// What the variables of the youngest frame begin with.
 fn begin_variables(
     typedefs: &[Fields<'_>],
     zeroed: bool,
@@ -215,7 +217,7 @@ fn begin_variables(
     slots: &[Slot<'_>],
 ) -> Result<(), Stop>
     requires zeroed { zeroed ≡ have_no_initials typedefs.now }
-    requires few { length started.old.kinds.items ≤ 255 }
+    requires few { length started.old.kinds.items ≤ MOST_PROCESSES }
     requires there { map length (frame_at started.old.store.frames (length started.old.kinds.items)) ≡ map size slots.now }
     ensures value { Begins (variables_begun typedefs.now slots.now 0 (shown started.old)) result (shown started.new) }
     ensures keeps { Keeps (shown started.old) (shown started.new) }
@@ -237,16 +239,16 @@ fn sizes(alloc: Global, slots: &[Slot<'_>]) -> Result<Vec<usize>, AllocError>
     Ok(sizes)
 }
 
-/// Adds the variables of the owner that is still without, and initialises them.
-pub fn begin_owner(
+/// Adds the variables of the frame that is still to come, and initialises them.
+pub fn begin_frame(
     alloc: Global,
     typedefs: &[Fields<'_>],
     started: &mut Started,
     slots: &[Slot<'_>],
 ) -> Result<(), Stop>
-    requires few { length started.old.kinds.items ≤ 255 }
+    requires few { length started.old.kinds.items ≤ MOST_PROCESSES }
     requires next { length started.old.store.frames ≡ length started.old.kinds.items }
-    ensures value { Begins (owner_begun typedefs.now slots.now (shown started.old)) result (shown started.new) }
+    ensures value { Begins (frame_begun typedefs.now slots.now (shown started.old)) result (shown started.new) }
     ensures sizes { OnOk result (shape started.new.store.frames ≡ shape started.old.store.frames ++ map size slots.now ∷ []) }
     ensures kinds { started.new.kinds.items ≡ started.old.kinds.items }
 {

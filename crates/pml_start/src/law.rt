@@ -1,5 +1,6 @@
 //! What is known of the first state.
 
+ghost use Rattle.limits.specs.declared.TheConstants.{MOST_PROCESSES};
 ghost use Rattle.std.specs.Prelude.{◌≡◌, ◌<◌, ◌+◌, ◌++◌, ℕ, List, false, length, take, replicate, pos, Ok, IfOk};
 ghost use Rattle.pml_program.specs.declared.form.Form.{Form};
 ghost use Rattle.pml_program.specs.declared.expr.Expr.{Expr};
@@ -15,7 +16,7 @@ ghost use Rattle.pml_start.specs.Start.{first_state, starting};
 
 /// The processes are those that the model starts with, as far as 255 go.
 pub fn living()
-    ensures { (p : Program) → IfOk (first_state p) (λ b. b.kinds ≡ take 255 (starting 0 p.proctypes)) }
+    ensures { (p : Program) → IfOk (first_state p) (λ b. b.kinds ≡ take MOST_PROCESSES (starting 0 p.proctypes)) }
 {}
 
 /// A variable begins with the one value of its initialiser in each of its cells, with nothing where it has none, and changes no
@@ -32,7 +33,7 @@ pub fn holding()
 /// Each cell of a channel variable has a channel of its own, in order, and holds its number: its place among the live ones, from 1.
 pub fn numbering()
     ensures made { (ts : List Fields) (s : Slot) (v capacity : ℕ) (types : List Form) (b : Begun) → size_at b.frames (length b.kinds) v ≡ size s → IsPlain s.form → s.initial ≡ Made capacity types →
-        IfOk (variable_begun ts s.initial s v b) (λ n. n.channels ≡ b.channels ++ replicate (size s) (record { owner = length b.kinds; channel = empty_channel capacity types })) }
+        IfOk (variable_begun ts s.initial s v b) (λ n. n.channels ≡ b.channels ++ replicate (size s) (record { frame = length b.kinds; channel = empty_channel capacity types })) }
     ensures numbers { (ts : List Fields) (s : Slot) (v c capacity : ℕ) (types : List Form) (b : Begun) → size_at b.frames (length b.kinds) v ≡ size s → IsPlain s.form → s.initial ≡ Made capacity types → c < size s →
         IfOk (variable_begun ts s.initial s v b) (λ n. number_at n.frames (cell_in b v c) ≡ pos (length b.channels + c + 1)) }
 {}

@@ -4,11 +4,12 @@ ghost use Rattle.std.specs.Prelude.{◌≡◌, ◌<◌, [], IfOk, OnOk, length};
 ghost use Rattle.pml_start.specs.Begin.{Begins, shown};
 ghost use Rattle.pml_start.specs.Start.{Starts, IsDeclared, first_state, process_begun, kind_begun};
 
-use crate::begin::begin_owner;
+use crate::begin::begin_frame;
 use crate::started::Started;
+use limits::MOST_PROCESSES;
 use pml_program::program::Program;
 use pml_store::store::Store;
-use pml_value::stop::Stop;
+use diagnostics::Stop;
 use std::alloc::Global;
 
 /// Begins a process of the proctype with this number.
@@ -23,12 +24,12 @@ fn begin_process(
     ensures value { Begins (process_begun program.now kind (shown started.old)) result (shown started.new) }
     ensures declared { OnOk result (IsDeclared program.now (shown started.new)) }
 {
-    if started.kinds.len() >= 255 {
+    if started.kinds.len() >= MOST_PROCESSES {
         return Ok(());
     }
     started.kinds.push(kind).map_err(|_| Stop::Memory)?;
     let variables = program.proctypes.as_slice()[kind].variables.as_slice();
-    begin_owner(alloc, program.typedefs.as_slice(), started, variables)
+    begin_frame(alloc, program.typedefs.as_slice(), started, variables)
 }
 
 /// Begins the processes that a proctype starts with.
@@ -61,7 +62,7 @@ pub fn start(alloc: Global, program: &Program<'_>) -> Result<Started, Stop>
         channels: Vec::new(alloc),
         kinds: Vec::new(alloc),
     };
-    begin_owner(
+    begin_frame(
         alloc,
         program.typedefs.as_slice(),
         &mut started,

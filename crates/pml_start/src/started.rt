@@ -1,13 +1,13 @@
 //! A state at whose points nothing has been done yet.
 
 use pml_store::store::Store;
-use pml_value::owned::Owned;
+use pml_value::live_channel::LiveChannel;
 
 /// What the variables hold, the live channels, and the proctypes of the live processes by their numbers in the model, the
 /// oldest process first.
 #[derive(Drop)]
 pub struct Started {
     pub store: Store,
-    pub channels: Vec<Owned>,
+    pub channels: Vec<LiveChannel>,
     pub kinds: Vec<usize>,
 }

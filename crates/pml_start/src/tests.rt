@@ -1,6 +1,6 @@
 ghost use Rattle.std.specs.Prelude.{◌≡◌, []};
 
-use crate::begin::begin_owner;
+use crate::begin::begin_frame;
 use crate::start::start;
 use crate::started::Started;
 use diagnostics::Fault;
@@ -10,7 +10,7 @@ use pml_program::program::{Fields, Initial, Proctype, Program, Seq, Slot};
 use pml_program::expr::Expr;
 use pml_store::store::Store;
 use pml_tree::tree::{Infix, Scalar};
-use pml_value::stop::Stop;
+use diagnostics::Stop;
 use sqlite_items::{Boxed, Items};
 use std::alloc::{AllocError, Global};
 use std::test::Fail;
@@ -53,7 +53,7 @@ fn nothing(alloc: Global) -> Started
     }
 }
 
-/// Two bytes keep 300 as 44, and each of two channels has a number and the globals for its owner.
+/// Two bytes keep 300 as 44, and each of two channels has a number and the globals for its frame.
 #[test]
 fn elements(rt: HostRuntime) -> Result<(), Fail> {
     let alloc = rt.alloc();
@@ -64,7 +64,7 @@ fn elements(rt: HostRuntime) -> Result<(), Fail> {
     slots.push(slot(byte, 4, 1, 1, Initial::Zero))?;
     let mut started = nothing(alloc);
     assert_eq!(rt;
-        begin_owner(alloc, &[], &mut started, slots.as_slice()),
+        begin_frame(alloc, &[], &mut started, slots.as_slice()),
         Ok(())
     );
     assert_eq!(rt;
@@ -73,7 +73,7 @@ fn elements(rt: HostRuntime) -> Result<(), Fail> {
     );
     assert_eq!(rt; started.store.written().len(), 0);
     assert_eq!(rt; started.channels.len(), 2);
-    assert_eq!(rt; started.channels[1].owner, 0);
+    assert_eq!(rt; started.channels[1].frame, 0);
     assert_eq!(rt; started.channels[1].channel.capacity(), 3);
     Ok(())
 }
@@ -91,7 +91,7 @@ fn fields_of_nought(rt: HostRuntime) -> Result<(), Fail> {
     slots.push(slot(Form::Plain(Scalar::Chan), 4, 1, 1, channels(alloc, 3)?))?;
     let mut started = nothing(alloc);
     assert_eq!(rt;
-        begin_owner(alloc, typedefs.as_slice(), &mut started, slots.as_slice()),
+        begin_frame(alloc, typedefs.as_slice(), &mut started, slots.as_slice()),
         Ok(())
     );
     assert_eq!(rt;
@@ -115,11 +115,11 @@ fn faults(rt: HostRuntime) -> Result<(), Fail> {
     ))?;
     slots.push(slot(Form::Plain(Scalar::Chan), 1, 256, 1, channels(alloc, 0)?))?;
     assert_eq!(rt;
-        begin_owner(alloc, &[], &mut nothing(alloc), slots.as_slice()),
+        begin_frame(alloc, &[], &mut nothing(alloc), slots.as_slice()),
         Err(Stop::Fault(Fault::ZeroDivisor))
     );
     assert_eq!(rt;
-        begin_owner(alloc, &[], &mut nothing(alloc), &slots.as_slice()[1..]),
+        begin_frame(alloc, &[], &mut nothing(alloc), &slots.as_slice()[1..]),
         Err(Stop::Fault(Fault::TooManyChannels))
     );
     Ok(())

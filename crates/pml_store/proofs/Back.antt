@@ -128,14 +128,14 @@ frames_set (f ∷ fs) (suc o) n k v h l m =
     ∙ ap (λ (x : List Frame). f ∷ x) (frames_set fs o n k v (omega arith) l m)
 
 place_set : (fs : List Frame) (p : Place) (v : ℤ) → HasPlace fs p → index_with fs (index_of fs p) v ≡ with_number fs p v
-place_set fs p v h = frames_set fs p.owner p.variable p.cell v h.owner h.variable h.cell
+place_set fs p v h = frames_set fs p.frame p.variable p.cell v h.frame h.variable h.cell
 
 -- what is there, stored again
 own_number : (fs : List Frame) (p : Place) → with_number fs p (number_at fs p) ≡ fs
 own_number fs p =
-    ap (λ (c : Cells). set fs p.owner (set (frame_at fs p.owner) p.variable c)) (set-get_or (cells_at fs p) p.cell (pos 0))
-    ∙ ap (λ (f : Frame). set fs p.owner f) (set-get_or (frame_at fs p.owner) p.variable [])
-    ∙ set-get_or fs p.owner []
+    ap (λ (c : Cells). set fs p.frame (set (frame_at fs p.frame) p.variable c)) (set-get_or (cells_at fs p) p.cell (pos 0))
+    ∙ ap (λ (f : Frame). set fs p.frame f) (set-get_or (frame_at fs p.frame) p.variable [])
+    ∙ set-get_or fs p.frame []
 
 pub before_set : (now : Contents) (p : Place) (v : ℤ) → HasPlace now.frames p → before (record now { frames = with_number now.frames p v; written = now.written ++ (index_of now.frames p, number_at now.frames p) ∷ [] }) ≡ before now
 before_set now p v h =
@@ -152,7 +152,7 @@ some_there [] i k h = absurd (omega arith)
 some_there (xs ∷ xss) zero k h = omega arith
 some_there (xs ∷ xss) (suc i) k h = let r = some_there xss i k h in omega arith
 
-pub has_cell : (frames : List Frame) (p : Place) → p.cell < size_at frames p.owner p.variable → HasPlace frames p
+pub has_cell : (frames : List Frame) (p : Place) → p.cell < size_at frames p.frame p.variable → HasPlace frames p
 has_cell frames p h =
-    let variable = some_there (frame_at frames p.owner) p.variable p.cell h in
-    record { owner = some_there frames p.owner p.variable variable; variable = variable; cell = h }
+    let variable = some_there (frame_at frames p.frame) p.variable p.cell h in
+    record { frame = some_there frames p.frame p.variable variable; variable = variable; cell = h }

@@ -21,5 +21,5 @@ at_frame false f g i j k l v h m e = refl
 
 pub number_at-with_number : (frames : List Frame) (p q : Place) (v : ℤ) → HasPlace frames p → number_at (with_number frames p v) q ≡ cond (is_same p q) v (number_at frames q)
 number_at-with_number frames p q v h =
-    ap (λ (x : Frame). get_or (get_or x q.variable []) q.cell (pos 0)) (at_set frames p.owner q.owner (set (frame_at frames p.owner) p.variable (set (cells_at frames p) p.cell v)) [] h.owner)
-    ∙ at_frame (nat_eq p.owner q.owner) (frame_at frames p.owner) (frame_at frames q.owner) p.variable q.variable p.cell q.cell v h.variable h.cell (λ t. let s : q.owner ≡ p.owner = grind (arith, nat_tests) in ap (frame_at frames) s)
+    ap (λ (x : Frame). get_or (get_or x q.variable []) q.cell (pos 0)) (at_set frames p.frame q.frame (set (frame_at frames p.frame) p.variable (set (cells_at frames p) p.cell v)) [] h.frame)
+    ∙ at_frame (nat_eq p.frame q.frame) (frame_at frames p.frame) (frame_at frames q.frame) p.variable q.variable p.cell q.cell v h.variable h.cell (λ t. let s : q.frame ≡ p.frame = grind (arith, nat_tests) in ap (frame_at frames) s)

@@ -3,145 +3,145 @@ use Rattle.std.proofs.Common.{◌≡◌, ℕ, zero, suc, ◌+◌, ◌<◌, ◌�
 use Rattle.std.proofs.Math.ListN.{get_or-map}
 use Rattle.std.proofs.lemmas.List.{length-map, get_or-drop, get_or-take, take-append-drop, drop_all}
 use Rattle.pml_store.specs.declared.place.Place.{Place}
-use Rattle.pml_store.specs.declared.store.Slot.{Slot}
-use Rattle.pml_store.specs.declared.store.Owner.{Owner}
+use Rattle.pml_store.specs.declared.store.Extent.{Extent}
+use Rattle.pml_store.specs.declared.store.FrameExtents.{FrameExtents}
 use Rattle.pml_store.specs.Store.{Frame, Cells, frame_at, cells_at, number_at, HasPlace, flat, joined, index_of, size_at}
-use Rattle.pml_store.specs.Laid.{cells_of, frame_of, frames_of, nowhere, nobody, owner_at, slot_of, slot_at, SlotsLie, slots_end, OwnersLie, owners_end, IsLaid}
+use Rattle.pml_store.specs.Laid.{cells_of, frame_of, frames_of, nowhere, no_frame, frame_extents_at, extent_of, extent_at, ExtentsLie, extents_end, FramesLie, frames_end, IsLaid}
 
-pub frame_is : (os : List Owner) (cells : List ℤ) (o : ℕ) → frame_at (frames_of os cells) o ≡ frame_of cells (owner_at os o)
-frame_is os cells o = get_or-map (frame_of cells) os o nobody
+pub frame_is : (os : List FrameExtents) (cells : List ℤ) (o : ℕ) → frame_at (frames_of os cells) o ≡ frame_of cells (frame_extents_at os o)
+frame_is os cells o = get_or-map (frame_of cells) os o no_frame
 
-pub cells_is : (os : List Owner) (cells : List ℤ) (p : Place) → cells_at (frames_of os cells) p ≡ cells_of cells (slot_at os p)
+pub cells_is : (os : List FrameExtents) (cells : List ℤ) (p : Place) → cells_at (frames_of os cells) p ≡ cells_of cells (extent_at os p)
 cells_is os cells p =
-    ap (λ (f : Frame). get_or f p.variable []) (frame_is os cells p.owner)
-    ∙ get_or-map (cells_of cells) (owner_at os p.owner).slots p.variable nowhere
+    ap (λ (f : Frame). get_or f p.variable []) (frame_is os cells p.frame)
+    ∙ get_or-map (cells_of cells) (frame_extents_at os p.frame).extents p.variable nowhere
 
--- what a place that is there has among the slots
-pub record Found (os : List Owner) (cells : List ℤ) (p : Place) : Type 0 where
-  pub owner : p.owner < length os
-  pub variable : p.variable < length (owner_at os p.owner).slots
-  pub cell : p.cell < (slot_at os p).size
-  pub within : (slot_at os p).start + p.cell < length cells
+-- what a place that is there has among the extents
+pub record Found (os : List FrameExtents) (cells : List ℤ) (p : Place) : Type 0 where
+  pub frame : p.frame < length os
+  pub variable : p.variable < length (frame_extents_at os p.frame).extents
+  pub cell : p.cell < (extent_at os p).size
+  pub within : (extent_at os p).start + p.cell < length cells
 
-pub found : (os : List Owner) (cells : List ℤ) (p : Place) → HasPlace (frames_of os cells) p → Found os cells p
+pub found : (os : List FrameExtents) (cells : List ℤ) (p : Place) → HasPlace (frames_of os cells) p → Found os cells p
 found os cells p h =
     let c = rw (cells_is os cells p) at h.cell in
-    let e = length-take (slot_at os p).size (drop (slot_at os p).start cells) in
-    let d = length-drop (slot_at os p).start cells in
-    let v = rw (frame_is os cells p.owner) at h.variable in
+    let e = length-take (extent_at os p).size (drop (extent_at os p).start cells) in
+    let d = length-drop (extent_at os p).start cells in
+    let v = rw (frame_is os cells p.frame) at h.variable in
     record {
-      owner = omega (arith, h.owner, length-map os (frame_of cells));
-      variable = omega (arith, v, length-map (owner_at os p.owner).slots (cells_of cells));
+      frame = omega (arith, h.frame, length-map os (frame_of cells));
+      variable = omega (arith, v, length-map (frame_extents_at os p.frame).extents (cells_of cells));
       cell = omega arith;
       within = omega arith;
     }
 
-pub number_is : (os : List Owner) (cells : List ℤ) (p : Place) → HasPlace (frames_of os cells) p → number_at (frames_of os cells) p ≡ get_or cells ((slot_at os p).start + p.cell) (pos 0)
+pub number_is : (os : List FrameExtents) (cells : List ℤ) (p : Place) → HasPlace (frames_of os cells) p → number_at (frames_of os cells) p ≡ get_or cells ((extent_at os p).start + p.cell) (pos 0)
 number_is os cells p h =
     ap (λ (c : Cells). get_or c p.cell (pos 0)) (cells_is os cells p)
-    ∙ get_or-take (slot_at os p).size (drop (slot_at os p).start cells) p.cell (pos 0) (found os cells p h).cell
-    ∙ get_or-drop (slot_at os p).start cells p.cell (pos 0)
+    ∙ get_or-take (extent_at os p).size (drop (extent_at os p).start cells) p.cell (pos 0) (found os cells p h).cell
+    ∙ get_or-drop (extent_at os p).start cells p.cell (pos 0)
 
 -- ---- all of them, in order
 
-abbrev frame_flat : List ℤ → Owner → List ℤ
+abbrev frame_flat : List ℤ → FrameExtents → List ℤ
 frame_flat cells o = flat (frame_of cells o)
 
-flat_is : (ss : List Slot) (cells : List ℤ) (at : ℕ) → SlotsLie ss at → flat (map (cells_of cells) ss) ++ drop (slots_end ss at) cells ≡ drop at cells
+flat_is : (ss : List Extent) (cells : List ℤ) (at : ℕ) → ExtentsLie ss at → flat (map (cells_of cells) ss) ++ drop (extents_end ss at) cells ≡ drop at cells
 flat_is [] cells at h = refl
 flat_is (s ∷ ss) cells at h =
     rw (append_assoc, flat_is ss cells (at + s.size) h.1, h.0, ← drop-drop s.size at cells) (take-append-drop s.size (drop at cells))
 
-joined_to : (os : List Owner) (cells : List ℤ) (at : ℕ) → OwnersLie os at → joined (frames_of os cells) ++ drop (owners_end os at) cells ≡ drop at cells
+joined_to : (os : List FrameExtents) (cells : List ℤ) (at : ℕ) → FramesLie os at → joined (frames_of os cells) ++ drop (frames_end os at) cells ≡ drop at cells
 joined_to [] cells at h = refl
 joined_to (o ∷ os) cells at h =
-    rw (append_assoc, joined_to os cells (slots_end o.slots at) h.2) (flat_is o.slots cells at h.1)
+    rw (append_assoc, joined_to os cells (extents_end o.extents at) h.2) (flat_is o.extents cells at h.1)
 
-pub joined_is : (os : List Owner) (cells : List ℤ) → IsLaid os cells → joined (frames_of os cells) ≡ cells
+pub joined_is : (os : List FrameExtents) (cells : List ℤ) → IsLaid os cells → joined (frames_of os cells) ≡ cells
 joined_is os cells h =
     let e = joined_to os cells 0 h.lie in
-    let d = drop_all (owners_end os 0) cells (omega (arith, h.cover)) in
+    let d = drop_all (frames_end os 0) cells (omega (arith, h.cover)) in
     sym (append-nil (joined (frames_of os cells))) ∙ ap (λ (x : List ℤ). joined (frames_of os cells) ++ x) (sym d) ∙ e
 
 -- ---- where a place stands among them
 
-pub slots_on : (ss : List Slot) (at : ℕ) → at ≤ slots_end ss at
-slots_on [] at = omega arith
-slots_on (s ∷ ss) at = let r = slots_on ss (at + s.size) in omega arith
+pub extents_on : (ss : List Extent) (at : ℕ) → at ≤ extents_end ss at
+extents_on [] at = omega arith
+extents_on (s ∷ ss) at = let r = extents_on ss (at + s.size) in omega arith
 
-pub owners_on : (os : List Owner) (at : ℕ) → at ≤ owners_end os at
-owners_on [] at = omega arith
-owners_on (o ∷ os) at = let r = owners_on os (slots_end o.slots at) in let q = slots_on o.slots at in omega arith
+pub frames_on : (os : List FrameExtents) (at : ℕ) → at ≤ frames_end os at
+frames_on [] at = omega arith
+frames_on (o ∷ os) at = let r = frames_on os (extents_end o.extents at) in let q = extents_on o.extents at in omega arith
 
-length-cells_of : (cells : List ℤ) (s : Slot) → s.start + s.size ≤ length cells → length (cells_of cells s) ≡ s.size
+length-cells_of : (cells : List ℤ) (s : Extent) → s.start + s.size ≤ length cells → length (cells_of cells s) ≡ s.size
 length-cells_of cells s h = let e = length-take s.size (drop s.start cells) in let d = length-drop s.start cells in omega arith
 
-flat_len : (ss : List Slot) (cells : List ℤ) (at : ℕ) → SlotsLie ss at → slots_end ss at ≤ length cells → length (flat (map (cells_of cells) ss)) + at ≡ slots_end ss at
+flat_len : (ss : List Extent) (cells : List ℤ) (at : ℕ) → ExtentsLie ss at → extents_end ss at ≤ length cells → length (flat (map (cells_of cells) ss)) + at ≡ extents_end ss at
 flat_len [] cells at h l = omega arith
 flat_len (s ∷ ss) cells at h l =
-    let on = slots_on ss (at + s.size) in
+    let on = extents_on ss (at + s.size) in
     let st = h.0 in
     let e = length-cells_of cells s (omega arith) in
     let r = flat_len ss cells (at + s.size) h.1 l in
     let a = length-append (cells_of cells s) (flat (map (cells_of cells) ss)) in
     omega arith
 
-flat_to : (ss : List Slot) (cells : List ℤ) (at v : ℕ) → SlotsLie ss at → slots_end ss at ≤ length cells → v < length ss → length (flat (take v (map (cells_of cells) ss))) + at ≡ (get_or ss v nowhere).start
+flat_to : (ss : List Extent) (cells : List ℤ) (at v : ℕ) → ExtentsLie ss at → extents_end ss at ≤ length cells → v < length ss → length (flat (take v (map (cells_of cells) ss))) + at ≡ (get_or ss v nowhere).start
 flat_to [] cells at v h l k = absurd (omega arith)
 flat_to (s ∷ ss) cells at zero h l k = let st = h.0 in omega arith
 flat_to (s ∷ ss) cells at (suc v) h l k =
-    let on = slots_on ss (at + s.size) in
+    let on = extents_on ss (at + s.size) in
     let st = h.0 in
     let e = length-cells_of cells s (omega arith) in
     let r = flat_to ss cells (at + s.size) v h.1 l (omega arith) in
     let a = length-append (cells_of cells s) (flat (take v (map (cells_of cells) ss))) in
     omega arith
 
-joined_len_to : (os : List Owner) (cells : List ℤ) (at o : ℕ) → OwnersLie os at → owners_end os at ≤ length cells → o < length os → length (joined (take o (frames_of os cells))) + at ≡ (owner_at os o).base
+joined_len_to : (os : List FrameExtents) (cells : List ℤ) (at o : ℕ) → FramesLie os at → frames_end os at ≤ length cells → o < length os → length (joined (take o (frames_of os cells))) + at ≡ (frame_extents_at os o).base
 joined_len_to [] cells at o h l k = absurd (omega arith)
 joined_len_to (w ∷ os) cells at zero h l k = let st = h.0 in omega arith
 joined_len_to (w ∷ os) cells at (suc o) h l k =
-    let on = owners_on os (slots_end w.slots at) in
-    let e = flat_len w.slots cells at h.1 (omega arith) in
-    let r = joined_len_to os cells (slots_end w.slots at) o h.2 l (omega arith) in
+    let on = frames_on os (extents_end w.extents at) in
+    let e = flat_len w.extents cells at h.1 (omega arith) in
+    let r = joined_len_to os cells (extents_end w.extents at) o h.2 l (omega arith) in
     let a = length-append (frame_flat cells w) (joined (take o (frames_of os cells))) in
     omega arith
 
-slot_below : (ss : List Slot) (at n v : ℕ) → SlotsLie ss at → slots_end ss at ≤ n → (get_or ss v nowhere).start + (get_or ss v nowhere).size ≤ n
-slot_below [] at n v h l = omega arith
-slot_below (s ∷ ss) at n zero h l = let st = h.0 in let on = slots_on ss (at + s.size) in omega arith
-slot_below (s ∷ ss) at n (suc v) h l = slot_below ss (at + s.size) n v h.1 l
+extent_below : (ss : List Extent) (at n v : ℕ) → ExtentsLie ss at → extents_end ss at ≤ n → (get_or ss v nowhere).start + (get_or ss v nowhere).size ≤ n
+extent_below [] at n v h l = omega arith
+extent_below (s ∷ ss) at n zero h l = let st = h.0 in let on = extents_on ss (at + s.size) in omega arith
+extent_below (s ∷ ss) at n (suc v) h l = extent_below ss (at + s.size) n v h.1 l
 
-slot_of_below : (os : List Owner) (at n o v : ℕ) → OwnersLie os at → owners_end os at ≤ n → (slot_of os o v).start + (slot_of os o v).size ≤ n
-slot_of_below [] at n o v h l = omega arith
-slot_of_below (w ∷ os) at n zero v h l = let on = owners_on os (slots_end w.slots at) in slot_below w.slots at n v h.1 (omega arith)
-slot_of_below (w ∷ os) at n (suc o) v h l = slot_of_below os (slots_end w.slots at) n o v h.2 l
+extent_of_below : (os : List FrameExtents) (at n o v : ℕ) → FramesLie os at → frames_end os at ≤ n → (extent_of os o v).start + (extent_of os o v).size ≤ n
+extent_of_below [] at n o v h l = omega arith
+extent_of_below (w ∷ os) at n zero v h l = let on = frames_on os (extents_end w.extents at) in extent_below w.extents at n v h.1 (omega arith)
+extent_of_below (w ∷ os) at n (suc o) v h l = extent_of_below os (extents_end w.extents at) n o v h.2 l
 
 -- how many cells a variable has, if it is there
-pub size_is : (os : List Owner) (cells : List ℤ) (o v : ℕ) → IsLaid os cells → (slot_of os o v).size ≡ size_at (frames_of os cells) o v
+pub size_is : (os : List FrameExtents) (cells : List ℤ) (o v : ℕ) → IsLaid os cells → (extent_of os o v).size ≡ size_at (frames_of os cells) o v
 size_is os cells o v h =
-    let p : Place = record { owner = o; variable = v; cell = 0 } in
-    let below = slot_of_below os 0 (length cells) o v h.lie (omega (arith, h.cover)) in
-    sym (ap length (cells_is os cells p) ∙ length-cells_of cells (slot_of os o v) below)
+    let p : Place = record { frame = o; variable = v; cell = 0 } in
+    let below = extent_of_below os 0 (length cells) o v h.lie (omega (arith, h.cover)) in
+    sym (ap length (cells_is os cells p) ∙ length-cells_of cells (extent_of os o v) below)
 
-pub record Lies (o : Owner) (n : ℕ) : Type 0 where
-  pub slots : SlotsLie o.slots o.base
-  pub below : slots_end o.slots o.base ≤ n
+pub record Lies (o : FrameExtents) (n : ℕ) : Type 0 where
+  pub extents : ExtentsLie o.extents o.base
+  pub below : extents_end o.extents o.base ≤ n
 
-owner_lies : (os : List Owner) (at n o : ℕ) → OwnersLie os at → owners_end os at ≤ n → o < length os → Lies (owner_at os o) n
-owner_lies [] at n o h l k = absurd (omega arith)
-owner_lies (w ∷ os) at n zero h l k =
-    let on = owners_on os (slots_end w.slots at) in
-    record { slots = rw h.0 h.1; below = rw h.0 (omega arith) }
-owner_lies (w ∷ os) at n (suc o) h l k = owner_lies os (slots_end w.slots at) n o h.2 l (omega arith)
+frame_lies : (os : List FrameExtents) (at n o : ℕ) → FramesLie os at → frames_end os at ≤ n → o < length os → Lies (frame_extents_at os o) n
+frame_lies [] at n o h l k = absurd (omega arith)
+frame_lies (w ∷ os) at n zero h l k =
+    let on = frames_on os (extents_end w.extents at) in
+    record { extents = rw h.0 h.1; below = rw h.0 (omega arith) }
+frame_lies (w ∷ os) at n (suc o) h l k = frame_lies os (extents_end w.extents at) n o h.2 l (omega arith)
 
-pub index_is : (os : List Owner) (cells : List ℤ) (p : Place) → IsLaid os cells → HasPlace (frames_of os cells) p → index_of (frames_of os cells) p ≡ (slot_at os p).start + p.cell
+pub index_is : (os : List FrameExtents) (cells : List ℤ) (p : Place) → IsLaid os cells → HasPlace (frames_of os cells) p → index_of (frames_of os cells) p ≡ (extent_at os p).start + p.cell
 index_is os cells p h there =
     let f = found os cells p there in
-    let a = joined_len_to os cells 0 p.owner h.lie (omega (arith, h.cover)) f.owner in
-    let l = owner_lies os 0 (length cells) p.owner h.lie (omega (arith, h.cover)) f.owner in
-    let b = flat_to (owner_at os p.owner).slots cells (owner_at os p.owner).base p.variable l.slots l.below f.variable in
-    let e = ap (λ (x : Frame). length (flat (take p.variable x))) (frame_is os cells p.owner) in
+    let a = joined_len_to os cells 0 p.frame h.lie (omega (arith, h.cover)) f.frame in
+    let l = frame_lies os 0 (length cells) p.frame h.lie (omega (arith, h.cover)) f.frame in
+    let b = flat_to (frame_extents_at os p.frame).extents cells (frame_extents_at os p.frame).base p.variable l.extents l.below f.variable in
+    let e = ap (λ (x : Frame). length (flat (take p.variable x))) (frame_is os cells p.frame) in
     omega arith
 
 -- all that is known of an index
@@ -150,12 +150,12 @@ pub record IsIndex (frames : List Frame) (p : Place) (i : ℕ) : Type 0 where
   pub within : i < length (joined frames)
   pub holds : get_or (joined frames) i (pos 0) ≡ number_at frames p
 
-pub is_index : (os : List Owner) (cells : List ℤ) (p : Place) → IsLaid os cells → HasPlace (frames_of os cells) p → IsIndex (frames_of os cells) p ((slot_at os p).start + p.cell)
+pub is_index : (os : List FrameExtents) (cells : List ℤ) (p : Place) → IsLaid os cells → HasPlace (frames_of os cells) p → IsIndex (frames_of os cells) p ((extent_at os p).start + p.cell)
 is_index os cells p h there =
     let f = found os cells p there in
     let j = ap length (joined_is os cells h) in
     record {
       value = sym (index_is os cells p h there);
       within = omega (arith, f.within, j);
-      holds = ap (λ (x : List ℤ). get_or x ((slot_at os p).start + p.cell) (pos 0)) (joined_is os cells h) ∙ sym (number_is os cells p there);
+      holds = ap (λ (x : List ℤ). get_or x ((extent_at os p).start + p.cell) (pos 0)) (joined_is os cells h) ∙ sym (number_is os cells p there);
     }

@@ -1,57 +1,57 @@
 -- How the numbers lie in one vector.
 use Rattle.std.specs.Prelude.{◌≡◌, ℕ, ◌+◌, List, [], ◌∷◌, length, take, drop, ℤ, map, slice_index_or}
-use Rattle.pml_store.specs.declared.store.Slot.{Slot}
-use Rattle.pml_store.specs.declared.store.Owner.{Owner}
+use Rattle.pml_store.specs.declared.store.Extent.{Extent}
+use Rattle.pml_store.specs.declared.store.FrameExtents.{FrameExtents}
 use Rattle.pml_store.specs.declared.place.Place.{Place}
 use Rattle.pml_store.specs.Store.{Cells, Frame}
 
-abbrev pub cells_of : List ℤ → Slot → Cells
+abbrev pub cells_of : List ℤ → Extent → Cells
 cells_of cells s = take s.size (drop s.start cells)
 
-abbrev pub frame_of : List ℤ → Owner → Frame
-frame_of cells o = map (cells_of cells) o.slots
+abbrev pub frame_of : List ℤ → FrameExtents → Frame
+frame_of cells o = map (cells_of cells) o.extents
 
-abbrev pub frames_of : List Owner → List ℤ → List Frame
-frames_of owners cells = map (frame_of cells) owners
+abbrev pub frames_of : List FrameExtents → List ℤ → List Frame
+frames_of frames cells = map (frame_of cells) frames
 
-abbrev pub nowhere : Slot
+abbrev pub nowhere : Extent
 nowhere = record { start = 0; size = 0 }
 
-abbrev pub nobody : Owner
-nobody = record { base = 0; slots = [] }
+abbrev pub no_frame : FrameExtents
+no_frame = record { base = 0; extents = [] }
 
-abbrev pub owner_at : List Owner → ℕ → Owner
-owner_at owners n = slice_index_or owners n nobody
+abbrev pub frame_extents_at : List FrameExtents → ℕ → FrameExtents
+frame_extents_at frames n = slice_index_or frames n no_frame
 
-abbrev pub slot_of : List Owner → ℕ → ℕ → Slot
-slot_of owners owner variable = slice_index_or (owner_at owners owner).slots variable nowhere
+abbrev pub extent_of : List FrameExtents → ℕ → ℕ → Extent
+extent_of frames frame variable = slice_index_or (frame_extents_at frames frame).extents variable nowhere
 
-abbrev pub slot_at : List Owner → Place → Slot
-slot_at owners p = slot_of owners p.owner p.variable
+abbrev pub extent_at : List FrameExtents → Place → Extent
+extent_at frames p = extent_of frames p.frame p.variable
 
--- the slots lie one after another, from here on
-abbrev pub SlotsLie : List Slot → ℕ → Type 0
-SlotsLie [] at = Unit {0}
-SlotsLie (s ∷ ss) at = (s.start ≡ at) × SlotsLie ss (at + s.size)
+-- the extents lie one after another, from here on
+abbrev pub ExtentsLie : List Extent → ℕ → Type 0
+ExtentsLie [] at = Unit {0}
+ExtentsLie (s ∷ ss) at = (s.start ≡ at) × ExtentsLie ss (at + s.size)
 
-abbrev pub slots_end : List Slot → ℕ → ℕ
-slots_end [] at = at
-slots_end (s ∷ ss) at = slots_end ss (at + s.size)
+abbrev pub extents_end : List Extent → ℕ → ℕ
+extents_end [] at = at
+extents_end (s ∷ ss) at = extents_end ss (at + s.size)
 
-abbrev pub OwnersLie : List Owner → ℕ → Type 0
-OwnersLie [] at = Unit {0}
-OwnersLie (o ∷ os) at = (o.base ≡ at) × SlotsLie o.slots at × OwnersLie os (slots_end o.slots at)
+abbrev pub FramesLie : List FrameExtents → ℕ → Type 0
+FramesLie [] at = Unit {0}
+FramesLie (o ∷ os) at = (o.base ≡ at) × ExtentsLie o.extents at × FramesLie os (extents_end o.extents at)
 
-abbrev pub owners_end : List Owner → ℕ → ℕ
-owners_end [] at = at
-owners_end (o ∷ os) at = owners_end os (slots_end o.slots at)
+abbrev pub frames_end : List FrameExtents → ℕ → ℕ
+frames_end [] at = at
+frames_end (o ∷ os) at = frames_end os (extents_end o.extents at)
 
--- slots of these sizes, one after another
-abbrev pub slots_of : ℕ → List ℕ → List Slot
-slots_of at [] = []
-slots_of at (n ∷ ns) = record { start = at; size = n } ∷ slots_of (at + n) ns
+-- extents of these sizes, one after another
+abbrev pub extents_of : ℕ → List ℕ → List Extent
+extents_of at [] = []
+extents_of at (n ∷ ns) = record { start = at; size = n } ∷ extents_of (at + n) ns
 
--- the slots cover the vector
-pub record IsLaid (owners : List Owner) (cells : List ℤ) : Type 0 where
-  pub lie : OwnersLie owners 0
-  pub cover : owners_end owners 0 ≡ length cells
+-- the extents cover the vector
+pub record IsLaid (frames : List FrameExtents) (cells : List ℤ) : Type 0 where
+  pub lie : FramesLie frames 0
+  pub cover : frames_end frames 0 ≡ length cells

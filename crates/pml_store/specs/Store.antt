@@ -1,8 +1,8 @@
--- A store: what each owner's variables hold.
+-- A store: what each frame's variables hold.
 use Rattle.std.specs.Prelude.{ℕ, ◌+◌, ◌-◌, ◌<◌, Bool, ◌&&◌, nat_eq, ltb, if◌then◌else◌, List, [], ◌∷◌, ◌++◌, length, take, ℤ, pos, slice_set, slice_index_or, map, replicate}
 use Rattle.pml_store.specs.declared.place.Place.{Place}
 
--- the cells of a variable; the variables of an owner; the owners
+-- the cells of a variable; the variables of a frame; the frames
 abbrev pub Cells : Type 0
 Cells = List ℤ
 
@@ -15,19 +15,19 @@ pub record Contents : Type 0 where
   pub written : List (ℕ × ℤ)
 
 abbrev pub frame_at : List Frame → ℕ → Frame
-frame_at frames owner = slice_index_or frames owner []
+frame_at frames frame = slice_index_or frames frame []
 
 abbrev pub cells_at : List Frame → Place → Cells
-cells_at frames p = slice_index_or (frame_at frames p.owner) p.variable []
+cells_at frames p = slice_index_or (frame_at frames p.frame) p.variable []
 
 -- how many cells a variable has
 abbrev pub size_at : List Frame → ℕ → ℕ → ℕ
-size_at frames owner variable = length (slice_index_or (frame_at frames owner) variable [])
+size_at frames frame variable = length (slice_index_or (frame_at frames frame) variable [])
 
 -- the place is there
 pub record HasPlace (frames : List Frame) (p : Place) : Type 0 where
-  pub owner : p.owner < length frames
-  pub variable : p.variable < length (frame_at frames p.owner)
+  pub frame : p.frame < length frames
+  pub variable : p.variable < length (frame_at frames p.frame)
   pub cell : p.cell < length (cells_at frames p)
 
 abbrev pub number_at : List Frame → Place → ℤ
@@ -36,9 +36,9 @@ number_at frames p = slice_index_or (cells_at frames p) p.cell (pos 0)
 -- the same but at one place
 abbrev pub with_number : List Frame → Place → ℤ → List Frame
 with_number frames p v =
-    slice_set frames p.owner (slice_set (frame_at frames p.owner) p.variable (slice_set (cells_at frames p) p.cell v))
+    slice_set frames p.frame (slice_set (frame_at frames p.frame) p.variable (slice_set (cells_at frames p) p.cell v))
 
--- all numbers, owner by owner
+-- all numbers, frame by frame
 abbrev pub flat : Frame → List ℤ
 flat [] = []
 flat (v ∷ vs) = v ++ flat vs
@@ -49,22 +49,22 @@ joined (f ∷ fs) = flat f ++ joined fs
 
 -- where a place stands among them
 abbrev pub index_of : List Frame → Place → ℕ
-index_of frames p = length (joined (take p.owner frames)) + (length (flat (take p.variable (frame_at frames p.owner))) + p.cell)
+index_of frames p = length (joined (take p.frame frames)) + (length (flat (take p.variable (frame_at frames p.frame))) + p.cell)
 
 -- variables of these sizes, each cell 0
 abbrev pub zeros : List ℕ → Frame
 zeros sizes = map (λ n. replicate n (pos 0)) sizes
 
--- without the youngest owner
+-- without the youngest frame
 abbrev pub but_last : List Frame → List Frame
 but_last frames = take (length frames - 1) frames
 
 abbrev pub is_same : Place → Place → Bool
-is_same p q = nat_eq p.owner q.owner && (nat_eq p.variable q.variable && nat_eq p.cell q.cell)
+is_same p q = nat_eq p.frame q.frame && (nat_eq p.variable q.variable && nat_eq p.cell q.cell)
 
 -- ---- a log of writes
 
--- an owner's variables with another number in the cell of an index among theirs, if they have as many
+-- a frame's variables with another number in the cell of an index among theirs, if they have as many
 abbrev pub frame_with : Frame → ℕ → ℤ → Frame
 frame_with [] i v = []
 frame_with (c ∷ cs) i v = if ltb i (length c) then slice_set c i v ∷ cs else c ∷ frame_with cs (i - length c) v

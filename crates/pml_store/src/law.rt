@@ -12,7 +12,7 @@ pub fn one_place()
 
 /// A place whose cell is one of its variable's is there.
 pub fn has_place()
-    ensures { (frames : List Frame) (p : Place) → p.cell < size_at frames p.owner p.variable → HasPlace frames p }
+    ensures { (frames : List Frame) (p : Place) → p.cell < size_at frames p.frame p.variable → HasPlace frames p }
 {}
 
 /// The log leads back to the numbers before it.

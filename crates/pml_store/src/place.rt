@@ -1,9 +1,9 @@
 //! Where a number is kept.
 
-/// A cell of a variable. Owner 0 has the globals, and owner n + 1 is process n.
+/// A cell of a variable. Frame 0 has the globals, and frame n + 1 the variables of process n.
 #[derive(Clone, Copy, PartialEq, Eq, Debug)]
 pub struct Place {
-    pub owner: usize,
+    pub frame: usize,
     pub variable: usize,
     pub cell: usize,
 }

@@ -1,8 +1,8 @@
-//! All numbers in one vector, the youngest owner last.
+//! All numbers in one vector, the youngest frame last.
 
 ghost use Rattle.std.specs.Prelude.{◌≡◌, ◌+◌, ◌<◌, ◌++◌, ◌∷◌, [], length, OnOk, OnErr, IfOk, sum, slice_index_or, pos};
 ghost use Rattle.pml_store.specs.Store.{HasPlace, number_at, with_number, index_of, size_at, zeros, joined, but_last};
-ghost use Rattle.pml_store.specs.Laid.{nowhere, slot_of, slots_of};
+ghost use Rattle.pml_store.specs.Laid.{nowhere, extent_of, extents_of};
 
 use crate::place::Place;
 use sqlite_items::Items;
@@ -11,22 +11,22 @@ use std::marker::Model;
 
 /// Where the cells of a variable are.
 #[derive(Clone, Copy, PartialEq, Eq, Debug)]
-pub struct Slot {
+pub struct Extent {
     start: usize,
     size: usize,
 }
 
-/// Where the cells of an owner begin, and those of its variables.
+/// Where the cells of a frame begin, and those of its variables.
 #[derive(Drop)]
-pub struct Owner {
+pub struct FrameExtents {
     base: usize,
-    slots: Items<Slot>,
+    extents: Items<Extent>,
 }
 
 /// The numbers of variables.
 #[derive(Drop)]
 pub struct Store {
-    owners: Vec<Owner>,
+    frames: Vec<FrameExtents>,
     cells: Vec<i32>,
     written: Vec<(usize, i32)>,
 }
@@ -37,9 +37,9 @@ impl Model for Store {
 
     ghost Value = { Contents };
 
-    ghost view = { λ s. record { frames = frames_of s.owners.items s.cells.items; written = s.written.items } };
+    ghost view = { λ s. record { frames = frames_of s.frames.items s.cells.items; written = s.written.items } };
 
-    ghost invariant = { λ s. IsLaid s.owners.items s.cells.items };
+    ghost invariant = { λ s. IsLaid s.frames.items s.cells.items };
 }
 
 impl Store {
@@ -48,7 +48,7 @@ impl Store {
         ensures { result ≡ record { frames = []; written = [] } }
     {
         Store {
-            owners: Vec::new(alloc),
+            frames: Vec::new(alloc),
             cells: Vec::new(alloc),
             written: Vec::new(alloc),
         }
@@ -69,15 +69,15 @@ impl Store {
         ensures within { result < length (joined self.now.frames) }
         ensures holds { slice_index_or (joined self.now.frames) result (pos 0) ≡ number_at self.now.frames place }
     {
-        let slot = find_slot(self.owners.as_slice(), place.owner, place.variable);
-        slot.start + place.cell
+        let extent = find_extent(self.frames.as_slice(), place.frame, place.variable);
+        extent.start + place.cell
     }
 
     /// How many cells a variable has: none where it is not there.
-    pub fn size(&self, owner: usize, variable: usize) -> usize
-        ensures { result ≡ size_at self.now.frames owner variable }
+    pub fn size(&self, frame: usize, variable: usize) -> usize
+        ensures { result ≡ size_at self.now.frames frame variable }
     {
-        find_slot(self.owners.as_slice(), owner, variable).size
+        find_extent(self.frames.as_slice(), frame, variable).size
     }
 
     /// Stores a number. Want of memory changes nothing.
@@ -96,17 +96,17 @@ impl Store {
         Ok(())
     }
 
-    /// Adds an owner with variables of these sizes, each cell 0. Want of memory changes nothing; no memory has more cells than
+    /// Adds a frame with variables of these sizes, each cell 0. Want of memory changes nothing; no memory has more cells than
     /// a `usize` counts.
     pub fn push_frame(&mut self, sizes: &[usize]) -> Result<(), AllocError>
         ensures ok { OnOk result (self.new ≡ record self.old { frames = self.old.frames ++ zeros sizes.now ∷ [] }) }
         ensures err { OnErr result (self.new ≡ self.old) }
     {
         let base = self.cells.len();
-        let (slots, end) = slots_from(*self.owners.allocator(), base, sizes)?;
+        let (extents, end) = extents_from(*self.frames.allocator(), base, sizes)?;
         self.cells.resize(end, 0)?;
-        let owner = Owner { base, slots };
-        match self.owners.push(owner) {
+        let frame = FrameExtents { base, extents };
+        match self.frames.push(frame) {
             Ok(()) => Ok(()),
             Err(refused) => {
                 self.cells.truncate(base);
@@ -115,17 +115,17 @@ impl Store {
         }
     }
 
-    /// Takes away the youngest owner.
+    /// Takes away the youngest frame.
     pub fn pop_frame(&mut self)
         requires { 0 < length self.old.frames }
         ensures { self.new ≡ record self.old { frames = but_last self.old.frames } }
     {
-        if let Some(owner) = self.owners.pop() {
-            self.cells.truncate(owner.base);
+        if let Some(frame) = self.frames.pop() {
+            self.cells.truncate(frame.base);
         }
     }
 
-    /// The numbers, owner by owner, each variable's cells in order.
+    /// The numbers, frame by frame, each variable's cells in order.
     pub fn cells(&self) -> &Vec<i32>
         ensures { result.now.items ≡ joined self.now.frames }
     {
@@ -147,41 +147,41 @@ impl Store {
 }
 
 /// Where the cells of a variable are: nowhere, where it is not there.
-fn find_slot(owners: &[Owner], owner: usize, variable: usize) -> Slot
-    ensures { result ≡ slot_of owners.now owner variable }
+fn find_extent(frames: &[FrameExtents], frame: usize, variable: usize) -> Extent
+    ensures { result ≡ extent_of frames.now frame variable }
 {
-    match owners.get(owner) {
-        Some(owner) => slot_in(owner.slots.as_slice(), variable),
-        None => Slot { start: 0, size: 0 },
+    match frames.get(frame) {
+        Some(frame) => extent_in(frame.extents.as_slice(), variable),
+        None => Extent { start: 0, size: 0 },
     }
 }
 
-/// The same among an owner's variables.
-fn slot_in(slots: &[Slot], variable: usize) -> Slot
-    ensures { result ≡ slice_index_or slots.now variable nowhere }
+/// The same among a frame's variables.
+fn extent_in(extents: &[Extent], variable: usize) -> Extent
+    ensures { result ≡ slice_index_or extents.now variable nowhere }
 {
-    match slots.get(variable) {
-        Some(slot) => *slot,
-        None => Slot { start: 0, size: 0 },
+    match extents.get(variable) {
+        Some(extent) => *extent,
+        None => Extent { start: 0, size: 0 },
     }
 }
 
 /// Slots of these sizes, one after another, and where they end.
-fn slots_from(
+fn extents_from(
     alloc: Global,
     base: usize,
     sizes: &[usize],
-) -> Result<(Items<Slot>, usize), AllocError>
-    ensures { IfOk result (λ r. (r.0 ≡ slots_of base sizes.now) × (r.1 ≡ base + sum sizes.now)) }
+) -> Result<(Items<Extent>, usize), AllocError>
+    ensures { IfOk result (λ r. (r.0 ≡ extents_of base sizes.now) × (r.1 ≡ base + sum sizes.now)) }
 {
     let mut at = base;
-    let mut slots = Items::new(alloc);
+    let mut extents = Items::new(alloc);
     for size in sizes {
-        slots.push(Slot {
+        extents.push(Extent {
             start: at,
             size: *size,
         })?;
         at = at.checked_add(*size).ok_or(AllocError)?;
     }
-    Ok((slots, at))
+    Ok((extents, at))
 }

@@ -4,11 +4,11 @@ use std::test::Fail;
 
 /// Globals of two cells and one, and a process of one variable of two cells.
 #[test]
-fn owners_come_and_go(rt: HostRuntime) -> Result<(), Fail> {
+fn frames_come_and_go(rt: HostRuntime) -> Result<(), Fail> {
     let mut store = Store::new(rt.alloc());
     store.push_frame(&[2, 1])?;
     let global = Place {
-        owner: 0,
+        frame: 0,
         variable: 0,
         cell: 1,
     };

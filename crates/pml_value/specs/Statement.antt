@@ -1,5 +1,5 @@
 -- What an assignment, an increment, a decrement and a condition do.
-use Rattle.std.specs.Prelude.{◌≡◌, ℕ, ◌++◌, [], ◌∷◌, ℤ, pos, negsuc, ◌+ℤ◌, Bool, true, not, Option, Some, None, Result, Ok, Err}
+use Rattle.std.specs.Prelude.{◌≡◌, ℕ, ◌++◌, [], ◌∷◌, ℤ, pos, negsuc, ◌+ℤ◌, Bool, true, false, not, Option, Some, None, Result, Ok, Err}
 use Rattle.diagnostics.specs.declared.fault.Fault.{Fault}
 use Rattle.pml_program.specs.declared.expr.Expr.{Expr}
 use Rattle.pml_program.specs.declared.expr.Target.{Target, out-Target}
@@ -8,21 +8,24 @@ use Rattle.pml_program.specs.declared.program.Action.TheVariants as a
 use Rattle.pml_eval.specs.Clip.{clipped}
 use Rattle.pml_eval.specs.Operators.{is_zero, wrapped}
 use Rattle.pml_eval.specs.Value.{Reading, val, place, ◌>>=◌}
-use Rattle.pml_store.specs.declared.place.Place.{Place as Spot}
+use Rattle.pml_store.specs.declared.place.Place.{Place}
 use Rattle.pml_store.specs.Store.{Contents, with_number, number_at, index_of}
 use Rattle.pml_value.specs.declared.statement.Goes.{Goes}
-use Rattle.pml_value.specs.declared.stop.Stop.{Stop}
-use Rattle.pml_value.specs.declared.stop.Stop.TheVariants as stop
-use Rattle.pml_value.specs.Reads.{spot_of}
+use Rattle.diagnostics.specs.declared.stop.Stop.{Stop}
+use Rattle.diagnostics.specs.declared.stop.Stop.TheVariants as stop
 
 -- a condition holds where its value is not 0; where its value is a fault, to take it is that fault
 abbrev pub is_met : Result ℤ Fault → Bool
 is_met (Ok v) = not (is_zero v)
 is_met (Err f) = true
 
+-- an assignment, `++` and `--` always, and a condition where it holds; no other kind is served
 abbrev pub is_executable : Action → Reading → Bool
+is_executable (a.Assign t v) r = true
+is_executable (a.Increment t) r = true
+is_executable (a.Decrement t) r = true
 is_executable (a.Holds v) r = is_met (val v r)
-is_executable s r = true
+is_executable _ r = false
 
 -- what the target's type keeps of a number, and the place that it goes to
 abbrev pub goes : Target → ℤ → Reading → Result Goes Fault
@@ -50,16 +53,16 @@ outcome (a.Holds v) r = val v r >>= λ n. Ok None
 outcome s r = Ok None
 
 -- one place has another number, and the log what it had before
-abbrev pub stored : Contents → Spot → ℤ → Contents
+abbrev pub stored : Contents → Place → ℤ → Contents
 stored s p v = record s { frames = with_number s.frames p v; written = s.written ++ (index_of s.frames p, number_at s.frames p) ∷ [] }
 
 -- what is to be stored is stored, or the fault is answered and nothing changes; want of memory changes nothing
-abbrev pub Does : ℕ → Result (Option Goes) Fault → Result (Unit {0}) Stop → Contents → Contents → Type 0
-Does process (Ok None) (Ok u) old new = new ≡ old
-Does process (Ok None) (Err s) old new = ⊥
-Does process (Ok (Some g)) (Ok u) old new = new ≡ stored old (spot_of process g.place) g.number
-Does process (Ok (Some g)) (Err stop.Memory) old new = new ≡ old
-Does process (Ok (Some g)) (Err (stop.Fault f)) old new = ⊥
-Does process (Err f) (Err (stop.Fault g)) old new = (g ≡ f) × (new ≡ old)
-Does process (Err f) (Err stop.Memory) old new = ⊥
-Does process (Err f) (Ok u) old new = ⊥
+abbrev pub Takes : Result (Option Goes) Fault → Result (Unit {0}) Stop → Contents → Contents → Type 0
+Takes (Ok None) (Ok u) old new = new ≡ old
+Takes (Ok None) (Err s) old new = ⊥
+Takes (Ok (Some g)) (Ok u) old new = new ≡ stored old g.place g.number
+Takes (Ok (Some g)) (Err stop.Memory) old new = new ≡ old
+Takes (Ok (Some g)) (Err (stop.Fault f)) old new = ⊥
+Takes (Err f) (Err (stop.Fault g)) old new = (g ≡ f) × (new ≡ old)
+Takes (Err f) (Err stop.Memory) old new = ⊥
+Takes (Err f) (Ok u) old new = ⊥

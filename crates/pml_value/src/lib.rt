@@ -1,12 +1,13 @@
 //! What a process reads of a state, and what its statements store (Holzmann, *The SPIN Model Checker*, chapter 3).
 #![tactic(auto)]
 
-pub mod owned;
+pub mod live_channel;
 pub mod statement;
-pub mod stop;
 #[cfg(test)]
 mod tests;
 pub mod view;
 
+pub use pml_channel::channel::Channel;
 pub use pml_eval::clip::clip;
 pub use pml_eval::eval::{eval, pattern, place};
+pub use pml_store::store::Store;

@@ -2,18 +2,18 @@
 
 ghost use Rattle.std.specs.Prelude.{◌≡◌, ◌<◌, IfOk, IfSome};
 ghost use Rattle.pml_store.specs.Store.{size_at};
-ghost use Rattle.pml_value.specs.Statement.{is_executable, goes, assigned, counted, outcome, Does};
-ghost use Rattle.pml_value.specs.Reads.{owner_of, reading_of};
+ghost use Rattle.pml_value.specs.Statement.{is_executable, goes, assigned, counted, outcome, Takes};
+ghost use Rattle.pml_value.specs.Reads.{reading_of, seen};
 
-use crate::owned::Owned;
-use crate::stop::Stop;
-use crate::view::{View, spot};
-use diagnostics::Fault;
+use crate::live_channel::LiveChannel;
+use crate::view::View;
+use diagnostics::{Fault, Stop};
 use pml_eval::clip::clip;
 use pml_eval::eval::{eval, place};
-use pml_eval::ground::{Ground, Place};
+use pml_eval::ground::Ground;
+use pml_program::expr::{Expr, Target};
 use pml_program::program::Action;
-use pml_program::expr::{Target, Expr};
+use pml_store::place::Place;
 use pml_store::store::Store;
 
 /// Where a number goes.
@@ -23,23 +23,25 @@ pub struct Goes {
     pub number: i32,
 }
 
-/// Whether a statement can be taken. A condition that comes to a fault can: to take it is the fault.
+/// Whether a statement can be taken: an assignment, `++`, `--`, or a condition that holds. A condition that comes to a fault can:
+/// to take it is the fault. Statements of other kinds are not served yet, and cannot.
 pub fn can_be_taken(action: &Action<'_>, view: &View<'_>) -> bool
-    ensures { result ≡ is_executable action.now (reading_of view.now.store.now.frames view.now.channels.now view.now.process view.now.living view.now.timeout) }
+    ensures { result ≡ is_executable action.now (seen view.now) }
 {
     match action {
+        Action::Assign(_, _) | Action::Increment(_) | Action::Decrement(_) => true,
         Action::Holds(value) => match eval(value, view) {
             Ok(number) => number != 0,
             Err(_) => true,
         },
-        _ => true,
+        _ => false,
     }
 }
 
 /// Where a number goes that is stored to this target.
 fn store_to(target: &Target, number: i32, view: &View<'_>) -> Result<Goes, Fault>
-    ensures value { result ≡ goes target.now number (reading_of view.now.store.now.frames view.now.channels.now view.now.process view.now.living view.now.timeout) }
-    ensures there { IfOk result (λ g. g.place.cell < size_at view.now.store.now.frames (owner_of view.now.process g.place.local) g.place.variable) }
+    ensures value { result ≡ goes target.now number (seen view.now) }
+    ensures there { IfOk result (λ g. g.place.cell < size_at view.now.store.now.frames g.place.frame g.place.variable) }
 {
     let at = place(target, view)?;
     Ok(Goes {
@@ -50,8 +52,8 @@ fn store_to(target: &Target, number: i32, view: &View<'_>) -> Result<Goes, Fault
 
 /// The value of the right side, then the place of the left.
 fn assigned(target: &Option<Target>, value: &Expr, view: &View<'_>) -> Result<Option<Goes>, Fault>
-    ensures value { result ≡ assigned target.now value.now (reading_of view.now.store.now.frames view.now.channels.now view.now.process view.now.living view.now.timeout) }
-    ensures there { IfOk result (λ s. IfSome s (λ g. g.place.cell < size_at view.now.store.now.frames (owner_of view.now.process g.place.local) g.place.variable)) }
+    ensures value { result ≡ assigned target.now value.now (seen view.now) }
+    ensures there { IfOk result (λ s. IfSome s (λ g. g.place.cell < size_at view.now.store.now.frames g.place.frame g.place.variable)) }
 {
     let number = eval(value, view)?;
     match target {
@@ -62,8 +64,8 @@ fn assigned(target: &Option<Target>, value: &Expr, view: &View<'_>) -> Result<Op
 
 /// What a variable holds, and so much more.
 fn counted(target: &Target, by: i32, view: &View<'_>) -> Result<Option<Goes>, Fault>
-    ensures value { result ≡ counted target.now by (reading_of view.now.store.now.frames view.now.channels.now view.now.process view.now.living view.now.timeout) }
-    ensures there { IfOk result (λ s. IfSome s (λ g. g.place.cell < size_at view.now.store.now.frames (owner_of view.now.process g.place.local) g.place.variable)) }
+    ensures value { result ≡ counted target.now by (seen view.now) }
+    ensures there { IfOk result (λ s. IfSome s (λ g. g.place.cell < size_at view.now.store.now.frames g.place.frame g.place.variable)) }
 {
     let at = place(target, view)?;
     let number = view.number(at).wrapping_add(by);
@@ -72,8 +74,8 @@ fn counted(target: &Target, by: i32, view: &View<'_>) -> Result<Option<Goes>, Fa
 
 /// What a statement stores, if anything.
 fn resolved(action: &Action<'_>, view: &View<'_>) -> Result<Option<Goes>, Fault>
-    ensures value { result ≡ outcome action.now (reading_of view.now.store.now.frames view.now.channels.now view.now.process view.now.living view.now.timeout) }
-    ensures there { IfOk result (λ s. IfSome s (λ g. g.place.cell < size_at view.now.store.now.frames (owner_of view.now.process g.place.local) g.place.variable)) }
+    ensures value { result ≡ outcome action.now (seen view.now) }
+    ensures there { IfOk result (λ s. IfSome s (λ g. g.place.cell < size_at view.now.store.now.frames g.place.frame g.place.variable)) }
 {
     match action {
         Action::Assign(target, value) => assigned(target, value, view),
@@ -90,25 +92,25 @@ fn resolved(action: &Action<'_>, view: &View<'_>) -> Result<Option<Goes>, Fault>
 /// Takes a statement of a process.
 pub fn take(
     store: &mut Store,
-    channels: &[Owned],
-    process: u8,
-    living: u8,
+    channels: &[LiveChannel],
+    pid: u8,
+    process_count: u8,
     timeout: bool,
     action: &Action<'_>,
 ) -> Result<(), Stop>
-    ensures { Does process (outcome action.now (reading_of store.old.frames channels.now process living timeout)) result store.old store.new }
+    ensures { Takes (outcome action.now (reading_of store.old.frames channels.now pid process_count timeout)) result store.old store.new }
 {
     let view = View {
         store: &*store,
         channels,
-        process,
-        living,
+        pid,
+        process_count,
         timeout,
     };
     match resolved(action, &view) {
         Err(fault) => Err(Stop::Fault(fault)),
         Ok(None) => Ok(()),
-        Ok(Some(goes)) => match store.set(spot(process, goes.place), goes.number) {
+        Ok(Some(goes)) => match store.set(goes.place, goes.number) {
             Ok(()) => Ok(()),
             Err(_) => Err(Stop::Memory),
         },

@@ -1,6 +1,6 @@
-use crate::owned::Owned;
+use crate::live_channel::LiveChannel;
 use crate::statement::{can_be_taken, take};
-use crate::stop::Stop;
+use diagnostics::Stop;
 use crate::view::{View, named};
 use diagnostics::Fault;
 use pml_channel::channel::Channel;
@@ -30,8 +30,8 @@ fn faults(rt: HostRuntime) -> Result<(), Fail> {
     let view = View {
         store: &store,
         channels: &[],
-        process: 0,
-        living: 1,
+        pid: 0,
+        process_count: 1,
         timeout: false,
     };
     assert_eq!(rt; can_be_taken(&action, &view), true);
@@ -112,12 +112,12 @@ fn poll(alloc: Global, field: i32) -> Result<Expr, AllocError> {
 
 /// What a value is worth where there is one channel.
 fn worth(value: &Expr, store: &Store, channel: Channel) -> Result<i32, Fault> {
-    let owned = [Owned { owner: 0, channel }];
+    let owned = [LiveChannel { owner: 0, channel }];
     let view = View {
         store,
         channels: &owned,
-        process: 0,
-        living: 1,
+        pid: 0,
+        process_count: 1,
         timeout: false,
     };
     eval(value, &view)
@@ -140,7 +140,7 @@ fn polls(rt: HostRuntime) -> Result<(), Fail> {
 #[test]
 fn numbers(rt: HostRuntime) -> Result<(), Fail> {
     let channel = seven(rt.alloc())?;
-    let owned = [Owned { owner: 0, channel }];
+    let owned = [LiveChannel { owner: 0, channel }];
     assert_eq!(rt; named(&owned, 0).is_some(), false);
     assert_eq!(rt; named(&owned, 1).is_some(), true);
     assert_eq!(rt; named(&owned, 2).is_some(), false);

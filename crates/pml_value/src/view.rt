@@ -3,43 +3,47 @@
 ghost use Rattle.std.specs.Prelude.{◌≡◌, option_map};
 ghost use Rattle.std.specs.Option.{option_copied};
 ghost use Rattle.pml_eval.specs.Ground.{shown};
-ghost use Rattle.pml_value.specs.Reads.{owner_of, spot_of, channel_at, filling};
+ghost use Rattle.pml_value.specs.Reads.{frame_of, channel_at, filling};
 
-use crate::owned::Owned;
+use crate::live_channel::LiveChannel;
 use pml_channel::channel::Channel;
-use pml_eval::ground::{Filled, Ground, Place};
-use pml_store::place::Place as Spot;
+use pml_eval::ground::{Filled, Ground};
+use pml_store::place::Place;
 use pml_store::store::Store;
 
-/// The store, the live channels, the process, the number of live processes, and `timeout`.
+/// The store, the live channels, the number of the process, how many processes live, and `timeout`.
 #[derive(Drop)]
 pub struct View<'a> {
     pub store: &'a Store,
-    pub channels: &'a [Owned],
-    pub process: u8,
-    pub living: u8,
+    pub channels: &'a [LiveChannel],
+    pub pid: u8,
+    pub process_count: u8,
     pub timeout: bool,
 }
 
 impl Ground for View<'_> {
     ghost use Rattle.pml_value.specs.Reads.{reading_of};
 
-    ghost reading = { λ v. reading_of v.store.now.frames v.channels.now v.process v.living v.timeout };
+    ghost reading = { λ v. reading_of v.store.now.frames v.channels.now v.pid v.process_count v.timeout };
 
-    fn size(&self, local: bool, variable: usize) -> usize {
-        self.store.size(owner(self.process, local), variable)
+    fn frame(&self, local: bool) -> usize {
+        frame_of(self.pid, local)
+    }
+
+    fn size(&self, frame: usize, variable: usize) -> usize {
+        self.store.size(frame, variable)
     }
 
     fn number(&self, place: Place) -> i32 {
-        self.store.get(spot(self.process, place))
+        self.store.get(place)
     }
 
-    fn process(&self) -> i32 {
-        i32::from(self.process)
+    fn pid(&self) -> i32 {
+        i32::from(self.pid)
     }
 
-    fn living(&self) -> i32 {
-        i32::from(self.living)
+    fn process_count(&self) -> i32 {
+        i32::from(self.process_count)
     }
 
     fn timeout(&self) -> bool {
@@ -58,25 +62,14 @@ impl Ground for View<'_> {
     }
 }
 
-fn owner(process: u8, local: bool) -> usize
-    ensures { result ≡ owner_of process local }
+fn frame_of(pid: u8, local: bool) -> usize
+    ensures { result ≡ frame_of pid local }
 {
-    if local { usize::from(process) + 1 } else { 0 }
-}
-
-/// A place of a process, in the store.
-pub fn spot(process: u8, place: Place) -> Spot
-    ensures { result ≡ spot_of process place }
-{
-    Spot {
-        owner: owner(process, place.local),
-        variable: place.variable,
-        cell: place.cell,
-    }
+    if local { usize::from(pid) + 1 } else { 0 }
 }
 
 /// The channel with this number.
-pub fn named<'a>(channels: &'a [Owned], number: i32) -> Option<&'a Channel>
+pub fn named<'a>(channels: &'a [LiveChannel], number: i32) -> Option<&'a Channel>
     ensures { option_copied result ≡ channel_at channels.now number }
 {
     if number <= 0 {

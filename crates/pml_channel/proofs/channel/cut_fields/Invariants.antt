@@ -1,5 +1,5 @@
 use Rattle.std.proofs.Common.{◌≡◌, ◌++◌, drop}
-use Rattle.pml_channel.specs.Contents.{cut}
+use Rattle.pml_channel.specs.State.{cut}
 use Rattle.pml_channel.proofs.channel.cut_fields.Given as goal
 
 abbrev pub invariant-loop-i : goal.invariant-loop-i

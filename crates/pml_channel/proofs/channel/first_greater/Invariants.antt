@@ -1,5 +1,5 @@
 use Rattle.std.proofs.Common.{◌≡◌, ◌++◌, take, drop}
-use Rattle.pml_channel.specs.Contents.{sorted_in}
+use Rattle.pml_channel.specs.State.{sorted_in}
 use Rattle.pml_channel.proofs.channel.first_greater.Given as goal
 
 abbrev pub invariant-loop-i : goal.invariant-loop-i

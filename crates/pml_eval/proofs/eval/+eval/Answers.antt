@@ -14,7 +14,7 @@ has_match-loop-place-preserved g t c ws all =
     let l : c.loop-place.place < length ms = search (rules, n) in
     let m : c.message.result.now ≡ get_or ms c.loop-place.place [] = search (rules, n) in
     let before = rw n at (c.loop-place.invariant ws all) in
-    rw n (match-next _ ws ms _ l c.if-not-any.false (rw (← m) e) ∙ before)
+    rw n (match-next _ ws ms _ l c.in_default.is (rw (← m) e) ∙ before)
 
 pub is_asked-returns-then-arguments-fields : goal.is_asked-returns-then-arguments-fields
 is_asked-returns-then-arguments-fields g t c ws all =

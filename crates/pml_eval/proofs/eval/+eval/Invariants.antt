@@ -24,7 +24,7 @@ abbrev pub invariant-has_match-loop-place : goal.invariant-has_match-loop-place
 invariant-has_match-loop-place g l =
     let r = g.G.Ground.reading l.ground in
     let messages = messages_of (r.channel l.number) in
-    (ws : List Sought) → wants_of (map want l.arguments) r ≡ Ok ws → is_match l.any ws (drop l.place messages) ≡ is_match l.any ws messages
+    (ws : List Sought) → wants_of (map want l.arguments) r ≡ Ok ws → is_match l.search ws (drop l.place messages) ≡ is_match l.search ws messages
 
 -- the rest of what is asked decides
 abbrev pub invariant-is_asked-loop-i : goal.invariant-is_asked-loop-i

@@ -9,11 +9,11 @@ use Rattle.pml_start.proofs.start.begin_process.Goals as goal
 
 pub returns-clause-declared : goal.returns-clause-declared
 returns-clause-declared c =
-    let k : c.begin_owner.new.started.kinds.items ≡ c.args.started.now.kinds.items ++ c.args.kind ∷ [] = search rules in
+    let k : c.begin_frame.new.started.kinds.items ≡ c.args.started.now.kinds.items ++ c.args.kind ∷ [] = search rules in
     let is = rw c.as_slice.ensures at c.index-as_slice-kind.is in
     let v : c.as_slice-variables.result.now ≡ variables_at c.args.program.now c.args.kind =
     c.as_slice-variables.ensures ∙ ap (λ (x : Proctype). x.variables) (sym c.index-as_slice-kind.is) ∙ sym (variables_at_is c.args.program.now c.args.kind c.index-as_slice-kind.result c.requires.there is) in
     let few : length c.args.started.now.kinds.items < 255 = search rules in
-    OnOk-then c.begin_owner.result
-    (λ e. declared_next c.args.program.now (shown c.args.started.now) (shown c.begin_owner.new.started) c.args.kind c.requires.declared few c.requires.there (e ∙ ap (λ (x : List Slot). shape c.args.started.now.store.frames ++ map size x ∷ []) v) k)
-    c.begin_owner.ensures.sizes
+    OnOk-then c.begin_frame.result
+    (λ e. declared_next c.args.program.now (shown c.args.started.now) (shown c.begin_frame.new.started) c.args.kind c.requires.declared few c.requires.there (e ∙ ap (λ (x : List Slot). shape c.args.started.now.store.frames ++ map size x ∷ []) v) k)
+    c.begin_frame.ensures.sizes

@@ -5,4 +5,4 @@ pub returns : goal.returns
 returns c =
     let there = rw (← c.self.view_is) at c.requires in
     let e = is_index _ _ c.args.place c.self.invariant there in
-    rw (← c.self.view_is, c.find_slot-slot.ensures, c.as_slice.ensures.value) (record { value = e.value; within = e.within; holds = e.holds })
+    rw (← c.self.view_is, c.find_extent-extent.ensures, c.as_slice.ensures.value) (record { value = e.value; within = e.within; holds = e.holds })

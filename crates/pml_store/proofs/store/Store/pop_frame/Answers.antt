@@ -1,5 +1,5 @@
 use Rattle.std.proofs.Common.{List, ◌∙◌, sym, ap, refl}
-use Rattle.pml_store.specs.declared.store.Owner.{Owner}
+use Rattle.pml_store.specs.declared.store.FrameExtents.{FrameExtents}
 use Rattle.pml_store.specs.Store.{but_last}
 use Rattle.pml_store.specs.Laid.{frames_of}
 use Rattle.pml_store.proofs.Frames.{IsLaid-pop, frames_of-pop}
@@ -14,5 +14,5 @@ invariant_of-self c =
 pub returns-in-Some : goal.returns-in-Some
 returns-in-Some c =
     let laid = rw c.in-Some.ensures.items at c.self.invariant in
-    let frames = frames_of-pop _ _ _ laid ∙ ap (λ (os : List Owner). but_last (frames_of os c.self.inside.cells.items)) (sym c.in-Some.ensures.items) in
+    let frames = frames_of-pop _ _ _ laid ∙ ap (λ (os : List FrameExtents). but_last (frames_of os c.self.inside.cells.items)) (sym c.in-Some.ensures.items) in
     rw (← c.self.view_is, c.truncate.ensures.items) (contents_is _ _ _ _ frames refl)

@@ -1,20 +1,20 @@
 use Rattle.std.proofs.Common.{arith, ◌≡◌, ◌++◌, ◌∷◌, [], pos, sum, replicate, ◌∙◌, ap, refl, length}
-use Rattle.pml_store.specs.declared.store.Owner.{Owner}
-use Rattle.pml_store.specs.Laid.{slots_of}
-use Rattle.pml_store.proofs.Frames.{IsLaid-push, frames_of-push, owner_is, grown}
+use Rattle.pml_store.specs.declared.store.FrameExtents.{FrameExtents}
+use Rattle.pml_store.specs.Laid.{extents_of}
+use Rattle.pml_store.proofs.Frames.{IsLaid-push, frames_of-push, frame_extents_is, grown}
 use Rattle.pml_store.proofs.Storing.{contents_is}
 use Rattle.pml_store.proofs.store.Store.push_frame.Goals as goal
 use Rattle.pml_store.proofs.store.Store.push_frame.Goals.{In-Ok}
 
--- the new owner and the new cells
-made : (c : In-Ok) → (c.push.new.self.items ≡ c.self.inside.owners.items ++ record { base = length c.self.inside.cells.items; slots = slots_of (length c.self.inside.cells.items) c.args.sizes.now } ∷ []) × (c.resize.new.self.items ≡ c.self.inside.cells.items ++ replicate (sum c.args.sizes.now) (pos 0))
+-- the new frame and the new cells
+made : (c : In-Ok) → (c.push.new.self.items ≡ c.self.inside.frames.items ++ record { base = length c.self.inside.cells.items; extents = extents_of (length c.self.inside.cells.items) c.args.sizes.now } ∷ []) × (c.resize.new.self.items ≡ c.self.inside.cells.items ++ replicate (sum c.args.sizes.now) (pos 0))
 made c =
     let n = c.self.inside.cells.ok.0 in
     let b : c.len-base.result ≡ length c.self.inside.cells.items = c.len-base.ensures ∙ n in
-    let s : c.in_ok-slots.slots ≡ slots_of (length c.self.inside.cells.items) c.args.sizes.now = c.in_ok-slots.ensures.0 ∙ ap (λ k. slots_of k c.args.sizes.now) b in
-    let o : ◌≡◌ {A = Owner} (record { base = c.len-base.result; slots = c.in_ok-slots.slots }) (record { base = length c.self.inside.cells.items; slots = slots_of (length c.self.inside.cells.items) c.args.sizes.now }) = owner_is _ _ _ _ b s in (
-      c.in-Ok.ensures.items ∙ ap (λ (x : Owner). c.self.inside.owners.items ++ x ∷ []) o,
-      c.in_ok-resize.ensures.items ∙ grown c.self.inside.cells.items _ _ (sum c.args.sizes.now) n (omega (arith, b, c.in_ok-slots.ensures.1, n)),
+    let s : c.in_ok-extents.extents ≡ extents_of (length c.self.inside.cells.items) c.args.sizes.now = c.in_ok-extents.ensures.0 ∙ ap (λ k. extents_of k c.args.sizes.now) b in
+    let o : ◌≡◌ {A = FrameExtents} (record { base = c.len-base.result; extents = c.in_ok-extents.extents }) (record { base = length c.self.inside.cells.items; extents = extents_of (length c.self.inside.cells.items) c.args.sizes.now }) = frame_extents_is _ _ _ _ b s in (
+      c.in-Ok.ensures.items ∙ ap (λ (x : FrameExtents). c.self.inside.frames.items ++ x ∷ []) o,
+      c.in_ok-resize.ensures.items ∙ grown c.self.inside.cells.items _ _ (sum c.args.sizes.now) n (omega (arith, b, c.in_ok-extents.ensures.1, n)),
     )
 
 pub returns-in-Ok-clause-ok : goal.returns-in-Ok-clause-ok

@@ -32,7 +32,7 @@ returns-clause-ok c =
     let number = to_z-of_z w32 c.args.number g in
     let before = to_z-of_z w32 c.index-before.result.now f ∙ c.index-before.ensures ∙ get_or_default c.self.inside.cells.items c.index-at.result c.index-before.result.now (pos 0) k ∙ w in
     let frames =
-    ap (λ (n : ℤ). frames_of c.self.inside.owners.items (set c.self.inside.cells.items c.index-at.result n)) number
-    ∙ ap (λ (n : ℕ). frames_of c.self.inside.owners.items (set c.self.inside.cells.items n c.args.number)) (v ∙ i) ∙ fs in
+    ap (λ (n : ℤ). frames_of c.self.inside.frames.items (set c.self.inside.cells.items c.index-at.result n)) number
+    ∙ ap (λ (n : ℕ). frames_of c.self.inside.frames.items (set c.self.inside.cells.items n c.args.number)) (v ∙ i) ∙ fs in
     let written = c.in_ok-push.ensures.items ∙ noted _ _ _ _ _ v before in
     rw (← c.self.view_is) (contents_is _ _ _ _ frames written)

@@ -2,7 +2,7 @@ use Rattle.std.proofs.Common.{◌≡◌, ◌++◌, ◌∷◌, [], map, ◌∙◌
 use Rattle.pml_store.specs.Store.{zeros}
 use Rattle.pml_start.specs.Begin.{size}
 use Rattle.pml_start.proofs.Shapes.{added_sizes, added_shape, OnOk-always}
-use Rattle.pml_start.proofs.begin.begin_owner.Goals as goal
+use Rattle.pml_start.proofs.begin.begin_frame.Goals as goal
 
 pub begin_variables-requires-clause-there : goal.begin_variables-requires-clause-there
 begin_variables-requires-clause-there c =

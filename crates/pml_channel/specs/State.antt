@@ -5,7 +5,7 @@ use Rattle.std.specs.Ordering.{int_eq}
 use Rattle.pml_program.specs.declared.form.Form.{Form}
 use Rattle.pml_eval.specs.Clip.{clipped}
 
-pub record Contents : Type 0 where
+pub record ChannelState : Type 0 where
   pub capacity : ℕ
   pub types : List Form
   pub messages : List (List ℤ)
