@@ -2,5 +2,3 @@
 #![tactic(auto)]
 
 pub mod channel;
-#[cfg(test)]
-mod tests;

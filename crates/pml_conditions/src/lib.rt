@@ -10,7 +10,5 @@ mod round;
 pub mod rule;
 mod start;
 mod structure;
-#[cfg(test)]
-mod tests;
 mod unknown;
 mod wrong;

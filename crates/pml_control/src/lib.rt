@@ -8,5 +8,3 @@ mod graph;
 mod labels;
 pub mod laws;
 mod node;
-#[cfg(test)]
-mod tests;

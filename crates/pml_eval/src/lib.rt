@@ -6,5 +6,3 @@ pub mod eval;
 pub mod ground;
 pub mod operators;
 pub mod pattern;
-#[cfg(test)]
-mod tests;

@@ -5,5 +5,3 @@ mod begin;
 pub mod law;
 pub mod start;
 pub mod started;
-#[cfg(test)]
-mod tests;

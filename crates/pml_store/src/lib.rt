@@ -4,5 +4,3 @@
 pub mod law;
 pub mod place;
 pub mod store;
-#[cfg(test)]
-mod tests;

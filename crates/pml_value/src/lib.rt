@@ -3,8 +3,6 @@
 
 pub mod live_channel;
 pub mod statement;
-#[cfg(test)]
-mod tests;
 pub mod view;
 
 pub use pml_channel::channel::Channel;

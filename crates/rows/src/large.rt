@@ -1,98 +1,141 @@
-// Large models: each is read, checked and answered.
-use crate::player::*;
-use crate::refusals::refused;
-use session::{Cause, Options};
+//! Large models, made at run time: each is read, checked and answered.
+use crate::row::{Row, STEPS};
+use crate::runner::said_of;
 use std::alloc::Global;
 use std::test::Fail;
 
-const QUIET: Options = Options {
-    steps: false,
-    globals: false,
-    locals: false,
-    limit: 1_000_000,
-};
-
-const FITS: &str = "M99 (not served)";
-
-/// A list of names of `mtype`.
-fn constants(alloc: Global, count: u32) -> Result<String, Fail> {
+/// The front, then these pieces, each with its number where it has one, and what is behind them.
+fn repeated(
+    alloc: Global,
+    front: &str,
+    piece: &str,
+    count: u32,
+    behind: &str,
+) -> Result<String, Fail> {
     let mut text = String::new(alloc);
-    text.push_str("mtype = { m")?;
+    text.push_str(front)?;
     for i in 0..count {
-        let name = format!(in alloc; ", m{i}")?;
-        text.push_str(&name)?;
+        let number = format!(in alloc; "{i}")?;
+        push_piece(&mut text, piece, &number)?;
     }
-    text.push_str(" }; init { atomic { skip } }")?;
+    text.push_str(behind)?;
     Ok(text)
 }
 
-fn declarations(alloc: Global, count: u32) -> Result<String, Fail> {
-    let mut text = String::new(alloc);
-    for i in 0..count {
-        let one = format!(in alloc; "byte v{i}; ")?;
-        text.push_str(&one)?;
+/// A piece, in which `#` stands for a number.
+fn push_piece(text: &mut String, piece: &str, number: &str) -> Result<(), Fail> {
+    let mut begun = false;
+    for part in piece.split('#') {
+        if begun {
+            text.push_str(number)?;
+        }
+        text.push_str(part)?;
+        begun = true;
     }
-    text.push_str("init { atomic { skip } }")?;
-    Ok(text)
+    Ok(())
 }
 
-/// Labels, each with a goto to it, behind a statement or at once.
-fn labels(alloc: Global, count: u32, between: &str) -> Result<String, Fail> {
-    let mut text = String::new(alloc);
-    text.push_str("init { ")?;
-    for i in 0..count {
-        let one = format!(in alloc; "L{i}: {between}goto L{i}; ")?;
-        text.push_str(&one)?;
+fn passes(rt: &HostRuntime, row: &Row) -> Result<(), Fail> {
+    let said = said_of(rt.alloc(), row)?;
+    if said.is_empty() {
+        return Ok(());
     }
-    text.push_str("}")?;
-    Ok(text)
+    let _ = eprintln!(rt; "{said}");
+    Err(Fail::from("a large model fails"))
 }
 
-fn statements(alloc: Global, count: u32) -> Result<String, Fail> {
-    let mut text = String::new(alloc);
-    text.push_str("active proctype A() { ")?;
-    for _ in 0..count {
-        text.push_str("skip;")?;
+/// Plays a model, and compares.
+fn shows(rt: &HostRuntime, model: String, output: &str, status: u8, line: u32) -> Result<(), Fail> {
+    let alloc = rt.alloc();
+    let mut lines = String::new(alloc);
+    lines.push_str(output)?;
+    lines.push('\n')?;
+    let row = Row {
+        options: STEPS,
+        model,
+        choices: Vec::from_slice(alloc, b"7\n")?,
+        read: 0,
+        output: lines,
+        status,
+        line,
+        record: Vec::new(alloc),
+    };
+    passes(rt, &row)
+}
+
+#[test]
+fn long_texts(rt: HostRuntime) -> Result<(), Fail> {
+    let alloc = rt.alloc();
+    for (piece, count, line, output) in [
+        (" ", 1_048_577, 0, "refused M1 (text too long)"),
+        (" ", 1_048_576, 0, "refused M16 (no process)"),
+        ("(", 101, 1, "refused M4 (too deep)"),
+        ("{", 101, 1, "refused M4 (too deep)"),
+        ("(", 100, 1, "refused M5 (syntax)"),
+        ("+ ", 1001, 1, "refused M4 (too deep)"),
+        ("+ ", 1000, 1, "refused M5 (syntax)"),
+    ] {
+        let text = repeated(alloc, "", piece, count, "")?;
+        shows(&rt, text, output, 3, line)?;
     }
-    text.push_str("}")?;
-    Ok(text)
+    Ok(())
 }
 
 #[test]
 fn names_of_mtype(rt: HostRuntime) -> Result<(), Fail> {
     let alloc = rt.alloc();
-    let most = constants(alloc, 254)?;
-    refused(&rt, alloc, most.as_bytes(), FITS, 0)?;
-    let more = constants(alloc, 255)?;
-    refused(&rt, alloc, more.as_bytes(), "M14 (number out of range)", 0)
+    let behind = " }; init { atomic { skip } }";
+    let most = repeated(alloc, "mtype = { m", ", m#", 254, behind)?;
+    shows(&rt, most, "refused M99 (not served)", 3, 0)?;
+    let more = repeated(alloc, "mtype = { m", ", m#", 255, behind)?;
+    shows(&rt, more, "refused M14 (number out of range)", 3, 0)
 }
 
 #[test]
 fn ten_thousand_declarations(rt: HostRuntime) -> Result<(), Fail> {
-    let alloc = rt.alloc();
-    let text = declarations(alloc, 10_000)?;
-    refused(&rt, alloc, text.as_bytes(), FITS, 0)
+    let text = repeated(
+        rt.alloc(),
+        "",
+        "byte v#; ",
+        10_000,
+        "init { atomic { skip } }",
+    )?;
+    shows(&rt, text, "refused M99 (not served)", 3, 0)
+}
+
+#[test]
+fn eighty_thousand_names(rt: HostRuntime) -> Result<(), Fail> {
+    let behind = "active proctype P() { a79999++; a79999 == 1 }";
+    let text = repeated(rt.alloc(), "", "byte a#;", 80_000, behind)?;
+    let output = r#"step 1: proc 0 (P) line 1 [a79999 ++]
+step 2: proc 0 (P) line 1 [a79999 == 1]
+step 3: proc 0 (P) line 1 [-end-]
+end: valid, steps 3"#;
+    shows(&rt, text, output, 0, 0)
 }
 
 #[test]
 fn ten_thousand_labels_and_gotos(rt: HostRuntime) -> Result<(), Fail> {
     let alloc = rt.alloc();
-    let settled = labels(alloc, 10_000, "skip; ")?;
-    refused(&rt, alloc, settled.as_bytes(), FITS, 0)?;
-    let circles = labels(alloc, 10_000, "")?;
-    refused(&rt, alloc, circles.as_bytes(), "M13 (circle of gotos)", 0)
+    let settled = repeated(alloc, "init { ", "L#: skip; goto L#; ", 10_000, "}")?;
+    shows(&rt, settled, "refused M99 (not served)", 3, 0)?;
+    let circles = repeated(alloc, "init { ", "L#: goto L#; ", 10_000, "}")?;
+    shows(&rt, circles, "refused M13 (circle of gotos)", 3, 0)
 }
 
+/// A long body, whose steps are not shown.
 #[test]
 fn a_hundred_thousand_statements(rt: HostRuntime) -> Result<(), Fail> {
     let alloc = rt.alloc();
-    let text = statements(alloc, 100_000)?;
-    let behind = played(alloc, text.as_bytes(), &QUIET, b"1\n", NEVER)?;
-    assert_eq!(rt;
-        behind.out.as_slice(),
-        b"end: valid, steps 100001\n".as_slice()
-    );
-    assert_eq!(rt; behind.end.steps, 100_001);
-    assert_eq!(rt; behind.end.cause, Cause::Valid);
-    Ok(())
+    let row = Row {
+        options: crate::row::NONE,
+        model: repeated(alloc, "active proctype A() { ", "skip;", 100_000, "}")?,
+        choices: Vec::from_slice(alloc, b"1\n")?,
+        read: 0,
+        output: String::from_str(alloc, "end: valid, steps 100001\n")?,
+        status: 0,
+        line: 0,
+        record: Vec::new(alloc),
+    };
+    passes(&rt, &row)
 }

@@ -1,14 +1,26 @@
-// Sessions over the texts of models.
+//! Sessions over the texts of models.
 #![tactic(auto)]
 
 #[cfg(test)]
+mod block;
+#[cfg(test)]
 mod checks;
+#[cfg(test)]
+mod expressions;
+#[cfg(test)]
+mod failing;
+#[cfg(test)]
+mod forms;
 #[cfg(test)]
 mod large;
 #[cfg(test)]
 mod player;
 #[cfg(test)]
 mod refusals;
+#[cfg(test)]
+mod row;
+#[cfg(test)]
+mod runner;
 #[cfg(test)]
 mod sessions;
 #[cfg(test)]

@@ -1,4 +1,4 @@
-// Plays a text over devices of which one call may fail, all sinks taking one byte a call.
+//! Plays a text over devices of which one call may fail, all sinks taking one byte a call.
 ghost use Rattle.std.specs.Prelude.{◌≡◌};
 
 use devices::{FailsOnce, Failures, OneByte, SliceSource, VecSink};
@@ -74,11 +74,3 @@ pub fn played(
         out_fails,
     )
 }
-
-/// Shows steps.
-pub const STEPS: Options = Options {
-    steps: true,
-    globals: false,
-    locals: false,
-    limit: 1_000_000,
-};

@@ -1,196 +1,180 @@
-// Texts that have a model, and their sessions.
-use crate::player::*;
-use session::{Cause, End, Options};
-use std::alloc::Global;
-use std::process::Abort;
+//! Texts that have a model, and their sessions.
+use crate::runner::each_passes;
 use std::test::Fail;
 
-fn status(cause: Cause) -> u8 {
-    match cause {
-        Cause::Valid => 0,
-        Cause::Invalid => 1,
-        Cause::StepLimit => 5,
-        _ => 6,
-    }
+fn rows() -> &'static str {
+    r##"
+== assignments, counts and conditions to the end
+-- flags -p
+-- model
+byte x = 254, y;
+active proctype A() { x = x + 3; y--; x == 1; skip -> x = x - y }
+-- output
+step 1: proc 0 (A) line 2 [x = x + 3]
+step 2: proc 0 (A) line 2 [y --]
+step 3: proc 0 (A) line 2 [x == 1]
+step 4: proc 0 (A) line 2 [skip]
+step 5: proc 0 (A) line 2 [x = x - y]
+step 6: proc 0 (A) line 2 [-end-]
+end: valid, steps 6
+-- status 0
+== a condition that blocks
+-- flags -p
+-- model byte x; active proctype A() { x == 1 }
+-- output
+end: invalid, steps 0
+at: proc 0 (A) line 1
+-- status 1
+== a byte wraps
+-- flags -p
+-- model
+byte x = 255, y, z = 300;
+active proctype A() {
+  x++; x == 0;
+  y--; y == 255; z == 44
 }
-
-// Plays the text with choices that stay unread, and compares.
-fn plays<R: Abort>(
-    rt: &R,
-    alloc: Global,
-    text: &[u8],
-    options: &Options,
-    out: &[u8],
-    steps: u32,
-    cause: Cause,
-) -> Result<(), Fail> {
-    let behind = played(alloc, text, options, b"5\n", NEVER)?;
-    assert_eq!(rt; behind.out.as_slice(), out);
-    assert_eq!(rt; behind.rec.len(), 0);
-    assert_eq!(rt; behind.unread, 2);
-    let end = End {
-        status: status(cause),
-        steps,
-        cause,
-    };
-    assert_eq!(rt; behind.end, end);
-    Ok(())
+-- output
+step 1: proc 0 (A) line 3 [x ++]
+step 2: proc 0 (A) line 3 [x == 0]
+step 3: proc 0 (A) line 4 [y --]
+step 4: proc 0 (A) line 4 [y == 255]
+step 5: proc 0 (A) line 4 [z == 44]
+step 6: proc 0 (A) line 5 [-end-]
+end: valid, steps 6
+-- status 0
+== the end of a process has the line of its brace
+-- flags -p
+-- model
+byte x = 255; active proctype A() { x++; x == 0
 }
+-- output
+step 1: proc 0 (A) line 1 [x ++]
+step 2: proc 0 (A) line 1 [x == 0]
+step 3: proc 0 (A) line 2 [-end-]
+end: valid, steps 3
+-- status 0
+== numbers are signed and of 32 bits
+-- flags -p
+-- model active proctype A() { 0 - 1 < 0; 4294967295 < 0; 2147483647 + 1 < 0; 2147483648 - 1 == 2147483647; 4294967295 + 1 == 0; 1 - 2 + 2 }
+-- output
+step 1: proc 0 (A) line 1 [0 - 1 < 0]
+step 2: proc 0 (A) line 1 [4294967295 < 0]
+step 3: proc 0 (A) line 1 [2147483647 + 1 < 0]
+step 4: proc 0 (A) line 1 [2147483648 - 1 == 2147483647]
+step 5: proc 0 (A) line 1 [4294967295 + 1 == 0]
+step 6: proc 0 (A) line 1 [1 - 2 + 2]
+step 7: proc 0 (A) line 1 [-end-]
+end: valid, steps 7
+-- status 0
+== a comparison of signed numbers blocks
+-- flags -g -l -u9
+-- model active proctype A() { 4294967295 < 0; 2147483647 + 1 < 0; 0 < 4294967295 }
+-- output
+end: invalid, steps 2
+at: proc 0 (A) line 1
+-- status 1
+== a sum of 0 blocks
+-- flags -p
+-- model
+byte x;
+active proctype A() {
+  x++;
+  x - 1
+}
+-- output
+step 1: proc 0 (A) line 3 [x ++]
+end: invalid, steps 1
+at: proc 0 (A) line 4
+-- status 1
+== comments and line marks are blanks
+-- flags -p
+-- model
+# 1 "m.pml"
+byte /* of
+two lines */ x; // and one
+#line 3
+active proctype A() { x/**/=/**/2 }
+-- output
+step 1: proc 0 (A) line 5 [x = 2]
+step 2: proc 0 (A) line 5 [-end-]
+end: valid, steps 2
+-- status 0
+== a limit of 0
+-- flags -p -u0
+-- model active proctype A() { skip; skip }
+-- output stop: step limit, steps 0
+-- status 5
+== a limit below the end
+-- flags -p -u2
+-- model active proctype A() { skip; skip }
+-- output
+step 1: proc 0 (A) line 1 [skip]
+step 2: proc 0 (A) line 1 [skip]
+stop: step limit, steps 2
+-- status 5
+== a limit at the end is not met
+-- flags -u3
+-- model active proctype A() { skip; skip }
+-- output end: valid, steps 3
+-- status 0
+== separators where none or many are wanted
+-- flags -p -u1
+-- model ;;byte b byte c;active proctype P(){b++;->;c=b};;
+-- output
+step 1: proc 0 (P) line 1 [b ++]
+stop: step limit, steps 1
+-- status 5
+== choices stay unread where no question is asked
+-- flags -p
+-- model init { skip }
+-- unread 5\n
+-- output
+step 1: proc 0 (:init:) line 1 [skip]
+step 2: proc 0 (:init:) line 1 [-end-]
+end: valid, steps 2
+-- status 0
+== a body without a statement
+-- flags -p
+-- model init { }
+-- output
+step 1: proc 0 (:init:) line 1 [-end-]
+end: valid, steps 1
+-- status 0
+== a body of declarations alone
+-- flags -p -l
+-- model
+init { byte x = 3; byte y = x
+}
+-- output
+step 1: proc 0 (:init:) line 2 [-end-]
+end: valid, steps 1
+-- status 0
+== flags that change nothing, and flags that are repeated
+-- flags -i -T -pTp -ip
+-- model init { skip }
+-- output
+step 1: proc 0 (:init:) line 1 [skip]
+step 2: proc 0 (:init:) line 1 [-end-]
+end: valid, steps 2
+-- status 0
+== a statement over several lines has the line of its first token
+-- flags -p
+-- model
+byte x;
+init {
 
-const FIRST: &[u8] =
-    b"byte x = 254, y;\nactive proctype A() { x = x + 3; y--; x == 1; skip -> x = x - y }\n";
-
-const FIRST_OUT: &[u8] =
-    b"step 1: proc 0 (A) line 2 [x = x + 3]\nstep 2: proc 0 (A) line 2 [y --]\nstep 3: proc 0 (A) line 2 [x == 1]\nstep 4: proc 0 (A) line 2 [skip]\nstep 5: proc 0 (A) line 2 [x = x - y]\nstep 6: proc 0 (A) line 2 [-end-]\nend: valid, steps 6\n";
+  x
+  = 1 +
+  2 }
+-- output
+step 1: proc 0 (:init:) line 4 [x = 1 + 2]
+step 2: proc 0 (:init:) line 6 [-end-]
+end: valid, steps 2
+-- status 0
+"##
+}
 
 #[test]
-fn the_first_path(rt: HostRuntime) -> Result<(), Fail> {
-    plays(&rt, rt.alloc(), FIRST, &STEPS, FIRST_OUT, 6, Cause::Valid)
-}
-
-#[test]
-fn a_condition_that_blocks(rt: HostRuntime) -> Result<(), Fail> {
-    plays(
-        &rt,
-        rt.alloc(),
-        b"byte x; active proctype A() { x == 1 }",
-        &STEPS,
-        b"end: invalid, steps 0\nat: proc 0 (A) line 1\n",
-        0,
-        Cause::Invalid,
-    )
-}
-
-#[test]
-fn a_byte_wraps(rt: HostRuntime) -> Result<(), Fail> {
-    plays(
-        &rt,
-        rt.alloc(),
-        b"byte x = 255, y, z = 300;\nactive proctype A() {\n  x++; x == 0;\n  y--; y == 255; z == 44\n}",
-        &STEPS,
-        b"step 1: proc 0 (A) line 3 [x ++]\nstep 2: proc 0 (A) line 3 [x == 0]\nstep 3: proc 0 (A) line 4 [y --]\nstep 4: proc 0 (A) line 4 [y == 255]\nstep 5: proc 0 (A) line 4 [z == 44]\nstep 6: proc 0 (A) line 5 [-end-]\nend: valid, steps 6\n",
-        6,
-        Cause::Valid,
-    )
-}
-
-#[test]
-fn numbers_are_signed_and_of_32_bits(rt: HostRuntime) -> Result<(), Fail> {
-    plays(
-        &rt,
-        rt.alloc(),
-        b"active proctype A() { 0 - 1 < 0; 4294967295 < 0; 2147483647 + 1 < 0; 2147483648 - 1 == 2147483647; 4294967295 + 1 == 0; 1 - 2 + 2 }",
-        &STEPS,
-        b"step 1: proc 0 (A) line 1 [0 - 1 < 0]\nstep 2: proc 0 (A) line 1 [4294967295 < 0]\nstep 3: proc 0 (A) line 1 [2147483647 + 1 < 0]\nstep 4: proc 0 (A) line 1 [2147483648 - 1 == 2147483647]\nstep 5: proc 0 (A) line 1 [4294967295 + 1 == 0]\nstep 6: proc 0 (A) line 1 [1 - 2 + 2]\nstep 7: proc 0 (A) line 1 [-end-]\nend: valid, steps 7\n",
-        7,
-        Cause::Valid,
-    )
-}
-
-#[test]
-fn a_sum_of_0_blocks(rt: HostRuntime) -> Result<(), Fail> {
-    plays(
-        &rt,
-        rt.alloc(),
-        b"byte x;\nactive proctype A() {\n  x++;\n  x - 1\n}",
-        &STEPS,
-        b"step 1: proc 0 (A) line 3 [x ++]\nend: invalid, steps 1\nat: proc 0 (A) line 4\n",
-        1,
-        Cause::Invalid,
-    )
-}
-
-#[test]
-fn comments_and_line_marks_are_blanks(rt: HostRuntime) -> Result<(), Fail> {
-    plays(
-        &rt,
-        rt.alloc(),
-        b"# 1 \"m.pml\"\nbyte /* of\ntwo lines */ x; // and one\n#line 3\nactive proctype A() { x/**/=/**/2 }",
-        &STEPS,
-        b"step 1: proc 0 (A) line 5 [x = 2]\nstep 2: proc 0 (A) line 5 [-end-]\nend: valid, steps 2\n",
-        2,
-        Cause::Valid,
-    )
-}
-
-#[test]
-fn the_limit_is_tested_where_there_are_moves(rt: HostRuntime) -> Result<(), Fail> {
-    let text = b"active proctype A() { skip; skip }";
-    let none = Options { limit: 0, ..STEPS };
-    plays(
-        &rt,
-        rt.alloc(),
-        text,
-        &none,
-        b"stop: step limit, steps 0\n",
-        0,
-        Cause::StepLimit,
-    )?;
-    let two = Options { limit: 2, ..STEPS };
-    plays(
-        &rt,
-        rt.alloc(),
-        text,
-        &two,
-        b"step 1: proc 0 (A) line 1 [skip]\nstep 2: proc 0 (A) line 1 [skip]\nstop: step limit, steps 2\n",
-        2,
-        Cause::StepLimit,
-    )?;
-    let three = Options {
-        limit: 3,
-        steps: false,
-        ..STEPS
-    };
-    plays(
-        &rt,
-        rt.alloc(),
-        text,
-        &three,
-        b"end: valid, steps 3\n",
-        3,
-        Cause::Valid,
-    )
-}
-
-// The output fails at each call in turn, until a run has no failure.
-#[test]
-fn the_output_fails_at_each_call(rt: HostRuntime) -> Result<(), Fail> {
-    let mut done = false;
-    for at in 0..1000u64 {
-        let behind = played(rt.alloc(), FIRST, &STEPS, b"", at)?;
-        assert!(rt; FIRST_OUT.starts_with(&behind.out));
-        assert_eq!(rt; behind.rec.len(), 0);
-        if !behind.failed {
-            assert_eq!(rt; behind.out.as_slice(), FIRST_OUT);
-            done = true;
-            break;
-        }
-        assert_eq!(rt; behind.end.status, 6);
-        assert_eq!(rt; behind.end.cause, Cause::OutFailed);
-    }
-    assert!(rt; done);
-    Ok(())
-}
-
-// A long body, with steps that are not shown.
-#[test]
-fn a_hundred_thousand_statements(rt: HostRuntime) -> Result<(), Fail> {
-    let mut text = Vec::from_slice(rt.alloc(), b"active proctype A() { skip")?;
-    for _ in 0..99_999u32 {
-        text.extend_from_slice(b"; skip")?;
-    }
-    text.extend_from_slice(b" }")?;
-    let options = Options {
-        steps: false,
-        ..STEPS
-    };
-    plays(
-        &rt,
-        rt.alloc(),
-        &text,
-        &options,
-        b"end: valid, steps 100001\n",
-        100_001,
-        Cause::Valid,
-    )
+fn sessions(rt: HostRuntime) -> Result<(), Fail> {
+    each_passes(&rt, rows())
 }

@@ -1,0 +1,16 @@
+//! Values, stores, channels, statements and first states, each public call once with memory enough, and growths that may be
+//! refused.
+#![tactic(auto)]
+
+#[cfg(test)]
+mod beginnings;
+#[cfg(test)]
+mod channels;
+#[cfg(test)]
+mod expressions;
+#[cfg(test)]
+mod refused;
+#[cfg(test)]
+mod statements;
+#[cfg(test)]
+mod stores;

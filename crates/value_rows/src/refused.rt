@@ -1,0 +1,154 @@
+//! Growths that may be refused: each test passes with memory enough, and where any one growth of it is refused.
+use crate::beginnings::program;
+use crate::channels::of_three;
+use pml_channel::channel::Channel;
+use pml_program::form::Form;
+use pml_program::program::Action;
+use pml_program::expr::Target;
+use pml_start::start::start;
+use pml_store::place::Place;
+use pml_store::store::Store;
+use pml_tree::tree::Scalar;
+use pml_value::statement::take;
+use diagnostics::Stop;
+use sqlite_items::Items;
+use std::alloc::Global;
+use std::process::Abort;
+use std::test::Fail;
+
+const NUMBER: Place = Place {
+    frame: 0,
+    variable: 0,
+    cell: 0,
+};
+
+/// A frame is added with its cells, or none of them is.
+fn adds_a_frame<R: Abort>(rt: &R, store: &mut Store) {
+    let before = store.cells().len();
+    let added = store.push_frame(&[2, 1]).is_ok();
+    assert_eq!(rt;
+        store.cells().len(),
+        if added {
+            before.wrapping_add(3)
+        } else {
+            before
+        }
+    );
+    assert_eq!(rt; store.written().len(), 0);
+}
+
+#[test]
+fn frames(rt: HostRuntime) {
+    let mut store = Store::new(rt.alloc());
+    for _frame in 0..9u8 {
+        adds_a_frame(&rt, &mut store);
+    }
+}
+
+/// A number is stored and noted, or neither.
+fn stores<R: Abort>(rt: &R, store: &mut Store, number: i32, held: i32) -> i32 {
+    if store.size(0, 0) == 0 {
+        return held;
+    }
+    let noted = store.written().len();
+    let stored = store.set(NUMBER, number).is_ok();
+    let held = if stored { number } else { held };
+    assert_eq!(rt; store.cells().as_slice(), [held].as_slice());
+    assert_eq!(rt;
+        store.written().len(),
+        if stored { noted.wrapping_add(1) } else { noted }
+    );
+    held
+}
+
+#[test]
+fn numbers(rt: HostRuntime) {
+    let mut store = Store::new(rt.alloc());
+    if store.push_frame(&[1]).is_ok() {
+        let mut held = 0;
+        for number in 1..20i32 {
+            held = stores(&rt, &mut store, number, held);
+        }
+    }
+}
+
+fn left_as_it_was<R: Abort>(rt: &R, channel: &Channel, first: &[i32], second: &[i32]) {
+    if channel.len() == 2 {
+        assert_eq!(rt; channel.message(0), first);
+        assert_eq!(rt; channel.message(1), second);
+    } else {
+        assert_eq!(rt; channel.len(), 0);
+    }
+}
+
+/// A message is sent, or the channel is left as it was.
+#[test]
+fn messages(rt: HostRuntime) {
+    let Ok(mut channel) = of_three(rt.alloc()) else {
+        return;
+    };
+    if channel.send(&[257, 40_000]).is_err() {
+        left_as_it_was(&rt, &channel, &[], &[]);
+        return;
+    }
+    if channel.send(&[3, 7]).is_err() {
+        assert_eq!(rt; channel.len(), 1);
+        return;
+    }
+    if channel.send_sorted(&[2, 0]).is_err() {
+        left_as_it_was(&rt, &channel, &[1, -25_536], &[3, 7]);
+        return;
+    }
+    assert_eq!(rt; channel.len(), 3);
+    assert_eq!(rt; channel.message(1), [2, 0].as_slice());
+}
+
+/// `x++`.
+fn counted(alloc: Global) -> Action<'static> {
+    Action::Increment(Target {
+        local: false,
+        variable: 0,
+        form: Form::Plain(Scalar::Byte),
+        turns: Items::new(alloc),
+    })
+}
+
+/// A statement is taken, or it stores nothing.
+fn takes<R: Abort>(rt: &R, store: &mut Store, action: &Action<'_>, held: i32) -> i32 {
+    let next = held.wrapping_add(1);
+    match take(store, &[], 0, 1, false, action) {
+        Ok(()) => {
+            assert_eq!(rt; store.cells().as_slice(), [next].as_slice());
+            next
+        }
+        Err(stop) => {
+            assert_eq!(rt; stop, Stop::Memory);
+            assert_eq!(rt; store.cells().as_slice(), [held].as_slice());
+            held
+        }
+    }
+}
+
+#[test]
+fn statements(rt: HostRuntime) {
+    let mut store = Store::new(rt.alloc());
+    if store.push_frame(&[1]).is_ok() {
+        let action = counted(rt.alloc());
+        let mut held = 0;
+        for _step in 0..20u8 {
+            held = takes(&rt, &mut store, &action, held);
+        }
+    }
+}
+
+/// There is a first state, or memory was refused.
+#[test]
+fn first_states(rt: HostRuntime) {
+    let Ok(program) = program(rt.alloc()) else {
+        return;
+    };
+    match start(rt.alloc(), &program) {
+        Ok(started) => assert_eq!(rt; started.store.cells().len(), 8),
+        Err(stop) => assert_eq!(rt; stop, Stop::Memory),
+    }
+}
