@@ -1,6 +1,5 @@
 //! Circles of gotos and the first points of d_steps, of bodies as trees. `rows` has texts of them.
-use pml_control::circle::has_circle;
-use pml_control::first_point::has_bad_first_point;
+use pml_control::findings::examine;
 use pml_lex::token::{Kind, Token};
 use pml_program::program::{Action, Basic, Seq, Stmt};
 use pml_tree::tokens::Tokens;
@@ -38,7 +37,7 @@ fn named(
 fn to_itself(alloc: Global) -> Result<bool, AllocError> {
     let mut steps = Items::new(alloc);
     steps.push(named(alloc, b"L", Basic::Goto(label(b"L")))?)?;
-    has_circle(alloc, &Seq { steps })
+    Ok(examine(alloc, &Seq { steps })?.circle)
 }
 
 // L: else; goto L
@@ -46,7 +45,7 @@ fn past_a_statement(alloc: Global) -> Result<bool, AllocError> {
     let mut steps = Items::new(alloc);
     steps.push(named(alloc, b"L", Basic::Plain(Action::Else))?)?;
     steps.push(bare(alloc, Basic::Goto(label(b"L"))))?;
-    has_circle(alloc, &Seq { steps })
+    Ok(examine(alloc, &Seq { steps })?.circle)
 }
 
 fn only(alloc: Global, basic: Basic<'static>) -> Result<Seq<'static>, AllocError> {
@@ -59,7 +58,7 @@ fn only(alloc: Global, basic: Basic<'static>) -> Result<Seq<'static>, AllocError
 fn else_in_braces(alloc: Global) -> Result<bool, AllocError> {
     let braces = Basic::Block(only(alloc, Basic::Plain(Action::Else))?);
     let step = Basic::DStep(only(alloc, braces)?);
-    has_bad_first_point(alloc, &only(alloc, step)?)
+    Ok(examine(alloc, &only(alloc, step)?)?.bad_first_point)
 }
 
 // d_step { if :: else fi }
@@ -67,7 +66,7 @@ fn else_in_if(alloc: Global) -> Result<bool, AllocError> {
     let mut options = Items::new(alloc);
     options.push(only(alloc, Basic::Plain(Action::Else))?)?;
     let step = Basic::DStep(only(alloc, Basic::If(options))?);
-    has_bad_first_point(alloc, &only(alloc, step)?)
+    Ok(examine(alloc, &only(alloc, step)?)?.bad_first_point)
 }
 
 // d_step { goto L }; L: else
@@ -76,7 +75,7 @@ fn out_of_a_d_step(alloc: Global) -> Result<bool, AllocError> {
     let leaves = only(alloc, Basic::Goto(label(b"L")))?;
     steps.push(bare(alloc, Basic::DStep(leaves)))?;
     steps.push(named(alloc, b"L", Basic::Plain(Action::Else))?)?;
-    has_bad_first_point(alloc, &Seq { steps })
+    Ok(examine(alloc, &Seq { steps })?.bad_first_point)
 }
 
 #[test]

@@ -1,5 +1,5 @@
 -- A loop that looks for the first of a list that does not hold.
-use Rattle.std.proofs.Common.{◌≡◌, ℕ, ◌+◌, ◌<◌, ◌≤◌, List, length, get_or, Some, refl, ap, sym, subst, ◌∙◌, inl, inr, arith}
+use Rattle.std.proofs.Common.{◌≡◌, ◌||◌, Bool, true, false, ℕ, ◌+◌, ◌<◌, ◌≤◌, List, length, get_or, Some, refl, ap, sym, subst, ◌∙◌, inl, inr, arith}
 use Rattle.std.specs.Prelude.{slice_get}
 use Rattle.std.proofs.lemmas.Option.{slice_get_read, slice_get_within}
 use Rattle.std.proofs.lemmas.Bool.{cases_eq}
@@ -18,3 +18,25 @@ one_more {A} Q xs i x h e q before k y lt s =
 -- all of them
 pub all_of : {A : Type 0} (Q : A → Type 0) (xs : List A) (i : ℕ) → length xs ≤ i → ((k : ℕ) (y : A) → k < i → slice_get xs k ≡ Some y → Q y) → (k : ℕ) (y : A) → slice_get xs k ≡ Some y → Q y
 all_of Q xs i h before k y s = before k y (let lt : k < length xs = slice_get_within xs k y s in omega arith) s
+
+-- one of a list is such, or each of those before the number i is other
+abbrev pub SoFar : {A : Type 0} → (A → Type 0) → (A → Type 0) → List A → ℕ → Bool → Type 0
+SoFar {A} P Q xs i true = (k : ℕ) × (x : A) × (slice_get xs k ≡ Some x) × P x
+SoFar {A} P Q xs i false = (k : ℕ) (x : A) → k < i → slice_get xs k ≡ Some x → Q x
+
+-- such or other, here
+abbrev pub Here : {A : Type 0} → (A → Type 0) → (A → Type 0) → A → Bool → Type 0
+Here P Q x true = P x
+Here P Q x false = Q x
+
+-- one more
+pub so_far-more : {A : Type 0} (P Q : A → Type 0) (xs : List A) (i : ℕ) (x : A) (before here : Bool) → i < length xs → x ≡ get_or xs i x
+    → SoFar P Q xs i before → Here P Q x here → SoFar P Q xs (i + 1) (before || here)
+so_far-more P Q xs i x true here h e all one = all
+so_far-more P Q xs i x false true h e all one = (i, x, slice_get_read xs (length xs) i x refl h e, one)
+so_far-more P Q xs i x false false h e all one = one_more Q xs i x h e one all
+
+-- in all of the list
+pub so_far-whole : {A : Type 0} (P Q : A → Type 0) (xs : List A) (i : ℕ) (found : Bool) → length xs ≤ i → SoFar P Q xs i found → SoFar P Q xs (length xs) found
+so_far-whole P Q xs i true h all = all
+so_far-whole P Q xs i false h all = λ k x lt s. all k x (omega arith) s

@@ -1,33 +1,27 @@
-//! What is asked of control, of the body of each proctype.
+//! What is found of control, in the bodies of all proctypes.
 
 ghost use Rattle.std.specs.Prelude.{IfOk};
 ghost use Rattle.pml_check.specs.Decided.{DecidesCircles, DecidesSteps};
 
-use pml_control::circle::has_circle;
-use pml_control::first_point::has_bad_first_point;
+use pml_control::findings::{Findings, examine};
 use pml_program::program::Proctype;
 use std::alloc::{AllocError, Global};
 
-/// Whether settling comes to itself again somewhere.
-pub fn have_circle(alloc: Global, proctypes: &[Proctype]) -> Result<bool, AllocError>
-    ensures { IfOk result (λ b. DecidesCircles b proctypes.now) }
+/// What is found in any of the bodies.
+pub fn examine_all(alloc: Global, proctypes: &[Proctype]) -> Result<Findings, AllocError>
+    ensures circles { IfOk result (λ found. DecidesCircles found.circle proctypes.now) }
+    ensures steps { IfOk result (λ found. DecidesSteps found.bad_first_point proctypes.now) }
 {
+    let mut found = Findings {
+        circle: false,
+        bad_first_point: false,
+    };
     for proctype in proctypes {
-        if has_circle(alloc, &proctype.body)? {
-            return Ok(true);
-        }
+        let one = examine(alloc, &proctype.body)?;
+        found = Findings {
+            circle: found.circle || one.circle,
+            bad_first_point: found.bad_first_point || one.bad_first_point,
+        };
     }
-    Ok(false)
-}
-
-/// Whether control cannot begin one of the d_steps.
-pub fn have_bad_step(alloc: Global, proctypes: &[Proctype]) -> Result<bool, AllocError>
-    ensures { IfOk result (λ b. DecidesSteps b proctypes.now) }
-{
-    for proctype in proctypes {
-        if has_bad_first_point(alloc, &proctype.body)? {
-            return Ok(true);
-        }
-    }
-    Ok(false)
+    Ok(found)
 }

@@ -3,12 +3,12 @@
 ghost use Rattle.std.specs.Prelude.{◌≡◌, IfOk};
 ghost use Rattle.pml_names.specs.Env.{env};
 ghost use Rattle.pml_check.specs.Judged.{rule_of};
-ghost use Rattle.pml_check.specs.Decided.{DecidesRule, DecidesModel, Decides, Finds};
+ghost use Rattle.pml_check.specs.Decided.{DecidesCircles, DecidesSteps, DecidesRule, DecidesModel, Decides, Finds};
 
-use crate::control::{have_bad_step, have_circle};
 use crate::start::has_bad_start;
 use crate::subject::Subject;
 use diagnostics::Refusal;
+use pml_control::findings::Findings;
 use pml_program::program::Program;
 use pml_conditions::decide::applies;
 use pml_conditions::rule::Rule;
@@ -50,12 +50,19 @@ fn breaks_rule<'a>(
 }
 
 /// Whether what is asked of the model with its names replaced is broken.
-fn breaks_model(alloc: Global, refusal: Refusal, program: &Program) -> Result<bool, AllocError>
+fn breaks_model(
+    alloc: Global,
+    refusal: Refusal,
+    control: Findings,
+    program: &Program,
+) -> Result<bool, AllocError>
+    requires circles { DecidesCircles control.circle program.now.proctypes }
+    requires steps { DecidesSteps control.bad_first_point program.now.proctypes }
     ensures { IfOk result (λ b. DecidesModel b refusal program.now) }
 {
     match refusal {
-        Refusal::DStep => have_bad_step(alloc, program.proctypes.as_slice()),
-        Refusal::CircleOfGotos => have_circle(alloc, program.proctypes.as_slice()),
+        Refusal::DStep => Ok(control.bad_first_point),
+        Refusal::CircleOfGotos => Ok(control.circle),
         Refusal::Initialiser => has_bad_start(alloc, program),
         _ => Ok(false),
     }
@@ -64,13 +71,15 @@ fn breaks_model(alloc: Global, refusal: Refusal, program: &Program) -> Result<bo
 /// Whether a refusal applies.
 #[tactic(auto, unfolding(crate::specs::Judged::AppliesTo, crate::specs::Judged::FitsTo))]
 fn refuses<'a>(alloc: Global, refusal: Refusal, subject: &Subject<'a>) -> Result<bool, AllocError>
-    requires { subject.now.names.table ≡ env subject.now.marks }
+    requires names { subject.now.names.table ≡ env subject.now.marks }
+    requires circles { DecidesCircles subject.now.control.circle subject.now.program.proctypes }
+    requires steps { DecidesSteps subject.now.control.bad_first_point subject.now.program.proctypes }
     ensures { IfOk result (λ b. Decides b refusal subject.now.marks subject.now.program) }
 {
     if breaks_rule(alloc, refusal, subject)? {
         return Ok(true);
     }
-    breaks_model(alloc, refusal, subject.program.get())
+    breaks_model(alloc, refusal, subject.control, subject.program.get())
 }
 
 /// The first of these refusals that applies.
@@ -79,7 +88,9 @@ pub fn first_of<'a>(
     refusals: &[Refusal],
     subject: &Subject<'a>,
 ) -> Result<Option<Refusal>, AllocError>
-    requires { subject.now.names.table ≡ env subject.now.marks }
+    requires names { subject.now.names.table ≡ env subject.now.marks }
+    requires circles { DecidesCircles subject.now.control.circle subject.now.program.proctypes }
+    requires steps { DecidesSteps subject.now.control.bad_first_point subject.now.program.proctypes }
     ensures { IfOk result (Finds refusals.now subject.now.marks subject.now.program) }
 {
     for refusal in refusals {

@@ -3,6 +3,8 @@
 ghost use Rattle.std.specs.Prelude.{◌≡◌, IfOk};
 ghost use Rattle.pml_check.specs.Subject.{IsSubject};
 
+use crate::control::examine_all;
+use pml_control::findings::Findings;
 use pml_marks::mark::Mark;
 use pml_marks::model::marks;
 use pml_names::names::{Names, all_names};
@@ -12,12 +14,13 @@ use pml_tree::tree::Tree;
 use sqlite_items::{Boxed, Items};
 use std::alloc::{AllocError, Global};
 
-/// The marks of a tree, its names, and the model with its names replaced.
+/// The marks of a tree, its names, the model with its names replaced, and what is found of its control.
 #[derive(Drop)]
 pub struct Subject<'a> {
     pub marks: Items<Mark<'a>>,
     pub names: Names<'a>,
     pub program: Boxed<Program<'a>>,
+    pub control: Findings,
 }
 
 /// What is asked of a tree.
@@ -27,10 +30,12 @@ pub fn subject_of<'a>(alloc: Global, tree: &Tree<'a>) -> Result<Subject<'a>, All
     let marks = marks(alloc, tree)?;
     let names = all_names(alloc, marks.as_slice())?;
     let program = number(alloc, tree, &names.table)?;
+    let control = examine_all(alloc, program.proctypes.as_slice())?;
     let program = Boxed::new(alloc, program)?;
     Ok(Subject {
         marks,
         names,
         program,
+        control,
     })
 }

@@ -1,9 +1,10 @@
 //! Control: what a process still has to do, and the checks that speak of it.
 #![tactic(auto)]
 
-pub mod circle;
+mod circle;
 mod ends;
-pub mod first_point;
+pub mod findings;
+mod first_point;
 mod graph;
 mod labels;
 pub mod laws;

@@ -72,13 +72,13 @@ expr_layer (Expr-F.Truth b) o = []
 expr_layer Expr-F.Timeout o = []
 expr_layer (Expr-F.Read r) o = r Read o
 expr_layer (Expr-F.Ask f r) o = r Channel o
-expr_layer (Expr-F.Poll r any ms) o = r Channel o ++ all_marks ms o
+expr_layer (Expr-F.Poll r search ms) o = r Channel o ++ all_marks ms o
 expr_layer (Expr-F.Unary op a) o = a o
 expr_layer (Expr-F.Binary op a b) o = a o ++ b o
 expr_layer (Expr-F.Choice a b c) o = a o ++ (b o ++ c o)
 
 abbrev pub argument_layer : Argument-F Marked Marked Referred Stepped → Marked
-argument_layer (Argument-F.Exactly minus n) o = one (what.Number n) o
+argument_layer (Argument-F.Exactly sign n) o = one (what.Number n) o
 argument_layer (Argument-F.Fixed b) o = []
 argument_layer (Argument-F.Eval a) o = a o
 argument_layer (Argument-F.Into r) o = r Receive o
@@ -184,8 +184,8 @@ of_action (action.AssignRun r p) o = of_reference r Store o ++ of_run p o
 of_action (action.Increment r) o = of_reference r Update o
 of_action (action.Decrement r) o = of_reference r Update o
 of_action (action.Run p) o = of_run p o
-of_action (action.Send r sorted es) o = of_reference r Channel o ++ of_exprs es o
-of_action (action.Receive r any kept rs) o = of_reference r Channel o ++ of_arguments rs o
+of_action (action.Send r order es) o = of_reference r Channel o ++ of_exprs es o
+of_action (action.Receive r search removal rs) o = of_reference r Channel o ++ of_arguments rs o
 of_action (action.Printf t es) o = of_exprs es o ++ one (what.Prints t (length es)) o
 of_action (action.Printm e) o = of_expr e o
 of_action (action.Assert e) o = of_expr e o

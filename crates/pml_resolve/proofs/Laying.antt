@@ -138,15 +138,15 @@ here o n = elim (eqb_tells o o) [
   | inr e ↦ absurd (e.1 refl)
 ]
 
-variable-lies : (es : List Entry) (k o : ℕ) (n : List ℕ) (field : Role) (s : Sort) (size : Option Constant) (makes : Makes) → IsLaid k es → (o ≡ 0) ⊎ (o ≡ k) →
-    let t = thing_of es o (declared_as.Variable field s size makes) in Lies (es ++ entry o false n t ∷ []) k o t
-variable-lies es k o n field s size makes h w =
-    let t : Thing = thing_of es o (declared_as.Variable field s size makes) in
+variable-lies : (es : List Entry) (k o : ℕ) (n : List ℕ) (use_as : Role) (s : Sort) (size : Option Constant) (makes : Makes) → IsLaid k es → (o ≡ 0) ⊎ (o ≡ k) →
+    let t = thing_of es o (declared_as.Variable use_as s size makes) in Lies (es ++ entry o false n t ∷ []) k o t
+variable-lies es k o n use_as s size makes h w =
+    let t : Thing = thing_of es o (declared_as.Variable use_as s size makes) in
     let e : Entry = entry o false n t in
     record {
-      form = form-more es e k w (form es (user field o) s) (stride es (user field o) s) (form-lies es k (user field o) s h);
+      form = form-more es e k w (form es (user use_as o) s) (stride es (user use_as o) s) (form-lies es k (user use_as o) s h);
       some = length-lies size;
-      within = λ m. omega (arith, held-more es e o, here o (length_of size * stride es (user field o) s), m);
+      within = λ m. omega (arith, held-more es e o, here o (length_of size * stride es (user use_as o) s), m);
     }
 
 added : (k : ℕ) (es : List Entry) (e : Entry) (b : Bool) → IsLaid k es → (e.owner ≡ 0) ⊎ (e.owner ≡ k) → Lies (es ++ e ∷ []) k e.owner e.thing → IsLaid k (cond b es (es ++ e ∷ []))
@@ -154,11 +154,11 @@ added k es e true h w l = h
 added k es e false h w l = laid-more es e k w h l
 
 -- a variable of the unit or a global one
-pub laid-variable : (k : ℕ) (es : List Entry) (o : ℕ) (n : Word) (field : Role) (s : Sort) (size : Option Constant) (makes : Makes) → IsLaid k es → (o ≡ 0) ⊎ (o ≡ k) → IsLaid k (after es o (what.Declares n (declared_as.Variable field s size makes)))
+pub laid-variable : (k : ℕ) (es : List Entry) (o : ℕ) (n : Word) (use_as : Role) (s : Sort) (size : Option Constant) (makes : Makes) → IsLaid k es → (o ≡ 0) ⊎ (o ≡ k) → IsLaid k (after es o (what.Declares n (declared_as.Variable use_as s size makes)))
 unfolding after add
-laid-variable k es o n field s size makes h w =
-    let t : Thing = thing_of es o (declared_as.Variable field s size makes) in
-    added k es (entry o false n.text t) (is_some (found es o false n.text)) h w (variable-lies es k o n.text field s size makes h w)
+laid-variable k es o n use_as s size makes h w =
+    let t : Thing = thing_of es o (declared_as.Variable use_as s size makes) in
+    added k es (entry o false n.text t) (is_some (found es o false n.text)) h w (variable-lies es k o n.text use_as s size makes h w)
 
 pub laid-constant : (k : ℕ) (es : List Entry) (n : Word) → IsLaid k es → IsLaid k (after es 0 (what.Declares n declared_as.Constant))
 unfolding after add

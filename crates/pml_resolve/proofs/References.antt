@@ -185,13 +185,13 @@ module _ (gs ls : List Slot) (k : ℕ) (sc : Scope) (laid : IsLaid k sc.names) (
   expr-step Expr-F.Timeout = timeout-fits gs ls
   expr-step (Expr-F.Read p) = read-reached _ p.1
   expr-step (Expr-F.Ask f p) = ask-fits gs ls f _ (target-reached _ p.1)
-  expr-step (Expr-F.Poll p any xs) = poll-fits gs ls _ any _ (target-reached _ p.1) (all-wants xs)
+  expr-step (Expr-F.Poll p search xs) = poll-fits gs ls _ search _ (target-reached _ p.1) (all-wants xs)
   expr-step (Expr-F.Unary op a) = unary-fits gs ls op _ a.1
   expr-step (Expr-F.Binary op a b) = binary-fits gs ls op _ _ a.1 b.1
   expr-step (Expr-F.Choice a b c) = choice-fits gs ls _ _ _ a.1 b.1 c.1
 
   argument-step : (y : Argument-F A E R S) → WantFits gs ls (argument_layer (map-Argument Argument TreeExpr Reference Step Wanted Valued Reaching Stepped numbered_argument numbered numbered_reference numbered_step (map-Argument A E R S Argument TreeExpr Reference Step (λ e. e.0) (λ e. e.0) (λ e. e.0) (λ e. e.0) y)) sc)
-  argument-step (Argument-F.Exactly minus n) = exactly-fits gs ls _
+  argument-step (Argument-F.Exactly sign n) = exactly-fits gs ls _
   argument-step (Argument-F.Fixed b) = exactly-fits gs ls _
   argument-step (Argument-F.Eval a) = equal-fits gs ls _ a.1
   argument-step (Argument-F.Into p) = received-reached _ p.1

@@ -41,7 +41,7 @@ use Rattle.pml_resolve.specs.Declarations.{Known, known, initial, slot, added_va
 use Rattle.pml_resolve.specs.Statements.{Threaded, values, store, at, action, stmts, joined, each, numbered_basic, numbered_item, numbered_seq, basic_layer, item_layer, seq_layer}
 use Rattle.pml_resolve.specs.Model.{Made, made, no_program, with_process, with_unit, with_units, numbered_model}
 use Rattle.pml_resolve.specs.Layout.{IsLaid, names_of}
-use Rattle.pml_resolve.specs.Fits.{WantFits, TargetFits, ReachedFits, StoreFits, ExprsFit, ActionFits, SeqFits, BasicFits, StmtFits, InitialFits, SlotsFit, ProcessFits, FieldsFit, PartsFit, ProgramFits}
+use Rattle.pml_resolve.specs.Fits.{WantFits, TargetFits, ReachedFits, StoreFits, ExprsFit, ActionFits, SeqFits, BasicFits, StmtFits, InitialFits, SlotsFit, ProctypeFits, FieldsFit, PartsFit, ProgramFits}
 use Rattle.pml_resolve.proofs.References.{expr-fits, argument-fits, reference-fits, target-reached}
 use Rattle.pml_resolve.proofs.Bodies.{plain-fits, goto-fits, break-fits, if-fits, do-fits, block-fits, atomic-fits, dstep-fits, unless-fits, stmt-fits, seq-fits}
 use Rattle.pml_resolve.proofs.Keeping.{At, Sits, IsKept}
@@ -68,18 +68,18 @@ not_both a p e = omega (arith, p, e)
 
 -- ---- slots grow
 
-variable-grows : (all : List Entry) (field : Role) (o : ℕ) (v : Variable) (x : Known) → Begins x.slots (with_variable all field o v x).slots
-variable-grows all field o v x = either (is_some (found x.names o false v.name.text)) x (added_variable all field o v x) (begins-all x.slots) (_, refl)
+variable-grows : (all : List Entry) (use_as : Role) (o : ℕ) (v : Variable) (x : Known) → Begins x.slots (with_variable all use_as o v x).slots
+variable-grows all use_as o v x = either (is_some (found x.names o false v.name.text)) x (added_variable all use_as o v x) (begins-all x.slots) (_, refl)
   where
     either : (b : Bool) (x y : Known) → Begins x.slots x.slots → Begins x.slots y.slots → Begins x.slots (cond b x y).slots
     either true x y h g = h
     either false x y h g = g
 
-variables-grow : (all : List Entry) (field : Role) (o : ℕ) (vs : List Variable) (x : Known) → Begins x.slots (with_variables all field o vs x).slots
-variables-grow all field o [] x = begins-all x.slots
-variables-grow all field o (v ∷ vs) x =
-    let y : Known = with_variable all field o v x in
-    begins-on x.slots y.slots (with_variables all field o vs y).slots (variable-grows all field o v x) (variables-grow all field o vs y)
+variables-grow : (all : List Entry) (use_as : Role) (o : ℕ) (vs : List Variable) (x : Known) → Begins x.slots (with_variables all use_as o vs x).slots
+variables-grow all use_as o [] x = begins-all x.slots
+variables-grow all use_as o (v ∷ vs) x =
+    let y : Known = with_variable all use_as o v x in
+    begins-on x.slots y.slots (with_variables all use_as o vs y).slots (variable-grows all use_as o v x) (variables-grow all use_as o vs y)
 
 initial-fits : (gs ls : List Slot) (k : ℕ) (sc : Scope) → IsLaid k sc.names → IsKept gs ls k sc.owner sc.names → (x : Option TreeInitial) → InitialFits gs ls (initial x sc)
 initial-fits gs ls k sc h l None = tt
@@ -95,15 +95,15 @@ slot-fits gs ls n x (Some thing.Label) h = h
 slot-fits gs ls n x None h = h
 
 -- fs are all slots of the owner in the end
-module _ (gs ls fs : List Slot) (k o g : ℕ) (field : Role) (whose : (o ≡ 0) ⊎ (o ≡ k)) (own : (t : Thing) → At fs t → Sits gs ls k (user field o) o t) (all : List Entry) where
+module _ (gs ls fs : List Slot) (k o g : ℕ) (use_as : Role) (whose : (o ≡ 0) ⊎ (o ≡ k)) (own : (t : Thing) → At fs t → Sits gs ls k (user use_as o) o t) (all : List Entry) where
   abbrev IsReady : Known → Type 0
-  IsReady = Ready gs ls k o (user field o) g
+  IsReady = Ready gs ls k o (user use_as o) g
 
-  added-ready : (v : Variable) (x : Known) → found x.names o false v.name.text ≡ None → Begins (added_variable all field o v x).slots fs → IsReady x → IsReady (added_variable all field o v x)
+  added-ready : (v : Variable) (x : Known) → found x.names o false v.name.text ≡ None → Begins (added_variable all use_as o v x).slots fs → IsReady x → IsReady (added_variable all use_as o v x)
   added-ready v x none b h =
-      let sc : Scope = scope all x.names (user field o) in
+      let sc : Scope = scope all x.names (user use_as o) in
       let begins : Initial = initial v.initial sc in
-      let d : Declared = declared_as.Variable field v.sort (size_of v.size) (made_by v.initial) in
+      let d : Declared = declared_as.Variable use_as v.sort (size_of v.size) (made_by v.initial) in
       let t : Thing = thing_of x.names o d in
       let e : Entry = entry o false v.name.text t in
       let es : List Entry = after x.names o (what.Declares v.name d) in
@@ -112,22 +112,22 @@ module _ (gs ls fs : List Slot) (k o g : ℕ) (field : Role) (whose : (o ≡ 0) 
       let s : Slot = slot v.name begins (found es o false v.name.text) in
       let at : At fs t = (s, slot-at x.slots s fs (variables x.names o) b h.count, sym (ap (λ (r : Option Thing). (slot v.name begins r).length) is), sym (ap (λ (r : Option Thing). (slot v.name begins r).stride) is)) in
       record {
-        laid = laid-variable k x.names o v.name field v.sort (size_of v.size) (made_by v.initial) h.laid whose;
-        kept = subst (IsKept gs ls k (user field o)) (sym same) (all-more (λ (e : Entry). Sits gs ls k (user field o) e.owner e.thing) x.names e h.kept (own t at));
+        laid = laid-variable k x.names o v.name use_as v.sort (size_of v.size) (made_by v.initial) h.laid whose;
+        kept = subst (IsKept gs ls k (user use_as o)) (sym same) (all-more (λ (e : Entry). Sits gs ls k (user use_as o) e.owner e.thing) x.names e h.kept (own t at));
         count = ap (λ (fs : List Entry). variables fs o) same ∙ counted-here x.names e refl ∙ ap (λ (n : ℕ). n + 1) h.count ∙ sym (length-append x.slots (s ∷ []));
         others = λ p. ap (λ (fs : List Entry). variables fs 0) same ∙ counted-elsewhere x.names e 0 (above o o p refl) ∙ h.others p;
         fits = all-more (λ (s : Slot). InitialFits gs ls s.initial) x.slots s h.fits (slot-fits gs ls v.name begins (found es o false v.name.text) (initial-fits gs ls k sc h.laid h.kept v.initial));
       }
 
-  chosen-ready : (v : Variable) (x : Known) (r : Option Thing) → found x.names o false v.name.text ≡ r → Begins (cond (is_some r) x (added_variable all field o v x)).slots fs → IsReady x → IsReady (cond (is_some r) x (added_variable all field o v x))
+  chosen-ready : (v : Variable) (x : Known) (r : Option Thing) → found x.names o false v.name.text ≡ r → Begins (cond (is_some r) x (added_variable all use_as o v x)).slots fs → IsReady x → IsReady (cond (is_some r) x (added_variable all use_as o v x))
   chosen-ready v x (Some t) e b h = h
   chosen-ready v x None e b h = added-ready v x e b h
 
-  pub variables-ready : (vs : List Variable) (x : Known) → Begins (with_variables all field o vs x).slots fs → IsReady x → IsReady (with_variables all field o vs x)
+  pub variables-ready : (vs : List Variable) (x : Known) → Begins (with_variables all use_as o vs x).slots fs → IsReady x → IsReady (with_variables all use_as o vs x)
   variables-ready [] x b h = h
   variables-ready (v ∷ vs) x b h =
-      let y : Known = with_variable all field o v x in
-      let c : Begins y.slots fs = begins-on y.slots (with_variables all field o vs y).slots fs (variables-grow all field o vs y) b in
+      let y : Known = with_variable all use_as o v x in
+      let c : Begins y.slots fs = begins-on y.slots (with_variables all use_as o vs y).slots fs (variables-grow all use_as o vs y) b in
       variables-ready vs y b (chosen-ready v x (found x.names o false v.name.text) refl c h)
 
 -- ---- statements that give no structure
@@ -162,8 +162,8 @@ module _ (gs ls : List Slot) (k : ℕ) (sc : Scope) (laid : IsLaid k sc.names) (
   action-fits (act.Increment p) = at-fits p
   action-fits (act.Decrement p) = at-fits p
   action-fits (act.Run q) = values-fit q.arguments
-  action-fits (act.Send p sorted es) = (at-fits p, values-fit es)
-  action-fits (act.Receive p any kept rs) = (at-fits p, wants-fit rs)
+  action-fits (act.Send p order es) = (at-fits p, values-fit es)
+  action-fits (act.Receive p search removal rs) = (at-fits p, wants-fit rs)
   action-fits (act.Printf s es) = values-fit es
   action-fits (act.Printm e) = expr-fits gs ls k sc laid kept e
   action-fits (act.Assert e) = expr-fits gs ls k sc laid kept e
@@ -383,7 +383,7 @@ process-whole gs all o p m q h =
     let before : Ready gs ls o o o g x = variables-ready gs ls ls o o g role.Variable (inr refl) (own-sits gs ls g o q) all p.parameters (known es []) s.0 start in
     let r = s.1 (begins-all ls) before in (
       record { laid = laid-later o z.names r.0.laid; kept = rooted-all gs ls o o z.names r.0.kept; count = r.0.others q },
-      record { globals = h.1.globals; typedefs = h.1.typedefs; proctypes = all-more (ProcessFits gs) m.program.proctypes _ h.1.proctypes (r.0.fits, r.1) },
+      record { globals = h.1.globals; typedefs = h.1.typedefs; proctypes = all-more (ProctypeFits gs) m.program.proctypes _ h.1.proctypes (r.0.fits, r.1) },
     )
 
 field-sits : (gs : List Slot) (o : ℕ) (fs : List Slot) → 0 < o → (t : Thing) → At fs t → Sits gs [] o 0 o t

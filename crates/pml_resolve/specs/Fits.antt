@@ -77,8 +77,8 @@ ActionFits gs ls (a.AssignRun t q) = StoreFits gs ls t × ExprsFit gs ls q.argum
 ActionFits gs ls (a.Increment t) = TargetFits gs ls t
 ActionFits gs ls (a.Decrement t) = TargetFits gs ls t
 ActionFits gs ls (a.Run q) = ExprsFit gs ls q.arguments
-ActionFits gs ls (a.Send t sorted vs) = TargetFits gs ls t × ExprsFit gs ls vs
-ActionFits gs ls (a.Receive t any kept ws) = TargetFits gs ls t × AllByRecursion (WantFits gs ls) ws
+ActionFits gs ls (a.Send t order vs) = TargetFits gs ls t × ExprsFit gs ls vs
+ActionFits gs ls (a.Receive t search removal ws) = TargetFits gs ls t × AllByRecursion (WantFits gs ls) ws
 ActionFits gs ls (a.Printf s vs) = ExprsFit gs ls vs
 ActionFits gs ls (a.Printm v) = ExprFits gs ls v
 ActionFits gs ls (a.Assert v) = ExprFits gs ls v
@@ -113,8 +113,8 @@ InitialFits gs ls _ = Unit {0}
 abbrev pub SlotsFit : List Slot → List Slot → List Slot → Type 0
 SlotsFit gs ls = AllByRecursion (λ (s : Slot). InitialFits gs ls s.initial)
 
-abbrev pub ProcessFits : List Slot → Proctype → Type 0
-ProcessFits gs p = SlotsFit gs p.variables p.variables × SeqFits gs p.variables p.body
+abbrev pub ProctypeFits : List Slot → Proctype → Type 0
+ProctypeFits gs p = SlotsFit gs p.variables p.variables × SeqFits gs p.variables p.body
 
 abbrev pub FieldsFit : List Slot → Fields → Type 0
 FieldsFit gs f = SlotsFit gs [] f.fields
@@ -123,7 +123,7 @@ FieldsFit gs f = SlotsFit gs [] f.fields
 pub record PartsFit (gs : List Slot) (p : Program) : Type 0 where
   pub globals : SlotsFit gs [] p.globals
   pub typedefs : AllByRecursion (FieldsFit gs) p.typedefs
-  pub processes : AllByRecursion (ProcessFits gs) p.proctypes
+  pub proctypes : AllByRecursion (ProctypeFits gs) p.proctypes
 
 -- the turns of each target that a model reads, stores to or names as a channel fit
 abbrev pub ProgramFits : Program → Type 0

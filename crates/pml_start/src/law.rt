@@ -4,7 +4,7 @@ ghost use Rattle.limits.specs.declared.TheConstants.{MOST_PROCESSES};
 ghost use Rattle.std.specs.Prelude.{◌≡◌, ◌<◌, ◌+◌, ◌++◌, ℕ, List, false, length, take, replicate, pos, Ok, IfOk};
 ghost use Rattle.pml_program.specs.declared.form.Form.{Form};
 ghost use Rattle.pml_program.specs.declared.expr.Expr.{Expr};
-ghost use Rattle.pml_program.specs.declared.program.Initial.TheVariants.{Zero, Expr as Given, Channel as Made};
+ghost use Rattle.pml_program.specs.declared.program.Initial.TheVariants.{Zero, Value as Given, Channel as Made};
 ghost use Rattle.pml_program.specs.declared.program.Slot.{Slot};
 ghost use Rattle.pml_program.specs.declared.program.Fields.{Fields};
 ghost use Rattle.pml_program.specs.declared.program.Program.{Program};

@@ -49,7 +49,7 @@ pub fn begun(
         globals,
         constants: Items::new(alloc),
         typedefs,
-        processes: Items::new(alloc),
+        proctypes: Items::new(alloc),
     };
     start(alloc, &program)
 }
@@ -144,8 +144,8 @@ pub fn program(alloc: Global) -> Result<Program<'static>, AllocError> {
     let mut variables = Items::new(alloc);
     variables.push(slot(byte, 0, 1, 1, Initial::Value(Expr::Pid)))?;
     variables.push(slot(byte, 1, 1, 1, Initial::Value(Expr::ProcessCount)))?;
-    let mut processes = Items::new(alloc);
-    processes.push(Proctype {
+    let mut proctypes = Items::new(alloc);
+    proctypes.push(Proctype {
         name: Token::new(Kind::Name, b"p", 2),
         owner: 1,
         starts: 2,
@@ -160,7 +160,7 @@ pub fn program(alloc: Global) -> Result<Program<'static>, AllocError> {
         globals,
         constants: Items::new(alloc),
         typedefs,
-        processes,
+        proctypes,
     })
 }
 
