@@ -1,4 +1,4 @@
-// One of two devices, and a sink that keeps nothing.
+//! One of two devices, and a sink that keeps nothing.
 ghost use Rattle.std.specs.Prelude.{None};
 
 use crate::{Failed, Next, Sink, Source};
@@ -6,7 +6,9 @@ use crate::{Failed, Next, Sink, Source};
 /// One of two devices.
 #[derive(Drop)]
 pub enum Either<A, B> {
+    /// The first one is used.
     First(A),
+    /// The second one is used.
     Second(B),
 }
 
