@@ -61,26 +61,26 @@ record StopsAt (steps : ℕ) (next : Answer → Bool → List ℕ → Part End) 
   pub count : (said : Answer) → ((k : ℕ) → said ≡ answer.Pick k → ⊥) → (over : Bool) (left : List ℕ) → ((next said over left).value.steps ≡ steps) × (recorded (next said over left).events ≡ [])
   pub ended : (over : Bool) (left : List ℕ) → ((next answer.Ended over left).value ≡ end_of cause.ChoicesEnded steps) × (recorded (next answer.Ended over left).events ≡ []) × (front (next answer.Ended over left).events ≡ [])
 
-module _ {M : Type 0} (place : M → List ℕ) (moves : List M) (few : length moves < 2 ^ 64) (next : Answer → Bool → List ℕ → Part End) (steps : ℕ) (stops : StopsAt steps next) where
+module _ {M : Type 0} (text : M → List ℕ) (moves : List M) (few : length moves < 2 ^ 64) (next : Answer → Bool → List ℕ → Part End) (steps : ℕ) (stops : StopsAt steps next) where
   -- no number was picked
   unpicked : (asked : List Event) (said : Answer) (over : Bool) (left : List ℕ) → Silent asked → ((k : ℕ) → said ≡ answer.Pick k → ⊥) → (kept said over left ≡ outcome said over left)
-      → IsSameBeginning (chosen place moves few next asked said over left) (followed (choose place moves false (recorded (chosen place moves few next asked said over left).events)) next)
+      → IsSameBeginning (chosen text moves few next asked said over left) (followed (choose text moves false (recorded (chosen text moves few next asked said over left).events)) next)
   unpicked asked said over left silent other is =
       let c = stops.count said other over left in
       let e = stops.ended true [] in
-      let none : recorded (chosen place moves few next asked said over left).events ≡ [] = rw is (rw (append-nil asked) (rw (recorded-append asked (next said over left).events, silent.0) c.1)) in
+      let none : recorded (chosen text moves few next asked said over left).events ≡ [] = rw is (rw (append-nil asked) (rw (recorded-append asked (next said over left).events, silent.0) c.1)) in
       rw none (rw (ended_ask (length moves) 99) (record { ends = e.0 ∙ ap (end_of cause.ChoicesEnded) (sym (rw is c.0)); keeps = e.1 ∙ sym none; reads = e.2 ∙ sym none }))
 
   chosen_begins : ((k : ℕ) → BeginsAgain (next (answer.Pick k))) → (asked : List Event) (said : Answer) (over : Bool) (left : List ℕ) → Silent asked → IsPickUpTo (length moves) said
-      → is_cut_short (chosen place moves few next asked said over left).value.cause ≡ true
-      → IsSameBeginning (chosen place moves few next asked said over left) (followed (choose place moves false (recorded (chosen place moves few next asked said over left).events)) next)
+      → is_cut_short (chosen text moves few next asked said over left).value.cause ≡ true
+      → IsSameBeginning (chosen text moves few next asked said over left) (followed (choose text moves false (recorded (chosen text moves few next asked said over left).events)) next)
   chosen_begins ih asked (answer.Pick n) over left silent range cut =
       let rest = next (answer.Pick n) over left in
-      let whole = chosen place moves few next asked (answer.Pick n) over left in
-      let front_events = Put Told (list_from place 1 moves) ∷ Put Told (prompt (length moves)) ∷ (asks (record_line n) false ++ Recorded (record_line n) ∷ []) in
+      let whole = chosen text moves few next asked (answer.Pick n) over left in
+      let front_events = Put Told (list_from text 1 moves) ∷ Put Told (prompt (length moves)) ∷ (asks (record_line n) false ++ Recorded (record_line n) ∷ []) in
       let b = ih n over left cut in
-      let is = recorded_chosen place moves few next asked n over left silent in
-      rw is (rw (picked_again place moves few next n (recorded rest.events) range.0 range.1) (record {
+      let is = recorded_chosen text moves few next asked n over left silent in
+      rw is (rw (picked_again text moves few next n (recorded rest.events) range.0 range.1) (record {
         ends = b.ends;
         keeps = rw is (rw (recorded-append front_events (next (answer.Pick n) false (recorded rest.events)).events, recorded-append (asks (record_line n) false) (Recorded (record_line n) ∷ []), recorded-asks (record_line n) false, b.keeps) (ap (λ l. l ++ recorded rest.events) (append-nil (record_line n))));
         reads = rw is (rw (front-append front_events (next (answer.Pick n) false (recorded rest.events)).events, front-append (asks (record_line n) false) (Recorded (record_line n) ∷ []), front-asks (record_line n) false, b.reads) (ap (λ l. l ++ recorded rest.events) (append-nil (record_line n))));
@@ -113,7 +113,7 @@ module _ {S M : Type 0} (rules : Rules S M) (options : Options) (few : HasFewMov
   select_begins s (m ∷ []) small first steps later ih over choices cut = answered_begins rules options s (m ∷ []) first steps later ih 1 over choices cut
   select_begins s (m ∷ k ∷ ms) small first steps later ih over choices cut =
       let asked = ask (length (m ∷ k ∷ ms)) 99 over choices in
-      chosen_begins (rules.place s) (m ∷ k ∷ ms) small (answered rules options s (m ∷ k ∷ ms) first steps later) steps (answered_stops s (m ∷ k ∷ ms) first steps later)
+      chosen_begins (rules.text s) (m ∷ k ∷ ms) small (answered rules options s (m ∷ k ∷ ms) first steps later) steps (answered_stops s (m ∷ k ∷ ms) first steps later)
       (answered_begins rules options s (m ∷ k ∷ ms) first steps later ih) asked.events asked.value asked.over asked.left (ask_silent (length (m ∷ k ∷ ms)) 99 over choices) (ask_range (length (m ∷ k ∷ ms)) 99 over choices) cut
 
   finished_whole : (s : S) (steps : ℕ) (valid : Bool) → BeginsAgain (finished valid (rules.stuck s) steps)

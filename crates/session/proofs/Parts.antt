@@ -2,16 +2,15 @@
 use Rattle.std.proofs.Common.{◌≡◌, ℕ, List, [], ◌∷◌, ◌++◌, take, Bool, true, false, Option, refl, sym, ap, ◌∙◌, append_assoc, append-nil, add_assoc, add-zero, ◌+◌}
 use Rattle.std.proofs.lemmas.Grind.{flat_map-append}
 use Rattle.std.proofs.lemmas.List.Sums.{sum_by-append}
-use Rattle.std.specs.Io.KnownBytes.{Appends}
-use Rattle.std.proofs.KnownBytes.{Appends-nil, Appends-trans}
-use Rattle.devices.specs.Calls.{TakesPart}
+use Rattle.devices.specs.Holdings.{Holdings, Moved, WritesPart, RecordsPart}
 use Rattle.session.specs.declared.Broken.{Broken}
 use Rattle.session.specs.declared.Broken.TheVariants as broken
 use Rattle.session.specs.Events.{Event, Role, Put, Recorded, asks, output, front, recorded, steps_in, output_of, bytes_of, record_of, step_of}
 use Rattle.session.specs.Part.{Part, preceded, followed}
-use Rattle.session.specs.Stands.{Gave, Moved, Begins, Does, Leads, Breaks}
+use Rattle.session.specs.Stands.{MovedBy, Begins, Does, Leads, Breaks}
 use Rattle.session.specs.Session.{outcome}
 use Rattle.session.specs.Reads.{AsksPart, AsksBroken}
+use Rattle.session.proofs.Moving.{Moved-nil, Moved-trans, Moved-piece, Moved-line}
 
 -- ---- what the devices see
 
@@ -44,30 +43,26 @@ steps-asks [] true = refl
 steps-asks [] false = refl
 steps-asks (b ∷ bs) ended = rw (steps-asks bs ended) refl
 
-pub Moved-nil : {s : List ℕ → Type 0} {o r : Option (List ℕ)} {n : ℕ} → Moved s s o o r r n n []
-Moved-nil {o = o} {r = r} {n = n} = record { read = record { gave = λ left now. now }; written = Appends-nil o; kept = Appends-nil r; count = sym (add-zero n) }
+pub MovedBy-nil : {a b : Holdings} {n : ℕ} → Moved a b [] [] [] → MovedBy a b n n []
+MovedBy-nil {n = n} none = record { moved = none; count = sym (add-zero n) }
 
-pub Moved-trans : {s s' s'' : List ℕ → Type 0} {o o' o'' r r' r'' : Option (List ℕ)} {n n' n'' : ℕ} {xs ys : List Event} → Moved s s' o o' r r' n n' xs → Moved s' s'' o' o'' r' r'' n' n'' ys → Moved s s'' o o'' r r'' n n'' (xs ++ ys)
-Moved-trans {s} {s'} {s''} {o} {o'} {o''} {r} {r'} {r''} {n} {n'} {n''} {xs} {ys} first second = record {
-  read = record { gave = λ left now. rw (front-append xs ys) (rw append_assoc (first.read.gave (front ys ++ left) (second.read.gave left now))) };
-  written = rw (output-append xs ys) (Appends-trans o o' o'' (output xs) (output ys) first.written second.written);
-  kept = rw (recorded-append xs ys) (Appends-trans r r' r'' (recorded xs) (recorded ys) first.kept second.kept);
+pub MovedBy-trans : {a b c : Holdings} {n n' n'' : ℕ} {xs ys : List Event} → MovedBy a b n n' xs → MovedBy b c n' n'' ys → MovedBy a c n n'' (xs ++ ys)
+MovedBy-trans {n = n} {n' = n'} {xs = xs} {ys = ys} first second = record {
+  moved = rw (front-append xs ys, output-append xs ys, recorded-append xs ys) (Moved-trans first.moved second.moved);
   count = rw (sum_by-append step_of xs ys) (second.count ∙ (ap (λ k. k + steps_in ys) first.count ∙ add_assoc n (steps_in xs) (steps_in ys)));
 }
 
-pub Moved-asks : {s s' : List ℕ → Type 0} {o r : Option (List ℕ)} {n : ℕ} (bytes : List ℕ) (ended : Bool) → Gave s s' bytes → Moved s s' o o r r n n (asks bytes ended)
-Moved-asks {o = o} {r = r} {n = n} bytes ended gave = record {
-  read = rw (front-asks bytes ended) gave;
-  written = rw (output-asks bytes ended) (Appends-nil o);
-  kept = rw (recorded-asks bytes ended) (Appends-nil r);
+pub MovedBy-asks : {a b : Holdings} {n : ℕ} (bytes : List ℕ) (ended : Bool) → Moved a b bytes [] [] → MovedBy a b n n (asks bytes ended)
+MovedBy-asks {n = n} bytes ended moved = record {
+  moved = rw (front-asks bytes ended, output-asks bytes ended, recorded-asks bytes ended) moved;
   count = rw (steps-asks bytes ended) (sym (add-zero n));
 }
 
-pub Moved-put : {s : List ℕ → Type 0} {o o' r : Option (List ℕ)} {n : ℕ} (role : Role) (piece : List ℕ) → Appends o o' piece → Moved s s o o' r r n n (Put role piece ∷ [])
-Moved-put {r = r} {n = n} role piece took = record { read = record { gave = λ left now. now }; written = rw append-nil took; kept = Appends-nil r; count = sym (add-zero n) }
+pub MovedBy-put : {a b : Holdings} {n : ℕ} (role : Role) (piece : List ℕ) → Moved a b [] piece [] → MovedBy a b n n (Put role piece ∷ [])
+MovedBy-put {n = n} role piece took = record { moved = Moved-piece piece took; count = sym (add-zero n) }
 
-pub Moved-recorded : {s : List ℕ → Type 0} {o r r' : Option (List ℕ)} {n : ℕ} (line : List ℕ) → Appends r r' line → Moved s s o o r r' n n (Recorded line ∷ [])
-Moved-recorded {o = o} {n = n} line took = record { read = record { gave = λ left now. now }; written = Appends-nil o; kept = rw append-nil took; count = sym (add-zero n) }
+pub MovedBy-recorded : {a b : Holdings} {n : ℕ} (line : List ℕ) → Moved a b [] [] line → MovedBy a b n n (Recorded line ∷ [])
+MovedBy-recorded {n = n} line took = record { moved = Moved-line line took; count = sym (add-zero n) }
 
 -- ---- beginnings
 
@@ -89,90 +84,92 @@ module _ {T : Type 0} where
   preceded-preceded : (xs ys : List Event) (p : Part T) → preceded xs (preceded ys p) ≡ preceded (xs ++ ys) p
   preceded-preceded xs ys p = ap (λ l. record { events = l; value = p.value; over = p.over; left = p.left }) (sym (append_assoc xs ys p.events))
 
-  pub Leads-nil : {s : List ℕ → Type 0} {o r : Option (List ℕ)} {n : ℕ} (part : List ℕ → Part T) → Leads s s o o r r n n part part
-  Leads-nil part = record { done = []; moved = Moved-nil; is = λ left now. refl }
+  pub Leads-nil : {a : Holdings} {n : ℕ} (part : List ℕ → Part T) → Leads a a n n part part
+  Leads-nil part = record { done = []; moved = MovedBy-nil Moved-nil; is = λ left now. refl }
 
-  pub Leads-same : {s s' : List ℕ → Type 0} {o o' r r' : Option (List ℕ)} {n n' : ℕ} {whole mid rest : List ℕ → Part T} → ((left : List ℕ) → mid left ≡ rest left)
-      → Leads s s' o o' r r' n n' whole mid → Leads s s' o o' r r' n n' whole rest
+  pub Leads-same : {a b : Holdings} {n n' : ℕ} {whole mid rest : List ℕ → Part T} → ((left : List ℕ) → mid left ≡ rest left)
+      → Leads a b n n' whole mid → Leads a b n n' whole rest
   Leads-same same l = record { done = l.done; moved = l.moved; is = λ left now. l.is left now ∙ ap (preceded l.done) (same left) }
 
-  pub Leads-trans : {s s' s'' : List ℕ → Type 0} {o o' o'' r r' r'' : Option (List ℕ)} {n n' n'' : ℕ} {whole mid rest : List ℕ → Part T}
-      → Leads s s' o o' r r' n n' whole mid → Leads s' s'' o' o'' r' r'' n' n'' mid rest → Leads s s'' o o'' r r'' n n'' whole rest
-  Leads-trans first second = record {
-    done = first.done ++ second.done;
-    moved = Moved-trans first.moved second.moved;
-    is = λ left now.
-        rw (front-append first.done second.done) (rw append_assoc (rw (first.is (front second.done ++ left) (second.moved.read.gave left now))
-        (rw (second.is left now) (preceded-preceded first.done second.done _))));
-  }
+  module _ {a b c : Holdings} {n n' n'' : ℕ} {whole rest : List ℕ → Part T} where
+    pub Leads-trans : {mid : List ℕ → Part T} → Leads a b n n' whole mid → Leads b c n' n'' mid rest → Leads a c n n'' whole rest
+    Leads-trans first second = record {
+      done = first.done ++ second.done;
+      moved = MovedBy-trans first.moved second.moved;
+      is = λ left now.
+          rw (front-append first.done second.done) (rw append_assoc (rw (first.is (front second.done ++ left) (second.moved.moved.read.gave left now))
+          (rw (second.is left now) (preceded-preceded first.done second.done _))));
+    }
 
-  pub Leads-does : {s s' s'' : List ℕ → Type 0} {o o' o'' r r' r'' : Option (List ℕ)} {n n' n'' : ℕ} {whole rest : List ℕ → Part T} {v : T} {over : Bool}
-      → Leads s s' o o' r r' n n' whole rest → Does s' s'' o' o'' r' r'' n' n'' rest v over → Does s s'' o o'' r r'' n n'' whole v over
-  Leads-does first second = record {
-    done = first.done ++ second.done;
-    moved = Moved-trans first.moved second.moved;
-    is = λ left now.
-        rw (front-append first.done second.done) (rw append_assoc (rw (first.is (front second.done ++ left) (second.moved.read.gave left now))
-        (rw (second.is left now) refl)));
-  }
+    pub Leads-does : {v : T} {over : Bool} → Leads a b n n' whole rest → Does b c n' n'' rest v over → Does a c n n'' whole v over
+    Leads-does first second = record {
+      done = first.done ++ second.done;
+      moved = MovedBy-trans first.moved second.moved;
+      is = λ left now.
+          rw (front-append first.done second.done) (rw append_assoc (rw (first.is (front second.done ++ left) (second.moved.moved.read.gave left now))
+          (rw (second.is left now) refl)));
+    }
 
-  pub Leads-breaks : {s s' s'' : List ℕ → Type 0} {o o' o'' r r' r'' : Option (List ℕ)} {n n' n'' : ℕ} {whole rest : List ℕ → Part T} {e : Broken}
-      → Leads s s' o o' r r' n n' whole rest → Breaks e s' s'' o' o'' r' r'' n' n'' rest → Breaks e s s'' o o'' r r'' n n'' whole
-  Leads-breaks {e = e} first second = record {
-    done = first.done ++ second.done;
-    moved = Moved-trans first.moved second.moved;
-    begins = λ left now.
-        rw (front-append first.done second.done) (rw append_assoc (rw (first.is (front second.done ++ left) (second.moved.read.gave left now))
-        (Begins-after e first.done second.done _ (second.begins left now))));
-  }
+    pub Leads-breaks : {e : Broken} → Leads a b n n' whole rest → Breaks e b c n' n'' rest → Breaks e a c n n'' whole
+    Leads-breaks {e = e} first second = record {
+      done = first.done ++ second.done;
+      moved = MovedBy-trans first.moved second.moved;
+      begins = λ left now.
+          rw (front-append first.done second.done) (rw append_assoc (rw (first.is (front second.done ++ left) (second.moved.moved.read.gave left now))
+          (Begins-after e first.done second.done _ (second.begins left now))));
+    }
 
   -- ---- the parts of which the others are made
 
-  pub puts : {s : List ℕ → Type 0} {o o' r : Option (List ℕ)} {n : ℕ} {role : Role} (piece : List ℕ) (rest : List ℕ → Part T) → Appends o o' piece → Leads s s o o' r r n n (λ left. preceded (Put role piece ∷ []) (rest left)) rest
-  puts {role = role} piece rest took = record { done = Put role piece ∷ []; moved = Moved-put role piece took; is = λ left now. refl }
+  module _ {a b : Holdings} {n : ℕ} where
+    pub puts : {role : Role} (piece : List ℕ) (rest : List ℕ → Part T) → Moved a b [] piece [] → Leads a b n n (λ left. preceded (Put role piece ∷ []) (rest left)) rest
+    puts {role = role} piece rest took = record { done = Put role piece ∷ []; moved = MovedBy-put role piece took; is = λ left now. refl }
 
-  pub put_breaks : {s : List ℕ → Type 0} {o o' r : Option (List ℕ)} {n : ℕ} {role : Role} (piece : List ℕ) (rest : List ℕ → Part T) → TakesPart o o' piece → Breaks broken.Out s s o o' r r n n (λ left. preceded (Put role piece ∷ []) (rest left))
-  put_breaks {role = role} piece rest took = record {
-    done = Put role (take took.0 piece) ∷ [];
-    moved = Moved-put role (take took.0 piece) took.2;
-    begins = λ left now. ([], role, piece, took.0, (rest left).events, took.1, refl, refl);
-  }
+    pub put_breaks : {role : Role} (piece : List ℕ) (rest : List ℕ → Part T) → WritesPart a b piece → Breaks broken.Out a b n n (λ left. preceded (Put role piece ∷ []) (rest left))
+    put_breaks {role = role} piece rest took = record {
+      done = Put role (take took.0 piece) ∷ [];
+      moved = MovedBy-put role (take took.0 piece) took.2;
+      begins = λ left now. ([], role, piece, took.0, (rest left).events, took.1, refl, refl);
+    }
 
-  pub records : {s : List ℕ → Type 0} {o r r' : Option (List ℕ)} {n : ℕ} (line : List ℕ) (rest : List ℕ → Part T) → Appends r r' line → Leads s s o o r r' n n (λ left. preceded (Recorded line ∷ []) (rest left)) rest
-  records line rest took = record { done = Recorded line ∷ []; moved = Moved-recorded line took; is = λ left now. refl }
+    pub records : (line : List ℕ) (rest : List ℕ → Part T) → Moved a b [] [] line → Leads a b n n (λ left. preceded (Recorded line ∷ []) (rest left)) rest
+    records line rest took = record { done = Recorded line ∷ []; moved = MovedBy-recorded line took; is = λ left now. refl }
 
-  pub record_breaks : {s : List ℕ → Type 0} {o r r' : Option (List ℕ)} {n : ℕ} (line : List ℕ) (rest : List ℕ → Part T) → TakesPart r r' line → Breaks broken.Record s s o o r r' n n (λ left. preceded (Recorded line ∷ []) (rest left))
-  record_breaks line rest took = record {
-    done = Recorded (take took.0 line) ∷ [];
-    moved = Moved-recorded (take took.0 line) took.2;
-    begins = λ left now. ([], line, took.0, (rest left).events, took.1, refl, refl);
-  }
+    pub record_breaks : (line : List ℕ) (rest : List ℕ → Part T) → RecordsPart a b line → Breaks broken.Record a b n n (λ left. preceded (Recorded line ∷ []) (rest left))
+    record_breaks line rest took = record {
+      done = Recorded (take took.0 line) ∷ [];
+      moved = MovedBy-recorded (take took.0 line) took.2;
+      begins = λ left now. ([], line, took.0, (rest left).events, took.1, refl, refl);
+    }
 
-  pub memory_breaks : {s : List ℕ → Type 0} {o r : Option (List ℕ)} {n : ℕ} (part : List ℕ → Part T) → Breaks broken.Memory s s o o r r n n part
-  memory_breaks part = record { done = []; moved = Moved-nil; begins = λ left now. ((part left).events, refl) }
+    -- memory was refused, and nothing was done
+    pub memory_breaks : (part : List ℕ → Part T) → Moved a b [] [] [] → Breaks broken.Memory a b n n part
+    memory_breaks part none = record { done = []; moved = MovedBy-nil none; begins = λ left now. ((part left).events, refl) }
 
-  pub asks_does : {s s' : List ℕ → Type 0} {o r : Option (List ℕ)} {n : ℕ} {part : List ℕ → Part T} {v : T} {over : Bool} → AsksPart s s' part v over → Does s s' o o r r n n part v over
-  asks_does a = record {
-    done = asks a.bytes a.ended;
-    moved = Moved-asks a.bytes a.ended a.read;
-    is = λ left now. rw (front-asks a.bytes a.ended) (a.is left now);
-  }
+    pub asks_does : {part : List ℕ → Part T} {v : T} {over : Bool} → AsksPart a b part v over → Does a b n n part v over
+    asks_does asked = record {
+      done = asks asked.bytes asked.ended;
+      moved = MovedBy-asks asked.bytes asked.ended asked.moved;
+      is = λ left now. rw (front-asks asked.bytes asked.ended) (asked.is left now);
+    }
 
-  pub ask_breaks : {s s' : List ℕ → Type 0} {o r : Option (List ℕ)} {n : ℕ} {part : List ℕ → Part T} → AsksBroken s s' part → Breaks broken.Source s s' o o r r n n part
-  ask_breaks a = record {
-    done = asks a.bytes false;
-    moved = Moved-asks a.bytes false a.read;
-    begins = λ left now. rw (front-asks a.bytes false) (a.more left now);
-  }
+    pub ask_breaks : {part : List ℕ → Part T} → AsksBroken a b part → Breaks broken.Source a b n n part
+    ask_breaks asked = record {
+      done = asks asked.bytes false;
+      moved = MovedBy-asks asked.bytes false asked.moved;
+      begins = λ left now. rw (front-asks asked.bytes false) (asked.more left now);
+    }
 
-module _ {T U : Type 0} where
-  pub Does-then : {s s' : List ℕ → Type 0} {o o' r r' : Option (List ℕ)} {n n' : ℕ} {part : List ℕ → Part T} {v : T} {over : Bool} (next : T → Bool → List ℕ → Part U)
-      → Does s s' o o' r r' n n' part v over → Leads s s' o o' r r' n n' (λ rest. followed (part rest) next) (next v over)
+    -- nothing is done, and this is the outcome
+    pub outcome_moves : (value : T) (over : Bool) → Moved a b [] [] [] → Does a b n n (outcome value over) value over
+    outcome_moves value over none = record { done = []; moved = MovedBy-nil none; is = λ left now. refl }
+
+module _ {T U : Type 0} {a b : Holdings} {n n' : ℕ} {part : List ℕ → Part T} where
+  pub Does-then : {v : T} {over : Bool} (next : T → Bool → List ℕ → Part U) → Does a b n n' part v over → Leads a b n n' (λ rest. followed (part rest) next) (next v over)
   Does-then next d = record { done = d.done; moved = d.moved; is = λ left now. rw (d.is left now) refl }
 
-  pub Breaks-then : {s s' : List ℕ → Type 0} {o o' r r' : Option (List ℕ)} {n n' : ℕ} {part : List ℕ → Part T} {e : Broken} (next : T → Bool → List ℕ → Part U)
-      → Breaks e s s' o o' r r' n n' part → Breaks e s s' o o' r r' n n' (λ rest. followed (part rest) next)
-  Breaks-then {e = e} next b = record { done = b.done; moved = b.moved; begins = λ left now. Begins-more e b.done _ _ (b.begins left now) }
+  pub Breaks-then : {e : Broken} (next : T → Bool → List ℕ → Part U) → Breaks e a b n n' part → Breaks e a b n n' (λ rest. followed (part rest) next)
+  Breaks-then {e = e} next broken = record { done = broken.done; moved = broken.moved; begins = λ left now. Begins-more e broken.done _ _ (broken.begins left now) }
 
-pub outcome_does : {T : Type 0} {s : List ℕ → Type 0} {o r : Option (List ℕ)} {n : ℕ} (value : T) (over : Bool) → Does s s o o r r n n (outcome value over) value over
-outcome_does value over = record { done = []; moved = Moved-nil; is = λ left now. refl }
+pub outcome_does : {T : Type 0} {a : Holdings} {n : ℕ} (value : T) (over : Bool) → Does a a n n (outcome value over) value over
+outcome_does value over = outcome_moves value over Moved-nil

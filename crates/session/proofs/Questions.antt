@@ -7,6 +7,7 @@ use Rattle.session.specs.Events.{Put, Corrected}
 use Rattle.session.specs.Texts.{prompt, bad_line}
 use Rattle.session.specs.Part.{Part, preceded, followed}
 use Rattle.session.specs.Session.{one_line, ask, after_line, outcome}
+use Rattle.devices.specs.Holdings.{Holdings}
 use Rattle.session.specs.Stands.{Does, Leads, Breaks}
 use Rattle.session.specs.Reads.{AsksPart, AsksBroken}
 use Rattle.session.proofs.Parts.{Leads-trans, Leads-does, Leads-breaks, Does-then, Breaks-then, asks_does, ask_breaks, outcome_does}
@@ -19,32 +20,32 @@ after_bad most (suc tries) over left = preceded (Put Corrected (prompt most) ∷
 abbrev by_line : ℕ → ℕ → Bool → List ℕ → Part Answer
 by_line most tries over rest = followed (one_line most over rest) (after_line (after_bad most tries))
 
-module _ {s s' : List ℕ → Type 0} {o o' r r' : Option (List ℕ)} {n n' : ℕ} {whole : List ℕ → Part Answer} where
-  to_line : (most tries : ℕ) (over : Bool) → Leads s s' o o' r r' n n' whole (ask most tries over) → Leads s s' o o' r r' n n' whole (by_line most tries over)
+module _ {a b : Holdings} {n n' : ℕ} {whole : List ℕ → Part Answer} where
+  to_line : (most tries : ℕ) (over : Bool) → Leads a b n n' whole (ask most tries over) → Leads a b n n' whole (by_line most tries over)
   unfolding ask after_bad
   to_line most zero over l = l
   to_line most (suc tries) over l = l
 
-  pub to_prompt : (most tries : ℕ) (over : Bool) → (tries ≡ 0 → ⊥) → Leads s s' o o' r r' n n' whole (after_bad most tries over)
-      → Leads s s' o o' r r' n n' whole (λ left. preceded (Put Corrected (prompt most) ∷ []) (ask most (tries - 1) over left))
+  pub to_prompt : (most tries : ℕ) (over : Bool) → (tries ≡ 0 → ⊥) → Leads a b n n' whole (after_bad most tries over)
+      → Leads a b n n' whole (λ left. preceded (Put Corrected (prompt most) ∷ []) (ask most (tries - 1) over left))
   unfolding after_bad
   to_prompt most zero over some l = absurd (some refl)
   to_prompt most (suc tries) over some l = rw sub-one l
 
-  pub hundredth : (most tries : ℕ) (over : Bool) → tries ≡ 0 → Leads s s' o o' r r' n n' whole (after_bad most tries over) → Does s s' o o' r r' n n' whole answer.Hundred over
+  pub hundredth : (most tries : ℕ) (over : Bool) → tries ≡ 0 → Leads a b n n' whole (after_bad most tries over) → Does a b n n' whole answer.Hundred over
   unfolding after_bad
   hundredth most zero over none l = Leads-does l (outcome_does answer.Hundred over)
   hundredth most (suc tries) over none l = cc
 
-module _ {s s' s'' : List ℕ → Type 0} {o o' r r' : Option (List ℕ)} {n n' : ℕ} {whole : List ℕ → Part Answer} where
-  pub line_said : (most tries : ℕ) (over over' : Bool) (said : Answer) → Leads s s' o o' r r' n n' whole (ask most tries over) → AsksPart s' s'' (one_line most over) (Some said) over'
-      → Does s s'' o o' r r' n n' whole said over'
-  line_said most tries over over' said l a = Leads-does (Leads-trans (to_line most tries over l) (Does-then (after_line (after_bad most tries)) (asks_does a))) (outcome_does said over')
+module _ {a b c : Holdings} {n n' : ℕ} {whole : List ℕ → Part Answer} where
+  pub line_said : (most tries : ℕ) (over over' : Bool) (said : Answer) → Leads a b n n' whole (ask most tries over) → AsksPart b c (one_line most over) (Some said) over'
+      → Does a c n n' whole said over'
+  line_said most tries over over' said l asked = Leads-does (Leads-trans (to_line most tries over l) (Does-then (after_line (after_bad most tries)) (asks_does asked))) (outcome_does said over')
 
-  pub line_bad : (most tries : ℕ) (over over' : Bool) → Leads s s' o o' r r' n n' whole (ask most tries over) → AsksPart s' s'' (one_line most over) None over'
-      → Leads s s'' o o' r r' n n' whole (λ left. preceded (Put Corrected bad_line ∷ []) (after_bad most tries over' left))
-  line_bad most tries over over' l a = Leads-trans (to_line most tries over l) (Does-then (after_line (after_bad most tries)) (asks_does a))
+  pub line_bad : (most tries : ℕ) (over over' : Bool) → Leads a b n n' whole (ask most tries over) → AsksPart b c (one_line most over) None over'
+      → Leads a c n n' whole (λ left. preceded (Put Corrected bad_line ∷ []) (after_bad most tries over' left))
+  line_bad most tries over over' l asked = Leads-trans (to_line most tries over l) (Does-then (after_line (after_bad most tries)) (asks_does asked))
 
-  pub line_breaks : (most tries : ℕ) (over : Bool) → Leads s s' o o' r r' n n' whole (ask most tries over) → AsksBroken s' s'' (one_line most over)
-      → Breaks broken.Source s s'' o o' r r' n n' whole
-  line_breaks most tries over l a = Leads-breaks (to_line most tries over l) (Breaks-then (after_line (after_bad most tries)) (ask_breaks a))
+  pub line_breaks : (most tries : ℕ) (over : Bool) → Leads a b n n' whole (ask most tries over) → AsksBroken b c (one_line most over)
+      → Breaks broken.Source a c n n' whole
+  line_breaks most tries over l asked = Leads-breaks (to_line most tries over l) (Breaks-then (after_line (after_bad most tries)) (ask_breaks asked))

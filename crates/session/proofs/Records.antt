@@ -6,7 +6,7 @@ use Rattle.std.proofs.lemmas.Str.Parse.{IsNumeralModel, IsDigitsTest, FoldsDigit
 use Rattle.std.proofs.lemmas.Fmt.{digits_decimal, digits_value-decimal, length-decimal-le}
 use Rattle.std.specs.Fmt.{decimal}
 use Rattle.std.specs.List.{list_all}
-use Rattle.session.specs.declared.line.Cut.TheVariants.{Whole}
+use Rattle.session.specs.declared.line.LineEnd.TheVariants.{Whole}
 use Rattle.session.specs.declared.choice.Answer.TheVariants as answer
 use Rattle.session.specs.Events.{asks}
 use Rattle.session.specs.Lines.{line_within, lengthened, is_blank, is_digit, front_trimmed, end_trimmed, trimmed, number_of, number_up_to, is_quit, picked, reply_of}
@@ -50,7 +50,7 @@ digits_not_quit [] digits = refl
 digits_not_quit (c ∷ []) digits = digit_not_quit c (both (is_digit c) true digits).0
 digits_not_quit (c ∷ d ∷ rest) digits = refl
 
-line_of_digits : (word more : List ℕ) (room : ℕ) → length word < room → AreDigits word → line_within room ((word ++ 10 ∷ []) ++ more) ≡ record { cut = Whole; bytes = word; left = more }
+line_of_digits : (word more : List ℕ) (room : ℕ) → length word < room → AreDigits word → line_within room ((word ++ 10 ∷ []) ++ more) ≡ record { ends = Whole; bytes = word; left = more }
 line_of_digits [] more zero fits digits = absurd (omega arith)
 line_of_digits [] more (suc room) fits digits = line_feed room more
 line_of_digits (b ∷ bs) more zero fits digits = absurd (omega arith)

@@ -7,8 +7,8 @@ use Rattle.std.specs.List.{flat_map}
 use Rattle.session.specs.declared.Options.{Options}
 use Rattle.session.specs.declared.End.{End}
 use Rattle.session.specs.declared.Cause.TheVariants as cause
-use Rattle.session.specs.declared.line.Cut.{Cut}
-use Rattle.session.specs.declared.line.Cut.TheVariants.{Whole, Last, TooLong}
+use Rattle.session.specs.declared.line.LineEnd.{LineEnd}
+use Rattle.session.specs.declared.line.LineEnd.TheVariants.{Whole, Last, TooLong}
 use Rattle.session.specs.declared.choice.Answer.{Answer}
 use Rattle.session.specs.declared.choice.Answer.TheVariants as answer
 use Rattle.session.specs.Events.{Event, Put, Told, Corrected, Asked, AskedEnd, Recorded, Stepped, asks, output, front, recorded}
@@ -86,7 +86,7 @@ Silent-append xs ys first second = (rw (recorded-append xs ys, first.0) second.0
 line_silent : (most : ℕ) (over : Bool) (rest : List ℕ) → Silent (one_line most over rest).events
 unfolding one_line
 line_silent most true rest = (refl, refl)
-line_silent most false rest = let line = line_within 81 rest in (recorded-asks (read_of line.cut line.bytes) (saw_end line.cut), replayed-asks (read_of line.cut line.bytes) (saw_end line.cut))
+line_silent most false rest = let line = line_within 81 rest in (recorded-asks (read_of line.ends line.bytes) (saw_end line.ends), replayed-asks (read_of line.ends line.bytes) (saw_end line.ends))
 
 after_silent : (more : Bool → List ℕ → Part Answer) → ((over : Bool) (left : List ℕ) → Silent (more over left).events) → (said : Option Answer) (over : Bool) (left : List ℕ) → Silent (after_line more said over left).events
 unfolding replay_of
@@ -119,7 +119,7 @@ reply_range most line = by_quit (is_quit (trimmed line))
     by_quit true = tt
     by_quit false = number_up_to_range most (trimmed line)
 
-reply_at_range : (most : ℕ) (cut : Cut) (bytes : List ℕ) → IfSome (reply_at most cut bytes) (IsPickUpTo most)
+reply_at_range : (most : ℕ) (ends : LineEnd) (bytes : List ℕ) → IfSome (reply_at most ends bytes) (IsPickUpTo most)
 reply_at_range most Whole bytes = reply_range most bytes
 reply_at_range most TooLong bytes = tt
 reply_at_range most Last [] = tt
@@ -128,7 +128,7 @@ reply_at_range most Last (b ∷ bs) = reply_range most (b ∷ bs)
 line_range : (most : ℕ) (over : Bool) (rest : List ℕ) → IfSome (one_line most over rest).value (IsPickUpTo most)
 unfolding one_line
 line_range most true rest = tt
-line_range most false rest = let line = line_within 81 rest in reply_at_range most line.cut line.bytes
+line_range most false rest = let line = line_within 81 rest in reply_at_range most line.ends line.bytes
 
 after_range : (most : ℕ) (more : Bool → List ℕ → Part Answer) → ((over : Bool) (left : List ℕ) → IsPickUpTo most (more over left).value) → (said : Option Answer) (over : Bool) (left : List ℕ)
     → IfSome said (IsPickUpTo most) → IsPickUpTo most (after_line more said over left).value
@@ -164,10 +164,10 @@ module _ {S M : Type 0} (rules : Rules S M) (options : Options) (s : S) where
   answered_again moves first steps later ih k = stepped_again (get_or moves (k - 1) first) steps later ih (rules.step s (get_or moves (k - 1) first))
 
 -- the number that a question picked is recorded, and answers it when it is asked again
-module _ {M : Type 0} (place : M → List ℕ) (moves : List M) (few : length moves < 2 ^ 64) (next : Answer → Bool → List ℕ → Part End) where
+module _ {M : Type 0} (text : M → List ℕ) (moves : List M) (few : length moves < 2 ^ 64) (next : Answer → Bool → List ℕ → Part End) where
   -- a question with its list and its prompt, these events and this answer
   abbrev pub chosen : List Event → Answer → Bool → List ℕ → Part End
-  chosen asked said over left = followed (preceded (Put Told (list_from place 1 moves) ∷ []) (preceded (Put Told (prompt (length moves)) ∷ [])
+  chosen asked said over left = followed (preceded (Put Told (list_from text 1 moves) ∷ []) (preceded (Put Told (prompt (length moves)) ∷ [])
       (followed (record { events = asked; value = said; over = over; left = left }) kept))) next
 
   pub recorded_chosen : (asked : List Event) (n : ℕ) (over : Bool) (left : List ℕ) → Silent asked → recorded (chosen asked (answer.Pick n) over left).events ≡ record_line n ++ recorded (next (answer.Pick n) over left).events
@@ -176,20 +176,20 @@ module _ {M : Type 0} (place : M → List ℕ) (moves : List M) (few : length mo
       rw (recorded-append (asked ++ Recorded (record_line n) ∷ []) rest, recorded-append asked (Recorded (record_line n) ∷ []), silent.0) (ap (λ l. l ++ recorded rest) (append-nil (record_line n)))
 
   replayed_chosen : (asked : List Event) (n : ℕ) (over : Bool) (left : List ℕ) → Silent asked
-      → replayed (chosen asked (answer.Pick n) over left).events ≡ (Put Told (list_from place 1 moves) ∷ Put Told (prompt (length moves)) ∷ (asks (record_line n) false ++ Recorded (record_line n) ∷ [])) ++ replayed (next (answer.Pick n) over left).events
+      → replayed (chosen asked (answer.Pick n) over left).events ≡ (Put Told (list_from text 1 moves) ∷ Put Told (prompt (length moves)) ∷ (asks (record_line n) false ++ Recorded (record_line n) ∷ [])) ++ replayed (next (answer.Pick n) over left).events
   unfolding replay_of
   replayed_chosen asked n over left silent =
       let rest = (next (answer.Pick n) over left).events in
       rw (replayed-append (asked ++ Recorded (record_line n) ∷ []) rest, replayed-append asked (Recorded (record_line n) ∷ []), silent.1) (rw append-nil refl)
 
   -- it is asked again with its record and more
-  pub picked_again : (n : ℕ) (more : List ℕ) → 0 < n → n ≤ length moves → followed (choose place moves false (record_line n ++ more)) next
-      ≡ preceded (Put Told (list_from place 1 moves) ∷ Put Told (prompt (length moves)) ∷ (asks (record_line n) false ++ Recorded (record_line n) ∷ [])) (next (answer.Pick n) false more)
+  pub picked_again : (n : ℕ) (more : List ℕ) → 0 < n → n ≤ length moves → followed (choose text moves false (record_line n ++ more)) next
+      ≡ preceded (Put Told (list_from text 1 moves) ∷ Put Told (prompt (length moves)) ∷ (asks (record_line n) false ++ Recorded (record_line n) ∷ [])) (next (answer.Pick n) false more)
   picked_again n more some within = rw (record_asked (length moves) 99 n more some within (omega arith)) refl
 
   chosen_again : ((k : ℕ) → RunsAgain (next (answer.Pick k))) → ((said : Answer) → ((k : ℕ) → said ≡ answer.Pick k → ⊥) → (over : Bool) (left : List ℕ) → is_complete (next said over left).value.cause ≡ false)
       → (asked : List Event) (said : Answer) (over : Bool) (left more : List ℕ) → Silent asked → IsPickUpTo (length moves) said → is_complete (chosen asked said over left).value.cause ≡ true
-      → followed (choose place moves false (recorded (chosen asked said over left).events ++ more)) next ≡ again_of (chosen asked said over left) more
+      → followed (choose text moves false (recorded (chosen asked said over left).events ++ more)) next ≡ again_of (chosen asked said over left) more
   chosen_again ih stops asked (answer.Pick n) over left more silent range complete =
       let rest = next (answer.Pick n) over left in
       rw (recorded_chosen asked n over left silent, replayed_chosen asked n over left silent) (rw append_assoc (rw (picked_again n (recorded rest.events ++ more) range.0 range.1) (rw (ih n over left more complete) refl)))
@@ -216,7 +216,7 @@ module _ {S M : Type 0} (rules : Rules S M) (options : Options) (few : HasFewMov
   select_again s (m ∷ []) small first steps later ih over choices more complete = answered_again rules options s (m ∷ []) first steps later ih 1 over choices more complete
   select_again s (m ∷ k ∷ ms) small first steps later ih over choices more complete =
       let asked = ask (length (m ∷ k ∷ ms)) 99 over choices in
-      chosen_again (rules.place s) (m ∷ k ∷ ms) small (answered rules options s (m ∷ k ∷ ms) first steps later) (answered_again rules options s (m ∷ k ∷ ms) first steps later ih)
+      chosen_again (rules.text s) (m ∷ k ∷ ms) small (answered rules options s (m ∷ k ∷ ms) first steps later) (answered_again rules options s (m ∷ k ∷ ms) first steps later ih)
       (answered_stops s (m ∷ k ∷ ms) first steps later) asked.events asked.value asked.over asked.left more (ask_silent (length (m ∷ k ∷ ms)) 99 over choices) (ask_range (length (m ∷ k ∷ ms)) 99 over choices) complete
 
   limit_again : (s : S) (steps : ℕ) (moves : List M) → rules.moves s ≡ moves → RunsAgain (story rules options 0 s steps)

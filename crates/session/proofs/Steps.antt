@@ -1,55 +1,65 @@
--- Steps that are broken off.
-use Rattle.std.proofs.Common.{◌≡◌, ℕ, ◌+◌, List, [], ◌∷◌, take, Option, Result, Ok, Err, IfErr, OnOk, OnErr, refl, sym, add-zero, append-nil}
-use Rattle.std.specs.Io.KnownBytes.{Appends}
-use Rattle.std.proofs.KnownBytes.{Appends-nil}
-use Rattle.devices.specs.Calls.{TakesPart}
+-- Steps and pieces that are broken off.
+use Rattle.std.proofs.Common.{◌≡◌, ℕ, ◌+◌, List, [], ◌∷◌, take, Result, Ok, Err, refl, sym, add-zero}
+use Rattle.devices.specs.Holdings.{Holdings, Moved, WritesPart}
 use Rattle.diagnostics.specs.declared.fault.Fault.{Fault}
 use Rattle.session.specs.declared.Options.{Options}
+use Rattle.session.specs.declared.Broken.{Broken}
 use Rattle.session.specs.declared.Broken.TheVariants as broken
 use Rattle.session.specs.Events.{Put, Told, Stepped}
 use Rattle.session.specs.Machine.{Rules, Goes, Faults}
 use Rattle.session.specs.Session.{stepped, step_text}
 use Rattle.session.specs.Texts.{fault_line}
-use Rattle.session.specs.declared.Broken.{Broken}
-use Rattle.session.specs.Writes.{Writes, StepBreaks}
+use Rattle.session.specs.Writes.{Writes, WriteBreaks, StepBreaks}
+use Rattle.session.proofs.Moving.{Moved-piece}
 
-module _ {S M : Type 0} (rules : Rules S M) (options : Options) (s : S) (m : M) (steps : ℕ) {old : Option (List ℕ)} where
+module _ {S M : Type 0} (rules : Rules S M) (options : Options) (s : S) (m : M) (steps : ℕ) {a b : Holdings} where
   -- nothing was done
-  pub step_refused : StepBreaks broken.Memory rules options s m steps steps old old
-  step_refused = record { done = []; no_byte = refl; no_line = refl; written = Appends-nil old; count = sym (add-zero steps); begins = λ later over left. (_, refl) }
+  pub step_refused : Moved a b [] [] [] → StepBreaks broken.Memory rules options s m steps steps a b
+  step_refused none = record {
+    done = [];
+    no_byte = refl;
+    moved = record { moved = none; count = sym (add-zero steps) };
+    begins = λ later over left. (_, refl);
+  }
 
-  -- the step was taken, and there was no memory for its text
-  pub step_untold : (t : S) (printed : List ℕ) → rules.step s m ≡ Goes t printed → StepBreaks broken.Memory rules options s m steps (steps + 1) old old
+  -- the step was taken, and nothing of its text was written for want of memory
+  pub step_untold : (t : S) (printed : List ℕ) → rules.step s m ≡ Goes t printed → Moved a b [] [] [] → StepBreaks broken.Memory rules options s m steps (steps + 1) a b
   unfolding stepped
-  step_untold t printed goes = record { done = Stepped ∷ []; no_byte = refl; no_line = refl; written = Appends-nil old; count = refl; begins = λ later over left. rw goes (_, refl) }
+  step_untold t printed goes none = record {
+    done = Stepped ∷ [];
+    no_byte = refl;
+    moved = record { moved = none; count = refl };
+    begins = λ later over left. rw goes (_, refl);
+  }
 
-  -- its text was written in part
-  pub step_cut : {new : Option (List ℕ)} (t : S) (printed text : List ℕ) → rules.step s m ≡ Goes t printed → text ≡ step_text rules options s m (steps + 1) t printed → TakesPart old new text
-      → StepBreaks broken.Out rules options s m steps (steps + 1) old new
+  -- its text was broken off
+  pub step_cut : (e : Broken) (t : S) (printed text : List ℕ) → rules.step s m ≡ Goes t printed → text ≡ step_text rules options s m (steps + 1) t printed → WriteBreaks e a b text
+      → StepBreaks e rules options s m steps (steps + 1) a b
   unfolding stepped
-  step_cut t printed text goes is took = record {
+  step_cut broken.Memory t printed text goes is none = step_untold t printed goes none
+  step_cut broken.Source t printed text goes is never = absurd never
+  step_cut broken.Record t printed text goes is never = absurd never
+  step_cut broken.Out t printed text goes is took = record {
     done = Stepped ∷ Put Told (take took.0 text) ∷ [];
     no_byte = refl;
-    no_line = refl;
-    written = rw append-nil took.2;
-    count = refl;
+    moved = record { moved = Moved-piece (take took.0 text) took.2; count = refl };
     begins = λ later over left. rw (goes, ← is) (Stepped ∷ [], Told, text, took.0, _, took.1, refl, refl);
   }
 
-  -- the line of a fault was written in part
-  pub fault_cut : {new : Option (List ℕ)} (f : Fault) (text : List ℕ) → rules.step s m ≡ Faults f → text ≡ fault_line f (steps + 1) (rules.place s m) → TakesPart old new text → StepBreaks broken.Out rules options s m steps steps old new
+  -- the line of a fault was broken off
+  pub fault_cut : (e : Broken) (f : Fault) (text : List ℕ) → rules.step s m ≡ Faults f → text ≡ fault_line f (steps + 1) (rules.text s m) → WriteBreaks e a b text
+      → StepBreaks e rules options s m steps steps a b
   unfolding stepped
-  fault_cut f text faults is took = record {
+  fault_cut broken.Memory f text faults is none = step_refused none
+  fault_cut broken.Source f text faults is never = absurd never
+  fault_cut broken.Record f text faults is never = absurd never
+  fault_cut broken.Out f text faults is took = record {
     done = Put Told (take took.0 text) ∷ [];
     no_byte = refl;
-    no_line = refl;
-    written = rw append-nil took.2;
-    count = sym (add-zero steps);
+    moved = record { moved = Moved-piece (take took.0 text) took.2; count = sym (add-zero steps) };
     begins = λ later over left. rw (faults, ← is) ([], Told, text, took.0, _, took.1, refl, refl);
   }
 
--- a piece was written, or broken off by the sink
-pub put_writes : {T : Type 0} (r : Result T Broken) (old new : Option (List ℕ)) (text piece : List ℕ) → text ≡ piece → OnOk r (Appends old new text) → OnErr r (TakesPart old new text) → IfErr r (λ e. e ≡ broken.Out)
-    → Writes r old new piece
-put_writes (Ok x) old new text piece is ok err cause = rw (← is) ok
-put_writes (Err e) old new text piece is ok err cause = rw (cause, ← is) err
+-- a piece was written, or broken off
+pub writes_same : {T : Type 0} (r : Result T Broken) (a b : Holdings) (text piece : List ℕ) → text ≡ piece → Writes r a b text → Writes r a b piece
+writes_same r a b text piece is writes = rw (← is) writes

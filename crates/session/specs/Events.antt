@@ -9,6 +9,7 @@ pub data Role : Type 0 where
   -- the answer to a bad line, or the prompt that follows it
   Corrected : Role
 
+-- one thing that a session does
 pub data Event : Type 0 where
   -- a piece of output
   Put : Role → List ℕ → Event
@@ -21,6 +22,7 @@ pub data Event : Type 0 where
   -- a step has succeeded
   Stepped : Event
 
+-- what one event writes to the output
 abbrev pub output_of : Event → List ℕ
 output_of (Put role piece) = piece
 output_of (Asked b) = []
@@ -28,6 +30,7 @@ output_of AskedEnd = []
 output_of (Recorded line) = []
 output_of Stepped = []
 
+-- the byte of the choices that one event reads
 abbrev pub bytes_of : Event → List ℕ
 bytes_of (Put role piece) = []
 bytes_of (Asked b) = b ∷ []
@@ -35,6 +38,7 @@ bytes_of AskedEnd = []
 bytes_of (Recorded line) = []
 bytes_of Stepped = []
 
+-- what one event writes to the record
 abbrev pub record_of : Event → List ℕ
 record_of (Put role piece) = []
 record_of (Asked b) = []
@@ -42,6 +46,7 @@ record_of AskedEnd = []
 record_of (Recorded line) = line
 record_of Stepped = []
 
+-- the steps that one event counts for
 abbrev pub step_of : Event → ℕ
 step_of (Put role piece) = 0
 step_of (Asked b) = 0
@@ -49,16 +54,19 @@ step_of AskedEnd = 0
 step_of (Recorded line) = 0
 step_of Stepped = 1
 
--- the output, the bytes that are read, the record, and the count of steps
+-- what a list of events writes to the output
 abbrev pub output : List Event → List ℕ
 output events = flat_map output_of events
 
+-- the bytes of the choices that it reads
 abbrev pub front : List Event → List ℕ
 front events = flat_map bytes_of events
 
+-- what it writes to the record
 abbrev pub recorded : List Event → List ℕ
 recorded events = flat_map record_of events
 
+-- how many steps succeed in it
 abbrev pub steps_in : List Event → ℕ
 steps_in events = sum_by step_of events
 
@@ -66,6 +74,7 @@ steps_in events = sum_by step_of events
 abbrev pub asks : List ℕ → Bool → List Event
 asks bytes ended = map Asked bytes ++ (if ended then AskedEnd ∷ [] else [])
 
+-- a byte of the choices is asked for
 abbrev pub IsAsk : Event → Type 0
 IsAsk (Put role piece) = ⊥
 IsAsk (Asked b) = Unit {0}

@@ -9,11 +9,12 @@ pub data Outcome (S : Type 0) : Type 0 where
 
 -- What a machine with these states and moves does.
 pub record Rules (S M : Type 0) : Type 0 where
+  -- what can be done, in the order in which it is listed
   pub moves : S → List M
   -- what a move leads to
   pub step : S → M → Outcome S
   -- the text of a move
-  pub place : S → M → List ℕ
+  pub text : S → M → List ℕ
   -- the value lines of the step that led here: of globals, of locals
   pub values : S → Bool → Bool → List ℕ
   -- a state without a move is a valid end

@@ -9,20 +9,20 @@ use Rattle.session.specs.declared.Cause.TheVariants as cause
 
 -- the list of a question, its moves counted from k
 abbrev pub list_from : {M : Type 0} → (M → List ℕ) → ℕ → List M → List ℕ
-list_from place k [] = []
-list_from place k (m ∷ ms) = (codes "choice " ++ (decimal k ++ (codes ": " ++ (place m ++ 10 ∷ [])))) ++ list_from place (k + 1) ms
+list_from text k [] = []
+list_from text k (m ∷ ms) = (codes "choice " ++ (decimal k ++ (codes ": " ++ (text m ++ codes "\n")))) ++ list_from text (k + 1) ms
 
 -- `choose 1..K`
 abbrev pub prompt : ℕ → List ℕ
-prompt most = codes "choose 1.." ++ (decimal most ++ 10 ∷ [])
+prompt most = codes "choose 1.." ++ (decimal most ++ codes "\n")
 
 -- `bad choice`
 abbrev pub bad_line : List ℕ
-bad_line = codes "bad choice" ++ 10 ∷ []
+bad_line = codes "bad choice" ++ codes "\n"
 
 -- an accepted number in the record
 abbrev pub record_line : ℕ → List ℕ
-record_line n = decimal n ++ 10 ∷ []
+record_line n = decimal n ++ codes "\n"
 
 -- how a last line begins, by its cause
 abbrev pub last_words : Cause → List ℕ
@@ -43,15 +43,15 @@ last_words cause.Memory = []
 
 -- the last line of a session that its own course ends
 abbrev pub last_line : Cause → ℕ → List ℕ
-last_line cause steps = last_words cause ++ (decimal steps ++ 10 ∷ [])
+last_line cause steps = last_words cause ++ (decimal steps ++ codes "\n")
 
 -- `step N: MOVE`
 abbrev pub step_line : ℕ → List ℕ → List ℕ
-step_line n place = codes "step " ++ (decimal n ++ (codes ": " ++ (place ++ 10 ∷ [])))
+step_line n text = codes "step " ++ (decimal n ++ (codes ": " ++ (text ++ codes "\n")))
 
 -- `fault FK (WORDS): step N: MOVE`
 abbrev pub fault_line : Fault → ℕ → List ℕ → List ℕ
-fault_line f n place = codes "fault F" ++ (decimal (fault_number f) ++ (codes " (" ++ (fault_words f ++ (codes "): " ++ step_line n place))))
+fault_line f n text = codes "fault F" ++ (decimal (fault_number f) ++ (codes " (" ++ (fault_words f ++ (codes "): " ++ step_line n text))))
 
 -- `refused MK (WORDS)`
 abbrev pub refusal_line : Refusal → List ℕ

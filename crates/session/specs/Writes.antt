@@ -1,7 +1,6 @@
--- What functions do that use one device alone.
-use Rattle.std.specs.Prelude.{◌≡◌, ℕ, ◌+◌, ◌<◌, List, [], Option, Some, None, Bool, Result, MatchResult}
-use Rattle.std.specs.Io.KnownBytes.{Appends}
-use Rattle.devices.specs.Calls.{TakesPart}
+-- What calls do that write, that record, that take a step, and that play a turn.
+use Rattle.std.specs.Prelude.{◌≡◌, ℕ, ◌+◌, ◌-◌, ◌<◌, List, [], Option, Some, None, Bool, Result, MatchResult}
+use Rattle.devices.specs.Holdings.{Holdings, Moved, WritesPart, RecordsPart}
 use Rattle.diagnostics.specs.declared.fault.Fault.{Fault}
 use Rattle.session.specs.declared.Options.{Options}
 use Rattle.session.specs.declared.End.{End}
@@ -14,40 +13,22 @@ use Rattle.session.specs.declared.choice.Answer.TheVariants as answer
 use Rattle.session.specs.Events.{Event, output, front, recorded, steps_in}
 use Rattle.session.specs.Machine.{Rules, Goes, Faults}
 use Rattle.session.specs.Part.{Part, followed}
-use Rattle.session.specs.Session.{stepped, step_text, select, answered}
-use Rattle.session.specs.Stands.{Begins, Does, Leads, Breaks}
+use Rattle.session.specs.Session.{stepped, step_text, select, answered, story}
+use Rattle.session.specs.Stands.{MovedBy, Begins, Does, Leads, Breaks, CountsBroken}
 use Rattle.session.specs.Texts.{record_line, fault_line}
 
--- a piece of output was broken off: nothing was written for want of memory, or a part of it
-abbrev pub WriteBreaks : Broken → Option (List ℕ) → Option (List ℕ) → List ℕ → Type 0
-WriteBreaks broken.Memory old new piece = Appends old new []
-WriteBreaks broken.Out old new piece = TakesPart old new piece
-WriteBreaks broken.Source old new piece = ⊥
-WriteBreaks broken.Record old new piece = ⊥
+-- ---- pieces
+
+-- a piece of output was broken off: for want of memory nothing of it was written, where the output failed a part of it
+abbrev pub WriteBreaks : Broken → Holdings → Holdings → List ℕ → Type 0
+WriteBreaks broken.Memory before after piece = Moved before after [] [] []
+WriteBreaks broken.Source before after piece = ⊥
+WriteBreaks broken.Out before after piece = WritesPart before after piece
+WriteBreaks broken.Record before after piece = ⊥
 
 -- the piece was written, or broken off
-abbrev pub Writes : {T : Type 0} → Result T Broken → Option (List ℕ) → Option (List ℕ) → List ℕ → Type 0
-Writes r old new piece = MatchResult r (λ _. Appends old new piece) (λ e. WriteBreaks e old new piece)
-
-abbrev pub CountsOut : Broken → ℕ → ℕ → Type 0
-CountsOut broken.Memory before after = after ≡ before
-CountsOut broken.Source before after = ⊥
-CountsOut broken.Out before after = before < after
-CountsOut broken.Record before after = ⊥
-
--- the count of the output has risen exactly where the output broke
-abbrev pub CountsWrite : {T : Type 0} → Result T Broken → ℕ → ℕ → Type 0
-CountsWrite r before after = MatchResult r (λ _. after ≡ before) (λ e. CountsOut e before after)
-
-abbrev pub CountsRecord : Broken → ℕ → ℕ → Type 0
-CountsRecord broken.Memory before after = after ≡ before
-CountsRecord broken.Source before after = ⊥
-CountsRecord broken.Out before after = ⊥
-CountsRecord broken.Record before after = before < after
-
--- and that of the record, where the record broke
-abbrev pub CountsKeep : {T : Type 0} → Result T Broken → ℕ → ℕ → Type 0
-CountsKeep r before after = MatchResult r (λ _. after ≡ before) (λ e. CountsRecord e before after)
+abbrev pub Writes : {T : Type 0} → Result T Broken → Holdings → Holdings → List ℕ → Type 0
+Writes r before after piece = MatchResult r (λ _. Moved before after [] piece []) (λ e. WriteBreaks e before after piece)
 
 -- what an answer writes to the record
 abbrev pub kept_text : Answer → List ℕ
@@ -57,46 +38,80 @@ kept_text answer.Ended = []
 kept_text answer.TooLong = []
 kept_text answer.Hundred = []
 
-abbrev pub KeepBreaks : Broken → Option (List ℕ) → Option (List ℕ) → Answer → Type 0
-KeepBreaks broken.Memory old new said = Appends old new []
-KeepBreaks broken.Record old new (answer.Pick n) = TakesPart old new (record_line n)
-KeepBreaks broken.Record old new answer.Quit = ⊥
-KeepBreaks broken.Record old new answer.Ended = ⊥
-KeepBreaks broken.Record old new answer.TooLong = ⊥
-KeepBreaks broken.Record old new answer.Hundred = ⊥
-KeepBreaks broken.Source old new said = ⊥
-KeepBreaks broken.Out old new said = ⊥
+-- a line of the record was broken off, in the same way
+abbrev pub KeepBreaks : Broken → Holdings → Holdings → List ℕ → Type 0
+KeepBreaks broken.Memory before after line = Moved before after [] [] []
+KeepBreaks broken.Source before after line = ⊥
+KeepBreaks broken.Out before after line = ⊥
+KeepBreaks broken.Record before after line = RecordsPart before after line
 
-abbrev pub Keeps : {T : Type 0} → Result T Broken → Option (List ℕ) → Option (List ℕ) → Answer → Type 0
-Keeps r old new said = MatchResult r (λ _. Appends old new (kept_text said)) (λ e. KeepBreaks e old new said)
+-- the answer was recorded, or its line was broken off
+abbrev pub Keeps : {T : Type 0} → Result T Broken → Holdings → Holdings → Answer → Type 0
+Keeps r before after said = MatchResult r (λ _. Moved before after [] [] (kept_text said)) (λ e. KeepBreaks e before after (kept_text said))
+
+-- ---- steps
 
 -- a step succeeded and its text was written, or it was a fault and its line was written
-abbrev pub StepsTo : {S M : Type 0} → Rules S M → Options → S → M → ℕ → S → ℕ → Option (List ℕ) → Option (List ℕ) → Option Fault → Type 0
-StepsTo rules options s m steps t steps' old new None = (printed : List ℕ) × (rules.step s m ≡ Goes t printed) × Appends old new (step_text rules options s m (steps + 1) t printed) × (steps' ≡ steps + 1)
-StepsTo rules options s m steps t steps' old new (Some f) = (rules.step s m ≡ Faults f) × Appends old new (fault_line f (steps + 1) (rules.place s m)) × (steps' ≡ steps)
+abbrev pub StepsTo : {S M : Type 0} → Rules S M → Options → S → M → ℕ → S → ℕ → Holdings → Holdings → Option Fault → Type 0
+StepsTo rules options s m steps t steps' before after None = (printed : List ℕ) × (rules.step s m ≡ Goes t printed)
+    × Moved before after [] (step_text rules options s m (steps + 1) t printed) [] × (steps' ≡ steps + 1)
+StepsTo rules options s m steps t steps' before after (Some f) = (rules.step s m ≡ Faults f)
+    × Moved before after [] (fault_line f (steps + 1) (rules.text s m)) [] × (steps' ≡ steps)
 
 -- a step was broken off
-pub record StepBreaks {S M : Type 0} (broken : Broken) (rules : Rules S M) (options : Options) (s : S) (m : M) (steps steps' : ℕ) (old new : Option (List ℕ)) : Type 0 where
+pub record StepBreaks {S M : Type 0} (broken : Broken) (rules : Rules S M) (options : Options) (s : S) (m : M) (steps steps' : ℕ)
+    (before after : Holdings) : Type 0 where
   pub done : List Event
   pub no_byte : front done ≡ []
-  pub no_line : recorded done ≡ []
-  pub written : Appends old new (output done)
-  pub count : steps' ≡ steps + steps_in done
-  pub begins : (later : S → Part End) (over : Bool) (left : List ℕ) → Begins broken done (stepped rules options s m steps later over left (rules.step s m)).events
+  pub moved : MovedBy before after steps steps' done
+  pub begins : (later : S → Part End) (over : Bool) (left : List ℕ)
+      → Begins broken done (stepped rules options s m steps later over left (rules.step s m)).events
 
--- a turn ended the session, or took a step
-abbrev pub TurnsTo : (source source' : List ℕ → Type 0) (out out' rec rec' : Option (List ℕ)) (steps steps' : ℕ) (part rest : List ℕ → Part End) → Bool → Option End → Type 0
-TurnsTo s s' o o' r r' n n' part rest over None = Leads s s' o o' r r' n n' part rest
-TurnsTo s s' o o' r r' n n' part rest over (Some end) = Does s s' o o' r r' n n' part end over
+-- a step was taken, or was a fault, or was broken off
+abbrev pub Steps : {S M : Type 0} → Result (Option Fault) Broken → Rules S M → Options → S → M → ℕ → S → ℕ → Holdings → Holdings → Type 0
+Steps r rules options s m steps t steps' before after =
+    MatchResult r (StepsTo rules options s m steps t steps' before after) (λ e. StepBreaks e rules options s m steps steps' before after)
 
--- what an answer leads to, whatever follows the step
-abbrev pub ActsTo : {S M : Type 0} → Rules S M → Options → S → S → List M → (source source' : List ℕ → Type 0) (out out' rec rec' : Option (List ℕ)) (steps steps' : ℕ) → Bool → Bool → Option End → Type 0
-ActsTo {S} {M} rules options s t moves source source' out out' rec rec' n n' over over' end = (later : S → Bool → List ℕ → Part End) (first : M)
-    → TurnsTo source source' out out' rec rec' n n' (λ rest. followed (select rules s moves over rest) (answered rules options s moves first n later)) (later t over') over' end
+-- ---- turns
 
-abbrev pub ActBreaks : {S M : Type 0} → Broken → Rules S M → Options → S → List M → (source source' : List ℕ → Type 0) (out out' rec rec' : Option (List ℕ)) (steps steps' : ℕ) → Bool → Type 0
-ActBreaks {S} {M} broken rules options s moves source source' out out' rec rec' n n' over = (later : S → Bool → List ℕ → Part End) (first : M)
-    → Breaks broken source source' out out' rec rec' n n' (λ rest. followed (select rules s moves over rest) (answered rules options s moves first n later))
+-- this rest is to do, or the session ended
+abbrev pub GoesOn : Holdings → Holdings → ℕ → ℕ → (part rest : List ℕ → Part End) → Bool → Option End → Type 0
+GoesOn before after steps steps' part rest over None = Leads before after steps steps' part rest
+GoesOn before after steps steps' part rest over (Some end) = Does before after steps steps' part end over
+
+-- this rest is to do, or the session ended, or it was broken off
+abbrev pub Continues : Result (Option End) Broken → Holdings → Holdings → ℕ → ℕ → (part rest : List ℕ → Part End) → Bool → Type 0
+Continues r before after steps steps' part rest over =
+    MatchResult r (GoesOn before after steps steps' part rest over) (λ e. Breaks e before after steps steps' part)
+
+-- a move is selected, and what follows the answer is done
+abbrev pub acted : {S M : Type 0} → Rules S M → Options → S → M → ℕ → (S → Bool → List ℕ → Part End) → Bool → List ℕ → Part End
+acted rules options s first steps later over rest =
+    followed (select rules s (rules.moves s) over rest) (answered rules options s (rules.moves s) first steps later)
+
+-- a move was selected and taken, or the session ended, or it was broken off: whatever follows the step
+abbrev pub Acts : {S M : Type 0} → Result (Option End) Broken → Rules S M → Options → S → S → Holdings → Holdings → ℕ → ℕ → Bool → Bool → Type 0
+Acts {S} {M} r rules options s t before after steps steps' over over' = (later : S → Bool → List ℕ → Part End) (first : M)
+    → Continues r before after steps steps' (acted rules options s first steps later over) (later t over') over'
+
+-- what is still to do of a session after so many steps
+abbrev pub story_after : {S M : Type 0} → Rules S M → Options → S → ℕ → Bool → List ℕ → Part End
+story_after rules options s steps over = story rules options (options.limit - steps) s steps over
+
+-- a turn of the session was played
+abbrev pub Turns : {S M : Type 0} → Result (Option End) Broken → Rules S M → Options → S → S → Holdings → Holdings → ℕ → ℕ → Bool → Bool → Type 0
+Turns r rules options s t before after steps steps' over over' =
+    Continues r before after steps steps' (story_after rules options s steps over) (story_after rules options t steps' over') over'
+
+-- ---- ends
+
+-- a session came to this end, after so many steps
+abbrev pub Ends : Holdings → Holdings → ℕ → (List ℕ → Part End) → End → Type 0
+Ends before after steps part end = (over : Bool) × Does before after 0 steps part end over
+
+-- it came to its end, or was broken off
+abbrev pub Runs : Result End Broken → Holdings → Holdings → ℕ → (List ℕ → Part End) → Type 0
+Runs r before after steps part = MatchResult r (Ends before after steps part) (λ e. Breaks e before after 0 steps part)
 
 -- an end that no device and no want of memory brought about, after so many steps
 pub record IsOwnEnd (steps : ℕ) (end : End) : Type 0 where
@@ -109,3 +124,8 @@ failure_of broken.Source = cause.SourceFailed
 failure_of broken.Out = cause.OutFailed
 failure_of broken.Record = cause.RecordFailed
 failure_of broken.Memory = cause.Memory
+
+-- a device or memory broke the session off, the end says which, and the count of that device alone has risen
+abbrev pub IsBrokenOff : Holdings → Holdings → (List ℕ → Part End) → End → Type 0
+IsBrokenOff before after part end = (broken : Broken) × (end.cause ≡ failure_of broken)
+    × Breaks broken before after 0 end.steps part × CountsBroken broken before.failures after.failures

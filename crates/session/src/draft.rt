@@ -1,6 +1,7 @@
-// The texts of a session, composed in buffers that are kept.
+//! The texts of a session, composed in buffers that are kept.
 ghost use Rattle.std.specs.Prelude.{◌≡◌, ◌+◌, ◌++◌, ◌<◌, ◌^◌, [], ◌∷◌, length, IfOk, OnOk, if◌then◌else◌, codes};
 ghost use Rattle.std.specs.Fmt.{decimal};
+ghost use Rattle.std.specs.List.{Contains};
 ghost use Rattle.session.specs.Texts.{list_from, prompt, record_line, last_words, last_line, step_line, fault_line, refusal_line};
 
 use crate::{Cause, Machine};
@@ -11,58 +12,70 @@ use std::alloc::{AllocError, Global};
 /// The buffers that a session keeps: the piece that is composed, and the text of a move within it.
 #[derive(Drop)]
 pub struct Draft {
+    /// The piece that is composed.
+    pub piece: Vec<u8>,
+    /// The text of a move within it.
     pub text: Vec<u8>,
-    pub place: Vec<u8>,
 }
 
 impl Draft {
+    /// Two empty buffers.
     pub fn new(alloc: Global) -> Self {
         Draft {
+            piece: Vec::new(alloc),
             text: Vec::new(alloc),
-            place: Vec::new(alloc),
         }
     }
 }
 
 // Appends a number in decimal.
-fn add_number(text: &mut Vec<u8>, n: u64) -> Result<(), AllocError>
-    ensures { OnOk result (text.new.items ≡ text.old.items ++ decimal n) }
+fn add_number(piece: &mut Vec<u8>, n: u64) -> Result<(), AllocError>
+    ensures { OnOk result (piece.new.items ≡ piece.old.items ++ decimal n) }
 {
     let mut digits = Buffer::new();
-    text.extend_from_slice(digits.format(n).as_bytes())
+    piece.extend_from_slice(digits.format(n).as_bytes())
 }
 
 // Appends `WORDS N` and a line feed.
-fn add_counted(text: &mut Vec<u8>, words: &[u8], n: u64) -> Result<(), AllocError>
-    ensures { OnOk result (text.new.items ≡ text.old.items ++ (words.now ++ (decimal n ++ 10 ∷ []))) }
+fn add_counted(piece: &mut Vec<u8>, words: &[u8], n: u64) -> Result<(), AllocError>
+    ensures { OnOk result (piece.new.items ≡ piece.old.items ++ (words.now ++ (decimal n ++ codes "\n"))) }
 {
-    text.extend_from_slice(words)?;
-    add_number(text, n)?;
-    text.push(b'\n')?;
+    piece.extend_from_slice(words)?;
+    add_number(piece, n)?;
+    piece.push(b'\n')?;
     Ok(())
 }
 
-// Appends `WORDS N: PLACE` and a line feed.
-fn add_named(text: &mut Vec<u8>, words: &[u8], n: u64, place: &[u8]) -> Result<(), AllocError>
-    ensures { OnOk result (text.new.items ≡ text.old.items ++ (words.now ++ (decimal n ++ (codes ": " ++ (place.now ++ 10 ∷ []))))) }
+// Appends `WORDS N: TEXT` and a line feed.
+fn add_named(piece: &mut Vec<u8>, words: &[u8], n: u64, text: &[u8]) -> Result<(), AllocError>
+    ensures { OnOk result (piece.new.items ≡ piece.old.items ++ (words.now ++ (decimal n ++ (codes ": " ++ (text.now ++ codes "\n"))))) }
 {
-    text.extend_from_slice(words)?;
-    add_number(text, n)?;
-    text.extend_from_slice(b": ")?;
-    text.extend_from_slice(place)?;
-    text.push(b'\n')?;
+    piece.extend_from_slice(words)?;
+    add_number(piece, n)?;
+    piece.extend_from_slice(b": ")?;
+    piece.extend_from_slice(text)?;
+    piece.push(b'\n')?;
     Ok(())
 }
 
 // Appends `LETTERS N (WORDS)`.
-fn add_diagnosis(text: &mut Vec<u8>, letters: &[u8], n: u8, words: &[u8]) -> Result<(), AllocError>
-    ensures { OnOk result (text.new.items ≡ text.old.items ++ (letters.now ++ (decimal n ++ (codes " (" ++ (words.now ++ codes ")"))))) }
+fn add_diagnosis(piece: &mut Vec<u8>, letters: &[u8], n: u8, words: &[u8]) -> Result<(), AllocError>
+    ensures { OnOk result (piece.new.items ≡ piece.old.items ++ (letters.now ++ (decimal n ++ (codes " (" ++ (words.now ++ codes ")"))))) }
 {
-    text.extend_from_slice(letters)?;
-    add_number(text, u64::from(n))?;
-    text.extend_from_slice(b" (")?;
-    text.extend_from_slice(words)?;
-    text.extend_from_slice(b")")
+    piece.extend_from_slice(letters)?;
+    add_number(piece, u64::from(n))?;
+    piece.extend_from_slice(b" (")?;
+    piece.extend_from_slice(words)?;
+    piece.extend_from_slice(b")")
+}
+
+// Composes the text of a move.
+fn draft_move<M: Machine>(machine: &M, m: &M::Move, text: &mut Vec<u8>) -> Result<(), AllocError>
+    requires present { Contains (M.rules.moves machine.now) m.now }
+    ensures { OnOk result (text.new.items ≡ M.rules.text machine.now m.now) }
+{
+    text.clear();
+    machine.show(m, text)
 }
 
 /// Composes the list of a question.
@@ -72,31 +85,30 @@ pub fn draft_list<M: Machine>(
     draft: &mut Draft,
 ) -> Result<(), AllocError>
     requires { moves.now ≡ M.rules.moves machine.now }
-    ensures { OnOk result (draft.new.text.items ≡ list_from (M.rules.place machine.now) 1 moves.now) }
+    ensures { OnOk result (draft.new.piece.items ≡ list_from (M.rules.text machine.now) 1 moves.now) }
 {
-    draft.text.clear();
+    draft.piece.clear();
     for (i, m) in moves.iter().enumerate() {
-        draft.place.clear();
-        machine.show(m, &mut draft.place)?;
-        add_named(&mut draft.text, b"choice ", i as u64 + 1, &draft.place)?;
+        draft_move(machine, m, &mut draft.text)?;
+        add_named(&mut draft.piece, b"choice ", i as u64 + 1, &draft.text)?;
     }
     Ok(())
 }
 
 /// Composes the prompt for one of so many moves.
-pub fn draft_prompt(most: usize, text: &mut Vec<u8>) -> Result<(), AllocError>
-    ensures { OnOk result (text.new.items ≡ prompt most) }
+pub fn draft_prompt(most: usize, piece: &mut Vec<u8>) -> Result<(), AllocError>
+    ensures { OnOk result (piece.new.items ≡ prompt most) }
 {
-    text.clear();
-    add_counted(text, b"choose 1..", most as u64)
+    piece.clear();
+    add_counted(piece, b"choose 1..", most as u64)
 }
 
 /// Composes the record's line of an accepted number.
-pub fn draft_record(n: usize, text: &mut Vec<u8>) -> Result<(), AllocError>
-    ensures { OnOk result (text.new.items ≡ record_line n) }
+pub fn draft_record(n: usize, piece: &mut Vec<u8>) -> Result<(), AllocError>
+    ensures { OnOk result (piece.new.items ≡ record_line n) }
 {
-    text.clear();
-    add_counted(text, b"", n as u64)
+    piece.clear();
+    add_counted(piece, b"", n as u64)
 }
 
 fn words_of(cause: Cause) -> &'static [u8]
@@ -115,39 +127,55 @@ fn words_of(cause: Cause) -> &'static [u8]
 }
 
 /// Composes the last line of a session.
-pub fn draft_last(cause: Cause, steps: u32, text: &mut Vec<u8>) -> Result<(), AllocError>
-    ensures { OnOk result (text.new.items ≡ last_line cause steps) }
+pub fn draft_last(cause: Cause, steps: u32, piece: &mut Vec<u8>) -> Result<(), AllocError>
+    ensures { OnOk result (piece.new.items ≡ last_line cause steps) }
 {
-    text.clear();
-    add_counted(text, words_of(cause), u64::from(steps))
+    piece.clear();
+    add_counted(piece, words_of(cause), u64::from(steps))
 }
 
 /// Begins the text of a step: its line, or nothing.
-pub fn draft_step(wanted: bool, n: u64, place: &[u8], text: &mut Vec<u8>) -> Result<(), AllocError>
-    ensures { OnOk result (text.new.items ≡ (if wanted then step_line n place.now else [])) }
+pub fn draft_step<M: Machine>(
+    machine: &M,
+    m: &M::Move,
+    wanted: bool,
+    n: u64,
+    draft: &mut Draft,
+) -> Result<(), AllocError>
+    requires present { Contains (M.rules.moves machine.now) m.now }
+    ensures { OnOk result (draft.new.piece.items ≡ (if wanted then step_line n (M.rules.text machine.now m.now) else [])) }
 {
-    text.clear();
+    draft.piece.clear();
     if wanted {
-        add_named(text, b"step ", n, place)?;
+        draft_move(machine, m, &mut draft.text)?;
+        add_named(&mut draft.piece, b"step ", n, &draft.text)?;
     }
     Ok(())
 }
 
 /// Composes the line of a fault.
-pub fn draft_fault(fault: Fault, n: u64, place: &[u8], text: &mut Vec<u8>) -> Result<(), AllocError>
-    ensures { OnOk result (text.new.items ≡ fault_line fault n place.now) }
+pub fn draft_fault<M: Machine>(
+    machine: &M,
+    m: &M::Move,
+    fault: Fault,
+    n: u64,
+    draft: &mut Draft,
+) -> Result<(), AllocError>
+    requires present { Contains (M.rules.moves machine.now) m.now }
+    ensures { OnOk result (draft.new.piece.items ≡ fault_line fault n (M.rules.text machine.now m.now)) }
 {
-    text.clear();
-    add_diagnosis(text, b"fault F", fault.number(), fault.words())?;
-    add_named(text, b": step ", n, place)
+    draft.piece.clear();
+    draft_move(machine, m, &mut draft.text)?;
+    add_diagnosis(&mut draft.piece, b"fault F", fault.number(), fault.words())?;
+    add_named(&mut draft.piece, b": step ", n, &draft.text)
 }
 
 /// Composes the line of a refused model.
-pub fn draft_refusal(refusal: Refusal, text: &mut Vec<u8>) -> Result<(), AllocError>
-    ensures { OnOk result (text.new.items ≡ refusal_line refusal) }
+pub fn draft_refusal(refusal: Refusal, piece: &mut Vec<u8>) -> Result<(), AllocError>
+    ensures { OnOk result (piece.new.items ≡ refusal_line refusal) }
 {
-    text.clear();
-    add_diagnosis(text, b"refused M", refusal.number(), refusal.words())?;
-    text.push(b'\n')?;
+    piece.clear();
+    add_diagnosis(piece, b"refused M", refusal.number(), refusal.words())?;
+    piece.push(b'\n')?;
     Ok(())
 }

@@ -1,4 +1,4 @@
-// A session over any machine, any source of choices and any two sinks.
+//! A session over any machine, any source of choices and any two sinks.
 #![tactic(auto)]
 
 ghost use Rattle.std.specs.Prelude.{◌≡◌};
@@ -9,6 +9,7 @@ use std::alloc::{AllocError, AllocFailed};
 
 mod choice;
 mod draft;
+mod limits;
 mod line;
 mod machine;
 mod question;
@@ -18,7 +19,8 @@ mod writing;
 
 pub use choice::Answer;
 pub use diagnostics::Stop;
-pub use line::{Cut, Line};
+pub use limits::{BAD_LINES, LINE_BYTES};
+pub use line::{Line, LineEnd};
 pub use machine::Machine;
 pub use refused::{refuse, refuse_unserved};
 pub use whole::{end_of, failure, play, run};
@@ -69,21 +71,27 @@ pub enum Cause {
     Memory,
 }
 
-/// How a session ended: its exit status, the count of steps that succeeded, and why.
+/// How a session ended.
 #[derive(Clone, Copy, Debug, PartialEq, Eq)]
 pub struct End {
-    /// 0 a valid end or `q`, 1 an invalid end, 2 a fault, 3 a refused model, 5 stopped, 6 a device or memory failed.
+    /// The exit status: 0 a valid end or `q`, 1 an invalid end, 2 a fault, 3 a refused model, 5 stopped, 6 a device or memory failed.
     pub status: u8,
+    /// How many steps succeeded.
     pub steps: u32,
+    /// Why it ended.
     pub cause: Cause,
 }
 
 /// What broke a session off.
 #[derive(Clone, Copy, Debug, PartialEq, Eq)]
 pub enum Broken {
+    /// The source of the choices failed.
     Source,
+    /// The sink of the output failed.
     Out,
+    /// The sink of the record failed.
     Record,
+    /// Memory was refused.
     Memory,
 }
 

@@ -1,4 +1,4 @@
-// A machine as a session sees it.
+//! A machine as a session sees it.
 ghost use Rattle.std.specs.Prelude.{◌≡◌, ◌++◌, List, ℕ, IfOk, OnOk, IsTrue, get_or};
 ghost use Rattle.std.specs.List.{Contains};
 ghost use Rattle.session.specs.Machine.{Rules};
@@ -23,12 +23,13 @@ pub trait Machine {
     /// Appends the text of a move of the present state.
     fn show(&self, m: &Self::Move, text: &mut Vec<u8>) -> Result<(), AllocError>
         requires present { Contains (rules.moves self.now) m.now }
-        ensures { OnOk result (text.new.items ≡ text.old.items ++ rules.place self.now m.now) };
+        ensures { OnOk result (text.new.items ≡ text.old.items ++ rules.text self.now m.now) };
 
-    /// Takes a move of the present state, and appends what it prints.
+    /// Takes a move of the present state, and appends what it prints. After a fault the move can still be shown, with the
+    /// text that it had.
     fn take(&mut self, m: &Self::Move, text: &mut Vec<u8>) -> Result<(), Stop>
         requires present { Contains (rules.moves self.old) m.now }
-        ensures { Takes (rules.step self.old m.now) self.new text.old.items text.new.items result };
+        ensures { Takes rules self.old m.now self.new text.old.items text.new.items result };
 
     /// Appends the value lines of the last step, of global and of local variables.
     fn values(&self, globals: bool, locals: bool, text: &mut Vec<u8>) -> Result<(), AllocError>

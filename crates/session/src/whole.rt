@@ -1,68 +1,57 @@
-// The session as a whole.
-ghost use Rattle.std.specs.Prelude.{◌≡◌, ◌<◌, ◌≤◌, ◌+◌, ◌-◌, ◌^◌, List, ℕ, Bool, length, IfOk, IfErr, IfNone, IfSome, ◌≢◌};
+//! The session as a whole.
+ghost use Rattle.std.specs.Prelude.{◌≡◌, ◌<◌, ◌≤◌, ◌+◌, ◌^◌, List, ℕ, length, IfOk, IfNone, IfSome, ◌≢◌};
 ghost use Rattle.session.specs.Lines.{IsPickUpTo};
-ghost use Rattle.session.specs.Session.{choose, select, cause_of, final_lines, final_cause, end_of, story, transcript};
+ghost use Rattle.session.specs.Session.{choose, select, cause_of, final_lines, final_cause, end_of, transcript};
 ghost use Rattle.session.specs.Replay.{CanBeReplayed, HasFewMoves};
-ghost use Rattle.session.specs.Stands.{Does, Breaks, Leads, CountsAll, CountsBroken};
+ghost use Rattle.session.specs.Stands.{Answers, CountsAll};
 ghost use Rattle.session.specs.Texts.{last_line, status_of};
-ghost use Rattle.session.specs.Writes.{Writes, CountsWrite, TurnsTo, ActsTo, ActBreaks, IsOwnEnd, failure_of};
-ghost use Rattle.session.specs.declared.Broken.{Broken};
+ghost use Rattle.session.specs.Writes.{Writes, Acts, Turns, Runs, Ends, IsOwnEnd, IsBrokenOff, failure_of};
 
 use crate::draft::Draft;
 use crate::question::question;
 use crate::writing::{keep, step, write_last, write_list, write_prompt, write_stuck};
 use crate::{Answer, Broken, Cause, End, Machine, Options};
-use devices::{Sink, Source};
+use devices::Devices;
 use std::alloc::Global;
 
 // Asks for one of several moves, and records the answer.
-fn choose<M: Machine, S: Source, O: Sink, R: Sink>(
+fn choose<M: Machine, D: Devices>(
     machine: &M,
     moves: &[M::Move],
-    source: &mut S,
     over: &mut bool,
-    out: &mut O,
-    rec: &mut R,
     draft: &mut Draft,
+    devices: &mut D,
 ) -> Result<Answer, Broken>
     requires { moves.now ≡ M.rules.moves machine.now }
-    ensures ok { IfOk result (λ said. (steps : ℕ) → Does (S.may_give source.old) (S.may_give source.new) (O.taken out.old) (O.taken out.new) (R.taken rec.old) (R.taken rec.new) steps steps
-        (choose (M.rules.place machine.now) moves.now over.old) said over.new) }
-    ensures err { IfErr result (λ broken. (steps : ℕ) → Breaks broken (S.may_give source.old) (S.may_give source.new) (O.taken out.old) (O.taken out.new) (R.taken rec.old) (R.taken rec.new) steps steps
-        (choose (M.rules.place machine.now) moves.now over.old)) }
+    ensures part { Answers result (D.holds devices.old) (D.holds devices.new) (choose (M.rules.text machine.now) moves.now over.old) over.new }
     ensures range { IfOk result (IsPickUpTo (length moves.now)) }
-    ensures count { CountsAll result (S.failures source.old) (S.failures source.new) (O.failures out.old) (O.failures out.new) (R.failures rec.old) (R.failures rec.new) }
+    ensures count { CountsAll result (D.holds devices.old).failures (D.holds devices.new).failures }
 {
-    write_list(machine, moves, draft, out)?;
-    write_prompt(moves.len(), draft, out)?;
-    let said = question(source, over, out, moves.len(), &draft.text)?;
-    keep(said, draft, rec)?;
+    write_list(machine, moves, draft, devices)?;
+    write_prompt(moves.len(), draft, devices)?;
+    let said = question(devices, over, moves.len(), &draft.piece)?;
+    keep(said, draft, devices)?;
     Ok(said)
 }
 
 // Takes one move without asking, and asks for one of several.
-fn select<M: Machine, S: Source, O: Sink, R: Sink>(
+fn select<M: Machine, D: Devices>(
     machine: &M,
     moves: &[M::Move],
-    source: &mut S,
     over: &mut bool,
-    out: &mut O,
-    rec: &mut R,
     draft: &mut Draft,
+    devices: &mut D,
 ) -> Result<Answer, Broken>
     requires all { moves.now ≡ M.rules.moves machine.now }
     requires some { 0 < length moves.now }
-    ensures ok { IfOk result (λ said. (steps : ℕ) → Does (S.may_give source.old) (S.may_give source.new) (O.taken out.old) (O.taken out.new) (R.taken rec.old) (R.taken rec.new) steps steps
-        (select M.rules machine.now moves.now over.old) said over.new) }
-    ensures err { IfErr result (λ broken. (steps : ℕ) → Breaks broken (S.may_give source.old) (S.may_give source.new) (O.taken out.old) (O.taken out.new) (R.taken rec.old) (R.taken rec.new) steps steps
-        (select M.rules machine.now moves.now over.old)) }
+    ensures part { Answers result (D.holds devices.old) (D.holds devices.new) (select M.rules machine.now moves.now over.old) over.new }
     ensures range { IfOk result (IsPickUpTo (length moves.now)) }
-    ensures count { CountsAll result (S.failures source.old) (S.failures source.new) (O.failures out.old) (O.failures out.new) (R.failures rec.old) (R.failures rec.new) }
+    ensures count { CountsAll result (D.holds devices.old).failures (D.holds devices.new).failures }
 {
     if moves.len() == 1 {
         return Ok(Answer::Pick(1));
     }
-    choose(machine, moves, source, over, out, rec, draft)
+    choose(machine, moves, over, draft, devices)
 }
 
 fn status(cause: Cause) -> u8
@@ -90,34 +79,39 @@ pub fn end_of(cause: Cause, steps: u32) -> End
 }
 
 // Writes the last line, and ends the session.
-fn stop<O: Sink>(cause: Cause, steps: u32, draft: &mut Draft, out: &mut O) -> Result<End, Broken>
+fn stop<D: Devices>(
+    cause: Cause,
+    steps: u32,
+    draft: &mut Draft,
+    devices: &mut D,
+) -> Result<End, Broken>
     requires { status_of cause < 6 }
-    ensures text { Writes result (O.taken out.old) (O.taken out.new) (last_line cause steps) }
+    ensures text { Writes result (D.holds devices.old) (D.holds devices.new) (last_line cause steps) }
     ensures end { IfOk result (λ end. end ≡ end_of cause steps) }
     ensures own { IfOk result (IsOwnEnd steps) }
-    ensures count { CountsWrite result (O.failures out.old) (O.failures out.new) }
+    ensures count { CountsAll result (D.holds devices.old).failures (D.holds devices.new).failures }
 {
-    write_last(cause, steps, draft, out)?;
+    write_last(cause, steps, draft, devices)?;
     Ok(end_of(cause, steps))
 }
 
 // Writes the last lines where there is no move, and ends the session.
-fn finish<M: Machine, O: Sink>(
+fn finish<M: Machine, D: Devices>(
     machine: &M,
     steps: u32,
     draft: &mut Draft,
-    out: &mut O,
+    devices: &mut D,
 ) -> Result<End, Broken>
-    ensures text { Writes result (O.taken out.old) (O.taken out.new) (final_lines (M.rules.is_valid machine.now) (M.rules.stuck machine.now) steps) }
+    ensures text { Writes result (D.holds devices.old) (D.holds devices.new) (final_lines (M.rules.is_valid machine.now) (M.rules.stuck machine.now) steps) }
     ensures end { IfOk result (λ end. end ≡ end_of (final_cause (M.rules.is_valid machine.now)) steps) }
     ensures own { IfOk result (IsOwnEnd steps) }
-    ensures count { CountsWrite result (O.failures out.old) (O.failures out.new) }
+    ensures count { CountsAll result (D.holds devices.old).failures (D.holds devices.new).failures }
 {
     if machine.is_valid() {
-        write_last(Cause::Valid, steps, draft, out)?;
+        write_last(Cause::Valid, steps, draft, devices)?;
         return Ok(end_of(Cause::Valid, steps));
     }
-    write_stuck(machine, steps, draft, out)?;
+    write_stuck(machine, steps, draft, devices)?;
     Ok(end_of(Cause::Invalid, steps))
 }
 
@@ -136,92 +130,77 @@ fn cause_of(said: Answer) -> Cause
 }
 
 // Selects a move and takes it, or ends the session.
-fn act<M: Machine, S: Source, O: Sink, R: Sink>(
+fn act<M: Machine, D: Devices>(
     machine: &mut M,
     moves: &[M::Move],
     options: &Options,
     steps: &mut u32,
-    source: &mut S,
     over: &mut bool,
-    out: &mut O,
-    rec: &mut R,
     draft: &mut Draft,
+    devices: &mut D,
 ) -> Result<Option<End>, Broken>
     requires all { moves.now ≡ M.rules.moves machine.old }
     requires some { 0 < length moves.now }
     requires room { steps.old + 1 < 2 ^ 32 }
-    ensures ok { IfOk result (ActsTo M.rules options.now machine.old machine.new moves.now (S.may_give source.old) (S.may_give source.new) (O.taken out.old) (O.taken out.new) (R.taken rec.old) (R.taken rec.new) steps.old steps.new over.old over.new) }
-    ensures err { IfErr result (λ broken. ActBreaks broken M.rules options.now machine.old moves.now (S.may_give source.old) (S.may_give source.new) (O.taken out.old) (O.taken out.new) (R.taken rec.old) (R.taken rec.new) steps.old steps.new over.old) }
+    ensures part { Acts result M.rules options.now machine.old machine.new (D.holds devices.old) (D.holds devices.new) steps.old steps.new over.old over.new }
     ensures falls { IfOk result (λ end. IfNone end (steps.new ≡ steps.old + 1)) }
     ensures own { IfOk result (λ end. IfSome end (IsOwnEnd steps.new)) }
-    ensures count { CountsAll result (S.failures source.old) (S.failures source.new) (O.failures out.old) (O.failures out.new) (R.failures rec.old) (R.failures rec.new) }
+    ensures count { CountsAll result (D.holds devices.old).failures (D.holds devices.new).failures }
 {
-    let said = select(machine, moves, source, over, out, rec, draft)?;
+    let said = select(machine, moves, over, draft, devices)?;
     if let Answer::Pick(n) = said {
-        return match step(machine, &moves[n - 1], options, steps, draft, out)? {
+        return match step(machine, &moves[n - 1], options, steps, draft, devices)? {
             None => Ok(None),
             Some(f) => Ok(Some(end_of(Cause::Fault(f), *steps))),
         };
     }
-    Ok(Some(stop(cause_of(said), *steps, draft, out)?))
+    Ok(Some(stop(cause_of(said), *steps, draft, devices)?))
 }
 
 // One turn: the end, or a step.
-fn turn<M: Machine, S: Source, O: Sink, R: Sink>(
+fn turn<M: Machine, D: Devices>(
     alloc: Global,
     machine: &mut M,
     options: &Options,
     steps: &mut u32,
-    source: &mut S,
     over: &mut bool,
-    out: &mut O,
-    rec: &mut R,
     draft: &mut Draft,
+    devices: &mut D,
 ) -> Result<Option<End>, Broken>
     requires { steps.old ≤ options.now.limit }
-    ensures ok { IfOk result (TurnsTo (S.may_give source.old) (S.may_give source.new) (O.taken out.old) (O.taken out.new) (R.taken rec.old) (R.taken rec.new) steps.old steps.new
-        (story M.rules options.now (options.now.limit - steps.old) machine.old steps.old over.old) (story M.rules options.now (options.now.limit - steps.new) machine.new steps.new over.new) over.new) }
-    ensures err { IfErr result (λ broken. Breaks broken (S.may_give source.old) (S.may_give source.new) (O.taken out.old) (O.taken out.new) (R.taken rec.old) (R.taken rec.new) steps.old steps.new
-        (story M.rules options.now (options.now.limit - steps.old) machine.old steps.old over.old)) }
+    ensures part { Turns result M.rules options.now machine.old machine.new (D.holds devices.old) (D.holds devices.new) steps.old steps.new over.old over.new }
     ensures own { IfOk result (λ end. IfSome end (IsOwnEnd steps.new)) }
     ensures falls { IfOk result (λ end. IfNone end ((steps.old < steps.new) × (steps.new ≤ options.now.limit))) }
-    ensures count { CountsAll result (S.failures source.old) (S.failures source.new) (O.failures out.old) (O.failures out.new) (R.failures rec.old) (R.failures rec.new) }
+    ensures count { CountsAll result (D.holds devices.old).failures (D.holds devices.new).failures }
 {
     let moves = machine.moves(alloc)?;
     if moves.len() == 0 {
-        return Ok(Some(finish(machine, *steps, draft, out)?));
+        return Ok(Some(finish(machine, *steps, draft, devices)?));
     }
     if *steps == options.limit {
-        return Ok(Some(stop(Cause::StepLimit, *steps, draft, out)?));
+        return Ok(Some(stop(Cause::StepLimit, *steps, draft, devices)?));
     }
-    act(
-        machine, &moves, options, steps, source, over, out, rec, draft,
-    )
+    act(machine, &moves, options, steps, over, draft, devices)
 }
 
-/// Runs the session to its end.
-pub fn run<M: Machine, S: Source, O: Sink, R: Sink>(
+/// Runs the session to its end, and counts its steps.
+pub fn run<M: Machine, D: Devices>(
     alloc: Global,
     machine: &mut M,
     options: &Options,
     steps: &mut u32,
-    source: &mut S,
-    out: &mut O,
-    rec: &mut R,
+    devices: &mut D,
 ) -> Result<End, Broken>
     requires { steps.old ≡ 0 }
-    ensures ok { IfOk result (λ end. (over : Bool) × Does (S.may_give source.old) (S.may_give source.new) (O.taken out.old) (O.taken out.new) (R.taken rec.old) (R.taken rec.new) 0 steps.new
-        (transcript M.rules options.now machine.old) end over) }
+    ensures part { Runs result (D.holds devices.old) (D.holds devices.new) steps.new (transcript M.rules options.now machine.old) }
     ensures own { IfOk result (IsOwnEnd steps.new) }
-    ensures err { IfErr result (λ broken. Breaks broken (S.may_give source.old) (S.may_give source.new) (O.taken out.old) (O.taken out.new) (R.taken rec.old) (R.taken rec.new) 0 steps.new
-        (transcript M.rules options.now machine.old)) }
-    ensures count { CountsAll result (S.failures source.old) (S.failures source.new) (O.failures out.old) (O.failures out.new) (R.failures rec.old) (R.failures rec.new) }
+    ensures count { CountsAll result (D.holds devices.old).failures (D.holds devices.new).failures }
 {
     let mut over = false;
     let mut draft = Draft::new(alloc);
     loop {
         if let Some(end) = turn(
-            alloc, machine, options, steps, source, &mut over, out, rec, &mut draft,
+            alloc, machine, options, steps, &mut over, &mut draft, devices,
         )? {
             return Ok(end);
         }
@@ -245,25 +224,20 @@ pub fn failure(broken: Broken) -> Cause
 /// devices hold is where a beginning of the transcript's events leaves them. A run can be played again on its record:
 /// one that came to an end of its own, or to the limit, is then the same but for its bad lines, and one that the choices
 /// cut short takes the same steps and ends where they ended.
-pub fn play<M: Machine, S: Source, O: Sink, R: Sink>(
+pub fn play<M: Machine, D: Devices>(
     alloc: Global,
     machine: &mut M,
     options: &Options,
-    source: &mut S,
-    out: &mut O,
-    rec: &mut R,
+    devices: &mut D,
 ) -> End
-    ensures left { (left : List ℕ) × S.may_give source.new left }
-    ensures whole { result.status ≢ 6 → (over : Bool) × Does (S.may_give source.old) (S.may_give source.new) (O.taken out.old) (O.taken out.new) (R.taken rec.old) (R.taken rec.new) 0 result.steps
-        (transcript M.rules options.now machine.old) result over }
-    ensures quiet { result.status ≢ 6 → (S.failures source.new ≡ S.failures source.old) × (O.failures out.new ≡ O.failures out.old) × (R.failures rec.new ≡ R.failures rec.old) }
-    ensures broken { result.status ≡ 6 → (broken : Broken) × (result.cause ≡ failure_of broken)
-        × Breaks broken (S.may_give source.old) (S.may_give source.new) (O.taken out.old) (O.taken out.new) (R.taken rec.old) (R.taken rec.new) 0 result.steps (transcript M.rules options.now machine.old)
-        × CountsBroken broken (S.failures source.old) (S.failures source.new) (O.failures out.old) (O.failures out.new) (R.failures rec.old) (R.failures rec.new) }
+    ensures left { (left : List ℕ) × (D.holds devices.new).source left }
+    ensures whole { result.status ≢ 6 → Ends (D.holds devices.old) (D.holds devices.new) result.steps (transcript M.rules options.now machine.old) result }
+    ensures quiet { result.status ≢ 6 → (D.holds devices.new).failures ≡ (D.holds devices.old).failures }
+    ensures broken { result.status ≡ 6 → IsBrokenOff (D.holds devices.old) (D.holds devices.new) (transcript M.rules options.now machine.old) result }
     ensures replay { HasFewMoves M.rules → CanBeReplayed (transcript M.rules options.now machine.old) }
 {
     let mut steps = 0;
-    match run(alloc, machine, options, &mut steps, source, out, rec) {
+    match run(alloc, machine, options, &mut steps, devices) {
         Ok(end) => end,
         Err(broken) => end_of(failure(broken), steps),
     }

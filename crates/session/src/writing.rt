@@ -1,81 +1,85 @@
-// Functions that compose a piece and hand it over.
-ghost use Rattle.std.specs.Prelude.{◌≡◌, ◌+◌, ◌<◌, ◌^◌, ◌++◌, length, IfOk, IfErr, OnOk, MatchResult};
-ghost use Rattle.std.specs.Io.KnownBytes.{Appends};
+//! Functions that compose a piece and hand it over.
+ghost use Rattle.std.specs.Prelude.{◌≡◌, ◌+◌, ◌<◌, ◌^◌, ◌++◌, OnOk};
 ghost use Rattle.std.specs.List.{Contains};
+ghost use Rattle.session.specs.Stands.{CountsAll};
 ghost use Rattle.session.specs.Texts.{list_from, prompt, last_line};
-ghost use Rattle.session.specs.Writes.{Writes, WriteBreaks, CountsWrite, CountsKeep, Keeps, StepsTo, StepBreaks};
+ghost use Rattle.session.specs.Writes.{Writes, Keeps, Steps};
 
 use crate::draft::{
     Draft, draft_fault, draft_last, draft_list, draft_prompt, draft_record, draft_step,
 };
 use crate::question::put_out;
 use crate::{Answer, Broken, Cause, Machine, Options, Stop};
-use devices::{Sink, put_all};
+use devices::Devices;
 use diagnostics::Fault;
 
 /// Writes the list of a question.
-pub fn write_list<M: Machine, O: Sink>(
+pub fn write_list<M: Machine, D: Devices>(
     machine: &M,
     moves: &[M::Move],
     draft: &mut Draft,
-    out: &mut O,
+    devices: &mut D,
 ) -> Result<(), Broken>
     requires { moves.now ≡ M.rules.moves machine.now }
-    ensures text { Writes result (O.taken out.old) (O.taken out.new) (list_from (M.rules.place machine.now) 1 moves.now) }
-    ensures count { CountsWrite result (O.failures out.old) (O.failures out.new) }
+    ensures text { Writes result (D.holds devices.old) (D.holds devices.new) (list_from (M.rules.text machine.now) 1 moves.now) }
+    ensures count { CountsAll result (D.holds devices.old).failures (D.holds devices.new).failures }
 {
     draft_list(machine, moves, draft)?;
-    put_out(out, &draft.text)
+    put_out(devices, &draft.piece)
 }
 
 /// Writes the prompt, and leaves it in the draft.
-pub fn write_prompt<O: Sink>(most: usize, draft: &mut Draft, out: &mut O) -> Result<(), Broken>
-    ensures prompt { OnOk result (draft.new.text.items ≡ prompt most) }
-    ensures text { Writes result (O.taken out.old) (O.taken out.new) (prompt most) }
-    ensures count { CountsWrite result (O.failures out.old) (O.failures out.new) }
+pub fn write_prompt<D: Devices>(
+    most: usize,
+    draft: &mut Draft,
+    devices: &mut D,
+) -> Result<(), Broken>
+    ensures prompt { OnOk result (draft.new.piece.items ≡ prompt most) }
+    ensures text { Writes result (D.holds devices.old) (D.holds devices.new) (prompt most) }
+    ensures count { CountsAll result (D.holds devices.old).failures (D.holds devices.new).failures }
 {
-    draft_prompt(most, &mut draft.text)?;
-    put_out(out, &draft.text)
+    draft_prompt(most, &mut draft.piece)?;
+    put_out(devices, &draft.piece)
 }
 
 /// Writes the last line.
-pub fn write_last<O: Sink>(
+pub fn write_last<D: Devices>(
     cause: Cause,
     steps: u32,
     draft: &mut Draft,
-    out: &mut O,
+    devices: &mut D,
 ) -> Result<(), Broken>
-    ensures text { Writes result (O.taken out.old) (O.taken out.new) (last_line cause steps) }
-    ensures count { CountsWrite result (O.failures out.old) (O.failures out.new) }
+    ensures text { Writes result (D.holds devices.old) (D.holds devices.new) (last_line cause steps) }
+    ensures count { CountsAll result (D.holds devices.old).failures (D.holds devices.new).failures }
 {
-    draft_last(cause, steps, &mut draft.text)?;
-    put_out(out, &draft.text)
+    draft_last(cause, steps, &mut draft.piece)?;
+    put_out(devices, &draft.piece)
 }
 
 /// Writes the last lines of an invalid end.
-pub fn write_stuck<M: Machine, O: Sink>(
+pub fn write_stuck<M: Machine, D: Devices>(
     machine: &M,
     steps: u32,
     draft: &mut Draft,
-    out: &mut O,
+    devices: &mut D,
 ) -> Result<(), Broken>
-    ensures text { Writes result (O.taken out.old) (O.taken out.new) (last_line Cause.Invalid steps ++ M.rules.stuck machine.now) }
-    ensures count { CountsWrite result (O.failures out.old) (O.failures out.new) }
+    ensures text { Writes result (D.holds devices.old) (D.holds devices.new) (last_line Cause.Invalid steps ++ M.rules.stuck machine.now) }
+    ensures count { CountsAll result (D.holds devices.old).failures (D.holds devices.new).failures }
 {
-    draft_last(Cause::Invalid, steps, &mut draft.text)?;
-    machine.stuck(&mut draft.text)?;
-    put_out(out, &draft.text)
+    draft_last(Cause::Invalid, steps, &mut draft.piece)?;
+    machine.stuck(&mut draft.piece)?;
+    put_out(devices, &draft.piece)
 }
 
 /// Records an accepted number.
-pub fn keep<R: Sink>(said: Answer, draft: &mut Draft, rec: &mut R) -> Result<(), Broken>
-    ensures text { Keeps result (R.taken rec.old) (R.taken rec.new) said }
-    ensures count { CountsKeep result (R.failures rec.old) (R.failures rec.new) }
+pub fn keep<D: Devices>(said: Answer, draft: &mut Draft, devices: &mut D) -> Result<(), Broken>
+    ensures text { Keeps result (D.holds devices.old) (D.holds devices.new) said }
+    ensures count { CountsAll result (D.holds devices.old).failures (D.holds devices.new).failures }
 {
     match said {
         Answer::Pick(n) => {
-            draft_record(n, &mut draft.text)?;
-            match put_all(rec, &draft.text) {
+            draft_record(n, &mut draft.piece)?;
+            match devices.keep(&draft.piece) {
                 Ok(()) => Ok(()),
                 Err(_) => Err(Broken::Record),
             }
@@ -84,35 +88,33 @@ pub fn keep<R: Sink>(said: Answer, draft: &mut Draft, rec: &mut R) -> Result<(),
     }
 }
 
-/// Takes a step and writes its text, or the line of its fault.
-pub fn step<M: Machine, O: Sink>(
+/// Takes a step and writes its text, or the line of its fault. Where steps are not shown, the move's text is composed for
+/// a fault alone.
+pub fn step<M: Machine, D: Devices>(
     machine: &mut M,
     m: &M::Move,
     options: &Options,
     steps: &mut u32,
     draft: &mut Draft,
-    out: &mut O,
+    devices: &mut D,
 ) -> Result<Option<Fault>, Broken>
     requires present { Contains (M.rules.moves machine.old) m.now }
     requires room { steps.old + 1 < 2 ^ 32 }
-    ensures ok { IfOk result (StepsTo M.rules options.now machine.old m.now steps.old machine.new steps.new (O.taken out.old) (O.taken out.new)) }
-    ensures err { IfErr result (λ broken. StepBreaks broken M.rules options.now machine.old m.now steps.old steps.new (O.taken out.old) (O.taken out.new)) }
-    ensures count { CountsWrite result (O.failures out.old) (O.failures out.new) }
+    ensures step { Steps result M.rules options.now machine.old m.now steps.old machine.new steps.new (D.holds devices.old) (D.holds devices.new) }
+    ensures count { CountsAll result (D.holds devices.old).failures (D.holds devices.new).failures }
 {
     let n = u64::from(*steps) + 1;
-    draft.place.clear();
-    machine.show(m, &mut draft.place)?;
-    draft_step(options.steps, n, &draft.place, &mut draft.text)?;
-    match machine.take(m, &mut draft.text) {
+    draft_step(machine, m, options.steps, n, draft)?;
+    match machine.take(m, &mut draft.piece) {
         Ok(()) => {
             *steps += 1;
-            machine.values(options.globals, options.locals, &mut draft.text)?;
-            put_out(out, &draft.text)?;
+            machine.values(options.globals, options.locals, &mut draft.piece)?;
+            put_out(devices, &draft.piece)?;
             Ok(None)
         }
         Err(Stop::Fault(f)) => {
-            draft_fault(f, n, &draft.place, &mut draft.text)?;
-            put_out(out, &draft.text)?;
+            draft_fault(machine, m, f, n, draft)?;
+            put_out(devices, &draft.piece)?;
             Ok(Some(f))
         }
         Err(Stop::Memory) => Err(Broken::Memory),

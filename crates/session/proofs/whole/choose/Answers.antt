@@ -2,41 +2,30 @@ use Rattle.std.proofs.Common.{◌∙◌}
 use Rattle.std.proofs.lemmas.Result.{err_from_is_err_and}
 use Rattle.session.specs.Session.{kept}
 use Rattle.session.proofs.Parts.{Leads-does, Leads-breaks, puts, Does-then, Breaks-then}
-use Rattle.session.proofs.Turns.{record_counts, write_breaks, keep_does, keep_breaks}
+use Rattle.session.proofs.Turns.{write_breaks, keep_does, keep_breaks}
 use Rattle.session.proofs.whole.choose.Goals as goal
 
-pub returns-in_err-write_list-clause-err : goal.returns-in_err-write_list-clause-err
-returns-in_err-write_list-clause-err g c =
+pub returns-in_err-write_list-clause-part : goal.returns-in_err-write_list-clause-part
+returns-in_err-write_list-clause-part g c =
     let p = err_from_is_err_and c.from_residual.result c.from_residual.ensures.1 in
     rw (p.1, p.2) (λ steps. write_breaks _ _ _ c.in_err-write_list.ensures.text)
 
-pub returns-in_err-write_prompt-clause-err : goal.returns-in_err-write_prompt-clause-err
-returns-in_err-write_prompt-clause-err g c =
+pub returns-in_err-write_prompt-clause-part : goal.returns-in_err-write_prompt-clause-part
+returns-in_err-write_prompt-clause-part g c =
     let p = err_from_is_err_and c.from_residual-in_err-write_prompt.result c.from_residual-in_err-write_prompt.ensures.1 in
     rw (p.1, p.2) (λ steps. Leads-breaks (puts _ _ c.in_ok-write_list.ensures.text) (write_breaks _ _ _ c.in_err-write_prompt.ensures.text))
 
-pub returns-in_err-said-clause-err : goal.returns-in_err-said-clause-err
-returns-in_err-said-clause-err g c =
+pub returns-in_err-said-clause-part : goal.returns-in_err-said-clause-part
+returns-in_err-said-clause-part g c =
     let p = err_from_is_err_and c.from_residual-in_err-said.result c.from_residual-in_err-said.ensures.1 in
-    rw (p.1, p.2) (λ steps. Leads-breaks (puts _ _ c.in_ok-write_list.ensures.text) (Leads-breaks (puts _ _ c.in_ok-write_prompt.ensures.text) (Breaks-then kept (c.in_err-said.ensures.err _ steps))))
+    rw (p.1, p.2) (λ steps. Leads-breaks (puts _ _ c.in_ok-write_list.ensures.text) (Leads-breaks (puts _ _ c.in_ok-write_prompt.ensures.text) (Breaks-then kept (c.in_err-said.ensures.part steps))))
 
-pub returns-in_err-keep-clause-err : goal.returns-in_err-keep-clause-err
-returns-in_err-keep-clause-err g c =
+pub returns-in_err-keep-clause-part : goal.returns-in_err-keep-clause-part
+returns-in_err-keep-clause-part g c =
     let p = err_from_is_err_and c.from_residual-in_err-keep.result c.from_residual-in_err-keep.ensures.1 in
     rw (p.1, p.2) (λ steps. Leads-breaks (puts _ _ c.in_ok-write_list.ensures.text) (Leads-breaks (puts _ _ c.in_ok-write_prompt.ensures.text)
-    (Leads-breaks (Does-then kept (c.in_ok-said.ensures.ok _ steps)) (keep_breaks _ c.in_ok-said.said c.question.new.over c.in_err-keep.ensures.text))))
+    (Leads-breaks (Does-then kept (c.in_ok-said.ensures.part steps)) (keep_breaks _ c.in_ok-said.said c.question.new.over c.in_err-keep.ensures.text))))
 
-pub returns-clause-ok : goal.returns-clause-ok
-returns-clause-ok g c steps = Leads-does (puts _ _ c.in_ok-write_list.ensures.text) (Leads-does (puts _ _ c.in_ok-write_prompt.ensures.text)
-    (Leads-does (Does-then kept (c.in_ok-said.ensures.ok _ steps)) (keep_does c.in_ok-said.said c.question.new.over c.in_ok-keep.ensures.text)))
-
-pub returns-in_err-keep-clause-count : goal.returns-in_err-keep-clause-count
-returns-in_err-keep-clause-count g c =
-    let p = err_from_is_err_and c.from_residual-in_err-keep.result c.from_residual-in_err-keep.ensures.1 in
-    let asked = c.in_ok-said.ensures.count 0 in
-    rw (p.1, p.2, asked.0, asked.1, c.in_ok-write_prompt.ensures.count, c.in_ok-write_list.ensures.count) (record_counts c.in_err-keep.field-0.0 _ _ _ _ c.in_err-keep.ensures.count)
-
-pub returns-clause-count : goal.returns-clause-count
-returns-clause-count g c =
-    let asked = c.in_ok-said.ensures.count 0 in
-    (asked.0, asked.1 ∙ (c.in_ok-write_prompt.ensures.count ∙ c.in_ok-write_list.ensures.count), c.in_ok-keep.ensures.count)
+pub returns-clause-part : goal.returns-clause-part
+returns-clause-part g c steps = Leads-does (puts _ _ c.in_ok-write_list.ensures.text) (Leads-does (puts _ _ c.in_ok-write_prompt.ensures.text)
+    (Leads-does (Does-then kept (c.in_ok-said.ensures.part steps)) (keep_does c.in_ok-said.said c.question.new.over c.in_ok-keep.ensures.text)))
