@@ -5,6 +5,7 @@ use Rattle.diagnostics.specs.declared.fault.Fault.TheVariants as fault
 use Rattle.diagnostics.specs.declared.refusal.Refusal.{Refusal}
 use Rattle.diagnostics.specs.declared.refusal.Refusal.TheVariants as refusal
 
+-- the number of a fault
 abbrev pub fault_number : Fault → ℕ
 fault_number fault.AssertionViolated = 1
 fault_number fault.ZeroDivisor = 2
@@ -15,6 +16,7 @@ fault_number fault.TooManyChannels = 6
 fault_number fault.DStepBlocks = 7
 fault_number fault.DStepTooLong = 8
 
+-- what a fault's line says of it
 abbrev pub fault_words : Fault → List ℕ
 fault_words fault.AssertionViolated = codes "assertion violated"
 fault_words fault.ZeroDivisor = codes "zero divisor"
@@ -25,6 +27,7 @@ fault_words fault.TooManyChannels = codes "too many channels"
 fault_words fault.DStepBlocks = codes "d_step blocks"
 fault_words fault.DStepTooLong = codes "d_step too long"
 
+-- the number of a refusal
 abbrev pub refusal_number : Refusal → ℕ
 refusal_number refusal.TextTooLong = 1
 refusal_number refusal.Lexical = 2
@@ -45,6 +48,7 @@ refusal_number refusal.NoProcess = 16
 refusal_number refusal.TooManyAtStart = 17
 refusal_number refusal.Initialiser = 18
 
+-- what a refusal's line says of it
 abbrev pub refusal_words : Refusal → List ℕ
 refusal_words refusal.TextTooLong = codes "text too long"
 refusal_words refusal.Lexical = codes "lexical"

@@ -1,17 +1,25 @@
-// The faults of a run.
+//! The faults of a run.
 ghost use Rattle.std.specs.Prelude.{◌≡◌};
 ghost use Rattle.diagnostics.specs.Words.{fault_number, fault_words};
 
 /// Why a step cannot be taken (Holzmann, *The SPIN Model Checker*, chapter 3; the numbers are this program's own).
 #[derive(Clone, Copy, Debug, PartialEq, Eq)]
 pub enum Fault {
+    /// The condition of an `assert` is 0.
     AssertionViolated,
+    /// A number is divided by 0.
     ZeroDivisor,
+    /// An array has no such element.
     IndexOutOfRange,
+    /// A number is no channel.
     NoSuchChannel,
+    /// A message has more or fewer fields than its channel.
     WrongNumberOfFields,
+    /// There are more channels than there may be.
     TooManyChannels,
+    /// A statement in a `d_step` cannot be taken.
     DStepBlocks,
+    /// A `d_step` takes too many statements.
     DStepTooLong,
 }
 

@@ -1,4 +1,4 @@
-// Why a model is refused.
+//! Why a model is refused.
 ghost use Rattle.std.specs.Prelude.{◌≡◌};
 ghost use Rattle.diagnostics.specs.Words.{refusal_number, refusal_words};
 
@@ -6,23 +6,41 @@ ghost use Rattle.diagnostics.specs.Words.{refusal_number, refusal_words};
 /// answered. The numbers are this program's own.
 #[derive(Clone, Copy, Debug, PartialEq, Eq)]
 pub enum Refusal {
+    /// The text has more bytes than a model may have.
     TextTooLong,
+    /// The text cannot be cut into tokens.
     Lexical,
+    /// It uses a part of Promela that is left out.
     LeftOut,
+    /// Its brackets are nested too deep.
     TooDeep,
+    /// No tree spells its tokens.
     Syntax,
+    /// A name stands for two things.
     NameTwice,
+    /// A name stands for nothing.
     UnknownName,
+    /// A name stands for another kind of thing than is asked for.
     WrongKind,
+    /// A process is given more or fewer arguments than it has parameters.
     ArgumentCount,
+    /// A label stands twice, or a `goto` leads to none.
     Label,
+    /// A `break` stands outside of each `do`.
     BreakOutsideDo,
+    /// A `d_step` is left by a `goto`, or cannot begin.
     DStep,
+    /// A circle of `goto`s takes no step.
     CircleOfGotos,
+    /// A number is out of its range.
     NumberOutOfRange,
+    /// The variables have more cells than there may be.
     TooManyCells,
+    /// No process begins.
     NoProcess,
+    /// More processes begin than there may be.
     TooManyAtStart,
+    /// What a variable of the first state begins with has a fault.
     Initialiser,
 }
 

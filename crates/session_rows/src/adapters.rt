@@ -1,4 +1,4 @@
-// The adapters over readers and writers that fail.
+//! The adapters over readers and writers that fail.
 ghost use Rattle.std.specs.Prelude.{◌≡◌};
 
 use devices::{ByteReader, Failed, Failures, Next, PieceWriter, Sink, Source};

@@ -1,4 +1,4 @@
-// Sessions over devices that fail, and over choices that end early or never.
+//! Sessions over devices that fail, and over choices that end early or never.
 use crate::player::*;
 use session::{Cause, Options};
 use std::alloc::Global;

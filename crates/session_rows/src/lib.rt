@@ -1,4 +1,4 @@
-// Small machines, and sessions of them over devices that fail.
+//! Small machines, and sessions of them over devices that fail.
 #![tactic(auto)]
 
 #[cfg(test)]

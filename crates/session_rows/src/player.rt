@@ -1,8 +1,8 @@
-// Plays a sample over devices of which one call may fail, all sinks taking one byte a call.
+//! Plays a sample over devices of which one call may fail, all sinks taking one byte a call.
 ghost use Rattle.std.specs.Prelude.{◌≡◌};
 
 use crate::{Pair, Rounds, Sample};
-use devices::{FailsOnce, Failures, Next, OneByte, SliceSource, Source, VecSink};
+use devices::{FailsOnce, Failures, Next, OneByte, SliceSource, Source, ThreeDevices, VecSink};
 use session::{Cause, End, Options, play};
 use std::alloc::Global;
 use std::marker::Brand;
@@ -92,41 +92,37 @@ fn played_with<K: Ledger, L: Ledger>(
     requires second_one { second.parts ≡ 1 }
 {
     let mut machine = sample;
-    let mut source = Counting {
-        source: FailsOnce::new(SliceSource::new(choices), failing.source),
-        calls: 0,
-        ended: false,
-        asked_after_end: false,
+    let mut devices = ThreeDevices {
+        source: Counting {
+            source: FailsOnce::new(SliceSource::new(choices), failing.source),
+            calls: 0,
+            ended: false,
+            asked_after_end: false,
+        },
+        out: FailsOnce::new(
+            OneByte {
+                sink: VecSink::new(Vec::new(alloc), Failures::<K>::new(first)),
+            },
+            failing.out,
+        ),
+        rec: FailsOnce::new(
+            OneByte {
+                sink: VecSink::new(Vec::new(alloc), Failures::<L>::new(second)),
+            },
+            failing.rec,
+        ),
     };
-    let mut out = FailsOnce::new(
-        OneByte {
-            sink: VecSink::new(Vec::new(alloc), Failures::<K>::new(first)),
-        },
-        failing.out,
-    );
-    let mut rec = FailsOnce::new(
-        OneByte {
-            sink: VecSink::new(Vec::new(alloc), Failures::<L>::new(second)),
-        },
-        failing.rec,
-    );
-    let end = play(
-        alloc,
-        &mut machine,
-        options,
-        &mut source,
-        &mut out,
-        &mut rec,
-    );
+    let end = play(alloc, &mut machine, options, &mut devices);
+    let left = devices.source.source.device().left().len();
     Ok(Behind {
-        out: Vec::from_slice(alloc, out.device().sink.bytes())?,
-        rec: Vec::from_slice(alloc, rec.device().sink.bytes())?,
-        read: choices
-            .len()
-            .saturating_sub(source.source.device().left().len()),
-        calls: source.calls,
-        asked_after_end: source.asked_after_end,
-        failed: source.source.has_failed() || out.has_failed() || rec.has_failed(),
+        out: Vec::from_slice(alloc, devices.out.device().sink.bytes())?,
+        rec: Vec::from_slice(alloc, devices.rec.device().sink.bytes())?,
+        read: choices.len().saturating_sub(left),
+        calls: devices.source.calls,
+        asked_after_end: devices.source.asked_after_end,
+        failed: devices.source.source.has_failed()
+            || devices.out.has_failed()
+            || devices.rec.has_failed(),
         end,
     })
 }

@@ -1,4 +1,4 @@
-// Each row, played again on its record.
+//! Each row, played again on its record.
 use crate::player::*;
 use session::Cause;
 use std::process::Abort;

@@ -1,4 +1,4 @@
-// Three small machines.
+//! Three small machines.
 ghost use Rattle.session_rows.specs.Samples.{sample_rules};
 
 use diagnostics::Fault;
@@ -8,17 +8,24 @@ use std::alloc::{AllocError, Global};
 /// One process that sets `x` to 1 or 2, for some rounds or without end, and then dies.
 #[derive(Clone, Copy, Debug, PartialEq, Eq)]
 pub struct Rounds {
+    /// Whether it goes on without end.
     pub endless: bool,
+    /// The rounds that are left, where it does not.
     pub left: u32,
+    /// The variable.
     pub x: u8,
+    /// Whether the last step changed it.
     pub changed: bool,
+    /// Whether the process is dead.
     pub dead: bool,
 }
 
 /// Two processes of one assignment each. Each is at 0 before it, at 1 behind it, and at 2 where it is dead.
 #[derive(Clone, Copy, Debug, PartialEq, Eq)]
 pub struct Pair {
+    /// Where the first process is.
     pub a: u8,
+    /// Where the second one is.
     pub b: u8,
 }
 
@@ -26,8 +33,11 @@ pub struct Pair {
 /// fault.
 #[derive(Clone, Copy, Debug, PartialEq, Eq)]
 pub enum Sample {
+    /// A process that sets a variable.
     Rounds(Rounds),
+    /// Two processes.
     Pair(Pair),
+    /// A countdown, from this number.
     Countdown(u32),
 }
 
