@@ -20,7 +20,6 @@ mod writing;
 pub use choice::Answer;
 pub use diagnostics::Stop;
 pub use limits::{BAD_LINES, LINE_BYTES};
-pub use line::{Line, LineEnd};
 pub use machine::Machine;
 pub use refused::{refuse, refuse_unserved};
 pub use whole::{end_of, failure, play, run};
