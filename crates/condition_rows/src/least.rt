@@ -1,4 +1,4 @@
-//! The least rule that refuses a text.
+//! The least condition that refuses a text.
 ghost use Rattle.std.specs.Prelude.{◌≡◌};
 ghost use Rattle.pml_names.specs.Env.{env};
 
@@ -9,34 +9,36 @@ use pml_marks::model::marks;
 use pml_names::names::all_names;
 use pml_names::table::Table;
 use pml_conditions::decide::applies;
-use pml_conditions::rule::{Rule, place};
+use pml_conditions::find::find;
+use pml_conditions::condition::{Condition, number};
 use pml_syntax::parse;
 use pml_tree::tree::Tree;
 use std::alloc::{AllocError, Global};
 use std::process::Abort;
 use std::test::Fail;
 
-const RULES: [Rule; 11] = [
-    Rule::Twice,
-    Rule::Unknown,
-    Rule::Wrong,
-    Rule::Arguments,
-    Rule::Label,
-    Rule::Break,
-    Rule::Step,
-    Rule::Range,
-    Rule::Cells,
-    Rule::NoProcess,
-    Rule::Start,
+const CONDITIONS: [Condition; 11] = [
+    Condition::Twice,
+    Condition::Unknown,
+    Condition::Wrong,
+    Condition::Arguments,
+    Condition::Label,
+    Condition::Break,
+    Condition::Step,
+    Condition::Range,
+    Condition::Cells,
+    Condition::NoProcess,
+    Condition::Start,
 ];
 
-// The number of the least rule that refuses the model with these marks, or 0.
+// The number of the least condition that refuses the model with these marks, or 0.
 fn first<'a>(alloc: Global, all: &Table<'a>, marks: &[Mark<'a>]) -> Result<u8, AllocError>
     requires { all.now ≡ env marks.now }
 {
-    for rule in &RULES {
-        if applies(alloc, *rule, all, marks)? {
-            return Ok(place(*rule));
+    let found = find(alloc, all, marks)?;
+    for condition in &CONDITIONS {
+        if applies(alloc, *condition, found, all, marks)? {
+            return Ok(number(*condition));
         }
     }
     Ok(0)
@@ -64,7 +66,7 @@ fn of_tokens<'a>(alloc: Global, tokens: &'a [Token<'a>]) -> Result<u8, Fail> {
     }
 }
 
-/// The number of the least rule that refuses a text, or 0.
+/// The number of the least condition that refuses a text, or 0.
 pub fn least(alloc: Global, text: &[u8]) -> Result<u8, Fail> {
     match cut(alloc, text) {
         Ok(tokens) => of_tokens(alloc, tokens.as_slice()),
@@ -72,7 +74,7 @@ pub fn least(alloc: Global, text: &[u8]) -> Result<u8, Fail> {
     }
 }
 
-/// Each text, a line, is refused by the rule of this number; by none, where it is 0.
+/// Each text, a line, is refused by the condition of this number; by none, where it is 0.
 pub fn each<R: Abort>(rt: &R, alloc: Global, number: u8, texts: &str) -> Result<(), Fail> {
     for text in texts.lines() {
         assert_eq!(rt; (least(alloc, text.as_bytes())?, text), (number, text));

@@ -1,4 +1,4 @@
-//! Rows of models, each a line, with the least rule of those decided on marks that refuses it, and rows on control.
+//! Rows of models, each a line, with the least condition of those decided on marks that refuses it, and rows on control.
 #![tactic(auto)]
 
 #[cfg(test)]

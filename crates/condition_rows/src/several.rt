@@ -1,4 +1,4 @@
-//! Texts that several rules refuse: the least is answered.
+//! Texts that several conditions refuse: the least is answered.
 use crate::least::least;
 use std::test::Fail;
 

@@ -5,37 +5,37 @@ use Rattle.diagnostics.specs.declared.refusal.Refusal.{Refusal}
 use Rattle.diagnostics.specs.declared.refusal.Refusal.TheVariants as r
 use Rattle.pml_tree.specs.declared.tree.Tree.{Tree}
 use Rattle.pml_marks.specs.declared.mark.Mark.{Mark}
-use Rattle.pml_conditions.specs.declared.rule.Rule.{Rule}
+use Rattle.pml_conditions.specs.declared.condition.Condition.{Condition}
 use Rattle.pml_conditions.specs.Decided as marks
-use Rattle.pml_conditions.specs.declared.rule.Rule.TheVariants as rule
+use Rattle.pml_conditions.specs.declared.condition.Condition.TheVariants as condition
 use Rattle.pml_conditions.specs.Decided.{Somewhere, Nowhere, broken, breaks_loose, crosses_step, begins_there}
 use Rattle.pml_program.specs.declared.program.Seq.{Seq}
 use Rattle.pml_control.specs.Control.{Circle, SettlesEverywhere, BadFirstPoint, FirstPointsFit, begins_else}
 use Rattle.pml_control.proofs.Settling.{circle_not}
 use Rattle.pml_program.specs.declared.program.Proctype.{Proctype}
 use Rattle.pml_program.specs.declared.program.Program.{Program}
-use Rattle.pml_check.specs.Judged.{rule_of, BreaksRule, KeepsRule, BreaksModel, KeepsModel, HasCircle, SettleEverywhere, HasBadStep, HaveGoodSteps, HasBadStart, HasGoodStart, AppliesTo, FitsTo, FitsAll, IsFirst, IsFit, IsLeast, all_judged}
+use Rattle.pml_check.specs.Judged.{condition_of, BreaksCondition, KeepsCondition, BreaksModel, KeepsModel, HasCircle, SettleEverywhere, HasBadStep, HaveGoodSteps, HasBadStart, HasGoodStart, AppliesTo, FitsTo, FitsAll, IsFirst, IsFit, IsLeast, all_judged}
 
 some_none : (p : List Mark → Mark → Bool) (ms : List Mark) → Somewhere p ms → Nowhere p ms → ⊥
 some_none p ms h f = let e : true ≡ false = sym h.3 ∙ f h.0 h.1 h.2 in absurd cc
 
-marks_apart : (x : Rule) (ms : List Mark) → marks.Applies x ms → marks.Fits x ms → ⊥
-marks_apart rule.Twice ms a f = some_none (broken rule.Twice ms) ms a f
-marks_apart rule.Unknown ms a f = some_none (broken rule.Unknown ms) ms a f
-marks_apart rule.Wrong ms a f = some_none (broken rule.Wrong ms) ms a f
-marks_apart rule.Arguments ms a f = some_none (broken rule.Arguments ms) ms a f
-marks_apart rule.Label ms a f = some_none (broken rule.Label ms) ms a f
-marks_apart rule.Break ms a f = some_none breaks_loose ms a f
-marks_apart rule.Step ms a f = some_none (crosses_step ms) ms a f
-marks_apart rule.Range ms a f = some_none (broken rule.Range ms) ms a f
-marks_apart rule.Cells ms a f = some_none (broken rule.Cells ms) ms a f
-marks_apart rule.NoProcess ms a f = some_none begins_there ms f a
-marks_apart rule.Start ms (inl a) f = let g = f.0 in omega arith
-marks_apart rule.Start ms (inr a) f = let g = f.1 in omega arith
+marks_apart : (x : Condition) (ms : List Mark) → marks.Applies x ms → marks.Fits x ms → ⊥
+marks_apart condition.Twice ms a f = some_none (broken condition.Twice ms) ms a f
+marks_apart condition.Unknown ms a f = some_none (broken condition.Unknown ms) ms a f
+marks_apart condition.Wrong ms a f = some_none (broken condition.Wrong ms) ms a f
+marks_apart condition.Arguments ms a f = some_none (broken condition.Arguments ms) ms a f
+marks_apart condition.Label ms a f = some_none (broken condition.Label ms) ms a f
+marks_apart condition.Break ms a f = some_none breaks_loose ms a f
+marks_apart condition.Step ms a f = some_none (crosses_step ms) ms a f
+marks_apart condition.Range ms a f = some_none (broken condition.Range ms) ms a f
+marks_apart condition.Cells ms a f = some_none (broken condition.Cells ms) ms a f
+marks_apart condition.NoProcess ms a f = some_none begins_there ms f a
+marks_apart condition.Start ms (inl a) f = let g = f.0 in omega arith
+marks_apart condition.Start ms (inr a) f = let g = f.1 in omega arith
 
-rule_apart : (x : Option Rule) (ms : List Mark) → BreaksRule x ms → KeepsRule x ms → ⊥
-rule_apart None ms a f = a
-rule_apart (Some x) ms a f = marks_apart x ms a f
+condition_apart : (x : Option Condition) (ms : List Mark) → BreaksCondition x ms → KeepsCondition x ms → ⊥
+condition_apart None ms a f = a
+condition_apart (Some x) ms a f = marks_apart x ms a f
 
 circle_apart : (ps : List Proctype) → HasCircle ps → SettleEverywhere ps → ⊥
 circle_apart ps h all = circle_not h.1.body (all h.0 h.1 h.2) h.3
@@ -79,7 +79,7 @@ model_apart r.Initialiser p a f = start_apart p a f
 
 apart : (x : Refusal) (ms : List Mark) (p : Program) → AppliesTo x ms p → FitsTo x ms p → ⊥
 unfolding AppliesTo FitsTo
-apart x ms p (inl a) f = rule_apart (rule_of x) ms a f.0
+apart x ms p (inl a) f = condition_apart (condition_of x) ms a f.0
 apart x ms p (inr a) f = model_apart x p a f.1
 
 pub one_first : (xs : List Refusal) (ms : List Mark) (p : Program) (x y : Refusal) → IsFirst xs ms p x → IsFirst xs ms p y → x ≡ y

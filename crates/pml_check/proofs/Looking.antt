@@ -35,8 +35,3 @@ pub so_far-more : {A : Type 0} (P Q : A → Type 0) (xs : List A) (i : ℕ) (x :
 so_far-more P Q xs i x true here h e all one = all
 so_far-more P Q xs i x false true h e all one = (i, x, slice_get_read xs (length xs) i x refl h e, one)
 so_far-more P Q xs i x false false h e all one = one_more Q xs i x h e one all
-
--- in all of the list
-pub so_far-whole : {A : Type 0} (P Q : A → Type 0) (xs : List A) (i : ℕ) (found : Bool) → length xs ≤ i → SoFar P Q xs i found → SoFar P Q xs (length xs) found
-so_far-whole P Q xs i true h all = all
-so_far-whole P Q xs i false h all = λ k x lt s. all k x (omega arith) s

@@ -2,10 +2,10 @@
 use Rattle.std.specs.Prelude.{Bool, true, false, List, Option, Some, None}
 use Rattle.diagnostics.specs.declared.refusal.Refusal.{Refusal}
 use Rattle.pml_marks.specs.declared.mark.Mark.{Mark}
-use Rattle.pml_conditions.specs.declared.rule.Rule.{Rule}
+use Rattle.pml_conditions.specs.declared.condition.Condition.{Condition}
 use Rattle.pml_program.specs.declared.program.Proctype.{Proctype}
 use Rattle.pml_program.specs.declared.program.Program.{Program}
-use Rattle.pml_check.specs.Judged.{HasCircle, SettleEverywhere, HasBadStep, HaveGoodSteps, HasBadStart, HasGoodStart, BreaksRule, KeepsRule, BreaksModel, KeepsModel, AppliesTo, FitsTo, FitsAll, IsFirst}
+use Rattle.pml_check.specs.Judged.{HasCircle, SettleEverywhere, HasBadStep, HaveGoodSteps, HasBadStart, HasGoodStart, BreaksCondition, KeepsCondition, BreaksModel, KeepsModel, AppliesTo, FitsTo, FitsAll, IsFirst}
 
 abbrev pub DecidesCircles : Bool → List Proctype → Type 0
 DecidesCircles true ps = HasCircle ps
@@ -15,9 +15,9 @@ abbrev pub DecidesSteps : Bool → List Proctype → Type 0
 DecidesSteps true ps = HasBadStep ps
 DecidesSteps false ps = HaveGoodSteps ps
 
-abbrev pub DecidesRule : Bool → Option Rule → List Mark → Type 0
-DecidesRule true x ms = BreaksRule x ms
-DecidesRule false x ms = KeepsRule x ms
+abbrev pub DecidesCondition : Bool → Option Condition → List Mark → Type 0
+DecidesCondition true x ms = BreaksCondition x ms
+DecidesCondition false x ms = KeepsCondition x ms
 
 abbrev pub DecidesStart : Bool → Program → Type 0
 DecidesStart true p = HasBadStart p

@@ -6,8 +6,8 @@ use Rattle.diagnostics.specs.declared.refusal.Refusal.TheVariants as r
 use Rattle.pml_tree.specs.declared.tree.Tree.{Tree}
 use Rattle.pml_marks.specs.declared.mark.Mark.{Mark}
 use Rattle.pml_marks.specs.Marks.{of_tree}
-use Rattle.pml_conditions.specs.declared.rule.Rule.{Rule}
-use Rattle.pml_conditions.specs.declared.rule.Rule.TheVariants as rule
+use Rattle.pml_conditions.specs.declared.condition.Condition.{Condition}
+use Rattle.pml_conditions.specs.declared.condition.Condition.TheVariants as condition
 use Rattle.pml_conditions.specs.Decided as marks
 use Rattle.pml_program.specs.declared.program.Proctype.{Proctype}
 use Rattle.pml_program.specs.declared.program.Program.{Program}
@@ -41,27 +41,27 @@ HasGoodStart p = (b : Begun) × (first_state p ≡ Ok b)
 
 -- ---- what is decided on the marks of the tree alone
 
-abbrev pub rule_of : Refusal → Option Rule
-rule_of r.NameTwice = Some rule.Twice
-rule_of r.UnknownName = Some rule.Unknown
-rule_of r.WrongKind = Some rule.Wrong
-rule_of r.ArgumentCount = Some rule.Arguments
-rule_of r.Label = Some rule.Label
-rule_of r.BreakOutsideDo = Some rule.Break
-rule_of r.DStep = Some rule.Step
-rule_of r.NumberOutOfRange = Some rule.Range
-rule_of r.TooManyCells = Some rule.Cells
-rule_of r.NoProcess = Some rule.NoProcess
-rule_of r.TooManyAtStart = Some rule.Start
-rule_of _ = None
+abbrev pub condition_of : Refusal → Option Condition
+condition_of r.NameTwice = Some condition.Twice
+condition_of r.UnknownName = Some condition.Unknown
+condition_of r.WrongKind = Some condition.Wrong
+condition_of r.ArgumentCount = Some condition.Arguments
+condition_of r.Label = Some condition.Label
+condition_of r.BreakOutsideDo = Some condition.Break
+condition_of r.DStep = Some condition.Step
+condition_of r.NumberOutOfRange = Some condition.Range
+condition_of r.TooManyCells = Some condition.Cells
+condition_of r.NoProcess = Some condition.NoProcess
+condition_of r.TooManyAtStart = Some condition.Start
+condition_of _ = None
 
-abbrev pub BreaksRule : Option Rule → List Mark → Type 0
-BreaksRule None ms = ⊥
-BreaksRule (Some x) ms = marks.Applies x ms
+abbrev pub BreaksCondition : Option Condition → List Mark → Type 0
+BreaksCondition None ms = ⊥
+BreaksCondition (Some x) ms = marks.Applies x ms
 
-abbrev pub KeepsRule : Option Rule → List Mark → Type 0
-KeepsRule None ms = Unit {0}
-KeepsRule (Some x) ms = marks.Fits x ms
+abbrev pub KeepsCondition : Option Condition → List Mark → Type 0
+KeepsCondition None ms = Unit {0}
+KeepsCondition (Some x) ms = marks.Fits x ms
 
 -- ---- what is asked of the model with its names replaced
 
@@ -80,10 +80,10 @@ KeepsModel _ p = Unit {0}
 -- ---- a refusal applies to a tree, or the tree fits it
 
 unfoldable pub AppliesTo : Refusal → List Mark → Program → Type 0
-AppliesTo x ms p = BreaksRule (rule_of x) ms ⊎ BreaksModel x p
+AppliesTo x ms p = BreaksCondition (condition_of x) ms ⊎ BreaksModel x p
 
 unfoldable pub FitsTo : Refusal → List Mark → Program → Type 0
-FitsTo x ms p = KeepsRule (rule_of x) ms × KeepsModel x p
+FitsTo x ms p = KeepsCondition (condition_of x) ms × KeepsModel x p
 
 abbrev pub Applies : Refusal → Tree → Type 0
 Applies x t = AppliesTo x (of_tree t) (numbered_model t)

@@ -4,6 +4,7 @@ use Rattle.pml_tree.specs.declared.tree.Tree.{Tree}
 use Rattle.pml_marks.specs.Marks.{of_tree}
 use Rattle.pml_names.specs.Env.{env}
 use Rattle.pml_resolve.specs.Model.{numbered_model}
+use Rattle.pml_conditions.specs.Decided.{AreFound}
 use Rattle.pml_check.specs.Decided.{DecidesCircles, DecidesSteps}
 use Rattle.pml_check.specs.declared.subject.Subject.{Subject}
 
@@ -11,6 +12,7 @@ use Rattle.pml_check.specs.declared.subject.Subject.{Subject}
 pub record IsSubject (t : Tree) (s : Subject) : Type 0 where
   pub marks : s.marks ≡ of_tree t
   pub names : s.names.table ≡ env (of_tree t)
+  pub found : AreFound (of_tree t) s.found
   pub program : s.program ≡ numbered_model t
   pub circles : DecidesCircles s.control.circle (numbered_model t).proctypes
   pub steps : DecidesSteps s.control.bad_first_point (numbered_model t).proctypes

@@ -2,8 +2,9 @@
 
 ghost use Rattle.std.specs.Prelude.{◌≡◌, IfOk};
 ghost use Rattle.pml_names.specs.Env.{env};
-ghost use Rattle.pml_check.specs.Judged.{rule_of};
-ghost use Rattle.pml_check.specs.Decided.{DecidesCircles, DecidesSteps, DecidesRule, DecidesModel, Decides, Finds};
+ghost use Rattle.pml_conditions.specs.Decided.{AreFound};
+ghost use Rattle.pml_check.specs.Judged.{condition_of};
+ghost use Rattle.pml_check.specs.Decided.{DecidesCircles, DecidesSteps, DecidesCondition, DecidesModel, Decides, Finds};
 
 use crate::start::has_bad_start;
 use crate::subject::Subject;
@@ -11,41 +12,48 @@ use diagnostics::Refusal;
 use pml_control::findings::Findings;
 use pml_program::program::Program;
 use pml_conditions::decide::applies;
-use pml_conditions::rule::Rule;
+use pml_conditions::condition::Condition;
 use std::alloc::{AllocError, Global};
 
-/// The rule of a refusal that is decided on the marks.
-fn rule_of(refusal: Refusal) -> Option<Rule>
-    ensures { result ≡ rule_of refusal }
+/// The condition of a refusal that is decided on the marks.
+fn condition_of(refusal: Refusal) -> Option<Condition>
+    ensures { result ≡ condition_of refusal }
 {
     match refusal {
-        Refusal::NameTwice => Some(Rule::Twice),
-        Refusal::UnknownName => Some(Rule::Unknown),
-        Refusal::WrongKind => Some(Rule::Wrong),
-        Refusal::ArgumentCount => Some(Rule::Arguments),
-        Refusal::Label => Some(Rule::Label),
-        Refusal::BreakOutsideDo => Some(Rule::Break),
-        Refusal::DStep => Some(Rule::Step),
-        Refusal::NumberOutOfRange => Some(Rule::Range),
-        Refusal::TooManyCells => Some(Rule::Cells),
-        Refusal::NoProcess => Some(Rule::NoProcess),
-        Refusal::TooManyAtStart => Some(Rule::Start),
+        Refusal::NameTwice => Some(Condition::Twice),
+        Refusal::UnknownName => Some(Condition::Unknown),
+        Refusal::WrongKind => Some(Condition::Wrong),
+        Refusal::ArgumentCount => Some(Condition::Arguments),
+        Refusal::Label => Some(Condition::Label),
+        Refusal::BreakOutsideDo => Some(Condition::Break),
+        Refusal::DStep => Some(Condition::Step),
+        Refusal::NumberOutOfRange => Some(Condition::Range),
+        Refusal::TooManyCells => Some(Condition::Cells),
+        Refusal::NoProcess => Some(Condition::NoProcess),
+        Refusal::TooManyAtStart => Some(Condition::Start),
         _ => None,
     }
 }
 
-/// Whether a rule is broken on the marks.
-fn breaks_rule<'a>(
+/// Whether a condition is broken on the marks.
+fn breaks_condition<'a>(
     alloc: Global,
     refusal: Refusal,
     subject: &Subject<'a>,
 ) -> Result<bool, AllocError>
-    requires { subject.now.names.table ≡ env subject.now.marks }
-    ensures { IfOk result (λ b. DecidesRule b (rule_of refusal) subject.now.marks) }
+    requires names { subject.now.names.table ≡ env subject.now.marks }
+    requires found { AreFound subject.now.marks subject.now.found }
+    ensures { IfOk result (λ b. DecidesCondition b (condition_of refusal) subject.now.marks) }
 {
-    match rule_of(refusal) {
+    match condition_of(refusal) {
         None => Ok(false),
-        Some(rule) => applies(alloc, rule, &subject.names.table, subject.marks.as_slice()),
+        Some(condition) => applies(
+            alloc,
+            condition,
+            subject.found,
+            &subject.names.table,
+            subject.marks.as_slice(),
+        ),
     }
 }
 
@@ -72,11 +80,12 @@ fn breaks_model(
 #[tactic(auto, unfolding(crate::specs::Judged::AppliesTo, crate::specs::Judged::FitsTo))]
 fn refuses<'a>(alloc: Global, refusal: Refusal, subject: &Subject<'a>) -> Result<bool, AllocError>
     requires names { subject.now.names.table ≡ env subject.now.marks }
+    requires found { AreFound subject.now.marks subject.now.found }
     requires circles { DecidesCircles subject.now.control.circle subject.now.program.proctypes }
     requires steps { DecidesSteps subject.now.control.bad_first_point subject.now.program.proctypes }
     ensures { IfOk result (λ b. Decides b refusal subject.now.marks subject.now.program) }
 {
-    if breaks_rule(alloc, refusal, subject)? {
+    if breaks_condition(alloc, refusal, subject)? {
         return Ok(true);
     }
     breaks_model(alloc, refusal, subject.control, subject.program.get())
@@ -89,6 +98,7 @@ pub fn first_of<'a>(
     subject: &Subject<'a>,
 ) -> Result<Option<Refusal>, AllocError>
     requires names { subject.now.names.table ≡ env subject.now.marks }
+    requires found { AreFound subject.now.marks subject.now.found }
     requires circles { DecidesCircles subject.now.control.circle subject.now.program.proctypes }
     requires steps { DecidesSteps subject.now.control.bad_first_point subject.now.program.proctypes }
     ensures { IfOk result (Finds refusals.now subject.now.marks subject.now.program) }

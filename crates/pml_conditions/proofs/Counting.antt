@@ -12,7 +12,7 @@ use Rattle.pml_marks.specs.declared.mark.What.TheVariants as what
 use Rattle.pml_marks.specs.declared.mark.Mark.{Mark}
 use Rattle.pml_names.specs.Entry.{Entry}
 use Rattle.pml_names.specs.Env.{form, length_of}
-use Rattle.pml_conditions.specs.declared.rule.Rule.TheVariants as rule
+use Rattle.pml_conditions.specs.declared.condition.Condition.TheVariants as condition
 use Rattle.pml_conditions.specs.Start.{channels_of, made, channels, channels_in, started, processes, by_processes}
 use Rattle.pml_conditions.specs.Decided.{Decides}
 
@@ -55,11 +55,11 @@ pub channels_more : (all : List Entry) (ms : List Mark) (m : Mark) (g : ℕ → 
 channels_more all ms m g more h e o = by_case (channels all ms) g h all m more e (nat_eq m.owner o) o
 
 -- whether there are too many, by counts up to 256
-pub decided : (ms : List Mark) (g : ℕ → ℕ) (t a b : ℕ) → min (processes ms) 256 ≤ 255 → ((o : ℕ) → g o ≡ min (channels_in ms o) 256) → t ≡ a + b → a ≡ g 0 → b ≡ min (by_processes g ms) 256 → Decides (nat_lt 255 t) rule.Start ms
+pub decided : (ms : List Mark) (g : ℕ → ℕ) (t a b : ℕ) → min (processes ms) 256 ≤ 255 → ((o : ℕ) → g o ≡ min (channels_in ms o) 256) → t ≡ a + b → a ≡ g 0 → b ≡ min (by_processes g ms) 256 → Decides (nat_lt 255 t) condition.Start ms
 decided ms g t a b few h e ea eb =
     let f = by_processes_capped (channels_in ms) g h ms in
     let z = h 0 in
     elim (cases_Bool (nat_lt 255 t)) [
-      | inl y ↦ let k = ltb-true 255 t y in subst (λ (d : Bool). Decides d rule.Start ms) (sym y) (inr (omega arith))
-      | inr n ↦ let k = ltb-false 255 t n in subst (λ (d : Bool). Decides d rule.Start ms) (sym n) (omega arith, omega arith)
+      | inl y ↦ let k = ltb-true 255 t y in subst (λ (d : Bool). Decides d condition.Start ms) (sym y) (inr (omega arith))
+      | inr n ↦ let k = ltb-false 255 t n in subst (λ (d : Bool). Decides d condition.Start ms) (sym n) (omega arith, omega arith)
     ]

@@ -15,7 +15,7 @@ use Rattle.pml_marks.specs.declared.mark.What.{What}
 use Rattle.pml_marks.specs.declared.mark.What.TheVariants as what
 use Rattle.pml_marks.specs.declared.mark.Mark.{Mark}
 use Rattle.pml_conditions.specs.declared.round.Round.{Round}
-use Rattle.pml_conditions.specs.declared.rule.Rule.TheVariants as rule
+use Rattle.pml_conditions.specs.declared.condition.Condition.TheVariants as condition
 use Rattle.pml_conditions.specs.Structure.{Place, place, placed, labelled, labels, labels_in, rounds, round, top, same_step, elsewhere}
 use Rattle.pml_conditions.specs.Decided.{Applies, crosses_step}
 use Rattle.pml_conditions.specs.Laws.{IsFirstLabel}
@@ -124,7 +124,7 @@ apart (Some a) (Some b) h = elim (eqb_tells a b) [
   | inr e ↦ e.0
 ]
 
-pub goto_crosses : (ms : List Mark) (o k j : ℕ) (g l : Word) → slice_get ms k ≡ Some (mark o (what.Goto g)) → IsFirstLabel ms o j l → g.text ≡ l.text → (round (take k ms)).step ≢ (round (take j ms)).step → Applies rule.Step ms
+pub goto_crosses : (ms : List Mark) (o k j : ℕ) (g l : Word) → slice_get ms k ≡ Some (mark o (what.Goto g)) → IsFirstLabel ms o j l → g.text ≡ l.text → (round (take k ms)).step ≢ (round (take j ms)).step → Applies condition.Step ms
 goto_crosses ms o k j g l s h same far =
     (k, mark o (what.Goto g), s, ap (λ n. elsewhere (placed (labels_in ms) o n) (round (take k ms))) same ∙ ap (λ p. elsewhere p (round (take k ms))) (known ms o j l h) ∙ ap not (apart (round (take j ms)).step (round (take k ms)).step far))
 

@@ -14,8 +14,8 @@ use Rattle.pml_marks.specs.declared.mark.Holder.TheVariants.{Chan, Other}
 use Rattle.pml_marks.specs.declared.mark.Declared.TheVariants as declared_as
 use Rattle.pml_marks.specs.declared.mark.What.{What}
 use Rattle.pml_marks.specs.declared.mark.What.TheVariants as what
-use Rattle.pml_conditions.specs.declared.rule.Rule.{Rule}
-use Rattle.pml_conditions.specs.declared.rule.Rule.TheVariants as rule
+use Rattle.pml_conditions.specs.declared.condition.Condition.{Condition}
+use Rattle.pml_conditions.specs.declared.condition.Condition.TheVariants as condition
 use Rattle.pml_program.specs.declared.form.Form.{Form}
 use Rattle.pml_program.specs.declared.form.Form.TheVariants as kind
 use Rattle.pml_names.specs.declared.thing.Thing.{Thing}
@@ -249,13 +249,13 @@ too_many es o _ = false
 
 -- ---- all of these
 
--- whether a mark breaks one of these rules: all are the names of the text, es those before it
-unfoldable pub judged : Rule → List Entry → List Entry → ℕ → What → Bool
-judged rule.Twice all es o w = twice es o w
-judged rule.Unknown all es o w = unknown all es o w
-judged rule.Wrong all es o w = wrong all es o w
-judged rule.Arguments all es o w = other_count all es o w
-judged rule.Label all es o w = mislabelled all es o w
-judged rule.Range all es o w = out_of_range es w
-judged rule.Cells all es o w = too_many es o w
+-- whether a mark breaks one of these conditions: all are the names of the text, es those before it
+unfoldable pub judged : Condition → List Entry → List Entry → ℕ → What → Bool
+judged condition.Twice all es o w = twice es o w
+judged condition.Unknown all es o w = unknown all es o w
+judged condition.Wrong all es o w = wrong all es o w
+judged condition.Arguments all es o w = other_count all es o w
+judged condition.Label all es o w = mislabelled all es o w
+judged condition.Range all es o w = out_of_range es w
+judged condition.Cells all es o w = too_many es o w
 judged _ all es o w = false

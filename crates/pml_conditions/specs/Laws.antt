@@ -4,14 +4,14 @@ use Rattle.pml_lex.specs.Word.{Word}
 use Rattle.pml_marks.specs.Marks.{mark}
 use Rattle.pml_marks.specs.declared.mark.What.TheVariants as what
 use Rattle.pml_marks.specs.declared.mark.Mark.{Mark}
-use Rattle.pml_conditions.specs.declared.rule.Rule.{Rule}
-use Rattle.pml_conditions.specs.declared.rule.Rule.TheVariants as rule
+use Rattle.pml_conditions.specs.declared.condition.Condition.{Condition}
+use Rattle.pml_conditions.specs.declared.condition.Condition.TheVariants as condition
 use Rattle.pml_conditions.specs.Structure.{round}
 use Rattle.pml_conditions.specs.Decided.{Applies, Fits, crosses_step}
 
--- no rule both applies and fits
+-- no condition both applies and fits
 abbrev pub Exclude : Type 0
-Exclude = (r : Rule) (ms : List Mark) → Applies r ms → Fits r ms → ⊥
+Exclude = (r : Condition) (ms : List Mark) → Applies r ms → Fits r ms → ⊥
 
 -- the label at j is the first of its name among o's
 pub record IsFirstLabel (ms : List Mark) (o j : ℕ) (l : Word) : Type 0 where
@@ -22,7 +22,7 @@ pub record IsFirstLabel (ms : List Mark) (o j : ℕ) (l : Word) : Type 0 where
 abbrev pub GotoCrosses : Type 0
 GotoCrosses =
     (ms : List Mark) (o k j : ℕ) (g l : Word) → slice_get ms k ≡ Some (mark o (what.Goto g)) → IsFirstLabel ms o j l
-    → g.text ≡ l.text → (round (take k ms)).step ≢ (round (take j ms)).step → Applies rule.Step ms
+    → g.text ≡ l.text → (round (take k ms)).step ≢ (round (take j ms)).step → Applies condition.Step ms
 
 -- and no other goto does
 abbrev pub CrossingGoto : Type 0

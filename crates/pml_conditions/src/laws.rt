@@ -2,7 +2,7 @@
 
 ghost use Rattle.pml_conditions.specs.Laws.{Exclude, GotoCrosses, CrossingGoto};
 
-/// No rule both refuses a model and fits it.
+/// No condition both refuses a model and fits it.
 pub fn one_answer()
     ensures { Exclude }
 {}
@@ -13,7 +13,7 @@ pub fn goto_crosses()
     ensures { GotoCrosses }
 {}
 
-/// And for no other goto does the rule on d_steps apply.
+/// And for no other goto does the condition on d_steps apply.
 pub fn crossing_goto()
     ensures { CrossingGoto }
 {}

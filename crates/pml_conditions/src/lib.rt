@@ -1,13 +1,13 @@
-//! The rules that refuse a model, as far as they are decided on its marks.
+//! The conditions that refuse a model, as far as they are decided on its marks.
 #![tactic(auto)]
 
+pub mod condition;
 mod counts;
 pub mod decide;
-mod judge;
+pub mod find;
 mod labels;
 pub mod laws;
 mod round;
-pub mod rule;
 mod start;
 mod structure;
 mod unknown;

@@ -4,7 +4,7 @@ ghost use Rattle.std.specs.Prelude.{◌≡◌, ℕ, ◌+◌, ◌^◌, ◌<◌, �
 ghost use Rattle.pml_names.specs.Env.{env};
 ghost use Rattle.pml_conditions.specs.Start.{begins, started, processes, channels_of, made, by_processes, channels_in, first_channels};
 ghost use Rattle.pml_conditions.specs.Decided.{Finds, begins_there, Decides};
-ghost use Rattle.pml_conditions.specs.declared.rule.Rule.TheVariants as rule;
+ghost use Rattle.pml_conditions.specs.declared.condition.Condition.TheVariants as condition;
 
 use crate::counts::capacity;
 use limits::{MOST_CHANNELS, MOST_PROCESSES};
@@ -140,7 +140,7 @@ fn by_processes(counts: &[u32], marks: &[Mark]) -> u64
 /// Whether there are too many processes or channels in the first state.
 pub fn starts_too_many(alloc: Global, all: &Table, marks: &[Mark]) -> Result<bool, AllocError>
     requires { all.now ≡ env marks.now }
-    ensures { IfOk result (λ b. Decides b rule.Start marks.now) }
+    ensures { IfOk result (λ b. Decides b condition.Start marks.now) }
 {
     if (MOST_PROCESSES as u64) < processes(marks) {
         return Ok(true);

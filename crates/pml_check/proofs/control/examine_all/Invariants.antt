@@ -1,4 +1,3 @@
-use Rattle.std.proofs.Common.{◌×◌}
 use Rattle.pml_check.proofs.Looking.{SoFar}
 use Rattle.pml_program.specs.declared.program.Proctype.{Proctype}
 use Rattle.pml_control.specs.Control.{Circle, SettlesEverywhere, BadFirstPoint, FirstPointsFit}
