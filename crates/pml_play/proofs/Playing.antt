@@ -1,8 +1,7 @@
 -- From what the parts of playing a text answer to what the whole does.
 use Rattle.std.proofs.Common.{◌≡◌, ℕ, ◌≤◌, List, [], Option, Some, Bool, false, Result, Ok, Err, IfOk, IfErr, refl, sym, ap, ◌∙◌, subst, arith}
 use Rattle.std.specs.Prelude.{All}
-use Rattle.std.specs.Io.KnownBytes.{Appends}
-use Rattle.std.proofs.KnownBytes.{Appends-nil}
+use Rattle.devices.specs.Holdings.{Holdings}
 use Rattle.diagnostics.specs.declared.fault.Fault.{Fault}
 use Rattle.diagnostics.specs.declared.refusal.Refusal.{Refusal}
 use Rattle.session.specs.declared.Options.{Options}
@@ -12,10 +11,11 @@ use Rattle.session.specs.declared.Broken.{Broken}
 use Rattle.session.specs.declared.Broken.TheVariants as broken
 use Rattle.session.specs.Part.{Part}
 use Rattle.session.specs.Session.{outcome, end_of, refused, not_served, transcript}
-use Rattle.session.specs.Stands.{Does, Breaks}
+use Rattle.session.specs.Stands.{Breaks}
 use Rattle.session.specs.Texts.{refusal_line, not_served_line}
-use Rattle.session.specs.Writes.{WriteBreaks}
-use Rattle.session.proofs.Parts.{Leads-does, puts, put_breaks, memory_breaks, outcome_does}
+use Rattle.session.specs.Writes.{WriteBreaks, Runs}
+use Rattle.session.proofs.Parts.{Leads-does, puts, memory_breaks, outcome_does}
+use Rattle.session.proofs.Turns.{write_breaks}
 use Rattle.pml_lex.specs.Word.{Word}
 use Rattle.pml_lex.specs.Division.{line_behind}
 use Rattle.pml_lex.specs.Limits.{IsOnLine}
@@ -42,7 +42,7 @@ use Rattle.pml_play.specs.declared.whole.Rejection.TheVariants.{Memory, NotServe
 use Rattle.pml_sim.specs.State.{State}
 use Rattle.pml_sim.specs.World.{rules}
 use Rattle.pml_play.specs.Transcript.{IsSpelled, IsModel, too_long, lexical, left_out, too_deep, unspelled, unfit, IsTranscript, of_unserved, of_refusal, of_model}
-use Rattle.pml_play.specs.Plays.{IsReady, IsRejected, of_lexical, of_syntax, of_check, Rejects, PlaysWhole}
+use Rattle.pml_play.specs.Plays.{IsReady, IsRejected, of_lexical, of_syntax, of_check, Rejects, PlaysText, PlaysWhole, BreaksOff}
 use Rattle.pml_play.proofs.Lines.{token_lines}
 use Rattle.pml_play.proofs.Outcomes.{when_refused, when_unserved, when_modelled}
 
@@ -81,63 +81,35 @@ no_start_fault text p q e f ready same of h =
 
 -- ---- a rejected text
 
-module _ (text : List ℕ) (options : Options) (s : List ℕ → Type 0) (o o' k : Option (List ℕ)) (n : ℕ) where
-  pub rejected_plays : (rejection : Rejection) (result : Result End Broken) → n ≡ 0 → IsRejected text rejection → Rejects rejection result o o' → IfOk result (PlaysWhole text options s s o o' k k 0 n)
-  rejected_plays Memory (Ok end) zero is h = absurd cc
-  rejected_plays Memory (Err e) zero is h = tt
-  rejected_plays NotServed (Err e) zero is h = tt
-  rejected_plays NotServed (Ok end) zero is h = subst (λ (m : ℕ). PlaysWhole text options s s o o' k k 0 m end) (sym zero) (subst (λ (x : End). PlaysWhole text options s s o o' k k 0 0 x) (sym h.1) (record {
+module _ (text : List ℕ) (options : Options) (a b : Holdings) where
+  breaks_by : (e : Broken) (is : List ℕ → Part End) → ((part : List ℕ → Part End) → IsTranscript text options part → part ≡ is) → Breaks e a b 0 0 is → BreaksOff text options a b 0 e
+  breaks_by e is only broken part given = subst (λ (x : List ℕ → Part End). Breaks e a b 0 0 x) (sym (only part given)) broken
+
+  rejected : (rejection : Rejection) (result : Result End Broken) → IsRejected text rejection → Rejects rejection result a b → PlaysText text options result a b 0
+  rejected Memory (Ok end) is h = absurd (let w = h.0 in cc)
+  rejected Memory (Err e) is h = λ part given.
+      let e_is : e ≡ broken.Memory = (let w = h.0 in cc) in
+      subst (λ (x : Broken). Breaks x a b 0 0 part) (sym e_is) (memory_breaks part h.1)
+  rejected NotServed (Ok end) is h = subst (λ (x : End). PlaysWhole text options a b 0 x) (sym h.1) (record {
     part = not_served false;
     is_transcript = of_unserved is;
-    over = false;
-    does = Leads-does (puts not_served_line (outcome (end_of cause.NotServed 0) false) h.0) (outcome_does (end_of cause.NotServed 0) false);
-  }))
-  rejected_plays (Refused r line) (Err e) zero is h = tt
-  rejected_plays (Refused r line) (Ok end) zero is h = subst (λ (m : ℕ). PlaysWhole text options s s o o' k k 0 m end) (sym zero) (subst (λ (x : End). PlaysWhole text options s s o o' k k 0 0 x) (sym h.1) (record {
+    ends = (false, Leads-does (puts not_served_line (outcome (end_of cause.NotServed 0) false) h.0) (outcome_does (end_of cause.NotServed 0) false));
+  })
+  rejected NotServed (Err e) is h =
+      breaks_by e (not_served false) (λ part given. when_unserved is given) (write_breaks e not_served_line (outcome (end_of cause.NotServed 0) false) h.0)
+  rejected (Refused r line) (Ok end) is h = subst (λ (x : End). PlaysWhole text options a b 0 x) (sym h.1) (record {
     part = refused r line false;
     is_transcript = of_refusal is;
-    over = false;
-    does = Leads-does (puts (refusal_line r) (outcome (end_of (cause.Refused r line) 0) false) h.0) (outcome_does (end_of (cause.Refused r line) 0) false);
-  }))
-
-  -- nothing was written
-  written_none : (part : List ℕ → Part End) → Appends o o' [] → Breaks broken.Memory s s o o' k k 0 0 part
-  written_none part none = record { done = []; moved = record { read = record { gave = λ left now. now }; written = none; kept = Appends-nil k; count = refl }; begins = λ left now. ((part left).events, refl) }
-
-  refusal_breaks : (r : Refusal) (line : ℕ) (e : Broken) → WriteBreaks e o o' (refusal_line r) → Breaks e s s o o' k k 0 0 (refused r line false)
-  refusal_breaks r line broken.Memory h = written_none (refused r line false) h
-  refusal_breaks r line broken.Out h = put_breaks (refusal_line r) (outcome (end_of (cause.Refused r line) 0) false) h
-  refusal_breaks r line broken.Source h = absurd h
-  refusal_breaks r line broken.Record h = absurd h
-
-  unserved_breaks : (e : Broken) → WriteBreaks e o o' not_served_line → Breaks e s s o o' k k 0 0 (not_served false)
-  unserved_breaks broken.Memory h = written_none (not_served false) h
-  unserved_breaks broken.Out h = put_breaks not_served_line (outcome (end_of cause.NotServed 0) false) h
-  unserved_breaks broken.Source h = absurd h
-  unserved_breaks broken.Record h = absurd h
-
-  pub rejected_breaks : (rejection : Rejection) (result : Result End Broken) → n ≡ 0 → IsRejected text rejection → Rejects rejection result o o' → IfErr result (λ e. (part : List ℕ → Part End) → IsTranscript text options part → Breaks e s s o o' k k 0 n part)
-  rejected_breaks Memory (Ok end) zero is h = tt
-  rejected_breaks Memory (Err e) zero is h = λ part given.
-      let e_is : e ≡ broken.Memory = (let w = h.0 in cc) in
-      subst (λ (m : ℕ). Breaks e s s o o' k k 0 m part) (sym zero) (subst (λ (x : Broken). Breaks x s s o o' k k 0 0 part) (sym e_is) (subst (λ (l : Option (List ℕ)). Breaks broken.Memory s s o l k k 0 0 part) (sym h.1) (memory_breaks part)))
-  rejected_breaks NotServed (Ok end) zero is h = tt
-  rejected_breaks NotServed (Err e) zero is h = λ part given.
-      subst (λ (m : ℕ). Breaks e s s o o' k k 0 m part) (sym zero) (subst (λ (x : List ℕ → Part End). Breaks e s s o o' k k 0 0 x) (sym (when_unserved is given)) (unserved_breaks e h.0))
-  rejected_breaks (Refused r line) (Ok end) zero is h = tt
-  rejected_breaks (Refused r line) (Err e) zero is h = λ part given.
+    ends = (false, Leads-does (puts (refusal_line r) (outcome (end_of (cause.Refused r line) 0) false) h.0) (outcome_does (end_of (cause.Refused r line) 0) false));
+  })
+  rejected (Refused r line) (Err e) is h = λ part given.
       let p = when_refused is given in
-      subst (λ (m : ℕ). Breaks e s s o o' k k 0 m part) (sym zero) (subst (λ (x : List ℕ → Part End). Breaks e s s o o' k k 0 0 x) (sym p.1) (refusal_breaks r p.0 e h.0))
+      subst (λ (x : List ℕ → Part End). Breaks e a b 0 0 x) (sym p.1) (write_breaks e (refusal_line r) (outcome (end_of (cause.Refused r p.0) 0) false) h.0)
 
--- ---- a model
+  pub rejected_plays : (n : ℕ) (rejection : Rejection) (result : Result End Broken) → n ≡ 0 → IsRejected text rejection → Rejects rejection result a b → PlaysText text options result a b n
+  rejected_plays n rejection result zero is h = subst (λ (m : ℕ). PlaysText text options result a b m) (sym zero) (rejected rejection result is h)
 
-module _ (text : List ℕ) (options : Options) (s s' : List ℕ → Type 0) (o o' k k' : Option (List ℕ)) (n : ℕ) where
-  pub model_plays : (result : Result End Broken) (state : State) → IsModel text state
-      → IfOk result (λ end. (over : Bool) × Does s s' o o' k k' 0 n (transcript rules options state) end over) → IfOk result (PlaysWhole text options s s' o o' k k' 0 n)
-  model_plays (Err e) state is h = tt
-  model_plays (Ok end) state is h = record { part = transcript rules options state; is_transcript = of_model is; over = h.0; does = h.1 }
-
-  pub model_breaks : (result : Result End Broken) (state : State) → IsModel text state
-      → IfErr result (λ e. Breaks e s s' o o' k k' 0 n (transcript rules options state)) → IfErr result (λ e. (part : List ℕ → Part End) → IsTranscript text options part → Breaks e s s' o o' k k' 0 n part)
-  model_breaks (Ok end) state is h = tt
-  model_breaks (Err e) state is h = λ part given. subst (λ (x : List ℕ → Part End). Breaks e s s' o o' k k' 0 n x) (sym (when_modelled is given)) h
+  -- a text that is a model
+  pub model_plays : (n : ℕ) (result : Result End Broken) (state : State) → IsModel text state → Runs result a b n (transcript rules options state) → PlaysText text options result a b n
+  model_plays n (Ok end) state is h = record { part = transcript rules options state; is_transcript = of_model is; ends = h }
+  model_plays n (Err e) state is h = λ part given. subst (λ (x : List ℕ → Part End). Breaks e a b 0 n x) (sym (when_modelled is given)) h

@@ -2,17 +2,23 @@
 use Rattle.std.proofs.Common.{◌≡◌, ℕ, zero, suc, ◌+◌, ◌<◌, ◌≤◌, List, [], ◌∷◌, ◌++◌, length, Option, Bool, true, false, Result, Ok, Err, IfOk, IfErr, refl, sym, ap, ◌∙◌, subst, arith}
 use Rattle.std.specs.Prelude.{if◌then◌else◌}
 use Rattle.std.specs.Io.KnownBytes.{Appends}
+use Rattle.devices.specs.Holdings.{Holdings, Gave, Moved}
 use Rattle.session.specs.declared.Options.{Options}
 use Rattle.session.specs.declared.End.{End}
 use Rattle.session.specs.declared.Broken.{Broken}
 use Rattle.session.specs.declared.Broken.TheVariants as broken
 use Rattle.session.specs.declared.Cause.TheVariants as cause
-use Rattle.session.specs.Events.{Event, front, recorded}
+use Rattle.session.specs.Events.{Event, front, output, recorded}
 use Rattle.session.specs.Part.{Part, followed}
 use Rattle.session.specs.Machine.{Rules, Outcome, Goes, Faults}
 use Rattle.session.specs.Session.{select, stepped, stopped, answered, at_moves, story, transcript}
-use Rattle.session.specs.Stands.{Gave, Begins, Does, Breaks}
+use Rattle.session.specs.Stands.{Begins, Does, Breaks}
+use Rattle.session.specs.Texts.{refusal_line, not_served_line}
+use Rattle.session.specs.Writes.{Writes, Runs}
 use Rattle.session.proofs.Parts.{front-append, recorded-append}
+use Rattle.pml_play.specs.declared.whole.Rejection.{Rejection}
+use Rattle.pml_play.specs.declared.whole.Rejection.TheVariants.{Memory, NotServed, Refused}
+use Rattle.pml_play.specs.Plays.{Rejects}
 use Rattle.pml_sim.specs.State.{State}
 use Rattle.pml_sim.specs.World.{rules}
 use Rattle.pml_sim.proofs.Moves.{few_moves}
@@ -73,25 +79,39 @@ begun_silent broken.Record done all b h =
     let none : length b.1 ≡ 0 = ap length line in
     let some = b.4 in absurd (omega arith)
 
-module _ (options : Options) (state : State) (s s' : List ℕ → Type 0) (o o' k k' : Option (List ℕ)) (n : ℕ) where
+module _ (options : Options) (state : State) (a b : Holdings) (n : ℕ) where
   is_silent : (choices : List ℕ) → IsSilent (transcript rules options state choices).events
   is_silent choices = story_silent rules options few_moves options.limit state 0 false choices
 
   -- what a session of the process reads and records
   record IsUntouched : Type 0 where
-    read : Gave s s' []
-    kept : Appends k k' []
+    read : Gave a.source b.source []
+    kept : Appends a.rec b.rec []
 
-  untouched : (done : List Event) → Gave s s' (front done) → Appends k k' (recorded done) → IsSilent done → IsUntouched
-  untouched done read kept h = record { read = subst (λ (l : List ℕ). Gave s s' l) h.no_byte read; kept = subst (λ (l : List ℕ). Appends k k' l) h.no_line kept }
+  untouched : (done : List Event) → Moved a b (front done) (output done) (recorded done) → IsSilent done → IsUntouched
+  untouched done m h = record { read = subst (λ (l : List ℕ). Gave a.source b.source l) h.no_byte m.read; kept = subst (λ (l : List ℕ). Appends a.rec b.rec l) h.no_line m.recorded }
 
-  done_untouched : (end : End) (over : Bool) (left : List ℕ) → s' left → Does s s' o o' k k' 0 n (transcript rules options state) end over → IsUntouched
-  done_untouched end over left now d = untouched d.done d.moved.read d.moved.kept (subst IsSilent (ap (λ (p : Part End). p.events) (d.is left now)) (is_silent (front d.done ++ left)))
+  done_untouched : (end : End) (over : Bool) (left : List ℕ) → b.source left → Does a b 0 n (transcript rules options state) end over → IsUntouched
+  done_untouched end over left now d = untouched d.done d.moved.moved (subst IsSilent (ap (λ (p : Part End). p.events) (d.is left now)) (is_silent (front d.done ++ left)))
 
-  broken_untouched : (e : Broken) (left : List ℕ) → s' left → Breaks e s s' o o' k k' 0 n (transcript rules options state) → IsUntouched
-  broken_untouched e left now b = untouched b.done b.moved.read b.moved.kept (begun_silent e b.done _ (b.begins left now) (is_silent (front b.done ++ left)))
+  broken_untouched : (e : Broken) (left : List ℕ) → b.source left → Breaks e a b 0 n (transcript rules options state) → IsUntouched
+  broken_untouched e left now x = untouched x.done x.moved.moved (begun_silent e x.done _ (x.begins left now) (is_silent (front x.done ++ left)))
 
-  pub run_untouched : (result : Result End Broken) (left : List ℕ) → s' left → IfOk result (λ end. (over : Bool) × Does s s' o o' k k' 0 n (transcript rules options state) end over)
-      → IfErr result (λ e. Breaks e s s' o o' k k' 0 n (transcript rules options state)) → Gave s s' [] × Appends k k' []
-  run_untouched (Ok end) left now ok err = let x = done_untouched end ok.0 left now ok.1 in (x.read, x.kept)
-  run_untouched (Err e) left now ok err = let x = broken_untouched e left now err in (x.read, x.kept)
+  pub run_untouched : (result : Result End Broken) (left : List ℕ) → b.source left → Runs result a b n (transcript rules options state) → Gave a.source b.source [] × Appends a.rec b.rec []
+  run_untouched (Ok end) left now runs = let x = done_untouched end runs.0 left now runs.1 in (x.read, x.kept)
+  run_untouched (Err e) left now runs = let x = broken_untouched e left now runs in (x.read, x.kept)
+
+-- ---- a rejected text
+
+module _ (a b : Holdings) where
+  writes_untouched : (r : Result End Broken) (piece : List ℕ) → Writes r a b piece → Gave a.source b.source [] × Appends a.rec b.rec []
+  writes_untouched (Ok end) piece w = (w.read, w.recorded)
+  writes_untouched (Err broken.Memory) piece w = (w.read, w.recorded)
+  writes_untouched (Err broken.Out) piece w = let m = w.2 in (m.read, m.recorded)
+  writes_untouched (Err broken.Source) piece w = absurd w
+  writes_untouched (Err broken.Record) piece w = absurd w
+
+  pub rejected_untouched : (rejection : Rejection) (result : Result End Broken) → Rejects rejection result a b → Gave a.source b.source [] × Appends a.rec b.rec []
+  rejected_untouched Memory result h = let m = h.1 in (m.read, m.recorded)
+  rejected_untouched NotServed result h = writes_untouched result not_served_line h.0
+  rejected_untouched (Refused r line) result h = writes_untouched result (refusal_line r) h.0

@@ -1,5 +1,6 @@
 -- What the parts of playing a text answer.
-use Rattle.std.specs.Prelude.{◌≡◌, ℕ, List, Option, Bool, Result, Err, IfOk}
+use Rattle.std.specs.Prelude.{◌≡◌, ℕ, List, [], Result, Err, IfOk, MatchResult}
+use Rattle.devices.specs.Holdings.{Holdings, Moved}
 use Rattle.diagnostics.specs.declared.refusal.Refusal.TheVariants as refusal
 use Rattle.session.specs.declared.Options.{Options}
 use Rattle.session.specs.declared.End.{End}
@@ -8,9 +9,9 @@ use Rattle.session.specs.declared.Broken.{Broken}
 use Rattle.session.specs.declared.Broken.TheVariants as broken
 use Rattle.session.specs.Part.{Part}
 use Rattle.session.specs.Session.{end_of}
-use Rattle.session.specs.Stands.{Does}
+use Rattle.session.specs.Stands.{Breaks, CountsBroken}
 use Rattle.session.specs.Texts.{refusal_line, not_served_line}
-use Rattle.session.specs.Writes.{Writes}
+use Rattle.session.specs.Writes.{Writes, Ends, failure_of}
 use Rattle.pml_lex.specs.declared.fault.LexFault.{LexFault}
 use Rattle.pml_lex.specs.declared.fault.LexFault.TheVariants as lex
 use Rattle.pml_syntax.specs.declared.program.SyntaxFault.{SyntaxFault}
@@ -55,14 +56,29 @@ pub record IsReady (text : List ℕ) (p : Program) : Type 0 where
   pub is : p ≡ numbered_model tree
 
 -- what is written of a rejected text, and how its session ends
-abbrev pub Rejects : Rejection → Result End Broken → Option (List ℕ) → Option (List ℕ) → Type 0
-Rejects Memory result old new = (result ≡ Err broken.Memory) × (new ≡ old)
-Rejects NotServed result old new = Writes result old new not_served_line × IfOk result (λ end. end ≡ end_of cause.NotServed 0)
-Rejects (Refused r line) result old new = Writes result old new (refusal_line r) × IfOk result (λ end. end ≡ end_of (cause.Refused r line) 0)
+abbrev pub Rejects : Rejection → Result End Broken → Holdings → Holdings → Type 0
+Rejects Memory result before after = (result ≡ Err broken.Memory) × Moved before after [] [] []
+Rejects NotServed result before after =
+    Writes result before after not_served_line × IfOk result (λ end. end ≡ end_of cause.NotServed 0)
+Rejects (Refused r line) result before after =
+    Writes result before after (refusal_line r) × IfOk result (λ end. end ≡ end_of (cause.Refused r line) 0)
 
--- a session over the text was done whole, with this end
-pub record PlaysWhole (text : List ℕ) (options : Options) (source source' : List ℕ → Type 0) (out out' rec rec' : Option (List ℕ)) (steps steps' : ℕ) (end : End) : Type 0 where
+-- a session over the text came to this end, after so many steps
+pub record PlaysWhole (text : List ℕ) (options : Options) (before after : Holdings) (steps : ℕ) (end : End) : Type 0 where
   pub part : List ℕ → Part End
   pub is_transcript : IsTranscript text options part
-  pub over : Bool
-  pub does : Does source source' out out' rec rec' steps steps' part end over
+  pub ends : Ends before after steps part end
+
+-- a session over the text was broken off, whichever transcript the text has
+abbrev pub BreaksOff : List ℕ → Options → Holdings → Holdings → ℕ → Broken → Type 0
+BreaksOff text options before after steps broken = (part : List ℕ → Part End) → IsTranscript text options part
+    → Breaks broken before after 0 steps part
+
+-- a session over the text came to its end, or was broken off
+abbrev pub PlaysText : List ℕ → Options → Result End Broken → Holdings → Holdings → ℕ → Type 0
+PlaysText text options r before after steps = MatchResult r (PlaysWhole text options before after steps) (BreaksOff text options before after steps)
+
+-- a device or memory broke the session over the text off, the end says which, and the count of that device alone has risen
+abbrev pub IsBrokenOff : List ℕ → Options → Holdings → Holdings → End → Type 0
+IsBrokenOff text options before after end = (broken : Broken) × (end.cause ≡ failure_of broken)
+    × BreaksOff text options before after end.steps broken × CountsBroken broken before.failures after.failures

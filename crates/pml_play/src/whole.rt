@@ -2,19 +2,19 @@
 
 ghost use Rattle.std.specs.Prelude.{◌≡◌, ◌≢◌, ◌<◌, [], ℕ, List, Err, IfOk, IfErr, OnOk};
 ghost use Rattle.std.specs.Io.KnownBytes.{Appends};
-ghost use Rattle.session.specs.declared.Broken.{Broken};
+ghost use Rattle.devices.specs.Holdings.{Gave};
 ghost use Rattle.session.specs.declared.End.{End};
 ghost use Rattle.session.specs.Part.{Part};
 ghost use Rattle.session.specs.Replay.{CanBeReplayed};
-ghost use Rattle.session.specs.Stands.{Gave, Does, Breaks, CountsAll, CountsBroken};
-ghost use Rattle.session.specs.Writes.{CountsWrite, IsOwnEnd, failure_of};
+ghost use Rattle.session.specs.Stands.{CountsAll};
+ghost use Rattle.session.specs.Writes.{IsOwnEnd};
 ghost use Rattle.pml_lex.specs.Cut.{AreTokens};
 ghost use Rattle.pml_syntax.specs.Grammar.{Spells};
 ghost use Rattle.pml_play.specs.Transcript.{IsModel, IsSpelled, IsTranscript};
 ghost use Rattle.pml_play.specs.Plays as plays;
-ghost use Rattle.pml_play.specs.Plays.{IsReady, IsRejected, Rejects, PlaysWhole};
+ghost use Rattle.pml_play.specs.Plays.{IsReady, IsRejected, Rejects, PlaysText, PlaysWhole, IsBrokenOff};
 
-use devices::{Sink, Source};
+use devices::Devices;
 use diagnostics::Refusal;
 use pml_check::{CheckFault, Checked, Parsed, check};
 use pml_lex::cut;
@@ -131,98 +131,87 @@ fn world_of<'p, 'a>(alloc: Global, checked: &'p Checked<'a>) -> Result<World<'p,
 }
 
 /// Writes the line of a refused text, and ends its session.
-fn reject<O: Sink>(alloc: Global, rejection: Rejection, out: &mut O) -> Result<End, Broken>
-    ensures text { Rejects rejection result (O.taken out.old) (O.taken out.new) }
+fn reject<D: Devices>(
+    alloc: Global,
+    rejection: Rejection,
+    devices: &mut D,
+) -> Result<End, Broken>
+    ensures text { Rejects rejection result (D.holds devices.old) (D.holds devices.new) }
     ensures own { IfOk result (IsOwnEnd 0) }
-    ensures count { CountsWrite result (O.failures out.old) (O.failures out.new) }
+    ensures count { CountsAll result (D.holds devices.old).failures (D.holds devices.new).failures }
 {
     match rejection {
         Rejection::Memory => Err(Broken::Memory),
-        Rejection::NotServed => refuse_unserved(out),
-        Rejection::Refused(refusal, line) => refuse(alloc, refusal, line, out),
+        Rejection::NotServed => refuse_unserved(devices),
+        Rejection::Refused(refusal, line) => refuse(alloc, refusal, line, devices),
     }
 }
 
 /// Plays a checked model, and counts its steps.
-fn play_checked<S: Source, O: Sink, R: Sink>(
+fn play_checked<D: Devices>(
     alloc: Global,
     checked: &Checked<'_>,
     options: &Options,
     steps: &mut u32,
-    source: &mut S,
-    out: &mut O,
-    rec: &mut R,
+    devices: &mut D,
 ) -> Result<End, Broken>
     requires { steps.old ≡ 0 }
-    ensures ok { (text : List ℕ) → IsReady text checked.now → IfOk result (PlaysWhole text options.now (S.may_give source.old) (S.may_give source.new) (O.taken out.old) (O.taken out.new) (R.taken rec.old) (R.taken rec.new) 0 steps.new) }
+    ensures part { (text : List ℕ) → IsReady text checked.now → PlaysText text options.now result (D.holds devices.old) (D.holds devices.new) steps.new }
     ensures own { IfOk result (IsOwnEnd steps.new) }
-    ensures err { (text : List ℕ) → IsReady text checked.now → IfErr result (λ broken. (part : List ℕ → Part End) → IsTranscript text options.now part → Breaks broken (S.may_give source.old) (S.may_give source.new) (O.taken out.old) (O.taken out.new) (R.taken rec.old) (R.taken rec.new) 0 steps.new part) }
-    ensures count { CountsAll result (S.failures source.old) (S.failures source.new) (O.failures out.old) (O.failures out.new) (R.failures rec.old) (R.failures rec.new) }
-    ensures unread { Gave (S.may_give source.old) (S.may_give source.new) [] }
-    ensures unrecorded { Appends (R.taken rec.old) (R.taken rec.new) [] }
+    ensures count { CountsAll result (D.holds devices.old).failures (D.holds devices.new).failures }
+    ensures unread { Gave (D.holds devices.old).source (D.holds devices.new).source [] }
+    ensures unrecorded { Appends (D.holds devices.old).rec (D.holds devices.new).rec [] }
 {
     match world_of(alloc, checked) {
         Ok(world) => {
             let mut world = world;
-            run(alloc, &mut world, options, steps, source, out, rec)
+            run(alloc, &mut world, options, steps, devices)
         }
-        Err(rejection) => reject(alloc, rejection, out),
+        Err(rejection) => reject(alloc, rejection, devices),
     }
 }
 
 /// Plays the text, and counts its steps.
-fn stages<S: Source, O: Sink, R: Sink>(
+fn stages<D: Devices>(
     alloc: Global,
     text: &[u8],
     options: &Options,
     steps: &mut u32,
-    source: &mut S,
-    out: &mut O,
-    rec: &mut R,
+    devices: &mut D,
 ) -> Result<End, Broken>
     requires { steps.old ≡ 0 }
-    ensures ok { IfOk result (PlaysWhole text.now options.now (S.may_give source.old) (S.may_give source.new) (O.taken out.old) (O.taken out.new) (R.taken rec.old) (R.taken rec.new) 0 steps.new) }
+    ensures part { PlaysText text.now options.now result (D.holds devices.old) (D.holds devices.new) steps.new }
     ensures own { IfOk result (IsOwnEnd steps.new) }
-    ensures err { IfErr result (λ broken. (part : List ℕ → Part End) → IsTranscript text.now options.now part → Breaks broken (S.may_give source.old) (S.may_give source.new) (O.taken out.old) (O.taken out.new) (R.taken rec.old) (R.taken rec.new) 0 steps.new part) }
-    ensures count { CountsAll result (S.failures source.old) (S.failures source.new) (O.failures out.old) (O.failures out.new) (R.failures rec.old) (R.failures rec.new) }
-    ensures unread { Gave (S.may_give source.old) (S.may_give source.new) [] }
-    ensures unrecorded { Appends (R.taken rec.old) (R.taken rec.new) [] }
+    ensures count { CountsAll result (D.holds devices.old).failures (D.holds devices.new).failures }
+    ensures unread { Gave (D.holds devices.old).source (D.holds devices.new).source [] }
+    ensures unrecorded { Appends (D.holds devices.old).rec (D.holds devices.new).rec [] }
 {
     let tokens = match tokens_of(alloc, text) {
         Ok(tokens) => tokens,
-        Err(rejection) => return reject(alloc, rejection, out),
+        Err(rejection) => return reject(alloc, rejection, devices),
     };
     match checked_of(alloc, &tokens) {
-        Ok(checked) => play_checked(alloc, &checked, options, steps, source, out, rec),
-        Err(rejection) => reject(alloc, rejection, out),
+        Ok(checked) => play_checked(alloc, &checked, options, steps, devices),
+        Err(rejection) => reject(alloc, rejection, devices),
     }
 }
 
 /// Plays the text of a model. Where the status is not 6, the two sinks have taken the output and the record of its
 /// transcript and its end is answered. Where it is 6, a device or memory failed, and what the devices hold is where a
 /// beginning of the transcript's events leaves them. No question is ever asked: nothing is read, and nothing recorded.
-pub fn play<S: Source, O: Sink, R: Sink>(
-    alloc: Global,
-    text: &[u8],
-    options: &Options,
-    source: &mut S,
-    out: &mut O,
-    rec: &mut R,
-) -> End
-    ensures left { (left : List ℕ) × S.may_give source.new left }
-    ensures whole { result.status ≢ 6 → PlaysWhole text.now options.now (S.may_give source.old) (S.may_give source.new) (O.taken out.old) (O.taken out.new) (R.taken rec.old) (R.taken rec.new) 0 result.steps result }
-    ensures quiet { result.status ≢ 6 → (S.failures source.new ≡ S.failures source.old) × (O.failures out.new ≡ O.failures out.old) × (R.failures rec.new ≡ R.failures rec.old) }
-    ensures broken { result.status ≡ 6 → (broken : Broken) × (result.cause ≡ failure_of broken)
-        × ((part : List ℕ → Part End) → IsTranscript text.now options.now part → Breaks broken (S.may_give source.old) (S.may_give source.new) (O.taken out.old) (O.taken out.new) (R.taken rec.old) (R.taken rec.new) 0 result.steps part)
-        × CountsBroken broken (S.failures source.old) (S.failures source.new) (O.failures out.old) (O.failures out.new) (R.failures rec.old) (R.failures rec.new) }
+pub fn play<D: Devices>(alloc: Global, text: &[u8], options: &Options, devices: &mut D) -> End
+    ensures left { (left : List ℕ) × (D.holds devices.new).source left }
+    ensures whole { result.status ≢ 6 → PlaysWhole text.now options.now (D.holds devices.old) (D.holds devices.new) result.steps result }
+    ensures quiet { result.status ≢ 6 → (D.holds devices.new).failures ≡ (D.holds devices.old).failures }
+    ensures broken { result.status ≡ 6 → IsBrokenOff text.now options.now (D.holds devices.old) (D.holds devices.new) result }
     // No question is ever asked, so no byte of the choices is read, and nothing is recorded.
-    ensures unread { Gave (S.may_give source.old) (S.may_give source.new) [] }
-    ensures unrecorded { Appends (R.taken rec.old) (R.taken rec.new) [] }
+    ensures unread { Gave (D.holds devices.old).source (D.holds devices.new).source [] }
+    ensures unrecorded { Appends (D.holds devices.old).rec (D.holds devices.new).rec [] }
     // Played again on its record, which is empty, it is the same.
     ensures replay { (part : List ℕ → Part End) → IsTranscript text.now options.now part → CanBeReplayed part }
 {
     let mut steps = 0;
-    match stages(alloc, text, options, &mut steps, source, out, rec) {
+    match stages(alloc, text, options, &mut steps, devices) {
         Ok(end) => end,
         Err(broken) => end_of(failure(broken), steps),
     }

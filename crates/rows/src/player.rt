@@ -1,7 +1,7 @@
 //! Plays a text over devices of which one call may fail, all sinks taking one byte a call.
 ghost use Rattle.std.specs.Prelude.{◌≡◌};
 
-use devices::{FailsOnce, Failures, OneByte, SliceSource, VecSink};
+use devices::{FailsOnce, Failures, OneByte, SliceSource, ThreeDevices, VecSink};
 use pml_play::play;
 use session::{End, Options};
 use std::alloc::Global;
@@ -38,20 +38,22 @@ fn played_with<K: Ledger, L: Ledger>(
     requires second_parts { second.parts ≡ L.parts }
     requires second_one { second.parts ≡ 1 }
 {
-    let mut source = SliceSource::new(choices);
-    let mut out = FailsOnce::new(
-        OneByte {
-            sink: VecSink::new(Vec::new(alloc), Failures::<K>::new(first)),
-        },
-        out_fails,
-    );
-    let mut rec = VecSink::new(Vec::new(alloc), Failures::<L>::new(second));
-    let end = play(alloc, text, options, &mut source, &mut out, &mut rec);
+    let mut devices = ThreeDevices {
+        source: SliceSource::new(choices),
+        out: FailsOnce::new(
+            OneByte {
+                sink: VecSink::new(Vec::new(alloc), Failures::<K>::new(first)),
+            },
+            out_fails,
+        ),
+        rec: VecSink::new(Vec::new(alloc), Failures::<L>::new(second)),
+    };
+    let end = play(alloc, text, options, &mut devices);
     Ok(Behind {
-        out: Vec::from_slice(alloc, out.device().sink.bytes())?,
-        rec: Vec::from_slice(alloc, rec.bytes())?,
-        unread: source.left().len(),
-        failed: out.has_failed(),
+        out: Vec::from_slice(alloc, devices.out.device().sink.bytes())?,
+        rec: Vec::from_slice(alloc, devices.rec.bytes())?,
+        unread: devices.source.left().len(),
+        failed: devices.out.has_failed(),
         end,
     })
 }

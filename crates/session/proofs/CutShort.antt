@@ -8,6 +8,7 @@ use Rattle.session.specs.declared.Cause.TheVariants as cause
 use Rattle.session.specs.declared.choice.Answer.{Answer}
 use Rattle.session.specs.declared.choice.Answer.TheVariants as answer
 use Rattle.session.specs.Events.{Event, Put, Told, AskedEnd, Recorded, Stepped, asks, front, recorded}
+use Rattle.session.specs.Limits.{most_line_bytes, most_bad_lines}
 use Rattle.session.specs.Lines.{IsPickUpTo}
 use Rattle.session.specs.Part.{Part, preceded, followed}
 use Rattle.session.specs.Machine.{Rules, Outcome, Goes, Faults}
@@ -49,7 +50,7 @@ module _ {S M : Type 0} (rules : Rules S M) (options : Options) (s : S) where
 -- a question that is asked at the end of the choices
 ended_line : (most : ℕ) → one_line most false [] ≡ record { events = AskedEnd ∷ []; value = Some answer.Ended; over = true; left = [] }
 unfolding one_line
-ended_line most = rw (line_end 80) refl
+ended_line most = rw (line_end most_line_bytes) refl
 
 ended_ask : (most tries : ℕ) → ask most tries false [] ≡ record { events = AskedEnd ∷ []; value = answer.Ended; over = true; left = [] }
 unfolding ask
@@ -69,7 +70,7 @@ module _ {M : Type 0} (text : M → List ℕ) (moves : List M) (few : length mov
       let c = stops.count said other over left in
       let e = stops.ended true [] in
       let none : recorded (chosen text moves few next asked said over left).events ≡ [] = rw is (rw (append-nil asked) (rw (recorded-append asked (next said over left).events, silent.0) c.1)) in
-      rw none (rw (ended_ask (length moves) 99) (record { ends = e.0 ∙ ap (end_of cause.ChoicesEnded) (sym (rw is c.0)); keeps = e.1 ∙ sym none; reads = e.2 ∙ sym none }))
+      rw none (rw (ended_ask (length moves) (most_bad_lines - 1)) (record { ends = e.0 ∙ ap (end_of cause.ChoicesEnded) (sym (rw is c.0)); keeps = e.1 ∙ sym none; reads = e.2 ∙ sym none }))
 
   chosen_begins : ((k : ℕ) → BeginsAgain (next (answer.Pick k))) → (asked : List Event) (said : Answer) (over : Bool) (left : List ℕ) → Silent asked → IsPickUpTo (length moves) said
       → is_cut_short (chosen text moves few next asked said over left).value.cause ≡ true
@@ -112,9 +113,9 @@ module _ {S M : Type 0} (rules : Rules S M) (options : Options) (few : HasFewMov
   select_begins s [] small first steps later ih over choices cut = answered_begins rules options s [] first steps later ih 1 over choices cut
   select_begins s (m ∷ []) small first steps later ih over choices cut = answered_begins rules options s (m ∷ []) first steps later ih 1 over choices cut
   select_begins s (m ∷ k ∷ ms) small first steps later ih over choices cut =
-      let asked = ask (length (m ∷ k ∷ ms)) 99 over choices in
+      let asked = ask (length (m ∷ k ∷ ms)) (most_bad_lines - 1) over choices in
       chosen_begins (rules.text s) (m ∷ k ∷ ms) small (answered rules options s (m ∷ k ∷ ms) first steps later) steps (answered_stops s (m ∷ k ∷ ms) first steps later)
-      (answered_begins rules options s (m ∷ k ∷ ms) first steps later ih) asked.events asked.value asked.over asked.left (ask_silent (length (m ∷ k ∷ ms)) 99 over choices) (ask_range (length (m ∷ k ∷ ms)) 99 over choices) cut
+      (answered_begins rules options s (m ∷ k ∷ ms) first steps later ih) asked.events asked.value asked.over asked.left (ask_silent (length (m ∷ k ∷ ms)) (most_bad_lines - 1) over choices) (ask_range (length (m ∷ k ∷ ms)) (most_bad_lines - 1) over choices) cut
 
   finished_whole : (s : S) (steps : ℕ) (valid : Bool) → BeginsAgain (finished valid (rules.stuck s) steps)
   finished_whole s steps true over choices cut = absurd (true≢false (sym cut))

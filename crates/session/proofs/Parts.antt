@@ -1,5 +1,5 @@
 -- How parts of a session are done one after another.
-use Rattle.std.proofs.Common.{◌≡◌, ℕ, List, [], ◌∷◌, ◌++◌, take, Bool, true, false, Option, refl, sym, ap, ◌∙◌, append_assoc, append-nil, add_assoc, add-zero, ◌+◌}
+use Rattle.std.proofs.Common.{◌≡◌, ℕ, List, [], ◌∷◌, ◌++◌, take, Bool, true, false, refl, sym, ap, ◌∙◌, append_assoc, add_assoc, add-zero, ◌+◌}
 use Rattle.std.proofs.lemmas.Grind.{flat_map-append}
 use Rattle.std.proofs.lemmas.List.Sums.{sum_by-append}
 use Rattle.devices.specs.Holdings.{Holdings, Moved, WritesPart, RecordsPart}

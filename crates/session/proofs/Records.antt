@@ -9,6 +9,7 @@ use Rattle.std.specs.List.{list_all}
 use Rattle.session.specs.declared.line.LineEnd.TheVariants.{Whole}
 use Rattle.session.specs.declared.choice.Answer.TheVariants as answer
 use Rattle.session.specs.Events.{asks}
+use Rattle.session.specs.Limits.{most_line_bytes}
 use Rattle.session.specs.Lines.{line_within, lengthened, is_blank, is_digit, front_trimmed, end_trimmed, trimmed, number_of, number_up_to, is_quit, picked, reply_of}
 use Rattle.session.specs.Session.{one_line, ask}
 use Rattle.session.specs.Texts.{record_line}
@@ -97,7 +98,7 @@ record_one_line : (most n : ℕ) (more : List ℕ) → 0 < n → n ≤ most → 
     → one_line most false (record_line n ++ more) ≡ record { events = asks (record_line n) false; value = Some (answer.Pick n); over = false; left = more }
 unfolding one_line
 record_one_line most n more some within small =
-    let line = line_of_digits (decimal n) more 81 (omega (arith, length-decimal-le 20 n (omega arith) (omega arith) small)) (decimal_digits n small) in
+    let line = line_of_digits (decimal n) more (most_line_bytes + 1) (omega (arith, length-decimal-le 20 n (omega arith) (omega arith) small)) (decimal_digits n small) in
     rw line (rw (record_said most n some within small) refl)
 
 -- the line of a number that can be picked answers a question at once

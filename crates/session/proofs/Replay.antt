@@ -12,6 +12,7 @@ use Rattle.session.specs.declared.line.LineEnd.TheVariants.{Whole, Last, TooLong
 use Rattle.session.specs.declared.choice.Answer.{Answer}
 use Rattle.session.specs.declared.choice.Answer.TheVariants as answer
 use Rattle.session.specs.Events.{Event, Put, Told, Corrected, Asked, AskedEnd, Recorded, Stepped, asks, output, front, recorded}
+use Rattle.session.specs.Limits.{most_line_bytes, most_bad_lines}
 use Rattle.session.specs.Lines.{line_within, read_of, saw_end, reply_of, number_of, number_up_to, is_digit, is_quit, trimmed, picked, IsPickUpTo}
 use Rattle.session.specs.Part.{Part, preceded, followed}
 use Rattle.session.specs.Machine.{Rules, Outcome, Goes, Faults}
@@ -86,7 +87,7 @@ Silent-append xs ys first second = (rw (recorded-append xs ys, first.0) second.0
 line_silent : (most : ℕ) (over : Bool) (rest : List ℕ) → Silent (one_line most over rest).events
 unfolding one_line
 line_silent most true rest = (refl, refl)
-line_silent most false rest = let line = line_within 81 rest in (recorded-asks (read_of line.ends line.bytes) (saw_end line.ends), replayed-asks (read_of line.ends line.bytes) (saw_end line.ends))
+line_silent most false rest = let line = line_within (most_line_bytes + 1) rest in (recorded-asks (read_of line.ends line.bytes) (saw_end line.ends), replayed-asks (read_of line.ends line.bytes) (saw_end line.ends))
 
 after_silent : (more : Bool → List ℕ → Part Answer) → ((over : Bool) (left : List ℕ) → Silent (more over left).events) → (said : Option Answer) (over : Bool) (left : List ℕ) → Silent (after_line more said over left).events
 unfolding replay_of
@@ -128,7 +129,7 @@ reply_at_range most Last (b ∷ bs) = reply_range most (b ∷ bs)
 line_range : (most : ℕ) (over : Bool) (rest : List ℕ) → IfSome (one_line most over rest).value (IsPickUpTo most)
 unfolding one_line
 line_range most true rest = tt
-line_range most false rest = let line = line_within 81 rest in reply_at_range most line.ends line.bytes
+line_range most false rest = let line = line_within (most_line_bytes + 1) rest in reply_at_range most line.ends line.bytes
 
 after_range : (most : ℕ) (more : Bool → List ℕ → Part Answer) → ((over : Bool) (left : List ℕ) → IsPickUpTo most (more over left).value) → (said : Option Answer) (over : Bool) (left : List ℕ)
     → IfSome said (IsPickUpTo most) → IsPickUpTo most (after_line more said over left).value
@@ -185,7 +186,7 @@ module _ {M : Type 0} (text : M → List ℕ) (moves : List M) (few : length mov
   -- it is asked again with its record and more
   pub picked_again : (n : ℕ) (more : List ℕ) → 0 < n → n ≤ length moves → followed (choose text moves false (record_line n ++ more)) next
       ≡ preceded (Put Told (list_from text 1 moves) ∷ Put Told (prompt (length moves)) ∷ (asks (record_line n) false ++ Recorded (record_line n) ∷ [])) (next (answer.Pick n) false more)
-  picked_again n more some within = rw (record_asked (length moves) 99 n more some within (omega arith)) refl
+  picked_again n more some within = rw (record_asked (length moves) (most_bad_lines - 1) n more some within (omega arith)) refl
 
   chosen_again : ((k : ℕ) → RunsAgain (next (answer.Pick k))) → ((said : Answer) → ((k : ℕ) → said ≡ answer.Pick k → ⊥) → (over : Bool) (left : List ℕ) → is_complete (next said over left).value.cause ≡ false)
       → (asked : List Event) (said : Answer) (over : Bool) (left more : List ℕ) → Silent asked → IsPickUpTo (length moves) said → is_complete (chosen asked said over left).value.cause ≡ true
@@ -215,9 +216,9 @@ module _ {S M : Type 0} (rules : Rules S M) (options : Options) (few : HasFewMov
   select_again s [] small first steps later ih over choices more complete = answered_again rules options s [] first steps later ih 1 over choices more complete
   select_again s (m ∷ []) small first steps later ih over choices more complete = answered_again rules options s (m ∷ []) first steps later ih 1 over choices more complete
   select_again s (m ∷ k ∷ ms) small first steps later ih over choices more complete =
-      let asked = ask (length (m ∷ k ∷ ms)) 99 over choices in
+      let asked = ask (length (m ∷ k ∷ ms)) (most_bad_lines - 1) over choices in
       chosen_again (rules.text s) (m ∷ k ∷ ms) small (answered rules options s (m ∷ k ∷ ms) first steps later) (answered_again rules options s (m ∷ k ∷ ms) first steps later ih)
-      (answered_stops s (m ∷ k ∷ ms) first steps later) asked.events asked.value asked.over asked.left more (ask_silent (length (m ∷ k ∷ ms)) 99 over choices) (ask_range (length (m ∷ k ∷ ms)) 99 over choices) complete
+      (answered_stops s (m ∷ k ∷ ms) first steps later) asked.events asked.value asked.over asked.left more (ask_silent (length (m ∷ k ∷ ms)) (most_bad_lines - 1) over choices) (ask_range (length (m ∷ k ∷ ms)) (most_bad_lines - 1) over choices) complete
 
   limit_again : (s : S) (steps : ℕ) (moves : List M) → rules.moves s ≡ moves → RunsAgain (story rules options 0 s steps)
   unfolding replay_of

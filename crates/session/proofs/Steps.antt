@@ -1,6 +1,6 @@
 -- Steps and pieces that are broken off.
-use Rattle.std.proofs.Common.{◌≡◌, ℕ, ◌+◌, List, [], ◌∷◌, take, Result, Ok, Err, refl, sym, add-zero}
-use Rattle.devices.specs.Holdings.{Holdings, Moved, WritesPart}
+use Rattle.std.proofs.Common.{◌≡◌, ℕ, ◌+◌, List, [], ◌∷◌, take, Result, refl, sym, add-zero}
+use Rattle.devices.specs.Holdings.{Holdings, Moved}
 use Rattle.diagnostics.specs.declared.fault.Fault.{Fault}
 use Rattle.session.specs.declared.Options.{Options}
 use Rattle.session.specs.declared.Broken.{Broken}

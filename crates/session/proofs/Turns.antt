@@ -15,7 +15,7 @@ use Rattle.session.specs.Part.{Part, preceded, followed}
 use Rattle.session.specs.Session.{outcome, kept, choose, select, stopped, finished, end_of, cause_of, stepped, step_text, answered, story}
 use Rattle.session.specs.Stands.{Does, Leads, Breaks, Answers}
 use Rattle.session.specs.Texts.{record_line, fault_line}
-use Rattle.session.specs.Writes.{WriteBreaks, KeepBreaks, kept_text, StepBreaks, GoesOn, Continues, Acts, Turns, acted, story_after}
+use Rattle.session.specs.Writes.{WriteBreaks, KeepBreaks, kept_text, StepBreaks, Continues, Acts, Turns, acted, story_after}
 use Rattle.session.proofs.Moving.{Moved-piece}
 use Rattle.session.proofs.Parts.{Leads-nil, Leads-same, Leads-trans, Leads-does, Leads-breaks, puts, put_breaks, records, record_breaks, memory_breaks, outcome_moves, outcome_does}
 

@@ -10,7 +10,7 @@ use Rattle.session.specs.declared.Broken.{Broken}
 use Rattle.session.specs.declared.Broken.TheVariants as broken
 use Rattle.session.specs.declared.choice.Answer.{Answer}
 use Rattle.session.specs.declared.choice.Answer.TheVariants as answer
-use Rattle.session.specs.Events.{Event, output, front, recorded, steps_in}
+use Rattle.session.specs.Events.{Event, front}
 use Rattle.session.specs.Machine.{Rules, Goes, Faults}
 use Rattle.session.specs.Part.{Part, followed}
 use Rattle.session.specs.Session.{stepped, step_text, select, answered, story}

@@ -3,7 +3,10 @@
 #![tactic(auto)]
 
 pub use command_line::{Arguments, arguments};
-pub use devices::{ByteReader, Either, Failed, Failures, Next, Nowhere, PieceWriter, Sink, Source};
+pub use devices::{
+    ByteReader, Devices, Either, Failed, Failures, Next, Nowhere, PieceWriter, Sink, Source,
+    ThreeDevices,
+};
 pub use diagnostics::{Fault, Refusal};
 pub use pml_play::play;
 pub use session::{Cause, End, Options};

@@ -5,7 +5,8 @@ ghost use Rattle.std.specs.Prelude.{◌≡◌};
 
 use clap::error::ErrorKind;
 use spinplay::{
-    Arguments, ByteReader, Cause, Either, End, Failures, Nowhere, PieceWriter, arguments, play,
+    Arguments, ByteReader, Cause, Either, End, Failures, Nowhere, PieceWriter, ThreeDevices, arguments,
+    play,
 };
 use std::alloc::AllocError;
 use std::fs::File;
@@ -102,26 +103,20 @@ fn played<S: Ledger, O: Ledger, R: Ledger>(
     requires rec_one { of_rec.parts ≡ 1 }
 {
     let failures = Failures::<S>::new(of_source);
-    let mut source = match &asked.choices {
+    let source = match &asked.choices {
         Some(name) => Either::First(ByteReader::new(opened(rt, name.as_str())?, failures)),
         None => Either::Second(ByteReader::new(rt.stdin(), failures)),
     };
-    let mut rec = match &asked.rec {
+    let rec = match &asked.rec {
         Some(name) => Either::First(PieceWriter::new(
             created(rt, name.as_str())?,
             Failures::<R>::new(of_rec),
         )),
         None => Either::Second(Nowhere),
     };
-    let mut out = PieceWriter::new(rt.stdout(), Failures::<O>::new(of_out));
-    Ok(play(
-        rt.alloc(),
-        text,
-        &asked.options,
-        &mut source,
-        &mut out,
-        &mut rec,
-    ))
+    let out = PieceWriter::new(rt.stdout(), Failures::<O>::new(of_out));
+    let mut devices = ThreeDevices { source, out, rec };
+    Ok(play(rt.alloc(), text, &asked.options, &mut devices))
 }
 
 fn run(rt: &HostRuntime) -> Result<End, Stop> {

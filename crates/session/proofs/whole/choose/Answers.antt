@@ -1,4 +1,3 @@
-use Rattle.std.proofs.Common.{◌∙◌}
 use Rattle.std.proofs.lemmas.Result.{err_from_is_err_and}
 use Rattle.session.specs.Session.{kept}
 use Rattle.session.proofs.Parts.{Leads-does, Leads-breaks, puts, Does-then, Breaks-then}

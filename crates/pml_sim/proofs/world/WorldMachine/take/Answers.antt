@@ -5,7 +5,7 @@ use Rattle.pml_lines.specs.Changes.{AreDeclared}
 use Rattle.pml_sim.specs.Served.{steps_of}
 use Rattle.pml_sim.specs.State.{State}
 use Rattle.pml_sim.specs.World.{standing_at}
-use Rattle.pml_sim.proofs.Stepping.{does_declared, goes_on, faults_on}
+use Rattle.pml_sim.proofs.Stepping.{does_declared, goes_on, stops_on}
 use Rattle.pml_sim.proofs.world.WorldMachine.take.Goals as goal
 
 pub invariant_of-self : goal.invariant_of-self
@@ -20,8 +20,8 @@ returns-in-Ok c =
     let counts = c.count_of.ensures ∙ ap (λ o. length (steps_of o)) c.proctype_at-proctype.ensures in
     ([], rw (← c.self.view_is) (goes_on state c.args.m.now _ _ _ _ stands c.as_slice.ensures.value c.forget.ensures _ _ c.in-Ok.field-0 counts c.beyond-self-inside.ensures c.in-Ok.ensures), sym (append-nil _))
 
-pub returns-in-Err-Fault : goal.returns-in-Err-Fault
-returns-in-Err-Fault c =
+pub returns-in-Err : goal.returns-in-Err
+returns-in-Err c =
     let state : State = record { program = c.self.inside.program.now; kind = c.self.inside.kind; store = c.self.inside.store; channels = c.self.inside.channels.items; control = c.self.inside.control } in
     let stands = c.standing_of-standing.ensures ∙ ap (λ o. standing_at (steps_of o) c.self.inside.control) c.proctype_at-proctype.ensures in
-    rw (← c.self.view_is, c.in-Err-Fault.field-0-is) (faults_on state c.args.m.now _ _ _ _ stands c.as_slice.ensures.value c.forget.ensures c.in-Err-Fault.field-0 c.in-Err-Fault.fault c.in-Err-Fault.field-0-is c.in-Err-Fault.ensures)
+    rw (← c.self.view_is) (stops_on state c.args.m.now _ _ _ _ stands c.as_slice.ensures.value c.forget.ensures c.in-Err.stop c.in-Err.ensures (rw ← c.self.view_is at c.requires))
