@@ -1,5 +1,5 @@
 -- The conditions on the first state: how many processes begin, and how many channels they and the globals make.
-use Rattle.std.specs.Prelude.{ℕ, ◌+◌, ◌*◌, nat_eq, Bool, true, false, if◌then◌else◌, List, [], ◌∷◌, reverse}
+use Rattle.std.specs.Prelude.{min, ℕ, ◌+◌, ◌*◌, nat_eq, Bool, true, false, if◌then◌else◌, List, [], ◌∷◌, reverse}
 use Rattle.pml_program.specs.declared.form.Form.{Form}
 use Rattle.pml_program.specs.declared.form.Form.TheVariants as kind
 use Rattle.pml_marks.specs.declared.mark.Makes.TheVariants.{Numbers, Channels}
@@ -35,6 +35,10 @@ abbrev pub made : List Entry → (ℕ → ℕ) → What → ℕ
 made all f (what.Declares n (declared_as.Variable x s size Channels)) = length_of size
 made all f (what.Declares n (declared_as.Variable x s size Numbers)) = length_of size * channels_of (form all 0 s) f
 made all f _ = 0
+
+-- a count n of the owner k, where those of the owner o are so many more, up to 256
+abbrev pub raised : ℕ → ℕ → ℕ → ℕ → ℕ
+raised o more k n = if nat_eq o k then min (n + more) 256 else n
 
 -- the channels that the variables of o, or the fields of the typedef o, make; the marks are given from the last to the first
 abbrev pub channels : List Entry → List Mark → ℕ → ℕ

@@ -2,7 +2,7 @@
 
 ghost use Rattle.std.specs.Prelude.{◌≡◌, ℕ, ◌+◌, ◌^◌, ◌<◌, ◌≤◌, min, nat_eq, if◌then◌else◌, length, slice_index_or, IfOk, OnOk};
 ghost use Rattle.pml_names.specs.Env.{env};
-ghost use Rattle.pml_conditions.specs.Start.{begins, started, processes, channels_of, made, by_processes, channels_in, first_channels};
+ghost use Rattle.pml_conditions.specs.Start.{begins, started, processes, channels_of, made, by_processes, channels_in, first_channels, raised};
 ghost use Rattle.pml_conditions.specs.Decided.{Finds, begins_there, Decides};
 ghost use Rattle.pml_conditions.specs.declared.condition.Condition.TheVariants as condition;
 
@@ -104,7 +104,7 @@ fn grow(counts: &mut Items<u32>, owner: usize) -> Result<(), AllocError>
 /// Adds to an owner's count, up to 256.
 fn add(counts: &mut Items<u32>, owner: usize, more: u64) -> Result<(), AllocError>
     requires { more ≤ 256 }
-    ensures { OnOk result ((k : ℕ) → slice_index_or counts.new k 0 ≡ (if nat_eq owner k then min (slice_index_or counts.old k 0 + more) 256 else slice_index_or counts.old k 0)) }
+    ensures { OnOk result ((k : ℕ) → slice_index_or counts.new k 0 ≡ raised owner more k (slice_index_or counts.old k 0)) }
 {
     grow(counts, owner)?;
     let count = (u64::from(at(counts.as_slice(), owner)) + more).min(256);

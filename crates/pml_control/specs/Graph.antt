@@ -1,5 +1,5 @@
 -- The places of a body, numbered from its end, and where settling goes on from each.
-use Rattle.std.specs.Prelude.{ℕ, ◌+◌, ◌-◌, List, [], ◌∷◌, ◌++◌, length, map, Bool, true, false, Option, Some, None, if◌then◌else◌, ◌||◌, nat_lt, slice_index_or}
+use Rattle.std.specs.Prelude.{◌≡◌, ◌<◌, MatchBool, ℕ, ◌+◌, ◌-◌, List, [], ◌∷◌, ◌++◌, length, map, Bool, true, false, Option, Some, None, if◌then◌else◌, ◌||◌, nat_lt, slice_index_or}
 use Rattle.pml_lex.specs.Word.{Word}
 use Rattle.pml_program.specs.declared.program.Action.{Action}
 use Rattle.pml_program.specs.declared.program.Action.TheVariants as action
@@ -92,6 +92,10 @@ nodes_list last out inside [] = []
 nodes_list last out inside (s ∷ ss) =
     nodes_list last out inside ss ++ nodes_in s.labels (last + length (nodes_list last out inside ss)) out inside s.basic
 
+-- the nodes of a statement that is entered at the last of the nodes of its part, behind node `last`
+abbrev pub nodes_closed : ℕ → List Word → ℕ → ℕ → Bool → Seq → List Spot
+nodes_closed last ls after out inside s = close last ls (nodes_part last after out inside s)
+
 -- the nodes of options in a list
 abbrev pub nodes_parts : ℕ → ℕ → ℕ → Bool → List Seq → List Spot
 nodes_parts last after out inside [] = []
@@ -148,3 +152,9 @@ bad_end ns least first e = false
 abbrev pub bad_step : List Spot → List Ending → Option (ℕ × ℕ) → Bool
 bad_step ns es None = false
 bad_step ns es (Some g) = bad_end ns g.0 g.1 (ending_of es g.1)
+
+-- some node is a d_step with a bad first point, or none is
+abbrev pub DecidesBadStep : List Spot → List Ending → Bool → Type 0
+DecidesBadStep ns es b = MatchBool b
+    ((i : ℕ) × (i < length ns) × (bad_step ns es (spot_of ns i).d_step ≡ true))
+    ((i : ℕ) → i < length ns → bad_step ns es (spot_of ns i).d_step ≡ false)

@@ -1,7 +1,7 @@
 //! The places of a body, numbered from its end, and where settling goes on from each.
 
 ghost use Rattle.std.specs.Prelude.{◌≡◌, ℕ, ◌<◌, ◌++◌, ◌∷◌, [], IfOk, OnOk, length};
-ghost use Rattle.pml_control.specs.Graph.{close, last_of, nodes_in, nodes_part, nodes_list, nodes_parts, nodes_of};
+ghost use Rattle.pml_control.specs.Graph.{nodes_closed, last_of, nodes_in, nodes_part, nodes_list, nodes_parts, nodes_of};
 
 use crate::node::Node;
 use pml_lex::token::Token;
@@ -110,7 +110,7 @@ fn add_entered<'t>(
     nodes: &mut Vec<Node<'t>>,
 ) -> Result<(), AllocError>
     requires { 0 < length nodes.old.items }
-    ensures { OnOk result (nodes.new.items ≡ nodes.old.items ++ close (last_of nodes.old.items) labels.now (nodes_part (last_of nodes.old.items) after out inside part.now)) }
+    ensures { OnOk result (nodes.new.items ≡ nodes.old.items ++ nodes_closed (last_of nodes.old.items) labels.now after out inside part.now) }
 {
     add_part(alloc, part, after, out, inside, nodes)?;
     let first = last(nodes.as_slice());

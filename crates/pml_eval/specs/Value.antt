@@ -1,5 +1,5 @@
 -- The value of an expression.
-use Rattle.std.specs.Prelude.{ℕ, ◌+◌, ◌*◌, Bool, true, false, not, ◌||◌, if◌then◌else◌, ◌==◌, nat_lt, length, List, [], ◌∷◌, ℤ, pos, negsuc, Option, Some, None, Result, Ok, Err}
+use Rattle.std.specs.Prelude.{map, ℕ, ◌+◌, ◌*◌, Bool, true, false, not, ◌||◌, if◌then◌else◌, ◌==◌, nat_lt, length, List, [], ◌∷◌, ℤ, pos, negsuc, Option, Some, None, Result, Ok, Err}
 use Rattle.pml_tree.specs.declared.tree.Infix.{Infix}
 use Rattle.pml_tree.specs.declared.tree.Search.{Search}
 use Rattle.pml_tree.specs.declared.tree.Search.TheVariants.{First, Matching}
@@ -158,3 +158,15 @@ cells = fold-Turn Valued Wanted Placed Turned value_step want_step target_step t
 
 abbrev pub want : Want → Wanted
 want = fold-Want Valued Wanted Placed Turned value_step want_step target_step turn_step
+
+-- what arguments ask, or the first fault from the left
+abbrev pub asked_by : List Want → Reading → Result (List Sought) Fault
+asked_by ws = wants_of (map want ws)
+
+-- what a poll is worth of the channel whose number stands at a place
+abbrev pub poll_of : Search → List Want → Place → Valued
+poll_of search ws at r = polled search (length ws) (asked_by ws r) (r.channel (r.holds at))
+
+-- the messages of the channel with a number
+abbrev pub messages_at : Reading → ℤ → List (List ℤ)
+messages_at r n = messages_of (r.channel n)

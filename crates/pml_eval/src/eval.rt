@@ -2,7 +2,7 @@
 
 ghost use Rattle.std.specs.Prelude.{◌≡◌, ◌+◌, ◌*◌, ◌<◌, IfOk, List, Option, Ok, length, map, option_map};
 ghost use Rattle.pml_eval.specs.declared.pattern.Sought.{Sought};
-ghost use Rattle.pml_eval.specs.Value.{val, place, cells, want, wants_of, asked, within, inside, polled, is_match, messages_of, Filling, settled};
+ghost use Rattle.pml_eval.specs.Value.{val, place, cells, want, asked, asked_by, within, inside, poll_of, is_match, messages_at, Filling, settled};
 ghost use Rattle.pml_eval.specs.Pattern.{matched};
 ghost use Rattle.pml_eval.specs.Ground.{shown};
 
@@ -65,7 +65,7 @@ pub fn eval<G: Ground>(e: &Expr, ground: &G) -> Result<i32, Fault>
 #[cycle(eval)]
 fn poll<G: Ground>(arguments: &[Want], search: Search, at: Place, ground: &G) -> Result<i32, Fault>
     requires { at.cell < (G.reading ground.now).cells at.frame at.variable }
-    ensures { result ≡ polled search (length arguments.now) (wants_of (map want arguments.now) (G.reading ground.now)) ((G.reading ground.now).channel ((G.reading ground.now).holds at)) }
+    ensures { result ≡ poll_of search arguments.now at (G.reading ground.now) }
 {
     let number = ground.number(at);
     let Some(c) = ground.channel(number) else {
@@ -84,7 +84,7 @@ fn poll<G: Ground>(arguments: &[Want], search: Search, at: Place, ground: &G) ->
 /// The first fault from the left in what is asked, if there is one.
 #[cycle(eval)]
 fn first_fault<G: Ground>(arguments: &[Want], ground: &G) -> Result<(), Fault>
-    ensures { result ≡ settled (wants_of (map want arguments.now) (G.reading ground.now)) }
+    ensures { result ≡ settled (asked_by arguments.now (G.reading ground.now)) }
 {
     for argument in arguments {
         want(argument, ground)?;
@@ -101,8 +101,8 @@ fn has_match<G: Ground>(
     messages: u16,
     ground: &G,
 ) -> Result<bool, Fault>
-    requires { messages ≡ length (messages_of ((G.reading ground.now).channel number)) }
-    ensures { (ws : List Sought) → wants_of (map want arguments.now) (G.reading ground.now) ≡ Ok ws → result ≡ Ok (is_match search ws (messages_of ((G.reading ground.now).channel number))) }
+    requires { messages ≡ length (messages_at (G.reading ground.now) number) }
+    ensures { (ws : List Sought) → asked_by arguments.now (G.reading ground.now) ≡ Ok ws → result ≡ Ok (is_match search ws (messages_at (G.reading ground.now) number)) }
 {
     for place in 0..messages as usize {
         if is_asked(arguments, ground.message(number, place), ground)? {
@@ -118,7 +118,7 @@ fn has_match<G: Ground>(
 /// Whether each field is what is asked. What is asked has no fault, and is evaluated as far as the first field that is not.
 #[cycle(eval)]
 fn is_asked<G: Ground>(arguments: &[Want], fields: &[i32], ground: &G) -> Result<bool, Fault>
-    ensures { (ws : List Sought) → wants_of (map want arguments.now) (G.reading ground.now) ≡ Ok ws → result ≡ Ok (matched ws fields.now) }
+    ensures { (ws : List Sought) → asked_by arguments.now (G.reading ground.now) ≡ Ok ws → result ≡ Ok (matched ws fields.now) }
 {
     if arguments.len() != fields.len() {
         return Ok(false);
@@ -138,7 +138,7 @@ pub fn pattern<G: Ground>(
     arguments: &[Want],
     ground: &G,
 ) -> Result<Result<Items<Sought>, Fault>, AllocError>
-    ensures { IfOk result (λ found. found ≡ wants_of (map want arguments.now) (G.reading ground.now)) }
+    ensures { IfOk result (λ found. found ≡ asked_by arguments.now (G.reading ground.now)) }
 {
     let mut wants = Items::new(alloc);
     for argument in arguments {

@@ -9,7 +9,8 @@ use Rattle.pml_lex.specs.declared.token.Kind.TheVariants.{Init}
 use Rattle.pml_program.specs.declared.program.Slot.{Slot}
 use Rattle.pml_program.specs.declared.program.Proctype.{Proctype}
 use Rattle.pml_program.specs.declared.program.Program.{Program}
-use Rattle.pml_store.specs.Store.{Cells, Frame, joined}
+use Rattle.pml_store.specs.Store.{Cells, Frame, Contents, joined, before}
+use Rattle.pml_lines.specs.declared.change.Wanted.{Wanted}
 use Rattle.pml_lines.specs.Places.{place_line}
 
 -- the name of a proctype, or of init
@@ -30,6 +31,10 @@ local_heading i p = codes "local " ++ (decimal i ++ (codes " (" ++ (proctype_nam
 abbrev pub heading_of : ℕ → Option Proctype → List ℕ
 heading_of i None = []
 heading_of i (Some p) = local_heading i p
+
+-- the line of a cell of a variable of the process i
+abbrev pub local_line : Program → ℕ → ℕ → Slot → ℕ → ℤ → List ℕ
+local_line p i kind s cell number = heading_of i (slice_get p.proctypes kind) ++ place_line p s cell number
 
 abbrev pub slots_of : Option Proctype → List Slot
 slots_of None = []
@@ -105,6 +110,14 @@ line_at p (o ∷ os) i number = elim (slot_of o.slots i) as (λ _. List ℕ) [
   | Some s ↦ line p o s (cell_of o.slots i) number
 ]
 
+-- a cell's line among those of the globals and of processes, where it is wanted
+abbrev pub wanted_line : Program → List ℕ → Wanted → ℕ → ℤ → List ℕ
+wanted_line p kinds w = line_at p (owners p w.globals w.locals kinds)
+
+-- the line of a cell whose number was another, where it is wanted
+abbrev pub changed_line : Program → List ℕ → Wanted → ℕ → ℤ × ℤ → List ℕ
+changed_line p kinds w i numbers = if int_eq numbers.0 numbers.1 then [] else wanted_line p kinds w i numbers.1
+
 -- an owner's variables have the cells that their declarations ask for
 abbrev pub IsFrame : List Slot → Frame → Type 0
 IsFrame ss f = map length f ≡ map size ss
@@ -124,6 +137,11 @@ pub record IsState (p : Program) (kinds : List ℕ) (frames : List Frame) (cells
   pub numbers : joined frames ≡ cells
   pub declared : AreDeclared p kinds frames
 
+-- where both are states of the model, this is what value lines are appended
+abbrev pub AddsChanges : Program → List ℕ → Wanted → List ℤ → List ℤ → (List ℕ → Type 0) → Type 0
+AddsChanges p kinds w old new Adds = (b a : List Frame) → IsState p kinds b old → IsState p kinds a new →
+    Adds (value_lines p kinds b a w.globals w.locals)
+
 -- ---- a log of writes
 
 -- the oldest number of each cell of a log, by index
@@ -139,3 +157,7 @@ write_line f w (Some number) = if int_eq w.1 number then [] else f w.0 number
 abbrev pub write_lines : (ℕ → ℤ → List ℕ) → Cells → List (ℕ × ℤ) → List ℕ
 write_lines f cells [] = []
 write_lines f cells (w ∷ ws) = write_line f w (slice_get cells w.0) ++ write_lines f cells ws
+
+-- the value lines of the step that led to this store, by its log
+abbrev pub step_lines : Program → List ℕ → Contents → Wanted → List ℕ
+step_lines p kinds s w = value_lines p kinds (before s) s.frames w.globals w.locals

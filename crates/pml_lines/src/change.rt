@@ -1,12 +1,10 @@
 //! The lines of the places that a step changed.
 
-ghost use Rattle.std.specs.Prelude.{◌≡◌, ◌+◌, ◌*◌, ◌++◌, List, [], true, slice_get, if◌then◌else◌, OnOk, IfOk, codes};
+ghost use Rattle.std.specs.Prelude.{◌≡◌, ◌++◌, true, slice_get, OnOk, IfOk, codes};
 ghost use Rattle.std.specs.Fmt.{decimal};
-ghost use Rattle.std.specs.Ordering.{int_eq};
 ghost use Rattle.std.specs.Option.{option_copied};
-ghost use Rattle.pml_store.specs.Store.{Frame, before};
 ghost use Rattle.pml_lines.specs.Places.{place_line};
-ghost use Rattle.pml_lines.specs.Changes.{proctype_name, local_heading, heading_of, slots_of, process_owners, owners, value_lines, size, slot_of, cell_of, line_at, cell_lines, AreDeclared, IsState, oldest, write_line, write_lines};
+ghost use Rattle.pml_lines.specs.Changes.{proctype_name, local_heading, heading_of, local_line, slots_of, process_owners, size, slot_of, cell_of, line_at, wanted_line, changed_line, cell_lines, AreDeclared, AddsChanges, oldest, write_line, write_lines, step_lines};
 
 use crate::place::place_line;
 use itoa::Buffer;
@@ -85,7 +83,7 @@ pub fn local_line(
     number: i32,
     text: &mut Vec<u8>,
 ) -> Result<(), AllocError>
-    ensures { OnOk result (text.new.items ≡ text.old.items ++ (heading_of process (slice_get program.now.proctypes kind) ++ place_line program.now slot.now cell number)) }
+    ensures { OnOk result (text.new.items ≡ text.old.items ++ local_line program.now process kind slot.now cell number) }
 {
     heading_of(program, process, kind, text)?;
     place_line(program, slot, cell, number, text)
@@ -159,7 +157,7 @@ fn line_at(
     number: i32,
     text: &mut Vec<u8>,
 ) -> Result<(), AllocError>
-    ensures { OnOk result (text.new.items ≡ text.old.items ++ line_at program.now (owners program.now wanted.globals wanted.locals kinds.now) at number) }
+    ensures { OnOk result (text.new.items ≡ text.old.items ++ wanted_line program.now kinds.now wanted at number) }
 {
     let (found, rest) = find_slot(program.globals.as_slice(), at);
     match found {
@@ -189,7 +187,7 @@ fn line_of_change(
     numbers: (i32, i32),
     text: &mut Vec<u8>,
 ) -> Result<(), AllocError>
-    ensures { OnOk result (text.new.items ≡ text.old.items ++ (if int_eq numbers.0 numbers.1 then [] else line_at program.now (owners program.now wanted.globals wanted.locals kinds.now) at numbers.1)) }
+    ensures { OnOk result (text.new.items ≡ text.old.items ++ changed_line program.now kinds.now wanted at numbers) }
 {
     let (before, after) = numbers;
     if before == after {
@@ -208,7 +206,7 @@ fn lines_of_cells(
     after: &[i32],
     text: &mut Vec<u8>,
 ) -> Result<(), AllocError>
-    ensures { OnOk result (text.new.items ≡ text.old.items ++ cell_lines (line_at program.now (owners program.now wanted.globals wanted.locals kinds.now)) 0 before.now after.now) }
+    ensures { OnOk result (text.new.items ≡ text.old.items ++ cell_lines (wanted_line program.now kinds.now wanted) 0 before.now after.now) }
 {
     let count = before.len().min(after.len());
     for at in 0..count {
@@ -227,8 +225,8 @@ pub fn value_lines(
     after: &[i32],
     text: &mut Vec<u8>,
 ) -> Result<(), AllocError>
-    ensures { (b a : List Frame) → IsState program.now kinds.now b before.now → IsState program.now kinds.now a after.now →
-        OnOk result (text.new.items ≡ text.old.items ++ value_lines program.now kinds.now b a wanted.globals wanted.locals) }
+    ensures { AddsChanges program.now kinds.now wanted before.now after.now
+        (λ lines. OnOk result (text.new.items ≡ text.old.items ++ lines)) }
 {
     lines_of_cells(program, kinds, wanted, before, after, text)
 }
@@ -256,7 +254,7 @@ fn line_of_write(
     cells: &[i32],
     text: &mut Vec<u8>,
 ) -> Result<(), AllocError>
-    ensures { OnOk result (text.new.items ≡ text.old.items ++ write_line (line_at program.now (owners program.now wanted.globals wanted.locals kinds.now)) write (slice_get cells.now write.0)) }
+    ensures { OnOk result (text.new.items ≡ text.old.items ++ write_line (wanted_line program.now kinds.now wanted) write (slice_get cells.now write.0)) }
 {
     let (at, before) = write;
     match cells.get(at) {
@@ -274,7 +272,7 @@ fn lines_of_writes(
     cells: &[i32],
     text: &mut Vec<u8>,
 ) -> Result<(), AllocError>
-    ensures { OnOk result (text.new.items ≡ text.old.items ++ write_lines (line_at program.now (owners program.now wanted.globals wanted.locals kinds.now)) cells.now writes.now.entries) }
+    ensures { OnOk result (text.new.items ≡ text.old.items ++ write_lines (wanted_line program.now kinds.now wanted) cells.now writes.now.entries) }
 {
     for (at, before) in writes {
         line_of_write(program, kinds, wanted, (*at, *before), cells, text)?;
@@ -294,7 +292,7 @@ pub fn logged_lines(
     text: &mut Vec<u8>,
 ) -> Result<(), AllocError>
     ensures { AreDeclared program.now kinds.now store.now.frames →
-        OnOk result (text.new.items ≡ text.old.items ++ value_lines program.now kinds.now (before store.now) store.now.frames wanted.globals wanted.locals) }
+        OnOk result (text.new.items ≡ text.old.items ++ step_lines program.now kinds.now store.now wanted) }
 {
     if !wanted.globals && !wanted.locals {
         return Ok(());

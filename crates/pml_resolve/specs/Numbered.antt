@@ -1,11 +1,11 @@
 -- Expressions with each name replaced by what it stands for.
-use Rattle.std.specs.Prelude.{ℕ, nat_lt, Bool, true, false, ◌&&◌, is_some, if◌then◌else◌, List, [], ◌∷◌, Option, Some, None, ℤ, pos}
+use Rattle.std.specs.Prelude.{map, ℕ, nat_lt, Bool, true, false, ◌&&◌, is_some, if◌then◌else◌, List, [], ◌∷◌, Option, Some, None, ℤ, pos}
 use Rattle.limits.specs.declared.TheConstants.{MOST_CONSTANTS}
 use Rattle.pml_tree.specs.declared.tree.Expr.{Expr as TreeExpr, Expr-F, fold-Expr}
 use Rattle.pml_tree.specs.declared.tree.Sign.{Sign}
 use Rattle.pml_tree.specs.declared.tree.Sign.TheVariants.{Plus, Minus}
 use Rattle.pml_tree.specs.declared.tree.Argument.{Argument, Argument-F, fold-Argument}
-use Rattle.pml_tree.specs.declared.tree.Reference.{Reference, Reference-F, fold-Reference}
+use Rattle.pml_tree.specs.declared.tree.Reference.{Reference, Reference-F, fold-Reference, out-Reference}
 use Rattle.pml_tree.specs.declared.tree.Step.{Step, Step-F, fold-Step}
 use Rattle.pml_marks.specs.Constant.{number, negated}
 use Rattle.pml_marks.specs.declared.mark.Constant.{Constant}
@@ -174,3 +174,7 @@ numbered_reference = fold-Reference Wanted Valued Reaching Stepped argument_laye
 
 abbrev pub numbered_step : Step → Stepped
 numbered_step = fold-Step Wanted Valued Reaching Stepped argument_layer expr_layer reference_layer step_layer
+
+-- a reference to a variable, or to a part of it
+abbrev pub placed_by : Bool → Variable → Reference → Reaching
+placed_by local x r = placed local x (numbered_step (out-Reference r).first) (map numbered_step (out-Reference r).fields)

@@ -2,7 +2,7 @@
 
 ghost use Rattle.std.specs.Prelude.{◌≡◌, ◌++◌, map, IfOk, OnOk};
 ghost use Rattle.pml_tree.specs.declared.tree.Reference.{out-Reference};
-ghost use Rattle.pml_resolve.specs.Numbered.{scope, through, placed, numbered, numbered_argument, numbered_reference, numbered_step, at_scope, is_local, literal, signed, mtype, read, target, received, turn_of, target_of, no_target};
+ghost use Rattle.pml_resolve.specs.Numbered.{scope, through, placed_by, numbered, numbered_argument, numbered_reference, numbered_step, at_scope, is_local, literal, signed, mtype, read, target, received, turn_of, target_of, no_target};
 
 use crate::reached::Reached;
 use limits::MOST_CONSTANTS;
@@ -228,7 +228,7 @@ fn place(
     table: &Table,
     owner: usize,
 ) -> Result<Reached, AllocError>
-    ensures { IfOk result (λ p. p ≡ placed local v (numbered_step (out-Reference r.now).first) (map numbered_step (out-Reference r.now).fields) (scope all.now table.now owner)) }
+    ensures { IfOk result (λ p. p ≡ placed_by local v r.now (scope all.now table.now owner)) }
 {
     let mut turns = Items::new(alloc);
     turns.push(turn(0, v, index(alloc, &r.first, all, table, owner)?))?;

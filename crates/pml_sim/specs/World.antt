@@ -7,10 +7,10 @@ use Rattle.pml_program.specs.declared.program.Stmt.{Stmt}
 use Rattle.pml_program.specs.declared.program.Proctype.{Proctype}
 use Rattle.pml_program.specs.declared.program.Program.{Program}
 use Rattle.pml_eval.specs.Value.{Reading}
-use Rattle.pml_store.specs.Store.{Contents, before}
+use Rattle.pml_store.specs.Store.{Contents, before, stored}
 use Rattle.pml_value.specs.declared.statement.Goes.{Goes as Stores}
 use Rattle.pml_value.specs.Reads.{reading_of}
-use Rattle.pml_value.specs.Statement.{is_executable, outcome, stored}
+use Rattle.pml_value.specs.Statement.{is_executable, outcome}
 use Rattle.pml_start.specs.Begin.{Begun}
 use Rattle.pml_lines.specs.Changes.{proctype_name, value_lines}
 use Rattle.pml_sim.specs.declared.control.Control.{Control}

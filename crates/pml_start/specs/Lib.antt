@@ -1,3 +1,4 @@
 pub mod Begin
 pub mod Known
+pub mod Laws
 pub mod Start

@@ -1,5 +1,5 @@
 -- A store: what each frame's variables hold.
-use Rattle.std.specs.Prelude.{ℕ, ◌+◌, ◌-◌, ◌<◌, Bool, ◌&&◌, nat_eq, ltb, if◌then◌else◌, List, [], ◌∷◌, ◌++◌, length, take, ℤ, pos, slice_set, slice_index_or, map, replicate}
+use Rattle.std.specs.Prelude.{◌≡◌, ℕ, ◌+◌, ◌-◌, ◌<◌, Bool, ◌&&◌, nat_eq, ltb, if◌then◌else◌, List, [], ◌∷◌, ◌++◌, length, take, ℤ, pos, slice_set, slice_index_or, map, replicate}
 use Rattle.pml_store.specs.declared.place.Place.{Place}
 
 -- the cells of a variable; the variables of a frame; the frames
@@ -51,6 +51,10 @@ joined (f ∷ fs) = flat f ++ joined fs
 abbrev pub index_of : List Frame → Place → ℕ
 index_of frames p = length (joined (take p.frame frames)) + (length (flat (take p.variable (frame_at frames p.frame))) + p.cell)
 
+-- one place has another number, and the log what it had before
+abbrev pub stored : Contents → Place → ℤ → Contents
+stored s p v = record s { frames = with_number s.frames p v; written = s.written ++ (index_of s.frames p, number_at s.frames p) ∷ [] }
+
 -- variables of these sizes, each cell 0
 abbrev pub zeros : List ℕ → Frame
 zeros sizes = map (λ n. replicate n (pos 0)) sizes
@@ -82,3 +86,14 @@ undone frames (w ∷ ws) = index_with (undone frames ws) w.0 w.1
 -- the frames before the writes of the log
 abbrev pub before : Contents → List Frame
 before now = undone now.frames now.written
+
+-- ---- laws
+
+-- to store a number changes what one place holds, and no other
+abbrev pub OnePlaceChanges : Type 0
+OnePlaceChanges = (frames : List Frame) (p q : Place) (v : ℤ) → HasPlace frames p →
+    number_at (with_number frames p v) q ≡ (if is_same p q then v else number_at frames q)
+
+-- the frames before a write are those before the writes of the log
+abbrev pub LeadsBack : Type 0
+LeadsBack = (now : Contents) (p : Place) (v : ℤ) → HasPlace now.frames p → before (stored now p v) ≡ before now

@@ -1,13 +1,12 @@
 //! A store is a map from places to numbers, and its log leads back.
 
-ghost use Rattle.std.specs.Prelude.{◌≡◌, ◌<◌, ◌++◌, ◌∷◌, ℤ, List, [], map, length, if◌then◌else◌};
+ghost use Rattle.std.specs.Prelude.{◌≡◌, ◌<◌, List, [], map, length};
 ghost use Rattle.pml_store.specs.declared.place.Place.{Place};
-ghost use Rattle.pml_store.specs.Store.{Frame, Contents, HasPlace, number_at, with_number, index_of, size_at, is_same, before};
+ghost use Rattle.pml_store.specs.Store.{Frame, Contents, HasPlace, size_at, before, OnePlaceChanges, LeadsBack};
 
 /// To store a number changes what one place holds, and no other.
 pub fn one_place()
-    ensures { (frames : List Frame) (p q : Place) (v : ℤ) → HasPlace frames p →
-        number_at (with_number frames p v) q ≡ (if is_same p q then v else number_at frames q) }
+    ensures { OnePlaceChanges }
 {}
 
 /// A place whose cell is one of its variable's is there.
@@ -17,11 +16,7 @@ pub fn has_place()
 
 /// The log leads back to the numbers before it.
 pub fn leads_back()
-    ensures set { (now : Contents) (p : Place) (v : ℤ) → HasPlace now.frames p →
-        before (record now {
-          frames = with_number now.frames p v;
-          written = now.written ++ (index_of now.frames p, number_at now.frames p) ∷ [];
-        }) ≡ before now }
+    ensures set { LeadsBack }
     ensures forgotten { (frames : List Frame) → before (record { frames = frames; written = [] }) ≡ frames }
     ensures shape { (now : Contents) → map (map length) (before now) ≡ map (map length) now.frames }
 {}

@@ -1,7 +1,7 @@
 //! All numbers in one vector, the youngest frame last.
 
 ghost use Rattle.std.specs.Prelude.{◌≡◌, ◌+◌, ◌<◌, ◌++◌, ◌∷◌, [], length, OnOk, OnErr, IfOk, sum, slice_index_or, pos};
-ghost use Rattle.pml_store.specs.Store.{HasPlace, number_at, with_number, index_of, size_at, zeros, joined, but_last};
+ghost use Rattle.pml_store.specs.Store.{HasPlace, number_at, index_of, size_at, stored, zeros, joined, but_last};
 ghost use Rattle.pml_store.specs.Laid.{nowhere, extent_of, extents_of};
 
 use crate::place::Place;
@@ -83,10 +83,7 @@ impl Store {
     /// Stores a number. Want of memory changes nothing.
     pub fn set(&mut self, place: Place, number: i32) -> Result<(), AllocError>
         requires { HasPlace self.old.frames place }
-        ensures ok { OnOk result (self.new ≡ record self.old {
-          frames = with_number self.old.frames place number;
-          written = self.old.written ++ (index_of self.old.frames place, number_at self.old.frames place) ∷ [];
-        }) }
+        ensures ok { OnOk result (self.new ≡ stored self.old place number) }
         ensures err { OnErr result (self.new ≡ self.old) }
     {
         let at = self.index(place);

@@ -9,7 +9,7 @@ use Rattle.pml_eval.specs.Clip.{clipped}
 use Rattle.pml_eval.specs.Operators.{is_zero, wrapped}
 use Rattle.pml_eval.specs.Value.{Reading, val, place, ◌>>=◌}
 use Rattle.pml_store.specs.declared.place.Place.{Place}
-use Rattle.pml_store.specs.Store.{Contents, with_number, number_at, index_of}
+use Rattle.pml_store.specs.Store.{Contents, stored}
 use Rattle.pml_value.specs.declared.statement.Goes.{Goes}
 use Rattle.diagnostics.specs.declared.stop.Stop.{Stop}
 use Rattle.diagnostics.specs.declared.stop.Stop.TheVariants as stop
@@ -51,10 +51,6 @@ outcome (a.Increment t) r = counted t (pos 1) r
 outcome (a.Decrement t) r = counted t (negsuc 0) r
 outcome (a.Holds v) r = val v r >>= λ n. Ok None
 outcome s r = Ok None
-
--- one place has another number, and the log what it had before
-abbrev pub stored : Contents → Place → ℤ → Contents
-stored s p v = record s { frames = with_number s.frames p v; written = s.written ++ (index_of s.frames p, number_at s.frames p) ∷ [] }
 
 -- what is to be stored is stored, or the fault is answered and nothing changes; want of memory changes nothing
 abbrev pub Takes : Result (Option Goes) Fault → Result (Unit {0}) Stop → Contents → Contents → Type 0
