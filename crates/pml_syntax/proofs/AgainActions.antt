@@ -5,6 +5,8 @@ use Rattle.pml_lex.specs.Word.{Word}
 use Rattle.pml_lex.specs.Kinds.{same_kind}
 use Rattle.pml_lex.specs.declared.token.Kind.{Kind}
 use Rattle.pml_lex.specs.declared.token.Kind.TheVariants as k
+use Rattle.pml_tree.specs.declared.tree.Search.{Search}
+use Rattle.pml_tree.specs.declared.tree.SendOrder.{SendOrder}
 use Rattle.pml_tree.specs.declared.tree.Expr.{Expr}
 use Rattle.pml_tree.specs.declared.tree.Expr.TheVariants as e
 use Rattle.pml_tree.specs.declared.tree.Argument.{Argument}
@@ -16,16 +18,19 @@ use Rattle.pml_syntax.specs.declared.starts.Deed.{Deed}
 use Rattle.pml_syntax.specs.declared.starts.Deed.TheVariants as d
 use Rattle.pml_syntax.specs.declared.starts.Change.{Change}
 use Rattle.pml_syntax.specs.declared.starts.Change.TheVariants as c
+use Rattle.pml_expression.specs.Grammar as terms
 use Rattle.pml_syntax.specs.Grammar as grammar
-use Rattle.pml_syntax.specs.Grammar.{operator, truth, query, bang, SpellsReference, SpellsExpr, SpellsArgument, SpellsArgumentList, SpellsArguments, SpellsList, SpellsRun, SpellsValues, SpellsAction}
-use Rattle.pml_syntax.specs.Starts.{deed, change, start}
-use Rattle.pml_syntax.specs.Reading as expressions
-use Rattle.pml_syntax.specs.Reading.{Read, and_then, pick, next, sees, expect, expr, climb, behind}
+use Rattle.pml_expression.specs.Grammar.{operator, truth, query, SpellsReference, SpellsExpr, SpellsArgument, SpellsArgumentList, SpellsArguments, SpellsList}
+use Rattle.pml_syntax.specs.Grammar.{bang, SpellsRun, SpellsValues, SpellsAction}
+use Rattle.pml_expression.specs.Starts.{start}
+use Rattle.pml_syntax.specs.Starts.{deed, change}
+use Rattle.pml_expression.specs.Reading as expressions
+use Rattle.pml_expression.specs.Reading.{Read, and_then, pick, next, sees, expect, expect_all, expect_name, expr, climb, behind}
 use Rattle.pml_syntax.specs.ReadingStatements as reading
 use Rattle.pml_syntax.specs.ReadingStatements.{leads_to_run}
-use Rattle.pml_syntax.proofs.Steps.{bind_ok, ok_is, expect_again, is_kind, not_kind, at, reference_moves, expr_moves}
-use Rattle.pml_syntax.proofs.Lists.{list_again}
-use Rattle.pml_syntax.proofs.Again.{IsFree, IsQuiet, IsLast, polls, polls_by, no_query_no_poll, quiet_paren, quiet_comma, quiet_open, last_greater, query_free, stop, whole, before, behind_stops, reference_begins, reference_again, arguments_again, expr_again}
+use Rattle.pml_expression.proofs.Steps.{bind_ok, ok_is, expect_again, is_kind, not_kind, at, reference_moves, expr_moves}
+use Rattle.pml_expression.proofs.Lists.{list_again}
+use Rattle.pml_expression.proofs.Again.{IsFree, IsQuiet, IsLast, polls, polls_by, no_query_no_poll, quiet_paren, quiet_comma, quiet_open, last_greater, query_free, stop, whole, before, behind_stops, reference_begins, reference_again, arguments_again, expr_again}
 use Rattle.pml_syntax.proofs.Begins.{follows, Stops, stops, apart, bang_free, begins_expr, expr_begins, expr_plain, run_leads}
 
 -- ---- expressions and their lists
@@ -40,8 +45,8 @@ exprs_again h depth turns room enough q ends found =
 
 values_again : {xs : List Expr} {from to : List Word} → SpellsValues xs from to → (depth : ℕ) → length from ≤ depth → Stops (next to) → reading.values depth from ≡ Ok (xs, to)
 unfolding reading.values expressions.behind_first expressions.enclosed and_then pick sees
-values_again (grammar.value_list (grammar.last_listed h)) depth room s = rw (expr_whole h depth room s.quiet, s.last.no_paren, s.last.no_comma) refl
-values_again (grammar.value_list (grammar.more_listed {x} {c} {middle} h is more)) depth room s =
+values_again (grammar.value_list (terms.last_listed h)) depth room s = rw (expr_whole h depth room s.quiet, s.last.no_paren, s.last.no_comma) refl
+values_again (grammar.value_list (terms.more_listed {x} {c} {middle} h is more)) depth room s =
     rw (
       expr_whole h depth room (at IsQuiet is quiet_comma),
       not_kind c.kind k.Comma k.OpenParen is refl,
@@ -65,11 +70,11 @@ begins_no_close k.CloseParen h = absurd cc
 begins_no_close _ h = refl
 
 exprs_begin : {xs : List Expr} {from to : List Word} → SpellsList (SpellsExpr 1) xs from to → begins_expr (next from) ≡ true
-exprs_begin (grammar.last_listed h) = expr_begins h
-exprs_begin (grammar.more_listed h _ _) = expr_begins h
+exprs_begin (terms.last_listed h) = expr_begins h
+exprs_begin (terms.more_listed h _ _) = expr_begins h
 
 run_again : {x : Run} {from to : List Word} → SpellsRun x from to → (depth nested : ℕ) → length from ≤ depth → length from ≤ nested → reading.run_within depth nested from ≡ Ok (x, to)
-unfolding reading.run_within reading.run_call reading.run_values and_then pick sees
+unfolding reading.run_within reading.run_call reading.run_values expect_name and_then pick sees
 run_again (grammar.run_nothing is named opened closed) depth zero room enough = absurd (omega arith)
 run_again (grammar.run_nothing {r} {n} {o} {c} {to} is named opened closed) depth (suc m) room enough =
     rw (not_kind r.kind k.Run k.OpenParen is refl, expect_again k.Run r (n ∷ o ∷ c ∷ to) is, expect_again k.Name n (o ∷ c ∷ to) named, expect_again k.OpenParen o (c ∷ to) opened, is_kind c.kind k.CloseParen closed, expect_again k.CloseParen c to closed) refl
@@ -110,9 +115,9 @@ expr_continues depth from x to is h =
     record { reference = r.0.0; middle = r.0.1; operand = v.0.0; later = v.0.1; first = r.1; second = r.2; further = v.2 }
 
 -- behind the reference comes no sign of another statement
-no_bracket_no_poll : (o : Option Bool) (ts : List Word) → sees k.OpenBracket (drop 1 ts) ≡ false → polls_by o ts ≡ false
+no_bracket_no_poll : (o : Option Search) (ts : List Word) → sees k.OpenBracket (drop 1 ts) ≡ false → polls_by o ts ≡ false
 no_bracket_no_poll None ts h = refl
-no_bracket_no_poll (Some any) ts h = h
+no_bracket_no_poll (Some look) ts h = h
 
 abbrev changes : Change → Bool
 changes c.Other = false
@@ -133,7 +138,7 @@ signs k.QueryQuery h = record { no_follow = refl; no_operator = refl }
 signs _ h = absurd cc
 
 abbrev writes : Change → Bool
-writes (c.Receive any) = false
+writes (c.Receive look) = false
 writes c.Other = false
 writes _ = true
 
@@ -166,10 +171,10 @@ unfolding pick polls
 changed_continues s c.Assign is follow = absurd (stuck s (unpolled_by s (rw is refl)) (rw is refl) follow)
 changed_continues s c.Increment is follow = absurd (stuck s (unpolled_by s (rw is refl)) (rw is refl) follow)
 changed_continues s c.Decrement is follow = absurd (stuck s (unpolled_by s (rw is refl)) (rw is refl) follow)
-changed_continues s (c.Send sorted) is follow = absurd (stuck s (unpolled_by s (rw is refl)) (rw is refl) follow)
-changed_continues {depth} {x} {to} s (c.Receive any) is follow = go (sees k.OpenBracket (drop 1 s.middle)) refl
+changed_continues s (c.Send order) is follow = absurd (stuck s (unpolled_by s (rw is refl)) (rw is refl) follow)
+changed_continues {depth} {x} {to} s (c.Receive look) is follow = go (sees k.OpenBracket (drop 1 s.middle)) refl
   where
-    go : (b : Bool) → sees k.OpenBracket (drop 1 s.middle) ≡ b → pick b (reading.continued depth s.reference s.middle) (reading.received depth any s.reference (drop 1 s.middle)) ≡ Ok ((a.Holds x, false), to)
+    go : (b : Bool) → sees k.OpenBracket (drop 1 s.middle) ≡ b → pick b (reading.continued depth s.reference s.middle) (reading.received depth look s.reference (drop 1 s.middle)) ≡ Ok ((a.Holds x, false), to)
     go true h = continued_again s
     go false h = absurd (stuck s (no_bracket_no_poll (query (next s.middle)) s.middle h) (rw is refl) follow)
 changed_continues s c.Other is follow = continued_again s
@@ -227,27 +232,27 @@ truth_arguments k.Less v h = absurd cc
 truth_arguments _ v h = record { no_bracket = refl; no_less = refl }
 
 argument_begins : {x : Argument} {from to : List Word} → SpellsArgument x from to → BeginsArguments (next from)
-argument_begins (grammar.into r) = at BeginsArguments (reference_begins r) (record { no_bracket = refl; no_less = refl })
-argument_begins (grammar.exactly is) = at BeginsArguments is (record { no_bracket = refl; no_less = refl })
-argument_begins (grammar.exactly_minus is _) = at BeginsArguments is (record { no_bracket = refl; no_less = refl })
-argument_begins (grammar.fixed {w} {v} is) = truth_arguments w.kind v is
-argument_begins (grammar.eval is _ _ _) = at BeginsArguments is (record { no_bracket = refl; no_less = refl })
+argument_begins (terms.into r) = at BeginsArguments (reference_begins r) (record { no_bracket = refl; no_less = refl })
+argument_begins (terms.exactly is) = at BeginsArguments is (record { no_bracket = refl; no_less = refl })
+argument_begins (terms.exactly_minus is _) = at BeginsArguments is (record { no_bracket = refl; no_less = refl })
+argument_begins (terms.fixed {w} {v} is) = truth_arguments w.kind v is
+argument_begins (terms.eval is _ _ _) = at BeginsArguments is (record { no_bracket = refl; no_less = refl })
 
 arguments_begin : {xs : List Argument} {from to : List Word} → SpellsArguments xs from to → BeginsArguments (next from)
-arguments_begin (grammar.argument_list (grammar.last_argument h)) = argument_begins h
-arguments_begin (grammar.argument_list (grammar.more_arguments h _ _)) = argument_begins h
-arguments_begin (grammar.argument_call h _ _ _) = argument_begins h
-arguments_begin (grammar.argument_group is _ _) = at BeginsArguments is (record { no_bracket = refl; no_less = refl })
+arguments_begin (terms.argument_list (terms.last_argument h)) = argument_begins h
+arguments_begin (terms.argument_list (terms.more_arguments h _ _)) = argument_begins h
+arguments_begin (terms.argument_call h _ _ _) = argument_begins h
+arguments_begin (terms.argument_group is _ _) = at BeginsArguments is (record { no_bracket = refl; no_less = refl })
 
-bang_change : (kind : Kind) (sorted : Bool) → bang kind ≡ Some sorted → change kind ≡ c.Send sorted
-bang_change k.Bang sorted h = cc
-bang_change k.BangBang sorted h = cc
-bang_change _ sorted h = absurd cc
+bang_change : (kind : Kind) (order : SendOrder) → bang kind ≡ Some order → change kind ≡ c.Send order
+bang_change k.Bang order h = cc
+bang_change k.BangBang order h = cc
+bang_change _ order h = absurd cc
 
-query_change : (kind : Kind) (any : Bool) → query kind ≡ Some any → change kind ≡ c.Receive any
-query_change k.Query any h = cc
-query_change k.QueryQuery any h = cc
-query_change _ any h = absurd cc
+query_change : (kind : Kind) (look : Search) → query kind ≡ Some look → change kind ≡ c.Receive look
+query_change k.Query look h = cc
+query_change k.QueryQuery look h = cc
+query_change _ look h = absurd cc
 
 run_kind : {x : Run} {from to : List Word} → SpellsRun x from to → (next from ≡ k.Run) ⊎ (next from ≡ k.OpenParen)
 run_kind (grammar.run_nothing is _ _ _) = inl is
@@ -266,7 +271,7 @@ run_deed {from} h depth room = elim (run_kind h) [
 ]
 
 pub action_again : {closed : Bool} {x : Action} {from to : List Word} → SpellsAction closed x from to → (depth : ℕ) → length from ≤ depth → (closed ≡ false → follows (next to) ≡ true) → reading.action depth from ≡ Ok ((x, closed), to)
-unfolding reading.assigned reading.sent reading.received reading.changed reading.printed reading.printf reading.printm reading.assert sees and_then pick
+unfolding reading.assigned reading.sent reading.received reading.copied reading.changed reading.printed reading.format reading.printf reading.printm reading.assert expressions.parenthesized expressions.expr_behind expect_all sees and_then pick
 action_again (grammar.otherwise {w} {to} is) depth room follow = action_at depth (w ∷ to) _ is refl
 action_again (grammar.assign {r} {x} {o} {from} {middle} {to} h is g) depth room follow =
     let s = stops (next to) (follow refl) in
@@ -278,14 +283,14 @@ action_again (grammar.assign_run {r} {x} {o} {from} {middle} {to} h is g) depth 
 action_again (grammar.increment {r} {o} {from} {to} h is) depth room follow = named_again (o ∷ to) depth h room (at IsFree is (record { no_index = refl; no_dot = refl })) (changed_at depth r (o ∷ to) _ is refl)
 action_again (grammar.decrement {r} {o} {from} {to} h is) depth room follow = named_again (o ∷ to) depth h room (at IsFree is (record { no_index = refl; no_dot = refl })) (changed_at depth r (o ∷ to) _ is refl)
 action_again (grammar.run x) depth room follow = run_deed x depth room
-action_again (grammar.send {r} {o} {sorted} {xs} {from} {middle} {to} h is g) depth room follow =
-    named_again (o ∷ middle) depth h room (bang_free o.kind sorted is) (rw (bang_change o.kind sorted is, values_again g depth (omega (arith, reference_moves h)) (stops (next to) (follow refl))) refl)
-action_again (grammar.receive {r} {q} {any} {xs} {from} {middle} {to} h is g) depth room follow =
-    named_again (q ∷ middle) depth h room (query_free q.kind any is)
-    (rw (query_change q.kind any is, (arguments_begin g).no_bracket, (arguments_begin g).no_less, arguments_again g depth (omega (arith, reference_moves h)) (stops (next to) (follow refl)).last) refl)
-action_again (grammar.copy {r} {q} {o} {c} {any} {xs} {from} {middle} {to} h is opened g closed) depth room follow =
-    named_again (q ∷ o ∷ middle) depth h room (query_free q.kind any is)
-    (rw (query_change q.kind any is, not_kind o.kind k.Less k.OpenBracket opened refl, is_kind o.kind k.Less opened, expect_again k.Less o middle opened, arguments_again g depth (omega (arith, reference_moves h)) (at IsLast closed last_greater), expect_again k.Greater c to closed) refl)
+action_again (grammar.send {r} {o} {order} {xs} {from} {middle} {to} h is g) depth room follow =
+    named_again (o ∷ middle) depth h room (bang_free o.kind order is) (rw (bang_change o.kind order is, values_again g depth (omega (arith, reference_moves h)) (stops (next to) (follow refl))) refl)
+action_again (grammar.receive {r} {q} {look} {xs} {from} {middle} {to} h is g) depth room follow =
+    named_again (q ∷ middle) depth h room (query_free q.kind look is)
+    (rw (query_change q.kind look is, (arguments_begin g).no_bracket, (arguments_begin g).no_less, arguments_again g depth (omega (arith, reference_moves h)) (stops (next to) (follow refl)).last) refl)
+action_again (grammar.copy {r} {q} {o} {c} {look} {xs} {from} {middle} {to} h is opened g closed) depth room follow =
+    named_again (q ∷ o ∷ middle) depth h room (query_free q.kind look is)
+    (rw (query_change q.kind look is, not_kind o.kind k.Less k.OpenBracket opened refl, is_kind o.kind k.Less opened, expect_again k.Less o middle opened, arguments_again g depth (omega (arith, reference_moves h)) (at IsLast closed last_greater), expect_again k.Greater c to closed) refl)
 action_again (grammar.printf {w} {o} {s} {c} {to} is opened quoted closed) depth room follow =
     action_at depth (w ∷ o ∷ s ∷ c ∷ to) _ is
     (rw (expect_again k.Printf w (o ∷ s ∷ c ∷ to) is, expect_again k.OpenParen o (s ∷ c ∷ to) opened, expect_again k.Quoted s (c ∷ to) quoted, not_kind c.kind k.CloseParen k.Comma closed refl, expect_again k.CloseParen c to closed) refl)

@@ -11,10 +11,10 @@ use Rattle.pml_tree.specs.declared.tree.Seq.{Seq}
 use Rattle.pml_syntax.specs.Grammar as grammar
 use Rattle.pml_syntax.specs.Grammar.{is_separator, is_exclusive, seq_of, SpellsSeparators, SpellsGap, SpellsLabels, SpellsBasic, SpellsStatement, SpellsItem, SpellsItems, SpellsOptions}
 use Rattle.pml_syntax.specs.Starts.{opening, declares, is_end}
-use Rattle.pml_syntax.specs.Reading.{Read, and_then, pick, next, sees}
+use Rattle.pml_expression.specs.Reading.{Read, and_then, pick, next, sees}
 use Rattle.pml_syntax.specs.ReadingStatements as reading
 use Rattle.pml_syntax.specs.ReadingStatements.{skip_separators, is_label, is_declaration}
-use Rattle.pml_syntax.proofs.Steps.{expect_again, is_kind, not_kind, at}
+use Rattle.pml_expression.proofs.Steps.{expect_again, is_kind, not_kind, at}
 use Rattle.pml_syntax.proofs.Begins.{follows, stops, Plain, other_plain, action_begins, action_plain, action_moves}
 use Rattle.pml_syntax.proofs.AgainActions.{action_again}
 use Rattle.pml_syntax.proofs.AgainDeclarations.{stops_settles, declaration_begins, declaration_is, declaration_again, declaration_moves, references_again, references_move}
@@ -260,7 +260,7 @@ seq_deep zero xs from to room h = absurd (omega arith)
 seq_deep (suc d) xs from to room h = rw (h d (omega arith)) refl
 
 mutual
-  unfolding reading.if_fi reading.do_od reading.block reading.atomic reading.d_step reading.goto reading.plainly reading.options reading.options_from reading.braces reading.statement reading.declared reading.exclusive reading.stepped reading.item reading.items_from reading.basic sees and_then pick
+  unfolding reading.if_fi reading.do_od reading.block reading.atomic reading.d_step reading.goto reading.plainly reading.options reading.options_from reading.braces reading.statement reading.declared reading.exclusive reading.escape reading.stepped reading.item reading.items_from reading.basic sees and_then pick
 
   basic_again : {closed : Bool} {x : Basic} {from to : List Word} → SpellsBasic closed x from to → (depth : ℕ) → length from ≤ depth → (closed ≡ false → follows (next to) ≡ true) → reading.basic depth (reading.items depth) from ≡ Ok ((x, closed), to)
   basic_again (grammar.if_fi {o} {c} {from} {to} is os closed) depth room follow =

@@ -8,17 +8,18 @@ use Rattle.pml_tree.specs.declared.tree.Scalar.{Scalar}
 use Rattle.pml_tree.specs.declared.tree.Initial.{Initial}
 use Rattle.pml_tree.specs.declared.tree.Reference.{Reference}
 use Rattle.pml_tree.specs.declared.tree.Variable.{Variable}
-use Rattle.pml_syntax.specs.declared.form.Form.{Form}
+use Rattle.pml_syntax.specs.declared.opener.Opener.{Opener}
 use Rattle.pml_syntax.specs.Grammar as grammar
-use Rattle.pml_syntax.specs.Grammar.{scalar, is_visibility, SpellsExpr, SpellsReference, SpellsList, SpellsScalar, SpellsVisibility, SpellsForm, SpellsInitial, SpellsVariable, SpellsVariables, SpellsDeclaration}
+use Rattle.pml_expression.specs.Grammar.{SpellsExpr, SpellsReference, SpellsList}
+use Rattle.pml_syntax.specs.Grammar.{scalar, is_visibility, SpellsScalar, SpellsVisibility, SpellsOpener, SpellsInitial, SpellsVariable, SpellsVariables, SpellsDeclaration}
 use Rattle.pml_syntax.specs.Starts.{declares}
-use Rattle.pml_syntax.specs.Reading as expressions
-use Rattle.pml_syntax.specs.Reading.{Read, and_then, pick, next, sees, expect, expr}
+use Rattle.pml_expression.specs.Reading as expressions
+use Rattle.pml_expression.specs.Reading.{Read, and_then, pick, next, sees, expect, expect_all, expr}
 use Rattle.pml_syntax.specs.ReadingStatements as reading
 use Rattle.pml_syntax.specs.ReadingStatements.{skip_visibility, is_declaration}
-use Rattle.pml_syntax.proofs.Steps.{expect_again, is_kind, not_kind, at, index_moves, expr_moves, reference_moves}
-use Rattle.pml_syntax.proofs.Lists.{list_again, list_moves}
-use Rattle.pml_syntax.proofs.Again.{IsFree, IsQuiet, quiet_bracket, quiet_comma, index_again, reference_again}
+use Rattle.pml_expression.proofs.Steps.{expect_again, is_kind, not_kind, at, index_moves, expr_moves, reference_moves}
+use Rattle.pml_expression.proofs.Lists.{list_again, list_moves}
+use Rattle.pml_expression.proofs.Again.{IsFree, IsQuiet, quiet_bracket, quiet_comma, index_again, reference_again}
 use Rattle.pml_syntax.proofs.Begins.{follows, Stops, begins_expr, expr_begins}
 use Rattle.pml_syntax.proofs.AgainActions.{expr_whole}
 
@@ -41,25 +42,25 @@ scalar_no_visibility k.Show s h = absurd cc
 scalar_no_visibility k.Local s h = absurd cc
 scalar_no_visibility _ s h = refl
 
-pub form_begins : {f : Form} {from to : List Word} → SpellsForm f from to → is_visibility (next from) ≡ false
-form_begins (grammar.of_scalar {w} {s} is) = scalar_no_visibility w.kind s is
-form_begins (grammar.of_unsigned is) = at (λ x. is_visibility x ≡ false) is refl
-form_begins (grammar.of_typedef is) = at (λ x. is_visibility x ≡ false) is refl
+pub opener_begins : {f : Opener} {from to : List Word} → SpellsOpener f from to → is_visibility (next from) ≡ false
+opener_begins (grammar.of_scalar {w} {s} is) = scalar_no_visibility w.kind s is
+opener_begins (grammar.of_unsigned is) = at (λ x. is_visibility x ≡ false) is refl
+opener_begins (grammar.of_typedef is) = at (λ x. is_visibility x ≡ false) is refl
 
 pub visibility_again : {from to : List Word} → SpellsVisibility from to → is_visibility (next to) ≡ false → skip_visibility from ≡ to
 unfolding skip_visibility pick
 visibility_again grammar.no_visibility h = rw h refl
 visibility_again (grammar.visibility is) h = rw is refl
 
-form_again : {f : Form} {from to : List Word} → SpellsForm f from to → reading.form_of from ≡ Ok (f, to)
-unfolding reading.form_of and_then pick sees
-form_again (grammar.of_scalar is) = rw is refl
-form_again (grammar.of_unsigned {w} {to} is) = let none : scalar w.kind ≡ None = at (λ x. scalar x ≡ None) is refl in rw (none, is_kind w.kind k.Unsigned is, expect_again k.Unsigned w to is) refl
-form_again (grammar.of_typedef {w} {to} is) = let none : scalar w.kind ≡ None = at (λ x. scalar x ≡ None) is refl in rw (none, not_kind w.kind k.Name k.Unsigned is refl, expect_again k.Name w to is) refl
+opener_again : {f : Opener} {from to : List Word} → SpellsOpener f from to → reading.opener_of from ≡ Ok (f, to)
+unfolding reading.opener_of and_then pick sees
+opener_again (grammar.of_scalar is) = rw is refl
+opener_again (grammar.of_unsigned {w} {to} is) = let none : scalar w.kind ≡ None = at (λ x. scalar x ≡ None) is refl in rw (none, is_kind w.kind k.Unsigned is, expect_again k.Unsigned w to is) refl
+opener_again (grammar.of_typedef {w} {to} is) = let none : scalar w.kind ≡ None = at (λ x. scalar x ≡ None) is refl in rw (none, not_kind w.kind k.Name k.Unsigned is refl, expect_again k.Name w to is) refl
 
 -- behind what may say who sees it
-pub typed_again : {f : Form} {from middle to : List Word} → SpellsVisibility from middle → SpellsForm f middle to → reading.form_of (skip_visibility from) ≡ Ok (f, to)
-typed_again v f = rw (visibility_again v (form_begins f)) (form_again f)
+pub typed_again : {f : Opener} {from middle to : List Word} → SpellsVisibility from middle → SpellsOpener f middle to → reading.opener_of (skip_visibility from) ≡ Ok (f, to)
+typed_again v f = rw (visibility_again v (opener_begins f)) (opener_again f)
 
 scalar_again : (s : Scalar) (from to : List Word) → SpellsScalar s from to → reading.scalar_of from ≡ Ok (s, to)
 unfolding reading.scalar_of
@@ -75,10 +76,10 @@ pub visibility_moves : {from to : List Word} → SpellsVisibility from to → le
 visibility_moves grammar.no_visibility = omega arith
 visibility_moves (grammar.visibility _) = omega arith
 
-pub form_moves : {f : Form} {from to : List Word} → SpellsForm f from to → length to < length from
-form_moves (grammar.of_scalar _) = omega arith
-form_moves (grammar.of_unsigned _) = omega arith
-form_moves (grammar.of_typedef _) = omega arith
+pub opener_moves : {f : Opener} {from to : List Word} → SpellsOpener f from to → length to < length from
+opener_moves (grammar.of_scalar _) = omega arith
+opener_moves (grammar.of_unsigned _) = omega arith
+opener_moves (grammar.of_typedef _) = omega arith
 
 -- ---- initial values
 
@@ -92,7 +93,7 @@ initial_begins (grammar.value is _) settle = not_kind _ k.Assign k.OpenBracket i
 initial_begins (grammar.channel is _ _ _ _ _ _ _) settle = not_kind _ k.Assign k.OpenBracket is refl
 
 initial_again : {closed : Bool} {i : Option Initial} {from to : List Word} → SpellsInitial closed i from to → (depth : ℕ) → length from ≤ depth → (closed ≡ false → Settles (next to)) → reading.initial depth from ≡ Ok ((i, closed), to)
-unfolding reading.initial reading.channel and_then pick sees
+unfolding reading.initial reading.channel reading.capacity expressions.expr_behind expect_all and_then pick sees
 initial_again grammar.no_initial depth room settle = rw (settle refl).no_assign refl
 initial_again (grammar.value {o} {x} {from} {to} is h) depth room settle =
     rw (is_kind o.kind k.Assign is, expect_again k.Assign o from is, begins_no_bracket (next from) (expr_begins h), expr_whole h depth (omega arith) (settle refl).quiet) refl
@@ -112,8 +113,8 @@ initial_again (grammar.channel {w} {o} {c} {f} {d} {z} {x} {ss} {from} {types} {
 
 -- ---- variables
 
-variable_again : {closed : Bool} {f : Form} {v : Variable} {from to : List Word} → SpellsVariable closed f v from to → (depth : ℕ) → length from ≤ depth → (closed ≡ false → Settles (next to)) → reading.variable_by depth f from ≡ Ok ((v, closed), to)
-unfolding reading.plain reading.structured reading.packed reading.packed_value and_then pick sees
+variable_again : {closed : Bool} {f : Opener} {v : Variable} {from to : List Word} → SpellsVariable closed f v from to → (depth : ℕ) → length from ≤ depth → (closed ≡ false → Settles (next to)) → reading.variable_by depth f from ≡ Ok ((v, closed), to)
+unfolding reading.plain reading.structured reading.packed reading.packed_value expressions.expr_behind and_then pick sees
 variable_again (grammar.plain {n} {from} is size i) depth room settle =
     rw (expect_again k.Name n from is, index_again size depth (omega arith) (initial_begins i settle), initial_again i depth (omega (arith, index_moves size)) settle) refl
 variable_again (grammar.structured {n} {from} is size) depth room settle = rw (expect_again k.Name n from is, index_again size depth (omega arith) (settle refl).quiet.free.no_index) refl
@@ -130,17 +131,17 @@ initial_moves grammar.no_initial = omega arith
 initial_moves (grammar.value _ x) = omega (arith, expr_moves x)
 initial_moves (grammar.channel _ _ x _ _ _ ts _) = omega (arith, expr_moves x, list_of_scalars_moves ts)
 
-variable_moves : {closed : Bool} {f : Form} {v : Variable} {from to : List Word} → SpellsVariable closed f v from to → length to < length from
+variable_moves : {closed : Bool} {f : Opener} {v : Variable} {from to : List Word} → SpellsVariable closed f v from to → length to < length from
 variable_moves (grammar.plain _ size i) = omega (arith, index_moves size, initial_moves i)
 variable_moves (grammar.structured _ size) = omega (arith, index_moves size)
 variable_moves (grammar.packed _ _ _) = omega arith
 variable_moves (grammar.packed_value _ _ _ _ x) = omega (arith, expr_moves x)
 
-variables_move : {closed : Bool} {f : Form} {vs : List Variable} {from to : List Word} → SpellsVariables closed f vs from to → length to < length from
+variables_move : {closed : Bool} {f : Opener} {vs : List Variable} {from to : List Word} → SpellsVariables closed f vs from to → length to < length from
 variables_move (grammar.last_variable v) = variable_moves v
 variables_move (grammar.more_variables v _ vs) = omega (arith, variable_moves v, variables_move vs)
 
-variables_again : {closed : Bool} {f : Form} {vs : List Variable} {from to : List Word} → SpellsVariables closed f vs from to → (depth turns : ℕ) → length from ≤ depth → length from ≤ turns → (closed ≡ false → Settles (next to)) → same_kind (next to) k.Comma ≡ false → (found : List Variable)
+variables_again : {closed : Bool} {f : Opener} {vs : List Variable} {from to : List Word} → SpellsVariables closed f vs from to → (depth turns : ℕ) → length from ≤ depth → length from ≤ turns → (closed ≡ false → Settles (next to)) → same_kind (next to) k.Comma ≡ false → (found : List Variable)
     → reading.variables_from depth turns f found from ≡ Ok ((found ++ vs, closed), to)
 unfolding reading.variables_from and_then pick sees
 variables_again (grammar.last_variable v) depth zero room enough settle ends found = absurd (omega (arith, variable_moves v))
@@ -151,13 +152,13 @@ variables_again (grammar.more_variables {closed} {later} {f} {v = x} {vs = xs} {
     (ap (λ (r : List Variable). Ok ((r, later), to)) (append_assoc found (x ∷ []) xs))
 
 pub declaration_moves : {closed : Bool} {vs : List Variable} {from to : List Word} → SpellsDeclaration closed vs from to → length to < length from
-declaration_moves (grammar.declaration v f vs) = omega (arith, visibility_moves v, form_moves f, variables_move vs)
+declaration_moves (grammar.declaration v f vs) = omega (arith, visibility_moves v, opener_moves f, variables_move vs)
 
 pub declaration_again : {closed : Bool} {vs : List Variable} {from to : List Word} → SpellsDeclaration closed vs from to → (depth : ℕ) → length from ≤ depth → (closed ≡ false → Settles (next to)) → same_kind (next to) k.Comma ≡ false → (found : List Variable)
     → reading.declaration_from depth found from ≡ Ok ((found ++ vs, closed), to)
 unfolding reading.declaration_from and_then
 declaration_again (grammar.declaration {named} v f vs) depth room settle ends found =
-    rw (typed_again v f, variables_again vs depth (length named) (omega (arith, visibility_moves v, form_moves f)) (omega arith) settle ends found) refl
+    rw (typed_again v f, variables_again vs depth (length named) (omega (arith, visibility_moves v, opener_moves f)) (omega arith) settle ends found) refl
 
 -- ---- what begins a declaration
 
@@ -178,13 +179,13 @@ scalar_declares k.Short s h = refl
 scalar_declares k.Int s h = refl
 scalar_declares _ s h = absurd cc
 
-variable_begins : {closed : Bool} {f : Form} {v : Variable} {from to : List Word} → SpellsVariable closed f v from to → next from ≡ k.Name
+variable_begins : {closed : Bool} {f : Opener} {v : Variable} {from to : List Word} → SpellsVariable closed f v from to → next from ≡ k.Name
 variable_begins (grammar.plain is _ _) = is
 variable_begins (grammar.structured is _) = is
 variable_begins (grammar.packed is _ _) = is
 variable_begins (grammar.packed_value is _ _ _ _) = is
 
-pub variables_begin : {closed : Bool} {f : Form} {vs : List Variable} {from to : List Word} → SpellsVariables closed f vs from to → next from ≡ k.Name
+pub variables_begin : {closed : Bool} {f : Opener} {vs : List Variable} {from to : List Word} → SpellsVariables closed f vs from to → next from ≡ k.Name
 variables_begin (grammar.last_variable v) = variable_begins v
 variables_begin (grammar.more_variables v _ _) = variable_begins v
 

@@ -11,22 +11,24 @@ use Rattle.pml_tree.specs.declared.tree.Item.{Item}
 use Rattle.pml_tree.specs.declared.tree.Starts.{Starts}
 use Rattle.pml_tree.specs.declared.tree.Unit.{Unit as ModelUnit}
 use Rattle.pml_tree.specs.declared.tree.Tree.{Tree}
-use Rattle.pml_syntax.specs.declared.form.Form.{Form}
+use Rattle.pml_syntax.specs.declared.opener.Opener.{Opener}
 use Rattle.pml_syntax.specs.declared.starts.Head.TheVariants as h
 use Rattle.pml_syntax.specs.Grammar as grammar
-use Rattle.pml_syntax.specs.Grammar.{operator, query, scalar, is_visibility, SpellsList, SpellsName, SpellsVisibility, SpellsForm, SpellsVariables, SpellsDeclaration, SpellsBody, SpellsSemicolons, SpellsMembers, SpellsParameter, SpellsMoreParameters, SpellsParameters, SpellsStarts, SpellsUnit, SpellsUnits, Spells}
+use Rattle.pml_expression.specs.Grammar.{operator, query, SpellsList}
+use Rattle.pml_syntax.specs.Grammar.{scalar, is_visibility, SpellsName, SpellsVisibility, SpellsOpener, SpellsVariables, SpellsDeclaration, SpellsBody, SpellsSemicolons, SpellsMembers, SpellsParameter, SpellsMoreParameters, SpellsParameters, SpellsStarts, SpellsUnit, SpellsUnits, Spells}
 use Rattle.pml_syntax.specs.Starts.{declares, head, is_end}
-use Rattle.pml_syntax.specs.Reading as expressions
-use Rattle.pml_syntax.specs.Reading.{Read, and_then, pick, next, sees, expect, expr}
+use Rattle.pml_expression.specs.Reading as expressions
+use Rattle.pml_expression.specs.Reading.{Read, and_then, pick, next, sees, expect, expect_name, expr}
 use Rattle.pml_syntax.specs.ReadingStatements as statements
 use Rattle.pml_syntax.specs.ReadingUnits as reading
-use Rattle.pml_syntax.specs.ReadingUnits.{is_empty, skip_semicolons, parts_parameters}
-use Rattle.pml_syntax.proofs.Steps.{expect_again, is_kind, not_kind, at, expr_moves}
-use Rattle.pml_syntax.proofs.Lists.{list_again, list_moves}
-use Rattle.pml_syntax.proofs.Again.{IsFree, IsQuiet, quiet_bracket}
+use Rattle.pml_expression.specs.Reading.{is_empty}
+use Rattle.pml_syntax.specs.ReadingUnits.{skip_semicolons, parts_parameters}
+use Rattle.pml_expression.proofs.Steps.{expect_again, is_kind, not_kind, at, expr_moves}
+use Rattle.pml_expression.proofs.Lists.{list_again, list_moves}
+use Rattle.pml_expression.proofs.Again.{IsFree, IsQuiet, quiet_bracket}
 use Rattle.pml_syntax.proofs.Begins.{follows, Stops}
 use Rattle.pml_syntax.proofs.AgainActions.{expr_whole}
-use Rattle.pml_syntax.proofs.AgainDeclarations.{Settles, stops_settles, typed_again, visibility_moves, form_moves, declaration_moves, declaration_again, declaration_begins, visible_declares, scalar_declares, variables_begin}
+use Rattle.pml_syntax.proofs.AgainDeclarations.{Settles, stops_settles, typed_again, visibility_moves, opener_moves, declaration_moves, declaration_again, declaration_begins, visible_declares, scalar_declares, variables_begin}
 use Rattle.pml_syntax.proofs.AgainBodies.{items_begin, items_again, items_move}
 
 -- ---- what comes behind a unit
@@ -115,33 +117,33 @@ semicolons_move (grammar.one_semicolon _ rest) = omega (arith, semicolons_move r
 
 -- ---- parameters
 
-parameter_again : {f : Form} {v : Variable} {from to : List Word} → SpellsParameter f v from to → reading.parameter_by f from ≡ Ok (v, to)
+parameter_again : {f : Opener} {v : Variable} {from to : List Word} → SpellsParameter f v from to → reading.parameter_by f from ≡ Ok (v, to)
 unfolding reading.plain_parameter reading.packed_parameter and_then
 parameter_again (grammar.plain_parameter {n} {to} is) = rw (expect_again k.Name n to is) refl
 parameter_again (grammar.packed_parameter {n} {c} {w} {to} is colon wide) = rw (expect_again k.Name n (c ∷ w ∷ to) is, expect_again k.Colon c (w ∷ to) colon, expect_again k.Number w to wide) refl
 
-parameter_moves : {f : Form} {v : Variable} {from to : List Word} → SpellsParameter f v from to → length to < length from
+parameter_moves : {f : Opener} {v : Variable} {from to : List Word} → SpellsParameter f v from to → length to < length from
 parameter_moves (grammar.plain_parameter _) = omega arith
 parameter_moves (grammar.packed_parameter _ _ _) = omega arith
 
-parameter_begins : {f : Form} {v : Variable} {from to : List Word} → SpellsParameter f v from to → next from ≡ k.Name
+parameter_begins : {f : Opener} {v : Variable} {from to : List Word} → SpellsParameter f v from to → next from ≡ k.Name
 parameter_begins (grammar.plain_parameter is) = is
 parameter_begins (grammar.packed_parameter is _ _) = is
 
-typed_parameter_again : {f : Form} {v : Variable} {from typed named to : List Word} → SpellsVisibility from typed → SpellsForm f typed named → SpellsParameter f v named to → reading.typed_parameter from ≡ Ok ((v, f), to)
+typed_parameter_again : {f : Opener} {v : Variable} {from typed named to : List Word} → SpellsVisibility from typed → SpellsOpener f typed named → SpellsParameter f v named to → reading.typed_parameter from ≡ Ok ((v, f), to)
 unfolding reading.typed_parameter and_then
 typed_parameter_again vis f v = rw (typed_again vis f, parameter_again v) refl
 
-typed_declares : {f : Form} {v : Variable} {from typed named to : List Word} → SpellsVisibility from typed → SpellsForm f typed named → SpellsParameter f v named to → declares (next from) ≡ true
+typed_declares : {f : Opener} {v : Variable} {from typed named to : List Word} → SpellsVisibility from typed → SpellsOpener f typed named → SpellsParameter f v named to → declares (next from) ≡ true
 typed_declares (grammar.visibility {w} is) f v = visible_declares w.kind is
 typed_declares grammar.no_visibility (grammar.of_scalar {w} {s} is) v = scalar_declares w.kind s is
 typed_declares grammar.no_visibility (grammar.of_unsigned is) v = at (λ x. declares x ≡ true) is refl
 typed_declares grammar.no_visibility (grammar.of_typedef is) v = absurd (named_none v)
   where
-    named_none : {w : Word} {v : Variable} {from to : List Word} → SpellsParameter (Rattle.pml_syntax.specs.declared.form.Form.TheVariants.Named w) v from to → ⊥
+    named_none : {w : Word} {v : Variable} {from to : List Word} → SpellsParameter (Rattle.pml_syntax.specs.declared.opener.Opener.TheVariants.Named w) v from to → ⊥
     named_none v = elim v [ ]
 
-more_parameters_again : {f : Form} {vs : List Variable} {from to : List Word} → SpellsMoreParameters f vs from to → (turns : ℕ) → length from ≤ turns → parts_parameters (next to) ≡ false → (found : List Variable) → reading.parameters_from turns f found from ≡ Ok (found ++ vs, to)
+more_parameters_again : {f : Opener} {vs : List Variable} {from to : List Word} → SpellsMoreParameters f vs from to → (turns : ℕ) → length from ≤ turns → parts_parameters (next to) ≡ false → (found : List Variable) → reading.parameters_from turns f found from ≡ Ok (found ++ vs, to)
 unfolding reading.parameters_from reading.more_parameter reading.next_parameter sees and_then pick
 more_parameters_again (grammar.no_more_parameters {to}) zero room ends found = ap (λ (r : List Variable). Ok (r, to)) (sym (append-nil found))
 more_parameters_again (grammar.no_more_parameters {to}) (suc n) room ends found = rw ends (ap (λ (r : List Variable). Ok (r, to)) (sym (append-nil found)))
@@ -154,12 +156,12 @@ more_parameters_again (grammar.same_type {c} {v = x} {vs = xs} {from} {to} is v 
 more_parameters_again (grammar.comma_parameter is vis t v vs) zero room ends found = absurd (omega arith)
 more_parameters_again (grammar.comma_parameter {c} {v = x} {vs = xs} {to} is vis t v vs) (suc n) room ends found =
     let parts : parts_parameters c.kind ≡ true = at (λ z. parts_parameters z ≡ true) is refl in
-    rw (parts, not_kind c.kind k.Comma k.Semicolon is refl, typed_declares vis t v, typed_parameter_again vis t v, more_parameters_again vs n (omega (arith, visibility_moves vis, form_moves t, parameter_moves v)) ends (found ++ x ∷ []))
+    rw (parts, not_kind c.kind k.Comma k.Semicolon is refl, typed_declares vis t v, typed_parameter_again vis t v, more_parameters_again vs n (omega (arith, visibility_moves vis, opener_moves t, parameter_moves v)) ends (found ++ x ∷ []))
     (ap (λ (r : List Variable). Ok (r, to)) (append_assoc found (x ∷ []) xs))
 more_parameters_again (grammar.semicolon_parameter is vis t v vs) zero room ends found = absurd (omega arith)
 more_parameters_again (grammar.semicolon_parameter {c} {v = x} {vs = xs} {to} is vis t v vs) (suc n) room ends found =
     let parts : parts_parameters c.kind ≡ true = at (λ z. parts_parameters z ≡ true) is refl in
-    rw (parts, is_kind c.kind k.Semicolon is, typed_parameter_again vis t v, more_parameters_again vs n (omega (arith, visibility_moves vis, form_moves t, parameter_moves v)) ends (found ++ x ∷ []))
+    rw (parts, is_kind c.kind k.Semicolon is, typed_parameter_again vis t v, more_parameters_again vs n (omega (arith, visibility_moves vis, opener_moves t, parameter_moves v)) ends (found ++ x ∷ []))
     (ap (λ (r : List Variable). Ok (r, to)) (append_assoc found (x ∷ []) xs))
 
 declares_no_close : (kind : Kind) → declares kind ≡ true → same_kind kind k.CloseParen ≡ false
@@ -172,15 +174,15 @@ parameters_again (grammar.no_parameters {to}) close = rw (is_kind (next to) k.Cl
 parameters_again (grammar.parameters {v = x} {from} {middle} {to} vis t v vs) close =
     rw (declares_no_close (next from) (typed_declares vis t v), typed_parameter_again vis t v, more_parameters_again vs (length middle) (omega arith) (at (λ z. parts_parameters z ≡ false) close refl) (x ∷ [])) refl
 
-more_parameters_move : {f : Form} {vs : List Variable} {from to : List Word} → SpellsMoreParameters f vs from to → length to ≤ length from
+more_parameters_move : {f : Opener} {vs : List Variable} {from to : List Word} → SpellsMoreParameters f vs from to → length to ≤ length from
 more_parameters_move grammar.no_more_parameters = omega arith
 more_parameters_move (grammar.same_type _ v vs) = omega (arith, parameter_moves v, more_parameters_move vs)
-more_parameters_move (grammar.comma_parameter _ vis t v vs) = omega (arith, visibility_moves vis, form_moves t, parameter_moves v, more_parameters_move vs)
-more_parameters_move (grammar.semicolon_parameter _ vis t v vs) = omega (arith, visibility_moves vis, form_moves t, parameter_moves v, more_parameters_move vs)
+more_parameters_move (grammar.comma_parameter _ vis t v vs) = omega (arith, visibility_moves vis, opener_moves t, parameter_moves v, more_parameters_move vs)
+more_parameters_move (grammar.semicolon_parameter _ vis t v vs) = omega (arith, visibility_moves vis, opener_moves t, parameter_moves v, more_parameters_move vs)
 
 parameters_move : {vs : List Variable} {from to : List Word} → SpellsParameters vs from to → length to ≤ length from
 parameters_move grammar.no_parameters = omega arith
-parameters_move (grammar.parameters vis t v vs) = omega (arith, visibility_moves vis, form_moves t, parameter_moves v, more_parameters_move vs)
+parameters_move (grammar.parameters vis t v vs) = omega (arith, visibility_moves vis, opener_moves t, parameter_moves v, more_parameters_move vs)
 
 -- ---- parts of units
 
@@ -197,7 +199,7 @@ names_again o c {from} {to} opened ns closed =
     rw (expect_again k.OpenBrace o from opened, inside, expect_again k.CloseBrace c to closed) refl
 
 starts_again : {s : Starts} {from to : List Word} → SpellsStarts s from to → (depth : ℕ) → length from ≤ depth → next to ≡ k.Proctype → reading.starts depth from ≡ Ok (s, to)
-unfolding reading.starts expressions.index sees and_then pick
+unfolding reading.starts expressions.index expressions.expr_behind sees and_then pick
 starts_again (grammar.never {to}) depth room word = rw (not_kind (next to) k.Proctype k.Active word refl) refl
 starts_again (grammar.once {w} {to} is) depth room word = rw (is_kind w.kind k.Active is, expect_again k.Active w to is, not_kind (next to) k.Proctype k.OpenBracket word refl) refl
 starts_again (grammar.times {w} {o} {c} {x} {from} {to} is opened h closed) depth room word =
@@ -309,7 +311,7 @@ declared_unit (grammar.declaration grammar.no_visibility (grammar.of_unsigned {w
 declared_unit (grammar.declaration grammar.no_visibility (grammar.of_typedef {w} is) vs) depth r g = let other : head w.kind ≡ h.Other = at (λ x. head x ≡ h.Other) is refl in rw other g
 
 unit_again : {x : ModelUnit} {from to : List Word} → SpellsUnit x from to → (depth : ℕ) → length from ≤ depth → Stops (next to) → reading.unit depth from ≡ Ok (x, to)
-unfolding reading.variables reading.constants reading.typedef reading.proctype reading.signature reading.init sees and_then pick
+unfolding reading.variables reading.constants reading.typedef reading.proctype reading.signature reading.init expect_name sees and_then pick
 unit_again (grammar.variables d) depth room s = declared_unit d depth _ (rw (declaration_again d depth room (λ _. stops_settles s) s.last.no_comma []) refl)
 unit_again (grammar.constants {w} {o} {c} {from} is opened ns closed) depth room s =
     unit_at depth (w ∷ o ∷ from) _ is (rw (not_kind o.kind k.OpenBrace k.Name opened refl, not_kind o.kind k.OpenBrace k.Assign opened refl, names_again o c opened ns closed) refl)

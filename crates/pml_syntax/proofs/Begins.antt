@@ -4,6 +4,8 @@ use Rattle.pml_lex.specs.Word.{Word}
 use Rattle.pml_lex.specs.Kinds.{same_kind}
 use Rattle.pml_lex.specs.declared.token.Kind.{Kind}
 use Rattle.pml_lex.specs.declared.token.Kind.TheVariants as k
+use Rattle.pml_tree.specs.declared.tree.Search.{Search}
+use Rattle.pml_tree.specs.declared.tree.SendOrder.{SendOrder}
 use Rattle.pml_tree.specs.declared.tree.Infix.{Infix}
 use Rattle.pml_tree.specs.declared.tree.Prefix.{Prefix}
 use Rattle.pml_tree.specs.declared.tree.Fill.{Fill}
@@ -12,15 +14,17 @@ use Rattle.pml_tree.specs.declared.tree.Action.{Action}
 use Rattle.pml_tree.specs.declared.tree.Reference.{Reference}
 use Rattle.pml_tree.specs.declared.tree.Run.{Run}
 use Rattle.pml_tree.specs.declared.tree.Step.{Step}
+use Rattle.pml_expression.specs.Grammar as terms
 use Rattle.pml_syntax.specs.Grammar as grammar
-use Rattle.pml_syntax.specs.Grammar.{operator, truth, fill, query, bang, prefix_operator, is_separator, is_exclusive, SpellsIndex, SpellsFields, SpellsReference, SpellsExpr, SpellsArgument, SpellsArgumentList, SpellsArguments, SpellsList, SpellsRun, SpellsValues, SpellsAction}
+use Rattle.pml_expression.specs.Grammar.{operator, truth, fill, query, prefix_operator, SpellsIndex, SpellsFields, SpellsReference, SpellsExpr, SpellsArgument, SpellsArgumentList, SpellsArguments, SpellsList}
+use Rattle.pml_syntax.specs.Grammar.{bang, is_separator, is_exclusive, SpellsRun, SpellsValues, SpellsAction}
 use Rattle.pml_syntax.specs.Starts.{opening, declares}
 use Rattle.pml_syntax.specs.declared.starts.Opening.TheVariants as o
-use Rattle.pml_syntax.specs.Reading.{pick, next, sees}
+use Rattle.pml_expression.specs.Reading.{pick, next, sees}
 use Rattle.pml_syntax.specs.ReadingStatements.{leads_to_run, is_label}
-use Rattle.pml_syntax.proofs.Steps.{is_kind, not_kind, at, reference_moves, expr_moves, arguments_move}
-use Rattle.pml_syntax.proofs.Lists.{list_moves}
-use Rattle.pml_syntax.proofs.Again.{IsFree, IsQuiet, IsLast, reference_begins}
+use Rattle.pml_expression.proofs.Steps.{is_kind, not_kind, at, reference_moves, expr_moves, arguments_move}
+use Rattle.pml_expression.proofs.Lists.{list_moves}
+use Rattle.pml_expression.proofs.Again.{IsFree, IsQuiet, IsLast, reference_begins}
 
 -- ---- what may come behind a statement
 
@@ -67,20 +71,20 @@ operator_apart k.Colon i h = absurd cc
 operator_apart k.Name i h = absurd cc
 operator_apart _ i h = record { no_colon = refl; no_name = refl }
 
-query_apart : (kind : Kind) (any : Bool) → query kind ≡ Some any → Apart kind
-query_apart k.Colon any h = absurd cc
-query_apart k.Name any h = absurd cc
-query_apart _ any h = record { no_colon = refl; no_name = refl }
+query_apart : (kind : Kind) (look : Search) → query kind ≡ Some look → Apart kind
+query_apart k.Colon look h = absurd cc
+query_apart k.Name look h = absurd cc
+query_apart _ look h = record { no_colon = refl; no_name = refl }
 
-bang_apart : (kind : Kind) (sorted : Bool) → bang kind ≡ Some sorted → Apart kind
-bang_apart k.Colon sorted h = absurd cc
-bang_apart k.Name sorted h = absurd cc
-bang_apart _ sorted h = record { no_colon = refl; no_name = refl }
+bang_apart : (kind : Kind) (order : SendOrder) → bang kind ≡ Some order → Apart kind
+bang_apart k.Colon order h = absurd cc
+bang_apart k.Name order h = absurd cc
+bang_apart _ order h = record { no_colon = refl; no_name = refl }
 
-pub bang_free : (kind : Kind) (sorted : Bool) → bang kind ≡ Some sorted → IsFree kind
-bang_free k.OpenBracket sorted h = absurd cc
-bang_free k.Dot sorted h = absurd cc
-bang_free _ sorted h = record { no_index = refl; no_dot = refl }
+pub bang_free : (kind : Kind) (order : SendOrder) → bang kind ≡ Some order → IsFree kind
+bang_free k.OpenBracket order h = absurd cc
+bang_free k.Dot order h = absurd cc
+bang_free _ order h = record { no_index = refl; no_dot = refl }
 
 -- ---- what begins an expression or a statement without structure
 
@@ -123,16 +127,16 @@ prefix_begins k.Minus p h = refl
 prefix_begins _ p h = absurd cc
 
 pub expr_begins : {m : ℕ} {x : Expr} {from to : List Word} → SpellsExpr m x from to → begins_expr (next from) ≡ true
-expr_begins (grammar.number is) = at (λ x. begins_expr x ≡ true) is refl
-expr_begins (grammar.truth_value {w} {v} is) = truth_begins w.kind v is
-expr_begins (grammar.timeout is) = at (λ x. begins_expr x ≡ true) is refl
-expr_begins (grammar.read r) = at (λ x. begins_expr x ≡ true) (reference_begins r) refl
-expr_begins (grammar.poll r _ _ _ _) = at (λ x. begins_expr x ≡ true) (reference_begins r) refl
-expr_begins (grammar.ask {w} {f} is _ _ _) = fill_begins w.kind f is
-expr_begins (grammar.unary {o} {p} is _ _) = prefix_begins o.kind p is
-expr_begins (grammar.binary _ _ x _) = expr_begins x
-expr_begins (grammar.parentheses is _ _) = at (λ x. begins_expr x ≡ true) is refl
-expr_begins (grammar.choice is _ _ _ _ _ _) = at (λ x. begins_expr x ≡ true) is refl
+expr_begins (terms.number is) = at (λ x. begins_expr x ≡ true) is refl
+expr_begins (terms.truth_value {w} {v} is) = truth_begins w.kind v is
+expr_begins (terms.timeout is) = at (λ x. begins_expr x ≡ true) is refl
+expr_begins (terms.read r) = at (λ x. begins_expr x ≡ true) (reference_begins r) refl
+expr_begins (terms.poll r _ _ _ _) = at (λ x. begins_expr x ≡ true) (reference_begins r) refl
+expr_begins (terms.ask {w} {f} is _ _ _) = fill_begins w.kind f is
+expr_begins (terms.unary {o} {p} is _ _) = prefix_begins o.kind p is
+expr_begins (terms.binary _ _ x _) = expr_begins x
+expr_begins (terms.parentheses is _ _) = at (λ x. begins_expr x ≡ true) is refl
+expr_begins (terms.choice is _ _ _ _ _ _) = at (λ x. begins_expr x ≡ true) is refl
 
 -- what a token that begins a statement without structure is not
 pub record BeginsAction (kind : Kind) : Type 0 where
@@ -261,30 +265,30 @@ by_other : (w : Word) (ts : List Word) → Other w.kind → PlainExpr (w ∷ ts)
 by_other w ts h = other_expr w.kind w ts refl h.no_name h.no_paren h.no_run
 
 index_apart : {i : Option Expr} {from to : List Word} → SpellsIndex i from to → Apart (next to) → Apart (next from)
-index_apart grammar.no_index h = h
-index_apart (grammar.index is _ _) h = at Apart is (record { no_colon = refl; no_name = refl })
+index_apart terms.no_index h = h
+index_apart (terms.index is _ _) h = at Apart is (record { no_colon = refl; no_name = refl })
 
 fields_apart : {ss : List Step} {from to : List Word} → SpellsFields ss from to → Apart (next to) → Apart (next from)
-fields_apart grammar.no_field h = h
-fields_apart (grammar.one_field is _ _) h = at Apart is (record { no_colon = refl; no_name = refl })
+fields_apart terms.no_field h = h
+fields_apart (terms.one_field is _ _) h = at Apart is (record { no_colon = refl; no_name = refl })
 
 reference_plain : {r : Reference} {from to : List Word} → SpellsReference r from to → Apart (next to) → PlainExpr from
-reference_plain (grammar.reference (grammar.step {n} {from} is i) ss) h = record { plain = name_plain n from is (index_apart i (fields_apart ss h)); no_run = no_run_at k.Name n from is refl refl }
+reference_plain (terms.reference (terms.step {n} {from} is i) ss) h = record { plain = name_plain n from is (index_apart i (fields_apart ss h)); no_run = no_run_at k.Name n from is refl refl }
 
 pub apart_at : {x : Kind} (kind : Kind) → x ≡ kind → same_kind kind k.Colon ≡ false → same_kind kind k.Name ≡ false → Apart x
 apart_at kind is h1 h2 = at Apart is (record { no_colon = h1; no_name = h2 })
 
 pub expr_plain : {m : ℕ} {x : Expr} {from to : List Word} → SpellsExpr m x from to → Apart (next to) → PlainExpr from
-expr_plain (grammar.number {n = w} {to} is) h = other_expr k.Number w to is refl refl refl
-expr_plain (grammar.truth_value {w} {v} {to} is) h = by_other w to (truth_other w.kind v is)
-expr_plain (grammar.timeout {w} {to} is) h = other_expr k.Timeout w to is refl refl refl
-expr_plain (grammar.read r) h = reference_plain r h
-expr_plain (grammar.poll {q} {any} r is _ _ _) h = reference_plain r (query_apart q.kind any is)
-expr_plain (grammar.ask {w} {o} {f} {from} is _ _ _) h = by_other w (o ∷ from) (fill_other w.kind f is)
-expr_plain (grammar.unary {o} {p} {from} is _ _) h = by_other o from (prefix_other o.kind p is)
-expr_plain (grammar.binary {o} {i} is _ x _) h = expr_plain x (operator_apart o.kind i is)
-expr_plain (grammar.parentheses {o} {from} is x closed) h = record { plain = other_plain k.OpenParen o from is refl; no_run = no_run_behind o from is (expr_plain x (apart_at k.CloseParen closed refl refl)).no_run }
-expr_plain (grammar.choice {o} {from} is x asked _ _ _ _) h = record { plain = other_plain k.OpenParen o from is refl; no_run = no_run_behind o from is (expr_plain x (apart_at k.Arrow asked refl refl)).no_run }
+expr_plain (terms.number {n = w} {to} is) h = other_expr k.Number w to is refl refl refl
+expr_plain (terms.truth_value {w} {v} {to} is) h = by_other w to (truth_other w.kind v is)
+expr_plain (terms.timeout {w} {to} is) h = other_expr k.Timeout w to is refl refl refl
+expr_plain (terms.read r) h = reference_plain r h
+expr_plain (terms.poll {q} {look} r is _ _ _) h = reference_plain r (query_apart q.kind look is)
+expr_plain (terms.ask {w} {o} {f} {from} is _ _ _) h = by_other w (o ∷ from) (fill_other w.kind f is)
+expr_plain (terms.unary {o} {p} {from} is _ _) h = by_other o from (prefix_other o.kind p is)
+expr_plain (terms.binary {o} {i} is _ x _) h = expr_plain x (operator_apart o.kind i is)
+expr_plain (terms.parentheses {o} {from} is x closed) h = record { plain = other_plain k.OpenParen o from is refl; no_run = no_run_behind o from is (expr_plain x (apart_at k.CloseParen closed refl refl)).no_run }
+expr_plain (terms.choice {o} {from} is x asked _ _ _ _) h = record { plain = other_plain k.OpenParen o from is refl; no_run = no_run_behind o from is (expr_plain x (apart_at k.Arrow asked refl refl)).no_run }
 
 pub run_leads : {x : Run} {from to : List Word} → SpellsRun x from to → leads_to_run from ≡ true
 unfolding leads_to_run pick
@@ -304,9 +308,9 @@ action_plain (grammar.assign_run r is _) follow = (reference_plain r (apart_at k
 action_plain (grammar.increment r is) follow = (reference_plain r (apart_at k.Increment is refl refl)).plain
 action_plain (grammar.decrement r is) follow = (reference_plain r (apart_at k.Decrement is refl refl)).plain
 action_plain (grammar.run x) follow = run_plain x
-action_plain (grammar.send {o} {sorted} r is _) follow = (reference_plain r (bang_apart o.kind sorted is)).plain
-action_plain (grammar.receive {q} {any} r is _) follow = (reference_plain r (query_apart q.kind any is)).plain
-action_plain (grammar.copy {q} {any} r is _ _ _) follow = (reference_plain r (query_apart q.kind any is)).plain
+action_plain (grammar.send {o} {order} r is _) follow = (reference_plain r (bang_apart o.kind order is)).plain
+action_plain (grammar.receive {q} {look} r is _) follow = (reference_plain r (query_apart q.kind look is)).plain
+action_plain (grammar.copy {q} {look} r is _ _ _) follow = (reference_plain r (query_apart q.kind look is)).plain
 action_plain (grammar.printf is _ _ _) follow = other_plain k.Printf _ _ is refl
 action_plain (grammar.printf_with is _ _ _ _ _) follow = other_plain k.Printf _ _ is refl
 action_plain (grammar.printm is _ _ _) follow = other_plain k.Printm _ _ is refl

@@ -1,9 +1,13 @@
 -- What is read as a statement without structure is spelled so.
-use Rattle.std.proofs.Common.{◌≡◌, ℕ, zero, suc, Bool, false, List, [], ◌∷◌, length, Some, Ok, inl, inr, refl, sym, subst, arith}
+use Rattle.std.proofs.Common.{◌≡◌, ℕ, zero, suc, Bool, false, List, [], ◌∷◌, length, Some, Ok, inl, inr, refl, sym, ap, subst, ◌∙◌, arith}
 use Rattle.pml_lex.specs.Word.{Word}
 use Rattle.pml_lex.specs.declared.token.Kind.{Kind}
 use Rattle.pml_lex.specs.declared.token.Kind.TheVariants as k
+use Rattle.pml_tree.specs.declared.tree.Search.{Search}
+use Rattle.pml_tree.specs.declared.tree.SendOrder.{SendOrder}
+use Rattle.pml_tree.specs.declared.tree.Removal.TheVariants as removal
 use Rattle.pml_tree.specs.declared.tree.Expr.{Expr}
+use Rattle.pml_tree.specs.declared.tree.Argument.{Argument}
 use Rattle.pml_tree.specs.declared.tree.Reference.{Reference}
 use Rattle.pml_tree.specs.declared.tree.Run.{Run}
 use Rattle.pml_tree.specs.declared.tree.Action.{Action}
@@ -12,15 +16,17 @@ use Rattle.pml_syntax.specs.declared.starts.Deed.{Deed}
 use Rattle.pml_syntax.specs.declared.starts.Deed.TheVariants as d
 use Rattle.pml_syntax.specs.declared.starts.Change.{Change}
 use Rattle.pml_syntax.specs.declared.starts.Change.TheVariants as c
+use Rattle.pml_expression.specs.Grammar as terms
 use Rattle.pml_syntax.specs.Grammar as grammar
-use Rattle.pml_syntax.specs.Grammar.{level, query, bang, run_of, SpellsReference, SpellsExpr, SpellsArguments, SpellsList, SpellsRun, SpellsValues, SpellsAction}
+use Rattle.pml_expression.specs.Grammar.{level, query, SpellsReference, SpellsExpr, SpellsArguments, SpellsList}
+use Rattle.pml_syntax.specs.Grammar.{bang, run_of, SpellsRun, SpellsValues, SpellsAction}
 use Rattle.pml_syntax.specs.Starts.{deed, change}
-use Rattle.pml_syntax.specs.Reading as expressions
-use Rattle.pml_syntax.specs.Reading.{next, expr}
+use Rattle.pml_expression.specs.Reading as expressions
+use Rattle.pml_expression.specs.Reading.{next, expect_all, expr}
 use Rattle.pml_syntax.specs.ReadingStatements as reading
-use Rattle.pml_syntax.proofs.Steps.{bind_ok, chosen, ok_is, Takes, expect_ok, done, fronted, fronted2, fronted3, closed_by}
-use Rattle.pml_syntax.proofs.Lists.{whole_list_found, first_found}
-use Rattle.pml_syntax.proofs.Found.{lowest_found, reference_found, arguments_found, behind_found, climb_found, expr_found}
+use Rattle.pml_expression.proofs.Steps.{bind_ok, chosen, ok_is, Takes, expect_ok, name_ok, done, fronted, fronted2, from_name, closed_by}
+use Rattle.pml_expression.proofs.Lists.{whole_list_found, first_found}
+use Rattle.pml_expression.proofs.Found.{lowest_found, reference_found, arguments_found, behind_found, climb_found, expr_found}
 
 -- ---- what a token begins, by the tables
 
@@ -40,15 +46,15 @@ change_decrement : (kind : Kind) → change kind ≡ c.Decrement → kind ≡ k.
 change_decrement k.Decrement h = refl
 change_decrement _ h = absurd cc
 
-change_send : (kind : Kind) (sorted : Bool) → change kind ≡ c.Send sorted → bang kind ≡ Some sorted
-change_send k.Bang sorted h = cc
-change_send k.BangBang sorted h = cc
-change_send _ sorted h = absurd cc
+change_send : (kind : Kind) (order : SendOrder) → change kind ≡ c.Send order → bang kind ≡ Some order
+change_send k.Bang order h = cc
+change_send k.BangBang order h = cc
+change_send _ order h = absurd cc
 
-change_receive : (kind : Kind) (any : Bool) → change kind ≡ c.Receive any → query kind ≡ Some any
-change_receive k.Query any h = cc
-change_receive k.QueryQuery any h = cc
-change_receive _ any h = absurd cc
+change_receive : (kind : Kind) (look : Search) → change kind ≡ c.Receive look → query kind ≡ Some look
+change_receive k.Query look h = cc
+change_receive k.QueryQuery look h = cc
+change_receive _ look h = absurd cc
 
 module _ (depth : ℕ) where
   one_found : (ts : List Word) (x : Expr × List Word) → expr depth 1 ts ≡ Ok x → SpellsExpr 1 x.0 ts x.1
@@ -56,13 +62,13 @@ module _ (depth : ℕ) where
 
   list_found : (turns : ℕ) (ts : List Word) (x : List Expr × List Word) → expressions.list_from (expr depth 1) turns [] ts ≡ Ok x → SpellsList (SpellsExpr 1) x.0 ts x.1
   list_found turns ts x h =
-      whole_list_found (expr depth 1) (SpellsExpr 1) (SpellsList (SpellsExpr 1)) one_found (λ x from to s. grammar.last_listed s) (λ x xs c from middle to s is more. grammar.more_listed s is more) turns ts x h
+      whole_list_found (expr depth 1) (SpellsExpr 1) (SpellsList (SpellsExpr 1)) one_found (λ x from to s. terms.last_listed s) (λ x xs c from middle to s is more. terms.more_listed s is more) turns ts x h
 
   values_found : (ts : List Word) (x : List Expr × List Word) → reading.values depth ts ≡ Ok x → SpellsValues x.0 ts x.1
   unfolding reading.values
   values_found ts x h =
       let y = bind_ok h in
-      first_found (expr depth 1) (SpellsExpr 1) (SpellsList (SpellsExpr 1)) one_found (λ x from to s. grammar.last_listed s) (λ x xs c from middle to s is more. grammar.more_listed s is more)
+      first_found (expr depth 1) (SpellsExpr 1) (SpellsList (SpellsExpr 1)) one_found (λ x from to s. terms.last_listed s) (λ x xs c from middle to s is more. terms.more_listed s is more)
       SpellsValues (λ xs from to s. grammar.value_list s) (λ x xs o c from middle to s opened more closed. grammar.value_call s opened more closed) y.0.0 ts y.0.1 x (one_found ts y.0 y.1) y.2
 
   -- ---- runs
@@ -82,15 +88,11 @@ module _ (depth : ℕ) where
   run_call_found : (ts : List Word) (x : Run × List Word) → reading.run_call depth ts ≡ Ok x → SpellsRun x.0 ts x.1
   unfolding reading.run_call
   run_call_found ts x h =
-      let w = bind_ok h in
-      let t = expect_ok w.1 in
-      let n = bind_ok w.2 in
-      let u = expect_ok n.1 in
-      let o = bind_ok n.2 in
-      let v = expect_ok o.1 in
-      let xs = bind_ok o.2 in
+      let n = bind_ok h in
+      let t = name_ok n.1 in
+      let xs = bind_ok n.2 in
       let c = bind_ok xs.2 in
-      done SpellsRun c.2 (fronted3 SpellsRun t u v (run_behind w.0.0 n.0.0 o.0.0 o.0.1 xs.0 c.0 t.is u.is v.is xs.1 (expect_ok c.1)))
+      done SpellsRun c.2 (from_name SpellsRun t (run_behind t.word n.0.0 t.end n.0.1 xs.0 c.0 t.is t.named t.ends xs.1 (expect_ok c.1)))
 
   run_found : (nested : ℕ) (ts : List Word) (x : Run × List Word) → reading.run_within depth nested ts ≡ Ok x → SpellsRun x.0 ts x.1
   unfolding reading.run_within
@@ -129,7 +131,7 @@ module _ (depth : ℕ) where
       (grammar.holds (climb_found (expr depth) (expr_found depth) (length first.0.1) 1 first.0.0 from first.0.1 y.0 (omega arith) (omega arith) (left 1, λ b g. left (level b)) y.1).spells)
 
   changed_by_found : (ch : Change) (r : Reference) (from ts : List Word) (x : (Action × Bool) × List Word) → change (next ts) ≡ ch → SpellsReference r from ts → reading.changed_by depth ch r ts ≡ Ok x → IsAction from x
-  unfolding reading.assigned reading.sent reading.received
+  unfolding reading.assigned reading.sent reading.received reading.copied
   changed_by_found c.Assign r from [] x is here h = absurd cc
   changed_by_found c.Assign r from (w ∷ ws) x is here h = elim (chosen h) [
     | inl p ↦ let y = bind_ok p.1 in subst (IsAction from) (ok_is y.2) (grammar.assign_run here (change_assign w.kind is) (run_found (length ws) ws y.0 y.1))
@@ -139,23 +141,24 @@ module _ (depth : ℕ) where
   changed_by_found c.Increment r from (w ∷ ws) x is here h = subst (IsAction from) (ok_is h) (grammar.increment here (change_increment w.kind is))
   changed_by_found c.Decrement r from [] x is here h = absurd cc
   changed_by_found c.Decrement r from (w ∷ ws) x is here h = subst (IsAction from) (ok_is h) (grammar.decrement here (change_decrement w.kind is))
-  changed_by_found (c.Send sorted) r from [] x is here h = absurd cc
-  changed_by_found (c.Send sorted) r from (w ∷ ws) x is here h = let y = bind_ok h in subst (IsAction from) (ok_is y.2) (grammar.send here (change_send w.kind sorted is) (values_found ws y.0 y.1))
-  changed_by_found (c.Receive any) r from [] x is here h = absurd cc
-  changed_by_found (c.Receive any) r from (w ∷ ws) x is here h = elim (chosen h) [
+  changed_by_found (c.Send order) r from [] x is here h = absurd cc
+  changed_by_found (c.Send order) r from (w ∷ ws) x is here h = let y = bind_ok h in subst (IsAction from) (ok_is y.2) (grammar.send here (change_send w.kind order is) (values_found ws y.0 y.1))
+  changed_by_found (c.Receive look) r from [] x is here h = absurd cc
+  changed_by_found (c.Receive look) r from (w ∷ ws) x is here h = elim (chosen h) [
     | inl p ↦ continued_found r from (w ∷ ws) x here p.1
     | inr p ↦ elim (chosen p.1) [
       | inl q ↦
-          let o = bind_ok q.1 in
+          let ys = bind_ok q.1 in
+          let o = bind_ok ys.1 in
           let t = expect_ok o.1 in
           let xs = bind_ok o.2 in
           let c = bind_ok xs.2 in
           let u = expect_ok c.1 in
-          subst (IsAction from) (ok_is c.2)
-          (grammar.copy (subst (λ (to : List Word). SpellsReference r from (w ∷ to)) t.front here) (change_receive w.kind any is) t.is (closed_by SpellsArguments u (arguments_found (expr depth) (expr_found depth) o.0.1 xs.0 xs.1)) u.is)
+          subst (IsAction from) (ok_is ys.2)
+          (done (λ (zs : List Argument). SpellsAction false (a.Receive r look removal.Keep zs)) c.2 (grammar.copy (subst (λ (to : List Word). SpellsReference r from (w ∷ to)) t.front here) (change_receive w.kind look is) t.is (closed_by SpellsArguments u (arguments_found (expr depth) (expr_found depth) o.0.1 xs.0 xs.1)) u.is))
       | inr q ↦
           let xs = bind_ok q.1 in
-          subst (IsAction from) (ok_is xs.2) (grammar.receive here (change_receive w.kind any is) (arguments_found (expr depth) (expr_found depth) ws xs.0 xs.1))
+          subst (IsAction from) (ok_is xs.2) (grammar.receive here (change_receive w.kind look is) (arguments_found (expr depth) (expr_found depth) ws xs.0 xs.1))
     ]
   ]
   changed_by_found c.Other r from ts x is here h = continued_found r from ts x here h
@@ -176,8 +179,29 @@ module _ (depth : ℕ) where
         (subst (λ (from : List Word). SpellsAction false (a.Printf s []) (w ∷ o ∷ s ∷ from) c.1) (sym front) (grammar.printf is opened quoted t.is))
   ]
 
+  record Format (ts : List Word) (x : Word × List Word) : Type 0 where
+    word : Word
+    opened : Word
+    parts : ts ≡ word ∷ opened ∷ x.0 ∷ x.1
+    is : word.kind ≡ k.Printf
+    opens : opened.kind ≡ k.OpenParen
+    quoted : x.0.kind ≡ k.Quoted
+
+  format_found : (ts : List Word) (x : Word × List Word) → reading.format ts ≡ Ok x → Format ts x
+  unfolding reading.format expect_all
+  format_found ts x h =
+      let s = bind_ok h in
+      let w = bind_ok s.1 in
+      let o = bind_ok w.2 in
+      let t = expect_ok w.1 in
+      let u = expect_ok o.1 in
+      let v = expect_ok s.2 in
+      let behind : o.0.1 ≡ s.0.1 = ap (λ (r : (Unit {0}) × List Word). r.1) (ok_is o.2) in
+      let parts : ts ≡ w.0.0 ∷ o.0.0 ∷ x.0 ∷ x.1 = t.front ∙ ap (λ (r : List Word). w.0.0 ∷ r) (u.front ∙ ap (λ (r : List Word). o.0.0 ∷ r) (behind ∙ v.front)) in
+      record { word = w.0.0; opened = o.0.0; parts = parts; is = t.is; opens = u.is; quoted = v.is }
+
   action_by_found : (de : Deed) (ts : List Word) (x : (Action × Bool) × List Word) → deed (next ts) ≡ de → reading.action_by depth de ts ≡ Ok x → IsAction ts x
-  unfolding reading.reference_first reading.changed reading.printf reading.printm reading.assert
+  unfolding reading.reference_first reading.changed reading.printf reading.printm reading.assert expressions.parenthesized expressions.expr_behind
   action_by_found d.Else [] x is h = absurd cc
   action_by_found d.Else (w ∷ ws) x is h = subst (IsAction (w ∷ ws)) (ok_is h) (grammar.otherwise (deed_else w.kind is))
   action_by_found d.Name ts x is h =
@@ -189,29 +213,28 @@ module _ (depth : ℕ) where
     | inr p ↦ holds_found ts x p.1
   ]
   action_by_found d.Printf ts x is h =
-      let w = bind_ok h in
-      let t = expect_ok w.1 in
-      let o = bind_ok w.2 in
-      let u = expect_ok o.1 in
-      let s = bind_ok o.2 in
-      let v = expect_ok s.1 in
+      let s = bind_ok h in
+      let t = format_found ts s.0 s.1 in
       let xs = bind_ok s.2 in
       let c = bind_ok xs.2 in
-      subst (IsAction ts) (ok_is c.2) (fronted3 (SpellsAction false) t u v (printed_behind w.0.0 o.0.0 s.0.0 s.0.1 xs.0 c.0 t.is u.is v.is xs.1 (expect_ok c.1)))
+      subst (IsAction ts) (ok_is c.2)
+      (subst (λ (from : List Word). SpellsAction false (a.Printf s.0.0 xs.0.0) from c.0.1) (sym t.parts) (printed_behind t.word t.opened s.0.0 s.0.1 xs.0 c.0 t.is t.opens t.quoted xs.1 (expect_ok c.1)))
   action_by_found d.Printm ts x is h =
       let w = bind_ok h in
       let t = expect_ok w.1 in
-      let o = bind_ok w.2 in
+      let i = bind_ok w.2 in
+      let y = bind_ok i.1 in
+      let o = bind_ok y.1 in
       let u = expect_ok o.1 in
-      let y = bind_ok o.2 in
       let c = bind_ok y.2 in
       let v = expect_ok c.1 in
-      subst (IsAction ts) (ok_is c.2) (fronted2 (SpellsAction false) t u (grammar.printm t.is u.is (closed_by (SpellsExpr 1) v (one_found o.0.1 y.0 y.1)) v.is))
+      subst (IsAction ts) (ok_is i.2)
+      (done (λ (z : Expr). SpellsAction false (a.Printm z)) c.2 (fronted2 (SpellsAction false) t u (grammar.printm t.is u.is (closed_by (SpellsExpr 1) v (one_found o.0.1 y.0 o.2)) v.is)))
   action_by_found d.Assert ts x is h =
-      let w = bind_ok h in
+      let y = bind_ok h in
+      let w = bind_ok y.1 in
       let t = expect_ok w.1 in
-      let y = bind_ok w.2 in
-      subst (IsAction ts) (ok_is y.2) (fronted (SpellsAction false) t (grammar.assert t.is (one_found w.0.1 y.0 y.1)))
+      subst (IsAction ts) (ok_is y.2) (fronted (SpellsAction false) t (grammar.assert t.is (one_found w.0.1 y.0 w.2)))
   action_by_found d.Other ts x is h = holds_found ts x h
 
   pub action_found : (ts : List Word) (x : (Action × Bool) × List Word) → reading.action depth ts ≡ Ok x → IsAction ts x

@@ -10,13 +10,14 @@ use Rattle.pml_tree.specs.declared.tree.Seq.{Seq}
 use Rattle.pml_syntax.specs.declared.starts.Opening.{Opening}
 use Rattle.pml_syntax.specs.declared.starts.Opening.TheVariants as o
 use Rattle.pml_syntax.specs.Grammar as grammar
-use Rattle.pml_syntax.specs.Grammar.{is_separator, is_exclusive, item_of, seq_of, between, SpellsDeclaration, SpellsSeparators, SpellsGap, SpellsLabels, SpellsBasic, SpellsStatement, SpellsItem, SpellsItems, SpellsOptions}
+use Rattle.pml_expression.specs.Grammar.{between}
+use Rattle.pml_syntax.specs.Grammar.{is_separator, is_exclusive, item_of, seq_of, SpellsDeclaration, SpellsSeparators, SpellsGap, SpellsLabels, SpellsBasic, SpellsStatement, SpellsItem, SpellsItems, SpellsOptions}
 use Rattle.pml_syntax.specs.Starts.{opening}
-use Rattle.pml_syntax.specs.Reading.{Read, pick, next}
+use Rattle.pml_expression.specs.Reading.{Read, pick, next}
 use Rattle.pml_syntax.specs.ReadingStatements as reading
 use Rattle.pml_syntax.specs.ReadingStatements.{skip_separators, is_declaration}
-use Rattle.pml_syntax.proofs.Steps.{bind_ok, chosen, ok_is, expect_ok, done, closed_by}
-use Rattle.pml_syntax.proofs.Lists.{GoesOn, one_more, just_one, none_more, all_found}
+use Rattle.pml_expression.proofs.Steps.{bind_ok, chosen, ok_is, expect_ok, done, closed_by}
+use Rattle.pml_expression.proofs.Lists.{GoesOn, one_more, just_one, none_more, all_found}
 use Rattle.pml_syntax.proofs.FoundActions.{action_found}
 use Rattle.pml_syntax.proofs.FoundDeclarations.{declaration_found, references_found}
 
@@ -226,16 +227,19 @@ module _ (depth : ℕ) (body : List Word → Read (List Item × Bool)) (sound : 
       subst (IsItem (w ∷ ws)) (ok_is rs.2) (grammar.exclusive is (references_found depth ws rs.0 rs.1))
 
   stepped_found : (ts : List Word) (x : (Item × Bool × Bool) × List Word) → reading.stepped depth body ts ≡ Ok x → IsItem ts x
-  unfolding reading.stepped
+  unfolding reading.stepped reading.escape
   stepped_found ts x h =
       let y = bind_ok h in
       let first = statement_found ts y.0 y.1 in
       elim (chosen y.2) [
         | inl p ↦
-            let w = bind_ok p.1 in
+            let z = bind_ok p.1 in
+            let w = bind_ok z.1 in
             let t = expect_ok w.1 in
-            let z = bind_ok w.2 in
-            subst (IsItem ts) (ok_is z.2) (grammar.unless (closed_by (SpellsStatement y.0.0.1) t first) t.is (statement_found w.0.1 z.0 z.1))
+            let v = bind_ok w.2 in
+            subst (IsItem ts) (ok_is z.2)
+            (subst (λ (r : (List Item × Bool) × List Word). IsItem ts ((item_of [] (b.Unless (seq_of (y.0.0.0 ∷ [])) (seq_of r.0.0)) (between ts r.1), true, r.0.1), r.1)) (ok_is v.2)
+            (grammar.unless (closed_by (SpellsStatement y.0.0.1) t first) t.is (statement_found w.0.1 v.0 v.1)))
         | inr p ↦ subst (IsItem ts) (ok_is p.1) (grammar.only first)
       ]
 

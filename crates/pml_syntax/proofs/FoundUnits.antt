@@ -12,21 +12,24 @@ use Rattle.pml_tree.specs.declared.tree.Starts.TheVariants as starting
 use Rattle.pml_tree.specs.declared.tree.Unit.{Unit as ModelUnit}
 use Rattle.pml_tree.specs.declared.tree.Unit.TheVariants as u
 use Rattle.pml_tree.specs.declared.tree.Tree.{Tree}
-use Rattle.pml_syntax.specs.declared.form.Form.{Form}
-use Rattle.pml_syntax.specs.declared.form.Form.TheVariants as form
+use Rattle.pml_syntax.specs.declared.opener.Opener.{Opener}
+use Rattle.pml_syntax.specs.declared.opener.Opener.TheVariants as opener
 use Rattle.pml_syntax.specs.declared.starts.Head.{Head}
 use Rattle.pml_syntax.specs.declared.starts.Head.TheVariants as h
+use Rattle.pml_expression.specs.Grammar as terms
 use Rattle.pml_syntax.specs.Grammar as grammar
-use Rattle.pml_syntax.specs.Grammar.{seq_of, proctype_of, SpellsIndex, SpellsList, SpellsName, SpellsVisibility, SpellsForm, SpellsDeclaration, SpellsItems, SpellsBody, SpellsSemicolons, SpellsMembers, SpellsParameter, SpellsMoreParameters, SpellsParameters, SpellsStarts, SpellsUnit, SpellsUnits, Spells}
+use Rattle.pml_expression.specs.Grammar.{SpellsIndex, SpellsList}
+use Rattle.pml_syntax.specs.Grammar.{seq_of, proctype_of, SpellsName, SpellsVisibility, SpellsOpener, SpellsDeclaration, SpellsItems, SpellsBody, SpellsSemicolons, SpellsMembers, SpellsParameter, SpellsMoreParameters, SpellsParameters, SpellsStarts, SpellsUnit, SpellsUnits, Spells}
 use Rattle.pml_syntax.specs.Starts.{head}
-use Rattle.pml_syntax.specs.Reading.{pick, next, sees, expect, expr}
+use Rattle.pml_expression.specs.Reading.{pick, next, sees, expect, expr}
 use Rattle.pml_syntax.specs.ReadingStatements.{skip_visibility}
 use Rattle.pml_syntax.specs.ReadingUnits as reading
-use Rattle.pml_syntax.specs.ReadingUnits.{is_empty, skip_semicolons, starts_of, parts_parameters}
-use Rattle.pml_syntax.proofs.Steps.{bind_ok, chosen, ok_is, kind_is, expect_ok, done, fronted, fronted3, closed_by}
-use Rattle.pml_syntax.proofs.Lists.{GoesOn, one_more, none_more, all_found, whole_list_found}
-use Rattle.pml_syntax.proofs.Found.{index_found, expr_found}
-use Rattle.pml_syntax.proofs.FoundDeclarations.{visibility_found, form_found, declaration_found}
+use Rattle.pml_expression.specs.Reading.{is_empty}
+use Rattle.pml_syntax.specs.ReadingUnits.{skip_semicolons, starts_of, parts_parameters}
+use Rattle.pml_expression.proofs.Steps.{bind_ok, chosen, ok_is, kind_is, expect_ok, name_ok, done, fronted, fronted3, from_name, closed_by}
+use Rattle.pml_expression.proofs.Lists.{GoesOn, one_more, none_more, all_found, whole_list_found}
+use Rattle.pml_expression.proofs.Found.{index_found, expr_found}
+use Rattle.pml_syntax.proofs.FoundDeclarations.{visibility_found, opener_found, declaration_found}
 use Rattle.pml_syntax.proofs.FoundBodies.{items_found}
 
 -- ---- semicolons
@@ -56,35 +59,35 @@ parted (w ∷ ws) h = record { mark = w; behind = ws; front = refl; is = kind_is
 
 -- ---- parameters
 
-parameter_found : (f : Form) (ts : List Word) (x : Variable × List Word) → reading.parameter_by f ts ≡ Ok x → SpellsParameter f x.0 ts x.1
+parameter_found : (f : Opener) (ts : List Word) (x : Variable × List Word) → reading.parameter_by f ts ≡ Ok x → SpellsParameter f x.0 ts x.1
 unfolding reading.plain_parameter reading.packed_parameter
-parameter_found (form.Plain s) ts x h =
+parameter_found (opener.Plain s) ts x h =
     let n = bind_ok h in
     let t = expect_ok n.1 in
-    done (SpellsParameter (form.Plain s)) n.2 (fronted (SpellsParameter (form.Plain s)) t (grammar.plain_parameter t.is))
-parameter_found form.Unsigned ts x h =
+    done (SpellsParameter (opener.Plain s)) n.2 (fronted (SpellsParameter (opener.Plain s)) t (grammar.plain_parameter t.is))
+parameter_found opener.Unsigned ts x h =
     let n = bind_ok h in
     let t = expect_ok n.1 in
     let c = bind_ok n.2 in
     let v = expect_ok c.1 in
     let w = bind_ok c.2 in
     let z = expect_ok w.1 in
-    done (SpellsParameter form.Unsigned) w.2 (fronted3 (SpellsParameter form.Unsigned) t v z (grammar.packed_parameter t.is v.is z.is))
-parameter_found (form.Named w) ts x h = absurd cc
+    done (SpellsParameter opener.Unsigned) w.2 (fronted3 (SpellsParameter opener.Unsigned) t v z (grammar.packed_parameter t.is v.is z.is))
+parameter_found (opener.Named w) ts x h = absurd cc
 
-record Typed (ts : List Word) (x : (Variable × Form) × List Word) : Type 0 where
+record Typed (ts : List Word) (x : (Variable × Opener) × List Word) : Type 0 where
   typed : List Word
   named : List Word
   visible : SpellsVisibility ts typed
-  form : SpellsForm x.0.1 typed named
+  opens : SpellsOpener x.0.1 typed named
   parameter : SpellsParameter x.0.1 x.0.0 named x.1
 
-typed_found : (ts : List Word) (x : (Variable × Form) × List Word) → reading.typed_parameter ts ≡ Ok x → Typed ts x
+typed_found : (ts : List Word) (x : (Variable × Opener) × List Word) → reading.typed_parameter ts ≡ Ok x → Typed ts x
 unfolding reading.typed_parameter
 typed_found ts x h =
     let f = bind_ok h in
     let v = bind_ok f.2 in
-    subst (Typed ts) (ok_is v.2) (record { typed = skip_visibility ts; named = f.0.1; visible = visibility_found ts; form = form_found (skip_visibility ts) f.0 f.1; parameter = parameter_found f.0.0 f.0.1 v.0 v.1 })
+    subst (Typed ts) (ok_is v.2) (record { typed = skip_visibility ts; named = f.0.1; visible = visibility_found ts; opens = opener_found (skip_visibility ts) f.0 f.1; parameter = parameter_found f.0.0 f.0.1 v.0 v.1 })
 
 comma_is : (kind : Kind) → parts_parameters kind ≡ true → same_kind kind k.Semicolon ≡ false → kind ≡ k.Comma
 comma_is k.Comma h g = refl
@@ -92,25 +95,25 @@ comma_is k.Semicolon h g = absurd cc
 comma_is _ h g = absurd cc
 
 -- one parameter more before those that come then
-abbrev GoesBefore : Form → List Word → (Variable × Form) × List Word → Type 0
+abbrev GoesBefore : Opener → List Word → (Variable × Opener) × List Word → Type 0
 GoesBefore f ts x = (vs : List Variable) (to : List Word) → SpellsMoreParameters x.0.1 vs x.1 to → SpellsMoreParameters f (x.0.0 ∷ vs) ts to
 
-more_found : (f : Form) (ts : List Word) (x : (Variable × Form) × List Word) → parts_parameters (next ts) ≡ true → reading.more_parameter f ts ≡ Ok x → GoesBefore f ts x
+more_found : (f : Opener) (ts : List Word) (x : (Variable × Opener) × List Word) → parts_parameters (next ts) ≡ true → reading.more_parameter f ts ≡ Ok x → GoesBefore f ts x
 unfolding reading.more_parameter reading.next_parameter sees
 more_found f [] x is h = absurd cc
 more_found f (w ∷ ws) x is h = elim (chosen h) [
-  | inl p ↦ let t = typed_found ws x p.1 in λ vs to rest. grammar.semicolon_parameter (kind_is w.kind k.Semicolon p.0) t.visible t.form t.parameter rest
+  | inl p ↦ let t = typed_found ws x p.1 in λ vs to rest. grammar.semicolon_parameter (kind_is w.kind k.Semicolon p.0) t.visible t.opens t.parameter rest
   | inr p ↦
       let comma = comma_is w.kind is p.0 in
       elim (chosen p.1) [
-        | inl q ↦ let t = typed_found ws x q.1 in λ vs to rest. grammar.comma_parameter comma t.visible t.form t.parameter rest
+        | inl q ↦ let t = typed_found ws x q.1 in λ vs to rest. grammar.comma_parameter comma t.visible t.opens t.parameter rest
         | inr q ↦
             let v = bind_ok q.1 in
             subst (GoesBefore f (w ∷ ws)) (ok_is v.2) (λ vs to rest. grammar.same_type comma (parameter_found f ws v.0 v.1) rest)
       ]
 ]
 
-parameters_from_found : (turns : ℕ) (f : Form) (found : List Variable) (ts : List Word) (x : List Variable × List Word) → reading.parameters_from turns f found ts ≡ Ok x → GoesOn (λ vs. SpellsMoreParameters f vs ts x.1) found x.0
+parameters_from_found : (turns : ℕ) (f : Opener) (found : List Variable) (ts : List Word) (x : List Variable × List Word) → reading.parameters_from turns f found ts ≡ Ok x → GoesOn (λ vs. SpellsMoreParameters f vs ts x.1) found x.0
 unfolding reading.parameters_from
 parameters_from_found zero f found ts x h = subst (λ (r : List Variable × List Word). GoesOn (λ vs. SpellsMoreParameters f vs ts r.1) found r.0) (ok_is h) (none_more found grammar.no_more_parameters)
 parameters_from_found (suc n) f found ts x h = elim (chosen h) [
@@ -128,7 +131,7 @@ parameters_found ts x h = elim (chosen h) [
       let v = bind_ok p.1 in
       let t = typed_found ts v.0 v.1 in
       let g = parameters_from_found (length v.0.1) v.0.0.1 (v.0.0.0 ∷ []) v.0.1 x v.2 in
-      subst (λ (all : List Variable). SpellsParameters all ts x.1) (sym g.whole_is) (grammar.parameters t.visible t.form t.parameter g.spells)
+      subst (λ (all : List Variable). SpellsParameters all ts x.1) (sym g.whole_is) (grammar.parameters t.visible t.opens t.parameter g.spells)
 ]
 
 -- ---- units
@@ -153,7 +156,7 @@ names_found ts x h =
     let ns = bind_ok o.2 in
     let c = bind_ok ns.2 in
     let v = expect_ok c.1 in
-    let inside = whole_list_found (expect k.Name) SpellsName (SpellsList SpellsName) name_found (λ x from to s. grammar.last_listed s) (λ x xs c from middle to s is more. grammar.more_listed s is more) (length o.0.1) o.0.1 ns.0 ns.1 in
+    let inside = whole_list_found (expect k.Name) SpellsName (SpellsList SpellsName) name_found (λ x from to s. terms.last_listed s) (λ x xs c from middle to s is more. terms.more_listed s is more) (length o.0.1) o.0.1 ns.0 ns.1 in
     subst (Listed ts) (ok_is c.2) (record { opened = o.0.0; close = c.0.0; inside = o.0.1; front = t.front; opens = t.is; closes = v.is; spells = closed_by (SpellsList SpellsName) v inside })
 
 constants_found : (w : Word) (ts : List Word) (x : ModelUnit × List Word) → w.kind ≡ k.Mtype → reading.constants ts ≡ Ok x → SpellsUnit x.0 (w ∷ ts) x.1
@@ -173,8 +176,8 @@ constants_found w ts x is h = elim (chosen h) [
 ]
 
 starts_index : {i : Option Expr} {w : Word} {from to : List Word} → w.kind ≡ k.Active → SpellsIndex i from to → SpellsStarts (starts_of i) (w ∷ from) to
-starts_index is grammar.no_index = grammar.once is
-starts_index is (grammar.index opened x closed) = grammar.times is opened x closed
+starts_index is terms.no_index = grammar.once is
+starts_index is (terms.index opened x closed) = grammar.times is opened x closed
 
 all_read : (ts : List Word) → is_empty ts ≡ true → ts ≡ []
 all_read [] h = refl
@@ -225,17 +228,13 @@ module _ (depth : ℕ) where
   typedef_found : (ts : List Word) (x : ModelUnit × List Word) → reading.typedef depth ts ≡ Ok x → SpellsUnit x.0 ts x.1
   unfolding reading.typedef
   typedef_found ts x h =
-      let w = bind_ok h in
-      let t = expect_ok w.1 in
-      let n = bind_ok w.2 in
-      let v = expect_ok n.1 in
-      let o = bind_ok n.2 in
-      let z = expect_ok o.1 in
-      let vs = bind_ok o.2 in
+      let n = bind_ok h in
+      let t = name_ok n.1 in
+      let vs = bind_ok n.2 in
       let c = bind_ok vs.2 in
       let y = expect_ok c.1 in
-      let all = all_found {Spell = λ all. SpellsMembers all o.0.1 vs.0.1} (members_found (length o.0.1) [] o.0.1 vs.0 vs.1) in
-      done SpellsUnit c.2 (fronted3 SpellsUnit t v z (grammar.typedef t.is v.is z.is (closed_by SpellsMembers y all) y.is))
+      let all = all_found {Spell = λ all. SpellsMembers all n.0.1 vs.0.1} (members_found (length n.0.1) [] n.0.1 vs.0 vs.1) in
+      done SpellsUnit c.2 (from_name SpellsUnit t (grammar.typedef t.is t.named t.ends (closed_by SpellsMembers y all) y.is))
 
   -- a body in its braces
   record Braced (ts : List Word) (x : (List Item × Word) × List Word) : Type 0 where
@@ -279,18 +278,13 @@ module _ (depth : ℕ) where
   signature_found : (ts : List Word) (x : (Word × List Variable) × List Word) → reading.signature ts ≡ Ok x → Signed ts x
   unfolding reading.signature
   signature_found ts x h =
-      let w = bind_ok h in
-      let t = expect_ok w.1 in
-      let n = bind_ok w.2 in
-      let v = expect_ok n.1 in
-      let o = bind_ok n.2 in
-      let z = expect_ok o.1 in
-      let vs = bind_ok o.2 in
+      let n = bind_ok h in
+      let t = name_ok n.1 in
+      let vs = bind_ok n.2 in
       let c = bind_ok vs.2 in
       let y = expect_ok c.1 in
-      let front : ts ≡ w.0.0 ∷ n.0.0 ∷ o.0.0 ∷ o.0.1 = t.front ∙ ap (λ (r : List Word). w.0.0 ∷ r) (v.front ∙ ap (λ (r : List Word). n.0.0 ∷ r) z.front) in
       subst (Signed ts) (ok_is c.2)
-      (record { word = w.0.0; opened = o.0.0; close = c.0.0; inside = o.0.1; front = front; is = t.is; named = v.is; opens = z.is; closes = y.is; spells = closed_by SpellsParameters y (parameters_found o.0.1 vs.0 vs.1) })
+      (record { word = t.word; opened = t.end; close = c.0.0; inside = n.0.1; front = t.parts; is = t.is; named = t.named; opens = t.ends; closes = y.is; spells = closed_by SpellsParameters y (parameters_found n.0.1 vs.0 vs.1) })
 
   proctype_found : (ts : List Word) (x : ModelUnit × List Word) → reading.proctype depth ts ≡ Ok x → SpellsUnit x.0 ts x.1
   unfolding reading.proctype
@@ -312,7 +306,7 @@ module _ (depth : ℕ) where
       let t = expect_ok w.1 in
       let y = bind_ok w.2 in
       let braced = body_found w.0.1 y.0 y.1 in
-      done SpellsUnit y.2 (fronted SpellsUnit t (subst (λ (from : List Word). SpellsUnit (u.Process (proctype_of starting.Once w.0.0 [] (seq_of y.0.0.0) y.0.0.1)) (w.0.0 ∷ from) y.0.1) (sym braced.front) (grammar.init t.is braced.opens braced.spells braced.closes)))
+      done SpellsUnit y.2 (fronted SpellsUnit t (subst (λ (from : List Word). SpellsUnit (u.Proctype (proctype_of starting.Once w.0.0 [] (seq_of y.0.0.0) y.0.0.1)) (w.0.0 ∷ from) y.0.1) (sym braced.front) (grammar.init t.is braced.opens braced.spells braced.closes)))
 
   variables_found : (ts : List Word) (x : ModelUnit × List Word) → reading.variables depth ts ≡ Ok x → SpellsUnit x.0 ts x.1
   unfolding reading.variables

@@ -1,8 +1,4 @@
 pub mod Turns
-pub mod Steps
-pub mod Lists
-pub mod Found
-pub mod Again
 pub mod FoundActions
 pub mod FoundDeclarations
 pub mod FoundBodies

@@ -1,17 +1,11 @@
--- A recursion on a count of turns, beside a loop that counts up.
-use Rattle.std.proofs.Common.{◌≡◌, ℕ, suc, ◌+◌, ◌-◌, ◌<◌, ◌≤◌, true, false, List, [], ◌∷◌, length, drop, refl, ap, ◌∙◌, arith}
+-- What is left out between two items, a token at a time.
+use Rattle.std.proofs.Common.{◌≡◌, ◌+◌, ◌≤◌, true, false, List, [], ◌∷◌, length, drop, refl, arith}
 use Rattle.pml_lex.specs.Word.{Word}
-use Rattle.pml_syntax.specs.Grammar.{is_separator}
 use Rattle.pml_lex.specs.declared.token.Kind.TheVariants as k
-use Rattle.pml_syntax.specs.Reading.{next, pick, sees}
+use Rattle.pml_expression.specs.Reading.{next, pick, sees}
+use Rattle.pml_syntax.specs.Grammar.{is_separator}
 use Rattle.pml_syntax.specs.ReadingStatements.{skip_separators, leads_to_run}
 use Rattle.pml_syntax.specs.ReadingUnits.{skip_semicolons}
-
-pub one_more : {X : Type 0} {x : X} (f : ℕ → X) (n turn : ℕ) → turn < n → x ≡ f (n - turn) → x ≡ f (suc (n - (turn + 1)))
-one_more f n turn below h = let e : n - turn ≡ suc (n - (turn + 1)) = omega arith in h ∙ ap f e
-
-pub deeper : {X : Type 0} (f : ℕ → X) (n : ℕ) → 0 < n → f n ≡ f (suc (n - 1))
-deeper f n some = let e : n ≡ suc (n - 1) = omega arith in ap f e
 
 pub skip_stops : (ts : List Word) → is_separator (next ts) ≡ false → skip_separators ts ≡ ts
 unfolding skip_separators pick

@@ -4,7 +4,7 @@ use Rattle.pml_lex.specs.Word.{Word}
 use Rattle.pml_tree.specs.declared.tree.Tree.{Tree}
 use Rattle.pml_syntax.specs.Grammar.{Spells}
 use Rattle.pml_syntax.specs.ReadingUnits as reading
-use Rattle.pml_syntax.proofs.Steps.{ok_is}
+use Rattle.pml_expression.proofs.Steps.{ok_is}
 use Rattle.pml_syntax.proofs.FoundUnits.{model_found}
 use Rattle.pml_syntax.proofs.AgainUnits.{model_again}
 

@@ -1,23 +1,18 @@
 -- The grammar of Promela: which tree the tokens from one place up to another spell. Each relation has one rule for each
 -- production. `from` is the list of the tokens from a place on, and `to` the list of those that are left behind it.
-use Rattle.std.specs.Prelude.{◌≡◌, ◌≤◌, ℕ, ◌-◌, ◌+◌, Bool, true, false, ◌||◌, List, [], ◌∷◌, ◌++◌, length, take, Option, Some, None}
+use Rattle.std.specs.Prelude.{◌≡◌, Bool, true, false, ◌||◌, List, [], ◌∷◌, ◌++◌, Option, Some, None}
 use Rattle.pml_lex.specs.Word.{Word}
 use Rattle.pml_lex.specs.declared.token.Kind.{Kind}
 use Rattle.pml_lex.specs.declared.token.Kind.TheVariants as k
-use Rattle.pml_tree.specs.declared.tree.Infix.{Infix}
-use Rattle.pml_tree.specs.declared.tree.Infix.TheVariants as op
-use Rattle.pml_tree.specs.declared.tree.Prefix.{Prefix}
-use Rattle.pml_tree.specs.declared.tree.Prefix.TheVariants as sign
-use Rattle.pml_tree.specs.declared.tree.Fill.{Fill}
-use Rattle.pml_tree.specs.declared.tree.Fill.TheVariants as fills
 use Rattle.pml_tree.specs.declared.tree.Scalar.{Scalar}
 use Rattle.pml_tree.specs.declared.tree.Scalar.TheVariants as scalars
 use Rattle.pml_tree.specs.declared.tree.Expr.{Expr}
-use Rattle.pml_tree.specs.declared.tree.Expr.TheVariants as e
+use Rattle.pml_tree.specs.declared.tree.Reference.{Reference}
+use Rattle.pml_tree.specs.declared.tree.Search.{Search}
+use Rattle.pml_tree.specs.declared.tree.SendOrder.{SendOrder}
+use Rattle.pml_tree.specs.declared.tree.SendOrder.TheVariants as orders
+use Rattle.pml_tree.specs.declared.tree.Removal.TheVariants as removal
 use Rattle.pml_tree.specs.declared.tree.Argument.{Argument}
-use Rattle.pml_tree.specs.declared.tree.Argument.TheVariants as g
-use Rattle.pml_tree.specs.declared.tree.Reference.{Reference, roll-Reference}
-use Rattle.pml_tree.specs.declared.tree.Step.{Step, roll-Step}
 use Rattle.pml_tree.specs.declared.tree.Sort.{Sort}
 use Rattle.pml_tree.specs.declared.tree.Sort.TheVariants as sort
 use Rattle.pml_tree.specs.declared.tree.Initial.{Initial}
@@ -36,88 +31,16 @@ use Rattle.pml_tree.specs.declared.tree.Proctype.{Proctype}
 use Rattle.pml_tree.specs.declared.tree.Unit.{Unit as ModelUnit}
 use Rattle.pml_tree.specs.declared.tree.Unit.TheVariants as u
 use Rattle.pml_tree.specs.declared.tree.Tree.{Tree}
-use Rattle.pml_syntax.specs.declared.form.Form.{Form}
-use Rattle.pml_syntax.specs.declared.form.Form.TheVariants as form
+use Rattle.pml_syntax.specs.declared.opener.Opener.{Opener}
+use Rattle.pml_syntax.specs.declared.opener.Opener.TheVariants as opener
+use Rattle.pml_expression.specs.Grammar.{query, between, SpellsIndex, SpellsReference, SpellsExpr, SpellsArguments, SpellsList}
 
 -- ---- what the tokens mean alone
 
--- between two operands
-abbrev pub operator : Kind → Option Infix
-operator k.OrOr = Some op.Or
-operator k.AndAnd = Some op.And
-operator k.Bar = Some op.BitOr
-operator k.Caret = Some op.BitXor
-operator k.Ampersand = Some op.BitAnd
-operator k.Equal = Some op.Equal
-operator k.Unequal = Some op.Unequal
-operator k.Less = Some op.Below
-operator k.AtMost = Some op.AtMost
-operator k.Greater = Some op.Above
-operator k.AtLeast = Some op.AtLeast
-operator k.ShiftLeft = Some op.ShiftLeft
-operator k.ShiftRight = Some op.ShiftRight
-operator k.Plus = Some op.Plus
-operator k.Minus = Some op.Minus
-operator k.Star = Some op.Times
-operator k.Slash = Some op.Divide
-operator k.Percent = Some op.Remainder
-operator _ = None
-
--- how tightly an operator binds its operands, from 1
-abbrev pub level : Infix → ℕ
-level op.Or = 1
-level op.And = 2
-level op.BitOr = 3
-level op.BitXor = 4
-level op.BitAnd = 5
-level op.Equal = 6
-level op.Unequal = 6
-level op.Below = 7
-level op.AtMost = 7
-level op.Above = 7
-level op.AtLeast = 7
-level op.ShiftLeft = 8
-level op.ShiftRight = 8
-level op.Plus = 9
-level op.Minus = 9
-level op.Times = 10
-level op.Divide = 10
-level op.Remainder = 10
-
--- the operators before an operand bind tighter than all of these
-abbrev pub prefix_level : ℕ
-prefix_level = 11
-
-abbrev pub prefix_operator : Kind → Option Prefix
-prefix_operator k.Bang = Some sign.Not
-prefix_operator k.Tilde = Some sign.Complement
-prefix_operator k.Minus = Some sign.Minus
-prefix_operator _ = None
-
-abbrev pub truth : Kind → Option Bool
-truth k.True = Some true
-truth k.Skip = Some true
-truth k.False = Some false
-truth _ = None
-
-abbrev pub fill : Kind → Option Fill
-fill k.Len = Some fills.Length
-fill k.Empty = Some fills.IsEmpty
-fill k.Full = Some fills.IsFull
-fill k.Nempty = Some fills.IsNotEmpty
-fill k.Nfull = Some fills.IsNotFull
-fill _ = None
-
--- `?`, or with true `??`
-abbrev pub query : Kind → Option Bool
-query k.Query = Some false
-query k.QueryQuery = Some true
-query _ = None
-
--- `!`, or with true `!!`
-abbrev pub bang : Kind → Option Bool
-bang k.Bang = Some false
-bang k.BangBang = Some true
+-- `!` or `!!`
+abbrev pub bang : Kind → Option SendOrder
+bang k.Bang = Some orders.Fifo
+bang k.BangBang = Some orders.Sorted
 bang _ = None
 
 abbrev pub scalar : Kind → Option Scalar
@@ -149,12 +72,6 @@ is_separator _ = false
 
 -- ---- the trees, by their parts
 
-abbrev pub step_of : Word → Option Expr → Step
-step_of name index = roll-Step (record { name = name; index = index })
-
-abbrev pub reference_of : Step → List Step → Reference
-reference_of first fields = roll-Reference (record { first = first; fields = fields })
-
 abbrev pub run_of : Word → List Expr → Run
 run_of name arguments = record { name = name; arguments = arguments }
 
@@ -172,77 +89,6 @@ proctype_of starts name parameters body end = record { starts = starts; name = n
 
 abbrev pub tree_of : List ModelUnit → Tree
 tree_of units = record { units = units }
-
--- the tokens from one place up to another
-abbrev pub between : List Word → List Word → List Word
-between from to = take (length from - length to) from
-
--- ---- expressions. The number is the least level that the outermost operator may have.
-
-mutual
-  pub data SpellsIndex : Option Expr → List Word → List Word → Type 0 where
-    no_index : {to : List Word} → SpellsIndex None to to
-    index : {o c : Word} {x : Expr} {from to : List Word} → o.kind ≡ k.OpenBracket → SpellsExpr 1 x from (c ∷ to) → c.kind ≡ k.CloseBracket → SpellsIndex (Some x) (o ∷ from) to
-
-  pub data SpellsStep : Step → List Word → List Word → Type 0 where
-    step : {n : Word} {i : Option Expr} {from to : List Word} → n.kind ≡ k.Name → SpellsIndex i from to → SpellsStep (step_of n i) (n ∷ from) to
-
-  pub data SpellsFields : List Step → List Word → List Word → Type 0 where
-    no_field : {to : List Word} → SpellsFields [] to to
-    one_field : {d : Word} {s : Step} {ss : List Step} {from middle to : List Word} → d.kind ≡ k.Dot → SpellsStep s from middle → SpellsFields ss middle to → SpellsFields (s ∷ ss) (d ∷ from) to
-
-  pub data SpellsReference : Reference → List Word → List Word → Type 0 where
-    reference : {s : Step} {ss : List Step} {from middle to : List Word} → SpellsStep s from middle → SpellsFields ss middle to → SpellsReference (reference_of s ss) from to
-
-  pub data SpellsExpr : ℕ → Expr → List Word → List Word → Type 0 where
-    number : {least : ℕ} {n : Word} {to : List Word} → n.kind ≡ k.Number → SpellsExpr least (e.Number n) (n ∷ to) to
-    truth_value : {least : ℕ} {w : Word} {v : Bool} {to : List Word} → truth w.kind ≡ Some v → SpellsExpr least (e.Truth v) (w ∷ to) to
-    timeout : {least : ℕ} {w : Word} {to : List Word} → w.kind ≡ k.Timeout → SpellsExpr least e.Timeout (w ∷ to) to
-    read : {least : ℕ} {r : Reference} {from to : List Word} → SpellsReference r from to → SpellsExpr least (e.Read r) from to
-    poll : {least : ℕ} {r : Reference} {q o c : Word} {any : Bool} {xs : List Argument} {from middle to : List Word} → SpellsReference r from (q ∷ o ∷ middle) → query q.kind ≡ Some any → o.kind ≡ k.OpenBracket
-        → SpellsArguments xs middle (c ∷ to) → c.kind ≡ k.CloseBracket → SpellsExpr least (e.Poll r any xs) from to
-    ask : {least : ℕ} {w o c : Word} {f : Fill} {r : Reference} {from to : List Word} → fill w.kind ≡ Some f → o.kind ≡ k.OpenParen → SpellsReference r from (c ∷ to) → c.kind ≡ k.CloseParen
-        → SpellsExpr least (e.Ask f r) (w ∷ o ∷ from) to
-    unary : {least : ℕ} {o : Word} {p : Prefix} {x : Expr} {from to : List Word} → prefix_operator o.kind ≡ Some p → least ≤ prefix_level → SpellsExpr prefix_level x from to
-        → SpellsExpr least (e.Unary p x) (o ∷ from) to
-    -- left associative: the left side may have the same level, and the right side is above it
-    binary : {least : ℕ} {o : Word} {i : Infix} {x y : Expr} {from middle to : List Word} → operator o.kind ≡ Some i → least ≤ level i
-        → SpellsExpr (level i) x from (o ∷ middle) → SpellsExpr (level i + 1) y middle to → SpellsExpr least (e.Binary i x y) from to
-    parentheses : {least : ℕ} {o c : Word} {x : Expr} {from to : List Word} → o.kind ≡ k.OpenParen → SpellsExpr 1 x from (c ∷ to) → c.kind ≡ k.CloseParen
-        → SpellsExpr least x (o ∷ from) to
-    choice : {least : ℕ} {o q d c : Word} {x y z : Expr} {from chosen other to : List Word} → o.kind ≡ k.OpenParen → SpellsExpr 1 x from (q ∷ chosen) → q.kind ≡ k.Arrow
-        → SpellsExpr 1 y chosen (d ∷ other) → d.kind ≡ k.Colon → SpellsExpr 1 z other (c ∷ to) → c.kind ≡ k.CloseParen
-        → SpellsExpr least (e.Choice x y z) (o ∷ from) to
-
-  -- an argument of a receive or a poll
-  pub data SpellsArgument : Argument → List Word → List Word → Type 0 where
-    into : {r : Reference} {from to : List Word} → SpellsReference r from to → SpellsArgument (g.Into r) from to
-    exactly : {n : Word} {to : List Word} → n.kind ≡ k.Number → SpellsArgument (g.Exactly false n) (n ∷ to) to
-    exactly_minus : {m n : Word} {to : List Word} → m.kind ≡ k.Minus → n.kind ≡ k.Number → SpellsArgument (g.Exactly true n) (m ∷ n ∷ to) to
-    fixed : {w : Word} {v : Bool} {to : List Word} → truth w.kind ≡ Some v → SpellsArgument (g.Fixed v) (w ∷ to) to
-    eval : {v o c : Word} {x : Expr} {from to : List Word} → v.kind ≡ k.Eval → o.kind ≡ k.OpenParen → SpellsExpr 1 x from (c ∷ to) → c.kind ≡ k.CloseParen
-        → SpellsArgument (g.Eval x) (v ∷ o ∷ from) to
-
-  -- one or more, with commas
-  pub data SpellsArgumentList : List Argument → List Word → List Word → Type 0 where
-    last_argument : {x : Argument} {from to : List Word} → SpellsArgument x from to → SpellsArgumentList (x ∷ []) from to
-    more_arguments : {x : Argument} {xs : List Argument} {c : Word} {from middle to : List Word} → SpellsArgument x from (c ∷ middle) → c.kind ≡ k.Comma → SpellsArgumentList xs middle to
-        → SpellsArgumentList (x ∷ xs) from to
-
-  -- `x,y`, `x(y)` and `(x,y)` are the same arguments
-  pub data SpellsArguments : List Argument → List Word → List Word → Type 0 where
-    argument_list : {xs : List Argument} {from to : List Word} → SpellsArgumentList xs from to → SpellsArguments xs from to
-    argument_call : {x : Argument} {xs : List Argument} {o c : Word} {from middle to : List Word} → SpellsArgument x from (o ∷ middle) → o.kind ≡ k.OpenParen → SpellsArgumentList xs middle (c ∷ to) → c.kind ≡ k.CloseParen
-        → SpellsArguments (x ∷ xs) from to
-    argument_group : {xs : List Argument} {o c : Word} {from to : List Word} → o.kind ≡ k.OpenParen → SpellsArgumentList xs from (c ∷ to) → c.kind ≡ k.CloseParen
-        → SpellsArguments xs (o ∷ from) to
-
--- ---- lists with commas
-
--- one or more
-pub data SpellsList {A : Type 0} (Spell : A → List Word → List Word → Type 0) : List A → List Word → List Word → Type 0 where
-  last_listed : {x : A} {from to : List Word} → Spell x from to → SpellsList Spell (x ∷ []) from to
-  more_listed : {x : A} {xs : List A} {c : Word} {from middle to : List Word} → Spell x from (c ∷ middle) → c.kind ≡ k.Comma → SpellsList Spell xs middle to → SpellsList Spell (x ∷ xs) from to
 
 pub data SpellsName : Word → List Word → List Word → Type 0 where
   name : {n : Word} {to : List Word} → n.kind ≡ k.Name → SpellsName n (n ∷ to) to
@@ -273,13 +119,13 @@ pub data SpellsAction : Bool → Action → List Word → List Word → Type 0 w
   increment : {r : Reference} {o : Word} {from to : List Word} → SpellsReference r from (o ∷ to) → o.kind ≡ k.Increment → SpellsAction false (a.Increment r) from to
   decrement : {r : Reference} {o : Word} {from to : List Word} → SpellsReference r from (o ∷ to) → o.kind ≡ k.Decrement → SpellsAction false (a.Decrement r) from to
   run : {x : Run} {from to : List Word} → SpellsRun x from to → SpellsAction false (a.Run x) from to
-  send : {r : Reference} {o : Word} {sorted : Bool} {xs : List Expr} {from middle to : List Word} → SpellsReference r from (o ∷ middle) → bang o.kind ≡ Some sorted → SpellsValues xs middle to
-      → SpellsAction false (a.Send r sorted xs) from to
-  receive : {r : Reference} {q : Word} {any : Bool} {xs : List Argument} {from middle to : List Word} → SpellsReference r from (q ∷ middle) → query q.kind ≡ Some any → SpellsArguments xs middle to
-      → SpellsAction false (a.Receive r any false xs) from to
+  send : {r : Reference} {o : Word} {order : SendOrder} {xs : List Expr} {from middle to : List Word} → SpellsReference r from (o ∷ middle) → bang o.kind ≡ Some order → SpellsValues xs middle to
+      → SpellsAction false (a.Send r order xs) from to
+  receive : {r : Reference} {q : Word} {look : Search} {xs : List Argument} {from middle to : List Word} → SpellsReference r from (q ∷ middle) → query q.kind ≡ Some look → SpellsArguments xs middle to
+      → SpellsAction false (a.Receive r look removal.Remove xs) from to
   -- in `<>` the message stays in the channel
-  copy : {r : Reference} {q o c : Word} {any : Bool} {xs : List Argument} {from middle to : List Word} → SpellsReference r from (q ∷ o ∷ middle) → query q.kind ≡ Some any → o.kind ≡ k.Less
-      → SpellsArguments xs middle (c ∷ to) → c.kind ≡ k.Greater → SpellsAction false (a.Receive r any true xs) from to
+  copy : {r : Reference} {q o c : Word} {look : Search} {xs : List Argument} {from middle to : List Word} → SpellsReference r from (q ∷ o ∷ middle) → query q.kind ≡ Some look → o.kind ≡ k.Less
+      → SpellsArguments xs middle (c ∷ to) → c.kind ≡ k.Greater → SpellsAction false (a.Receive r look removal.Keep xs) from to
   printf : {w o s c : Word} {to : List Word} → w.kind ≡ k.Printf → o.kind ≡ k.OpenParen → s.kind ≡ k.Quoted → c.kind ≡ k.CloseParen → SpellsAction false (a.Printf s []) (w ∷ o ∷ s ∷ c ∷ to) to
   printf_with : {w o s m c : Word} {xs : List Expr} {from to : List Word} → w.kind ≡ k.Printf → o.kind ≡ k.OpenParen → s.kind ≡ k.Quoted → m.kind ≡ k.Comma → SpellsList (SpellsExpr 1) xs from (c ∷ to) → c.kind ≡ k.CloseParen
       → SpellsAction false (a.Printf s xs) (w ∷ o ∷ s ∷ m ∷ from) to
@@ -293,10 +139,10 @@ pub data SpellsVisibility : List Word → List Word → Type 0 where
   no_visibility : {to : List Word} → SpellsVisibility to to
   visibility : {w : Word} {to : List Word} → is_visibility w.kind ≡ true → SpellsVisibility (w ∷ to) to
 
-pub data SpellsForm : Form → List Word → List Word → Type 0 where
-  of_scalar : {w : Word} {s : Scalar} {to : List Word} → scalar w.kind ≡ Some s → SpellsForm (form.Plain s) (w ∷ to) to
-  of_unsigned : {w : Word} {to : List Word} → w.kind ≡ k.Unsigned → SpellsForm form.Unsigned (w ∷ to) to
-  of_typedef : {w : Word} {to : List Word} → w.kind ≡ k.Name → SpellsForm (form.Named w) (w ∷ to) to
+pub data SpellsOpener : Opener → List Word → List Word → Type 0 where
+  of_scalar : {w : Word} {s : Scalar} {to : List Word} → scalar w.kind ≡ Some s → SpellsOpener (opener.Plain s) (w ∷ to) to
+  of_unsigned : {w : Word} {to : List Word} → w.kind ≡ k.Unsigned → SpellsOpener opener.Unsigned (w ∷ to) to
+  of_typedef : {w : Word} {to : List Word} → w.kind ≡ k.Name → SpellsOpener (opener.Named w) (w ∷ to) to
 
 pub data SpellsInitial : Bool → Option Initial → List Word → List Word → Type 0 where
   no_initial : {to : List Word} → SpellsInitial false None to to
@@ -304,21 +150,21 @@ pub data SpellsInitial : Bool → Option Initial → List Word → List Word →
   channel : {w o c f d z : Word} {x : Expr} {ss : List Scalar} {from types to : List Word} → w.kind ≡ k.Assign → o.kind ≡ k.OpenBracket → SpellsExpr 1 x from (c ∷ f ∷ d ∷ types) → c.kind ≡ k.CloseBracket
       → f.kind ≡ k.Of → d.kind ≡ k.OpenBrace → SpellsList SpellsScalar ss types (z ∷ to) → z.kind ≡ k.CloseBrace → SpellsInitial true (Some (ini.Channel x ss)) (w ∷ o ∷ from) to
 
-pub data SpellsVariable : Bool → Form → Variable → List Word → List Word → Type 0 where
+pub data SpellsVariable : Bool → Opener → Variable → List Word → List Word → Type 0 where
   plain : {closed : Bool} {s : Scalar} {n : Word} {x : Option Expr} {i : Option Initial} {from middle to : List Word} → n.kind ≡ k.Name → SpellsIndex x from middle → SpellsInitial closed i middle to
-      → SpellsVariable closed (form.Plain s) (variable_of (sort.Plain s) n x i) (n ∷ from) to
-  structured : {t n : Word} {x : Option Expr} {from to : List Word} → n.kind ≡ k.Name → SpellsIndex x from to → SpellsVariable false (form.Named t) (variable_of (sort.Named t) n x None) (n ∷ from) to
-  packed : {n c w : Word} {to : List Word} → n.kind ≡ k.Name → c.kind ≡ k.Colon → w.kind ≡ k.Number → SpellsVariable false form.Unsigned (variable_of (sort.Unsigned w) n None None) (n ∷ c ∷ w ∷ to) to
+      → SpellsVariable closed (opener.Plain s) (variable_of (sort.Plain s) n x i) (n ∷ from) to
+  structured : {t n : Word} {x : Option Expr} {from to : List Word} → n.kind ≡ k.Name → SpellsIndex x from to → SpellsVariable false (opener.Named t) (variable_of (sort.Named t) n x None) (n ∷ from) to
+  packed : {n c w : Word} {to : List Word} → n.kind ≡ k.Name → c.kind ≡ k.Colon → w.kind ≡ k.Number → SpellsVariable false opener.Unsigned (variable_of (sort.Unsigned w) n None None) (n ∷ c ∷ w ∷ to) to
   packed_value : {n c w o : Word} {x : Expr} {from to : List Word} → n.kind ≡ k.Name → c.kind ≡ k.Colon → w.kind ≡ k.Number → o.kind ≡ k.Assign → SpellsExpr 1 x from to
-      → SpellsVariable false form.Unsigned (variable_of (sort.Unsigned w) n None (Some (ini.Value x))) (n ∷ c ∷ w ∷ o ∷ from) to
+      → SpellsVariable false opener.Unsigned (variable_of (sort.Unsigned w) n None (Some (ini.Value x))) (n ∷ c ∷ w ∷ o ∷ from) to
 
-pub data SpellsVariables : Bool → Form → List Variable → List Word → List Word → Type 0 where
-  last_variable : {closed : Bool} {f : Form} {v : Variable} {from to : List Word} → SpellsVariable closed f v from to → SpellsVariables closed f (v ∷ []) from to
-  more_variables : {closed later : Bool} {f : Form} {v : Variable} {vs : List Variable} {c : Word} {from middle to : List Word} → SpellsVariable closed f v from (c ∷ middle) → c.kind ≡ k.Comma → SpellsVariables later f vs middle to
+pub data SpellsVariables : Bool → Opener → List Variable → List Word → List Word → Type 0 where
+  last_variable : {closed : Bool} {f : Opener} {v : Variable} {from to : List Word} → SpellsVariable closed f v from to → SpellsVariables closed f (v ∷ []) from to
+  more_variables : {closed later : Bool} {f : Opener} {v : Variable} {vs : List Variable} {c : Word} {from middle to : List Word} → SpellsVariable closed f v from (c ∷ middle) → c.kind ≡ k.Comma → SpellsVariables later f vs middle to
       → SpellsVariables later f (v ∷ vs) from to
 
 pub data SpellsDeclaration : Bool → List Variable → List Word → List Word → Type 0 where
-  declaration : {closed : Bool} {f : Form} {vs : List Variable} {from typed named to : List Word} → SpellsVisibility from typed → SpellsForm f typed named → SpellsVariables closed f vs named to
+  declaration : {closed : Bool} {f : Opener} {vs : List Variable} {from typed named to : List Word} → SpellsVisibility from typed → SpellsOpener f typed named → SpellsVariables closed f vs named to
       → SpellsDeclaration closed vs from to
 
 -- ---- bodies
@@ -389,23 +235,23 @@ pub data SpellsMembers : List Variable → List Word → List Word → Type 0 wh
       → SpellsMembers (vs ++ ws) from to
 
 -- a parameter, behind its type
-pub data SpellsParameter : Form → Variable → List Word → List Word → Type 0 where
-  plain_parameter : {s : Scalar} {n : Word} {to : List Word} → n.kind ≡ k.Name → SpellsParameter (form.Plain s) (variable_of (sort.Plain s) n None None) (n ∷ to) to
-  packed_parameter : {n c w : Word} {to : List Word} → n.kind ≡ k.Name → c.kind ≡ k.Colon → w.kind ≡ k.Number → SpellsParameter form.Unsigned (variable_of (sort.Unsigned w) n None None) (n ∷ c ∷ w ∷ to) to
+pub data SpellsParameter : Opener → Variable → List Word → List Word → Type 0 where
+  plain_parameter : {s : Scalar} {n : Word} {to : List Word} → n.kind ≡ k.Name → SpellsParameter (opener.Plain s) (variable_of (sort.Plain s) n None None) (n ∷ to) to
+  packed_parameter : {n c w : Word} {to : List Word} → n.kind ≡ k.Name → c.kind ≡ k.Colon → w.kind ≡ k.Number → SpellsParameter opener.Unsigned (variable_of (sort.Unsigned w) n None None) (n ∷ c ∷ w ∷ to) to
 
 -- behind a parameter of this type: a comma may leave the type out, and the next has the same
-pub data SpellsMoreParameters : Form → List Variable → List Word → List Word → Type 0 where
-  no_more_parameters : {f : Form} {to : List Word} → SpellsMoreParameters f [] to to
-  same_type : {f : Form} {c : Word} {v : Variable} {vs : List Variable} {from middle to : List Word} → c.kind ≡ k.Comma → SpellsParameter f v from middle → SpellsMoreParameters f vs middle to
+pub data SpellsMoreParameters : Opener → List Variable → List Word → List Word → Type 0 where
+  no_more_parameters : {f : Opener} {to : List Word} → SpellsMoreParameters f [] to to
+  same_type : {f : Opener} {c : Word} {v : Variable} {vs : List Variable} {from middle to : List Word} → c.kind ≡ k.Comma → SpellsParameter f v from middle → SpellsMoreParameters f vs middle to
       → SpellsMoreParameters f (v ∷ vs) (c ∷ from) to
-  comma_parameter : {f t : Form} {c : Word} {v : Variable} {vs : List Variable} {from typed named middle to : List Word} → c.kind ≡ k.Comma → SpellsVisibility from typed → SpellsForm t typed named
+  comma_parameter : {f t : Opener} {c : Word} {v : Variable} {vs : List Variable} {from typed named middle to : List Word} → c.kind ≡ k.Comma → SpellsVisibility from typed → SpellsOpener t typed named
       → SpellsParameter t v named middle → SpellsMoreParameters t vs middle to → SpellsMoreParameters f (v ∷ vs) (c ∷ from) to
-  semicolon_parameter : {f t : Form} {c : Word} {v : Variable} {vs : List Variable} {from typed named middle to : List Word} → c.kind ≡ k.Semicolon → SpellsVisibility from typed → SpellsForm t typed named
+  semicolon_parameter : {f t : Opener} {c : Word} {v : Variable} {vs : List Variable} {from typed named middle to : List Word} → c.kind ≡ k.Semicolon → SpellsVisibility from typed → SpellsOpener t typed named
       → SpellsParameter t v named middle → SpellsMoreParameters t vs middle to → SpellsMoreParameters f (v ∷ vs) (c ∷ from) to
 
 pub data SpellsParameters : List Variable → List Word → List Word → Type 0 where
   no_parameters : {to : List Word} → SpellsParameters [] to to
-  parameters : {t : Form} {v : Variable} {vs : List Variable} {from typed named middle to : List Word} → SpellsVisibility from typed → SpellsForm t typed named → SpellsParameter t v named middle
+  parameters : {t : Opener} {v : Variable} {vs : List Variable} {from typed named middle to : List Word} → SpellsVisibility from typed → SpellsOpener t typed named → SpellsParameter t v named middle
       → SpellsMoreParameters t vs middle to → SpellsParameters (v ∷ vs) from to
 
 pub data SpellsStarts : Starts → List Word → List Word → Type 0 where
@@ -422,9 +268,9 @@ pub data SpellsUnit : ModelUnit → List Word → List Word → Type 0 where
       → SpellsUnit (u.Typedef n vs) (w ∷ n ∷ o ∷ from) to
   proctype : {s : Starts} {p n o c d z : Word} {vs : List Variable} {xs : List Item} {from inner body to : List Word} → SpellsStarts s from (p ∷ n ∷ o ∷ inner) → p.kind ≡ k.Proctype → n.kind ≡ k.Name → o.kind ≡ k.OpenParen
       → SpellsParameters vs inner (c ∷ d ∷ body) → c.kind ≡ k.CloseParen → d.kind ≡ k.OpenBrace → SpellsBody xs body (z ∷ to) → z.kind ≡ k.CloseBrace
-      → SpellsUnit (u.Process (proctype_of s n vs (seq_of xs) z)) from to
+      → SpellsUnit (u.Proctype (proctype_of s n vs (seq_of xs) z)) from to
   init : {w o c : Word} {xs : List Item} {from to : List Word} → w.kind ≡ k.Init → o.kind ≡ k.OpenBrace → SpellsBody xs from (c ∷ to) → c.kind ≡ k.CloseBrace
-      → SpellsUnit (u.Process (proctype_of starts.Once w [] (seq_of xs) c)) (w ∷ o ∷ from) to
+      → SpellsUnit (u.Proctype (proctype_of starts.Once w [] (seq_of xs) c)) (w ∷ o ∷ from) to
 
 -- units up to the end
 pub data SpellsUnits : List ModelUnit → List Word → Type 0 where

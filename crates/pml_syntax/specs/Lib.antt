@@ -1,6 +1,5 @@
 pub mod Answer
 pub mod Grammar
 pub mod Starts
-pub mod Reading
 pub mod ReadingStatements
 pub mod ReadingUnits

@@ -6,6 +6,10 @@ use Rattle.pml_lex.specs.Kinds.{same_kind}
 use Rattle.pml_lex.specs.declared.token.Kind.{Kind}
 use Rattle.pml_lex.specs.declared.token.Kind.TheVariants as k
 use Rattle.pml_tree.specs.declared.tree.Scalar.{Scalar}
+use Rattle.pml_tree.specs.declared.tree.Search.{Search}
+use Rattle.pml_tree.specs.declared.tree.SendOrder.{SendOrder}
+use Rattle.pml_tree.specs.declared.tree.Removal.TheVariants as removal
+use Rattle.pml_tree.specs.declared.tree.Argument.{Argument}
 use Rattle.pml_tree.specs.declared.tree.Expr.{Expr}
 use Rattle.pml_tree.specs.declared.tree.Reference.{Reference}
 use Rattle.pml_tree.specs.declared.tree.Sort.TheVariants as sort
@@ -19,17 +23,18 @@ use Rattle.pml_tree.specs.declared.tree.Basic.{Basic}
 use Rattle.pml_tree.specs.declared.tree.Basic.TheVariants as b
 use Rattle.pml_tree.specs.declared.tree.Item.{Item}
 use Rattle.pml_tree.specs.declared.tree.Seq.{Seq}
-use Rattle.pml_syntax.specs.declared.form.Form.{Form}
-use Rattle.pml_syntax.specs.declared.form.Form.TheVariants as form
+use Rattle.pml_expression.specs.Grammar.{between}
+use Rattle.pml_expression.specs.Reading.{Read, ◌>>=◌, when◌then◌else◌, next, sees, refuse, expect, expect_all, expect_name, list_from, behind_first, expr_behind, index, parenthesized, reference, arguments, behind, climb, expr}
+use Rattle.pml_syntax.specs.declared.opener.Opener.{Opener}
+use Rattle.pml_syntax.specs.declared.opener.Opener.TheVariants as opener
 use Rattle.pml_syntax.specs.declared.starts.Opening.{Opening}
 use Rattle.pml_syntax.specs.declared.starts.Opening.TheVariants as o
 use Rattle.pml_syntax.specs.declared.starts.Deed.{Deed}
 use Rattle.pml_syntax.specs.declared.starts.Deed.TheVariants as d
 use Rattle.pml_syntax.specs.declared.starts.Change.{Change}
 use Rattle.pml_syntax.specs.declared.starts.Change.TheVariants as c
-use Rattle.pml_syntax.specs.Grammar.{scalar, is_visibility, is_exclusive, is_separator, run_of, variable_of, item_of, seq_of, between}
+use Rattle.pml_syntax.specs.Grammar.{scalar, is_visibility, is_exclusive, is_separator, run_of, variable_of, item_of, seq_of}
 use Rattle.pml_syntax.specs.Starts.{opening, deed, change, declares, is_end}
-use Rattle.pml_syntax.specs.Reading.{Read, ◌>>=◌, when◌then◌else◌, next, sees, refuse, expect, list_from, behind_first, index, reference, arguments, behind, climb, expr}
 
 -- whether `run` stands behind any number of `(`
 unfoldable pub leads_to_run : List Word → Bool
@@ -57,16 +62,16 @@ labels_from (suc n) found ts = when is_label ts then (do
   labels_from n (found ++ name.0 ∷ []) colon.1) else Ok (found, ts)
 
 -- a type, or the name of a typedef
-abbrev pub form_by : Option Scalar → List Word → Read Form
-form_by (Some s) ts = Ok (form.Plain s, drop 1 ts)
-form_by None ts = when sees k.Unsigned ts then (do
+abbrev pub opener_by : Option Scalar → List Word → Read Opener
+opener_by (Some s) ts = Ok (opener.Plain s, drop 1 ts)
+opener_by None ts = when sees k.Unsigned ts then (do
   word ← expect k.Unsigned ts
-  Ok (form.Unsigned, word.1)) else (do
+  Ok (opener.Unsigned, word.1)) else (do
     name ← expect k.Name ts
-    Ok (form.Named name.0, name.1))
+    Ok (opener.Named name.0, name.1))
 
-unfoldable pub form_of : List Word → Read Form
-form_of ts = form_by (scalar (next ts)) ts
+unfoldable pub opener_of : List Word → Read Opener
+opener_of ts = opener_by (scalar (next ts)) ts
 
 abbrev pub scalar_by : Option Scalar → List Word → Read Scalar
 scalar_by (Some s) ts = Ok (s, drop 1 ts)
@@ -75,6 +80,12 @@ scalar_by None ts = refuse ts
 unfoldable pub scalar_of : List Word → Read Scalar
 scalar_of ts = scalar_by (scalar (next ts)) ts
 
+-- a `printf` up to its string
+unfoldable pub format : List Word → Read Word
+format ts = do
+  front ← expect_all (k.Printf ∷ k.OpenParen ∷ []) ts
+  expect k.Quoted front.1
+
 -- The number is how deep the expressions nest.
 module _ (depth : ℕ) where
   -- ---- statements without structure
@@ -82,7 +93,7 @@ module _ (depth : ℕ) where
   unfoldable pub values : List Word → Read (List Expr)
   values ts = do
     first ← expr depth 1 ts
-    behind_first (expr depth 1) first.0 first.1
+    behind_first (expr depth 1) (first.0 ∷ []) first.1
 
   -- between the parentheses of a run
   unfoldable pub run_values : List Word → Read (List Expr)
@@ -90,10 +101,8 @@ module _ (depth : ℕ) where
 
   unfoldable pub run_call : List Word → Read Run
   run_call ts = do
-    word ← expect k.Run ts
-    name ← expect k.Name word.1
-    opened ← expect k.OpenParen name.1
-    xs ← run_values opened.1
+    name ← expect_name k.Run k.OpenParen ts
+    xs ← run_values name.1
     close ← expect k.CloseParen xs.1
     Ok (run_of name.0 xs.0, close.1)
 
@@ -130,26 +139,32 @@ module _ (depth : ℕ) where
       x ← expr depth 1 ts
       Ok ((a.Assign r x.0, false), x.1))
 
-  unfoldable pub sent : Bool → Reference → List Word → Read (Action × Bool)
-  sent sorted r ts = do
+  unfoldable pub sent : SendOrder → Reference → List Word → Read (Action × Bool)
+  sent order r ts = do
     xs ← values ts
-    Ok ((a.Send r sorted xs.0, false), xs.1)
+    Ok ((a.Send r order xs.0, false), xs.1)
 
-  unfoldable pub received : Bool → Reference → List Word → Read (Action × Bool)
-  received any r ts = when sees k.Less ts then (do
+  -- between `<` and `>`
+  unfoldable pub copied : List Word → Read (List Argument)
+  copied ts = do
     opened ← expect k.Less ts
     xs ← arguments (expr depth) opened.1
     close ← expect k.Greater xs.1
-    Ok ((a.Receive r any true xs.0, false), close.1)) else (do
+    Ok (xs.0, close.1)
+
+  unfoldable pub received : Search → Reference → List Word → Read (Action × Bool)
+  received look r ts = when sees k.Less ts then (do
+    xs ← copied ts
+    Ok ((a.Receive r look removal.Keep xs.0, false), xs.1)) else (do
       xs ← arguments (expr depth) ts
-      Ok ((a.Receive r any false xs.0, false), xs.1))
+      Ok ((a.Receive r look removal.Remove xs.0, false), xs.1))
 
   abbrev pub changed_by : Change → Reference → List Word → Read (Action × Bool)
   changed_by c.Assign r ts = assigned r (drop 1 ts)
   changed_by c.Increment r ts = Ok ((a.Increment r, false), drop 1 ts)
   changed_by c.Decrement r ts = Ok ((a.Decrement r, false), drop 1 ts)
-  changed_by (c.Send sorted) r ts = sent sorted r (drop 1 ts)
-  changed_by (c.Receive any) r ts = when sees k.OpenBracket (drop 1 ts) then continued r ts else received any r (drop 1 ts)
+  changed_by (c.Send order) r ts = sent order r (drop 1 ts)
+  changed_by (c.Receive look) r ts = when sees k.OpenBracket (drop 1 ts) then continued r ts else received look r (drop 1 ts)
   changed_by c.Other r ts = continued r ts
 
   unfoldable pub changed : Reference → List Word → Read (Action × Bool)
@@ -168,9 +183,7 @@ module _ (depth : ℕ) where
 
   unfoldable pub printf : List Word → Read (Action × Bool)
   printf ts = do
-    word ← expect k.Printf ts
-    opened ← expect k.OpenParen word.1
-    string ← expect k.Quoted opened.1
+    string ← format ts
     xs ← printed string.1
     close ← expect k.CloseParen xs.1
     Ok ((a.Printf string.0 xs.0, false), close.1)
@@ -178,15 +191,12 @@ module _ (depth : ℕ) where
   unfoldable pub printm : List Word → Read (Action × Bool)
   printm ts = do
     word ← expect k.Printm ts
-    opened ← expect k.OpenParen word.1
-    x ← expr depth 1 opened.1
-    close ← expect k.CloseParen x.1
-    Ok ((a.Printm x.0, false), close.1)
+    x ← parenthesized (expr depth) word.1
+    Ok ((a.Printm x.0, false), x.1)
 
   unfoldable pub assert : List Word → Read (Action × Bool)
   assert ts = do
-    word ← expect k.Assert ts
-    x ← expr depth 1 word.1
+    x ← expr_behind (expr depth) k.Assert ts
     Ok ((a.Assert x.0, false), x.1)
 
   abbrev pub action_by : Deed → List Word → Read (Action × Bool)
@@ -204,14 +214,17 @@ module _ (depth : ℕ) where
 
   -- ---- declarations
 
+  -- up to the types that a channel carries
+  unfoldable pub capacity : List Word → Read Expr
+  capacity ts = do
+    x ← expr_behind (expr depth) k.OpenBracket ts
+    front ← expect_all (k.CloseBracket ∷ k.Of ∷ k.OpenBrace ∷ []) x.1
+    Ok (x.0, front.1)
+
   unfoldable pub channel : List Word → Read (Option Initial × Bool)
   channel ts = do
-    opened ← expect k.OpenBracket ts
-    x ← expr depth 1 opened.1
-    close ← expect k.CloseBracket x.1
-    of ← expect k.Of close.1
-    brace ← expect k.OpenBrace of.1
-    types ← list_from scalar_of (length brace.1) [] brace.1
+    x ← capacity ts
+    types ← list_from scalar_of (length x.1) [] x.1
     last ← expect k.CloseBrace types.1
     Ok ((Some (ini.Channel x.0 types.0), true), last.1)
 
@@ -224,8 +237,7 @@ module _ (depth : ℕ) where
 
   unfoldable pub packed_value : List Word → Read (Option Initial)
   packed_value ts = when sees k.Assign ts then (do
-    sign ← expect k.Assign ts
-    x ← expr depth 1 sign.1
+    x ← expr_behind (expr depth) k.Assign ts
     Ok (Some (ini.Value x.0), x.1)) else Ok (None, ts)
 
   unfoldable pub plain : Scalar → List Word → Read (Variable × Bool)
@@ -249,12 +261,12 @@ module _ (depth : ℕ) where
     x ← packed_value width.1
     Ok ((variable_of (sort.Unsigned width.0) name.0 None x.0, false), x.1)
 
-  abbrev pub variable_by : Form → List Word → Read (Variable × Bool)
-  variable_by (form.Plain s) ts = plain s ts
-  variable_by (form.Named t) ts = structured t ts
-  variable_by form.Unsigned ts = packed ts
+  abbrev pub variable_by : Opener → List Word → Read (Variable × Bool)
+  variable_by (opener.Plain s) ts = plain s ts
+  variable_by (opener.Named t) ts = structured t ts
+  variable_by opener.Unsigned ts = packed ts
 
-  unfoldable pub variables_from : ℕ → Form → List Variable → List Word → Read (List Variable × Bool)
+  unfoldable pub variables_from : ℕ → Opener → List Variable → List Word → Read (List Variable × Bool)
   variables_from zero f found ts = refuse ts
   variables_from (suc n) f found ts = do
     v ← variable_by f ts
@@ -265,7 +277,7 @@ module _ (depth : ℕ) where
   -- behind those that were found
   unfoldable pub declaration_from : List Variable → List Word → Read (List Variable × Bool)
   declaration_from found ts = do
-    f ← form_of (skip_visibility ts)
+    f ← opener_of (skip_visibility ts)
     variables_from (length f.1) f.0 found f.1
 
   unfoldable pub references : List Word → Read (List Reference)
@@ -367,13 +379,19 @@ module _ (depth : ℕ) (body : List Word → Read (List Item × Bool)) where
     x ← basic labels.1
     Ok ((item_of labels.0 x.0.0 (between labels.1 x.1), x.0.1), x.1)
 
+  -- what a statement gives way to
+  unfoldable pub escape : List Word → Read (List Item × Bool)
+  escape ts = do
+    word ← expect k.Unless ts
+    x ← statement word.1
+    Ok ((x.0.0 ∷ [], x.0.1), x.1)
+
   unfoldable pub stepped : List Word → Read (Item × Bool × Bool)
   stepped ts = do
     x ← statement ts
     when sees k.Unless x.1 then (do
-      word ← expect k.Unless x.1
-      y ← statement word.1
-      Ok ((item_of [] (b.Unless (seq_of (x.0.0 ∷ [])) (seq_of (y.0.0 ∷ []))) (between ts y.1), true, y.0.1), y.1)) else Ok ((x.0.0, true, x.0.1), x.1)
+      y ← escape x.1
+      Ok ((item_of [] (b.Unless (seq_of (x.0.0 ∷ [])) (seq_of y.0.0)) (between ts y.1), true, y.0.1), y.1)) else Ok ((x.0.0, true, x.0.1), x.1)
 
   unfoldable pub item : List Word → Read (Item × Bool × Bool)
   item ts = when is_declaration ts then declared depth ts else (when is_exclusive (next ts) then exclusive depth ts else stepped ts)

@@ -13,18 +13,14 @@ use Rattle.pml_tree.specs.declared.tree.Starts.TheVariants as starting
 use Rattle.pml_tree.specs.declared.tree.Unit.{Unit as ModelUnit}
 use Rattle.pml_tree.specs.declared.tree.Unit.TheVariants as u
 use Rattle.pml_tree.specs.declared.tree.Tree.{Tree}
-use Rattle.pml_syntax.specs.declared.form.Form.{Form}
-use Rattle.pml_syntax.specs.declared.form.Form.TheVariants as form
+use Rattle.pml_expression.specs.Reading.{Read, ◌>>=◌, when◌then◌else◌, next, sees, refuse, is_empty, expect, expect_name, list_from, index, expr}
+use Rattle.pml_syntax.specs.declared.opener.Opener.{Opener}
+use Rattle.pml_syntax.specs.declared.opener.Opener.TheVariants as opener
 use Rattle.pml_syntax.specs.declared.starts.Head.{Head}
 use Rattle.pml_syntax.specs.declared.starts.Head.TheVariants as h
 use Rattle.pml_syntax.specs.Grammar.{variable_of, seq_of, proctype_of, tree_of}
 use Rattle.pml_syntax.specs.Starts.{declares, head}
-use Rattle.pml_syntax.specs.Reading.{Read, ◌>>=◌, when◌then◌else◌, next, sees, refuse, expect, list_from, index, expr}
-use Rattle.pml_syntax.specs.ReadingStatements.{skip_visibility, form_of, declaration_from, items}
-
-abbrev pub is_empty : List Word → Bool
-is_empty [] = true
-is_empty (w ∷ ws) = false
+use Rattle.pml_syntax.specs.ReadingStatements.{skip_visibility, opener_of, declaration_from, items}
 
 unfoldable pub skip_semicolons : List Word → List Word
 skip_semicolons [] = []
@@ -45,25 +41,25 @@ packed_parameter ts = do
   Ok (variable_of (sort.Unsigned width.0) name.0 None None, width.1)
 
 -- behind its type; a typedef is none
-abbrev pub parameter_by : Form → List Word → Read Variable
-parameter_by (form.Plain s) ts = plain_parameter s ts
-parameter_by form.Unsigned ts = packed_parameter ts
-parameter_by (form.Named t) ts = refuse ts
+abbrev pub parameter_by : Opener → List Word → Read Variable
+parameter_by (opener.Plain s) ts = plain_parameter s ts
+parameter_by opener.Unsigned ts = packed_parameter ts
+parameter_by (opener.Named t) ts = refuse ts
 
 -- with its type, which the next one may have too
-unfoldable pub typed_parameter : List Word → Read (Variable × Form)
+unfoldable pub typed_parameter : List Word → Read (Variable × Opener)
 typed_parameter ts = do
-  f ← form_of (skip_visibility ts)
+  f ← opener_of (skip_visibility ts)
   v ← parameter_by f.0 f.1
   Ok ((v.0, f.0), v.1)
 
-unfoldable pub next_parameter : Form → List Word → Read (Variable × Form)
+unfoldable pub next_parameter : Opener → List Word → Read (Variable × Opener)
 next_parameter f ts = when declares (next ts) then typed_parameter ts else (do
   v ← parameter_by f ts
   Ok ((v.0, f), v.1))
 
 -- behind a separator, or none
-unfoldable pub more_parameter : Form → List Word → Read (Variable × Form)
+unfoldable pub more_parameter : Opener → List Word → Read (Variable × Opener)
 more_parameter f ts = when sees k.Semicolon ts then typed_parameter (drop 1 ts) else next_parameter f (drop 1 ts)
 
 abbrev pub parts_parameters : Kind → Bool
@@ -71,7 +67,7 @@ parts_parameters k.Semicolon = true
 parts_parameters k.Comma = true
 parts_parameters _ = false
 
-unfoldable pub parameters_from : ℕ → Form → List Variable → List Word → Read (List Variable)
+unfoldable pub parameters_from : ℕ → Opener → List Variable → List Word → Read (List Variable)
 parameters_from zero f found ts = Ok (found, ts)
 parameters_from (suc n) f found ts = when parts_parameters (next ts) then (do
   v ← more_parameter f ts
@@ -107,10 +103,8 @@ starts_of (Some x) = starting.Times x
 -- the name and the parameters
 unfoldable pub signature : List Word → Read (Word × List Variable)
 signature ts = do
-  word ← expect k.Proctype ts
-  name ← expect k.Name word.1
-  opened ← expect k.OpenParen name.1
-  vs ← parameters opened.1
+  name ← expect_name k.Proctype k.OpenParen ts
+  vs ← parameters name.1
   close ← expect k.CloseParen vs.1
   Ok ((name.0, vs.0), close.1)
 
@@ -131,10 +125,8 @@ module _ (depth : ℕ) where
 
   unfoldable pub typedef : List Word → Read ModelUnit
   typedef ts = do
-    word ← expect k.Typedef ts
-    name ← expect k.Name word.1
-    opened ← expect k.OpenBrace name.1
-    vs ← members_from (length opened.1) [] opened.1
+    name ← expect_name k.Typedef k.OpenBrace ts
+    vs ← members_from (length name.1) [] name.1
     close ← expect k.CloseBrace vs.1
     Ok (u.Typedef name.0 vs.0, close.1)
 
@@ -156,13 +148,13 @@ module _ (depth : ℕ) where
     s ← starts ts
     m ← signature s.1
     x ← body m.1
-    Ok (u.Process (proctype_of s.0 m.0.0 m.0.1 (seq_of x.0.0) x.0.1), x.1)
+    Ok (u.Proctype (proctype_of s.0 m.0.0 m.0.1 (seq_of x.0.0) x.0.1), x.1)
 
   unfoldable pub init : List Word → Read ModelUnit
   init ts = do
     word ← expect k.Init ts
     x ← body word.1
-    Ok (u.Process (proctype_of starting.Once word.0 [] (seq_of x.0.0) x.0.1), x.1)
+    Ok (u.Proctype (proctype_of starting.Once word.0 [] (seq_of x.0.0) x.0.1), x.1)
 
   unfoldable pub variables : List Word → Read ModelUnit
   variables ts = do

@@ -2,10 +2,8 @@
 use Rattle.std.specs.Prelude.{Bool, true, false}
 use Rattle.pml_lex.specs.declared.token.Kind.{Kind}
 use Rattle.pml_lex.specs.declared.token.Kind.TheVariants as k
-use Rattle.pml_tree.specs.declared.tree.Prefix.TheVariants as sign
-use Rattle.pml_tree.specs.declared.tree.Fill.TheVariants as fills
-use Rattle.pml_syntax.specs.declared.operators.Start.{Start}
-use Rattle.pml_syntax.specs.declared.operators.Start.TheVariants as s
+use Rattle.pml_tree.specs.declared.tree.Search.TheVariants as looks
+use Rattle.pml_tree.specs.declared.tree.SendOrder.TheVariants as orders
 use Rattle.pml_syntax.specs.declared.starts.Opening.{Opening}
 use Rattle.pml_syntax.specs.declared.starts.Opening.TheVariants as o
 use Rattle.pml_syntax.specs.declared.starts.Deed.{Deed}
@@ -14,26 +12,6 @@ use Rattle.pml_syntax.specs.declared.starts.Change.{Change}
 use Rattle.pml_syntax.specs.declared.starts.Change.TheVariants as c
 use Rattle.pml_syntax.specs.declared.starts.Head.{Head}
 use Rattle.pml_syntax.specs.declared.starts.Head.TheVariants as h
-
--- an operand or an argument, by its first token
-abbrev pub start : Kind → Start
-start k.Name = s.Name
-start k.Number = s.Number
-start k.True = s.Truth true
-start k.Skip = s.Truth true
-start k.False = s.Truth false
-start k.Timeout = s.Timeout
-start k.Len = s.Ask fills.Length
-start k.Empty = s.Ask fills.IsEmpty
-start k.Full = s.Ask fills.IsFull
-start k.Nempty = s.Ask fills.IsNotEmpty
-start k.Nfull = s.Ask fills.IsNotFull
-start k.Bang = s.Prefix sign.Not
-start k.Tilde = s.Prefix sign.Complement
-start k.Minus = s.Prefix sign.Minus
-start k.OpenParen = s.Group
-start k.Eval = s.Eval
-start _ = s.Other
 
 -- a statement, by its first token: its structure
 abbrev pub opening : Kind → Opening
@@ -62,10 +40,10 @@ abbrev pub change : Kind → Change
 change k.Assign = c.Assign
 change k.Increment = c.Increment
 change k.Decrement = c.Decrement
-change k.Bang = c.Send false
-change k.BangBang = c.Send true
-change k.Query = c.Receive false
-change k.QueryQuery = c.Receive true
+change k.Bang = c.Send orders.Fifo
+change k.BangBang = c.Send orders.Sorted
+change k.Query = c.Receive looks.First
+change k.QueryQuery = c.Receive looks.Matching
 change _ = c.Other
 
 -- what begins a declaration, but a typedef's name

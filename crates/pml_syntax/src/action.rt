@@ -1,27 +1,30 @@
 //! Statements without structure. Each is read with whether it ends with `else`.
 
 ghost use Rattle.std.specs.Prelude.{◌≡◌, length, []};
-ghost use Rattle.pml_syntax.specs.Reading as expressions;
-ghost use Rattle.pml_syntax.specs.Reading.{Reads};
+ghost use Rattle.pml_expression.specs.Reading as expressions;
+ghost use Rattle.pml_expression.specs.Reading.{Reads};
 ghost use Rattle.pml_syntax.specs.ReadingStatements as reading;
 
-use crate::cursor::Cursor;
-use crate::expr::{arguments, behind, climb, expr, reference};
-use crate::fault::Fault;
+use crate::ahead::leads_to_run;
 use crate::starts::{Change, Deed, change_of, deed_of};
-use pml_lex::token::Kind;
-use pml_tree::tree::{Action, Expr, Reference, Run};
+use pml_expression::cursor::Cursor;
+use pml_expression::expr::{
+    arguments, behind, climb, expr, expr_behind, parenthesized, reference,
+};
+use pml_expression::fault::ReadFault;
+use pml_lex::token::{Kind, Token};
+use pml_tree::tree::{Action, Argument, Expr, Reference, Removal, Run, Search, SendOrder};
 use sqlite_items::Items;
 use std::alloc::Global;
 
 /// Expressions with commas between them, behind the first ones.
-#[tactic(auto, unfolding(crate::specs::Reading::list_from, crate::specs::Reading::and_then, crate::specs::Reading::pick))]
+#[tactic(auto, unfolding(pml_expression::specs::Reading::list_from, pml_expression::specs::Reading::and_then, pml_expression::specs::Reading::pick))]
 fn expr_list<'a>(
     alloc: Global,
     depth: usize,
     first: Items<Expr<'a>>,
     tokens: &mut Cursor<'a>,
-) -> Result<Items<Expr<'a>>, Fault>
+) -> Result<Items<Expr<'a>>, ReadFault>
     ensures { Reads (expressions.list_from (expressions.expr depth 1) (length tokens.old) first.entry tokens.old) result tokens.new }
 {
     let mut found = first;
@@ -36,23 +39,34 @@ fn expr_list<'a>(
     Err(tokens.refuse())
 }
 
-/// What is sent.
-#[tactic(auto, unfolding(crate::specs::ReadingStatements::values, crate::specs::Reading::behind_first, crate::specs::Reading::enclosed, crate::specs::Reading::and_then, crate::specs::Reading::pick))]
-fn values<'a>(
+/// Expressions in parentheses, behind the first ones.
+#[tactic(auto, unfolding(pml_expression::specs::Reading::enclosed, pml_expression::specs::Reading::and_then))]
+fn enclosed<'a>(
     alloc: Global,
     depth: usize,
+    first: Items<Expr<'a>>,
     tokens: &mut Cursor<'a>,
-) -> Result<Items<Expr<'a>>, Fault>
-    ensures { Reads (reading.values depth tokens.old) result tokens.new }
+) -> Result<Items<Expr<'a>>, ReadFault>
+    ensures { Reads (expressions.enclosed (expressions.expr depth 1) first.entry tokens.old) result tokens.new }
 {
-    let mut first = Items::new(alloc);
-    let x = expr(alloc, depth, 1, tokens)?;
-    first.push(x)?;
+    tokens.expect(Kind::OpenParen)?;
+    let found = expr_list(alloc, depth, first, tokens)?;
+    tokens.expect(Kind::CloseParen)?;
+    Ok(found)
+}
+
+/// The expressions that a comma or a parenthesis goes on with, behind the first one.
+#[tactic(auto, unfolding(pml_expression::specs::Reading::behind_first, pml_expression::specs::Reading::and_then, pml_expression::specs::Reading::pick))]
+fn behind_first<'a>(
+    alloc: Global,
+    depth: usize,
+    first: Items<Expr<'a>>,
+    tokens: &mut Cursor<'a>,
+) -> Result<Items<Expr<'a>>, ReadFault>
+    ensures { Reads (expressions.behind_first (expressions.expr depth 1) first.entry tokens.old) result tokens.new }
+{
     if tokens.sees(Kind::OpenParen) {
-        tokens.expect(Kind::OpenParen)?;
-        let found = expr_list(alloc, depth, first, tokens)?;
-        tokens.expect(Kind::CloseParen)?;
-        return Ok(found);
+        return enclosed(alloc, depth, first, tokens);
     }
     if !tokens.sees(Kind::Comma) {
         return Ok(first);
@@ -61,12 +75,27 @@ fn values<'a>(
     expr_list(alloc, depth, first, tokens)
 }
 
-#[tactic(auto, unfolding(crate::specs::ReadingStatements::run_values, crate::specs::Reading::pick))]
+/// What is sent.
+#[tactic(auto, unfolding(crate::specs::ReadingStatements::values, pml_expression::specs::Reading::and_then))]
+fn values<'a>(
+    alloc: Global,
+    depth: usize,
+    tokens: &mut Cursor<'a>,
+) -> Result<Items<Expr<'a>>, ReadFault>
+    ensures { Reads (reading.values depth tokens.old) result tokens.new }
+{
+    let mut first = Items::new(alloc);
+    let x = expr(alloc, depth, 1, tokens)?;
+    first.push(x)?;
+    behind_first(alloc, depth, first, tokens)
+}
+
+#[tactic(auto, unfolding(crate::specs::ReadingStatements::run_values, pml_expression::specs::Reading::pick))]
 fn run_values<'a>(
     alloc: Global,
     depth: usize,
     tokens: &mut Cursor<'a>,
-) -> Result<Items<Expr<'a>>, Fault>
+) -> Result<Items<Expr<'a>>, ReadFault>
     ensures { Reads (reading.run_values depth tokens.old) result tokens.new }
 {
     let none = Items::new(alloc);
@@ -76,26 +105,24 @@ fn run_values<'a>(
     expr_list(alloc, depth, none, tokens)
 }
 
-#[tactic(auto, unfolding(crate::specs::ReadingStatements::run_call, crate::specs::Reading::and_then))]
-fn run_call<'a>(alloc: Global, depth: usize, tokens: &mut Cursor<'a>) -> Result<Run<'a>, Fault>
+#[tactic(auto, unfolding(crate::specs::ReadingStatements::run_call, pml_expression::specs::Reading::and_then))]
+fn run_call<'a>(alloc: Global, depth: usize, tokens: &mut Cursor<'a>) -> Result<Run<'a>, ReadFault>
     ensures { Reads (reading.run_call depth tokens.old) result tokens.new }
 {
-    tokens.expect(Kind::Run)?;
-    let name = tokens.expect(Kind::Name)?;
-    tokens.expect(Kind::OpenParen)?;
+    let name = tokens.expect_name(Kind::Run, Kind::OpenParen)?;
     let arguments = run_values(alloc, depth, tokens)?;
     tokens.expect(Kind::CloseParen)?;
     Ok(Run { name, arguments })
 }
 
 /// A run in at most `nested - 1` parentheses.
-#[tactic(auto, unfolding(crate::specs::ReadingStatements::run_within, crate::specs::Reading::and_then, crate::specs::Reading::pick))]
+#[tactic(auto, unfolding(crate::specs::ReadingStatements::run_within, pml_expression::specs::Reading::and_then, pml_expression::specs::Reading::pick))]
 fn run_within<'a>(
     alloc: Global,
     depth: usize,
     nested: usize,
     tokens: &mut Cursor<'a>,
-) -> Result<Run<'a>, Fault>
+) -> Result<Run<'a>, ReadFault>
     ensures { Reads (reading.run_within depth nested tokens.old) result tokens.new }
 {
     if nested == 0 {
@@ -110,24 +137,24 @@ fn run_within<'a>(
     Ok(x)
 }
 
-#[tactic(auto, unfolding(crate::specs::ReadingStatements::run_first, crate::specs::Reading::and_then))]
+#[tactic(auto, unfolding(crate::specs::ReadingStatements::run_first, pml_expression::specs::Reading::and_then))]
 fn run_first<'a>(
     alloc: Global,
     depth: usize,
     tokens: &mut Cursor<'a>,
-) -> Result<(Action<'a>, bool), Fault>
+) -> Result<(Action<'a>, bool), ReadFault>
     ensures { Reads (reading.run_first depth tokens.old) result tokens.new }
 {
     let x = run_within(alloc, depth, tokens.left(), tokens)?;
     Ok((Action::Run(x), false))
 }
 
-#[tactic(auto, unfolding(crate::specs::ReadingStatements::holds, crate::specs::Reading::and_then))]
+#[tactic(auto, unfolding(crate::specs::ReadingStatements::holds, pml_expression::specs::Reading::and_then))]
 fn holds<'a>(
     alloc: Global,
     depth: usize,
     tokens: &mut Cursor<'a>,
-) -> Result<(Action<'a>, bool), Fault>
+) -> Result<(Action<'a>, bool), ReadFault>
     ensures { Reads (reading.holds depth tokens.old) result tokens.new }
 {
     let x = expr(alloc, depth, 1, tokens)?;
@@ -135,13 +162,13 @@ fn holds<'a>(
 }
 
 /// The expression that begins with a reference, behind that.
-#[tactic(auto, unfolding(crate::specs::ReadingStatements::continued, crate::specs::Reading::and_then))]
+#[tactic(auto, unfolding(crate::specs::ReadingStatements::continued, pml_expression::specs::Reading::and_then))]
 fn continued<'a>(
     alloc: Global,
     depth: usize,
     r: Reference<'a>,
     tokens: &mut Cursor<'a>,
-) -> Result<(Action<'a>, bool), Fault>
+) -> Result<(Action<'a>, bool), ReadFault>
     ensures { Reads (reading.continued depth r.entry tokens.old) result tokens.new }
 {
     let first = behind(alloc, depth, r, tokens)?;
@@ -149,16 +176,16 @@ fn continued<'a>(
     Ok((Action::Holds(x), false))
 }
 
-#[tactic(auto, unfolding(crate::specs::ReadingStatements::assigned, crate::specs::Reading::and_then, crate::specs::Reading::pick))]
+#[tactic(auto, unfolding(crate::specs::ReadingStatements::assigned, pml_expression::specs::Reading::and_then, pml_expression::specs::Reading::pick))]
 fn assigned<'a>(
     alloc: Global,
     depth: usize,
     r: Reference<'a>,
     tokens: &mut Cursor<'a>,
-) -> Result<(Action<'a>, bool), Fault>
+) -> Result<(Action<'a>, bool), ReadFault>
     ensures { Reads (reading.assigned depth r.entry tokens.old) result tokens.new }
 {
-    if tokens.leads_to_run() {
+    if leads_to_run(tokens) {
         let x = run_within(alloc, depth, tokens.left(), tokens)?;
         return Ok((Action::AssignRun(r, x), false));
     }
@@ -166,48 +193,61 @@ fn assigned<'a>(
     Ok((Action::Assign(r, x), false))
 }
 
-#[tactic(auto, unfolding(crate::specs::ReadingStatements::sent, crate::specs::Reading::and_then))]
+#[tactic(auto, unfolding(crate::specs::ReadingStatements::sent, pml_expression::specs::Reading::and_then))]
 fn sent<'a>(
     alloc: Global,
     depth: usize,
-    sorted: bool,
+    order: SendOrder,
     r: Reference<'a>,
     tokens: &mut Cursor<'a>,
-) -> Result<(Action<'a>, bool), Fault>
-    ensures { Reads (reading.sent depth sorted r.entry tokens.old) result tokens.new }
+) -> Result<(Action<'a>, bool), ReadFault>
+    ensures { Reads (reading.sent depth order r.entry tokens.old) result tokens.new }
 {
     let xs = values(alloc, depth, tokens)?;
-    Ok((Action::Send(r, sorted, xs), false))
+    Ok((Action::Send(r, order, xs), false))
 }
 
-#[tactic(auto, unfolding(crate::specs::ReadingStatements::received, crate::specs::Reading::and_then, crate::specs::Reading::pick))]
-fn received<'a>(
+/// The arguments of a receive that leaves its message in the channel.
+#[tactic(auto, unfolding(crate::specs::ReadingStatements::copied, pml_expression::specs::Reading::and_then))]
+fn copied<'a>(
     alloc: Global,
     depth: usize,
-    any: bool,
-    r: Reference<'a>,
     tokens: &mut Cursor<'a>,
-) -> Result<(Action<'a>, bool), Fault>
-    ensures { Reads (reading.received depth any r.entry tokens.old) result tokens.new }
+) -> Result<Items<Argument<'a>>, ReadFault>
+    ensures { Reads (reading.copied depth tokens.old) result tokens.new }
 {
-    if !tokens.sees(Kind::Less) {
-        let xs = arguments(alloc, depth, tokens)?;
-        return Ok((Action::Receive(r, any, false, xs), false));
-    }
     tokens.expect(Kind::Less)?;
     let xs = arguments(alloc, depth, tokens)?;
     tokens.expect(Kind::Greater)?;
-    Ok((Action::Receive(r, any, true, xs), false))
+    Ok(xs)
+}
+
+#[tactic(auto, unfolding(crate::specs::ReadingStatements::received, pml_expression::specs::Reading::and_then, pml_expression::specs::Reading::pick))]
+fn received<'a>(
+    alloc: Global,
+    depth: usize,
+    search: Search,
+    r: Reference<'a>,
+    tokens: &mut Cursor<'a>,
+) -> Result<(Action<'a>, bool), ReadFault>
+    ensures { Reads (reading.received depth search r.entry tokens.old) result tokens.new }
+{
+    if tokens.sees(Kind::Less) {
+        let xs = copied(alloc, depth, tokens)?;
+        return Ok((Action::Receive(r, search, Removal::Keep, xs), false));
+    }
+    let xs = arguments(alloc, depth, tokens)?;
+    Ok((Action::Receive(r, search, Removal::Remove, xs), false))
 }
 
 /// What a statement that begins with a reference does with it.
-#[tactic(auto, unfolding(crate::specs::ReadingStatements::changed, crate::specs::Reading::and_then, crate::specs::Reading::pick))]
+#[tactic(auto, unfolding(crate::specs::ReadingStatements::changed, pml_expression::specs::Reading::and_then, pml_expression::specs::Reading::pick))]
 fn changed<'a>(
     alloc: Global,
     depth: usize,
     r: Reference<'a>,
     tokens: &mut Cursor<'a>,
-) -> Result<(Action<'a>, bool), Fault>
+) -> Result<(Action<'a>, bool), ReadFault>
     ensures { Reads (reading.changed depth r.entry tokens.old) result tokens.new }
 {
     match change_of(tokens.peek()) {
@@ -223,27 +263,27 @@ fn changed<'a>(
             tokens.skip();
             Ok((Action::Decrement(r), false))
         }
-        Change::Send(sorted) => {
+        Change::Send(order) => {
             tokens.skip();
-            sent(alloc, depth, sorted, r, tokens)
+            sent(alloc, depth, order, r, tokens)
         }
-        Change::Receive(any) => {
+        Change::Receive(search) => {
             if tokens.sees_second(Kind::OpenBracket) {
                 return continued(alloc, depth, r, tokens);
             }
             tokens.skip();
-            received(alloc, depth, any, r, tokens)
+            received(alloc, depth, search, r, tokens)
         }
         Change::Other => continued(alloc, depth, r, tokens),
     }
 }
 
-#[tactic(auto, unfolding(crate::specs::ReadingStatements::printed, crate::specs::Reading::and_then, crate::specs::Reading::pick))]
+#[tactic(auto, unfolding(crate::specs::ReadingStatements::printed, pml_expression::specs::Reading::and_then, pml_expression::specs::Reading::pick))]
 fn printed<'a>(
     alloc: Global,
     depth: usize,
     tokens: &mut Cursor<'a>,
-) -> Result<Items<Expr<'a>>, Fault>
+) -> Result<Items<Expr<'a>>, ReadFault>
     ensures { Reads (reading.printed depth tokens.old) result tokens.new }
 {
     let none = Items::new(alloc);
@@ -254,44 +294,49 @@ fn printed<'a>(
     expr_list(alloc, depth, none, tokens)
 }
 
-#[tactic(auto, unfolding(crate::specs::ReadingStatements::printf, crate::specs::Reading::and_then))]
+/// A `printf` up to its string.
+#[tactic(auto, unfolding(crate::specs::ReadingStatements::format, pml_expression::specs::Reading::and_then))]
+fn format<'a>(tokens: &mut Cursor<'a>) -> Result<Token<'a>, ReadFault>
+    ensures { Reads (reading.format tokens.old) result tokens.new }
+{
+    tokens.expect_all(&[Kind::Printf, Kind::OpenParen])?;
+    tokens.expect(Kind::Quoted)
+}
+
+#[tactic(auto, unfolding(crate::specs::ReadingStatements::printf, pml_expression::specs::Reading::and_then))]
 fn printf<'a>(
     alloc: Global,
     depth: usize,
     tokens: &mut Cursor<'a>,
-) -> Result<(Action<'a>, bool), Fault>
+) -> Result<(Action<'a>, bool), ReadFault>
     ensures { Reads (reading.printf depth tokens.old) result tokens.new }
 {
-    tokens.expect(Kind::Printf)?;
-    tokens.expect(Kind::OpenParen)?;
-    let string = tokens.expect(Kind::Quoted)?;
+    let string = format(tokens)?;
     let xs = printed(alloc, depth, tokens)?;
     tokens.expect(Kind::CloseParen)?;
     Ok((Action::Printf(string, xs), false))
 }
 
-#[tactic(auto, unfolding(crate::specs::ReadingStatements::printm, crate::specs::Reading::and_then))]
+#[tactic(auto, unfolding(crate::specs::ReadingStatements::printm, pml_expression::specs::Reading::and_then))]
 fn printm<'a>(
     alloc: Global,
     depth: usize,
     tokens: &mut Cursor<'a>,
-) -> Result<(Action<'a>, bool), Fault>
+) -> Result<(Action<'a>, bool), ReadFault>
     ensures { Reads (reading.printm depth tokens.old) result tokens.new }
 {
     tokens.expect(Kind::Printm)?;
-    tokens.expect(Kind::OpenParen)?;
-    let x = expr(alloc, depth, 1, tokens)?;
-    tokens.expect(Kind::CloseParen)?;
+    let x = parenthesized(alloc, depth, tokens)?;
     Ok((Action::Printm(x), false))
 }
 
 /// A statement without structure.
-#[tactic(auto, unfolding(crate::specs::ReadingStatements::action, crate::specs::ReadingStatements::reference_first, crate::specs::ReadingStatements::assert, crate::specs::Reading::and_then, crate::specs::Reading::pick))]
+#[tactic(auto, unfolding(crate::specs::ReadingStatements::action, crate::specs::ReadingStatements::reference_first, crate::specs::ReadingStatements::assert, pml_expression::specs::Reading::and_then, pml_expression::specs::Reading::pick))]
 pub fn action<'a>(
     alloc: Global,
     depth: usize,
     tokens: &mut Cursor<'a>,
-) -> Result<(Action<'a>, bool), Fault>
+) -> Result<(Action<'a>, bool), ReadFault>
     ensures { Reads (reading.action depth tokens.old) result tokens.new }
 {
     match deed_of(tokens.peek()) {
@@ -305,7 +350,7 @@ pub fn action<'a>(
         }
         Deed::Run => run_first(alloc, depth, tokens),
         Deed::Group => {
-            if tokens.leads_to_run() {
+            if leads_to_run(tokens) {
                 return run_first(alloc, depth, tokens);
             }
             holds(alloc, depth, tokens)
@@ -313,8 +358,7 @@ pub fn action<'a>(
         Deed::Printf => printf(alloc, depth, tokens),
         Deed::Printm => printm(alloc, depth, tokens),
         Deed::Assert => {
-            tokens.expect(Kind::Assert)?;
-            let x = expr(alloc, depth, 1, tokens)?;
+            let x = expr_behind(alloc, depth, Kind::Assert, tokens)?;
             Ok((Action::Assert(x), false))
         }
         Deed::Other => holds(alloc, depth, tokens),

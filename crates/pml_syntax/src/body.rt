@@ -4,27 +4,28 @@
 ghost use Rattle.std.specs.Prelude.{◌≡◌, ◌||◌, IfOk, length, [], ◌∷◌, false};
 ghost use Rattle.pml_tree.specs.declared.tree.Basic.TheVariants as b;
 ghost use Rattle.pml_syntax.specs.Grammar as grammar;
-ghost use Rattle.pml_syntax.specs.Reading.{Reads};
+ghost use Rattle.pml_expression.specs.Reading.{Reads};
 ghost use Rattle.pml_syntax.specs.ReadingStatements as reading;
 
 use crate::action::action;
-use crate::cursor::Cursor;
+use crate::ahead::{is_declaration, is_label, skip_separators};
 use crate::declaration::{declaration, references};
-use crate::fault::Fault;
 use crate::starts::{Opening, is_end, is_exclusive, is_separator, opening_of};
+use pml_expression::cursor::Cursor;
+use pml_expression::fault::ReadFault;
 use pml_lex::token::{Kind, Token};
 use pml_tree::tokens::Tokens;
 use pml_tree::tree::{Basic, Item, Seq};
 use sqlite_items::Items;
 use std::alloc::{AllocError, Global};
 
-#[tactic(auto, unfolding(crate::specs::ReadingStatements::labels_from, crate::specs::Reading::and_then, crate::specs::Reading::pick))]
-fn labels<'a>(alloc: Global, tokens: &mut Cursor<'a>) -> Result<Items<Token<'a>>, Fault>
+#[tactic(auto, unfolding(crate::specs::ReadingStatements::labels_from, pml_expression::specs::Reading::and_then, pml_expression::specs::Reading::pick))]
+fn labels<'a>(alloc: Global, tokens: &mut Cursor<'a>) -> Result<Items<Token<'a>>, ReadFault>
     ensures { Reads (reading.labels_from (length tokens.old) [] tokens.old) result tokens.new }
 {
     let mut found = Items::new(alloc);
     for _turn in 0..tokens.left() {
-        if !tokens.is_label() {
+        if !is_label(tokens) {
             return Ok(found);
         }
         let name = tokens.expect(Kind::Name)?;
@@ -65,12 +66,12 @@ fn unless<'a>(
     }
 }
 
-#[tactic(auto, unfolding(crate::specs::ReadingStatements::declared, crate::specs::Reading::and_then))]
+#[tactic(auto, unfolding(crate::specs::ReadingStatements::declared, pml_expression::specs::Reading::and_then))]
 fn declared<'a>(
     alloc: Global,
     depth: usize,
     tokens: &mut Cursor<'a>,
-) -> Result<(Item<'a>, bool, bool), Fault>
+) -> Result<(Item<'a>, bool, bool), ReadFault>
     ensures { Reads (reading.declared depth tokens.old) result tokens.new }
 {
     let start = tokens.ahead();
@@ -83,12 +84,12 @@ fn declared<'a>(
     Ok((item, false, closed))
 }
 
-#[tactic(auto, unfolding(crate::specs::ReadingStatements::exclusive, crate::specs::Reading::and_then))]
+#[tactic(auto, unfolding(crate::specs::ReadingStatements::exclusive, pml_expression::specs::Reading::and_then))]
 fn exclusive<'a>(
     alloc: Global,
     depth: usize,
     tokens: &mut Cursor<'a>,
-) -> Result<(Item<'a>, bool, bool), Fault>
+) -> Result<(Item<'a>, bool, bool), ReadFault>
     ensures { Reads (reading.exclusive depth tokens.old) result tokens.new }
 {
     let start = tokens.ahead();
@@ -102,12 +103,12 @@ fn exclusive<'a>(
     Ok((item, false, false))
 }
 
-#[tactic(auto, unfolding(crate::specs::ReadingStatements::plainly, crate::specs::Reading::and_then))]
+#[tactic(auto, unfolding(crate::specs::ReadingStatements::plainly, pml_expression::specs::Reading::and_then))]
 fn plainly<'a>(
     alloc: Global,
     depth: usize,
     tokens: &mut Cursor<'a>,
-) -> Result<(Basic<'a>, bool), Fault>
+) -> Result<(Basic<'a>, bool), ReadFault>
     ensures { Reads (reading.plainly depth tokens.old) result tokens.new }
 {
     let (x, closed) = action(alloc, depth, tokens)?;
@@ -116,8 +117,8 @@ fn plainly<'a>(
 
 /// The items of a body with a statement.
 #[cycle(body)]
-#[tactic(auto, unfolding(crate::specs::ReadingStatements::seq, crate::specs::Reading::and_then, crate::specs::Reading::pick))]
-fn seq<'a>(alloc: Global, depth: usize, tokens: &mut Cursor<'a>) -> Result<Items<Item<'a>>, Fault>
+#[tactic(auto, unfolding(crate::specs::ReadingStatements::seq, pml_expression::specs::Reading::and_then, pml_expression::specs::Reading::pick))]
+fn seq<'a>(alloc: Global, depth: usize, tokens: &mut Cursor<'a>) -> Result<Items<Item<'a>>, ReadFault>
     ensures { Reads (reading.seq depth (reading.items depth) tokens.old) result tokens.new }
 {
     let (found, step) = body(alloc, depth, tokens)?;
@@ -128,12 +129,12 @@ fn seq<'a>(alloc: Global, depth: usize, tokens: &mut Cursor<'a>) -> Result<Items
 }
 
 #[cycle(body)]
-#[tactic(auto, unfolding(crate::specs::ReadingStatements::options_from, crate::specs::Reading::and_then, crate::specs::Reading::pick))]
+#[tactic(auto, unfolding(crate::specs::ReadingStatements::options_from, pml_expression::specs::Reading::and_then, pml_expression::specs::Reading::pick))]
 fn option_list<'a>(
     alloc: Global,
     depth: usize,
     tokens: &mut Cursor<'a>,
-) -> Result<Items<Seq<'a>>, Fault>
+) -> Result<Items<Seq<'a>>, ReadFault>
     ensures { Reads (reading.options_from depth (reading.items depth) (length tokens.old) [] tokens.old) result tokens.new }
 {
     let mut found = Items::new(alloc);
@@ -150,13 +151,13 @@ fn option_list<'a>(
 
 /// Options, and the word that ends them.
 #[cycle(body)]
-#[tactic(auto, unfolding(crate::specs::ReadingStatements::options, crate::specs::Reading::and_then))]
+#[tactic(auto, unfolding(crate::specs::ReadingStatements::options, pml_expression::specs::Reading::and_then))]
 fn options<'a>(
     alloc: Global,
     depth: usize,
     last: Kind,
     tokens: &mut Cursor<'a>,
-) -> Result<Items<Seq<'a>>, Fault>
+) -> Result<Items<Seq<'a>>, ReadFault>
     ensures { Reads (reading.options depth (reading.items depth) last tokens.old) result tokens.new }
 {
     let found = option_list(alloc, depth, tokens)?;
@@ -166,12 +167,12 @@ fn options<'a>(
 
 /// A body in braces.
 #[cycle(body)]
-#[tactic(auto, unfolding(crate::specs::ReadingStatements::braces, crate::specs::Reading::and_then))]
+#[tactic(auto, unfolding(crate::specs::ReadingStatements::braces, pml_expression::specs::Reading::and_then))]
 fn braces<'a>(
     alloc: Global,
     depth: usize,
     tokens: &mut Cursor<'a>,
-) -> Result<Items<Item<'a>>, Fault>
+) -> Result<Items<Item<'a>>, ReadFault>
     ensures { Reads (reading.braces depth (reading.items depth) tokens.old) result tokens.new }
 {
     tokens.expect(Kind::OpenBrace)?;
@@ -180,39 +181,102 @@ fn braces<'a>(
     Ok(items)
 }
 
+/// The options of an `if`, behind the word.
 #[cycle(body)]
-#[tactic(auto, unfolding(crate::specs::ReadingStatements::basic, crate::specs::ReadingStatements::if_fi, crate::specs::ReadingStatements::do_od, crate::specs::ReadingStatements::block, crate::specs::ReadingStatements::atomic, crate::specs::ReadingStatements::d_step, crate::specs::ReadingStatements::goto, crate::specs::Reading::and_then))]
+#[tactic(auto, unfolding(crate::specs::ReadingStatements::if_fi, pml_expression::specs::Reading::and_then))]
+fn if_fi<'a>(
+    alloc: Global,
+    depth: usize,
+    tokens: &mut Cursor<'a>,
+) -> Result<(Basic<'a>, bool), ReadFault>
+    ensures { Reads (reading.if_fi depth (reading.items depth) tokens.old) result tokens.new }
+{
+    let found = options(alloc, depth, Kind::Fi, tokens)?;
+    Ok((Basic::If(found), true))
+}
+
+/// The options of a `do`, behind the word.
+#[cycle(body)]
+#[tactic(auto, unfolding(crate::specs::ReadingStatements::do_od, pml_expression::specs::Reading::and_then))]
+fn do_od<'a>(
+    alloc: Global,
+    depth: usize,
+    tokens: &mut Cursor<'a>,
+) -> Result<(Basic<'a>, bool), ReadFault>
+    ensures { Reads (reading.do_od depth (reading.items depth) tokens.old) result tokens.new }
+{
+    let found = options(alloc, depth, Kind::Od, tokens)?;
+    Ok((Basic::Do(found), true))
+}
+
+/// A body in braces.
+#[cycle(body)]
+#[tactic(auto, unfolding(crate::specs::ReadingStatements::block, pml_expression::specs::Reading::and_then))]
+fn block<'a>(
+    alloc: Global,
+    depth: usize,
+    tokens: &mut Cursor<'a>,
+) -> Result<(Basic<'a>, bool), ReadFault>
+    ensures { Reads (reading.block depth (reading.items depth) tokens.old) result tokens.new }
+{
+    let items = braces(alloc, depth, tokens)?;
+    Ok((Basic::Block(Seq { items }), true))
+}
+
+/// The body of an `atomic`, behind the word.
+#[cycle(body)]
+#[tactic(auto, unfolding(crate::specs::ReadingStatements::atomic, pml_expression::specs::Reading::and_then))]
+fn atomic<'a>(
+    alloc: Global,
+    depth: usize,
+    tokens: &mut Cursor<'a>,
+) -> Result<(Basic<'a>, bool), ReadFault>
+    ensures { Reads (reading.atomic depth (reading.items depth) tokens.old) result tokens.new }
+{
+    let items = braces(alloc, depth, tokens)?;
+    Ok((Basic::Atomic(Seq { items }), true))
+}
+
+/// The body of a `d_step`, behind the word.
+#[cycle(body)]
+#[tactic(auto, unfolding(crate::specs::ReadingStatements::d_step, pml_expression::specs::Reading::and_then))]
+fn d_step<'a>(
+    alloc: Global,
+    depth: usize,
+    tokens: &mut Cursor<'a>,
+) -> Result<(Basic<'a>, bool), ReadFault>
+    ensures { Reads (reading.d_step depth (reading.items depth) tokens.old) result tokens.new }
+{
+    let items = braces(alloc, depth, tokens)?;
+    Ok((Basic::DStep(Seq { items }), true))
+}
+
+#[cycle(body)]
+#[tactic(auto, unfolding(crate::specs::ReadingStatements::basic, crate::specs::ReadingStatements::goto, pml_expression::specs::Reading::and_then))]
 fn basic<'a>(
     alloc: Global,
     depth: usize,
     tokens: &mut Cursor<'a>,
-) -> Result<(Basic<'a>, bool), Fault>
+) -> Result<(Basic<'a>, bool), ReadFault>
     ensures { Reads (reading.basic depth (reading.items depth) tokens.old) result tokens.new }
 {
     match opening_of(tokens.peek()) {
         Opening::If => {
             tokens.skip();
-            let found = options(alloc, depth, Kind::Fi, tokens)?;
-            Ok((Basic::If(found), true))
+            if_fi(alloc, depth, tokens)
         }
         Opening::Do => {
             tokens.skip();
-            let found = options(alloc, depth, Kind::Od, tokens)?;
-            Ok((Basic::Do(found), true))
+            do_od(alloc, depth, tokens)
         }
-        Opening::Block => {
-            let items = braces(alloc, depth, tokens)?;
-            Ok((Basic::Block(Seq { items }), true))
-        }
+        Opening::Block => block(alloc, depth, tokens),
         Opening::Atomic => {
             tokens.skip();
-            let items = braces(alloc, depth, tokens)?;
-            Ok((Basic::Atomic(Seq { items }), true))
+            atomic(alloc, depth, tokens)
         }
         Opening::DStep => {
             tokens.skip();
-            let items = braces(alloc, depth, tokens)?;
-            Ok((Basic::DStep(Seq { items }), true))
+            d_step(alloc, depth, tokens)
         }
         Opening::Goto => {
             tokens.skip();
@@ -222,17 +286,17 @@ fn basic<'a>(
             tokens.skip();
             Ok((Basic::Break, false))
         }
-        Opening::Other => Ok(plainly(alloc, depth, tokens)?),
+        Opening::Other => plainly(alloc, depth, tokens),
     }
 }
 
 #[cycle(body)]
-#[tactic(auto, unfolding(crate::specs::ReadingStatements::statement, crate::specs::Reading::and_then))]
+#[tactic(auto, unfolding(crate::specs::ReadingStatements::statement, pml_expression::specs::Reading::and_then))]
 fn statement<'a>(
     alloc: Global,
     depth: usize,
     tokens: &mut Cursor<'a>,
-) -> Result<(Item<'a>, bool), Fault>
+) -> Result<(Item<'a>, bool), ReadFault>
     ensures { Reads (reading.statement depth (reading.items depth) tokens.old) result tokens.new }
 {
     let labels = labels(alloc, tokens)?;
@@ -249,13 +313,29 @@ fn statement<'a>(
     ))
 }
 
+/// What a statement gives way to.
 #[cycle(body)]
-#[tactic(auto, unfolding(crate::specs::ReadingStatements::stepped, crate::specs::Reading::and_then, crate::specs::Reading::pick))]
+#[tactic(auto, unfolding(crate::specs::ReadingStatements::escape, pml_expression::specs::Reading::and_then))]
+fn escape<'a>(
+    alloc: Global,
+    depth: usize,
+    tokens: &mut Cursor<'a>,
+) -> Result<(Items<Item<'a>>, bool), ReadFault>
+    ensures { Reads (reading.escape depth (reading.items depth) tokens.old) result tokens.new }
+{
+    tokens.expect(Kind::Unless)?;
+    let (item, closed) = statement(alloc, depth, tokens)?;
+    let items = alone(alloc, item)?;
+    Ok((items, closed))
+}
+
+#[cycle(body)]
+#[tactic(auto, unfolding(crate::specs::ReadingStatements::stepped, pml_expression::specs::Reading::and_then, pml_expression::specs::Reading::pick))]
 fn stepped<'a>(
     alloc: Global,
     depth: usize,
     tokens: &mut Cursor<'a>,
-) -> Result<(Item<'a>, bool, bool), Fault>
+) -> Result<(Item<'a>, bool, bool), ReadFault>
     ensures { Reads (reading.stepped depth (reading.items depth) tokens.old) result tokens.new }
 {
     let start = tokens.ahead();
@@ -264,23 +344,21 @@ fn stepped<'a>(
         return Ok((main, true, closed));
     }
     let main = alone(alloc, main)?;
-    tokens.expect(Kind::Unless)?;
-    let (escape, closed) = statement(alloc, depth, tokens)?;
-    let escape = alone(alloc, escape)?;
+    let (escape, closed) = escape(alloc, depth, tokens)?;
     let item = unless(alloc, main, escape, tokens.since(start));
     Ok((item, true, closed))
 }
 
 #[cycle(body)]
-#[tactic(auto, unfolding(crate::specs::ReadingStatements::item, crate::specs::Reading::pick))]
+#[tactic(auto, unfolding(crate::specs::ReadingStatements::item, pml_expression::specs::Reading::pick))]
 fn item<'a>(
     alloc: Global,
     depth: usize,
     tokens: &mut Cursor<'a>,
-) -> Result<(Item<'a>, bool, bool), Fault>
+) -> Result<(Item<'a>, bool, bool), ReadFault>
     ensures { Reads (reading.item depth (reading.items depth) tokens.old) result tokens.new }
 {
-    if tokens.is_declaration() {
+    if is_declaration(tokens) {
         return Ok(declared(alloc, depth, tokens)?);
     }
     if is_exclusive(tokens.peek()) {
@@ -290,12 +368,12 @@ fn item<'a>(
 }
 
 #[cycle(body)]
-#[tactic(auto, unfolding(crate::specs::ReadingStatements::items_from, crate::specs::Reading::and_then, crate::specs::Reading::pick))]
+#[tactic(auto, unfolding(crate::specs::ReadingStatements::items_from, pml_expression::specs::Reading::and_then, pml_expression::specs::Reading::pick))]
 fn items<'a>(
     alloc: Global,
     depth: usize,
     tokens: &mut Cursor<'a>,
-) -> Result<(Items<Item<'a>>, bool), Fault>
+) -> Result<(Items<Item<'a>>, bool), ReadFault>
     ensures { Reads (reading.items_from depth (reading.items depth) (length tokens.old) false [] tokens.old) result tokens.new }
 {
     let mut found = Items::new(alloc);
@@ -305,7 +383,7 @@ fn items<'a>(
         found.push(x)?;
         step = either(step, is_step);
         let joined = either(closed, is_separator(tokens.peek()));
-        tokens.skip_separators();
+        skip_separators(tokens);
         if is_end(tokens.peek()) {
             return Ok((found, step));
         }
@@ -323,7 +401,7 @@ pub fn body<'a>(
     alloc: Global,
     depth: usize,
     tokens: &mut Cursor<'a>,
-) -> Result<(Items<Item<'a>>, bool), Fault>
+) -> Result<(Items<Item<'a>>, bool), ReadFault>
     ensures { Reads (reading.items depth tokens.old) result tokens.new }
 {
     if depth == 0 {

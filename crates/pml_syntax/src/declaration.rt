@@ -1,56 +1,39 @@
 //! Declarations of variables. Each is read with whether it ends with `}`.
 
 ghost use Rattle.std.specs.Prelude.{◌≡◌, length, []};
-ghost use Rattle.pml_syntax.specs.Reading as expressions;
-ghost use Rattle.pml_syntax.specs.Reading.{Reads};
+ghost use Rattle.pml_expression.specs.Reading as expressions;
+ghost use Rattle.pml_expression.specs.Reading.{Reads};
 ghost use Rattle.pml_syntax.specs.ReadingStatements as reading;
 
-use crate::cursor::Cursor;
-use crate::expr::{expr, reference};
-use crate::fault::Fault;
-use crate::form::Form;
+use crate::ahead::skip_visibility;
+use crate::opener::Opener;
 use crate::starts::scalar;
+use pml_expression::cursor::Cursor;
+use pml_expression::expr::{expr, expr_behind, index, reference};
+use pml_expression::fault::ReadFault;
 use pml_lex::token::{Kind, Token};
 use pml_tree::tree::{Expr, Initial, Reference, Scalar, Sort, Variable};
 use sqlite_items::Items;
 use std::alloc::Global;
 
-/// The index behind a name, if there is one.
-#[tactic(auto, unfolding(crate::specs::Reading::index, crate::specs::Reading::and_then, crate::specs::Reading::pick))]
-pub fn index<'a>(
-    alloc: Global,
-    depth: usize,
-    tokens: &mut Cursor<'a>,
-) -> Result<Option<Expr<'a>>, Fault>
-    ensures { Reads (expressions.index (expressions.expr depth) tokens.old) result tokens.new }
-{
-    if !tokens.sees(Kind::OpenBracket) {
-        return Ok(None);
-    }
-    tokens.expect(Kind::OpenBracket)?;
-    let x = expr(alloc, depth, 1, tokens)?;
-    tokens.expect(Kind::CloseBracket)?;
-    Ok(Some(x))
-}
-
 /// A type, `unsigned`, or the name of a typedef.
-#[tactic(auto, unfolding(crate::specs::ReadingStatements::form_of, crate::specs::Reading::and_then, crate::specs::Reading::pick))]
-pub fn form_of<'a>(tokens: &mut Cursor<'a>) -> Result<Form<'a>, Fault>
-    ensures { Reads (reading.form_of tokens.old) result tokens.new }
+#[tactic(auto, unfolding(crate::specs::ReadingStatements::opener_of, pml_expression::specs::Reading::and_then, pml_expression::specs::Reading::pick))]
+pub fn opener_of<'a>(tokens: &mut Cursor<'a>) -> Result<Opener<'a>, ReadFault>
+    ensures { Reads (reading.opener_of tokens.old) result tokens.new }
 {
     if let Some(s) = scalar(tokens.peek()) {
         tokens.skip();
-        return Ok(Form::Plain(s));
+        return Ok(Opener::Plain(s));
     }
     if tokens.sees(Kind::Unsigned) {
         tokens.expect(Kind::Unsigned)?;
-        return Ok(Form::Unsigned);
+        return Ok(Opener::Unsigned);
     }
-    Ok(Form::Named(tokens.expect(Kind::Name)?))
+    Ok(Opener::Named(tokens.expect(Kind::Name)?))
 }
 
 #[tactic(auto, unfolding(crate::specs::ReadingStatements::scalar_of))]
-fn scalar_of(tokens: &mut Cursor<'_>) -> Result<Scalar, Fault>
+fn scalar_of(tokens: &mut Cursor<'_>) -> Result<Scalar, ReadFault>
     ensures { Reads (reading.scalar_of tokens.old) result tokens.new }
 {
     let Some(s) = scalar(tokens.peek()) else {
@@ -60,8 +43,8 @@ fn scalar_of(tokens: &mut Cursor<'_>) -> Result<Scalar, Fault>
     Ok(s)
 }
 
-#[tactic(auto, unfolding(crate::specs::Reading::list_from, crate::specs::Reading::and_then, crate::specs::Reading::pick))]
-fn scalars(alloc: Global, tokens: &mut Cursor<'_>) -> Result<Items<Scalar>, Fault>
+#[tactic(auto, unfolding(pml_expression::specs::Reading::list_from, pml_expression::specs::Reading::and_then, pml_expression::specs::Reading::pick))]
+fn scalars(alloc: Global, tokens: &mut Cursor<'_>) -> Result<Items<Scalar>, ReadFault>
     ensures { Reads (expressions.list_from reading.scalar_of (length tokens.old) [] tokens.old) result tokens.new }
 {
     let mut found = Items::new(alloc);
@@ -76,30 +59,36 @@ fn scalars(alloc: Global, tokens: &mut Cursor<'_>) -> Result<Items<Scalar>, Faul
     Err(tokens.refuse())
 }
 
-#[tactic(auto, unfolding(crate::specs::ReadingStatements::channel, crate::specs::Reading::and_then))]
+/// The capacity of a channel, up to the types that it carries.
+#[tactic(auto, unfolding(crate::specs::ReadingStatements::capacity, pml_expression::specs::Reading::and_then))]
+fn capacity<'a>(alloc: Global, depth: usize, tokens: &mut Cursor<'a>) -> Result<Expr<'a>, ReadFault>
+    ensures { Reads (reading.capacity depth tokens.old) result tokens.new }
+{
+    let x = expr_behind(alloc, depth, Kind::OpenBracket, tokens)?;
+    tokens.expect_all(&[Kind::CloseBracket, Kind::Of, Kind::OpenBrace])?;
+    Ok(x)
+}
+
+#[tactic(auto, unfolding(crate::specs::ReadingStatements::channel, pml_expression::specs::Reading::and_then))]
 fn channel<'a>(
     alloc: Global,
     depth: usize,
     tokens: &mut Cursor<'a>,
-) -> Result<(Option<Initial<'a>>, bool), Fault>
+) -> Result<(Option<Initial<'a>>, bool), ReadFault>
     ensures { Reads (reading.channel depth tokens.old) result tokens.new }
 {
-    tokens.expect(Kind::OpenBracket)?;
-    let capacity = expr(alloc, depth, 1, tokens)?;
-    tokens.expect(Kind::CloseBracket)?;
-    tokens.expect(Kind::Of)?;
-    tokens.expect(Kind::OpenBrace)?;
+    let capacity = capacity(alloc, depth, tokens)?;
     let types = scalars(alloc, tokens)?;
     tokens.expect(Kind::CloseBrace)?;
     Ok((Some(Initial::Channel(capacity, types)), true))
 }
 
-#[tactic(auto, unfolding(crate::specs::ReadingStatements::initial, crate::specs::Reading::and_then, crate::specs::Reading::pick))]
+#[tactic(auto, unfolding(crate::specs::ReadingStatements::initial, pml_expression::specs::Reading::and_then, pml_expression::specs::Reading::pick))]
 fn initial<'a>(
     alloc: Global,
     depth: usize,
     tokens: &mut Cursor<'a>,
-) -> Result<(Option<Initial<'a>>, bool), Fault>
+) -> Result<(Option<Initial<'a>>, bool), ReadFault>
     ensures { Reads (reading.initial depth tokens.old) result tokens.new }
 {
     if !tokens.sees(Kind::Assign) {
@@ -113,29 +102,28 @@ fn initial<'a>(
     Ok((Some(Initial::Value(x)), false))
 }
 
-#[tactic(auto, unfolding(crate::specs::ReadingStatements::packed_value, crate::specs::Reading::and_then, crate::specs::Reading::pick))]
+#[tactic(auto, unfolding(crate::specs::ReadingStatements::packed_value, pml_expression::specs::Reading::and_then, pml_expression::specs::Reading::pick))]
 fn packed_value<'a>(
     alloc: Global,
     depth: usize,
     tokens: &mut Cursor<'a>,
-) -> Result<Option<Initial<'a>>, Fault>
+) -> Result<Option<Initial<'a>>, ReadFault>
     ensures { Reads (reading.packed_value depth tokens.old) result tokens.new }
 {
     if !tokens.sees(Kind::Assign) {
         return Ok(None);
     }
-    tokens.expect(Kind::Assign)?;
-    let x = expr(alloc, depth, 1, tokens)?;
+    let x = expr_behind(alloc, depth, Kind::Assign, tokens)?;
     Ok(Some(Initial::Value(x)))
 }
 
-#[tactic(auto, unfolding(crate::specs::ReadingStatements::plain, crate::specs::Reading::and_then))]
+#[tactic(auto, unfolding(crate::specs::ReadingStatements::plain, pml_expression::specs::Reading::and_then))]
 fn plain<'a>(
     alloc: Global,
     depth: usize,
     s: Scalar,
     tokens: &mut Cursor<'a>,
-) -> Result<(Variable<'a>, bool), Fault>
+) -> Result<(Variable<'a>, bool), ReadFault>
     ensures { Reads (reading.plain depth s tokens.old) result tokens.new }
 {
     let name = tokens.expect(Kind::Name)?;
@@ -153,13 +141,13 @@ fn plain<'a>(
     ))
 }
 
-#[tactic(auto, unfolding(crate::specs::ReadingStatements::structured, crate::specs::Reading::and_then))]
+#[tactic(auto, unfolding(crate::specs::ReadingStatements::structured, pml_expression::specs::Reading::and_then))]
 fn structured<'a>(
     alloc: Global,
     depth: usize,
     typedef: &Token<'a>,
     tokens: &mut Cursor<'a>,
-) -> Result<(Variable<'a>, bool), Fault>
+) -> Result<(Variable<'a>, bool), ReadFault>
     ensures { Reads (reading.structured depth typedef.now tokens.old) result tokens.new }
 {
     let name = tokens.expect(Kind::Name)?;
@@ -176,12 +164,12 @@ fn structured<'a>(
     ))
 }
 
-#[tactic(auto, unfolding(crate::specs::ReadingStatements::packed, crate::specs::Reading::and_then))]
+#[tactic(auto, unfolding(crate::specs::ReadingStatements::packed, pml_expression::specs::Reading::and_then))]
 fn packed<'a>(
     alloc: Global,
     depth: usize,
     tokens: &mut Cursor<'a>,
-) -> Result<(Variable<'a>, bool), Fault>
+) -> Result<(Variable<'a>, bool), ReadFault>
     ensures { Reads (reading.packed depth tokens.old) result tokens.new }
 {
     let name = tokens.expect(Kind::Name)?;
@@ -203,32 +191,32 @@ fn packed<'a>(
 fn variable<'a>(
     alloc: Global,
     depth: usize,
-    form: &Form<'a>,
+    opener: &Opener<'a>,
     tokens: &mut Cursor<'a>,
-) -> Result<(Variable<'a>, bool), Fault>
-    ensures { Reads (reading.variable_by depth form.now tokens.old) result tokens.new }
+) -> Result<(Variable<'a>, bool), ReadFault>
+    ensures { Reads (reading.variable_by depth opener.now tokens.old) result tokens.new }
 {
-    match form {
-        Form::Plain(s) => plain(alloc, depth, *s, tokens),
-        Form::Unsigned => packed(alloc, depth, tokens),
-        Form::Named(typedef) => structured(alloc, depth, typedef, tokens),
+    match opener {
+        Opener::Plain(s) => plain(alloc, depth, *s, tokens),
+        Opener::Unsigned => packed(alloc, depth, tokens),
+        Opener::Named(typedef) => structured(alloc, depth, typedef, tokens),
     }
 }
 
 /// Variables with commas between them, behind the first ones.
-#[tactic(auto, unfolding(crate::specs::ReadingStatements::variables_from, crate::specs::Reading::and_then, crate::specs::Reading::pick))]
+#[tactic(auto, unfolding(crate::specs::ReadingStatements::variables_from, pml_expression::specs::Reading::and_then, pml_expression::specs::Reading::pick))]
 fn variables<'a>(
     alloc: Global,
     depth: usize,
-    form: &Form<'a>,
+    opener: &Opener<'a>,
     first: Items<Variable<'a>>,
     tokens: &mut Cursor<'a>,
-) -> Result<(Items<Variable<'a>>, bool), Fault>
-    ensures { Reads (reading.variables_from depth (length tokens.old) form.now first.entry tokens.old) result tokens.new }
+) -> Result<(Items<Variable<'a>>, bool), ReadFault>
+    ensures { Reads (reading.variables_from depth (length tokens.old) opener.now first.entry tokens.old) result tokens.new }
 {
     let mut found = first;
     for _turn in 0..tokens.left() {
-        let (v, closed) = variable(alloc, depth, form, tokens)?;
+        let (v, closed) = variable(alloc, depth, opener, tokens)?;
         found.push(v)?;
         if !tokens.sees(Kind::Comma) {
             return Ok((found, closed));
@@ -239,27 +227,27 @@ fn variables<'a>(
 }
 
 /// The variables of a declaration, behind the first ones.
-#[tactic(auto, unfolding(crate::specs::ReadingStatements::declaration_from, crate::specs::Reading::and_then))]
+#[tactic(auto, unfolding(crate::specs::ReadingStatements::declaration_from, pml_expression::specs::Reading::and_then))]
 pub fn declaration<'a>(
     alloc: Global,
     depth: usize,
     first: Items<Variable<'a>>,
     tokens: &mut Cursor<'a>,
-) -> Result<(Items<Variable<'a>>, bool), Fault>
+) -> Result<(Items<Variable<'a>>, bool), ReadFault>
     ensures { Reads (reading.declaration_from depth first.entry tokens.old) result tokens.new }
 {
-    tokens.skip_visibility();
-    let form = form_of(tokens)?;
-    variables(alloc, depth, &form, first, tokens)
+    skip_visibility(tokens);
+    let opener = opener_of(tokens)?;
+    variables(alloc, depth, &opener, first, tokens)
 }
 
 /// References with commas between them.
-#[tactic(auto, unfolding(crate::specs::ReadingStatements::references, crate::specs::Reading::list_from, crate::specs::Reading::and_then, crate::specs::Reading::pick))]
+#[tactic(auto, unfolding(crate::specs::ReadingStatements::references, pml_expression::specs::Reading::list_from, pml_expression::specs::Reading::and_then, pml_expression::specs::Reading::pick))]
 pub fn references<'a>(
     alloc: Global,
     depth: usize,
     tokens: &mut Cursor<'a>,
-) -> Result<Items<Reference<'a>>, Fault>
+) -> Result<Items<Reference<'a>>, ReadFault>
     ensures { Reads (reading.references depth tokens.old) result tokens.new }
 {
     let mut found = Items::new(alloc);

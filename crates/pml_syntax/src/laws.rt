@@ -4,7 +4,8 @@ ghost use Rattle.std.specs.Prelude.{◌≡◌, ◌++◌, List, Bool};
 ghost use Rattle.pml_lex.specs.Word.{Word};
 ghost use Rattle.pml_tree.specs.declared.tree.Basic.{Basic};
 ghost use Rattle.pml_tree.specs.declared.tree.Tree.{Tree};
-ghost use Rattle.pml_syntax.specs.Grammar.{Spells, SpellsBasic, between};
+ghost use Rattle.pml_expression.specs.Grammar.{between};
+ghost use Rattle.pml_syntax.specs.Grammar.{Spells, SpellsBasic};
 
 /// Tokens have one tree at most.
 pub fn one_tree()

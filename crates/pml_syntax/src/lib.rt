@@ -2,14 +2,11 @@
 #![tactic(auto)]
 
 mod action;
+mod ahead;
 mod body;
-mod cursor;
 mod declaration;
-mod expr;
-mod fault;
-mod form;
 pub mod laws;
-mod operators;
+mod opener;
 mod program;
 mod starts;
 mod unit;

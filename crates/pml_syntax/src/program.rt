@@ -5,9 +5,9 @@ ghost use Rattle.pml_tree.specs.declared.tree.Tree.{Tree};
 ghost use Rattle.pml_syntax.specs.Grammar.{Spells};
 ghost use Rattle.pml_syntax.specs.Answer.{Answers, IsOnLine};
 
-use crate::cursor::Cursor;
-use crate::fault::Fault;
 use crate::unit::model;
+use pml_expression::cursor::Cursor;
+use pml_expression::fault::ReadFault;
 use pml_lex::token::Token;
 use pml_tree::tree::Tree;
 use std::alloc::Global;
@@ -16,6 +16,7 @@ use thiserror::Error;
 /// Why there is no tree.
 #[derive(Clone, Copy, Debug, PartialEq, Eq, Error)]
 pub enum SyntaxFault {
+    /// Memory ran out.
     #[error("out of memory")]
     Memory,
     /// No tree spells the tokens. The number is the line of the token that no rule reads, or of the last one, or 1.
@@ -48,7 +49,7 @@ pub fn parse<'a>(alloc: Global, tokens: &'a [Token<'a>]) -> Result<Tree<'a>, Syn
     let mut cursor = Cursor::new(tokens);
     match model(alloc, tokens.len(), &mut cursor) {
         Ok(t) => Ok(t),
-        Err(Fault::Memory) => Err(SyntaxFault::Memory),
-        Err(Fault::Syntax(left)) => Err(SyntaxFault::Syntax(line_at(tokens, left))),
+        Err(ReadFault::Memory) => Err(SyntaxFault::Memory),
+        Err(ReadFault::Syntax(left)) => Err(SyntaxFault::Syntax(line_at(tokens, left))),
     }
 }

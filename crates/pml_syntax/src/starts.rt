@@ -6,10 +6,10 @@ ghost use Rattle.pml_syntax.specs.Starts as starts;
 ghost use Rattle.pml_syntax.specs.ReadingUnits as units;
 
 use pml_lex::token::Kind;
-use pml_tree::tree::Scalar;
+use pml_tree::tree::{Scalar, Search, SendOrder};
 
 /// A statement by its structure. `Other` has none.
-#[derive(Clone, Copy, Debug, PartialEq, Eq)]
+#[derive(Clone, Copy)]
 pub enum Opening {
     If,
     Do,
@@ -22,7 +22,7 @@ pub enum Opening {
 }
 
 /// A statement without structure. `Other` is an expression, if anything.
-#[derive(Clone, Copy, Debug, PartialEq, Eq)]
+#[derive(Clone, Copy)]
 pub enum Deed {
     Else,
     Name,
@@ -35,20 +35,20 @@ pub enum Deed {
 }
 
 /// What a statement that begins with a reference does with it. `Other` goes on with an expression.
-#[derive(Clone, Copy, Debug, PartialEq, Eq)]
+#[derive(Clone, Copy)]
 pub enum Change {
     Assign,
     Increment,
     Decrement,
-    /// `!`, or with true `!!`.
-    Send(bool),
-    /// `?`, or with true `??`.
-    Receive(bool),
+    /// `!` or `!!`.
+    Send(SendOrder),
+    /// `?` or `??`.
+    Receive(Search),
     Other,
 }
 
 /// A unit of a model. `Other` is a declaration, if anything.
-#[derive(Clone, Copy, Debug, PartialEq, Eq)]
+#[derive(Clone, Copy)]
 pub enum Head {
     /// A list of names, or a declaration.
     Mtype,
@@ -58,6 +58,7 @@ pub enum Head {
     Other,
 }
 
+/// The structure of a statement that begins with a token.
 pub fn opening_of(kind: Kind) -> Opening
     ensures { result ≡ starts.opening kind }
 {
@@ -73,6 +74,7 @@ pub fn opening_of(kind: Kind) -> Opening
     }
 }
 
+/// What a statement without structure does, by its first token.
 pub fn deed_of(kind: Kind) -> Deed
     ensures { result ≡ starts.deed kind }
 {
@@ -88,6 +90,7 @@ pub fn deed_of(kind: Kind) -> Deed
     }
 }
 
+/// What is done with a reference, by the token behind it.
 pub fn change_of(kind: Kind) -> Change
     ensures { result ≡ starts.change kind }
 {
@@ -95,14 +98,15 @@ pub fn change_of(kind: Kind) -> Change
         Kind::Assign => Change::Assign,
         Kind::Increment => Change::Increment,
         Kind::Decrement => Change::Decrement,
-        Kind::Bang => Change::Send(false),
-        Kind::BangBang => Change::Send(true),
-        Kind::Query => Change::Receive(false),
-        Kind::QueryQuery => Change::Receive(true),
+        Kind::Bang => Change::Send(SendOrder::Fifo),
+        Kind::BangBang => Change::Send(SendOrder::Sorted),
+        Kind::Query => Change::Receive(Search::First),
+        Kind::QueryQuery => Change::Receive(Search::Matching),
         _ => Change::Other,
     }
 }
 
+/// The unit that begins with a token.
 pub fn head_of(kind: Kind) -> Head
     ensures { result ≡ starts.head kind }
 {
@@ -147,18 +151,21 @@ pub fn is_end(kind: Kind) -> bool
     )
 }
 
+/// Whether a token may stand between two items.
 pub fn is_separator(kind: Kind) -> bool
     ensures { result ≡ grammar.is_separator kind }
 {
     matches!(kind, Kind::Semicolon | Kind::Arrow)
 }
 
+/// Whether a token says who sees a variable.
 pub fn is_visibility(kind: Kind) -> bool
     ensures { result ≡ grammar.is_visibility kind }
 {
     matches!(kind, Kind::Hidden | Kind::Show | Kind::Local)
 }
 
+/// Whether a token is `xr` or `xs`.
 pub fn is_exclusive(kind: Kind) -> bool
     ensures { result ≡ grammar.is_exclusive kind }
 {
@@ -172,6 +179,7 @@ pub fn parts_parameters(kind: Kind) -> bool
     matches!(kind, Kind::Semicolon | Kind::Comma)
 }
 
+/// The type that a token names.
 pub fn scalar(kind: Kind) -> Option<Scalar>
     ensures { result ≡ grammar.scalar kind }
 {

@@ -2,23 +2,25 @@
 
 ghost use Rattle.std.specs.Prelude.{◌≡◌, IfOk, length, []};
 ghost use Rattle.pml_syntax.specs.Grammar as grammar;
-ghost use Rattle.pml_syntax.specs.Reading as expressions;
-ghost use Rattle.pml_syntax.specs.Reading.{Reads};
+ghost use Rattle.pml_expression.specs.Reading as expressions;
+ghost use Rattle.pml_expression.specs.Reading.{Reads};
 ghost use Rattle.pml_syntax.specs.ReadingUnits as reading;
 
+use crate::ahead::{skip_semicolons, skip_visibility};
 use crate::body::body;
-use crate::cursor::Cursor;
-use crate::declaration::{declaration, form_of, index};
-use crate::fault::Fault;
-use crate::form::Form;
+use crate::declaration::{declaration, opener_of};
+use crate::opener::Opener;
 use crate::starts::{Head, declares, head_of, parts_parameters};
+use pml_expression::cursor::Cursor;
+use pml_expression::expr::index;
+use pml_expression::fault::ReadFault;
 use pml_lex::token::{Kind, Token};
 use pml_tree::tree::{Item, Proctype, Scalar, Seq, Sort, Starts, Tree, Unit, Variable};
 use sqlite_items::{Boxed, Items};
 use std::alloc::Global;
 
-#[tactic(auto, unfolding(crate::specs::ReadingUnits::plain_parameter, crate::specs::Reading::and_then))]
-fn plain_parameter<'a>(s: Scalar, tokens: &mut Cursor<'a>) -> Result<Variable<'a>, Fault>
+#[tactic(auto, unfolding(crate::specs::ReadingUnits::plain_parameter, pml_expression::specs::Reading::and_then))]
+fn plain_parameter<'a>(s: Scalar, tokens: &mut Cursor<'a>) -> Result<Variable<'a>, ReadFault>
     ensures { Reads (reading.plain_parameter s tokens.old) result tokens.new }
 {
     let name = tokens.expect(Kind::Name)?;
@@ -30,8 +32,8 @@ fn plain_parameter<'a>(s: Scalar, tokens: &mut Cursor<'a>) -> Result<Variable<'a
     })
 }
 
-#[tactic(auto, unfolding(crate::specs::ReadingUnits::packed_parameter, crate::specs::Reading::and_then))]
-fn packed_parameter<'a>(tokens: &mut Cursor<'a>) -> Result<Variable<'a>, Fault>
+#[tactic(auto, unfolding(crate::specs::ReadingUnits::packed_parameter, pml_expression::specs::Reading::and_then))]
+fn packed_parameter<'a>(tokens: &mut Cursor<'a>) -> Result<Variable<'a>, ReadFault>
     ensures { Reads (reading.packed_parameter tokens.old) result tokens.new }
 {
     let name = tokens.expect(Kind::Name)?;
@@ -46,93 +48,93 @@ fn packed_parameter<'a>(tokens: &mut Cursor<'a>) -> Result<Variable<'a>, Fault>
 }
 
 /// A parameter behind its type.
-fn parameter<'a>(form: &Form<'a>, tokens: &mut Cursor<'a>) -> Result<Variable<'a>, Fault>
-    ensures { Reads (reading.parameter_by form.now tokens.old) result tokens.new }
+fn parameter<'a>(opener: &Opener<'a>, tokens: &mut Cursor<'a>) -> Result<Variable<'a>, ReadFault>
+    ensures { Reads (reading.parameter_by opener.now tokens.old) result tokens.new }
 {
-    match form {
-        Form::Plain(s) => plain_parameter(*s, tokens),
-        Form::Unsigned => packed_parameter(tokens),
-        Form::Named(_) => Err(tokens.refuse()),
+    match opener {
+        Opener::Plain(s) => plain_parameter(*s, tokens),
+        Opener::Unsigned => packed_parameter(tokens),
+        Opener::Named(_) => Err(tokens.refuse()),
     }
 }
 
-#[tactic(auto, unfolding(crate::specs::ReadingUnits::typed_parameter, crate::specs::Reading::and_then))]
-fn typed_parameter<'a>(tokens: &mut Cursor<'a>) -> Result<(Variable<'a>, Form<'a>), Fault>
+#[tactic(auto, unfolding(crate::specs::ReadingUnits::typed_parameter, pml_expression::specs::Reading::and_then))]
+fn typed_parameter<'a>(tokens: &mut Cursor<'a>) -> Result<(Variable<'a>, Opener<'a>), ReadFault>
     ensures { Reads (reading.typed_parameter tokens.old) result tokens.new }
 {
-    tokens.skip_visibility();
-    let form = form_of(tokens)?;
-    let v = parameter(&form, tokens)?;
-    Ok((v, form))
+    skip_visibility(tokens);
+    let opener = opener_of(tokens)?;
+    let v = parameter(&opener, tokens)?;
+    Ok((v, opener))
 }
 
-#[tactic(auto, unfolding(crate::specs::ReadingUnits::next_parameter, crate::specs::Reading::and_then, crate::specs::Reading::pick))]
+#[tactic(auto, unfolding(crate::specs::ReadingUnits::next_parameter, pml_expression::specs::Reading::and_then, pml_expression::specs::Reading::pick))]
 fn next_parameter<'a>(
-    form: Form<'a>,
+    opener: Opener<'a>,
     tokens: &mut Cursor<'a>,
-) -> Result<(Variable<'a>, Form<'a>), Fault>
-    ensures { Reads (reading.next_parameter form.entry tokens.old) result tokens.new }
+) -> Result<(Variable<'a>, Opener<'a>), ReadFault>
+    ensures { Reads (reading.next_parameter opener.entry tokens.old) result tokens.new }
 {
     if declares(tokens.peek()) {
         return typed_parameter(tokens);
     }
-    let v = parameter(&form, tokens)?;
-    Ok((v, form))
+    let v = parameter(&opener, tokens)?;
+    Ok((v, opener))
 }
 
 /// The parameter behind a separator. A comma may leave out its type, which is then that of the one before.
-#[tactic(auto, unfolding(crate::specs::ReadingUnits::more_parameter, crate::specs::Reading::pick))]
+#[tactic(auto, unfolding(crate::specs::ReadingUnits::more_parameter, pml_expression::specs::Reading::pick))]
 fn more_parameter<'a>(
-    form: Form<'a>,
+    opener: Opener<'a>,
     tokens: &mut Cursor<'a>,
-) -> Result<(Variable<'a>, Form<'a>), Fault>
-    ensures { Reads (reading.more_parameter form.entry tokens.old) result tokens.new }
+) -> Result<(Variable<'a>, Opener<'a>), ReadFault>
+    ensures { Reads (reading.more_parameter opener.entry tokens.old) result tokens.new }
 {
     if tokens.sees(Kind::Semicolon) {
         tokens.skip();
         return typed_parameter(tokens);
     }
     tokens.skip();
-    next_parameter(form, tokens)
+    next_parameter(opener, tokens)
 }
 
-#[tactic(auto, unfolding(crate::specs::ReadingUnits::parameters_from, crate::specs::Reading::and_then, crate::specs::Reading::pick))]
+#[tactic(auto, unfolding(crate::specs::ReadingUnits::parameters_from, pml_expression::specs::Reading::and_then, pml_expression::specs::Reading::pick))]
 fn more_parameters<'a>(
-    first_form: Form<'a>,
+    first_opener: Opener<'a>,
     first: Items<Variable<'a>>,
     tokens: &mut Cursor<'a>,
-) -> Result<Items<Variable<'a>>, Fault>
-    ensures { Reads (reading.parameters_from (length tokens.old) first_form.entry first.entry tokens.old) result tokens.new }
+) -> Result<Items<Variable<'a>>, ReadFault>
+    ensures { Reads (reading.parameters_from (length tokens.old) first_opener.entry first.entry tokens.old) result tokens.new }
 {
     let mut found = first;
-    let mut form = first_form;
+    let mut opener = first_opener;
     for _turn in 0..tokens.left() {
         if !parts_parameters(tokens.peek()) {
             return Ok(found);
         }
-        let (v, later) = more_parameter(form, tokens)?;
+        let (v, later) = more_parameter(opener, tokens)?;
         found.push(v)?;
-        form = later;
+        opener = later;
     }
     Ok(found)
 }
 
-#[tactic(auto, unfolding(crate::specs::ReadingUnits::parameters, crate::specs::Reading::and_then, crate::specs::Reading::pick))]
-fn parameters<'a>(alloc: Global, tokens: &mut Cursor<'a>) -> Result<Items<Variable<'a>>, Fault>
+#[tactic(auto, unfolding(crate::specs::ReadingUnits::parameters, pml_expression::specs::Reading::and_then, pml_expression::specs::Reading::pick))]
+fn parameters<'a>(alloc: Global, tokens: &mut Cursor<'a>) -> Result<Items<Variable<'a>>, ReadFault>
     ensures { Reads (reading.parameters tokens.old) result tokens.new }
 {
     let mut first = Items::new(alloc);
     if tokens.sees(Kind::CloseParen) {
         return Ok(first);
     }
-    let (v, form) = typed_parameter(tokens)?;
+    let (v, opener) = typed_parameter(tokens)?;
     first.push(v)?;
-    more_parameters(form, first, tokens)
+    more_parameters(opener, first, tokens)
 }
 
 /// Names with commas between them.
-#[tactic(auto, unfolding(crate::specs::Reading::list_from, crate::specs::Reading::and_then, crate::specs::Reading::pick))]
-fn name_list<'a>(alloc: Global, tokens: &mut Cursor<'a>) -> Result<Items<Token<'a>>, Fault>
+#[tactic(auto, unfolding(pml_expression::specs::Reading::list_from, pml_expression::specs::Reading::and_then, pml_expression::specs::Reading::pick))]
+fn name_list<'a>(alloc: Global, tokens: &mut Cursor<'a>) -> Result<Items<Token<'a>>, ReadFault>
     ensures { Reads (expressions.list_from (expressions.expect Kind.Name) (length tokens.old) [] tokens.old) result tokens.new }
 {
     let mut found = Items::new(alloc);
@@ -147,8 +149,8 @@ fn name_list<'a>(alloc: Global, tokens: &mut Cursor<'a>) -> Result<Items<Token<'
     Err(tokens.refuse())
 }
 
-#[tactic(auto, unfolding(crate::specs::ReadingUnits::names, crate::specs::Reading::and_then))]
-fn names<'a>(alloc: Global, tokens: &mut Cursor<'a>) -> Result<Items<Token<'a>>, Fault>
+#[tactic(auto, unfolding(crate::specs::ReadingUnits::names, pml_expression::specs::Reading::and_then))]
+fn names<'a>(alloc: Global, tokens: &mut Cursor<'a>) -> Result<Items<Token<'a>>, ReadFault>
     ensures { Reads (reading.names tokens.old) result tokens.new }
 {
     tokens.expect(Kind::OpenBrace)?;
@@ -157,8 +159,8 @@ fn names<'a>(alloc: Global, tokens: &mut Cursor<'a>) -> Result<Items<Token<'a>>,
     Ok(found)
 }
 
-#[tactic(auto, unfolding(crate::specs::ReadingUnits::constants, crate::specs::Reading::and_then, crate::specs::Reading::pick))]
-fn constants<'a>(alloc: Global, tokens: &mut Cursor<'a>) -> Result<Unit<'a>, Fault>
+#[tactic(auto, unfolding(crate::specs::ReadingUnits::constants, pml_expression::specs::Reading::and_then, pml_expression::specs::Reading::pick))]
+fn constants<'a>(alloc: Global, tokens: &mut Cursor<'a>) -> Result<Unit<'a>, ReadFault>
     ensures { Reads (reading.constants tokens.old) result tokens.new }
 {
     if tokens.sees(Kind::Assign) {
@@ -168,8 +170,8 @@ fn constants<'a>(alloc: Global, tokens: &mut Cursor<'a>) -> Result<Unit<'a>, Fau
     Ok(Unit::Constants(names(alloc, tokens)?))
 }
 
-#[tactic(auto, unfolding(crate::specs::ReadingUnits::starts, crate::specs::Reading::and_then, crate::specs::Reading::pick))]
-fn starts<'a>(alloc: Global, depth: usize, tokens: &mut Cursor<'a>) -> Result<Starts<'a>, Fault>
+#[tactic(auto, unfolding(crate::specs::ReadingUnits::starts, pml_expression::specs::Reading::and_then, pml_expression::specs::Reading::pick))]
+fn starts<'a>(alloc: Global, depth: usize, tokens: &mut Cursor<'a>) -> Result<Starts<'a>, ReadFault>
     ensures { Reads (reading.starts depth tokens.old) result tokens.new }
 {
     if !tokens.sees(Kind::Active) {
@@ -183,12 +185,12 @@ fn starts<'a>(alloc: Global, depth: usize, tokens: &mut Cursor<'a>) -> Result<St
 }
 
 /// The declarations of a typedef.
-#[tactic(auto, unfolding(crate::specs::ReadingUnits::members_from, crate::specs::Reading::and_then, crate::specs::Reading::pick))]
+#[tactic(auto, unfolding(crate::specs::ReadingUnits::members_from, pml_expression::specs::Reading::and_then, pml_expression::specs::Reading::pick))]
 fn members<'a>(
     alloc: Global,
     depth: usize,
     tokens: &mut Cursor<'a>,
-) -> Result<Items<Variable<'a>>, Fault>
+) -> Result<Items<Variable<'a>>, ReadFault>
     ensures { Reads (reading.members_from depth (length tokens.old) [] tokens.old) result tokens.new }
 {
     let mut found = Items::new(alloc);
@@ -196,7 +198,7 @@ fn members<'a>(
         let (more, _) = declaration(alloc, depth, found, tokens)?;
         found = more;
         let separated = tokens.sees(Kind::Semicolon);
-        tokens.skip_semicolons();
+        skip_semicolons(tokens);
         if tokens.sees(Kind::CloseBrace) {
             return Ok(found);
         }
@@ -207,24 +209,22 @@ fn members<'a>(
     Err(tokens.refuse())
 }
 
-#[tactic(auto, unfolding(crate::specs::ReadingUnits::typedef, crate::specs::Reading::and_then))]
-fn typedef<'a>(alloc: Global, depth: usize, tokens: &mut Cursor<'a>) -> Result<Unit<'a>, Fault>
+#[tactic(auto, unfolding(crate::specs::ReadingUnits::typedef, pml_expression::specs::Reading::and_then))]
+fn typedef<'a>(alloc: Global, depth: usize, tokens: &mut Cursor<'a>) -> Result<Unit<'a>, ReadFault>
     ensures { Reads (reading.typedef depth tokens.old) result tokens.new }
 {
-    tokens.expect(Kind::Typedef)?;
-    let name = tokens.expect(Kind::Name)?;
-    tokens.expect(Kind::OpenBrace)?;
+    let name = tokens.expect_name(Kind::Typedef, Kind::OpenBrace)?;
     let fields = members(alloc, depth, tokens)?;
     tokens.expect(Kind::CloseBrace)?;
     Ok(Unit::Typedef(name, fields))
 }
 
-#[tactic(auto, unfolding(crate::specs::ReadingUnits::items_or_none, crate::specs::Reading::and_then, crate::specs::Reading::pick))]
+#[tactic(auto, unfolding(crate::specs::ReadingUnits::items_or_none, pml_expression::specs::Reading::and_then, pml_expression::specs::Reading::pick))]
 fn items_or_none<'a>(
     alloc: Global,
     depth: usize,
     tokens: &mut Cursor<'a>,
-) -> Result<Items<Item<'a>>, Fault>
+) -> Result<Items<Item<'a>>, ReadFault>
     ensures { Reads (reading.items_or_none depth tokens.old) result tokens.new }
 {
     if tokens.sees(Kind::CloseBrace) {
@@ -235,12 +235,12 @@ fn items_or_none<'a>(
 }
 
 /// The body of a process, with the brace that ends it.
-#[tactic(auto, unfolding(crate::specs::ReadingUnits::body, crate::specs::Reading::and_then))]
+#[tactic(auto, unfolding(crate::specs::ReadingUnits::body, pml_expression::specs::Reading::and_then))]
 fn braced<'a>(
     alloc: Global,
     depth: usize,
     tokens: &mut Cursor<'a>,
-) -> Result<(Items<Item<'a>>, Token<'a>), Fault>
+) -> Result<(Items<Item<'a>>, Token<'a>), ReadFault>
     ensures { Reads (reading.body depth tokens.old) result tokens.new }
 {
     tokens.expect(Kind::OpenBrace)?;
@@ -250,29 +250,39 @@ fn braced<'a>(
 }
 
 /// The name of a proctype, and its parameters.
-#[tactic(auto, unfolding(crate::specs::ReadingUnits::signature, crate::specs::Reading::and_then))]
+#[tactic(auto, unfolding(crate::specs::ReadingUnits::signature, pml_expression::specs::Reading::and_then))]
 fn signature<'a>(
     alloc: Global,
     tokens: &mut Cursor<'a>,
-) -> Result<(Token<'a>, Items<Variable<'a>>), Fault>
+) -> Result<(Token<'a>, Items<Variable<'a>>), ReadFault>
     ensures { Reads (reading.signature tokens.old) result tokens.new }
 {
-    tokens.expect(Kind::Proctype)?;
-    let name = tokens.expect(Kind::Name)?;
-    tokens.expect(Kind::OpenParen)?;
+    let name = tokens.expect_name(Kind::Proctype, Kind::OpenParen)?;
     let found = parameters(alloc, tokens)?;
     tokens.expect(Kind::CloseParen)?;
     Ok((name, found))
 }
 
-#[tactic(auto, unfolding(crate::specs::ReadingUnits::proctype, crate::specs::Reading::and_then))]
-fn proctype<'a>(alloc: Global, depth: usize, tokens: &mut Cursor<'a>) -> Result<Unit<'a>, Fault>
+/// How many processes start, in a box: a large value is slow to prove where it is held.
+fn boxed_starts<'a>(
+    alloc: Global,
+    depth: usize,
+    tokens: &mut Cursor<'a>,
+) -> Result<Boxed<Starts<'a>>, ReadFault>
+    ensures { Reads (reading.starts depth tokens.old) result tokens.new }
+{
+    let found = starts(alloc, depth, tokens)?;
+    Ok(Boxed::new(alloc, found)?)
+}
+
+#[tactic(auto, unfolding(crate::specs::ReadingUnits::proctype, pml_expression::specs::Reading::and_then))]
+fn proctype<'a>(alloc: Global, depth: usize, tokens: &mut Cursor<'a>) -> Result<Unit<'a>, ReadFault>
     ensures { Reads (reading.proctype depth tokens.old) result tokens.new }
 {
-    let starts = Boxed::new(alloc, starts(alloc, depth, tokens)?)?;
+    let starts = boxed_starts(alloc, depth, tokens)?;
     let (name, parameters) = signature(alloc, tokens)?;
     let (items, end) = braced(alloc, depth, tokens)?;
-    Ok(Unit::Process(Proctype {
+    Ok(Unit::Proctype(Proctype {
         starts: starts.into_inner(),
         name,
         parameters,
@@ -281,13 +291,13 @@ fn proctype<'a>(alloc: Global, depth: usize, tokens: &mut Cursor<'a>) -> Result<
     }))
 }
 
-#[tactic(auto, unfolding(crate::specs::ReadingUnits::init, crate::specs::Reading::and_then))]
-fn init<'a>(alloc: Global, depth: usize, tokens: &mut Cursor<'a>) -> Result<Unit<'a>, Fault>
+#[tactic(auto, unfolding(crate::specs::ReadingUnits::init, pml_expression::specs::Reading::and_then))]
+fn init<'a>(alloc: Global, depth: usize, tokens: &mut Cursor<'a>) -> Result<Unit<'a>, ReadFault>
     ensures { Reads (reading.init depth tokens.old) result tokens.new }
 {
     let name = tokens.expect(Kind::Init)?;
     let (items, end) = braced(alloc, depth, tokens)?;
-    Ok(Unit::Process(Proctype {
+    Ok(Unit::Proctype(Proctype {
         starts: Starts::Once,
         name,
         parameters: Items::new(alloc),
@@ -296,16 +306,16 @@ fn init<'a>(alloc: Global, depth: usize, tokens: &mut Cursor<'a>) -> Result<Unit
     }))
 }
 
-#[tactic(auto, unfolding(crate::specs::ReadingUnits::variables, crate::specs::Reading::and_then))]
-fn variables<'a>(alloc: Global, depth: usize, tokens: &mut Cursor<'a>) -> Result<Unit<'a>, Fault>
+#[tactic(auto, unfolding(crate::specs::ReadingUnits::variables, pml_expression::specs::Reading::and_then))]
+fn variables<'a>(alloc: Global, depth: usize, tokens: &mut Cursor<'a>) -> Result<Unit<'a>, ReadFault>
     ensures { Reads (reading.variables depth tokens.old) result tokens.new }
 {
     let (found, _) = declaration(alloc, depth, Items::new(alloc), tokens)?;
     Ok(Unit::Variables(found))
 }
 
-#[tactic(auto, unfolding(crate::specs::ReadingUnits::unit, crate::specs::Reading::pick))]
-fn unit<'a>(alloc: Global, depth: usize, tokens: &mut Cursor<'a>) -> Result<Unit<'a>, Fault>
+#[tactic(auto, unfolding(crate::specs::ReadingUnits::unit, pml_expression::specs::Reading::pick))]
+fn unit<'a>(alloc: Global, depth: usize, tokens: &mut Cursor<'a>) -> Result<Unit<'a>, ReadFault>
     ensures { Reads (reading.unit depth tokens.old) result tokens.new }
 {
     match head_of(tokens.peek()) {
@@ -323,20 +333,20 @@ fn unit<'a>(alloc: Global, depth: usize, tokens: &mut Cursor<'a>) -> Result<Unit
     }
 }
 
-#[tactic(auto, unfolding(crate::specs::ReadingUnits::units_from, crate::specs::Reading::and_then, crate::specs::Reading::pick))]
-fn units<'a>(alloc: Global, depth: usize, tokens: &mut Cursor<'a>) -> Result<Items<Unit<'a>>, Fault>
+#[tactic(auto, unfolding(crate::specs::ReadingUnits::units_from, pml_expression::specs::Reading::and_then, pml_expression::specs::Reading::pick))]
+fn units<'a>(alloc: Global, depth: usize, tokens: &mut Cursor<'a>) -> Result<Items<Unit<'a>>, ReadFault>
     ensures { Reads (reading.units_from depth (length tokens.old) [] tokens.old) result tokens.new }
 {
     let mut found = Items::new(alloc);
     for _turn in 0..tokens.left() {
-        tokens.skip_semicolons();
+        skip_semicolons(tokens);
         if tokens.is_empty() {
             return Ok(found);
         }
         let x = unit(alloc, depth, tokens)?;
         found.push(x)?;
     }
-    tokens.skip_semicolons();
+    skip_semicolons(tokens);
     if !tokens.is_empty() {
         return Err(tokens.refuse());
     }
@@ -344,8 +354,8 @@ fn units<'a>(alloc: Global, depth: usize, tokens: &mut Cursor<'a>) -> Result<Ite
 }
 
 /// The tree of all the tokens that are left. It nests no deeper than `depth`.
-#[tactic(auto, unfolding(crate::specs::ReadingUnits::model, crate::specs::Reading::and_then))]
-pub fn model<'a>(alloc: Global, depth: usize, tokens: &mut Cursor<'a>) -> Result<Tree<'a>, Fault>
+#[tactic(auto, unfolding(crate::specs::ReadingUnits::model, pml_expression::specs::Reading::and_then))]
+pub fn model<'a>(alloc: Global, depth: usize, tokens: &mut Cursor<'a>) -> Result<Tree<'a>, ReadFault>
     ensures { Reads (reading.model depth tokens.old) result tokens.new }
 {
     let units = units(alloc, depth, tokens)?;

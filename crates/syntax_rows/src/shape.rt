@@ -91,7 +91,7 @@ fn write_item(item: &Item<'_>, out: &mut String) -> Result<(), AllocError> {
 }
 
 fn write_unit(unit: &Unit<'_>, out: &mut String) -> Result<(), AllocError> {
-    if let Unit::Process(process) = unit {
+    if let Unit::Proctype(process) = unit {
         for item in process.body.items.as_slice() {
             write_item(item, out)?;
         }

@@ -1,8 +1,8 @@
 use Rattle.std.proofs.Common.{rules, arith}
 use Rattle.std.proofs.lemmas.Grind.{common_steps}
-use Rattle.pml_syntax.specs.Reading.{pick}
+use Rattle.pml_expression.specs.Reading.{pick}
 use Rattle.pml_syntax.specs.ReadingStatements as reading
-use Rattle.pml_syntax.proofs.Turns.{deeper}
+use Rattle.pml_expression.proofs.Turns.{deeper}
 use Rattle.pml_syntax.proofs.action.+run_within.Goals as goal
 
 pub returns-then-not-sees : goal.returns-then-not-sees

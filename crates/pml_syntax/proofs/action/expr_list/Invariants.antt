@@ -1,5 +1,5 @@
 use Rattle.std.proofs.Common.{◌≡◌, length, ◌-◌}
-use Rattle.pml_syntax.specs.Reading as expressions
+use Rattle.pml_expression.specs.Reading as expressions
 use Rattle.pml_syntax.proofs.action.expr_list.Given as goal
 
 abbrev pub invariant-loop-turn : goal.invariant-loop-turn

@@ -1,8 +1,8 @@
 use Rattle.std.proofs.Common.{rules, arith}
 use Rattle.std.proofs.lemmas.Grind.{common_steps}
-use Rattle.pml_syntax.specs.Reading.{and_then, pick}
+use Rattle.pml_expression.specs.Reading.{and_then, pick}
 use Rattle.pml_syntax.specs.ReadingStatements as reading
-use Rattle.pml_syntax.proofs.Turns.{one_more, deeper}
+use Rattle.pml_expression.proofs.Turns.{one_more, deeper}
 use Rattle.pml_syntax.proofs.body.+body.Goals as goal
 
 pub body-returns : goal.body-returns

@@ -2,35 +2,53 @@ use Rattle.std.proofs.Common.{◌≡◌, length, [], ◌+◌, ◌-◌, ◌*◌, 
 use Rattle.pml_syntax.specs.ReadingStatements as reading
 use Rattle.pml_syntax.proofs.body.+body.Given as goal
 
+abbrev pub decreases-atomic : goal.decreases-atomic
+decreases-atomic l = 11 * l.depth + 3
+
 abbrev pub decreases-basic : goal.decreases-basic
-decreases-basic l = 9 * l.depth + 4
+decreases-basic l = 11 * l.depth + 5
+
+abbrev pub decreases-block : goal.decreases-block
+decreases-block l = 11 * l.depth + 3
 
 abbrev pub decreases-body : goal.decreases-body
-decreases-body l = 9 * l.depth
+decreases-body l = 11 * l.depth
 
 abbrev pub decreases-braces : goal.decreases-braces
-decreases-braces l = 9 * l.depth + 2
+decreases-braces l = 11 * l.depth + 2
+
+abbrev pub decreases-d_step : goal.decreases-d_step
+decreases-d_step l = 11 * l.depth + 3
+
+abbrev pub decreases-do_od : goal.decreases-do_od
+decreases-do_od l = 11 * l.depth + 4
+
+abbrev pub decreases-escape : goal.decreases-escape
+decreases-escape l = 11 * l.depth + 7
+
+abbrev pub decreases-if_fi : goal.decreases-if_fi
+decreases-if_fi l = 11 * l.depth + 4
 
 abbrev pub decreases-item : goal.decreases-item
-decreases-item l = 9 * l.depth + 7
+decreases-item l = 11 * l.depth + 9
 
 abbrev pub decreases-items : goal.decreases-items
-decreases-items l = 9 * l.depth + 8
-
-abbrev pub decreases-options : goal.decreases-options
-decreases-options l = 9 * l.depth + 3
+decreases-items l = 11 * l.depth + 10
 
 abbrev pub decreases-option_list : goal.decreases-option_list
-decreases-option_list l = 9 * l.depth + 2
+decreases-option_list l = 11 * l.depth + 2
+
+abbrev pub decreases-options : goal.decreases-options
+decreases-options l = 11 * l.depth + 3
 
 abbrev pub decreases-seq : goal.decreases-seq
-decreases-seq l = 9 * l.depth + 1
+decreases-seq l = 11 * l.depth + 1
 
 abbrev pub decreases-statement : goal.decreases-statement
-decreases-statement l = 9 * l.depth + 5
+decreases-statement l = 11 * l.depth + 6
 
 abbrev pub decreases-stepped : goal.decreases-stepped
-decreases-stepped l = 9 * l.depth + 6
+decreases-stepped l = 11 * l.depth + 8
 
 abbrev pub invariant-option_list-loop-turn : goal.invariant-option_list-loop-turn
 invariant-option_list-loop-turn l =

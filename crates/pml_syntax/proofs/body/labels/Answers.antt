@@ -1,8 +1,8 @@
 use Rattle.std.proofs.Common.{rules, arith}
 use Rattle.std.proofs.lemmas.Grind.{common_steps}
-use Rattle.pml_syntax.specs.Reading.{and_then, pick}
+use Rattle.pml_expression.specs.Reading.{and_then, pick}
 use Rattle.pml_syntax.specs.ReadingStatements.{labels_from}
-use Rattle.pml_syntax.proofs.Turns.{one_more}
+use Rattle.pml_expression.proofs.Turns.{one_more}
 use Rattle.pml_syntax.proofs.body.labels.Goals as goal
 
 pub loop-turn-preserved : goal.loop-turn-preserved

@@ -1,5 +1,5 @@
 use Rattle.std.proofs.Common.{◌≡◌, length, ◌-◌, []}
-use Rattle.pml_syntax.specs.Reading as expressions
+use Rattle.pml_expression.specs.Reading as expressions
 use Rattle.pml_syntax.specs.ReadingStatements as reading
 use Rattle.pml_syntax.proofs.declaration.scalars.Given as goal
 

@@ -1,18 +1,18 @@
 use Rattle.std.proofs.Common.{rules, arith}
 use Rattle.std.proofs.lemmas.Grind.{common_steps}
 use Rattle.pml_syntax.specs.ReadingStatements as reading
-use Rattle.pml_syntax.specs.Reading.{and_then, pick}
-use Rattle.pml_syntax.proofs.Turns.{one_more}
+use Rattle.pml_expression.specs.Reading.{and_then, pick}
+use Rattle.pml_expression.proofs.Turns.{one_more}
 use Rattle.pml_syntax.proofs.declaration.variables.Goals as goal
 
 pub loop-turn-preserved : goal.loop-turn-preserved
 unfolding reading.variables_from and_then pick
 loop-turn-preserved c =
-    let e = one_more (λ n. reading.variables_from c.args.depth n c.args.form.now c.loop-turn.found c.loop-turn.tokens) c.left-turn-end.result c.loop-turn._turn c.loop-turn-test.true c.loop-turn.invariant in
+    let e = one_more (λ n. reading.variables_from c.args.depth n c.args.opener.now c.loop-turn.found c.loop-turn.tokens) c.left-turn-end.result c.loop-turn._turn c.loop-turn-test.true c.loop-turn.invariant in
     first_of (search rules, grind (arith, common_steps))
 
 pub returns-in_err-expect : goal.returns-in_err-expect
 unfolding reading.variables_from and_then pick
 returns-in_err-expect c =
-    let e = one_more (λ n. reading.variables_from c.args.depth n c.args.form.now c.loop-turn.found c.loop-turn.tokens) c.left-turn-end.result c.loop-turn._turn c.loop-turn-test.true c.loop-turn.invariant in
+    let e = one_more (λ n. reading.variables_from c.args.depth n c.args.opener.now c.loop-turn.found c.loop-turn.tokens) c.left-turn-end.result c.loop-turn._turn c.loop-turn-test.true c.loop-turn.invariant in
     first_of (search rules, grind (arith, common_steps))

@@ -1,9 +1,9 @@
 use Rattle.std.proofs.Common.{rules, arith}
 use Rattle.std.proofs.lemmas.Grind.{common_steps}
-use Rattle.pml_syntax.specs.Reading as expressions
+use Rattle.pml_expression.specs.Reading as expressions
 use Rattle.pml_lex.specs.declared.token.Kind.TheVariants as k
-use Rattle.pml_syntax.specs.Reading.{and_then, pick}
-use Rattle.pml_syntax.proofs.Turns.{one_more}
+use Rattle.pml_expression.specs.Reading.{and_then, pick}
+use Rattle.pml_expression.proofs.Turns.{one_more}
 use Rattle.pml_syntax.proofs.unit.name_list.Goals as goal
 
 pub loop-turn-preserved : goal.loop-turn-preserved

@@ -1,5 +1,5 @@
 use Rattle.std.proofs.Common.{◌≡◌, length, ◌-◌, []}
-use Rattle.pml_syntax.specs.Reading as expressions
+use Rattle.pml_expression.specs.Reading as expressions
 use Rattle.pml_lex.specs.declared.token.Kind.TheVariants as k
 use Rattle.pml_syntax.proofs.unit.name_list.Given as goal
 

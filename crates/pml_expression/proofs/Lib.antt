@@ -1,0 +1,7 @@
+pub mod Turns
+pub mod Runs
+pub mod Steps
+pub mod Lists
+pub mod Found
+pub mod Again
+pub mod Kept

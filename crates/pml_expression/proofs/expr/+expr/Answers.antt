@@ -1,0 +1,40 @@
+use Rattle.std.proofs.Common.{rules, arith}
+use Rattle.std.proofs.lemmas.Grind.{common_steps}
+use Rattle.pml_expression.specs.Reading as reading
+use Rattle.pml_expression.specs.Reading.{and_then, pick}
+use Rattle.pml_expression.proofs.Turns.{one_more, deeper}
+use Rattle.pml_expression.proofs.expr.+expr.Goals as goal
+
+pub argument_list-loop-turn-preserved : goal.argument_list-loop-turn-preserved
+unfolding reading.list_from and_then pick
+argument_list-loop-turn-preserved t c =
+    let e = one_more (λ n. reading.list_from (reading.argument (reading.expr c.args.depth)) n c.loop-turn.found c.loop-turn.tokens) c.left-turn-end.result c.loop-turn._turn c.loop-turn-test.true c.loop-turn.invariant in
+    first_of (search rules, grind (arith, common_steps))
+
+pub climb-loop-turn-preserved : goal.climb-loop-turn-preserved
+unfolding reading.climb and_then pick
+climb-loop-turn-preserved t c =
+    let e = one_more (λ n. reading.climb (reading.expr c.args.depth) n c.args.least c.loop-turn.left c.loop-turn.tokens) c.left-turn-end.result c.loop-turn._turn c.loop-turn-test.true c.loop-turn.invariant in
+    first_of (search rules, grind (arith, common_steps))
+
+pub climb-returns-then-level-least : goal.climb-returns-then-level-least
+unfolding reading.climb and_then pick
+climb-returns-then-level-least t c =
+    let e = one_more (λ n. reading.climb (reading.expr c.args.depth) n c.args.least c.loop-turn.left c.loop-turn.tokens) c.left-turn-end.result c.loop-turn._turn c.loop-turn-test.true c.loop-turn.invariant in
+    first_of (search rules, grind (arith, common_steps))
+
+pub climb-returns-in_err-right : goal.climb-returns-in_err-right
+unfolding reading.climb and_then pick
+climb-returns-in_err-right t c =
+    let e = one_more (λ n. reading.climb (reading.expr c.args.depth) n c.args.least c.loop-turn.left c.loop-turn.tokens) c.left-turn-end.result c.loop-turn._turn c.loop-turn-test.true c.loop-turn.invariant in
+    first_of (search rules, grind (arith, common_steps))
+
+pub expr-returns : goal.expr-returns
+unfolding reading.expr reading.level_of and_then
+expr-returns t c = rw (deeper (λ n. reading.expr n c.args.least c.args.tokens.now) c.args.depth (omega arith)) (search rules)
+
+pub fields-loop-turn-preserved : goal.fields-loop-turn-preserved
+unfolding reading.fields_from and_then pick
+fields-loop-turn-preserved t c =
+    let e = one_more (λ n. reading.fields_from (reading.expr c.args.depth) n c.loop-turn.found c.loop-turn.tokens) c.left-turn-end.result c.loop-turn._turn c.loop-turn-test.true c.loop-turn.invariant in
+    first_of (search rules, grind (arith, common_steps))

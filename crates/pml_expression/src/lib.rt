@@ -1,0 +1,7 @@
+//! The expressions that tokens spell, and the steps that every rule of the grammar is read by.
+#![tactic(auto)]
+
+pub mod cursor;
+pub mod expr;
+pub mod fault;
+mod operators;
