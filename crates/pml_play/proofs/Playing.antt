@@ -10,11 +10,11 @@ use Rattle.session.specs.declared.Cause.TheVariants as cause
 use Rattle.session.specs.declared.Broken.{Broken}
 use Rattle.session.specs.declared.Broken.TheVariants as broken
 use Rattle.session.specs.Part.{Part}
-use Rattle.session.specs.Session.{outcome, end_of, refused, not_served, transcript}
+use Rattle.session.specs.Session.{only, end_of, refused, not_served, transcript}
 use Rattle.session.specs.Stands.{Breaks}
 use Rattle.session.specs.Texts.{refusal_line, not_served_line}
 use Rattle.session.specs.Writes.{WriteBreaks, Runs}
-use Rattle.session.proofs.Parts.{Leads-does, puts, memory_breaks, outcome_does}
+use Rattle.session.proofs.Parts.{Leads-does, puts, memory_breaks, only_does}
 use Rattle.session.proofs.Turns.{write_breaks}
 use Rattle.pml_lex.specs.Word.{Word}
 use Rattle.pml_lex.specs.Division.{line_behind}
@@ -93,18 +93,18 @@ module _ (text : List ℕ) (options : Options) (a b : Holdings) where
   rejected NotServed (Ok end) is h = subst (λ (x : End). PlaysWhole text options a b 0 x) (sym h.1) (record {
     part = not_served false;
     is_transcript = of_unserved is;
-    ends = (false, Leads-does (puts not_served_line (outcome (end_of cause.NotServed 0) false) h.0) (outcome_does (end_of cause.NotServed 0) false));
+    ends = (false, Leads-does (puts not_served_line (only (end_of cause.NotServed 0) false) h.0) (only_does (end_of cause.NotServed 0) false));
   })
   rejected NotServed (Err e) is h =
-      breaks_by e (not_served false) (λ part given. when_unserved is given) (write_breaks e not_served_line (outcome (end_of cause.NotServed 0) false) h.0)
+      breaks_by e (not_served false) (λ part given. when_unserved is given) (write_breaks e not_served_line (only (end_of cause.NotServed 0) false) h.0)
   rejected (Refused r line) (Ok end) is h = subst (λ (x : End). PlaysWhole text options a b 0 x) (sym h.1) (record {
     part = refused r line false;
     is_transcript = of_refusal is;
-    ends = (false, Leads-does (puts (refusal_line r) (outcome (end_of (cause.Refused r line) 0) false) h.0) (outcome_does (end_of (cause.Refused r line) 0) false));
+    ends = (false, Leads-does (puts (refusal_line r) (only (end_of (cause.Refused r line) 0) false) h.0) (only_does (end_of (cause.Refused r line) 0) false));
   })
   rejected (Refused r line) (Err e) is h = λ part given.
       let p = when_refused is given in
-      subst (λ (x : List ℕ → Part End). Breaks e a b 0 0 x) (sym p.1) (write_breaks e (refusal_line r) (outcome (end_of (cause.Refused r p.0) 0) false) h.0)
+      subst (λ (x : List ℕ → Part End). Breaks e a b 0 0 x) (sym p.1) (write_breaks e (refusal_line r) (only (end_of (cause.Refused r p.0) 0) false) h.0)
 
   pub rejected_plays : (n : ℕ) (rejection : Rejection) (result : Result End Broken) → n ≡ 0 → IsRejected text rejection → Rejects rejection result a b → PlaysText text options result a b n
   rejected_plays n rejection result zero is h = subst (λ (m : ℕ). PlaysText text options result a b m) (sym zero) (rejected rejection result is h)

@@ -79,6 +79,6 @@ abbrev pub PlaysText : List ℕ → Options → Result End Broken → Holdings �
 PlaysText text options r before after steps = MatchResult r (PlaysWhole text options before after steps) (BreaksOff text options before after steps)
 
 -- a device or memory broke the session over the text off, the end says which, and the count of that device alone has risen
-abbrev pub IsBrokenOff : List ℕ → Options → Holdings → Holdings → End → Type 0
-IsBrokenOff text options before after end = (broken : Broken) × (end.cause ≡ failure_of broken)
+abbrev pub PlaysBroken : List ℕ → Options → Holdings → Holdings → End → Type 0
+PlaysBroken text options before after end = (broken : Broken) × (end.cause ≡ failure_of broken)
     × BreaksOff text options before after end.steps broken × CountsBroken broken before.failures after.failures

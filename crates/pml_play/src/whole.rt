@@ -12,7 +12,7 @@ ghost use Rattle.pml_lex.specs.Cut.{AreTokens};
 ghost use Rattle.pml_syntax.specs.Grammar.{Spells};
 ghost use Rattle.pml_play.specs.Transcript.{IsModel, IsSpelled, IsTranscript};
 ghost use Rattle.pml_play.specs.Plays as plays;
-ghost use Rattle.pml_play.specs.Plays.{IsReady, IsRejected, Rejects, PlaysText, PlaysWhole, IsBrokenOff};
+ghost use Rattle.pml_play.specs.Plays.{IsReady, IsRejected, Rejects, PlaysText, PlaysWhole, PlaysBroken};
 
 use devices::Devices;
 use diagnostics::Refusal;
@@ -203,7 +203,7 @@ pub fn play<D: Devices>(alloc: Global, text: &[u8], options: &Options, devices: 
     ensures left { (left : List ℕ) × (D.holds devices.new).source left }
     ensures whole { result.status ≢ 6 → PlaysWhole text.now options.now (D.holds devices.old) (D.holds devices.new) result.steps result }
     ensures quiet { result.status ≢ 6 → (D.holds devices.new).failures ≡ (D.holds devices.old).failures }
-    ensures broken { result.status ≡ 6 → IsBrokenOff text.now options.now (D.holds devices.old) (D.holds devices.new) result }
+    ensures broken { result.status ≡ 6 → PlaysBroken text.now options.now (D.holds devices.old) (D.holds devices.new) result }
     // No question is ever asked, so no byte of the choices is read, and nothing is recorded.
     ensures unread { Gave (D.holds devices.old).source (D.holds devices.new).source [] }
     ensures unrecorded { Appends (D.holds devices.old).rec (D.holds devices.new).rec [] }

@@ -12,7 +12,7 @@ use Rattle.session.specs.Limits.{most_line_bytes, most_bad_lines}
 use Rattle.session.specs.Lines.{IsPickUpTo}
 use Rattle.session.specs.Part.{Part, preceded, followed}
 use Rattle.session.specs.Machine.{Rules, Outcome, Goes, Faults}
-use Rattle.session.specs.Session.{one_line, ask, outcome, kept, choose, select, stopped, finished, stepped, answered, story, transcript, refused, not_served, end_of, step_text}
+use Rattle.session.specs.Session.{one_line, ask, only, kept, choose, select, stopped, finished, stepped, answered, story, transcript, refused, not_served, end_of, step_text}
 use Rattle.session.specs.Texts.{record_line, list_from, prompt}
 use Rattle.session.specs.Replay.{is_cut_short, IsSameBeginning, CanBeReplayed, HasFewMoves}
 use Rattle.session.proofs.LineReading.{line_end}
@@ -64,7 +64,7 @@ record StopsAt (steps : ℕ) (next : Answer → Bool → List ℕ → Part End) 
 
 module _ {M : Type 0} (text : M → List ℕ) (moves : List M) (few : length moves < 2 ^ 64) (next : Answer → Bool → List ℕ → Part End) (steps : ℕ) (stops : StopsAt steps next) where
   -- no number was picked
-  unpicked : (asked : List Event) (said : Answer) (over : Bool) (left : List ℕ) → Silent asked → ((k : ℕ) → said ≡ answer.Pick k → ⊥) → (kept said over left ≡ outcome said over left)
+  unpicked : (asked : List Event) (said : Answer) (over : Bool) (left : List ℕ) → Silent asked → ((k : ℕ) → said ≡ answer.Pick k → ⊥) → (kept said over left ≡ only said over left)
       → IsSameBeginning (chosen text moves few next asked said over left) (followed (choose text moves false (recorded (chosen text moves few next asked said over left).events)) next)
   unpicked asked said over left silent other is =
       let c = stops.count said other over left in

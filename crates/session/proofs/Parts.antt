@@ -8,7 +8,7 @@ use Rattle.session.specs.declared.Broken.TheVariants as broken
 use Rattle.session.specs.Events.{Event, Role, Put, Recorded, asks, output, front, recorded, steps_in, output_of, bytes_of, record_of, step_of}
 use Rattle.session.specs.Part.{Part, preceded, followed}
 use Rattle.session.specs.Stands.{MovedBy, Begins, Does, Leads, Breaks}
-use Rattle.session.specs.Session.{outcome}
+use Rattle.session.specs.Session.{only}
 use Rattle.session.specs.Reads.{AsksPart, AsksBroken}
 use Rattle.session.proofs.Moving.{Moved-nil, Moved-trans, Moved-piece, Moved-line}
 
@@ -160,9 +160,9 @@ module _ {T : Type 0} where
       begins = λ left now. rw (front-asks asked.bytes false) (asked.more left now);
     }
 
-    -- nothing is done, and this is the outcome
-    pub outcome_moves : (value : T) (over : Bool) → Moved a b [] [] [] → Does a b n n (outcome value over) value over
-    outcome_moves value over none = record { done = []; moved = MovedBy-nil none; is = λ left now. refl }
+    -- nothing is done, and only this comes of it
+    pub only_moves : (value : T) (over : Bool) → Moved a b [] [] [] → Does a b n n (only value over) value over
+    only_moves value over none = record { done = []; moved = MovedBy-nil none; is = λ left now. refl }
 
 module _ {T U : Type 0} {a b : Holdings} {n n' : ℕ} {part : List ℕ → Part T} where
   pub Does-then : {v : T} {over : Bool} (next : T → Bool → List ℕ → Part U) → Does a b n n' part v over → Leads a b n n' (λ rest. followed (part rest) next) (next v over)
@@ -171,5 +171,5 @@ module _ {T U : Type 0} {a b : Holdings} {n n' : ℕ} {part : List ℕ → Part 
   pub Breaks-then : {e : Broken} (next : T → Bool → List ℕ → Part U) → Breaks e a b n n' part → Breaks e a b n n' (λ rest. followed (part rest) next)
   Breaks-then {e = e} next broken = record { done = broken.done; moved = broken.moved; begins = λ left now. Begins-more e broken.done _ _ (broken.begins left now) }
 
-pub outcome_does : {T : Type 0} {a : Holdings} {n : ℕ} (value : T) (over : Bool) → Does a a n n (outcome value over) value over
-outcome_does value over = outcome_moves value over Moved-nil
+pub only_does : {T : Type 0} {a : Holdings} {n : ℕ} (value : T) (over : Bool) → Does a a n n (only value over) value over
+only_does value over = only_moves value over Moved-nil

@@ -6,15 +6,15 @@ use Rattle.session.specs.declared.choice.Answer.TheVariants as answer
 use Rattle.session.specs.Events.{Put, Corrected}
 use Rattle.session.specs.Texts.{prompt, bad_line}
 use Rattle.session.specs.Part.{Part, preceded, followed}
-use Rattle.session.specs.Session.{one_line, ask, after_line, outcome}
+use Rattle.session.specs.Session.{one_line, ask, after_line, only}
 use Rattle.devices.specs.Holdings.{Holdings}
 use Rattle.session.specs.Stands.{Does, Leads, Breaks}
 use Rattle.session.specs.Reads.{AsksPart, AsksBroken}
-use Rattle.session.proofs.Parts.{Leads-trans, Leads-does, Leads-breaks, Does-then, Breaks-then, asks_does, ask_breaks, outcome_does}
+use Rattle.session.proofs.Parts.{Leads-trans, Leads-does, Leads-breaks, Does-then, Breaks-then, asks_does, ask_breaks, only_does}
 
 -- what follows the answer to a bad line
 pub after_bad : ℕ → ℕ → Bool → List ℕ → Part Answer
-after_bad most zero over left = outcome answer.Hundred over left
+after_bad most zero over left = only answer.Hundred over left
 after_bad most (suc tries) over left = preceded (Put Corrected (prompt most) ∷ []) (ask most tries over left)
 
 abbrev by_line : ℕ → ℕ → Bool → List ℕ → Part Answer
@@ -34,13 +34,13 @@ module _ {a b : Holdings} {n n' : ℕ} {whole : List ℕ → Part Answer} where
 
   pub hundredth : (most tries : ℕ) (over : Bool) → tries ≡ 0 → Leads a b n n' whole (after_bad most tries over) → Does a b n n' whole answer.Hundred over
   unfolding after_bad
-  hundredth most zero over none l = Leads-does l (outcome_does answer.Hundred over)
+  hundredth most zero over none l = Leads-does l (only_does answer.Hundred over)
   hundredth most (suc tries) over none l = cc
 
 module _ {a b c : Holdings} {n n' : ℕ} {whole : List ℕ → Part Answer} where
   pub line_said : (most tries : ℕ) (over over' : Bool) (said : Answer) → Leads a b n n' whole (ask most tries over) → AsksPart b c (one_line most over) (Some said) over'
       → Does a c n n' whole said over'
-  line_said most tries over over' said l asked = Leads-does (Leads-trans (to_line most tries over l) (Does-then (after_line (after_bad most tries)) (asks_does asked))) (outcome_does said over')
+  line_said most tries over over' said l asked = Leads-does (Leads-trans (to_line most tries over l) (Does-then (after_line (after_bad most tries)) (asks_does asked))) (only_does said over')
 
   pub line_bad : (most tries : ℕ) (over over' : Bool) → Leads a b n n' whole (ask most tries over) → AsksPart b c (one_line most over) None over'
       → Leads a c n n' whole (λ left. preceded (Put Corrected bad_line ∷ []) (after_bad most tries over' left))

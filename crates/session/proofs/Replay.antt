@@ -16,7 +16,7 @@ use Rattle.session.specs.Limits.{most_line_bytes, most_bad_lines}
 use Rattle.session.specs.Lines.{line_within, read_of, saw_end, reply_of, number_of, number_up_to, is_digit, is_quit, trimmed, picked, IsPickUpTo}
 use Rattle.session.specs.Part.{Part, preceded, followed}
 use Rattle.session.specs.Machine.{Rules, Outcome, Goes, Faults}
-use Rattle.session.specs.Session.{one_line, reply_at, ask, after_line, outcome, kept, choose, select, stopped, finished, stepped, answered, story, step_text}
+use Rattle.session.specs.Session.{one_line, reply_at, ask, after_line, only, kept, choose, select, stopped, finished, stepped, answered, story, step_text}
 use Rattle.session.specs.Texts.{record_line, list_from, prompt}
 use Rattle.session.specs.Replay.{without_corrections, is_complete, IsSameRun, HasFewMoves}
 use Rattle.session.proofs.Parts.{front-append, output-append, recorded-append, front-asks, output-asks, recorded-asks}
@@ -96,7 +96,7 @@ after_silent more silent None over left = silent over left
 
 pub ask_silent : (most tries : ℕ) (over : Bool) (rest : List ℕ) → Silent (ask most tries over rest).events
 unfolding ask replay_of
-ask_silent most zero over rest = Silent-append (one_line most over rest).events _ (line_silent most over rest) (after_silent (outcome answer.Hundred) (λ o l. (refl, refl)) (one_line most over rest).value (one_line most over rest).over (one_line most over rest).left)
+ask_silent most zero over rest = Silent-append (one_line most over rest).events _ (line_silent most over rest) (after_silent (only answer.Hundred) (λ o l. (refl, refl)) (one_line most over rest).value (one_line most over rest).over (one_line most over rest).left)
 ask_silent most (suc tries) over rest = Silent-append (one_line most over rest).events _ (line_silent most over rest)
     (after_silent _ (λ o l. ask_silent most tries o l) (one_line most over rest).value (one_line most over rest).over (one_line most over rest).left)
 
@@ -138,7 +138,7 @@ after_range most more range None over left here = range over left
 
 pub ask_range : (most tries : ℕ) (over : Bool) (rest : List ℕ) → IsPickUpTo most (ask most tries over rest).value
 unfolding ask
-ask_range most zero over rest = after_range most (outcome answer.Hundred) (λ o l. tt) (one_line most over rest).value (one_line most over rest).over (one_line most over rest).left (line_range most over rest)
+ask_range most zero over rest = after_range most (only answer.Hundred) (λ o l. tt) (one_line most over rest).value (one_line most over rest).over (one_line most over rest).left (line_range most over rest)
 ask_range most (suc tries) over rest = after_range most _ (λ o l. ask_range most tries o l) (one_line most over rest).value (one_line most over rest).over (one_line most over rest).left (line_range most over rest)
 
 -- ---- complete runs

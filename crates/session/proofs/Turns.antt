@@ -12,12 +12,12 @@ use Rattle.session.specs.declared.choice.Answer.TheVariants as answer
 use Rattle.session.specs.Events.{Role, Put, Told, Stepped}
 use Rattle.session.specs.Machine.{Rules, Goes, Faults}
 use Rattle.session.specs.Part.{Part, preceded, followed}
-use Rattle.session.specs.Session.{outcome, kept, choose, select, stopped, finished, end_of, cause_of, stepped, step_text, answered, story}
-use Rattle.session.specs.Stands.{Does, Leads, Breaks, Answers}
+use Rattle.session.specs.Session.{only, kept, choose, select, stopped, finished, end_of, cause_of, stepped, step_text, answered, story}
+use Rattle.session.specs.Stands.{Does, Leads, Breaks, PlaysQuestion}
 use Rattle.session.specs.Texts.{record_line, fault_line}
-use Rattle.session.specs.Writes.{WriteBreaks, KeepBreaks, kept_text, StepBreaks, Continues, Acts, Turns, acted, story_after}
+use Rattle.session.specs.Writes.{WriteBreaks, RecordBreaks, kept_text, StepBreaks, Continues, Acts, Turns, acted, story_after}
 use Rattle.session.proofs.Moving.{Moved-piece}
-use Rattle.session.proofs.Parts.{Leads-nil, Leads-same, Leads-trans, Leads-does, Leads-breaks, puts, put_breaks, records, record_breaks, memory_breaks, outcome_moves, outcome_does}
+use Rattle.session.proofs.Parts.{Leads-nil, Leads-same, Leads-trans, Leads-does, Leads-breaks, puts, put_breaks, records, record_breaks, memory_breaks, only_moves, only_does}
 
 -- ---- pieces and records
 
@@ -29,15 +29,15 @@ module _ {a b : Holdings} {n : ℕ} where
   write_breaks broken.Record piece rest w = absurd w
 
   pub keep_does : (said : Answer) (over : Bool) → Moved a b [] [] (kept_text said) → Does a b n n (kept said over) said over
-  keep_does (answer.Pick k) over m = Leads-does (records (record_line k) (outcome (answer.Pick k) over) m) (outcome_does (answer.Pick k) over)
-  keep_does answer.Quit over m = outcome_moves answer.Quit over m
-  keep_does answer.Ended over m = outcome_moves answer.Ended over m
-  keep_does answer.TooLong over m = outcome_moves answer.TooLong over m
-  keep_does answer.Hundred over m = outcome_moves answer.Hundred over m
+  keep_does (answer.Pick k) over m = Leads-does (records (record_line k) (only (answer.Pick k) over) m) (only_does (answer.Pick k) over)
+  keep_does answer.Quit over m = only_moves answer.Quit over m
+  keep_does answer.Ended over m = only_moves answer.Ended over m
+  keep_does answer.TooLong over m = only_moves answer.TooLong over m
+  keep_does answer.Hundred over m = only_moves answer.Hundred over m
 
-  pub keep_breaks : (e : Broken) (said : Answer) (over : Bool) → KeepBreaks e a b (kept_text said) → Breaks e a b n n (kept said over)
+  pub keep_breaks : (e : Broken) (said : Answer) (over : Bool) → RecordBreaks e a b (kept_text said) → Breaks e a b n n (kept said over)
   keep_breaks broken.Memory said over k = memory_breaks _ k
-  keep_breaks broken.Record (answer.Pick m) over k = record_breaks (record_line m) (outcome (answer.Pick m) over) k
+  keep_breaks broken.Record (answer.Pick m) over k = record_breaks (record_line m) (only (answer.Pick m) over) k
   keep_breaks broken.Record answer.Quit over k = let lt = k.1 in absurd (omega arith)
   keep_breaks broken.Record answer.Ended over k = let lt = k.1 in absurd (omega arith)
   keep_breaks broken.Record answer.TooLong over k = let lt = k.1 in absurd (omega arith)
@@ -50,12 +50,12 @@ module _ {a b : Holdings} {n : ℕ} where
 module _ {S M : Type 0} (rules : Rules S M) (at : S) where
   pub select_one : {a : Holdings} {n : ℕ} (moves : List M) (over : Bool) → length moves ≡ 1 → Does a a n n (select rules at moves over) (answer.Pick 1) over
   unfolding select
-  select_one [] over one = outcome_does (answer.Pick 1) over
-  select_one (m ∷ []) over one = outcome_does (answer.Pick 1) over
+  select_one [] over one = only_does (answer.Pick 1) over
+  select_one (m ∷ []) over one = only_does (answer.Pick 1) over
   select_one (m ∷ k ∷ ms) over one = absurd (omega arith)
 
   pub select_many : (a b : Holdings) (moves : List M) (over over' : Bool) (r : Result Answer Broken) → 0 < length moves → (length moves ≡ 1 → ⊥)
-      → Answers r a b (choose (rules.text at) moves over) over' → Answers r a b (select rules at moves over) over'
+      → PlaysQuestion r a b (choose (rules.text at) moves over) over' → PlaysQuestion r a b (select rules at moves over) over'
   unfolding select
   select_many a b [] over over' r some many asked = absurd (omega arith)
   select_many a b (m ∷ []) over over' r some many asked = absurd (many refl)
@@ -154,8 +154,8 @@ module _ {S M : Type 0} (rules : Rules S M) (options : Options) (at : S) (steps 
 
 -- the last piece was written
 pub last_does : {a b : Holdings} {n : ℕ} (piece : List ℕ) (end end' : End) (over : Bool) → end ≡ end' → Moved a b [] piece []
-    → Does a b n n (λ left. preceded (Put Told piece ∷ []) (outcome end' over left)) end over
-last_does piece end end' over is took = rw is (Leads-does (puts piece (outcome end' over) took) (outcome_does end' over))
+    → Does a b n n (λ left. preceded (Put Told piece ∷ []) (only end' over left)) end over
+last_does piece end end' over is took = rw is (Leads-does (puts piece (only end' over) took) (only_does end' over))
 
 -- a turn in which a move was selected
 module _ {S M : Type 0} (rules : Rules S M) (options : Options) (at t : S) (steps steps' : ℕ) (over over' : Bool) (moves : List M) (a b : Holdings) (is : moves ≡ rules.moves at) (some : length moves ≡ 0 → ⊥) (lt : steps < options.limit) where

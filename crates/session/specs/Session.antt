@@ -36,28 +36,28 @@ one_line most false rest =
       left = line.left;
     }
 
--- nothing is done, and this is the outcome
-abbrev pub outcome : {T : Type 0} → T → Bool → List ℕ → Part T
-outcome value over left = record { events = []; value = value; over = over; left = left }
+-- nothing is done, and only this comes of it
+abbrev pub only : {T : Type 0} → T → Bool → List ℕ → Part T
+only value over left = record { events = []; value = value; over = over; left = left }
 
 -- an answer ends a question; a bad line is answered, and then comes what follows it
 abbrev pub after_line : (Bool → List ℕ → Part Answer) → Option Answer → Bool → List ℕ → Part Answer
-after_line more (Some said) over left = outcome said over left
+after_line more (Some said) over left = only said over left
 after_line more None over left = preceded (Put Corrected bad_line ∷ []) (more over left)
 
 -- The question for one of so many moves, where so many more bad lines are answered by a prompt.
 unfoldable pub ask : ℕ → ℕ → Bool → List ℕ → Part Answer
-ask most zero over rest = followed (one_line most over rest) (after_line (outcome answer.Hundred))
+ask most zero over rest = followed (one_line most over rest) (after_line (only answer.Hundred))
 ask most (suc tries) over rest =
     followed (one_line most over rest) (after_line (λ o left. preceded (Put Corrected (prompt most) ∷ []) (ask most tries o left)))
 
 -- an accepted number is recorded
 abbrev pub kept : Answer → Bool → List ℕ → Part Answer
-kept (answer.Pick n) over left = preceded (Recorded (record_line n) ∷ []) (outcome (answer.Pick n) over left)
-kept answer.Quit over left = outcome answer.Quit over left
-kept answer.Ended over left = outcome answer.Ended over left
-kept answer.TooLong over left = outcome answer.TooLong over left
-kept answer.Hundred over left = outcome answer.Hundred over left
+kept (answer.Pick n) over left = preceded (Recorded (record_line n) ∷ []) (only (answer.Pick n) over left)
+kept answer.Quit over left = only answer.Quit over left
+kept answer.Ended over left = only answer.Ended over left
+kept answer.TooLong over left = only answer.TooLong over left
+kept answer.Hundred over left = only answer.Hundred over left
 
 -- the question for one of so many moves: a hundred bad lines end it, all but the last of them answered by a prompt
 abbrev pub question : ℕ → Bool → List ℕ → Part Answer
@@ -71,8 +71,8 @@ choose text moves over rest =
 
 -- one move is taken without asking; of several one is asked for
 unfoldable pub select : {S M : Type 0} → Rules S M → S → List M → Bool → List ℕ → Part Answer
-select rules s [] over rest = outcome (answer.Pick 1) over rest
-select rules s (m ∷ []) over rest = outcome (answer.Pick 1) over rest
+select rules s [] over rest = only (answer.Pick 1) over rest
+select rules s (m ∷ []) over rest = only (answer.Pick 1) over rest
 select rules s (m ∷ n ∷ ms) over rest = choose (rules.text s) (m ∷ n ∷ ms) over rest
 
 -- how a session ends by this cause
@@ -81,7 +81,7 @@ end_of c steps = record { status = status_of c; steps = steps; cause = c }
 
 -- the last line is written
 abbrev pub stopped : Cause → ℕ → Bool → List ℕ → Part End
-stopped c steps over left = preceded (Put Told (last_line c steps) ∷ []) (outcome (end_of c steps) over left)
+stopped c steps over left = preceded (Put Told (last_line c steps) ∷ []) (only (end_of c steps) over left)
 
 -- where there is no move, the end is a valid one or not
 abbrev pub final_cause : Bool → Cause
@@ -95,7 +95,7 @@ final_lines false stuck steps = last_line cause.Invalid steps ++ stuck
 
 -- there is no move
 abbrev pub finished : Bool → List ℕ → ℕ → Bool → List ℕ → Part End
-finished valid stuck steps over left = preceded (Put Told (final_lines valid stuck steps) ∷ []) (outcome (end_of (final_cause valid) steps) over left)
+finished valid stuck steps over left = preceded (Put Told (final_lines valid stuck steps) ∷ []) (only (end_of (final_cause valid) steps) over left)
 
 -- the text of a step: its line, what it printed, the value lines
 abbrev pub step_text : {S M : Type 0} → Rules S M → Options → S → M → ℕ → S → List ℕ → List ℕ
@@ -107,15 +107,15 @@ unfoldable pub stepped : {S M : Type 0} → Rules S M → Options → S → M �
 stepped rules options s m steps later over left (Goes t printed) =
     preceded (Stepped ∷ []) (preceded (Put Told (step_text rules options s m (steps + 1) t printed) ∷ []) (later t))
 stepped rules options s m steps later over left (Faults f) =
-    preceded (Put Told (fault_line f (steps + 1) (rules.text s m)) ∷ []) (outcome (end_of (cause.Fault f) steps) over left)
+    preceded (Put Told (fault_line f (steps + 1) (rules.text s m)) ∷ []) (only (end_of (cause.Fault f) steps) over left)
 
 -- the model is refused, at this line of its text
 abbrev pub refused : Refusal → ℕ → Bool → List ℕ → Part End
-refused r line over left = preceded (Put Told (refusal_line r) ∷ []) (outcome (end_of (cause.Refused r line) 0) over left)
+refused r line over left = preceded (Put Told (refusal_line r) ∷ []) (only (end_of (cause.Refused r line) 0) over left)
 
 -- the model uses something that is not served yet
 abbrev pub not_served : Bool → List ℕ → Part End
-not_served over left = preceded (Put Told not_served_line ∷ []) (outcome (end_of cause.NotServed 0) over left)
+not_served over left = preceded (Put Told not_served_line ∷ []) (only (end_of cause.NotServed 0) over left)
 
 -- why a session ends at an answer that picks no move
 abbrev pub cause_of : Answer → Cause

@@ -54,8 +54,8 @@ Plays r before after steps steps' part over =
     MatchResult r (λ value. Does before after steps steps' part value over) (λ e. Breaks e before after steps steps' part)
 
 -- the same of a part in which no step is taken
-abbrev pub Answers : {T : Type 0} → Result T Broken → Holdings → Holdings → (List ℕ → Part T) → Bool → Type 0
-Answers r before after part over = (steps : ℕ) → Plays r before after steps steps part over
+abbrev pub PlaysQuestion : {T : Type 0} → Result T Broken → Holdings → Holdings → (List ℕ → Part T) → Bool → Type 0
+PlaysQuestion r before after part over = (steps : ℕ) → Plays r before after steps steps part over
 
 -- the counts of failures: that of the device that broke has risen, and no other
 abbrev pub CountsBroken : Broken → FailureCounts → FailureCounts → Type 0

@@ -39,15 +39,15 @@ kept_text answer.TooLong = []
 kept_text answer.Hundred = []
 
 -- a line of the record was broken off, in the same way
-abbrev pub KeepBreaks : Broken → Holdings → Holdings → List ℕ → Type 0
-KeepBreaks broken.Memory before after line = Moved before after [] [] []
-KeepBreaks broken.Source before after line = ⊥
-KeepBreaks broken.Out before after line = ⊥
-KeepBreaks broken.Record before after line = RecordsPart before after line
+abbrev pub RecordBreaks : Broken → Holdings → Holdings → List ℕ → Type 0
+RecordBreaks broken.Memory before after line = Moved before after [] [] []
+RecordBreaks broken.Source before after line = ⊥
+RecordBreaks broken.Out before after line = ⊥
+RecordBreaks broken.Record before after line = RecordsPart before after line
 
 -- the answer was recorded, or its line was broken off
-abbrev pub Keeps : {T : Type 0} → Result T Broken → Holdings → Holdings → Answer → Type 0
-Keeps r before after said = MatchResult r (λ _. Moved before after [] [] (kept_text said)) (λ e. KeepBreaks e before after (kept_text said))
+abbrev pub RecordsAnswer : {T : Type 0} → Result T Broken → Holdings → Holdings → Answer → Type 0
+RecordsAnswer r before after said = MatchResult r (λ _. Moved before after [] [] (kept_text said)) (λ e. RecordBreaks e before after (kept_text said))
 
 -- ---- steps
 

@@ -2,7 +2,7 @@
 ghost use Rattle.std.specs.Prelude.{◌≡◌, ◌++◌, List, ℕ, IfOk, OnOk, IsTrue, get_or};
 ghost use Rattle.std.specs.List.{Contains};
 ghost use Rattle.session.specs.Machine.{Rules};
-ghost use Rattle.session.specs.Takes.{Takes};
+ghost use Rattle.session.specs.Takes.{TakesStep};
 
 use diagnostics::Stop;
 use std::alloc::{AllocError, Global};
@@ -29,7 +29,7 @@ pub trait Machine {
     /// text that it had.
     fn take(&mut self, m: &Self::Move, text: &mut Vec<u8>) -> Result<(), Stop>
         requires present { Contains (rules.moves self.old) m.now }
-        ensures { Takes rules self.old m.now self.new text.old.items text.new.items result };
+        ensures { TakesStep rules self.old m.now self.new text.old.items text.new.items result };
 
     /// Appends the value lines of the last step, of global and of local variables.
     fn values(&self, globals: bool, locals: bool, text: &mut Vec<u8>) -> Result<(), AllocError>

@@ -3,7 +3,7 @@ ghost use Rattle.std.specs.Prelude.{◌≡◌, ◌<◌, ◌≤◌, ◌+◌, ◌^
 ghost use Rattle.session.specs.Lines.{IsPickUpTo};
 ghost use Rattle.session.specs.Session.{choose, select, cause_of, final_lines, final_cause, end_of, transcript};
 ghost use Rattle.session.specs.Replay.{CanBeReplayed, HasFewMoves};
-ghost use Rattle.session.specs.Stands.{Answers, CountsAll};
+ghost use Rattle.session.specs.Stands.{PlaysQuestion, CountsAll};
 ghost use Rattle.session.specs.Texts.{last_line, status_of};
 ghost use Rattle.session.specs.Writes.{Writes, Acts, Turns, Runs, Ends, IsOwnEnd, IsBrokenOff, failure_of};
 
@@ -23,7 +23,7 @@ fn choose<M: Machine, D: Devices>(
     devices: &mut D,
 ) -> Result<Answer, Broken>
     requires { moves.now ≡ M.rules.moves machine.now }
-    ensures part { Answers result (D.holds devices.old) (D.holds devices.new) (choose (M.rules.text machine.now) moves.now over.old) over.new }
+    ensures part { PlaysQuestion result (D.holds devices.old) (D.holds devices.new) (choose (M.rules.text machine.now) moves.now over.old) over.new }
     ensures range { IfOk result (IsPickUpTo (length moves.now)) }
     ensures count { CountsAll result (D.holds devices.old).failures (D.holds devices.new).failures }
 {
@@ -44,7 +44,7 @@ fn select<M: Machine, D: Devices>(
 ) -> Result<Answer, Broken>
     requires all { moves.now ≡ M.rules.moves machine.now }
     requires some { 0 < length moves.now }
-    ensures part { Answers result (D.holds devices.old) (D.holds devices.new) (select M.rules machine.now moves.now over.old) over.new }
+    ensures part { PlaysQuestion result (D.holds devices.old) (D.holds devices.new) (select M.rules machine.now moves.now over.old) over.new }
     ensures range { IfOk result (IsPickUpTo (length moves.now)) }
     ensures count { CountsAll result (D.holds devices.old).failures (D.holds devices.new).failures }
 {

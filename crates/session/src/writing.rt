@@ -3,7 +3,7 @@ ghost use Rattle.std.specs.Prelude.{◌≡◌, ◌+◌, ◌<◌, ◌^◌, ◌++�
 ghost use Rattle.std.specs.List.{Contains};
 ghost use Rattle.session.specs.Stands.{CountsAll};
 ghost use Rattle.session.specs.Texts.{list_from, prompt, last_line};
-ghost use Rattle.session.specs.Writes.{Writes, Keeps, Steps};
+ghost use Rattle.session.specs.Writes.{Writes, RecordsAnswer, Steps};
 
 use crate::draft::{
     Draft, draft_fault, draft_last, draft_list, draft_prompt, draft_record, draft_step,
@@ -73,7 +73,7 @@ pub fn write_stuck<M: Machine, D: Devices>(
 
 /// Records an accepted number.
 pub fn keep<D: Devices>(said: Answer, draft: &mut Draft, devices: &mut D) -> Result<(), Broken>
-    ensures text { Keeps result (D.holds devices.old) (D.holds devices.new) said }
+    ensures text { RecordsAnswer result (D.holds devices.old) (D.holds devices.new) said }
     ensures count { CountsAll result (D.holds devices.old).failures (D.holds devices.new).failures }
 {
     match said {
