@@ -1,6 +1,6 @@
 -- Which conditions refuse a model.
 use Rattle.std.specs.Prelude.{◌≡◌, ◌⊎◌, ℕ, ◌<◌, ◌≤◌, Bool, true, false, List, take, slice_get, Some}
-use Rattle.limits.specs.declared.TheConstants.{MOST_CHANNELS, MOST_PROCESSES}
+use Rattle.profile.specs.declared.TheConstants.{MOST_CHANNELS, MOST_PROCESSES}
 use Rattle.pml_marks.specs.declared.mark.Mark.{Mark}
 use Rattle.pml_names.specs.Env.{env}
 use Rattle.pml_conditions.specs.declared.find.Found.{Found}

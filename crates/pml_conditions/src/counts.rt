@@ -6,7 +6,7 @@ ghost use Rattle.pml_names.specs.Env.{held, stride, length_of};
 ghost use Rattle.pml_names.specs.Totals.{IsTotalled};
 
 use pml_marks::arithmetic::read;
-use limits::{MOST_BITS, MOST_CELLS, MOST_CONSTANTS, MOST_FIELDS, MOST_MESSAGES, MOST_PROCESSES};
+use profile::{MOST_BITS, MOST_CELLS, MOST_CONSTANTS, MOST_FIELDS, MOST_MESSAGES, MOST_PROCESSES};
 use pml_marks::mark::{Constant, Declared, Role, What};
 use pml_names::meaning::{is_special, meaning};
 use pml_names::names::{Names, length_of, stride};

@@ -7,7 +7,7 @@ ghost use Rattle.pml_conditions.specs.Decided.{Finds, begins_there, Decides};
 ghost use Rattle.pml_conditions.specs.declared.condition.Condition.TheVariants as condition;
 
 use crate::counts::capacity;
-use limits::{MOST_CHANNELS, MOST_PROCESSES};
+use profile::{MOST_CHANNELS, MOST_PROCESSES};
 use pml_marks::mark::{Declared, Makes, Mark, What};
 use pml_names::names::{form, length_of};
 use pml_names::table::Table;

@@ -11,20 +11,18 @@ mod words;
 ghost use Rattle.std.specs.Prelude.{◌≡◌, ◌≤◌, ◌<◌, ◌+◌, ◌^◌, ℕ, List, length, count_by, MatchResult, IfOk, IfErr, IfSome};
 ghost use Rattle.pml_lex.specs.Word.{Word};
 ghost use Rattle.pml_lex.specs.Division.{is_line_feed, fresh_from};
-ghost use Rattle.pml_lex.specs.Cut.{AreTokens, IsLeast, IsUncut, IsDivided, most_bytes};
+ghost use Rattle.pml_lex.specs.Cut.{AreTokens, IsLeast, IsUncut, IsDivided};
+ghost use Rattle.profile.specs.declared.TheConstants.{MOST_TEXT_BYTES};
 
 use fault::LexFault;
 use limits::{first_left_out, first_too_deep};
 use piece::{Piece, is_blank, next};
+use profile::MOST_TEXT_BYTES;
 use std::alloc::Global;
 use token::Token;
-
-/// How many bytes a text has at most. A longer one is refused.
-pub const MOST_BYTES: usize = 1_048_576;
-
 /// How many line feeds a text has.
 fn line_feeds(text: &[u8]) -> u32
-    requires { length text.now ≤ most_bytes }
+    requires { length text.now ≤ MOST_TEXT_BYTES }
     ensures value { result ≡ count_by is_line_feed text.now }
     ensures few { result ≤ length text.now }
 {
@@ -50,7 +48,7 @@ fn fresh_behind(fresh: bool, text: &[u8]) -> bool
 
 /// The tokens of a text, as far as it can be cut.
 fn divide<'t>(alloc: Global, text: &'t [u8]) -> Result<Vec<Token<'t>>, LexFault>
-    requires { length text.now ≤ most_bytes }
+    requires { length text.now ≤ MOST_TEXT_BYTES }
     ensures ok { IfOk result (λ v. IsDivided text.now v.items) }
     ensures err { IfErr result (λ f. IsUncut text.now f) }
 {
@@ -91,7 +89,7 @@ pub fn cut<'t>(alloc: Global, text: &'t [u8]) -> Result<Vec<Token<'t>>, LexFault
     // No other tokens can be answered, and where there are some, no fault but want of memory.
     ensures only { (ts : List Word) → AreTokens text.now ts → MatchResult result (λ v. v.items ≡ ts) (λ f. f ≡ LexFault.Memory) }
 {
-    if text.len() > MOST_BYTES {
+    if text.len() > MOST_TEXT_BYTES {
         return Err(LexFault::TooLong);
     }
     let tokens = divide(alloc, text)?;

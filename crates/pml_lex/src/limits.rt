@@ -6,6 +6,7 @@ ghost use Rattle.pml_lex.specs.Limits.{IsOnLine, AreOnLines};
 ghost use Rattle.pml_lex.specs.Word.{Word};
 
 use crate::token::{Kind, Token, same_kind};
+use profile::{MOST_IN_A_ROW, MOST_OPEN};
 
 /// The line of the first token that stands for something that is left out.
 pub fn first_left_out(tokens: &[Token<'_>]) -> Option<u32>
@@ -81,7 +82,7 @@ pub fn first_too_deep(tokens: &[Token<'_>]) -> Option<u32>
     for token in tokens {
         depth = deepen(depth, token.kind());
         row = lengthen(row, token.kind());
-        if depth > 100 || row > 1000 {
+        if depth > MOST_OPEN || row > MOST_IN_A_ROW {
             return Some(token.line());
         }
     }

@@ -2,7 +2,7 @@
 use Rattle.std.specs.Prelude.{ℕ, ◌+◌, ◌*◌, nat_eq, nat_lt, min, Bool, true, false, ◌&&◌, if◌then◌else◌, is_some, List, [], ◌∷◌, ◌++◌, Option, Some, None, pos}
 use Rattle.pml_tree.specs.declared.tree.Sort.{Sort}
 use Rattle.pml_tree.specs.declared.tree.Sort.TheVariants as sort
-use Rattle.limits.specs.declared.TheConstants.{MOST_CELLS}
+use Rattle.profile.specs.declared.TheConstants.{MOST_CELLS}
 use Rattle.pml_marks.specs.Constant.{numeral}
 use Rattle.pml_marks.specs.declared.mark.Constant.{Constant}
 use Rattle.pml_marks.specs.declared.mark.Constant.TheVariants.{Is}

@@ -8,7 +8,7 @@ ghost use Rattle.pml_names.specs.Totals.{IsTotalled};
 use crate::table::Table;
 use crate::thing::{Thing, Variable};
 use crate::totals::{Total, at, grow, grown};
-use limits::MOST_CELLS;
+use profile::MOST_CELLS;
 use pml_marks::arithmetic::read;
 use pml_marks::mark::{Constant, Declared, Mark, Role, What};
 use pml_program::form::Form;

@@ -4,7 +4,7 @@ ghost use Rattle.std.specs.Prelude.{◌≡◌, ℕ, ◌+◌, ◌<◌, ◌^◌, l
 ghost use Rattle.pml_names.specs.Totals.{none, grown, total_at};
 
 use crate::thing::Thing;
-use limits::MOST_CELLS;
+use profile::MOST_CELLS;
 use sqlite_items::Items;
 use std::alloc::AllocError;
 

@@ -8,7 +8,8 @@ use Rattle.session.specs.Part.{Part}
 use Rattle.session.specs.Session.{refused, not_served, transcript}
 use Rattle.pml_lex.specs.Word.{Word}
 use Rattle.pml_lex.specs.Limits.{has_left_out, IsTooDeep}
-use Rattle.pml_lex.specs.Cut.{most_bytes, AreTokens, CannotBeCut, HoldsLeftOut, GoesTooDeep}
+use Rattle.profile.specs.declared.TheConstants.{MOST_TEXT_BYTES}
+use Rattle.pml_lex.specs.Cut.{AreTokens, CannotBeCut, HoldsLeftOut, GoesTooDeep}
 use Rattle.pml_lex.proofs.Steps.{one_list}
 use Rattle.pml_tree.specs.declared.tree.Tree.{Tree}
 use Rattle.pml_syntax.specs.Grammar.{Spells}
@@ -50,7 +51,7 @@ module _ {text : List ℕ} where
   same_tree {t} {u} a b = trees.one_tree t u b.tokens (subst (λ (l : List Word). Spells t l) (same_tokens a.are_tokens b.are_tokens) a.spells) b.spells
 
   -- a text with tokens is refused for none of the reasons before them
-  not_long : {ts : List Word} → AreTokens text ts → most_bytes < length text → ⊥
+  not_long : {ts : List Word} → AreTokens text ts → MOST_TEXT_BYTES < length text → ⊥
   not_long a long = let short = a.short in omega arith
 
   not_uncut : {ts : List Word} {line : ℕ} → AreTokens text ts → CannotBeCut text line → ⊥
@@ -65,13 +66,13 @@ module _ {text : List ℕ} where
   not_deep {ts} a d = a.shallow (subst (λ (l : List Word). IsTooDeep l) (one_list text d.tokens ts d.are_cut a.are_cut) d.deep)
 
   -- the reasons before the tokens exclude one another
-  long_uncut : {line : ℕ} → most_bytes < length text → CannotBeCut text line → ⊥
+  long_uncut : {line : ℕ} → MOST_TEXT_BYTES < length text → CannotBeCut text line → ⊥
   long_uncut long c = let short = c.short in omega arith
 
-  long_left_out : {line : ℕ} → most_bytes < length text → HoldsLeftOut text line → ⊥
+  long_left_out : {line : ℕ} → MOST_TEXT_BYTES < length text → HoldsLeftOut text line → ⊥
   long_left_out long h = let short = h.short in omega arith
 
-  long_deep : {line : ℕ} → most_bytes < length text → GoesTooDeep text line → ⊥
+  long_deep : {line : ℕ} → MOST_TEXT_BYTES < length text → GoesTooDeep text line → ⊥
   long_deep long d = let short = d.short in omega arith
 
   left_out_deep : {line line' : ℕ} → HoldsLeftOut text line → GoesTooDeep text line' → ⊥

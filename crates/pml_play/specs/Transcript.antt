@@ -7,7 +7,8 @@ use Rattle.session.specs.declared.End.{End}
 use Rattle.session.specs.Part.{Part}
 use Rattle.session.specs.Session.{refused, not_served, transcript}
 use Rattle.pml_lex.specs.Word.{Word}
-use Rattle.pml_lex.specs.Cut.{most_bytes, IsLine, AreTokens, CannotBeCut, HoldsLeftOut, GoesTooDeep}
+use Rattle.profile.specs.declared.TheConstants.{MOST_TEXT_BYTES}
+use Rattle.pml_lex.specs.Cut.{IsLine, AreTokens, CannotBeCut, HoldsLeftOut, GoesTooDeep}
 use Rattle.pml_tree.specs.declared.tree.Tree.{Tree}
 use Rattle.pml_syntax.specs.Grammar.{Spells}
 use Rattle.pml_resolve.specs.Model.{numbered_model}
@@ -56,7 +57,7 @@ pub record IsUnfit (text : List ℕ) (refusal : Refusal) : Type 0 where
 
 -- The text is refused so, and the refusal has this line: one of the text's, or 0 where it has none.
 pub data IsRefused (text : List ℕ) : Refusal → ℕ → Type 0 where
-  too_long : most_bytes < length text → IsRefused text r.TextTooLong 0
+  too_long : MOST_TEXT_BYTES < length text → IsRefused text r.TextTooLong 0
   lexical : {line : ℕ} → CannotBeCut text line → IsRefused text r.Lexical line
   left_out : {line : ℕ} → HoldsLeftOut text line → IsRefused text r.LeftOut line
   too_deep : {line : ℕ} → GoesTooDeep text line → IsRefused text r.TooDeep line

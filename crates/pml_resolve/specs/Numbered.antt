@@ -1,6 +1,6 @@
 -- Expressions with each name replaced by what it stands for.
 use Rattle.std.specs.Prelude.{map, ℕ, nat_lt, Bool, true, false, ◌&&◌, is_some, if◌then◌else◌, List, [], ◌∷◌, Option, Some, None, ℤ, pos}
-use Rattle.limits.specs.declared.TheConstants.{MOST_CONSTANTS}
+use Rattle.profile.specs.declared.TheConstants.{MOST_CONSTANTS}
 use Rattle.pml_tree.specs.declared.tree.Expr.{Expr as TreeExpr, Expr-F, fold-Expr}
 use Rattle.pml_tree.specs.declared.tree.Sign.{Sign}
 use Rattle.pml_tree.specs.declared.tree.Sign.TheVariants.{Plus, Minus}

@@ -5,7 +5,7 @@ ghost use Rattle.pml_tree.specs.declared.tree.Reference.{out-Reference};
 ghost use Rattle.pml_resolve.specs.Numbered.{scope, through, placed_by, numbered, numbered_argument, numbered_reference, numbered_step, at_scope, is_local, literal, signed, mtype, read, target, received, turn_of, target_of, no_target};
 
 use crate::reached::Reached;
-use limits::MOST_CONSTANTS;
+use profile::MOST_CONSTANTS;
 use pml_marks::arithmetic::{negative, value as number_value};
 use pml_marks::mark::Constant;
 use pml_names::meaning::{field, is_any, is_count, is_pid, meaning};

@@ -1,6 +1,6 @@
 -- What the variables of a frame begin with.
 use Rattle.std.specs.Prelude.{min, ◌≡◌, ℕ, zero, suc, ◌+◌, ◌-◌, ◌*◌, ◌++◌, List, [], ◌∷◌, length, map, pos, ℤ, false, nat_lt, if◌then◌else◌, Result, Ok, Err}
-use Rattle.limits.specs.declared.TheConstants.{MOST_CHANNELS, MOST_MESSAGES}
+use Rattle.profile.specs.declared.TheConstants.{MOST_CHANNELS, MOST_MESSAGES}
 use Rattle.diagnostics.specs.declared.fault.Fault.{Fault}
 use Rattle.diagnostics.specs.declared.fault.Fault.TheVariants.{TooManyChannels}
 use Rattle.pml_program.specs.declared.form.Form.{Form}

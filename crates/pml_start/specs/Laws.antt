@@ -1,5 +1,5 @@
 -- What is known of the first state.
-use Rattle.limits.specs.declared.TheConstants.{MOST_PROCESSES}
+use Rattle.profile.specs.declared.TheConstants.{MOST_PROCESSES}
 use Rattle.std.specs.Prelude.{◌≡◌, ◌<◌, ◌+◌, ◌++◌, ℕ, List, false, length, take, replicate, pos, Ok, IfOk}
 use Rattle.pml_program.specs.declared.form.Form.{Form}
 use Rattle.pml_program.specs.declared.expr.Expr.{Expr}

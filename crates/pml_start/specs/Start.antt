@@ -1,7 +1,7 @@
 -- The first state of a checked model.
 use Rattle.std.specs.Prelude.{◌≡◌, ℕ, zero, suc, ◌+◌, ◌<◌, ◌≤◌, ◌++◌, List, [], ◌∷◌, length, map, replicate, nat_lt, if◌then◌else◌, Option, None, Some, slice_get, Result, Ok, Err}
 use Rattle.std.specs.List.{AllByRecursion}
-use Rattle.limits.specs.declared.TheConstants.{MOST_PROCESSES}
+use Rattle.profile.specs.declared.TheConstants.{MOST_PROCESSES}
 use Rattle.diagnostics.specs.declared.fault.Fault.{Fault}
 use Rattle.pml_program.specs.declared.program.Slot.{Slot}
 use Rattle.pml_program.specs.declared.program.Proctype.{Proctype}

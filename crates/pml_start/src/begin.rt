@@ -1,14 +1,14 @@
 //! What the variables of the youngest frame begin with. Frame 0 has the globals, and frame n + 1 the variables of process n.
 
 ghost use Rattle.std.specs.Prelude.{◌≡◌, ◌<◌, ◌≤◌, ◌++◌, ◌∷◌, [], IfOk, OnOk, Ok, length, map};
-ghost use Rattle.limits.specs.declared.TheConstants.{MOST_PROCESSES};
+ghost use Rattle.profile.specs.declared.TheConstants.{MOST_PROCESSES};
 ghost use Rattle.pml_store.specs.Store.{HasPlace, frame_at, size_at};
 ghost use Rattle.pml_start.specs.Begin.{Begins, shown, shape, initial_value, cell_in, with_value, with_channel, empty_channel, cell_begun, with_values, fields_begun, variable_begun, variables_begun, frame_begun, size};
 ghost use Rattle.pml_start.specs.Known.{Keeps, is_zero, are_zero, have_no_initials};
 
 use crate::started::Started;
 use diagnostics::Fault;
-use limits::{MOST_CHANNELS, MOST_MESSAGES};
+use profile::{MOST_CHANNELS, MOST_MESSAGES};
 use pml_cells::cells::leaf;
 use pml_channel::channel::Channel;
 use pml_eval::clip::clip;

@@ -6,7 +6,7 @@ ghost use Rattle.pml_start.specs.Start.{Starts, IsDeclared, first_state, process
 
 use crate::begin::begin_frame;
 use crate::started::Started;
-use limits::MOST_PROCESSES;
+use profile::MOST_PROCESSES;
 use pml_program::program::Program;
 use pml_store::store::Store;
 use diagnostics::Stop;

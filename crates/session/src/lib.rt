@@ -9,7 +9,6 @@ use std::alloc::{AllocError, AllocFailed};
 
 mod choice;
 mod draft;
-mod limits;
 mod line;
 mod machine;
 mod question;
@@ -19,7 +18,7 @@ mod writing;
 
 pub use choice::Answer;
 pub use diagnostics::Stop;
-pub use limits::{BAD_LINES, LINE_BYTES};
+pub use profile::{BAD_LINES, LINE_BYTES};
 pub use machine::Machine;
 pub use refused::{refuse, refuse_unserved};
 pub use whole::{end_of, failure, play, run};

@@ -1,4 +1,5 @@
-//! The limits of models and of sessions, in one place. The code and the definitions cite them; docs/DIFFERENCES.md tells users.
+//! The profile: the limits of texts, models and sessions, in one place. The code and the definitions cite them; docs/DIFFERENCES.md tells
+//! users.
 #![tactic(auto)]
 
 /// The cells that the variables of one owner may have: the globals, a proctype or a typedef. Also the elements that an array may have,
@@ -22,3 +23,18 @@ pub const MOST_MESSAGES: u32 = 65_535;
 
 /// The bits that an `unsigned` may have.
 pub const MOST_BITS: u32 = 32;
+
+/// The bytes that a text may have.
+pub const MOST_TEXT_BYTES: usize = 1_048_576;
+
+/// How many of `( [ { if do` may be open at once in a text.
+pub const MOST_OPEN: u32 = 100;
+
+/// The tokens that may stand in a row without one of `; :: { } if fi do od` among them.
+pub const MOST_IN_A_ROW: u32 = 1_000;
+
+/// The bytes that a line of the choices may have, without its line feed.
+pub const LINE_BYTES: usize = 80;
+
+/// The lines that may answer one question badly: the last of them ends the session.
+pub const BAD_LINES: u8 = 100;
