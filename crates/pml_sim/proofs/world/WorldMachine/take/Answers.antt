@@ -24,4 +24,4 @@ pub returns-in-Err : goal.returns-in-Err
 returns-in-Err c =
     let state : State = record { program = c.self.inside.program.now; kind = c.self.inside.kind; store = c.self.inside.store; channels = c.self.inside.channels.items; control = c.self.inside.control } in
     let stands = c.standing_of-standing.ensures ∙ ap (λ o. standing_at (steps_of o) c.self.inside.control) c.proctype_at-proctype.ensures in
-    rw (← c.self.view_is) (stops_on state c.args.m.now _ _ _ _ stands c.as_slice.ensures.value c.forget.ensures c.in-Err.stop c.in-Err.ensures (rw (← c.self.view_is) at c.requires))
+    rw (← c.self.view_is) (stops_on state c.args.m.now _ _ _ _ stands c.as_slice.ensures.value c.forget.ensures c.in-Err.stop c.in-Err.ensures (rw (← c.self.view_is) at c.requires.present))
