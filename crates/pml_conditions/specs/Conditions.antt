@@ -2,6 +2,7 @@
 use Rattle.std.specs.Prelude.{ℕ, ◌+◌, ◌*◌, nat_eq, nat_lt, ◌-◌, Bool, true, false, not, ◌&&◌, ◌||◌, if◌then◌else◌, is_some, is_none, List, [], ◌∷◌, length, take, Option, Some, None, pos, negsuc}
 use mathlib.Core.Bool.{beq}
 use Rattle.profile.specs.declared.TheConstants.{MOST_BITS, MOST_CELLS, MOST_CONSTANTS, MOST_FIELDS, MOST_MESSAGES, MOST_PROCESSES}
+use Rattle.profile.specs.Characters.{percent, backslash, letter_c, letter_d, letter_e, letter_o, letter_u, letter_x}
 use Rattle.pml_tree.specs.declared.tree.Scalar.TheVariants.{Chan}
 use Rattle.pml_marks.specs.Constant.{numeral}
 use Rattle.pml_marks.specs.declared.mark.Constant.{Constant}
@@ -162,7 +163,7 @@ wrong all es o _ = false
 -- ---- run against its parameters, printf against its conversions
 
 abbrev pub is_conversion : ℕ → Bool
-is_conversion c = nat_eq c 100 || (nat_eq c 117 || (nat_eq c 111 || (nat_eq c 120 || (nat_eq c 99 || nat_eq c 101))))
+is_conversion c = nat_eq c letter_d || (nat_eq c letter_u || (nat_eq c letter_o || (nat_eq c letter_x || (nat_eq c letter_c || nat_eq c letter_e))))
 
 -- how many values the text of a printf takes, or none where it has a conversion that is lacking; `\%` begins none
 abbrev pub one_more : Option ℕ → Option ℕ
@@ -170,14 +171,14 @@ one_more None = None
 one_more (Some n) = Some (n + 1)
 
 abbrev pub conversion : ℕ → Option ℕ → Option ℕ
-conversion c rest = if nat_eq c 37 then rest else (if is_conversion c then one_more rest else None)
+conversion c rest = if nat_eq c percent then rest else (if is_conversion c then one_more rest else None)
 
 abbrev pub conversions : List ℕ → Option ℕ
 conversions [] = Some 0
-conversions (c ∷ []) = if nat_eq c 37 then None else Some 0
+conversions (c ∷ []) = if nat_eq c percent then None else Some 0
 conversions (c ∷ d ∷ cs) =
-    if nat_eq c 37 then conversion d (conversions cs)
-    else (if nat_eq c 92 then conversions cs else conversions (d ∷ cs))
+    if nat_eq c percent then conversion d (conversions cs)
+    else (if nat_eq c backslash then conversions cs else conversions (d ∷ cs))
 
 -- n and those of a rest
 abbrev pub with_rest : ℕ → Option ℕ → Option ℕ

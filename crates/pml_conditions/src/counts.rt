@@ -128,21 +128,21 @@ fn conversions(text: &[u8]) -> Option<usize>
     while let [c, more @ ..] = rest {
         match more {
             [] => {
-                if *c == 37 {
+                if *c == b'%' {
                     return None;
                 }
                 return Some(count);
             }
             [d, behind @ ..] => {
-                if *c == 37 {
-                    if *d != 37 {
+                if *c == b'%' {
+                    if *d != b'%' {
                         if !is_conversion(*d) {
                             return None;
                         }
                         count += 1;
                     }
                     rest = behind;
-                } else if *c == 92 {
+                } else if *c == b'\\' {
                     rest = behind;
                 } else {
                     rest = more;

@@ -1,6 +1,7 @@
 -- Words for laws over the definitions.
 use Rattle.std.specs.Prelude.{◌≡◌, ℕ, true, false, List, [], ◌∷◌, ◌++◌, ◌⊎◌}
 use Rattle.std.specs.List.{list_all, list_any}
+use Rattle.profile.specs.Characters.{line_feed}
 use Rattle.pml_lex.specs.Word.{Word}
 use Rattle.pml_lex.specs.Pieces.{is_blank}
 use Rattle.pml_lex.specs.Division.{is_line_feed, line_behind}
@@ -10,7 +11,7 @@ pub record LastLineIsBlank (text : List ℕ) : Type 0 where
   pub above : List ℕ
   pub last : List ℕ
   pub joins : text ≡ above ++ last
-  pub ends : (above ≡ []) ⊎ ((front : List ℕ) × (above ≡ front ++ 10 ∷ []))
+  pub ends : (above ≡ []) ⊎ ((front : List ℕ) × (above ≡ front ++ line_feed ∷ []))
   pub no_feed : list_any is_line_feed last ≡ false
   pub blank : list_all is_blank last ≡ true
 

@@ -39,7 +39,7 @@ pub enum Piece {
 pub(crate) fn is_blank(b: u8) -> bool
     ensures { result ≡ pieces.is_blank b }
 {
-    b == b' ' || (9 <= b && b <= 13)
+    b == b' ' || (b'\t' <= b && b <= b'\r')
 }
 
 pub(crate) fn is_digit(b: u8) -> bool
