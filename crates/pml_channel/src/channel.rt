@@ -43,12 +43,14 @@ impl Channel {
         }
     }
 
+    /// How many messages it holds at most.
     pub fn capacity(&self) -> u16
         ensures { result ≡ self.now.capacity }
     {
         self.capacity
     }
 
+    /// How many messages it holds.
     pub fn len(&self) -> usize
         ensures value { result ≡ length self.now.messages }
         ensures few { length self.now.messages ≤ self.now.capacity }
@@ -56,12 +58,14 @@ impl Channel {
         self.messages.len()
     }
 
+    /// The types of its fields.
     pub fn types(&self) -> &[Form]
         ensures { result.now ≡ self.now.types }
     {
         self.types.as_slice()
     }
 
+    /// The fields of a message, the oldest at place 0.
     pub fn message(&self, place: usize) -> &[i32]
         requires { place < length self.now.messages }
         ensures { slice_get self.now.messages place ≡ Some result.now }

@@ -29,6 +29,7 @@ impl<'a> Model for Parsed<'a> {
 }
 
 impl<'a> Parsed<'a> {
+    /// Keeps a tree.
     pub fn new(alloc: Global, tree: Tree<'a>) -> Result<Parsed<'a>, AllocError>
         ensures { IfOk result (λ parsed. parsed ≡ tree.entry) }
     {

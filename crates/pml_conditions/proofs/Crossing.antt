@@ -16,21 +16,21 @@ use Rattle.pml_marks.specs.declared.mark.What.TheVariants as what
 use Rattle.pml_marks.specs.declared.mark.Mark.{Mark}
 use Rattle.pml_conditions.specs.declared.round.Round.{Round}
 use Rattle.pml_conditions.specs.declared.condition.Condition.TheVariants as condition
-use Rattle.pml_conditions.specs.Structure.{Place, place, placed, labelled, labels, labels_in, rounds, round, top, same_step, elsewhere}
+use Rattle.pml_conditions.specs.Structure.{LabelStep, place, placed, labelled, labels, labels_in, rounds, round, top, same_step, elsewhere}
 use Rattle.pml_conditions.specs.Decided.{Applies, crosses_step}
 use Rattle.pml_conditions.specs.Laws.{IsFirstLabel}
 use Rattle.pml_conditions.proofs.Looking.{back_more}
 
 -- ---- one label more
 
-abbrev is_it : ℕ → List ℕ → Place → Bool
+abbrev is_it : ℕ → List ℕ → LabelStep → Bool
 is_it o n p = nat_eq o p.owner && bytes_eq n p.name
 
 hit : (b : Bool) (x s : Option ℕ) (r q : Option (Option ℕ)) → cond b (Some x) r ≡ Some s → (r ≡ Some s → q ≡ Some s) → cond b (Some x) q ≡ Some s
 hit true x s r q h f = h
 hit false x s r q h f = f h
 
-kept : (ps : List Place) (p : Place) (o : ℕ) (n : List ℕ) (s : Option ℕ) → placed ps o n ≡ Some s → placed (ps ++ p ∷ []) o n ≡ Some s
+kept : (ps : List LabelStep) (p : LabelStep) (o : ℕ) (n : List ℕ) (s : Option ℕ) → placed ps o n ≡ Some s → placed (ps ++ p ∷ []) o n ≡ Some s
 kept [] p o n s h = cc
 kept (q ∷ ps) p o n s h = hit (is_it o n q) q.step s (placed ps o n) (placed (ps ++ p ∷ []) o n) h (kept ps p o n s)
 
@@ -38,30 +38,30 @@ miss : (b : Bool) (x : Option ℕ) (r q a : Option (Option ℕ)) → cond b (Som
 miss true x r q a h f = cc
 miss false x r q a h f = f h
 
-behind : (ps : List Place) (p : Place) (o : ℕ) (n : List ℕ) → placed ps o n ≡ None → placed (ps ++ p ∷ []) o n ≡ cond (is_it o n p) (Some p.step) None
+behind : (ps : List LabelStep) (p : LabelStep) (o : ℕ) (n : List ℕ) → placed ps o n ≡ None → placed (ps ++ p ∷ []) o n ≡ cond (is_it o n p) (Some p.step) None
 behind [] p o n h = refl
 behind (q ∷ ps) p o n h = miss (is_it o n q) q.step (placed ps o n) (placed (ps ++ p ∷ []) o n) (cond (is_it o n p) (Some p.step) None) h (behind ps p o n)
 
-either : (b : Bool) (P : List Place → Type 0) (ps qs : List Place) → P ps → P qs → P (cond b ps qs)
+either : (b : Bool) (P : List LabelStep → Type 0) (ps qs : List LabelStep) → P ps → P qs → P (cond b ps qs)
 either true P ps qs x y = x
 either false P ps qs x y = y
 
-labelled-kept : (ps : List Place) (r : Round) (a : ℕ) (w : What) (o : ℕ) (n : List ℕ) (s : Option ℕ) → placed ps o n ≡ Some s → placed (labelled ps r a w) o n ≡ Some s
+labelled-kept : (ps : List LabelStep) (r : Round) (a : ℕ) (w : What) (o : ℕ) (n : List ℕ) (s : Option ℕ) → placed ps o n ≡ Some s → placed (labelled ps r a w) o n ≡ Some s
 unfolding labelled
 labelled-kept ps r a (what.Label l) o n s h =
-    either (is_some (placed ps a l.text)) (λ (qs : List Place). placed qs o n ≡ Some s) ps (ps ++ place a l.text r.step ∷ []) h (kept ps (place a l.text r.step) o n s h)
+    either (is_some (placed ps a l.text)) (λ (qs : List LabelStep). placed qs o n ≡ Some s) ps (ps ++ place a l.text r.step ∷ []) h (kept ps (place a l.text r.step) o n s h)
 labelled-kept ps r a _ o n s h = h
 
 same_text : (n : List ℕ) → bytes_eq n n ≡ true
 same_text n = (bytes_eq-Decides n n).1 refl
 
-new : (ps : List Place) (x : Option (Option ℕ)) (r : Round) (o : ℕ) (n : List ℕ) → x ≡ None → placed ps o n ≡ None → placed (cond (is_some x) ps (ps ++ place o n r.step ∷ [])) o n ≡ Some r.step
+new : (ps : List LabelStep) (x : Option (Option ℕ)) (r : Round) (o : ℕ) (n : List ℕ) → x ≡ None → placed ps o n ≡ None → placed (cond (is_some x) ps (ps ++ place o n r.step ∷ [])) o n ≡ Some r.step
 new ps (Some y) r o n e h = cc
 new ps None r o n e h =
     behind ps (place o n r.step) o n h
     ∙ ap (λ b. cond (b && bytes_eq n n) (Some r.step) None) (eq-eqb o o refl) ∙ ap (λ b. cond b (Some r.step) None) (same_text n)
 
-labelled-new : (ps : List Place) (r : Round) (o : ℕ) (l : Word) → placed ps o l.text ≡ None → placed (labelled ps r o (what.Label l)) o l.text ≡ Some r.step
+labelled-new : (ps : List LabelStep) (r : Round) (o : ℕ) (l : Word) → placed ps o l.text ≡ None → placed (labelled ps r o (what.Label l)) o l.text ≡ Some r.step
 unfolding labelled
 labelled-new ps r o l h = new ps (placed ps o l.text) r o l.text h h
 
@@ -70,10 +70,10 @@ both true true s h = absurd (h refl refl)
 both true false s h = refl
 both false c s h = refl
 
-labelled-none : (ps : List Place) (r : Round) (a : ℕ) (w : What) (o : ℕ) (n : List ℕ) → placed ps o n ≡ None → ((x : Word) → a ≡ o → w ≡ what.Label x → x.text ≢ n) → placed (labelled ps r a w) o n ≡ None
+labelled-none : (ps : List LabelStep) (r : Round) (a : ℕ) (w : What) (o : ℕ) (n : List ℕ) → placed ps o n ≡ None → ((x : Word) → a ≡ o → w ≡ what.Label x → x.text ≢ n) → placed (labelled ps r a w) o n ≡ None
 unfolding labelled
 labelled-none ps r a (what.Label l) o n h free =
-    either (is_some (placed ps a l.text)) (λ (qs : List Place). placed qs o n ≡ None) ps (ps ++ place a l.text r.step ∷ []) h
+    either (is_some (placed ps a l.text)) (λ (qs : List LabelStep). placed qs o n ≡ None) ps (ps ++ place a l.text r.step ∷ []) h
     (behind ps (place a l.text r.step) o n h
     ∙ both (nat_eq o a) (bytes_eq n l.text) r.step
     (λ p q. free l (sym (eqb-true o a p)) refl (sym ((bytes_eq-Decides n l.text).0 q))))
@@ -140,7 +140,7 @@ pub record Stands (ms : List Mark) (o i : ℕ) (n : List ℕ) (s : Option ℕ) :
   pub step : s ≡ (round (take j ms)).step
   pub none : placed (labels (reverse (take j ms))) o n ≡ None
 
-old_or_new : (x : Option (Option ℕ)) (ps : List Place) (p : Place) (o : ℕ) (n : List ℕ) (s : Option ℕ) → x ≡ placed ps o n → placed (ps ++ p ∷ []) o n ≡ Some s → (placed ps o n ≡ Some s) ⊎ ((placed ps o n ≡ None) × (is_it o n p ≡ true) × (s ≡ p.step))
+old_or_new : (x : Option (Option ℕ)) (ps : List LabelStep) (p : LabelStep) (o : ℕ) (n : List ℕ) (s : Option ℕ) → x ≡ placed ps o n → placed (ps ++ p ∷ []) o n ≡ Some s → (placed ps o n ≡ Some s) ⊎ ((placed ps o n ≡ None) × (is_it o n p ≡ true) × (s ≡ p.step))
 old_or_new (Some t) ps p o n s e h = inl (let k : placed (ps ++ p ∷ []) o n ≡ Some t = kept ps p o n t (sym e) in cc)
 old_or_new None ps p o n s e h = inr (fresh (is_it o n p) (sym (behind ps p o n (sym e)) ∙ h))
   where
@@ -152,7 +152,7 @@ and_true : (b c : Bool) → (b && c) ≡ true → (b ≡ true) × (c ≡ true)
 and_true true c h = (refl, h)
 and_true false c h = absurd cc
 
-pub record New (ps : List Place) (r : Round) (a : ℕ) (w : What) (o : ℕ) (n : List ℕ) (s : Option ℕ) : Type 0 where
+pub record New (ps : List LabelStep) (r : Round) (a : ℕ) (w : What) (o : ℕ) (n : List ℕ) (s : Option ℕ) : Type 0 where
   pub l : Word
   pub owner : a ≡ o
   pub is : w ≡ what.Label l
@@ -160,7 +160,7 @@ pub record New (ps : List Place) (r : Round) (a : ℕ) (w : What) (o : ℕ) (n :
   pub step : s ≡ r.step
   pub none : placed ps o n ≡ None
 
-by_test : (b : Bool) (ps : List Place) (r : Round) (a : ℕ) (l : Word) (o : ℕ) (n : List ℕ) (s : Option ℕ) → placed (cond b ps (ps ++ place a l.text r.step ∷ [])) o n ≡ Some s → (placed ps o n ≡ Some s) ⊎ New ps r a (what.Label l) o n s
+by_test : (b : Bool) (ps : List LabelStep) (r : Round) (a : ℕ) (l : Word) (o : ℕ) (n : List ℕ) (s : Option ℕ) → placed (cond b ps (ps ++ place a l.text r.step ∷ [])) o n ≡ Some s → (placed ps o n ≡ Some s) ⊎ New ps r a (what.Label l) o n s
 by_test true ps r a l o n s h = inl h
 by_test false ps r a l o n s h = elim (old_or_new (placed ps o n) ps (place a l.text r.step) o n s refl h) [
   | inl x ↦ inl x
@@ -168,7 +168,7 @@ by_test false ps r a l o n s h = elim (old_or_new (placed ps o n) ps (place a l.
       inr (record { l = l; owner = sym (eqb-true o a t.0); is = refl; text = sym ((bytes_eq-Decides n l.text).0 t.1); step = x.2; none = x.0 })
 ]
 
-labelled-back : (ps : List Place) (r : Round) (a : ℕ) (w : What) (o : ℕ) (n : List ℕ) (s : Option ℕ) → placed (labelled ps r a w) o n ≡ Some s → (placed ps o n ≡ Some s) ⊎ New ps r a w o n s
+labelled-back : (ps : List LabelStep) (r : Round) (a : ℕ) (w : What) (o : ℕ) (n : List ℕ) (s : Option ℕ) → placed (labelled ps r a w) o n ≡ Some s → (placed ps o n ≡ Some s) ⊎ New ps r a w o n s
 unfolding labelled
 labelled-back ps r a (what.Label l) o n s h = by_test (is_some (placed ps a l.text)) ps r a l o n s h
 labelled-back ps r a _ o n s h = inl h
@@ -188,7 +188,7 @@ stands_there ms o n s d (suc i) le h =
       | inr x ↦ record { j = i; l = x.l; before = omega arith; stands = at ∙ ap (λ a. Some (mark a m.what)) x.owner ∙ ap (λ w. Some (mark o w)) x.is; text = x.text; step = x.step; none = x.none }
     ]
 
-some_label : (x : Option (Option ℕ)) (ps : List Place) (r : Round) (o : ℕ) (l : Word) → x ≡ placed ps o l.text → (t : Option ℕ) × (placed (labelled ps r o (what.Label l)) o l.text ≡ Some t)
+some_label : (x : Option (Option ℕ)) (ps : List LabelStep) (r : Round) (o : ℕ) (l : Word) → x ≡ placed ps o l.text → (t : Option ℕ) × (placed (labelled ps r o (what.Label l)) o l.text ≡ Some t)
 some_label (Some t) ps r o l e = (t, labelled-kept ps r o (what.Label l) o l.text t (sym e))
 some_label None ps r o l e = (r.step, labelled-new ps r o l (sym e))
 

@@ -40,33 +40,33 @@ round ms = top (rounds (reverse ms))
 -- ---- labels
 
 -- a label, and the innermost d_step round it
-pub record Place : Type 0 where
+pub record LabelStep : Type 0 where
   pub owner : ℕ
   pub name : List ℕ
   pub step : Option ℕ
 
-abbrev pub place : ℕ → List ℕ → Option ℕ → Place
+abbrev pub place : ℕ → List ℕ → Option ℕ → LabelStep
 place o n s = record { owner = o; name = n; step = s }
 
-abbrev pub place_of : (ℕ × Bor (List ℕ)) × Option ℕ → Place
+abbrev pub place_of : (ℕ × Bor (List ℕ)) × Option ℕ → LabelStep
 place_of p = place p.0.0 p.0.1.now p.1
 
-abbrev pub places_of : List ((ℕ × Bor (List ℕ)) × Option ℕ) → List Place
+abbrev pub places_of : List ((ℕ × Bor (List ℕ)) × Option ℕ) → List LabelStep
 places_of ps = map place_of ps
 
 -- the innermost d_step round a label, if there is the label
-abbrev pub placed : List Place → ℕ → List ℕ → Option (Option ℕ)
+abbrev pub placed : List LabelStep → ℕ → List ℕ → Option (Option ℕ)
 placed [] o n = None
 placed (p ∷ ps) o n = if nat_eq o p.owner && bytes_eq n p.name then Some p.step else placed ps o n
 
 -- of two labels of one name the first counts
-unfoldable pub labelled : List Place → Round → ℕ → What → List Place
+unfoldable pub labelled : List LabelStep → Round → ℕ → What → List LabelStep
 labelled ps r o (what.Label l) =
     if is_some (placed ps o l.text) then ps else ps ++ place o l.text r.step ∷ []
 labelled ps r o _ = ps
 
 -- the labels of marks that are given from the last to the first
-abbrev pub labels : List Mark → List Place
+abbrev pub labels : List Mark → List LabelStep
 labels [] = []
 labels (m ∷ ms) = labelled (labels ms) (top (rounds ms)) m.owner m.what
 
@@ -88,12 +88,12 @@ elsewhere None r = false
 elsewhere (Some s) r = not (same_step s r.step)
 
 -- ps are the labels of the text
-abbrev pub crosses : List Place → Round → ℕ → What → Bool
+abbrev pub crosses : List LabelStep → Round → ℕ → What → Bool
 crosses ps r o what.Break = r.cut
 crosses ps r o what.Unless = is_some r.step
 crosses ps r o (what.Goto l) = elsewhere (placed ps o l.text) r
 crosses ps r o _ = false
 
 -- the labels of a text
-abbrev pub labels_in : List Mark → List Place
+abbrev pub labels_in : List Mark → List LabelStep
 labels_in ms = labels (reverse ms)

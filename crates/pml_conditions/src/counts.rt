@@ -78,6 +78,7 @@ pub fn out_of_range(names: &Names, what: &What) -> bool
     }
 }
 
+/// The messages that a channel holds by its declaration; none where that is refused by itself.
 pub fn capacity(constant: Constant) -> u64
     ensures value { result ≡ capacity constant }
     ensures small { result < 2 ^ 32 }
@@ -110,6 +111,7 @@ pub fn too_many(names: &Names, owner: usize, what: &What) -> bool
     }
 }
 
+/// Whether the letter behind a `%` of a printf takes a value.
 pub fn is_conversion(c: u8) -> bool
     ensures { result ≡ is_conversion c }
 {

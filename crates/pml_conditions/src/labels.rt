@@ -8,28 +8,29 @@ use pml_marks::mark::What;
 use std::alloc::{AllocError, Global};
 use std::marker::Model;
 
-/// Labels in the order of the text, with the innermost d_step round each.
+/// LabelSteps in the order of the text, with the innermost d_step round each.
 #[derive(Drop)]
-pub struct Labels<'a> {
+pub struct LabelSteps<'a> {
     map: IndexMap<(usize, &'a [u8]), Option<usize>>,
 }
 
-impl<'a> Model for Labels<'a> {
+impl<'a> Model for LabelSteps<'a> {
     ghost use Rattle.std.specs.Prelude.{List};
-    ghost use Rattle.pml_conditions.specs.Structure.{Place, places_of};
+    ghost use Rattle.pml_conditions.specs.Structure.{LabelStep, places_of};
 
-    ghost Value = { List Place };
+    ghost Value = { List LabelStep };
 
     ghost view = { λ l. places_of l.map.entries };
 }
 
-impl<'a> Labels<'a> {
+impl<'a> LabelSteps<'a> {
     ghost use Rattle.pml_conditions.specs.Structure.{place, placed, labelled};
 
-    pub fn new(alloc: Global) -> Labels<'a>
+    /// No labels.
+    pub fn new(alloc: Global) -> LabelSteps<'a>
         ensures { result ≡ [] }
     {
-        Labels {
+        LabelSteps {
             map: IndexMap::new(alloc),
         }
     }

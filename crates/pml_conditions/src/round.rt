@@ -75,6 +75,7 @@ impl Model for Rounds {
 }
 
 impl Rounds {
+    /// None is open.
     pub fn new(alloc: Global) -> Rounds
         ensures { result ≡ [] }
     {

@@ -4,7 +4,7 @@ ghost use Rattle.std.specs.Prelude.{◌≡◌, IfOk, reverse};
 ghost use Rattle.pml_conditions.specs.Structure.{loose, same_step, elsewhere, crosses, labels_in};
 ghost use Rattle.pml_conditions.specs.Decided.{Finds, breaks_loose, crosses_step};
 
-use crate::labels::Labels;
+use crate::labels::LabelSteps;
 use crate::round::{Round, Rounds};
 use pml_marks::mark::{Mark, What};
 use std::alloc::{AllocError, Global};
@@ -56,7 +56,7 @@ fn elsewhere(label: Option<Option<usize>>, round: Round) -> bool
     }
 }
 
-fn crosses(labels: &Labels, round: Round, owner: usize, what: &What) -> bool
+fn crosses(labels: &LabelSteps, round: Round, owner: usize, what: &What) -> bool
     ensures { result ≡ crosses labels.now round owner what.now }
 {
     match what {
@@ -68,11 +68,11 @@ fn crosses(labels: &Labels, round: Round, owner: usize, what: &What) -> bool
 }
 
 /// The labels of a text.
-fn labels<'a>(alloc: Global, marks: &[Mark<'a>]) -> Result<Labels<'a>, AllocError>
+fn labels<'a>(alloc: Global, marks: &[Mark<'a>]) -> Result<LabelSteps<'a>, AllocError>
     ensures { IfOk result (λ labels. labels ≡ labels_in marks.now) }
 {
     let mut rounds = Rounds::new(alloc);
-    let mut labels = Labels::new(alloc);
+    let mut labels = LabelSteps::new(alloc);
     for (i, mark) in marks.iter().enumerate() {
         labels.mark(rounds.here(), mark.owner, &mark.what)?;
         rounds.pass(i, &mark.what)?;

@@ -106,6 +106,7 @@ fn counted(constants: usize, thing: Thing) -> usize
 }
 
 impl<'a> Names<'a> {
+    /// No names.
     pub fn new(alloc: Global) -> Names<'a>
         ensures empty { result.table ≡ [] }
         ensures totalled { IsTotalled result.table result.totals result.constants }

@@ -25,6 +25,7 @@ impl<'a> Model for Table<'a> {
 impl<'a> Table<'a> {
     ghost use Rattle.pml_names.specs.Entry.{found, entry};
 
+    /// No names.
     pub fn new(alloc: Global) -> Table<'a>
         ensures { result ≡ [] }
     {

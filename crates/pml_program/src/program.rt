@@ -31,6 +31,7 @@ pub enum Action<'a> {
     Holds(Expr),
 }
 
+/// A statement without its labels.
 #[cycle(program)]
 #[derive(Drop)]
 pub enum Basic<'a> {
@@ -54,6 +55,7 @@ pub struct Stmt<'a> {
     pub tokens: Tokens<'a>,
 }
 
+/// Statements one after another.
 #[cycle(program)]
 #[derive(Drop)]
 pub struct Seq<'a> {

@@ -58,6 +58,7 @@ fn no_target(alloc: Global) -> Target
     }
 }
 
+/// The place that is named, or a target that is none where the model is refused.
 pub fn target(alloc: Global, reached: Reached) -> Target
     ensures { result ≡ target reached }
 {

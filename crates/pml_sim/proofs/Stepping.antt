@@ -3,7 +3,7 @@ use Rattle.std.proofs.Common.{◌≡◌, ℕ, List, [], length, Option, Some, No
 use Rattle.std.specs.List.{Contains}
 use Rattle.diagnostics.specs.declared.fault.Fault.{Fault}
 use Rattle.session.specs.Machine.{Goes, Faults}
-use Rattle.session.specs.Takes.{IsStillShown, IsStop}
+use Rattle.session.specs.TakesStatement.{IsStillShown, IsStop}
 use Rattle.pml_program.specs.declared.program.Program.{Program}
 use Rattle.pml_program.specs.declared.program.Stmt.{Stmt}
 use Rattle.pml_store.specs.Store.{Contents}
@@ -12,7 +12,7 @@ use Rattle.pml_value.specs.declared.live_channel.LiveChannel.{LiveChannel}
 use Rattle.diagnostics.specs.declared.stop.Stop.{Stop}
 use Rattle.diagnostics.specs.declared.stop.Stop.TheVariants as stop
 use Rattle.pml_value.specs.Reads.{reading_of}
-use Rattle.pml_value.specs.Statement.{Takes}
+use Rattle.pml_value.specs.Statement.{TakesStatement}
 use Rattle.pml_lines.specs.Changes.{AreDeclared}
 use Rattle.pml_sim.specs.declared.control.Control.{Control}
 use Rattle.pml_sim.specs.declared.control.OnlyMove.{OnlyMove}
@@ -22,7 +22,7 @@ use Rattle.pml_sim.specs.World.{standing, reading, forgotten, beyond, done_first
 use Rattle.pml_sim.proofs.Declared.{stored_declared}
 
 -- the variables stay those that are declared
-pub does_declared : (p : Program) (kinds : List ℕ) (d : Result (Option Stores) Fault) (r : Result (Unit {0}) Stop) (old new : Contents) → Takes d r old new → AreDeclared p kinds old.frames → AreDeclared p kinds new.frames
+pub does_declared : (p : Program) (kinds : List ℕ) (d : Result (Option Stores) Fault) (r : Result (Unit {0}) Stop) (old new : Contents) → TakesStatement d r old new → AreDeclared p kinds old.frames → AreDeclared p kinds new.frames
 does_declared p kinds (Ok None) (Ok u) old new h a = subst (λ (c : Contents). AreDeclared p kinds c.frames) (sym h) a
 does_declared p kinds (Ok None) (Err s) old new h a = absurd h
 does_declared p kinds (Ok (Some g)) (Ok u) old new h a = subst (λ (c : Contents). AreDeclared p kinds c.frames) (sym h) (stored_declared p kinds old.frames g.place g.number a)
@@ -33,20 +33,20 @@ does_declared p kinds (Err f) (Err stop.Memory) old new h a = absurd h
 does_declared p kinds (Err f) (Ok u) old new h a = absurd h
 
 -- where the statement was taken, the state is the one that it leads to
-pub does_goes : (s : State) (d : Result (Option Stores) Fault) (new : Contents) (u : Unit {0}) → Takes d (Ok u) (forgotten s.store) new
+pub does_goes : (s : State) (d : Result (Option Stores) Fault) (new : Contents) (u : Unit {0}) → TakesStatement d (Ok u) (forgotten s.store) new
     → went s d ≡ Goes (record s { store = new; control = beyond (length (body_of s.program s.kind)) s.control }) []
 does_goes s (Ok None) new u h = ap (λ (c : Contents). Goes (record s { store = c; control = beyond (length (body_of s.program s.kind)) s.control }) []) (sym h)
 does_goes s (Ok (Some g)) new u h = ap (λ (c : Contents). Goes (record s { store = c; control = beyond (length (body_of s.program s.kind)) s.control }) []) (sym h)
 does_goes s (Err f) new u h = absurd h
 
 -- where it was not, the fault is its own
-pub does_faults : (s : State) (d : Result (Option Stores) Fault) (new : Contents) (f : Fault) → Takes d (Err (stop.Fault f)) (forgotten s.store) new → went s d ≡ Faults f
+pub does_faults : (s : State) (d : Result (Option Stores) Fault) (new : Contents) (f : Fault) → TakesStatement d (Err (stop.Fault f)) (forgotten s.store) new → went s d ≡ Faults f
 does_faults s (Ok None) new f h = absurd h
 does_faults s (Ok (Some g)) new f h = absurd h
 does_faults s (Err e) new f h = ap Faults (sym h.0)
 
 -- a fault leaves all but the changes of the step before, so the move can still be shown
-does_shown : (s : State) (m : OnlyMove) (d : Result (Option Stores) Fault) (new : Contents) (f : Fault) → Contains (moves s) m → Takes d (Err (stop.Fault f)) (forgotten s.store) new
+does_shown : (s : State) (m : OnlyMove) (d : Result (Option Stores) Fault) (new : Contents) (f : Fault) → Contains (moves s) m → TakesStatement d (Err (stop.Fault f)) (forgotten s.store) new
     → IsStillShown rules s (record s { store = new }) m
 does_shown s m (Ok None) new f present h = absurd h
 does_shown s m (Ok (Some g)) new f present h = absurd h
@@ -55,13 +55,13 @@ does_shown s m (Err e) new f present h = (subst (λ (c : Contents). Contains (mo
 -- the same, of what the parts of a step answer
 module _ (s : State) (m : OnlyMove) (x : Option Stmt) (cs : List LiveChannel) (old new : Contents) (stands : x ≡ standing s) (there : cs ≡ s.channels) (forgets : old ≡ forgotten s.store) where
   abbrev Done : Result (Unit {0}) Stop → Type 0
-  Done r = Takes (done_first x (reading_of old.frames cs 0 1 m.timeout)) r old new
+  Done r = TakesStatement (done_first x (reading_of old.frames cs 0 1 m.timeout)) r old new
 
-  of_state : (r : Result (Unit {0}) Stop) → Done r → Takes (done_first (standing s) (reading s m.timeout)) r (forgotten s.store) new
+  of_state : (r : Result (Unit {0}) Stop) → Done r → TakesStatement (done_first (standing s) (reading s m.timeout)) r (forgotten s.store) new
   of_state r h =
-      let one : Takes (done_first (standing s) (reading_of old.frames cs 0 1 m.timeout)) r old new = subst (λ (y : Option Stmt). Takes (done_first y (reading_of old.frames cs 0 1 m.timeout)) r old new) stands h in
-      let two : Takes (done_first (standing s) (reading_of old.frames s.channels 0 1 m.timeout)) r old new = subst (λ (l : List LiveChannel). Takes (done_first (standing s) (reading_of old.frames l 0 1 m.timeout)) r old new) there one in
-      subst (λ (c : Contents). Takes (done_first (standing s) (reading_of c.frames s.channels 0 1 m.timeout)) r c new) forgets two
+      let one : TakesStatement (done_first (standing s) (reading_of old.frames cs 0 1 m.timeout)) r old new = subst (λ (y : Option Stmt). TakesStatement (done_first y (reading_of old.frames cs 0 1 m.timeout)) r old new) stands h in
+      let two : TakesStatement (done_first (standing s) (reading_of old.frames s.channels 0 1 m.timeout)) r old new = subst (λ (l : List LiveChannel). TakesStatement (done_first (standing s) (reading_of old.frames l 0 1 m.timeout)) r old new) there one in
+      subst (λ (c : Contents). TakesStatement (done_first (standing s) (reading_of c.frames s.channels 0 1 m.timeout)) r c new) forgets two
 
   pub goes_on : (count : ℕ) (control : Control) (u : Unit {0}) → count ≡ length (body_of s.program s.kind) → control ≡ beyond count s.control → Done (Ok u) → step s m ≡ Goes (record s { store = new; control = control }) []
   goes_on count control u counts goes h =
@@ -69,7 +69,7 @@ module _ (s : State) (m : OnlyMove) (x : Option Stmt) (cs : List LiveChannel) (o
       does_goes s (done_first (standing s) (reading s m.timeout)) new u (of_state (Ok u) h) ∙ ap (λ (k : Control). Goes (record s { store = new; control = k }) []) (sym far)
 
   pub faults_on : (e : Stop) (f : Fault) → e ≡ stop.Fault f → Done (Err e) → step s m ≡ Faults f
-  faults_on e f is h = does_faults s (done_first (standing s) (reading s m.timeout)) new f (subst (λ (k : Stop). Takes (done_first (standing s) (reading s m.timeout)) (Err k) (forgotten s.store) new) is (of_state (Err e) h))
+  faults_on e f is h = does_faults s (done_first (standing s) (reading s m.timeout)) new f (subst (λ (k : Stop). TakesStatement (done_first (standing s) (reading s m.timeout)) (Err k) (forgotten s.store) new) is (of_state (Err e) h))
 
   -- what stops the statement stops the step
   pub stops_on : (e : Stop) → Done (Err e) → Contains (moves s) m → IsStop rules s m (record s { store = new }) e

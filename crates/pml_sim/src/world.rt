@@ -3,7 +3,7 @@
 ghost use Rattle.std.specs.Prelude.{◌≡◌, ◌++◌, [], OnOk, length, slice_get};
 ghost use Rattle.std.specs.Option.{option_copied};
 ghost use Rattle.pml_value.specs.Reads.{reading_of, seen};
-ghost use Rattle.pml_value.specs.Statement.{Takes};
+ghost use Rattle.pml_value.specs.Statement.{TakesStatement};
 ghost use Rattle.pml_start.specs.Begin.{shown};
 ghost use Rattle.pml_start.specs.Start.{IsDeclared};
 ghost use Rattle.pml_sim.specs.Served.{steps_of};
@@ -185,7 +185,7 @@ fn do_basic(
     timeout: bool,
     basic: &Basic<'_>,
 ) -> Result<(), Stop>
-    ensures { Takes (world.done_by basic.now (reading_of store.old.frames channels.now 0 1 timeout)) result store.old store.new }
+    ensures { TakesStatement (world.done_by basic.now (reading_of store.old.frames channels.now 0 1 timeout)) result store.old store.new }
 {
     match basic {
         Basic::Plain(action) => take(store, channels, 0, 1, timeout, action),
@@ -200,7 +200,7 @@ fn do_first(
     timeout: bool,
     standing: Option<&Stmt<'_>>,
 ) -> Result<(), Stop>
-    ensures { Takes (world.done_first (option_copied standing.entry) (reading_of store.old.frames channels.now 0 1 timeout)) result store.old store.new }
+    ensures { TakesStatement (world.done_first (option_copied standing.entry) (reading_of store.old.frames channels.now 0 1 timeout)) result store.old store.new }
 {
     match standing {
         Some(stmt) => do_basic(store, channels, timeout, &stmt.basic),

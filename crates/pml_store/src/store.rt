@@ -136,6 +136,7 @@ impl Store {
         self.written.as_slice()
     }
 
+    /// Forgets what was written.
     pub fn forget(&mut self)
         ensures { self.new ≡ record self.old { written = [] } }
     {

@@ -21,12 +21,14 @@ impl<'a> Model for Tokens<'a> {
 }
 
 impl<'a> Tokens<'a> {
+    /// These tokens.
     pub fn new(tokens: &'a [Token<'a>]) -> Tokens<'a>
         ensures { result ≡ tokens.now }
     {
         Tokens { tokens }
     }
 
+    /// The tokens, as the text has them.
     pub fn as_slice(&self) -> &'a [Token<'a>]
         ensures { result.now ≡ self.now }
     {

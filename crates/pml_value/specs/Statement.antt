@@ -53,12 +53,12 @@ outcome (a.Holds v) r = val v r >>= λ n. Ok None
 outcome s r = Ok None
 
 -- what is to be stored is stored, or the fault is answered and nothing changes; want of memory changes nothing
-abbrev pub Takes : Result (Option Goes) Fault → Result (Unit {0}) Stop → Contents → Contents → Type 0
-Takes (Ok None) (Ok u) old new = new ≡ old
-Takes (Ok None) (Err s) old new = ⊥
-Takes (Ok (Some g)) (Ok u) old new = new ≡ stored old g.place g.number
-Takes (Ok (Some g)) (Err stop.Memory) old new = new ≡ old
-Takes (Ok (Some g)) (Err (stop.Fault f)) old new = ⊥
-Takes (Err f) (Err (stop.Fault g)) old new = (g ≡ f) × (new ≡ old)
-Takes (Err f) (Err stop.Memory) old new = ⊥
-Takes (Err f) (Ok u) old new = ⊥
+abbrev pub TakesStatement : Result (Option Goes) Fault → Result (Unit {0}) Stop → Contents → Contents → Type 0
+TakesStatement (Ok None) (Ok u) old new = new ≡ old
+TakesStatement (Ok None) (Err s) old new = ⊥
+TakesStatement (Ok (Some g)) (Ok u) old new = new ≡ stored old g.place g.number
+TakesStatement (Ok (Some g)) (Err stop.Memory) old new = new ≡ old
+TakesStatement (Ok (Some g)) (Err (stop.Fault f)) old new = ⊥
+TakesStatement (Err f) (Err (stop.Fault g)) old new = (g ≡ f) × (new ≡ old)
+TakesStatement (Err f) (Err stop.Memory) old new = ⊥
+TakesStatement (Err f) (Ok u) old new = ⊥

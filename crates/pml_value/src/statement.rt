@@ -2,7 +2,7 @@
 
 ghost use Rattle.std.specs.Prelude.{◌≡◌, ◌<◌, IfOk, IfSome};
 ghost use Rattle.pml_store.specs.Store.{size_at};
-ghost use Rattle.pml_value.specs.Statement.{is_executable, goes, assigned, counted, outcome, Takes};
+ghost use Rattle.pml_value.specs.Statement.{is_executable, goes, assigned, counted, outcome, TakesStatement};
 ghost use Rattle.pml_value.specs.Reads.{reading_of, seen};
 
 use crate::live_channel::LiveChannel;
@@ -98,7 +98,7 @@ pub fn take(
     timeout: bool,
     action: &Action<'_>,
 ) -> Result<(), Stop>
-    ensures { Takes (outcome action.now (reading_of store.old.frames channels.now pid process_count timeout)) result store.old store.new }
+    ensures { TakesStatement (outcome action.now (reading_of store.old.frames channels.now pid process_count timeout)) result store.old store.new }
 {
     let view = View {
         store: &*store,

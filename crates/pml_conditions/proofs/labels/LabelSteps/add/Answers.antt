@@ -1,7 +1,7 @@
 use Rattle.std.proofs.Common.{◌++◌, ◌∷◌, [], ◌∙◌, ap}
 use Rattle.pml_conditions.specs.Structure.{place, placed, places_of}
 use Rattle.pml_conditions.proofs.Lookup.{insert_is}
-use Rattle.pml_conditions.proofs.labels.Labels.add.Goals as goal
+use Rattle.pml_conditions.proofs.labels.LabelSteps.add.Goals as goal
 
 pub returns : goal.returns
 returns c =

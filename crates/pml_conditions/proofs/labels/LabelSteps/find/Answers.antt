@@ -1,7 +1,7 @@
 use Rattle.std.proofs.Common.{◌∙◌, ap}
 use Rattle.pml_conditions.specs.Structure.{placed}
 use Rattle.pml_conditions.proofs.Lookup.{lookup_is}
-use Rattle.pml_conditions.proofs.labels.Labels.find.Goals as goal
+use Rattle.pml_conditions.proofs.labels.LabelSteps.find.Goals as goal
 
 pub returns : goal.returns
 returns c =
