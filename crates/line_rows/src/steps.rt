@@ -46,7 +46,7 @@ fn lines(alloc: Global, wanted: Wanted, before: &[i32], after: &[i32]) -> Result
 }
 
 fn write(store: &mut Store, place: Place, number: i32) -> Result<(), AllocError> {
-    if place.cell < store.size(place.owner, place.variable) {
+    if place.cell < store.size(place.frame, place.variable) {
         store.set(place, number)?;
     }
     Ok(())
@@ -125,9 +125,9 @@ local 1 (:init:) k = 11
     Ok(())
 }
 
-fn place(owner: usize, variable: usize, cell: usize) -> Place {
+fn place(frame: usize, variable: usize, cell: usize) -> Place {
     Place {
-        owner,
+        frame,
         variable,
         cell,
     }

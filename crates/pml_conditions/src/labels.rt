@@ -8,7 +8,7 @@ use pml_marks::mark::What;
 use std::alloc::{AllocError, Global};
 use std::marker::Model;
 
-/// LabelSteps in the order of the text, with the innermost d_step round each.
+/// Labels in the order of the text, with the innermost d_step round each.
 #[derive(Drop)]
 pub struct LabelSteps<'a> {
     map: IndexMap<(usize, &'a [u8]), Option<usize>>,

@@ -56,8 +56,32 @@ active [2] proctype B() { x = _pid; run A(1, y) }
 green red 
 typedef 2 a+0:2*1 = 7; b+2:1*1; 
 typedef 3 c+0:1*1; d+1:3*3; e+10:1*3; 
-A 7 starts 0 parameters 2 y+0:1*1; v+1:1*1; w+2:1*13; x+15:1*1 = (G0+0:1*1 op L0+0:1*1); t+16:1*1; {G2+0:2*13[L3+0:1*1]+1:3*3[1]+2:1*1 = 1; if ::{(L2+0:1*13+10:1*3+0:2*1[L0+0:1*1] op 2); goto L; } ::{else; }; L: ++L4+0:1*1; G3+0:1*1 ! L3+0:1*1 2; G3+0:1*1 ? L0+0:1*1 ==L4+0:1*1 _; }}
+A 7 starts 0 parameters 2 y+0:1*1; v+1:1*1; w+2:1*13; x+15:1*1 = (G0+0:1*1 + L0+0:1*1); t+16:1*1; {G2+0:2*13[L3+0:1*1]+1:3*3[1]+2:1*1 = 1; if ::{(L2+0:1*13+10:1*3+0:2*1[L0+0:1*1] == 2); goto L; } ::{else; }; L: ++L4+0:1*1; G3+0:1*1 ! L3+0:1*1 2; G3+0:1*1 ? L0+0:1*1 ==L4+0:1*1 _; }}
 B 8 starts 2 parameters 0 {G0+0:1*1 = _pid; run 7 1 G1+0:1*1; }}
+"##;
+    assert_eq!(rt; model_of(rt.alloc(), text)?.as_str(), model);
+    Ok(())
+}
+
+/// Each statement stays what it is: the two sends, the four receives, the two polls, atomic and d_step apart from braces, assert apart
+/// from a condition, the parts of an unless in their order, and each operator in its place.
+#[test]
+fn statements_stay_what_they_are(rt: HostRuntime) -> Result<(), Fail> {
+    let text = r##"chan q = [2] of { byte, byte };
+byte x;
+init {
+  q!1,2; q!!3,4; q?x,5; q??x,_; q?<x,6>; q??<x,-7>;
+  x = q?[1,2]; x = q??[x,eval(x)];
+  atomic { x++ }; d_step { x-- }; { x = 1 };
+  { assert(x) } unless { x };
+  do :: break od;
+  x = -x + !x; x = len(q) - nfull(q); (x < 1 -> x : 2);
+  printf("a\n"); x = x << 2 >> x
+}
+"##;
+    let model = r##"q+0:1*1 = [2] of 2; x+1:1*1; 
+
+init 3 starts 1 parameters 0 {G0+0:1*1 ! 1 2; G0+0:1*1 !! 3 4; G0+0:1*1 ? G1+0:1*1 =5; G0+0:1*1 ?? G1+0:1*1 _; G0+0:1*1 ?< G1+0:1*1 =6; G0+0:1*1 ??< G1+0:1*1 =-7; G1+0:1*1 = poll ? G0+0:1*1 =1 =2; G1+0:1*1 = poll ?? G0+0:1*1 G1+0:1*1 ==G1+0:1*1; atomic {++G1+0:1*1; }; d_step {--G1+0:1*1; }; {G1+0:1*1 = 1; }; {{assert G1+0:1*1; }; } unless {{G1+0:1*1; }; }; do ::{break; }; G1+0:1*1 = ((- G1+0:1*1) + (! G1+0:1*1)); G1+0:1*1 = (len G0+0:1*1 - nfull G0+0:1*1); ((G1+0:1*1 < 1) -> G1+0:1*1 : 2); "a\n"; G1+0:1*1 = ((G1+0:1*1 << 2) >> G1+0:1*1); }}
 "##;
     assert_eq!(rt; model_of(rt.alloc(), text)?.as_str(), model);
     Ok(())

@@ -7,6 +7,7 @@ use pml_program::program::{
     Action, Basic, Fields, Initial, Proctype, Program, Run, Seq, Slot, Stmt,
 };
 use pml_program::expr::{Target, Turn, Expr, Want};
+use pml_tree::tree::{Fill, Infix, Prefix, Removal, Search, SendOrder};
 use sqlite_items::Items;
 use std::alloc::{AllocError, Global};
 
@@ -25,6 +26,54 @@ fn token(out: &mut String, t: &Token<'_>) -> Result<(), AllocError> {
     Ok(())
 }
 
+fn asked(fill: Fill) -> &'static str {
+    match fill {
+        Fill::Length => "len ",
+        Fill::IsEmpty => "empty ",
+        Fill::IsFull => "full ",
+        Fill::IsNotEmpty => "nempty ",
+        Fill::IsNotFull => "nfull ",
+    }
+}
+
+fn looked_for(search: Search) -> &'static str {
+    match search {
+        Search::First => " ?",
+        Search::Matching => " ??",
+    }
+}
+
+fn prefix(op: Prefix) -> &'static str {
+    match op {
+        Prefix::Not => "! ",
+        Prefix::Complement => "~ ",
+        Prefix::Minus => "- ",
+    }
+}
+
+fn infix(op: Infix) -> &'static str {
+    match op {
+        Infix::Times => " * ",
+        Infix::Divide => " / ",
+        Infix::Remainder => " % ",
+        Infix::Plus => " + ",
+        Infix::Minus => " - ",
+        Infix::ShiftLeft => " << ",
+        Infix::ShiftRight => " >> ",
+        Infix::Below => " < ",
+        Infix::AtMost => " <= ",
+        Infix::Above => " > ",
+        Infix::AtLeast => " >= ",
+        Infix::Equal => " == ",
+        Infix::Unequal => " != ",
+        Infix::BitAnd => " & ",
+        Infix::BitXor => " ^ ",
+        Infix::BitOr => " | ",
+        Infix::And => " && ",
+        Infix::Or => " || ",
+    }
+}
+
 #[cycle(value)]
 fn value(alloc: Global, out: &mut String, v: &Expr) -> Result<(), AllocError> {
     match v {
@@ -36,24 +85,27 @@ fn value(alloc: Global, out: &mut String, v: &Expr) -> Result<(), AllocError> {
         Expr::ProcessCount => Ok(word(out, "_nr_pr")?),
         Expr::Timeout => Ok(word(out, "timeout")?),
         Expr::Read(t) => Ok(target(alloc, out, t)?),
-        Expr::Ask(_, t) => {
-            word(out, "ask ")?;
+        Expr::Ask(fill, t) => {
+            word(out, asked(*fill))?;
             Ok(target(alloc, out, t)?)
         }
-        Expr::Poll(t, _, ws) => {
-            word(out, "poll ")?;
+        Expr::Poll(t, search, ws) => {
+            word(out, "poll")?;
+            word(out, looked_for(*search))?;
+            word(out, " ")?;
             target(alloc, out, t)?;
             Ok(wants(alloc, out, ws)?)
         }
-        Expr::Unary(_, a) => {
-            word(out, "(op ")?;
+        Expr::Unary(op, a) => {
+            word(out, "(")?;
+            word(out, prefix(*op))?;
             value(alloc, out, a.get())?;
             Ok(word(out, ")")?)
         }
-        Expr::Binary(_, a, b) => {
+        Expr::Binary(op, a, b) => {
             word(out, "(")?;
             value(alloc, out, a.get())?;
-            word(out, " op ")?;
+            word(out, infix(*op))?;
             value(alloc, out, b.get())?;
             Ok(word(out, ")")?)
         }
@@ -128,7 +180,7 @@ fn values(alloc: Global, out: &mut String, vs: &Items<Expr>) -> Result<(), Alloc
 
 fn run(alloc: Global, out: &mut String, r: &Run) -> Result<(), AllocError> {
     word(out, "run ")?;
-    number(alloc, out, r.process)?;
+    number(alloc, out, r.proctype)?;
     values(alloc, out, &r.arguments)
 }
 
@@ -139,6 +191,20 @@ fn store(alloc: Global, out: &mut String, to: &Option<Target>) -> Result<(), All
             target(alloc, out, t)?;
             word(out, " = ")
         }
+    }
+}
+
+fn sent(order: SendOrder) -> &'static str {
+    match order {
+        SendOrder::Fifo => " !",
+        SendOrder::Sorted => " !!",
+    }
+}
+
+fn left(removal: Removal) -> &'static str {
+    match removal {
+        Removal::Remove => "",
+        Removal::Keep => "<",
     }
 }
 
@@ -162,14 +228,15 @@ fn action(alloc: Global, out: &mut String, a: &Action<'_>) -> Result<(), AllocEr
             target(alloc, out, t)
         }
         Action::Run(r) => run(alloc, out, r),
-        Action::Send(t, sorted, vs) => {
+        Action::Send(t, order, vs) => {
             target(alloc, out, t)?;
-            word(out, if *sorted { " !!" } else { " !" })?;
+            word(out, sent(*order))?;
             values(alloc, out, vs)
         }
-        Action::Receive(t, _, _, ws) => {
+        Action::Receive(t, search, removal, ws) => {
             target(alloc, out, t)?;
-            word(out, " ?")?;
+            word(out, looked_for(*search))?;
+            word(out, left(*removal))?;
             wants(alloc, out, ws)
         }
         Action::Printf(text, vs) => {
@@ -203,8 +270,14 @@ fn basic(alloc: Global, out: &mut String, b: &Basic<'_>) -> Result<(), AllocErro
             Ok(seqs(alloc, out, options)?)
         }
         Basic::Block(s) => Ok(seq(alloc, out, s)?),
-        Basic::Atomic(s) => Ok(seq(alloc, out, s)?),
-        Basic::DStep(s) => Ok(seq(alloc, out, s)?),
+        Basic::Atomic(s) => {
+            word(out, "atomic ")?;
+            Ok(seq(alloc, out, s)?)
+        }
+        Basic::DStep(s) => {
+            word(out, "d_step ")?;
+            Ok(seq(alloc, out, s)?)
+        }
         Basic::Unless(main, escape) => {
             seq(alloc, out, main)?;
             word(out, " unless ")?;
