@@ -153,7 +153,7 @@ prefixed (suc depth) least x from to room moves h = record { depth = depth; turn
 -- one operator further
 further : (n least : ℕ) (b : Infix) (x y : Expr) (o : Word) (from middle to : List Word) → operator o.kind ≡ Some b → least ≤ level b → length to < length middle → length (o ∷ middle) < length from → (c : Climbs n least x from (o ∷ middle))
     → ((depth : ℕ) → length middle ≤ depth → expr depth (level b + 1) middle ≡ Ok (y, to)) → Climbs n least (e.Binary b x y) from to
-unfolding climb and_then pick
+unfolding climb reading.infix_with and_then pick
 further n least b x y o from middle to is low moves longer c right = go c.turns c.enough c.reads
   where
     go : (turns : ℕ) → length (o ∷ middle) ≤ turns → expr n least from ≡ climb (expr c.depth) turns least x (o ∷ middle) → Climbs n least (e.Binary b x y) from to
@@ -226,7 +226,7 @@ argument_no_paren (grammar.eval is _ _ _) = not_kind _ k.Eval k.OpenParen is ref
 -- ---- expressions
 
 mutual
-  unfolding reading.expr_behind reading.parenthesized reading.index reading.step reading.fields_from reading.reference reading.into reading.exactly reading.exactly_minus reading.eval reading.argument reading.arguments reading.list_from reading.enclosed reading.behind_first reading.poll reading.behind reading.variable reading.number reading.ask reading.operand reading.group reading.alternatives reading.prefix sees and_then pick
+  unfolding reading.closing reading.expr_behind reading.expr_between reading.index reading.step reading.fields_from reading.reference reading.into reading.exactly reading.exactly_minus reading.eval reading.argument reading.arguments reading.list_from reading.enclosed reading.behind_first reading.polled reading.poll reading.behind reading.variable reading.number reading.ask reading.operand reading.group reading.chosen reading.alternatives reading.prefix sees and_then pick
 
   pub index_again : {i : Option Expr} {from to : List Word} → SpellsIndex i from to → (depth : ℕ) → length from ≤ depth → same_kind (next to) k.OpenBracket ≡ false → reading.index (expr depth) from ≡ Ok (i, to)
   index_again grammar.no_index depth room free = rw free refl

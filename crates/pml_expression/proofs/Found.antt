@@ -66,15 +66,16 @@ module _ (expr : ℕ → List Word → Read Expr) (sound : IsSound expr) where
   -- ---- references
 
   pub index_found : (ts : List Word) (x : Option Expr × List Word) → reading.index expr ts ≡ Ok x → SpellsIndex x.0 ts x.1
-  unfolding reading.index reading.expr_behind
+  unfolding reading.index reading.expr_between reading.expr_behind reading.closing
   index_found ts x h = elim (chosen h) [
     | inl p ↦
         let i = bind_ok p.1 in
-        let o = bind_ok i.1 in
-        let c = bind_ok i.2 in
+        let y = bind_ok i.1 in
+        let o = bind_ok y.1 in
+        let c = bind_ok y.2 in
         let t = expect_ok o.1 in
         let u = expect_ok c.1 in
-        done SpellsIndex c.2 (fronted SpellsIndex t (grammar.index t.is (closed_by (SpellsExpr 1) u (lowest_found o.0.1 i.0 o.2)) u.is))
+        done SpellsIndex i.2 (done (λ z. SpellsIndex (Some z)) c.2 (fronted SpellsIndex t (grammar.index t.is (closed_by (SpellsExpr 1) u (lowest_found o.0.1 y.0 o.2)) u.is)))
     | inr p ↦ done SpellsIndex p.1 grammar.no_index
   ]
 
@@ -109,7 +110,7 @@ module _ (expr : ℕ → List Word → Read Expr) (sound : IsSound expr) where
   -- ---- arguments
 
   eval_found : (ts : List Word) (x : Argument × List Word) → reading.eval expr ts ≡ Ok x → SpellsArgument x.0 ts x.1
-  unfolding reading.eval reading.parenthesized reading.expr_behind
+  unfolding reading.eval reading.expr_between reading.expr_behind reading.closing
   eval_found ts x h =
       let w = bind_ok h in
       let t = expect_ok w.1 in
@@ -145,7 +146,7 @@ module _ (expr : ℕ → List Word → Read Expr) (sound : IsSound expr) where
   argument_found ts x h = argument_by_found (start_of (next ts)) ts x refl h
 
   pub arguments_found : (ts : List Word) (x : List Argument × List Word) → reading.arguments expr ts ≡ Ok x → SpellsArguments x.0 ts x.1
-  unfolding reading.arguments reading.enclosed
+  unfolding reading.arguments reading.enclosed reading.closing
   arguments_found ts x h = elim (chosen h) [
     | inl p ↦
         let o = bind_ok p.1 in
@@ -163,17 +164,18 @@ module _ (expr : ℕ → List Word → Read Expr) (sound : IsSound expr) where
   -- ---- operands
 
   behind_by_found : (o : Option Search) (least : ℕ) (r : Reference) (from ts : List Word) (x : Expr × List Word) → query (next ts) ≡ o → SpellsReference r from ts → reading.behind_by expr o r ts ≡ Ok x → SpellsExpr least x.0 from x.1
-  unfolding reading.poll
+  unfolding reading.poll reading.polled reading.closing
   behind_by_found None least r from ts x is here h = done (SpellsExpr least) h (grammar.read here)
   behind_by_found (Some look) least r from [] x is here h = absurd cc
   behind_by_found (Some look) least r from (w ∷ ws) x is here h = elim (chosen h) [
     | inl p ↦
-        let o = bind_ok p.1 in
+        let ys = bind_ok p.1 in
+        let o = bind_ok ys.1 in
         let t = expect_ok o.1 in
         let xs = bind_ok o.2 in
         let c = bind_ok xs.2 in
         let z = expect_ok c.1 in
-        done (SpellsExpr least) c.2 (grammar.poll (subst (λ (to : List Word). SpellsReference r from (w ∷ to)) t.front here) is t.is (closed_by SpellsArguments z (arguments_found o.0.1 xs.0 xs.1)) z.is)
+        done (SpellsExpr least) ys.2 (done (λ zs. SpellsExpr least (e.Poll r look zs)) c.2 (grammar.poll (subst (λ (to : List Word). SpellsReference r from (w ∷ to)) t.front here) is t.is (closed_by SpellsArguments z (arguments_found o.0.1 xs.0 xs.1)) z.is))
     | inr p ↦ done (SpellsExpr least) p.1 (grammar.read here)
   ]
 
@@ -183,7 +185,7 @@ module _ (expr : ℕ → List Word → Read Expr) (sound : IsSound expr) where
 
   group_behind : (least : ℕ) (o : Word) (from middle : List Word) (x : Expr) (y : Expr × List Word) (c : Word × List Word) → o.kind ≡ k.OpenParen → SpellsExpr 1 x from middle → reading.alternatives expr x middle ≡ Ok y → Takes k.CloseParen y.1 c
       → SpellsExpr least y.0 (o ∷ from) c.1
-  unfolding reading.alternatives reading.expr_behind
+  unfolding reading.alternatives reading.chosen reading.expr_behind
   group_behind least o from middle x y c is first h u = elim (chosen h) [
     | inl p ↦
         let z = bind_ok p.1 in
@@ -199,7 +201,7 @@ module _ (expr : ℕ → List Word → Read Expr) (sound : IsSound expr) where
   ]
 
   group_found : (least : ℕ) (ts : List Word) (x : Expr × List Word) → reading.group expr ts ≡ Ok x → SpellsExpr least x.0 ts x.1
-  unfolding reading.group reading.expr_behind
+  unfolding reading.group reading.expr_behind reading.closing
   group_found least ts x h =
       let y = bind_ok h in
       let o = bind_ok y.1 in
@@ -209,7 +211,7 @@ module _ (expr : ℕ → List Word → Read Expr) (sound : IsSound expr) where
       done (SpellsExpr least) c.2 (fronted (SpellsExpr least) t (group_behind least o.0.0 o.0.1 y.0.1 y.0.0 z.0 c.0 t.is (lowest_found o.0.1 y.0 o.2) z.1 (expect_ok c.1)))
 
   prefix_by_found : (start : Start) (least : ℕ) (ts : List Word) (x : Expr × List Word) → start_of (next ts) ≡ start → least ≤ prefix_level → reading.prefix_by expr start ts ≡ Ok x → SpellsExpr least x.0 ts x.1
-  unfolding reading.number reading.variable reading.ask reading.operand
+  unfolding reading.number reading.variable reading.ask reading.operand reading.closing
   prefix_by_found s.Name least ts x is low h = let r = bind_ok h in behind_found least r.0.0 ts r.0.1 x (reference_found ts r.0 r.1) r.2
   prefix_by_found s.Number least ts x is low h =
       let n = bind_ok h in
@@ -247,17 +249,19 @@ module _ (expr : ℕ → List Word → Read Expr) (sound : IsSound expr) where
   climb_by_found : (again : Expr → List Word → Read Expr) (least : ℕ) (left : Expr) (from ts : List Word) (x : Expr × List Word) (o : Option Infix) → operator (next ts) ≡ o → 1 ≤ least → IsLeft least left from ts
       → ((y : Expr) (us : List Word) → length us < length ts → IsLeft least y from us → again y us ≡ Ok x → IsFound least from x)
       → reading.climb_by expr again least left ts o ≡ Ok x → IsFound least from x
+  unfolding reading.infix_with
   climb_by_found again least left from ts x None is high first further h = subst (IsFound least from) (ok_is h) (record { spells = first.0; stops = rw is (omega arith) })
   climb_by_found again least left from [] x (Some b) is high first further h = absurd cc
   climb_by_found again least left from (w ∷ ws) x (Some b) is high first further h = elim (chosen h) [
     | inl p ↦ subst (IsFound least from) (ok_is p.1) (record { spells = first.0; stops = rw is (ltb-true _ _ p.0) })
     | inr p ↦
-        let r = bind_ok p.1 in
+        let q = bind_ok p.1 in
+        let r = bind_ok q.1 in
         let right = sound (level b + 1) ws r.0 (omega arith) (omega (arith, level_low b)) r.1 in
         let low : least ≤ level b = ltb-false _ _ p.0 in
         let left_side = first.1 b is in
         let next_side : (c : Infix) → operator (next r.0.1) ≡ Some c → SpellsExpr (level c) (e.Binary b left r.0.0) from r.0.1 = λ c g. grammar.binary is (let s : strength (operator (next r.0.1)) < level b + 1 = right.stops in let t : level c < level b + 1 = rw g at s in omega arith) left_side right.spells in
-        further (e.Binary b left r.0.0) r.0.1 (omega (arith, expr_moves right.spells)) (grammar.binary is low left_side right.spells, next_side) r.2
+        further (e.Binary b left r.0.0) r.0.1 (omega (arith, expr_moves right.spells)) (grammar.binary is low left_side right.spells, next_side) (subst (λ (z : Expr × List Word). again z.0 z.1 ≡ Ok x) (sym (ok_is r.2)) q.2)
   ]
 
   pub climb_found : (turns least : ℕ) (left : Expr) (from ts : List Word) (x : Expr × List Word) → length ts ≤ turns → 1 ≤ least → IsLeft least left from ts → reading.climb expr turns least left ts ≡ Ok x → IsFound least from x

@@ -53,7 +53,7 @@ module _ {A : Type 0} (element : List Word → Read A) (Spell : A → List Word 
   module _ (Whole : List A → List Word → List Word → Type 0) (listed : (xs : List A) (from to : List Word) → All xs from to → Whole xs from to)
       (called : (x : A) (xs : List A) (o c : Word) (from middle to : List Word) → Spell x from (o ∷ middle) → o.kind ≡ k.OpenParen → All xs middle (c ∷ to) → c.kind ≡ k.CloseParen → Whole (x ∷ xs) from to) where
     pub first_found : (first : A) (from ts : List Word) (x : List A × List Word) → Spell first from ts → reading.behind_first element (first ∷ []) ts ≡ Ok x → Whole x.0 from x.1
-    unfolding reading.behind_first reading.enclosed
+    unfolding reading.behind_first reading.enclosed reading.closing
     first_found first from ts x here h = elim (chosen h) [
       | inl p ↦
           let o = bind_ok p.1 in

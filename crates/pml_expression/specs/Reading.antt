@@ -82,6 +82,18 @@ expect_all (kind ∷ kinds) ts = do
   word ← expect kind ts
   expect_all kinds word.1
 
+-- what was read, where a token of this kind closes it
+unfoldable pub closing : {A : Type 0} → Kind → A → List Word → Read A
+closing kind x ts = do
+  close ← expect kind ts
+  Ok (x, close.1)
+
+-- what was read, with the token of this kind that ends it
+unfoldable pub ending : {A : Type 0} → Kind → A → List Word → Read (A × Word)
+ending kind x ts = do
+  end ← expect kind ts
+  Ok ((x, end.0), end.1)
+
 -- a name between two tokens of these kinds
 unfoldable pub expect_name : Kind → Kind → List Word → Read Word
 expect_name front back ts = do
@@ -107,8 +119,7 @@ module _ {A : Type 0} (element : List Word → Read A) where
   enclosed found ts = do
     opened ← expect k.OpenParen ts
     xs ← list_from (length opened.1) found opened.1
-    close ← expect k.CloseParen xs.1
-    Ok (xs.0, close.1)
+    closing k.CloseParen xs.0 xs.1
 
   -- behind the first, which a comma or a parenthesis goes on from
   unfoldable pub behind_first : List A → List Word → Read (List A)
@@ -144,19 +155,17 @@ module _ (expr : ℕ → List Word → Read Expr) where
     word ← expect kind ts
     expr 1 word.1
 
+  -- between tokens of these kinds
+  unfoldable pub expr_between : Kind → Kind → List Word → Read Expr
+  expr_between front back ts = do
+    x ← expr_behind front ts
+    closing back x.0 x.1
+
   -- behind a name
   unfoldable pub index : List Word → Read (Option Expr)
   index ts = when sees k.OpenBracket ts then (do
-    x ← expr_behind k.OpenBracket ts
-    close ← expect k.CloseBracket x.1
-    Ok (Some x.0, close.1)) else Ok (None, ts)
-
-  -- in parentheses
-  unfoldable pub parenthesized : List Word → Read Expr
-  parenthesized ts = do
-    x ← expr_behind k.OpenParen ts
-    close ← expect k.CloseParen x.1
-    Ok (x.0, close.1)
+    x ← expr_between k.OpenBracket k.CloseBracket ts
+    Ok (Some x.0, x.1)) else Ok (None, ts)
 
   unfoldable pub step : List Word → Read Step
   step ts = do
@@ -187,7 +196,7 @@ module _ (expr : ℕ → List Word → Read Expr) where
   unfoldable pub eval : List Word → Read Argument
   eval ts = do
     word ← expect k.Eval ts
-    x ← parenthesized word.1
+    x ← expr_between k.OpenParen k.CloseParen word.1
     Ok (g.Eval x.0, x.1)
 
   -- by what the next token begins
@@ -209,13 +218,18 @@ module _ (expr : ℕ → List Word → Read Expr) where
 
   -- ---- operands
 
+  -- in brackets
+  unfoldable pub polled : List Word → Read (List Argument)
+  polled ts = do
+    opened ← expect k.OpenBracket ts
+    xs ← arguments opened.1
+    closing k.CloseBracket xs.0 xs.1
+
   -- behind the question mark
   unfoldable pub poll : Search → Reference → List Word → Read Expr
   poll look r ts = do
-    opened ← expect k.OpenBracket ts
-    xs ← arguments opened.1
-    close ← expect k.CloseBracket xs.1
-    Ok (e.Poll r look xs.0, close.1)
+    xs ← polled ts
+    Ok (e.Poll r look xs.0, xs.1)
 
   -- behind a reference: a poll, where a bracket stands behind a question mark
   abbrev pub behind_by : Option Search → Reference → List Word → Read Expr
@@ -235,8 +249,7 @@ module _ (expr : ℕ → List Word → Read Expr) where
   ask f ts = do
     opened ← expect k.OpenParen ts
     r ← reference opened.1
-    close ← expect k.CloseParen r.1
-    Ok (e.Ask f r.0, close.1)
+    closing k.CloseParen (e.Ask f r.0) r.1
 
   -- behind the operator
   unfoldable pub operand : Prefix → List Word → Read Expr
@@ -244,19 +257,22 @@ module _ (expr : ℕ → List Word → Read Expr) where
     x ← expr prefix_level ts
     Ok (e.Unary p x.0, x.1)
 
-  -- behind the first expression in parentheses
-  unfoldable pub alternatives : Expr → List Word → Read Expr
-  alternatives x ts = when sees k.Arrow ts then (do
+  -- behind the condition
+  unfoldable pub chosen : Expr → List Word → Read Expr
+  chosen x ts = do
     y ← expr_behind k.Arrow ts
     z ← expr_behind k.Colon y.1
-    Ok (e.Choice x y.0 z.0, z.1)) else Ok (x, ts)
+    Ok (e.Choice x y.0 z.0, z.1)
+
+  -- behind the first expression in parentheses
+  unfoldable pub alternatives : Expr → List Word → Read Expr
+  alternatives x ts = when sees k.Arrow ts then chosen x ts else Ok (x, ts)
 
   unfoldable pub group : List Word → Read Expr
   group ts = do
     x ← expr_behind k.OpenParen ts
     y ← alternatives x.0 x.1
-    close ← expect k.CloseParen y.1
-    Ok (y.0, close.1)
+    closing k.CloseParen y.0 y.1
 
   -- by what the next token begins
   abbrev pub prefix_by : Start → List Word → Read Expr
@@ -275,12 +291,18 @@ module _ (expr : ℕ → List Word → Read Expr) where
 
   -- ---- operators
 
+  -- behind the operator between two operands
+  unfoldable pub infix_with : Infix → Expr → List Word → Read Expr
+  infix_with op left ts = do
+    right ← expr (level op + 1) ts
+    Ok (e.Binary op left right.0, right.1)
+
   -- at the operator that comes next, if one does
   abbrev pub climb_by : (Expr → List Word → Read Expr) → ℕ → Expr → List Word → Option Infix → Read Expr
   climb_by again least left ts None = Ok (left, ts)
   climb_by again least left ts (Some op) = when nat_lt (level op) least then Ok (left, ts) else (do
-    right ← expr (level op + 1) (drop 1 ts)
-    again (e.Binary op left right.0) right.1)
+    x ← infix_with op left (drop 1 ts)
+    again x.0 x.1)
 
   -- The number bounds the turns.
   unfoldable pub climb : ℕ → ℕ → Expr → List Word → Read Expr

@@ -118,6 +118,24 @@ impl<'a> Cursor<'a> {
         Ok(())
     }
 
+    /// Takes the next token, which is to be of this kind and closes what was read.
+    #[tactic(auto, unfolding(crate::specs::Reading::closing, crate::specs::Reading::and_then))]
+    pub fn closing<T: Drop>(&mut self, kind: Kind, x: T) -> Result<T, ReadFault>
+        ensures { Reads (reading.closing kind x self.old) result self.new }
+    {
+        self.expect(kind)?;
+        Ok(x)
+    }
+
+    /// Takes the next token, which is to be of this kind, and puts it behind what was read.
+    #[tactic(auto, unfolding(crate::specs::Reading::ending, crate::specs::Reading::and_then))]
+    pub fn ending<T: Drop>(&mut self, kind: Kind, x: T) -> Result<(T, Token<'a>), ReadFault>
+        ensures { Reads (reading.ending kind x self.old) result self.new }
+    {
+        let end = self.expect(kind)?;
+        Ok((x, end))
+    }
+
     /// Takes a name between two tokens of these kinds.
     #[tactic(auto, unfolding(crate::specs::Reading::expect_name, crate::specs::Reading::and_then))]
     pub fn expect_name(&mut self, front: Kind, back: Kind) -> Result<Token<'a>, ReadFault>

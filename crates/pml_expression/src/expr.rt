@@ -1,7 +1,6 @@
 //! Expressions, by precedence climbing, with the references and arguments in them.
 
 ghost use Rattle.std.specs.Prelude.{◌≡◌, IfOk, length, []};
-ghost use Rattle.pml_tree.specs.declared.tree.Expr.TheVariants as e;
 ghost use Rattle.pml_tree.specs.declared.tree.Argument.TheVariants as g;
 ghost use Rattle.pml_expression.specs.Reading as reading;
 ghost use Rattle.pml_expression.specs.Reading.{Reads};
@@ -13,37 +12,6 @@ use pml_lex::token::Kind;
 use pml_tree::tree::{Argument, Expr, Fill, Infix, Prefix, Reference, Sign, Step};
 use sqlite_items::{Boxed, Items};
 use std::alloc::{AllocError, Global};
-
-fn unary(alloc: Global, op: Prefix, x: Expr<'_>) -> Result<Expr<'_>, AllocError>
-    ensures { IfOk result (λ r. r ≡ e.Unary op x.entry) }
-{
-    Ok(Expr::Unary(op, Boxed::new(alloc, x)?))
-}
-
-type Two<'a> = (Boxed<Expr<'a>>, Boxed<Expr<'a>>);
-
-fn two<'a>(alloc: Global, x: Expr<'a>, y: Expr<'a>) -> Result<Two<'a>, AllocError>
-    ensures { IfOk result (λ r. r ≡ (x.entry, y.entry)) }
-{
-    let x = Boxed::new(alloc, x)?;
-    let y = Boxed::new(alloc, y)?;
-    Ok((x, y))
-}
-
-fn binary<'a>(alloc: Global, op: Infix, x: Expr<'a>, y: Expr<'a>) -> Result<Expr<'a>, AllocError>
-    ensures { IfOk result (λ r. r ≡ e.Binary op x.entry y.entry) }
-{
-    let (x, y) = two(alloc, x, y)?;
-    Ok(Expr::Binary(op, x, y))
-}
-
-fn choice<'a>(alloc: Global, x: Expr<'a>, y: Expr<'a>, z: Expr<'a>) -> Result<Expr<'a>, AllocError>
-    ensures { IfOk result (λ r. r ≡ e.Choice x.entry y.entry z.entry) }
-{
-    let (x, y) = two(alloc, x, y)?;
-    let z = Boxed::new(alloc, z)?;
-    Ok(Expr::Choice(x, y, z))
-}
 
 fn evaluated(alloc: Global, x: Expr<'_>) -> Result<Argument<'_>, AllocError>
     ensures { IfOk result (λ r. r ≡ g.Eval x.entry) }
@@ -78,6 +46,22 @@ pub fn expr_behind<'a>(
     expr(alloc, depth, 1, tokens)
 }
 
+/// The expression between tokens of these kinds.
+#[cycle(expr)]
+#[tactic(auto, unfolding(crate::specs::Reading::expr_between, crate::specs::Reading::and_then))]
+pub fn expr_between<'a>(
+    alloc: Global,
+    depth: usize,
+    front: Kind,
+    back: Kind,
+    tokens: &mut Cursor<'a>,
+) -> Result<Expr<'a>, ReadFault>
+    ensures { Reads (reading.expr_between (reading.expr depth) front back tokens.old) result tokens.new }
+{
+    let x = expr_behind(alloc, depth, front, tokens)?;
+    tokens.closing(back, x)
+}
+
 /// The index behind a name, if there is one.
 #[cycle(expr)]
 #[tactic(auto, unfolding(crate::specs::Reading::index, crate::specs::Reading::and_then, crate::specs::Reading::pick))]
@@ -91,24 +75,8 @@ pub fn index<'a>(
     if !tokens.sees(Kind::OpenBracket) {
         return Ok(None);
     }
-    let x = expr_behind(alloc, depth, Kind::OpenBracket, tokens)?;
-    tokens.expect(Kind::CloseBracket)?;
+    let x = expr_between(alloc, depth, Kind::OpenBracket, Kind::CloseBracket, tokens)?;
     Ok(Some(x))
-}
-
-/// An expression in parentheses.
-#[cycle(expr)]
-#[tactic(auto, unfolding(crate::specs::Reading::parenthesized, crate::specs::Reading::and_then))]
-pub fn parenthesized<'a>(
-    alloc: Global,
-    depth: usize,
-    tokens: &mut Cursor<'a>,
-) -> Result<Expr<'a>, ReadFault>
-    ensures { Reads (reading.parenthesized (reading.expr depth) tokens.old) result tokens.new }
-{
-    let x = expr_behind(alloc, depth, Kind::OpenParen, tokens)?;
-    tokens.expect(Kind::CloseParen)?;
-    Ok(x)
 }
 
 #[cycle(expr)]
@@ -173,7 +141,7 @@ fn eval<'a>(alloc: Global, depth: usize, tokens: &mut Cursor<'a>) -> Result<Argu
     ensures { Reads (reading.eval (reading.expr depth) tokens.old) result tokens.new }
 {
     tokens.expect(Kind::Eval)?;
-    let x = parenthesized(alloc, depth, tokens)?;
+    let x = expr_between(alloc, depth, Kind::OpenParen, Kind::CloseParen, tokens)?;
     Ok(evaluated(alloc, x)?)
 }
 
@@ -235,8 +203,7 @@ fn enclosed<'a>(
 {
     tokens.expect(Kind::OpenParen)?;
     let found = argument_list(alloc, depth, first, tokens)?;
-    tokens.expect(Kind::CloseParen)?;
-    Ok(found)
+    tokens.closing(Kind::CloseParen, found)
 }
 
 /// The arguments that a comma or a parenthesis goes on with, behind the first one.
@@ -279,6 +246,21 @@ pub fn arguments<'a>(
     behind_first(alloc, depth, first, tokens)
 }
 
+/// The arguments of a poll, in brackets.
+#[cycle(expr)]
+#[tactic(auto, unfolding(crate::specs::Reading::polled, crate::specs::Reading::and_then))]
+fn polled<'a>(
+    alloc: Global,
+    depth: usize,
+    tokens: &mut Cursor<'a>,
+) -> Result<Items<Argument<'a>>, ReadFault>
+    ensures { Reads (reading.polled (reading.expr depth) tokens.old) result tokens.new }
+{
+    tokens.expect(Kind::OpenBracket)?;
+    let found = arguments(alloc, depth, tokens)?;
+    tokens.closing(Kind::CloseBracket, found)
+}
+
 /// The operand that begins with a reference, behind that.
 #[cycle(expr)]
 #[tactic(auto, unfolding(crate::specs::Reading::behind, crate::specs::Reading::poll, crate::specs::Reading::and_then, crate::specs::Reading::pick))]
@@ -297,10 +279,53 @@ pub fn behind<'a>(
         return Ok(Expr::Read(r));
     }
     tokens.skip();
-    tokens.expect(Kind::OpenBracket)?;
-    let xs = arguments(alloc, depth, tokens)?;
-    tokens.expect(Kind::CloseBracket)?;
+    let xs = polled(alloc, depth, tokens)?;
     Ok(Expr::Poll(r, search, xs))
+}
+
+/// An expression of a level, in a box.
+#[cycle(expr)]
+fn boxed_expr<'a>(
+    alloc: Global,
+    depth: usize,
+    least: u8,
+    tokens: &mut Cursor<'a>,
+) -> Result<Boxed<Expr<'a>>, ReadFault>
+    ensures { Reads (reading.expr depth least tokens.old) result tokens.new }
+{
+    let x = expr(alloc, depth, least, tokens)?;
+    Ok(Boxed::new(alloc, x)?)
+}
+
+/// The expression behind a token of this kind, in a box.
+#[cycle(expr)]
+#[tactic(auto, unfolding(crate::specs::Reading::expr_behind, crate::specs::Reading::and_then))]
+pub fn boxed_behind<'a>(
+    alloc: Global,
+    depth: usize,
+    kind: Kind,
+    tokens: &mut Cursor<'a>,
+) -> Result<Boxed<Expr<'a>>, ReadFault>
+    ensures { Reads (reading.expr_behind (reading.expr depth) kind tokens.old) result tokens.new }
+{
+    tokens.expect(kind)?;
+    boxed_expr(alloc, depth, 1, tokens)
+}
+
+/// The conditional whose condition was read.
+#[cycle(expr)]
+#[tactic(auto, unfolding(crate::specs::Reading::chosen, crate::specs::Reading::and_then))]
+fn chosen<'a>(
+    alloc: Global,
+    depth: usize,
+    x: Boxed<Expr<'a>>,
+    tokens: &mut Cursor<'a>,
+) -> Result<Expr<'a>, ReadFault>
+    ensures { Reads (reading.chosen (reading.expr depth) x.entry tokens.old) result tokens.new }
+{
+    let y = boxed_behind(alloc, depth, Kind::Arrow, tokens)?;
+    let z = boxed_behind(alloc, depth, Kind::Colon, tokens)?;
+    Ok(Expr::Choice(x, y, z))
 }
 
 /// The conditional whose condition was read, or that expression alone.
@@ -317,9 +342,8 @@ fn alternatives<'a>(
     if !tokens.sees(Kind::Arrow) {
         return Ok(x);
     }
-    let y = expr_behind(alloc, depth, Kind::Arrow, tokens)?;
-    let z = expr_behind(alloc, depth, Kind::Colon, tokens)?;
-    Ok(choice(alloc, x, y, z)?)
+    let x = Boxed::new(alloc, x)?;
+    chosen(alloc, depth, x, tokens)
 }
 
 #[cycle(expr)]
@@ -329,8 +353,7 @@ fn group<'a>(alloc: Global, depth: usize, tokens: &mut Cursor<'a>) -> Result<Exp
 {
     let x = expr_behind(alloc, depth, Kind::OpenParen, tokens)?;
     let x = alternatives(alloc, depth, x, tokens)?;
-    tokens.expect(Kind::CloseParen)?;
-    Ok(x)
+    tokens.closing(Kind::CloseParen, x)
 }
 
 /// A reference, or a poll of it.
@@ -356,8 +379,7 @@ fn ask<'a>(
 {
     tokens.expect(Kind::OpenParen)?;
     let r = reference(alloc, depth, tokens)?;
-    tokens.expect(Kind::CloseParen)?;
-    Ok(Expr::Ask(fill, r))
+    tokens.closing(Kind::CloseParen, Expr::Ask(fill, r))
 }
 
 /// The operand of an operator before it, behind that.
@@ -371,8 +393,8 @@ fn operand<'a>(
 ) -> Result<Expr<'a>, ReadFault>
     ensures { Reads (reading.operand (reading.expr depth) op tokens.old) result tokens.new }
 {
-    let x = expr(alloc, depth, PREFIX_LEVEL, tokens)?;
-    Ok(unary(alloc, op, x)?)
+    let x = boxed_expr(alloc, depth, PREFIX_LEVEL, tokens)?;
+    Ok(Expr::Unary(op, x))
 }
 
 #[cycle(expr)]
@@ -405,6 +427,22 @@ fn prefix<'a>(alloc: Global, depth: usize, tokens: &mut Cursor<'a>) -> Result<Ex
     }
 }
 
+/// The operation whose left operand and operator were read.
+#[cycle(expr)]
+#[tactic(auto, unfolding(crate::specs::Reading::infix_with, crate::specs::Reading::and_then))]
+fn infix_with<'a>(
+    alloc: Global,
+    depth: usize,
+    op: Infix,
+    left: Boxed<Expr<'a>>,
+    tokens: &mut Cursor<'a>,
+) -> Result<Expr<'a>, ReadFault>
+    ensures { Reads (reading.infix_with (reading.expr depth) op left.entry tokens.old) result tokens.new }
+{
+    let right = boxed_expr(alloc, depth, level(op) + 1, tokens)?;
+    Ok(Expr::Binary(op, left, right))
+}
+
 /// Goes on from an expression on the left, as long as operators of the level come.
 #[cycle(expr)]
 #[tactic(auto, unfolding(crate::specs::Reading::climb, crate::specs::Reading::and_then, crate::specs::Reading::pick))]
@@ -426,8 +464,8 @@ pub fn climb<'a>(
             return Ok(left);
         }
         tokens.skip();
-        let right = expr(alloc, depth, level(op) + 1, tokens)?;
-        left = binary(alloc, op, left, right)?;
+        let operand = Boxed::new(alloc, left)?;
+        left = infix_with(alloc, depth, op, operand, tokens)?;
     }
     Ok(left)
 }

@@ -44,7 +44,7 @@ exprs_again h depth turns room enough q ends found =
     list_again (expr depth 1) (SpellsExpr 1) depth (λ to. IsQuiet (next to)) (λ x from to s. expr_moves s) (λ c ws is. at IsQuiet is quiet_comma) (λ x from to s low good. expr_whole s depth low good) h turns room enough q ends found
 
 values_again : {xs : List Expr} {from to : List Word} → SpellsValues xs from to → (depth : ℕ) → length from ≤ depth → Stops (next to) → reading.values depth from ≡ Ok (xs, to)
-unfolding reading.values expressions.behind_first expressions.enclosed and_then pick sees
+unfolding reading.values expressions.behind_first expressions.enclosed expressions.closing and_then pick sees
 values_again (grammar.value_list (terms.last_listed h)) depth room s = rw (expr_whole h depth room s.quiet, s.last.no_paren, s.last.no_comma) refl
 values_again (grammar.value_list (terms.more_listed {x} {c} {middle} h is more)) depth room s =
     rw (
@@ -271,7 +271,7 @@ run_deed {from} h depth room = elim (run_kind h) [
 ]
 
 pub action_again : {closed : Bool} {x : Action} {from to : List Word} → SpellsAction closed x from to → (depth : ℕ) → length from ≤ depth → (closed ≡ false → follows (next to) ≡ true) → reading.action depth from ≡ Ok ((x, closed), to)
-unfolding reading.assigned reading.sent reading.received reading.copied reading.changed reading.printed reading.format reading.printf reading.printm reading.assert expressions.parenthesized expressions.expr_behind expect_all sees and_then pick
+unfolding reading.assigned reading.sent reading.received reading.copied reading.changed reading.printed reading.format reading.printf reading.printm reading.assert expressions.expr_between expressions.expr_behind expressions.closing expect_all sees and_then pick
 action_again (grammar.otherwise {w} {to} is) depth room follow = action_at depth (w ∷ to) _ is refl
 action_again (grammar.assign {r} {x} {o} {from} {middle} {to} h is g) depth room follow =
     let s = stops (next to) (follow refl) in

@@ -10,7 +10,7 @@ use Rattle.pml_tree.specs.declared.tree.Reference.{Reference}
 use Rattle.pml_tree.specs.declared.tree.Variable.{Variable}
 use Rattle.pml_syntax.specs.declared.opener.Opener.{Opener}
 use Rattle.pml_syntax.specs.Grammar as grammar
-use Rattle.pml_expression.specs.Grammar.{SpellsExpr, SpellsReference, SpellsList}
+use Rattle.pml_expression.specs.Grammar.{SpellsReference, SpellsList}
 use Rattle.pml_syntax.specs.Grammar.{scalar, is_visibility, SpellsScalar, SpellsVisibility, SpellsOpener, SpellsInitial, SpellsVariable, SpellsVariables, SpellsDeclaration}
 use Rattle.pml_syntax.specs.Starts.{declares}
 use Rattle.pml_expression.specs.Reading as expressions

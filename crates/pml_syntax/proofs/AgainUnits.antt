@@ -199,7 +199,7 @@ names_again o c {from} {to} opened ns closed =
     rw (expect_again k.OpenBrace o from opened, inside, expect_again k.CloseBrace c to closed) refl
 
 starts_again : {s : Starts} {from to : List Word} → SpellsStarts s from to → (depth : ℕ) → length from ≤ depth → next to ≡ k.Proctype → reading.starts depth from ≡ Ok (s, to)
-unfolding reading.starts expressions.index expressions.expr_behind sees and_then pick
+unfolding reading.starts expressions.index expressions.expr_between expressions.expr_behind expressions.closing sees and_then pick
 starts_again (grammar.never {to}) depth room word = rw (not_kind (next to) k.Proctype k.Active word refl) refl
 starts_again (grammar.once {w} {to} is) depth room word = rw (is_kind w.kind k.Active is, expect_again k.Active w to is, not_kind (next to) k.Proctype k.OpenBracket word refl) refl
 starts_again (grammar.times {w} {o} {c} {x} {from} {to} is opened h closed) depth room word =
@@ -311,7 +311,7 @@ declared_unit (grammar.declaration grammar.no_visibility (grammar.of_unsigned {w
 declared_unit (grammar.declaration grammar.no_visibility (grammar.of_typedef {w} is) vs) depth r g = let other : head w.kind ≡ h.Other = at (λ x. head x ≡ h.Other) is refl in rw other g
 
 unit_again : {x : ModelUnit} {from to : List Word} → SpellsUnit x from to → (depth : ℕ) → length from ≤ depth → Stops (next to) → reading.unit depth from ≡ Ok (x, to)
-unfolding reading.variables reading.constants reading.typedef reading.proctype reading.signature reading.init expect_name sees and_then pick
+unfolding reading.variables reading.constants reading.typedef reading.proctype reading.process reading.signature reading.init expect_name sees and_then pick
 unit_again (grammar.variables d) depth room s = declared_unit d depth _ (rw (declaration_again d depth room (λ _. stops_settles s) s.last.no_comma []) refl)
 unit_again (grammar.constants {w} {o} {c} {from} is opened ns closed) depth room s =
     unit_at depth (w ∷ o ∷ from) _ is (rw (not_kind o.kind k.OpenBrace k.Name opened refl, not_kind o.kind k.OpenBrace k.Assign opened refl, names_again o c opened ns closed) refl)

@@ -201,7 +201,7 @@ module _ (depth : ℕ) where
       record { word = w.0.0; opened = o.0.0; parts = parts; is = t.is; opens = u.is; quoted = v.is }
 
   action_by_found : (de : Deed) (ts : List Word) (x : (Action × Bool) × List Word) → deed (next ts) ≡ de → reading.action_by depth de ts ≡ Ok x → IsAction ts x
-  unfolding reading.reference_first reading.changed reading.printf reading.printm reading.assert expressions.parenthesized expressions.expr_behind
+  unfolding reading.reference_first reading.changed reading.printf reading.printm reading.assert expressions.expr_between expressions.expr_behind expressions.closing
   action_by_found d.Else [] x is h = absurd cc
   action_by_found d.Else (w ∷ ws) x is h = subst (IsAction (w ∷ ws)) (ok_is h) (grammar.otherwise (deed_else w.kind is))
   action_by_found d.Name ts x is h =

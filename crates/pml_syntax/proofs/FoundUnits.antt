@@ -287,7 +287,7 @@ module _ (depth : ℕ) where
       (record { word = t.word; opened = t.end; close = c.0.0; inside = n.0.1; front = t.parts; is = t.is; named = t.named; opens = t.ends; closes = y.is; spells = closed_by SpellsParameters y (parameters_found n.0.1 vs.0 vs.1) })
 
   proctype_found : (ts : List Word) (x : ModelUnit × List Word) → reading.proctype depth ts ≡ Ok x → SpellsUnit x.0 ts x.1
-  unfolding reading.proctype
+  unfolding reading.proctype reading.process
   proctype_found ts x h =
       let s = bind_ok h in
       let m = bind_ok s.2 in
@@ -300,7 +300,7 @@ module _ (depth : ℕ) where
       (subst (λ (to : List Word). SpellsParameters m.0.0.1 signed.inside (signed.close ∷ to)) braced.front signed.spells) signed.closes braced.opens braced.spells braced.closes)
 
   init_found : (ts : List Word) (x : ModelUnit × List Word) → reading.init depth ts ≡ Ok x → SpellsUnit x.0 ts x.1
-  unfolding reading.init
+  unfolding reading.init reading.process
   init_found ts x h =
       let w = bind_ok h in
       let t = expect_ok w.1 in

@@ -24,7 +24,7 @@ use Rattle.pml_tree.specs.declared.tree.Basic.TheVariants as b
 use Rattle.pml_tree.specs.declared.tree.Item.{Item}
 use Rattle.pml_tree.specs.declared.tree.Seq.{Seq}
 use Rattle.pml_expression.specs.Grammar.{between}
-use Rattle.pml_expression.specs.Reading.{Read, ◌>>=◌, when◌then◌else◌, next, sees, refuse, expect, expect_all, expect_name, list_from, behind_first, expr_behind, index, parenthesized, reference, arguments, behind, climb, expr}
+use Rattle.pml_expression.specs.Reading.{Read, ◌>>=◌, when◌then◌else◌, next, sees, refuse, expect, expect_all, expect_name, list_from, behind_first, expr_behind, expr_between, index, reference, arguments, behind, climb, expr}
 use Rattle.pml_syntax.specs.declared.opener.Opener.{Opener}
 use Rattle.pml_syntax.specs.declared.opener.Opener.TheVariants as opener
 use Rattle.pml_syntax.specs.declared.starts.Opening.{Opening}
@@ -79,6 +79,12 @@ scalar_by None ts = refuse ts
 
 unfoldable pub scalar_of : List Word → Read Scalar
 scalar_of ts = scalar_by (scalar (next ts)) ts
+
+-- behind the word
+unfoldable pub goto : List Word → Read (Basic × Bool)
+goto ts = do
+  name ← expect k.Name ts
+  Ok ((b.Goto name.0, false), name.1)
 
 -- a `printf` up to its string
 unfoldable pub format : List Word → Read Word
@@ -191,7 +197,7 @@ module _ (depth : ℕ) where
   unfoldable pub printm : List Word → Read (Action × Bool)
   printm ts = do
     word ← expect k.Printm ts
-    x ← parenthesized (expr depth) word.1
+    x ← expr_between (expr depth) k.OpenParen k.CloseParen word.1
     Ok ((a.Printm x.0, false), x.1)
 
   unfoldable pub assert : List Word → Read (Action × Bool)
@@ -285,11 +291,6 @@ module _ (depth : ℕ) where
 
   -- ---- what has no body inside
 
-  unfoldable pub goto : List Word → Read (Basic × Bool)
-  goto ts = do
-    name ← expect k.Name ts
-    Ok ((b.Goto name.0, false), name.1)
-
   unfoldable pub plainly : List Word → Read (Basic × Bool)
   plainly ts = do
     x ← action ts
@@ -360,13 +361,22 @@ module _ (depth : ℕ) (body : List Word → Read (List Item × Bool)) where
     xs ← braces ts
     Ok ((b.DStep (seq_of xs.0), true), xs.1)
 
+  abbrev pub branching : Opening → List Word → Read (Basic × Bool)
+  branching o.Do ts = do_od ts
+  branching _ ts = if_fi ts
+
+  abbrev pub embraced : Opening → List Word → Read (Basic × Bool)
+  embraced o.Atomic ts = atomic ts
+  embraced o.DStep ts = d_step ts
+  embraced _ ts = block ts
+
   abbrev pub basic_by : Opening → List Word → Read (Basic × Bool)
   basic_by o.If ts = if_fi (drop 1 ts)
   basic_by o.Do ts = do_od (drop 1 ts)
   basic_by o.Block ts = block ts
   basic_by o.Atomic ts = atomic (drop 1 ts)
   basic_by o.DStep ts = d_step (drop 1 ts)
-  basic_by o.Goto ts = goto depth (drop 1 ts)
+  basic_by o.Goto ts = goto (drop 1 ts)
   basic_by o.Break ts = Ok ((b.Break, false), drop 1 ts)
   basic_by o.Other ts = plainly depth ts
 

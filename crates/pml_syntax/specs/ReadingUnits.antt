@@ -143,18 +143,22 @@ module _ (depth : ℕ) where
     close ← expect k.CloseBrace xs.1
     Ok ((xs.0, close.0), close.1)
 
+  -- a proctype or `init`, from its body on
+  unfoldable pub process : Starts → Word → List Variable → List Word → Read ModelUnit
+  process s name vs ts = do
+    x ← body ts
+    Ok (u.Proctype (proctype_of s name vs (seq_of x.0.0) x.0.1), x.1)
+
   unfoldable pub proctype : List Word → Read ModelUnit
   proctype ts = do
     s ← starts ts
     m ← signature s.1
-    x ← body m.1
-    Ok (u.Proctype (proctype_of s.0 m.0.0 m.0.1 (seq_of x.0.0) x.0.1), x.1)
+    process s.0 m.0.0 m.0.1 m.1
 
   unfoldable pub init : List Word → Read ModelUnit
   init ts = do
     word ← expect k.Init ts
-    x ← body word.1
-    Ok (u.Proctype (proctype_of starting.Once word.0 [] (seq_of x.0.0) x.0.1), x.1)
+    process starting.Once word.0 [] word.1
 
   unfoldable pub variables : List Word → Read ModelUnit
   variables ts = do

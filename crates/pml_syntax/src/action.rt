@@ -8,13 +8,11 @@ ghost use Rattle.pml_syntax.specs.ReadingStatements as reading;
 use crate::ahead::leads_to_run;
 use crate::starts::{Change, Deed, change_of, deed_of};
 use pml_expression::cursor::Cursor;
-use pml_expression::expr::{
-    arguments, behind, climb, expr, expr_behind, parenthesized, reference,
-};
+use pml_expression::expr::{arguments, behind, climb, expr, expr_behind, expr_between, reference};
 use pml_expression::fault::ReadFault;
 use pml_lex::token::{Kind, Token};
 use pml_tree::tree::{Action, Argument, Expr, Reference, Removal, Run, Search, SendOrder};
-use sqlite_items::Items;
+use sqlite_items::{Boxed, Items};
 use std::alloc::Global;
 
 /// Expressions with commas between them, behind the first ones.
@@ -40,7 +38,7 @@ fn expr_list<'a>(
 }
 
 /// Expressions in parentheses, behind the first ones.
-#[tactic(auto, unfolding(pml_expression::specs::Reading::enclosed, pml_expression::specs::Reading::and_then))]
+#[tactic(auto, unfolding(pml_expression::specs::Reading::enclosed, pml_expression::specs::Reading::closing, pml_expression::specs::Reading::and_then))]
 fn enclosed<'a>(
     alloc: Global,
     depth: usize,
@@ -51,8 +49,7 @@ fn enclosed<'a>(
 {
     tokens.expect(Kind::OpenParen)?;
     let found = expr_list(alloc, depth, first, tokens)?;
-    tokens.expect(Kind::CloseParen)?;
-    Ok(found)
+    tokens.closing(Kind::CloseParen, found)
 }
 
 /// The expressions that a comma or a parenthesis goes on with, behind the first one.
@@ -105,14 +102,13 @@ fn run_values<'a>(
     expr_list(alloc, depth, none, tokens)
 }
 
-#[tactic(auto, unfolding(crate::specs::ReadingStatements::run_call, pml_expression::specs::Reading::and_then))]
+#[tactic(auto, unfolding(crate::specs::ReadingStatements::run_call, pml_expression::specs::Reading::closing, pml_expression::specs::Reading::and_then))]
 fn run_call<'a>(alloc: Global, depth: usize, tokens: &mut Cursor<'a>) -> Result<Run<'a>, ReadFault>
     ensures { Reads (reading.run_call depth tokens.old) result tokens.new }
 {
     let name = tokens.expect_name(Kind::Run, Kind::OpenParen)?;
     let arguments = run_values(alloc, depth, tokens)?;
-    tokens.expect(Kind::CloseParen)?;
-    Ok(Run { name, arguments })
+    tokens.closing(Kind::CloseParen, Run { name, arguments })
 }
 
 /// A run in at most `nested - 1` parentheses.
@@ -142,11 +138,11 @@ fn run_first<'a>(
     alloc: Global,
     depth: usize,
     tokens: &mut Cursor<'a>,
-) -> Result<(Action<'a>, bool), ReadFault>
+) -> Result<(Boxed<Action<'a>>, bool), ReadFault>
     ensures { Reads (reading.run_first depth tokens.old) result tokens.new }
 {
     let x = run_within(alloc, depth, tokens.left(), tokens)?;
-    Ok((Action::Run(x), false))
+    Ok((Boxed::new(alloc, Action::Run(x))?, false))
 }
 
 #[tactic(auto, unfolding(crate::specs::ReadingStatements::holds, pml_expression::specs::Reading::and_then))]
@@ -154,11 +150,11 @@ fn holds<'a>(
     alloc: Global,
     depth: usize,
     tokens: &mut Cursor<'a>,
-) -> Result<(Action<'a>, bool), ReadFault>
+) -> Result<(Boxed<Action<'a>>, bool), ReadFault>
     ensures { Reads (reading.holds depth tokens.old) result tokens.new }
 {
     let x = expr(alloc, depth, 1, tokens)?;
-    Ok((Action::Holds(x), false))
+    Ok((Boxed::new(alloc, Action::Holds(x))?, false))
 }
 
 /// The expression that begins with a reference, behind that.
@@ -168,12 +164,12 @@ fn continued<'a>(
     depth: usize,
     r: Reference<'a>,
     tokens: &mut Cursor<'a>,
-) -> Result<(Action<'a>, bool), ReadFault>
+) -> Result<(Boxed<Action<'a>>, bool), ReadFault>
     ensures { Reads (reading.continued depth r.entry tokens.old) result tokens.new }
 {
     let first = behind(alloc, depth, r, tokens)?;
     let x = climb(alloc, depth, 1, first, tokens)?;
-    Ok((Action::Holds(x), false))
+    Ok((Boxed::new(alloc, Action::Holds(x))?, false))
 }
 
 #[tactic(auto, unfolding(crate::specs::ReadingStatements::assigned, pml_expression::specs::Reading::and_then, pml_expression::specs::Reading::pick))]
@@ -182,15 +178,15 @@ fn assigned<'a>(
     depth: usize,
     r: Reference<'a>,
     tokens: &mut Cursor<'a>,
-) -> Result<(Action<'a>, bool), ReadFault>
+) -> Result<(Boxed<Action<'a>>, bool), ReadFault>
     ensures { Reads (reading.assigned depth r.entry tokens.old) result tokens.new }
 {
     if leads_to_run(tokens) {
         let x = run_within(alloc, depth, tokens.left(), tokens)?;
-        return Ok((Action::AssignRun(r, x), false));
+        return Ok((Boxed::new(alloc, Action::AssignRun(r, x))?, false));
     }
     let x = expr(alloc, depth, 1, tokens)?;
-    Ok((Action::Assign(r, x), false))
+    Ok((Boxed::new(alloc, Action::Assign(r, x))?, false))
 }
 
 #[tactic(auto, unfolding(crate::specs::ReadingStatements::sent, pml_expression::specs::Reading::and_then))]
@@ -200,15 +196,15 @@ fn sent<'a>(
     order: SendOrder,
     r: Reference<'a>,
     tokens: &mut Cursor<'a>,
-) -> Result<(Action<'a>, bool), ReadFault>
+) -> Result<(Boxed<Action<'a>>, bool), ReadFault>
     ensures { Reads (reading.sent depth order r.entry tokens.old) result tokens.new }
 {
     let xs = values(alloc, depth, tokens)?;
-    Ok((Action::Send(r, order, xs), false))
+    Ok((Boxed::new(alloc, Action::Send(r, order, xs))?, false))
 }
 
 /// The arguments of a receive that leaves its message in the channel.
-#[tactic(auto, unfolding(crate::specs::ReadingStatements::copied, pml_expression::specs::Reading::and_then))]
+#[tactic(auto, unfolding(crate::specs::ReadingStatements::copied, pml_expression::specs::Reading::closing, pml_expression::specs::Reading::and_then))]
 fn copied<'a>(
     alloc: Global,
     depth: usize,
@@ -218,8 +214,7 @@ fn copied<'a>(
 {
     tokens.expect(Kind::Less)?;
     let xs = arguments(alloc, depth, tokens)?;
-    tokens.expect(Kind::Greater)?;
-    Ok(xs)
+    tokens.closing(Kind::Greater, xs)
 }
 
 #[tactic(auto, unfolding(crate::specs::ReadingStatements::received, pml_expression::specs::Reading::and_then, pml_expression::specs::Reading::pick))]
@@ -229,15 +224,21 @@ fn received<'a>(
     search: Search,
     r: Reference<'a>,
     tokens: &mut Cursor<'a>,
-) -> Result<(Action<'a>, bool), ReadFault>
+) -> Result<(Boxed<Action<'a>>, bool), ReadFault>
     ensures { Reads (reading.received depth search r.entry tokens.old) result tokens.new }
 {
     if tokens.sees(Kind::Less) {
         let xs = copied(alloc, depth, tokens)?;
-        return Ok((Action::Receive(r, search, Removal::Keep, xs), false));
+        return Ok((
+            Boxed::new(alloc, Action::Receive(r, search, Removal::Keep, xs))?,
+            false,
+        ));
     }
     let xs = arguments(alloc, depth, tokens)?;
-    Ok((Action::Receive(r, search, Removal::Remove, xs), false))
+    Ok((
+        Boxed::new(alloc, Action::Receive(r, search, Removal::Remove, xs))?,
+        false,
+    ))
 }
 
 /// What a statement that begins with a reference does with it.
@@ -247,7 +248,7 @@ fn changed<'a>(
     depth: usize,
     r: Reference<'a>,
     tokens: &mut Cursor<'a>,
-) -> Result<(Action<'a>, bool), ReadFault>
+) -> Result<(Boxed<Action<'a>>, bool), ReadFault>
     ensures { Reads (reading.changed depth r.entry tokens.old) result tokens.new }
 {
     match change_of(tokens.peek()) {
@@ -257,11 +258,11 @@ fn changed<'a>(
         }
         Change::Increment => {
             tokens.skip();
-            Ok((Action::Increment(r), false))
+            Ok((Boxed::new(alloc, Action::Increment(r))?, false))
         }
         Change::Decrement => {
             tokens.skip();
-            Ok((Action::Decrement(r), false))
+            Ok((Boxed::new(alloc, Action::Decrement(r))?, false))
         }
         Change::Send(order) => {
             tokens.skip();
@@ -303,18 +304,18 @@ fn format<'a>(tokens: &mut Cursor<'a>) -> Result<Token<'a>, ReadFault>
     tokens.expect(Kind::Quoted)
 }
 
-#[tactic(auto, unfolding(crate::specs::ReadingStatements::printf, pml_expression::specs::Reading::and_then))]
+#[tactic(auto, unfolding(crate::specs::ReadingStatements::printf, pml_expression::specs::Reading::closing, pml_expression::specs::Reading::and_then))]
 fn printf<'a>(
     alloc: Global,
     depth: usize,
     tokens: &mut Cursor<'a>,
-) -> Result<(Action<'a>, bool), ReadFault>
+) -> Result<(Boxed<Action<'a>>, bool), ReadFault>
     ensures { Reads (reading.printf depth tokens.old) result tokens.new }
 {
     let string = format(tokens)?;
     let xs = printed(alloc, depth, tokens)?;
-    tokens.expect(Kind::CloseParen)?;
-    Ok((Action::Printf(string, xs), false))
+    let x = Boxed::new(alloc, Action::Printf(string, xs))?;
+    tokens.closing(Kind::CloseParen, (x, false))
 }
 
 #[tactic(auto, unfolding(crate::specs::ReadingStatements::printm, pml_expression::specs::Reading::and_then))]
@@ -322,12 +323,12 @@ fn printm<'a>(
     alloc: Global,
     depth: usize,
     tokens: &mut Cursor<'a>,
-) -> Result<(Action<'a>, bool), ReadFault>
+) -> Result<(Boxed<Action<'a>>, bool), ReadFault>
     ensures { Reads (reading.printm depth tokens.old) result tokens.new }
 {
     tokens.expect(Kind::Printm)?;
-    let x = parenthesized(alloc, depth, tokens)?;
-    Ok((Action::Printm(x), false))
+    let x = expr_between(alloc, depth, Kind::OpenParen, Kind::CloseParen, tokens)?;
+    Ok((Boxed::new(alloc, Action::Printm(x))?, false))
 }
 
 /// A statement without structure.
@@ -336,13 +337,13 @@ pub fn action<'a>(
     alloc: Global,
     depth: usize,
     tokens: &mut Cursor<'a>,
-) -> Result<(Action<'a>, bool), ReadFault>
+) -> Result<(Boxed<Action<'a>>, bool), ReadFault>
     ensures { Reads (reading.action depth tokens.old) result tokens.new }
 {
     match deed_of(tokens.peek()) {
         Deed::Else => {
             tokens.skip();
-            Ok((Action::Else, true))
+            Ok((Boxed::new(alloc, Action::Else)?, true))
         }
         Deed::Name => {
             let r = reference(alloc, depth, tokens)?;
@@ -359,7 +360,7 @@ pub fn action<'a>(
         Deed::Printm => printm(alloc, depth, tokens),
         Deed::Assert => {
             let x = expr_behind(alloc, depth, Kind::Assert, tokens)?;
-            Ok((Action::Assert(x), false))
+            Ok((Boxed::new(alloc, Action::Assert(x))?, false))
         }
         Deed::Other => holds(alloc, depth, tokens),
     }

@@ -16,7 +16,7 @@ use pml_expression::fault::ReadFault;
 use pml_lex::token::{Kind, Token};
 use pml_tree::tokens::Tokens;
 use pml_tree::tree::{Basic, Item, Seq};
-use sqlite_items::Items;
+use sqlite_items::{Boxed, Items};
 use std::alloc::{AllocError, Global};
 
 #[tactic(auto, unfolding(crate::specs::ReadingStatements::labels_from, pml_expression::specs::Reading::and_then, pml_expression::specs::Reading::pick))]
@@ -42,11 +42,11 @@ fn either(a: bool, b: bool) -> bool
 }
 
 /// One statement, as items.
-fn alone<'a>(alloc: Global, item: Item<'a>) -> Result<Items<Item<'a>>, AllocError>
+fn alone<'a>(alloc: Global, item: Boxed<Item<'a>>) -> Result<Items<Item<'a>>, AllocError>
     ensures { IfOk result (λ r. r ≡ item.entry ∷ []) }
 {
     let mut items = Items::new(alloc);
-    items.push(item)?;
+    items.push(item.into_inner())?;
     Ok(items)
 }
 
@@ -56,14 +56,44 @@ fn unless<'a>(
     main: Items<Item<'a>>,
     escape: Items<Item<'a>>,
     tokens: Tokens<'a>,
-) -> Item<'a>
-    ensures { result ≡ grammar.item_of [] (b.Unless (grammar.seq_of main.entry) (grammar.seq_of escape.entry)) tokens.entry }
+) -> Result<Boxed<Item<'a>>, AllocError>
+    ensures { IfOk result (λ r. r ≡ grammar.item_of [] (b.Unless (grammar.seq_of main.entry) (grammar.seq_of escape.entry)) tokens.entry) }
 {
-    Item {
-        labels: Items::new(alloc),
-        basic: Basic::Unless(Seq { items: main }, Seq { items: escape }),
+    let basic = Basic::Unless(Seq { items: main }, Seq { items: escape });
+    unlabelled(alloc, basic, tokens)
+}
+
+/// An item behind its labels.
+fn labelled<'a>(
+    alloc: Global,
+    labels: Items<Token<'a>>,
+    basic: Boxed<Basic<'a>>,
+    tokens: Tokens<'a>,
+) -> Result<Boxed<Item<'a>>, AllocError>
+    ensures { IfOk result (λ r. r ≡ grammar.item_of labels.entry basic.entry tokens.entry) }
+{
+    let item = Item {
+        labels,
+        basic: basic.into_inner(),
         tokens,
-    }
+    };
+    Ok(Boxed::new(alloc, item)?)
+}
+
+/// An item without labels.
+fn unlabelled<'a>(
+    alloc: Global,
+    basic: Basic<'a>,
+    tokens: Tokens<'a>,
+) -> Result<Boxed<Item<'a>>, AllocError>
+    ensures { IfOk result (λ r. r ≡ grammar.item_of [] basic.entry tokens.entry) }
+{
+    let item = Item {
+        labels: Items::new(alloc),
+        basic,
+        tokens,
+    };
+    Ok(Boxed::new(alloc, item)?)
 }
 
 #[tactic(auto, unfolding(crate::specs::ReadingStatements::declared, pml_expression::specs::Reading::and_then))]
@@ -71,16 +101,12 @@ fn declared<'a>(
     alloc: Global,
     depth: usize,
     tokens: &mut Cursor<'a>,
-) -> Result<(Item<'a>, bool, bool), ReadFault>
+) -> Result<(Boxed<Item<'a>>, bool, bool), ReadFault>
     ensures { Reads (reading.declared depth tokens.old) result tokens.new }
 {
     let start = tokens.ahead();
     let (variables, closed) = declaration(alloc, depth, Items::new(alloc), tokens)?;
-    let item = Item {
-        labels: Items::new(alloc),
-        basic: Basic::Declare(variables),
-        tokens: tokens.since(start),
-    };
+    let item = unlabelled(alloc, Basic::Declare(variables), tokens.since(start))?;
     Ok((item, false, closed))
 }
 
@@ -89,17 +115,13 @@ fn exclusive<'a>(
     alloc: Global,
     depth: usize,
     tokens: &mut Cursor<'a>,
-) -> Result<(Item<'a>, bool, bool), ReadFault>
+) -> Result<(Boxed<Item<'a>>, bool, bool), ReadFault>
     ensures { Reads (reading.exclusive depth tokens.old) result tokens.new }
 {
     let start = tokens.ahead();
     tokens.skip();
     let channels = references(alloc, depth, tokens)?;
-    let item = Item {
-        labels: Items::new(alloc),
-        basic: Basic::Exclusive(channels),
-        tokens: tokens.since(start),
-    };
+    let item = unlabelled(alloc, Basic::Exclusive(channels), tokens.since(start))?;
     Ok((item, false, false))
 }
 
@@ -108,17 +130,30 @@ fn plainly<'a>(
     alloc: Global,
     depth: usize,
     tokens: &mut Cursor<'a>,
-) -> Result<(Basic<'a>, bool), ReadFault>
+) -> Result<(Boxed<Basic<'a>>, bool), ReadFault>
     ensures { Reads (reading.plainly depth tokens.old) result tokens.new }
 {
     let (x, closed) = action(alloc, depth, tokens)?;
-    Ok((Basic::Plain(x), closed))
+    Ok((Boxed::new(alloc, Basic::Plain(x.into_inner()))?, closed))
+}
+
+/// The label that a `goto` names.
+#[tactic(auto, unfolding(crate::specs::ReadingStatements::goto, pml_expression::specs::Reading::and_then))]
+fn goto<'a>(alloc: Global, tokens: &mut Cursor<'a>) -> Result<(Boxed<Basic<'a>>, bool), ReadFault>
+    ensures { Reads (reading.goto tokens.old) result tokens.new }
+{
+    let name = tokens.expect(Kind::Name)?;
+    Ok((Boxed::new(alloc, Basic::Goto(name))?, false))
 }
 
 /// The items of a body with a statement.
 #[cycle(body)]
 #[tactic(auto, unfolding(crate::specs::ReadingStatements::seq, pml_expression::specs::Reading::and_then, pml_expression::specs::Reading::pick))]
-fn seq<'a>(alloc: Global, depth: usize, tokens: &mut Cursor<'a>) -> Result<Items<Item<'a>>, ReadFault>
+fn seq<'a>(
+    alloc: Global,
+    depth: usize,
+    tokens: &mut Cursor<'a>,
+) -> Result<Items<Item<'a>>, ReadFault>
     ensures { Reads (reading.seq depth (reading.items depth) tokens.old) result tokens.new }
 {
     let (found, step) = body(alloc, depth, tokens)?;
@@ -151,7 +186,7 @@ fn option_list<'a>(
 
 /// Options, and the word that ends them.
 #[cycle(body)]
-#[tactic(auto, unfolding(crate::specs::ReadingStatements::options, pml_expression::specs::Reading::and_then))]
+#[tactic(auto, unfolding(crate::specs::ReadingStatements::options, pml_expression::specs::Reading::closing, pml_expression::specs::Reading::and_then))]
 fn options<'a>(
     alloc: Global,
     depth: usize,
@@ -161,13 +196,12 @@ fn options<'a>(
     ensures { Reads (reading.options depth (reading.items depth) last tokens.old) result tokens.new }
 {
     let found = option_list(alloc, depth, tokens)?;
-    tokens.expect(last)?;
-    Ok(found)
+    tokens.closing(last, found)
 }
 
 /// A body in braces.
 #[cycle(body)]
-#[tactic(auto, unfolding(crate::specs::ReadingStatements::braces, pml_expression::specs::Reading::and_then))]
+#[tactic(auto, unfolding(crate::specs::ReadingStatements::braces, pml_expression::specs::Reading::closing, pml_expression::specs::Reading::and_then))]
 fn braces<'a>(
     alloc: Global,
     depth: usize,
@@ -177,114 +211,83 @@ fn braces<'a>(
 {
     tokens.expect(Kind::OpenBrace)?;
     let items = seq(alloc, depth, tokens)?;
-    tokens.expect(Kind::CloseBrace)?;
-    Ok(items)
+    tokens.closing(Kind::CloseBrace, items)
 }
 
-/// The options of an `if`, behind the word.
+/// An `if` or a `do`, behind the word.
 #[cycle(body)]
-#[tactic(auto, unfolding(crate::specs::ReadingStatements::if_fi, pml_expression::specs::Reading::and_then))]
-fn if_fi<'a>(
+#[tactic(auto, unfolding(crate::specs::ReadingStatements::if_fi, crate::specs::ReadingStatements::do_od, pml_expression::specs::Reading::and_then))]
+fn branching<'a>(
     alloc: Global,
     depth: usize,
+    opening: Opening,
     tokens: &mut Cursor<'a>,
-) -> Result<(Basic<'a>, bool), ReadFault>
-    ensures { Reads (reading.if_fi depth (reading.items depth) tokens.old) result tokens.new }
+) -> Result<(Boxed<Basic<'a>>, bool), ReadFault>
+    ensures { Reads (reading.branching depth (reading.items depth) opening tokens.old) result tokens.new }
 {
+    if let Opening::Do = opening {
+        let found = options(alloc, depth, Kind::Od, tokens)?;
+        return Ok((Boxed::new(alloc, Basic::Do(found))?, true));
+    }
     let found = options(alloc, depth, Kind::Fi, tokens)?;
-    Ok((Basic::If(found), true))
+    Ok((Boxed::new(alloc, Basic::If(found))?, true))
 }
 
-/// The options of a `do`, behind the word.
+/// A body in braces, behind the word that makes it one step, if there is one.
 #[cycle(body)]
-#[tactic(auto, unfolding(crate::specs::ReadingStatements::do_od, pml_expression::specs::Reading::and_then))]
-fn do_od<'a>(
+#[tactic(auto, unfolding(crate::specs::ReadingStatements::block, crate::specs::ReadingStatements::atomic, crate::specs::ReadingStatements::d_step, pml_expression::specs::Reading::and_then))]
+fn embraced<'a>(
     alloc: Global,
     depth: usize,
+    opening: Opening,
     tokens: &mut Cursor<'a>,
-) -> Result<(Basic<'a>, bool), ReadFault>
-    ensures { Reads (reading.do_od depth (reading.items depth) tokens.old) result tokens.new }
-{
-    let found = options(alloc, depth, Kind::Od, tokens)?;
-    Ok((Basic::Do(found), true))
-}
-
-/// A body in braces.
-#[cycle(body)]
-#[tactic(auto, unfolding(crate::specs::ReadingStatements::block, pml_expression::specs::Reading::and_then))]
-fn block<'a>(
-    alloc: Global,
-    depth: usize,
-    tokens: &mut Cursor<'a>,
-) -> Result<(Basic<'a>, bool), ReadFault>
-    ensures { Reads (reading.block depth (reading.items depth) tokens.old) result tokens.new }
+) -> Result<(Boxed<Basic<'a>>, bool), ReadFault>
+    ensures { Reads (reading.embraced depth (reading.items depth) opening tokens.old) result tokens.new }
 {
     let items = braces(alloc, depth, tokens)?;
-    Ok((Basic::Block(Seq { items }), true))
-}
-
-/// The body of an `atomic`, behind the word.
-#[cycle(body)]
-#[tactic(auto, unfolding(crate::specs::ReadingStatements::atomic, pml_expression::specs::Reading::and_then))]
-fn atomic<'a>(
-    alloc: Global,
-    depth: usize,
-    tokens: &mut Cursor<'a>,
-) -> Result<(Basic<'a>, bool), ReadFault>
-    ensures { Reads (reading.atomic depth (reading.items depth) tokens.old) result tokens.new }
-{
-    let items = braces(alloc, depth, tokens)?;
-    Ok((Basic::Atomic(Seq { items }), true))
-}
-
-/// The body of a `d_step`, behind the word.
-#[cycle(body)]
-#[tactic(auto, unfolding(crate::specs::ReadingStatements::d_step, pml_expression::specs::Reading::and_then))]
-fn d_step<'a>(
-    alloc: Global,
-    depth: usize,
-    tokens: &mut Cursor<'a>,
-) -> Result<(Basic<'a>, bool), ReadFault>
-    ensures { Reads (reading.d_step depth (reading.items depth) tokens.old) result tokens.new }
-{
-    let items = braces(alloc, depth, tokens)?;
-    Ok((Basic::DStep(Seq { items }), true))
+    let body = Seq { items };
+    let basic = match opening {
+        Opening::Atomic => Basic::Atomic(body),
+        Opening::DStep => Basic::DStep(body),
+        _ => Basic::Block(body),
+    };
+    Ok((Boxed::new(alloc, basic)?, true))
 }
 
 #[cycle(body)]
-#[tactic(auto, unfolding(crate::specs::ReadingStatements::basic, crate::specs::ReadingStatements::goto, pml_expression::specs::Reading::and_then))]
+#[tactic(auto, unfolding(crate::specs::ReadingStatements::basic, pml_expression::specs::Reading::and_then))]
 fn basic<'a>(
     alloc: Global,
     depth: usize,
     tokens: &mut Cursor<'a>,
-) -> Result<(Basic<'a>, bool), ReadFault>
+) -> Result<(Boxed<Basic<'a>>, bool), ReadFault>
     ensures { Reads (reading.basic depth (reading.items depth) tokens.old) result tokens.new }
 {
     match opening_of(tokens.peek()) {
         Opening::If => {
             tokens.skip();
-            if_fi(alloc, depth, tokens)
+            branching(alloc, depth, Opening::If, tokens)
         }
         Opening::Do => {
             tokens.skip();
-            do_od(alloc, depth, tokens)
+            branching(alloc, depth, Opening::Do, tokens)
         }
-        Opening::Block => block(alloc, depth, tokens),
+        Opening::Block => embraced(alloc, depth, Opening::Block, tokens),
         Opening::Atomic => {
             tokens.skip();
-            atomic(alloc, depth, tokens)
+            embraced(alloc, depth, Opening::Atomic, tokens)
         }
         Opening::DStep => {
             tokens.skip();
-            d_step(alloc, depth, tokens)
+            embraced(alloc, depth, Opening::DStep, tokens)
         }
         Opening::Goto => {
             tokens.skip();
-            Ok((Basic::Goto(tokens.expect(Kind::Name)?), false))
+            goto(alloc, tokens)
         }
         Opening::Break => {
             tokens.skip();
-            Ok((Basic::Break, false))
+            Ok((Boxed::new(alloc, Basic::Break)?, false))
         }
         Opening::Other => plainly(alloc, depth, tokens),
     }
@@ -296,21 +299,14 @@ fn statement<'a>(
     alloc: Global,
     depth: usize,
     tokens: &mut Cursor<'a>,
-) -> Result<(Item<'a>, bool), ReadFault>
+) -> Result<(Boxed<Item<'a>>, bool), ReadFault>
     ensures { Reads (reading.statement depth (reading.items depth) tokens.old) result tokens.new }
 {
     let labels = labels(alloc, tokens)?;
     let start = tokens.ahead();
     let (basic, closed) = basic(alloc, depth, tokens)?;
-    let tokens = tokens.since(start);
-    Ok((
-        Item {
-            labels,
-            basic,
-            tokens,
-        },
-        closed,
-    ))
+    let item = labelled(alloc, labels, basic, tokens.since(start))?;
+    Ok((item, closed))
 }
 
 /// What a statement gives way to.
@@ -335,7 +331,7 @@ fn stepped<'a>(
     alloc: Global,
     depth: usize,
     tokens: &mut Cursor<'a>,
-) -> Result<(Item<'a>, bool, bool), ReadFault>
+) -> Result<(Boxed<Item<'a>>, bool, bool), ReadFault>
     ensures { Reads (reading.stepped depth (reading.items depth) tokens.old) result tokens.new }
 {
     let start = tokens.ahead();
@@ -345,7 +341,7 @@ fn stepped<'a>(
     }
     let main = alone(alloc, main)?;
     let (escape, closed) = escape(alloc, depth, tokens)?;
-    let item = unless(alloc, main, escape, tokens.since(start));
+    let item = unless(alloc, main, escape, tokens.since(start))?;
     Ok((item, true, closed))
 }
 
@@ -355,16 +351,16 @@ fn item<'a>(
     alloc: Global,
     depth: usize,
     tokens: &mut Cursor<'a>,
-) -> Result<(Item<'a>, bool, bool), ReadFault>
+) -> Result<(Boxed<Item<'a>>, bool, bool), ReadFault>
     ensures { Reads (reading.item depth (reading.items depth) tokens.old) result tokens.new }
 {
     if is_declaration(tokens) {
-        return Ok(declared(alloc, depth, tokens)?);
+        return declared(alloc, depth, tokens);
     }
     if is_exclusive(tokens.peek()) {
-        return Ok(exclusive(alloc, depth, tokens)?);
+        return exclusive(alloc, depth, tokens);
     }
-    Ok(stepped(alloc, depth, tokens)?)
+    stepped(alloc, depth, tokens)
 }
 
 #[cycle(body)]
@@ -380,7 +376,7 @@ fn items<'a>(
     let mut step = false;
     for _turn in 0..tokens.left() {
         let (x, is_step, closed) = item(alloc, depth, tokens)?;
-        found.push(x)?;
+        found.push(x.into_inner())?;
         step = either(step, is_step);
         let joined = either(closed, is_separator(tokens.peek()));
         skip_separators(tokens);

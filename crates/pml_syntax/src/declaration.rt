@@ -9,11 +9,11 @@ use crate::ahead::skip_visibility;
 use crate::opener::Opener;
 use crate::starts::scalar;
 use pml_expression::cursor::Cursor;
-use pml_expression::expr::{expr, expr_behind, index, reference};
+use pml_expression::expr::{boxed_behind, expr, expr_behind, index, reference};
 use pml_expression::fault::ReadFault;
 use pml_lex::token::{Kind, Token};
 use pml_tree::tree::{Expr, Initial, Reference, Scalar, Sort, Variable};
-use sqlite_items::Items;
+use sqlite_items::{Boxed, Items};
 use std::alloc::Global;
 
 /// A type, `unsigned`, or the name of a typedef.
@@ -61,15 +61,19 @@ fn scalars(alloc: Global, tokens: &mut Cursor<'_>) -> Result<Items<Scalar>, Read
 
 /// The capacity of a channel, up to the types that it carries.
 #[tactic(auto, unfolding(crate::specs::ReadingStatements::capacity, pml_expression::specs::Reading::and_then))]
-fn capacity<'a>(alloc: Global, depth: usize, tokens: &mut Cursor<'a>) -> Result<Expr<'a>, ReadFault>
+fn capacity<'a>(
+    alloc: Global,
+    depth: usize,
+    tokens: &mut Cursor<'a>,
+) -> Result<Boxed<Expr<'a>>, ReadFault>
     ensures { Reads (reading.capacity depth tokens.old) result tokens.new }
 {
-    let x = expr_behind(alloc, depth, Kind::OpenBracket, tokens)?;
+    let x = boxed_behind(alloc, depth, Kind::OpenBracket, tokens)?;
     tokens.expect_all(&[Kind::CloseBracket, Kind::Of, Kind::OpenBrace])?;
     Ok(x)
 }
 
-#[tactic(auto, unfolding(crate::specs::ReadingStatements::channel, pml_expression::specs::Reading::and_then))]
+#[tactic(auto, unfolding(crate::specs::ReadingStatements::channel, pml_expression::specs::Reading::closing, pml_expression::specs::Reading::and_then))]
 fn channel<'a>(
     alloc: Global,
     depth: usize,
@@ -80,7 +84,7 @@ fn channel<'a>(
     let capacity = capacity(alloc, depth, tokens)?;
     let types = scalars(alloc, tokens)?;
     tokens.expect(Kind::CloseBrace)?;
-    Ok((Some(Initial::Channel(capacity, types)), true))
+    Ok((Some(Initial::Channel(capacity.into_inner(), types)), true))
 }
 
 #[tactic(auto, unfolding(crate::specs::ReadingStatements::initial, pml_expression::specs::Reading::and_then, pml_expression::specs::Reading::pick))]
@@ -123,22 +127,20 @@ fn plain<'a>(
     depth: usize,
     s: Scalar,
     tokens: &mut Cursor<'a>,
-) -> Result<(Variable<'a>, bool), ReadFault>
+) -> Result<(Boxed<Variable<'a>>, bool), ReadFault>
     ensures { Reads (reading.plain depth s tokens.old) result tokens.new }
 {
     let name = tokens.expect(Kind::Name)?;
     let size = index(alloc, depth, tokens)?;
     let (initial, closed) = initial(alloc, depth, tokens)?;
     let sort = Sort::Plain(s);
-    Ok((
-        Variable {
-            sort,
-            name,
-            size,
-            initial,
-        },
-        closed,
-    ))
+    let v = Variable {
+        sort,
+        name,
+        size,
+        initial,
+    };
+    Ok((Boxed::new(alloc, v)?, closed))
 }
 
 #[tactic(auto, unfolding(crate::specs::ReadingStatements::structured, pml_expression::specs::Reading::and_then))]
@@ -147,21 +149,19 @@ fn structured<'a>(
     depth: usize,
     typedef: &Token<'a>,
     tokens: &mut Cursor<'a>,
-) -> Result<(Variable<'a>, bool), ReadFault>
+) -> Result<(Boxed<Variable<'a>>, bool), ReadFault>
     ensures { Reads (reading.structured depth typedef.now tokens.old) result tokens.new }
 {
     let name = tokens.expect(Kind::Name)?;
     let size = index(alloc, depth, tokens)?;
     let sort = Sort::Named(typedef.copied());
-    Ok((
-        Variable {
-            sort,
-            name,
-            size,
-            initial: None,
-        },
-        false,
-    ))
+    let v = Variable {
+        sort,
+        name,
+        size,
+        initial: None,
+    };
+    Ok((Boxed::new(alloc, v)?, false))
 }
 
 #[tactic(auto, unfolding(crate::specs::ReadingStatements::packed, pml_expression::specs::Reading::and_then))]
@@ -169,7 +169,7 @@ fn packed<'a>(
     alloc: Global,
     depth: usize,
     tokens: &mut Cursor<'a>,
-) -> Result<(Variable<'a>, bool), ReadFault>
+) -> Result<(Boxed<Variable<'a>>, bool), ReadFault>
     ensures { Reads (reading.packed depth tokens.old) result tokens.new }
 {
     let name = tokens.expect(Kind::Name)?;
@@ -177,15 +177,13 @@ fn packed<'a>(
     let width = tokens.expect(Kind::Number)?;
     let initial = packed_value(alloc, depth, tokens)?;
     let sort = Sort::Unsigned(width);
-    Ok((
-        Variable {
-            sort,
-            name,
-            size: None,
-            initial,
-        },
-        false,
-    ))
+    let v = Variable {
+        sort,
+        name,
+        size: None,
+        initial,
+    };
+    Ok((Boxed::new(alloc, v)?, false))
 }
 
 fn variable<'a>(
@@ -193,7 +191,7 @@ fn variable<'a>(
     depth: usize,
     opener: &Opener<'a>,
     tokens: &mut Cursor<'a>,
-) -> Result<(Variable<'a>, bool), ReadFault>
+) -> Result<(Boxed<Variable<'a>>, bool), ReadFault>
     ensures { Reads (reading.variable_by depth opener.now tokens.old) result tokens.new }
 {
     match opener {
@@ -217,7 +215,7 @@ fn variables<'a>(
     let mut found = first;
     for _turn in 0..tokens.left() {
         let (v, closed) = variable(alloc, depth, opener, tokens)?;
-        found.push(v)?;
+        found.push(v.into_inner())?;
         if !tokens.sees(Kind::Comma) {
             return Ok((found, closed));
         }

@@ -149,25 +149,26 @@ fn name_list<'a>(alloc: Global, tokens: &mut Cursor<'a>) -> Result<Items<Token<'
     Err(tokens.refuse())
 }
 
-#[tactic(auto, unfolding(crate::specs::ReadingUnits::names, pml_expression::specs::Reading::and_then))]
+#[tactic(auto, unfolding(crate::specs::ReadingUnits::names, pml_expression::specs::Reading::closing, pml_expression::specs::Reading::and_then))]
 fn names<'a>(alloc: Global, tokens: &mut Cursor<'a>) -> Result<Items<Token<'a>>, ReadFault>
     ensures { Reads (reading.names tokens.old) result tokens.new }
 {
     tokens.expect(Kind::OpenBrace)?;
     let found = name_list(alloc, tokens)?;
-    tokens.expect(Kind::CloseBrace)?;
-    Ok(found)
+    tokens.closing(Kind::CloseBrace, found)
 }
 
 #[tactic(auto, unfolding(crate::specs::ReadingUnits::constants, pml_expression::specs::Reading::and_then, pml_expression::specs::Reading::pick))]
-fn constants<'a>(alloc: Global, tokens: &mut Cursor<'a>) -> Result<Unit<'a>, ReadFault>
+fn constants<'a>(alloc: Global, tokens: &mut Cursor<'a>) -> Result<Boxed<Unit<'a>>, ReadFault>
     ensures { Reads (reading.constants tokens.old) result tokens.new }
 {
     if tokens.sees(Kind::Assign) {
         tokens.expect(Kind::Assign)?;
-        return Ok(Unit::Constants(names(alloc, tokens)?));
+        let found = names(alloc, tokens)?;
+        return Ok(Boxed::new(alloc, Unit::Constants(found))?);
     }
-    Ok(Unit::Constants(names(alloc, tokens)?))
+    let found = names(alloc, tokens)?;
+    Ok(Boxed::new(alloc, Unit::Constants(found))?)
 }
 
 #[tactic(auto, unfolding(crate::specs::ReadingUnits::starts, pml_expression::specs::Reading::and_then, pml_expression::specs::Reading::pick))]
@@ -209,14 +210,18 @@ fn members<'a>(
     Err(tokens.refuse())
 }
 
-#[tactic(auto, unfolding(crate::specs::ReadingUnits::typedef, pml_expression::specs::Reading::and_then))]
-fn typedef<'a>(alloc: Global, depth: usize, tokens: &mut Cursor<'a>) -> Result<Unit<'a>, ReadFault>
+#[tactic(auto, unfolding(crate::specs::ReadingUnits::typedef, pml_expression::specs::Reading::closing, pml_expression::specs::Reading::and_then))]
+fn typedef<'a>(
+    alloc: Global,
+    depth: usize,
+    tokens: &mut Cursor<'a>,
+) -> Result<Boxed<Unit<'a>>, ReadFault>
     ensures { Reads (reading.typedef depth tokens.old) result tokens.new }
 {
     let name = tokens.expect_name(Kind::Typedef, Kind::OpenBrace)?;
     let fields = members(alloc, depth, tokens)?;
-    tokens.expect(Kind::CloseBrace)?;
-    Ok(Unit::Typedef(name, fields))
+    let x = Boxed::new(alloc, Unit::Typedef(name, fields))?;
+    tokens.closing(Kind::CloseBrace, x)
 }
 
 #[tactic(auto, unfolding(crate::specs::ReadingUnits::items_or_none, pml_expression::specs::Reading::and_then, pml_expression::specs::Reading::pick))]
@@ -235,7 +240,7 @@ fn items_or_none<'a>(
 }
 
 /// The body of a process, with the brace that ends it.
-#[tactic(auto, unfolding(crate::specs::ReadingUnits::body, pml_expression::specs::Reading::and_then))]
+#[tactic(auto, unfolding(crate::specs::ReadingUnits::body, pml_expression::specs::Reading::ending, pml_expression::specs::Reading::and_then))]
 fn braced<'a>(
     alloc: Global,
     depth: usize,
@@ -245,12 +250,11 @@ fn braced<'a>(
 {
     tokens.expect(Kind::OpenBrace)?;
     let items = items_or_none(alloc, depth, tokens)?;
-    let end = tokens.expect(Kind::CloseBrace)?;
-    Ok((items, end))
+    tokens.ending(Kind::CloseBrace, items)
 }
 
 /// The name of a proctype, and its parameters.
-#[tactic(auto, unfolding(crate::specs::ReadingUnits::signature, pml_expression::specs::Reading::and_then))]
+#[tactic(auto, unfolding(crate::specs::ReadingUnits::signature, pml_expression::specs::Reading::closing, pml_expression::specs::Reading::and_then))]
 fn signature<'a>(
     alloc: Global,
     tokens: &mut Cursor<'a>,
@@ -259,8 +263,7 @@ fn signature<'a>(
 {
     let name = tokens.expect_name(Kind::Proctype, Kind::OpenParen)?;
     let found = parameters(alloc, tokens)?;
-    tokens.expect(Kind::CloseParen)?;
-    Ok((name, found))
+    tokens.closing(Kind::CloseParen, (name, found))
 }
 
 /// How many processes start, in a box: a large value is slow to prove where it is held.
@@ -275,47 +278,73 @@ fn boxed_starts<'a>(
     Ok(Boxed::new(alloc, found)?)
 }
 
-#[tactic(auto, unfolding(crate::specs::ReadingUnits::proctype, pml_expression::specs::Reading::and_then))]
-fn proctype<'a>(alloc: Global, depth: usize, tokens: &mut Cursor<'a>) -> Result<Unit<'a>, ReadFault>
-    ensures { Reads (reading.proctype depth tokens.old) result tokens.new }
+/// A proctype, or `init`, from its body on.
+#[tactic(auto, unfolding(crate::specs::ReadingUnits::process, pml_expression::specs::Reading::and_then))]
+fn process<'a>(
+    alloc: Global,
+    depth: usize,
+    starts: Boxed<Starts<'a>>,
+    name: Token<'a>,
+    parameters: Items<Variable<'a>>,
+    tokens: &mut Cursor<'a>,
+) -> Result<Boxed<Unit<'a>>, ReadFault>
+    ensures { Reads (reading.process depth starts.entry name.entry parameters.entry tokens.old) result tokens.new }
 {
-    let starts = boxed_starts(alloc, depth, tokens)?;
-    let (name, parameters) = signature(alloc, tokens)?;
     let (items, end) = braced(alloc, depth, tokens)?;
-    Ok(Unit::Proctype(Proctype {
+    let process = Proctype {
         starts: starts.into_inner(),
         name,
         parameters,
         body: Seq { items },
         end,
-    }))
+    };
+    Ok(Boxed::new(alloc, Unit::Proctype(process))?)
+}
+
+#[tactic(auto, unfolding(crate::specs::ReadingUnits::proctype, pml_expression::specs::Reading::and_then))]
+fn proctype<'a>(
+    alloc: Global,
+    depth: usize,
+    tokens: &mut Cursor<'a>,
+) -> Result<Boxed<Unit<'a>>, ReadFault>
+    ensures { Reads (reading.proctype depth tokens.old) result tokens.new }
+{
+    let starts = boxed_starts(alloc, depth, tokens)?;
+    let (name, parameters) = signature(alloc, tokens)?;
+    process(alloc, depth, starts, name, parameters, tokens)
 }
 
 #[tactic(auto, unfolding(crate::specs::ReadingUnits::init, pml_expression::specs::Reading::and_then))]
-fn init<'a>(alloc: Global, depth: usize, tokens: &mut Cursor<'a>) -> Result<Unit<'a>, ReadFault>
+fn init<'a>(
+    alloc: Global,
+    depth: usize,
+    tokens: &mut Cursor<'a>,
+) -> Result<Boxed<Unit<'a>>, ReadFault>
     ensures { Reads (reading.init depth tokens.old) result tokens.new }
 {
     let name = tokens.expect(Kind::Init)?;
-    let (items, end) = braced(alloc, depth, tokens)?;
-    Ok(Unit::Proctype(Proctype {
-        starts: Starts::Once,
-        name,
-        parameters: Items::new(alloc),
-        body: Seq { items },
-        end,
-    }))
+    let starts = Boxed::new(alloc, Starts::Once)?;
+    process(alloc, depth, starts, name, Items::new(alloc), tokens)
 }
 
 #[tactic(auto, unfolding(crate::specs::ReadingUnits::variables, pml_expression::specs::Reading::and_then))]
-fn variables<'a>(alloc: Global, depth: usize, tokens: &mut Cursor<'a>) -> Result<Unit<'a>, ReadFault>
+fn variables<'a>(
+    alloc: Global,
+    depth: usize,
+    tokens: &mut Cursor<'a>,
+) -> Result<Boxed<Unit<'a>>, ReadFault>
     ensures { Reads (reading.variables depth tokens.old) result tokens.new }
 {
     let (found, _) = declaration(alloc, depth, Items::new(alloc), tokens)?;
-    Ok(Unit::Variables(found))
+    Ok(Boxed::new(alloc, Unit::Variables(found))?)
 }
 
 #[tactic(auto, unfolding(crate::specs::ReadingUnits::unit, pml_expression::specs::Reading::pick))]
-fn unit<'a>(alloc: Global, depth: usize, tokens: &mut Cursor<'a>) -> Result<Unit<'a>, ReadFault>
+fn unit<'a>(
+    alloc: Global,
+    depth: usize,
+    tokens: &mut Cursor<'a>,
+) -> Result<Boxed<Unit<'a>>, ReadFault>
     ensures { Reads (reading.unit depth tokens.old) result tokens.new }
 {
     match head_of(tokens.peek()) {
@@ -334,7 +363,11 @@ fn unit<'a>(alloc: Global, depth: usize, tokens: &mut Cursor<'a>) -> Result<Unit
 }
 
 #[tactic(auto, unfolding(crate::specs::ReadingUnits::units_from, pml_expression::specs::Reading::and_then, pml_expression::specs::Reading::pick))]
-fn units<'a>(alloc: Global, depth: usize, tokens: &mut Cursor<'a>) -> Result<Items<Unit<'a>>, ReadFault>
+fn units<'a>(
+    alloc: Global,
+    depth: usize,
+    tokens: &mut Cursor<'a>,
+) -> Result<Items<Unit<'a>>, ReadFault>
     ensures { Reads (reading.units_from depth (length tokens.old) [] tokens.old) result tokens.new }
 {
     let mut found = Items::new(alloc);
@@ -344,7 +377,7 @@ fn units<'a>(alloc: Global, depth: usize, tokens: &mut Cursor<'a>) -> Result<Ite
             return Ok(found);
         }
         let x = unit(alloc, depth, tokens)?;
-        found.push(x)?;
+        found.push(x.into_inner())?;
     }
     skip_semicolons(tokens);
     if !tokens.is_empty() {
@@ -355,7 +388,11 @@ fn units<'a>(alloc: Global, depth: usize, tokens: &mut Cursor<'a>) -> Result<Ite
 
 /// The tree of all the tokens that are left. It nests no deeper than `depth`.
 #[tactic(auto, unfolding(crate::specs::ReadingUnits::model, pml_expression::specs::Reading::and_then))]
-pub fn model<'a>(alloc: Global, depth: usize, tokens: &mut Cursor<'a>) -> Result<Tree<'a>, ReadFault>
+pub fn model<'a>(
+    alloc: Global,
+    depth: usize,
+    tokens: &mut Cursor<'a>,
+) -> Result<Tree<'a>, ReadFault>
     ensures { Reads (reading.model depth tokens.old) result tokens.new }
 {
     let units = units(alloc, depth, tokens)?;

@@ -23,9 +23,9 @@ climb-returns-then-level-least t c =
     let e = one_more (λ n. reading.climb (reading.expr c.args.depth) n c.args.least c.loop-turn.left c.loop-turn.tokens) c.left-turn-end.result c.loop-turn._turn c.loop-turn-test.true c.loop-turn.invariant in
     first_of (search rules, grind (arith, common_steps))
 
-pub climb-returns-in_err-right : goal.climb-returns-in_err-right
+pub climb-returns-in_err-left : goal.climb-returns-in_err-left
 unfolding reading.climb and_then pick
-climb-returns-in_err-right t c =
+climb-returns-in_err-left t c =
     let e = one_more (λ n. reading.climb (reading.expr c.args.depth) n c.args.least c.loop-turn.left c.loop-turn.tokens) c.left-turn-end.result c.loop-turn._turn c.loop-turn-test.true c.loop-turn.invariant in
     first_of (search rules, grind (arith, common_steps))
 

@@ -2,14 +2,8 @@ use Rattle.std.proofs.Common.{◌≡◌, length, [], ◌+◌, ◌-◌, ◌*◌, 
 use Rattle.pml_syntax.specs.ReadingStatements as reading
 use Rattle.pml_syntax.proofs.body.+body.Given as goal
 
-abbrev pub decreases-atomic : goal.decreases-atomic
-decreases-atomic l = 11 * l.depth + 3
-
 abbrev pub decreases-basic : goal.decreases-basic
 decreases-basic l = 11 * l.depth + 5
-
-abbrev pub decreases-block : goal.decreases-block
-decreases-block l = 11 * l.depth + 3
 
 abbrev pub decreases-body : goal.decreases-body
 decreases-body l = 11 * l.depth
@@ -17,17 +11,14 @@ decreases-body l = 11 * l.depth
 abbrev pub decreases-braces : goal.decreases-braces
 decreases-braces l = 11 * l.depth + 2
 
-abbrev pub decreases-d_step : goal.decreases-d_step
-decreases-d_step l = 11 * l.depth + 3
+abbrev pub decreases-branching : goal.decreases-branching
+decreases-branching l = 11 * l.depth + 4
 
-abbrev pub decreases-do_od : goal.decreases-do_od
-decreases-do_od l = 11 * l.depth + 4
+abbrev pub decreases-embraced : goal.decreases-embraced
+decreases-embraced l = 11 * l.depth + 3
 
 abbrev pub decreases-escape : goal.decreases-escape
 decreases-escape l = 11 * l.depth + 7
-
-abbrev pub decreases-if_fi : goal.decreases-if_fi
-decreases-if_fi l = 11 * l.depth + 4
 
 abbrev pub decreases-item : goal.decreases-item
 decreases-item l = 11 * l.depth + 9
