@@ -131,11 +131,7 @@ fn world_of<'p, 'a>(alloc: Global, checked: &'p Checked<'a>) -> Result<World<'p,
 }
 
 /// Writes the line of a refused text, and ends its session.
-fn reject<D: Devices>(
-    alloc: Global,
-    rejection: Rejection,
-    devices: &mut D,
-) -> Result<End, Broken>
+fn reject<D: Devices>(alloc: Global, rejection: Rejection, devices: &mut D) -> Result<End, Broken>
     ensures text { Rejects rejection result (D.holds devices.old) (D.holds devices.new) }
     ensures own { IfOk result (IsOwnEnd 0) }
     ensures count { CountsAll result (D.holds devices.old).failures (D.holds devices.new).failures }

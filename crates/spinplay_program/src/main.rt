@@ -5,8 +5,8 @@ ghost use Rattle.std.specs.Prelude.{◌≡◌};
 
 use clap::error::ErrorKind;
 use spinplay::{
-    Arguments, ByteReader, Cause, Either, End, Failures, Nowhere, PieceWriter, ThreeDevices, arguments,
-    play,
+    Arguments, ByteReader, Cause, Either, End, Failures, Nowhere, PieceWriter, ThreeDevices,
+    arguments, play,
 };
 use std::alloc::AllocError;
 use std::fs::File;
