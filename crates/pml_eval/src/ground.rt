@@ -39,7 +39,7 @@ pub trait Ground {
     fn process_count(&self) -> i32
         ensures { result ≡ (reading self.now).process_count };
 
-    /// Whether nothing else can be done.
+    /// Whether no other move is possible.
     fn timeout(&self) -> bool
         ensures { result ≡ (reading self.now).timeout };
 

@@ -63,7 +63,7 @@ is_alive Dead = false
 abbrev pub can_move : State → Bool → Bool
 can_move s timeout = if is_alive s.control then can_take (standing s) (reading s timeout) else false
 
--- `timeout` is 1 only where nothing can be done else
+-- `timeout` is 1 only where no other move is possible
 abbrev pub moves : State → List OnlyMove
 moves s =
     if can_move s false then record { timeout = false } ∷ []
