@@ -3,7 +3,7 @@ use Rattle.std.proofs.Common.{◌≡◌, ℕ, List, [], length, Option, Some, No
 use Rattle.std.specs.List.{Contains}
 use Rattle.diagnostics.specs.declared.fault.Fault.{Fault}
 use Rattle.session.specs.Machine.{Goes, Faults}
-use Rattle.session.specs.TakesStatement.{IsStillShown, IsStop}
+use Rattle.session.specs.Takes.{IsStillShown, IsStop}
 use Rattle.pml_program.specs.declared.program.Program.{Program}
 use Rattle.pml_program.specs.declared.program.Stmt.{Stmt}
 use Rattle.pml_store.specs.Store.{Contents}
