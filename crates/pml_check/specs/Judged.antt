@@ -85,12 +85,6 @@ AppliesTo x ms p = BreaksCondition (condition_of x) ms ⊎ BreaksModel x p
 unfoldable pub FitsTo : Refusal → List Mark → Program → Type 0
 FitsTo x ms p = KeepsCondition (condition_of x) ms × KeepsModel x p
 
-abbrev pub Applies : Refusal → Tree → Type 0
-Applies x t = AppliesTo x (of_tree t) (numbered_model t)
-
-abbrev pub Fits : Refusal → Tree → Type 0
-Fits x t = FitsTo x (of_tree t) (numbered_model t)
-
 -- the refusals that are judged on the tree, in the order in which they go before one another
 abbrev pub all_judged : List Refusal
 all_judged =

@@ -4,6 +4,7 @@
 ghost use Rattle.std.specs.Prelude.{◌≡◌};
 
 use clap::error::ErrorKind;
+use profile::MOST_TEXT_BYTES;
 use spinplay::{
     Arguments, ByteReader, Cause, Either, End, Failures, Nowhere, PieceWriter, ThreeDevices,
     arguments, play,
@@ -17,11 +18,11 @@ use std::sync::ledger::{Blank, Ledger};
 use std::{env, fs, io};
 
 // At most so many bytes of a model are read: one more than a model may have.
-const MOST_BYTES: u64 = 1_048_577;
+const MOST_READ: u64 = MOST_TEXT_BYTES as u64 + 1;
 
 // Why there is no run.
 #[derive(Drop)]
-enum Stop {
+enum NoRun {
     Words(clap::Error),
     NotText,
     CannotOpen(String),
@@ -29,57 +30,57 @@ enum Stop {
     Memory,
 }
 
-impl From<AllocError> for Stop {
-    fn from(_error: AllocError) -> Stop {
-        Stop::Memory
+impl From<AllocError> for NoRun {
+    fn from(_error: AllocError) -> NoRun {
+        NoRun::Memory
     }
 }
 
-fn words_of(rt: &HostRuntime) -> Result<Vec<String>, Stop> {
+fn words_of(rt: &HostRuntime) -> Result<Vec<String>, NoRun> {
     match env::args(rt) {
         Ok(words) => Ok(words.collect(rt.alloc())?),
-        Err(error) if error.kind() == io::ErrorKind::OutOfMemory => Err(Stop::Memory),
-        Err(_) => Err(Stop::NotText),
+        Err(error) if error.kind() == io::ErrorKind::OutOfMemory => Err(NoRun::Memory),
+        Err(_) => Err(NoRun::NotText),
     }
 }
 
-fn arguments_of(rt: &HostRuntime, words: &[String]) -> Result<Arguments, Stop> {
+fn arguments_of(rt: &HostRuntime, words: &[String]) -> Result<Arguments, NoRun> {
     let texts: Vec<&str> = words.iter().map(|word| word.as_str()).collect(rt.alloc())?;
-    arguments(rt.alloc(), texts.as_slice()).map_err(Stop::Words)
+    arguments(rt.alloc(), texts.as_slice()).map_err(NoRun::Words)
 }
 
 // Why a file of this name was not opened: the name, unless memory was refused.
-fn not_opened(rt: &HostRuntime, name: &str, error: &io::Error) -> Stop {
+fn not_opened(rt: &HostRuntime, name: &str, error: &io::Error) -> NoRun {
     if error.kind() == io::ErrorKind::OutOfMemory {
-        return Stop::Memory;
+        return NoRun::Memory;
     }
     match String::from_str(rt.alloc(), name) {
-        Ok(name) => Stop::CannotOpen(name),
-        Err(_) => Stop::Memory,
+        Ok(name) => NoRun::CannotOpen(name),
+        Err(_) => NoRun::Memory,
     }
 }
 
-fn opened(rt: &HostRuntime, name: &str) -> Result<File, Stop> {
+fn opened(rt: &HostRuntime, name: &str) -> Result<File, NoRun> {
     match fs::open(rt, name) {
         Ok(file) => Ok(file),
         Err(error) => Err(not_opened(rt, name, &error)),
     }
 }
 
-fn created(rt: &HostRuntime, name: &str) -> Result<File, Stop> {
+fn created(rt: &HostRuntime, name: &str) -> Result<File, NoRun> {
     match fs::create(rt, name) {
         Ok(file) => Ok(file),
         Err(error) => Err(not_opened(rt, name, &error)),
     }
 }
 
-fn model_of(rt: &HostRuntime, name: &str) -> Result<Vec<u8>, Stop> {
+fn model_of(rt: &HostRuntime, name: &str) -> Result<Vec<u8>, NoRun> {
     let file = opened(rt, name)?;
     let mut text = Vec::new(rt.alloc());
-    match file.take(MOST_BYTES).read_to_end(&mut text) {
+    match file.take(MOST_READ).read_to_end(&mut text) {
         Ok(_) => Ok(text),
-        Err(error) if error.kind() == io::ErrorKind::OutOfMemory => Err(Stop::Memory),
-        Err(_) => Err(Stop::CannotRead(String::from_str(rt.alloc(), name)?)),
+        Err(error) if error.kind() == io::ErrorKind::OutOfMemory => Err(NoRun::Memory),
+        Err(_) => Err(NoRun::CannotRead(String::from_str(rt.alloc(), name)?)),
     }
 }
 
@@ -91,7 +92,7 @@ fn played<S: Ledger, O: Ledger, R: Ledger>(
     of_source: Blank,
     of_out: Blank,
     of_rec: Blank,
-) -> Result<End, Stop>
+) -> Result<End, NoRun>
     requires source_name { of_source.name ≡ S.name }
     requires source_parts { of_source.parts ≡ S.parts }
     requires source_one { of_source.parts ≡ 1 }
@@ -119,7 +120,7 @@ fn played<S: Ledger, O: Ledger, R: Ledger>(
     Ok(play(rt.alloc(), text, &asked.options, &mut devices))
 }
 
-fn run(rt: &HostRuntime) -> Result<End, Stop> {
+fn run(rt: &HostRuntime) -> Result<End, NoRun> {
     let words = words_of(rt)?;
     let asked = arguments_of(rt, words.as_slice())?;
     let text = model_of(rt, asked.model.as_str())?;
@@ -148,22 +149,22 @@ fn tell_end(rt: &HostRuntime, end: &End) {
 }
 
 // Shows why there was no run, and answers the status. A message that cannot be shown is left out.
-fn tell_stop(rt: &HostRuntime, stop: Stop) -> u8 {
+fn tell_stop(rt: &HostRuntime, stop: NoRun) -> u8 {
     match stop {
-        Stop::Words(error) => tell_words(rt, &error),
-        Stop::NotText => {
+        NoRun::Words(error) => tell_words(rt, &error),
+        NoRun::NotText => {
             let _ = eprintln!(rt; "error: invalid UTF-8 was detected in one or more arguments");
             4
         }
-        Stop::CannotOpen(name) => {
+        NoRun::CannotOpen(name) => {
             let _ = eprintln!(rt; "spinplay: cannot open {name}");
             4
         }
-        Stop::CannotRead(name) => {
+        NoRun::CannotRead(name) => {
             let _ = eprintln!(rt; "spinplay: cannot read {name}");
             4
         }
-        Stop::Memory => {
+        NoRun::Memory => {
             let _ = eprintln!(rt; "spinplay: out of memory");
             6
         }
