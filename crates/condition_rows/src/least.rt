@@ -2,15 +2,15 @@
 ghost use Rattle.std.specs.Prelude.{◌≡◌};
 ghost use Rattle.pml_names.specs.Env.{env};
 
+use pml_conditions::condition::{Condition, number};
+use pml_conditions::decide::applies;
+use pml_conditions::find::find;
 use pml_lex::cut;
 use pml_lex::token::Token;
 use pml_marks::mark::Mark;
 use pml_marks::model::marks;
 use pml_names::names::all_names;
 use pml_names::table::Table;
-use pml_conditions::decide::applies;
-use pml_conditions::find::find;
-use pml_conditions::condition::{Condition, number};
 use pml_syntax::parse;
 use pml_tree::tree::Tree;
 use std::alloc::{AllocError, Global};

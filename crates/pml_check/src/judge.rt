@@ -9,10 +9,10 @@ ghost use Rattle.pml_check.specs.Decided.{DecidesCircles, DecidesSteps, DecidesC
 use crate::start::has_bad_start;
 use crate::subject::Subject;
 use diagnostics::Refusal;
+use pml_conditions::condition::Condition;
+use pml_conditions::decide::applies;
 use pml_control::findings::Findings;
 use pml_program::program::Program;
-use pml_conditions::decide::applies;
-use pml_conditions::condition::Condition;
 use std::alloc::{AllocError, Global};
 
 /// The condition of a refusal that is decided on the marks.

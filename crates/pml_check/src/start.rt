@@ -3,9 +3,9 @@
 ghost use Rattle.std.specs.Prelude.{IfOk};
 ghost use Rattle.pml_check.specs.Decided.{DecidesStart};
 
+use diagnostics::Stop;
 use pml_program::program::Program;
 use pml_start::start::start;
-use diagnostics::Stop;
 use std::alloc::{AllocError, Global};
 
 /// Whether what a variable of the first state begins with cannot be evaluated.

@@ -6,13 +6,13 @@ ghost use Rattle.pml_names.specs.Env.{held, stride, length_of};
 ghost use Rattle.pml_names.specs.Totals.{IsTotalled};
 
 use pml_marks::arithmetic::read;
-use profile::{MOST_BITS, MOST_CELLS, MOST_CONSTANTS, MOST_FIELDS, MOST_MESSAGES, MOST_PROCESSES};
 use pml_marks::mark::{Constant, Declared, Role, What};
 use pml_names::meaning::{is_special, meaning};
 use pml_names::names::{Names, length_of, stride};
 use pml_names::table::Table;
 use pml_names::thing::Thing;
 use pml_names::totals::at;
+use profile::{MOST_BITS, MOST_CELLS, MOST_CONSTANTS, MOST_FIELDS, MOST_MESSAGES, MOST_PROCESSES};
 
 /// Whether a name is declared twice, or one that no text declares.
 pub fn twice(table: &Table, owner: usize, what: &What) -> bool
@@ -70,9 +70,7 @@ pub fn out_of_range(names: &Names, what: &What) -> bool
         What::Size(c) => is_outside(1, MOST_CELLS as i32, *c),
         What::Starts(c) => is_outside(1, MOST_PROCESSES as i32, *c),
         What::Preset(Constant::Faulty) => true,
-        What::Channel(_, c, n) => {
-            is_outside(0, MOST_MESSAGES as i32, *c) || MOST_FIELDS < *n
-        },
+        What::Channel(_, c, n) => { is_outside(0, MOST_MESSAGES as i32, *c) || MOST_FIELDS < *n },
         What::Declares(_, Declared::Constant) => MOST_CONSTANTS <= names.constants,
         _ => false,
     }

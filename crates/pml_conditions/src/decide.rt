@@ -4,8 +4,8 @@ ghost use Rattle.std.specs.Prelude.{◌≡◌, IfOk};
 ghost use Rattle.pml_names.specs.Env.{env};
 ghost use Rattle.pml_conditions.specs.Decided.{AreFound, Decides};
 
-use crate::find::Found;
 use crate::condition::Condition;
+use crate::find::Found;
 use crate::start::{begins_somewhere, starts_too_many};
 use crate::structure::{breaks_loose, crosses_step};
 use pml_marks::mark::Mark;

@@ -93,11 +93,7 @@ fn nothing() -> Found
 }
 
 /// Which are broken somewhere in the text with these marks, where `all` has the names of all of them.
-pub fn find<'a>(
-    alloc: Global,
-    all: &Table<'a>,
-    marks: &[Mark<'a>],
-) -> Result<Found, AllocError>
+pub fn find<'a>(alloc: Global, all: &Table<'a>, marks: &[Mark<'a>]) -> Result<Found, AllocError>
     requires { all.now ≡ env marks.now }
     ensures { IfOk result (AreFound marks.now) }
 {

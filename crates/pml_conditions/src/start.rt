@@ -7,11 +7,11 @@ ghost use Rattle.pml_conditions.specs.Decided.{Finds, begins_there, Decides};
 ghost use Rattle.pml_conditions.specs.declared.condition.Condition.TheVariants as condition;
 
 use crate::counts::capacity;
-use profile::{MOST_CHANNELS, MOST_PROCESSES};
 use pml_marks::mark::{Declared, Makes, Mark, What};
 use pml_names::names::{form, length_of};
 use pml_names::table::Table;
 use pml_program::form::Form;
+use profile::{MOST_CHANNELS, MOST_PROCESSES};
 use sqlite_items::Items;
 use std::alloc::{AllocError, Global};
 

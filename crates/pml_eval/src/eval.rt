@@ -7,11 +7,11 @@ ghost use Rattle.pml_eval.specs.Pattern.{matched};
 ghost use Rattle.pml_eval.specs.Ground.{shown};
 
 use crate::ground::{Filled, Ground};
-use pml_store::place::Place;
 use crate::operators::{decide, infix, number_of, prefix};
 use crate::pattern::{Sought, takes};
 use diagnostics::Fault;
-use pml_program::expr::{Target, Turn, Expr, Want};
+use pml_program::expr::{Expr, Target, Turn, Want};
+use pml_store::place::Place;
 use pml_tree::tree::{Fill, Search};
 use sqlite_items::Items;
 use std::alloc::{AllocError, Global};

@@ -19,10 +19,7 @@ fn evaluated(alloc: Global, x: Expr<'_>) -> Result<Argument<'_>, AllocError>
     Ok(Argument::Eval(Boxed::new(alloc, x)?))
 }
 
-fn boxed<'a>(
-    alloc: Global,
-    index: Option<Expr<'a>>,
-) -> Result<Option<Boxed<Expr<'a>>>, AllocError>
+fn boxed<'a>(alloc: Global, index: Option<Expr<'a>>) -> Result<Option<Boxed<Expr<'a>>>, AllocError>
     ensures { IfOk result (λ r. r ≡ index.entry) }
 {
     match index {

@@ -47,7 +47,11 @@ pub fn global_line(
 }
 
 // Appends how the lines of a process begin.
-fn local_heading(number: usize, proctype: &Proctype<'_>, text: &mut Vec<u8>) -> Result<(), AllocError>
+fn local_heading(
+    number: usize,
+    proctype: &Proctype<'_>,
+    text: &mut Vec<u8>,
+) -> Result<(), AllocError>
     ensures { OnOk result (text.new.items ≡ text.old.items ++ local_heading number proctype.now) }
 {
     let mut digits = Buffer::new();

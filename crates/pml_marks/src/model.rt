@@ -42,7 +42,14 @@ fn process<'a>(
     let declared = Declared::Proctype(owner, p.parameters.len());
     add(What::Declares(p.name.copied(), declared), 0, out)?;
     starts(alloc, &p.starts, owner, out)?;
-    variables(alloc, Role::Variable, owner, p.parameters.as_slice(), owner, out)?;
+    variables(
+        alloc,
+        Role::Variable,
+        owner,
+        p.parameters.as_slice(),
+        owner,
+        out,
+    )?;
     seq(alloc, &p.body, owner, out)
 }
 

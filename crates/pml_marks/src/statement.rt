@@ -96,7 +96,14 @@ fn basic<'a>(
     ensures { OnOk result (out.new ≡ out.old ++ of_basic b.now owner) }
 {
     match b {
-        Basic::Declare(all) => Ok(variables(alloc, Role::Variable, owner, all.as_slice(), owner, out)?),
+        Basic::Declare(all) => Ok(variables(
+            alloc,
+            Role::Variable,
+            owner,
+            all.as_slice(),
+            owner,
+            out,
+        )?),
         Basic::Exclusive(all) => Ok(references(alloc, all.as_slice(), owner, out)?),
         Basic::Plain(a) => Ok(action(alloc, a, owner, out)?),
         Basic::Goto(l) => Ok(add(What::Goto(l.copied()), owner, out)?),

@@ -8,11 +8,11 @@ ghost use Rattle.pml_names.specs.Totals.{IsTotalled};
 use crate::table::Table;
 use crate::thing::{Thing, Variable};
 use crate::totals::{Total, at, grow, grown};
-use profile::MOST_CELLS;
 use pml_marks::arithmetic::read;
 use pml_marks::mark::{Constant, Declared, Mark, Role, What};
 use pml_program::form::Form;
 use pml_tree::tree::Sort;
+use profile::MOST_CELLS;
 use sqlite_items::Items;
 use std::alloc::{AllocError, Global};
 
@@ -90,7 +90,13 @@ pub fn length_of(size: Option<Constant>) -> u32
     ensures { result ≡ length_of size }
 {
     match size {
-        Some(Constant::Is(n)) => { if 0 < n && n <= MOST_CELLS as i32 { n as u32 } else { 1 } }
+        Some(Constant::Is(n)) => {
+            if 0 < n && n <= MOST_CELLS as i32 {
+                n as u32
+            } else {
+                1
+            }
+        }
         _ => 1,
     }
 }

@@ -15,7 +15,7 @@ ghost use Rattle.pml_play.specs.Plays as plays;
 ghost use Rattle.pml_play.specs.Plays.{IsReady, IsRejected, Rejects, PlaysText, PlaysWhole, PlaysBroken};
 
 use devices::Devices;
-use diagnostics::Refusal;
+use diagnostics::{Refusal, Stop};
 use pml_check::{CheckFault, Checked, Parsed, check};
 use pml_lex::cut;
 use pml_lex::fault::LexFault;
@@ -23,7 +23,6 @@ use pml_lex::token::Token;
 use pml_sim::world::World;
 use pml_start::start::start;
 use pml_syntax::{SyntaxFault, parse};
-use diagnostics::Stop;
 use session::{Broken, End, Options, end_of, failure, refuse, refuse_unserved, run};
 use std::alloc::{AllocError, Global};
 

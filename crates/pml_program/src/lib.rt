@@ -4,4 +4,3 @@
 pub mod expr;
 pub mod form;
 pub mod program;
-

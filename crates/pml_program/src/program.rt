@@ -1,7 +1,7 @@
 //! Statements, processes and variables of the checked model.
 
-use crate::form::Form;
 use crate::expr::{Expr, Target, Want};
+use crate::form::Form;
 use pml_lex::token::Token;
 use pml_tree::tokens::Tokens;
 use pml_tree::tree::{Removal, Search, SendOrder};

@@ -9,8 +9,8 @@ use crate::reached::Reached;
 use pml_names::meaning::meaning;
 use pml_names::table::Table;
 use pml_names::thing::Thing;
+use pml_program::expr::{Expr, Target};
 use pml_program::program::{Action, Run};
-use pml_program::expr::{Target, Expr};
 use pml_tree::tree::{Action as TreeAction, Expr as TreeExpr, Reference, Run as TreeRun};
 use sqlite_items::Items;
 use std::alloc::{AllocError, Global};
@@ -60,7 +60,10 @@ fn run(
 {
     let arguments = values(alloc, r.arguments.as_slice(), all, table, owner)?;
     let proctype = proctype_of(meaning(all, table, owner, r.name.text()));
-    Ok(Run { proctype, arguments })
+    Ok(Run {
+        proctype,
+        arguments,
+    })
 }
 
 fn at(

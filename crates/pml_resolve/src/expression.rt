@@ -5,15 +5,15 @@ ghost use Rattle.pml_tree.specs.declared.tree.Reference.{out-Reference};
 ghost use Rattle.pml_resolve.specs.Numbered.{scope, through, placed_by, numbered, numbered_argument, numbered_reference, numbered_step, at_scope, is_local, literal, signed, mtype, read, target, received, turn_of, target_of, no_target};
 
 use crate::reached::Reached;
-use profile::MOST_CONSTANTS;
 use pml_marks::arithmetic::{negative, value as number_value};
 use pml_marks::mark::Constant;
 use pml_names::meaning::{field, is_any, is_count, is_pid, meaning};
 use pml_names::table::Table;
 use pml_names::thing::{Thing, Variable};
+use pml_program::expr::{Expr, Target, Turn, Want};
 use pml_program::form::Form;
-use pml_program::expr::{Target, Turn, Expr, Want};
-use pml_tree::tree::{Sign, Argument, Expr as TreeExpr, Reference, Step};
+use pml_tree::tree::{Argument, Expr as TreeExpr, Reference, Sign, Step};
+use profile::MOST_CONSTANTS;
 use sqlite_items::{Boxed, Items};
 use std::alloc::{AllocError, Global};
 
@@ -38,7 +38,11 @@ fn signed(sign: Sign, constant: Constant) -> Constant
 fn mtype(number: usize) -> i32
     ensures { result ≡ mtype number }
 {
-    if number <= MOST_CONSTANTS { number as i32 } else { 0 }
+    if number <= MOST_CONSTANTS {
+        number as i32
+    } else {
+        0
+    }
 }
 
 fn is_local(table: &Table, owner: usize, name: &[u8]) -> bool

@@ -108,7 +108,15 @@ fn unit<'a>(
         Unit::Constants(list) => constants(list.as_slice(), names, &mut program.constants),
         Unit::Typedef(name, vs) => {
             let mut fields = Items::new(alloc);
-            variables(alloc, all, Role::Field, number, vs.as_slice(), names, &mut fields)?;
+            variables(
+                alloc,
+                all,
+                Role::Field,
+                number,
+                vs.as_slice(),
+                names,
+                &mut fields,
+            )?;
             let what = What::Declares(name.copied(), Declared::Typedef(number));
             declare(0, &what, names)?;
             program.typedefs.push(Fields {

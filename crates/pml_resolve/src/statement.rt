@@ -43,7 +43,15 @@ fn basic<'a>(
 {
     match b {
         TreeBasic::Declare(vs) => {
-            variables(alloc, all, Role::Variable, owner, vs.as_slice(), names, slots)?;
+            variables(
+                alloc,
+                all,
+                Role::Variable,
+                owner,
+                vs.as_slice(),
+                names,
+                slots,
+            )?;
             Ok(None)
         }
         TreeBasic::Exclusive(_) => Ok(None),

@@ -39,7 +39,7 @@ OthersHold = (ts : List Fields) (s : Slot) (v : ℕ) (b : Begun) (q : Place) →
 abbrev pub ChannelsAreMade : Type 0
 ChannelsAreMade = (ts : List Fields) (s : Slot) (v capacity : ℕ) (types : List Form) (b : Begun) → IsThere b v s → IsPlain s.form → s.initial ≡ Made capacity types →
     IfOk (variable_begun ts s.initial s v b)
-      (λ n. n.channels ≡ b.channels ++ replicate (size s) (record { frame = length b.kinds; channel = empty_channel capacity types }))
+    (λ n. n.channels ≡ b.channels ++ replicate (size s) (record { frame = length b.kinds; channel = empty_channel capacity types }))
 
 -- each cell holds its channel's number: its place among the live ones, from 1
 abbrev pub ChannelsAreNumbered : Type 0

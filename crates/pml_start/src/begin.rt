@@ -7,19 +7,18 @@ ghost use Rattle.pml_start.specs.Begin.{Begins, shown, shape, initial_value, cel
 ghost use Rattle.pml_start.specs.Known.{Keeps, is_zero, are_zero, have_no_initials};
 
 use crate::started::Started;
-use diagnostics::Fault;
-use profile::{MOST_CHANNELS, MOST_MESSAGES};
+use diagnostics::{Fault, Stop};
 use pml_cells::cells::leaf;
 use pml_channel::channel::Channel;
 use pml_eval::clip::clip;
 use pml_eval::eval::eval;
+use pml_program::expr::Expr;
 use pml_program::form::Form;
 use pml_program::program::{Fields, Initial, Slot};
-use pml_program::expr::Expr;
 use pml_store::place::Place;
 use pml_value::live_channel::LiveChannel;
-use diagnostics::Stop;
 use pml_value::view::View;
+use profile::{MOST_CHANNELS, MOST_MESSAGES};
 use sqlite_items::Items;
 use std::alloc::{AllocError, Global};
 

@@ -6,10 +6,10 @@ ghost use Rattle.pml_start.specs.Start.{Starts, IsDeclared, first_state, process
 
 use crate::begin::begin_frame;
 use crate::started::Started;
-use profile::MOST_PROCESSES;
+use diagnostics::Stop;
 use pml_program::program::Program;
 use pml_store::store::Store;
-use diagnostics::Stop;
+use profile::MOST_PROCESSES;
 use std::alloc::Global;
 
 /// Begins a process of the proctype with this number.

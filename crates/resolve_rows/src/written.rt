@@ -3,10 +3,10 @@
 //! A place is `G` or `L` (global or local) and the variable's number, then for each turn `+offset:length*stride[index]`. A variable is
 //! its name, `+offset:length*stride`, and what it begins with.
 use pml_lex::token::Token;
+use pml_program::expr::{Expr, Target, Turn, Want};
 use pml_program::program::{
     Action, Basic, Fields, Initial, Proctype, Program, Run, Seq, Slot, Stmt,
 };
-use pml_program::expr::{Target, Turn, Expr, Want};
 use pml_tree::tree::{Fill, Infix, Prefix, Removal, Search, SendOrder};
 use sqlite_items::Items;
 use std::alloc::{AllocError, Global};

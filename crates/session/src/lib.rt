@@ -18,8 +18,8 @@ mod writing;
 
 pub use choice::Answer;
 pub use diagnostics::Stop;
-pub use profile::{BAD_LINES, LINE_BYTES};
 pub use machine::Machine;
+pub use profile::{BAD_LINES, LINE_BYTES};
 pub use refused::{refuse, refuse_unserved};
 pub use whole::{end_of, failure, play, run};
 

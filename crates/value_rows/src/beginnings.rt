@@ -1,9 +1,9 @@
 //! First states.
 use diagnostics::{Fault, Stop};
 use pml_lex::token::{Kind, Token};
+use pml_program::expr::Expr;
 use pml_program::form::Form;
 use pml_program::program::{Fields, Initial, Proctype, Program, Seq, Slot};
-use pml_program::expr::Expr;
 use pml_start::start::start;
 use pml_start::started::Started;
 use pml_tree::tree::{Infix, Scalar};

@@ -7,8 +7,8 @@ use pml_eval::eval::{eval, pattern, place};
 use pml_eval::ground::{Filled, Ground};
 use pml_eval::operators::{decide, infix, number_of, prefix};
 use pml_eval::pattern::{Sought, matches, takes};
+use pml_program::expr::{Expr, Target, Turn, Want};
 use pml_program::form::Form;
-use pml_program::expr::{Target, Turn, Expr, Want};
 use pml_store::place::Place;
 use pml_tree::tree::{Fill, Infix, Prefix, Scalar, Search};
 use sqlite_items::{Boxed, Items};
@@ -242,7 +242,10 @@ fn polls(rt: HostRuntime) -> Result<(), Fail> {
     assert_eq!(rt; polled(alloc, 2, Search::First, &[7, 1])?, Ok(0));
     assert_eq!(rt; polled(alloc, 2, Search::Matching, &[7, 1])?, Ok(1));
     assert_eq!(rt; polled(alloc, 2, Search::Matching, &[7, 2])?, Ok(0));
-    assert_eq!(rt; polled(alloc, 3, Search::Matching, &[7, 2])?, Err(Fault::NoSuchChannel));
+    assert_eq!(rt;
+        polled(alloc, 3, Search::Matching, &[7, 2])?,
+        Err(Fault::NoSuchChannel)
+    );
     Ok(())
 }
 

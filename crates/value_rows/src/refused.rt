@@ -1,16 +1,16 @@
 //! Growths that may be refused: each test passes with memory enough, and where any one growth of it is refused.
 use crate::beginnings::program;
 use crate::channels::of_three;
+use diagnostics::Stop;
 use pml_channel::channel::Channel;
+use pml_program::expr::Target;
 use pml_program::form::Form;
 use pml_program::program::Action;
-use pml_program::expr::Target;
 use pml_start::start::start;
 use pml_store::place::Place;
 use pml_store::store::Store;
 use pml_tree::tree::Scalar;
 use pml_value::statement::take;
-use diagnostics::Stop;
 use sqlite_items::Items;
 use std::alloc::Global;
 use std::process::Abort;

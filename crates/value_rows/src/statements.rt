@@ -2,9 +2,9 @@
 use diagnostics::{Fault, Stop};
 use pml_channel::channel::Channel;
 use pml_eval::eval::eval;
+use pml_program::expr::{Expr, Target, Turn, Want};
 use pml_program::form::Form;
 use pml_program::program::Action;
-use pml_program::expr::{Target, Turn, Expr, Want};
 use pml_store::store::Store;
 use pml_tree::tree::{Infix, Scalar, Search};
 use pml_value::live_channel::LiveChannel;

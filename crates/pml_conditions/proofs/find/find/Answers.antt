@@ -30,7 +30,7 @@ loop-mark-preserved c =
     let old = c.loop-mark.names.table in
     let e = c.in_ok-declare.ensures.table in
     let same : (r : Condition) → judged r c.args.all.now old m.owner m.what ≡ broken r ms (take i ms) m = λ r.
-        ap (λ es. judged r es old m.owner m.what) c.requires ∙ ap (λ es. judged r (env ms) es m.owner m.what) c.loop-mark.invariant.table in
+    ap (λ es. judged r es old m.owner m.what) c.requires ∙ ap (λ es. judged r (env ms) es m.owner m.what) c.loop-mark.invariant.table in
     record {
       table = e ∙ ap (λ es. after es m.owner m.what) c.loop-mark.invariant.table ∙ sym (env-more ms i m c.loop-mark-test.true c.mark-item.is);
       few = omega (arith, ap length e, after-length old m.owner m.what);
