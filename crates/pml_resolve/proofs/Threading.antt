@@ -163,7 +163,7 @@ module _ (gs ls : List Slot) (k : ℕ) (sc : Scope) (laid : IsLaid k sc.names) (
   action-fits (act.Decrement p) = at-fits p
   action-fits (act.Run q) = values-fit q.arguments
   action-fits (act.Send p order es) = (at-fits p, values-fit es)
-  action-fits (act.Receive p search removal rs) = (at-fits p, wants-fit rs)
+  action-fits (act.Receive p search how rs) = (at-fits p, wants-fit rs)
   action-fits (act.Printf s es) = values-fit es
   action-fits (act.Printm e) = expr-fits gs ls k sc laid kept e
   action-fits (act.Assert e) = expr-fits gs ls k sc laid kept e
