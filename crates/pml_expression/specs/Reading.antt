@@ -318,3 +318,9 @@ module _ (expr : ℕ → List Word → Read Expr) where
 unfoldable pub expr : ℕ → ℕ → List Word → Read Expr
 expr zero least ts = refuse ts
 expr (suc depth) least ts = level_of (expr depth) least ts
+
+-- what is sent, by expressions that nest no deeper than this
+unfoldable pub values : ℕ → List Word → Read (List Expr)
+values depth ts = do
+  first ← expr depth 1 ts
+  behind_first (expr depth 1) (first.0 ∷ []) first.1

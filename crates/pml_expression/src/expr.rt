@@ -13,37 +13,7 @@ use pml_tree::tree::{Argument, Expr, Fill, Infix, Prefix, Reference, Sign, Step}
 use sqlite_items::{Boxed, Items};
 use std::alloc::{AllocError, Global};
 
-fn evaluated(alloc: Global, x: Expr<'_>) -> Result<Argument<'_>, AllocError>
-    ensures { IfOk result (λ r. r ≡ g.Eval x.entry) }
-{
-    Ok(Argument::Eval(Boxed::new(alloc, x)?))
-}
-
-fn boxed<'a>(alloc: Global, index: Option<Expr<'a>>) -> Result<Option<Boxed<Expr<'a>>>, AllocError>
-    ensures { IfOk result (λ r. r ≡ index.entry) }
-{
-    match index {
-        Some(x) => Ok(Some(Boxed::new(alloc, x)?)),
-        None => Ok(None),
-    }
-}
-
-/// The expression behind a token of this kind. It nests no deeper than `depth`, as all that is read here.
-#[cycle(expr)]
-#[tactic(auto, unfolding(crate::specs::Reading::expr_behind, crate::specs::Reading::and_then))]
-pub fn expr_behind<'a>(
-    alloc: Global,
-    depth: usize,
-    kind: Kind,
-    tokens: &mut Cursor<'a>,
-) -> Result<Expr<'a>, ReadFault>
-    ensures { Reads (reading.expr_behind (reading.expr depth) kind tokens.old) result tokens.new }
-{
-    tokens.expect(kind)?;
-    expr(alloc, depth, 1, tokens)
-}
-
-/// The expression between tokens of these kinds.
+/// The expression between tokens of these kinds. It nests no deeper than `depth`, as all that is read here.
 #[cycle(expr)]
 #[tactic(auto, unfolding(crate::specs::Reading::expr_between, crate::specs::Reading::and_then))]
 pub fn expr_between<'a>(
@@ -52,7 +22,7 @@ pub fn expr_between<'a>(
     front: Kind,
     back: Kind,
     tokens: &mut Cursor<'a>,
-) -> Result<Expr<'a>, ReadFault>
+) -> Result<Boxed<Expr<'a>>, ReadFault>
     ensures { Reads (reading.expr_between (reading.expr depth) front back tokens.old) result tokens.new }
 {
     let x = expr_behind(alloc, depth, front, tokens)?;
@@ -66,7 +36,7 @@ pub fn index<'a>(
     alloc: Global,
     depth: usize,
     tokens: &mut Cursor<'a>,
-) -> Result<Option<Expr<'a>>, ReadFault>
+) -> Result<Option<Boxed<Expr<'a>>>, ReadFault>
     ensures { Reads (reading.index (reading.expr depth) tokens.old) result tokens.new }
 {
     if !tokens.sees(Kind::OpenBracket) {
@@ -82,8 +52,7 @@ fn step<'a>(alloc: Global, depth: usize, tokens: &mut Cursor<'a>) -> Result<Step
     ensures { Reads (reading.step (reading.expr depth) tokens.old) result tokens.new }
 {
     let name = tokens.expect(Kind::Name)?;
-    let x = index(alloc, depth, tokens)?;
-    let index = boxed(alloc, x)?;
+    let index = index(alloc, depth, tokens)?;
     Ok(Step { name, index })
 }
 
@@ -139,7 +108,7 @@ fn eval<'a>(alloc: Global, depth: usize, tokens: &mut Cursor<'a>) -> Result<Argu
 {
     tokens.expect(Kind::Eval)?;
     let x = expr_between(alloc, depth, Kind::OpenParen, Kind::CloseParen, tokens)?;
-    Ok(evaluated(alloc, x)?)
+    Ok(Argument::Eval(x))
 }
 
 #[cycle(expr)]
@@ -280,9 +249,9 @@ pub fn behind<'a>(
     Ok(Expr::Poll(r, search, xs))
 }
 
-/// An expression of a level, in a box.
+/// The expression at the front, as `expr` reads it, in a box.
 #[cycle(expr)]
-fn boxed_expr<'a>(
+pub fn boxed_expr<'a>(
     alloc: Global,
     depth: usize,
     least: u8,
@@ -294,10 +263,10 @@ fn boxed_expr<'a>(
     Ok(Boxed::new(alloc, x)?)
 }
 
-/// The expression behind a token of this kind, in a box.
+/// The expression behind a token of this kind.
 #[cycle(expr)]
 #[tactic(auto, unfolding(crate::specs::Reading::expr_behind, crate::specs::Reading::and_then))]
-pub fn boxed_behind<'a>(
+pub fn expr_behind<'a>(
     alloc: Global,
     depth: usize,
     kind: Kind,
@@ -320,8 +289,8 @@ fn chosen<'a>(
 ) -> Result<Expr<'a>, ReadFault>
     ensures { Reads (reading.chosen (reading.expr depth) x.entry tokens.old) result tokens.new }
 {
-    let y = boxed_behind(alloc, depth, Kind::Arrow, tokens)?;
-    let z = boxed_behind(alloc, depth, Kind::Colon, tokens)?;
+    let y = expr_behind(alloc, depth, Kind::Arrow, tokens)?;
+    let z = expr_behind(alloc, depth, Kind::Colon, tokens)?;
     Ok(Expr::Choice(x, y, z))
 }
 
@@ -344,11 +313,12 @@ fn alternatives<'a>(
 }
 
 #[cycle(expr)]
-#[tactic(auto, unfolding(crate::specs::Reading::group, crate::specs::Reading::and_then))]
+#[tactic(auto, unfolding(crate::specs::Reading::group, crate::specs::Reading::expr_behind, crate::specs::Reading::and_then))]
 fn group<'a>(alloc: Global, depth: usize, tokens: &mut Cursor<'a>) -> Result<Expr<'a>, ReadFault>
     ensures { Reads (reading.group (reading.expr depth) tokens.old) result tokens.new }
 {
-    let x = expr_behind(alloc, depth, Kind::OpenParen, tokens)?;
+    tokens.expect(Kind::OpenParen)?;
+    let x = expr(alloc, depth, 1, tokens)?;
     let x = alternatives(alloc, depth, x, tokens)?;
     tokens.closing(Kind::CloseParen, x)
 }

@@ -4,4 +4,5 @@
 pub mod cursor;
 pub mod expr;
 pub mod fault;
+pub mod list;
 mod operators;

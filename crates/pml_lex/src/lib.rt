@@ -20,30 +20,36 @@ use piece::{Piece, is_blank, next};
 use profile::MOST_TEXT_BYTES;
 use std::alloc::Global;
 use token::Token;
-/// How many line feeds a text has.
-fn line_feeds(text: &[u8]) -> u32
-    requires { length text.now ≤ MOST_TEXT_BYTES }
-    ensures value { result ≡ count_by is_line_feed text.now }
-    ensures few { result ≤ length text.now }
-{
-    let mut count = 0;
-    for b in text {
-        if *b == b'\n' {
-            count += 1;
-        }
-    }
-    count
+
+/// What a text that is skipped leads to.
+#[derive(Clone, Copy)]
+struct Passed {
+    /// How many line feeds it has.
+    line_feeds: u32,
+    /// Whether the line that it ends in has only blanks.
+    fresh: bool,
 }
 
-/// Whether the line that a text ends in has only blanks, where `fresh` says so of what stands before the text.
-fn fresh_behind(fresh: bool, text: &[u8]) -> bool
-    ensures { result ≡ fresh_from fresh text.now }
+/// What a text leads to, where `fresh` says of what stands before it whether its last line has only blanks.
+fn behind(fresh: bool, text: &[u8]) -> Passed
+    requires { length text.now ≤ MOST_TEXT_BYTES }
+    ensures line_feeds { result.line_feeds ≡ count_by is_line_feed text.now }
+    ensures few { result.line_feeds ≤ length text.now }
+    ensures fresh { result.fresh ≡ fresh_from fresh text.now }
 {
-    let mut fresh = fresh;
+    let mut passed = Passed {
+        line_feeds: 0,
+        fresh,
+    };
     for b in text {
-        fresh = *b == b'\n' || (fresh && is_blank(*b));
+        if *b == b'\n' {
+            passed.line_feeds += 1;
+            passed.fresh = true;
+        } else {
+            passed.fresh = passed.fresh && is_blank(*b);
+        }
     }
-    fresh
+    passed
 }
 
 /// The tokens of a text, as far as it can be cut.
@@ -60,18 +66,19 @@ fn divide<'t>(alloc: Global, text: &'t [u8]) -> Result<Vec<Token<'t>>, LexFault>
         let Some((length, piece)) = next(fresh, rest) else {
             return Err(LexFault::Lexical(line));
         };
-        let (front, behind) = rest.split_at(length);
+        let (front, back) = rest.split_at(length);
         match piece {
             Piece::Token(kind) => {
                 tokens.push(Token::new(kind, front, line))?;
                 fresh = false;
             }
             Piece::Skipped => {
-                line += line_feeds(front);
-                fresh = fresh_behind(fresh, front);
+                let passed = behind(fresh, front);
+                line += passed.line_feeds;
+                fresh = passed.fresh;
             }
         }
-        rest = behind;
+        rest = back;
     }
     Ok(tokens)
 }

@@ -8,7 +8,7 @@ use crate::constant::constant;
 use crate::expr::{add, expr, reference};
 use crate::mark::{Constant, Declared, Holder, Makes, Mark, Role, Use, What};
 use pml_tree::tree::{Expr, Initial, Scalar, Sort, Variable};
-use sqlite_items::Items;
+use sqlite_items::{Boxed, Items};
 use std::alloc::{AllocError, Global};
 
 /// Adds the marks of variables, parameters or fields, which are declared as `holder`'s.
@@ -70,7 +70,7 @@ fn sort<'a>(sort: &Sort<'a>, owner: usize, out: &mut Items<Mark<'a>>) -> Result<
 
 fn size<'a>(
     alloc: Global,
-    size: &Option<Expr<'a>>,
+    size: &Option<Boxed<Expr<'a>>>,
     owner: usize,
     out: &mut Items<Mark<'a>>,
 ) -> Result<Option<Constant>, AllocError>
@@ -80,8 +80,8 @@ fn size<'a>(
     match size {
         None => Ok(None),
         Some(e) => {
-            expr(alloc, e, owner, out)?;
-            let n = constant(e);
+            expr(alloc, e.get(), owner, out)?;
+            let n = constant(e.get());
             add(What::Size(n), owner, out)?;
             Ok(Some(n))
         }
@@ -103,15 +103,15 @@ fn initial<'a>(
         None => Ok(Makes::Numbers),
         Some(Initial::Value(e)) => {
             match role {
-                Role::Field => preset(alloc, e, owner, out)?,
-                Role::Variable => expr(alloc, e, owner, out)?,
+                Role::Field => preset(alloc, e.get(), owner, out)?,
+                Role::Variable => expr(alloc, e.get(), owner, out)?,
             }
             Ok(Makes::Numbers)
         }
         Some(Initial::Channel(e, types)) => {
-            expr(alloc, e, owner, out)?;
+            expr(alloc, e.get(), owner, out)?;
             add(
-                What::Channel(holder(sort), constant(e), types.len()),
+                What::Channel(holder(sort), constant(e.get()), types.len()),
                 owner,
                 out,
             )?;

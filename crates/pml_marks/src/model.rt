@@ -25,8 +25,8 @@ fn starts<'a>(
         Starts::Never => Ok(()),
         Starts::Once => add(What::Starts(Constant::Is(1)), owner, out),
         Starts::Times(e) => {
-            expr(alloc, e, 0, out)?;
-            add(What::Starts(constant(e)), owner, out)
+            expr(alloc, e.get(), 0, out)?;
+            add(What::Starts(constant(e.get())), owner, out)
         }
     }
 }

@@ -36,7 +36,7 @@ pub fn action<'a>(
         Action::Else => Ok(()),
         Action::Assign(r, e) => {
             reference(alloc, r, Use::Store, owner, out)?;
-            expr(alloc, e, owner, out)
+            expr(alloc, e.get(), owner, out)
         }
         Action::AssignRun(r, p) => {
             reference(alloc, r, Use::Store, owner, out)?;
@@ -57,9 +57,9 @@ pub fn action<'a>(
             exprs(alloc, all.as_slice(), owner, out)?;
             add(What::Prints(text.copied(), all.len()), owner, out)
         }
-        Action::Printm(e) => expr(alloc, e, owner, out),
-        Action::Assert(e) => expr(alloc, e, owner, out),
-        Action::Holds(e) => expr(alloc, e, owner, out),
+        Action::Printm(e) => expr(alloc, e.get(), owner, out),
+        Action::Assert(e) => expr(alloc, e.get(), owner, out),
+        Action::Holds(e) => expr(alloc, e.get(), owner, out),
     }
 }
 
@@ -105,7 +105,7 @@ fn basic<'a>(
             out,
         )?),
         Basic::Exclusive(all) => Ok(references(alloc, all.as_slice(), owner, out)?),
-        Basic::Plain(a) => Ok(action(alloc, a, owner, out)?),
+        Basic::Plain(a) => Ok(action(alloc, a.get(), owner, out)?),
         Basic::Goto(l) => Ok(add(What::Goto(l.copied()), owner, out)?),
         Basic::Break => Ok(add(What::Break, owner, out)?),
         Basic::If(options) => Ok(seqs(alloc, options.as_slice(), owner, out)?),
@@ -139,7 +139,7 @@ fn item<'a>(
     ensures { OnOk result (out.new ≡ out.old ++ of_item i.now owner) }
 {
     labels(i.labels.as_slice(), owner, out)?;
-    Ok(basic(alloc, &i.basic, owner, out)?)
+    Ok(basic(alloc, i.basic.get(), owner, out)?)
 }
 
 #[cycle(statement)]

@@ -93,7 +93,7 @@ pub fn action<'a>(
         TreeAction::Else => Ok(Action::Else),
         TreeAction::Assign(r, e) => {
             let to = store(reference(alloc, r, all, table, owner)?);
-            Ok(Action::Assign(to, expr(alloc, e, all, table, owner)?))
+            Ok(Action::Assign(to, expr(alloc, e.get(), all, table, owner)?))
         }
         TreeAction::AssignRun(r, p) => {
             let to = store(reference(alloc, r, all, table, owner)?);
@@ -116,8 +116,8 @@ pub fn action<'a>(
             let printed = values(alloc, es.as_slice(), all, table, owner)?;
             Ok(Action::Printf(text.copied(), printed))
         }
-        TreeAction::Printm(e) => Ok(Action::Printm(expr(alloc, e, all, table, owner)?)),
-        TreeAction::Assert(e) => Ok(Action::Assert(expr(alloc, e, all, table, owner)?)),
-        TreeAction::Holds(e) => Ok(Action::Holds(expr(alloc, e, all, table, owner)?)),
+        TreeAction::Printm(e) => Ok(Action::Printm(expr(alloc, e.get(), all, table, owner)?)),
+        TreeAction::Assert(e) => Ok(Action::Assert(expr(alloc, e.get(), all, table, owner)?)),
+        TreeAction::Holds(e) => Ok(Action::Holds(expr(alloc, e.get(), all, table, owner)?)),
     }
 }

@@ -17,7 +17,7 @@ use pml_names::thing::Thing;
 use pml_program::form::Form;
 use pml_program::program::{Initial, Slot};
 use pml_tree::tree::{Expr as TreeExpr, Initial as TreeInitial, Scalar, Sort, Variable};
-use sqlite_items::Items;
+use sqlite_items::{Boxed, Items};
 use std::alloc::{AllocError, Global};
 
 /// A number of processes or messages.
@@ -50,12 +50,12 @@ fn copied<'a>(sort: &Sort<'a>) -> Sort<'a>
     }
 }
 
-fn size_of(size: &Option<TreeExpr>) -> Option<Constant>
+fn size_of(size: &Option<Boxed<TreeExpr>>) -> Option<Constant>
     ensures { result ≡ size_of size.now }
 {
     match size {
         None => None,
-        Some(e) => Some(constant(e)),
+        Some(e) => Some(constant(e.get())),
     }
 }
 
@@ -97,10 +97,10 @@ fn initial(
 {
     match begins {
         None => Ok(Initial::Zero),
-        Some(TreeInitial::Value(e)) => Ok(Initial::Value(expr(alloc, e, all, table, owner)?)),
+        Some(TreeInitial::Value(e)) => Ok(Initial::Value(expr(alloc, e.get(), all, table, owner)?)),
         Some(TreeInitial::Channel(e, types)) => {
             let forms = forms(alloc, types.as_slice())?;
-            Ok(Initial::Channel(natural(constant(e)), forms))
+            Ok(Initial::Channel(natural(constant(e.get())), forms))
         }
     }
 }

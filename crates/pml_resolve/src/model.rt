@@ -1,6 +1,7 @@
 //! A whole model, with its names replaced.
 
 ghost use Rattle.std.specs.Prelude.{◌≡◌, ◌++◌, reverse, OnOk, IfOk};
+ghost use Rattle.pml_tree.specs.declared.tree.Unit.TheVariants as part;
 ghost use Rattle.pml_marks.specs.Marks.{of_constants, of_tree};
 ghost use Rattle.pml_names.specs.Env.{env, env_from};
 ghost use Rattle.pml_names.specs.Totals.{IsTotalled};
@@ -14,7 +15,7 @@ use pml_marks::mark::{Declared, Role, What};
 use pml_names::names::Names;
 use pml_names::table::Table;
 use pml_program::program::{Fields, Proctype, Program};
-use pml_tree::tree::{Proctype as TreeProctype, Starts, Tree, Unit};
+use pml_tree::tree::{Proctype as TreeProctype, Starts, Tree, Unit, Variable};
 use sqlite_items::Items;
 use std::alloc::{AllocError, Global};
 
@@ -24,7 +25,7 @@ fn count(starts: &Starts) -> u32
     match starts {
         Starts::Never => 0,
         Starts::Once => 1,
-        Starts::Times(e) => natural(constant(e)),
+        Starts::Times(e) => natural(constant(e.get())),
     }
 }
 
@@ -83,6 +84,30 @@ fn process<'a>(
     })
 }
 
+fn typedef<'a>(
+    alloc: Global,
+    all: &Table,
+    number: usize,
+    name: &Token<'a>,
+    vs: &[Variable<'a>],
+    names: &mut Names<'a>,
+    program: &mut Program<'a>,
+) -> Result<(), AllocError>
+    requires { IsTotalled names.old.table names.old.totals names.old.constants }
+    ensures made { OnOk result (made program.new names.new.table
+        ≡ with_unit all.now number (part.Typedef name.now vs.now) (made program.old names.old.table)) }
+    ensures totalled { OnOk result (IsTotalled names.new.table names.new.totals names.new.constants) }
+{
+    let mut fields = Items::new(alloc);
+    variables(alloc, all, Role::Field, number, vs, names, &mut fields)?;
+    let what = What::Declares(name.copied(), Declared::Typedef(number));
+    declare(0, &what, names)?;
+    program.typedefs.push(Fields {
+        owner: number,
+        fields,
+    })
+}
+
 fn unit<'a>(
     alloc: Global,
     all: &Table,
@@ -106,24 +131,7 @@ fn unit<'a>(
             &mut program.globals,
         ),
         Unit::Constants(list) => constants(list.as_slice(), names, &mut program.constants),
-        Unit::Typedef(name, vs) => {
-            let mut fields = Items::new(alloc);
-            variables(
-                alloc,
-                all,
-                Role::Field,
-                number,
-                vs.as_slice(),
-                names,
-                &mut fields,
-            )?;
-            let what = What::Declares(name.copied(), Declared::Typedef(number));
-            declare(0, &what, names)?;
-            program.typedefs.push(Fields {
-                owner: number,
-                fields,
-            })
-        }
+        Unit::Typedef(name, vs) => typedef(alloc, all, number, name, vs.as_slice(), names, program),
         Unit::Proctype(p) => process(alloc, all, number, p, names, program),
     }
 }

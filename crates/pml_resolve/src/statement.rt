@@ -56,7 +56,7 @@ fn basic<'a>(
         }
         TreeBasic::Exclusive(_) => Ok(None),
         TreeBasic::Plain(a) => {
-            let x = action(alloc, a, all, &names.table, owner)?;
+            let x = action(alloc, a.get(), all, &names.table, owner)?;
             Ok(Some(Basic::Plain(x)))
         }
         TreeBasic::Goto(l) => Ok(Some(Basic::Goto(l.copied()))),
@@ -97,7 +97,7 @@ fn item<'a>(
 {
     let labels = copied(alloc, i.labels.as_slice())?;
     let tokens = Tokens::new(i.tokens.as_slice());
-    match basic(alloc, &i.basic, all, owner, names, slots)? {
+    match basic(alloc, i.basic.get(), all, owner, names, slots)? {
         None => Ok(()),
         Some(basic) => Ok(steps.push(Stmt {
             labels,

@@ -43,8 +43,8 @@ pub exprs_again : {xs : List Expr} {from to : List Word} → SpellsList (SpellsE
 exprs_again h depth turns room enough q ends found =
     list_again (expr depth 1) (SpellsExpr 1) depth (λ to. IsQuiet (next to)) (λ x from to s. expr_moves s) (λ c ws is. at IsQuiet is quiet_comma) (λ x from to s low good. expr_whole s depth low good) h turns room enough q ends found
 
-values_again : {xs : List Expr} {from to : List Word} → SpellsValues xs from to → (depth : ℕ) → length from ≤ depth → Stops (next to) → reading.values depth from ≡ Ok (xs, to)
-unfolding reading.values expressions.behind_first expressions.enclosed expressions.closing and_then pick sees
+values_again : {xs : List Expr} {from to : List Word} → SpellsValues xs from to → (depth : ℕ) → length from ≤ depth → Stops (next to) → expressions.values depth from ≡ Ok (xs, to)
+unfolding expressions.values expressions.behind_first expressions.enclosed expressions.closing and_then pick sees
 values_again (grammar.value_list (terms.last_listed h)) depth room s = rw (expr_whole h depth room s.quiet, s.last.no_paren, s.last.no_comma) refl
 values_again (grammar.value_list (terms.more_listed {x} {c} {middle} h is more)) depth room s =
     rw (

@@ -64,8 +64,8 @@ module _ (depth : ℕ) where
   list_found turns ts x h =
       whole_list_found (expr depth 1) (SpellsExpr 1) (SpellsList (SpellsExpr 1)) one_found (λ x from to s. terms.last_listed s) (λ x xs c from middle to s is more. terms.more_listed s is more) turns ts x h
 
-  values_found : (ts : List Word) (x : List Expr × List Word) → reading.values depth ts ≡ Ok x → SpellsValues x.0 ts x.1
-  unfolding reading.values
+  values_found : (ts : List Word) (x : List Expr × List Word) → expressions.values depth ts ≡ Ok x → SpellsValues x.0 ts x.1
+  unfolding expressions.values
   values_found ts x h =
       let y = bind_ok h in
       first_found (expr depth 1) (SpellsExpr 1) (SpellsList (SpellsExpr 1)) one_found (λ x from to s. terms.last_listed s) (λ x xs c from middle to s is more. terms.more_listed s is more)

@@ -24,7 +24,7 @@ use Rattle.pml_tree.specs.declared.tree.Basic.TheVariants as b
 use Rattle.pml_tree.specs.declared.tree.Item.{Item}
 use Rattle.pml_tree.specs.declared.tree.Seq.{Seq}
 use Rattle.pml_expression.specs.Grammar.{between}
-use Rattle.pml_expression.specs.Reading.{Read, ◌>>=◌, when◌then◌else◌, next, sees, refuse, expect, expect_all, expect_name, list_from, behind_first, expr_behind, expr_between, index, reference, arguments, behind, climb, expr}
+use Rattle.pml_expression.specs.Reading.{Read, ◌>>=◌, when◌then◌else◌, next, sees, refuse, expect, expect_all, expect_name, list_from, values, expr_behind, expr_between, index, reference, arguments, behind, climb, expr}
 use Rattle.pml_syntax.specs.declared.opener.Opener.{Opener}
 use Rattle.pml_syntax.specs.declared.opener.Opener.TheVariants as opener
 use Rattle.pml_syntax.specs.declared.starts.Opening.{Opening}
@@ -96,11 +96,6 @@ format ts = do
 module _ (depth : ℕ) where
   -- ---- statements without structure
 
-  unfoldable pub values : List Word → Read (List Expr)
-  values ts = do
-    first ← expr depth 1 ts
-    behind_first (expr depth 1) (first.0 ∷ []) first.1
-
   -- between the parentheses of a run
   unfoldable pub run_values : List Word → Read (List Expr)
   run_values ts = when sees k.CloseParen ts then Ok ([], ts) else list_from (expr depth 1) (length ts) [] ts
@@ -147,7 +142,7 @@ module _ (depth : ℕ) where
 
   unfoldable pub sent : SendOrder → Reference → List Word → Read (Action × Bool)
   sent order r ts = do
-    xs ← values ts
+    xs ← values depth ts
     Ok ((a.Send r order xs.0, false), xs.1)
 
   -- between `<` and `>`

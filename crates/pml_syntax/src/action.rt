@@ -1,6 +1,7 @@
 //! Statements without structure. Each is read with whether it ends with `else`.
 
-ghost use Rattle.std.specs.Prelude.{◌≡◌, length, []};
+ghost use Rattle.std.specs.Prelude.{◌≡◌, length, [], IfOk};
+ghost use Rattle.pml_tree.specs.declared.tree.Action.TheVariants as action;
 ghost use Rattle.pml_expression.specs.Reading as expressions;
 ghost use Rattle.pml_expression.specs.Reading.{Reads};
 ghost use Rattle.pml_syntax.specs.ReadingStatements as reading;
@@ -8,84 +9,15 @@ ghost use Rattle.pml_syntax.specs.ReadingStatements as reading;
 use crate::ahead::leads_to_run;
 use crate::starts::{Change, Deed, change_of, deed_of};
 use pml_expression::cursor::Cursor;
-use pml_expression::expr::{arguments, behind, climb, expr, expr_behind, expr_between, reference};
+use pml_expression::expr::{
+    arguments, behind, boxed_expr, climb, expr_behind, expr_between, reference,
+};
 use pml_expression::fault::ReadFault;
+use pml_expression::list::{expr_list, values};
 use pml_lex::token::{Kind, Token};
 use pml_tree::tree::{Action, Argument, Expr, Reference, Removal, Run, Search, SendOrder};
 use sqlite_items::{Boxed, Items};
-use std::alloc::Global;
-
-/// Expressions with commas between them, behind the first ones.
-#[tactic(auto, unfolding(pml_expression::specs::Reading::list_from, pml_expression::specs::Reading::and_then, pml_expression::specs::Reading::pick))]
-fn expr_list<'a>(
-    alloc: Global,
-    depth: usize,
-    first: Items<Expr<'a>>,
-    tokens: &mut Cursor<'a>,
-) -> Result<Items<Expr<'a>>, ReadFault>
-    ensures { Reads (expressions.list_from (expressions.expr depth 1) (length tokens.old) first.entry tokens.old) result tokens.new }
-{
-    let mut found = first;
-    for _turn in 0..tokens.left() {
-        let x = expr(alloc, depth, 1, tokens)?;
-        found.push(x)?;
-        if !tokens.sees(Kind::Comma) {
-            return Ok(found);
-        }
-        tokens.expect(Kind::Comma)?;
-    }
-    Err(tokens.refuse())
-}
-
-/// Expressions in parentheses, behind the first ones.
-#[tactic(auto, unfolding(pml_expression::specs::Reading::enclosed, pml_expression::specs::Reading::closing, pml_expression::specs::Reading::and_then))]
-fn enclosed<'a>(
-    alloc: Global,
-    depth: usize,
-    first: Items<Expr<'a>>,
-    tokens: &mut Cursor<'a>,
-) -> Result<Items<Expr<'a>>, ReadFault>
-    ensures { Reads (expressions.enclosed (expressions.expr depth 1) first.entry tokens.old) result tokens.new }
-{
-    tokens.expect(Kind::OpenParen)?;
-    let found = expr_list(alloc, depth, first, tokens)?;
-    tokens.closing(Kind::CloseParen, found)
-}
-
-/// The expressions that a comma or a parenthesis goes on with, behind the first one.
-#[tactic(auto, unfolding(pml_expression::specs::Reading::behind_first, pml_expression::specs::Reading::and_then, pml_expression::specs::Reading::pick))]
-fn behind_first<'a>(
-    alloc: Global,
-    depth: usize,
-    first: Items<Expr<'a>>,
-    tokens: &mut Cursor<'a>,
-) -> Result<Items<Expr<'a>>, ReadFault>
-    ensures { Reads (expressions.behind_first (expressions.expr depth 1) first.entry tokens.old) result tokens.new }
-{
-    if tokens.sees(Kind::OpenParen) {
-        return enclosed(alloc, depth, first, tokens);
-    }
-    if !tokens.sees(Kind::Comma) {
-        return Ok(first);
-    }
-    tokens.expect(Kind::Comma)?;
-    expr_list(alloc, depth, first, tokens)
-}
-
-/// What is sent.
-#[tactic(auto, unfolding(crate::specs::ReadingStatements::values, pml_expression::specs::Reading::and_then))]
-fn values<'a>(
-    alloc: Global,
-    depth: usize,
-    tokens: &mut Cursor<'a>,
-) -> Result<Items<Expr<'a>>, ReadFault>
-    ensures { Reads (reading.values depth tokens.old) result tokens.new }
-{
-    let mut first = Items::new(alloc);
-    let x = expr(alloc, depth, 1, tokens)?;
-    first.push(x)?;
-    behind_first(alloc, depth, first, tokens)
-}
+use std::alloc::{AllocError, Global};
 
 #[tactic(auto, unfolding(crate::specs::ReadingStatements::run_values, pml_expression::specs::Reading::pick))]
 fn run_values<'a>(
@@ -153,8 +85,15 @@ fn holds<'a>(
 ) -> Result<(Boxed<Action<'a>>, bool), ReadFault>
     ensures { Reads (reading.holds depth tokens.old) result tokens.new }
 {
-    let x = expr(alloc, depth, 1, tokens)?;
+    let x = boxed_expr(alloc, depth, 1, tokens)?;
     Ok((Boxed::new(alloc, Action::Holds(x))?, false))
+}
+
+fn held<'a>(alloc: Global, x: Expr<'a>) -> Result<Boxed<Action<'a>>, AllocError>
+    ensures { IfOk result (λ a. a ≡ action.Holds x.entry) }
+{
+    let x = Boxed::new(alloc, x)?;
+    Ok(Boxed::new(alloc, Action::Holds(x))?)
 }
 
 /// The expression that begins with a reference, behind that.
@@ -169,7 +108,7 @@ fn continued<'a>(
 {
     let first = behind(alloc, depth, r, tokens)?;
     let x = climb(alloc, depth, 1, first, tokens)?;
-    Ok((Boxed::new(alloc, Action::Holds(x))?, false))
+    Ok((held(alloc, x)?, false))
 }
 
 #[tactic(auto, unfolding(crate::specs::ReadingStatements::assigned, pml_expression::specs::Reading::and_then, pml_expression::specs::Reading::pick))]
@@ -185,7 +124,7 @@ fn assigned<'a>(
         let x = run_within(alloc, depth, tokens.left(), tokens)?;
         return Ok((Boxed::new(alloc, Action::AssignRun(r, x))?, false));
     }
-    let x = expr(alloc, depth, 1, tokens)?;
+    let x = boxed_expr(alloc, depth, 1, tokens)?;
     Ok((Boxed::new(alloc, Action::Assign(r, x))?, false))
 }
 

@@ -42,11 +42,11 @@ fn either(a: bool, b: bool) -> bool
 }
 
 /// One statement, as items.
-fn alone<'a>(alloc: Global, item: Boxed<Item<'a>>) -> Result<Items<Item<'a>>, AllocError>
+fn alone<'a>(alloc: Global, item: Item<'a>) -> Result<Items<Item<'a>>, AllocError>
     ensures { IfOk result (λ r. r ≡ item.entry ∷ []) }
 {
     let mut items = Items::new(alloc);
-    items.push(item.into_inner())?;
+    items.push(item)?;
     Ok(items)
 }
 
@@ -56,28 +56,11 @@ fn unless<'a>(
     main: Items<Item<'a>>,
     escape: Items<Item<'a>>,
     tokens: Tokens<'a>,
-) -> Result<Boxed<Item<'a>>, AllocError>
+) -> Result<Item<'a>, AllocError>
     ensures { IfOk result (λ r. r ≡ grammar.item_of [] (b.Unless (grammar.seq_of main.entry) (grammar.seq_of escape.entry)) tokens.entry) }
 {
     let basic = Basic::Unless(Seq { items: main }, Seq { items: escape });
     unlabelled(alloc, basic, tokens)
-}
-
-/// An item behind its labels.
-fn labelled<'a>(
-    alloc: Global,
-    labels: Items<Token<'a>>,
-    basic: Boxed<Basic<'a>>,
-    tokens: Tokens<'a>,
-) -> Result<Boxed<Item<'a>>, AllocError>
-    ensures { IfOk result (λ r. r ≡ grammar.item_of labels.entry basic.entry tokens.entry) }
-{
-    let item = Item {
-        labels,
-        basic: basic.into_inner(),
-        tokens,
-    };
-    Ok(Boxed::new(alloc, item)?)
 }
 
 /// An item without labels.
@@ -85,15 +68,14 @@ fn unlabelled<'a>(
     alloc: Global,
     basic: Basic<'a>,
     tokens: Tokens<'a>,
-) -> Result<Boxed<Item<'a>>, AllocError>
+) -> Result<Item<'a>, AllocError>
     ensures { IfOk result (λ r. r ≡ grammar.item_of [] basic.entry tokens.entry) }
 {
-    let item = Item {
+    Ok(Item {
         labels: Items::new(alloc),
-        basic,
+        basic: Boxed::new(alloc, basic)?,
         tokens,
-    };
-    Ok(Boxed::new(alloc, item)?)
+    })
 }
 
 #[tactic(auto, unfolding(crate::specs::ReadingStatements::declared, pml_expression::specs::Reading::and_then))]
@@ -101,7 +83,7 @@ fn declared<'a>(
     alloc: Global,
     depth: usize,
     tokens: &mut Cursor<'a>,
-) -> Result<(Boxed<Item<'a>>, bool, bool), ReadFault>
+) -> Result<(Item<'a>, bool, bool), ReadFault>
     ensures { Reads (reading.declared depth tokens.old) result tokens.new }
 {
     let start = tokens.ahead();
@@ -115,7 +97,7 @@ fn exclusive<'a>(
     alloc: Global,
     depth: usize,
     tokens: &mut Cursor<'a>,
-) -> Result<(Boxed<Item<'a>>, bool, bool), ReadFault>
+) -> Result<(Item<'a>, bool, bool), ReadFault>
     ensures { Reads (reading.exclusive depth tokens.old) result tokens.new }
 {
     let start = tokens.ahead();
@@ -134,7 +116,7 @@ fn plainly<'a>(
     ensures { Reads (reading.plainly depth tokens.old) result tokens.new }
 {
     let (x, closed) = action(alloc, depth, tokens)?;
-    Ok((Boxed::new(alloc, Basic::Plain(x.into_inner()))?, closed))
+    Ok((Boxed::new(alloc, Basic::Plain(x))?, closed))
 }
 
 /// The label that a `goto` names.
@@ -299,13 +281,17 @@ fn statement<'a>(
     alloc: Global,
     depth: usize,
     tokens: &mut Cursor<'a>,
-) -> Result<(Boxed<Item<'a>>, bool), ReadFault>
+) -> Result<(Item<'a>, bool), ReadFault>
     ensures { Reads (reading.statement depth (reading.items depth) tokens.old) result tokens.new }
 {
     let labels = labels(alloc, tokens)?;
     let start = tokens.ahead();
     let (basic, closed) = basic(alloc, depth, tokens)?;
-    let item = labelled(alloc, labels, basic, tokens.since(start))?;
+    let item = Item {
+        labels,
+        basic,
+        tokens: tokens.since(start),
+    };
     Ok((item, closed))
 }
 
@@ -331,7 +317,7 @@ fn stepped<'a>(
     alloc: Global,
     depth: usize,
     tokens: &mut Cursor<'a>,
-) -> Result<(Boxed<Item<'a>>, bool, bool), ReadFault>
+) -> Result<(Item<'a>, bool, bool), ReadFault>
     ensures { Reads (reading.stepped depth (reading.items depth) tokens.old) result tokens.new }
 {
     let start = tokens.ahead();
@@ -351,7 +337,7 @@ fn item<'a>(
     alloc: Global,
     depth: usize,
     tokens: &mut Cursor<'a>,
-) -> Result<(Boxed<Item<'a>>, bool, bool), ReadFault>
+) -> Result<(Item<'a>, bool, bool), ReadFault>
     ensures { Reads (reading.item depth (reading.items depth) tokens.old) result tokens.new }
 {
     if is_declaration(tokens) {
@@ -376,7 +362,7 @@ fn items<'a>(
     let mut step = false;
     for _turn in 0..tokens.left() {
         let (x, is_step, closed) = item(alloc, depth, tokens)?;
-        found.push(x.into_inner())?;
+        found.push(x)?;
         step = either(step, is_step);
         let joined = either(closed, is_separator(tokens.peek()));
         skip_separators(tokens);

@@ -9,7 +9,7 @@ use crate::ahead::skip_visibility;
 use crate::opener::Opener;
 use crate::starts::scalar;
 use pml_expression::cursor::Cursor;
-use pml_expression::expr::{boxed_behind, expr, expr_behind, index, reference};
+use pml_expression::expr::{boxed_expr, expr_behind, index, reference};
 use pml_expression::fault::ReadFault;
 use pml_lex::token::{Kind, Token};
 use pml_tree::tree::{Expr, Initial, Reference, Scalar, Sort, Variable};
@@ -68,7 +68,7 @@ fn capacity<'a>(
 ) -> Result<Boxed<Expr<'a>>, ReadFault>
     ensures { Reads (reading.capacity depth tokens.old) result tokens.new }
 {
-    let x = boxed_behind(alloc, depth, Kind::OpenBracket, tokens)?;
+    let x = expr_behind(alloc, depth, Kind::OpenBracket, tokens)?;
     tokens.expect_all(&[Kind::CloseBracket, Kind::Of, Kind::OpenBrace])?;
     Ok(x)
 }
@@ -84,7 +84,7 @@ fn channel<'a>(
     let capacity = capacity(alloc, depth, tokens)?;
     let types = scalars(alloc, tokens)?;
     tokens.expect(Kind::CloseBrace)?;
-    Ok((Some(Initial::Channel(capacity.into_inner(), types)), true))
+    Ok((Some(Initial::Channel(capacity, types)), true))
 }
 
 #[tactic(auto, unfolding(crate::specs::ReadingStatements::initial, pml_expression::specs::Reading::and_then, pml_expression::specs::Reading::pick))]
@@ -102,7 +102,7 @@ fn initial<'a>(
     if tokens.sees(Kind::OpenBracket) {
         return channel(alloc, depth, tokens);
     }
-    let x = expr(alloc, depth, 1, tokens)?;
+    let x = boxed_expr(alloc, depth, 1, tokens)?;
     Ok((Some(Initial::Value(x)), false))
 }
 
@@ -127,7 +127,7 @@ fn plain<'a>(
     depth: usize,
     s: Scalar,
     tokens: &mut Cursor<'a>,
-) -> Result<(Boxed<Variable<'a>>, bool), ReadFault>
+) -> Result<(Variable<'a>, bool), ReadFault>
     ensures { Reads (reading.plain depth s tokens.old) result tokens.new }
 {
     let name = tokens.expect(Kind::Name)?;
@@ -140,7 +140,7 @@ fn plain<'a>(
         size,
         initial,
     };
-    Ok((Boxed::new(alloc, v)?, closed))
+    Ok((v, closed))
 }
 
 #[tactic(auto, unfolding(crate::specs::ReadingStatements::structured, pml_expression::specs::Reading::and_then))]
@@ -149,7 +149,7 @@ fn structured<'a>(
     depth: usize,
     typedef: &Token<'a>,
     tokens: &mut Cursor<'a>,
-) -> Result<(Boxed<Variable<'a>>, bool), ReadFault>
+) -> Result<(Variable<'a>, bool), ReadFault>
     ensures { Reads (reading.structured depth typedef.now tokens.old) result tokens.new }
 {
     let name = tokens.expect(Kind::Name)?;
@@ -161,7 +161,7 @@ fn structured<'a>(
         size,
         initial: None,
     };
-    Ok((Boxed::new(alloc, v)?, false))
+    Ok((v, false))
 }
 
 #[tactic(auto, unfolding(crate::specs::ReadingStatements::packed, pml_expression::specs::Reading::and_then))]
@@ -169,7 +169,7 @@ fn packed<'a>(
     alloc: Global,
     depth: usize,
     tokens: &mut Cursor<'a>,
-) -> Result<(Boxed<Variable<'a>>, bool), ReadFault>
+) -> Result<(Variable<'a>, bool), ReadFault>
     ensures { Reads (reading.packed depth tokens.old) result tokens.new }
 {
     let name = tokens.expect(Kind::Name)?;
@@ -183,7 +183,7 @@ fn packed<'a>(
         size: None,
         initial,
     };
-    Ok((Boxed::new(alloc, v)?, false))
+    Ok((v, false))
 }
 
 fn variable<'a>(
@@ -191,7 +191,7 @@ fn variable<'a>(
     depth: usize,
     opener: &Opener<'a>,
     tokens: &mut Cursor<'a>,
-) -> Result<(Boxed<Variable<'a>>, bool), ReadFault>
+) -> Result<(Variable<'a>, bool), ReadFault>
     ensures { Reads (reading.variable_by depth opener.now tokens.old) result tokens.new }
 {
     match opener {
@@ -215,7 +215,7 @@ fn variables<'a>(
     let mut found = first;
     for _turn in 0..tokens.left() {
         let (v, closed) = variable(alloc, depth, opener, tokens)?;
-        found.push(v.into_inner())?;
+        found.push(v)?;
         if !tokens.sees(Kind::Comma) {
             return Ok((found, closed));
         }

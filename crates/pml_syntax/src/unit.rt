@@ -159,16 +159,16 @@ fn names<'a>(alloc: Global, tokens: &mut Cursor<'a>) -> Result<Items<Token<'a>>,
 }
 
 #[tactic(auto, unfolding(crate::specs::ReadingUnits::constants, pml_expression::specs::Reading::and_then, pml_expression::specs::Reading::pick))]
-fn constants<'a>(alloc: Global, tokens: &mut Cursor<'a>) -> Result<Boxed<Unit<'a>>, ReadFault>
+fn constants<'a>(alloc: Global, tokens: &mut Cursor<'a>) -> Result<Unit<'a>, ReadFault>
     ensures { Reads (reading.constants tokens.old) result tokens.new }
 {
     if tokens.sees(Kind::Assign) {
         tokens.expect(Kind::Assign)?;
         let found = names(alloc, tokens)?;
-        return Ok(Boxed::new(alloc, Unit::Constants(found))?);
+        return Ok(Unit::Constants(found));
     }
     let found = names(alloc, tokens)?;
-    Ok(Boxed::new(alloc, Unit::Constants(found))?)
+    Ok(Unit::Constants(found))
 }
 
 #[tactic(auto, unfolding(crate::specs::ReadingUnits::starts, pml_expression::specs::Reading::and_then, pml_expression::specs::Reading::pick))]
@@ -211,17 +211,12 @@ fn members<'a>(
 }
 
 #[tactic(auto, unfolding(crate::specs::ReadingUnits::typedef, pml_expression::specs::Reading::closing, pml_expression::specs::Reading::and_then))]
-fn typedef<'a>(
-    alloc: Global,
-    depth: usize,
-    tokens: &mut Cursor<'a>,
-) -> Result<Boxed<Unit<'a>>, ReadFault>
+fn typedef<'a>(alloc: Global, depth: usize, tokens: &mut Cursor<'a>) -> Result<Unit<'a>, ReadFault>
     ensures { Reads (reading.typedef depth tokens.old) result tokens.new }
 {
     let name = tokens.expect_name(Kind::Typedef, Kind::OpenBrace)?;
     let fields = members(alloc, depth, tokens)?;
-    let x = Boxed::new(alloc, Unit::Typedef(name, fields))?;
-    tokens.closing(Kind::CloseBrace, x)
+    tokens.closing(Kind::CloseBrace, Unit::Typedef(name, fields))
 }
 
 #[tactic(auto, unfolding(crate::specs::ReadingUnits::items_or_none, pml_expression::specs::Reading::and_then, pml_expression::specs::Reading::pick))]
@@ -266,65 +261,44 @@ fn signature<'a>(
     tokens.closing(Kind::CloseParen, (name, found))
 }
 
-/// How many processes start, in a box: a large value is slow to prove where it is held.
-fn boxed_starts<'a>(
-    alloc: Global,
-    depth: usize,
-    tokens: &mut Cursor<'a>,
-) -> Result<Boxed<Starts<'a>>, ReadFault>
-    ensures { Reads (reading.starts depth tokens.old) result tokens.new }
-{
-    let found = starts(alloc, depth, tokens)?;
-    Ok(Boxed::new(alloc, found)?)
-}
-
 /// A proctype, or `init`, from its body on.
 #[tactic(auto, unfolding(crate::specs::ReadingUnits::process, pml_expression::specs::Reading::and_then))]
 fn process<'a>(
     alloc: Global,
     depth: usize,
-    starts: Boxed<Starts<'a>>,
+    starts: Starts<'a>,
     name: Token<'a>,
     parameters: Items<Variable<'a>>,
     tokens: &mut Cursor<'a>,
-) -> Result<Boxed<Unit<'a>>, ReadFault>
+) -> Result<Unit<'a>, ReadFault>
     ensures { Reads (reading.process depth starts.entry name.entry parameters.entry tokens.old) result tokens.new }
 {
     let (items, end) = braced(alloc, depth, tokens)?;
     let process = Proctype {
-        starts: starts.into_inner(),
+        starts,
         name,
         parameters,
         body: Seq { items },
         end,
     };
-    Ok(Boxed::new(alloc, Unit::Proctype(process))?)
+    Ok(Unit::Proctype(process))
 }
 
 #[tactic(auto, unfolding(crate::specs::ReadingUnits::proctype, pml_expression::specs::Reading::and_then))]
-fn proctype<'a>(
-    alloc: Global,
-    depth: usize,
-    tokens: &mut Cursor<'a>,
-) -> Result<Boxed<Unit<'a>>, ReadFault>
+fn proctype<'a>(alloc: Global, depth: usize, tokens: &mut Cursor<'a>) -> Result<Unit<'a>, ReadFault>
     ensures { Reads (reading.proctype depth tokens.old) result tokens.new }
 {
-    let starts = boxed_starts(alloc, depth, tokens)?;
+    let starts = starts(alloc, depth, tokens)?;
     let (name, parameters) = signature(alloc, tokens)?;
     process(alloc, depth, starts, name, parameters, tokens)
 }
 
 #[tactic(auto, unfolding(crate::specs::ReadingUnits::init, pml_expression::specs::Reading::and_then))]
-fn init<'a>(
-    alloc: Global,
-    depth: usize,
-    tokens: &mut Cursor<'a>,
-) -> Result<Boxed<Unit<'a>>, ReadFault>
+fn init<'a>(alloc: Global, depth: usize, tokens: &mut Cursor<'a>) -> Result<Unit<'a>, ReadFault>
     ensures { Reads (reading.init depth tokens.old) result tokens.new }
 {
     let name = tokens.expect(Kind::Init)?;
-    let starts = Boxed::new(alloc, Starts::Once)?;
-    process(alloc, depth, starts, name, Items::new(alloc), tokens)
+    process(alloc, depth, Starts::Once, name, Items::new(alloc), tokens)
 }
 
 #[tactic(auto, unfolding(crate::specs::ReadingUnits::variables, pml_expression::specs::Reading::and_then))]
@@ -332,19 +306,15 @@ fn variables<'a>(
     alloc: Global,
     depth: usize,
     tokens: &mut Cursor<'a>,
-) -> Result<Boxed<Unit<'a>>, ReadFault>
+) -> Result<Unit<'a>, ReadFault>
     ensures { Reads (reading.variables depth tokens.old) result tokens.new }
 {
     let (found, _) = declaration(alloc, depth, Items::new(alloc), tokens)?;
-    Ok(Boxed::new(alloc, Unit::Variables(found))?)
+    Ok(Unit::Variables(found))
 }
 
 #[tactic(auto, unfolding(crate::specs::ReadingUnits::unit, pml_expression::specs::Reading::pick))]
-fn unit<'a>(
-    alloc: Global,
-    depth: usize,
-    tokens: &mut Cursor<'a>,
-) -> Result<Boxed<Unit<'a>>, ReadFault>
+fn unit<'a>(alloc: Global, depth: usize, tokens: &mut Cursor<'a>) -> Result<Unit<'a>, ReadFault>
     ensures { Reads (reading.unit depth tokens.old) result tokens.new }
 {
     match head_of(tokens.peek()) {
@@ -377,7 +347,7 @@ fn units<'a>(
             return Ok(found);
         }
         let x = unit(alloc, depth, tokens)?;
-        found.push(x.into_inner())?;
+        found.push(x)?;
     }
     skip_semicolons(tokens);
     if !tokens.is_empty() {

@@ -145,9 +145,9 @@ pub enum Sort<'a> {
 /// What stands behind the `=` of a declaration.
 #[derive(Drop)]
 pub enum Initial<'a> {
-    Value(Expr<'a>),
+    Value(Boxed<Expr<'a>>),
     /// `[capacity] of { types }`.
-    Channel(Expr<'a>, Items<Scalar>),
+    Channel(Boxed<Expr<'a>>, Items<Scalar>),
 }
 
 /// A variable, a parameter or a field. A declaration of several is one of these for each.
@@ -155,7 +155,7 @@ pub enum Initial<'a> {
 pub struct Variable<'a> {
     pub sort: Sort<'a>,
     pub name: Token<'a>,
-    pub size: Option<Expr<'a>>,
+    pub size: Option<Boxed<Expr<'a>>>,
     pub initial: Option<Initial<'a>>,
 }
 
@@ -170,7 +170,7 @@ pub struct Run<'a> {
 #[derive(Drop)]
 pub enum Action<'a> {
     Else,
-    Assign(Reference<'a>, Expr<'a>),
+    Assign(Reference<'a>, Boxed<Expr<'a>>),
     AssignRun(Reference<'a>, Run<'a>),
     Increment(Reference<'a>),
     Decrement(Reference<'a>),
@@ -178,9 +178,9 @@ pub enum Action<'a> {
     Send(Reference<'a>, SendOrder, Items<Expr<'a>>),
     Receive(Reference<'a>, Search, Removal, Items<Argument<'a>>),
     Printf(Token<'a>, Items<Expr<'a>>),
-    Printm(Expr<'a>),
-    Assert(Expr<'a>),
-    Holds(Expr<'a>),
+    Printm(Boxed<Expr<'a>>),
+    Assert(Boxed<Expr<'a>>),
+    Holds(Boxed<Expr<'a>>),
 }
 
 /// An item of a body, without its labels.
@@ -191,7 +191,7 @@ pub enum Basic<'a> {
     Declare(Items<Variable<'a>>),
     /// `xr` and `xs`, which take no step.
     Exclusive(Items<Reference<'a>>),
-    Plain(Action<'a>),
+    Plain(Boxed<Action<'a>>),
     Goto(Token<'a>),
     Break,
     If(Items<Seq<'a>>),
@@ -209,7 +209,7 @@ pub enum Basic<'a> {
 #[derive(Drop)]
 pub struct Item<'a> {
     pub labels: Items<Token<'a>>,
-    pub basic: Basic<'a>,
+    pub basic: Boxed<Basic<'a>>,
     pub tokens: Tokens<'a>,
 }
 
@@ -225,7 +225,7 @@ pub struct Seq<'a> {
 pub enum Starts<'a> {
     Never,
     Once,
-    Times(Expr<'a>),
+    Times(Boxed<Expr<'a>>),
 }
 
 /// A proctype, or `init`, which has the word `init` as its name, no parameters, and starts once.

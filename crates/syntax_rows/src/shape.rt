@@ -84,8 +84,11 @@ fn write_expr(x: &Expr<'_>, out: &mut String) -> Result<(), AllocError> {
 }
 
 fn write_item(item: &Item<'_>, out: &mut String) -> Result<(), AllocError> {
-    match &item.basic {
-        Basic::Plain(Action::Holds(x)) => write_expr(x, out),
+    let Basic::Plain(action) = item.basic.get() else {
+        return Ok(());
+    };
+    match action.get() {
+        Action::Holds(x) => write_expr(x.get(), out),
         _ => Ok(()),
     }
 }

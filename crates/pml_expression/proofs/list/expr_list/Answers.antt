@@ -1,0 +1,12 @@
+use Rattle.std.proofs.Common.{rules, arith}
+use Rattle.std.proofs.lemmas.Grind.{common_steps}
+use Rattle.pml_expression.specs.Reading as reading
+use Rattle.pml_expression.specs.Reading.{and_then, pick}
+use Rattle.pml_expression.proofs.Turns.{one_more}
+use Rattle.pml_expression.proofs.list.expr_list.Goals as goal
+
+pub loop-turn-preserved : goal.loop-turn-preserved
+unfolding reading.list_from and_then pick
+loop-turn-preserved c =
+    let e = one_more (λ n. reading.list_from (reading.expr c.args.depth 1) n c.loop-turn.found c.loop-turn.tokens) c.left-turn-end.result c.loop-turn._turn c.loop-turn-test.true c.loop-turn.invariant in
+    first_of (search rules, grind (arith, common_steps))
