@@ -63,7 +63,7 @@ abbrev mutual
   nodes_in ls last out inside Break = pass ls out ∷ []
   nodes_in ls last out inside (If' m row) = nodes_options last last out inside row ++ stay ls false ∷ []
   nodes_in ls last out inside (Do' m row) =
-      stay [] false ∷ (nodes_options (last + 1) (last + 1) last inside row ++ stay ls false ∷ [])
+      stay [] false ∷ (nodes_options (last + 1) (last + 1) last inside row ++ pass ls (last + 1) ∷ [])
   nodes_in ls last out inside (Block s) = close last ls (nodes_part last last out inside s)
   nodes_in ls last out inside (Atomic s) = close last ls (nodes_part last last out inside s)
   nodes_in ls last out inside (DStep s) = close_gate last ls inside (nodes_part last last out true s)

@@ -82,7 +82,7 @@ fn add_basic<'t>(
         Basic::Do(options) => {
             nodes.push(Node::bare_stay(alloc))?;
             add_options(alloc, options.as_slice(), after + 1, after, inside, nodes)?;
-            Ok(nodes.push(Node::stay(alloc, labels, false)?)?)
+            Ok(nodes.push(Node::pass(alloc, labels, after + 1)?)?)
         }
         Basic::Block(body) => { Ok(add_entered(alloc, labels, body, after, out, inside, nodes)?) }
         Basic::Atomic(body) => { Ok(add_entered(alloc, labels, body, after, out, inside, nodes)?) }

@@ -2,10 +2,10 @@
 #![tactic(auto)]
 
 mod circle;
-mod ends;
+pub mod ends;
 pub mod findings;
 mod first_point;
-mod graph;
-mod labels;
+pub mod graph;
+pub mod labels;
 pub mod laws;
-mod node;
+pub mod node;

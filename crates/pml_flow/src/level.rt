@@ -1,0 +1,119 @@
+//! Ways on from numbered places, by levels.
+
+ghost use Rattle.std.specs.Prelude.{◌≡◌, ℕ, ◌<◌, ◌++◌, [], IfOk, OnOk, length, slice_index_or, slice_set};
+ghost use Rattle.pml_flow.specs.Ways.{one, meet, put};
+
+use std::alloc::{AllocError, Global};
+use std::marker::Model;
+
+/// A statement that may be taken, and where it leads, each by the number of its place.
+#[derive(Clone, Copy, Debug, PartialEq, Eq)]
+pub struct Way {
+    /// The number of the statement's place.
+    pub statement: usize,
+    /// The number of the place that follows.
+    pub target: usize,
+}
+
+/// The ways of one level, the last in text order first.
+#[derive(Drop)]
+pub struct Level {
+    ways: Vec<Way>,
+}
+
+impl Model for Level {
+    ghost use Rattle.std.specs.Prelude.{List};
+    ghost use Rattle.pml_flow.specs.declared.level.Way.{Way};
+
+    ghost Value = { List Way };
+
+    ghost view = { λ l. l.ways.items };
+}
+
+impl Level {
+    ghost use Rattle.std.specs.Prelude.{◌∷◌};
+
+    fn only(alloc: Global, way: Way) -> Result<Level, AllocError>
+        ensures { IfOk result (λ l. l ≡ way ∷ []) }
+    {
+        let mut ways = Vec::new(alloc);
+        ways.push(way)?;
+        Ok(Level { ways })
+    }
+
+    /// Its ways, the last in text order first.
+    pub fn ways(&self) -> &[Way]
+        ensures { result.now ≡ self.now }
+    {
+        self.ways.as_slice()
+    }
+
+    fn copy(&self, alloc: Global) -> Result<Level, AllocError>
+        ensures { IfOk result (λ l. l ≡ self.now) }
+    {
+        let mut ways = Vec::new(alloc);
+        ways.extend_from_slice(self.ways.as_slice())?;
+        Ok(Level { ways })
+    }
+
+    fn add(&mut self, more: &Level) -> Result<(), AllocError>
+        ensures { OnOk result (self.new ≡ self.old ++ more.now) }
+    {
+        self.ways.extend_from_slice(more.ways.as_slice())?;
+        Ok(())
+    }
+}
+
+/// The one way of a statement.
+pub fn one(alloc: Global, statement: usize, target: usize) -> Result<Vec<Level>, AllocError>
+    ensures { IfOk result (λ v. v.items ≡ one statement target) }
+{
+    let mut levels = Vec::new(alloc);
+    levels.push(Level::only(alloc, Way { statement, target })?)?;
+    Ok(levels)
+}
+
+/// Copies of these levels, and of others above them.
+pub fn stacked(alloc: Global, low: &[Level], high: &[Level]) -> Result<Vec<Level>, AllocError>
+    ensures { IfOk result (λ v. v.items ≡ low.now ++ high.now) }
+{
+    let mut levels = Vec::new(alloc);
+    for level in low {
+        levels.push(level.copy(alloc)?)?;
+    }
+    for level in high {
+        levels.push(level.copy(alloc)?)?;
+    }
+    Ok(levels)
+}
+
+fn add_to(levels: &mut Vec<Level>, number: usize, more: &Level) -> Result<(), AllocError>
+    requires { number < length levels.old.items }
+    ensures { OnOk result (levels.new.items ≡ slice_set levels.old.items number (slice_index_or levels.old.items number [] ++ more.now)) }
+{
+    levels[number].add(more)
+}
+
+fn add_level(
+    alloc: Global,
+    levels: &mut Vec<Level>,
+    number: usize,
+    level: &Level,
+) -> Result<(), AllocError>
+    ensures { OnOk result (levels.new.items ≡ put levels.old.items number level.now) }
+{
+    if number < levels.len() {
+        return Ok(add_to(levels, number, level)?);
+    }
+    Ok(levels.push(level.copy(alloc)?)?)
+}
+
+/// Adds ways level by level.
+pub fn add_levels(alloc: Global, levels: &mut Vec<Level>, more: &[Level]) -> Result<(), AllocError>
+    ensures { OnOk result (levels.new.items ≡ meet levels.old.items more.now) }
+{
+    for (number, level) in more.iter().enumerate() {
+        add_level(alloc, levels, number, level)?;
+    }
+    Ok(())
+}

@@ -1,0 +1,239 @@
+//! The numbered places of a body, with the ways on from each.
+
+ghost use Rattle.std.specs.Prelude.{◌≡◌, ℕ, ◌+◌, ◌<◌, ◌++◌, ◌∷◌, [], Bool, true, false, None, IfOk, OnOk, length, slice_set};
+ghost use Rattle.pml_program.specs.declared.program.Basic.{DStep};
+ghost use Rattle.pml_flow.specs.Ways.{one, site, outer, last_of, ways_in, ways_part, ways_list, ways_parts, sites_in, sites_part, sites_list, sites_parts, sites_of};
+
+use crate::level::{Level, add_levels, one, stacked};
+use crate::site::Site;
+use pml_program::program::{Basic, Seq, Stmt};
+use std::alloc::{AllocError, Global};
+
+/// The numbered places of a body. What follows a statement has a number below the statement's.
+pub fn sites(alloc: Global, body: &Seq<'_>) -> Result<Vec<Site>, AllocError>
+    ensures { IfOk result (λ ss. ss.items ≡ sites_of body.now) }
+{
+    let mut sites = Vec::new(alloc);
+    sites.push(Site::bare(alloc, None))?;
+    let none = Vec::new(alloc);
+    add_steps(
+        alloc,
+        body.steps.as_slice(),
+        false,
+        None,
+        none.as_slice(),
+        &mut sites,
+    )?;
+    Ok(sites)
+}
+
+/// The number of the last place.
+fn last(sites: &[Site]) -> usize
+    requires { 0 < length sites.now }
+    ensures { result ≡ last_of sites.now }
+{
+    sites.len() - 1
+}
+
+/// The outer of two atomics.
+fn outer(atomic: Option<usize>, end: usize) -> Option<usize>
+    ensures { result ≡ outer atomic end }
+{
+    match atomic {
+        Some(_) => atomic,
+        None => Some(end),
+    }
+}
+
+/// No levels.
+fn bottom(levels: &[Level]) -> &[Level]
+    ensures { result.now ≡ [] }
+{
+    &levels[..0]
+}
+
+fn set_site(sites: &mut Vec<Site>, number: usize, site: Site)
+    requires { number < length sites.old.items }
+    ensures { sites.new.items ≡ slice_set sites.old.items number site }
+{
+    sites[number] = site;
+}
+
+/// The place of a statement that gives no structure: settling ends there. Answers its way.
+fn add_plain(
+    alloc: Global,
+    atomic: Option<usize>,
+    above: &[Level],
+    sites: &mut Vec<Site>,
+) -> Result<Vec<Level>, AllocError>
+    requires { 0 < length sites.old.items }
+    ensures sites { OnOk result (sites.new.items ≡ sites.old.items ++ site atomic (one (last_of sites.old.items + 1) (last_of sites.old.items) ++ above.now) ∷ []) }
+    ensures ways { IfOk result (λ w. w.items ≡ one (last_of sites.old.items + 1) (last_of sites.old.items)) }
+{
+    let after = last(sites.as_slice());
+    let ways = one(alloc, after + 1, after)?;
+    let all = stacked(alloc, ways.as_slice(), above)?;
+    sites.push(Site::new(atomic, all))?;
+    Ok(ways)
+}
+
+/// The place of a goto or a break: settling goes on from there. Answers its way.
+fn add_jump(
+    alloc: Global,
+    atomic: Option<usize>,
+    sites: &mut Vec<Site>,
+) -> Result<Vec<Level>, AllocError>
+    requires { 0 < length sites.old.items }
+    ensures sites { OnOk result (sites.new.items ≡ sites.old.items ++ site atomic [] ∷ []) }
+    ensures ways { IfOk result (λ w. w.items ≡ one (last_of sites.old.items + 1) (last_of sites.old.items + 1)) }
+{
+    let own = last(sites.as_slice()) + 1;
+    sites.push(Site::bare(alloc, atomic))?;
+    Ok(one(alloc, own, own)?)
+}
+
+/// The places of statements, from the last to the first. Answers the ways of the first.
+#[cycle(sites)]
+fn add_steps(
+    alloc: Global,
+    stmts: &[Stmt<'_>],
+    inside: bool,
+    atomic: Option<usize>,
+    above: &[Level],
+    sites: &mut Vec<Site>,
+) -> Result<Vec<Level>, AllocError>
+    requires { 0 < length sites.old.items }
+    ensures sites { OnOk result (sites.new.items ≡ sites.old.items ++ sites_list (last_of sites.old.items) inside atomic above.now stmts.now) }
+    ensures ways { IfOk result (λ w. w.items ≡ ways_list (last_of sites.old.items) inside stmts.now) }
+{
+    let mut ways = Vec::new(alloc);
+    let mut left = stmts.len();
+    while left > 0 {
+        left -= 1;
+        ways = add_basic(alloc, &stmts[left].basic, inside, atomic, above, sites)?;
+    }
+    Ok(ways)
+}
+
+/// The places of a statement under the ways of escapes. Answers its own ways.
+#[cycle(sites)]
+fn add_basic(
+    alloc: Global,
+    basic: &Basic<'_>,
+    inside: bool,
+    atomic: Option<usize>,
+    above: &[Level],
+    sites: &mut Vec<Site>,
+) -> Result<Vec<Level>, AllocError>
+    requires { 0 < length sites.old.items }
+    ensures sites { OnOk result (sites.new.items ≡ sites.old.items ++ sites_in (last_of sites.old.items) inside atomic above.now basic.now) }
+    ensures ways { IfOk result (λ w. w.items ≡ ways_in (last_of sites.old.items) inside basic.now) }
+{
+    let after = last(sites.as_slice());
+    match basic {
+        Basic::Plain(_) => Ok(add_plain(alloc, atomic, above, sites)?),
+        Basic::Goto(_) => Ok(add_jump(alloc, atomic, sites)?),
+        Basic::Break => Ok(add_jump(alloc, atomic, sites)?),
+        Basic::If(options) => {
+            let ways = add_options(alloc, options.as_slice(), inside, atomic, above, sites)?;
+            let all = stacked(alloc, ways.as_slice(), above)?;
+            sites.push(Site::new(atomic, all))?;
+            Ok(ways)
+        }
+        Basic::Do(options) => {
+            sites.push(Site::bare(alloc, atomic))?;
+            let ways = add_options(alloc, options.as_slice(), inside, atomic, above, sites)?;
+            let all = stacked(alloc, ways.as_slice(), above)?;
+            set_site(sites, after + 1, Site::new(atomic, all));
+            sites.push(Site::bare(alloc, atomic))?;
+            Ok(ways)
+        }
+        Basic::Block(body) => {
+            let ways = add_part(alloc, body, inside, atomic, above, sites)?;
+            sites.push(Site::bare(alloc, atomic))?;
+            Ok(ways)
+        }
+        Basic::Atomic(body) => {
+            let within = outer(atomic, after + 1);
+            let ways = add_part(alloc, body, inside, within, above, sites)?;
+            sites.push(Site::bare(alloc, atomic))?;
+            Ok(ways)
+        }
+        Basic::DStep(body) => Ok(add_d_step(alloc, body, inside, atomic, above, sites)?),
+        Basic::Unless(main, escape) => {
+            let escaped = add_part(alloc, escape, inside, atomic, above, sites)?;
+            let over = stacked(alloc, escaped.as_slice(), above)?;
+            let ways = add_part(alloc, main, inside, atomic, over.as_slice(), sites)?;
+            sites.push(Site::bare(alloc, atomic))?;
+            Ok(stacked(alloc, ways.as_slice(), escaped.as_slice())?)
+        }
+    }
+}
+
+/// The places of a d_step, which is entered from inside one alone.
+#[cycle(sites)]
+fn add_d_step(
+    alloc: Global,
+    body: &Seq<'_>,
+    inside: bool,
+    atomic: Option<usize>,
+    above: &[Level],
+    sites: &mut Vec<Site>,
+) -> Result<Vec<Level>, AllocError>
+    requires { 0 < length sites.old.items }
+    ensures sites { OnOk result (sites.new.items ≡ sites.old.items ++ sites_in (last_of sites.old.items) inside atomic above.now (DStep body.now)) }
+    ensures ways { IfOk result (λ w. w.items ≡ ways_in (last_of sites.old.items) inside (DStep body.now)) }
+{
+    let after = last(sites.as_slice());
+    let entered = add_part(alloc, body, true, atomic, bottom(above), sites)?;
+    if inside {
+        sites.push(Site::bare(alloc, atomic))?;
+        return Ok(entered);
+    }
+    let ways = one(alloc, last(sites.as_slice()) + 1, after)?;
+    let all = stacked(alloc, ways.as_slice(), above)?;
+    sites.push(Site::new(atomic, all))?;
+    Ok(ways)
+}
+
+/// The places of options, from the last to the first. Answers the ways of all.
+#[cycle(sites)]
+fn add_options(
+    alloc: Global,
+    options: &[Seq<'_>],
+    inside: bool,
+    atomic: Option<usize>,
+    above: &[Level],
+    sites: &mut Vec<Site>,
+) -> Result<Vec<Level>, AllocError>
+    requires { 0 < length sites.old.items }
+    ensures sites { OnOk result (sites.new.items ≡ sites.old.items ++ sites_parts (last_of sites.old.items) inside atomic above.now options.now) }
+    ensures ways { IfOk result (λ w. w.items ≡ ways_parts (last_of sites.old.items) inside options.now) }
+{
+    let mut ways = Vec::new(alloc);
+    let mut left = options.len();
+    while left > 0 {
+        left -= 1;
+        let more = add_part(alloc, &options[left], inside, atomic, above, sites)?;
+        add_levels(alloc, &mut ways, more.as_slice())?;
+    }
+    Ok(ways)
+}
+
+/// The places of a part. Answers the ways of its first statement.
+#[cycle(sites)]
+fn add_part(
+    alloc: Global,
+    seq: &Seq<'_>,
+    inside: bool,
+    atomic: Option<usize>,
+    above: &[Level],
+    sites: &mut Vec<Site>,
+) -> Result<Vec<Level>, AllocError>
+    requires { 0 < length sites.old.items }
+    ensures sites { OnOk result (sites.new.items ≡ sites.old.items ++ sites_part (last_of sites.old.items) inside atomic above.now seq.now) }
+    ensures ways { IfOk result (λ w. w.items ≡ ways_part (last_of sites.old.items) inside seq.now) }
+{
+    sites.push(Site::bare(alloc, atomic))?;
+    Ok(add_steps(alloc, seq.steps.as_slice(), inside, atomic, above, sites)?)
+}
