@@ -175,4 +175,4 @@ few h = omega arith
 pub replays : {text : List ℕ} {options : Options} {part : List ℕ → Part End} → IsTranscript text options part → CanBeReplayed part
 replays (of_unserved h) = not_served_can_be_replayed
 replays (of_refusal {refusal} {line} h) = refused_can_be_replayed refusal line
-replays {options} (of_model {state} h) = can_be_replayed rules options state (λ s. few (few_moves s))
+replays {options} (of_model {state} h) = can_be_replayed rules options state (λ s reached. few (few_moves s))

@@ -1,9 +1,8 @@
 -- What a step does to the store is what it does to the state.
 use Rattle.std.proofs.Common.{◌≡◌, ℕ, List, [], length, Option, Some, None, Result, Ok, Err, refl, sym, ap, ◌∙◌, subst}
-use Rattle.std.specs.List.{Contains}
 use Rattle.diagnostics.specs.declared.fault.Fault.{Fault}
 use Rattle.session.specs.Machine.{Goes, Faults}
-use Rattle.session.specs.Takes.{IsStillShown, IsStop}
+use Rattle.session.specs.Takes.{IsReason, IsStop}
 use Rattle.pml_program.specs.declared.program.Program.{Program}
 use Rattle.pml_program.specs.declared.program.Stmt.{Stmt}
 use Rattle.pml_store.specs.Store.{Contents}
@@ -45,13 +44,6 @@ does_faults s (Ok None) new f h = absurd h
 does_faults s (Ok (Some g)) new f h = absurd h
 does_faults s (Err e) new f h = ap Faults (sym h.0)
 
--- a fault leaves all but the changes of the step before, so the move can still be shown
-does_shown : (s : State) (m : OnlyMove) (d : Result (Option Stores) Fault) (new : Contents) (f : Fault) → Contains (moves s) m → TakesStatement d (Err (stop.Fault f)) (forgotten s.store) new
-    → IsStillShown rules s (record s { store = new }) m
-does_shown s m (Ok None) new f present h = absurd h
-does_shown s m (Ok (Some g)) new f present h = absurd h
-does_shown s m (Err e) new f present h = (subst (λ (c : Contents). Contains (moves (record s { store = c })) m) (sym h.1) present, refl)
-
 -- the same, of what the parts of a step answer
 module _ (s : State) (m : OnlyMove) (x : Option Stmt) (cs : List LiveChannel) (old new : Contents) (stands : x ≡ standing s) (there : cs ≡ s.channels) (forgets : old ≡ forgotten s.store) where
   abbrev Done : Result (Unit {0}) Stop → Type 0
@@ -71,8 +63,10 @@ module _ (s : State) (m : OnlyMove) (x : Option Stmt) (cs : List LiveChannel) (o
   pub faults_on : (e : Stop) (f : Fault) → e ≡ stop.Fault f → Done (Err e) → step s m ≡ Faults f
   faults_on e f is h = does_faults s (done_first (standing s) (reading s m.timeout)) new f (subst (λ (k : Stop). TakesStatement (done_first (standing s) (reading s m.timeout)) (Err k) (forgotten s.store) new) is (of_state (Err e) h))
 
-  -- what stops the statement stops the step
-  pub stops_on : (e : Stop) → Done (Err e) → Contains (moves s) m → IsStop rules s m (record s { store = new }) e
-  stops_on (stop.Fault f) h present =
-      (faults_on (stop.Fault f) f refl h, does_shown s m (done_first (standing s) (reading s m.timeout)) new f present (of_state (Err (stop.Fault f)) h))
-  stops_on stop.Memory h present = tt
+  -- what stops the statement is why the step stops
+  reason_on : (e : Stop) → Done (Err e) → IsReason rules s m e
+  reason_on (stop.Fault f) h = faults_on (stop.Fault f) f refl h
+  reason_on stop.Memory h = tt
+
+  pub stops_on : (e : Stop) → Done (Err e) → IsStop rules s m (record s { store = new; halt = Some (record { at = m; why = e }) }) e
+  stops_on e h = (reason_on e h, refl, refl)

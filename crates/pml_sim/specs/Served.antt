@@ -3,7 +3,7 @@ use Rattle.std.specs.Prelude.{ℕ, Bool, true, false, ◌&&◌, List, [], ◌∷
 use Rattle.pml_lex.specs.Word.{Word}
 use Rattle.pml_program.specs.declared.program.Action.{Action}
 use Rattle.pml_program.specs.declared.program.Action.TheVariants as a
-use Rattle.pml_program.specs.declared.program.Basic.{Basic, Plain}
+use Rattle.pml_program.specs.declared.program.Basic.{Basic, Plain, Goto, Break, If', Do', Block, Atomic, DStep, Unless}
 use Rattle.pml_program.specs.declared.program.Stmt.{Stmt}
 use Rattle.pml_program.specs.declared.program.Seq.{out-Seq}
 use Rattle.pml_program.specs.declared.program.Proctype.{Proctype}
@@ -15,12 +15,31 @@ is_simple (a.Assign t v) = true
 is_simple (a.Increment t) = true
 is_simple (a.Decrement t) = true
 is_simple (a.Holds v) = true
-is_simple _ = false
+is_simple a.Else = false
+is_simple (a.AssignRun t q) = false
+is_simple (a.Run q) = false
+is_simple (a.Send t order vs) = false
+is_simple (a.Receive t search how ws) = false
+is_simple (a.Printf s vs) = false
+is_simple (a.Printm v) = false
+is_simple (a.Assert v) = false
+
+-- a simple action, and no structure
+abbrev pub is_plain : Basic → Bool
+is_plain (Plain x) = is_simple x
+is_plain (Goto l) = false
+is_plain Break = false
+is_plain (If' m row) = false
+is_plain (Do' m row) = false
+is_plain (Block s) = false
+is_plain (Atomic s) = false
+is_plain (DStep s) = false
+is_plain (Unless s e) = false
 
 -- no label stands before it
 abbrev pub is_served_by : List Word → Basic → Bool
-is_served_by [] (Plain x) = is_simple x
-is_served_by _ _ = false
+is_served_by [] x = is_plain x
+is_served_by (l ∷ ls) x = false
 
 abbrev pub is_served : Stmt → Bool
 is_served s = is_served_by s.labels s.basic

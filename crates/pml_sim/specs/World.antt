@@ -1,8 +1,8 @@
 -- A model with one process as a machine: its first state, its moves, its steps, and the texts.
 use Rattle.std.specs.Prelude.{ℕ, ◌+◌, nat_lt, Bool, true, false, not, if◌then◌else◌, List, [], ◌∷◌, ◌++◌, length, Option, Some, None, Result, Ok, Err, slice_get, codes}
 use Rattle.diagnostics.specs.declared.fault.Fault.{Fault}
-use Rattle.session.specs.Machine.{Rules, Outcome, Goes, Faults}
-use Rattle.pml_program.specs.declared.program.Basic.{Basic, Plain}
+use Rattle.session.specs.Machine.{Rules, Outcome, Stopped, Goes, Faults}
+use Rattle.pml_program.specs.declared.program.Basic.{Basic, Plain, Goto, Break, If', Do', Block, Atomic, DStep, Unless}
 use Rattle.pml_program.specs.declared.program.Stmt.{Stmt}
 use Rattle.pml_program.specs.declared.program.Proctype.{Proctype}
 use Rattle.pml_program.specs.declared.program.Program.{Program}
@@ -16,6 +16,7 @@ use Rattle.pml_lines.specs.Changes.{proctype_name, value_lines}
 use Rattle.pml_sim.specs.declared.control.Control.{Control}
 use Rattle.pml_sim.specs.declared.control.Control.TheVariants.{At, Dead}
 use Rattle.pml_sim.specs.declared.control.OnlyMove.{OnlyMove}
+use Rattle.pml_sim.specs.declared.control.Halt.{Halt}
 use Rattle.pml_sim.specs.Served.{are_served, body_of}
 use Rattle.pml_sim.specs.State.{State}
 use Rattle.pml_sim.specs.Texts.{joined, first_line, place}
@@ -25,9 +26,10 @@ use Rattle.pml_sim.specs.Texts.{joined, first_line, place}
 -- one process begins, and it is one that is played: it stands before its first statement
 abbrev pub first_by : Program → Begun → List ℕ → Option State
 first_by p b (kind ∷ []) =
-    if are_served (body_of p kind) then Some (record { program = p; kind = kind; store = record { frames = b.frames; written = [] }; channels = b.channels; control = At 0 })
+    if are_served (body_of p kind) then Some (record { program = p; kind = kind; store = record { frames = b.frames; written = [] }; channels = b.channels; control = At 0; halt = None })
     else None
-first_by p b _ = None
+first_by p b [] = None
+first_by p b (k ∷ l ∷ ks) = None
 
 -- the first state of a model that is played, where its initialisers have values
 abbrev pub first : Program → Result Begun Fault → Option State
@@ -50,7 +52,14 @@ reading s timeout = reading_of s.store.frames s.channels 0 1 timeout
 -- whether a statement can be taken: no structure is one that is played
 abbrev pub can_do : Basic → Reading → Bool
 can_do (Plain x) r = is_executable x r
-can_do _ r = false
+can_do (Goto l) r = false
+can_do Break r = false
+can_do (If' m row) r = false
+can_do (Do' m row) r = false
+can_do (Block s) r = false
+can_do (Atomic s) r = false
+can_do (DStep s) r = false
+can_do (Unless s e) r = false
 
 abbrev pub can_take : Option Stmt → Reading → Bool
 can_take (Some x) r = can_do x.basic r
@@ -63,11 +72,21 @@ is_alive Dead = false
 abbrev pub can_move : State → Bool → Bool
 can_move s timeout = if is_alive s.control then can_take (standing s) (reading s timeout) else false
 
+-- where the process has stopped there is no move
+abbrev pub unless_stopped : Option Halt → List OnlyMove → List OnlyMove
+unless_stopped None ms = ms
+unless_stopped (Some h) ms = []
+
 -- `timeout` is 1 only where no other move is possible
 abbrev pub moves : State → List OnlyMove
-moves s =
+moves s = unless_stopped s.halt (
     if can_move s false then record { timeout = false } ∷ []
-    else (if can_move s true then record { timeout = true } ∷ [] else [])
+    else (if can_move s true then record { timeout = true } ∷ [] else []))
+
+-- the move at which the process has stopped, and why
+abbrev pub stopped : Option Halt → Option (Stopped OnlyMove)
+stopped None = None
+stopped (Some h) = Some (record { move = h.at; why = h.why })
 
 -- ---- steps
 
@@ -84,9 +103,17 @@ abbrev pub beyond : ℕ → Control → Control
 beyond count (At i) = if nat_lt i count then At (i + 1) else Dead
 beyond count Dead = Dead
 
+-- no structure is one that is played: nothing is stored by it
 abbrev pub done_by : Basic → Reading → Result (Option Stores) Fault
 done_by (Plain x) r = outcome x r
-done_by _ r = Ok None
+done_by (Goto l) r = Ok None
+done_by Break r = Ok None
+done_by (If' m row) r = Ok None
+done_by (Do' m row) r = Ok None
+done_by (Block s) r = Ok None
+done_by (Atomic s) r = Ok None
+done_by (DStep s) r = Ok None
+done_by (Unless s e) r = Ok None
 
 -- what is stored by what stands first; at its closing brace a process dies
 abbrev pub done_first : Option Stmt → Reading → Result (Option Stores) Fault
@@ -141,6 +168,7 @@ abbrev pub rules : Rules State OnlyMove
 rules = record {
   moves = moves;
   step = step;
+  stopped = λ s. stopped s.halt;
   text = λ s m. move_text s;
   values = changed_lines;
   is_valid = λ s. not (is_alive s.control);

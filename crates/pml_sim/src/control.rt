@@ -1,5 +1,7 @@
 //! Where a process stands, and what it may do.
 
+use diagnostics::Stop;
+
 /// Where a process stands.
 #[derive(Clone, Copy, Debug, PartialEq, Eq)]
 pub enum Control {
@@ -12,4 +14,11 @@ pub enum Control {
 #[derive(Clone, Copy, Debug, PartialEq, Eq)]
 pub struct OnlyMove {
     pub timeout: bool,
+}
+
+/// A move that was not taken to its end, and why.
+#[derive(Clone, Copy, Debug, PartialEq, Eq)]
+pub struct Halt {
+    pub at: OnlyMove,
+    pub why: Stop,
 }

@@ -2,7 +2,7 @@
 
 ghost use Rattle.std.specs.Prelude.{◌≡◌};
 ghost use Rattle.std.specs.Option.{option_copied};
-ghost use Rattle.pml_sim.specs.Served.{is_simple, is_served, are_served, steps_of};
+ghost use Rattle.pml_sim.specs.Served.{is_simple, is_plain, is_served, are_served, steps_of};
 
 use pml_program::program::{Action, Basic, Proctype, Stmt};
 
@@ -13,20 +13,38 @@ fn is_simple(action: &Action<'_>) -> bool
     match action {
         Action::Assign(_, _) | Action::Increment(_) | Action::Decrement(_) | Action::Holds(_) =>
             true,
-        _ => false,
+        Action::Else
+        | Action::AssignRun(_, _)
+        | Action::Run(_)
+        | Action::Send(_, _, _)
+        | Action::Receive(_, _, _, _)
+        | Action::Printf(_, _)
+        | Action::Printm(_)
+        | Action::Assert(_) => false,
+    }
+}
+
+/// Whether it is a simple action, and no structure.
+fn is_plain(basic: &Basic<'_>) -> bool
+    ensures { result ≡ is_plain basic.now }
+{
+    match basic {
+        Basic::Plain(action) => is_simple(action),
+        Basic::Goto(_)
+        | Basic::Break
+        | Basic::If(_)
+        | Basic::Do(_)
+        | Basic::Block(_)
+        | Basic::Atomic(_)
+        | Basic::DStep(_)
+        | Basic::Unless(_, _) => false,
     }
 }
 
 fn is_served(stmt: &Stmt<'_>) -> bool
     ensures { result ≡ is_served stmt.now }
 {
-    if stmt.labels.len() != 0 {
-        return false;
-    }
-    match &stmt.basic {
-        Basic::Plain(action) => is_simple(action),
-        _ => false,
-    }
+    stmt.labels.len() == 0 && is_plain(&stmt.basic)
 }
 
 /// Whether each of the statements is one that is played.

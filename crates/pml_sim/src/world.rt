@@ -9,7 +9,7 @@ ghost use Rattle.pml_start.specs.Start.{IsDeclared};
 ghost use Rattle.pml_sim.specs.Served.{steps_of};
 ghost use Rattle.pml_sim.specs.World as world;
 
-use crate::control::{Control, OnlyMove};
+use crate::control::{Control, Halt, OnlyMove};
 use crate::served::is_played;
 use crate::text::{add_place, add_tokens, first_line};
 use diagnostics::Stop;
@@ -24,7 +24,7 @@ use session::Machine;
 use std::alloc::{AllocError, Global};
 use std::marker::Model;
 
-/// A model with one process, what its variables hold, and where the process stands.
+/// A model with one process, what its variables hold, where the process stands, and where it has stopped.
 #[derive(Drop)]
 pub struct World<'p, 'a> {
     program: &'p Program<'a>,
@@ -32,6 +32,7 @@ pub struct World<'p, 'a> {
     store: Store,
     channels: Vec<LiveChannel>,
     control: Control,
+    halt: Option<Halt>,
 }
 
 impl<'p, 'a> Model for World<'p, 'a> {
@@ -47,7 +48,7 @@ impl<'p, 'a> Model for World<'p, 'a> {
 
     ghost coded = { Prim.hlevel (codes, worth.the_row.coded, (seq.the_row (record { mir = named 0; lft = [] })).coded) };
 
-    ghost view = { λ w. record { program = w.program.now; kind = w.kind; store = w.store; channels = w.channels.items; control = w.control } };
+    ghost view = { λ w. record { program = w.program.now; kind = w.kind; store = w.store; channels = w.channels.items; control = w.control; halt = w.halt } };
 
     ghost invariant = { λ w. AreDeclared w.program.now (w.kind ∷ []) w.store.frames };
 }
@@ -66,7 +67,7 @@ impl<'p, 'a> World<'p, 'a> {
         } = started;
         let kind = match kinds.as_slice() {
             [kind] => *kind,
-            _ => return None,
+            [] | [_, _, ..] => return None,
         };
         if !is_played(proctype_at(program, kind)) {
             return None;
@@ -77,6 +78,7 @@ impl<'p, 'a> World<'p, 'a> {
             store,
             channels,
             control: Control::At(0),
+            halt: None,
         })
     }
 
@@ -165,7 +167,14 @@ fn can_do(basic: &Basic<'_>, view: &View<'_>) -> bool
 {
     match basic {
         Basic::Plain(action) => can_be_taken(action, view),
-        _ => false,
+        Basic::Goto(_)
+        | Basic::Break
+        | Basic::If(_)
+        | Basic::Do(_)
+        | Basic::Block(_)
+        | Basic::Atomic(_)
+        | Basic::DStep(_)
+        | Basic::Unless(_, _) => false,
     }
 }
 
@@ -178,7 +187,7 @@ fn can_take(standing: Option<&Stmt<'_>>, view: &View<'_>) -> bool
     }
 }
 
-/// Does what a statement does to the variables.
+/// Does what a statement does to the variables. No structure is played.
 fn do_basic(
     store: &mut Store,
     channels: &[LiveChannel],
@@ -189,7 +198,14 @@ fn do_basic(
 {
     match basic {
         Basic::Plain(action) => take(store, channels, 0, 1, timeout, action),
-        _ => Ok(()),
+        Basic::Goto(_)
+        | Basic::Break
+        | Basic::If(_)
+        | Basic::Do(_)
+        | Basic::Block(_)
+        | Basic::Atomic(_)
+        | Basic::DStep(_)
+        | Basic::Unless(_, _) => Ok(()),
     }
 }
 
@@ -258,6 +274,9 @@ impl Machine for World<'_, '_> {
 
     fn moves(&self, alloc: Global) -> Result<Vec<OnlyMove>, AllocError> {
         let mut moves = Vec::new(alloc);
+        if let Some(_) = self.halt {
+            return Ok(moves);
+        }
         if self.can_move(false) {
             moves.push(OnlyMove { timeout: false })?;
         } else if self.can_move(true) {
@@ -274,6 +293,9 @@ impl Machine for World<'_, '_> {
     }
 
     fn take(&mut self, m: &OnlyMove, _: &mut Vec<u8>) -> Result<(), Stop> {
+        if let Some(halt) = self.halt {
+            return Err(halt.why);
+        }
         let proctype = proctype_at(self.program, self.kind);
         let standing = standing_of(proctype, self.control);
         self.store.forget();
@@ -287,7 +309,10 @@ impl Machine for World<'_, '_> {
                 self.control = beyond(self.control, count_of(proctype));
                 Ok(())
             }
-            Err(stop) => Err(stop),
+            Err(why) => {
+                self.halt = Some(Halt { at: *m, why });
+                Err(why)
+            }
         }
     }
 

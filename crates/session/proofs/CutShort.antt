@@ -1,6 +1,7 @@
 -- How a run that its choices cut short goes when it is played again on its record.
-use Rattle.std.proofs.Common.{◌≡◌, ℕ, zero, suc, ◌+◌, ◌-◌, ◌<◌, ◌^◌, List, [], ◌∷◌, ◌++◌, length, get_or, Bool, true, false, Some, refl, sym, subst, ap, ◌∙◌, append-nil}
+use Rattle.std.proofs.Common.{◌≡◌, ℕ, zero, suc, ◌+◌, ◌-◌, ◌<◌, ◌≤◌, ◌^◌, arith, List, [], ◌∷◌, ◌++◌, length, get_or, Bool, true, false, Some, refl, sym, subst, ap, ◌∙◌, append-nil}
 use Rattle.std.proofs.lemmas.Bool.{true≢false}
+use Rattle.std.specs.List.{Contains}
 use Rattle.diagnostics.specs.declared.refusal.Refusal.{Refusal}
 use Rattle.session.specs.declared.Options.{Options}
 use Rattle.session.specs.declared.End.{End}
@@ -14,10 +15,10 @@ use Rattle.session.specs.Part.{Part, preceded, followed}
 use Rattle.session.specs.Machine.{Rules, Outcome, Goes, Faults}
 use Rattle.session.specs.Session.{one_line, ask, only, kept, choose, select, stopped, finished, stepped, answered, story, transcript, refused, not_served, end_of, step_text}
 use Rattle.session.specs.Texts.{record_line, list_from, prompt}
-use Rattle.session.specs.Replay.{is_cut_short, IsSameBeginning, CanBeReplayed, HasFewMoves}
+use Rattle.session.specs.Replay.{is_cut_short, IsSameBeginning, CanBeReplayed, HasFewMoves, arrived}
 use Rattle.session.proofs.LineReading.{line_end}
 use Rattle.session.proofs.Parts.{front-append, recorded-append, front-asks, recorded-asks}
-use Rattle.session.proofs.Replay.{Silent, chosen, recorded_chosen, picked_again, ask_silent, ask_range, story_again, same_run}
+use Rattle.session.proofs.Replay.{picked_is_there, few_behind, Silent, chosen, recorded_chosen, picked_again, ask_silent, ask_range, story_again, same_run}
 use Rattle.session.proofs.Turns.{story_none, story_limit, story_some, answer_part}
 
 -- Where the choices cut this part short, it begins so when it is played again.
@@ -36,16 +37,23 @@ beginning_after {run} {again} before after keeps reads b = record {
 }
 
 module _ {S M : Type 0} (rules : Rules S M) (options : Options) (s : S) where
-  stepped_begins : (m : M) (steps : ℕ) (later : S → Bool → List ℕ → Part End) → ((t : S) → BeginsAgain (later t)) → (o : Outcome S) → BeginsAgain (λ over left. stepped rules options s m steps (λ t. later t over left) over left o)
-  unfolding stepped
-  stepped_begins m steps later ih (Goes t printed) over choices cut =
-      let events = Stepped ∷ Put Told (step_text rules options s m (steps + 1) t printed) ∷ [] in
-      beginning_after events events refl refl (ih t over choices cut)
-  stepped_begins m steps later ih (Faults f) over choices cut = absurd (true≢false (sym cut))
+  -- what follows each step by one of these moves begins so again
+  abbrev pub StepsBeginAgain : List M → (S → Bool → List ℕ → Part End) → Type 0
+  StepsBeginAgain moves later = (m : M) (t : S) (printed : List ℕ) → Contains moves m → rules.step s m ≡ Goes t printed → BeginsAgain (later t)
 
-  answered_begins : (moves : List M) (first : M) (steps : ℕ) (later : S → Bool → List ℕ → Part End) → ((t : S) → BeginsAgain (later t)) → (k : ℕ) → BeginsAgain (answered rules options s moves first steps later (answer.Pick k))
+  stepped_begins : (m : M) (steps : ℕ) (later : S → Bool → List ℕ → Part End) → ((t : S) (printed : List ℕ) → rules.step s m ≡ Goes t printed → BeginsAgain (later t)) → (o : Outcome S) → rules.step s m ≡ o
+      → BeginsAgain (λ over left. stepped rules options s m steps (λ t. later t over left) over left o)
+  unfolding stepped
+  stepped_begins m steps later ih (Goes t printed) is over choices cut =
+      let events = Stepped ∷ Put Told (step_text rules options s m (steps + 1) t printed) ∷ [] in
+      beginning_after events events refl refl (ih t printed is over choices cut)
+  stepped_begins m steps later ih (Faults f) is over choices cut = absurd (true≢false (sym cut))
+
+  answered_begins : (moves : List M) (first : M) (steps : ℕ) (later : S → Bool → List ℕ → Part End) → StepsBeginAgain moves later → (k : ℕ) → 0 < k → k ≤ length moves → BeginsAgain (answered rules options s moves first steps later (answer.Pick k))
   unfolding answered
-  answered_begins moves first steps later ih k = stepped_begins (get_or moves (k - 1) first) steps later ih (rules.step s (get_or moves (k - 1) first))
+  answered_begins moves first steps later ih k some within =
+      let m = get_or moves (k - 1) first in
+      stepped_begins m steps later (λ t printed goes. ih m t printed (picked_is_there moves k first some within) goes) (rules.step s m) refl
 
 -- a question that is asked at the end of the choices
 ended_line : (most : ℕ) → one_line most false [] ≡ record { events = AskedEnd ∷ []; value = Some answer.Ended; over = true; left = [] }
@@ -72,14 +80,14 @@ module _ {M : Type 0} (text : M → List ℕ) (moves : List M) (few : length mov
       let none : recorded (chosen text moves few next asked said over left).events ≡ [] = rw is (rw (append-nil asked) (rw (recorded-append asked (next said over left).events, silent.0) c.1)) in
       rw none (rw (ended_ask (length moves) (most_bad_lines - 1)) (record { ends = e.0 ∙ ap (end_of cause.ChoicesEnded) (sym (rw is c.0)); keeps = e.1 ∙ sym none; reads = e.2 ∙ sym none }))
 
-  chosen_begins : ((k : ℕ) → BeginsAgain (next (answer.Pick k))) → (asked : List Event) (said : Answer) (over : Bool) (left : List ℕ) → Silent asked → IsPickUpTo (length moves) said
+  chosen_begins : ((k : ℕ) → 0 < k → k ≤ length moves → BeginsAgain (next (answer.Pick k))) → (asked : List Event) (said : Answer) (over : Bool) (left : List ℕ) → Silent asked → IsPickUpTo (length moves) said
       → is_cut_short (chosen text moves few next asked said over left).value.cause ≡ true
       → IsSameBeginning (chosen text moves few next asked said over left) (followed (choose text moves false (recorded (chosen text moves few next asked said over left).events)) next)
   chosen_begins ih asked (answer.Pick n) over left silent range cut =
       let rest = next (answer.Pick n) over left in
       let whole = chosen text moves few next asked (answer.Pick n) over left in
       let front_events = Put Told (list_from text 1 moves) ∷ Put Told (prompt (length moves)) ∷ (asks (record_line n) false ++ Recorded (record_line n) ∷ []) in
-      let b = ih n over left cut in
+      let b = ih n range.0 range.1 over left cut in
       let is = recorded_chosen text moves few next asked n over left silent in
       rw is (rw (picked_again text moves few next n (recorded rest.events) range.0 range.1) (record {
         ends = b.ends;
@@ -91,7 +99,7 @@ module _ {M : Type 0} (text : M → List ℕ) (moves : List M) (few : length mov
   chosen_begins ih asked answer.TooLong over left silent range cut = unpicked asked answer.TooLong over left silent (λ k e. cc) refl
   chosen_begins ih asked answer.Hundred over left silent range cut = unpicked asked answer.Hundred over left silent (λ k e. cc) refl
 
-module _ {S M : Type 0} (rules : Rules S M) (options : Options) (few : HasFewMoves rules) where
+module _ {S M : Type 0} (rules : Rules S M) (options : Options) where
   answered_stops : (s : S) (moves : List M) (first : M) (steps : ℕ) (later : S → Bool → List ℕ → Part End) → StopsAt steps (answered rules options s moves first steps later)
   unfolding answered
   answered_stops s moves first steps later = record {
@@ -107,12 +115,12 @@ module _ {S M : Type 0} (rules : Rules S M) (options : Options) (few : HasFewMov
       by_answer answer.TooLong other over left = (refl, refl)
       by_answer answer.Hundred other over left = (refl, refl)
 
-  select_begins : (s : S) (moves : List M) → length moves < 2 ^ 64 → (first : M) (steps : ℕ) (later : S → Bool → List ℕ → Part End) → ((t : S) → BeginsAgain (later t))
+  select_begins : (s : S) (moves : List M) → 0 < length moves → length moves < 2 ^ 64 → (first : M) (steps : ℕ) (later : S → Bool → List ℕ → Part End) → StepsBeginAgain rules options s moves later
       → BeginsAgain (λ over rest. followed (select rules s moves over rest) (answered rules options s moves first steps later))
   unfolding select
-  select_begins s [] small first steps later ih over choices cut = answered_begins rules options s [] first steps later ih 1 over choices cut
-  select_begins s (m ∷ []) small first steps later ih over choices cut = answered_begins rules options s (m ∷ []) first steps later ih 1 over choices cut
-  select_begins s (m ∷ k ∷ ms) small first steps later ih over choices cut =
+  select_begins s [] some small first steps later ih over choices cut = absurd (omega arith)
+  select_begins s (m ∷ []) some small first steps later ih over choices cut = answered_begins rules options s (m ∷ []) first steps later ih 1 (omega arith) (omega arith) over choices cut
+  select_begins s (m ∷ k ∷ ms) some small first steps later ih over choices cut =
       let asked = ask (length (m ∷ k ∷ ms)) (most_bad_lines - 1) over choices in
       chosen_begins (rules.text s) (m ∷ k ∷ ms) small (answered rules options s (m ∷ k ∷ ms) first steps later) steps (answered_stops s (m ∷ k ∷ ms) first steps later)
       (answered_begins rules options s (m ∷ k ∷ ms) first steps later ih) asked.events asked.value asked.over asked.left (ask_silent (length (m ∷ k ∷ ms)) (most_bad_lines - 1) over choices) (ask_range (length (m ∷ k ∷ ms)) (most_bad_lines - 1) over choices) cut
@@ -125,18 +133,19 @@ module _ {S M : Type 0} (rules : Rules S M) (options : Options) (few : HasFewMov
   limit_begins s steps [] is = BeginsAgain-same _ (finished (rules.is_valid s) (rules.stuck s) steps) (λ over rest. story_none rules options s steps over 0 is rest) (finished_whole s steps (rules.is_valid s))
   limit_begins s steps (m ∷ ms) is = BeginsAgain-same _ (stopped cause.StepLimit steps) (λ over rest. story_limit rules options s steps over m ms is rest) (λ over choices cut. absurd (true≢false (sym cut)))
 
-  move_begins : (fuel : ℕ) (s : S) (steps : ℕ) → ((t : S) → BeginsAgain (story rules options fuel t (steps + 1))) → (moves : List M) → rules.moves s ≡ moves → BeginsAgain (story rules options (suc fuel) s steps)
-  move_begins fuel s steps later [] is = BeginsAgain-same _ (finished (rules.is_valid s) (rules.stuck s) steps) (λ over rest. story_none rules options s steps over (suc fuel) is rest) (finished_whole s steps (rules.is_valid s))
-  move_begins fuel s steps later (m ∷ ms) is = BeginsAgain-same _ (λ over rest. answer_part rules options s steps over fuel (m ∷ ms) m rest) (λ over rest. story_some rules options s steps over fuel m ms is rest)
-      (select_begins s (m ∷ ms) (subst (λ (l : List M). length l < 2 ^ 64) is (few s)) m steps (λ t o q. story rules options fuel t (steps + 1) o q) later)
+  move_begins : (fuel : ℕ) (s : S) (steps : ℕ) → HasFewMoves rules s → ((t : S) → HasFewMoves rules t → BeginsAgain (story rules options fuel t (steps + 1))) → (moves : List M) → rules.moves s ≡ moves → BeginsAgain (story rules options (suc fuel) s steps)
+  move_begins fuel s steps few later [] is = BeginsAgain-same _ (finished (rules.is_valid s) (rules.stuck s) steps) (λ over rest. story_none rules options s steps over (suc fuel) is rest) (finished_whole s steps (rules.is_valid s))
+  move_begins fuel s steps few later (m ∷ ms) is = BeginsAgain-same _ (λ over rest. answer_part rules options s steps over fuel (m ∷ ms) m rest) (λ over rest. story_some rules options s steps over fuel m ms is rest)
+      (select_begins s (m ∷ ms) (omega arith) (subst (λ (l : List M). length l < 2 ^ 64) is (few s arrived)) m steps (λ t o q. story rules options fuel t (steps + 1) o q)
+      (λ n t printed there goes. later t (few_behind rules s n t printed few (subst (λ (l : List M). Contains l n) (sym is) there) goes)))
 
-  pub story_begins : (fuel : ℕ) (s : S) (steps : ℕ) → BeginsAgain (story rules options fuel s steps)
-  story_begins zero s steps = limit_begins s steps (rules.moves s) refl
-  story_begins (suc fuel) s steps = move_begins fuel s steps (λ t. story_begins fuel t (steps + 1)) (rules.moves s) refl
+  pub story_begins : (fuel : ℕ) (s : S) (steps : ℕ) → HasFewMoves rules s → BeginsAgain (story rules options fuel s steps)
+  story_begins zero s steps few = limit_begins s steps (rules.moves s) refl
+  story_begins (suc fuel) s steps few = move_begins fuel s steps few (λ t. story_begins fuel t (steps + 1)) (rules.moves s) refl
 
-pub can_be_replayed : {S M : Type 0} (rules : Rules S M) (options : Options) (s : S) → HasFewMoves rules → CanBeReplayed (transcript rules options s)
+pub can_be_replayed : {S M : Type 0} (rules : Rules S M) (options : Options) (s : S) → HasFewMoves rules s → CanBeReplayed (transcript rules options s)
 can_be_replayed rules options s few choices =
-    (same_run (story rules options options.limit s 0) (story_again rules options few options.limit s 0) choices, story_begins rules options few options.limit s 0 false choices)
+    (same_run (story rules options options.limit s 0) (story_again rules options options.limit s 0 few) choices, story_begins rules options options.limit s 0 few false choices)
 
 pub refused_can_be_replayed : (r : Refusal) (line : ℕ) → CanBeReplayed (refused r line false)
 refused_can_be_replayed r line choices = (λ complete. record { ends = refl; keeps = refl; reads = refl; writes = refl }, λ cut. absurd (true≢false (sym cut)))

@@ -2,8 +2,8 @@
 use Rattle.std.proofs.Common.{◌≡◌, ℕ, zero, suc, ◌+◌, ◌-◌, ◌<◌, ◌≤◌, ◌^◌, List, [], ◌∷◌, ◌++◌, length, get_or, Bool, true, false, Option, Some, None, IfSome, cond, ◌&&◌, ltb, leb, ltb-true, leb-true, refl, sym, subst, ap, ◌∙◌, arith, append-nil, append_assoc}
 use Rattle.std.proofs.lemmas.Grind.{flat_map-append}
 use Rattle.std.proofs.lemmas.Bool.{true≢false}
-use Rattle.std.specs.List.{list_all}
-use Rattle.std.specs.List.{flat_map}
+use Rattle.std.proofs.lemmas.List.Elements.{Contains-get_or}
+use Rattle.std.specs.List.{list_all, flat_map, Contains}
 use Rattle.session.specs.declared.Options.{Options}
 use Rattle.session.specs.declared.End.{End}
 use Rattle.session.specs.declared.Cause.TheVariants as cause
@@ -18,7 +18,7 @@ use Rattle.session.specs.Part.{Part, preceded, followed}
 use Rattle.session.specs.Machine.{Rules, Outcome, Goes, Faults}
 use Rattle.session.specs.Session.{one_line, reply_at, ask, after_line, only, kept, choose, select, stopped, finished, stepped, answered, story, step_text}
 use Rattle.session.specs.Texts.{record_line, list_from, prompt}
-use Rattle.session.specs.Replay.{without_corrections, is_complete, IsSameRun, HasFewMoves}
+use Rattle.session.specs.Replay.{without_corrections, is_complete, IsSameRun, HasFewMoves, arrived, onward}
 use Rattle.session.proofs.Parts.{front-append, output-append, recorded-append, front-asks, output-asks, recorded-asks}
 use Rattle.session.proofs.Records.{record_asked}
 use Rattle.session.proofs.Turns.{story_none, story_limit, story_some, answer_part}
@@ -141,6 +141,16 @@ unfolding ask
 ask_range most zero over rest = after_range most (only answer.Hundred) (λ o l. tt) (one_line most over rest).value (one_line most over rest).over (one_line most over rest).left (line_range most over rest)
 ask_range most (suc tries) over rest = after_range most _ (λ o l. ask_range most tries o l) (one_line most over rest).value (one_line most over rest).over (one_line most over rest).left (line_range most over rest)
 
+-- ---- the moves of a run
+
+-- a picked number's move is one of them
+pub picked_is_there : {M : Type 0} (moves : List M) (k : ℕ) (first : M) → 0 < k → k ≤ length moves → Contains moves (get_or moves (k - 1) first)
+picked_is_there moves k first some within = Contains-get_or moves (k - 1) first (omega arith)
+
+-- what is reached from a later state is reached
+pub few_behind : {S M : Type 0} (rules : Rules S M) (s : S) (m : M) (t : S) (printed : List ℕ) → HasFewMoves rules s → Contains (rules.moves s) m → rules.step s m ≡ Goes t printed → HasFewMoves rules t
+few_behind rules s m t printed few there goes u reaches = few u (onward there goes reaches)
+
 -- ---- complete runs
 
 -- what a part becomes when it is played again on its record and more
@@ -155,14 +165,21 @@ RunsAgain-same : (part same : Bool → List ℕ → Part End) → ((over : Bool)
 RunsAgain-same part same is again over choices more complete = rw (is over choices) (is false _ ∙ again over choices more (rw (is over choices) at complete))
 
 module _ {S M : Type 0} (rules : Rules S M) (options : Options) (s : S) where
-  stepped_again : (m : M) (steps : ℕ) (later : S → Bool → List ℕ → Part End) → ((t : S) → RunsAgain (later t)) → (o : Outcome S) → RunsAgain (λ over left. stepped rules options s m steps (λ t. later t over left) over left o)
-  unfolding stepped replay_of
-  stepped_again m steps later ih (Goes t printed) over choices more complete = ap (λ p. preceded (Stepped ∷ []) (preceded (Put Told (step_text rules options s m (steps + 1) t printed) ∷ []) p)) (ih t over choices more complete)
-  stepped_again m steps later ih (Faults f) over choices more complete = refl
+  -- what follows each step by one of these moves goes so again
+  abbrev pub StepsRunAgain : List M → (S → Bool → List ℕ → Part End) → Type 0
+  StepsRunAgain moves later = (m : M) (t : S) (printed : List ℕ) → Contains moves m → rules.step s m ≡ Goes t printed → RunsAgain (later t)
 
-  answered_again : (moves : List M) (first : M) (steps : ℕ) (later : S → Bool → List ℕ → Part End) → ((t : S) → RunsAgain (later t)) → (k : ℕ) → RunsAgain (answered rules options s moves first steps later (answer.Pick k))
+  stepped_again : (m : M) (steps : ℕ) (later : S → Bool → List ℕ → Part End) → ((t : S) (printed : List ℕ) → rules.step s m ≡ Goes t printed → RunsAgain (later t)) → (o : Outcome S) → rules.step s m ≡ o
+      → RunsAgain (λ over left. stepped rules options s m steps (λ t. later t over left) over left o)
+  unfolding stepped replay_of
+  stepped_again m steps later ih (Goes t printed) is over choices more complete = ap (λ p. preceded (Stepped ∷ []) (preceded (Put Told (step_text rules options s m (steps + 1) t printed) ∷ []) p)) (ih t printed is over choices more complete)
+  stepped_again m steps later ih (Faults f) is over choices more complete = refl
+
+  answered_again : (moves : List M) (first : M) (steps : ℕ) (later : S → Bool → List ℕ → Part End) → StepsRunAgain moves later → (k : ℕ) → 0 < k → k ≤ length moves → RunsAgain (answered rules options s moves first steps later (answer.Pick k))
   unfolding answered
-  answered_again moves first steps later ih k = stepped_again (get_or moves (k - 1) first) steps later ih (rules.step s (get_or moves (k - 1) first))
+  answered_again moves first steps later ih k some within =
+      let m = get_or moves (k - 1) first in
+      stepped_again m steps later (λ t printed goes. ih m t printed (picked_is_there moves k first some within) goes) (rules.step s m) refl
 
 -- the number that a question picked is recorded, and answers it when it is asked again
 module _ {M : Type 0} (text : M → List ℕ) (moves : List M) (few : length moves < 2 ^ 64) (next : Answer → Bool → List ℕ → Part End) where
@@ -188,18 +205,18 @@ module _ {M : Type 0} (text : M → List ℕ) (moves : List M) (few : length mov
       ≡ preceded (Put Told (list_from text 1 moves) ∷ Put Told (prompt (length moves)) ∷ (asks (record_line n) false ++ Recorded (record_line n) ∷ [])) (next (answer.Pick n) false more)
   picked_again n more some within = rw (record_asked (length moves) (most_bad_lines - 1) n more some within (omega arith)) refl
 
-  chosen_again : ((k : ℕ) → RunsAgain (next (answer.Pick k))) → ((said : Answer) → ((k : ℕ) → said ≡ answer.Pick k → ⊥) → (over : Bool) (left : List ℕ) → is_complete (next said over left).value.cause ≡ false)
+  chosen_again : ((k : ℕ) → 0 < k → k ≤ length moves → RunsAgain (next (answer.Pick k))) → ((said : Answer) → ((k : ℕ) → said ≡ answer.Pick k → ⊥) → (over : Bool) (left : List ℕ) → is_complete (next said over left).value.cause ≡ false)
       → (asked : List Event) (said : Answer) (over : Bool) (left more : List ℕ) → Silent asked → IsPickUpTo (length moves) said → is_complete (chosen asked said over left).value.cause ≡ true
       → followed (choose text moves false (recorded (chosen asked said over left).events ++ more)) next ≡ again_of (chosen asked said over left) more
   chosen_again ih stops asked (answer.Pick n) over left more silent range complete =
       let rest = next (answer.Pick n) over left in
-      rw (recorded_chosen asked n over left silent, replayed_chosen asked n over left silent) (rw append_assoc (rw (picked_again n (recorded rest.events ++ more) range.0 range.1) (rw (ih n over left more complete) refl)))
+      rw (recorded_chosen asked n over left silent, replayed_chosen asked n over left silent) (rw append_assoc (rw (picked_again n (recorded rest.events ++ more) range.0 range.1) (rw (ih n range.0 range.1 over left more complete) refl)))
   chosen_again ih stops asked answer.Quit over left more silent range complete = absurd (true≢false (sym complete ∙ stops answer.Quit (λ k e. cc) over left))
   chosen_again ih stops asked answer.Ended over left more silent range complete = absurd (true≢false (sym complete ∙ stops answer.Ended (λ k e. cc) over left))
   chosen_again ih stops asked answer.TooLong over left more silent range complete = absurd (true≢false (sym complete ∙ stops answer.TooLong (λ k e. cc) over left))
   chosen_again ih stops asked answer.Hundred over left more silent range complete = absurd (true≢false (sym complete ∙ stops answer.Hundred (λ k e. cc) over left))
 
-module _ {S M : Type 0} (rules : Rules S M) (options : Options) (few : HasFewMoves rules) where
+module _ {S M : Type 0} (rules : Rules S M) (options : Options) where
   answered_stops : (s : S) (moves : List M) (first : M) (steps : ℕ) (later : S → Bool → List ℕ → Part End) (said : Answer) → ((k : ℕ) → said ≡ answer.Pick k → ⊥) → (over : Bool) (left : List ℕ)
       → is_complete (answered rules options s moves first steps later said over left).value.cause ≡ false
   unfolding answered
@@ -210,12 +227,12 @@ module _ {S M : Type 0} (rules : Rules S M) (options : Options) (few : HasFewMov
   answered_stops s moves first steps later answer.Hundred other over left = refl
 
   -- a move is selected and taken
-  select_again : (s : S) (moves : List M) → length moves < 2 ^ 64 → (first : M) (steps : ℕ) (later : S → Bool → List ℕ → Part End) → ((t : S) → RunsAgain (later t))
+  select_again : (s : S) (moves : List M) → 0 < length moves → length moves < 2 ^ 64 → (first : M) (steps : ℕ) (later : S → Bool → List ℕ → Part End) → StepsRunAgain rules options s moves later
       → RunsAgain (λ over rest. followed (select rules s moves over rest) (answered rules options s moves first steps later))
   unfolding select
-  select_again s [] small first steps later ih over choices more complete = answered_again rules options s [] first steps later ih 1 over choices more complete
-  select_again s (m ∷ []) small first steps later ih over choices more complete = answered_again rules options s (m ∷ []) first steps later ih 1 over choices more complete
-  select_again s (m ∷ k ∷ ms) small first steps later ih over choices more complete =
+  select_again s [] some small first steps later ih over choices more complete = absurd (omega arith)
+  select_again s (m ∷ []) some small first steps later ih over choices more complete = answered_again rules options s (m ∷ []) first steps later ih 1 (omega arith) (omega arith) over choices more complete
+  select_again s (m ∷ k ∷ ms) some small first steps later ih over choices more complete =
       let asked = ask (length (m ∷ k ∷ ms)) (most_bad_lines - 1) over choices in
       chosen_again (rules.text s) (m ∷ k ∷ ms) small (answered rules options s (m ∷ k ∷ ms) first steps later) (answered_again rules options s (m ∷ k ∷ ms) first steps later ih)
       (answered_stops s (m ∷ k ∷ ms) first steps later) asked.events asked.value asked.over asked.left more (ask_silent (length (m ∷ k ∷ ms)) (most_bad_lines - 1) over choices) (ask_range (length (m ∷ k ∷ ms)) (most_bad_lines - 1) over choices) complete
@@ -225,15 +242,16 @@ module _ {S M : Type 0} (rules : Rules S M) (options : Options) (few : HasFewMov
   limit_again s steps [] is = RunsAgain-same _ (finished (rules.is_valid s) (rules.stuck s) steps) (λ over rest. story_none rules options s steps over 0 is rest) (λ over choices more complete. refl)
   limit_again s steps (m ∷ ms) is = RunsAgain-same _ (stopped cause.StepLimit steps) (λ over rest. story_limit rules options s steps over m ms is rest) (λ over choices more complete. refl)
 
-  move_again : (fuel : ℕ) (s : S) (steps : ℕ) → ((t : S) → RunsAgain (story rules options fuel t (steps + 1))) → (moves : List M) → rules.moves s ≡ moves → RunsAgain (story rules options (suc fuel) s steps)
+  move_again : (fuel : ℕ) (s : S) (steps : ℕ) → HasFewMoves rules s → ((t : S) → HasFewMoves rules t → RunsAgain (story rules options fuel t (steps + 1))) → (moves : List M) → rules.moves s ≡ moves → RunsAgain (story rules options (suc fuel) s steps)
   unfolding replay_of
-  move_again fuel s steps later [] is = RunsAgain-same _ (finished (rules.is_valid s) (rules.stuck s) steps) (λ over rest. story_none rules options s steps over (suc fuel) is rest) (λ over choices more complete. refl)
-  move_again fuel s steps later (m ∷ ms) is = RunsAgain-same _ (λ over rest. answer_part rules options s steps over fuel (m ∷ ms) m rest) (λ over rest. story_some rules options s steps over fuel m ms is rest)
-      (select_again s (m ∷ ms) (subst (λ (l : List M). length l < 2 ^ 64) is (few s)) m steps (λ t o q. story rules options fuel t (steps + 1) o q) later)
+  move_again fuel s steps few later [] is = RunsAgain-same _ (finished (rules.is_valid s) (rules.stuck s) steps) (λ over rest. story_none rules options s steps over (suc fuel) is rest) (λ over choices more complete. refl)
+  move_again fuel s steps few later (m ∷ ms) is = RunsAgain-same _ (λ over rest. answer_part rules options s steps over fuel (m ∷ ms) m rest) (λ over rest. story_some rules options s steps over fuel m ms is rest)
+      (select_again s (m ∷ ms) (omega arith) (subst (λ (l : List M). length l < 2 ^ 64) is (few s arrived)) m steps (λ t o q. story rules options fuel t (steps + 1) o q)
+      (λ n t printed there goes. later t (few_behind rules s n t printed few (subst (λ (l : List M). Contains l n) (sym is) there) goes)))
 
-  pub story_again : (fuel : ℕ) (s : S) (steps : ℕ) → RunsAgain (story rules options fuel s steps)
-  story_again zero s steps = limit_again s steps (rules.moves s) refl
-  story_again (suc fuel) s steps = move_again fuel s steps (λ t. story_again fuel t (steps + 1)) (rules.moves s) refl
+  pub story_again : (fuel : ℕ) (s : S) (steps : ℕ) → HasFewMoves rules s → RunsAgain (story rules options fuel s steps)
+  story_again zero s steps few = limit_again s steps (rules.moves s) refl
+  story_again (suc fuel) s steps few = move_again fuel s steps few (λ t. story_again fuel t (steps + 1)) (rules.moves s) refl
 
 -- a complete run is the same when its record is its choices
 pub same_run : (part : Bool → List ℕ → Part End) → RunsAgain part → (choices : List ℕ) → is_complete (part false choices).value.cause ≡ true → IsSameRun (part false choices) (part false (recorded (part false choices).events))

@@ -13,7 +13,7 @@ use Rattle.session.specs.declared.choice.Answer.TheVariants as answer
 use Rattle.session.specs.Events.{Event, front}
 use Rattle.session.specs.Machine.{Rules, Goes, Faults}
 use Rattle.session.specs.Part.{Part, followed}
-use Rattle.session.specs.Session.{stepped, step_text, select, answered, story}
+use Rattle.session.specs.Session.{stepped, step_text, select, answered, story, end_of}
 use Rattle.session.specs.Stands.{MovedBy, Begins, Does, Leads, Breaks, CountsBroken}
 use Rattle.session.specs.Texts.{record_line, fault_line}
 
@@ -117,6 +117,7 @@ Runs r before after steps part = MatchResult r (Ends before after steps part) (�
 pub record IsOwnEnd (steps : ℕ) (end : End) : Type 0 where
   pub own : end.status < 6
   pub counted : end.steps ≡ steps
+  pub told : end ≡ end_of end.cause end.steps
 
 -- the cause of a session that was broken off
 abbrev pub failure_of : Broken → Cause

@@ -1,7 +1,7 @@
 //! The texts of a session, composed in buffers that are kept.
 ghost use Rattle.std.specs.Prelude.{◌≡◌, ◌+◌, ◌++◌, ◌<◌, ◌^◌, [], ◌∷◌, length, IfOk, OnOk, if◌then◌else◌, codes};
 ghost use Rattle.std.specs.Fmt.{decimal};
-ghost use Rattle.std.specs.List.{Contains};
+ghost use Rattle.session.specs.Takes.{CanBeShown};
 ghost use Rattle.session.specs.Texts.{list_from, prompt, record_line, last_words, last_line, step_line, fault_line, refusal_line};
 
 use crate::{Cause, Machine};
@@ -71,7 +71,7 @@ fn add_diagnosis(piece: &mut Vec<u8>, letters: &[u8], n: u8, words: &[u8]) -> Re
 
 // Composes the text of a move.
 fn draft_move<M: Machine>(machine: &M, m: &M::Move, text: &mut Vec<u8>) -> Result<(), AllocError>
-    requires present { Contains (M.rules.moves machine.now) m.now }
+    requires present { CanBeShown M.rules machine.now m.now }
     ensures { OnOk result (text.new.items ≡ M.rules.text machine.now m.now) }
 {
     text.clear();
@@ -142,7 +142,7 @@ pub fn draft_step<M: Machine>(
     n: u64,
     draft: &mut Draft,
 ) -> Result<(), AllocError>
-    requires present { Contains (M.rules.moves machine.now) m.now }
+    requires present { CanBeShown M.rules machine.now m.now }
     ensures { OnOk result (draft.new.piece.items ≡ (if wanted then step_line n (M.rules.text machine.now m.now) else [])) }
 {
     draft.piece.clear();
@@ -161,7 +161,7 @@ pub fn draft_fault<M: Machine>(
     n: u64,
     draft: &mut Draft,
 ) -> Result<(), AllocError>
-    requires present { Contains (M.rules.moves machine.now) m.now }
+    requires present { CanBeShown M.rules machine.now m.now }
     ensures { OnOk result (draft.new.piece.items ≡ fault_line fault n (M.rules.text machine.now m.now)) }
 {
     draft.piece.clear();

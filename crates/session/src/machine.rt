@@ -1,14 +1,15 @@
 //! A machine as a session sees it.
-ghost use Rattle.std.specs.Prelude.{◌≡◌, ◌++◌, List, ℕ, IfOk, OnOk, IsTrue, get_or};
+ghost use Rattle.std.specs.Prelude.{◌≡◌, ◌++◌, List, ℕ, IfOk, OnOk, OnErr};
+ghost use Rattle.std.specs.Io.{StartsWith};
 ghost use Rattle.std.specs.List.{Contains};
 ghost use Rattle.session.specs.Machine.{Rules};
-ghost use Rattle.session.specs.Takes.{TakesStep};
+ghost use Rattle.session.specs.Takes.{CanBeShown, CanBeTaken, StopsForGood, TakesStep, StaysStopped};
 
 use diagnostics::Stop;
 use std::alloc::{AllocError, Global};
 
 /// A machine whose moves are taken one by one. Its `rules` are what contracts know of it: as functions of its state, the
-/// list of moves, what a step leads to, and the texts.
+/// list of moves, what a step leads to, where it has stopped, and the texts.
 pub trait Machine {
     /// What can be done in a state.
     type Move: Drop;
@@ -16,20 +17,24 @@ pub trait Machine {
     /// Its moves, steps and texts.
     ghost rules: { Rules Self Self.Move };
 
-    /// All moves of the present state, in the order in which they are listed.
+    /// All moves of the present state, in the order in which they are listed. A machine that has stopped has none.
     fn moves(&self, alloc: Global) -> Result<Vec<Self::Move>, AllocError>
-        ensures { IfOk result (λ moves. moves.items ≡ rules.moves self.now) };
+        ensures all { IfOk result (λ moves. moves.items ≡ rules.moves self.now) }
+        ensures stopped { IfOk result (λ moves. StopsForGood rules self.now moves.items) };
 
-    /// Appends the text of a move of the present state.
+    /// Appends the text of a move of the present state, or of the one at which the machine has stopped.
     fn show(&self, m: &Self::Move, text: &mut Vec<u8>) -> Result<(), AllocError>
-        requires present { Contains (rules.moves self.now) m.now }
+        requires present { CanBeShown rules self.now m.now }
         ensures { OnOk result (text.new.items ≡ text.old.items ++ rules.text self.now m.now) };
 
-    /// Takes a move of the present state, and appends what it prints. After a fault the move can still be shown, with the
-    /// text that it had.
+    /// Takes a move of the present state, and appends what it prints. After a fault or want of memory the machine has stopped:
+    /// each later call answers the same, and changes nothing. The move can still be shown, with the text that it had. The text
+    /// has its old bytes, perhaps with more behind them.
     fn take(&mut self, m: &Self::Move, text: &mut Vec<u8>) -> Result<(), Stop>
-        requires present { Contains (rules.moves self.old) m.now }
-        ensures { TakesStep rules self.old m.now self.new text.old.items text.new.items result };
+        requires present { CanBeTaken rules self.old m.now }
+        ensures step { Contains (rules.moves self.old) m.now → TakesStep rules self.old m.now self.new text.old.items text.new.items result }
+        ensures stopped { StaysStopped rules self.old self.new result }
+        ensures kept { OnErr result (StartsWith text.new.items text.old.items) };
 
     /// Appends the value lines of the last step, of global and of local variables.
     fn values(&self, globals: bool, locals: bool, text: &mut Vec<u8>) -> Result<(), AllocError>

@@ -234,7 +234,8 @@ pub fn play<M: Machine, D: Devices>(
     ensures whole { result.status ≢ 6 → Ends (D.holds devices.old) (D.holds devices.new) result.steps (transcript M.rules options.now machine.old) result }
     ensures quiet { result.status ≢ 6 → (D.holds devices.new).failures ≡ (D.holds devices.old).failures }
     ensures broken { result.status ≡ 6 → IsBrokenOff (D.holds devices.old) (D.holds devices.new) (transcript M.rules options.now machine.old) result }
-    ensures replay { HasFewMoves M.rules → CanBeReplayed (transcript M.rules options.now machine.old) }
+    ensures end { result ≡ end_of result.cause result.steps }
+    ensures replay { HasFewMoves M.rules machine.old → CanBeReplayed (transcript M.rules options.now machine.old) }
 {
     let mut steps = 0;
     match run(alloc, machine, options, &mut steps, devices) {

@@ -10,5 +10,7 @@ mod player;
 #[cfg(test)]
 mod replays;
 mod sample;
+#[cfg(test)]
+mod words;
 
 pub use sample::{Pair, Rounds, Sample};

@@ -1,4 +1,5 @@
 //! Three small machines.
+ghost use Rattle.std.specs.Prelude.{◌≡◌, Err};
 ghost use Rattle.session_rows.specs.Samples.{sample_rules};
 
 use diagnostics::Fault;
@@ -39,6 +40,19 @@ pub enum Sample {
     Pair(Pair),
     /// A countdown, from this number.
     Countdown(u32),
+    /// A countdown that has stopped at a move.
+    Stopped(u8, Stop),
+}
+
+impl Sample {
+    // Stops a countdown at a move.
+    fn stop(&mut self, m: u8, why: Stop) -> Result<(), Stop>
+        ensures stops { self.new ≡ Sample.Stopped m why }
+        ensures why { result ≡ Err why }
+    {
+        *self = Sample::Stopped(m, why);
+        Err(why)
+    }
 }
 
 impl Machine for Sample {
@@ -73,6 +87,7 @@ impl Machine for Sample {
                     moves.push(2)?;
                 }
             }
+            Sample::Stopped(_, _) => {}
         }
         Ok(moves)
     }
@@ -90,7 +105,7 @@ impl Machine for Sample {
                 _ if p.b == 0 => text.extend_from_slice(b"proc 1 (B) line 3 [y = 2]"),
                 _ => text.extend_from_slice(b"proc 1 (B) line 3 [-end-]"),
             },
-            Sample::Countdown(_) => match *m {
+            Sample::Countdown(_) | Sample::Stopped(_, _) => match *m {
                 1 => text.extend_from_slice(b"1"),
                 _ => text.extend_from_slice(b"2"),
             },
@@ -134,14 +149,15 @@ impl Machine for Sample {
             }
             Sample::Countdown(n) => {
                 if text.push(b'*').is_err() {
-                    return Err(Stop::Memory);
+                    return self.stop(*m, Stop::Memory);
                 }
                 if n == 2 && *m == 2 {
-                    return Err(Stop::Fault(Fault::ZeroDivisor));
+                    return self.stop(*m, Stop::Fault(Fault::ZeroDivisor));
                 }
                 *self = Sample::Countdown(n.saturating_sub(u32::from(*m)));
                 Ok(())
             }
+            Sample::Stopped(_, why) => Err(why),
         }
     }
 

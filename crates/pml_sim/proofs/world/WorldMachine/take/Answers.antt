@@ -13,15 +13,15 @@ invariant_of-self c =
     does_declared c.self.inside.program.now (c.self.inside.kind ∷ []) _ _ _ _ c.do_first.ensures
     (subst (λ (x : Contents). AreDeclared c.self.inside.program.now (c.self.inside.kind ∷ []) x.frames) (sym c.forget.ensures) c.self.invariant)
 
-pub returns-in-Ok : goal.returns-in-Ok
-returns-in-Ok c =
-    let state : State = record { program = c.self.inside.program.now; kind = c.self.inside.kind; store = c.self.inside.store; channels = c.self.inside.channels.items; control = c.self.inside.control } in
+pub returns-in-Ok-clause-step : goal.returns-in-Ok-clause-step
+returns-in-Ok-clause-step c present =
+    let state : State = record { program = c.self.inside.program.now; kind = c.self.inside.kind; store = c.self.inside.store; channels = c.self.inside.channels.items; control = c.self.inside.control; halt = c.self.inside.halt } in
     let stands = c.standing_of-standing.ensures ∙ ap (λ o. standing_at (steps_of o) c.self.inside.control) c.proctype_at-proctype.ensures in
     let counts = c.count_of.ensures ∙ ap (λ o. length (steps_of o)) c.proctype_at-proctype.ensures in
     ([], rw (← c.self.view_is) (goes_on state c.args.m.now _ _ _ _ stands c.as_slice.ensures.value c.forget.ensures _ _ c.in-Ok.field-0 counts c.beyond-self-inside.ensures c.in-Ok.ensures), sym (append-nil _))
 
-pub returns-in-Err : goal.returns-in-Err
-returns-in-Err c =
-    let state : State = record { program = c.self.inside.program.now; kind = c.self.inside.kind; store = c.self.inside.store; channels = c.self.inside.channels.items; control = c.self.inside.control } in
+pub returns-in-Err-clause-step : goal.returns-in-Err-clause-step
+returns-in-Err-clause-step c present =
+    let state : State = record { program = c.self.inside.program.now; kind = c.self.inside.kind; store = c.self.inside.store; channels = c.self.inside.channels.items; control = c.self.inside.control; halt = c.self.inside.halt } in
     let stands = c.standing_of-standing.ensures ∙ ap (λ o. standing_at (steps_of o) c.self.inside.control) c.proctype_at-proctype.ensures in
-    rw (← c.self.view_is) (stops_on state c.args.m.now _ _ _ _ stands c.as_slice.ensures.value c.forget.ensures c.in-Err.stop c.in-Err.ensures (rw (← c.self.view_is) at c.requires.present))
+    rw (← c.self.view_is) (stops_on state c.args.m.now _ _ _ _ stands c.as_slice.ensures.value c.forget.ensures c.in-Err.why c.in-Err.ensures)
