@@ -4,4 +4,10 @@
 #[cfg(test)]
 mod models;
 #[cfg(test)]
+mod productions;
+#[cfg(test)]
+mod reader;
+#[cfg(test)]
+mod texts;
+#[cfg(test)]
 mod written;

@@ -1,13 +1,15 @@
 //! How rows write a checked model.
 //!
-//! A place is `G` or `L` (global or local) and the variable's number, then for each turn `+offset:length*stride[index]`. A variable is
-//! its name, `+offset:length*stride`, and what it begins with.
+//! A place is the type of what is reached, `G` or `L` (global or local) and the variable's number, then for each turn
+//! `+offset:length*stride[index]`. A variable is its type, its name, `[]` where it is an array, `+offset:length*stride`, and what it
+//! begins with. Each statement stands on a line of its own, behind its labels.
 use pml_lex::token::Token;
 use pml_program::expr::{Expr, Target, Turn, Want};
+use pml_program::form::Form;
 use pml_program::program::{
     Action, Basic, Fields, Initial, Proctype, Program, Run, Seq, Slot, Stmt,
 };
-use pml_tree::tree::{Fill, Infix, Prefix, Removal, Search, SendOrder};
+use pml_tree::tree::{Fill, Infix, Prefix, Removal, Scalar, Search, SendOrder};
 use sqlite_items::Items;
 use std::alloc::{AllocError, Global};
 
@@ -24,6 +26,34 @@ fn token(out: &mut String, t: &Token<'_>) -> Result<(), AllocError> {
         out.push(char::from(*byte))?;
     }
     Ok(())
+}
+
+fn scalar(scalar: Scalar) -> &'static str {
+    match scalar {
+        Scalar::Bit => "bit",
+        Scalar::Bool => "bool",
+        Scalar::Byte => "byte",
+        Scalar::Chan => "chan",
+        Scalar::Mtype => "mtype",
+        Scalar::Pid => "pid",
+        Scalar::Short => "short",
+        Scalar::Int => "int",
+    }
+}
+
+fn form(alloc: Global, out: &mut String, form: Form) -> Result<(), AllocError> {
+    match form {
+        Form::Plain(plain) => word(out, scalar(plain)),
+        Form::Unsigned(width) => {
+            word(out, "unsigned ")?;
+            number(alloc, out, width as usize)
+        }
+        Form::Struct(owner) => {
+            word(out, "typedef ")?;
+            number(alloc, out, owner)
+        }
+        Form::Unknown => word(out, "unknown"),
+    }
 }
 
 fn asked(fill: Fill) -> &'static str {
@@ -148,7 +178,8 @@ fn want(alloc: Global, out: &mut String, w: &Want) -> Result<(), AllocError> {
 
 #[cycle(value)]
 fn target(alloc: Global, out: &mut String, t: &Target) -> Result<(), AllocError> {
-    word(out, if t.local { "L" } else { "G" })?;
+    form(alloc, out, t.form)?;
+    word(out, if t.local { " L" } else { " G" })?;
     number(alloc, out, t.variable)?;
     for one in t.turns.as_slice() {
         turn(alloc, out, one)?;
@@ -240,10 +271,14 @@ fn action(alloc: Global, out: &mut String, a: &Action<'_>) -> Result<(), AllocEr
             wants(alloc, out, ws)
         }
         Action::Printf(text, vs) => {
+            word(out, "printf ")?;
             token(out, text)?;
             values(alloc, out, vs)
         }
-        Action::Printm(v) => value(alloc, out, v),
+        Action::Printm(v) => {
+            word(out, "printm ")?;
+            value(alloc, out, v)
+        }
         Action::Assert(v) => {
             word(out, "assert ")?;
             value(alloc, out, v)
@@ -297,7 +332,7 @@ fn seqs(alloc: Global, out: &mut String, ss: &Items<Seq<'_>>) -> Result<(), Allo
 
 #[cycle(statement)]
 fn seq(alloc: Global, out: &mut String, s: &Seq<'_>) -> Result<(), AllocError> {
-    word(out, "{")?;
+    word(out, "{\n")?;
     for one in s.steps.as_slice() {
         stmt(alloc, out, one)?;
     }
@@ -311,11 +346,22 @@ fn stmt(alloc: Global, out: &mut String, s: &Stmt<'_>) -> Result<(), AllocError>
         word(out, ": ")?;
     }
     basic(alloc, out, &s.basic)?;
-    Ok(word(out, "; ")?)
+    Ok(word(out, ";\n")?)
+}
+
+fn fields_of_messages(alloc: Global, out: &mut String, forms: &[Form]) -> Result<(), AllocError> {
+    for one in forms {
+        word(out, " ")?;
+        form(alloc, out, *one)?;
+    }
+    Ok(())
 }
 
 fn slot(alloc: Global, out: &mut String, s: &Slot<'_>) -> Result<(), AllocError> {
+    form(alloc, out, s.form)?;
+    word(out, " ")?;
     token(out, &s.name)?;
+    word(out, if s.array { "[]" } else { "" })?;
     let (offset, length, stride) = (s.offset, s.length, s.stride);
     out.push_str(format!(in alloc; "+{offset}:{length}*{stride}")?.as_str())?;
     match &s.initial {
@@ -326,8 +372,10 @@ fn slot(alloc: Global, out: &mut String, s: &Slot<'_>) -> Result<(), AllocError>
             word(out, "; ")
         }
         Initial::Channel(n, fields) => {
-            let (n, m) = (*n, fields.len());
-            out.push_str(format!(in alloc; " = [{n}] of {m}; ")?.as_str())
+            let n = *n;
+            out.push_str(format!(in alloc; " = [{n}] of")?.as_str())?;
+            fields_of_messages(alloc, out, fields.as_slice())?;
+            word(out, "; ")
         }
     }
 }
@@ -353,8 +401,8 @@ fn process(alloc: Global, out: &mut String, p: &Proctype<'_>) -> Result<(), Allo
     out.push_str(format!(in alloc; " {owner} starts {starts} parameters {parameters} ")?.as_str())?;
     slots(alloc, out, &p.variables)?;
     seq(alloc, out, &p.body)?;
-    token(out, &p.end)?;
-    word(out, "\n")
+    let line = p.end.line();
+    out.push_str(format!(in alloc; " to line {line}\n")?.as_str())
 }
 
 /// A checked model as a row writes it, a line for the globals, one for the mtype names, and one for each typedef and proctype.

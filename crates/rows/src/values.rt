@@ -436,6 +436,22 @@ end: valid, steps 2
 global a[999999] = 1
 end: valid, steps 2
 -- status 0
+== the last cells of a large array of structures
+-- flags -g
+-- model typedef R { byte a[1000]; int i }; R r[100]; init { r[99].a[999] = 1; r[99].i = -1; r[0].i = 2 }
+-- output
+global r[99].a[999] = 1
+global r[99].i = -1
+global r[0].i = 2
+end: valid, steps 4
+-- status 0
+== the last element of a large array of a process
+-- flags -l
+-- model init { byte a[70000]; a[69999] = 257 }
+-- output
+local 0 (:init:) a[69999] = 1
+end: valid, steps 2
+-- status 0
 == as many channels as may live at the start
 -- model chan c[255] = [0] of { byte }; init { skip }
 -- output end: valid, steps 2
