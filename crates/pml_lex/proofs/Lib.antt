@@ -5,6 +5,7 @@ pub mod Scan
 pub mod Rows
 pub mod Places
 pub mod Wholes
+pub mod Lines
 pub mod Steps
 pub mod Fresh
 pub mod Order

@@ -3,7 +3,8 @@
 ghost use Rattle.std.specs.Prelude.{◌≡◌, ◌++◌, ◌∷◌, [], List, ℕ, true};
 ghost use Rattle.std.specs.List.{concat};
 ghost use Rattle.pml_lex.specs.Word.{Word};
-ghost use Rattle.pml_lex.specs.Division.{IsDivision, IsCut, is_fresh};
+ghost use Rattle.pml_lex.specs.Division.{IsDivision, IsCut, is_fresh, line_behind};
+ghost use Rattle.pml_lex.specs.Limits.{AreOnLines};
 ghost use Rattle.pml_lex.specs.Laws.{LastLineIsBlank, StandInOrder};
 
 /// A text has one division at most.
@@ -19,6 +20,11 @@ pub fn one_list_of_tokens()
 /// Each token's text is its slice of the text, in the order of the tokens, and its line is that of its first byte.
 pub fn tokens_stand_in_order()
     ensures { (text : List ℕ) (ts : List Word) → IsCut text ts → StandInOrder [] text ts }
+{}
+
+/// Each token is on a line of the text, from 1 to the line behind all of it.
+pub fn tokens_are_on_lines()
+    ensures { (text : List ℕ) (ts : List Word) → IsCut text ts → AreOnLines (line_behind text) ts }
 {}
 
 /// What `is_fresh` says of a text: blanks alone stand behind its last line feed.
