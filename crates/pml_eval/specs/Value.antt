@@ -1,5 +1,5 @@
 -- The value of an expression.
-use Rattle.std.specs.Prelude.{map, ℕ, ◌+◌, ◌*◌, Bool, true, false, not, ◌||◌, if◌then◌else◌, ◌==◌, nat_lt, length, List, [], ◌∷◌, ℤ, pos, negsuc, Option, Some, None, Result, Ok, Err}
+use Rattle.std.specs.Prelude.{map, ℕ, ◌+◌, ◌*◌, Bool, false, not, ◌||◌, if◌then◌else◌, ◌==◌, nat_lt, length, List, [], ◌∷◌, ℤ, pos, negsuc, Option, Some, None, Result, Ok, Err}
 use Rattle.pml_tree.specs.declared.tree.Infix.{Infix}
 use Rattle.pml_tree.specs.declared.tree.Search.{Search}
 use Rattle.pml_tree.specs.declared.tree.Search.TheVariants.{First, Matching}

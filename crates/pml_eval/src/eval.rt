@@ -1,6 +1,7 @@
 //! The value of an expression, and the place of a reference.
 
-ghost use Rattle.std.specs.Prelude.{◌≡◌, ◌+◌, ◌*◌, ◌<◌, IfOk, List, Option, Ok, length, map, option_map};
+ghost use Rattle.std.specs.Prelude.{◌≡◌, ◌+◌, ◌*◌, ◌<◌, ◌≤◌, IfOk, List, Option, Ok, length, map, option_map};
+ghost use Rattle.profile.specs.declared.TheConstants.{MOST_FIELDS};
 ghost use Rattle.pml_eval.specs.declared.pattern.Sought.{Sought};
 ghost use Rattle.pml_eval.specs.Value.{val, place, cells, want, asked, asked_by, within, inside, poll_of, is_match, messages_at, Filling, settled};
 ghost use Rattle.pml_eval.specs.Pattern.{matched};
@@ -8,13 +9,11 @@ ghost use Rattle.pml_eval.specs.Ground.{shown};
 
 use crate::ground::{Filled, Ground};
 use crate::operators::{decide, infix, number_of, prefix};
-use crate::pattern::{Sought, takes};
+use crate::pattern::{Pattern, Sought, takes};
 use diagnostics::Fault;
 use pml_program::expr::{Expr, Target, Turn, Want};
 use pml_store::place::Place;
 use pml_tree::tree::{Fill, Search};
-use sqlite_items::Items;
-use std::alloc::{AllocError, Global};
 
 /// The value of an expression, or the first fault from the left.
 #[cycle(eval)]
@@ -132,22 +131,16 @@ fn is_asked<G: Ground>(arguments: &[Want], fields: &[i32], ground: &G) -> Result
     Ok(true)
 }
 
-/// What the arguments of a receive ask, or the first fault from the left.
-pub fn pattern<G: Ground>(
-    alloc: Global,
-    arguments: &[Want],
-    ground: &G,
-) -> Result<Result<Items<Sought>, Fault>, AllocError>
-    ensures { IfOk result (λ found. found ≡ asked_by arguments.now (G.reading ground.now)) }
+/// What the arguments of a receive ask, or the first fault from the left. No memory is taken.
+pub fn pattern<G: Ground>(arguments: &[Want], ground: &G) -> Result<Pattern, Fault>
+    requires { length arguments.now ≤ MOST_FIELDS }
+    ensures { result ≡ asked_by arguments.now (G.reading ground.now) }
 {
-    let mut wants = Items::new(alloc);
+    let mut pattern = Pattern::new();
     for argument in arguments {
-        match want(argument, ground) {
-            Ok(one) => wants.push(one)?,
-            Err(fault) => return Ok(Err(fault)),
-        }
+        pattern.push(want(argument, ground)?);
     }
-    Ok(Ok(wants))
+    Ok(pattern)
 }
 
 /// What an argument asks of its field.

@@ -1,9 +1,12 @@
 //! What a receive asks of each field of a message.
 
-ghost use Rattle.std.specs.Prelude.{◌≡◌};
+ghost use Rattle.std.specs.Prelude.{◌≡◌, ◌<◌, ◌++◌, ◌∷◌, [], length};
+ghost use Rattle.profile.specs.declared.TheConstants.{MOST_FIELDS};
 ghost use Rattle.pml_eval.specs.Pattern.{matched, taken};
 
 use pml_store::place::Place;
+use profile::MOST_FIELDS;
+use std::marker::Model;
 
 /// What a receive asks of one field.
 #[derive(Clone, Copy, PartialEq, Eq, Debug)]
@@ -13,6 +16,53 @@ pub enum Sought {
     /// Any number, which is stored there.
     Into(Place),
     Anything,
+}
+
+/// What a receive asks of the fields of a message, in order.
+#[derive(Drop)]
+pub struct Pattern {
+    sought: [Sought; MOST_FIELDS],
+    count: usize,
+}
+
+impl Model for Pattern {
+    ghost use Rattle.std.specs.Prelude.{List, ◌≤◌, take};
+    ghost use Rattle.profile.specs.declared.TheConstants.{MOST_FIELDS};
+    ghost use Rattle.pml_eval.specs.declared.pattern.Sought.{Sought};
+
+    ghost Value = { List Sought };
+
+    ghost view = { λ p. take p.count p.sought };
+
+    ghost invariant = { λ p. p.count ≤ MOST_FIELDS };
+}
+
+impl Pattern {
+    /// Nothing is asked so far.
+    pub fn new() -> Pattern
+        ensures { result ≡ [] }
+    {
+        Pattern {
+            sought: [Sought::Anything; MOST_FIELDS],
+            count: 0,
+        }
+    }
+
+    /// What is asked, field by field.
+    pub fn as_slice(&self) -> &[Sought]
+        ensures { result.now ≡ self.now }
+    {
+        &self.sought[..self.count]
+    }
+
+    /// Asks one field more.
+    pub fn push(&mut self, one: Sought)
+        requires { length self.old < MOST_FIELDS }
+        ensures { self.new ≡ self.old ++ one ∷ [] }
+    {
+        self.sought[self.count] = one;
+        self.count += 1;
+    }
 }
 
 /// Whether each field is what is asked of it.

@@ -253,7 +253,7 @@ fn polls(rt: HostRuntime) -> Result<(), Fail> {
 #[test]
 fn patterns(rt: HostRuntime) -> Result<(), Fail> {
     let wanted = [Want::Exactly(2), Want::Anything];
-    match pattern(rt.alloc(), &wanted, &Holding(7))? {
+    match pattern(&wanted, &Holding(7)) {
         Ok(sought) => {
             assert_eq!(rt;
                 sought.as_slice(),
