@@ -188,7 +188,14 @@ fn tell_words(rt: &HostRuntime, error: &clap::Error) -> u8 {
     }
 }
 
+// Holds the descriptors 0 to 2 where the caller has closed them, so that no file of a run takes the place of one. A folder gives no byte
+// and takes none, so a closed output is a failed device.
+fn held_descriptors(rt: &HostRuntime) -> [io::Result<File>; 3] {
+    [fs::open(rt, "/"), fs::open(rt, "/"), fs::open(rt, "/")]
+}
+
 fn main(rt: HostRuntime) -> ExitCode {
+    let _held = held_descriptors(&rt);
     let status = match run(&rt) {
         Ok(end) => {
             tell_end(&rt, &end);

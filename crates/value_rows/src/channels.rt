@@ -40,3 +40,28 @@ fn messages(rt: HostRuntime) -> Result<(), Fail> {
     assert_eq!(rt; channel.message(0), [2, 0].as_slice());
     Ok(())
 }
+
+/// The later fields decide where the earlier ones are equal, and a number below 0 comes first.
+#[test]
+fn sorted_by_each_field(rt: HostRuntime) -> Result<(), Fail> {
+    let mut channel = of_three(rt.alloc())?;
+    channel.send(&[1, 5])?;
+    channel.send_sorted(&[1, -3])?;
+    assert_eq!(rt; channel.message(0), [1, -3].as_slice());
+    assert_eq!(rt; channel.message(1), [1, 5].as_slice());
+    Ok(())
+}
+
+/// What is sent is cut to its type, and what is asked is not.
+#[test]
+fn constants_are_not_cut(rt: HostRuntime) -> Result<(), Fail> {
+    let mut channel = of_three(rt.alloc())?;
+    channel.send(&[257, 65_535])?;
+    let byte = [Sought::Exactly(257), Sought::Anything];
+    assert_eq!(rt; channel.find(&byte), None);
+    let short = [Sought::Exactly(1), Sought::Exactly(-1)];
+    assert_eq!(rt; channel.find(&short), Some(0));
+    let uncut = [Sought::Anything, Sought::Exactly(65_535)];
+    assert_eq!(rt; channel.find(&uncut), None);
+    Ok(())
+}
