@@ -3,7 +3,7 @@
 ghost use Rattle.std.specs.Prelude.{◌≡◌, ℕ, ◌<◌, ◌-◌, ◌++◌, IfOk, OnOk, length, map, slice_get};
 ghost use Rattle.std.specs.Option.{option_copied};
 ghost use Rattle.pml_control.specs.Control.{SettlesEverywhere};
-ghost use Rattle.pml_flow.specs.Flow.{kept, ranks_from, rank, node_by, targets, edges_level, edges_from, node_of, node_at, edges_of, atomic_in, IsGraph};
+ghost use Rattle.pml_flow.specs.Flow.{kept, ranks_from, rank, node_by, targets, end_by, end_of, same_number, site_of, entry_by, edge, edges_level, edges_from, node_of, node_at, edges_of, atomic_in, IsGraph};
 
 use crate::edge::Edge;
 use crate::level::{Level, Way};
@@ -29,6 +29,22 @@ impl Model for Node {
     ghost Value = { Node };
 
     ghost view = { λ n. record { edges = n.edges.items; atomic = n.atomic } };
+}
+
+/// What edges are made from, by the numbers of places: the node and the number where settling ends from each, and the sites.
+#[derive(Drop)]
+struct Tables<'t> {
+    targets: &'t [usize],
+    ends: &'t [Ending],
+    sites: &'t [Site],
+}
+
+impl<'t> Model for Tables<'t> {
+    ghost use Rattle.pml_flow.specs.Flow.{Tables};
+
+    ghost Value = { Tables };
+
+    ghost view = { λ t. record { targets = t.targets.now; ends = t.ends.now; sites = t.sites.now } };
 }
 
 /// The control graph of a body.
@@ -58,7 +74,12 @@ impl Graph {
         let ranks = ranks(alloc, next.as_slice())?;
         let targets = targets(alloc, ranks.as_slice(), ends.as_slice())?;
         let sites = sites(alloc, body)?;
-        let nodes = kept_nodes(alloc, targets.as_slice(), next.as_slice(), sites.as_slice())?;
+        let tables = Tables {
+            targets: targets.as_slice(),
+            ends: ends.as_slice(),
+            sites: sites.as_slice(),
+        };
+        let nodes = kept_nodes(alloc, &tables, next.as_slice())?;
         let start = start_of(targets.as_slice());
         Ok(Graph { start, nodes })
     }
@@ -68,6 +89,13 @@ impl Graph {
         ensures { result ≡ self.now.start }
     {
         self.start
+    }
+
+    /// How many nodes there are.
+    pub fn node_count(&self) -> usize
+        ensures { result ≡ length self.now.nodes }
+    {
+        self.nodes.len()
     }
 
     /// The offers of a node, by level and then in text order.
@@ -137,43 +165,112 @@ fn targets(alloc: Global, ranks: &[usize], ends: &[Ending]) -> Result<Vec<usize>
     Ok(targets)
 }
 
+fn end_by(end: Ending) -> usize
+    ensures { result ≡ end_by end }
+{
+    match end {
+        Ending::Stays(end) => end,
+        _ => 0,
+    }
+}
+
+/// The number where settling ends from a number.
+fn end_of(ends: &[Ending], number: usize) -> usize
+    ensures { result ≡ end_of ends.now number }
+{
+    match ends.get(number) {
+        Some(end) => end_by(*end),
+        None => 0,
+    }
+}
+
+/// Whether both are there and equal.
+fn is_same(one: Option<usize>, other: Option<usize>) -> bool
+    ensures { result ≡ same_number one other }
+{
+    match (one, other) {
+        (Some(one), Some(other)) => one == other,
+        _ => false,
+    }
+}
+
+fn atomic_at(sites: &[Site], number: usize) -> Option<usize>
+    ensures { result ≡ (site_of sites.now number).atomic }
+{
+    match sites.get(number) {
+        Some(site) => site.atomic(),
+        None => None,
+    }
+}
+
+fn is_inside(sites: &[Site], number: usize) -> bool
+    ensures { result ≡ (site_of sites.now number).inside }
+{
+    match sites.get(number) {
+        Some(site) => site.is_inside(),
+        None => false,
+    }
+}
+
+fn entry_by(targets: &[usize], entry: Option<usize>) -> Option<usize>
+    ensures { result ≡ entry_by targets.now entry }
+{
+    match entry {
+        Some(number) => Some(rank(targets, number)),
+        None => None,
+    }
+}
+
+/// The edge of a way.
+fn edge(tables: &Tables<'_>, level: usize, way: Way) -> Edge
+    ensures { result ≡ edge tables.now level way }
+{
+    let end = end_of(tables.ends, way.target);
+    Edge {
+        level,
+        statement: way.statement,
+        target: rank(tables.targets, way.target),
+        keeps: is_same(
+            atomic_at(tables.sites, way.statement),
+            atomic_at(tables.sites, end),
+        ),
+        stays: is_inside(tables.sites, end),
+        entry: entry_by(tables.targets, way.entry),
+    }
+}
+
 /// Adds the edges of a level, which has the last way in text order first.
 fn add_edges(
-    targets: &[usize],
+    tables: &Tables<'_>,
     level: usize,
     ways: &[Way],
     edges: &mut Vec<Edge>,
 ) -> Result<(), AllocError>
-    ensures { OnOk result (edges.new.items ≡ edges.old.items ++ edges_level targets.now level ways.now) }
+    ensures { OnOk result (edges.new.items ≡ edges.old.items ++ edges_level tables.now level ways.now) }
 {
     let mut left = ways.len();
     while left > 0 {
         left -= 1;
-        let Way { statement, target } = ways[left];
-        edges.push(Edge {
-            level,
-            statement,
-            target: rank(targets, target),
-        })?;
+        edges.push(edge(tables, level, ways[left]))?;
     }
     Ok(())
 }
 
-fn all_edges(alloc: Global, targets: &[usize], ways: &[Level]) -> Result<Vec<Edge>, AllocError>
-    ensures { IfOk result (λ v. v.items ≡ edges_from targets.now 0 ways.now) }
+fn all_edges(alloc: Global, tables: &Tables<'_>, ways: &[Level]) -> Result<Vec<Edge>, AllocError>
+    ensures { IfOk result (λ v. v.items ≡ edges_from tables.now 0 ways.now) }
 {
     let mut edges = Vec::new(alloc);
     for (number, level) in ways.iter().enumerate() {
-        add_edges(targets, number, level.ways(), &mut edges)?;
+        add_edges(tables, number, level.ways(), &mut edges)?;
     }
     Ok(edges)
 }
 
-fn node_of(alloc: Global, targets: &[usize], site: &Site) -> Result<Node, AllocError>
-    ensures { IfOk result (λ n. n ≡ node_of targets.now site.now) }
+fn node_of(alloc: Global, tables: &Tables<'_>, site: &Site) -> Result<Node, AllocError>
+    ensures { IfOk result (λ n. n ≡ node_of tables.now site.now) }
 {
     Ok(Node {
-        edges: all_edges(alloc, targets, site.ways())?,
+        edges: all_edges(alloc, tables, site.ways())?,
         atomic: site.atomic(),
     })
 }
@@ -181,17 +278,17 @@ fn node_of(alloc: Global, targets: &[usize], site: &Site) -> Result<Node, AllocE
 /// Adds the node of a number, where settling ends there.
 fn add_node(
     alloc: Global,
-    targets: &[usize],
+    tables: &Tables<'_>,
     step: Option<usize>,
     site: Option<&Site>,
     nodes: &mut Vec<Node>,
 ) -> Result<(), AllocError>
-    ensures { OnOk result (nodes.new.items ≡ nodes.old.items ++ node_at targets.now step (option_copied site.entry)) }
+    ensures { OnOk result (nodes.new.items ≡ nodes.old.items ++ node_at tables.now step (option_copied site.entry)) }
 {
     match step {
         Some(_) => Ok(()),
         None => match site {
-            Some(site) => Ok(nodes.push(node_of(alloc, targets, site)?)?),
+            Some(site) => Ok(nodes.push(node_of(alloc, tables, site)?)?),
             None => Ok(()),
         },
     }
@@ -206,15 +303,20 @@ fn site_at(sites: &[Site], number: usize) -> Option<&Site>
 /// A node for each number where settling ends.
 fn kept_nodes(
     alloc: Global,
-    targets: &[usize],
+    tables: &Tables<'_>,
     next: &[Option<usize>],
-    sites: &[Site],
 ) -> Result<Vec<Node>, AllocError>
-    ensures { IfOk result (λ v. v.items ≡ map (node_of targets.now) (kept next.now sites.now)) }
+    ensures { IfOk result (λ v. v.items ≡ map (node_of tables.now) (kept next.now tables.now.sites)) }
 {
     let mut nodes = Vec::new(alloc);
     for (number, step) in next.iter().enumerate() {
-        add_node(alloc, targets, *step, site_at(sites, number), &mut nodes)?;
+        add_node(
+            alloc,
+            tables,
+            *step,
+            site_at(tables.sites, number),
+            &mut nodes,
+        )?;
     }
     Ok(nodes)
 }
