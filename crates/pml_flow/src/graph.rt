@@ -1,18 +1,21 @@
 //! The control graph of a proctype.
 
-ghost use Rattle.std.specs.Prelude.{◌≡◌, ℕ, ◌<◌, ◌-◌, ◌++◌, IfOk, OnOk, length, map, slice_get};
+ghost use Rattle.std.specs.Prelude.{◌≡◌, ℕ, ◌<◌, ◌-◌, ◌++◌, IfOk, OnOk, length, map, slice_get, slice_index_or};
 ghost use Rattle.std.specs.Option.{option_copied};
 ghost use Rattle.pml_control.specs.Control.{SettlesEverywhere};
-ghost use Rattle.pml_flow.specs.Flow.{kept, ranks_from, rank, node_by, targets, end_by, end_of, same_number, site_of, entry_by, edge, edges_level, edges_from, node_of, node_at, edges_of, atomic_in, IsGraph};
+ghost use Rattle.pml_flow.specs.Flow.{kept, ranks_from, rank, node_by, targets, end_by, end_of, same_number, site_of, entry_by, edge, edges_level, edges_from, node_of, node_at, edges_of, atomic_in, is_end_at, IsGraph};
 
 use crate::edge::Edge;
 use crate::level::{Level, Way};
+use crate::lines::kept_lines;
+use crate::marks::valid_ends;
 use crate::site::Site;
 use crate::sites::sites;
+use crate::statements::all_statements;
 use pml_control::ends::{Ending, ends};
 use pml_control::graph::nodes;
 use pml_control::labels::nexts;
-use pml_program::program::Seq;
+use pml_program::program::Proctype;
 use std::alloc::{AllocError, Global};
 use std::marker::Model;
 
@@ -47,11 +50,13 @@ impl<'t> Model for Tables<'t> {
     ghost view = { λ t. record { targets = t.targets.now; ends = t.ends.now; sites = t.sites.now } };
 }
 
-/// The control graph of a body.
+/// The control graph of a proctype.
 #[derive(Drop)]
 pub struct Graph {
     start: usize,
     nodes: Vec<Node>,
+    lines: Vec<u32>,
+    ends: Vec<bool>,
 }
 
 impl Model for Graph {
@@ -59,21 +64,21 @@ impl Model for Graph {
 
     ghost Value = { Graph };
 
-    ghost view = { λ g. record { start = g.start; nodes = g.nodes.items } };
+    ghost view = { λ g. record { start = g.start; nodes = g.nodes.items; lines = g.lines.items; ends = g.ends.items } };
 }
 
 impl Graph {
-    /// The graph of a body. Takes time and memory in proportion to the body and to the edges.
-    pub fn build(alloc: Global, body: &Seq<'_>) -> Result<Graph, AllocError>
-        requires { SettlesEverywhere body.now }
-        ensures { IfOk result (λ g. IsGraph body.now g) }
+    /// The graph of a proctype. Takes time and memory in proportion to the body and to the edges.
+    pub fn build(alloc: Global, proctype: &Proctype<'_>) -> Result<Graph, AllocError>
+        requires { SettlesEverywhere proctype.now.body }
+        ensures { IfOk result (λ g. IsGraph proctype.now.body proctype.now.end.line g) }
     {
-        let table = nodes(alloc, body)?;
+        let table = nodes(alloc, &proctype.body)?;
         let next = nexts(alloc, table.as_slice())?;
         let ends = ends(alloc, next.as_slice())?;
         let ranks = ranks(alloc, next.as_slice())?;
         let targets = targets(alloc, ranks.as_slice(), ends.as_slice())?;
-        let sites = sites(alloc, body)?;
+        let sites = sites(alloc, &proctype.body)?;
         let tables = Tables {
             targets: targets.as_slice(),
             ends: ends.as_slice(),
@@ -81,7 +86,15 @@ impl Graph {
         };
         let nodes = kept_nodes(alloc, &tables, next.as_slice())?;
         let start = start_of(targets.as_slice());
-        Ok(Graph { start, nodes })
+        let statements = all_statements(alloc, &proctype.body)?;
+        let lines = kept_lines(alloc, next.as_slice(), &statements, proctype.end.line())?;
+        let ends = valid_ends(alloc, nodes.len(), targets.as_slice(), &statements)?;
+        Ok(Graph {
+            start,
+            nodes,
+            lines,
+            ends,
+        })
     }
 
     /// The first node.
@@ -104,6 +117,26 @@ impl Graph {
         ensures { result.now ≡ edges_of (slice_get self.now.nodes node) }
     {
         self.nodes[node].edges.as_slice()
+    }
+
+    /// The line of what stands first at a node: that of its first token, or of the closing brace.
+    pub fn line(&self, node: usize) -> u32
+        ensures { result ≡ slice_index_or self.now.lines node 0 }
+    {
+        match self.lines.get(node) {
+            Some(line) => *line,
+            None => 0,
+        }
+    }
+
+    /// Whether a node is a valid end point.
+    pub fn is_valid_end(&self, node: usize) -> bool
+        ensures { result ≡ is_end_at self.now.ends node }
+    {
+        match self.ends.get(node) {
+            Some(is_end) => *is_end,
+            None => false,
+        }
     }
 
     /// The outermost atomic that a node lies in, by a number.
