@@ -1,0 +1,9 @@
+mod Things
+mod Growing
+mod Agreeing
+mod Layers
+mod Only
+mod Standing
+mod Declaring
+mod Acting
+mod Bodies

@@ -1,0 +1,8 @@
+//! Laws of what a tree stands for.
+
+ghost use Rattle.std.specs.Prelude.{◌≡◌, ℕ};
+
+/// Nothing yet.
+pub fn nothing()
+    ensures { (n : ℕ) → n ≡ n }
+{}
