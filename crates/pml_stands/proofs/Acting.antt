@@ -1,7 +1,6 @@
 -- Statements that give no structure stand for what they are numbered as.
-use Rattle.std.proofs.Common.{◌≡◌, ℕ, Bool, true, false, cond, List, [], ◌∷◌, map, Option, Some, None, refl, ap, sym, subst, ◌∙◌}
+use Rattle.std.proofs.Common.{◌≡◌, ℕ, false, cond, List, [], ◌∷◌, map, Option, Some, None, refl, ap, sym, subst, ◌∙◌}
 use Rattle.std.specs.Option.{is_some}
-use Rattle.pml_lex.specs.Word.{Word}
 use Rattle.pml_tree.specs.declared.tree.Expr.{Expr as TreeExpr}
 use Rattle.pml_tree.specs.declared.tree.Argument.{Argument}
 use Rattle.pml_tree.specs.declared.tree.Reference.{Reference}
@@ -12,7 +11,6 @@ use Rattle.pml_names.specs.declared.thing.Thing.{Thing}
 use Rattle.pml_names.specs.Entry.{found}
 use Rattle.pml_names.specs.Meaning.{meaning, or_else, only_process}
 use Rattle.pml_program.specs.declared.expr.Expr.{Expr}
-use Rattle.pml_program.specs.declared.expr.Want.{Want}
 use Rattle.pml_program.specs.declared.expr.Target.{Target}
 use Rattle.pml_program.specs.declared.program.Slot.{Slot}
 use Rattle.pml_program.specs.declared.program.Run.{Run}
@@ -69,6 +67,7 @@ module _ (gs : Globals) (ls : List Slot) (sc : Scope) (sees : Sees gs ls sc) (ru
     where
       others : Option Thing
       others = or_else (found sc.names 0 false n) (only_process (found sc.all 0 false n))
+
       go : (x : Option (ℕ × Slot)) → variable_named ls n ≡ x → proctype_of gs ls n ≡ numbered_proctype (meaning sc.all sc.names sc.owner n)
       go (Some p) e = ap (pick n) e ∙ sym (ap (λ (x : Option Thing). numbered_proctype (or_else x others)) (own-local ls sc.names sc.owner sees.own n p e).1)
       go None e = ap (pick n) e ∙ sym (ap numbered_proctype ((own-none ls sc.names sc.owner sees.own n e).1 (only_process (found sc.all 0 false n))) ∙ runs n)

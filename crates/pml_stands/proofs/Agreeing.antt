@@ -1,11 +1,10 @@
 -- Names that are found as the lists of what is declared have them.
-use Rattle.std.proofs.Common.{◌≡◌, ℕ, suc, ◌<◌, ◌≤◌, Bool, true, false, ◌&&◌, ◌||◌, cond, nat_eq, nat_lt, List, [], ◌∷◌, map, Option, Some, None, refl, ap, sym, subst, ◌∙◌, ◌⊎◌, inl, inr, arith}
+use Rattle.std.proofs.Common.{◌≡◌, ℕ, suc, ◌<◌, Bool, true, false, ◌&&◌, cond, nat_eq, List, [], ◌∷◌, Option, Some, None, refl, ap, sym, subst, ◌∙◌, ◌⊎◌, inl, inr, arith}
 use Rattle.std.specs.Prelude.{codes}
 use Rattle.std.specs.List.{AllByRecursion}
 use Rattle.std.specs.Option.{is_some}
 use Rattle.std.specs.Str.{bytes_eq}
 use Rattle.std.proofs.lemmas.Bool.{lt-ltb, le-ltb}
-use Rattle.std.proofs.lemmas.Bool.Decides.{eqb_tells}
 use Rattle.pml_names.specs.declared.thing.Thing.{Thing}
 use Rattle.pml_names.specs.declared.thing.Thing.TheVariants as thing
 use Rattle.pml_names.specs.declared.thing.Variable.{Variable}
@@ -18,7 +17,7 @@ use Rattle.pml_program.specs.declared.program.Slot.{Slot}
 use Rattle.pml_resolve.specs.declared.reached.Reached.{Reached}
 use Rattle.pml_resolve.specs.declared.reached.Reached.TheVariants as r
 use Rattle.pml_resolve.specs.Numbered.{Scope, Path, Stepped, reached, stands_for, is_local, into, through, with_turn}
-use Rattle.pml_stands.specs.Declared.{Structure, Globals, one_behind, variable_named, constant_named, typedef_named, fields_of, fields_in, cells, counted}
+use Rattle.pml_stands.specs.Declared.{Structure, Globals, one_behind, variable_named, constant_named, typedef_named, fields_of, fields_in}
 use Rattle.pml_stands.proofs.Things.{variable_of, as_variable, as_thing, as_typedef, in_variable, in_constant, in_typedef, has_number, IsKnown, AreKnown}
 use Rattle.pml_stands.specs.Stands.{Meaning, Place, Mtype, Pid, Count, Anything, Nothing, special, turn_to, target_at}
 

@@ -1,28 +1,26 @@
 -- Bodies stand for what they are numbered as.
-use Rattle.std.proofs.Common.{◌≡◌, ℕ, ◌<◌, List, [], ◌∷◌, ◌++◌, map, Option, Some, None, refl, ap, sym, subst, ◌∙◌}
+use Rattle.std.proofs.Common.{◌≡◌, ℕ, ◌<◌, false, List, [], ◌∷◌, ◌++◌, map, Option, Some, None, refl, ap, sym, subst, ◌∙◌}
 use Rattle.pml_lex.specs.Word.{Word}
 use Rattle.pml_tree.specs.declared.tree.Basic.{Basic as TreeBasic, Basic-F, map-Basic, roll-Basic, fold-roll-Basic, ind-Basic}
 use Rattle.pml_tree.specs.declared.tree.Basic.TheVariants as form
 use Rattle.pml_tree.specs.declared.tree.Item.{Item, Item-F, map-Item, roll-Item, fold-roll-Item}
 use Rattle.pml_tree.specs.declared.tree.Seq.{Seq as TreeSeq, Seq-F, map-Seq, roll-Seq as tree-Seq, fold-roll-Seq, ind-Seq}
-use Rattle.pml_tree.specs.declared.tree.Variable.{Variable as TreeVariable}
-use Rattle.pml_tree.specs.declared.tree.Reference.{Reference}
-use Rattle.pml_tree.specs.declared.tree.Action.{Action as TreeAction}
 use Rattle.pml_marks.specs.declared.mark.Role.TheVariants as role
-use Rattle.pml_names.specs.Entry.{Entry}
+use Rattle.pml_names.specs.declared.thing.Thing.{Thing}
+use Rattle.pml_names.specs.Entry.{Entry, found}
+use Rattle.pml_names.specs.Meaning.{or_else, only_process}
 use Rattle.pml_program.specs.declared.program.Slot.{Slot}
 use Rattle.pml_program.specs.declared.program.Basic.{Basic}
 use Rattle.pml_program.specs.declared.program.Basic.TheVariants as b
 use Rattle.pml_program.specs.declared.program.Stmt.{Stmt}
 use Rattle.pml_program.specs.declared.program.Seq.{Seq}
-use Rattle.pml_resolve.specs.Numbered.{Scope, scope}
-use Rattle.pml_resolve.specs.Declarations.{Known, known, with_variables}
-use Rattle.pml_resolve.specs.Statements.{Threaded, each, two, action, stmts, joined, basic_layer, item_layer, seq_layer, numbered_basic, numbered_item, numbered_seq}
+use Rattle.pml_resolve.specs.Numbered.{scope}
+use Rattle.pml_resolve.specs.Declarations.{Known}
+use Rattle.pml_resolve.specs.Statements.{Threaded, each, stmts, joined, basic_layer, item_layer, seq_layer, numbered_basic, numbered_item, numbered_seq, proctype_of}
 use Rattle.pml_stands.specs.Declared.{Globals}
 use Rattle.pml_stands.specs.StandsStatements as stands
 use Rattle.pml_stands.specs.StandsStatements.{item_of, items_of, stmt_of, steps_of, StandsBasic, StandsItems, StandsSeq, StandsOptions}
-use Rattle.pml_stands.proofs.Agreeing.{Sees}
-use Rattle.pml_stands.proofs.Declaring.{Ready, sees-of, variables-ready, variables-stand, only_variables}
+use Rattle.pml_stands.proofs.Declaring.{Runs, Ready, sees-of, variables-ready, variables-stand, only_variables}
 use Rattle.pml_stands.proofs.Acting.{action-stands, only_action}
 
 abbrev B : Type 0
@@ -49,10 +47,14 @@ item-is labels x tokens = fold-roll-Item B I S basic_layer item_layer seq_layer 
 seq-is : (is : List Item) → numbered_seq (items_of is) ≡ seq_layer (record { items = map numbered_item is })
 seq-is is = fold-roll-Seq B I S basic_layer item_layer seq_layer (record { items = is })
 
-module _ (gs : Globals) (all : List Entry) (o : ℕ) (p : 0 < o) where
+module _ (gs : Globals) (all start : List Entry) (o : ℕ) (p : 0 < o) (runs : Runs gs all start) where
+  -- a run finds its proctype in a body too
+  still-runs : (x : Known) → Ready gs start o x → Runs gs all x.names
+  still-runs x h = λ n. ap (λ (f : Option Thing). proctype_of (or_else f (only_process (found all 0 false n)))) (h.still n) ∙ runs n
+
   -- a part stands for what comes out, and what is known behind it is ready
   abbrev Stands : {A : Type 0} → (List Slot → A → List Slot → Type 0) → Threaded A → Type 0
-  Stands R f = (x : Known) → Ready gs all o x → R x.slots (f all o x).0 (f all o x).1.slots × Ready gs all o (f all o x).1
+  Stands R f = (x : Known) → Ready gs start o x → R x.slots (f all o x).0 (f all o x).1.slots × Ready gs start o (f all o x).1
 
   abbrev PB : TreeBasic → Type 0
   PB x = Stands (λ ls y zs. StandsBasic gs ls x y zs) (numbered_basic x)
@@ -95,7 +97,7 @@ module _ (gs : Globals) (all : List Entry) (o : ℕ) (p : 0 < o) where
       let first = h k r in
       let m : Known = (numbered_basic x all o k).1 in
       let more = rest m first.1 in
-      let whole : Threaded (List Stmt) → Type 0 = λ f. StandsItems gs k.slots (item_of labels x tokens ∷ is) ((f all o k).0 ++ joined (each (map numbered_item is) all o (f all o k).1).0) (each (map numbered_item is) all o (f all o k).1).1.slots × Ready gs all o (each (map numbered_item is) all o (f all o k).1).1 in
+      let whole : Threaded (List Stmt) → Type 0 = λ f. StandsItems gs k.slots (item_of labels x tokens ∷ is) ((f all o k).0 ++ joined (each (map numbered_item is) all o (f all o k).1).0) (each (map numbered_item is) all o (f all o k).1).1.slots × Ready gs start o (each (map numbered_item is) all o (f all o k).1).1 in
       subst whole (sym (item-is labels x tokens))
       (one-item labels x tokens k.slots m.slots (each (map numbered_item is) all o m).1.slots is (joined (each (map numbered_item is) all o m).0) (numbered_basic x all o k).0 first.0 more.0, more.1)
 
@@ -114,9 +116,9 @@ module _ (gs : Globals) (all : List Entry) (o : ℕ) (p : 0 < o) where
   seqs = map (λ (s : SS). s.0)
 
   basic-step : (y : Basic-F BB II SS) → PB (roll-Basic (bare y))
-  basic-step (Basic-F.Declare vs) = put (form.Declare vs) (Basic-F.Declare vs) (form.rolls-Declare vs) λ x h. (stands.declare (variables-stand gs all role.Variable o p vs x h), variables-ready gs all role.Variable o p vs x h)
+  basic-step (Basic-F.Declare vs) = put (form.Declare vs) (Basic-F.Declare vs) (form.rolls-Declare vs) λ x h. (stands.declare (variables-stand gs all start role.Variable o p vs x h), variables-ready gs all start role.Variable o p vs x h)
   basic-step (Basic-F.Exclusive rs) = put (form.Exclusive rs) (Basic-F.Exclusive rs) (form.rolls-Exclusive rs) λ x h. (stands.exclusive, h)
-  basic-step (Basic-F.Plain a) = put (form.Plain a) (Basic-F.Plain a) (form.rolls-Plain a) λ x h. (stands.plain (action-stands gs x.slots (scope all x.names o) (sees-of gs all role.Variable o x p h) h.runs a), h)
+  basic-step (Basic-F.Plain a) = put (form.Plain a) (Basic-F.Plain a) (form.rolls-Plain a) λ x h. (stands.plain (action-stands gs x.slots (scope all x.names o) (sees-of gs all start role.Variable o x p h) (still-runs x h) a), h)
   basic-step (Basic-F.Goto l) = put (form.Goto l) (Basic-F.Goto l) (form.rolls-Goto l) λ x h. (stands.goto, h)
   basic-step Basic-F.Break = put form.Break Basic-F.Break form.rolls-Break λ x h. (stands.break, h)
   basic-step (Basic-F.If ss) = put (form.If (seqs ss)) (Basic-F.If (seqs ss)) (form.rolls-If (seqs ss)) λ x h. let q = options-stand ss x h in (stands.if_fi q.0, q.1)
@@ -147,10 +149,10 @@ module _ (gs : Globals) (all : List Entry) (o : ℕ) (p : 0 < o) where
   pub seq-stands : (s : TreeSeq) → PS s
   seq-stands = ind-Seq PB PI PS basic-proof item-proof seq-proof
 
-  pub basic-ready : (x : TreeBasic) (k : Known) → Ready gs all o k → Ready gs all o (numbered_basic x all o k).1
+  pub basic-ready : (x : TreeBasic) (k : Known) → Ready gs start o k → Ready gs start o (numbered_basic x all o k).1
   basic-ready x k h = (basic-stands x k h).1
 
-  pub seq-ready : (s : TreeSeq) (k : Known) → Ready gs all o k → Ready gs all o (numbered_seq s all o k).1
+  pub seq-ready : (s : TreeSeq) (k : Known) → Ready gs start o k → Ready gs start o (numbered_seq s all o k).1
   seq-ready s k h = (seq-stands s k h).1
 
   -- ---- nothing else does
@@ -161,16 +163,16 @@ module _ (gs : Globals) (all : List Entry) (o : ℕ) (p : 0 < o) where
     pub slots : zs ≡ made.1.slots
 
   mutual
-    only_basic : {ls zs : List Slot} {x : TreeBasic} {y : Option Basic} → StandsBasic gs ls x y zs → (k : Known) → k.slots ≡ ls → Ready gs all o k → Is y zs (numbered_basic x all o k)
+    only_basic : {ls zs : List Slot} {x : TreeBasic} {y : Option Basic} → StandsBasic gs ls x y zs → (k : Known) → k.slots ≡ ls → Ready gs start o k → Is y zs (numbered_basic x all o k)
     only_basic (stands.declare {zs} {vs} h) k is r =
         subst (λ (f : B). Is None zs (f all o k)) (sym (basic-is (form.Declare vs) (Basic-F.Declare vs) (form.rolls-Declare vs)))
-        (record { part = refl; slots = only_variables gs all role.Variable o p h k is r })
+        (record { part = refl; slots = only_variables gs all start role.Variable o p h k is r })
     only_basic (stands.exclusive {ls} {rs}) k is r =
         subst (λ (f : B). Is None ls (f all o k)) (sym (basic-is (form.Exclusive rs) (Basic-F.Exclusive rs) (form.rolls-Exclusive rs)))
         (record { part = refl; slots = sym is })
     only_basic (stands.plain {ls} {x} {y} h) k is r =
         subst (λ (f : B). Is (Some (b.Plain y)) ls (f all o k)) (sym (basic-is (form.Plain x) (Basic-F.Plain x) (form.rolls-Plain x)))
-        (record { part = ap (λ a. Some (b.Plain a)) (only_action gs k.slots (scope all k.names o) (sees-of gs all role.Variable o k p r) r.runs (rw (sym is) at h)); slots = sym is })
+        (record { part = ap (λ a. Some (b.Plain a)) (only_action gs k.slots (scope all k.names o) (sees-of gs all start role.Variable o k p r) (still-runs k r) (rw (sym is) at h)); slots = sym is })
     only_basic (stands.goto {ls} {l}) k is r =
         subst (λ (f : B). Is (Some (b.Goto l)) ls (f all o k)) (sym (basic-is (form.Goto l) (Basic-F.Goto l) (form.rolls-Goto l))) (record { part = refl; slots = sym is })
     only_basic (stands.break {ls}) k is r =
@@ -197,7 +199,7 @@ module _ (gs : Globals) (all : List Entry) (o : ℕ) (p : 0 < o) where
         subst (λ (f : B). Is (Some (b.Unless x y)) zs (f all o k)) (sym (basic-is (form.Unless s e) (Basic-F.Unless s e) (form.rolls-Unless s e)))
         (record { part = ap (λ z. Some (b.Unless z y)) q.part ∙ ap (λ z. Some (b.Unless (numbered_seq s all o k).0 z)) l.part; slots = l.slots })
 
-    only_items : {ls zs : List Slot} {is : List Item} {ys : List Stmt} → StandsItems gs ls is ys zs → (k : Known) → k.slots ≡ ls → Ready gs all o k
+    only_items : {ls zs : List Slot} {is : List Item} {ys : List Stmt} → StandsItems gs ls is ys zs → (k : Known) → k.slots ≡ ls → Ready gs start o k
         → Is ys zs (joined (each (map numbered_item is) all o k).0, (each (map numbered_item is) all o k).1)
     only_items stands.no_item k is r = record { part = refl; slots = sym is }
     only_items (stands.no_step {zs} {labels} {tokens} {x} {is = more} {ys} h g) k is r =
@@ -211,12 +213,12 @@ module _ (gs : Globals) (all : List Entry) (o : ℕ) (p : 0 < o) where
         subst (λ (f : I). Is (stmt_of labels y tokens ∷ ys) zs ((f all o k).0 ++ joined (each (map numbered_item more) all o (f all o k).1).0, (each (map numbered_item more) all o (f all o k).1).1)) (sym (item-is labels x tokens))
         (record { part = ap (λ zs. stmt_of labels y tokens ∷ zs) l.part ∙ ap (λ z. stmts labels z tokens ++ joined (each (map numbered_item more) all o (numbered_basic x all o k).1).0) q.part; slots = l.slots })
 
-    pub only_seq : {ls zs : List Slot} {s : TreeSeq} {y : Seq} → StandsSeq gs ls s y zs → (k : Known) → k.slots ≡ ls → Ready gs all o k → Is y zs (numbered_seq s all o k)
+    pub only_seq : {ls zs : List Slot} {s : TreeSeq} {y : Seq} → StandsSeq gs ls s y zs → (k : Known) → k.slots ≡ ls → Ready gs start o k → Is y zs (numbered_seq s all o k)
     only_seq (stands.sequence {zs} {is = more} {ys} h) k is r =
         let q = only_items h k is r in
         subst (λ (f : S). Is (steps_of ys) zs (f all o k)) (sym (seq-is more)) (record { part = ap steps_of q.part; slots = q.slots })
 
-    only_options : {ls zs : List Slot} {ss : List TreeSeq} {xs : List Seq} → StandsOptions gs ls ss xs zs → (k : Known) → k.slots ≡ ls → Ready gs all o k → Is xs zs (each (map numbered_seq ss) all o k)
+    only_options : {ls zs : List Slot} {ss : List TreeSeq} {xs : List Seq} → StandsOptions gs ls ss xs zs → (k : Known) → k.slots ≡ ls → Ready gs start o k → Is xs zs (each (map numbered_seq ss) all o k)
     only_options stands.no_option k is r = record { part = refl; slots = sym is }
     only_options (stands.option {s} {ss} {x} {xs} h g) k is r =
         let q = only_seq h k is r in

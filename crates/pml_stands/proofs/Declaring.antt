@@ -1,6 +1,5 @@
 -- Variables stand for the slots that they are numbered as.
-use Rattle.std.proofs.Common.{◌≡◌, ◌≢◌, ℕ, nat_eq, ◌||◌, ◌+◌, ◌*◌, ◌<◌, ◌≤◌, Bool, true, false, cond, min, pos, negsuc, List, [], ◌∷◌, ◌++◌, map, length, Option, Some, None, refl, ap, sym, subst, ◌∙◌, ◌⊎◌, inl, inr, arith}
-use Rattle.std.specs.List.{AllByRecursion}
+use Rattle.std.proofs.Common.{◌≡◌, ◌≢◌, ℕ, nat_eq, ◌||◌, ◌+◌, ◌<◌, ◌≤◌, Bool, true, false, cond, min, pos, negsuc, List, [], ◌∷◌, ◌++◌, map, length, Option, Some, None, refl, ap, sym, subst, ◌∙◌, inl, inr, arith}
 use Rattle.std.specs.Option.{is_some}
 use Rattle.std.specs.Str.{bytes_eq}
 use Rattle.std.proofs.lemmas.List.{length-append}
@@ -15,14 +14,11 @@ use Rattle.pml_marks.specs.Constant.{constant, numeral}
 use Rattle.pml_marks.specs.Marks.{size_of as mark_size, made_by}
 use Rattle.pml_marks.specs.declared.mark.Constant.{Constant}
 use Rattle.pml_marks.specs.declared.mark.Constant.TheVariants as number
-use Rattle.pml_marks.specs.declared.mark.Declared.{Declared}
 use Rattle.pml_marks.specs.declared.mark.Declared.TheVariants as declared_as
-use Rattle.pml_marks.specs.declared.mark.What.TheVariants as what
 use Rattle.pml_marks.specs.declared.mark.Role.{Role}
 use Rattle.pml_marks.specs.declared.mark.Role.TheVariants as role
 use Rattle.pml_names.specs.declared.thing.Thing.{Thing}
 use Rattle.pml_names.specs.declared.thing.Thing.TheVariants as thing
-use Rattle.pml_names.specs.declared.thing.Variable.{Variable}
 use Rattle.pml_names.specs.Entry.{Entry, entry, found}
 use Rattle.pml_names.specs.Env.{held, variables, constants, constants_in, most_cells, form, stride, form_of, stride_of, width_of, length_of, visible, user, thing_of, after}
 use Rattle.pml_names.specs.Meaning.{or_else, only_process}
@@ -34,12 +30,12 @@ use Rattle.pml_program.specs.declared.program.Slot.{Slot}
 use Rattle.pml_resolve.specs.Numbered.{Scope, scope}
 use Rattle.pml_resolve.specs.Declarations.{Known, known, natural, initial, slot, declares, added_variable, with_variable, with_variables}
 use Rattle.pml_resolve.specs.Statements.{proctype_of}
-use Rattle.pml_stands.specs.Declared.{Structure, Globals, variable_named, typedef_named, constant_named, fields_of, is_declared, proctype_named, cells, counted}
+use Rattle.pml_stands.specs.Declared.{Structure, Globals, variable_named, typedef_named, is_declared, proctype_named, cells, counted}
 use Rattle.pml_stands.specs.StandsStatements as stands
 use Rattle.pml_stands.specs.StandsStatements.{or_none, count_of, size_of, elements, seen, StandsSort, StandsInitial, StandsVariable, StandsVariables}
-use Rattle.pml_stands.proofs.Things.{variable_of, as_variable, as_thing, as_typedef, in_variable, in_constant, in_typedef, has_number, IsKnown, AreKnown}
-use Rattle.pml_stands.proofs.Agreeing.{Agrees, Owns, Sees, own-local, own-none}
-use Rattle.pml_stands.proofs.Growing.{or, if_so, owner-same, found-own, found-other, after-new, name-same, constants-more, variables-own, held-own, variables-other, held-other, Below, below-more, variable-more, thing-or, cells-more, known-more}
+use Rattle.pml_stands.proofs.Things.{variable_of, as_thing, as_typedef, in_variable, in_constant, in_typedef, has_number, IsKnown, AreKnown}
+use Rattle.pml_stands.proofs.Agreeing.{Agrees, Sees, own-local, own-none}
+use Rattle.pml_stands.proofs.Growing.{if_so, owner-same, found-own, found-other, after-new, name-same, constants-more, variables-own, held-own, variables-other, held-other, Below, below-more, variable-more, thing-or, cells-more, known-more}
 use Rattle.pml_stands.proofs.Standing.{expr-stands}
 use Rattle.pml_stands.proofs.Only.{only_expr}
 
@@ -125,6 +121,7 @@ module _ (gs : Globals) (ls : List Slot) (all es : List Entry) (u : ℕ) (sees :
     where
       none : None ≡ in_typedef (found es 0 false n)
       none = sym (ap as_typedef e) ∙ sees.global.typedefs n
+
       go : (x : Option (ℕ × Slot)) → variable_named ls n ≡ x → (form_of (visible es u n) ≡ kind.Unknown) × (stride_of (visible es u n) ≡ 1)
       go (Some p) h = hidden-is n p h
       go None h = (ap form_of (visible-global n h) ∙ (no-form (found es 0 false n) none).0, ap stride_of (visible-global n h) ∙ (no-form (found es 0 false n) none).1)
@@ -208,21 +205,22 @@ pub record Base (gs : Globals) (k : ℕ) (es : List Entry) : Type 0 where
   pub held : held es 0 ≡ cells gs.variables
   pub constants : constants es ≡ length gs.constants
   pub bound : (t : ℕ) → has_number gs.typedefs t ≡ true → t < k
+  pub positive : (t : ℕ) → has_number gs.typedefs t ≡ true → 0 < t
   pub declared : (n : List ℕ) → is_some (found es 0 false n) ≡ is_declared gs n
 
 -- a run finds its proctype as the text has it
 abbrev pub Runs : Globals → List Entry → List Entry → Type 0
 Runs gs all es = (n : List ℕ) → proctype_of (or_else (found es 0 false n) (only_process (found all 0 false n))) ≡ or_none (proctype_named 1 gs.text n)
 
--- in a typedef or a proctype with the number o
-pub record Ready (gs : Globals) (all : List Entry) (o : ℕ) (x : Known) : Type 0 where
+-- in a typedef or a proctype with the number o, where `start` was declared before it
+pub record Ready (gs : Globals) (start : List Entry) (o : ℕ) (x : Known) : Type 0 where
   pub base : Base gs o x.names
   pub own : (n : List ℕ) → found x.names o false n ≡ as_thing (variable_named x.slots n)
   pub known : AreKnown gs.typedefs x.slots
   pub count : variables x.names o ≡ length x.slots
   pub held : held x.names o ≡ cells x.slots
   pub below : Below (o + 1) x.names
-  pub runs : Runs gs all x.names
+  pub still : (n : List ℕ) → found x.names 0 false n ≡ found start 0 false n
 
 above : (o : ℕ) → 0 < o → 0 ≢ o
 above o p e = omega (arith, p, e)
@@ -244,12 +242,13 @@ base-other gs es o k w t p q none h = record {
   held = held-other es (entry o false w t) 0 (λ e. above o p (sym e)) ∙ h.held;
   constants = omega (arith, constants-more es (entry o false w t), none, h.constants);
   bound = h.bound;
+  positive = h.positive;
   declared = λ n. ap is_some (found-other es 0 o w t n (above o p)) ∙ h.declared n;
 }
 
 -- one variable more of the owner o
-grown : (gs : Globals) (all es : List Entry) (o : ℕ) (ss : List Slot) (s : Slot) → 0 < o → IsKnown gs.typedefs s.form → Ready gs all o (known es ss) → Ready gs all o (known (es ++ entry o false s.name.text (thing.Variable (variable_of (length ss, s))) ∷ []) (ss ++ s ∷ []))
-grown gs all es o ss s p is h =
+grown : (gs : Globals) (start es : List Entry) (o : ℕ) (ss : List Slot) (s : Slot) → 0 < o → IsKnown gs.typedefs s.form → Ready gs start o (known es ss) → Ready gs start o (known (es ++ entry o false s.name.text (thing.Variable (variable_of (length ss, s))) ∷ []) (ss ++ s ∷ []))
+grown gs start es o ss s p is h =
     let t : Thing = thing.Variable (variable_of (length ss, s)) in
     let e : Entry = entry o false s.name.text t in
     record {
@@ -262,100 +261,101 @@ grown gs all es o ss s p is h =
       count = omega (arith, variables-own es e, h.count, length-append ss (s ∷ []));
       held = omega (arith, held-own es e, h.held, cells-more ss s);
       below = below-more (o + 1) es e h.below (omega arith);
-      runs = λ n. ap (λ (x : Option Thing). proctype_of (or_else x (only_process (found all 0 false n)))) (found-other es 0 o s.name.text t n (above o p)) ∙ h.runs n;
+      still = λ n. found-other es 0 o s.name.text t n (above o p) ∙ h.still n;
     }
 
 -- what a declaration of the owner o sees
-pub sees-of : (gs : Globals) (all : List Entry) (use_as : Role) (o : ℕ) (x : Known) → 0 < o → Ready gs all o x → Sees gs (seen use_as x.slots) (scope all x.names (user use_as o))
-sees-of gs all role.Variable o x p h = record { global = h.base.agrees; own = inr (p, h.own); known = h.known }
-sees-of gs all role.Field o x p h = record { global = h.base.agrees; own = inl (refl, refl); known = tt }
+pub sees-of : (gs : Globals) (all start : List Entry) (use_as : Role) (o : ℕ) (x : Known) → 0 < o → Ready gs start o x → Sees gs (seen use_as x.slots) (scope all x.names (user use_as o))
+sees-of gs all start role.Variable o x p h = record { global = h.base.agrees; own = inr (p, h.own); known = h.known }
+sees-of gs all start role.Field o x p h = record { global = h.base.agrees; own = inl (refl, refl); known = tt }
 
-module _ (gs : Globals) (all : List Entry) (use_as : Role) (o : ℕ) (p : 0 < o) where
-  module _ (v : TreeVariable) (es : List Entry) (ss : List Slot) (none : found es o false v.name.text ≡ None) (count : variables es o ≡ length ss) where
-    abbrev new : Slot
-    new = slot_in all es o (user use_as o) v
+-- a variable whose name was not declared before
+module _ (all : List Entry) (use_as : Role) (o : ℕ) (v : TreeVariable) (es : List Entry) (ss : List Slot) (none : found es o false v.name.text ≡ None) (count : variables es o ≡ length ss) where
+  abbrev pub new : Slot
+  new = slot_in all es o (user use_as o) v
 
-    abbrev new_thing : Thing
-    new_thing = thing.Variable (variable_of (length ss, new))
+  abbrev pub new_thing : Thing
+  new_thing = thing.Variable (variable_of (length ss, new))
 
-    abbrev new_names : List Entry
-    new_names = es ++ entry o false v.name.text new_thing ∷ []
+  abbrev pub new_names : List Entry
+  new_names = es ++ entry o false v.name.text new_thing ∷ []
 
-    thing-is : thing_of es o (declared_as.Variable use_as v.sort (mark_size v.size) (made_by v.initial)) ≡ new_thing
-    thing-is = ap (λ (n : ℕ). thing.Variable (record {
-        form = form es (user use_as o) v.sort;
-        array = is_some (mark_size v.size);
-        length = length_of (mark_size v.size);
-        stride = stride es (user use_as o) v.sort;
-        offset = min (held es o) most_cells;
-        number = n;
-      })) count
+  thing-is : thing_of es o (declared_as.Variable use_as v.sort (mark_size v.size) (made_by v.initial)) ≡ new_thing
+  thing-is = ap (λ (n : ℕ). thing.Variable (record {
+    form = form es (user use_as o) v.sort;
+    array = is_some (mark_size v.size);
+    length = length_of (mark_size v.size);
+    stride = stride es (user use_as o) v.sort;
+    offset = min (held es o) most_cells;
+    number = n;
+  })) count
 
-    names-are : after es o (declares use_as v) ≡ new_names
-    names-are = after-new es o v.name (declared_as.Variable use_as v.sort (mark_size v.size) (made_by v.initial)) none ∙ ap (λ (t : Thing). es ++ entry o false v.name.text t ∷ []) thing-is
+  pub names-are : after es o (declares use_as v) ≡ new_names
+  names-are = after-new es o v.name (declared_as.Variable use_as v.sort (mark_size v.size) (made_by v.initial)) none ∙ ap (λ (t : Thing). es ++ entry o false v.name.text t ∷ []) thing-is
 
-    new-found : found new_names o false v.name.text ≡ Some new_thing
-    new-found = found-own es o v.name.text new_thing v.name.text ∙ ap (λ (x : Option Thing). or_else x (if_so (bytes_eq v.name.text v.name.text) new_thing)) none ∙ ap (λ (b : Bool). if_so b new_thing) (name-same v.name.text)
+  new-found : found new_names o false v.name.text ≡ Some new_thing
+  new-found = found-own es o v.name.text new_thing v.name.text ∙ ap (λ (x : Option Thing). or_else x (if_so (bytes_eq v.name.text v.name.text) new_thing)) none ∙ ap (λ (b : Bool). if_so b new_thing) (name-same v.name.text)
 
-    added-is : added_variable all use_as o v (known es ss) ≡ known new_names (ss ++ new ∷ [])
-    added-is =
-        let begins : Initial = initial v.initial (scope all es (user use_as o)) in
-        ap (λ (fs : List Entry). known fs (ss ++ slot v.name begins (found fs o false v.name.text) ∷ [])) names-are
-        ∙ ap (λ (x : Option Thing). known new_names (ss ++ slot v.name begins x ∷ [])) new-found
+  pub added-is : added_variable all use_as o v (known es ss) ≡ known new_names (ss ++ new ∷ [])
+  added-is =
+      let begins : Initial = initial v.initial (scope all es (user use_as o)) in
+      ap (λ (fs : List Entry). known fs (ss ++ slot v.name begins (found fs o false v.name.text) ∷ [])) names-are
+      ∙ ap (λ (x : Option Thing). known new_names (ss ++ slot v.name begins x ∷ [])) new-found
 
+module _ (gs : Globals) (all start : List Entry) (use_as : Role) (o : ℕ) (p : 0 < o) where
   -- one variable more stands, where none had its name
   record Added (v : TreeVariable) (x y : Known) : Type 0 where
-    ready : Ready gs all o y
+    ready : Ready gs start o y
     slots : y.slots ≡ x.slots ++ slot_in all x.names o (user use_as o) v ∷ []
 
-  added : (v : TreeVariable) (x : Known) → found x.names o false v.name.text ≡ None → Ready gs all o x → Added v x (added_variable all use_as o v x)
+  added : (v : TreeVariable) (x : Known) → found x.names o false v.name.text ≡ None → Ready gs start o x → Added v x (added_variable all use_as o v x)
   added v x none h =
-      let is = added-is v x.names x.slots none h.count in
-      let sees = sees-of gs all use_as o x p h in
+      let is = added-is all use_as o v x.names x.slots none h.count in
+      let sees = sees-of gs all start use_as o x p h in
       record {
-        ready = subst (Ready gs all o) (sym is) (grown gs all x.names o x.slots (new v x.names x.slots none h.count) p (sort-known gs (seen use_as x.slots) all x.names (user use_as o) sees (sort-stands gs (seen use_as x.slots) all x.names (user use_as o) sees v.sort)) h);
+        ready = subst (Ready gs start o) (sym is) (grown gs start x.names o x.slots (new all use_as o v x.names x.slots none h.count) p (sort-known gs (seen use_as x.slots) all x.names (user use_as o) sees (sort-stands gs (seen use_as x.slots) all x.names (user use_as o) sees v.sort)) h);
         slots = ap (λ (y : Known). y.slots) is;
       }
 
-  with-old : (v : TreeVariable) (x : Known) (q : ℕ × Slot) → Ready gs all o x → variable_named x.slots v.name.text ≡ Some q → with_variable all use_as o v x ≡ x
+  with-old : (v : TreeVariable) (x : Known) (q : ℕ × Slot) → Ready gs start o x → variable_named x.slots v.name.text ≡ Some q → with_variable all use_as o v x ≡ x
   with-old v x q h e = ap (λ (f : Option Thing). cond (is_some f) x (added_variable all use_as o v x)) (h.own v.name.text ∙ ap as_thing e)
 
-  with-new : (v : TreeVariable) (x : Known) → Ready gs all o x → variable_named x.slots v.name.text ≡ None → with_variable all use_as o v x ≡ added_variable all use_as o v x
+  with-new : (v : TreeVariable) (x : Known) → Ready gs start o x → variable_named x.slots v.name.text ≡ None → with_variable all use_as o v x ≡ added_variable all use_as o v x
   with-new v x h e = ap (λ (f : Option Thing). cond (is_some f) x (added_variable all use_as o v x)) (h.own v.name.text ∙ ap as_thing e)
 
-  new-added : (v : TreeVariable) (x : Known) → Ready gs all o x → variable_named x.slots v.name.text ≡ None → Added v x (with_variable all use_as o v x)
+  new-added : (v : TreeVariable) (x : Known) → Ready gs start o x → variable_named x.slots v.name.text ≡ None → Added v x (with_variable all use_as o v x)
   new-added v x h e = subst (Added v x) (sym (with-new v x h e)) (added v x (h.own v.name.text ∙ ap as_thing e) h)
 
-  pub variable-ready : (v : TreeVariable) (x : Known) → Ready gs all o x → Ready gs all o (with_variable all use_as o v x)
+  pub variable-ready : (v : TreeVariable) (x : Known) → Ready gs start o x → Ready gs start o (with_variable all use_as o v x)
   variable-ready v x h = go (variable_named x.slots v.name.text) refl
     where
-      go : (q : Option (ℕ × Slot)) → variable_named x.slots v.name.text ≡ q → Ready gs all o (with_variable all use_as o v x)
-      go (Some q) e = subst (Ready gs all o) (sym (with-old v x q h e)) h
+      go : (q : Option (ℕ × Slot)) → variable_named x.slots v.name.text ≡ q → Ready gs start o (with_variable all use_as o v x)
+      go (Some q) e = subst (Ready gs start o) (sym (with-old v x q h e)) h
       go None e = (new-added v x h e).ready
 
-  pub variables-ready : (vs : List TreeVariable) (x : Known) → Ready gs all o x → Ready gs all o (with_variables all use_as o vs x)
+  pub variables-ready : (vs : List TreeVariable) (x : Known) → Ready gs start o x → Ready gs start o (with_variables all use_as o vs x)
   variables-ready [] x h = h
   variables-ready (v ∷ vs) x h = variables-ready vs (with_variable all use_as o v x) (variable-ready v x h)
 
-  one-stands : (v : TreeVariable) (vs : List TreeVariable) (x : Known) (zs : List Slot) → Ready gs all o x → (q : Option (ℕ × Slot)) → variable_named x.slots v.name.text ≡ q
+  one-stands : (v : TreeVariable) (vs : List TreeVariable) (x : Known) (zs : List Slot) → Ready gs start o x → (q : Option (ℕ × Slot)) → variable_named x.slots v.name.text ≡ q
       → StandsVariables gs use_as (with_variable all use_as o v x).slots vs zs → StandsVariables gs use_as x.slots (v ∷ vs) zs
   one-stands v vs x zs h (Some q) e rest = stands.old_variable e (subst (λ (y : Known). StandsVariables gs use_as y.slots vs zs) (with-old v x q h e) rest)
   one-stands v vs x zs h None e rest =
-      stands.new_variable e (variable-stands gs (seen use_as x.slots) x.slots all x.names o (user use_as o) (sees-of gs all use_as o x p h) h.held v)
+      stands.new_variable e (variable-stands gs (seen use_as x.slots) x.slots all x.names o (user use_as o) (sees-of gs all start use_as o x p h) h.held v)
       (subst (λ (ss : List Slot). StandsVariables gs use_as ss vs zs) (new-added v x h e).slots rest)
 
-  pub variables-stand : (vs : List TreeVariable) (x : Known) → Ready gs all o x → StandsVariables gs use_as x.slots vs (with_variables all use_as o vs x).slots
+  pub variables-stand : (vs : List TreeVariable) (x : Known) → Ready gs start o x → StandsVariables gs use_as x.slots vs (with_variables all use_as o vs x).slots
   variables-stand [] x h = stands.no_variable
   variables-stand (v ∷ vs) x h =
       let y : Known = with_variable all use_as o v x in
       one-stands v vs x (with_variables all use_as o vs y).slots h (variable_named x.slots v.name.text) refl (variables-stand vs y (variable-ready v x h))
 
-  pub only_variables : {ss zs : List Slot} {vs : List TreeVariable} → StandsVariables gs use_as ss vs zs → (x : Known) → x.slots ≡ ss → Ready gs all o x → zs ≡ (with_variables all use_as o vs x).slots
+  pub only_variables : {ss zs : List Slot} {vs : List TreeVariable} → StandsVariables gs use_as ss vs zs → (x : Known) → x.slots ≡ ss → Ready gs start o x → zs ≡ (with_variables all use_as o vs x).slots
   only_variables (stands.no_variable) x is h = sym is
   only_variables (stands.new_variable {ss} {v} {s} e one rest) x is h =
       let none : variable_named x.slots v.name.text ≡ None = ap (λ (ts : List Slot). variable_named ts v.name.text) is ∙ e in
       let there = rw (sym is) at one in
-      let same : s ≡ slot_in all x.names o (user use_as o) v = only_variable gs (seen use_as x.slots) x.slots all x.names o (user use_as o) (sees-of gs all use_as o x p h) h.held there in
+      let same : s ≡ slot_in all x.names o (user use_as o) v = only_variable gs (seen use_as x.slots) x.slots all x.names o (user use_as o) (sees-of gs all start use_as o x p h) h.held there in
       let more = new-added v x h none in
       only_variables rest (with_variable all use_as o v x) (more.slots ∙ ap (λ (t : Slot). x.slots ++ t ∷ []) (sym same) ∙ ap (λ (ts : List Slot). ts ++ s ∷ []) is) more.ready
   only_variables (stands.old_variable {v} {k} {s} e rest) x is h =

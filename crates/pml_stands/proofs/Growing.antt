@@ -1,5 +1,5 @@
 -- What is found when one name more is declared.
-use Rattle.std.proofs.Common.{◌≡◌, ◌≢◌, ℕ, zero, suc, ◌+◌, ◌*◌, ◌<◌, ◌≤◌, Bool, true, false, ◌&&◌, ◌||◌, cond, nat_eq, List, [], ◌∷◌, ◌++◌, length, Option, Some, None, refl, ap, sym, subst, ◌∙◌, inl, inr, arith}
+use Rattle.std.proofs.Common.{◌≡◌, ◌≢◌, ℕ, suc, ◌+◌, ◌*◌, ◌<◌, Bool, true, false, ◌&&◌, ◌||◌, cond, nat_eq, List, [], ◌∷◌, ◌++◌, length, Option, Some, None, refl, ap, sym, ◌∙◌, inl, inr, arith}
 use Rattle.std.specs.List.{AllByRecursion}
 use Rattle.std.specs.Option.{is_some}
 use Rattle.std.specs.Str.{bytes_eq}
@@ -14,7 +14,7 @@ use Rattle.pml_names.specs.Entry.{Entry, entry, found, is_named}
 use Rattle.pml_names.specs.Env.{variables, variables_in, held, cells_in, constants, constants_in, after, add, thing_of}
 use Rattle.pml_names.specs.Meaning.{or_else}
 use Rattle.pml_program.specs.declared.program.Slot.{Slot}
-use Rattle.pml_stands.specs.Declared.{Structure, one_behind, one_more, variable_named, constant_named, typedef_named, has_name, fields_of, cells}
+use Rattle.pml_stands.specs.Declared.{Structure, one_behind, one_more, variable_named, constant_named, typedef_named, has_name, cells}
 use Rattle.pml_stands.proofs.Things.{as_thing, IsKnown, AreKnown}
 
 -- the first of two that is one
@@ -48,7 +48,7 @@ last : (b : Bool) (t : Thing) → cond b (Some t) None ≡ or_else None (if_so b
 last true t = refl
 last false t = refl
 
-found-more : (es : List Entry) (e : Entry) (o : ℕ) (l : Bool) (n : List ℕ) → found (es ++ e ∷ []) o l n ≡ or_else (found es o l n) (if_so (is_named o l n e) e.thing)
+pub found-more : (es : List Entry) (e : Entry) (o : ℕ) (l : Bool) (n : List ℕ) → found (es ++ e ∷ []) o l n ≡ or_else (found es o l n) (if_so (is_named o l n e) e.thing)
 found-more [] e o l n = last (is_named o l n e) e.thing
 found-more (f ∷ es) e o l n = behind (is_named o l n f) (is_named o l n e) f.thing e.thing (found es o l n) (found (es ++ e ∷ []) o l n) (found-more es e o l n)
 

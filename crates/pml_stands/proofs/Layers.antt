@@ -1,5 +1,5 @@
 -- What each production of an expression is numbered as.
-use Rattle.std.proofs.Common.{◌≡◌, Bool, true, false, List, [], ◌∷◌, map, Option, Some, None, refl, ap, sym, ◌∙◌}
+use Rattle.std.proofs.Common.{◌≡◌, Bool, true, false, List, map, Option, Some, None, refl, ap, sym, ◌∙◌}
 use Rattle.pml_lex.specs.Word.{Word}
 use Rattle.pml_tree.specs.declared.tree.Sign.{Sign}
 use Rattle.pml_tree.specs.declared.tree.Sign.TheVariants.{Plus, Minus}
@@ -18,12 +18,11 @@ use Rattle.pml_marks.specs.declared.mark.Constant.{Constant}
 use Rattle.pml_marks.specs.declared.mark.Constant.TheVariants as constant
 use Rattle.pml_program.specs.declared.expr.Expr.{Expr}
 use Rattle.pml_program.specs.declared.expr.Expr.TheVariants as v
-use Rattle.pml_program.specs.declared.expr.Want.{Want}
 use Rattle.pml_program.specs.declared.expr.Want.TheVariants as w
 use Rattle.pml_resolve.specs.declared.reached.Reached.{Reached}
 use Rattle.pml_resolve.specs.declared.reached.Reached.TheVariants as r
-use Rattle.pml_resolve.specs.Numbered.{Scope, Stepped, Valued, Wanted, Reaching, reached, literal, truth, signed, mtype, read, target, received, at_scope, index_at, argument_layer, expr_layer, reference_layer, step_layer, numbered, numbered_argument, numbered_reference, numbered_step}
-use Rattle.pml_stands.specs.Stands.{Meaning, step_of, reference_of, value_of, truth_of, with_sign, mtype_value, as_value, as_place, as_wanted}
+use Rattle.pml_resolve.specs.Numbered.{Scope, Stepped, Valued, Wanted, Reaching, reached, literal, truth, signed, read, target, received, at_scope, argument_layer, expr_layer, reference_layer, step_layer, numbered, numbered_argument, numbered_reference, numbered_step}
+use Rattle.pml_stands.specs.Stands.{step_of, reference_of, value_of, truth_of, with_sign, as_value, as_place, as_wanted}
 use Rattle.pml_stands.proofs.Agreeing.{meaning_of}
 
 -- ---- the words of the numbering are those of the relation

@@ -7,3 +7,8 @@ mod Standing
 mod Declaring
 mod Acting
 mod Bodies
+mod Newly
+mod Reading
+mod Marking
+mod Units
+mod Model

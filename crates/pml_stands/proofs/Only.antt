@@ -1,6 +1,5 @@
 -- What an expression stands for is what it is numbered as.
-use Rattle.std.proofs.Common.{◌≡◌, ℕ, List, [], ◌∷◌, map, Option, Some, None, refl, ap, sym, ◌∙◌}
-use Rattle.pml_lex.specs.Word.{Word}
+use Rattle.std.proofs.Common.{◌≡◌, ℕ, List, ◌∷◌, map, Option, Some, refl, ap, sym, ◌∙◌}
 use Rattle.pml_tree.specs.declared.tree.Expr.{Expr as TreeExpr}
 use Rattle.pml_tree.specs.declared.tree.Argument.{Argument}
 use Rattle.pml_tree.specs.declared.tree.Reference.{Reference}
@@ -12,8 +11,8 @@ use Rattle.pml_program.specs.declared.expr.Expr.TheVariants as v
 use Rattle.pml_program.specs.declared.expr.Want.{Want}
 use Rattle.pml_program.specs.declared.expr.Want.TheVariants as w
 use Rattle.pml_program.specs.declared.expr.Turn.{Turn}
-use Rattle.pml_resolve.specs.Numbered.{Scope, Path, with_turn, through, at_scope, numbered, numbered_argument, numbered_reference, numbered_step}
-use Rattle.pml_stands.specs.Declared.{Globals, variable_named, fields_in}
+use Rattle.pml_resolve.specs.Numbered.{Scope, Path, through, at_scope, numbered, numbered_argument, numbered_reference, numbered_step}
+use Rattle.pml_stands.specs.Declared.{Globals}
 use Rattle.pml_stands.specs.Stands as stands
 use Rattle.pml_stands.specs.Stands.{Meaning, Place, as_value, as_place, as_wanted, target_at, turn_to, StandsIndex, StandsStep, StandsFields, StandsReference, StandsExpr, StandsArgument, StandsArguments}
 use Rattle.pml_stands.proofs.Things.{IsKnown}

@@ -1,6 +1,6 @@
 -- What the declarations and the statements of a body stand for, by cases on their trees. The variables of the proctype grow from one
 -- to the next: `ls` are those before, and `zs` those behind.
-use Rattle.std.specs.Prelude.{◌≡◌, ℕ, ◌+◌, nat_lt, ◌&&◌, Bool, true, false, ◌||◌, if◌then◌else◌, is_some, List, [], ◌∷◌, ◌++◌, map, Option, Some, None, pos}
+use Rattle.std.specs.Prelude.{◌≡◌, ℕ, ◌+◌, nat_lt, ◌&&◌, if◌then◌else◌, is_some, List, [], ◌∷◌, ◌++◌, map, Option, Some, None, pos}
 use Rattle.pml_lex.specs.Word.{Word}
 use Rattle.pml_tree.specs.declared.tree.Scalar.{Scalar}
 use Rattle.pml_tree.specs.declared.tree.SendOrder.{SendOrder}
@@ -89,14 +89,14 @@ elements (Some e) = size_of (constant e)
 pub data StandsVariable (gs : Globals) (ls before : List Slot) : Variable → Slot → Type 0 where
   variable : {v : Variable} {f : Form} {width : ℕ} {x : Initial} → StandsSort gs ls v.sort f width → StandsInitial gs ls v.initial x
       → StandsVariable gs ls before v (record {
-          name = v.name;
-          form = f;
-          array = is_some v.size;
-          offset = counted (cells before);
-          length = elements v.size;
-          stride = width;
-          initial = x;
-        })
+        name = v.name;
+        form = f;
+        array = is_some v.size;
+        offset = counted (cells before);
+        length = elements v.size;
+        stride = width;
+        initial = x;
+      })
 
 -- which variables of its owner a declaration sees: a field sees no other one
 abbrev pub seen : Role → List Slot → List Slot
