@@ -1,20 +1,18 @@
--- A refusal does not apply to what fits it, so the least one is one.
-use Rattle.std.proofs.Common.{◌≡◌, ℕ, Bool, true, false, arith, List, [], ◌∷◌, Some, None, sym, ap, subst, ◌∙◌, inl, inr, Option, Result, Ok, Err}
-use Rattle.std.specs.Prelude.{slice_get}
+-- A refusal does not apply to what fits it.
+use Rattle.std.proofs.Common.{◌≡◌, Bool, true, false, arith, List, Some, None, sym, ◌∙◌, inl, inr, Option, Result, Ok, Err}
 use Rattle.diagnostics.specs.declared.refusal.Refusal.{Refusal}
 use Rattle.diagnostics.specs.declared.refusal.Refusal.TheVariants as r
-use Rattle.pml_tree.specs.declared.tree.Tree.{Tree}
 use Rattle.pml_marks.specs.declared.mark.Mark.{Mark}
 use Rattle.pml_conditions.specs.declared.condition.Condition.{Condition}
 use Rattle.pml_conditions.specs.Decided as marks
 use Rattle.pml_conditions.specs.declared.condition.Condition.TheVariants as condition
 use Rattle.pml_conditions.specs.Decided.{Somewhere, Nowhere, broken, breaks_loose, crosses_step, begins_there}
 use Rattle.pml_program.specs.declared.program.Seq.{Seq}
-use Rattle.pml_control.specs.Control.{Circle, SettlesEverywhere, BadFirstPoint, FirstPointsFit, begins_else}
+use Rattle.pml_control.specs.Control.{BadFirstPoint, FirstPointsFit}
 use Rattle.pml_control.proofs.Settling.{circle_not}
 use Rattle.pml_program.specs.declared.program.Proctype.{Proctype}
 use Rattle.pml_program.specs.declared.program.Program.{Program}
-use Rattle.pml_check.specs.Judged.{condition_of, BreaksCondition, KeepsCondition, BreaksModel, KeepsModel, HasCircle, SettleEverywhere, HasBadStep, HaveGoodSteps, HasBadStart, HasGoodStart, AppliesTo, FitsTo, FitsAll, IsFirst, IsFit, IsLeast, all_judged}
+use Rattle.pml_check.specs.Judged.{condition_of, BreaksCondition, KeepsCondition, BreaksModel, KeepsModel, HasCircle, SettleEverywhere, HasBadStep, HaveGoodSteps, HasBadStart, HasGoodStart, AppliesTo, FitsTo}
 
 some_none : (p : List Mark → Mark → Bool) (ms : List Mark) → Somewhere p ms → Nowhere p ms → ⊥
 some_none p ms h f = let e : true ≡ false = sym h.3 ∙ f h.0 h.1 h.2 in absurd cc
@@ -77,19 +75,8 @@ model_apart r.NoProcess p a f = a
 model_apart r.TooManyAtStart p a f = a
 model_apart r.Initialiser p a f = start_apart p a f
 
-apart : (x : Refusal) (ms : List Mark) (p : Program) → AppliesTo x ms p → FitsTo x ms p → ⊥
+-- a refusal does not apply to what fits it
+pub apart : (x : Refusal) (ms : List Mark) (p : Program) → AppliesTo x ms p → FitsTo x ms p → ⊥
 unfolding AppliesTo FitsTo
 apart x ms p (inl a) f = condition_apart (condition_of x) ms a f.0
 apart x ms p (inr a) f = model_apart x p a f.1
-
-pub one_first : (xs : List Refusal) (ms : List Mark) (p : Program) (x y : Refusal) → IsFirst xs ms p x → IsFirst xs ms p y → x ≡ y
-one_first [] ms p x y a b = absurd a
-one_first (z ∷ zs) ms p x y (inl a) (inl b) = sym a.0 ∙ b.0
-one_first (z ∷ zs) ms p x y (inl a) (inr b) = absurd (apart x ms p a.1 (subst (λ (w : Refusal). FitsTo w ms p) a.0 b.0))
-one_first (z ∷ zs) ms p x y (inr a) (inl b) = absurd (apart y ms p b.1 (subst (λ (w : Refusal). FitsTo w ms p) b.0 a.0))
-one_first (z ∷ zs) ms p x y (inr a) (inr b) = one_first zs ms p x y a.1 b.1
-
-pub none_first : (xs : List Refusal) (ms : List Mark) (p : Program) (x : Refusal) → FitsAll xs ms p → IsFirst xs ms p x → ⊥
-none_first [] ms p x f a = a
-none_first (z ∷ zs) ms p x f (inl a) = apart x ms p a.1 (subst (λ (w : Refusal). FitsTo w ms p) a.0 f.0)
-none_first (z ∷ zs) ms p x f (inr a) = none_first zs ms p x f.1 a.1

@@ -8,8 +8,7 @@ use Rattle.pml_program.specs.declared.program.Program.{Program}
 use Rattle.pml_resolve.specs.Model.{numbered_model}
 use Rattle.pml_check.specs.declared.subject.Subject.{Subject}
 use Rattle.pml_check.specs.Subject.{IsSubject}
-use Rattle.pml_check.specs.Judged.{all_judged}
-use Rattle.pml_check.specs.Decided.{Finds}
+use Rattle.pml_check.specs.Decided.{all_judged, Finds}
 
 pub found_of : (t : Tree) (s : Subject) → IsSubject t s → (o p : Option Refusal) → o ≡ p → Finds all_judged s.marks s.program o → Finds all_judged (of_tree t) (numbered_model t) p
 found_of t s h o p e f =

@@ -1,11 +1,12 @@
 -- What the parts of the search answer.
-use Rattle.std.specs.Prelude.{Bool, true, false, List, Option, Some, None}
+use Rattle.std.specs.Prelude.{◌≡◌, ◌⊎◌, Bool, true, false, List, [], ◌∷◌, Option, Some, None}
 use Rattle.diagnostics.specs.declared.refusal.Refusal.{Refusal}
+use Rattle.diagnostics.specs.declared.refusal.Refusal.TheVariants as r
 use Rattle.pml_marks.specs.declared.mark.Mark.{Mark}
 use Rattle.pml_conditions.specs.declared.condition.Condition.{Condition}
 use Rattle.pml_program.specs.declared.program.Proctype.{Proctype}
 use Rattle.pml_program.specs.declared.program.Program.{Program}
-use Rattle.pml_check.specs.Judged.{HasCircle, SettleEverywhere, HasBadStep, HaveGoodSteps, HasBadStart, HasGoodStart, BreaksCondition, KeepsCondition, BreaksModel, KeepsModel, AppliesTo, FitsTo, FitsAll, IsFirst}
+use Rattle.pml_check.specs.Judged.{HasCircle, SettleEverywhere, HasBadStep, HaveGoodSteps, HasBadStart, HasGoodStart, BreaksCondition, KeepsCondition, BreaksModel, KeepsModel, AppliesTo, FitsTo}
 
 abbrev pub DecidesCircles : Bool → List Proctype → Type 0
 DecidesCircles true ps = HasCircle ps
@@ -30,6 +31,21 @@ DecidesModel false x p = KeepsModel x p
 abbrev pub Decides : Bool → Refusal → List Mark → Program → Type 0
 Decides true x ms p = AppliesTo x ms p
 Decides false x ms p = FitsTo x ms p
+
+-- the refusals that are judged on the tree, in the order of their numbers
+abbrev pub all_judged : List Refusal
+all_judged =
+    r.NameTwice ∷ r.UnknownName ∷ r.WrongKind ∷ r.ArgumentCount ∷ r.Label ∷ r.BreakOutsideDo ∷ r.DStep ∷ r.CircleOfGotos ∷ r.NumberOutOfRange
+    ∷ r.TooManyCells ∷ r.NoProcess ∷ r.TooManyAtStart ∷ r.Initialiser ∷ []
+
+abbrev pub FitsAll : List Refusal → List Mark → Program → Type 0
+FitsAll [] ms p = Unit {0}
+FitsAll (x ∷ xs) ms p = FitsTo x ms p × FitsAll xs ms p
+
+-- the first of these that applies: those before it are fitted
+abbrev pub IsFirst : List Refusal → List Mark → Program → Refusal → Type 0
+IsFirst [] ms p x = ⊥
+IsFirst (y ∷ ys) ms p x = ((y ≡ x) × AppliesTo x ms p) ⊎ (FitsTo y ms p × IsFirst ys ms p x)
 
 -- the first of these that applies, or none does
 abbrev pub Finds : List Refusal → List Mark → Program → Option Refusal → Type 0

@@ -1,8 +1,9 @@
 -- The conditions that refuse a model, each by itself, and the least that applies.
-use Rattle.std.specs.Prelude.{◌≡◌, ◌⊎◌, ℕ, Bool, true, false, List, [], ◌∷◌, Option, Some, None, Result, Ok, Err, slice_get}
+use Rattle.std.specs.Prelude.{◌≡◌, ◌⊎◌, ◌<◌, ℕ, List, Option, Some, None, Ok, Err, slice_get}
 use Rattle.diagnostics.specs.declared.fault.Fault.{Fault}
 use Rattle.diagnostics.specs.declared.refusal.Refusal.{Refusal}
 use Rattle.diagnostics.specs.declared.refusal.Refusal.TheVariants as r
+use Rattle.diagnostics.specs.Words.{refusal_number}
 use Rattle.pml_tree.specs.declared.tree.Tree.{Tree}
 use Rattle.pml_marks.specs.declared.mark.Mark.{Mark}
 use Rattle.pml_marks.specs.Marks.{of_tree}
@@ -85,25 +86,19 @@ AppliesTo x ms p = BreaksCondition (condition_of x) ms ⊎ BreaksModel x p
 unfoldable pub FitsTo : Refusal → List Mark → Program → Type 0
 FitsTo x ms p = KeepsCondition (condition_of x) ms × KeepsModel x p
 
--- the refusals that are judged on the tree, in the order in which they go before one another
-abbrev pub all_judged : List Refusal
-all_judged =
-    r.NameTwice ∷ r.UnknownName ∷ r.WrongKind ∷ r.ArgumentCount ∷ r.Label ∷ r.BreakOutsideDo ∷ r.DStep ∷ r.CircleOfGotos ∷ r.NumberOutOfRange
-    ∷ r.TooManyCells ∷ r.NoProcess ∷ r.TooManyAtStart ∷ r.Initialiser ∷ []
+-- a refusal applies to the tree
+abbrev pub Applies : Tree → Refusal → Type 0
+Applies t x = AppliesTo x (of_tree t) (numbered_model t)
 
-abbrev pub FitsAll : List Refusal → List Mark → Program → Type 0
-FitsAll [] ms p = Unit {0}
-FitsAll (x ∷ xs) ms p = FitsTo x ms p × FitsAll xs ms p
-
--- the first of these that applies: those before it are fitted
-abbrev pub IsFirst : List Refusal → List Mark → Program → Refusal → Type 0
-IsFirst [] ms p x = ⊥
-IsFirst (y ∷ ys) ms p x = ((y ≡ x) × AppliesTo x ms p) ⊎ (FitsTo y ms p × IsFirst ys ms p x)
+-- the tree fits what the refusal asks
+abbrev pub Fits : Tree → Refusal → Type 0
+Fits t x = FitsTo x (of_tree t) (numbered_model t)
 
 -- the tree fits all conditions
 abbrev pub IsFit : Tree → Type 0
-IsFit t = FitsAll all_judged (of_tree t) (numbered_model t)
+IsFit t = (x : Refusal) → Fits t x
 
--- the least refusal that applies to the tree
-abbrev pub IsLeast : Tree → Refusal → Type 0
-IsLeast t x = IsFirst all_judged (of_tree t) (numbered_model t) x
+-- the refusal applies to the tree, and none with a lesser number does
+pub record IsLeast (t : Tree) (x : Refusal) : Type 0 where
+  pub applies : Applies t x
+  pub none_lesser : (y : Refusal) → refusal_number y < refusal_number x → Applies t y → ⊥

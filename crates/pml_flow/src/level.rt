@@ -13,6 +13,8 @@ pub struct Way {
     pub statement: usize,
     /// The number of the place that follows.
     pub target: usize,
+    /// Of a d_step, the number of the place that it begins with.
+    pub entry: Option<usize>,
 }
 
 /// The ways of one level, the last in text order first.
@@ -64,12 +66,12 @@ impl Level {
     }
 }
 
-/// The one way of a statement.
-pub fn one(alloc: Global, statement: usize, target: usize) -> Result<Vec<Level>, AllocError>
-    ensures { IfOk result (λ v. v.items ≡ one statement target) }
+/// A level of one way.
+pub fn one(alloc: Global, way: Way) -> Result<Vec<Level>, AllocError>
+    ensures { IfOk result (λ v. v.items ≡ one way) }
 {
     let mut levels = Vec::new(alloc);
-    levels.push(Level::only(alloc, Way { statement, target })?)?;
+    levels.push(Level::only(alloc, way)?)?;
     Ok(levels)
 }
 

@@ -5,5 +5,8 @@ pub mod edge;
 pub mod graph;
 pub mod laws;
 mod level;
+mod lines;
+mod marks;
 mod site;
 mod sites;
+pub mod statements;

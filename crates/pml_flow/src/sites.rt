@@ -2,9 +2,9 @@
 
 ghost use Rattle.std.specs.Prelude.{◌≡◌, ℕ, ◌+◌, ◌<◌, ◌++◌, ◌∷◌, [], Bool, true, false, None, IfOk, OnOk, length, slice_set};
 ghost use Rattle.pml_program.specs.declared.program.Basic.{DStep};
-ghost use Rattle.pml_flow.specs.Ways.{one, site, outer, last_of, ways_in, ways_part, ways_list, ways_parts, sites_in, sites_part, sites_list, sites_parts, sites_of};
+ghost use Rattle.pml_flow.specs.Ways.{way, one, site, plain_site, outer, last_of, ways_in, ways_part, ways_list, ways_parts, sites_in, sites_part, sites_list, sites_parts, sites_of};
 
-use crate::level::{Level, add_levels, one, stacked};
+use crate::level::{Level, Way, add_levels, one, stacked};
 use crate::site::Site;
 use pml_program::program::{Basic, Seq, Stmt};
 use std::alloc::{AllocError, Global};
@@ -14,7 +14,7 @@ pub fn sites(alloc: Global, body: &Seq<'_>) -> Result<Vec<Site>, AllocError>
     ensures { IfOk result (λ ss. ss.items ≡ sites_of body.now) }
 {
     let mut sites = Vec::new(alloc);
-    sites.push(Site::bare(alloc, None))?;
+    sites.push(Site::bare(alloc, None, false))?;
     let none = Vec::new(alloc);
     add_steps(
         alloc,
@@ -33,6 +33,17 @@ fn last(sites: &[Site]) -> usize
     ensures { result ≡ last_of sites.now }
 {
     sites.len() - 1
+}
+
+/// The way of a statement that is no d_step.
+fn onward(statement: usize, target: usize) -> Way
+    ensures { result ≡ way statement target }
+{
+    Way {
+        statement,
+        target,
+        entry: None,
+    }
 }
 
 /// The outer of two atomics.
@@ -62,34 +73,36 @@ fn set_site(sites: &mut Vec<Site>, number: usize, site: Site)
 /// The place of a statement that gives no structure: settling ends there. Answers its way.
 fn add_plain(
     alloc: Global,
+    inside: bool,
     atomic: Option<usize>,
     above: &[Level],
     sites: &mut Vec<Site>,
 ) -> Result<Vec<Level>, AllocError>
     requires { 0 < length sites.old.items }
-    ensures sites { OnOk result (sites.new.items ≡ sites.old.items ++ site atomic (one (last_of sites.old.items + 1) (last_of sites.old.items) ++ above.now) ∷ []) }
-    ensures ways { IfOk result (λ w. w.items ≡ one (last_of sites.old.items + 1) (last_of sites.old.items)) }
+    ensures sites { OnOk result (sites.new.items ≡ sites.old.items ++ plain_site (last_of sites.old.items) inside atomic above.now ∷ []) }
+    ensures ways { IfOk result (λ w. w.items ≡ one (way (last_of sites.old.items + 1) (last_of sites.old.items))) }
 {
     let after = last(sites.as_slice());
-    let ways = one(alloc, after + 1, after)?;
+    let ways = one(alloc, onward(after + 1, after))?;
     let all = stacked(alloc, ways.as_slice(), above)?;
-    sites.push(Site::new(atomic, all))?;
+    sites.push(Site::new(atomic, inside, all))?;
     Ok(ways)
 }
 
 /// The place of a goto or a break: settling goes on from there. Answers its way.
 fn add_jump(
     alloc: Global,
+    inside: bool,
     atomic: Option<usize>,
     sites: &mut Vec<Site>,
 ) -> Result<Vec<Level>, AllocError>
     requires { 0 < length sites.old.items }
-    ensures sites { OnOk result (sites.new.items ≡ sites.old.items ++ site atomic [] ∷ []) }
-    ensures ways { IfOk result (λ w. w.items ≡ one (last_of sites.old.items + 1) (last_of sites.old.items + 1)) }
+    ensures sites { OnOk result (sites.new.items ≡ sites.old.items ++ site atomic inside [] ∷ []) }
+    ensures ways { IfOk result (λ w. w.items ≡ one (way (last_of sites.old.items + 1) (last_of sites.old.items + 1))) }
 {
     let own = last(sites.as_slice()) + 1;
-    sites.push(Site::bare(alloc, atomic))?;
-    Ok(one(alloc, own, own)?)
+    sites.push(Site::bare(alloc, atomic, inside))?;
+    Ok(one(alloc, onward(own, own))?)
 }
 
 /// The places of statements, from the last to the first. Answers the ways of the first.
@@ -131,32 +144,32 @@ fn add_basic(
 {
     let after = last(sites.as_slice());
     match basic {
-        Basic::Plain(_) => Ok(add_plain(alloc, atomic, above, sites)?),
-        Basic::Goto(_) => Ok(add_jump(alloc, atomic, sites)?),
-        Basic::Break => Ok(add_jump(alloc, atomic, sites)?),
+        Basic::Plain(_) => Ok(add_plain(alloc, inside, atomic, above, sites)?),
+        Basic::Goto(_) => Ok(add_jump(alloc, inside, atomic, sites)?),
+        Basic::Break => Ok(add_jump(alloc, inside, atomic, sites)?),
         Basic::If(options) => {
             let ways = add_options(alloc, options.as_slice(), inside, atomic, above, sites)?;
             let all = stacked(alloc, ways.as_slice(), above)?;
-            sites.push(Site::new(atomic, all))?;
+            sites.push(Site::new(atomic, inside, all))?;
             Ok(ways)
         }
         Basic::Do(options) => {
-            sites.push(Site::bare(alloc, atomic))?;
+            sites.push(Site::bare(alloc, atomic, inside))?;
             let ways = add_options(alloc, options.as_slice(), inside, atomic, above, sites)?;
             let all = stacked(alloc, ways.as_slice(), above)?;
-            set_site(sites, after + 1, Site::new(atomic, all));
-            sites.push(Site::bare(alloc, atomic))?;
+            set_site(sites, after + 1, Site::new(atomic, inside, all));
+            sites.push(Site::bare(alloc, atomic, inside))?;
             Ok(ways)
         }
         Basic::Block(body) => {
             let ways = add_part(alloc, body, inside, atomic, above, sites)?;
-            sites.push(Site::bare(alloc, atomic))?;
+            sites.push(Site::bare(alloc, atomic, inside))?;
             Ok(ways)
         }
         Basic::Atomic(body) => {
             let within = outer(atomic, after + 1);
             let ways = add_part(alloc, body, inside, within, above, sites)?;
-            sites.push(Site::bare(alloc, atomic))?;
+            sites.push(Site::bare(alloc, atomic, inside))?;
             Ok(ways)
         }
         Basic::DStep(body) => Ok(add_d_step(alloc, body, inside, atomic, above, sites)?),
@@ -164,7 +177,7 @@ fn add_basic(
             let escaped = add_part(alloc, escape, inside, atomic, above, sites)?;
             let over = stacked(alloc, escaped.as_slice(), above)?;
             let ways = add_part(alloc, main, inside, atomic, over.as_slice(), sites)?;
-            sites.push(Site::bare(alloc, atomic))?;
+            sites.push(Site::bare(alloc, atomic, inside))?;
             Ok(stacked(alloc, ways.as_slice(), escaped.as_slice())?)
         }
     }
@@ -187,12 +200,20 @@ fn add_d_step(
     let after = last(sites.as_slice());
     let entered = add_part(alloc, body, true, atomic, bottom(above), sites)?;
     if inside {
-        sites.push(Site::bare(alloc, atomic))?;
+        sites.push(Site::bare(alloc, atomic, inside))?;
         return Ok(entered);
     }
-    let ways = one(alloc, last(sites.as_slice()) + 1, after)?;
+    let first = last(sites.as_slice());
+    let ways = one(
+        alloc,
+        Way {
+            statement: first + 1,
+            target: after,
+            entry: Some(first),
+        },
+    )?;
     let all = stacked(alloc, ways.as_slice(), above)?;
-    sites.push(Site::new(atomic, all))?;
+    sites.push(Site::new(atomic, inside, all))?;
     Ok(ways)
 }
 
@@ -234,6 +255,6 @@ fn add_part(
     ensures sites { OnOk result (sites.new.items ≡ sites.old.items ++ sites_part (last_of sites.old.items) inside atomic above.now seq.now) }
     ensures ways { IfOk result (λ w. w.items ≡ ways_part (last_of sites.old.items) inside seq.now) }
 {
-    sites.push(Site::bare(alloc, atomic))?;
+    sites.push(Site::bare(alloc, atomic, inside))?;
     Ok(add_steps(alloc, seq.steps.as_slice(), inside, atomic, above, sites)?)
 }

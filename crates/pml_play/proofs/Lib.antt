@@ -2,3 +2,4 @@ pub mod Lines
 pub mod Silent
 pub mod Outcomes
 pub mod Playing
+pub mod Each

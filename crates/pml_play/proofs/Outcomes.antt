@@ -1,5 +1,5 @@
 -- A text is refused in one way, or stands for one model.
-use Rattle.std.proofs.Common.{if◌then◌else◌, ◌≡◌, ℕ, ◌<◌, true, false, List, length, Some, refl, sym, ap, ◌∙◌, subst, arith, Option, Bool, [], ◌∷◌, inl, inr, ◌≤◌, ◌^◌, None}
+use Rattle.std.proofs.Common.{◌≡◌, ℕ, ◌<◌, true, false, List, length, Some, refl, sym, ap, ◌∙◌, subst, arith, Option, inl, inr, ◌≤◌, ◌^◌}
 use Rattle.diagnostics.specs.declared.refusal.Refusal.{Refusal}
 use Rattle.diagnostics.specs.declared.refusal.Refusal.TheVariants as r
 use Rattle.session.specs.declared.Options.{Options}
@@ -17,8 +17,8 @@ use Rattle.pml_syntax.proofs.Whole as trees
 use Rattle.pml_resolve.specs.Model.{numbered_model}
 use Rattle.pml_marks.specs.declared.mark.Mark.{Mark}
 use Rattle.pml_program.specs.declared.program.Program.{Program}
-use Rattle.pml_check.specs.Judged.{all_judged, IsFit, IsLeast, IsFirst}
-use Rattle.pml_check.proofs.Exclusive.{one_first, none_first}
+use Rattle.pml_check.specs.Judged.{AppliesTo, IsFit, IsLeast}
+use Rattle.pml_check.proofs.Least.{one_least, fit_has_none}
 use Rattle.pml_sim.specs.State.{State}
 use Rattle.pml_sim.specs.World.{rules}
 use Rattle.pml_sim.proofs.Moves.{few_moves}
@@ -29,19 +29,31 @@ use Rattle.pml_play.specs.Transcript.{begins, IsSpelled, IsModel, IsUnspelled, I
 some_is : {A : Type 0} {x y : A} → ◌≡◌ {A = Option A} (Some x) (Some y) → x ≡ y
 some_is h = cc
 
--- none of these refusals has a line
-abbrev NoLines : List ℕ → List Refusal → Type 0
-NoLines text [] = Unit {0}
-NoLines text (x ∷ xs) = HasLine text x 0 × NoLines text xs
-
-first_line : (text : List ℕ) (xs : List Refusal) (ms : List Mark) (ps : Program) (x : Refusal) → NoLines text xs → IsFirst xs ms ps x → HasLine text x 0
-first_line text [] ms ps x n h = absurd h
-first_line text (y ∷ ys) ms ps x n (inl h) = subst (λ (z : Refusal). HasLine text z 0) h.0 n.0
-first_line text (y ∷ ys) ms ps x n (inr h) = first_line text ys ms ps x n.1 h.1
-
 -- a condition on the tree has no line
-condition_line : (text : List ℕ) (t : Tree) (x : Refusal) → IsLeast t x → HasLine text x 0
-condition_line text t x h = first_line text all_judged _ _ x (refl, (refl, (refl, (refl, (refl, (refl, (refl, (refl, (refl, (refl, (refl, (refl, (refl, tt))))))))))))) h
+condition_line : (text : List ℕ) (x : Refusal) (ms : List Mark) (p : Program) → AppliesTo x ms p → HasLine text x 0
+unfolding AppliesTo
+condition_line text r.TextTooLong ms p a = refl
+condition_line text r.Lexical ms p (inl a) = absurd a
+condition_line text r.Lexical ms p (inr a) = absurd a
+condition_line text r.LeftOut ms p (inl a) = absurd a
+condition_line text r.LeftOut ms p (inr a) = absurd a
+condition_line text r.TooDeep ms p (inl a) = absurd a
+condition_line text r.TooDeep ms p (inr a) = absurd a
+condition_line text r.Syntax ms p (inl a) = absurd a
+condition_line text r.Syntax ms p (inr a) = absurd a
+condition_line text r.NameTwice ms p a = refl
+condition_line text r.UnknownName ms p a = refl
+condition_line text r.WrongKind ms p a = refl
+condition_line text r.ArgumentCount ms p a = refl
+condition_line text r.Label ms p a = refl
+condition_line text r.BreakOutsideDo ms p a = refl
+condition_line text r.DStep ms p a = refl
+condition_line text r.CircleOfGotos ms p a = refl
+condition_line text r.NumberOutOfRange ms p a = refl
+condition_line text r.TooManyCells ms p a = refl
+condition_line text r.NoProcess ms p a = refl
+condition_line text r.TooManyAtStart ms p a = refl
+condition_line text r.Initialiser ms p a = refl
 
 module _ {text : List ℕ} where
   same_tokens : {ts us : List Word} → AreTokens text ts → AreTokens text us → ts ≡ us
@@ -119,7 +131,7 @@ module _ {text : List ℕ} where
   one_refusal (unfit h) (left_out g) = absurd (not_left_out h.is_spelled.are_tokens g)
   one_refusal (unfit h) (too_deep g) = absurd (not_deep h.is_spelled.are_tokens g)
   one_refusal (unfit h) (unspelled g) = absurd (not_unspelled h.is_spelled g)
-  one_refusal {a} {b} (unfit h) (unfit g) = one_first all_judged _ _ a b (subst (λ (t : Tree). IsLeast t a) (same_tree h.is_spelled g.is_spelled) h.least) g.least
+  one_refusal {a} {b} (unfit h) (unfit g) = one_least g.tree a b (subst (λ (t : Tree). IsLeast t a) (same_tree h.is_spelled g.is_spelled) h.least) g.least
 
   -- a refused text has no tree that fits
   no_fit : {a : Refusal} {m : ℕ} {t : Tree} → IsRefused text a m → IsSpelled text t → IsFit t → ⊥
@@ -128,7 +140,7 @@ module _ {text : List ℕ} where
   no_fit (left_out h) is fits = not_left_out is.are_tokens h
   no_fit (too_deep h) is fits = not_deep is.are_tokens h
   no_fit (unspelled h) is fits = not_unspelled is h
-  no_fit {a} (unfit h) is fits = none_first all_judged _ _ a fits (subst (λ (t : Tree). IsLeast t a) (same_tree h.is_spelled is) h.least)
+  no_fit {a} {t = t} (unfit h) is fits = fit_has_none t a fits (subst (λ (t : Tree). IsLeast t a) (same_tree h.is_spelled is) h.least)
 
   pub no_model : {a : Refusal} {m : ℕ} {model : State} → IsRefused text a m → IsModel text model → ⊥
   no_model h m = no_fit h m.is_spelled m.fits
@@ -151,7 +163,7 @@ module _ {text : List ℕ} where
   line_of (left_out h) = h.on_line
   line_of (too_deep h) = h.on_line
   line_of (unspelled h) = h.on_line
-  line_of {a} (unfit h) = condition_line text h.tree a h.least
+  line_of {a} (unfit h) = condition_line text a _ _ h.least.applies
 
   pub when_refused : {options : Options} {part : List ℕ → Part End} {a : Refusal} {m : ℕ} → IsRefused text a m → IsTranscript text options part → (line : ℕ) × (part ≡ refused a line false)
   when_refused h (of_unserved u) = absurd (not_both h u)
@@ -167,6 +179,15 @@ module _ {text : List ℕ} where
   when_unserved h (of_unserved u) = refl
   when_unserved h (of_refusal g) = absurd (not_both g h)
   when_unserved h (of_model g) = absurd (model_is_served g h)
+
+events_of : (a b : List ℕ → Part End) → a ≡ b → (choices : List ℕ) → (a choices).events ≡ (b choices).events
+events_of a b same choices = ap (λ (x : List ℕ → Part End). (x choices).events) same
+
+-- the transcripts of a text have the same events
+pub same_events : {text : List ℕ} {options : Options} {a b : List ℕ → Part End} → IsTranscript text options a → IsTranscript text options b → (choices : List ℕ) → (a choices).events ≡ (b choices).events
+same_events {b = b} (of_unserved h) given = events_of (not_served false) b (sym (when_unserved h given))
+same_events {b = b} (of_refusal {refusal} {line} h) given = let p = when_refused h given in events_of (refused refusal p.0 false) b (sym p.1)
+same_events {options = options} {b = b} (of_model {state} h) given = events_of (transcript rules options state) b (sym (when_modelled h given))
 
 few : {n : ℕ} → n ≤ 1 → n < 2 ^ 64
 few h = omega arith

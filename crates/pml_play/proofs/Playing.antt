@@ -1,19 +1,18 @@
 -- From what the parts of playing a text answer to what the whole does.
-use Rattle.std.proofs.Common.{◌≡◌, ℕ, ◌≤◌, List, [], Option, Some, Bool, false, Result, Ok, Err, IfOk, IfErr, refl, sym, ap, ◌∙◌, subst, arith}
+use Rattle.std.proofs.Common.{◌≡◌, ℕ, ◌≤◌, List, false, Result, Ok, Err, refl, sym, ap, ◌∙◌, subst, arith}
 use Rattle.std.specs.Prelude.{All}
 use Rattle.devices.specs.Holdings.{Holdings}
 use Rattle.diagnostics.specs.declared.fault.Fault.{Fault}
-use Rattle.diagnostics.specs.declared.refusal.Refusal.{Refusal}
+use Rattle.diagnostics.specs.declared.refusal.Refusal.TheVariants as refusal
 use Rattle.session.specs.declared.Options.{Options}
 use Rattle.session.specs.declared.End.{End}
 use Rattle.session.specs.declared.Cause.TheVariants as cause
 use Rattle.session.specs.declared.Broken.{Broken}
 use Rattle.session.specs.declared.Broken.TheVariants as broken
-use Rattle.session.specs.Part.{Part}
 use Rattle.session.specs.Session.{only, end_of, refused, not_served, transcript}
 use Rattle.session.specs.Stands.{Breaks}
 use Rattle.session.specs.Texts.{refusal_line, not_served_line}
-use Rattle.session.specs.Writes.{WriteBreaks, Runs}
+use Rattle.session.specs.Writes.{Runs}
 use Rattle.session.proofs.Parts.{Leads-does, puts, memory_breaks, only_does}
 use Rattle.session.proofs.Turns.{write_breaks}
 use Rattle.pml_lex.specs.Word.{Word}
@@ -41,10 +40,10 @@ use Rattle.pml_play.specs.declared.whole.Rejection.{Rejection}
 use Rattle.pml_play.specs.declared.whole.Rejection.TheVariants.{Memory, NotServed, Refused}
 use Rattle.pml_sim.specs.State.{State}
 use Rattle.pml_sim.specs.World.{rules}
-use Rattle.pml_play.specs.Transcript.{IsSpelled, IsModel, too_long, lexical, left_out, too_deep, unspelled, unfit, IsTranscript, of_unserved, of_refusal, of_model}
-use Rattle.pml_play.specs.Plays.{IsReady, IsRejected, of_lexical, of_syntax, of_check, Rejects, PlaysText, PlaysWhole, BreaksOff}
+use Rattle.pml_play.specs.Transcript.{IsSpelled, IsModel, too_long, lexical, left_out, too_deep, unspelled, unfit, of_unserved, of_refusal, of_model}
+use Rattle.pml_play.specs.Plays.{IsReady, IsRejected, of_lexical, of_syntax, of_check, Rejects, PlaysText, PlaysWhole}
 use Rattle.pml_play.proofs.Lines.{token_lines}
-use Rattle.pml_play.proofs.Outcomes.{when_refused, when_unserved, when_modelled}
+use Rattle.pml_play.proofs.Each.{has_transcript}
 
 -- ---- reading
 
@@ -69,7 +68,7 @@ rejected_check text t (check.Refused r) is h = unfit (record { tree = t; is_spel
 -- in a tree that fits, no initialiser of the first state has a fault
 good_start : (t : Tree) → IsFit t → HasGoodStart (numbered_model t)
 unfolding FitsTo
-good_start t f = f.1.1.1.1.1.1.1.1.1.1.1.1.0.1
+good_start t f = (f refusal.Initialiser).1
 
 no_fault : (b : Begun) (d : Result Begun Fault) (e : Stop) (f : Fault) → d ≡ Ok b → e ≡ stop.Fault f → Starts d (Err e) → ⊥
 no_fault b d e f is of h = subst (λ (k : Stop). Starts (Ok b) (Err k)) of (subst (λ (x : Result Begun Fault). Starts x (Err e)) is h)
@@ -82,29 +81,32 @@ no_start_fault text p q e f ready same of h =
 -- ---- a rejected text
 
 module _ (text : List ℕ) (options : Options) (a b : Holdings) where
-  breaks_by : (e : Broken) (is : List ℕ → Part End) → ((part : List ℕ → Part End) → IsTranscript text options part → part ≡ is) → Breaks e a b 0 0 is → BreaksOff text options a b 0 e
-  breaks_by e is only broken part given = subst (λ (x : List ℕ → Part End). Breaks e a b 0 0 x) (sym (only part given)) broken
-
   rejected : (rejection : Rejection) (result : Result End Broken) → IsRejected text rejection → Rejects rejection result a b → PlaysText text options result a b 0
   rejected Memory (Ok end) is h = absurd (let w = h.0 in cc)
-  rejected Memory (Err e) is h = λ part given.
+  rejected Memory (Err e) is h =
+      let t = has_transcript text options in
       let e_is : e ≡ broken.Memory = (let w = h.0 in cc) in
-      subst (λ (x : Broken). Breaks x a b 0 0 part) (sym e_is) (memory_breaks part h.1)
+      record { part = t.0; is_transcript = t.1; breaks = subst (λ (x : Broken). Breaks x a b 0 0 t.0) (sym e_is) (memory_breaks t.0 h.1) }
   rejected NotServed (Ok end) is h = subst (λ (x : End). PlaysWhole text options a b 0 x) (sym h.1) (record {
     part = not_served false;
     is_transcript = of_unserved is;
     ends = (false, Leads-does (puts not_served_line (only (end_of cause.NotServed 0) false) h.0) (only_does (end_of cause.NotServed 0) false));
   })
-  rejected NotServed (Err e) is h =
-      breaks_by e (not_served false) (λ part given. when_unserved is given) (write_breaks e not_served_line (only (end_of cause.NotServed 0) false) h.0)
+  rejected NotServed (Err e) is h = record {
+    part = not_served false;
+    is_transcript = of_unserved is;
+    breaks = write_breaks e not_served_line (only (end_of cause.NotServed 0) false) h.0;
+  }
   rejected (Refused r line) (Ok end) is h = subst (λ (x : End). PlaysWhole text options a b 0 x) (sym h.1) (record {
     part = refused r line false;
     is_transcript = of_refusal is;
     ends = (false, Leads-does (puts (refusal_line r) (only (end_of (cause.Refused r line) 0) false) h.0) (only_does (end_of (cause.Refused r line) 0) false));
   })
-  rejected (Refused r line) (Err e) is h = λ part given.
-      let p = when_refused is given in
-      subst (λ (x : List ℕ → Part End). Breaks e a b 0 0 x) (sym p.1) (write_breaks e (refusal_line r) (only (end_of (cause.Refused r p.0) 0) false) h.0)
+  rejected (Refused r line) (Err e) is h = record {
+    part = refused r line false;
+    is_transcript = of_refusal is;
+    breaks = write_breaks e (refusal_line r) (only (end_of (cause.Refused r line) 0) false) h.0;
+  }
 
   pub rejected_plays : (n : ℕ) (rejection : Rejection) (result : Result End Broken) → n ≡ 0 → IsRejected text rejection → Rejects rejection result a b → PlaysText text options result a b n
   rejected_plays n rejection result zero is h = subst (λ (m : ℕ). PlaysText text options result a b m) (sym zero) (rejected rejection result is h)
@@ -112,4 +114,4 @@ module _ (text : List ℕ) (options : Options) (a b : Holdings) where
   -- a text that is a model
   pub model_plays : (n : ℕ) (result : Result End Broken) (state : State) → IsModel text state → Runs result a b n (transcript rules options state) → PlaysText text options result a b n
   model_plays n (Ok end) state is h = record { part = transcript rules options state; is_transcript = of_model is; ends = h }
-  model_plays n (Err e) state is h = λ part given. subst (λ (x : List ℕ → Part End). Breaks e a b 0 n x) (sym (when_modelled is given)) h
+  model_plays n (Err e) state is h = record { part = transcript rules options state; is_transcript = of_model is; breaks = h }

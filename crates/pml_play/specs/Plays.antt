@@ -69,10 +69,11 @@ pub record PlaysWhole (text : List ℕ) (options : Options) (before after : Hold
   pub is_transcript : IsTranscript text options part
   pub ends : Ends before after steps part end
 
--- a session over the text was broken off, whichever transcript the text has
-abbrev pub BreaksOff : List ℕ → Options → Holdings → Holdings → ℕ → Broken → Type 0
-BreaksOff text options before after steps broken = (part : List ℕ → Part End) → IsTranscript text options part
-    → Breaks broken before after 0 steps part
+-- a session over the text was broken off, behind a beginning of its transcript's events
+pub record BreaksOff (text : List ℕ) (options : Options) (before after : Holdings) (steps : ℕ) (broken : Broken) : Type 0 where
+  pub part : List ℕ → Part End
+  pub is_transcript : IsTranscript text options part
+  pub breaks : Breaks broken before after 0 steps part
 
 -- a session over the text came to its end, or was broken off
 abbrev pub PlaysText : List ℕ → Options → Result End Broken → Holdings → Holdings → ℕ → Type 0

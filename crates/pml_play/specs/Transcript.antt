@@ -70,7 +70,20 @@ HasLine text r.Lexical line = IsLine text line
 HasLine text r.LeftOut line = IsLine text line
 HasLine text r.TooDeep line = IsLine text line
 HasLine text r.Syntax line = IsLine text line
-HasLine text _ line = line ≡ 0
+HasLine text r.TextTooLong line = line ≡ 0
+HasLine text r.NameTwice line = line ≡ 0
+HasLine text r.UnknownName line = line ≡ 0
+HasLine text r.WrongKind line = line ≡ 0
+HasLine text r.ArgumentCount line = line ≡ 0
+HasLine text r.Label line = line ≡ 0
+HasLine text r.BreakOutsideDo line = line ≡ 0
+HasLine text r.DStep line = line ≡ 0
+HasLine text r.CircleOfGotos line = line ≡ 0
+HasLine text r.NumberOutOfRange line = line ≡ 0
+HasLine text r.TooManyCells line = line ≡ 0
+HasLine text r.NoProcess line = line ≡ 0
+HasLine text r.TooManyAtStart line = line ≡ 0
+HasLine text r.Initialiser line = line ≡ 0
 
 -- The session over a text: one line where it is refused or uses what is not served yet, and else that of the process that it
 -- describes.

@@ -3,7 +3,10 @@
 ghost use Rattle.std.specs.Prelude.{◌≡◌, ℕ, List};
 ghost use Rattle.diagnostics.specs.declared.refusal.Refusal.{Refusal};
 ghost use Rattle.pml_sim.specs.State.{State};
-ghost use Rattle.pml_play.specs.Transcript.{IsModel, IsRefused, IsUnserved, HasLine};
+ghost use Rattle.session.specs.declared.End.{End};
+ghost use Rattle.session.specs.declared.Options.{Options};
+ghost use Rattle.session.specs.Part.{Part};
+ghost use Rattle.pml_play.specs.Transcript.{IsModel, IsRefused, IsUnserved, IsTranscript, HasLine};
 
 /// A text is refused in one way at most, or uses what is not served, or stands for one model at most, and only one of these.
 pub fn one_outcome()
@@ -12,6 +15,13 @@ pub fn one_outcome()
     ensures unserved { (text : List ℕ) (a : Refusal) (m : ℕ) → IsRefused text a m → IsUnserved text → ⊥ }
     ensures served { (text : List ℕ) (model : State) → IsModel text model → IsUnserved text → ⊥ }
     ensures model { (text : List ℕ) (a b : State) → IsModel text a → IsModel text b → a ≡ b }
+{}
+
+/// Each text has a transcript, and the transcripts of a text have the same events: only the line of a refusal is left open.
+pub fn each_text_has_a_transcript()
+    ensures some { (text : List ℕ) (options : Options) → (part : List ℕ → Part End) × IsTranscript text options part }
+    ensures one { (text : List ℕ) (options : Options) (a b : List ℕ → Part End) → IsTranscript text options a → IsTranscript text options b
+        → (choices : List ℕ) → (a choices).events ≡ (b choices).events }
 {}
 
 /// Four refusals have a line of the text, and the others have none.

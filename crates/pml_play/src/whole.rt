@@ -6,6 +6,7 @@ ghost use Rattle.devices.specs.Holdings.{Gave};
 ghost use Rattle.session.specs.declared.End.{End};
 ghost use Rattle.session.specs.Part.{Part};
 ghost use Rattle.session.specs.Replay.{CanBeReplayed};
+ghost use Rattle.session.specs.Session.{end_of};
 ghost use Rattle.session.specs.Stands.{CountsAll};
 ghost use Rattle.session.specs.Writes.{IsOwnEnd};
 ghost use Rattle.pml_lex.specs.Cut.{AreTokens};
@@ -199,6 +200,7 @@ pub fn play<D: Devices>(alloc: Global, text: &[u8], options: &Options, devices: 
     ensures whole { result.status ≢ 6 → PlaysWhole text.now options.now (D.holds devices.old) (D.holds devices.new) result.steps result }
     ensures quiet { result.status ≢ 6 → (D.holds devices.new).failures ≡ (D.holds devices.old).failures }
     ensures broken { result.status ≡ 6 → PlaysBroken text.now options.now (D.holds devices.old) (D.holds devices.new) result }
+    ensures end { result ≡ end_of result.cause result.steps }
     // No question is ever asked, so no byte of the choices is read, and nothing is recorded.
     ensures unread { Gave (D.holds devices.old).source (D.holds devices.new).source [] }
     ensures unrecorded { Appends (D.holds devices.old).rec (D.holds devices.new).rec [] }

@@ -1,4 +1,4 @@
-use Rattle.std.proofs.Common.{◌≡◌, ◌+◌, ◌<◌, Bool, sym, subst, arith}
+use Rattle.std.proofs.Common.{◌+◌, Bool, sym, subst, arith}
 use Rattle.pml_program.specs.declared.program.Proctype.{Proctype}
 use Rattle.pml_control.specs.Control.{Circle, SettlesEverywhere, BadFirstPoint, FirstPointsFit}
 use Rattle.pml_check.proofs.Looking.{SoFar, so_far-more}

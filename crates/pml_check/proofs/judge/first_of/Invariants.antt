@@ -1,6 +1,5 @@
-use Rattle.std.proofs.Common.{◌≡◌, Option, drop}
+use Rattle.std.proofs.Common.{Option, drop}
 use Rattle.diagnostics.specs.declared.refusal.Refusal.{Refusal}
-use Rattle.pml_names.specs.Env.{env}
 use Rattle.pml_check.specs.Decided.{Finds}
 use Rattle.pml_check.proofs.judge.first_of.Given as goal
 

@@ -1,9 +1,8 @@
-use Rattle.pml_check.specs.Judged.{all_judged}
-use Rattle.pml_check.proofs.Exclusive.{one_first, none_first}
+use Rattle.pml_check.proofs.Least.{one_least, fit_has_none}
 use Rattle.pml_check.proofs.laws.one_answer.Goals as goal
 
 pub returns-clause-least : goal.returns-clause-least
-returns-clause-least c t x y = one_first all_judged _ _ x y
+returns-clause-least c = one_least
 
 pub returns-clause-fits : goal.returns-clause-fits
-returns-clause-fits c t x = none_first all_judged _ _ x
+returns-clause-fits c = fit_has_none

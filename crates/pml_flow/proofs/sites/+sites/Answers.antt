@@ -21,11 +21,11 @@ add_basic-returns-in_ok-push-in-Do-2-clause-ways t c =
 
 pub add_d_step-returns-clause-sites : goal.add_d_step-returns-clause-sites
 add_d_step-returns-clause-sites t c =
-    step_sites c.args.atomic c.args.above.now c.bottom.result.now c.args.body.now c.args.sites.now.items c.add_part.new.sites.items c.last.result c.last-after.result c.in_ok-ways.ways.items c.requires c.bottom.ensures c.in_ok-entered.ensures.sites (c.last.ensures ∙ ap last_of c.as_slice-2.ensures.value) (c.last-after.ensures ∙ ap last_of c.as_slice.ensures.value) c.in_ok-ways.ensures c.args.inside c.as_slice-3.result.now c.in_ok-all.all.items c.new.result c.push-2.new.self.items c.if-inside.false c.as_slice-3.ensures.value c.in_ok-all.ensures c.new.ensures c.in_ok-push-2.ensures.items
+    step_sites c.args.atomic c.args.above.now c.bottom.result.now c.args.body.now c.args.sites.now.items c.add_part.new.sites.items c.last-first.result c.last-after.result c.in_ok-ways.ways.items c.requires c.bottom.ensures c.in_ok-entered.ensures.sites (c.last-first.ensures ∙ ap last_of c.as_slice-2.ensures.value) (c.last-after.ensures ∙ ap last_of c.as_slice.ensures.value) c.in_ok-ways.ensures c.args.inside c.as_slice-3.result.now c.in_ok-all.all.items c.new.result c.push-2.new.self.items c.if-inside.false c.as_slice-3.ensures.value c.in_ok-all.ensures c.new.ensures c.in_ok-push-2.ensures.items
 
 pub add_d_step-returns-clause-ways : goal.add_d_step-returns-clause-ways
 add_d_step-returns-clause-ways t c =
-    step_ways c.args.atomic c.args.above.now c.bottom.result.now c.args.body.now c.args.sites.now.items c.add_part.new.sites.items c.last.result c.last-after.result c.in_ok-ways.ways.items c.requires c.bottom.ensures c.in_ok-entered.ensures.sites (c.last.ensures ∙ ap last_of c.as_slice-2.ensures.value) (c.last-after.ensures ∙ ap last_of c.as_slice.ensures.value) c.in_ok-ways.ensures c.args.inside c.if-inside.false
+    step_ways c.args.atomic c.args.above.now c.bottom.result.now c.args.body.now c.args.sites.now.items c.add_part.new.sites.items c.last-first.result c.last-after.result c.in_ok-ways.ways.items c.requires c.bottom.ensures c.in_ok-entered.ensures.sites (c.last-first.ensures ∙ ap last_of c.as_slice-2.ensures.value) (c.last-after.ensures ∙ ap last_of c.as_slice.ensures.value) c.in_ok-ways.ensures c.args.inside c.if-inside.false
 
 pub add_part-returns-clause-sites : goal.add_part-returns-clause-sites
 add_part-returns-clause-sites t c =

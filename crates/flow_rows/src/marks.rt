@@ -1,0 +1,67 @@
+//! Bodies, and the lines, valid end points and outermost atomics of their points.
+use crate::shown::has_marks;
+use std::test::Fail;
+
+#[test]
+fn end_labels_inside_braces_and_on_gotos(rt: HostRuntime) -> Result<(), Fail> {
+    let text = "byte x;
+init {
+  do
+  :: { { end_a: x = 1 } }
+  :: x = 2; endb: goto L
+  :: atomic { x = 3; end3: x = 4 }
+  od;
+L:
+  x = 5;
+send: x = 6
+}";
+    let marks = "0: line 11 end
+1: line 10
+2: line 9 end
+3: line 3
+4: line 6 end atomic 4
+5: line 6 atomic 4
+6: line 5
+7: line 4 end
+";
+    has_marks(&rt, rt.alloc(), text, marks)
+}
+
+#[test]
+fn end_labels_on_braces_breaks_and_escapes(rt: HostRuntime) -> Result<(), Fail> {
+    let text = "byte x;
+init {
+  { end: { x = 1 } } unless { endless: x = 2 };
+  do :: x = 3; end_of: break od;
+  accept: x = 4;
+  progress:
+  end_it: if
+  :: d_step { x = 5;
+       x = 6 }
+  fi
+}";
+    let marks = "0: line 11 end
+1: line 9
+2: line 8
+3: line 8
+4: line 7 end
+5: line 5 end
+6: line 4
+7: line 4
+8: line 3 end
+9: line 3 end
+";
+    has_marks(&rt, rt.alloc(), text, marks)
+}
+
+#[test]
+fn nodes_of_one_outermost_atomic(rt: HostRuntime) -> Result<(), Fail> {
+    let text = "byte x; init { atomic { x = 1; atomic { x = 2 } }; x = 3; atomic { x = 4 } }";
+    let marks = "0: line 1 end
+1: line 1 atomic 1
+2: line 1
+3: line 1 atomic 3
+4: line 1 atomic 3
+";
+    has_marks(&rt, rt.alloc(), text, marks)
+}

@@ -1,0 +1,14 @@
+mod Things
+mod Growing
+mod Agreeing
+mod Layers
+mod Only
+mod Standing
+mod Declaring
+mod Acting
+mod Bodies
+mod Newly
+mod Reading
+mod Marking
+mod Units
+mod Model

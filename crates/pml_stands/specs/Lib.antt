@@ -1,0 +1,4 @@
+pub mod Declared
+pub mod Stands
+pub mod StandsStatements
+pub mod StandsModel

@@ -1,0 +1,17 @@
+//! Laws of what a tree stands for.
+
+ghost use Rattle.std.specs.Prelude.{◌≡◌};
+ghost use Rattle.pml_tree.specs.declared.tree.Tree.{Tree};
+ghost use Rattle.pml_program.specs.declared.program.Program.{Program};
+ghost use Rattle.pml_resolve.specs.Model.{numbered_model};
+ghost use Rattle.pml_stands.specs.StandsModel.{StandsModel};
+
+/// A tree stands for its numbered model: the one that `check` answers where the tree is not refused.
+pub fn numbering_stands()
+    ensures { (t : Tree) → StandsModel t (numbered_model t) }
+{}
+
+/// Two models that one tree stands for are equal.
+pub fn one_model()
+    ensures { (t : Tree) (p q : Program) → StandsModel t p → StandsModel t q → p ≡ q }
+{}
