@@ -32,7 +32,8 @@ use Rattle.pml_check.specs.Judged.{condition_of, BreaksCondition, KeepsCondition
 use Rattle.pml_check.specs.Decided.{all_judged, FitsAll, IsFirst}
 use Rattle.pml_check.proofs.Seeking.{OneBelow, NoneBelow, below, of_list}
 use Rattle.pml_check.proofs.Ends.{are_ends}
-use Rattle.pml_check.proofs.Least.{fits_each, first_is_least}
+use Rattle.pml_check.proofs.Least.{fit_by, first_is_least}
+use Rattle.pml_check.proofs.Standing.{one_of}
 
 -- ---- on the marks
 
@@ -169,7 +170,7 @@ each : (x : Refusal) (ms : List Mark) (p : Program) → AppliesTo x ms p ⊎ Fit
 each x ms p = on_both x ms p (on_condition (condition_of x) ms) (on_model x p)
 
 pub either : (t : Tree) (x : Refusal) → Applies t x ⊎ Fits t x
-either t x = each x (of_tree t) (numbered_model t)
+either t x = one_of t x (each x (of_tree t) (numbered_model t))
 
 first_or_fit : (xs : List Refusal) (ms : List Mark) (p : Program) → FitsAll xs ms p ⊎ ((x : Refusal) × IsFirst xs ms p x)
 first_or_fit [] ms p = inl tt
@@ -184,5 +185,5 @@ pub judge : (t : Tree) → IsFit t ⊎ ((x : Refusal) × IsLeast t x)
 judge t = by_first (first_or_fit all_judged (of_tree t) (numbered_model t))
   where
     by_first : FitsAll all_judged (of_tree t) (numbered_model t) ⊎ ((x : Refusal) × IsFirst all_judged (of_tree t) (numbered_model t) x) → IsFit t ⊎ ((x : Refusal) × IsLeast t x)
-    by_first (inl f) = inl (fits_each (of_tree t) (numbered_model t) f)
+    by_first (inl f) = inl (fit_by t f)
     by_first (inr h) = inr (h.0, first_is_least t h.0 h.1)

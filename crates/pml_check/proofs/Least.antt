@@ -12,6 +12,7 @@ use Rattle.pml_resolve.specs.Model.{numbered_model}
 use Rattle.pml_check.specs.Judged.{AppliesTo, FitsTo, IsFit, IsLeast}
 use Rattle.pml_check.specs.Decided.{all_judged, FitsAll, IsFirst}
 use Rattle.pml_check.proofs.Exclusive.{apart}
+use Rattle.pml_check.proofs.Standing.{applies_by, applied, fits_by, not_both}
 
 -- ---- each refusal has a number of its own
 
@@ -132,8 +133,10 @@ module _ (ms : List Mark) (p : Program) (x : Refusal) where
 
 pub first_is_least : (t : Tree) (x : Refusal) → IsFirst all_judged (of_tree t) (numbered_model t) x → IsLeast t x
 first_is_least t x h = record {
-  applies = first_applies (of_tree t) (numbered_model t) x all_judged h;
-  none_lesser = λ y l a. none_before (of_tree t) (numbered_model t) x 6 all_judged in_order h y (judged y (of_tree t) (numbered_model t) a) a l;
+  applies = applies_by t x (first_applies (of_tree t) (numbered_model t) x all_judged h);
+  none_lesser = λ y l a.
+      let b = applied t y a in
+      none_before (of_tree t) (numbered_model t) x 6 all_judged in_order h y (judged y (of_tree t) (numbered_model t) b) b l;
 }
 
 pub one_least : (t : Tree) (x y : Refusal) → IsLeast t x → IsLeast t y → x ≡ y
@@ -145,4 +148,8 @@ one_least t x y a b = by_order (cases_lt (refusal_number x) (refusal_number y)) 
     by_order (inr g) (inr h) = same_number x y (omega arith)
 
 pub fit_has_none : (t : Tree) (x : Refusal) → IsFit t → IsLeast t x → ⊥
-fit_has_none t x f l = apart x (of_tree t) (numbered_model t) l.applies (f x)
+fit_has_none t x f l = not_both t x l.applies (f x)
+
+-- a tree that fits what is judged fits all
+pub fit_by : (t : Tree) → FitsAll all_judged (of_tree t) (numbered_model t) → IsFit t
+fit_by t f x = fits_by t x (fits_each (of_tree t) (numbered_model t) f x)

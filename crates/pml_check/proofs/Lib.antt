@@ -2,6 +2,7 @@ pub mod Looking
 pub mod Subjects
 pub mod Exclusive
 pub mod Models
+pub mod Standing
 pub mod Least
 pub mod Seeking
 pub mod Ends

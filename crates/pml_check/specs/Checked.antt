@@ -2,7 +2,7 @@
 use Rattle.std.specs.Prelude.{◌≡◌}
 use Rattle.pml_tree.specs.declared.tree.Tree.{Tree}
 use Rattle.pml_program.specs.declared.program.Program.{Program}
-use Rattle.pml_resolve.specs.Model.{numbered_model}
+use Rattle.pml_stands.specs.StandsModel.{StandsModel}
 use Rattle.pml_check.specs.declared.checked.CheckFault.{CheckFault}
 use Rattle.pml_check.specs.declared.checked.CheckFault.TheVariants as fault
 use Rattle.pml_check.specs.Judged.{IsFit, IsLeast}
@@ -12,8 +12,8 @@ abbrev pub IsRefused : Tree → CheckFault → Type 0
 IsRefused t fault.Memory = Unit {0}
 IsRefused t (fault.Refused x) = IsLeast t x
 
--- the model of a tree that fits all conditions
+-- the model that a tree which fits all conditions stands for
 pub record IsChecked (p : Program) : Type 0 where
   pub tree : Tree
   pub fits : IsFit tree
-  pub is : p ≡ numbered_model tree
+  pub stands : StandsModel tree p

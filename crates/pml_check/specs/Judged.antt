@@ -12,7 +12,7 @@ use Rattle.pml_conditions.specs.declared.condition.Condition.TheVariants as cond
 use Rattle.pml_conditions.specs.Decided as marks
 use Rattle.pml_program.specs.declared.program.Proctype.{Proctype}
 use Rattle.pml_program.specs.declared.program.Program.{Program}
-use Rattle.pml_resolve.specs.Model.{numbered_model}
+use Rattle.pml_stands.specs.StandsModel.{StandsModel}
 use Rattle.pml_start.specs.Begin.{Begun}
 use Rattle.pml_start.specs.Start.{first_state}
 use Rattle.pml_control.specs.Control.{Circle, SettlesEverywhere, BadFirstPoint, FirstPointsFit}
@@ -86,13 +86,17 @@ AppliesTo x ms p = BreaksCondition (condition_of x) ms ⊎ BreaksModel x p
 unfoldable pub FitsTo : Refusal → List Mark → Program → Type 0
 FitsTo x ms p = KeepsCondition (condition_of x) ms × KeepsModel x p
 
--- a refusal applies to the tree
-abbrev pub Applies : Tree → Refusal → Type 0
-Applies t x = AppliesTo x (of_tree t) (numbered_model t)
+-- a refusal applies to the tree and to the model that it stands for
+pub record Applies (t : Tree) (x : Refusal) : Type 0 where
+  pub model : Program
+  pub stands : StandsModel t model
+  pub applies : AppliesTo x (of_tree t) model
 
--- the tree fits what the refusal asks
-abbrev pub Fits : Tree → Refusal → Type 0
-Fits t x = FitsTo x (of_tree t) (numbered_model t)
+-- the tree and the model that it stands for fit what the refusal asks
+pub record Fits (t : Tree) (x : Refusal) : Type 0 where
+  pub model : Program
+  pub stands : StandsModel t model
+  pub fits : FitsTo x (of_tree t) model
 
 -- the tree fits all conditions
 abbrev pub IsFit : Tree → Type 0

@@ -3,7 +3,7 @@
 ghost use Rattle.std.specs.Prelude.{◌≡◌, IfOk, IfErr, OnOk};
 ghost use Rattle.pml_check.specs.Judged.{IsFit, IsLeast};
 ghost use Rattle.pml_check.specs.Checked.{IsRefused};
-ghost use Rattle.pml_resolve.specs.Model.{numbered_model};
+ghost use Rattle.pml_stands.specs.StandsModel.{StandsModel};
 
 use crate::judge::first_of;
 use crate::subject::{Subject, subject_of};
@@ -85,7 +85,7 @@ impl<'a> Checked<'a> {
 /// Checks a tree. It answers the least refusal that applies, exactly where one does, and else the checked model.
 pub fn check<'a>(alloc: Global, tree: &Tree<'a>) -> Result<Checked<'a>, CheckFault>
     ensures fits { OnOk result (IsFit tree.now) }
-    ensures model { IfOk result (λ checked. checked ≡ numbered_model tree.now) }
+    ensures model { IfOk result (λ checked. StandsModel tree.now checked) }
     ensures refused { IfErr result (IsRefused tree.now) }
 {
     let subject = subject_of(alloc, tree)?;

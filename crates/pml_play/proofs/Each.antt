@@ -22,6 +22,7 @@ use Rattle.pml_syntax.specs.Grammar.{Spells}
 use Rattle.pml_syntax.specs.ReadingUnits as reading
 use Rattle.pml_syntax.proofs.Whole.{is_found, is_none}
 use Rattle.pml_resolve.specs.Model.{numbered_model}
+use Rattle.pml_stands.proofs.Model.{model-stands}
 use Rattle.pml_check.specs.Judged.{IsFit, IsLeast}
 use Rattle.pml_check.proofs.Deciding.{judge}
 use Rattle.pml_sim.specs.State.{State}
@@ -143,8 +144,8 @@ module _ (text : List ℕ) (options : Options) where
   Has = (part : List ℕ → Part End) × IsTranscript text options part
 
   of_state : (t : Tree) → IsSpelled text t → IsFit t → (o : Option State) → begins (numbered_model t) ≡ o → Has
-  of_state t is fits None e = (not_served false, of_unserved (record { tree = t; is_spelled = is; fits = fits; none = e }))
-  of_state t is fits (Some s) e = (transcript rules options s, of_model (record { tree = t; is_spelled = is; fits = fits; is = e }))
+  of_state t is fits None e = (not_served false, of_unserved (record { tree = t; is_spelled = is; fits = fits; program = numbered_model t; stands = model-stands t; none = e }))
+  of_state t is fits (Some s) e = (transcript rules options s, of_model (record { tree = t; is_spelled = is; fits = fits; program = numbered_model t; stands = model-stands t; is = e }))
 
   of_judged : (t : Tree) → IsSpelled text t → IsFit t ⊎ ((x : Refusal) × IsLeast t x) → Has
   of_judged t is (inl fits) = of_state t is fits (begins (numbered_model t)) refl

@@ -1,4 +1,3 @@
-pub mod Lines
 pub mod Silent
 pub mod Outcomes
 pub mod Playing

@@ -14,7 +14,9 @@ use Rattle.pml_lex.proofs.Steps.{one_list}
 use Rattle.pml_tree.specs.declared.tree.Tree.{Tree}
 use Rattle.pml_syntax.specs.Grammar.{Spells}
 use Rattle.pml_syntax.proofs.Whole as trees
-use Rattle.pml_resolve.specs.Model.{numbered_model}
+use Rattle.pml_program.specs.declared.program.Program.{Program}
+use Rattle.pml_stands.specs.StandsModel.{StandsModel}
+use Rattle.pml_stands.proofs.Model.{one-model}
 use Rattle.pml_marks.specs.declared.mark.Mark.{Mark}
 use Rattle.pml_program.specs.declared.program.Program.{Program}
 use Rattle.pml_check.specs.Judged.{AppliesTo, IsFit, IsLeast}
@@ -148,14 +150,14 @@ module _ {text : List ℕ} where
   pub not_both : {a : Refusal} {m : ℕ} → IsRefused text a m → IsUnserved text → ⊥
   not_both h u = no_fit h u.is_spelled u.fits
 
-  same_served : {t u : Tree} → IsSpelled text t → IsSpelled text u → begins (numbered_model t) ≡ begins (numbered_model u)
-  same_served a b = ap (λ (t : Tree). begins (numbered_model t)) (same_tree a b)
+  same_served : {t u : Tree} {p q : Program} → IsSpelled text t → IsSpelled text u → StandsModel t p → StandsModel u q → begins p ≡ begins q
+  same_served {t} {u} {p} {q} a b is other = ap begins (one-model t p q is (subst (λ (x : Tree). StandsModel x q) (same_tree b a) other))
 
   pub model_is_served : {model : State} → IsModel text model → IsUnserved text → ⊥
-  model_is_served m u = let e = sym m.is ∙ same_served m.is_spelled u.is_spelled ∙ u.none in absurd cc
+  model_is_served m u = let e = sym m.is ∙ same_served m.is_spelled u.is_spelled m.stands u.stands ∙ u.none in absurd cc
 
   pub one_model : {a b : State} → IsModel text a → IsModel text b → a ≡ b
-  one_model {a} {b} m n = some_is (sym m.is ∙ same_served m.is_spelled n.is_spelled ∙ n.is)
+  one_model {a} {b} m n = some_is (sym m.is ∙ same_served m.is_spelled n.is_spelled m.stands n.stands ∙ n.is)
 
   pub line_of : {a : Refusal} {line : ℕ} → IsRefused text a line → HasLine text a line
   line_of (too_long h) = refl
@@ -163,7 +165,7 @@ module _ {text : List ℕ} where
   line_of (left_out h) = h.on_line
   line_of (too_deep h) = h.on_line
   line_of (unspelled h) = h.on_line
-  line_of {a} (unfit h) = condition_line text a _ _ h.least.applies
+  line_of {a} (unfit h) = condition_line text a _ _ h.least.applies.applies
 
   pub when_refused : {options : Options} {part : List ℕ → Part End} {a : Refusal} {m : ℕ} → IsRefused text a m → IsTranscript text options part → (line : ℕ) × (part ≡ refused a line false)
   when_refused h (of_unserved u) = absurd (not_both h u)

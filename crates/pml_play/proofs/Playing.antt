@@ -32,6 +32,8 @@ use Rattle.pml_check.specs.Checked.{IsRefused}
 use Rattle.pml_check.specs.Judged.{FitsTo, HasGoodStart, IsFit}
 use Rattle.pml_program.specs.declared.program.Program.{Program}
 use Rattle.pml_resolve.specs.Model.{numbered_model}
+use Rattle.pml_stands.specs.StandsModel.{StandsModel}
+use Rattle.pml_check.proofs.Standing.{fitted, is_numbered}
 use Rattle.diagnostics.specs.declared.stop.Stop.{Stop}
 use Rattle.diagnostics.specs.declared.stop.Stop.TheVariants as stop
 use Rattle.pml_start.specs.Begin.{Begun}
@@ -42,7 +44,7 @@ use Rattle.pml_sim.specs.State.{State}
 use Rattle.pml_sim.specs.World.{rules}
 use Rattle.pml_play.specs.Transcript.{IsSpelled, IsModel, too_long, lexical, left_out, too_deep, unspelled, unfit, of_unserved, of_refusal, of_model}
 use Rattle.pml_play.specs.Plays.{IsReady, IsRejected, of_lexical, of_syntax, of_check, Rejects, PlaysText, PlaysWhole}
-use Rattle.pml_play.proofs.Lines.{token_lines}
+use Rattle.pml_lex.proofs.Lines.{token_lines}
 use Rattle.pml_play.proofs.Each.{has_transcript}
 
 -- ---- reading
@@ -57,18 +59,22 @@ rejected_lexical text (lex.TooDeep line) h = too_deep h
 pub rejected_syntax : (text : List ℕ) (ts : List Word) (fault : SyntaxFault) → AreTokens text ts → ((t : Tree) → Spells t ts → Answers t (Err fault))
     → ((most : ℕ) → 1 ≤ most → All (λ w. IsOnLine most w.line) ts → (at : ℕ) → ◌≡◌ {A = Result Tree SyntaxFault} (Err fault) (Err (syntax.Syntax at)) → IsOnLine most at) → IsRejected text (of_syntax fault)
 rejected_syntax text ts syntax.Memory are none line = tt
-rejected_syntax text ts (syntax.Syntax at) are none line = unspelled (record { tokens = ts; are_tokens = are; none = none; on_line = line (line_behind text) (omega arith) (token_lines text ts are) at refl })
+rejected_syntax text ts (syntax.Syntax at) are none line = unspelled (record { tokens = ts; are_tokens = are; none = none; on_line = line (line_behind text) (omega arith) (token_lines text ts are.are_cut) at refl })
 
 pub rejected_check : (text : List ℕ) (t : Tree) (fault : CheckFault) → IsSpelled text t → IsRefused t fault → IsRejected text (of_check fault)
 rejected_check text t check.Memory is h = tt
 rejected_check text t (check.Refused r) is h = unfit (record { tree = t; is_spelled = is; least = h })
+
+-- what the check answers is the model that the tree stands for
+pub is_ready : (text : List ℕ) (t : Tree) (p : Program) → IsSpelled text t → IsFit t → StandsModel t p → IsReady text p
+is_ready text t p is fits stands = record { tree = t; is_spelled = is; fits = fits; stands = stands }
 
 -- ---- the first state
 
 -- in a tree that fits, no initialiser of the first state has a fault
 good_start : (t : Tree) → IsFit t → HasGoodStart (numbered_model t)
 unfolding FitsTo
-good_start t f = (f refusal.Initialiser).1
+good_start t f = (fitted t refusal.Initialiser (f refusal.Initialiser)).1
 
 no_fault : (b : Begun) (d : Result Begun Fault) (e : Stop) (f : Fault) → d ≡ Ok b → e ≡ stop.Fault f → Starts d (Err e) → ⊥
 no_fault b d e f is of h = subst (λ (k : Stop). Starts (Ok b) (Err k)) of (subst (λ (x : Result Begun Fault). Starts x (Err e)) is h)
@@ -76,7 +82,7 @@ no_fault b d e f is of h = subst (λ (k : Stop). Starts (Ok b) (Err k)) of (subs
 pub no_start_fault : (text : List ℕ) (p q : Program) (e : Stop) (f : Fault) → IsReady text p → q ≡ p → e ≡ stop.Fault f → Starts (first_state q) (Err e) → ⊥
 no_start_fault text p q e f ready same of h =
     let start = good_start ready.tree ready.fits in
-    no_fault start.0 (first_state q) e f (ap first_state (same ∙ ready.is) ∙ start.1) of h
+    no_fault start.0 (first_state q) e f (ap first_state (same ∙ is_numbered ready.tree p ready.stands) ∙ start.1) of h
 
 -- ---- a rejected text
 

@@ -18,7 +18,7 @@ use Rattle.pml_syntax.specs.declared.program.SyntaxFault.{SyntaxFault}
 use Rattle.pml_syntax.specs.declared.program.SyntaxFault.TheVariants as syntax
 use Rattle.pml_tree.specs.declared.tree.Tree.{Tree}
 use Rattle.pml_program.specs.declared.program.Program.{Program}
-use Rattle.pml_resolve.specs.Model.{numbered_model}
+use Rattle.pml_stands.specs.StandsModel.{StandsModel}
 use Rattle.pml_check.specs.Judged.{IsFit}
 use Rattle.pml_check.specs.declared.checked.CheckFault.{CheckFault}
 use Rattle.pml_check.specs.declared.checked.CheckFault.TheVariants as check
@@ -48,12 +48,12 @@ abbrev pub of_check : CheckFault → Rejection
 of_check check.Memory = Memory
 of_check (check.Refused r) = Refused r 0
 
--- the text has a tree that fits all conditions, and this is its checked model
+-- the text has a tree that fits all conditions, and this is the model that it stands for
 pub record IsReady (text : List ℕ) (p : Program) : Type 0 where
   pub tree : Tree
   pub is_spelled : IsSpelled text tree
   pub fits : IsFit tree
-  pub is : p ≡ numbered_model tree
+  pub stands : StandsModel tree p
 
 -- what is written of a rejected text, and how its session ends
 abbrev pub Rejects : Rejection → Result End Broken → Holdings → Holdings → Type 0

@@ -11,7 +11,7 @@ use Rattle.profile.specs.declared.TheConstants.{MOST_TEXT_BYTES}
 use Rattle.pml_lex.specs.Cut.{IsLine, AreTokens, CannotBeCut, HoldsLeftOut, GoesTooDeep}
 use Rattle.pml_tree.specs.declared.tree.Tree.{Tree}
 use Rattle.pml_syntax.specs.Grammar.{Spells}
-use Rattle.pml_resolve.specs.Model.{numbered_model}
+use Rattle.pml_stands.specs.StandsModel.{StandsModel}
 use Rattle.pml_check.specs.Judged.{IsFit, IsLeast}
 use Rattle.pml_program.specs.declared.program.Program.{Program}
 use Rattle.pml_start.specs.Start.{first_state}
@@ -28,12 +28,14 @@ pub record IsSpelled (text : List ℕ) (tree : Tree) : Type 0 where
 abbrev pub begins : Program → Option State
 begins p = first p (first_state p)
 
--- The text has a tree that fits all conditions, and its checked model is of the part that is served: it begins in this state.
+-- The text has a tree that fits all conditions, and the model that it stands for is of the part that is served: it begins in this state.
 pub record IsModel (text : List ℕ) (state : State) : Type 0 where
   pub tree : Tree
   pub is_spelled : IsSpelled text tree
   pub fits : IsFit tree
-  pub is : begins (numbered_model tree) ≡ Some state
+  pub program : Program
+  pub stands : StandsModel tree program
+  pub is : begins program ≡ Some state
 
 -- The text has tokens, and no tree spells them.
 pub record IsUnspelled (text : List ℕ) (line : ℕ) : Type 0 where
@@ -42,12 +44,14 @@ pub record IsUnspelled (text : List ℕ) (line : ℕ) : Type 0 where
   pub none : (tree : Tree) → Spells tree tokens → ⊥
   pub on_line : IsLine text line
 
--- The text has a tree that fits all conditions, and its checked model is not of the part that is served.
+-- The text has a tree that fits all conditions, and the model that it stands for is not of the part that is served.
 pub record IsUnserved (text : List ℕ) : Type 0 where
   pub tree : Tree
   pub is_spelled : IsSpelled text tree
   pub fits : IsFit tree
-  pub none : begins (numbered_model tree) ≡ None
+  pub program : Program
+  pub stands : StandsModel tree program
+  pub none : begins program ≡ None
 
 -- The text has a tree, and of the conditions that apply to it this is the least.
 pub record IsUnfit (text : List ℕ) (refusal : Refusal) : Type 0 where

@@ -11,4 +11,4 @@ mod Newly
 mod Reading
 mod Marking
 mod Units
-mod Model
+pub mod Model
