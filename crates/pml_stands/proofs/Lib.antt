@@ -12,3 +12,4 @@ mod Reading
 mod Marking
 mod Units
 mod Model
+mod Tiling
