@@ -13,3 +13,4 @@ mod Marking
 mod Units
 mod Model
 mod Tiling
+mod Leading

@@ -46,7 +46,7 @@ first-still : (b : Bool) (x : List Slot) (r q : Option (List Slot)) (fs : List S
 first-still true x r q fs h g = g
 first-still false x r q fs h g = h g
 
-fields-still : (ts us : List Fields) (t : ℕ) (fs : List Slot) → fields_at ts t ≡ Some fs → fields_at (ts ++ us) t ≡ Some fs
+pub fields-still : (ts us : List Fields) (t : ℕ) (fs : List Slot) → fields_at ts t ≡ Some fs → fields_at (ts ++ us) t ≡ Some fs
 fields-still [] us t fs h = cc
 fields-still (f ∷ ts) us t fs h = first-still (nat_eq t f.owner) f.fields (fields_at ts t) (fields_at (ts ++ us) t) fs (fields-still ts us t fs) h
 
@@ -56,7 +56,7 @@ width-still ts us (kind.Plain s) w h = h
 width-still ts us (kind.Unsigned n) w h = h
 width-still ts us kind.Unknown w h = h
 
-tile-still : (ts us : List Fields) (at : ℕ) (ss : List Slot) → Tile ts at ss → Tile (ts ++ us) at ss
+pub tile-still : (ts us : List Fields) (at : ℕ) (ss : List Slot) → Tile ts at ss → Tile (ts ++ us) at ss
 tile-still ts us at [] h = tt
 tile-still ts us at (s ∷ ss) h = (record { offset = h.0.offset; some = h.0.some; width = width-still ts us s.form s.stride h.0.width }, tile-still ts us (at + s.length * s.stride) ss h.1)
 
