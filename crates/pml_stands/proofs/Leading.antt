@@ -326,8 +326,8 @@ path-by us h before ss tile few c below = go (struct-or-not s.form)
         let inner = struct-cells us (all-tile us h) ss good l.k f.0 s w.0 l.there f.1 w.1 in
         let e = earlier [] us f.0 w.0 h w.1 in
         let p = before e.xs e.shorter e.typedefs w.0 e.tile inner.1.few r (omega (arith, inside, inner.0)) in
-        let there : Leads us w.0 r p.0 = subst (λ (ys : List Fields). Leads ys w.0 r p.0) (sym e.split) (leads-still e.xs e.rest p.1) in
-        ((l.k, i) ∷ p.0, subst (λ (d : ℕ). Leads us ss d ((l.k, i) ∷ p.0)) whole (tiled.goes_on l.there index f.1 w.1 there))
+        let there : Leads us w.0 r p.0 = subst (λ (ys : List Fields). Leads ys w.0 r p.0) (sym e.split) (leads-still e.xs e.rest {p = p.0} p.1) in
+        ((l.k, i) ∷ p.0, subst (λ (d : ℕ). Leads us ss d ((l.k, i) ∷ p.0)) whole (tiled.goes_on {p = p.0} l.there index f.1 w.1 there))
 
 some-path : (n : ℕ) (us : List Fields) → length us < n → TypedefsTile [] us → (ss : List Slot) → Tile us 0 ss → cells ss ≤ MOST_CELLS → (c : ℕ) → c < cells ss → Some_path us ss c
 some-path zero us m h ss tile few c below = absurd (omega (arith, m))

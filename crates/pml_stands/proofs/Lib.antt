@@ -14,3 +14,4 @@ mod Units
 mod Model
 mod Tiling
 mod Leading
+mod Rows
