@@ -12,3 +12,6 @@ mod Reading
 mod Marking
 mod Units
 pub mod Model
+mod Tiling
+mod Leading
+mod Rows

@@ -1,0 +1,67 @@
+-- How the cells of an owner are shared out among its variables, and which path leads to a cell.
+use Rattle.std.specs.Prelude.{◌≡◌, ℕ, ◌+◌, ◌*◌, ◌<◌, ◌≤◌, nat_eq, Bool, true, false, if◌then◌else◌, List, [], ◌∷◌, ◌++◌, slice_get, Option, Some, None}
+use Rattle.std.specs.List.{AllByRecursion}
+use Rattle.profile.specs.declared.TheConstants.{MOST_CELLS}
+use Rattle.pml_program.specs.declared.form.Form.{Form}
+use Rattle.pml_program.specs.declared.form.Form.TheVariants as kind
+use Rattle.pml_program.specs.declared.program.Slot.{Slot}
+use Rattle.pml_program.specs.declared.program.Fields.{Fields}
+use Rattle.pml_program.specs.declared.program.Proctype.{Proctype}
+use Rattle.pml_program.specs.declared.program.Program.{Program}
+use Rattle.pml_stands.specs.Declared.{cells, counted}
+
+-- the fields of the typedef whose owner this is
+abbrev pub fields_at : List Fields → ℕ → Option (List Slot)
+fields_at [] t = None
+fields_at (f ∷ fs) t = if nat_eq t f.owner then Some f.fields else fields_at fs t
+
+-- an element of a typedef's type has the cells of its fields, and each other one cell
+abbrev pub HasWidth : List Fields → Form → ℕ → Type 0
+HasWidth ts (kind.Struct t) w = (fs : List Slot) × (fields_at ts t ≡ Some fs) × (w ≡ counted (cells fs))
+HasWidth ts _ w = w ≡ 1
+
+-- A variable that begins at this cell, one element at least behind another. Cells are counted up to one more than there may be.
+pub record Begins (ts : List Fields) (at : ℕ) (s : Slot) : Type 0 where
+  pub offset : s.offset ≡ counted at
+  pub some : 0 < s.length
+  pub width : HasWidth ts s.form s.stride
+
+-- The first begins at this cell, and each other one where the one before it ends: there is no gap, and no cell of two.
+abbrev pub Tile : List Fields → ℕ → List Slot → Type 0
+Tile ts at [] = Unit {0}
+Tile ts at (s ∷ ss) = Begins ts at s × Tile ts (at + s.length * s.stride) ss
+
+-- the fields of each typedef are of types before it
+abbrev pub TypedefsTile : List Fields → List Fields → Type 0
+TypedefsTile before [] = Unit {0}
+TypedefsTile before (f ∷ fs) = Tile before 0 f.fields × TypedefsTile (before ++ f ∷ []) fs
+
+-- in a model, the variables of each owner begin at cell 0
+pub record IsTiled (p : Program) : Type 0 where
+  pub globals : Tile p.typedefs 0 p.globals
+  pub typedefs : TypedefsTile [] p.typedefs
+  pub proctypes : AllByRecursion (λ (q : Proctype). Tile p.typedefs 0 q.variables) p.proctypes
+
+-- ---- paths
+
+abbrev pub is_struct : Form → Bool
+is_struct (kind.Struct t) = true
+is_struct _ = false
+
+-- A path leads to a cell among these variables: a variable by its number and an index, and from there on through the fields of its type.
+pub data Leads (ts : List Fields) : List Slot → ℕ → List (ℕ × ℕ) → Type 0 where
+  ends : {ss : List Slot} {k i : ℕ} {s : Slot} → slice_get ss k ≡ Some s → i < s.length → is_struct s.form ≡ false
+      → Leads ts ss (s.offset + i * s.stride) ((k, i) ∷ [])
+  goes_on : {ss fs : List Slot} {k i t cell : ℕ} {s : Slot} {p : List (ℕ × ℕ)} → slice_get ss k ≡ Some s → i < s.length
+      → s.form ≡ kind.Struct t → fields_at ts t ≡ Some fs → Leads ts fs cell p → Leads ts ss (s.offset + (i * s.stride + cell)) ((k, i) ∷ p)
+
+-- each cell of these variables has exactly one path, and no path leads out of them
+pub record HasPaths (ts : List Fields) (ss : List Slot) : Type 0 where
+  pub some : (cell : ℕ) → cell < cells ss → (p : List (ℕ × ℕ)) × Leads ts ss cell p
+  pub one : (cell : ℕ) (p q : List (ℕ × ℕ)) → Leads ts ss cell p → Leads ts ss cell q → p ≡ q
+  pub within : (cell : ℕ) (p : List (ℕ × ℕ)) → Leads ts ss cell p → cell < cells ss
+
+-- the variables of an owner of a model, with no more cells than there may be
+pub data IsOwner (p : Program) : List Slot → Type 0 where
+  globally : cells p.globals ≤ MOST_CELLS → IsOwner p p.globals
+  locally : (k : ℕ) {q : Proctype} → slice_get p.proctypes k ≡ Some q → cells q.variables ≤ MOST_CELLS → IsOwner p q.variables
