@@ -1,5 +1,5 @@
-//! Bodies, and the lines, valid end points and outermost atomics of their points.
-use crate::shown::has_marks;
+//! Bodies, and the lines, valid end points, outermost atomics and levels of their points.
+use crate::shown::{has_levels, has_marks};
 use std::test::Fail;
 
 #[test]
@@ -64,4 +64,35 @@ fn nodes_of_one_outermost_atomic(rt: HostRuntime) -> Result<(), Fail> {
 4: line 1 atomic 3
 ";
     has_marks(&rt, rt.alloc(), text, marks)
+}
+
+#[test]
+fn levels_of_nested_unless(rt: HostRuntime) -> Result<(), Fail> {
+    let text =
+        "byte x; init { { { x = 1; x = 2 } unless { if :: x = 3 :: else fi } } unless { x = 4 }; x = 5 }";
+    let levels = "0:
+1: 1
+2: 1
+3: 1 1
+4: 1 1
+5: 2 1
+6: 1 2 1
+7: 1 2 1
+";
+    has_levels(&rt, rt.alloc(), text, levels)
+}
+
+#[test]
+fn levels_of_options(rt: HostRuntime) -> Result<(), Fail> {
+    let text =
+        "byte x; init { if :: { x = 1 } unless { x = 2 } :: goto L unless { x = 3 } :: else fi; L: x = 4 }";
+    let levels = "0:
+1: 1
+2: 1
+3: 1
+4: 1
+5: 1 1
+6: 3 2
+";
+    has_levels(&rt, rt.alloc(), text, levels)
 }

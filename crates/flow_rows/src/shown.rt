@@ -3,6 +3,8 @@
 //! An edge is its level, its statement's tokens and the node that follows; behind it stands `keeps` where both lie in one outermost
 //! atomic, `stays` where the node that follows lies in a d_step, and `in N` with the first node inside a d_step.
 //!
+//! The levels of a node are how many offers each has, from the lowest.
+//!
 //! What is known of nodes besides is a line for each: its line in the text, `end` where it is a valid end point, and `atomic N`
 //! where it lies in an atomic, N being the first node with the same outermost one.
 use pml_control::findings::examine;
@@ -25,6 +27,7 @@ use std::test::Fail;
 #[derive(Drop)]
 struct Read {
     edges: String,
+    levels: String,
     marks: String,
 }
 
@@ -105,6 +108,29 @@ fn shown_edges(alloc: Global, body: &Seq<'_>, graph: &Graph) -> Result<String, A
     Ok(out)
 }
 
+fn add_levels(
+    alloc: Global,
+    out: &mut String,
+    graph: &Graph,
+    node: usize,
+) -> Result<(), AllocError> {
+    add_number(alloc, out, node)?;
+    out.push(':')?;
+    for level in 0..graph.level_count(node) {
+        out.push(' ')?;
+        add_number(alloc, out, graph.level(node, level).len())?;
+    }
+    out.push('\n')
+}
+
+fn shown_levels(alloc: Global, graph: &Graph) -> Result<String, AllocError> {
+    let mut out = String::new(alloc);
+    for node in 0..graph.node_count() {
+        add_levels(alloc, &mut out, graph, node)?;
+    }
+    Ok(out)
+}
+
 fn first_alike(graph: &Graph, atomic: Option<usize>) -> usize {
     for node in 0..graph.node_count() {
         if graph.atomic(node) == atomic {
@@ -139,6 +165,7 @@ fn shown_proctype(alloc: Global, proctype: &Proctype<'_>) -> Result<Read, Fail> 
     let graph = Graph::build(alloc, proctype)?;
     Ok(Read {
         edges: shown_edges(alloc, &proctype.body, &graph)?,
+        levels: shown_levels(alloc, &graph)?,
         marks: shown_marks(alloc, &graph)?,
     })
 }
@@ -188,6 +215,12 @@ fn are_same<R: Abort>(rt: &R, found: &str, wanted: &str) {
 /// The first proctype of a text has this graph.
 pub fn has_edges<R: Abort>(rt: &R, alloc: Global, text: &str, edges: &str) -> Result<(), Fail> {
     are_same(rt, of_text(alloc, text)?.edges.as_str(), edges);
+    Ok(())
+}
+
+/// The levels of the nodes of a text's first proctype have so many offers.
+pub fn has_levels<R: Abort>(rt: &R, alloc: Global, text: &str, levels: &str) -> Result<(), Fail> {
+    are_same(rt, of_text(alloc, text)?.levels.as_str(), levels);
     Ok(())
 }
 

@@ -1,9 +1,9 @@
 //! The control graph of a proctype.
 
-ghost use Rattle.std.specs.Prelude.{◌≡◌, ℕ, ◌<◌, ◌-◌, ◌++◌, IfOk, OnOk, length, map, slice_get, slice_index_or};
+ghost use Rattle.std.specs.Prelude.{◌≡◌, ℕ, ◌<◌, ◌-◌, ◌++◌, IfOk, OnOk, length, map, slice_get, slice_index_or, slice_range};
 ghost use Rattle.std.specs.Option.{option_copied};
 ghost use Rattle.pml_control.specs.Control.{SettlesEverywhere};
-ghost use Rattle.pml_flow.specs.Flow.{kept, ranks_from, rank, node_by, targets, end_by, end_of, same_number, site_of, entry_by, edge, edges_level, edges_from, node_of, node_at, edges_of, atomic_in, is_end_at, IsGraph};
+ghost use Rattle.pml_flow.specs.Flow.{kept, ranks_from, rank, node_by, targets, end_by, end_of, same_number, site_of, entry_by, edge, edges_level, edges_from, bounds_from, begin_of, node_of, node_at, edges_of, level_of, levels_of, atomic_in, is_end_at, IsGraph};
 
 use crate::edge::Edge;
 use crate::level::{Level, Way};
@@ -23,6 +23,7 @@ use std::marker::Model;
 #[derive(Drop)]
 pub struct Node {
     edges: Vec<Edge>,
+    bounds: Vec<usize>,
     atomic: Option<usize>,
 }
 
@@ -31,7 +32,7 @@ impl Model for Node {
 
     ghost Value = { Node };
 
-    ghost view = { λ n. record { edges = n.edges.items; atomic = n.atomic } };
+    ghost view = { λ n. record { edges = n.edges.items; bounds = n.bounds.items; atomic = n.atomic } };
 }
 
 /// What edges are made from, by the numbers of places: the node and the number where settling ends from each, and the sites.
@@ -119,6 +120,28 @@ impl Graph {
         self.nodes[node].edges.as_slice()
     }
 
+    /// How many levels of offers a node has.
+    pub fn level_count(&self, node: usize) -> usize
+        requires { node < length self.now.nodes }
+        ensures { result ≡ levels_of (slice_get self.now.nodes node) }
+    {
+        self.nodes[node].bounds.len()
+    }
+
+    /// The offers of one level of a node, in text order.
+    pub fn level(&self, node: usize, level: usize) -> &[Edge]
+        requires { node < length self.now.nodes }
+        ensures { result.now ≡ level_of (slice_get self.now.nodes node) level }
+    {
+        let here = &self.nodes[node];
+        let bounds = here.bounds.as_slice();
+        between(
+            here.edges.as_slice(),
+            begin_of(bounds, level),
+            bound(bounds, level),
+        )
+    }
+
     /// The line of what stands first at a node: that of its first token, or of the closing brace.
     pub fn line(&self, node: usize) -> u32
         ensures { result ≡ slice_index_or self.now.lines node 0 }
@@ -146,6 +169,34 @@ impl Graph {
     {
         self.nodes[node].atomic
     }
+}
+
+/// Where a level ends among the edges.
+fn bound(bounds: &[usize], level: usize) -> usize
+    ensures { result ≡ slice_index_or bounds.now level 0 }
+{
+    match bounds.get(level) {
+        Some(bound) => *bound,
+        None => 0,
+    }
+}
+
+/// Where a level begins among the edges.
+fn begin_of(bounds: &[usize], level: usize) -> usize
+    ensures { result ≡ begin_of bounds.now level }
+{
+    if level == 0 {
+        return 0;
+    }
+    bound(bounds, level - 1)
+}
+
+/// The edges from one place to another.
+fn between(edges: &[Edge], from: usize, to: usize) -> &[Edge]
+    ensures { result.now ≡ slice_range edges.now from to }
+{
+    let end = to.min(edges.len());
+    &edges[from.min(end)..end]
 }
 
 fn start_of(targets: &[usize]) -> usize
@@ -289,12 +340,20 @@ fn add_edges(
     Ok(())
 }
 
-fn all_edges(alloc: Global, tables: &Tables<'_>, ways: &[Level]) -> Result<Vec<Edge>, AllocError>
-    ensures { IfOk result (λ v. v.items ≡ edges_from tables.now 0 ways.now) }
+/// The edges of all levels. Adds where each level ends among them.
+fn all_edges(
+    alloc: Global,
+    tables: &Tables<'_>,
+    ways: &[Level],
+    bounds: &mut Vec<usize>,
+) -> Result<Vec<Edge>, AllocError>
+    ensures edges { IfOk result (λ v. v.items ≡ edges_from tables.now 0 ways.now) }
+    ensures bounds { OnOk result (bounds.new.items ≡ bounds.old.items ++ bounds_from 0 ways.now) }
 {
     let mut edges = Vec::new(alloc);
     for (number, level) in ways.iter().enumerate() {
         add_edges(tables, number, level.ways(), &mut edges)?;
+        bounds.push(edges.len())?;
     }
     Ok(edges)
 }
@@ -302,8 +361,11 @@ fn all_edges(alloc: Global, tables: &Tables<'_>, ways: &[Level]) -> Result<Vec<E
 fn node_of(alloc: Global, tables: &Tables<'_>, site: &Site) -> Result<Node, AllocError>
     ensures { IfOk result (λ n. n ≡ node_of tables.now site.now) }
 {
+    let mut bounds = Vec::new(alloc);
+    let edges = all_edges(alloc, tables, site.ways(), &mut bounds)?;
     Ok(Node {
-        edges: all_edges(alloc, tables, site.ways())?,
+        edges,
+        bounds,
         atomic: site.atomic(),
     })
 }
