@@ -114,6 +114,9 @@ fn add_levels(
     graph: &Graph,
     node: usize,
 ) -> Result<(), AllocError> {
+    if node >= graph.node_count() {
+        return Ok(());
+    }
     add_number(alloc, out, node)?;
     out.push(':')?;
     for level in 0..graph.level_count(node) {
