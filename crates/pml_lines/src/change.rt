@@ -1,6 +1,7 @@
 //! The lines of the places that a step changed.
 
-ghost use Rattle.std.specs.Prelude.{◌≡◌, ◌++◌, true, slice_get, OnOk, IfOk, codes};
+ghost use Rattle.std.specs.Prelude.{◌≡◌, ◌++◌, true, slice_get, OnOk, OnErr, IfOk, codes};
+ghost use Rattle.std.specs.Io.{StartsWith};
 ghost use Rattle.std.specs.Fmt.{decimal};
 ghost use Rattle.std.specs.Option.{option_copied};
 ghost use Rattle.pml_lines.specs.Places.{place_line};
@@ -23,7 +24,8 @@ pub struct Wanted {
 
 /// Appends the name of a proctype, or `:init:`.
 pub fn proctype_name(name: &Token<'_>, text: &mut Vec<u8>) -> Result<(), AllocError>
-    ensures { OnOk result (text.new.items ≡ text.old.items ++ proctype_name name.now) }
+    ensures added { OnOk result (text.new.items ≡ text.old.items ++ proctype_name name.now) }
+    ensures kept { OnErr result (StartsWith text.new.items text.old.items) }
 {
     if same_kind(name.kind(), Kind::Init) {
         text.extend_from_slice(b":init:")
@@ -40,7 +42,8 @@ pub fn global_line(
     number: i32,
     text: &mut Vec<u8>,
 ) -> Result<(), AllocError>
-    ensures { OnOk result (text.new.items ≡ text.old.items ++ (codes "global " ++ place_line program.now slot.now cell number)) }
+    ensures added { OnOk result (text.new.items ≡ text.old.items ++ (codes "global " ++ place_line program.now slot.now cell number)) }
+    ensures kept { OnErr result (StartsWith text.new.items text.old.items) }
 {
     text.extend_from_slice(b"global ")?;
     place_line(program, slot, cell, number, text)
@@ -52,7 +55,8 @@ fn local_heading(
     proctype: &Proctype<'_>,
     text: &mut Vec<u8>,
 ) -> Result<(), AllocError>
-    ensures { OnOk result (text.new.items ≡ text.old.items ++ local_heading number proctype.now) }
+    ensures added { OnOk result (text.new.items ≡ text.old.items ++ local_heading number proctype.now) }
+    ensures kept { OnErr result (StartsWith text.new.items text.old.items) }
 {
     let mut digits = Buffer::new();
     text.extend_from_slice(b"local ")?;
@@ -69,7 +73,8 @@ fn heading_of(
     kind: usize,
     text: &mut Vec<u8>,
 ) -> Result<(), AllocError>
-    ensures { OnOk result (text.new.items ≡ text.old.items ++ heading_of process (slice_get program.now.proctypes kind)) }
+    ensures added { OnOk result (text.new.items ≡ text.old.items ++ heading_of process (slice_get program.now.proctypes kind)) }
+    ensures kept { OnErr result (StartsWith text.new.items text.old.items) }
 {
     match program.proctypes.as_slice().get(kind) {
         Some(proctype) => local_heading(process, proctype, text),
@@ -87,7 +92,8 @@ pub fn local_line(
     number: i32,
     text: &mut Vec<u8>,
 ) -> Result<(), AllocError>
-    ensures { OnOk result (text.new.items ≡ text.old.items ++ local_line program.now process kind slot.now cell number) }
+    ensures added { OnOk result (text.new.items ≡ text.old.items ++ local_line program.now process kind slot.now cell number) }
+    ensures kept { OnErr result (StartsWith text.new.items text.old.items) }
 {
     heading_of(program, process, kind, text)?;
     place_line(program, slot, cell, number, text)
@@ -139,7 +145,8 @@ fn process_line_at(
     number: i32,
     text: &mut Vec<u8>,
 ) -> Result<(), AllocError>
-    ensures { OnOk result (text.new.items ≡ text.old.items ++ line_at program.now (process_owners program.now true 0 kinds.now) at number) }
+    ensures added { OnOk result (text.new.items ≡ text.old.items ++ line_at program.now (process_owners program.now true 0 kinds.now) at number) }
+    ensures kept { OnErr result (StartsWith text.new.items text.old.items) }
 {
     let mut at = at;
     for (i, kind) in kinds.iter().enumerate() {
@@ -161,7 +168,8 @@ fn line_at(
     number: i32,
     text: &mut Vec<u8>,
 ) -> Result<(), AllocError>
-    ensures { OnOk result (text.new.items ≡ text.old.items ++ wanted_line program.now kinds.now wanted at number) }
+    ensures added { OnOk result (text.new.items ≡ text.old.items ++ wanted_line program.now kinds.now wanted at number) }
+    ensures kept { OnErr result (StartsWith text.new.items text.old.items) }
 {
     let (found, rest) = find_slot(program.globals.as_slice(), at);
     match found {
@@ -191,7 +199,8 @@ fn line_of_change(
     numbers: (i32, i32),
     text: &mut Vec<u8>,
 ) -> Result<(), AllocError>
-    ensures { OnOk result (text.new.items ≡ text.old.items ++ changed_line program.now kinds.now wanted at numbers) }
+    ensures added { OnOk result (text.new.items ≡ text.old.items ++ changed_line program.now kinds.now wanted at numbers) }
+    ensures kept { OnErr result (StartsWith text.new.items text.old.items) }
 {
     let (before, after) = numbers;
     if before == after {
@@ -210,7 +219,8 @@ fn lines_of_cells(
     after: &[i32],
     text: &mut Vec<u8>,
 ) -> Result<(), AllocError>
-    ensures { OnOk result (text.new.items ≡ text.old.items ++ cell_lines (wanted_line program.now kinds.now wanted) 0 before.now after.now) }
+    ensures added { OnOk result (text.new.items ≡ text.old.items ++ cell_lines (wanted_line program.now kinds.now wanted) 0 before.now after.now) }
+    ensures kept { OnErr result (StartsWith text.new.items text.old.items) }
 {
     let count = before.len().min(after.len());
     for at in 0..count {
@@ -229,8 +239,9 @@ pub fn value_lines(
     after: &[i32],
     text: &mut Vec<u8>,
 ) -> Result<(), AllocError>
-    ensures { AddsChanges program.now kinds.now wanted before.now after.now
+    ensures added { AddsChanges program.now kinds.now wanted before.now after.now
         (λ lines. OnOk result (text.new.items ≡ text.old.items ++ lines)) }
+    ensures kept { OnErr result (StartsWith text.new.items text.old.items) }
 {
     lines_of_cells(program, kinds, wanted, before, after, text)
 }
@@ -258,7 +269,8 @@ fn line_of_write(
     cells: &[i32],
     text: &mut Vec<u8>,
 ) -> Result<(), AllocError>
-    ensures { OnOk result (text.new.items ≡ text.old.items ++ write_line (wanted_line program.now kinds.now wanted) write (slice_get cells.now write.0)) }
+    ensures added { OnOk result (text.new.items ≡ text.old.items ++ write_line (wanted_line program.now kinds.now wanted) write (slice_get cells.now write.0)) }
+    ensures kept { OnErr result (StartsWith text.new.items text.old.items) }
 {
     let (at, before) = write;
     match cells.get(at) {
@@ -276,7 +288,8 @@ fn lines_of_writes(
     cells: &[i32],
     text: &mut Vec<u8>,
 ) -> Result<(), AllocError>
-    ensures { OnOk result (text.new.items ≡ text.old.items ++ write_lines (wanted_line program.now kinds.now wanted) cells.now writes.now.entries) }
+    ensures added { OnOk result (text.new.items ≡ text.old.items ++ write_lines (wanted_line program.now kinds.now wanted) cells.now writes.now.entries) }
+    ensures kept { OnErr result (StartsWith text.new.items text.old.items) }
 {
     for (at, before) in writes {
         line_of_write(program, kinds, wanted, (*at, *before), cells, text)?;
@@ -295,8 +308,9 @@ pub fn logged_lines(
     store: &Store,
     text: &mut Vec<u8>,
 ) -> Result<(), AllocError>
-    ensures { AreDeclared program.now kinds.now store.now.frames →
+    ensures added { AreDeclared program.now kinds.now store.now.frames →
         OnOk result (text.new.items ≡ text.old.items ++ step_lines program.now kinds.now store.now wanted) }
+    ensures kept { OnErr result (StartsWith text.new.items text.old.items) }
 {
     if !wanted.globals && !wanted.locals {
         return Ok(());

@@ -1,6 +1,7 @@
 //! The texts of places and of their numbers.
 
-ghost use Rattle.std.specs.Prelude.{◌≡◌, ◌-◌, ◌/◌, ◌%◌, ◌++◌, length, slice_get, OnOk};
+ghost use Rattle.std.specs.Prelude.{◌≡◌, ◌-◌, ◌/◌, ◌%◌, ◌++◌, length, slice_get, OnOk, OnErr};
+ghost use Rattle.std.specs.Io.{StartsWith};
 ghost use Rattle.std.specs.Fmt.{decimal, signed_decimal};
 ghost use Rattle.pml_cells.specs.Cells.{leaf};
 ghost use Rattle.pml_lines.specs.Places.{named, worth, element, fields_path, path, place_line};
@@ -15,7 +16,8 @@ use std::alloc::AllocError;
 
 /// Appends the mtype name with a number, counted from 1, or the number in decimal where there is none.
 pub fn named(constants: &[Token<'_>], number: i32, text: &mut Vec<u8>) -> Result<(), AllocError>
-    ensures { OnOk result (text.new.items ≡ text.old.items ++ named constants.now number) }
+    ensures added { OnOk result (text.new.items ≡ text.old.items ++ named constants.now number) }
+    ensures kept { OnErr result (StartsWith text.new.items text.old.items) }
 {
     if 0 < number {
         if let Some(name) = constants.get(number as usize - 1) {
@@ -33,7 +35,8 @@ pub fn worth(
     number: i32,
     text: &mut Vec<u8>,
 ) -> Result<(), AllocError>
-    ensures { OnOk result (text.new.items ≡ text.old.items ++ worth constants.now form number) }
+    ensures added { OnOk result (text.new.items ≡ text.old.items ++ worth constants.now form number) }
+    ensures kept { OnErr result (StartsWith text.new.items text.old.items) }
 {
     if let Form::Plain(Scalar::Mtype) = form {
         named(constants, number, text)
@@ -56,7 +59,8 @@ fn quotient(cell: usize, stride: u32) -> usize
 
 // Appends a variable or a field at one of its cells.
 fn element(slot: &Slot<'_>, cell: usize, text: &mut Vec<u8>) -> Result<(), AllocError>
-    ensures { OnOk result (text.new.items ≡ text.old.items ++ element slot.now cell) }
+    ensures added { OnOk result (text.new.items ≡ text.old.items ++ element slot.now cell) }
+    ensures kept { OnErr result (StartsWith text.new.items text.old.items) }
 {
     text.extend_from_slice(slot.name.text())?;
     if slot.array {
@@ -75,7 +79,8 @@ fn fields_path(
     cell: usize,
     text: &mut Vec<u8>,
 ) -> Result<(), AllocError>
-    ensures { OnOk result (text.new.items ≡ text.old.items ++ fields_path typedefs.now (length typedefs.now) form cell) }
+    ensures added { OnOk result (text.new.items ≡ text.old.items ++ fields_path typedefs.now (length typedefs.now) form cell) }
+    ensures kept { OnErr result (StartsWith text.new.items text.old.items) }
 {
     let mut form = form;
     let mut cell = cell;
@@ -103,7 +108,8 @@ pub fn path(
     cell: usize,
     text: &mut Vec<u8>,
 ) -> Result<(), AllocError>
-    ensures { OnOk result (text.new.items ≡ text.old.items ++ path program.now slot.now cell) }
+    ensures added { OnOk result (text.new.items ≡ text.old.items ++ path program.now slot.now cell) }
+    ensures kept { OnErr result (StartsWith text.new.items text.old.items) }
 {
     element(slot, cell, text)?;
     let within = remainder(cell, slot.stride);
@@ -118,7 +124,8 @@ pub fn place_line(
     number: i32,
     text: &mut Vec<u8>,
 ) -> Result<(), AllocError>
-    ensures { OnOk result (text.new.items ≡ text.old.items ++ place_line program.now slot.now cell number) }
+    ensures added { OnOk result (text.new.items ≡ text.old.items ++ place_line program.now slot.now cell number) }
+    ensures kept { OnErr result (StartsWith text.new.items text.old.items) }
 {
     path(program, slot, cell, text)?;
     text.extend_from_slice(b" = ")?;

@@ -1,3 +1,4 @@
 pub mod Moves
 pub mod Declared
 pub mod Stepping
+pub mod Leading

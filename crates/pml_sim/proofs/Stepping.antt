@@ -17,7 +17,7 @@ use Rattle.pml_sim.specs.declared.control.Control.{Control}
 use Rattle.pml_sim.specs.declared.control.OnlyMove.{OnlyMove}
 use Rattle.pml_sim.specs.Served.{body_of}
 use Rattle.pml_sim.specs.State.{State}
-use Rattle.pml_sim.specs.World.{standing, reading, forgotten, beyond, done_first, went, step, moves, rules}
+use Rattle.pml_sim.specs.World.{standing, reading, forgotten, beyond, done_first, went, step, rules}
 use Rattle.pml_sim.proofs.Declared.{stored_declared}
 
 -- the variables stay those that are declared

@@ -1,6 +1,7 @@
 //! The texts of a move and of a place.
 
-ghost use Rattle.std.specs.Prelude.{◌≡◌, ◌++◌, OnOk};
+ghost use Rattle.std.specs.Prelude.{◌≡◌, ◌++◌, OnOk, OnErr};
+ghost use Rattle.std.specs.Io.{StartsWith};
 ghost use Rattle.std.specs.Option.{option_copied};
 ghost use Rattle.std.specs.Fmt.{decimal};
 ghost use Rattle.pml_sim.specs.Texts as texts;
@@ -13,7 +14,8 @@ use pml_program::program::Proctype;
 use std::alloc::AllocError;
 
 fn add_number(text: &mut Vec<u8>, number: u32) -> Result<(), AllocError>
-    ensures { OnOk result (text.new.items ≡ text.old.items ++ decimal number) }
+    ensures added { OnOk result (text.new.items ≡ text.old.items ++ decimal number) }
+    ensures kept { OnErr result (StartsWith text.new.items text.old.items) }
 {
     let mut digits = Buffer::new();
     text.extend_from_slice(digits.format(number).as_bytes())
@@ -21,7 +23,8 @@ fn add_number(text: &mut Vec<u8>, number: u32) -> Result<(), AllocError>
 
 /// Appends tokens, joined by one space.
 pub fn add_tokens(text: &mut Vec<u8>, tokens: &[Token<'_>]) -> Result<(), AllocError>
-    ensures { OnOk result (text.new.items ≡ text.old.items ++ texts.joined tokens.now) }
+    ensures added { OnOk result (text.new.items ≡ text.old.items ++ texts.joined tokens.now) }
+    ensures kept { OnErr result (StartsWith text.new.items text.old.items) }
 {
     let [first, rest @ ..] = tokens else {
         return Ok(());
@@ -36,7 +39,8 @@ pub fn add_tokens(text: &mut Vec<u8>, tokens: &[Token<'_>]) -> Result<(), AllocE
 
 /// Appends the name of a proctype, by its number in the model.
 fn add_name(text: &mut Vec<u8>, proctype: Option<&Proctype<'_>>) -> Result<(), AllocError>
-    ensures { OnOk result (text.new.items ≡ text.old.items ++ name_by (option_copied proctype.entry)) }
+    ensures added { OnOk result (text.new.items ≡ text.old.items ++ name_by (option_copied proctype.entry)) }
+    ensures kept { OnErr result (StartsWith text.new.items text.old.items) }
 {
     match proctype {
         None => Ok(()),
@@ -50,7 +54,8 @@ pub fn add_place(
     proctype: Option<&Proctype<'_>>,
     line: u32,
 ) -> Result<(), AllocError>
-    ensures { OnOk result (text.new.items ≡ text.old.items ++ texts.place (name_by (option_copied proctype.entry)) line) }
+    ensures added { OnOk result (text.new.items ≡ text.old.items ++ texts.place (name_by (option_copied proctype.entry)) line) }
+    ensures kept { OnErr result (StartsWith text.new.items text.old.items) }
 {
     text.extend_from_slice(b"proc 0 (")?;
     add_name(text, proctype)?;

@@ -1,6 +1,7 @@
 //! A model with one process as a machine.
 
-ghost use Rattle.std.specs.Prelude.{◌≡◌, ◌++◌, [], OnOk, length, slice_get};
+ghost use Rattle.std.specs.Prelude.{◌≡◌, ◌++◌, [], OnOk, OnErr, length, slice_get};
+ghost use Rattle.std.specs.Io.{StartsWith};
 ghost use Rattle.std.specs.Option.{option_copied};
 ghost use Rattle.pml_value.specs.Reads.{reading_of, seen};
 ghost use Rattle.pml_value.specs.Statement.{TakesStatement};
@@ -112,7 +113,8 @@ impl<'p, 'a> World<'p, 'a> {
     }
 
     fn add_place(&self, text: &mut Vec<u8>) -> Result<(), AllocError>
-        ensures { OnOk result (text.new.items ≡ text.old.items ++ world.place_of self.now) }
+        ensures added { OnOk result (text.new.items ≡ text.old.items ++ world.place_of self.now) }
+        ensures kept { OnErr result (StartsWith text.new.items text.old.items) }
     {
         let proctype = self.proctype();
         let line = line(closing(proctype), self.standing());
@@ -259,7 +261,8 @@ fn closing(proctype: Option<&Proctype<'_>>) -> u32
 }
 
 fn add_action(text: &mut Vec<u8>, standing: Option<&Stmt<'_>>) -> Result<(), AllocError>
-    ensures { OnOk result (text.new.items ≡ text.old.items ++ world.action (option_copied standing.entry)) }
+    ensures added { OnOk result (text.new.items ≡ text.old.items ++ world.action (option_copied standing.entry)) }
+    ensures kept { OnErr result (StartsWith text.new.items text.old.items) }
 {
     match standing {
         Some(stmt) => add_tokens(text, stmt.tokens.as_slice()),

@@ -22,10 +22,12 @@ pub trait Machine {
         ensures all { IfOk result (λ moves. moves.items ≡ rules.moves self.now) }
         ensures stopped { IfOk result (λ moves. StopsForGood rules self.now moves.items) };
 
-    /// Appends the text of a move of the present state, or of the one at which the machine has stopped.
+    /// Appends the text of a move of the present state, or of the one at which the machine has stopped. Where memory is refused,
+    /// here and below, the text has its old bytes, perhaps with more behind them.
     fn show(&self, m: &Self::Move, text: &mut Vec<u8>) -> Result<(), AllocError>
         requires present { CanBeShown rules self.now m.now }
-        ensures { OnOk result (text.new.items ≡ text.old.items ++ rules.text self.now m.now) };
+        ensures added { OnOk result (text.new.items ≡ text.old.items ++ rules.text self.now m.now) }
+        ensures kept { OnErr result (StartsWith text.new.items text.old.items) };
 
     /// Takes a move of the present state, and appends what it prints. After a fault or want of memory the machine has stopped:
     /// each later call answers the same, and changes nothing. The move can still be shown, with the text that it had. The text
@@ -38,7 +40,8 @@ pub trait Machine {
 
     /// Appends the value lines of the last step, of global and of local variables.
     fn values(&self, globals: bool, locals: bool, text: &mut Vec<u8>) -> Result<(), AllocError>
-        ensures { OnOk result (text.new.items ≡ text.old.items ++ rules.values self.now globals locals) };
+        ensures added { OnOk result (text.new.items ≡ text.old.items ++ rules.values self.now globals locals) }
+        ensures kept { OnErr result (StartsWith text.new.items text.old.items) };
 
     /// Whether an end in the present state is a valid one.
     fn is_valid(&self) -> bool
@@ -46,5 +49,6 @@ pub trait Machine {
 
     /// Appends the lines that follow the last line of an invalid end.
     fn stuck(&self, text: &mut Vec<u8>) -> Result<(), AllocError>
-        ensures { OnOk result (text.new.items ≡ text.old.items ++ rules.stuck self.now) };
+        ensures added { OnOk result (text.new.items ≡ text.old.items ++ rules.stuck self.now) }
+        ensures kept { OnErr result (StartsWith text.new.items text.old.items) };
 }

@@ -4,8 +4,8 @@ use Rattle.pml_program.specs.declared.program.Slot.{Slot}
 use Rattle.pml_lines.proofs.Seeking.{line-after, line-unwanted}
 use Rattle.pml_lines.proofs.change.line_at.Goals as goal
 
-pub returns-else-wanted-2 : goal.returns-else-wanted-2
-returns-else-wanted-2 c =
+pub returns-else-wanted-2-clause-added : goal.returns-else-wanted-2-clause-added
+returns-else-wanted-2-clause-added c =
     let found = rw c.in-None.is at c.find_slot-rest.ensures.slot in
     let p = c.args.program.now in
     let here = found ∙ ap (λ (ss : List Slot). slot_of ss c.args.at) c.as_slice.ensures in

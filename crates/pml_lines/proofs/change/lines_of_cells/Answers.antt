@@ -2,6 +2,7 @@ use Rattle.std.proofs.Common.{rules, to_z, of_z, FitsSigned, w32, ◌++◌, ◌�
 use Rattle.std.proofs.lemmas.Int.{to_z-of_z}
 use Rattle.std.specs.Ordering.{int_eq}
 use Rattle.pml_lines.specs.Changes.{owners, cell_lines, line_at}
+use Rattle.pml_lines.proofs.Keeping.{front, behind}
 use Rattle.pml_lines.proofs.Seeking.{cells-more, cells-end}
 use Rattle.pml_lines.proofs.change.lines_of_cells.Goals as goal
 
@@ -16,15 +17,18 @@ loop-at-preserved c =
     let after = get_or c.args.after.now k (pos 0) in
     let fits_before : FitsSigned w32 before = search rules in
     let fits_after : FitsSigned w32 after = search rules in
-    ap (λ (x : List ℕ). x ++ rest) c.in_ok-line_of_change.ensures
-    ∙ ap (λ (x : ℤ). (c.loop-at.text.items ++ one x (to_z w32 (of_z w32 after))) ++ rest) (to_z-of_z w32 before fits_before)
-    ∙ ap (λ (x : ℤ). (c.loop-at.text.items ++ one before x) ++ rest) (to_z-of_z w32 after fits_after)
-    ∙ append_assoc c.loop-at.text.items (one before after) rest
-    ∙ ap (λ (x : List ℕ). c.loop-at.text.items ++ x) (sym more)
-    ∙ c.loop-at.invariant
+    record {
+      same = ap (λ (x : List ℕ). x ++ rest) c.in_ok-line_of_change.ensures.added
+          ∙ ap (λ (x : ℤ). (c.loop-at.text.items ++ one x (to_z w32 (of_z w32 after))) ++ rest) (to_z-of_z w32 before fits_before)
+          ∙ ap (λ (x : ℤ). (c.loop-at.text.items ++ one before x) ++ rest) (to_z-of_z w32 after fits_after)
+          ∙ append_assoc c.loop-at.text.items (one before after) rest
+          ∙ ap (λ (x : List ℕ). c.loop-at.text.items ++ x) (sym more)
+          ∙ c.loop-at.invariant.same;
+      kept = behind c.line_of_change.new.text.items c.loop-at.text.items c.args.text.now.items (simp (c.in_ok-line_of_change.ensures.added, front)) c.loop-at.invariant.kept;
+    }
 
-pub returns : goal.returns
-returns c =
+pub returns-clause-added : goal.returns-clause-added
+returns-clause-added c =
     let f = line_at c.args.program.now (owners c.args.program.now c.args.wanted.globals c.args.wanted.locals c.args.kinds.now) in
     let none = cells-end f c.args.before.now c.args.after.now c.loop-at.at (omega (arith, c.min-count.ensures)) in
-    sym (append-nil c.loop-at.text.items) ∙ ap (λ (x : List ℕ). c.loop-at.text.items ++ x) (sym none) ∙ c.loop-at.invariant
+    sym (append-nil c.loop-at.text.items) ∙ ap (λ (x : List ℕ). c.loop-at.text.items ++ x) (sym none) ∙ c.loop-at.invariant.same

@@ -17,8 +17,8 @@ loop-i-preserved c =
           ∙ c.loop-i.invariant.left v;
     }
 
-pub returns-in-Some : goal.returns-in-Some
-returns-in-Some c =
+pub returns-in-Some-clause-added : goal.returns-in-Some-clause-added
+returns-in-Some-clause-added c =
     let found = rw c.in-Some.is at c.find_local-rest.ensures.slot in
     let p = c.args.program.now in
     let old = c.args.text.now.items in
@@ -30,10 +30,10 @@ returns-in-Some c =
     ∙ ap (λ (x : List ℕ). x ++ (heading ++ place_line p c.in-Some.slot.now c.find_local-rest.result.1 c.args.number)) c.loop-i.invariant.text
     ∙ ap (λ (n : ℕ). old ++ (heading ++ place_line p c.in-Some.slot.now n c.args.number)) c.find_local-rest.ensures.cell
     ∙ ap (λ (x : List ℕ). old ++ x) (sym (process-here p c.args.kinds.now c.loop-i.i c.loop-i.at c.args.number c.in-Some.slot.now c.loop-i-test.true found) ∙ c.loop-i.invariant.left c.args.number))
-    c.local_line.ensures
+    c.local_line.ensures.added
 
-pub returns : goal.returns
-returns c =
+pub returns-clause-added : goal.returns-clause-added
+returns-clause-added c =
     let z : drop c.loop-i.i c.args.kinds.now ≡ [] = drop_all c.loop-i.i c.args.kinds.now (omega arith) in
     let none = ap (λ (ks : List ℕ). line_at c.args.program.now (process_owners c.args.program.now true c.loop-i.i ks) c.loop-i.at c.args.number) (sym z) ∙ c.loop-i.invariant.left c.args.number in
     c.loop-i.invariant.text ∙ sym (append-nil c.args.text.now.items) ∙ ap (λ (x : List ℕ). c.args.text.now.items ++ x) none
