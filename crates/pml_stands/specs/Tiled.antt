@@ -8,7 +8,7 @@ use Rattle.pml_program.specs.declared.program.Slot.{Slot}
 use Rattle.pml_program.specs.declared.program.Fields.{Fields}
 use Rattle.pml_program.specs.declared.program.Proctype.{Proctype}
 use Rattle.pml_program.specs.declared.program.Program.{Program}
-use Rattle.pml_stands.specs.Declared.{cells, counted}
+use Rattle.pml_stands.specs.Known.{cells, counted}
 
 -- the fields of the typedef whose owner this is
 abbrev pub fields_at : List Fields → ℕ → Option (List Slot)
