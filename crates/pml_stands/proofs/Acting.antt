@@ -20,7 +20,7 @@ use Rattle.pml_resolve.specs.declared.reached.Reached.{Reached}
 use Rattle.pml_resolve.specs.declared.reached.Reached.TheVariants as r
 use Rattle.pml_resolve.specs.Numbered.{Scope, at_scope, numbered, numbered_argument, numbered_reference}
 use Rattle.pml_resolve.specs.Statements.{values, store, at, run, action, proctype_of as numbered_proctype}
-use Rattle.pml_stands.specs.Declared.{Globals, variable_named, proctype_named}
+use Rattle.pml_stands.specs.Known.{Globals, variable_named, proctype_named}
 use Rattle.pml_stands.specs.Stands.{Meaning, as_place, StandsReference, StandsExpr, StandsArguments}
 use Rattle.pml_stands.specs.Stands as parts
 use Rattle.pml_stands.specs.StandsStatements as stands

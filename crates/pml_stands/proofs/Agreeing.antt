@@ -17,7 +17,7 @@ use Rattle.pml_program.specs.declared.program.Slot.{Slot}
 use Rattle.pml_resolve.specs.declared.reached.Reached.{Reached}
 use Rattle.pml_resolve.specs.declared.reached.Reached.TheVariants as r
 use Rattle.pml_resolve.specs.Numbered.{Scope, Path, Stepped, reached, stands_for, is_local, into, through, with_turn}
-use Rattle.pml_stands.specs.Declared.{Structure, Globals, one_behind, variable_named, constant_named, typedef_named, fields_of, fields_in}
+use Rattle.pml_stands.specs.Known.{Structure, Globals, one_behind, variable_named, constant_named, typedef_named, fields_of, fields_in}
 use Rattle.pml_stands.proofs.Things.{variable_of, as_variable, as_thing, as_typedef, in_variable, in_constant, in_typedef, has_number, IsKnown, AreKnown}
 use Rattle.pml_stands.specs.Stands.{Meaning, Place, Mtype, Pid, Count, Anything, Nothing, special, turn_to, target_at}
 

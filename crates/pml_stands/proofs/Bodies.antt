@@ -17,7 +17,7 @@ use Rattle.pml_program.specs.declared.program.Seq.{Seq}
 use Rattle.pml_resolve.specs.Numbered.{scope}
 use Rattle.pml_resolve.specs.Declarations.{Known}
 use Rattle.pml_resolve.specs.Statements.{Threaded, each, stmts, joined, basic_layer, item_layer, seq_layer, numbered_basic, numbered_item, numbered_seq, proctype_of}
-use Rattle.pml_stands.specs.Declared.{Globals}
+use Rattle.pml_stands.specs.Known.{Globals}
 use Rattle.pml_stands.specs.StandsStatements as stands
 use Rattle.pml_stands.specs.StandsStatements.{item_of, items_of, stmt_of, steps_of, StandsBasic, StandsItems, StandsSeq, StandsOptions}
 use Rattle.pml_stands.proofs.Declaring.{Runs, Ready, sees-of, variables-ready, variables-stand, only_variables}

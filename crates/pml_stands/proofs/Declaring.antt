@@ -30,7 +30,7 @@ use Rattle.pml_program.specs.declared.program.Slot.{Slot}
 use Rattle.pml_resolve.specs.Numbered.{Scope, scope}
 use Rattle.pml_resolve.specs.Declarations.{Known, known, natural, initial, slot, declares, added_variable, with_variable, with_variables}
 use Rattle.pml_resolve.specs.Statements.{proctype_of}
-use Rattle.pml_stands.specs.Declared.{Structure, Globals, variable_named, typedef_named, is_declared, proctype_named, cells, counted}
+use Rattle.pml_stands.specs.Known.{Structure, Globals, variable_named, typedef_named, is_declared, proctype_named, cells, counted}
 use Rattle.pml_stands.specs.StandsStatements as stands
 use Rattle.pml_stands.specs.StandsStatements.{or_none, count_of, size_of, elements, seen, StandsSort, StandsInitial, StandsVariable, StandsVariables}
 use Rattle.pml_stands.proofs.Things.{variable_of, as_thing, as_typedef, in_variable, in_constant, in_typedef, has_number, IsKnown, AreKnown}

@@ -14,7 +14,7 @@ use Rattle.pml_names.specs.Entry.{Entry, entry, found, is_named}
 use Rattle.pml_names.specs.Env.{variables, variables_in, held, cells_in, constants, constants_in, after, add, thing_of}
 use Rattle.pml_names.specs.Meaning.{or_else}
 use Rattle.pml_program.specs.declared.program.Slot.{Slot}
-use Rattle.pml_stands.specs.Declared.{Structure, one_behind, one_more, variable_named, constant_named, typedef_named, has_name, cells}
+use Rattle.pml_stands.specs.Known.{Structure, one_behind, one_more, variable_named, constant_named, typedef_named, has_name, cells}
 use Rattle.pml_stands.proofs.Things.{as_thing, IsKnown, AreKnown}
 
 -- the first of two that is one

@@ -12,7 +12,7 @@ use Rattle.pml_program.specs.declared.program.Slot.{Slot}
 use Rattle.pml_program.specs.declared.program.Fields.{Fields}
 use Rattle.pml_program.specs.declared.program.Proctype.{Proctype}
 use Rattle.pml_program.specs.declared.program.Program.{Program}
-use Rattle.pml_stands.specs.Declared.{cells, counted}
+use Rattle.pml_stands.specs.Known.{cells, counted}
 use Rattle.pml_stands.specs.Tiled as tiled
 use Rattle.pml_stands.specs.Tiled.{fields_at, HasWidth, Begins, Tile, TypedefsTile, IsTiled, is_struct, Leads, HasPaths, IsOwner}
 use Rattle.pml_stands.proofs.Tiling.{tile-still, fields-still, model-tiled}

@@ -15,3 +15,4 @@ pub mod Model
 mod Tiling
 mod Leading
 mod Rows
+mod Going

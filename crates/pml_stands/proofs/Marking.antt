@@ -41,7 +41,7 @@ use Rattle.pml_names.specs.declared.thing.Thing.TheVariants as thing
 use Rattle.pml_names.specs.Entry.{Entry, entry, found}
 use Rattle.pml_names.specs.Env.{after, add, env, env_from, thing_of}
 use Rattle.pml_names.specs.Meaning.{or_else}
-use Rattle.pml_stands.specs.Declared.{has_name, names_of, declares, is_proctype, proctype_named}
+use Rattle.pml_stands.specs.Known.{has_name, names_of, declares, is_proctype, proctype_named}
 use Rattle.pml_stands.proofs.Growing.{if_so, found-more, found-other, after-new, after-old}
 use Rattle.pml_stands.proofs.Reading.{ReadsAll, or_process, after-read, constants-read, cond-or, name-reversed}
 

@@ -6,7 +6,7 @@ use Rattle.pml_marks.specs.Marks.{of_tree}
 use Rattle.pml_names.specs.Env.{env}
 use Rattle.pml_program.specs.declared.program.Program.{Program}
 use Rattle.pml_resolve.specs.Model.{made, no_program, numbered_model}
-use Rattle.pml_stands.specs.Declared.{nothing_of}
+use Rattle.pml_stands.specs.Known.{nothing_of}
 use Rattle.pml_stands.specs.StandsModel as stands
 use Rattle.pml_stands.specs.StandsModel.{StandsModel}
 use Rattle.pml_stands.proofs.Declaring.{Base}

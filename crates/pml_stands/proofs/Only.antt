@@ -12,7 +12,7 @@ use Rattle.pml_program.specs.declared.expr.Want.{Want}
 use Rattle.pml_program.specs.declared.expr.Want.TheVariants as w
 use Rattle.pml_program.specs.declared.expr.Turn.{Turn}
 use Rattle.pml_resolve.specs.Numbered.{Scope, Path, through, at_scope, numbered, numbered_argument, numbered_reference, numbered_step}
-use Rattle.pml_stands.specs.Declared.{Globals}
+use Rattle.pml_stands.specs.Known.{Globals}
 use Rattle.pml_stands.specs.Stands as stands
 use Rattle.pml_stands.specs.Stands.{Meaning, Place, as_value, as_place, as_wanted, target_at, turn_to, StandsIndex, StandsStep, StandsFields, StandsReference, StandsExpr, StandsArgument, StandsArguments}
 use Rattle.pml_stands.proofs.Things.{IsKnown}

@@ -19,7 +19,7 @@ use Rattle.pml_names.specs.Env.{after, env_from, thing_of}
 use Rattle.pml_names.specs.Meaning.{or_else, only_process}
 use Rattle.pml_resolve.specs.Declarations.{Known, declares as variable_declares, added_variable, with_variable, with_variables}
 use Rattle.pml_resolve.specs.Statements.{proctype_of}
-use Rattle.pml_stands.specs.Declared.{Globals, has_name, names_of, proctype_named}
+use Rattle.pml_stands.specs.Known.{Globals, has_name, names_of, proctype_named}
 use Rattle.pml_stands.specs.StandsStatements.{or_none}
 use Rattle.pml_stands.proofs.Growing.{if_so, found-own, after-new, after-old, same-name, name-more}
 use Rattle.pml_stands.proofs.Declaring.{Runs}

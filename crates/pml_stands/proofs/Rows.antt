@@ -39,7 +39,7 @@ use Rattle.pml_program.specs.declared.program.Seq.{Seq}
 use Rattle.pml_program.specs.declared.expr.Expr.TheVariants as v
 use Rattle.pml_program.specs.declared.expr.Want.TheVariants as w
 use Rattle.pml_program.specs.declared.expr.Target.{Target}
-use Rattle.pml_stands.specs.Declared.{Globals, constant_named, with_constants, nothing_of}
+use Rattle.pml_stands.specs.Known.{Globals, constant_named, with_constants, nothing_of}
 use Rattle.pml_stands.specs.Stands
 use Rattle.pml_stands.specs.Stands.{Place, Mtype, Pid, Count, Anything, Nothing, step_of, reference_of, turn_to, target_at, StandsExpr, StandsReference, StandsArgument}
 use Rattle.pml_stands.specs.StandsStatements as statement

@@ -12,7 +12,7 @@ use Rattle.pml_program.specs.declared.program.Slot.{Slot}
 use Rattle.pml_program.specs.declared.expr.Expr.{Expr}
 use Rattle.pml_program.specs.declared.expr.Want.{Want}
 use Rattle.pml_resolve.specs.Numbered.{Scope, Path, through, at_scope, numbered, numbered_argument, numbered_reference, numbered_step}
-use Rattle.pml_stands.specs.Declared.{Globals, variable_named, constant_named, fields_in}
+use Rattle.pml_stands.specs.Known.{Globals, variable_named, constant_named, fields_in}
 use Rattle.pml_stands.specs.Stands as stands
 use Rattle.pml_stands.specs.Stands.{Meaning, special, step_of, reference_of, turn_to, StandsIndex, StandsStep, StandsFields, StandsReference, StandsExpr, StandsArgument, StandsArguments}
 use Rattle.pml_stands.proofs.Things.{IsKnown}

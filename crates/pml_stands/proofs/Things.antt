@@ -7,7 +7,7 @@ use Rattle.pml_names.specs.declared.thing.Variable.{Variable}
 use Rattle.pml_program.specs.declared.form.Form.{Form}
 use Rattle.pml_program.specs.declared.form.Form.TheVariants as kind
 use Rattle.pml_program.specs.declared.program.Slot.{Slot}
-use Rattle.pml_stands.specs.Declared.{Structure, cells, counted}
+use Rattle.pml_stands.specs.Known.{Structure, cells, counted}
 
 -- ---- what a variable's slot is as a name's
 

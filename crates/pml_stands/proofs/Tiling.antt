@@ -27,7 +27,7 @@ use Rattle.pml_program.specs.declared.program.Stmt.{Stmt}
 use Rattle.pml_program.specs.declared.program.Fields.{Fields}
 use Rattle.pml_program.specs.declared.program.Proctype.{Proctype}
 use Rattle.pml_program.specs.declared.program.Program.{Program}
-use Rattle.pml_stands.specs.Declared.{Structure, Globals, typedef_named, is_declared, with_constant, with_constants, with_proctype, cells, counted}
+use Rattle.pml_stands.specs.Known.{Structure, Globals, typedef_named, is_declared, with_constant, with_constants, with_proctype, cells, counted}
 use Rattle.pml_stands.specs.StandsStatements as stands
 use Rattle.pml_stands.specs.StandsStatements.{size_of, elements, StandsSort, StandsVariable, StandsVariables, StandsBasic, StandsItems, StandsSeq, StandsOptions}
 use Rattle.pml_stands.specs.StandsModel as units

@@ -27,7 +27,7 @@ use Rattle.pml_resolve.specs.Numbered.{scope}
 use Rattle.pml_resolve.specs.Declarations.{Known, known, added_variable, with_variable, with_variables}
 use Rattle.pml_resolve.specs.Statements.{numbered_seq}
 use Rattle.pml_resolve.specs.Model.{Made, made, count, with_unit, with_units}
-use Rattle.pml_stands.specs.Declared.{Globals, is_declared, with_constant, with_constants, with_typedef, with_proctype, declares, proctype_named}
+use Rattle.pml_stands.specs.Known.{Globals, is_declared, with_constant, with_constants, with_typedef, with_proctype, declares, proctype_named}
 use Rattle.pml_stands.specs.StandsStatements.{StandsVariables, StandsSeq}
 use Rattle.pml_stands.specs.StandsModel as stands
 use Rattle.pml_stands.specs.StandsModel.{with_variables as with_slots, beginning, fields_with, structure, proctype_with, program_of, StandsGlobals, StandsUnits}

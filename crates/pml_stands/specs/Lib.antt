@@ -1,4 +1,4 @@
-pub mod Declared
+pub mod Known
 pub mod Stands
 pub mod StandsStatements
 pub mod StandsModel

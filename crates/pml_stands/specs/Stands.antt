@@ -28,7 +28,7 @@ use Rattle.pml_program.specs.declared.expr.Want.{Want}
 use Rattle.pml_program.specs.declared.expr.Want.TheVariants as w
 use Rattle.pml_program.specs.declared.expr.Target.{Target, roll-Target}
 use Rattle.pml_program.specs.declared.expr.Turn.{Turn, roll-Turn}
-use Rattle.pml_stands.specs.Declared.{Globals, variable_named, constant_named, fields_in}
+use Rattle.pml_stands.specs.Known.{Globals, variable_named, constant_named, fields_in}
 
 -- ---- the trees, by their parts
 

@@ -15,7 +15,7 @@ use Rattle.pml_program.specs.declared.program.Seq.{Seq}
 use Rattle.pml_program.specs.declared.program.Fields.{Fields}
 use Rattle.pml_program.specs.declared.program.Proctype.{Proctype}
 use Rattle.pml_program.specs.declared.program.Program.{Program}
-use Rattle.pml_stands.specs.Declared.{Globals, Structure, is_declared, with_constants, with_typedef, with_proctype, nothing_of}
+use Rattle.pml_stands.specs.Known.{Globals, Structure, is_declared, with_constants, with_typedef, with_proctype, nothing_of}
 use Rattle.pml_stands.specs.StandsStatements.{count_of, StandsVariable, StandsVariables, StandsSeq}
 
 abbrev pub with_variables : Globals → List Slot → Globals

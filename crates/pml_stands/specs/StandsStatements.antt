@@ -42,7 +42,7 @@ use Rattle.pml_program.specs.declared.program.Basic.{Basic}
 use Rattle.pml_program.specs.declared.program.Basic.TheVariants as b
 use Rattle.pml_program.specs.declared.program.Stmt.{Stmt, roll-Stmt}
 use Rattle.pml_program.specs.declared.program.Seq.{Seq, roll-Seq}
-use Rattle.pml_stands.specs.Declared.{Globals, Structure, variable_named, typedef_named, proctype_named, cells, counted}
+use Rattle.pml_stands.specs.Known.{Globals, Structure, variable_named, typedef_named, proctype_named, cells, counted}
 use Rattle.pml_stands.specs.Stands.{Meaning, Place, as_place, StandsExpr, StandsReference, StandsArguments}
 
 -- a number that is none is refused by itself

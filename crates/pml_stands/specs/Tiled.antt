@@ -8,7 +8,12 @@ use Rattle.pml_program.specs.declared.program.Slot.{Slot}
 use Rattle.pml_program.specs.declared.program.Fields.{Fields}
 use Rattle.pml_program.specs.declared.program.Proctype.{Proctype}
 use Rattle.pml_program.specs.declared.program.Program.{Program}
-use Rattle.pml_stands.specs.Declared.{cells, counted}
+use Rattle.pml_program.specs.declared.expr.Turn.{Turn, out-Turn}
+use Rattle.pml_program.specs.declared.expr.Target.{Target, Target-F, out-Target}
+use Rattle.pml_program.specs.declared.expr.Expr.{Expr}
+use Rattle.pml_program.specs.declared.expr.Want.{Want}
+use Rattle.pml_stands.specs.Known.{Structure, Globals, cells, counted}
+use Rattle.pml_stands.specs.Stands.{Meaning, Place}
 
 -- the fields of the typedef whose owner this is
 abbrev pub fields_at : List Fields → ℕ → Option (List Slot)
@@ -65,3 +70,43 @@ pub record HasPaths (ts : List Fields) (ss : List Slot) : Type 0 where
 pub data IsOwner (p : Program) : List Slot → Type 0 where
   globally : cells p.globals ≤ MOST_CELLS → IsOwner p p.globals
   locally : (k : ℕ) {q : Proctype} → slice_get p.proctypes k ≡ Some q → cells q.variables ≤ MOST_CELLS → IsOwner p q.variables
+
+-- ---- references
+
+-- the cell that turns lead to, by these indices
+abbrev pub reached : List Turn → List ℕ → ℕ
+reached [] is = 0
+reached (t ∷ ts) [] = 0
+reached (t ∷ ts) (i ∷ is) = (out-Turn t).offset + (i * (out-Turn t).stride + reached ts is)
+
+-- an index for each turn, within its elements
+abbrev pub AreWithin : List Turn → List ℕ → Type 0
+AreWithin [] [] = Unit {0}
+AreWithin (t ∷ ts) (i ∷ is) = (i < (out-Turn t).length) × AreWithin ts is
+AreWithin _ _ = ⊥
+
+-- the typedefs that are declared before a place are those of the model
+abbrev pub AreAmong : List Structure → List Fields → Type 0
+AreAmong xs ts = AllByRecursion (λ (x : Structure). fields_at ts x.number ≡ Some x.fields) xs
+
+-- the variables that a target's is one of
+abbrev pub variables_of : Globals → List Slot → Bool → List Slot
+variables_of gs ls true = ls
+variables_of gs ls false = gs.variables
+
+-- what a variable's own turns lead to, from the variable's first cell on, is a cell that one of its paths leads to
+pub record LeadsOn (ts : List Fields) (ss : List Slot) (n : ℕ) (turns : List Turn) (is : List ℕ) : Type 0 where
+  pub slot : Slot
+  pub there : slice_get ss n ≡ Some slot
+  pub path : List (ℕ × ℕ)
+  pub leads : Leads ts ss (slot.offset + reached turns is) path
+
+-- where a target is of no typedef's type, its turns lead from its variable's first cell to a cell with a path
+abbrev pub TargetLeads : Globals → List Slot → List Fields → Target-F Expr Want Target Turn → Type 0
+TargetLeads gs ls ts x =
+    (is : List ℕ) → is_struct x.form ≡ false → AreWithin x.turns is → LeadsOn ts (variables_of gs ls x.local) x.variable x.turns is
+
+-- where a reference means a place
+abbrev pub LeadsAs : Globals → List Slot → List Fields → Meaning → Type 0
+LeadsAs gs ls ts (Place t) = TargetLeads gs ls ts (out-Target t)
+LeadsAs gs ls ts _ = Unit {0}

@@ -6,7 +6,11 @@ ghost use Rattle.pml_program.specs.declared.program.Slot.{Slot};
 ghost use Rattle.pml_program.specs.declared.program.Program.{Program};
 ghost use Rattle.pml_resolve.specs.Model.{numbered_model};
 ghost use Rattle.pml_stands.specs.StandsModel.{StandsModel};
-ghost use Rattle.pml_stands.specs.Tiled.{IsTiled, IsOwner, HasPaths};
+ghost use Rattle.pml_stands.specs.Known.{Globals};
+ghost use Rattle.pml_stands.specs.Stands.{Meaning, StandsReference};
+ghost use Rattle.pml_stands.specs.Tiled.{IsTiled, IsOwner, HasPaths, AreAmong, LeadsAs};
+ghost use Rattle.pml_tree.specs.declared.tree.Reference.{Reference};
+ghost use Rattle.pml_program.specs.declared.program.Fields.{Fields};
 
 /// A tree stands for its numbered model: the one that `check` answers where the tree is not refused.
 pub fn numbering_stands()
@@ -28,4 +32,11 @@ pub fn cells_are_tiled()
 /// cells has exactly one path of variables, fields and indices, and no path leads anywhere else.
 pub fn each_cell_has_one_path()
     ensures { (t : Tree) (p : Program) (ss : List Slot) → StandsModel t p → IsOwner p ss → HasPaths p.typedefs ss }
+{}
+
+/// What a reference names: where it means a place of no typedef's type, and its indices lie within, its turns lead to a cell that a path
+/// from the same variable leads to, where the typedefs before it are those of the model.
+pub fn references_lead()
+    ensures { (gs : Globals) (ls : List Slot) (ts : List Fields) (r : Reference) (m : Meaning) → AreAmong gs.typedefs ts
+        → StandsReference gs ls r m → LeadsAs gs ls ts m }
 {}

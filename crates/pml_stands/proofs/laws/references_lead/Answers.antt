@@ -1,0 +1,5 @@
+use Rattle.pml_stands.proofs.Going.{reference-leads}
+use Rattle.pml_stands.proofs.laws.references_lead.Goals as goal
+
+pub returns : goal.returns
+returns c = λ gs ls ts r m among h. reference-leads gs ts among h
