@@ -112,35 +112,42 @@ between from to = take (length from - length to) from
 mutual
   pub data SpellsIndex : Option Expr → List Word → List Word → Type 0 where
     no_index : {to : List Word} → SpellsIndex None to to
-    index : {o c : Word} {x : Expr} {from to : List Word} → o.kind ≡ k.OpenBracket → SpellsExpr 1 x from (c ∷ to) → c.kind ≡ k.CloseBracket → SpellsIndex (Some x) (o ∷ from) to
+    index : {o c : Word} {x : Expr} {from to : List Word} → o.kind ≡ k.OpenBracket → SpellsExpr 1 x from (c ∷ to) → c.kind ≡ k.CloseBracket
+        → SpellsIndex (Some x) (o ∷ from) to
 
   pub data SpellsStep : Step → List Word → List Word → Type 0 where
     step : {n : Word} {i : Option Expr} {from to : List Word} → n.kind ≡ k.Name → SpellsIndex i from to → SpellsStep (step_of n i) (n ∷ from) to
 
   pub data SpellsFields : List Step → List Word → List Word → Type 0 where
     no_field : {to : List Word} → SpellsFields [] to to
-    one_field : {d : Word} {s : Step} {ss : List Step} {from middle to : List Word} → d.kind ≡ k.Dot → SpellsStep s from middle → SpellsFields ss middle to → SpellsFields (s ∷ ss) (d ∷ from) to
+    one_field : {d : Word} {s : Step} {ss : List Step} {from middle to : List Word} → d.kind ≡ k.Dot → SpellsStep s from middle
+        → SpellsFields ss middle to → SpellsFields (s ∷ ss) (d ∷ from) to
 
   pub data SpellsReference : Reference → List Word → List Word → Type 0 where
-    reference : {s : Step} {ss : List Step} {from middle to : List Word} → SpellsStep s from middle → SpellsFields ss middle to → SpellsReference (reference_of s ss) from to
+    reference : {s : Step} {ss : List Step} {from middle to : List Word} → SpellsStep s from middle → SpellsFields ss middle to
+        → SpellsReference (reference_of s ss) from to
 
   pub data SpellsExpr : ℕ → Expr → List Word → List Word → Type 0 where
     number : {least : ℕ} {n : Word} {to : List Word} → n.kind ≡ k.Number → SpellsExpr least (e.Number n) (n ∷ to) to
     truth_value : {least : ℕ} {w : Word} {v : Bool} {to : List Word} → truth w.kind ≡ Some v → SpellsExpr least (e.Truth v) (w ∷ to) to
     timeout : {least : ℕ} {w : Word} {to : List Word} → w.kind ≡ k.Timeout → SpellsExpr least e.Timeout (w ∷ to) to
     read : {least : ℕ} {r : Reference} {from to : List Word} → SpellsReference r from to → SpellsExpr least (e.Read r) from to
-    poll : {least : ℕ} {r : Reference} {q o c : Word} {look : Search} {xs : List Argument} {from middle to : List Word} → SpellsReference r from (q ∷ o ∷ middle) → query q.kind ≡ Some look → o.kind ≡ k.OpenBracket
+    poll : {least : ℕ} {r : Reference} {q o c : Word} {look : Search} {xs : List Argument} {from middle to : List Word}
+        → SpellsReference r from (q ∷ o ∷ middle) → query q.kind ≡ Some look → o.kind ≡ k.OpenBracket
         → SpellsArguments xs middle (c ∷ to) → c.kind ≡ k.CloseBracket → SpellsExpr least (e.Poll r look xs) from to
-    ask : {least : ℕ} {w o c : Word} {f : Fill} {r : Reference} {from to : List Word} → fill w.kind ≡ Some f → o.kind ≡ k.OpenParen → SpellsReference r from (c ∷ to) → c.kind ≡ k.CloseParen
+    ask : {least : ℕ} {w o c : Word} {f : Fill} {r : Reference} {from to : List Word} → fill w.kind ≡ Some f → o.kind ≡ k.OpenParen
+        → SpellsReference r from (c ∷ to) → c.kind ≡ k.CloseParen
         → SpellsExpr least (e.Ask f r) (w ∷ o ∷ from) to
-    unary : {least : ℕ} {o : Word} {p : Prefix} {x : Expr} {from to : List Word} → prefix_operator o.kind ≡ Some p → least ≤ prefix_level → SpellsExpr prefix_level x from to
+    unary : {least : ℕ} {o : Word} {p : Prefix} {x : Expr} {from to : List Word} → prefix_operator o.kind ≡ Some p → least ≤ prefix_level
+        → SpellsExpr prefix_level x from to
         → SpellsExpr least (e.Unary p x) (o ∷ from) to
     -- left associative: the left side may have the same level, and the right side is above it
     binary : {least : ℕ} {o : Word} {i : Infix} {x y : Expr} {from middle to : List Word} → operator o.kind ≡ Some i → least ≤ level i
         → SpellsExpr (level i) x from (o ∷ middle) → SpellsExpr (level i + 1) y middle to → SpellsExpr least (e.Binary i x y) from to
     parentheses : {least : ℕ} {o c : Word} {x : Expr} {from to : List Word} → o.kind ≡ k.OpenParen → SpellsExpr 1 x from (c ∷ to) → c.kind ≡ k.CloseParen
         → SpellsExpr least x (o ∷ from) to
-    choice : {least : ℕ} {o q d c : Word} {x y z : Expr} {from chosen other to : List Word} → o.kind ≡ k.OpenParen → SpellsExpr 1 x from (q ∷ chosen) → q.kind ≡ k.Arrow
+    choice : {least : ℕ} {o q d c : Word} {x y z : Expr} {from chosen other to : List Word} → o.kind ≡ k.OpenParen → SpellsExpr 1 x from (q ∷ chosen)
+        → q.kind ≡ k.Arrow
         → SpellsExpr 1 y chosen (d ∷ other) → d.kind ≡ k.Colon → SpellsExpr 1 z other (c ∷ to) → c.kind ≡ k.CloseParen
         → SpellsExpr least (e.Choice x y z) (o ∷ from) to
 
@@ -156,15 +163,18 @@ mutual
   -- one or more, with commas
   pub data SpellsArgumentList : List Argument → List Word → List Word → Type 0 where
     last_argument : {x : Argument} {from to : List Word} → SpellsArgument x from to → SpellsArgumentList (x ∷ []) from to
-    more_arguments : {x : Argument} {xs : List Argument} {c : Word} {from middle to : List Word} → SpellsArgument x from (c ∷ middle) → c.kind ≡ k.Comma → SpellsArgumentList xs middle to
+    more_arguments : {x : Argument} {xs : List Argument} {c : Word} {from middle to : List Word} → SpellsArgument x from (c ∷ middle)
+        → c.kind ≡ k.Comma → SpellsArgumentList xs middle to
         → SpellsArgumentList (x ∷ xs) from to
 
   -- `x,y`, `x(y)` and `(x,y)` are the same arguments
   pub data SpellsArguments : List Argument → List Word → List Word → Type 0 where
     argument_list : {xs : List Argument} {from to : List Word} → SpellsArgumentList xs from to → SpellsArguments xs from to
-    argument_call : {x : Argument} {xs : List Argument} {o c : Word} {from middle to : List Word} → SpellsArgument x from (o ∷ middle) → o.kind ≡ k.OpenParen → SpellsArgumentList xs middle (c ∷ to) → c.kind ≡ k.CloseParen
+    argument_call : {x : Argument} {xs : List Argument} {o c : Word} {from middle to : List Word} → SpellsArgument x from (o ∷ middle)
+        → o.kind ≡ k.OpenParen → SpellsArgumentList xs middle (c ∷ to) → c.kind ≡ k.CloseParen
         → SpellsArguments (x ∷ xs) from to
-    argument_group : {xs : List Argument} {o c : Word} {from to : List Word} → o.kind ≡ k.OpenParen → SpellsArgumentList xs from (c ∷ to) → c.kind ≡ k.CloseParen
+    argument_group : {xs : List Argument} {o c : Word} {from to : List Word} → o.kind ≡ k.OpenParen → SpellsArgumentList xs from (c ∷ to)
+        → c.kind ≡ k.CloseParen
         → SpellsArguments xs (o ∷ from) to
 
 -- ---- lists with commas
@@ -172,4 +182,5 @@ mutual
 -- one or more
 pub data SpellsList {A : Type 0} (Spell : A → List Word → List Word → Type 0) : List A → List Word → List Word → Type 0 where
   last_listed : {x : A} {from to : List Word} → Spell x from to → SpellsList Spell (x ∷ []) from to
-  more_listed : {x : A} {xs : List A} {c : Word} {from middle to : List Word} → Spell x from (c ∷ middle) → c.kind ≡ k.Comma → SpellsList Spell xs middle to → SpellsList Spell (x ∷ xs) from to
+  more_listed : {x : A} {xs : List A} {c : Word} {from middle to : List Word} → Spell x from (c ∷ middle) → c.kind ≡ k.Comma
+      → SpellsList Spell xs middle to → SpellsList Spell (x ∷ xs) from to

@@ -26,7 +26,14 @@ use Rattle.pml_sim.specs.Texts.{joined, first_line, place}
 -- one process begins, and it is one that is played: it stands before its first statement
 abbrev pub first_by : Program → Begun → List ℕ → Option State
 first_by p b (kind ∷ []) =
-    if are_served (body_of p kind) then Some (record { program = p; kind = kind; store = record { frames = b.frames; written = [] }; channels = b.channels; control = At 0; halt = None })
+    if are_served (body_of p kind) then Some (record {
+      program = p;
+      kind = kind;
+      store = record { frames = b.frames; written = [] };
+      channels = b.channels;
+      control = At 0;
+      halt = None;
+    })
     else None
 first_by p b [] = None
 first_by p b (k ∷ l ∷ ks) = None

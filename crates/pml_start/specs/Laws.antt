@@ -37,11 +37,13 @@ OthersHold = (ts : List Fields) (s : Slot) (v : ℕ) (b : Begun) (q : Place) →
 
 -- each cell of a channel variable has a channel of its own, in order
 abbrev pub ChannelsAreMade : Type 0
-ChannelsAreMade = (ts : List Fields) (s : Slot) (v capacity : ℕ) (types : List Form) (b : Begun) → IsThere b v s → IsPlain s.form → s.initial ≡ Made capacity types →
+ChannelsAreMade = (ts : List Fields) (s : Slot) (v capacity : ℕ) (types : List Form) (b : Begun) → IsThere b v s → IsPlain s.form
+    → s.initial ≡ Made capacity types →
     IfOk (variable_begun ts s.initial s v b)
     (λ n. n.channels ≡ b.channels ++ replicate (size s) (record { frame = length b.kinds; channel = empty_channel capacity types }))
 
 -- each cell holds its channel's number: its place among the live ones, from 1
 abbrev pub ChannelsAreNumbered : Type 0
-ChannelsAreNumbered = (ts : List Fields) (s : Slot) (v c capacity : ℕ) (types : List Form) (b : Begun) → IsThere b v s → IsPlain s.form → s.initial ≡ Made capacity types → c < size s →
+ChannelsAreNumbered = (ts : List Fields) (s : Slot) (v c capacity : ℕ) (types : List Form) (b : Begun) → IsThere b v s → IsPlain s.form
+    → s.initial ≡ Made capacity types → c < size s →
     IfOk (variable_begun ts s.initial s v b) (λ n. number_at n.frames (cell_in b v c) ≡ pos (length b.channels + c + 1))

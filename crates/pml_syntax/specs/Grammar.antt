@@ -99,37 +99,51 @@ pub data SpellsScalar : Scalar → List Word → List Word → Type 0 where
 -- ---- statements without a structure. Their first argument says that they end with `}`, `fi`, `od` or `else`.
 
 pub data SpellsRun : Run → List Word → List Word → Type 0 where
-  run_nothing : {r n o c : Word} {to : List Word} → r.kind ≡ k.Run → n.kind ≡ k.Name → o.kind ≡ k.OpenParen → c.kind ≡ k.CloseParen → SpellsRun (run_of n []) (r ∷ n ∷ o ∷ c ∷ to) to
-  run_with : {r n o c : Word} {xs : List Expr} {from to : List Word} → r.kind ≡ k.Run → n.kind ≡ k.Name → o.kind ≡ k.OpenParen → SpellsList (SpellsExpr 1) xs from (c ∷ to) → c.kind ≡ k.CloseParen
+  run_nothing : {r n o c : Word} {to : List Word} → r.kind ≡ k.Run → n.kind ≡ k.Name → o.kind ≡ k.OpenParen → c.kind ≡ k.CloseParen
+      → SpellsRun (run_of n []) (r ∷ n ∷ o ∷ c ∷ to) to
+  run_with : {r n o c : Word} {xs : List Expr} {from to : List Word} → r.kind ≡ k.Run → n.kind ≡ k.Name → o.kind ≡ k.OpenParen
+      → SpellsList (SpellsExpr 1) xs from (c ∷ to) → c.kind ≡ k.CloseParen
       → SpellsRun (run_of n xs) (r ∷ n ∷ o ∷ from) to
-  run_group : {o c : Word} {x : Run} {from to : List Word} → o.kind ≡ k.OpenParen → SpellsRun x from (c ∷ to) → c.kind ≡ k.CloseParen → SpellsRun x (o ∷ from) to
+  run_group : {o c : Word} {x : Run} {from to : List Word} → o.kind ≡ k.OpenParen → SpellsRun x from (c ∷ to) → c.kind ≡ k.CloseParen
+      → SpellsRun x (o ∷ from) to
 
 -- what is sent: `x,y` and `x(y)` are the same values
 pub data SpellsValues : List Expr → List Word → List Word → Type 0 where
   value_list : {xs : List Expr} {from to : List Word} → SpellsList (SpellsExpr 1) xs from to → SpellsValues xs from to
-  value_call : {x : Expr} {xs : List Expr} {o c : Word} {from middle to : List Word} → SpellsExpr 1 x from (o ∷ middle) → o.kind ≡ k.OpenParen → SpellsList (SpellsExpr 1) xs middle (c ∷ to) → c.kind ≡ k.CloseParen
+  value_call : {x : Expr} {xs : List Expr} {o c : Word} {from middle to : List Word} → SpellsExpr 1 x from (o ∷ middle) → o.kind ≡ k.OpenParen
+      → SpellsList (SpellsExpr 1) xs middle (c ∷ to) → c.kind ≡ k.CloseParen
       → SpellsValues (x ∷ xs) from to
 
 pub data SpellsAction : Bool → Action → List Word → List Word → Type 0 where
   otherwise : {w : Word} {to : List Word} → w.kind ≡ k.Else → SpellsAction true a.Else (w ∷ to) to
-  assign : {r : Reference} {x : Expr} {o : Word} {from middle to : List Word} → SpellsReference r from (o ∷ middle) → o.kind ≡ k.Assign → SpellsExpr 1 x middle to
+  assign : {r : Reference} {x : Expr} {o : Word} {from middle to : List Word} → SpellsReference r from (o ∷ middle) → o.kind ≡ k.Assign
+      → SpellsExpr 1 x middle to
       → SpellsAction false (a.Assign r x) from to
-  assign_run : {r : Reference} {x : Run} {o : Word} {from middle to : List Word} → SpellsReference r from (o ∷ middle) → o.kind ≡ k.Assign → SpellsRun x middle to
+  assign_run : {r : Reference} {x : Run} {o : Word} {from middle to : List Word} → SpellsReference r from (o ∷ middle) → o.kind ≡ k.Assign
+      → SpellsRun x middle to
       → SpellsAction false (a.AssignRun r x) from to
-  increment : {r : Reference} {o : Word} {from to : List Word} → SpellsReference r from (o ∷ to) → o.kind ≡ k.Increment → SpellsAction false (a.Increment r) from to
-  decrement : {r : Reference} {o : Word} {from to : List Word} → SpellsReference r from (o ∷ to) → o.kind ≡ k.Decrement → SpellsAction false (a.Decrement r) from to
+  increment : {r : Reference} {o : Word} {from to : List Word} → SpellsReference r from (o ∷ to) → o.kind ≡ k.Increment
+      → SpellsAction false (a.Increment r) from to
+  decrement : {r : Reference} {o : Word} {from to : List Word} → SpellsReference r from (o ∷ to) → o.kind ≡ k.Decrement
+      → SpellsAction false (a.Decrement r) from to
   run : {x : Run} {from to : List Word} → SpellsRun x from to → SpellsAction false (a.Run x) from to
-  send : {r : Reference} {o : Word} {order : SendOrder} {xs : List Expr} {from middle to : List Word} → SpellsReference r from (o ∷ middle) → bang o.kind ≡ Some order → SpellsValues xs middle to
+  send : {r : Reference} {o : Word} {order : SendOrder} {xs : List Expr} {from middle to : List Word} → SpellsReference r from (o ∷ middle)
+      → bang o.kind ≡ Some order → SpellsValues xs middle to
       → SpellsAction false (a.Send r order xs) from to
-  receive : {r : Reference} {q : Word} {look : Search} {xs : List Argument} {from middle to : List Word} → SpellsReference r from (q ∷ middle) → query q.kind ≡ Some look → SpellsArguments xs middle to
+  receive : {r : Reference} {q : Word} {look : Search} {xs : List Argument} {from middle to : List Word} → SpellsReference r from (q ∷ middle)
+      → query q.kind ≡ Some look → SpellsArguments xs middle to
       → SpellsAction false (a.Receive r look removal.Remove xs) from to
   -- in `<>` the message stays in the channel
-  copy : {r : Reference} {q o c : Word} {look : Search} {xs : List Argument} {from middle to : List Word} → SpellsReference r from (q ∷ o ∷ middle) → query q.kind ≡ Some look → o.kind ≡ k.Less
+  copy : {r : Reference} {q o c : Word} {look : Search} {xs : List Argument} {from middle to : List Word} → SpellsReference r from (q ∷ o ∷ middle)
+      → query q.kind ≡ Some look → o.kind ≡ k.Less
       → SpellsArguments xs middle (c ∷ to) → c.kind ≡ k.Greater → SpellsAction false (a.Receive r look removal.Keep xs) from to
-  printf : {w o s c : Word} {to : List Word} → w.kind ≡ k.Printf → o.kind ≡ k.OpenParen → s.kind ≡ k.Quoted → c.kind ≡ k.CloseParen → SpellsAction false (a.Printf s []) (w ∷ o ∷ s ∷ c ∷ to) to
-  printf_with : {w o s m c : Word} {xs : List Expr} {from to : List Word} → w.kind ≡ k.Printf → o.kind ≡ k.OpenParen → s.kind ≡ k.Quoted → m.kind ≡ k.Comma → SpellsList (SpellsExpr 1) xs from (c ∷ to) → c.kind ≡ k.CloseParen
+  printf : {w o s c : Word} {to : List Word} → w.kind ≡ k.Printf → o.kind ≡ k.OpenParen → s.kind ≡ k.Quoted → c.kind ≡ k.CloseParen
+      → SpellsAction false (a.Printf s []) (w ∷ o ∷ s ∷ c ∷ to) to
+  printf_with : {w o s m c : Word} {xs : List Expr} {from to : List Word} → w.kind ≡ k.Printf → o.kind ≡ k.OpenParen → s.kind ≡ k.Quoted
+      → m.kind ≡ k.Comma → SpellsList (SpellsExpr 1) xs from (c ∷ to) → c.kind ≡ k.CloseParen
       → SpellsAction false (a.Printf s xs) (w ∷ o ∷ s ∷ m ∷ from) to
-  printm : {w o c : Word} {x : Expr} {from to : List Word} → w.kind ≡ k.Printm → o.kind ≡ k.OpenParen → SpellsExpr 1 x from (c ∷ to) → c.kind ≡ k.CloseParen → SpellsAction false (a.Printm x) (w ∷ o ∷ from) to
+  printm : {w o c : Word} {x : Expr} {from to : List Word} → w.kind ≡ k.Printm → o.kind ≡ k.OpenParen → SpellsExpr 1 x from (c ∷ to)
+      → c.kind ≡ k.CloseParen → SpellsAction false (a.Printm x) (w ∷ o ∷ from) to
   assert : {w : Word} {x : Expr} {from to : List Word} → w.kind ≡ k.Assert → SpellsExpr 1 x from to → SpellsAction false (a.Assert x) (w ∷ from) to
   holds : {x : Expr} {from to : List Word} → SpellsExpr 1 x from to → SpellsAction false (a.Holds x) from to
 
@@ -147,24 +161,33 @@ pub data SpellsOpener : Opener → List Word → List Word → Type 0 where
 pub data SpellsInitial : Bool → Option Initial → List Word → List Word → Type 0 where
   no_initial : {to : List Word} → SpellsInitial false None to to
   value : {o : Word} {x : Expr} {from to : List Word} → o.kind ≡ k.Assign → SpellsExpr 1 x from to → SpellsInitial false (Some (ini.Value x)) (o ∷ from) to
-  channel : {w o c f d z : Word} {x : Expr} {ss : List Scalar} {from types to : List Word} → w.kind ≡ k.Assign → o.kind ≡ k.OpenBracket → SpellsExpr 1 x from (c ∷ f ∷ d ∷ types) → c.kind ≡ k.CloseBracket
-      → f.kind ≡ k.Of → d.kind ≡ k.OpenBrace → SpellsList SpellsScalar ss types (z ∷ to) → z.kind ≡ k.CloseBrace → SpellsInitial true (Some (ini.Channel x ss)) (w ∷ o ∷ from) to
+  channel : {w o c f d z : Word} {x : Expr} {ss : List Scalar} {from types to : List Word} → w.kind ≡ k.Assign → o.kind ≡ k.OpenBracket
+      → SpellsExpr 1 x from (c ∷ f ∷ d ∷ types) → c.kind ≡ k.CloseBracket
+      → f.kind ≡ k.Of → d.kind ≡ k.OpenBrace → SpellsList SpellsScalar ss types (z ∷ to) → z.kind ≡ k.CloseBrace
+      → SpellsInitial true (Some (ini.Channel x ss)) (w ∷ o ∷ from) to
 
 pub data SpellsVariable : Bool → Opener → Variable → List Word → List Word → Type 0 where
-  plain : {closed : Bool} {s : Scalar} {n : Word} {x : Option Expr} {i : Option Initial} {from middle to : List Word} → n.kind ≡ k.Name → SpellsIndex x from middle → SpellsInitial closed i middle to
+  plain : {closed : Bool} {s : Scalar} {n : Word} {x : Option Expr} {i : Option Initial} {from middle to : List Word} → n.kind ≡ k.Name
+      → SpellsIndex x from middle → SpellsInitial closed i middle to
       → SpellsVariable closed (opener.Plain s) (variable_of (sort.Plain s) n x i) (n ∷ from) to
-  structured : {t n : Word} {x : Option Expr} {from to : List Word} → n.kind ≡ k.Name → SpellsIndex x from to → SpellsVariable false (opener.Named t) (variable_of (sort.Named t) n x None) (n ∷ from) to
-  packed : {n c w : Word} {to : List Word} → n.kind ≡ k.Name → c.kind ≡ k.Colon → w.kind ≡ k.Number → SpellsVariable false opener.Unsigned (variable_of (sort.Unsigned w) n None None) (n ∷ c ∷ w ∷ to) to
-  packed_value : {n c w o : Word} {x : Expr} {from to : List Word} → n.kind ≡ k.Name → c.kind ≡ k.Colon → w.kind ≡ k.Number → o.kind ≡ k.Assign → SpellsExpr 1 x from to
+  structured : {t n : Word} {x : Option Expr} {from to : List Word} → n.kind ≡ k.Name → SpellsIndex x from to
+      → SpellsVariable false (opener.Named t) (variable_of (sort.Named t) n x None) (n ∷ from) to
+  packed : {n c w : Word} {to : List Word} → n.kind ≡ k.Name → c.kind ≡ k.Colon → w.kind ≡ k.Number
+      → SpellsVariable false opener.Unsigned (variable_of (sort.Unsigned w) n None None) (n ∷ c ∷ w ∷ to) to
+  packed_value : {n c w o : Word} {x : Expr} {from to : List Word} → n.kind ≡ k.Name → c.kind ≡ k.Colon → w.kind ≡ k.Number → o.kind ≡ k.Assign
+      → SpellsExpr 1 x from to
       → SpellsVariable false opener.Unsigned (variable_of (sort.Unsigned w) n None (Some (ini.Value x))) (n ∷ c ∷ w ∷ o ∷ from) to
 
 pub data SpellsVariables : Bool → Opener → List Variable → List Word → List Word → Type 0 where
-  last_variable : {closed : Bool} {f : Opener} {v : Variable} {from to : List Word} → SpellsVariable closed f v from to → SpellsVariables closed f (v ∷ []) from to
-  more_variables : {closed later : Bool} {f : Opener} {v : Variable} {vs : List Variable} {c : Word} {from middle to : List Word} → SpellsVariable closed f v from (c ∷ middle) → c.kind ≡ k.Comma → SpellsVariables later f vs middle to
+  last_variable : {closed : Bool} {f : Opener} {v : Variable} {from to : List Word} → SpellsVariable closed f v from to
+      → SpellsVariables closed f (v ∷ []) from to
+  more_variables : {closed later : Bool} {f : Opener} {v : Variable} {vs : List Variable} {c : Word} {from middle to : List Word}
+      → SpellsVariable closed f v from (c ∷ middle) → c.kind ≡ k.Comma → SpellsVariables later f vs middle to
       → SpellsVariables later f (v ∷ vs) from to
 
 pub data SpellsDeclaration : Bool → List Variable → List Word → List Word → Type 0 where
-  declaration : {closed : Bool} {f : Opener} {vs : List Variable} {from typed named to : List Word} → SpellsVisibility from typed → SpellsOpener f typed named → SpellsVariables closed f vs named to
+  declaration : {closed : Bool} {f : Opener} {vs : List Variable} {from typed named to : List Word} → SpellsVisibility from typed
+      → SpellsOpener f typed named → SpellsVariables closed f vs named to
       → SpellsDeclaration closed vs from to
 
 -- ---- bodies
@@ -180,17 +203,23 @@ pub data SpellsGap : Bool → List Word → List Word → Type 0 where
 
 pub data SpellsLabels : List Word → List Word → List Word → Type 0 where
   no_label : {to : List Word} → SpellsLabels [] to to
-  one_label : {n c : Word} {labels from to : List Word} → n.kind ≡ k.Name → c.kind ≡ k.Colon → SpellsLabels labels from to → SpellsLabels (n ∷ labels) (n ∷ c ∷ from) to
+  one_label : {n c : Word} {labels from to : List Word} → n.kind ≡ k.Name → c.kind ≡ k.Colon → SpellsLabels labels from to
+      → SpellsLabels (n ∷ labels) (n ∷ c ∷ from) to
 
 -- The first argument of a list of items says that one of them is a statement.
 mutual
   pub data SpellsBasic : Bool → Basic → List Word → List Word → Type 0 where
-    if_fi : {o c : Word} {options : List Seq} {from to : List Word} → o.kind ≡ k.If → SpellsOptions options from (c ∷ to) → c.kind ≡ k.Fi → SpellsBasic true (b.If options) (o ∷ from) to
-    do_od : {o c : Word} {options : List Seq} {from to : List Word} → o.kind ≡ k.Do → SpellsOptions options from (c ∷ to) → c.kind ≡ k.Od → SpellsBasic true (b.Do options) (o ∷ from) to
-    block : {o c : Word} {xs : List Item} {from to : List Word} → o.kind ≡ k.OpenBrace → SpellsItems true xs from (c ∷ to) → c.kind ≡ k.CloseBrace → SpellsBasic true (b.Block (seq_of xs)) (o ∷ from) to
-    atomic : {w o c : Word} {xs : List Item} {from to : List Word} → w.kind ≡ k.Atomic → o.kind ≡ k.OpenBrace → SpellsItems true xs from (c ∷ to) → c.kind ≡ k.CloseBrace
+    if_fi : {o c : Word} {options : List Seq} {from to : List Word} → o.kind ≡ k.If → SpellsOptions options from (c ∷ to) → c.kind ≡ k.Fi
+        → SpellsBasic true (b.If options) (o ∷ from) to
+    do_od : {o c : Word} {options : List Seq} {from to : List Word} → o.kind ≡ k.Do → SpellsOptions options from (c ∷ to) → c.kind ≡ k.Od
+        → SpellsBasic true (b.Do options) (o ∷ from) to
+    block : {o c : Word} {xs : List Item} {from to : List Word} → o.kind ≡ k.OpenBrace → SpellsItems true xs from (c ∷ to) → c.kind ≡ k.CloseBrace
+        → SpellsBasic true (b.Block (seq_of xs)) (o ∷ from) to
+    atomic : {w o c : Word} {xs : List Item} {from to : List Word} → w.kind ≡ k.Atomic → o.kind ≡ k.OpenBrace → SpellsItems true xs from (c ∷ to)
+        → c.kind ≡ k.CloseBrace
         → SpellsBasic true (b.Atomic (seq_of xs)) (w ∷ o ∷ from) to
-    d_step : {w o c : Word} {xs : List Item} {from to : List Word} → w.kind ≡ k.DStep → o.kind ≡ k.OpenBrace → SpellsItems true xs from (c ∷ to) → c.kind ≡ k.CloseBrace
+    d_step : {w o c : Word} {xs : List Item} {from to : List Word} → w.kind ≡ k.DStep → o.kind ≡ k.OpenBrace → SpellsItems true xs from (c ∷ to)
+        → c.kind ≡ k.CloseBrace
         → SpellsBasic true (b.DStep (seq_of xs)) (w ∷ o ∷ from) to
     goto : {w n : Word} {to : List Word} → w.kind ≡ k.Goto → n.kind ≡ k.Name → SpellsBasic false (b.Goto n) (w ∷ n ∷ to) to
     break : {w : Word} {to : List Word} → w.kind ≡ k.Break → SpellsBasic false b.Break (w ∷ to) to
@@ -201,20 +230,27 @@ mutual
         → SpellsStatement closed (item_of labels x (between middle to)) from to
 
   pub data SpellsItem : Bool → Bool → Item → List Word → List Word → Type 0 where
-    declared : {closed : Bool} {vs : List Variable} {from to : List Word} → SpellsDeclaration closed vs from to → SpellsItem false closed (item_of [] (b.Declare vs) (between from to)) from to
-    exclusive : {w : Word} {rs : List Reference} {from to : List Word} → is_exclusive w.kind ≡ true → SpellsList SpellsReference rs from to → SpellsItem false false (item_of [] (b.Exclusive rs) (between (w ∷ from) to)) (w ∷ from) to
+    declared : {closed : Bool} {vs : List Variable} {from to : List Word} → SpellsDeclaration closed vs from to
+        → SpellsItem false closed (item_of [] (b.Declare vs) (between from to)) from to
+    exclusive : {w : Word} {rs : List Reference} {from to : List Word} → is_exclusive w.kind ≡ true → SpellsList SpellsReference rs from to
+        → SpellsItem false false (item_of [] (b.Exclusive rs) (between (w ∷ from) to)) (w ∷ from) to
     only : {closed : Bool} {x : Item} {from to : List Word} → SpellsStatement closed x from to → SpellsItem true closed x from to
-    unless : {inner closed : Bool} {x y : Item} {w : Word} {from middle to : List Word} → SpellsStatement inner x from (w ∷ middle) → w.kind ≡ k.Unless → SpellsStatement closed y middle to
+    unless : {inner closed : Bool} {x y : Item} {w : Word} {from middle to : List Word} → SpellsStatement inner x from (w ∷ middle)
+        → w.kind ≡ k.Unless → SpellsStatement closed y middle to
         → SpellsItem true closed (item_of [] (b.Unless (seq_of (x ∷ [])) (seq_of (y ∷ []))) (between from to)) from to
 
   pub data SpellsItems : Bool → List Item → List Word → List Word → Type 0 where
-    last_item : {step closed : Bool} {x : Item} {from middle to : List Word} → SpellsItem step closed x from middle → SpellsSeparators middle to → SpellsItems step (x ∷ []) from to
-    more_items : {step steps closed : Bool} {x : Item} {xs : List Item} {from middle later to : List Word} → SpellsItem step closed x from middle → SpellsGap closed middle later → SpellsItems steps xs later to
+    last_item : {step closed : Bool} {x : Item} {from middle to : List Word} → SpellsItem step closed x from middle → SpellsSeparators middle to
+        → SpellsItems step (x ∷ []) from to
+    more_items : {step steps closed : Bool} {x : Item} {xs : List Item} {from middle later to : List Word} → SpellsItem step closed x from middle
+        → SpellsGap closed middle later → SpellsItems steps xs later to
         → SpellsItems (step || steps) (x ∷ xs) from to
 
   pub data SpellsOptions : List Seq → List Word → List Word → Type 0 where
-    last_option : {o : Word} {xs : List Item} {from to : List Word} → o.kind ≡ k.DoubleColon → SpellsItems true xs from to → SpellsOptions (seq_of xs ∷ []) (o ∷ from) to
-    more_options : {o : Word} {xs : List Item} {options : List Seq} {from middle to : List Word} → o.kind ≡ k.DoubleColon → SpellsItems true xs from middle → SpellsOptions options middle to
+    last_option : {o : Word} {xs : List Item} {from to : List Word} → o.kind ≡ k.DoubleColon → SpellsItems true xs from to
+        → SpellsOptions (seq_of xs ∷ []) (o ∷ from) to
+    more_options : {o : Word} {xs : List Item} {options : List Seq} {from middle to : List Word} → o.kind ≡ k.DoubleColon
+        → SpellsItems true xs from middle → SpellsOptions options middle to
         → SpellsOptions (seq_of xs ∷ options) (o ∷ from) to
 
 -- the body of a process, which may be empty
@@ -230,43 +266,56 @@ pub data SpellsSemicolons : List Word → List Word → Type 0 where
 
 -- the declarations of a typedef, with a semicolon at least between two
 pub data SpellsMembers : List Variable → List Word → List Word → Type 0 where
-  last_members : {closed : Bool} {vs : List Variable} {from middle to : List Word} → SpellsDeclaration closed vs from middle → SpellsSemicolons middle to → SpellsMembers vs from to
-  more_members : {closed : Bool} {s : Word} {vs ws : List Variable} {from middle later to : List Word} → SpellsDeclaration closed vs from (s ∷ middle) → s.kind ≡ k.Semicolon → SpellsSemicolons middle later → SpellsMembers ws later to
+  last_members : {closed : Bool} {vs : List Variable} {from middle to : List Word} → SpellsDeclaration closed vs from middle
+      → SpellsSemicolons middle to → SpellsMembers vs from to
+  more_members : {closed : Bool} {s : Word} {vs ws : List Variable} {from middle later to : List Word} → SpellsDeclaration closed vs from (s ∷ middle)
+      → s.kind ≡ k.Semicolon → SpellsSemicolons middle later → SpellsMembers ws later to
       → SpellsMembers (vs ++ ws) from to
 
 -- a parameter, behind its type
 pub data SpellsParameter : Opener → Variable → List Word → List Word → Type 0 where
-  plain_parameter : {s : Scalar} {n : Word} {to : List Word} → n.kind ≡ k.Name → SpellsParameter (opener.Plain s) (variable_of (sort.Plain s) n None None) (n ∷ to) to
-  packed_parameter : {n c w : Word} {to : List Word} → n.kind ≡ k.Name → c.kind ≡ k.Colon → w.kind ≡ k.Number → SpellsParameter opener.Unsigned (variable_of (sort.Unsigned w) n None None) (n ∷ c ∷ w ∷ to) to
+  plain_parameter : {s : Scalar} {n : Word} {to : List Word} → n.kind ≡ k.Name
+      → SpellsParameter (opener.Plain s) (variable_of (sort.Plain s) n None None) (n ∷ to) to
+  packed_parameter : {n c w : Word} {to : List Word} → n.kind ≡ k.Name → c.kind ≡ k.Colon → w.kind ≡ k.Number
+      → SpellsParameter opener.Unsigned (variable_of (sort.Unsigned w) n None None) (n ∷ c ∷ w ∷ to) to
 
 -- behind a parameter of this type: a comma may leave the type out, and the next has the same
 pub data SpellsMoreParameters : Opener → List Variable → List Word → List Word → Type 0 where
   no_more_parameters : {f : Opener} {to : List Word} → SpellsMoreParameters f [] to to
-  same_type : {f : Opener} {c : Word} {v : Variable} {vs : List Variable} {from middle to : List Word} → c.kind ≡ k.Comma → SpellsParameter f v from middle → SpellsMoreParameters f vs middle to
+  same_type : {f : Opener} {c : Word} {v : Variable} {vs : List Variable} {from middle to : List Word} → c.kind ≡ k.Comma
+      → SpellsParameter f v from middle → SpellsMoreParameters f vs middle to
       → SpellsMoreParameters f (v ∷ vs) (c ∷ from) to
-  comma_parameter : {f t : Opener} {c : Word} {v : Variable} {vs : List Variable} {from typed named middle to : List Word} → c.kind ≡ k.Comma → SpellsVisibility from typed → SpellsOpener t typed named
+  comma_parameter : {f t : Opener} {c : Word} {v : Variable} {vs : List Variable} {from typed named middle to : List Word} → c.kind ≡ k.Comma
+      → SpellsVisibility from typed → SpellsOpener t typed named
       → SpellsParameter t v named middle → SpellsMoreParameters t vs middle to → SpellsMoreParameters f (v ∷ vs) (c ∷ from) to
-  semicolon_parameter : {f t : Opener} {c : Word} {v : Variable} {vs : List Variable} {from typed named middle to : List Word} → c.kind ≡ k.Semicolon → SpellsVisibility from typed → SpellsOpener t typed named
+  semicolon_parameter : {f t : Opener} {c : Word} {v : Variable} {vs : List Variable} {from typed named middle to : List Word} → c.kind ≡ k.Semicolon
+      → SpellsVisibility from typed → SpellsOpener t typed named
       → SpellsParameter t v named middle → SpellsMoreParameters t vs middle to → SpellsMoreParameters f (v ∷ vs) (c ∷ from) to
 
 pub data SpellsParameters : List Variable → List Word → List Word → Type 0 where
   no_parameters : {to : List Word} → SpellsParameters [] to to
-  parameters : {t : Opener} {v : Variable} {vs : List Variable} {from typed named middle to : List Word} → SpellsVisibility from typed → SpellsOpener t typed named → SpellsParameter t v named middle
+  parameters : {t : Opener} {v : Variable} {vs : List Variable} {from typed named middle to : List Word} → SpellsVisibility from typed
+      → SpellsOpener t typed named → SpellsParameter t v named middle
       → SpellsMoreParameters t vs middle to → SpellsParameters (v ∷ vs) from to
 
 pub data SpellsStarts : Starts → List Word → List Word → Type 0 where
   never : {to : List Word} → SpellsStarts starts.Never to to
   once : {w : Word} {to : List Word} → w.kind ≡ k.Active → SpellsStarts starts.Once (w ∷ to) to
-  times : {w o c : Word} {x : Expr} {from to : List Word} → w.kind ≡ k.Active → o.kind ≡ k.OpenBracket → SpellsExpr 1 x from (c ∷ to) → c.kind ≡ k.CloseBracket → SpellsStarts (starts.Times x) (w ∷ o ∷ from) to
+  times : {w o c : Word} {x : Expr} {from to : List Word} → w.kind ≡ k.Active → o.kind ≡ k.OpenBracket → SpellsExpr 1 x from (c ∷ to)
+      → c.kind ≡ k.CloseBracket → SpellsStarts (starts.Times x) (w ∷ o ∷ from) to
 
 pub data SpellsUnit : ModelUnit → List Word → List Word → Type 0 where
   variables : {closed : Bool} {vs : List Variable} {from to : List Word} → SpellsDeclaration closed vs from to → SpellsUnit (u.Variables vs) from to
-  constants : {w o c : Word} {ns from to : List Word} → w.kind ≡ k.Mtype → o.kind ≡ k.OpenBrace → SpellsList SpellsName ns from (c ∷ to) → c.kind ≡ k.CloseBrace → SpellsUnit (u.Constants ns) (w ∷ o ∷ from) to
-  equal_constants : {w q o c : Word} {ns from to : List Word} → w.kind ≡ k.Mtype → q.kind ≡ k.Assign → o.kind ≡ k.OpenBrace → SpellsList SpellsName ns from (c ∷ to) → c.kind ≡ k.CloseBrace
+  constants : {w o c : Word} {ns from to : List Word} → w.kind ≡ k.Mtype → o.kind ≡ k.OpenBrace → SpellsList SpellsName ns from (c ∷ to)
+      → c.kind ≡ k.CloseBrace → SpellsUnit (u.Constants ns) (w ∷ o ∷ from) to
+  equal_constants : {w q o c : Word} {ns from to : List Word} → w.kind ≡ k.Mtype → q.kind ≡ k.Assign → o.kind ≡ k.OpenBrace
+      → SpellsList SpellsName ns from (c ∷ to) → c.kind ≡ k.CloseBrace
       → SpellsUnit (u.Constants ns) (w ∷ q ∷ o ∷ from) to
-  typedef : {w n o c : Word} {vs : List Variable} {from to : List Word} → w.kind ≡ k.Typedef → n.kind ≡ k.Name → o.kind ≡ k.OpenBrace → SpellsMembers vs from (c ∷ to) → c.kind ≡ k.CloseBrace
+  typedef : {w n o c : Word} {vs : List Variable} {from to : List Word} → w.kind ≡ k.Typedef → n.kind ≡ k.Name → o.kind ≡ k.OpenBrace
+      → SpellsMembers vs from (c ∷ to) → c.kind ≡ k.CloseBrace
       → SpellsUnit (u.Typedef n vs) (w ∷ n ∷ o ∷ from) to
-  proctype : {s : Starts} {p n o c d z : Word} {vs : List Variable} {xs : List Item} {from inner body to : List Word} → SpellsStarts s from (p ∷ n ∷ o ∷ inner) → p.kind ≡ k.Proctype → n.kind ≡ k.Name → o.kind ≡ k.OpenParen
+  proctype : {s : Starts} {p n o c d z : Word} {vs : List Variable} {xs : List Item} {from inner body to : List Word}
+      → SpellsStarts s from (p ∷ n ∷ o ∷ inner) → p.kind ≡ k.Proctype → n.kind ≡ k.Name → o.kind ≡ k.OpenParen
       → SpellsParameters vs inner (c ∷ d ∷ body) → c.kind ≡ k.CloseParen → d.kind ≡ k.OpenBrace → SpellsBody xs body (z ∷ to) → z.kind ≡ k.CloseBrace
       → SpellsUnit (u.Proctype (proctype_of s n vs (seq_of xs) z)) from to
   init : {w o c : Word} {xs : List Item} {from to : List Word} → w.kind ≡ k.Init → o.kind ≡ k.OpenBrace → SpellsBody xs from (c ∷ to) → c.kind ≡ k.CloseBrace

@@ -13,4 +13,12 @@ abbrev pub two_channels : ℤ → Option Filling
 two_channels c = if int_eq c (pos 1) then Some empty_channel else (if int_eq c (pos 2) then Some full_channel else None)
 
 abbrev pub holding : ℤ → Reading
-holding n = record { frame = λ local. if local then 1 else 0; cells = λ frame variable. 4; holds = λ p. n; pid = pos 3; process_count = pos 5; timeout = true; channel = two_channels }
+holding n = record {
+  frame = λ local. if local then 1 else 0;
+  cells = λ frame variable. 4;
+  holds = λ p. n;
+  pid = pos 3;
+  process_count = pos 5;
+  timeout = true;
+  channel = two_channels;
+}
