@@ -37,7 +37,7 @@ fn named(
 fn to_itself(alloc: Global) -> Result<bool, AllocError> {
     let mut steps = Items::new(alloc);
     steps.push(named(alloc, b"L", Basic::Goto(label(b"L")))?)?;
-    Ok(examine(alloc, &Seq { steps })?.circle)
+    Ok(examine(alloc, &Seq { steps })?.findings().circle)
 }
 
 // L: else; goto L
@@ -45,7 +45,7 @@ fn past_a_statement(alloc: Global) -> Result<bool, AllocError> {
     let mut steps = Items::new(alloc);
     steps.push(named(alloc, b"L", Basic::Plain(Action::Else))?)?;
     steps.push(bare(alloc, Basic::Goto(label(b"L"))))?;
-    Ok(examine(alloc, &Seq { steps })?.circle)
+    Ok(examine(alloc, &Seq { steps })?.findings().circle)
 }
 
 fn only(alloc: Global, basic: Basic<'static>) -> Result<Seq<'static>, AllocError> {
@@ -58,7 +58,11 @@ fn only(alloc: Global, basic: Basic<'static>) -> Result<Seq<'static>, AllocError
 fn else_in_braces(alloc: Global) -> Result<bool, AllocError> {
     let braces = Basic::Block(only(alloc, Basic::Plain(Action::Else))?);
     let step = Basic::DStep(only(alloc, braces)?);
-    Ok(examine(alloc, &only(alloc, step)?)?.bad_first_point)
+    Ok(
+        examine(alloc, &only(alloc, step)?)?
+            .findings()
+            .bad_first_point,
+    )
 }
 
 // d_step { if :: else fi }
@@ -66,7 +70,11 @@ fn else_in_if(alloc: Global) -> Result<bool, AllocError> {
     let mut options = Items::new(alloc);
     options.push(only(alloc, Basic::Plain(Action::Else))?)?;
     let step = Basic::DStep(only(alloc, Basic::If(options))?);
-    Ok(examine(alloc, &only(alloc, step)?)?.bad_first_point)
+    Ok(
+        examine(alloc, &only(alloc, step)?)?
+            .findings()
+            .bad_first_point,
+    )
 }
 
 // d_step { goto L }; L: else
@@ -75,7 +83,7 @@ fn out_of_a_d_step(alloc: Global) -> Result<bool, AllocError> {
     let leaves = only(alloc, Basic::Goto(label(b"L")))?;
     steps.push(bare(alloc, Basic::DStep(leaves)))?;
     steps.push(named(alloc, b"L", Basic::Plain(Action::Else))?)?;
-    Ok(examine(alloc, &Seq { steps })?.bad_first_point)
+    Ok(examine(alloc, &Seq { steps })?.findings().bad_first_point)
 }
 
 #[test]

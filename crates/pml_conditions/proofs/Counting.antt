@@ -10,8 +10,8 @@ use Rattle.pml_marks.specs.declared.mark.Declared.TheVariants as declared_as
 use Rattle.pml_marks.specs.declared.mark.What.{What}
 use Rattle.pml_marks.specs.declared.mark.What.TheVariants as what
 use Rattle.pml_marks.specs.declared.mark.Mark.{Mark}
-use Rattle.pml_names.specs.Entry.{Entry}
-use Rattle.pml_names.specs.Env.{form, length_of}
+use Rattle.pml_names.specs.Meaning.{Naming}
+use Rattle.pml_names.specs.Naming.{form, length_of}
 use Rattle.pml_conditions.specs.declared.condition.Condition.TheVariants as condition
 use Rattle.pml_conditions.specs.Start.{channels_of, made, channels, channels_in, started, processes, by_processes}
 use Rattle.pml_conditions.specs.Decided.{Decides}
@@ -33,7 +33,7 @@ module _ (f g : ℕ → ℕ) (h : (o : ℕ) → g o ≡ min (f o) 256) where
   product n (kind.Struct t) = ap (λ c. min (n * c) 256) (h t) ∙ capped n (f t)
   product n _ = refl
 
-  pub made_capped : (all : List Entry) (w : What) → min (made all g w) 256 ≡ min (made all f w) 256
+  pub made_capped : (all : Naming) (w : What) → min (made all g w) 256 ≡ min (made all f w) 256
   made_capped all (what.Declares n (declared_as.Variable x s size Channels)) = refl
   made_capped all (what.Declares n (declared_as.Variable x s size Numbers)) = product (length_of size) (form all 0 s)
   made_capped all _ = refl
@@ -45,13 +45,13 @@ module _ (f g : ℕ → ℕ) (h : (o : ℕ) → g o ≡ min (f o) 256) where
       let a : min (n * g m.owner) 256 ≡ min (n * f m.owner) 256 = ap (λ c. min (n * c) 256) (h m.owner) ∙ capped n (f m.owner) in
       omega (arith, a, by_processes_capped ms)
 
-  module _ (all : List Entry) (m : Mark) (more : ℕ) (e : more ≡ min (made all g m.what) 256) where
+  module _ (all : Naming) (m : Mark) (more : ℕ) (e : more ≡ min (made all g m.what) 256) where
     by_case : (b : Bool) (o : ℕ) → cond b (min (g o + more) 256) (g o) ≡ min (cond b (made all f m.what) 0 + f o) 256
     by_case true o = omega (arith, e, made_capped all m.what, h o)
     by_case false o = omega (arith, h o)
 
 -- one mark more
-pub channels_more : (all : List Entry) (ms : List Mark) (m : Mark) (g : ℕ → ℕ) (more : ℕ) → ((o : ℕ) → g o ≡ min (channels all ms o) 256) → more ≡ min (made all g m.what) 256 → (o : ℕ) → cond (nat_eq m.owner o) (min (g o + more) 256) (g o) ≡ min (channels all (m ∷ ms) o) 256
+pub channels_more : (all : Naming) (ms : List Mark) (m : Mark) (g : ℕ → ℕ) (more : ℕ) → ((o : ℕ) → g o ≡ min (channels all ms o) 256) → more ≡ min (made all g m.what) 256 → (o : ℕ) → cond (nat_eq m.owner o) (min (g o + more) 256) (g o) ≡ min (channels all (m ∷ ms) o) 256
 channels_more all ms m g more h e o = by_case (channels all ms) g h all m more e (nat_eq m.owner o) o
 
 -- whether there are too many, by counts up to 256

@@ -3,3 +3,5 @@ pub mod Lookup
 pub mod Open
 pub mod Counting
 pub mod Crossing
+pub mod Conversions
+pub mod Surrounding

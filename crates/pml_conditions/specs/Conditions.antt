@@ -1,4 +1,4 @@
--- The conditions on names, kinds, counts and ranges: each is asked of one mark and what is declared before it.
+-- The conditions on names, kinds, counts and ranges: each is asked of one mark, and of what is declared before it.
 use Rattle.std.specs.Prelude.{ℕ, ◌+◌, ◌*◌, nat_eq, nat_lt, ◌-◌, Bool, true, false, not, ◌&&◌, ◌||◌, if◌then◌else◌, is_some, is_none, List, [], ◌∷◌, length, take, Option, Some, None, pos, negsuc}
 use mathlib.Core.Bool.{beq}
 use Rattle.profile.specs.declared.TheConstants.{MOST_BITS, MOST_CELLS, MOST_CONSTANTS, MOST_FIELDS, MOST_MESSAGES, MOST_PROCESSES}
@@ -21,14 +21,13 @@ use Rattle.pml_program.specs.declared.form.Form.{Form}
 use Rattle.pml_program.specs.declared.form.Form.TheVariants as kind
 use Rattle.pml_names.specs.declared.thing.Thing.{Thing}
 use Rattle.pml_names.specs.declared.thing.Thing.TheVariants as thing
-use Rattle.pml_names.specs.Entry.{Entry, found}
-use Rattle.pml_names.specs.Meaning.{is_any, is_pid, is_special, meaning, field}
-use Rattle.pml_names.specs.Env.{stride, length_of, constants, held}
+use Rattle.pml_names.specs.Meaning.{Naming, is_any, is_pid, is_special, meaning, field}
+use Rattle.pml_names.specs.Naming.{Before, stride, length_of}
 
 -- ---- a name is declared twice, or one that none declares
-abbrev pub twice : List Entry → ℕ → What → Bool
-twice es o (what.Declares n d) = is_special n.text || is_some (found es o false n.text)
-twice es o _ = false
+abbrev pub twice : Naming → ℕ → What → Bool
+twice names o (what.Declares n d) = is_special n.text || is_some (names o n.text)
+twice names o _ = false
 
 -- ---- a name that is not declared, or a field that its typedef lacks
 
@@ -38,28 +37,28 @@ lacks_in (Some None) rest = true
 lacks_in (Some (Some (thing.Variable v))) rest = rest v.form
 lacks_in (Some (Some _)) rest = false
 
-abbrev pub lacks : List Entry → Form → List Shape → Bool
-lacks es f [] = false
-lacks es f (s ∷ ss) = lacks_in (field es f s.name.text) (λ g. lacks es g ss)
+abbrev pub lacks : Naming → Form → List Shape → Bool
+lacks names f [] = false
+lacks names f (s ∷ ss) = lacks_in (field names f s.name.text) (λ g. lacks names g ss)
 
 -- where a variable or an mtype name is wanted
-abbrev pub lost : List Entry → Option Thing → List Shape → Bool
-lost es (Some (thing.Variable v)) ss = lacks es v.form ss
-lost es (Some (thing.Constant n)) ss = false
-lost es _ ss = true
+abbrev pub lost : Naming → Option Thing → List Shape → Bool
+lost names (Some (thing.Variable v)) ss = lacks names v.form ss
+lost names (Some (thing.Constant n)) ss = false
+lost names _ ss = true
 
-abbrev pub unknown_in : List Entry → List Entry → ℕ → List Shape → Bool
-unknown_in all es o [] = false
-unknown_in all es o (s ∷ ss) = if is_special s.name.text then false else lost es (meaning all es o s.name.text) ss
+abbrev pub unknown_in : Naming → Naming → ℕ → List Shape → Bool
+unknown_in all names o [] = false
+unknown_in all names o (s ∷ ss) = if is_special s.name.text then false else lost names (meaning all names o s.name.text) ss
 
-abbrev pub unknown_name : List Entry → List Entry → ℕ → List ℕ → Bool
-unknown_name all es o n = if is_special n then false else is_none (meaning all es o n)
+abbrev pub unknown_name : Naming → Naming → ℕ → List ℕ → Bool
+unknown_name all names o n = if is_special n then false else is_none (meaning all names o n)
 
-abbrev pub unknown : List Entry → List Entry → ℕ → What → Bool
-unknown all es o (what.Uses u ss) = unknown_in all es o ss
-unknown all es o (what.Typedef t) = unknown_name all es o t.text
-unknown all es o (what.Runs n k) = unknown_name all es o n.text
-unknown all es o _ = false
+abbrev pub unknown : Naming → Naming → ℕ → What → Bool
+unknown all names o (what.Uses u ss) = unknown_in all names o ss
+unknown all names o (what.Typedef t) = unknown_name all names o t.text
+unknown all names o (what.Runs n k) = unknown_name all names o n.text
+unknown all names o _ = false
 
 -- ---- a name or a value of the wrong kind
 
@@ -114,15 +113,15 @@ is_unknown kind.Unknown = true
 is_unknown _ = false
 
 -- the steps behind a variable of this type
-abbrev pub misfits : List Entry → Use → Form → List Shape → Bool
-misfits es u f [] = misused u f
-misfits es u f (s ∷ ss) =
-    if is_unknown f then false else misfits_in s.indexed (field es f s.name.text) (λ g. misfits es u g ss)
+abbrev pub misfits : Naming → Use → Form → List Shape → Bool
+misfits names u f [] = misused u f
+misfits names u f (s ∷ ss) =
+    if is_unknown f then false else misfits_in s.indexed (field names f s.name.text) (λ g. misfits names u g ss)
 
-abbrev pub wrong_thing : List Entry → Use → Option Thing → Shape → List Shape → Bool
-wrong_thing es u (Some (thing.Variable v)) s ss = is_preset u || (not (beq s.indexed v.array) || misfits es u v.form ss)
-wrong_thing es u (Some (thing.Constant n)) s ss = not (is_plain s ss && is_compared u)
-wrong_thing es u _ s ss = false
+abbrev pub wrong_thing : Naming → Use → Option Thing → Shape → List Shape → Bool
+wrong_thing names u (Some (thing.Variable v)) s ss = is_preset u || (not (beq s.indexed v.array) || misfits names u v.form ss)
+wrong_thing names u (Some (thing.Constant n)) s ss = not (is_plain s ss && is_compared u)
+wrong_thing names u _ s ss = false
 
 -- `_` is only stored, and `_pid`, in a proctype, and `_nr_pr` are only read
 abbrev pub wrong_special : ℕ → Use → Shape → List Shape → Bool
@@ -130,10 +129,10 @@ wrong_special o u s ss =
     if is_any s.name.text then not (is_plain s ss && is_stored u)
     else (if is_pid s.name.text then not (is_plain s ss && (is_read u && nat_lt 0 o)) else not (is_plain s ss && is_read u))
 
-abbrev pub wrong_in : List Entry → List Entry → ℕ → Use → List Shape → Bool
-wrong_in all es o u [] = false
-wrong_in all es o u (s ∷ ss) =
-    if is_special s.name.text then wrong_special o u s ss else wrong_thing es u (meaning all es o s.name.text) s ss
+abbrev pub wrong_in : Naming → Naming → ℕ → Use → List Shape → Bool
+wrong_in all names o u [] = false
+wrong_in all names o u (s ∷ ss) =
+    if is_special s.name.text then wrong_special o u s ss else wrong_thing names u (meaning all names o s.name.text) s ss
 
 abbrev pub no_typedef : Option Thing → Bool
 no_typedef None = false
@@ -149,16 +148,16 @@ abbrev pub is_open : Constant → Bool
 is_open Open = true
 is_open _ = false
 
-abbrev pub wrong : List Entry → List Entry → ℕ → What → Bool
-wrong all es o (what.Uses u ss) = wrong_in all es o u ss
-wrong all es o (what.Typedef t) = is_special t.text || no_typedef (meaning all es o t.text)
-wrong all es o (what.Runs n k) = is_special n.text || no_process (meaning all es o n.text)
-wrong all es o (what.Size c) = is_open c
-wrong all es o (what.Starts c) = is_open c
-wrong all es o (what.Preset c) = is_open c
-wrong all es o (what.Channel Other c n) = true
-wrong all es o (what.Channel Chan c n) = is_open c
-wrong all es o _ = false
+abbrev pub wrong : Naming → Naming → ℕ → What → Bool
+wrong all names o (what.Uses u ss) = wrong_in all names o u ss
+wrong all names o (what.Typedef t) = is_special t.text || no_typedef (meaning all names o t.text)
+wrong all names o (what.Runs n k) = is_special n.text || no_process (meaning all names o n.text)
+wrong all names o (what.Size c) = is_open c
+wrong all names o (what.Starts c) = is_open c
+wrong all names o (what.Preset c) = is_open c
+wrong all names o (what.Channel Other c n) = true
+wrong all names o (what.Channel Chan c n) = is_open c
+wrong all names o _ = false
 
 -- ---- run against its parameters, printf against its conversions
 
@@ -180,11 +179,6 @@ conversions (c ∷ d ∷ cs) =
     if nat_eq c percent then conversion d (conversions cs)
     else (if nat_eq c backslash then conversions cs else conversions (d ∷ cs))
 
--- n and those of a rest
-abbrev pub with_rest : ℕ → Option ℕ → Option ℕ
-with_rest n None = None
-with_rest n (Some k) = Some (n + k)
-
 abbrev pub differs : Option ℕ → ℕ → Bool
 differs None k = true
 differs (Some n) k = not (nat_eq n k)
@@ -198,16 +192,21 @@ abbrev pub inside : List ℕ → List ℕ
 inside [] = []
 inside (c ∷ cs) = take (length cs - 1) cs
 
-abbrev pub other_count : List Entry → List Entry → ℕ → What → Bool
-other_count all es o (what.Runs n k) = takes_other (meaning all es o n.text) k
-other_count all es o (what.Prints t k) = differs (conversions (inside t.text)) k
-other_count all es o _ = false
+abbrev pub other_count : Naming → Naming → ℕ → What → Bool
+other_count all names o (what.Runs n k) = takes_other (meaning all names o n.text) k
+other_count all names o (what.Prints t k) = differs (conversions (inside t.text)) k
+other_count all names o _ = false
 
 -- ---- a label stands twice, or is missing
-abbrev pub mislabelled : List Entry → List Entry → ℕ → What → Bool
-mislabelled all es o (what.Label l) = is_some (found es o true l.text)
-mislabelled all es o (what.Goto l) = is_none (found all o true l.text)
-mislabelled all es o _ = false
+
+-- the labels of each owner
+abbrev pub Labels : Type 0
+Labels = ℕ → List ℕ → Bool
+
+abbrev pub mislabelled : Labels → Labels → ℕ → What → Bool
+mislabelled every labels o (what.Label l) = labels o l.text
+mislabelled every labels o (what.Goto l) = not (every o l.text)
+mislabelled every labels o _ = false
 
 -- ---- a number out of range
 
@@ -225,15 +224,16 @@ abbrev pub out_of : ℕ → ℕ → Option ℕ → Bool
 out_of least most None = true
 out_of least most (Some n) = nat_lt n least || nat_lt most n
 
-abbrev pub out_of_range : List Entry → What → Bool
-out_of_range es (what.Number n) = is_none (numeral n.text)
-out_of_range es (what.Width n) = out_of 1 MOST_BITS (numeral n.text)
-out_of_range es (what.Size c) = is_outside 1 MOST_CELLS c
-out_of_range es (what.Starts c) = is_outside 1 MOST_PROCESSES c
-out_of_range es (what.Preset c) = is_faulty c
-out_of_range es (what.Channel h c n) = is_outside 0 MOST_MESSAGES c || nat_lt MOST_FIELDS n
-out_of_range es (what.Declares n declared_as.Constant) = not (nat_lt (constants es) MOST_CONSTANTS)
-out_of_range es _ = false
+-- where so many mtype names stand before
+abbrev pub out_of_range : ℕ → What → Bool
+out_of_range constants (what.Number n) = is_none (numeral n.text)
+out_of_range constants (what.Width n) = out_of 1 MOST_BITS (numeral n.text)
+out_of_range constants (what.Size c) = is_outside 1 MOST_CELLS c
+out_of_range constants (what.Starts c) = is_outside 1 MOST_PROCESSES c
+out_of_range constants (what.Preset c) = is_faulty c
+out_of_range constants (what.Channel h c n) = is_outside 0 MOST_MESSAGES c || nat_lt MOST_FIELDS n
+out_of_range constants (what.Declares n declared_as.Constant) = not (nat_lt constants MOST_CONSTANTS)
+out_of_range constants _ = false
 
 -- ---- too many cells
 
@@ -242,21 +242,28 @@ capacity (Is (pos n)) = n
 capacity _ = 0
 
 -- of the globals, of a proctype's parameters and locals, of one channel; a typedef's own are not asked
-abbrev pub too_many : List Entry → ℕ → What → Bool
-too_many es o (what.Declares n (declared_as.Variable role.Variable s size makes)) =
-    nat_lt MOST_CELLS (held es o + length_of size * stride es o s)
-too_many es o (what.Channel h c n) = nat_lt MOST_CELLS (capacity c * n)
-too_many es o _ = false
+abbrev pub too_many : Before → ℕ → What → Bool
+too_many b o (what.Declares n (declared_as.Variable role.Variable s size makes)) =
+    nat_lt MOST_CELLS (b.cells o + length_of size * stride b.names o s)
+too_many b o (what.Channel h c n) = nat_lt MOST_CELLS (capacity c * n)
+too_many b o _ = false
 
 -- ---- all of these
 
--- whether a mark breaks one of these conditions: all are the names of the text, es those before it
-unfoldable pub judged : Condition → List Entry → List Entry → ℕ → What → Bool
-judged condition.Twice all es o w = twice es o w
-judged condition.Unknown all es o w = unknown all es o w
-judged condition.Wrong all es o w = wrong all es o w
-judged condition.Arguments all es o w = other_count all es o w
-judged condition.Label all es o w = mislabelled all es o w
-judged condition.Range all es o w = out_of_range es w
-judged condition.Cells all es o w = too_many es o w
-judged _ all es o w = false
+-- what is asked of a mark stands among this: the names and labels of the whole text, and what is declared and labelled before the mark
+pub record Around : Type 0 where
+  pub all : Naming
+  pub every_label : Labels
+  pub before : Before
+  pub labels : Labels
+
+-- whether a mark breaks one of these conditions
+unfoldable pub judged : Condition → Around → ℕ → What → Bool
+judged condition.Twice a o w = twice a.before.names o w
+judged condition.Unknown a o w = unknown a.all a.before.names o w
+judged condition.Wrong a o w = wrong a.all a.before.names o w
+judged condition.Arguments a o w = other_count a.all a.before.names o w
+judged condition.Label a o w = mislabelled a.every_label a.labels o w
+judged condition.Range a o w = out_of_range a.before.constants w
+judged condition.Cells a o w = too_many a.before o w
+judged _ a o w = false

@@ -1,12 +1,15 @@
 -- Which conditions refuse a model.
-use Rattle.std.specs.Prelude.{◌≡◌, ◌⊎◌, ℕ, ◌<◌, ◌≤◌, Bool, true, false, List, take, slice_get, Some}
+use Rattle.std.specs.Prelude.{◌≡◌, ◌⊎◌, ℕ, ◌<◌, ◌≤◌, nat_eq, Bool, true, false, ◌&&◌, ◌||◌, List, [], ◌∷◌, take, slice_get, Some}
+use Rattle.std.specs.Str.{bytes_eq}
 use Rattle.profile.specs.declared.TheConstants.{MOST_CHANNELS, MOST_PROCESSES}
+use Rattle.pml_marks.specs.declared.mark.What.{What}
+use Rattle.pml_marks.specs.declared.mark.What.TheVariants as what
 use Rattle.pml_marks.specs.declared.mark.Mark.{Mark}
-use Rattle.pml_names.specs.Env.{env}
+use Rattle.pml_names.specs.Naming.{before}
 use Rattle.pml_conditions.specs.declared.find.Found.{Found}
 use Rattle.pml_conditions.specs.declared.condition.Condition.{Condition}
 use Rattle.pml_conditions.specs.declared.condition.Condition.TheVariants as condition
-use Rattle.pml_conditions.specs.Conditions.{judged}
+use Rattle.pml_conditions.specs.Conditions.{Around, judged}
 use Rattle.pml_conditions.specs.Structure.{round, labels_in, loose, crosses}
 use Rattle.pml_conditions.specs.Start.{begins, processes, first_channels}
 
@@ -17,9 +20,22 @@ Somewhere p ms = (k : ℕ) × (m : Mark) × (slice_get ms k ≡ Some m) × (p (t
 abbrev pub Nowhere : (List Mark → Mark → Bool) → List Mark → Type 0
 Nowhere p ms = (k : ℕ) (m : Mark) → slice_get ms k ≡ Some m → p (take k ms) m ≡ false
 
--- whether a mark breaks a condition on names, kinds, counts or ranges, among these marks and behind those before it
+-- whether this is the label n of o
+abbrev pub is_label : ℕ → List ℕ → ℕ → What → Bool
+is_label o n k (what.Label l) = nat_eq k o && bytes_eq l.text n
+is_label o n k _ = false
+
+-- whether one of these marks is
+abbrev pub has_label : List Mark → ℕ → List ℕ → Bool
+has_label [] o n = false
+has_label (m ∷ ms) o n = is_label o n m.owner m.what || has_label ms o n
+
+abbrev pub around : List Mark → List Mark → Around
+around ms first = record { all = (before ms).names; every_label = has_label ms; before = before first; labels = has_label first }
+
+-- whether a mark breaks a condition on names, kinds, counts or ranges, among these marks and behind those that stand first
 abbrev pub broken : Condition → List Mark → List Mark → Mark → Bool
-broken r ms before m = judged r (env ms) (env before) m.owner m.what
+broken r ms first m = judged r (around ms first) m.owner m.what
 
 -- a break that no do is round
 abbrev pub breaks_loose : List Mark → Mark → Bool

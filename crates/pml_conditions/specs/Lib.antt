@@ -2,4 +2,5 @@ pub mod Conditions
 pub mod Structure
 pub mod Start
 pub mod Decided
+pub mod Labels
 pub mod Laws

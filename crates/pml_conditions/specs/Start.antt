@@ -7,8 +7,8 @@ use Rattle.pml_marks.specs.declared.mark.Declared.TheVariants as declared_as
 use Rattle.pml_marks.specs.declared.mark.What.{What}
 use Rattle.pml_marks.specs.declared.mark.What.TheVariants as what
 use Rattle.pml_marks.specs.declared.mark.Mark.{Mark}
-use Rattle.pml_names.specs.Entry.{Entry}
-use Rattle.pml_names.specs.Env.{env, form, length_of}
+use Rattle.pml_names.specs.Meaning.{Naming}
+use Rattle.pml_names.specs.Naming.{form, length_of, before}
 use Rattle.pml_conditions.specs.Conditions.{capacity}
 
 -- whether processes begin here
@@ -31,7 +31,7 @@ channels_of (kind.Struct t) f = f t
 channels_of _ f = 0
 
 -- the channels that a variable makes: one for each element, or those of its typedef's fields for each element
-abbrev pub made : List Entry → (ℕ → ℕ) → What → ℕ
+abbrev pub made : Naming → (ℕ → ℕ) → What → ℕ
 made all f (what.Declares n (declared_as.Variable x s size Channels)) = length_of size
 made all f (what.Declares n (declared_as.Variable x s size Numbers)) = length_of size * channels_of (form all 0 s) f
 made all f _ = 0
@@ -41,7 +41,7 @@ abbrev pub raised : ℕ → ℕ → ℕ → ℕ → ℕ
 raised o more k n = if nat_eq o k then min (n + more) 256 else n
 
 -- the channels that the variables of o, or the fields of the typedef o, make; the marks are given from the last to the first
-abbrev pub channels : List Entry → List Mark → ℕ → ℕ
+abbrev pub channels : Naming → List Mark → ℕ → ℕ
 channels all [] o = 0
 channels all (m ∷ ms) o = (if nat_eq m.owner o then made all (channels all ms) m.what else 0) + channels all ms o
 
@@ -52,7 +52,7 @@ by_processes f (m ∷ ms) = started m.what * f m.owner + by_processes f ms
 
 -- the channels of each owner in this text
 abbrev pub channels_in : List Mark → ℕ → ℕ
-channels_in ms o = channels (env ms) (reverse ms) o
+channels_in ms o = channels (before ms).names (reverse ms) o
 
 -- the channels in the first state
 abbrev pub first_channels : List Mark → ℕ

@@ -1,14 +1,18 @@
 //! Names that stand twice, labels, arguments, ranges and cells.
 
 ghost use Rattle.std.specs.Prelude.{◌≡◌, ◌+◌, ◌*◌, ◌<◌, ◌^◌, nat_lt, ℕ, pos};
+ghost use Rattle.pml_conditions.specs.Labels.{labels_of};
 ghost use Rattle.pml_conditions.specs.Conditions.{twice, conversions, is_conversion, inside, other_count, mislabelled, is_outside, out_of, out_of_range, capacity, too_many};
-ghost use Rattle.pml_names.specs.Env.{held, stride, length_of};
+ghost use Rattle.pml_names.specs.Entry.{found};
+ghost use Rattle.pml_names.specs.Env.{told};
+ghost use Rattle.pml_names.specs.Naming.{stride, length_of};
 ghost use Rattle.pml_names.specs.Totals.{IsTotalled};
 
 use pml_marks::arithmetic::read;
 use pml_marks::mark::{Constant, Declared, Role, What};
 use pml_names::meaning::{is_special, meaning};
 use pml_names::names::{Names, length_of, stride};
+use pml_names::places::Places;
 use pml_names::table::Table;
 use pml_names::thing::Thing;
 use pml_names::totals::at;
@@ -16,26 +20,26 @@ use profile::{MOST_BITS, MOST_CELLS, MOST_CONSTANTS, MOST_FIELDS, MOST_MESSAGES,
 
 /// Whether a name is declared twice, or one that no text declares.
 pub fn twice(table: &Table, owner: usize, what: &What) -> bool
-    ensures { result ≡ twice table.now owner what.now }
+    ensures { result ≡ twice (found table.now) owner what.now }
 {
     match what {
         What::Declares(name, _) => {
             if is_special(name.text()) {
                 return true;
             }
-            table.find(owner, false, name.text()).is_some()
+            table.find(owner, name.text()).is_some()
         }
         _ => false,
     }
 }
 
 /// Whether a label stands twice, or is missing.
-pub fn mislabelled(all: &Table, table: &Table, owner: usize, what: &What) -> bool
-    ensures { result ≡ mislabelled all.now table.now owner what.now }
+pub fn mislabelled(every: &Places<usize>, labels: &Places<usize>, owner: usize, what: &What) -> bool
+    ensures { result ≡ mislabelled (labels_of every.now) (labels_of labels.now) owner what.now }
 {
     match what {
-        What::Label(name) => table.find(owner, true, name.text()).is_some(),
-        What::Goto(name) => all.find(owner, true, name.text()).is_none(),
+        What::Label(name) => labels.find(owner, name.text()).is_some(),
+        What::Goto(name) => every.find(owner, name.text()).is_none(),
         _ => false,
     }
 }
@@ -62,7 +66,7 @@ fn out_of(least: u32, most: u32, found: Option<u32>) -> bool
 /// Whether a number is out of range.
 pub fn out_of_range(names: &Names, what: &What) -> bool
     requires { IsTotalled names.now.table names.now.totals names.now.constants }
-    ensures { result ≡ out_of_range names.now.table what.now }
+    ensures { result ≡ out_of_range (told names.now.table).constants what.now }
 {
     match what {
         What::Number(n) => read(n.text()).is_none(),
@@ -93,7 +97,7 @@ pub fn capacity(constant: Constant) -> u64
 /// Whether there are too many cells.
 pub fn too_many(names: &Names, owner: usize, what: &What) -> bool
     requires { IsTotalled names.now.table names.now.totals names.now.constants }
-    ensures { result ≡ too_many names.now.table owner what.now }
+    ensures { result ≡ too_many (told names.now.table) owner what.now }
 {
     match what {
         What::Declares(_, Declared::Variable(Role::Variable, sort, size, _)) => {
@@ -167,7 +171,7 @@ fn inside(text: &[u8]) -> &[u8]
 
 /// Whether a run or a printf has another number of arguments.
 pub fn other_count(all: &Table, table: &Table, owner: usize, what: &What) -> bool
-    ensures { result ≡ other_count all.now table.now owner what.now }
+    ensures { result ≡ other_count (found all.now) (found table.now) owner what.now }
 {
     match what {
         What::Runs(n, k) => match meaning(all, table, owner, n.text()) {

@@ -5,13 +5,16 @@ ghost use Rattle.pml_names.specs.Env.{env};
 ghost use Rattle.pml_names.specs.Totals.{IsTotalled};
 ghost use Rattle.pml_conditions.specs.declared.condition.Condition.TheVariants as condition;
 ghost use Rattle.pml_conditions.specs.Conditions.{judged};
+ghost use Rattle.pml_conditions.specs.Labels.{told_around};
 ghost use Rattle.pml_conditions.specs.Decided.{AreFound};
 
 use crate::counts::{mislabelled, other_count, out_of_range, too_many, twice};
+use crate::labels::{add_label, all_labels};
 use crate::unknown::unknown;
 use crate::wrong::wrong;
 use pml_marks::mark::{Mark, What};
 use pml_names::names::Names;
+use pml_names::places::Places;
 use pml_names::table::Table;
 use std::alloc::{AllocError, Global};
 
@@ -27,24 +30,31 @@ pub struct Found {
     pub cells: bool,
 }
 
-/// Which are broken at a mark, among the names of all marks and behind those of the marks before it.
+/// Which are broken at a mark, among the names and labels of all marks and behind those of the marks before it.
 #[tactic(auto, unfolding(crate::specs::Conditions::judged))]
-fn at_mark(all: &Table, names: &Names, owner: usize, what: &What) -> Found
+fn at_mark(
+    all: &Table,
+    every: &Places<usize>,
+    names: &Names,
+    labels: &Places<usize>,
+    owner: usize,
+    what: &What,
+) -> Found
     requires { IsTotalled names.now.table names.now.totals names.now.constants }
-    ensures twice { result.twice ≡ judged condition.Twice all.now names.now.table owner what.now }
-    ensures unknown { result.unknown ≡ judged condition.Unknown all.now names.now.table owner what.now }
-    ensures wrong { result.wrong ≡ judged condition.Wrong all.now names.now.table owner what.now }
-    ensures arguments { result.arguments ≡ judged condition.Arguments all.now names.now.table owner what.now }
-    ensures label { result.label ≡ judged condition.Label all.now names.now.table owner what.now }
-    ensures range { result.range ≡ judged condition.Range all.now names.now.table owner what.now }
-    ensures cells { result.cells ≡ judged condition.Cells all.now names.now.table owner what.now }
+    ensures twice { result.twice ≡ judged condition.Twice (told_around all.now every.now names.now.table labels.now) owner what.now }
+    ensures unknown { result.unknown ≡ judged condition.Unknown (told_around all.now every.now names.now.table labels.now) owner what.now }
+    ensures wrong { result.wrong ≡ judged condition.Wrong (told_around all.now every.now names.now.table labels.now) owner what.now }
+    ensures arguments { result.arguments ≡ judged condition.Arguments (told_around all.now every.now names.now.table labels.now) owner what.now }
+    ensures label { result.label ≡ judged condition.Label (told_around all.now every.now names.now.table labels.now) owner what.now }
+    ensures range { result.range ≡ judged condition.Range (told_around all.now every.now names.now.table labels.now) owner what.now }
+    ensures cells { result.cells ≡ judged condition.Cells (told_around all.now every.now names.now.table labels.now) owner what.now }
 {
     Found {
         twice: twice(&names.table, owner, what),
         unknown: unknown(all, &names.table, owner, what),
         wrong: wrong(all, &names.table, owner, what),
         arguments: other_count(all, &names.table, owner, what),
-        label: mislabelled(all, &names.table, owner, what),
+        label: mislabelled(every, labels, owner, what),
         range: out_of_range(names, what),
         cells: too_many(names, owner, what),
     }
@@ -97,11 +107,15 @@ pub fn find<'a>(alloc: Global, all: &Table<'a>, marks: &[Mark<'a>]) -> Result<Fo
     requires { all.now ≡ env marks.now }
     ensures { IfOk result (AreFound marks.now) }
 {
+    let every = all_labels(alloc, marks)?;
     let mut names = Names::new(alloc);
+    let mut labels = Places::new(alloc);
     let mut found = nothing();
     for mark in marks {
-        found = either(found, at_mark(all, &names, mark.owner, &mark.what));
+        let here = at_mark(all, &every, &names, &labels, mark.owner, &mark.what);
+        found = either(found, here);
         names.declare(mark.owner, &mark.what)?;
+        add_label(&mut labels, mark.owner, &mark.what)?;
     }
     Ok(found)
 }

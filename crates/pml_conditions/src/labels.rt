@@ -1,12 +1,43 @@
-//! The labels of a text, each with the innermost d_step round it.
+//! The labels of a text, and each with the innermost d_step round it.
 
-ghost use Rattle.std.specs.Prelude.{◌≡◌, ◌++◌, ◌∷◌, [], None, OnOk};
+ghost use Rattle.std.specs.Prelude.{◌≡◌, ◌++◌, ◌∷◌, ◌||◌, ℕ, List, [], None, OnOk, IfOk};
+ghost use Rattle.pml_names.specs.Places.{IsKept};
+ghost use Rattle.pml_conditions.specs.Decided.{is_label};
+ghost use Rattle.pml_conditions.specs.Labels.{labels_of, AreLabels};
 
 use crate::round::Round;
 use indexmap::IndexMap;
-use pml_marks::mark::What;
+use pml_marks::mark::{Mark, What};
+use pml_names::places::Places;
 use std::alloc::{AllocError, Global};
 use std::marker::Model;
+
+/// Adds the label that a mark is.
+pub fn add_label<'a>(
+    labels: &mut Places<'a, usize>,
+    owner: usize,
+    what: &What<'a>,
+) -> Result<(), AllocError>
+    requires { IsKept labels.old.numbers labels.old.places }
+    ensures kept { IsKept labels.new.numbers labels.new.places }
+    ensures added { OnOk result ((o : ℕ) (n : List ℕ) → labels_of labels.new o n ≡ (is_label o n owner what.now || labels_of labels.old o n)) }
+{
+    match what {
+        What::Label(name) => labels.put(owner, name.text(), 0),
+        _ => Ok(()),
+    }
+}
+
+/// The labels of all marks.
+pub fn all_labels<'a>(alloc: Global, marks: &[Mark<'a>]) -> Result<Places<'a, usize>, AllocError>
+    ensures { IfOk result (AreLabels marks.now) }
+{
+    let mut labels = Places::new(alloc);
+    for mark in marks {
+        add_label(&mut labels, mark.owner, &mark.what)?;
+    }
+    Ok(labels)
+}
 
 /// Labels in the order of the text, with the innermost d_step round each.
 #[derive(Drop)]

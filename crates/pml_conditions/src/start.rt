@@ -1,6 +1,7 @@
 //! The first state: how many processes begin, and how many channels they and the globals make.
 
 ghost use Rattle.std.specs.Prelude.{◌≡◌, ℕ, ◌+◌, ◌^◌, ◌<◌, ◌≤◌, min, nat_eq, if◌then◌else◌, length, slice_index_or, IfOk, OnOk};
+ghost use Rattle.pml_names.specs.Entry.{found};
 ghost use Rattle.pml_names.specs.Env.{env};
 ghost use Rattle.pml_conditions.specs.Start.{begins, started, processes, channels_of, made, by_processes, channels_in, first_channels, raised};
 ghost use Rattle.pml_conditions.specs.Decided.{Finds, begins_there, Decides};
@@ -77,7 +78,7 @@ fn channels_of(counts: &[u32], form: Form) -> u32
 
 /// The channels that a variable makes, counted up to 256.
 fn made(all: &Table, counts: &[u32], what: &What) -> u64
-    ensures { result ≡ min (made all.now (λ o. slice_index_or counts.now o 0) what.now) 256 }
+    ensures { result ≡ min (made (found all.now) (λ o. slice_index_or counts.now o 0) what.now) 256 }
 {
     match what {
         What::Declares(_, Declared::Variable(_, _, size, Makes::Channels)) => {

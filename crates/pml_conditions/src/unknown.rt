@@ -1,6 +1,7 @@
 //! Names that are not declared.
 
 ghost use Rattle.std.specs.Prelude.{◌≡◌};
+ghost use Rattle.pml_names.specs.Entry.{found as names_of};
 ghost use Rattle.pml_conditions.specs.Conditions.{lacks, lost, unknown_in, unknown_name, unknown};
 
 use pml_marks::mark::{Shape, What};
@@ -10,7 +11,7 @@ use pml_names::thing::Thing;
 use pml_program::form::Form;
 
 fn lacks(table: &Table, form: Form, steps: &[Shape]) -> bool
-    ensures { result ≡ lacks table.now form steps.now }
+    ensures { result ≡ lacks (names_of table.now) form steps.now }
 {
     let mut here = form;
     for step in steps {
@@ -25,7 +26,7 @@ fn lacks(table: &Table, form: Form, steps: &[Shape]) -> bool
 }
 
 fn lost(table: &Table, found: Option<Thing>, steps: &[Shape]) -> bool
-    ensures { result ≡ lost table.now found steps.now }
+    ensures { result ≡ lost (names_of table.now) found steps.now }
 {
     match found {
         Some(Thing::Variable(v)) => lacks(table, v.form, steps),
@@ -35,7 +36,7 @@ fn lost(table: &Table, found: Option<Thing>, steps: &[Shape]) -> bool
 }
 
 fn unknown_in(all: &Table, table: &Table, owner: usize, steps: &[Shape]) -> bool
-    ensures { result ≡ unknown_in all.now table.now owner steps.now }
+    ensures { result ≡ unknown_in (names_of all.now) (names_of table.now) owner steps.now }
 {
     match steps {
         [] => false,
@@ -50,7 +51,7 @@ fn unknown_in(all: &Table, table: &Table, owner: usize, steps: &[Shape]) -> bool
 }
 
 fn unknown_name(all: &Table, table: &Table, owner: usize, name: &[u8]) -> bool
-    ensures { result ≡ unknown_name all.now table.now owner name.now }
+    ensures { result ≡ unknown_name (names_of all.now) (names_of table.now) owner name.now }
 {
     if is_special(name) {
         return false;
@@ -60,7 +61,7 @@ fn unknown_name(all: &Table, table: &Table, owner: usize, name: &[u8]) -> bool
 
 /// Whether a name is not declared, or a field is lacking.
 pub fn unknown(all: &Table, table: &Table, owner: usize, what: &What) -> bool
-    ensures { result ≡ unknown all.now table.now owner what.now }
+    ensures { result ≡ unknown (names_of all.now) (names_of table.now) owner what.now }
 {
     match what {
         What::Uses(_, steps) => unknown_in(all, table, owner, steps.as_slice()),

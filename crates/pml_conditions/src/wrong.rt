@@ -2,6 +2,7 @@
 
 ghost use Rattle.std.specs.Prelude.{◌≡◌, not};
 ghost use mathlib.Core.Bool.{beq};
+ghost use Rattle.pml_names.specs.Entry.{found as names_of};
 ghost use Rattle.pml_conditions.specs.Conditions.{is_plain, is_compared, is_stored, is_preset, is_unknown, misused, misfits, wrong_thing, wrong_special, wrong_in, wrong};
 
 use pml_marks::mark::{Constant, Holder, Shape, Use, What};
@@ -77,7 +78,7 @@ fn misused(used: Use, form: Form) -> bool
 }
 
 fn misfits(table: &Table, used: Use, form: Form, steps: &[Shape]) -> bool
-    ensures { result ≡ misfits table.now used form steps.now }
+    ensures { result ≡ misfits (names_of table.now) used form steps.now }
 {
     let mut here = form;
     for step in steps {
@@ -106,7 +107,7 @@ fn wrong_thing(
     first: &Shape,
     rest: &[Shape],
 ) -> bool
-    ensures { result ≡ wrong_thing table.now used found first.now rest.now }
+    ensures { result ≡ wrong_thing (names_of table.now) used found first.now rest.now }
 {
     match found {
         Some(Thing::Variable(v)) => {
@@ -141,7 +142,7 @@ fn wrong_special(owner: usize, used: Use, first: &Shape, rest: &[Shape]) -> bool
 }
 
 fn wrong_in(all: &Table, table: &Table, owner: usize, used: Use, steps: &[Shape]) -> bool
-    ensures { result ≡ wrong_in all.now table.now owner used steps.now }
+    ensures { result ≡ wrong_in (names_of all.now) (names_of table.now) owner used steps.now }
 {
     match steps {
         [] => false,
@@ -157,7 +158,7 @@ fn wrong_in(all: &Table, table: &Table, owner: usize, used: Use, steps: &[Shape]
 
 /// Whether something is of the wrong kind.
 pub fn wrong(all: &Table, table: &Table, owner: usize, what: &What) -> bool
-    ensures { result ≡ wrong all.now table.now owner what.now }
+    ensures { result ≡ wrong (names_of all.now) (names_of table.now) owner what.now }
 {
     match what {
         What::Uses(used, steps) => wrong_in(all, table, owner, *used, steps.as_slice()),

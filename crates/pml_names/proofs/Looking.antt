@@ -6,7 +6,6 @@ use Rattle.pml_marks.specs.declared.mark.What.{What}
 use Rattle.pml_marks.specs.declared.mark.What.TheVariants as what
 use Rattle.pml_marks.specs.declared.mark.Mark.{Mark}
 use Rattle.pml_names.specs.declared.thing.Thing.{Thing}
-use Rattle.pml_names.specs.declared.thing.Thing.TheVariants as thing
 use Rattle.pml_names.specs.Entry.{Entry, entry, found}
 use Rattle.pml_names.specs.Env.{env, env_from, after, add, thing_of}
 
@@ -34,13 +33,12 @@ added false es e = grind (arith, length_more es e)
     length_more [] e = omega arith
     length_more (f ∷ es) e = omega (arith, length_more es e)
 
-add-length : (es : List Entry) (o : ℕ) (l : Bool) (n : List ℕ) (t : Thing) → length (add es o l n t) ≤ length es + 1
+add-length : (es : List Entry) (o : ℕ) (n : List ℕ) (t : Thing) → length (add es o n t) ≤ length es + 1
 unfolding add
-add-length es o l n t = added (is_some (found es o l n)) es (entry o l n t)
+add-length es o n t = added (is_some (found es o n)) es (entry o n t)
 
 -- at most one name more
 pub after-length : (es : List Entry) (o : ℕ) (w : What) → length (after es o w) ≤ length es + 1
 unfolding after
-after-length es o (what.Declares n d) = add-length es o false n.text (thing_of es o d)
-after-length es o (what.Label n) = add-length es o true n.text thing.Label
+after-length es o (what.Declares n d) = add-length es o n.text (thing_of es o d)
 after-length es o _ = omega arith

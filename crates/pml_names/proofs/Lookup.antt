@@ -1,27 +1,26 @@
--- What a map with these keys answers, as a list of declared names.
-use Rattle.std.proofs.Common.{◌≡◌, ℕ, Bool, true, false, ◌&&◌, nat_eq, cond, List, [], ◌∷◌, ◌++◌, Some, None, refl, ap}
-use mathlib.Core.Bool.{beq}
-use Rattle.std.specs.Map.{lookup}
-use Rattle.std.specs.Str.{bytes_eq}
-use Rattle.std.specs.Borrow.{Bor}
-use Rattle.indexmap.specs.IndexMap.{insert_entry}
+-- A name is found by the place of its first declaration.
+use Rattle.std.proofs.Common.{◌≡◌, ℕ, Bool, true, false, cond, List, [], ◌∷◌, Option, Some, None, refl, ap, ◌∙◌}
+use Rattle.std.specs.Prelude.{slice_get}
 use Rattle.pml_names.specs.declared.thing.Thing.{Thing}
-use Rattle.pml_names.specs.Entry.{entry_of, entries_of, is_named, found}
+use Rattle.pml_names.specs.Entry.{Entry, is_named, found}
+use Rattle.pml_names.specs.Places.{one_behind, place_of, thing_in}
 
-abbrev pub Key : Type 0
-Key = ℕ × Bool × Bor (List ℕ)
+-- ---- what is found
 
-abbrev same_key : Key → Key → Bool
-same_key k j = (nat_eq k.0 j.0 && beq k.1 j.1) && bytes_eq k.2.now j.2.now
+abbrev pub thing_at : List Entry → Option ℕ → Option Thing
+thing_at es None = None
+thing_at es (Some k) = thing_in (slice_get es k)
 
-pub lookup_is : (o : ℕ) (l : Bool) (n : List ℕ) (es : List (Key × Thing)) → lookup (λ (y : Key). (nat_eq o y.0 && beq l y.1) && bytes_eq n y.2.now) es ≡ found (entries_of es) o l n
-lookup_is o l n [] = refl
-lookup_is o l n (e ∷ es) = ap (cond (is_named o l n (entry_of e)) (Some e.1)) (lookup_is o l n es)
+behind : (e : Entry) (es : List Entry) (k : Option ℕ) → thing_at (e ∷ es) (one_behind k) ≡ thing_at es k
+behind e es None = refl
+behind e es (Some k) = refl
 
-absent : (b : Bool) (e : Key × Thing) (k : Key) (t : Thing) (es fs : List (Key × Thing)) → cond b (Some e.1) (found (entries_of es) k.0 k.1 k.2.now) ≡ None → (found (entries_of es) k.0 k.1 k.2.now ≡ None → entries_of fs ≡ entries_of es ++ entry_of (k, t) ∷ []) → entries_of (cond b ((e.0, t) ∷ es) (e ∷ fs)) ≡ entry_of e ∷ (entries_of es ++ entry_of (k, t) ∷ [])
-absent true e k t es fs h f = cc
-absent false e k t es fs h f = ap (λ x. entry_of e ∷ x) (f h)
+first : (b : Bool) (e : Entry) (es : List Entry) (k : Option ℕ) → thing_at (e ∷ es) (cond b (Some 0) (one_behind k)) ≡ cond b (Some e.thing) (thing_at es k)
+first true e es k = refl
+first false e es k = behind e es k
 
-pub insert_is : (k : Key) (t : Thing) (es : List (Key × Thing)) → found (entries_of es) k.0 k.1 k.2.now ≡ None → entries_of (insert_entry same_key es k t) ≡ entries_of es ++ entry_of (k, t) ∷ []
-insert_is k t [] h = refl
-insert_is k t (e ∷ es) h = absent (same_key k e.0) e k t es (insert_entry same_key es k t) h (insert_is k t es)
+pub found_at : (o : ℕ) (n : List ℕ) (es : List Entry) → thing_at es (place_of es o n) ≡ found es o n
+found_at o n [] = refl
+found_at o n (e ∷ es) =
+    let b = is_named o n e in
+    first b e es (place_of es o n) ∙ ap (cond b (Some e.thing)) (found_at o n es)

@@ -1,11 +1,14 @@
 -- What names stand for where they are used.
-use Rattle.std.specs.Prelude.{ℕ, Bool, false, ◌||◌, List, Option, Some, None, codes}
+use Rattle.std.specs.Prelude.{ℕ, Bool, ◌||◌, List, Option, Some, None, codes}
 use Rattle.std.specs.Str.{bytes_eq}
 use Rattle.pml_program.specs.declared.form.Form.{Form}
 use Rattle.pml_program.specs.declared.form.Form.TheVariants as kind
 use Rattle.pml_names.specs.declared.thing.Thing.{Thing}
 use Rattle.pml_names.specs.declared.thing.Thing.TheVariants as thing
-use Rattle.pml_names.specs.Entry.{Entry, found}
+
+-- what the names of each owner stand for
+abbrev pub Naming : Type 0
+Naming = ℕ → List ℕ → Option Thing
 
 unfoldable pub is_any : List ℕ → Bool
 is_any n = bytes_eq n (codes "_")
@@ -28,11 +31,15 @@ abbrev pub only_process : Option Thing → Option Thing
 only_process (Some (thing.Proctype o n)) = Some (thing.Proctype o n)
 only_process _ = None
 
--- What a name stands for where es is declared before it: a name of the owner, a global name, a proctype of the whole text.
-abbrev pub meaning : List Entry → List Entry → ℕ → List ℕ → Option Thing
-meaning all es o n = or_else (found es o false n) (or_else (found es 0 false n) (only_process (found all 0 false n)))
+-- what a name stands for where o uses it: a name of its own hides a global one
+abbrev pub visible : Naming → ℕ → List ℕ → Option Thing
+visible names o n = or_else (names o n) (names 0 n)
+
+-- The same where a proctype may be meant too, which any place of the whole text may declare.
+abbrev pub meaning : Naming → Naming → ℕ → List ℕ → Option Thing
+meaning all names o n = or_else (names o n) (or_else (names 0 n) (only_process (all 0 n)))
 
 -- what stands for a field of this type: nothing where it is no typedef's, None where the typedef lacks it
-abbrev pub field : List Entry → Form → List ℕ → Option (Option Thing)
-field es (kind.Struct t) n = Some (found es t false n)
-field es _ n = None
+abbrev pub field : Naming → Form → List ℕ → Option (Option Thing)
+field names (kind.Struct t) n = Some (names t n)
+field names _ n = None

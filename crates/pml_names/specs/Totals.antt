@@ -3,7 +3,8 @@ use Rattle.std.specs.Prelude.{◌≡◌, ℕ, ◌+◌, min, List, slice_index_or
 use Rattle.pml_names.specs.declared.totals.Total.{Total}
 use Rattle.pml_names.specs.declared.thing.Thing.{Thing}
 use Rattle.pml_names.specs.Entry.{Entry}
-use Rattle.pml_names.specs.Env.{held, variables, constants, most_cells, cells_in, variables_in}
+use Rattle.pml_names.specs.Naming.{most_cells, cells_in, variables_in}
+use Rattle.pml_names.specs.Env.{held, variables, constants}
 
 abbrev pub none : Total
 none = record { cells = 0; variables = 0 }

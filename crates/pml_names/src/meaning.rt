@@ -1,7 +1,7 @@
 //! What names stand for.
 
 ghost use Rattle.std.specs.Prelude.{◌≡◌, Some, option_map};
-ghost use Rattle.pml_names.specs.Meaning.{is_any, is_pid, is_count, is_special, only_process, meaning, field};
+ghost use Rattle.pml_names.specs.Meaning.{is_any, is_pid, is_count, is_special, only_process, visible, meaning, field};
 ghost use Rattle.pml_names.specs.Entry.{found};
 
 use crate::table::Table;
@@ -48,25 +48,35 @@ fn only_process(found: Option<Thing>) -> Option<Thing>
     }
 }
 
+/// What a name stands for: a name of the owner, or a global name.
+pub fn visible(table: &Table, owner: usize, name: &[u8]) -> Option<Thing>
+    ensures { result ≡ visible (found table.now) owner name.now }
+{
+    match table.find(owner, name) {
+        Some(t) => Some(t),
+        None => table.find(0, name),
+    }
+}
+
 /// What a name stands for: a name of the owner, a global name, a proctype of the whole text.
 pub fn meaning(all: &Table, table: &Table, owner: usize, name: &[u8]) -> Option<Thing>
-    ensures { result ≡ meaning all.now table.now owner name.now }
+    ensures { result ≡ meaning (found all.now) (found table.now) owner name.now }
 {
-    match table.find(owner, false, name) {
+    match table.find(owner, name) {
         Some(t) => Some(t),
-        None => match table.find(0, false, name) {
+        None => match table.find(0, name) {
             Some(t) => Some(t),
-            None => only_process(all.find(0, false, name)),
+            None => only_process(all.find(0, name)),
         },
     }
 }
 
 /// What stands for a field of this type.
 pub fn field(table: &Table, form: Form, name: &[u8]) -> Option<Option<Thing>>
-    ensures { result ≡ field table.now form name.now }
+    ensures { result ≡ field (found table.now) form name.now }
 {
     match form {
-        Form::Struct(t) => Some(table.find(t, false, name)),
+        Form::Struct(t) => Some(table.find(t, name)),
         _ => None,
     }
 }

@@ -1,10 +1,12 @@
 //! The names that are declared so far.
 
 ghost use Rattle.std.specs.Prelude.{◌≡◌, [], ◌+◌, ◌<◌, ◌^◌, None, length, OnOk, IfOk};
-ghost use Rattle.pml_names.specs.Env.{form, stride, visible, user, form_of, stride_of, length_of, thing_of, add, after, constants_in, env};
+ghost use Rattle.pml_names.specs.Naming.{form, stride, user, form_of, stride_of, length_of, constants_in};
+ghost use Rattle.pml_names.specs.Env.{thing_of, add, after, env};
 ghost use Rattle.pml_names.specs.Entry.{found};
 ghost use Rattle.pml_names.specs.Totals.{IsTotalled};
 
+use crate::meaning::visible;
 use crate::table::Table;
 use crate::thing::{Thing, Variable};
 use crate::totals::{Total, at, grow, grown};
@@ -42,18 +44,9 @@ fn stride_of(found: Option<Thing>) -> u32
     }
 }
 
-fn visible(table: &Table, owner: usize, name: &[u8]) -> Option<Thing>
-    ensures { result ≡ visible table.now owner name.now }
-{
-    match table.find(owner, false, name) {
-        Some(t) => Some(t),
-        None => table.find(0, false, name),
-    }
-}
-
 /// The type of a variable that is declared where this owner's names are used.
 pub fn form(table: &Table, owner: usize, sort: &Sort) -> Form
-    ensures { result ≡ form table.now owner sort.now }
+    ensures { result ≡ form (found table.now) owner sort.now }
 {
     match sort {
         Sort::Plain(t) => Form::Plain(*t),
@@ -67,7 +60,7 @@ pub fn form(table: &Table, owner: usize, sort: &Sort) -> Form
 
 /// The cells of one element of such a variable.
 pub fn stride(table: &Table, owner: usize, sort: &Sort) -> u32
-    ensures { result ≡ stride table.now owner sort.now }
+    ensures { result ≡ stride (found table.now) owner sort.now }
 {
     match sort {
         Sort::Plain(_) => 1,
@@ -151,22 +144,16 @@ impl<'a> Names<'a> {
 
     /// Adds a name, unless it is there.
     #[tactic(auto, unfolding(crate::specs::Env::add))]
-    fn add(
-        &mut self,
-        owner: usize,
-        label: bool,
-        name: &'a [u8],
-        thing: Thing,
-    ) -> Result<(), AllocError>
+    fn add(&mut self, owner: usize, name: &'a [u8], thing: Thing) -> Result<(), AllocError>
         requires totalled { IsTotalled self.old.table self.old.totals self.old.constants }
         requires room { length self.old.table + 1 < 2 ^ 64 }
-        ensures table { OnOk result (self.new.table ≡ add self.old.table owner label name.entry.now thing) }
+        ensures table { OnOk result (self.new.table ≡ add self.old.table owner name.entry.now thing) }
         ensures totalled { OnOk result (IsTotalled self.new.table self.new.totals self.new.constants) }
     {
-        if self.table.find(owner, label, name).is_some() {
+        if self.table.find(owner, name).is_some() {
             return Ok(());
         }
-        self.table.add(owner, label, name, thing)?;
+        self.table.add(owner, name, thing)?;
         grow(&mut self.totals, owner)?;
         let total = grown(at(self.totals.as_slice(), owner), thing);
         self.totals.set(owner, total);
@@ -185,9 +172,8 @@ impl<'a> Names<'a> {
         match what {
             What::Declares(name, declared) => {
                 let thing = self.thing(owner, declared);
-                self.add(owner, false, name.text(), thing)
+                self.add(owner, name.text(), thing)
             }
-            What::Label(name) => self.add(owner, true, name.text(), Thing::Label),
             _ => Ok(()),
         }
     }

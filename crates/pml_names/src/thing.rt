@@ -25,5 +25,4 @@ pub enum Thing {
     Typedef(usize, u32),
     /// A proctype: the owner of its names, and how many parameters it has.
     Proctype(usize, usize),
-    Label,
 }

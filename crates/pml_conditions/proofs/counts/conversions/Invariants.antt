@@ -1,6 +1,6 @@
 use Rattle.std.proofs.Common.{◌≡◌, ◌+◌, ◌≤◌, length}
 use Rattle.pml_conditions.specs.Conditions.{conversions}
-use Rattle.pml_conditions.specs.Conditions.{with_rest}
+use Rattle.pml_conditions.proofs.Conversions.{with_rest}
 use Rattle.pml_conditions.proofs.counts.conversions.Given as goal
 
 abbrev pub invariant-loop-rest : goal.invariant-loop-rest

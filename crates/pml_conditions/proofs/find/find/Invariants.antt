@@ -3,6 +3,7 @@ use Rattle.pml_names.specs.Env.{env}
 use Rattle.pml_names.specs.Totals.{IsTotalled}
 use Rattle.pml_conditions.specs.declared.condition.Condition.TheVariants as condition
 use Rattle.pml_conditions.specs.Decided.{broken}
+use Rattle.pml_conditions.specs.Labels.{AreLabels}
 use Rattle.pml_conditions.proofs.Looking.{SoFar}
 use Rattle.pml_conditions.proofs.find.find.Given as goal
 
@@ -10,6 +11,7 @@ abbrev pub invariant-loop-mark : goal.invariant-loop-mark
 invariant-loop-mark l = record {
   table : l.names.table ≡ env (take l.mark-index l.marks);
   few : length l.names.table ≤ l.mark-index;
+  labels : AreLabels (take l.mark-index l.marks) l.labels;
   totalled : IsTotalled l.names.table l.names.totals l.names.constants;
   twice : SoFar (broken condition.Twice l.marks) l.marks l.mark-index l.found.twice;
   unknown : SoFar (broken condition.Unknown l.marks) l.marks l.mark-index l.found.unknown;

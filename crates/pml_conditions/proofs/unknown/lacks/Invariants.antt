@@ -1,6 +1,7 @@
 use Rattle.std.proofs.Common.{◌≡◌, drop}
+use Rattle.pml_names.specs.Entry.{found}
 use Rattle.pml_conditions.specs.Conditions.{lacks}
 use Rattle.pml_conditions.proofs.unknown.lacks.Given as goal
 
 abbrev pub invariant-loop-step : goal.invariant-loop-step
-invariant-loop-step l = lacks l.table l.here (drop l.step-index l.steps) ≡ lacks l.table l.fn.form l.steps
+invariant-loop-step l = lacks (found l.table) l.here (drop l.step-index l.steps) ≡ lacks (found l.table) l.fn.form l.steps

@@ -16,5 +16,5 @@ counted-self-requires c = omega (arith, constants-le c.args.self.now.table, c.re
 pub returns-clause-totalled : goal.returns-clause-totalled
 returns-clause-totalled c =
     let s = c.args.self.now in
-    let base = totalled_more s.table s.totals c.grow.new.totals s.constants c.args.owner c.args.label c.args.name.now c.args.thing c.requires.totalled c.in_ok-grow.ensures.same c.in_ok-grow.ensures.room c.counted-self.result c.counted-self.ensures in
+    let base = totalled_more s.table s.totals c.grow.new.totals s.constants c.args.owner c.args.name.now c.args.thing c.requires.totalled c.in_ok-grow.ensures.same c.in_ok-grow.ensures.room c.counted-self.result c.counted-self.ensures in
     rw c.in_ok-add.ensures (rw c.set.ensures (rw c.grown-total.ensures (rw c.at.ensures (rw c.as_slice.ensures base))))
