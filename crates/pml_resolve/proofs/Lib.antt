@@ -1,8 +1,1 @@
 pub mod Declared
-pub mod Laying
-pub mod Keeping
-pub mod Growing
-pub mod Making
-pub mod References
-pub mod Bodies
-pub mod Threading

@@ -1,5 +1,5 @@
 -- Variables, and what they begin with.
-use Rattle.std.specs.Prelude.{ℕ, pos, Bool, false, if◌then◌else◌, is_some, List, [], ◌∷◌, ◌++◌, map, Option, Some, None}
+use Rattle.std.specs.Prelude.{ℕ, pos, false, if◌then◌else◌, is_some, List, [], ◌∷◌, ◌++◌, map, Option, Some, None}
 use Rattle.pml_lex.specs.Word.{Word}
 use Rattle.pml_tree.specs.declared.tree.Scalar.{Scalar}
 use Rattle.pml_tree.specs.declared.tree.Initial.{Initial as TreeInitial}
@@ -16,7 +16,8 @@ use Rattle.pml_marks.specs.declared.mark.What.TheVariants as what
 use Rattle.pml_names.specs.declared.thing.Thing.{Thing}
 use Rattle.pml_names.specs.declared.thing.Thing.TheVariants as thing
 use Rattle.pml_names.specs.Entry.{Entry, found}
-use Rattle.pml_names.specs.Env.{after, user}
+use Rattle.pml_names.specs.Naming.{user}
+use Rattle.pml_names.specs.Env.{after}
 use Rattle.pml_program.specs.declared.form.Form.{Form}
 use Rattle.pml_program.specs.declared.form.Form.TheVariants as kind
 use Rattle.pml_program.specs.declared.program.Initial.{Initial}
@@ -59,11 +60,11 @@ abbrev pub added_variable : List Entry → Role → ℕ → Variable → Known �
 added_variable all x o v k =
     let es = after k.names o (declares x v) in
     let begins = initial v.initial (scope all k.names (user x o)) in
-    known es (k.slots ++ slot v.name begins (found es o false v.name.text) ∷ [])
+    known es (k.slots ++ slot v.name begins (found es o v.name.text) ∷ [])
 
 -- One variable more. Of two declarations of one name the first counts.
 abbrev pub with_variable : List Entry → Role → ℕ → Variable → Known → Known
-with_variable all x o v k = if is_some (found k.names o false v.name.text) then k else added_variable all x o v k
+with_variable all x o v k = if is_some (found k.names o v.name.text) then k else added_variable all x o v k
 
 abbrev pub with_variables : List Entry → Role → ℕ → List Variable → Known → Known
 with_variables all x o [] k = k

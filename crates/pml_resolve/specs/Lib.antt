@@ -1,6 +1,4 @@
 pub mod Declarations
-pub mod Fits
-pub mod Layout
 pub mod Model
 pub mod Numbered
 pub mod Statements

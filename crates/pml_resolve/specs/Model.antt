@@ -1,5 +1,5 @@
 -- A whole model, with its names replaced.
-use Rattle.std.specs.Prelude.{ℕ, ◌+◌, true, false, List, [], ◌∷◌, ◌++◌, length, reverse}
+use Rattle.std.specs.Prelude.{ℕ, ◌+◌, List, [], ◌∷◌, ◌++◌, length, reverse}
 use Rattle.pml_tree.specs.declared.tree.Starts.{Starts}
 use Rattle.pml_tree.specs.declared.tree.Starts.TheVariants as starts
 use Rattle.pml_tree.specs.declared.tree.Proctype.{Proctype as TreeProctype}

@@ -65,7 +65,7 @@ into _ i f rest = (f, [])
 -- through the fields behind a place of this type
 abbrev pub through : Form → List Stepped → Scope → Path
 through f [] sc = (f, [])
-through f (s ∷ ss) sc = into (field sc.names f s.name) (s.index sc) f (λ g. through g ss sc)
+through f (s ∷ ss) sc = into (field (found sc.names) f s.name) (s.index sc) f (λ g. through g ss sc)
 
 abbrev pub placed : Bool → Variable → Stepped → List Stepped → Scope → Reached
 placed local x s ss sc =
@@ -78,14 +78,14 @@ stands_for local _ s ss sc = r.Nothing
 
 -- a name of the owner is a local one, where the owner is a proctype
 abbrev pub is_local : List Entry → ℕ → List ℕ → Bool
-is_local names o n = nat_lt 0 o && is_some (found names o false n)
+is_local names o n = nat_lt 0 o && is_some (found names o n)
 
 abbrev pub reached : Stepped → List Stepped → Scope → Reached
 reached s ss sc =
     if is_any s.name then r.Anything
     else (if is_pid s.name then r.Pid
     else (if is_count s.name then r.ProcessCount
-    else stands_for (is_local sc.names sc.owner s.name) (meaning sc.all sc.names sc.owner s.name) s ss sc))
+    else stands_for (is_local sc.names sc.owner s.name) (meaning (found sc.all) (found sc.names) sc.owner s.name) s ss sc))
 
 abbrev pub Reaching : Type 0
 Reaching = Scope → Reached

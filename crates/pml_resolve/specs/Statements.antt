@@ -1,5 +1,5 @@
 -- Statements, with their names replaced.
-use Rattle.std.specs.Prelude.{ℕ, List, [], ◌∷◌, ◌++◌, map, Option, Some, None, false}
+use Rattle.std.specs.Prelude.{ℕ, List, [], ◌∷◌, ◌++◌, map, Option, Some, None}
 use Rattle.pml_lex.specs.Word.{Word}
 use Rattle.pml_tree.specs.declared.tree.Expr.{Expr as TreeExpr}
 use Rattle.pml_tree.specs.declared.tree.Reference.{Reference}
@@ -12,7 +12,7 @@ use Rattle.pml_tree.specs.declared.tree.Seq.{Seq as TreeSeq, Seq-F, fold-Seq}
 use Rattle.pml_marks.specs.declared.mark.Role.TheVariants as role
 use Rattle.pml_names.specs.declared.thing.Thing.{Thing}
 use Rattle.pml_names.specs.declared.thing.Thing.TheVariants as thing
-use Rattle.pml_names.specs.Entry.{Entry}
+use Rattle.pml_names.specs.Entry.{Entry, found}
 use Rattle.pml_names.specs.Meaning.{meaning}
 use Rattle.pml_program.specs.declared.expr.Expr.{Expr}
 use Rattle.pml_program.specs.declared.expr.Target.{Target}
@@ -44,7 +44,7 @@ proctype_of (Some (thing.Proctype o n)) = o
 proctype_of _ = 0
 
 abbrev pub run : TreeRun → Scope → Run
-run p sc = record { proctype = proctype_of (meaning sc.all sc.names sc.owner p.name.text); arguments = values p.arguments sc }
+run p sc = record { proctype = proctype_of (meaning (found sc.all) (found sc.names) sc.owner p.name.text); arguments = values p.arguments sc }
 
 abbrev pub at : Reference → Scope → Target
 at p sc = target (numbered_reference p sc)

@@ -143,7 +143,7 @@ fn variable<'a>(
     ensures known { OnOk result (known names.new.table slots.new ≡ with_variable all.now role holder v.now (known names.old.table slots.old)) }
     ensures totalled { OnOk result (IsTotalled names.new.table names.new.totals names.new.constants) }
 {
-    if names.table.find(holder, false, v.name.text()).is_some() {
+    if names.table.find(holder, v.name.text()).is_some() {
         return Ok(());
     }
     let user = match role {
@@ -152,7 +152,7 @@ fn variable<'a>(
     };
     let initial = initial(alloc, &v.initial, all, &names.table, user)?;
     declare(holder, &declares(role, v), names)?;
-    let found = names.table.find(holder, false, v.name.text());
+    let found = names.table.find(holder, v.name.text());
     slots.push(slot(v.name.copied(), initial, found))
 }
 

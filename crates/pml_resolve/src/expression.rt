@@ -48,7 +48,7 @@ fn mtype(number: usize) -> i32
 fn is_local(table: &Table, owner: usize, name: &[u8]) -> bool
     ensures { result ≡ is_local table.now owner name.now }
 {
-    0 < owner && table.find(owner, false, name).is_some()
+    0 < owner && table.find(owner, name).is_some()
 }
 
 fn no_target(alloc: Global) -> Target
@@ -105,6 +105,22 @@ fn turn(offset: u32, v: Variable, index: Option<Boxed<Expr>>) -> Turn
     }
 }
 
+/// An expression with its names replaced, in a box. It stands by itself so that a level of nesting takes little of the stack.
+#[cycle(expression)]
+#[inline(never)]
+fn boxed(
+    alloc: Global,
+    e: &TreeExpr,
+    all: &Table,
+    table: &Table,
+    owner: usize,
+) -> Result<Boxed<Expr>, AllocError>
+    ensures { IfOk result (λ x. x ≡ numbered e.now (scope all.now table.now owner)) }
+{
+    let x = expr(alloc, e, all, table, owner)?;
+    Ok(Boxed::new(alloc, x)?)
+}
+
 /// An expression with its names replaced.
 #[cycle(expression)]
 pub fn expr(
@@ -131,27 +147,25 @@ pub fn expr(
             Ok(Expr::Poll(target(alloc, at), *any, wants))
         }
         TreeExpr::Unary(op, a) => {
-            let x = expr(alloc, a.get(), all, table, owner)?;
-            Ok(Expr::Unary(*op, Boxed::new(alloc, x)?))
+            Ok(Expr::Unary(*op, boxed(alloc, a.get(), all, table, owner)?))
         }
         TreeExpr::Binary(op, a, b) => {
-            let x = expr(alloc, a.get(), all, table, owner)?;
-            let y = expr(alloc, b.get(), all, table, owner)?;
-            Ok(Expr::Binary(*op, Boxed::new(alloc, x)?, Boxed::new(alloc, y)?))
+            let x = boxed(alloc, a.get(), all, table, owner)?;
+            let y = boxed(alloc, b.get(), all, table, owner)?;
+            Ok(Expr::Binary(*op, x, y))
         }
         TreeExpr::Choice(a, b, c) => {
-            let x = expr(alloc, a.get(), all, table, owner)?;
-            let y = expr(alloc, b.get(), all, table, owner)?;
-            let z = expr(alloc, c.get(), all, table, owner)?;
-            let x = Boxed::new(alloc, x)?;
-            let y = Boxed::new(alloc, y)?;
-            Ok(Expr::Choice(x, y, Boxed::new(alloc, z)?))
+            let x = boxed(alloc, a.get(), all, table, owner)?;
+            let y = boxed(alloc, b.get(), all, table, owner)?;
+            let z = boxed(alloc, c.get(), all, table, owner)?;
+            Ok(Expr::Choice(x, y, z))
         }
     }
 }
 
 /// What arguments ask.
 #[cycle(expression)]
+#[inline(never)]
 pub fn wants(
     alloc: Global,
     arguments: &[Argument],
@@ -185,8 +199,7 @@ fn want(
         )))),
         Argument::Fixed(b) => Ok(Want::Exactly(if *b { 1 } else { 0 })),
         Argument::Eval(a) => {
-            let x = expr(alloc, a.get(), all, table, owner)?;
-            Ok(Want::Equal(Boxed::new(alloc, x)?))
+            Ok(Want::Equal(boxed(alloc, a.get(), all, table, owner)?))
         }
         Argument::Into(r) => Ok(received(reference(alloc, r, all, table, owner)?)),
     }
@@ -194,6 +207,7 @@ fn want(
 
 /// What a reference stands for.
 #[cycle(expression)]
+#[inline(never)]
 pub fn reference(
     alloc: Global,
     r: &Reference,
@@ -293,8 +307,7 @@ fn index(
     match &step.index {
         None => Ok(None),
         Some(e) => {
-            let x = expr(alloc, e.get(), all, table, owner)?;
-            Ok(Some(Boxed::new(alloc, x)?))
+            Ok(Some(boxed(alloc, e.get(), all, table, owner)?))
         }
     }
 }

@@ -4,7 +4,6 @@
 mod action;
 mod declare;
 mod expression;
-pub mod laws;
 pub mod model;
 mod reached;
 mod statement;

@@ -62,15 +62,15 @@ module _ (gs : Globals) (ls : List Slot) (sc : Scope) (sees : Sees gs ls sc) (ru
   abbrev pick : List ℕ → Option (ℕ × Slot) → ℕ
   pick n x = cond (is_some x) 0 (or_none (proctype_named 1 gs.text n))
 
-  proctype-is : (n : List ℕ) → proctype_of gs ls n ≡ numbered_proctype (meaning sc.all sc.names sc.owner n)
+  proctype-is : (n : List ℕ) → proctype_of gs ls n ≡ numbered_proctype (meaning (found sc.all) (found sc.names) sc.owner n)
   proctype-is n = go (variable_named ls n) refl
     where
       others : Option Thing
-      others = or_else (found sc.names 0 false n) (only_process (found sc.all 0 false n))
+      others = or_else (found sc.names 0 n) (only_process (found sc.all 0 n))
 
-      go : (x : Option (ℕ × Slot)) → variable_named ls n ≡ x → proctype_of gs ls n ≡ numbered_proctype (meaning sc.all sc.names sc.owner n)
+      go : (x : Option (ℕ × Slot)) → variable_named ls n ≡ x → proctype_of gs ls n ≡ numbered_proctype (meaning (found sc.all) (found sc.names) sc.owner n)
       go (Some p) e = ap (pick n) e ∙ sym (ap (λ (x : Option Thing). numbered_proctype (or_else x others)) (own-local ls sc.names sc.owner sees.own n p e).1)
-      go None e = ap (pick n) e ∙ sym (ap numbered_proctype ((own-none ls sc.names sc.owner sees.own n e).1 (only_process (found sc.all 0 false n))) ∙ runs n)
+      go None e = ap (pick n) e ∙ sym (ap numbered_proctype ((own-none ls sc.names sc.owner sees.own n e).1 (only_process (found sc.all 0 n))) ∙ runs n)
 
   abbrev run_of : ℕ → List Expr → Run
   run_of o xs = record { proctype = o; arguments = xs }

@@ -23,16 +23,16 @@ use Rattle.pml_stands.specs.Stands.{Meaning, Place, Mtype, Pid, Count, Anything,
 
 -- the names so far are found as what is declared globally has them
 pub record Agrees (gs : Globals) (es : List Entry) : Type 0 where
-  pub variables : (n : List ℕ) → as_variable (variable_named gs.variables n) ≡ in_variable (found es 0 false n)
-  pub constants : (n : List ℕ) → constant_named gs.constants n ≡ in_constant (found es 0 false n)
-  pub typedefs : (n : List ℕ) → as_typedef (typedef_named gs.typedefs n) ≡ in_typedef (found es 0 false n)
-  pub fields : (t : ℕ) → has_number gs.typedefs t ≡ true → (n : List ℕ) → found es t false n ≡ as_thing (variable_named (fields_of gs.typedefs t) n)
+  pub variables : (n : List ℕ) → as_variable (variable_named gs.variables n) ≡ in_variable (found es 0 n)
+  pub constants : (n : List ℕ) → constant_named gs.constants n ≡ in_constant (found es 0 n)
+  pub typedefs : (n : List ℕ) → as_typedef (typedef_named gs.typedefs n) ≡ in_typedef (found es 0 n)
+  pub fields : (t : ℕ) → has_number gs.typedefs t ≡ true → (n : List ℕ) → found es t n ≡ as_thing (variable_named (fields_of gs.typedefs t) n)
   pub known : AreKnown gs.typedefs gs.variables
   pub inner : AllByRecursion (λ (x : Structure). AreKnown gs.typedefs x.fields) gs.typedefs
 
 -- the names of the owner are found as the variables of a proctype are, or it has none
 abbrev pub Owns : List Slot → List Entry → ℕ → Type 0
-Owns ls es u = ((u ≡ 0) × (ls ≡ [])) ⊎ ((0 < u) × ((n : List ℕ) → found es u false n ≡ as_thing (variable_named ls n)))
+Owns ls es u = ((u ≡ 0) × (ls ≡ [])) ⊎ ((0 < u) × ((n : List ℕ) → found es u n ≡ as_thing (variable_named ls n)))
 
 pub record Sees (gs : Globals) (ls : List Slot) (sc : Scope) : Type 0 where
   pub global : Agrees gs sc.names
@@ -41,22 +41,22 @@ pub record Sees (gs : Globals) (ls : List Slot) (sc : Scope) : Type 0 where
 
 -- ---- the own variables
 
-pub own-local : (ls : List Slot) (es : List Entry) (u : ℕ) → Owns ls es u → (n : List ℕ) (p : ℕ × Slot) → variable_named ls n ≡ Some p → (is_local es u n ≡ true) × (found es u false n ≡ Some (thing.Variable (variable_of p)))
+pub own-local : (ls : List Slot) (es : List Entry) (u : ℕ) → Owns ls es u → (n : List ℕ) (p : ℕ × Slot) → variable_named ls n ≡ Some p → (is_local es u n ≡ true) × (found es u n ≡ Some (thing.Variable (variable_of p)))
 own-local ls es u (inl h) n p e = let f : None ≡ Some p = sym (ap (λ (ss : List Slot). variable_named ss n) h.1) ∙ e in cc
 own-local ls es u (inr h) n p e =
-    let f : found es u false n ≡ Some (thing.Variable (variable_of p)) = h.1 n ∙ ap as_thing e in
-    (ap (λ (b : Bool). b && is_some (found es u false n)) (lt-ltb 0 u h.0) ∙ ap is_some f, f)
+    let f : found es u n ≡ Some (thing.Variable (variable_of p)) = h.1 n ∙ ap as_thing e in
+    (ap (λ (b : Bool). b && is_some (found es u n)) (lt-ltb 0 u h.0) ∙ ap is_some f, f)
 
 twice : (r s : Option Thing) → or_else r (or_else r s) ≡ or_else r s
 twice None s = refl
 twice (Some x) s = refl
 
-pub own-none : (ls : List Slot) (es : List Entry) (u : ℕ) → Owns ls es u → (n : List ℕ) → variable_named ls n ≡ None → (is_local es u n ≡ false) × ((s : Option Thing) → or_else (found es u false n) (or_else (found es 0 false n) s) ≡ or_else (found es 0 false n) s)
+pub own-none : (ls : List Slot) (es : List Entry) (u : ℕ) → Owns ls es u → (n : List ℕ) → variable_named ls n ≡ None → (is_local es u n ≡ false) × ((s : Option Thing) → or_else (found es u n) (or_else (found es 0 n) s) ≡ or_else (found es 0 n) s)
 own-none ls es u (inl h) n e =
-    (ap (λ (b : Bool). b && is_some (found es u false n)) (le-ltb 0 u (omega (arith, h.0))), λ s. subst (λ (v : ℕ). or_else (found es v false n) (or_else (found es 0 false n) s) ≡ or_else (found es 0 false n) s) (sym h.0) (twice (found es 0 false n) s))
+    (ap (λ (b : Bool). b && is_some (found es u n)) (le-ltb 0 u (omega (arith, h.0))), λ s. subst (λ (v : ℕ). or_else (found es v n) (or_else (found es 0 n) s) ≡ or_else (found es 0 n) s) (sym h.0) (twice (found es 0 n) s))
 own-none ls es u (inr h) n e =
-    let f : found es u false n ≡ None = h.1 n ∙ ap as_thing e in
-    (ap (λ (b : Bool). b && is_some (found es u false n)) (lt-ltb 0 u h.0) ∙ ap is_some f, λ s. ap (λ (x : Option Thing). or_else x (or_else (found es 0 false n) s)) f)
+    let f : found es u n ≡ None = h.1 n ∙ ap as_thing e in
+    (ap (λ (b : Bool). b && is_some (found es u n)) (lt-ltb 0 u h.0) ∙ ap is_some f, λ s. ap (λ (x : Option Thing). or_else x (or_else (found es 0 n) s)) f)
 
 -- ---- what is found, from what it is as a kind of thing
 
@@ -65,7 +65,6 @@ variable-found (Some (thing.Variable y)) v e = cc
 variable-found (Some (thing.Constant n)) v e = cc
 variable-found (Some (thing.Typedef t n)) v e = cc
 variable-found (Some (thing.Proctype o n)) v e = cc
-variable-found (Some thing.Label) v e = cc
 variable-found None v e = cc
 
 constant-found : (x : Option Thing) (k : ℕ) → Some k ≡ in_constant x → x ≡ Some (thing.Constant k)
@@ -73,7 +72,6 @@ constant-found (Some (thing.Variable y)) v e = cc
 constant-found (Some (thing.Constant n)) v e = cc
 constant-found (Some (thing.Typedef t n)) v e = cc
 constant-found (Some (thing.Proctype o n)) v e = cc
-constant-found (Some thing.Label) v e = cc
 constant-found None v e = cc
 
 -- ---- references
@@ -101,12 +99,10 @@ neither (Some (thing.Variable z)) y s ss sc e f = cc
 neither (Some (thing.Constant n)) y s ss sc e f = cc
 neither (Some (thing.Typedef t n)) y s ss sc e f = refl
 neither (Some (thing.Proctype o n)) y s ss sc e f = refl
-neither (Some thing.Label) y s ss sc e f = refl
 neither None (Some (thing.Variable z)) s ss sc e f = refl
 neither None (Some (thing.Constant n)) s ss sc e f = refl
 neither None (Some (thing.Typedef t n)) s ss sc e f = refl
 neither None (Some (thing.Proctype o n)) s ss sc e f = refl
-neither None (Some thing.Label) s ss sc e f = refl
 neither None None s ss sc e f = refl
 
 -- ---- the types of what is found are known
@@ -138,13 +134,13 @@ module _ (gs : Globals) (es : List Entry) (agrees : Agrees gs es) where
   field-known (kind.Unsigned w) n p e = cc
   field-known kind.Unknown n p e = cc
 
-  field-found : (f : Form) → IsKnown gs.typedefs f → (n : List ℕ) (p : ℕ × Slot) → variable_named (fields_in gs f) n ≡ Some p → field_of es f n ≡ Some (Some (thing.Variable (variable_of p)))
+  field-found : (f : Form) → IsKnown gs.typedefs f → (n : List ℕ) (p : ℕ × Slot) → variable_named (fields_in gs f) n ≡ Some p → field_of (found es) f n ≡ Some (Some (thing.Variable (variable_of p)))
   field-found (kind.Struct t) k n p e = ap (λ (x : Option Thing). Some x) (agrees.fields t k n ∙ ap as_thing e)
   field-found (kind.Plain s) k n p e = cc
   field-found (kind.Unsigned w) k n p e = cc
   field-found kind.Unknown k n p e = cc
 
-  field-lost : (f : Form) → IsKnown gs.typedefs f → (n : List ℕ) → variable_named (fields_in gs f) n ≡ None → (i : Option Expr) (rest : Form → Path) → into (field_of es f n) i f rest ≡ (f, [])
+  field-lost : (f : Form) → IsKnown gs.typedefs f → (n : List ℕ) → variable_named (fields_in gs f) n ≡ None → (i : Option Expr) (rest : Form → Path) → into (field_of (found es) f n) i f rest ≡ (f, [])
   field-lost (kind.Struct t) k n e i rest = ap (λ (x : Option Thing). into (Some x) i (kind.Struct t) rest) (agrees.fields t k n ∙ ap as_thing e)
   field-lost (kind.Plain s) k n e i rest = refl
   field-lost (kind.Unsigned w) k n e i rest = refl
@@ -158,7 +154,7 @@ module _ (gs : Globals) (ls : List Slot) (sc : Scope) (sees : Sees gs ls sc) whe
   through-lost f k s ss e = field-lost gs sc.names sees.global f k s.name e (s.index sc) (λ g. through g ss sc)
 
   abbrev common : Stepped → List Stepped → Reached
-  common s ss = stands_for (is_local sc.names sc.owner s.name) (meaning sc.all sc.names sc.owner s.name) s ss sc
+  common s ss = stands_for (is_local sc.names sc.owner s.name) (meaning (found sc.all) (found sc.names) sc.owner s.name) s ss sc
 
   reached-common : (s : Stepped) (ss : List Stepped) → meaning_of (reached s ss sc) ≡ or_special (special s.name) (meaning_of (common s ss))
   unfolding is_any is_pid is_count
@@ -175,32 +171,32 @@ module _ (gs : Globals) (ls : List Slot) (sc : Scope) (sees : Sees gs ls sc) whe
   reached-local s ss p e h =
       let own = own-local ls sc.names sc.owner sees.own s.name p h in
       reached-other s ss e
-      ∙ ap (λ (b : Bool). meaning_of (stands_for b (meaning sc.all sc.names sc.owner s.name) s ss sc)) own.0
-      ∙ ap (λ (x : Option Thing). meaning_of (stands_for true (or_else x (or_else (found sc.names 0 false s.name) (only_process (found sc.all 0 false s.name)))) s ss sc)) own.1
+      ∙ ap (λ (b : Bool). meaning_of (stands_for b (meaning (found sc.all) (found sc.names) sc.owner s.name) s ss sc)) own.0
+      ∙ ap (λ (x : Option Thing). meaning_of (stands_for true (or_else x (or_else (found sc.names 0 s.name) (only_process (found sc.all 0 s.name)))) s ss sc)) own.1
 
   -- where no variable of the proctype has the name
   global : (s : Stepped) (ss : List Stepped) → special s.name ≡ None → variable_named ls s.name ≡ None
-      → meaning_of (reached s ss sc) ≡ meaning_of (stands_for false (or_else (found sc.names 0 false s.name) (only_process (found sc.all 0 false s.name))) s ss sc)
+      → meaning_of (reached s ss sc) ≡ meaning_of (stands_for false (or_else (found sc.names 0 s.name) (only_process (found sc.all 0 s.name))) s ss sc)
   global s ss e h =
       let own = own-none ls sc.names sc.owner sees.own s.name h in
       reached-other s ss e
-      ∙ ap (λ (b : Bool). meaning_of (stands_for b (meaning sc.all sc.names sc.owner s.name) s ss sc)) own.0
-      ∙ ap (λ (x : Option Thing). meaning_of (stands_for false x s ss sc)) (own.1 (only_process (found sc.all 0 false s.name)))
+      ∙ ap (λ (b : Bool). meaning_of (stands_for b (meaning (found sc.all) (found sc.names) sc.owner s.name) s ss sc)) own.0
+      ∙ ap (λ (x : Option Thing). meaning_of (stands_for false x s ss sc)) (own.1 (only_process (found sc.all 0 s.name)))
 
   pub reached-global : (s : Stepped) (ss : List Stepped) (p : ℕ × Slot) → special s.name ≡ None → variable_named ls s.name ≡ None → variable_named gs.variables s.name ≡ Some p
       → meaning_of (reached s ss sc) ≡ Place (target_at false p.0 (through p.1.form ss sc).0 (turn_to 0 p.1 (s.index sc) ∷ (through p.1.form ss sc).1))
   reached-global s ss p e h g =
       global s ss e h
-      ∙ ap (λ (x : Option Thing). meaning_of (stands_for false (or_else x (only_process (found sc.all 0 false s.name))) s ss sc))
-      (variable-found (found sc.names 0 false s.name) (variable_of p) (sym (ap as_variable g) ∙ sees.global.variables s.name))
+      ∙ ap (λ (x : Option Thing). meaning_of (stands_for false (or_else x (only_process (found sc.all 0 s.name))) s ss sc))
+      (variable-found (found sc.names 0 s.name) (variable_of p) (sym (ap as_variable g) ∙ sees.global.variables s.name))
 
   pub reached-mtype : (s : Stepped) (ss : List Stepped) (k : ℕ) → special s.name ≡ None → variable_named ls s.name ≡ None → constant_named gs.constants s.name ≡ Some k → meaning_of (reached s ss sc) ≡ Mtype k
   reached-mtype s ss k e h g =
       global s ss e h
-      ∙ ap (λ (x : Option Thing). meaning_of (stands_for false (or_else x (only_process (found sc.all 0 false s.name))) s ss sc))
-      (constant-found (found sc.names 0 false s.name) k (sym g ∙ sees.global.constants s.name))
+      ∙ ap (λ (x : Option Thing). meaning_of (stands_for false (or_else x (only_process (found sc.all 0 s.name))) s ss sc))
+      (constant-found (found sc.names 0 s.name) k (sym g ∙ sees.global.constants s.name))
 
   pub reached-nothing : (s : Stepped) (ss : List Stepped) → special s.name ≡ None → variable_named ls s.name ≡ None → variable_named gs.variables s.name ≡ None → constant_named gs.constants s.name ≡ None → meaning_of (reached s ss sc) ≡ Nothing
   reached-nothing s ss e h g f =
       global s ss e h
-      ∙ ap meaning_of (neither (found sc.names 0 false s.name) (found sc.all 0 false s.name) s ss sc (sym (ap as_variable g) ∙ sees.global.variables s.name) (sym f ∙ sees.global.constants s.name))
+      ∙ ap meaning_of (neither (found sc.names 0 s.name) (found sc.all 0 s.name) s ss sc (sym (ap as_variable g) ∙ sees.global.variables s.name) (sym f ∙ sees.global.constants s.name))

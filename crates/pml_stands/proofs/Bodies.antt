@@ -50,7 +50,7 @@ seq-is is = fold-roll-Seq B I S basic_layer item_layer seq_layer (record { items
 module _ (gs : Globals) (all start : List Entry) (o : ℕ) (p : 0 < o) (runs : Runs gs all start) where
   -- a run finds its proctype in a body too
   still-runs : (x : Known) → Ready gs start o x → Runs gs all x.names
-  still-runs x h = λ n. ap (λ (f : Option Thing). proctype_of (or_else f (only_process (found all 0 false n)))) (h.still n) ∙ runs n
+  still-runs x h = λ n. ap (λ (f : Option Thing). proctype_of (or_else f (only_process (found all 0 n)))) (h.still n) ∙ runs n
 
   -- a part stands for what comes out, and what is known behind it is ready
   abbrev Stands : {A : Type 0} → (List Slot → A → List Slot → Type 0) → Threaded A → Type 0

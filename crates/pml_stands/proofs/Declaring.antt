@@ -20,7 +20,9 @@ use Rattle.pml_marks.specs.declared.mark.Role.TheVariants as role
 use Rattle.pml_names.specs.declared.thing.Thing.{Thing}
 use Rattle.pml_names.specs.declared.thing.Thing.TheVariants as thing
 use Rattle.pml_names.specs.Entry.{Entry, entry, found}
-use Rattle.pml_names.specs.Env.{held, variables, constants, constants_in, most_cells, form, stride, form_of, stride_of, width_of, length_of, visible, user, thing_of, after}
+use Rattle.pml_names.specs.Meaning.{visible}
+use Rattle.pml_names.specs.Naming.{constants_in, most_cells, form, stride, form_of, stride_of, width_of, length_of, user}
+use Rattle.pml_names.specs.Env.{held, variables, constants, thing_of, after}
 use Rattle.pml_names.specs.Meaning.{or_else, only_process}
 use Rattle.pml_program.specs.declared.form.Form.{Form}
 use Rattle.pml_program.specs.declared.form.Form.TheVariants as kind
@@ -79,7 +81,6 @@ typedef-found (Some (thing.Variable y)) t n e = cc
 typedef-found (Some (thing.Constant k)) t n e = cc
 typedef-found (Some (thing.Typedef u m)) t n e = let same : (t, n) ≡ (u, m) = cc in ap (λ (q : ℕ × ℕ). Some (thing.Typedef q.0 q.1)) (sym same)
 typedef-found (Some (thing.Proctype o k)) t n e = cc
-typedef-found (Some thing.Label) t n e = cc
 typedef-found None t n e = cc
 
 no-form : (x : Option Thing) → None ≡ in_typedef x → (form_of x ≡ kind.Unknown) × (stride_of x ≡ 1)
@@ -87,7 +88,6 @@ no-form (Some (thing.Variable y)) e = (refl, refl)
 no-form (Some (thing.Constant k)) e = (refl, refl)
 no-form (Some (thing.Typedef u m)) e = cc
 no-form (Some (thing.Proctype o k)) e = (refl, refl)
-no-form (Some thing.Label) e = (refl, refl)
 no-form None e = (refl, refl)
 
 or-true : (b : Bool) → (b || true) ≡ true
@@ -103,43 +103,43 @@ numbered-there [] n x e = cc
 numbered-there (y ∷ ts) n x e = numbered-first y x (typedef_named ts n) (has_number ts x.number) (bytes_eq n y.name.text) e (numbered-there ts n x)
 
 module _ (gs : Globals) (ls : List Slot) (all es : List Entry) (u : ℕ) (sees : Sees gs ls (scope all es u)) where
-  visible-local : (n : List ℕ) (p : ℕ × Slot) → variable_named ls n ≡ Some p → visible es u n ≡ Some (thing.Variable (variable_of p))
-  visible-local n p e = ap (λ (x : Option Thing). or_else x (found es 0 false n)) (own-local ls es u sees.own n p e).1
+  visible-local : (n : List ℕ) (p : ℕ × Slot) → variable_named ls n ≡ Some p → visible (found es) u n ≡ Some (thing.Variable (variable_of p))
+  visible-local n p e = ap (λ (x : Option Thing). or_else x (found es 0 n)) (own-local ls es u sees.own n p e).1
 
-  visible-global : (n : List ℕ) → variable_named ls n ≡ None → visible es u n ≡ found es 0 false n
+  visible-global : (n : List ℕ) → variable_named ls n ≡ None → visible (found es) u n ≡ found es 0 n
   visible-global n e =
-      ap (or_else (found es u false n)) (sym (or-nothing (found es 0 false n))) ∙ (own-none ls es u sees.own n e).1 None ∙ or-nothing (found es 0 false n)
+      ap (or_else (found es u n)) (sym (or-nothing (found es 0 n))) ∙ (own-none ls es u sees.own n e).1 None ∙ or-nothing (found es 0 n)
 
-  typedef-is : (n : List ℕ) (x : Structure) → variable_named ls n ≡ None → typedef_named gs.typedefs n ≡ Some x → visible es u n ≡ Some (thing.Typedef x.number (counted (cells x.fields)))
-  typedef-is n x h e = visible-global n h ∙ typedef-found (found es 0 false n) x.number (counted (cells x.fields)) (sym (ap as_typedef e) ∙ sees.global.typedefs n)
+  typedef-is : (n : List ℕ) (x : Structure) → variable_named ls n ≡ None → typedef_named gs.typedefs n ≡ Some x → visible (found es) u n ≡ Some (thing.Typedef x.number (counted (cells x.fields)))
+  typedef-is n x h e = visible-global n h ∙ typedef-found (found es 0 n) x.number (counted (cells x.fields)) (sym (ap as_typedef e) ∙ sees.global.typedefs n)
 
-  hidden-is : (n : List ℕ) (p : ℕ × Slot) → variable_named ls n ≡ Some p → (form_of (visible es u n) ≡ kind.Unknown) × (stride_of (visible es u n) ≡ 1)
+  hidden-is : (n : List ℕ) (p : ℕ × Slot) → variable_named ls n ≡ Some p → (form_of (visible (found es) u n) ≡ kind.Unknown) × (stride_of (visible (found es) u n) ≡ 1)
   hidden-is n p e = (ap form_of (visible-local n p e), ap stride_of (visible-local n p e))
 
-  lost-is : (n : List ℕ) → typedef_named gs.typedefs n ≡ None → (form_of (visible es u n) ≡ kind.Unknown) × (stride_of (visible es u n) ≡ 1)
+  lost-is : (n : List ℕ) → typedef_named gs.typedefs n ≡ None → (form_of (visible (found es) u n) ≡ kind.Unknown) × (stride_of (visible (found es) u n) ≡ 1)
   lost-is n e = go (variable_named ls n) refl
     where
-      none : None ≡ in_typedef (found es 0 false n)
+      none : None ≡ in_typedef (found es 0 n)
       none = sym (ap as_typedef e) ∙ sees.global.typedefs n
 
-      go : (x : Option (ℕ × Slot)) → variable_named ls n ≡ x → (form_of (visible es u n) ≡ kind.Unknown) × (stride_of (visible es u n) ≡ 1)
+      go : (x : Option (ℕ × Slot)) → variable_named ls n ≡ x → (form_of (visible (found es) u n) ≡ kind.Unknown) × (stride_of (visible (found es) u n) ≡ 1)
       go (Some p) h = hidden-is n p h
-      go None h = (ap form_of (visible-global n h) ∙ (no-form (found es 0 false n) none).0, ap stride_of (visible-global n h) ∙ (no-form (found es 0 false n) none).1)
+      go None h = (ap form_of (visible-global n h) ∙ (no-form (found es 0 n) none).0, ap stride_of (visible-global n h) ∙ (no-form (found es 0 n) none).1)
 
   abbrev Sorted : Sort → Form → ℕ → Type 0
   Sorted = StandsSort gs ls
 
-  named-stands : (n : Word) (own : Option (ℕ × Slot)) (x : Option Structure) → variable_named ls n.text ≡ own → typedef_named gs.typedefs n.text ≡ x → Sorted (sort.Named n) (form_of (visible es u n.text)) (stride_of (visible es u n.text))
+  named-stands : (n : Word) (own : Option (ℕ × Slot)) (x : Option Structure) → variable_named ls n.text ≡ own → typedef_named gs.typedefs n.text ≡ x → Sorted (sort.Named n) (form_of (visible (found es) u n.text)) (stride_of (visible (found es) u n.text))
   named-stands n (Some p) x h e = rw ((hidden-is n.text p h).0, (hidden-is n.text p h).1) (stands.hidden_sort h)
   named-stands n None (Some x) h e = rw (typedef-is n.text x h e) (stands.typedef_sort h e)
   named-stands n None None h e = rw ((lost-is n.text e).0, (lost-is n.text e).1) (stands.lost_sort e)
 
-  pub sort-stands : (s : Sort) → Sorted s (form es u s) (stride es u s)
+  pub sort-stands : (s : Sort) → Sorted s (form (found es) u s) (stride (found es) u s)
   sort-stands (sort.Plain t) = stands.plain_sort t
   sort-stands (sort.Unsigned n) = subst (λ (w : ℕ). Sorted (sort.Unsigned n) (kind.Unsigned w) 1) (width-is (numeral n.text)) (stands.unsigned_sort n)
   sort-stands (sort.Named n) = named-stands n (variable_named ls n.text) (typedef_named gs.typedefs n.text) refl refl
 
-  only_sort : {s : Sort} {f : Form} {w : ℕ} → Sorted s f w → (f ≡ form es u s) × (w ≡ stride es u s)
+  only_sort : {s : Sort} {f : Form} {w : ℕ} → Sorted s f w → (f ≡ form (found es) u s) × (w ≡ stride (found es) u s)
   only_sort (stands.plain_sort t) = (refl, refl)
   only_sort (stands.unsigned_sort n) = (ap kind.Unsigned (width-is (numeral n.text)), refl)
   only_sort (stands.typedef_sort {n} {x} h e) = (sym (ap form_of (typedef-is n.text x h e)), sym (ap stride_of (typedef-is n.text x h e)))
@@ -173,13 +173,13 @@ slot_with n f a o l w x = record { name = n; form = f; array = a; offset = o; le
 
 -- the slot of a variable of the owner o, as it is numbered
 abbrev pub slot_in : List Entry → List Entry → ℕ → ℕ → TreeVariable → Slot
-slot_in all es o u v = slot_with v.name (form es u v.sort) (is_some (mark_size v.size)) (min (held es o) most_cells) (length_of (mark_size v.size)) (stride es u v.sort) (initial v.initial (scope all es u))
+slot_in all es o u v = slot_with v.name (form (found es) u v.sort) (is_some (mark_size v.size)) (min (held es o) most_cells) (length_of (mark_size v.size)) (stride (found es) u v.sort) (initial v.initial (scope all es u))
 
 module _ (gs : Globals) (ls before : List Slot) (all es : List Entry) (o u : ℕ) (sees : Sees gs ls (scope all es u)) (count : held es o ≡ cells before) where
-  variable-same : (v : TreeVariable) → slot_with v.name (form es u v.sort) (is_some v.size) (counted (cells before)) (elements v.size) (stride es u v.sort) (initial v.initial (scope all es u)) ≡ slot_in all es o u v
+  variable-same : (v : TreeVariable) → slot_with v.name (form (found es) u v.sort) (is_some v.size) (counted (cells before)) (elements v.size) (stride (found es) u v.sort) (initial v.initial (scope all es u)) ≡ slot_in all es o u v
   variable-same v =
-      let f : Form = form es u v.sort in
-      let w : ℕ = stride es u v.sort in
+      let f : Form = form (found es) u v.sort in
+      let w : ℕ = stride (found es) u v.sort in
       let x : Initial = initial v.initial (scope all es u) in
       ap (λ (a : Bool). slot_with v.name f a (counted (cells before)) (elements v.size) w x) (array-is v.size)
       ∙ ap (λ (c : ℕ). slot_with v.name f (is_some (mark_size v.size)) (counted c) (elements v.size) w x) (sym count)
@@ -192,8 +192,8 @@ module _ (gs : Globals) (ls before : List Slot) (all es : List Entry) (o u : ℕ
   only_variable (stands.variable {v} {f} {width} {x} h g) =
       let type = only_sort gs ls all es u sees h in
       ap (λ (y : Form). slot_with v.name y (is_some v.size) (counted (cells before)) (elements v.size) width x) type.0
-      ∙ ap (λ (y : ℕ). slot_with v.name (form es u v.sort) (is_some v.size) (counted (cells before)) (elements v.size) y x) type.1
-      ∙ ap (slot_with v.name (form es u v.sort) (is_some v.size) (counted (cells before)) (elements v.size) (stride es u v.sort)) (only_initial gs ls all es u sees g)
+      ∙ ap (λ (y : ℕ). slot_with v.name (form (found es) u v.sort) (is_some v.size) (counted (cells before)) (elements v.size) y x) type.1
+      ∙ ap (slot_with v.name (form (found es) u v.sort) (is_some v.size) (counted (cells before)) (elements v.size) (stride (found es) u v.sort)) (only_initial gs ls all es u sees g)
       ∙ variable-same v
 
 -- ---- what is declared so far, and what is found of it
@@ -206,26 +206,26 @@ pub record Base (gs : Globals) (k : ℕ) (es : List Entry) : Type 0 where
   pub constants : constants es ≡ length gs.constants
   pub bound : (t : ℕ) → has_number gs.typedefs t ≡ true → t < k
   pub positive : (t : ℕ) → has_number gs.typedefs t ≡ true → 0 < t
-  pub declared : (n : List ℕ) → is_some (found es 0 false n) ≡ is_declared gs n
+  pub declared : (n : List ℕ) → is_some (found es 0 n) ≡ is_declared gs n
 
 -- a run finds its proctype as the text has it
 abbrev pub Runs : Globals → List Entry → List Entry → Type 0
-Runs gs all es = (n : List ℕ) → proctype_of (or_else (found es 0 false n) (only_process (found all 0 false n))) ≡ or_none (proctype_named 1 gs.text n)
+Runs gs all es = (n : List ℕ) → proctype_of (or_else (found es 0 n) (only_process (found all 0 n))) ≡ or_none (proctype_named 1 gs.text n)
 
 -- in a typedef or a proctype with the number o, where `start` was declared before it
 pub record Ready (gs : Globals) (start : List Entry) (o : ℕ) (x : Known) : Type 0 where
   pub base : Base gs o x.names
-  pub own : (n : List ℕ) → found x.names o false n ≡ as_thing (variable_named x.slots n)
+  pub own : (n : List ℕ) → found x.names o n ≡ as_thing (variable_named x.slots n)
   pub known : AreKnown gs.typedefs x.slots
   pub count : variables x.names o ≡ length x.slots
   pub held : held x.names o ≡ cells x.slots
   pub below : Below (o + 1) x.names
-  pub still : (n : List ℕ) → found x.names 0 false n ≡ found start 0 false n
+  pub still : (n : List ℕ) → found x.names 0 n ≡ found start 0 n
 
 above : (o : ℕ) → 0 < o → 0 ≢ o
 above o p e = omega (arith, p, e)
 
-agrees-other : (gs : Globals) (es : List Entry) (o k : ℕ) (w : List ℕ) (t : Thing) → 0 < o → k ≤ o → ((u : ℕ) → has_number gs.typedefs u ≡ true → u < k) → Agrees gs es → Agrees gs (es ++ entry o false w t ∷ [])
+agrees-other : (gs : Globals) (es : List Entry) (o k : ℕ) (w : List ℕ) (t : Thing) → 0 < o → k ≤ o → ((u : ℕ) → has_number gs.typedefs u ≡ true → u < k) → Agrees gs es → Agrees gs (es ++ entry o w t ∷ [])
 agrees-other gs es o k w t p q bound h = record {
   variables = λ n. h.variables n ∙ ap in_variable (sym (found-other es 0 o w t n (above o p)));
   constants = λ n. h.constants n ∙ ap in_constant (sym (found-other es 0 o w t n (above o p)));
@@ -235,22 +235,22 @@ agrees-other gs es o k w t p q bound h = record {
   inner = h.inner;
 }
 
-base-other : (gs : Globals) (es : List Entry) (o k : ℕ) (w : List ℕ) (t : Thing) → 0 < o → k ≤ o → constants_in t ≡ 0 → Base gs k es → Base gs k (es ++ entry o false w t ∷ [])
+base-other : (gs : Globals) (es : List Entry) (o k : ℕ) (w : List ℕ) (t : Thing) → 0 < o → k ≤ o → constants_in t ≡ 0 → Base gs k es → Base gs k (es ++ entry o w t ∷ [])
 base-other gs es o k w t p q none h = record {
   agrees = agrees-other gs es o k w t p q h.bound h.agrees;
-  count = variables-other es (entry o false w t) 0 (λ e. above o p (sym e)) ∙ h.count;
-  held = held-other es (entry o false w t) 0 (λ e. above o p (sym e)) ∙ h.held;
-  constants = omega (arith, constants-more es (entry o false w t), none, h.constants);
+  count = variables-other es (entry o w t) 0 (λ e. above o p (sym e)) ∙ h.count;
+  held = held-other es (entry o w t) 0 (λ e. above o p (sym e)) ∙ h.held;
+  constants = omega (arith, constants-more es (entry o w t), none, h.constants);
   bound = h.bound;
   positive = h.positive;
   declared = λ n. ap is_some (found-other es 0 o w t n (above o p)) ∙ h.declared n;
 }
 
 -- one variable more of the owner o
-grown : (gs : Globals) (start es : List Entry) (o : ℕ) (ss : List Slot) (s : Slot) → 0 < o → IsKnown gs.typedefs s.form → Ready gs start o (known es ss) → Ready gs start o (known (es ++ entry o false s.name.text (thing.Variable (variable_of (length ss, s))) ∷ []) (ss ++ s ∷ []))
+grown : (gs : Globals) (start es : List Entry) (o : ℕ) (ss : List Slot) (s : Slot) → 0 < o → IsKnown gs.typedefs s.form → Ready gs start o (known es ss) → Ready gs start o (known (es ++ entry o s.name.text (thing.Variable (variable_of (length ss, s))) ∷ []) (ss ++ s ∷ []))
 grown gs start es o ss s p is h =
     let t : Thing = thing.Variable (variable_of (length ss, s)) in
-    let e : Entry = entry o false s.name.text t in
+    let e : Entry = entry o s.name.text t in
     record {
       base = base-other gs es o o s.name.text t p (omega arith) refl h.base;
       own = λ n.
@@ -270,7 +270,7 @@ sees-of gs all start role.Variable o x p h = record { global = h.base.agrees; ow
 sees-of gs all start role.Field o x p h = record { global = h.base.agrees; own = inl (refl, refl); known = tt }
 
 -- a variable whose name was not declared before
-module _ (all : List Entry) (use_as : Role) (o : ℕ) (v : TreeVariable) (es : List Entry) (ss : List Slot) (none : found es o false v.name.text ≡ None) (count : variables es o ≡ length ss) where
+module _ (all : List Entry) (use_as : Role) (o : ℕ) (v : TreeVariable) (es : List Entry) (ss : List Slot) (none : found es o v.name.text ≡ None) (count : variables es o ≡ length ss) where
   abbrev pub new : Slot
   new = slot_in all es o (user use_as o) v
 
@@ -278,28 +278,28 @@ module _ (all : List Entry) (use_as : Role) (o : ℕ) (v : TreeVariable) (es : L
   new_thing = thing.Variable (variable_of (length ss, new))
 
   abbrev pub new_names : List Entry
-  new_names = es ++ entry o false v.name.text new_thing ∷ []
+  new_names = es ++ entry o v.name.text new_thing ∷ []
 
   thing-is : thing_of es o (declared_as.Variable use_as v.sort (mark_size v.size) (made_by v.initial)) ≡ new_thing
   thing-is = ap (λ (n : ℕ). thing.Variable (record {
-    form = form es (user use_as o) v.sort;
+    form = form (found es) (user use_as o) v.sort;
     array = is_some (mark_size v.size);
     length = length_of (mark_size v.size);
-    stride = stride es (user use_as o) v.sort;
+    stride = stride (found es) (user use_as o) v.sort;
     offset = min (held es o) most_cells;
     number = n;
   })) count
 
   pub names-are : after es o (declares use_as v) ≡ new_names
-  names-are = after-new es o v.name (declared_as.Variable use_as v.sort (mark_size v.size) (made_by v.initial)) none ∙ ap (λ (t : Thing). es ++ entry o false v.name.text t ∷ []) thing-is
+  names-are = after-new es o v.name (declared_as.Variable use_as v.sort (mark_size v.size) (made_by v.initial)) none ∙ ap (λ (t : Thing). es ++ entry o v.name.text t ∷ []) thing-is
 
-  new-found : found new_names o false v.name.text ≡ Some new_thing
+  new-found : found new_names o v.name.text ≡ Some new_thing
   new-found = found-own es o v.name.text new_thing v.name.text ∙ ap (λ (x : Option Thing). or_else x (if_so (bytes_eq v.name.text v.name.text) new_thing)) none ∙ ap (λ (b : Bool). if_so b new_thing) (name-same v.name.text)
 
   pub added-is : added_variable all use_as o v (known es ss) ≡ known new_names (ss ++ new ∷ [])
   added-is =
       let begins : Initial = initial v.initial (scope all es (user use_as o)) in
-      ap (λ (fs : List Entry). known fs (ss ++ slot v.name begins (found fs o false v.name.text) ∷ [])) names-are
+      ap (λ (fs : List Entry). known fs (ss ++ slot v.name begins (found fs o v.name.text) ∷ [])) names-are
       ∙ ap (λ (x : Option Thing). known new_names (ss ++ slot v.name begins x ∷ [])) new-found
 
 module _ (gs : Globals) (all start : List Entry) (use_as : Role) (o : ℕ) (p : 0 < o) where
@@ -308,7 +308,7 @@ module _ (gs : Globals) (all start : List Entry) (use_as : Role) (o : ℕ) (p : 
     ready : Ready gs start o y
     slots : y.slots ≡ x.slots ++ slot_in all x.names o (user use_as o) v ∷ []
 
-  added : (v : TreeVariable) (x : Known) → found x.names o false v.name.text ≡ None → Ready gs start o x → Added v x (added_variable all use_as o v x)
+  added : (v : TreeVariable) (x : Known) → found x.names o v.name.text ≡ None → Ready gs start o x → Added v x (added_variable all use_as o v x)
   added v x none h =
       let is = added-is all use_as o v x.names x.slots none h.count in
       let sees = sees-of gs all start use_as o x p h in

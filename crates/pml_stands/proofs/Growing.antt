@@ -5,13 +5,13 @@ use Rattle.std.specs.Option.{is_some}
 use Rattle.std.specs.Str.{bytes_eq}
 use Rattle.std.proofs.lemmas.Bool.Decides.{eqb_tells}
 use Rattle.std.proofs.lemmas.Slice.Eq.{bytes_eq-Decides}
-use mathlib.Core.Bool.{beq}
 use Rattle.pml_lex.specs.Word.{Word}
 use Rattle.pml_marks.specs.declared.mark.Declared.{Declared}
 use Rattle.pml_marks.specs.declared.mark.What.TheVariants as what
 use Rattle.pml_names.specs.declared.thing.Thing.{Thing}
 use Rattle.pml_names.specs.Entry.{Entry, entry, found, is_named}
-use Rattle.pml_names.specs.Env.{variables, variables_in, held, cells_in, constants, constants_in, after, add, thing_of}
+use Rattle.pml_names.specs.Naming.{variables_in, cells_in, constants_in}
+use Rattle.pml_names.specs.Env.{variables, held, constants, after, add, thing_of}
 use Rattle.pml_names.specs.Meaning.{or_else}
 use Rattle.pml_program.specs.declared.program.Slot.{Slot}
 use Rattle.pml_stands.specs.Known.{Structure, one_behind, one_more, variable_named, constant_named, typedef_named, has_name, cells}
@@ -48,29 +48,29 @@ last : (b : Bool) (t : Thing) → cond b (Some t) None ≡ or_else None (if_so b
 last true t = refl
 last false t = refl
 
-pub found-more : (es : List Entry) (e : Entry) (o : ℕ) (l : Bool) (n : List ℕ) → found (es ++ e ∷ []) o l n ≡ or_else (found es o l n) (if_so (is_named o l n e) e.thing)
-found-more [] e o l n = last (is_named o l n e) e.thing
-found-more (f ∷ es) e o l n = behind (is_named o l n f) (is_named o l n e) f.thing e.thing (found es o l n) (found (es ++ e ∷ []) o l n) (found-more es e o l n)
+pub found-more : (es : List Entry) (e : Entry) (o : ℕ) (n : List ℕ) → found (es ++ e ∷ []) o n ≡ or_else (found es o n) (if_so (is_named o n e) e.thing)
+found-more [] e o n = last (is_named o n e) e.thing
+found-more (f ∷ es) e o n = behind (is_named o n f) (is_named o n e) f.thing e.thing (found es o n) (found (es ++ e ∷ []) o n) (found-more es e o n)
 
-pub found-own : (es : List Entry) (o : ℕ) (w : List ℕ) (t : Thing) (n : List ℕ) → found (es ++ entry o false w t ∷ []) o false n ≡ or_else (found es o false n) (if_so (bytes_eq n w) t)
-found-own es o w t n = found-more es (entry o false w t) o false n ∙ ap (λ (b : Bool). or_else (found es o false n) (if_so (b && bytes_eq n w) t)) (ap (λ (b : Bool). b && true) (owner-same o))
+pub found-own : (es : List Entry) (o : ℕ) (w : List ℕ) (t : Thing) (n : List ℕ) → found (es ++ entry o w t ∷ []) o n ≡ or_else (found es o n) (if_so (bytes_eq n w) t)
+found-own es o w t n = found-more es (entry o w t) o n ∙ ap (λ (b : Bool). or_else (found es o n) (if_so (b && bytes_eq n w) t)) (owner-same o)
 
 or-none : (x : Option Thing) → or_else x None ≡ x
 or-none None = refl
 or-none (Some x) = refl
 
-pub found-other : (es : List Entry) (o p : ℕ) (w : List ℕ) (t : Thing) (n : List ℕ) → o ≢ p → found (es ++ entry p false w t ∷ []) o false n ≡ found es o false n
+pub found-other : (es : List Entry) (o p : ℕ) (w : List ℕ) (t : Thing) (n : List ℕ) → o ≢ p → found (es ++ entry p w t ∷ []) o n ≡ found es o n
 found-other es o p w t n h =
-    found-more es (entry p false w t) o false n
-    ∙ ap (λ (b : Bool). or_else (found es o false n) (if_so ((b && true) && bytes_eq n w) t)) (owner-other o p h) ∙ or-none (found es o false n)
+    found-more es (entry p w t) o n
+    ∙ ap (λ (b : Bool). or_else (found es o n) (if_so (b && bytes_eq n w) t)) (owner-other o p h) ∙ or-none (found es o n)
 
-pub after-new : (es : List Entry) (o : ℕ) (n : Word) (d : Declared) → found es o false n.text ≡ None → after es o (what.Declares n d) ≡ es ++ entry o false n.text (thing_of es o d) ∷ []
+pub after-new : (es : List Entry) (o : ℕ) (n : Word) (d : Declared) → found es o n.text ≡ None → after es o (what.Declares n d) ≡ es ++ entry o n.text (thing_of es o d) ∷ []
 unfolding after add
-after-new es o n d h = ap (λ (r : Option Thing). cond (is_some r) es (es ++ entry o false n.text (thing_of es o d) ∷ [])) h
+after-new es o n d h = ap (λ (r : Option Thing). cond (is_some r) es (es ++ entry o n.text (thing_of es o d) ∷ [])) h
 
-pub after-old : (es : List Entry) (o : ℕ) (n : Word) (d : Declared) (t : Thing) → found es o false n.text ≡ Some t → after es o (what.Declares n d) ≡ es
+pub after-old : (es : List Entry) (o : ℕ) (n : Word) (d : Declared) (t : Thing) → found es o n.text ≡ Some t → after es o (what.Declares n d) ≡ es
 unfolding after add
-after-old es o n d t h = ap (λ (r : Option Thing). cond (is_some r) es (es ++ entry o false n.text (thing_of es o d) ∷ [])) h
+after-old es o n d t h = ap (λ (r : Option Thing). cond (is_some r) es (es ++ entry o n.text (thing_of es o d) ∷ [])) h
 
 pub same-name : (n w : List ℕ) → bytes_eq n w ≡ true → n ≡ w
 same-name n w h = (bytes_eq-Decides n w).0 h
@@ -123,9 +123,9 @@ pub below-later : (k : ℕ) (es : List Entry) → Below k es → Below (k + 1) e
 below-later k [] h = tt
 below-later k (e ∷ es) h = (omega (arith, h.0), below-later k es h.1)
 
-pub found-below : (k : ℕ) (es : List Entry) (l : Bool) (n : List ℕ) → Below k es → found es k l n ≡ None
-found-below k [] l n h = refl
-found-below k (e ∷ es) l n h = ap (λ (b : Bool). cond ((b && beq l e.label) && bytes_eq n e.name) (Some e.thing) (found es k l n)) (owner-other k e.owner (omega (arith, h.0))) ∙ found-below k es l n h.1
+pub found-below : (k : ℕ) (es : List Entry) (n : List ℕ) → Below k es → found es k n ≡ None
+found-below k [] n h = refl
+found-below k (e ∷ es) n h = ap (λ (b : Bool). cond (b && bytes_eq n e.name) (Some e.thing) (found es k n)) (owner-other k e.owner (omega (arith, h.0))) ∙ found-below k es n h.1
 
 pub variables-below : (k : ℕ) (es : List Entry) → Below k es → variables es k ≡ 0
 variables-below k [] h = refl

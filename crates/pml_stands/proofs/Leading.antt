@@ -20,16 +20,16 @@ use Rattle.pml_tree.specs.declared.tree.Tree.{Tree}
 use Rattle.pml_stands.specs.StandsModel.{StandsModel}
 
 -- where a variable lies
-record Lies (ts : List Fields) (at most : ℕ) (s : Slot) : Type 0 where
-  from : at ≤ s.offset
-  to : s.offset + s.length * s.stride ≤ most
-  some : 0 < s.length
-  width : HasWidth ts s.form s.stride
+pub record Lies (ts : List Fields) (at most : ℕ) (s : Slot) : Type 0 where
+  pub from : at ≤ s.offset
+  pub to : s.offset + s.length * s.stride ≤ most
+  pub some : 0 < s.length
+  pub width : HasWidth ts s.form s.stride
 
 few : (n : ℕ) → n ≤ MOST_CELLS → counted n ≡ n
 few n h = omega (arith, h)
 
-lies : (ts : List Fields) (at : ℕ) (ss : List Slot) → Tile ts at ss → at + cells ss ≤ MOST_CELLS → (k : ℕ) (s : Slot) → slice_get ss k ≡ Some s → Lies ts at (at + cells ss) s
+pub lies : (ts : List Fields) (at : ℕ) (ss : List Slot) → Tile ts at ss → at + cells ss ≤ MOST_CELLS → (k : ℕ) (s : Slot) → slice_get ss k ≡ Some s → Lies ts at (at + cells ss) s
 lies ts at [] h m k s e = cc
 lies ts at (x ∷ ss) h m zero s e =
     let same : x ≡ s = cc in
@@ -40,7 +40,7 @@ lies ts at (x ∷ ss) h m (suc k) s e =
     record { from = omega (arith, l.from); to = omega (arith, l.to); some = l.some; width = l.width }
 
 -- two variables with one cell are the same
-apart : (ts : List Fields) (at : ℕ) (ss : List Slot) → Tile ts at ss → at + cells ss ≤ MOST_CELLS → (k m : ℕ) (s t : Slot) → slice_get ss k ≡ Some s → slice_get ss m ≡ Some t
+pub apart : (ts : List Fields) (at : ℕ) (ss : List Slot) → Tile ts at ss → at + cells ss ≤ MOST_CELLS → (k m : ℕ) (s t : Slot) → slice_get ss k ≡ Some s → slice_get ss m ≡ Some t
     → (c : ℕ) → s.offset ≤ c → c < s.offset + s.length * s.stride → t.offset ≤ c → c < t.offset + t.length * t.stride → k ≡ m
 apart ts at [] h b k m s t e f c p q u v = cc
 apart ts at (x ∷ ss) h b zero zero s t e f c p q u v = refl
@@ -89,7 +89,7 @@ locate ts at (x ∷ ss) h b c p q = go (nat-below c (at + x.length * x.stride)) 
 -- ---- one element
 
 -- a cell within an element lies within the variable
-element : (i l w r : ℕ) → i < l → r < w → i * w + r < l * w
+pub element : (i l w r : ℕ) → i < l → r < w → i * w + r < l * w
 element i l w r h g = let m : suc i * w ≤ l * w = mul-le (suc i) w l w h (omega arith) in omega (arith, m, next i w, g)
   where
     next : (i w : ℕ) → suc i * w ≡ i * w + w
@@ -102,11 +102,11 @@ record Way (ss : List Slot) (k i r : ℕ) (s : Slot) : Type 0 where
 
 module _ (ts : List Fields) (all : (t : ℕ) (fs : List Slot) → fields_at ts t ≡ Some fs → Tile ts 0 fs) where
   -- variables that lie one behind another from cell 0 on
-  record Good (ss : List Slot) : Type 0 where
-    tile : Tile ts 0 ss
-    few : cells ss ≤ MOST_CELLS
+  pub record Good (ss : List Slot) : Type 0 where
+    pub tile : Tile ts 0 ss
+    pub few : cells ss ≤ MOST_CELLS
 
-  lies-in : (ss : List Slot) → Good ss → (k : ℕ) (s : Slot) → slice_get ss k ≡ Some s → Lies ts 0 (cells ss) s
+  pub lies-in : (ss : List Slot) → Good ss → (k : ℕ) (s : Slot) → slice_get ss k ≡ Some s → Lies ts 0 (cells ss) s
   lies-in ss g k s e = let l = lies ts 0 ss g.tile (omega (arith, g.few)) k s e in record { from = omega arith; to = omega (arith, l.to); some = l.some; width = l.width }
 
   stride-few : (ss : List Slot) → Good ss → (k : ℕ) (s : Slot) → slice_get ss k ≡ Some s → s.stride ≤ MOST_CELLS
@@ -116,7 +116,7 @@ module _ (ts : List Fields) (all : (t : ℕ) (fs : List Slot) → fields_at ts t
       omega (arith, m, l.to, g.few)
 
   -- an element of a typedef's type has just the cells of its fields
-  struct-cells : (ss : List Slot) → Good ss → (k t : ℕ) (s : Slot) (fs : List Slot) → slice_get ss k ≡ Some s → s.form ≡ kind.Struct t → fields_at ts t ≡ Some fs → (cells fs ≡ s.stride) × Good fs
+  pub struct-cells : (ss : List Slot) → Good ss → (k t : ℕ) (s : Slot) (fs : List Slot) → slice_get ss k ≡ Some s → s.form ≡ kind.Struct t → fields_at ts t ≡ Some fs → (cells fs ≡ s.stride) × Good fs
   struct-cells ss g k t s fs e f h =
       let l = lies-in ss g k s e in
       let w : HasWidth ts (kind.Struct t) s.stride = subst (λ (u : Form). HasWidth ts u s.stride) f l.width in
@@ -127,7 +127,7 @@ module _ (ts : List Fields) (all : (t : ℕ) (fs : List Slot) → fields_at ts t
       let just : cells fs ≡ s.stride = omega (arith, width, small) in
       (just, record { tile = all t fs h; few = omega (arith, just, small) })
 
-  plain-cells : (ss : List Slot) → Good ss → (k : ℕ) (s : Slot) → slice_get ss k ≡ Some s → is_struct s.form ≡ false → s.stride ≡ 1
+  pub plain-cells : (ss : List Slot) → Good ss → (k : ℕ) (s : Slot) → slice_get ss k ≡ Some s → is_struct s.form ≡ false → s.stride ≡ 1
   plain-cells ss g k s e f = go s.form (lies-in ss g k s e).width f
     where
       go : (x : Form) → HasWidth ts x s.stride → is_struct x ≡ false → s.stride ≡ 1
@@ -142,7 +142,7 @@ module _ (ts : List Fields) (all : (t : ℕ) (fs : List Slot) → fields_at ts t
       let e = element i s.length s.stride r w.index w.inside in
       omega (arith, l.to, e)
 
-  leads-within : {ss : List Slot} {c : ℕ} {p : List (ℕ × ℕ)} → Leads ts ss c p → Good ss → c < cells ss
+  pub leads-within : {ss : List Slot} {c : ℕ} {p : List (ℕ × ℕ)} → Leads ts ss c p → Good ss → c < cells ss
   leads-within (tiled.ends {ss} {k} {i} {s} e h f) g =
       let one = plain-cells ss g k s e f in
       let b = way-below ss g k i 0 s (record { there = e; index = h; inside = omega (arith, one) }) in
@@ -260,7 +260,7 @@ earlier : (before us : List Fields) (t : ℕ) (fs : List Slot) → TypedefsTile 
 earlier before [] t fs h e = cc
 earlier before (f ∷ us) t fs h e = earlier-first before us f t fs h (earlier (before ++ f ∷ []) us t fs h.1) (nat_eq t f.owner) e
 
-all-tile : (us : List Fields) → TypedefsTile [] us → (t : ℕ) (fs : List Slot) → fields_at us t ≡ Some fs → Tile us 0 fs
+pub all-tile : (us : List Fields) → TypedefsTile [] us → (t : ℕ) (fs : List Slot) → fields_at us t ≡ Some fs → Tile us 0 fs
 all-tile us h t fs e = let r = earlier [] us t fs h e in subst (λ (ys : List Fields). Tile ys 0 fs) (sym r.split) (tile-still r.xs r.rest 0 fs r.tile)
 
 no-cells : (l : ℕ) → l * 0 ≡ 0
@@ -344,7 +344,7 @@ has-paths us h ss tile few =
       within = λ c p l. leads-within us (all-tile us h) l good;
     }
 
-tile-at : (ts : List Fields) (ps : List Proctype) (k : ℕ) (q : Proctype) → AllByRecursion (λ (q : Proctype). Tile ts 0 q.variables) ps → slice_get ps k ≡ Some q → Tile ts 0 q.variables
+pub tile-at : (ts : List Fields) (ps : List Proctype) (k : ℕ) (q : Proctype) → AllByRecursion (λ (q : Proctype). Tile ts 0 q.variables) ps → slice_get ps k ≡ Some q → Tile ts 0 q.variables
 tile-at ts [] k q h e = cc
 tile-at ts (p ∷ ps) zero q h e = let same : p ≡ q = cc in subst (λ (r : Proctype). Tile ts 0 r.variables) same h.0
 tile-at ts (p ∷ ps) (suc k) q h e = tile-at ts ps k q h.1 e

@@ -12,7 +12,7 @@ mod Reading
 mod Marking
 mod Units
 pub mod Model
-mod Tiling
-mod Leading
+pub mod Tiling
+pub mod Leading
 mod Rows
-mod Going
+pub mod Going

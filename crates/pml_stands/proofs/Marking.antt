@@ -52,10 +52,10 @@ env-append es (x ∷ xs) ys = env-append (after es x.owner x.what) xs ys
 -- ---- marks that declare nothing globally
 
 record IsQuiet (ms : List Mark) : Type 0 where
-  still : (es : List Entry) (n : List ℕ) → found (env_from es ms) 0 false n ≡ found es 0 false n
+  still : (es : List Entry) (n : List ℕ) → found (env_from es ms) 0 n ≡ found es 0 n
 
 both : {xs ys : List Mark} → IsQuiet xs → IsQuiet ys → IsQuiet (xs ++ ys)
-both {xs} {ys} h g = record { still = λ es n. ap (λ (fs : List Entry). found fs 0 false n) (env-append es xs ys) ∙ g.still (env_from es xs) n ∙ h.still es n }
+both {xs} {ys} h g = record { still = λ es n. ap (λ (fs : List Entry). found fs 0 n) (env-append es xs ys) ∙ g.still (env_from es xs) n ∙ h.still es n }
 
 nothing : IsQuiet []
 nothing = record { still = λ es n. refl }
@@ -122,32 +122,16 @@ module _ (o : ℕ) where
   unfolding after
   quiet-leave = record { still = λ es n. refl }
 
-  never : (a b : Bool) → ((a && false) && b) ≡ false
-  never true b = refl
-  never false b = refl
-
-  or-none : (x : Option Thing) → or_else x None ≡ x
-  or-none None = refl
-  or-none (Some x) = refl
-
-  either : (b : Bool) (x y z : List Entry) (n : List ℕ) → found x 0 false n ≡ found z 0 false n → found y 0 false n ≡ found z 0 false n → found (cond b x y) 0 false n ≡ found z 0 false n
-  either true x y z n h g = h
-  either false x y z n h g = g
-
   quiet-label : (l : Word) → IsQuiet (one (what.Label l) o)
-  unfolding after add
-  quiet-label l = record {
-    still = λ es n.
-        either (is_some (found es o true l.text)) es (es ++ entry o true l.text thing.Label ∷ []) es n refl
-        (found-more es (entry o true l.text thing.Label) 0 false n ∙ ap (λ (b : Bool). or_else (found es 0 false n) (if_so b thing.Label)) (never (nat_eq 0 o) (bytes_eq n l.text)) ∙ or-none (found es 0 false n));
-  }
+  unfolding after
+  quiet-label l = record { still = λ es n. refl }
 
   quiet-declares : 0 < o → (w : Word) (d : Declared) → IsQuiet (one (what.Declares w d) o)
-  quiet-declares p w d = record { still = λ es n. go es n (found es o false w.text) refl }
+  quiet-declares p w d = record { still = λ es n. go es n (found es o w.text) refl }
     where
-      go : (es : List Entry) (n : List ℕ) (x : Option Thing) → found es o false w.text ≡ x → found (after es o (what.Declares w d)) 0 false n ≡ found es 0 false n
-      go es n (Some t) e = ap (λ (fs : List Entry). found fs 0 false n) (after-old es o w d t e)
-      go es n None e = ap (λ (fs : List Entry). found fs 0 false n) (after-new es o w d e) ∙ found-other es 0 o w.text (thing_of es o d) n (λ q. omega (arith, p, q))
+      go : (es : List Entry) (n : List ℕ) (x : Option Thing) → found es o w.text ≡ x → found (after es o (what.Declares w d)) 0 n ≡ found es 0 n
+      go es n (Some t) e = ap (λ (fs : List Entry). found fs 0 n) (after-old es o w d t e)
+      go es n None e = ap (λ (fs : List Entry). found fs 0 n) (after-new es o w d e) ∙ found-other es 0 o w.text (thing_of es o d) n (λ q. omega (arith, p, q))
 
 -- ---- expressions
 
@@ -347,7 +331,7 @@ quiet-begins starts.Once o = quiet-starts o _
 quiet-begins (starts.Times e) o = both (quiet-expr e 0) (quiet-starts o _)
 
 variable-read : (v : Variable) (es : List Entry) (n : List ℕ) (r : Option ℕ)
-    → or_process (found (env_from es (of_variable role.Variable 0 v 0)) 0 false n) r ≡ or_process (found es 0 false n) (cond (bytes_eq n v.name.text) None r)
+    → or_process (found (env_from es (of_variable role.Variable 0 v 0)) 0 n) r ≡ or_process (found es 0 n) (cond (bytes_eq n v.name.text) None r)
 variable-read v es n r =
     let s : List Mark = of_sort v.sort 0 in
     let z : List Mark = of_size v.size 0 in
@@ -357,27 +341,27 @@ variable-read v es n r =
     let fs : List Entry = env_from (env_from (env_from es s) z) i in
     let same : env_from es (s ++ (z ++ (i ++ e))) ≡ after fs 0 (what.Declares v.name d) =
     env-append es s (z ++ (i ++ e)) ∙ env-append (env_from es s) z (i ++ e) ∙ env-append (env_from (env_from es s) z) i e in
-    let quiet : found fs 0 false n ≡ found es 0 false n = (quiet-initial role.Variable v.sort v.initial 0).still (env_from (env_from es s) z) n ∙ (quiet-sized v.size 0).still (env_from es s) n ∙ (quiet-sort v.sort 0).still es n in
-    ap (λ (gs : List Entry). or_process (found gs 0 false n) r) same ∙ after-read fs v.name d n r
+    let quiet : found fs 0 n ≡ found es 0 n = (quiet-initial role.Variable v.sort v.initial 0).still (env_from (env_from es s) z) n ∙ (quiet-sized v.size 0).still (env_from es s) n ∙ (quiet-sort v.sort 0).still es n in
+    ap (λ (gs : List Entry). or_process (found gs 0 n) r) same ∙ after-read fs v.name d n r
     ∙ ap (λ (x : Option Thing). or_process x (cond (bytes_eq n v.name.text) None r)) quiet
 
 variables-marked : (vs : List Variable) (es : List Entry) (n : List ℕ) (r : Option ℕ)
-    → or_process (found (env_from es (of_variables role.Variable 0 vs 0)) 0 false n) r ≡ or_process (found es 0 false n) (cond (has_name (names_of vs) n) None r)
+    → or_process (found (env_from es (of_variables role.Variable 0 vs 0)) 0 n) r ≡ or_process (found es 0 n) (cond (has_name (names_of vs) n) None r)
 variables-marked [] es n r = refl
 variables-marked (v ∷ vs) es n r =
-    ap (λ (fs : List Entry). or_process (found fs 0 false n) r) (env-append es (of_variable role.Variable 0 v 0) (of_variables role.Variable 0 vs 0))
+    ap (λ (fs : List Entry). or_process (found fs 0 n) r) (env-append es (of_variable role.Variable 0 v 0) (of_variables role.Variable 0 vs 0))
     ∙ variables-marked vs (env_from es (of_variable role.Variable 0 v 0)) n r
     ∙ variable-read v es n (cond (has_name (names_of vs) n) None r)
-    ∙ ap (or_process (found es 0 false n)) (cond-or (bytes_eq n v.name.text) (has_name (names_of vs) n) r)
+    ∙ ap (or_process (found es 0 n)) (cond-or (bytes_eq n v.name.text) (has_name (names_of vs) n) r)
 
 unit-marked : (o : ℕ) → 0 < o → (u : Part) (es : List Entry) (n : List ℕ) (r : Option ℕ)
-    → or_process (found (env_from es (of_unit o u)) 0 false n) r ≡ or_process (found es 0 false n) (cond (declares u n) (cond (is_proctype u) (Some o) None) r)
+    → or_process (found (env_from es (of_unit o u)) 0 n) r ≡ or_process (found es 0 n) (cond (declares u n) (cond (is_proctype u) (Some o) None) r)
 unit-marked o p (part.Variables vs) es n r = variables-marked vs es n r
 unit-marked o p (part.Constants ns) es n r =
-    constants-read (reverse ns) es n r ∙ ap (λ (b : Bool). or_process (found es 0 false n) (cond b None r)) (name-reversed ns n)
+    constants-read (reverse ns) es n r ∙ ap (λ (b : Bool). or_process (found es 0 n) (cond b None r)) (name-reversed ns n)
 unit-marked o p (part.Typedef t vs) es n r =
     let fs : List Entry = env_from es (of_variables role.Field o vs 0) in
-    ap (λ (gs : List Entry). or_process (found gs 0 false n) r) (env-append es (of_variables role.Field o vs 0) (one (what.Declares t (declared_as.Typedef o)) 0))
+    ap (λ (gs : List Entry). or_process (found gs 0 n) r) (env-append es (of_variables role.Field o vs 0) (one (what.Declares t (declared_as.Typedef o)) 0))
     ∙ after-read fs t (declared_as.Typedef o) n r
     ∙ ap (λ (x : Option Thing). or_process x (cond (bytes_eq n t.text) None r)) ((quiet-variables role.Field o p vs 0).still es n)
 unit-marked o p (part.Proctype q) es n r =
@@ -387,10 +371,10 @@ unit-marked o p (part.Proctype q) es n r =
     ap (λ (x : Option Thing). or_process x r) (quiet.still (after es 0 (what.Declares q.name d)) n)
     ∙ after-read es q.name d n r
 
-units-marked : (us : List Part) (o : ℕ) → 0 < o → (es : List Entry) (n : List ℕ) → or_process (found (env_from es (of_units o us)) 0 false n) None ≡ or_process (found es 0 false n) (proctype_named o us n)
+units-marked : (us : List Part) (o : ℕ) → 0 < o → (es : List Entry) (n : List ℕ) → or_process (found (env_from es (of_units o us)) 0 n) None ≡ or_process (found es 0 n) (proctype_named o us n)
 units-marked [] o p es n = refl
 units-marked (u ∷ us) o p es n =
-    ap (λ (fs : List Entry). or_process (found fs 0 false n) None) (env-append es (of_unit o u) (of_units (o + 1) us))
+    ap (λ (fs : List Entry). or_process (found fs 0 n) None) (env-append es (of_unit o u) (of_units (o + 1) us))
     ∙ units-marked us (o + 1) (omega (arith, p)) (env_from es (of_unit o u)) n
     ∙ unit-marked o p u es n (proctype_named (o + 1) us n)
 

@@ -9,7 +9,8 @@ use Rattle.pml_lex.specs.Word.{Word}
 use Rattle.pml_names.specs.declared.thing.Thing.{Thing}
 use Rattle.pml_names.specs.declared.thing.Thing.TheVariants as thing
 use Rattle.pml_names.specs.Entry.{Entry, entry, found}
-use Rattle.pml_names.specs.Env.{held, constants, most_cells}
+use Rattle.pml_names.specs.Naming.{most_cells}
+use Rattle.pml_names.specs.Env.{held, constants}
 use Rattle.pml_names.specs.Meaning.{or_else}
 use Rattle.pml_program.specs.declared.form.Form.{Form}
 use Rattle.pml_program.specs.declared.form.Form.TheVariants as kind
@@ -137,39 +138,39 @@ inner-later ts (y ∷ us) x h g = (are-known-later ts x y.fields h.0, inner-late
 
 -- ---- a name that is declared now, and was not before
 
-module _ (gs : Globals) (k : ℕ) (es : List Entry) (w : List ℕ) (t : Thing) (none : found es 0 false w ≡ None) (h : Base gs k es) where
+module _ (gs : Globals) (k : ℕ) (es : List Entry) (w : List ℕ) (t : Thing) (none : found es 0 w ≡ None) (h : Base gs k es) where
   abbrev now : List Entry
-  now = es ++ entry 0 false w t ∷ []
+  now = es ++ entry 0 w t ∷ []
 
-  there : (n : List ℕ) → found now 0 false n ≡ or_else (found es 0 false n) (if_so (bytes_eq n w) t)
+  there : (n : List ℕ) → found now 0 n ≡ or_else (found es 0 n) (if_so (bytes_eq n w) t)
   there n = found-own es 0 w t n
 
-  newly : (n : List ℕ) → bytes_eq n w ≡ true → found es 0 false n ≡ None
-  newly n e = ap (λ (m : List ℕ). found es 0 false m) (same-name n w e) ∙ none
+  newly : (n : List ℕ) → bytes_eq n w ≡ true → found es 0 n ≡ None
+  newly n e = ap (λ (m : List ℕ). found es 0 m) (same-name n w e) ∙ none
 
   becomes : {A : Type 0} (kind : Option Thing → Option A) → kind None ≡ None → (a : Option A) → kind (Some t) ≡ a → (look : List ℕ → Option A)
-      → ((n : List ℕ) → look n ≡ kind (found es 0 false n)) → (n : List ℕ) → or (look n) (cond (bytes_eq n w) a None) ≡ kind (found now 0 false n)
-  becomes kind nothing a is look same n = kind-more kind nothing (look n) (found es 0 false n) (bytes_eq n w) t a is (same n) (newly n) ∙ ap kind (sym (there n))
+      → ((n : List ℕ) → look n ≡ kind (found es 0 n)) → (n : List ℕ) → or (look n) (cond (bytes_eq n w) a None) ≡ kind (found now 0 n)
+  becomes kind nothing a is look same n = kind-more kind nothing (look n) (found es 0 n) (bytes_eq n w) t a is (same n) (newly n) ∙ ap kind (sym (there n))
 
   stays : {A : Type 0} (kind : Option Thing → Option A) → kind None ≡ None → kind (Some t) ≡ None → (look : List ℕ → Option A)
-      → ((n : List ℕ) → look n ≡ kind (found es 0 false n)) → (n : List ℕ) → look n ≡ kind (found now 0 false n)
+      → ((n : List ℕ) → look n ≡ kind (found es 0 n)) → (n : List ℕ) → look n ≡ kind (found now 0 n)
   stays kind nothing is look same n = sym (or-nought (look n) (bytes_eq n w)) ∙ becomes kind nothing None is look same n
 
-  some-now : (n : List ℕ) → is_some (found now 0 false n) ≡ (is_declared gs n || bytes_eq n w)
-  some-now n = ap is_some (there n) ∙ some-else (found es 0 false n) (bytes_eq n w) t ∙ ap (λ (b : Bool). b || bytes_eq n w) (h.declared n)
+  some-now : (n : List ℕ) → is_some (found now 0 n) ≡ (is_declared gs n || bytes_eq n w)
+  some-now n = ap is_some (there n) ∙ some-else (found es 0 n) (bytes_eq n w) t ∙ ap (λ (b : Bool). b || bytes_eq n w) (h.declared n)
 
-  inner-found : (u : ℕ) → 0 < u → (n : List ℕ) → found now u false n ≡ found es u false n
+  inner-found : (u : ℕ) → 0 < u → (n : List ℕ) → found now u n ≡ found es u n
   inner-found u p n = found-other es u 0 w t n (λ e. omega (arith, p, e))
 
 module _ (gs : Globals) (k : ℕ) (es : List Entry) where
   -- a variable
-  pub base-variable : (s : Slot) → found es 0 false s.name.text ≡ None → IsKnown gs.typedefs s.form → Base gs k es
-      → Base (with_variables gs (gs.variables ++ s ∷ [])) k (es ++ entry 0 false s.name.text (thing.Variable (variable_of (length gs.variables, s))) ∷ [])
+  pub base-variable : (s : Slot) → found es 0 s.name.text ≡ None → IsKnown gs.typedefs s.form → Base gs k es
+      → Base (with_variables gs (gs.variables ++ s ∷ [])) k (es ++ entry 0 s.name.text (thing.Variable (variable_of (length gs.variables, s))) ∷ [])
   base-variable s none known h =
       let w : List ℕ = s.name.text in
       let p : ℕ × Slot = (length gs.variables, s) in
       let t : Thing = thing.Variable (variable_of p) in
-      let e : Entry = entry 0 false w t in
+      let e : Entry = entry 0 w t in
       record {
         agrees = record {
           variables = λ n.
@@ -196,10 +197,10 @@ module _ (gs : Globals) (k : ℕ) (es : List Entry) where
   with_constant_name w = record gs { constants = gs.constants ++ w ∷ [] }
 
   -- an mtype name
-  pub base-constant : (w : Word) → found es 0 false w.text ≡ None → Base gs k es → Base (with_constant_name w) k (es ++ entry 0 false w.text (thing.Constant (constants es + 1)) ∷ [])
+  pub base-constant : (w : Word) → found es 0 w.text ≡ None → Base gs k es → Base (with_constant_name w) k (es ++ entry 0 w.text (thing.Constant (constants es + 1)) ∷ [])
   base-constant w none h =
       let t : Thing = thing.Constant (constants es + 1) in
-      let e : Entry = entry 0 false w.text t in
+      let e : Entry = entry 0 w.text t in
       let number : suc (length gs.constants) ≡ constants es + 1 = omega (arith, h.constants) in
       record {
         agrees = record {
@@ -233,14 +234,14 @@ module _ (gs : Globals) (k : ℕ) (es : List Entry) where
     | inr q ↦ let f : false ≡ true = sym q.0 ∙ e in cc
   ]
 
-  field-now : (x : Structure) → x.number ≡ k → 0 < k → (w : List ℕ) (t : Thing) → found es 0 false w ≡ None → ((n : List ℕ) → found es k false n ≡ as_thing (variable_named x.fields n)) → Base gs k es
+  field-now : (x : Structure) → x.number ≡ k → 0 < k → (w : List ℕ) (t : Thing) → found es 0 w ≡ None → ((n : List ℕ) → found es k n ≡ as_thing (variable_named x.fields n)) → Base gs k es
       → (u : ℕ) (n : List ℕ) (a b : Bool) → has_number gs.typedefs u ≡ a → nat_eq u x.number ≡ b → (a || b) ≡ true
-      → found (es ++ entry 0 false w t ∷ []) u false n ≡ as_thing (variable_named (fields_of (gs.typedefs ++ x ∷ []) u) n)
+      → found (es ++ entry 0 w t ∷ []) u n ≡ as_thing (variable_named (fields_of (gs.typedefs ++ x ∷ []) u) n)
   field-now x same p w t none own h u n true b e f g =
       inner-found gs k es w t none h u (h.positive u e) n ∙ h.agrees.fields u e n ∙ ap (λ (ss : List Slot). as_thing (variable_named ss n)) (sym (fields-old gs.typedefs x u e))
   field-now x same p w t none own h u n false true e f g =
       let here : u ≡ k = is-k x same u f in
-      inner-found gs k es w t none h u (subst (λ (v : ℕ). 0 < v) (sym here) p) n ∙ ap (λ (v : ℕ). found es v false n) here ∙ own n
+      inner-found gs k es w t none h u (subst (λ (v : ℕ). 0 < v) (sym here) p) n ∙ ap (λ (v : ℕ). found es v n) here ∙ own n
       ∙ ap (λ (ss : List Slot). as_thing (variable_named ss n)) (sym (fields-new gs.typedefs x u e f))
   field-now x same p w t none own h u n false false e f g = cc
 
@@ -255,13 +256,13 @@ module _ (gs : Globals) (k : ℕ) (es : List Entry) where
   positive-now x same p h u false false e f g = cc
 
   -- a typedef with the number k
-  pub base-typedef : (x : Structure) → x.number ≡ k → 0 < k → found es 0 false x.name.text ≡ None → AreKnown gs.typedefs x.fields → held es k ≡ cells x.fields
-      → ((n : List ℕ) → found es k false n ≡ as_thing (variable_named x.fields n)) → Base gs k es
-      → Base (with_typedef_name x) (k + 1) (es ++ entry 0 false x.name.text (thing.Typedef k (min (held es k) most_cells)) ∷ [])
+  pub base-typedef : (x : Structure) → x.number ≡ k → 0 < k → found es 0 x.name.text ≡ None → AreKnown gs.typedefs x.fields → held es k ≡ cells x.fields
+      → ((n : List ℕ) → found es k n ≡ as_thing (variable_named x.fields n)) → Base gs k es
+      → Base (with_typedef_name x) (k + 1) (es ++ entry 0 x.name.text (thing.Typedef k (min (held es k) most_cells)) ∷ [])
   base-typedef x same p none known has own h =
       let w : List ℕ = x.name.text in
       let t : Thing = thing.Typedef k (min (held es k) most_cells) in
-      let e : Entry = entry 0 false w t in
+      let e : Entry = entry 0 w t in
       let pair : as_typedef (Some x) ≡ Some (k, min (held es k) most_cells) = ap (λ (m : ℕ). Some (m, counted (cells x.fields))) same ∙ ap (λ (m : ℕ). Some (k, min m most_cells)) (sym has) in
       record {
         agrees = record {
@@ -289,10 +290,10 @@ module _ (gs : Globals) (k : ℕ) (es : List Entry) where
   with_proctype_name w = record gs { proctypes = gs.proctypes ++ w ∷ [] }
 
   -- a proctype
-  pub base-proctype : (w : Word) (o m : ℕ) → found es 0 false w.text ≡ None → Base gs k es → Base (with_proctype_name w) k (es ++ entry 0 false w.text (thing.Proctype o m) ∷ [])
+  pub base-proctype : (w : Word) (o m : ℕ) → found es 0 w.text ≡ None → Base gs k es → Base (with_proctype_name w) k (es ++ entry 0 w.text (thing.Proctype o m) ∷ [])
   base-proctype w o m none h =
       let t : Thing = thing.Proctype o m in
-      let e : Entry = entry 0 false w.text t in
+      let e : Entry = entry 0 w.text t in
       record {
         agrees = record {
           variables = stays gs k es w.text t none h in_variable refl refl (λ m. as_variable (variable_named gs.variables m)) h.agrees.variables;

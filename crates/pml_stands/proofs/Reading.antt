@@ -35,35 +35,33 @@ or_process (Some x) r = in_process x
 
 -- what is found before the units, which are numbered from o, and what these declare, is what the text has
 abbrev pub Reads : List Part → ℕ → List Part → List Entry → Type 0
-Reads text o us es = (n : List ℕ) → or_process (found es 0 false n) (proctype_named o us n) ≡ proctype_named 1 text n
+Reads text o us es = (n : List ℕ) → or_process (found es 0 n) (proctype_named o us n) ≡ proctype_named 1 text n
 
 abbrev pub ReadsAll : List Part → List Entry → Type 0
-ReadsAll text all = (n : List ℕ) → or_process (found all 0 false n) None ≡ proctype_named 1 text n
+ReadsAll text all = (n : List ℕ) → or_process (found all 0 n) None ≡ proctype_named 1 text n
 
 process-is : (x : Thing) → proctype_of (Some x) ≡ or_none (in_process x)
 process-is (thing.Variable v) = refl
 process-is (thing.Constant n) = refl
 process-is (thing.Typedef t n) = refl
 process-is (thing.Proctype o n) = refl
-process-is thing.Label = refl
 
 only-is : (x : Option Thing) → proctype_of (only_process x) ≡ or_none (or_process x None)
 only-is (Some (thing.Variable v)) = refl
 only-is (Some (thing.Constant n)) = refl
 only-is (Some (thing.Typedef t n)) = refl
 only-is (Some (thing.Proctype o n)) = refl
-only-is (Some thing.Label) = refl
 only-is None = refl
 
 pub runs-of : (gs : Globals) (all es : List Entry) (o : ℕ) (us : List Part) → Reads gs.text o us es → ReadsAll gs.text all → Runs gs all es
-runs-of gs all es o us h whole n = go (found es 0 false n) refl
+runs-of gs all es o us h whole n = go (found es 0 n) refl
   where
-    go : (x : Option Thing) → found es 0 false n ≡ x → proctype_of (or_else (found es 0 false n) (only_process (found all 0 false n))) ≡ or_none (proctype_named 1 gs.text n)
+    go : (x : Option Thing) → found es 0 n ≡ x → proctype_of (or_else (found es 0 n) (only_process (found all 0 n))) ≡ or_none (proctype_named 1 gs.text n)
     go (Some x) e =
-        ap (λ (y : Option Thing). proctype_of (or_else y (only_process (found all 0 false n)))) e ∙ process-is x
+        ap (λ (y : Option Thing). proctype_of (or_else y (only_process (found all 0 n)))) e ∙ process-is x
         ∙ ap or_none (sym (ap (λ (y : Option Thing). or_process y (proctype_named o us n)) e) ∙ h n)
     go None e =
-        ap (λ (y : Option Thing). proctype_of (or_else y (only_process (found all 0 false n)))) e ∙ only-is (found all 0 false n) ∙ ap or_none (whole n)
+        ap (λ (y : Option Thing). proctype_of (or_else y (only_process (found all 0 n)))) e ∙ only-is (found all 0 n) ∙ ap or_none (whole n)
 
 -- ---- one declaration
 
@@ -73,24 +71,24 @@ or-so None true t r = refl
 or-so None false t r = refl
 
 pub after-read : (es : List Entry) (w : Word) (d : Declared) (n : List ℕ) (r : Option ℕ)
-    → or_process (found (after es 0 (what.Declares w d)) 0 false n) r ≡ or_process (found es 0 false n) (cond (bytes_eq n w.text) (in_process (thing_of es 0 d)) r)
-after-read es w d n r = go (found es 0 false w.text) refl
+    → or_process (found (after es 0 (what.Declares w d)) 0 n) r ≡ or_process (found es 0 n) (cond (bytes_eq n w.text) (in_process (thing_of es 0 d)) r)
+after-read es w d n r = go (found es 0 w.text) refl
   where
     t : Thing
     t = thing_of es 0 d
 
-    old : (x : Thing) → found es 0 false w.text ≡ Some x → (b : Bool) → bytes_eq n w.text ≡ b → or_process (found es 0 false n) r ≡ or_process (found es 0 false n) (cond b (in_process (thing_of es 0 d)) r)
+    old : (x : Thing) → found es 0 w.text ≡ Some x → (b : Bool) → bytes_eq n w.text ≡ b → or_process (found es 0 n) r ≡ or_process (found es 0 n) (cond b (in_process (thing_of es 0 d)) r)
     old x e true same =
-        let f : found es 0 false n ≡ Some x = ap (λ (m : List ℕ). found es 0 false m) (same-name n w.text same) ∙ e in
+        let f : found es 0 n ≡ Some x = ap (λ (m : List ℕ). found es 0 m) (same-name n w.text same) ∙ e in
         ap (λ (y : Option Thing). or_process y r) f ∙ sym (ap (λ (y : Option Thing). or_process y (in_process (thing_of es 0 d))) f)
     old x e false same = refl
 
-    go : (x : Option Thing) → found es 0 false w.text ≡ x
-        → or_process (found (after es 0 (what.Declares w d)) 0 false n) r ≡ or_process (found es 0 false n) (cond (bytes_eq n w.text) (in_process (thing_of es 0 d)) r)
+    go : (x : Option Thing) → found es 0 w.text ≡ x
+        → or_process (found (after es 0 (what.Declares w d)) 0 n) r ≡ or_process (found es 0 n) (cond (bytes_eq n w.text) (in_process (thing_of es 0 d)) r)
     go None e =
-        ap (λ (fs : List Entry). or_process (found fs 0 false n) r) (after-new es 0 w d e) ∙ ap (λ (y : Option Thing). or_process y r) (found-own es 0 w.text (thing_of es 0 d) n)
-        ∙ or-so (found es 0 false n) (bytes_eq n w.text) (thing_of es 0 d) r
-    go (Some x) e = ap (λ (fs : List Entry). or_process (found fs 0 false n) r) (after-old es 0 w d x e) ∙ old x e (bytes_eq n w.text) refl
+        ap (λ (fs : List Entry). or_process (found fs 0 n) r) (after-new es 0 w d e) ∙ ap (λ (y : Option Thing). or_process y r) (found-own es 0 w.text (thing_of es 0 d) n)
+        ∙ or-so (found es 0 n) (bytes_eq n w.text) (thing_of es 0 d) r
+    go (Some x) e = ap (λ (fs : List Entry). or_process (found fs 0 n) r) (after-old es 0 w d x e) ∙ old x e (bytes_eq n w.text) refl
 
 -- ---- variables and mtype names
 
@@ -99,28 +97,28 @@ cond-or true c r = refl
 cond-or false c r = refl
 
 pub with-names : (all : List Entry) (use_as : Role) (o : ℕ) (v : TreeVariable) (x : Known) → (with_variable all use_as o v x).names ≡ after x.names o (variable_declares use_as v)
-with-names all use_as o v x = go (found x.names o false v.name.text) refl
+with-names all use_as o v x = go (found x.names o v.name.text) refl
   where
-    go : (f : Option Thing) → found x.names o false v.name.text ≡ f → (with_variable all use_as o v x).names ≡ after x.names o (variable_declares use_as v)
+    go : (f : Option Thing) → found x.names o v.name.text ≡ f → (with_variable all use_as o v x).names ≡ after x.names o (variable_declares use_as v)
     go None e = ap (λ (f : Option Thing). (cond (is_some f) x (added_variable all use_as o v x)).names) e
     go (Some t) e = ap (λ (f : Option Thing). (cond (is_some f) x (added_variable all use_as o v x)).names) e ∙ sym (after-old x.names o v.name _ t e)
 
 pub variables-read : (all : List Entry) (vs : List TreeVariable) (x : Known) (n : List ℕ) (r : Option ℕ)
-    → or_process (found (with_variables all role.Variable 0 vs x).names 0 false n) r ≡ or_process (found x.names 0 false n) (cond (has_name (names_of vs) n) None r)
+    → or_process (found (with_variables all role.Variable 0 vs x).names 0 n) r ≡ or_process (found x.names 0 n) (cond (has_name (names_of vs) n) None r)
 variables-read all [] x n r = refl
 variables-read all (v ∷ vs) x n r =
     variables-read all vs (with_variable all role.Variable 0 v x) n r
-    ∙ ap (λ (es : List Entry). or_process (found es 0 false n) (cond (has_name (names_of vs) n) None r)) (with-names all role.Variable 0 v x)
+    ∙ ap (λ (es : List Entry). or_process (found es 0 n) (cond (has_name (names_of vs) n) None r)) (with-names all role.Variable 0 v x)
     ∙ after-read x.names v.name _ n (cond (has_name (names_of vs) n) None r)
-    ∙ ap (or_process (found x.names 0 false n)) (cond-or (bytes_eq n v.name.text) (has_name (names_of vs) n) r)
+    ∙ ap (or_process (found x.names 0 n)) (cond-or (bytes_eq n v.name.text) (has_name (names_of vs) n) r)
 
 pub constants-read : (ws : List Word) (es : List Entry) (n : List ℕ) (r : Option ℕ)
-    → or_process (found (env_from es (map constant_mark ws)) 0 false n) r ≡ or_process (found es 0 false n) (cond (has_name ws n) None r)
+    → or_process (found (env_from es (map constant_mark ws)) 0 n) r ≡ or_process (found es 0 n) (cond (has_name ws n) None r)
 constants-read [] es n r = refl
 constants-read (w ∷ ws) es n r =
     constants-read ws (after es 0 (what.Declares w declared_as.Constant)) n r
     ∙ after-read es w declared_as.Constant n (cond (has_name ws n) None r)
-    ∙ ap (or_process (found es 0 false n)) (cond-or (bytes_eq n w.text) (has_name ws n) r)
+    ∙ ap (or_process (found es 0 n)) (cond-or (bytes_eq n w.text) (has_name ws n) r)
 
 or-swap : (a b : Bool) → (a || b) ≡ (b || a)
 or-swap true true = refl

@@ -32,7 +32,7 @@ use Rattle.pml_stands.specs.StandsStatements as stands
 use Rattle.pml_stands.specs.StandsStatements.{size_of, elements, StandsSort, StandsVariable, StandsVariables, StandsBasic, StandsItems, StandsSeq, StandsOptions}
 use Rattle.pml_stands.specs.StandsModel as units
 use Rattle.pml_stands.specs.StandsModel.{structure, fields_with, StandsGlobals, StandsUnits, StandsModel}
-use Rattle.pml_stands.specs.Tiled.{fields_at, HasWidth, Begins, Tile, TypedefsTile, IsTiled}
+use Rattle.pml_stands.specs.Tiled.{fields_at, HasWidth, Begins, Tile, TypedefsTile, OwnersFrom, IsTiled}
 
 -- ---- one more
 
@@ -224,5 +224,20 @@ units-tile (units.proctype {o} {gs} {p} {ls} {ts} g k rest) before below h =
     let r = units-tile rest before (owners-later o before below) s in
     record { typedefs = r.typedefs; globals = r.globals; proctypes = (tile-still before ts 0 ls own, r.proctypes) }
 
+-- ---- the numbers of typedefs
+
+owners-sooner : (o : ℕ) (ts : List Fields) → OwnersFrom (o + 1) ts → OwnersFrom o ts
+owners-sooner o [] h = tt
+owners-sooner o (f ∷ ts) h = (omega (arith, h.0), h.1)
+
+units-owners : {o : ℕ} {gs zs : Globals} {us : List Part} {cs : List Word} {ts : List Fields} {ps : List Proctype} → StandsUnits o gs us zs cs ts ps → OwnersFrom o ts
+units-owners units.no_unit = tt
+units-owners (units.variables {o} {ts} g rest) = owners-sooner o ts (units-owners rest)
+units-owners (units.constants {o} {ts} rest) = owners-sooner o ts (units-owners rest)
+units-owners (units.typedef g rest) = (omega arith, units-owners rest)
+units-owners (units.proctype {o} {ts} g k rest) = owners-sooner o ts (units-owners rest)
+
 pub model-tiled : (t : Tree) (p : Program) → StandsModel t p → IsTiled p
-model-tiled t p (units.model h) = let r = units-tile h [] tt (record { covers = tt; tile = tt }) in record { globals = r.globals; typedefs = r.typedefs; proctypes = r.proctypes }
+model-tiled t p (units.model h) =
+    let r = units-tile h [] tt (record { covers = tt; tile = tt }) in
+    record { owners = units-owners h; globals = r.globals; typedefs = r.typedefs; proctypes = r.proctypes }

@@ -44,8 +44,8 @@ none-of None h = refl
 none-of (Some t) h = cc
 
 -- declared before, or not
-undeclared : (gs : Globals) (k : ℕ) (es : List Entry) (n : List ℕ) → Base gs k es → is_declared gs n ≡ false → found es 0 false n ≡ None
-undeclared gs k es n h e = none-of (found es 0 false n) (h.declared n ∙ e)
+undeclared : (gs : Globals) (k : ℕ) (es : List Entry) (n : List ℕ) → Base gs k es → is_declared gs n ≡ false → found es 0 n ≡ None
+undeclared gs k es n h e = none-of (found es 0 n) (h.declared n ∙ e)
 
 -- ---- global variables
 
@@ -57,7 +57,7 @@ module _ (all : List Entry) (o : ℕ) (p : 0 < o) where
   global_slot es v = slot_in all es 0 0 v
 
   abbrev global_names : Globals → List Entry → TreeVariable → List Entry
-  global_names gs es v = es ++ entry 0 false v.name.text (thing.Variable (variable_of (length gs.variables, global_slot es v))) ∷ []
+  global_names gs es v = es ++ entry 0 v.name.text (thing.Variable (variable_of (length gs.variables, global_slot es v))) ∷ []
 
   old-global : (gs : Globals) (es : List Entry) (v : TreeVariable) → Base gs o es → is_declared gs v.name.text ≡ true → with_variable all role.Variable 0 v (known es gs.variables) ≡ known es gs.variables
   old-global gs es v h e = ap (λ (b : Bool). cond b (known es gs.variables) (added_variable all role.Variable 0 v (known es gs.variables))) (h.declared v.name.text ∙ e)
@@ -123,16 +123,16 @@ module _ (o : ℕ) (p : 0 < o) where
   constant-one : (w : Word) (gs : Globals) (es : List Entry) → Constants gs es → (b : Bool) → is_declared gs w.text ≡ b → Constants (with_constant gs w) (after es 0 (what.Declares w declared_as.Constant))
   constant-one w gs es h true e =
       subst (λ (hs : Globals). Constants hs (after es 0 (what.Declares w declared_as.Constant))) (sym (ap (λ (b : Bool). cond b gs (record gs { constants = gs.constants ++ w ∷ [] })) e))
-      (subst (Constants gs) (sym (old-name (found es 0 false w.text) refl (h.base.declared w.text ∙ e))) h)
+      (subst (Constants gs) (sym (old-name (found es 0 w.text) refl (h.base.declared w.text ∙ e))) h)
     where
-      old-name : (x : Option Thing) → found es 0 false w.text ≡ x → is_some (found es 0 false w.text) ≡ true → after es 0 (what.Declares w declared_as.Constant) ≡ es
+      old-name : (x : Option Thing) → found es 0 w.text ≡ x → is_some (found es 0 w.text) ≡ true → after es 0 (what.Declares w declared_as.Constant) ≡ es
       old-name (Some t) f g = after-old es 0 w declared_as.Constant t f
       old-name None f g = let q : false ≡ true = sym (ap is_some f) ∙ g in cc
   constant-one w gs es h false e =
-      let none : found es 0 false w.text ≡ None = undeclared gs o es w.text h.base e in
+      let none : found es 0 w.text ≡ None = undeclared gs o es w.text h.base e in
       subst (λ (hs : Globals). Constants hs (after es 0 (what.Declares w declared_as.Constant))) (sym (ap (λ (b : Bool). cond b gs (record gs { constants = gs.constants ++ w ∷ [] })) e))
       (subst (Constants (record gs { constants = gs.constants ++ w ∷ [] })) (sym (after-new es 0 w declared_as.Constant none))
-      (record { base = base-constant gs o es w none h.base; below = below-more o es (entry 0 false w.text (thing_of es 0 declared_as.Constant)) h.below p }))
+      (record { base = base-constant gs o es w none h.base; below = below-more o es (entry 0 w.text (thing_of es 0 declared_as.Constant)) h.below p }))
 
   constants-spread : (ws : List Word) (gs : Globals) (es : List Entry) → Constants gs es → Constants (with_constants gs ws) (env_from es (map constant_mark ws))
   constants-spread [] gs es h = h
@@ -143,7 +143,7 @@ module _ (o : ℕ) (p : 0 < o) where
 own-start : (gs : Globals) (o : ℕ) (es : List Entry) → Base gs o es → Below o es → Ready gs es o (known es [])
 own-start gs o es h g = record {
   base = h;
-  own = λ n. found-below o es false n g;
+  own = λ n. found-below o es n g;
   known = tt;
   count = variables-below o es g;
   held = held-below o es g;
@@ -216,7 +216,7 @@ module _ (text : List Part) (all : List Entry) (whole : ReadsAll text all) where
         same = kept.0 ∙ h.same;
         reads = λ n.
             constants-read (reverse ns) m.names n (proctype_named (o + 1) us n)
-            ∙ ap (λ (b : Bool). or_process (found m.names 0 false n) (cond b None (proctype_named (o + 1) us n))) (name-reversed ns n) ∙ h.reads n;
+            ∙ ap (λ (b : Bool). or_process (found m.names 0 n) (cond b None (proctype_named (o + 1) us n))) (name-reversed ns n) ∙ h.reads n;
       }
 
   -- ---- typedefs
@@ -234,18 +234,18 @@ module _ (text : List Part) (all : List Entry) (whole : ReadsAll text all) where
   typedef-closed : (gs : Globals) (start : List Entry) (o : ℕ) (t : Word) (x : Known) → 0 < o → Ready gs start o x → (b : Bool) → is_declared gs t.text ≡ b → Closed (with_typedef gs (structure t o x.slots)) o (now_typedef o t x.names)
   typedef-closed gs start o t x p h true e =
       subst (λ (hs : Globals). Closed hs o (now_typedef o t x.names)) (sym (ap (λ (b : Bool). cond b gs (record gs { typedefs = gs.typedefs ++ structure t o x.slots ∷ [] })) e))
-      (subst (Closed gs o) (sym (old-name (found x.names 0 false t.text) refl (h.base.declared t.text ∙ e))) (record { base = base-later gs o x.names h.base; below = h.below }))
+      (subst (Closed gs o) (sym (old-name (found x.names 0 t.text) refl (h.base.declared t.text ∙ e))) (record { base = base-later gs o x.names h.base; below = h.below }))
     where
-      old-name : (f : Option Thing) → found x.names 0 false t.text ≡ f → is_some (found x.names 0 false t.text) ≡ true → now_typedef o t x.names ≡ x.names
+      old-name : (f : Option Thing) → found x.names 0 t.text ≡ f → is_some (found x.names 0 t.text) ≡ true → now_typedef o t x.names ≡ x.names
       old-name (Some y) f g = after-old x.names 0 t (declared_as.Typedef o) y f
       old-name None f g = let q : false ≡ true = sym (ap is_some f) ∙ g in cc
   typedef-closed gs start o t x p h false e =
-      let none : found x.names 0 false t.text ≡ None = undeclared gs o x.names t.text h.base e in
+      let none : found x.names 0 t.text ≡ None = undeclared gs o x.names t.text h.base e in
       subst (λ (hs : Globals). Closed hs o (now_typedef o t x.names)) (sym (ap (λ (b : Bool). cond b gs (record gs { typedefs = gs.typedefs ++ structure t o x.slots ∷ [] })) e))
       (subst (Closed (record gs { typedefs = gs.typedefs ++ structure t o x.slots ∷ [] }) o) (sym (after-new x.names 0 t (declared_as.Typedef o) none))
       (record {
         base = base-typedef gs o x.names (structure t o x.slots) refl p none h.known h.held h.own h.base;
-        below = below-more (o + 1) x.names (entry 0 false t.text (thing_of x.names 0 (declared_as.Typedef o))) h.below (omega arith);
+        below = below-more (o + 1) x.names (entry 0 t.text (thing_of x.names 0 (declared_as.Typedef o))) h.below (omega arith);
       }))
 
   fields-ready : (o : ℕ) (vs : List TreeVariable) (us : List Part) (gs : Globals) (m : Made) → 0 < o → Base gs o m.names → Below o m.names → Ready gs m.names o (fields_made o vs m)
@@ -280,18 +280,18 @@ module _ (text : List Part) (all : List Entry) (whole : ReadsAll text all) where
   process-opened : (gs : Globals) (o : ℕ) (q : TreeProctype) (es : List Entry) → 0 < o → Base gs o es → Below o es → (b : Bool) → is_declared gs q.name.text ≡ b → Opened (with_proctype gs q.name) o (now_process o q es)
   process-opened gs o q es p h g true e =
       subst (λ (hs : Globals). Opened hs o (now_process o q es)) (sym (ap (λ (b : Bool). cond b gs (record gs { proctypes = gs.proctypes ++ q.name ∷ [] })) e))
-      (subst (Opened gs o) (sym (old-name (found es 0 false q.name.text) refl (h.declared q.name.text ∙ e))) (record { base = h; below = g }))
+      (subst (Opened gs o) (sym (old-name (found es 0 q.name.text) refl (h.declared q.name.text ∙ e))) (record { base = h; below = g }))
     where
-      old-name : (f : Option Thing) → found es 0 false q.name.text ≡ f → is_some (found es 0 false q.name.text) ≡ true → now_process o q es ≡ es
+      old-name : (f : Option Thing) → found es 0 q.name.text ≡ f → is_some (found es 0 q.name.text) ≡ true → now_process o q es ≡ es
       old-name (Some y) f g = after-old es 0 q.name (declared_as.Proctype o (length q.parameters)) y f
       old-name None f g = let r : false ≡ true = sym (ap is_some f) ∙ g in cc
   process-opened gs o q es p h g false e =
-      let none : found es 0 false q.name.text ≡ None = undeclared gs o es q.name.text h e in
+      let none : found es 0 q.name.text ≡ None = undeclared gs o es q.name.text h e in
       subst (λ (hs : Globals). Opened hs o (now_process o q es)) (sym (ap (λ (b : Bool). cond b gs (record gs { proctypes = gs.proctypes ++ q.name ∷ [] })) e))
       (subst (Opened (record gs { proctypes = gs.proctypes ++ q.name ∷ [] }) o) (sym (after-new es 0 q.name (declared_as.Proctype o (length q.parameters)) none))
       (record {
         base = base-proctype gs o es q.name o (length q.parameters) none h;
-        below = below-more o es (entry 0 false q.name.text (thing.Proctype o (length q.parameters))) g p;
+        below = below-more o es (entry 0 q.name.text (thing.Proctype o (length q.parameters))) g p;
       }))
 
   module _ (o : ℕ) (q : TreeProctype) (us : List Part) (gs : Globals) (m : Made) (p : 0 < o) (h : Whole gs o (part.Proctype q ∷ us) m) where

@@ -1,7 +1,9 @@
 -- How the cells of an owner are shared out among its variables, and which path leads to a cell.
-use Rattle.std.specs.Prelude.{◌≡◌, ℕ, ◌+◌, ◌*◌, ◌<◌, ◌≤◌, nat_eq, Bool, true, false, if◌then◌else◌, List, [], ◌∷◌, ◌++◌, slice_get, Option, Some, None}
+use Rattle.std.specs.Prelude.{◌≡◌, ℕ, ◌+◌, ◌*◌, ◌<◌, ◌≤◌, nat_eq, Bool, true, false, if◌then◌else◌, List, [], ◌∷◌, ◌++◌, length, map, slice_get, Option, Some, None}
 use Rattle.std.specs.List.{AllByRecursion}
 use Rattle.profile.specs.declared.TheConstants.{MOST_CELLS}
+use Rattle.pml_tree.specs.declared.tree.Reference.{Reference, out-Reference}
+use Rattle.pml_tree.specs.declared.tree.Step.{Step, out-Step}
 use Rattle.pml_program.specs.declared.form.Form.{Form}
 use Rattle.pml_program.specs.declared.form.Form.TheVariants as kind
 use Rattle.pml_program.specs.declared.program.Slot.{Slot}
@@ -41,11 +43,21 @@ abbrev pub TypedefsTile : List Fields → List Fields → Type 0
 TypedefsTile before [] = Unit {0}
 TypedefsTile before (f ∷ fs) = Tile before 0 f.fields × TypedefsTile (before ++ f ∷ []) fs
 
+-- the typedefs are known by numbers that increase, from this one on
+abbrev pub OwnersFrom : ℕ → List Fields → Type 0
+OwnersFrom o [] = Unit {0}
+OwnersFrom o (f ∷ fs) = (o ≤ f.owner) × OwnersFrom (f.owner + 1) fs
+
 -- in a model, the variables of each owner begin at cell 0
 pub record IsTiled (p : Program) : Type 0 where
+  pub owners : OwnersFrom 1 p.typedefs
   pub globals : Tile p.typedefs 0 p.globals
   pub typedefs : TypedefsTile [] p.typedefs
   pub proctypes : AllByRecursion (λ (q : Proctype). Tile p.typedefs 0 q.variables) p.proctypes
+
+abbrev pub listed : Option (List Slot) → List Slot
+listed None = []
+listed (Some ss) = ss
 
 -- ---- paths
 
@@ -94,19 +106,52 @@ abbrev pub variables_of : Globals → List Slot → Bool → List Slot
 variables_of gs ls true = ls
 variables_of gs ls false = gs.variables
 
--- what a variable's own turns lead to, from the variable's first cell on, is a cell that one of its paths leads to
-pub record LeadsOn (ts : List Fields) (ss : List Slot) (n : ℕ) (turns : List Turn) (is : List ℕ) : Type 0 where
+-- the fields of a place of this type: none where it is no typedef's
+abbrev pub fields_under : List Fields → Form → List Slot
+fields_under ts (kind.Struct t) = listed (fields_at ts t)
+fields_under ts _ = []
+
+-- the names of the variable and of the fields that a path goes through
+abbrev pub names_along : List Fields → List Slot → List (ℕ × ℕ) → List (List ℕ)
+names_along ts ss [] = []
+names_along ts ss (x ∷ p) = elim (slice_get ss x.0) as (λ _. List (List ℕ)) [
+  | None ↦ []
+  | Some s ↦ s.name.text ∷ names_along ts (fields_under ts s.form) p
+]
+
+-- the number of the variable that it begins with
+abbrev pub first_of : List (ℕ × ℕ) → Option ℕ
+first_of [] = None
+first_of (x ∷ p) = Some x.0
+
+-- its indices
+abbrev pub indices_along : List (ℕ × ℕ) → List ℕ
+indices_along = map (λ x. x.1)
+
+abbrev pub name_of : Step → List ℕ
+name_of s = (out-Step s).name.text
+
+-- the names of a reference
+abbrev pub names_of : Reference → List (List ℕ)
+names_of r = name_of (out-Reference r).first ∷ map name_of (out-Reference r).fields
+
+-- What a variable's own turns lead to, from the variable's first cell on, is a cell that one of its paths leads to: the one with
+-- the reference's names, where each of them is found, and its indices.
+pub record LeadsOn (ts : List Fields) (ss : List Slot) (names : List (List ℕ)) (n : ℕ) (turns : List Turn) (is : List ℕ) : Type 0 where
   pub slot : Slot
   pub there : slice_get ss n ≡ Some slot
   pub path : List (ℕ × ℕ)
+  pub first : first_of path ≡ Some n
   pub leads : Leads ts ss (slot.offset + reached turns is) path
+  pub named : length turns ≡ length names → names_along ts ss path ≡ names
+  pub indexed : indices_along path ≡ is
 
 -- where a target is of no typedef's type, its turns lead from its variable's first cell to a cell with a path
-abbrev pub TargetLeads : Globals → List Slot → List Fields → Target-F Expr Want Target Turn → Type 0
-TargetLeads gs ls ts x =
-    (is : List ℕ) → is_struct x.form ≡ false → AreWithin x.turns is → LeadsOn ts (variables_of gs ls x.local) x.variable x.turns is
+abbrev pub TargetLeads : Globals → List Slot → List Fields → List (List ℕ) → Target-F Expr Want Target Turn → Type 0
+TargetLeads gs ls ts names x =
+    (is : List ℕ) → is_struct x.form ≡ false → AreWithin x.turns is → LeadsOn ts (variables_of gs ls x.local) names x.variable x.turns is
 
 -- where a reference means a place
-abbrev pub LeadsAs : Globals → List Slot → List Fields → Meaning → Type 0
-LeadsAs gs ls ts (Place t) = TargetLeads gs ls ts (out-Target t)
-LeadsAs gs ls ts _ = Unit {0}
+abbrev pub LeadsAs : Globals → List Slot → List Fields → List (List ℕ) → Meaning → Type 0
+LeadsAs gs ls ts names (Place t) = TargetLeads gs ls ts names (out-Target t)
+LeadsAs gs ls ts names _ = Unit {0}

@@ -8,7 +8,7 @@ ghost use Rattle.pml_resolve.specs.Model.{numbered_model};
 ghost use Rattle.pml_stands.specs.StandsModel.{StandsModel};
 ghost use Rattle.pml_stands.specs.Known.{Globals};
 ghost use Rattle.pml_stands.specs.Stands.{Meaning, StandsReference};
-ghost use Rattle.pml_stands.specs.Tiled.{IsTiled, IsOwner, HasPaths, AreAmong, LeadsAs};
+ghost use Rattle.pml_stands.specs.Tiled.{IsTiled, IsOwner, HasPaths, AreAmong, names_of, LeadsAs};
 ghost use Rattle.pml_tree.specs.declared.tree.Reference.{Reference};
 ghost use Rattle.pml_program.specs.declared.program.Fields.{Fields};
 
@@ -35,8 +35,9 @@ pub fn each_cell_has_one_path()
 {}
 
 /// What a reference names: where it means a place of no typedef's type, and its indices lie within, its turns lead to a cell that a path
-/// from the same variable leads to, where the typedefs before it are those of the model.
+/// from the same variable leads to, where the typedefs before it are those of the model: the path of its names, each of them found, and
+/// of its indices.
 pub fn references_lead()
     ensures { (gs : Globals) (ls : List Slot) (ts : List Fields) (r : Reference) (m : Meaning) → AreAmong gs.typedefs ts
-        → StandsReference gs ls r m → LeadsAs gs ls ts m }
+        → StandsReference gs ls r m → LeadsAs gs ls ts (names_of r) m }
 {}
