@@ -1,0 +1,4 @@
+mod Evaluating
+mod Printing
+mod Reading
+mod Rows
