@@ -1,6 +1,7 @@
 //! Stores before and after writes, by the cells' indices.
 use pml_lex::cut;
 use pml_lines::change::{Wanted, logged_lines, value_lines};
+use pml_lines::tables::Tables;
 use pml_marks::model::marks;
 use pml_names::names::all_names;
 use pml_resolve::model::number;
@@ -30,8 +31,9 @@ fn lines_of_tree(
     let marks = marks(alloc, tree)?;
     let names = all_names(alloc, marks.as_slice())?;
     let program = number(alloc, tree, &names.table)?;
+    let tables = Tables::new(alloc, &program)?;
     let mut text = Vec::new(alloc);
-    value_lines(&program, &[0, 1, 0], wanted, before, after, &mut text)?;
+    value_lines(&tables, &[0, 1, 0], wanted, before, after, &mut text)?;
     Ok(text)
 }
 
@@ -75,9 +77,10 @@ fn logged_of_tree(
     let marks = marks(alloc, tree)?;
     let names = all_names(alloc, marks.as_slice())?;
     let program = number(alloc, tree, &names.table)?;
+    let tables = Tables::new(alloc, &program)?;
     let store = written(alloc, places, numbers)?;
     let mut text = Vec::new(alloc);
-    logged_lines(alloc, &program, &[0], wanted, &store, &mut text)?;
+    logged_lines(alloc, &tables, &[0], wanted, &store, &mut text)?;
     Ok(text)
 }
 

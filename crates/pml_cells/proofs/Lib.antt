@@ -1,1 +1,3 @@
-pub mod Plain
+pub mod Seeking
+pub mod Numbering
+pub mod Leading

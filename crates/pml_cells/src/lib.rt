@@ -2,3 +2,5 @@
 #![tactic(auto)]
 
 pub mod cells;
+pub mod row;
+pub mod typedefs;

@@ -5,7 +5,8 @@ use Rattle.std.specs.Ordering.{int_eq}
 use Rattle.pml_program.specs.declared.program.Slot.{Slot}
 use Rattle.pml_program.specs.declared.program.Program.{Program}
 use Rattle.pml_store.specs.Store.{Frame, flat, joined}
-use Rattle.pml_lines.specs.Changes.{Owner, line, cell_lines, variable_lines, owner_lines, size, slot_of, cell_of, line_at, IsFrame, AreFrames, IsState, global_owner, process_owner, process_owners, owners, slots_of, value_lines}
+use Rattle.pml_cells.specs.Cells.{size, slot_of, cell_of}
+use Rattle.pml_lines.specs.Changes.{Owner, line, cell_lines, variable_lines, owner_lines, line_at, IsFrame, AreFrames, IsState, global_owner, process_owner, process_owners, owners, slots_of, value_lines}
 
 abbrev Line : Type 0
 Line = ℕ → ℤ → List ℕ

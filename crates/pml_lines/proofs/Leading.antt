@@ -1,14 +1,21 @@
--- One typedef more, with a field on the way or without.
-use Rattle.std.proofs.Common.{◌≡◌, ℕ, ◌-◌, ◌%◌, suc, List, ◌++◌, slice_get, Option, Some, None, refl, subst}
+-- One field more on the way, or none.
+use Rattle.std.proofs.Common.{◌≡◌, ℕ, zero, suc, ◌%◌, List, [], ◌++◌, Option, Some, None, refl, ◌∙◌, subst}
+use Rattle.std.specs.Prelude.{codes}
 use Rattle.pml_program.specs.declared.form.Form.{Form}
 use Rattle.pml_program.specs.declared.program.Slot.{Slot}
 use Rattle.pml_program.specs.declared.program.Fields.{Fields}
+use Rattle.pml_cells.specs.Cells.{slot_of, cell_of, fields_of}
 use Rattle.pml_lines.specs.Places.{element, fields_path}
-use Rattle.pml_cells.specs.Cells.{field_in}
-use Rattle.std.specs.Prelude.{codes}
 
-pub path-none : (ts : List Fields) (n m : ℕ) (form : Form) (cell : ℕ) → n ≡ suc m → None ≡ field_in (slice_get ts m) form cell → fields_path ts n form cell ≡ fields_path ts m form cell
-path-none ts n m form cell e h = rw e (subst (λ (o : Option Slot). (elim o as (λ _. List ℕ) [ None ↦ fields_path ts m form cell | Some s ↦ codes "." ++ (element s (cell - s.offset) ++ fields_path ts m s.form ((cell - s.offset) % s.stride)) ]) ≡ fields_path ts m form cell) h refl)
+-- the path from what is found on
+abbrev on : List Fields → ℕ → ℕ → Option Slot → List ℕ
+on ts n cell o = elim o as (λ _. List ℕ) [ None ↦ [] | Some f ↦ codes "." ++ (element f cell ++ fields_path ts n f.form (cell % f.stride)) ]
 
-pub path-some : (ts : List Fields) (n m : ℕ) (form : Form) (cell : ℕ) (s : Slot) → n ≡ suc m → Some s ≡ field_in (slice_get ts m) form cell → fields_path ts n form cell ≡ codes "." ++ (element s (cell - s.offset) ++ fields_path ts m s.form ((cell - s.offset) % s.stride))
-path-some ts n m form cell s e h = rw e (subst (λ (o : Option Slot). (elim o as (λ _. List ℕ) [ None ↦ fields_path ts m form cell | Some t ↦ codes "." ++ (element t (cell - t.offset) ++ fields_path ts m t.form ((cell - t.offset) % t.stride)) ]) ≡ codes "." ++ (element s (cell - s.offset) ++ fields_path ts m s.form ((cell - s.offset) % s.stride))) h refl)
+pub path-none : (ts : List Fields) (n : ℕ) (form : Form) (cell : ℕ) (o : Option Slot) → None ≡ o → o ≡ slot_of (fields_of ts form) cell → fields_path ts n form cell ≡ []
+path-none ts zero form cell o h e = refl
+path-none ts (suc n) form cell o h e = subst (λ (x : Option Slot). on ts n (cell_of (fields_of ts form) cell) x ≡ []) (h ∙ e) refl
+
+pub path-some : (ts : List Fields) (n m : ℕ) (form : Form) (cell w : ℕ) (f : Slot) (o : Option Slot) → n ≡ suc m → Some f ≡ o → o ≡ slot_of (fields_of ts form) cell → w ≡ cell_of (fields_of ts form) cell
+    → fields_path ts n form cell ≡ codes "." ++ (element f w ++ fields_path ts m f.form (w % f.stride))
+path-some ts n m form cell w f o z h e i =
+    rw (z, i) (subst (λ (x : Option Slot). on ts m (cell_of (fields_of ts form) cell) x ≡ codes "." ++ (element f (cell_of (fields_of ts form) cell) ++ fields_path ts m f.form (cell_of (fields_of ts form) cell % f.stride))) (h ∙ e) refl)

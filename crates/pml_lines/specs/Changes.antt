@@ -1,5 +1,5 @@
 -- The places that a step changed, and their lines.
-use Rattle.std.specs.Prelude.{◌≡◌, ℕ, length, ◌+◌, ◌-◌, ◌*◌, Bool, true, ltb, if◌then◌else◌, List, [], ◌∷◌, ◌++◌, map, slice_get, Option, Some, None, ℤ, codes}
+use Rattle.std.specs.Prelude.{◌≡◌, ℕ, length, ◌+◌, Bool, true, if◌then◌else◌, List, [], ◌∷◌, ◌++◌, map, slice_get, Option, Some, None, ℤ, codes}
 use Rattle.std.specs.Ordering.{int_eq, nat_cmp}
 use Rattle.std.specs.BTreeMap.{insert_entry}
 use Rattle.std.specs.Fmt.{decimal}
@@ -9,6 +9,7 @@ use Rattle.pml_lex.specs.declared.token.Kind.TheVariants.{Init}
 use Rattle.pml_program.specs.declared.program.Slot.{Slot}
 use Rattle.pml_program.specs.declared.program.Proctype.{Proctype}
 use Rattle.pml_program.specs.declared.program.Program.{Program}
+use Rattle.pml_cells.specs.Cells.{size, slot_of, cell_of}
 use Rattle.pml_store.specs.Store.{Cells, Frame, Contents, joined, before}
 use Rattle.pml_lines.specs.declared.change.Wanted.{Wanted}
 use Rattle.pml_lines.specs.Places.{place_line}
@@ -88,19 +89,6 @@ abbrev pub value_lines : Program → List ℕ → List Frame → List Frame → 
 value_lines p kinds before after globals locals = owner_lines p (owners p globals locals kinds) before after
 
 -- ---- the same by the index of a cell among all
-
-abbrev pub size : Slot → ℕ
-size s = s.length * s.stride
-
--- the variable with the cell of this index among those of its owner, if it has as many
-abbrev pub slot_of : List Slot → ℕ → Option Slot
-slot_of [] i = None
-slot_of (s ∷ ss) i = if ltb i (size s) then Some s else slot_of ss (i - size s)
-
--- the number of this cell in the variable, or the index among the cells of the next owners
-abbrev pub cell_of : List Slot → ℕ → ℕ
-cell_of [] i = i
-cell_of (s ∷ ss) i = if ltb i (size s) then i else cell_of ss (i - size s)
 
 -- a cell's line, by the index
 abbrev pub line_at : Program → List Owner → ℕ → ℤ → List ℕ

@@ -1,5 +1,5 @@
 -- The texts of places and of their numbers.
-use Rattle.std.specs.Prelude.{ℕ, zero, suc, length, ◌-◌, ◌/◌, ◌%◌, Bool, true, false, List, [], ◌++◌, slice_get, Option, Some, None, ℤ, pos, negsuc, codes}
+use Rattle.std.specs.Prelude.{ℕ, zero, suc, length, ◌/◌, ◌%◌, Bool, true, false, List, [], ◌++◌, slice_get, Option, Some, None, ℤ, pos, negsuc, codes}
 use Rattle.std.specs.Fmt.{decimal, signed_decimal}
 use Rattle.pml_lex.specs.Word.{Word}
 use Rattle.pml_tree.specs.declared.tree.Scalar.TheVariants as scalar
@@ -8,7 +8,7 @@ use Rattle.pml_program.specs.declared.form.Form.TheVariants as kind
 use Rattle.pml_program.specs.declared.program.Slot.{Slot}
 use Rattle.pml_program.specs.declared.program.Fields.{Fields}
 use Rattle.pml_program.specs.declared.program.Program.{Program}
-use Rattle.pml_cells.specs.Cells.{field_in, leaf}
+use Rattle.pml_cells.specs.Cells.{slot_of, cell_of, fields_of, leaf}
 
 -- the mtype name with a number, from 1
 abbrev pub constant : List Word → ℤ → Option Word
@@ -38,13 +38,12 @@ index true n = codes "[" ++ (decimal n ++ codes "]")
 abbrev pub element : Slot → ℕ → List ℕ
 element s cell = s.name.text ++ index s.array (cell / s.stride)
 
--- The fields that lead to a cell within an element of a type, by the first n typedefs. The fields of a typedef are of
--- earlier ones.
+-- the fields that lead to a cell within an element of a type, n of them at most
 abbrev pub fields_path : List Fields → ℕ → Form → ℕ → List ℕ
 fields_path ts zero form cell = []
-fields_path ts (suc n) form cell = elim (field_in (slice_get ts n) form cell) as (λ _. List ℕ) [
-  | None ↦ fields_path ts n form cell
-  | Some s ↦ codes "." ++ (element s (cell - s.offset) ++ fields_path ts n s.form ((cell - s.offset) % s.stride))
+fields_path ts (suc n) form cell = elim (slot_of (fields_of ts form) cell) as (λ _. List ℕ) [
+  | None ↦ []
+  | Some f ↦ codes "." ++ (element f (cell_of (fields_of ts form) cell) ++ fields_path ts n f.form (cell_of (fields_of ts form) cell % f.stride))
 ]
 
 -- a cell of a variable: `a[2]`, `r.f[1].g`

@@ -3,14 +3,14 @@
 ghost use Rattle.std.specs.Prelude.{◌≡◌, ◌++◌, true, slice_get, OnOk, OnErr, IfOk, codes};
 ghost use Rattle.std.specs.Io.{StartsWith};
 ghost use Rattle.std.specs.Fmt.{decimal};
-ghost use Rattle.std.specs.Option.{option_copied};
 ghost use Rattle.pml_lines.specs.Places.{place_line};
-ghost use Rattle.pml_lines.specs.Changes.{proctype_name, local_heading, heading_of, local_line, slots_of, process_owners, size, slot_of, cell_of, line_at, wanted_line, changed_line, cell_lines, AreDeclared, AddsChanges, oldest, write_line, write_lines, step_lines};
+ghost use Rattle.pml_lines.specs.Changes.{proctype_name, local_heading, heading_of, local_line, process_owners, line_at, wanted_line, changed_line, cell_lines, AreDeclared, AddsChanges, oldest, write_line, write_lines, step_lines};
 
 use crate::place::place_line;
+use crate::tables::Tables;
 use itoa::Buffer;
 use pml_lex::token::{Kind, Token, same_kind};
-use pml_program::program::{Proctype, Program, Slot};
+use pml_program::program::{Proctype, Slot};
 use pml_store::store::Store;
 use std::alloc::{AllocError, Global};
 use std::collections::BTreeMap;
@@ -36,17 +36,17 @@ pub fn proctype_name(name: &Token<'_>, text: &mut Vec<u8>) -> Result<(), AllocEr
 
 /// Appends the line of a global variable's cell.
 pub fn global_line(
-    program: &Program<'_>,
+    tables: &Tables<'_, '_>,
     slot: &Slot<'_>,
     cell: usize,
     number: i32,
     text: &mut Vec<u8>,
 ) -> Result<(), AllocError>
-    ensures added { OnOk result (text.new.items ≡ text.old.items ++ (codes "global " ++ place_line program.now slot.now cell number)) }
+    ensures added { OnOk result (text.new.items ≡ text.old.items ++ (codes "global " ++ place_line tables.now slot.now cell number)) }
     ensures kept { OnErr result (StartsWith text.new.items text.old.items) }
 {
     text.extend_from_slice(b"global ")?;
-    place_line(program, slot, cell, number, text)
+    place_line(tables, slot, cell, number, text)
 }
 
 // Appends how the lines of a process begin.
@@ -68,15 +68,15 @@ fn local_heading(
 
 // Appends how the lines of a process begin, by the number of its proctype in the model.
 fn heading_of(
-    program: &Program<'_>,
+    tables: &Tables<'_, '_>,
     process: usize,
     kind: usize,
     text: &mut Vec<u8>,
 ) -> Result<(), AllocError>
-    ensures added { OnOk result (text.new.items ≡ text.old.items ++ heading_of process (slice_get program.now.proctypes kind)) }
+    ensures added { OnOk result (text.new.items ≡ text.old.items ++ heading_of process (slice_get tables.now.proctypes kind)) }
     ensures kept { OnErr result (StartsWith text.new.items text.old.items) }
 {
-    match program.proctypes.as_slice().get(kind) {
+    match tables.program().proctypes.as_slice().get(kind) {
         Some(proctype) => local_heading(process, proctype, text),
         None => Ok(()),
     }
@@ -84,7 +84,7 @@ fn heading_of(
 
 /// Appends the line of a cell of a variable of the process with this number, of a proctype by its number in the model.
 pub fn local_line(
-    program: &Program<'_>,
+    tables: &Tables<'_, '_>,
     process: usize,
     kind: usize,
     slot: &Slot<'_>,
@@ -92,67 +92,29 @@ pub fn local_line(
     number: i32,
     text: &mut Vec<u8>,
 ) -> Result<(), AllocError>
-    ensures added { OnOk result (text.new.items ≡ text.old.items ++ local_line program.now process kind slot.now cell number) }
+    ensures added { OnOk result (text.new.items ≡ text.old.items ++ local_line tables.now process kind slot.now cell number) }
     ensures kept { OnErr result (StartsWith text.new.items text.old.items) }
 {
-    heading_of(program, process, kind, text)?;
-    place_line(program, slot, cell, number, text)
-}
-
-fn size(slot: &Slot<'_>) -> usize
-    ensures { result ≡ size slot.now }
-{
-    slot.length as usize * slot.stride as usize
-}
-
-// The variable with the cell of this index, and the number of the cell in it. Past the last variable, the index among the
-// cells of the next owners.
-fn find_slot<'s, 'a>(slots: &'s [Slot<'a>], at: usize) -> (Option<&'s Slot<'a>>, usize)
-    ensures slot { option_copied result.0 ≡ slot_of slots.now at }
-    ensures cell { result.1 ≡ cell_of slots.now at }
-{
-    let mut at = at;
-    for slot in slots {
-        let size = size(slot);
-        if at < size {
-            return (Some(slot), at);
-        }
-        at -= size;
-    }
-    (None, at)
-}
-
-// The same among the variables of a proctype.
-fn find_local<'s, 'a>(
-    program: &'s Program<'a>,
-    kind: usize,
-    at: usize,
-) -> (Option<&'s Slot<'a>>, usize)
-    ensures slot { option_copied result.0 ≡ slot_of (slots_of (slice_get program.now.proctypes kind)) at }
-    ensures cell { result.1 ≡ cell_of (slots_of (slice_get program.now.proctypes kind)) at }
-{
-    match program.proctypes.as_slice().get(kind) {
-        Some(proctype) => find_slot(proctype.variables.as_slice(), at),
-        None => (None, at),
-    }
+    heading_of(tables, process, kind, text)?;
+    place_line(tables, slot, cell, number, text)
 }
 
 // Appends the line of the cell with this index among those of the processes.
 fn process_line_at(
-    program: &Program<'_>,
+    tables: &Tables<'_, '_>,
     kinds: &[usize],
     at: usize,
     number: i32,
     text: &mut Vec<u8>,
 ) -> Result<(), AllocError>
-    ensures added { OnOk result (text.new.items ≡ text.old.items ++ line_at program.now (process_owners program.now true 0 kinds.now) at number) }
+    ensures added { OnOk result (text.new.items ≡ text.old.items ++ line_at tables.now (process_owners tables.now true 0 kinds.now) at number) }
     ensures kept { OnErr result (StartsWith text.new.items text.old.items) }
 {
     let mut at = at;
     for (i, kind) in kinds.iter().enumerate() {
-        let (found, rest) = find_local(program, *kind, at);
+        let (found, rest) = tables.find_local(*kind, at);
         match found {
-            Some(slot) => return local_line(program, i, *kind, slot, rest, number, text),
+            Some(slot) => return local_line(tables, i, *kind, slot, rest, number, text),
             None => at = rest,
         }
     }
@@ -161,28 +123,28 @@ fn process_line_at(
 
 // Appends the line of the cell with this index among all, where it is wanted.
 fn line_at(
-    program: &Program<'_>,
+    tables: &Tables<'_, '_>,
     kinds: &[usize],
     wanted: Wanted,
     at: usize,
     number: i32,
     text: &mut Vec<u8>,
 ) -> Result<(), AllocError>
-    ensures added { OnOk result (text.new.items ≡ text.old.items ++ wanted_line program.now kinds.now wanted at number) }
+    ensures added { OnOk result (text.new.items ≡ text.old.items ++ wanted_line tables.now kinds.now wanted at number) }
     ensures kept { OnErr result (StartsWith text.new.items text.old.items) }
 {
-    let (found, rest) = find_slot(program.globals.as_slice(), at);
+    let (found, rest) = tables.find_global(at);
     match found {
         Some(slot) => {
             if wanted.globals {
-                global_line(program, slot, rest, number, text)
+                global_line(tables, slot, rest, number, text)
             } else {
                 Ok(())
             }
         }
         None => {
             if wanted.locals {
-                process_line_at(program, kinds, rest, number, text)
+                process_line_at(tables, kinds, rest, number, text)
             } else {
                 Ok(())
             }
@@ -192,39 +154,39 @@ fn line_at(
 
 // Appends the line of the cell with this index, where its numbers differ.
 fn line_of_change(
-    program: &Program<'_>,
+    tables: &Tables<'_, '_>,
     kinds: &[usize],
     wanted: Wanted,
     at: usize,
     numbers: (i32, i32),
     text: &mut Vec<u8>,
 ) -> Result<(), AllocError>
-    ensures added { OnOk result (text.new.items ≡ text.old.items ++ changed_line program.now kinds.now wanted at numbers) }
+    ensures added { OnOk result (text.new.items ≡ text.old.items ++ changed_line tables.now kinds.now wanted at numbers) }
     ensures kept { OnErr result (StartsWith text.new.items text.old.items) }
 {
     let (before, after) = numbers;
     if before == after {
         Ok(())
     } else {
-        line_at(program, kinds, wanted, at, after, text)
+        line_at(tables, kinds, wanted, at, after, text)
     }
 }
 
 // Appends the lines of the cells that differ.
 fn lines_of_cells(
-    program: &Program<'_>,
+    tables: &Tables<'_, '_>,
     kinds: &[usize],
     wanted: Wanted,
     before: &[i32],
     after: &[i32],
     text: &mut Vec<u8>,
 ) -> Result<(), AllocError>
-    ensures added { OnOk result (text.new.items ≡ text.old.items ++ cell_lines (wanted_line program.now kinds.now wanted) 0 before.now after.now) }
+    ensures added { OnOk result (text.new.items ≡ text.old.items ++ cell_lines (wanted_line tables.now kinds.now wanted) 0 before.now after.now) }
     ensures kept { OnErr result (StartsWith text.new.items text.old.items) }
 {
     let count = before.len().min(after.len());
     for at in 0..count {
-        line_of_change(program, kinds, wanted, at, (before[at], after[at]), text)?;
+        line_of_change(tables, kinds, wanted, at, (before[at], after[at]), text)?;
     }
     Ok(())
 }
@@ -232,18 +194,18 @@ fn lines_of_cells(
 /// Appends the lines of the places that are there before and after and whose numbers differ, from all cells before and all
 /// cells after, owner by owner. The processes are known by the numbers of their proctypes in the model.
 pub fn value_lines(
-    program: &Program<'_>,
+    tables: &Tables<'_, '_>,
     kinds: &[usize],
     wanted: Wanted,
     before: &[i32],
     after: &[i32],
     text: &mut Vec<u8>,
 ) -> Result<(), AllocError>
-    ensures added { AddsChanges program.now kinds.now wanted before.now after.now
+    ensures added { AddsChanges tables.now kinds.now wanted before.now after.now
         (λ lines. OnOk result (text.new.items ≡ text.old.items ++ lines)) }
     ensures kept { OnErr result (StartsWith text.new.items text.old.items) }
 {
-    lines_of_cells(program, kinds, wanted, before, after, text)
+    lines_of_cells(tables, kinds, wanted, before, after, text)
 }
 
 // The oldest number of each cell of a log, by index.
@@ -262,37 +224,37 @@ fn oldest(alloc: Global, written: &[(usize, i32)]) -> Result<BTreeMap<usize, i32
 
 // Appends the line of a cell that was written, from its index and its number before.
 fn line_of_write(
-    program: &Program<'_>,
+    tables: &Tables<'_, '_>,
     kinds: &[usize],
     wanted: Wanted,
     write: (usize, i32),
     cells: &[i32],
     text: &mut Vec<u8>,
 ) -> Result<(), AllocError>
-    ensures added { OnOk result (text.new.items ≡ text.old.items ++ write_line (wanted_line program.now kinds.now wanted) write (slice_get cells.now write.0)) }
+    ensures added { OnOk result (text.new.items ≡ text.old.items ++ write_line (wanted_line tables.now kinds.now wanted) write (slice_get cells.now write.0)) }
     ensures kept { OnErr result (StartsWith text.new.items text.old.items) }
 {
     let (at, before) = write;
     match cells.get(at) {
-        Some(after) => line_of_change(program, kinds, wanted, at, (before, *after), text),
+        Some(after) => line_of_change(tables, kinds, wanted, at, (before, *after), text),
         None => Ok(()),
     }
 }
 
 // Appends the lines of cells that were written.
 fn lines_of_writes(
-    program: &Program<'_>,
+    tables: &Tables<'_, '_>,
     kinds: &[usize],
     wanted: Wanted,
     writes: &BTreeMap<usize, i32>,
     cells: &[i32],
     text: &mut Vec<u8>,
 ) -> Result<(), AllocError>
-    ensures added { OnOk result (text.new.items ≡ text.old.items ++ write_lines (wanted_line program.now kinds.now wanted) cells.now writes.now.entries) }
+    ensures added { OnOk result (text.new.items ≡ text.old.items ++ write_lines (wanted_line tables.now kinds.now wanted) cells.now writes.now.entries) }
     ensures kept { OnErr result (StartsWith text.new.items text.old.items) }
 {
     for (at, before) in writes {
-        line_of_write(program, kinds, wanted, (*at, *before), cells, text)?;
+        line_of_write(tables, kinds, wanted, (*at, *before), cells, text)?;
     }
     Ok(())
 }
@@ -302,14 +264,14 @@ fn lines_of_writes(
 /// written are looked at, and none where no lines are wanted.
 pub fn logged_lines(
     alloc: Global,
-    program: &Program<'_>,
+    tables: &Tables<'_, '_>,
     kinds: &[usize],
     wanted: Wanted,
     store: &Store,
     text: &mut Vec<u8>,
 ) -> Result<(), AllocError>
-    ensures added { AreDeclared program.now kinds.now store.now.frames →
-        OnOk result (text.new.items ≡ text.old.items ++ step_lines program.now kinds.now store.now wanted) }
+    ensures added { AreDeclared tables.now kinds.now store.now.frames →
+        OnOk result (text.new.items ≡ text.old.items ++ step_lines tables.now kinds.now store.now wanted) }
     ensures kept { OnErr result (StartsWith text.new.items text.old.items) }
 {
     if !wanted.globals && !wanted.locals {
@@ -317,7 +279,7 @@ pub fn logged_lines(
     }
     let writes = oldest(alloc, store.written())?;
     lines_of_writes(
-        program,
+        tables,
         kinds,
         wanted,
         &writes,

@@ -1,16 +1,17 @@
 //! The texts of places and of their numbers.
 
-ghost use Rattle.std.specs.Prelude.{◌≡◌, ◌-◌, ◌/◌, ◌%◌, ◌++◌, length, slice_get, OnOk, OnErr};
+ghost use Rattle.std.specs.Prelude.{◌≡◌, ◌/◌, ◌++◌, length, OnOk, OnErr};
 ghost use Rattle.std.specs.Io.{StartsWith};
 ghost use Rattle.std.specs.Fmt.{decimal, signed_decimal};
-ghost use Rattle.pml_cells.specs.Cells.{leaf};
 ghost use Rattle.pml_lines.specs.Places.{named, worth, element, fields_path, path, place_line};
 
+use crate::tables::Tables;
 use itoa::Buffer;
-use pml_cells::cells::{field_at, leaf, remainder};
+use pml_cells::cells::remainder;
+use pml_cells::typedefs::Typedefs;
 use pml_lex::token::Token;
 use pml_program::form::Form;
-use pml_program::program::{Fields, Program, Slot};
+use pml_program::program::Slot;
 use pml_tree::tree::Scalar;
 use std::alloc::AllocError;
 
@@ -74,7 +75,7 @@ fn element(slot: &Slot<'_>, cell: usize, text: &mut Vec<u8>) -> Result<(), Alloc
 
 // Appends the fields that lead to a cell within an element of a type.
 fn fields_path(
-    typedefs: &[Fields<'_>],
+    typedefs: &Typedefs<'_, '_>,
     form: Form,
     cell: usize,
     text: &mut Vec<u8>,
@@ -84,13 +85,11 @@ fn fields_path(
 {
     let mut form = form;
     let mut cell = cell;
-    let mut first = typedefs.len();
-    while 0 < first {
-        first -= 1;
-        match field_at(typedefs, first, form, cell) {
-            None => {}
+    for _step in 0..typedefs.count() {
+        let (typedef, number, within) = typedefs.place(form, cell);
+        match typedefs.field(typedef, number) {
+            None => return Ok(()),
             Some(field) => {
-                let within = cell.saturating_sub(field.offset as usize);
                 text.push(b'.')?;
                 element(field, within, text)?;
                 form = field.form;
@@ -103,34 +102,34 @@ fn fields_path(
 
 /// Appends the path of a cell of a variable, as `a[2]` or `r.f[1].g`.
 pub fn path(
-    program: &Program<'_>,
+    tables: &Tables<'_, '_>,
     slot: &Slot<'_>,
     cell: usize,
     text: &mut Vec<u8>,
 ) -> Result<(), AllocError>
-    ensures added { OnOk result (text.new.items ≡ text.old.items ++ path program.now slot.now cell) }
+    ensures added { OnOk result (text.new.items ≡ text.old.items ++ path tables.now slot.now cell) }
     ensures kept { OnErr result (StartsWith text.new.items text.old.items) }
 {
     element(slot, cell, text)?;
     let within = remainder(cell, slot.stride);
-    fields_path(program.typedefs.as_slice(), slot.form, within, text)
+    fields_path(tables.typedefs(), slot.form, within, text)
 }
 
 /// Appends the path of a cell, its number and a line feed.
 pub fn place_line(
-    program: &Program<'_>,
+    tables: &Tables<'_, '_>,
     slot: &Slot<'_>,
     cell: usize,
     number: i32,
     text: &mut Vec<u8>,
 ) -> Result<(), AllocError>
-    ensures added { OnOk result (text.new.items ≡ text.old.items ++ place_line program.now slot.now cell number) }
+    ensures added { OnOk result (text.new.items ≡ text.old.items ++ place_line tables.now slot.now cell number) }
     ensures kept { OnErr result (StartsWith text.new.items text.old.items) }
 {
-    path(program, slot, cell, text)?;
+    path(tables, slot, cell, text)?;
     text.extend_from_slice(b" = ")?;
-    let leaf = leaf(program.typedefs.as_slice(), slot, cell);
-    worth(program.constants.as_slice(), leaf.form, number, text)?;
+    let (_, form) = tables.typedefs().leaf(slot, cell);
+    worth(tables.program().constants.as_slice(), form, number, text)?;
     text.push(b'\n')?;
     Ok(())
 }

@@ -5,7 +5,8 @@ use Rattle.std.proofs.lemmas.List.{length_push, length-map, map-append}
 use Rattle.std.proofs.lemmas.Option.{slice_get_read}
 use Rattle.pml_program.specs.declared.program.Proctype.{Proctype}
 use Rattle.pml_program.specs.declared.program.Program.{Program}
-use Rattle.pml_start.specs.Begin.{Begun, shape, size}
+use Rattle.pml_cells.specs.Cells.{size}
+use Rattle.pml_start.specs.Begin.{Begun, shape}
 use Rattle.pml_start.specs.Start.{IsDeclared, variables_of, variables_at}
 
 All-push : {X : Type 0} (P : X → Type 0) (xs : List X) (x : X) → AllByRecursion P xs → P x → AllByRecursion P (xs ++ x ∷ [])

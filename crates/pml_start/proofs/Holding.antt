@@ -1,5 +1,5 @@
 -- What the cells of a variable hold when it is begun.
-use Rattle.std.proofs.Common.{◌≡◌, ℕ, zero, suc, ◌+◌, ◌<◌, ◌≤◌, ◌%◌, Bool, true, false, ◌&&◌, nat_eq, nat_lt, if◌then◌else◌, List, length, ℤ, pos, Option, None, Some, slice_get, Result, Ok, Err, IfOk, refl, sym, ap, ◌∙◌, arith, ◌-◌, [], ◌∷◌, ◌++◌, replicate, subst, append_assoc}
+use Rattle.std.proofs.Common.{◌≡◌, ℕ, zero, suc, ◌+◌, ◌<◌, ◌≤◌, ◌%◌, Bool, true, false, ◌&&◌, nat_eq, nat_lt, if◌then◌else◌, List, length, ℤ, pos, Result, Ok, Err, IfOk, refl, sym, ap, ◌∙◌, arith, ◌-◌, [], ◌∷◌, ◌++◌, replicate, subst, append_assoc}
 use Rattle.std.proofs.lemmas.List.{append-nil, length_push}
 use Rattle.std.proofs.Math.Logic.{⊎_elim}
 use Rattle.std.proofs.lemmas.Bool.{cases_eq, eq-eqb, ne_eqb}
@@ -17,10 +17,11 @@ use Rattle.pml_store.specs.declared.place.Place.{Place}
 use Rattle.pml_store.specs.Store.{Frame, HasPlace, size_at, number_at, with_number, is_same}
 use Rattle.pml_store.proofs.Back.{has_cell}
 use Rattle.pml_store.proofs.OnePlace.{number_at-with_number}
-use Rattle.pml_cells.specs.Cells.{leaf, last_field, field_in}
+use Rattle.pml_cells.specs.Cells.{size, slot_of, fields_of, leaf, last_field}
+use Rattle.pml_cells.proofs.Leading.{stays}
 use Rattle.pml_value.specs.declared.live_channel.LiveChannel.{LiveChannel}
 use Rattle.pml_channel.specs.State.{ChannelState}
-use Rattle.pml_start.specs.Begin.{Begun, cell_in, initial_value, with_value, with_values, cell_begun, fields_begun, variable_begun, size, with_channel, empty_channel}
+use Rattle.pml_start.specs.Begin.{Begun, nothing, cell_in, initial_value, with_value, with_values, cell_begun, fields_begun, variable_begun, with_channel, empty_channel}
 use Rattle.pml_start.specs.Known.{is_of, IsPlain}
 use Rattle.pml_start.proofs.Chaining.{chain, chain_any, weaker}
 use Rattle.pml_start.proofs.Shapes.{same_size, shape-with_number}
@@ -114,7 +115,7 @@ kept-channel false v c z x m b q k = tt
 cell_kept : (x : Initial) (f : Form) (v c z : ℕ) (b : Begun) (q : Place) → Has b v z → c < z → is_same (cell_in b v c) q ≡ false → IfOk (cell_begun x f v c b) (Kept b v z q)
 cell_kept i.Zero f v c z b q s h e = record { kinds = refl; has = s; number = refl }
 cell_kept (i.Value w) f v c z b q s h e =
-    chain_any (Kept b v z q) (initial_value w f b) (λ n. Ok (with_value v c n b)) (λ n. kept-write v c z n b q s h e)
+    chain_any (Kept b v z q) (initial_value w f nothing) (λ n. Ok (with_value v c n b)) (λ n. kept-write v c z n b q s h e)
 cell_kept (i.Channel capacity types) f v c z b q s h e =
     kept-channel (nat_lt (length b.channels) 255) v c z (pos (length b.channels + 1)) _ b q (kept-write v c z (pos (length b.channels + 1)) b q s h e)
 
@@ -144,16 +145,14 @@ others_hold ts (i.Channel capacity types) s v b q h e = number_of (fields_begun 
 
 -- ---- no initialiser
 
-field_none : (t : Option Fields) (f : Form) (c : ℕ) → IsPlain f → field_in t f c ≡ None
-field_none None f c h = refl
-field_none (Some t) (form.Plain w) c h = refl
-field_none (Some t) (form.Unsigned w) c h = refl
-field_none (Some t) (form.Struct o) c h = absurd h
-field_none (Some t) form.Unknown c h = refl
+no_fields : (ts : List Fields) (f : Form) → IsPlain f → fields_of ts f ≡ []
+no_fields ts (form.Plain w) h = refl
+no_fields ts (form.Unsigned w) h = refl
+no_fields ts (form.Struct o) h = absurd h
+no_fields ts form.Unknown h = refl
 
 last_plain : (ts : List Fields) (n : ℕ) (s : Slot) (c : ℕ) → IsPlain s.form → last_field ts n s c ≡ s
-last_plain ts zero s c h = refl
-last_plain ts (suc n) s c h = rw (field_none (slice_get ts n) s.form c h) (last_plain ts n s c h)
+last_plain ts n s c h = stays ts n s c (ap (λ (fs : List Slot). slot_of fs c) (no_fields ts s.form h))
 
 fields_nothing : (ts : List Fields) (s : Slot) (v c n : ℕ) (b : Begun) → IsPlain s.form → s.initial ≡ i.Zero → fields_begun ts s v c n b ≡ Ok b
 fields_nothing ts s v c zero b h e = refl

@@ -6,3 +6,4 @@ pub mod Living
 pub mod Holding
 pub mod Zeroed
 mod Samples
+mod Elements

@@ -12,10 +12,10 @@ use Rattle.pml_program.specs.declared.program.Proctype.{Proctype}
 use Rattle.pml_program.specs.declared.program.Program.{Program}
 use Rattle.pml_store.specs.Store.{zeros}
 use Rattle.pml_channel.specs.State.{ChannelState}
-use Rattle.pml_cells.specs.Cells.{leaf}
+use Rattle.pml_cells.specs.Cells.{size, leaf}
 use Rattle.pml_start.proofs.Chaining.{chain, chain_any, weaker}
-use Rattle.pml_start.specs.Begin.{Begun, initial_value, with_value, with_values, with_channel, empty_channel, cell_begun, fields_begun, variable_begun, variables_begun, frame_begun, size}
-use Rattle.pml_start.specs.Start.{nothing, process_begun, kind_begun, kinds_begun, first_state, variables_at, starting}
+use Rattle.pml_start.specs.Begin.{Begun, nothing, initial_value, with_value, with_values, with_channel, empty_channel, cell_begun, fields_begun, variable_begun, variables_begun, frame_begun}
+use Rattle.pml_start.specs.Start.{process_begun, kind_begun, kinds_begun, first_state, variables_at, starting}
 
 -- ---- to begin with variables leaves the processes as they are
 
@@ -31,7 +31,7 @@ channel_same v c m b = if_same (nat_lt (length b.channels) 255) _ _ b refl
 
 cell_same : (x : Initial) (f : Form) (v c : ℕ) (b : Begun) → IfOk (cell_begun x f v c b) (Same b)
 cell_same i.Zero f v c b = refl
-cell_same (i.Value e) f v c b = chain_any (Same b) (initial_value e f b) (λ n. Ok (with_value v c n b)) (λ n. refl)
+cell_same (i.Value e) f v c b = chain_any (Same b) (initial_value e f nothing) (λ n. Ok (with_value v c n b)) (λ n. refl)
 cell_same (i.Channel capacity types) f v c b = channel_same v c (empty_channel capacity types) b
 
 fields_same : (ts : List Fields) (s : Slot) (v c n : ℕ) (b : Begun) → IfOk (fields_begun ts s v c n b) (Same b)

@@ -10,8 +10,7 @@ use Rattle.pml_program.specs.declared.program.Slot.{Slot}
 use Rattle.pml_program.specs.declared.program.Fields.{Fields}
 use Rattle.pml_eval.specs.Clip.{clipped, bits_of, is_signed}
 use Rattle.pml_value.specs.declared.live_channel.LiveChannel.{LiveChannel}
-use Rattle.pml_start.specs.Begin.{frame_begun, with_values}
-use Rattle.pml_start.specs.Start.{nothing}
+use Rattle.pml_start.specs.Begin.{nothing, frame_begun, with_values}
 
 abbrev byte : Form
 byte = form.Plain scalar.Byte

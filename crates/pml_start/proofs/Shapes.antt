@@ -7,7 +7,8 @@ use Rattle.pml_program.specs.declared.program.Slot.{Slot}
 use Rattle.pml_store.specs.declared.place.Place.{Place}
 use Rattle.pml_store.specs.Store.{Contents, Frame, HasPlace, frame_at, cells_at, size_at, with_number, zeros}
 use Rattle.pml_store.proofs.Back.{has_cell}
-use Rattle.pml_start.specs.Begin.{Begun, cell_in, shape, size}
+use Rattle.pml_cells.specs.Cells.{size}
+use Rattle.pml_start.specs.Begin.{Begun, cell_in, shape}
 use Rattle.pml_start.specs.Known.{Keeps}
 
 pub shape-with_number : (fs : List Frame) (p : Place) (v : ℤ) → shape (with_number fs p v) ≡ shape fs

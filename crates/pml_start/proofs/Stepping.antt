@@ -9,8 +9,7 @@ use Rattle.pml_program.specs.declared.program.Program.{Program}
 use Rattle.pml_eval.specs.Value.{◌>>=◌}
 use Rattle.diagnostics.specs.declared.stop.Stop.{Stop}
 use Rattle.diagnostics.specs.declared.stop.Stop.TheVariants as stop
-use Rattle.pml_cells.specs.Cells.{leaf}
-use Rattle.pml_start.specs.Begin.{Begun, Begins, cell_begun, fields_begun, with_value, with_values, variable_begun, variables_begun}
+use Rattle.pml_start.specs.Begin.{Begun, Begins, leaf_begun, fields_begun, with_value, with_values, variable_begun, variables_begun}
 use Rattle.pml_start.specs.Start.{process_begun, kind_begun, kinds_begun, Starts}
 
 -- a step that is made leads on
@@ -34,19 +33,18 @@ start_stopped (Err x) y (stop.Fault g) a rest e h = subst (λ (z : Result Begun 
 
 -- ---- a cell
 
-fields_next : (ts : List Fields) (s f : Slot) (i cell n : ℕ) (b : Begun) → cell < n → f ≡ leaf ts s cell → fields_begun ts s i cell (n - cell) b ≡ (cell_begun f.initial f.form i cell b >>= fields_begun ts s i (cell + 1) (n - (cell + 1)))
-fields_next ts s f i cell n b h e =
+fields_next : (ts : List Fields) (s : Slot) (i cell n : ℕ) (b : Begun) → cell < n → fields_begun ts s i cell (n - cell) b ≡ (leaf_begun ts s i cell b >>= fields_begun ts s i (cell + 1) (n - (cell + 1)))
+fields_next ts s i cell n b h =
     let m : n - cell ≡ suc (n - (cell + 1)) = omega (arith, h) in
     ap (λ (k : ℕ). fields_begun ts s i cell k b) m
-    ∙ ap (λ (x : Slot). cell_begun x.initial x.form i cell b >>= fields_begun ts s i (cell + 1) (n - (cell + 1))) (sym e)
 
-pub fields_made : (ts : List Fields) (s f : Slot) (i cell n : ℕ) (b new : Begun) (y : Result Begun Fault) (u : Unit {0}) → cell < n → f ≡ leaf ts s cell → fields_begun ts s i cell (n - cell) b ≡ y → Begins (cell_begun f.initial f.form i cell b) (Ok u) new → fields_begun ts s i (cell + 1) (n - (cell + 1)) new ≡ y
-fields_made ts s f i cell n b new y u h e k m =
-    sym (made (cell_begun f.initial f.form i cell b) u new (fields_begun ts s i (cell + 1) (n - (cell + 1))) m) ∙ sym (fields_next ts s f i cell n b h e) ∙ k
+pub fields_made : (ts : List Fields) (s : Slot) (i cell n : ℕ) (b new : Begun) (y : Result Begun Fault) (u : Unit {0}) → cell < n → fields_begun ts s i cell (n - cell) b ≡ y → Begins (leaf_begun ts s i cell b) (Ok u) new → fields_begun ts s i (cell + 1) (n - (cell + 1)) new ≡ y
+fields_made ts s i cell n b new y u h k m =
+    sym (made (leaf_begun ts s i cell b) u new (fields_begun ts s i (cell + 1) (n - (cell + 1))) m) ∙ sym (fields_next ts s i cell n b h) ∙ k
 
-pub fields_stopped : (ts : List Fields) (s f : Slot) (i cell n : ℕ) (b new last : Begun) (y : Result Begun Fault) (t : Stop) → cell < n → f ≡ leaf ts s cell → fields_begun ts s i cell (n - cell) b ≡ y → Begins (cell_begun f.initial f.form i cell b) (Err t) new → Begins y (Err t) last
-fields_stopped ts s f i cell n b new last y t h e k m =
-    stopped (cell_begun f.initial f.form i cell b) y t new last (fields_begun ts s i (cell + 1) (n - (cell + 1))) (sym (fields_next ts s f i cell n b h e) ∙ k) m
+pub fields_stopped : (ts : List Fields) (s : Slot) (i cell n : ℕ) (b new last : Begun) (y : Result Begun Fault) (t : Stop) → cell < n → fields_begun ts s i cell (n - cell) b ≡ y → Begins (leaf_begun ts s i cell b) (Err t) new → Begins y (Err t) last
+fields_stopped ts s i cell n b new last y t h k m =
+    stopped (leaf_begun ts s i cell b) y t new last (fields_begun ts s i (cell + 1) (n - (cell + 1))) (sym (fields_next ts s i cell n b h) ∙ k) m
 
 values_next : (i : ℕ) (v : ℤ) (cell n : ℕ) (b : Begun) → cell < n → with_values i v cell (n - cell) b ≡ with_values i v (cell + 1) (n - (cell + 1)) (with_value i cell v b)
 values_next i v cell n b h =

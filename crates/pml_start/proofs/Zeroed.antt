@@ -1,20 +1,18 @@
 -- What has no initialiser changes nothing.
-use Rattle.std.proofs.Common.{◌≡◌, ℕ, zero, suc, ◌+◌, ◌%◌, Bool, true, false, if◌then◌else◌, List, [], ◌∷◌, length, Option, None, Some, IfSome, slice_get, Ok, refl}
+use Rattle.std.proofs.Common.{◌≡◌, ℕ, zero, suc, ◌+◌, ◌-◌, ◌%◌, nat_eq, ltb, Bool, true, false, if◌then◌else◌, List, [], ◌∷◌, length, Option, None, Some, IfSome, Ok, refl}
 use Rattle.std.proofs.lemmas.Bool.{and_parts}
 use Rattle.pml_program.specs.declared.form.Form.{Form}
+use Rattle.pml_program.specs.declared.form.Form.TheVariants as form
 use Rattle.pml_program.specs.declared.program.Initial.{Initial}
 use Rattle.pml_program.specs.declared.program.Initial.TheVariants as i
 use Rattle.pml_program.specs.declared.program.Slot.{Slot}
 use Rattle.pml_program.specs.declared.program.Fields.{Fields}
-use Rattle.pml_cells.specs.Cells.{has_cell, is_of, slot_with, field_in, into, last_field, leaf}
+use Rattle.pml_cells.specs.Cells.{size, slot_of, cell_of, fields_at, fields_of, last_field, leaf}
 use Rattle.pml_start.specs.Begin.{Begun, fields_begun}
 use Rattle.pml_start.specs.Known.{is_zero, are_zero, have_no_initials}
 
 abbrev HasNone : Slot → Type 0
 HasNone f = f.initial ≡ i.Zero
-
-abbrev AreNone : Fields → Type 0
-AreNone t = are_zero t.fields ≡ true
 
 zero_is : (x : Initial) → is_zero x ≡ true → x ≡ i.Zero
 zero_is i.Zero h = refl
@@ -25,33 +23,34 @@ either : (t : Bool) (f : Slot) (rest : Option Slot) → HasNone f → IfSome res
 either true f rest h k = h
 either false f rest h k = k
 
-found_none : (fs : List Slot) (cell : ℕ) → are_zero fs ≡ true → IfSome (slot_with fs cell) HasNone
+found_none : (fs : List Slot) (cell : ℕ) → are_zero fs ≡ true → IfSome (slot_of fs cell) HasNone
 found_none [] cell h = tt
 found_none (f ∷ fs) cell h =
     let p = and_parts (is_zero f.initial) (are_zero fs) h in
-    either (has_cell f cell) f (slot_with fs cell) (zero_is f.initial p.0) (found_none fs cell p.1)
+    either (ltb cell (size f)) f (slot_of fs (cell - size f)) (zero_is f.initial p.0) (found_none fs (cell - size f) p.1)
 
-typedef_none : (ts : List Fields) (n : ℕ) → have_no_initials ts ≡ true → IfSome (slice_get ts n) AreNone
-typedef_none [] n h = tt
-typedef_none (t ∷ ts) zero h = (and_parts (are_zero t.fields) (have_no_initials ts) h).0
-typedef_none (t ∷ ts) (suc n) h = typedef_none ts n (and_parts (are_zero t.fields) (have_no_initials ts) h).1
+fields_none : (ts : List Fields) (o : ℕ) → have_no_initials ts ≡ true → are_zero (fields_at ts o) ≡ true
+fields_none [] o h = refl
+fields_none (t ∷ ts) o h = pick (nat_eq o t.owner) (and_parts (are_zero t.fields) (have_no_initials ts) h).0 (fields_none ts o (and_parts (are_zero t.fields) (have_no_initials ts) h).1)
+  where
+    pick : (b : Bool) → are_zero t.fields ≡ true → are_zero (fields_at ts o) ≡ true → are_zero (if b then t.fields else fields_at ts o) ≡ true
+    pick true g k = g
+    pick false g k = k
 
-if_of : (t : Bool) (o : Option Slot) → IfSome o HasNone → IfSome (if t then o else None) HasNone
-if_of true o h = h
-if_of false o h = tt
+type_none : (ts : List Fields) (f : Form) → have_no_initials ts ≡ true → are_zero (fields_of ts f) ≡ true
+type_none ts (form.Struct o) h = fields_none ts o h
+type_none ts (form.Plain w) h = refl
+type_none ts (form.Unsigned w) h = refl
+type_none ts form.Unknown h = refl
 
-field_none : (t : Option Fields) (form : Form) (cell : ℕ) → IfSome t AreNone → IfSome (field_in t form cell) HasNone
-field_none None form cell h = tt
-field_none (Some t) form cell h = if_of (is_of t.owner form) (slot_with t.fields cell) (found_none t.fields cell h)
-
-last_from : (ts : List Fields) (n : ℕ) (s : Slot) (cell : ℕ) (o : Option Slot) → ((f : Slot) (c : ℕ) → HasNone f → HasNone (last_field ts n f c)) → HasNone s → IfSome o HasNone → HasNone (last_field ts n (into o s cell).0 (into o s cell).1)
-last_from ts n s cell None k e h = k s cell e
-last_from ts n s cell (Some f) k e h = k f (into (Some f) s cell).1 h
+after_none : (ts : List Fields) (n : ℕ) (s : Slot) (cell : ℕ) (o : Option Slot) → ((f : Slot) (c : ℕ) → HasNone f → HasNone (last_field ts n f c)) → HasNone s → IfSome o HasNone → HasNone (elim o as (λ _. Slot) [ None ↦ s | Some f ↦ last_field ts n f (cell % f.stride) ])
+after_none ts n s cell None k e g = e
+after_none ts n s cell (Some f) k e g = k f (cell % f.stride) g
 
 last_none : (ts : List Fields) (n : ℕ) (s : Slot) (cell : ℕ) → have_no_initials ts ≡ true → HasNone s → HasNone (last_field ts n s cell)
 last_none ts zero s cell h e = e
 last_none ts (suc n) s cell h e =
-    last_from ts n s cell (field_in (slice_get ts n) s.form cell) (λ f c g. last_none ts n f c h g) e (field_none (slice_get ts n) s.form cell (typedef_none ts n h))
+    after_none ts n s (cell_of (fields_of ts s.form) cell) (slot_of (fields_of ts s.form) cell) (λ f c g. last_none ts n f c h g) e (found_none (fields_of ts s.form) cell (type_none ts s.form h))
 
 -- no cell of a variable begins with anything
 pub nothing_begun : (ts : List Fields) (s : Slot) (v c n : ℕ) (b : Begun) → have_no_initials ts ≡ true → is_zero s.initial ≡ true → fields_begun ts s v c n b ≡ Ok b

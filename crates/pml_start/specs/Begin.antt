@@ -1,5 +1,5 @@
 -- What the variables of a frame begin with.
-use Rattle.std.specs.Prelude.{min, ◌≡◌, ℕ, zero, suc, ◌+◌, ◌-◌, ◌*◌, ◌++◌, List, [], ◌∷◌, length, map, pos, ℤ, false, nat_lt, if◌then◌else◌, Result, Ok, Err}
+use Rattle.std.specs.Prelude.{min, ◌≡◌, ℕ, zero, suc, ◌+◌, ◌-◌, ◌++◌, List, [], ◌∷◌, length, map, pos, ℤ, false, nat_lt, if◌then◌else◌, Result, Ok, Err}
 use Rattle.profile.specs.declared.TheConstants.{MOST_CHANNELS, MOST_MESSAGES}
 use Rattle.diagnostics.specs.declared.fault.Fault.{Fault}
 use Rattle.diagnostics.specs.declared.fault.Fault.TheVariants.{TooManyChannels}
@@ -14,7 +14,7 @@ use Rattle.pml_eval.specs.Value.{Reading, val, ◌>>=◌}
 use Rattle.pml_store.specs.declared.place.Place.{Place}
 use Rattle.pml_store.specs.Store.{Frame, with_number, zeros}
 use Rattle.pml_channel.specs.State.{ChannelState}
-use Rattle.pml_cells.specs.Cells.{leaf}
+use Rattle.pml_cells.specs.Cells.{size, leaf}
 use Rattle.pml_value.specs.declared.live_channel.LiveChannel.{LiveChannel}
 use Rattle.diagnostics.specs.declared.stop.Stop.{Stop}
 use Rattle.diagnostics.specs.declared.stop.Stop.TheVariants as stop
@@ -30,6 +30,9 @@ pub record Begun : Type 0 where
 
 abbrev pub shown : Started → Begun
 shown s = record { frames = s.store.frames; channels = s.channels.items; kinds = s.kinds.items }
+
+abbrev pub nothing : Begun
+nothing = record { frames = []; channels = []; kinds = [] }
 
 -- what the initialisers of the youngest frame read: its number, how many processes live, and what is there by now
 abbrev pub read_in : Begun → Reading
@@ -59,10 +62,10 @@ with_channel variable cell c b =
 abbrev pub initial_value : Expr → Form → Begun → Result ℤ Fault
 initial_value v form b = val v (read_in b) >>= λ n. Ok (clipped form n)
 
--- what a cell begins with
+-- what a cell begins with. The initialiser of a field is a constant: it is evaluated where nothing is there.
 abbrev pub cell_begun : Initial → Form → ℕ → ℕ → Begun → Result Begun Fault
 cell_begun i.Zero form variable cell b = Ok b
-cell_begun (i.Value v) form variable cell b = initial_value v form b >>= λ n. Ok (with_value variable cell n b)
+cell_begun (i.Value v) form variable cell b = initial_value v form nothing >>= λ n. Ok (with_value variable cell n b)
 cell_begun (i.Channel capacity types) form variable cell b = with_channel variable cell (empty_channel capacity types) b
 
 -- a number in n cells, from this one on
@@ -70,15 +73,15 @@ abbrev pub with_values : ℕ → ℤ → ℕ → ℕ → Begun → Begun
 with_values variable v cell zero b = b
 with_values variable v cell (suc n) b = with_values variable v (cell + 1) n (with_value variable cell v b)
 
--- n cells of a variable in order, from this one on: each begins with what the field that has it begins with, or the variable
--- itself where its type has no fields
+-- what a cell of a variable begins with, by the field that has it, or the variable itself where its type has no fields
+abbrev pub leaf_begun : List Fields → Slot → ℕ → ℕ → Begun → Result Begun Fault
+leaf_begun ts s variable cell = cell_begun (leaf ts s cell).initial (leaf ts s cell).form variable cell
+
+-- n cells of a variable in order, from this one on
 abbrev pub fields_begun : List Fields → Slot → ℕ → ℕ → ℕ → Begun → Result Begun Fault
 fields_begun ts s variable cell zero b = Ok b
 fields_begun ts s variable cell (suc n) b =
-    cell_begun (leaf ts s cell).initial (leaf ts s cell).form variable cell b >>= fields_begun ts s variable (cell + 1) n
-
-abbrev pub size : Slot → ℕ
-size s = s.length * s.stride
+    leaf_begun ts s variable cell b >>= fields_begun ts s variable (cell + 1) n
 
 -- what a variable begins with: a value is evaluated once, for all cells; without one, each cell begins by itself, and a channel
 -- is made for each

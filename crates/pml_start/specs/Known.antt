@@ -1,5 +1,5 @@
 -- What is known of a beginning.
-use Rattle.std.specs.Prelude.{◌≡◌, ℕ, Bool, true, false, ◌&&◌, nat_eq, List, [], ◌∷◌, length}
+use Rattle.std.specs.Prelude.{◌≡◌, ℕ, zero, suc, ◌++◌, Option, Some, None, Bool, true, false, ◌&&◌, nat_eq, List, [], ◌∷◌, length, map, ℤ, Result, Ok, Err}
 use Rattle.pml_program.specs.declared.form.Form.{Form}
 use Rattle.pml_program.specs.declared.form.Form.TheVariants.{Struct}
 use Rattle.pml_program.specs.declared.program.Initial.{Initial}
@@ -7,7 +7,11 @@ use Rattle.pml_program.specs.declared.program.Initial.TheVariants as i
 use Rattle.pml_program.specs.declared.program.Slot.{Slot}
 use Rattle.pml_program.specs.declared.program.Fields.{Fields}
 use Rattle.pml_store.specs.declared.place.Place.{Place}
-use Rattle.pml_start.specs.Begin.{Begun, shape}
+use Rattle.diagnostics.specs.declared.fault.Fault.{Fault}
+use Rattle.pml_start.specs.declared.beginnings.Beginning.{Beginning}
+use Rattle.pml_start.specs.declared.beginnings.Beginning.TheVariants.{Nothing, Number, Fails, Channel}
+use Rattle.pml_cells.specs.Cells.{leaf}
+use Rattle.pml_start.specs.Begin.{Begun, nothing, shape, initial_value}
 
 -- no frame, no variable and no cell comes or goes
 pub record Keeps (old new : Begun) : Type 0 where
@@ -23,6 +27,24 @@ abbrev pub IsPlain : Form → Type 0
 IsPlain (Struct o) = ⊥
 IsPlain _ = Unit {0}
 
+-- ---- what a cell begins with, as far as it is known before anything is there
+
+abbrev pub value_known : Result ℤ Fault → Beginning
+value_known (Ok n) = Number n
+value_known (Err f) = Fails f
+
+-- of a channel it is known that it is one
+abbrev pub known_of : Initial → Form → Beginning
+known_of i.Zero form = Nothing
+known_of (i.Value v) form = value_known (initial_value v form nothing)
+known_of (i.Channel capacity types) form = Channel
+
+abbrev pub known : Slot → Beginning
+known s = known_of s.initial s.form
+
+abbrev pub known_fields : Fields → List Beginning
+known_fields t = map known t.fields
+
 -- there is no initialiser
 abbrev pub is_zero : Initial → Bool
 is_zero i.Zero = true
@@ -37,3 +59,17 @@ are_zero (f ∷ fs) = is_zero f.initial && are_zero fs
 abbrev pub have_no_initials : List Fields → Bool
 have_no_initials [] = true
 have_no_initials (t ∷ ts) = are_zero t.fields && have_no_initials ts
+
+-- of each field of each typedef what it begins with, and whether none has an initialiser
+pub record AreBeginnings (ts : List Fields) (rows : List (List Beginning)) (zeroed : Bool) : Type 0 where
+  pub rows_are : rows ≡ map known_fields ts
+  pub zeroed_is : zeroed ≡ have_no_initials ts
+
+abbrev pub known_in : Option Fields → List Beginning
+known_in None = []
+known_in (Some t) = known_fields t
+
+-- what each cell of an element of a variable begins with
+abbrev pub known_cells : List Fields → Slot → ℕ → List Beginning
+known_cells ts s zero = []
+known_cells ts s (suc n) = known_cells ts s n ++ known (leaf ts s n) ∷ []

@@ -9,7 +9,8 @@ use Rattle.pml_program.specs.declared.program.Fields.{Fields}
 use Rattle.pml_program.specs.declared.program.Program.{Program}
 use Rattle.pml_store.specs.declared.place.Place.{Place}
 use Rattle.pml_store.specs.Store.{number_at, size_at}
-use Rattle.pml_start.specs.Begin.{Begun, cell_in, empty_channel, initial_value, variable_begun, size}
+use Rattle.pml_cells.specs.Cells.{size}
+use Rattle.pml_start.specs.Begin.{Begun, cell_in, empty_channel, initial_value, variable_begun}
 use Rattle.pml_start.specs.Known.{IsPlain, is_of}
 use Rattle.pml_start.specs.Start.{first_state, starting}
 

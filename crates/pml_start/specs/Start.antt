@@ -10,10 +10,8 @@ use Rattle.pml_eval.specs.Value.{◌>>=◌}
 use Rattle.diagnostics.specs.declared.stop.Stop.{Stop}
 use Rattle.diagnostics.specs.declared.stop.Stop.TheVariants as stop
 use Rattle.pml_start.specs.declared.started.Started.{Started}
-use Rattle.pml_start.specs.Begin.{Begun, shown, frame_begun, size, shape}
-
-abbrev pub nothing : Begun
-nothing = record { frames = []; channels = []; kinds = [] }
+use Rattle.pml_cells.specs.Cells.{size}
+use Rattle.pml_start.specs.Begin.{Begun, nothing, shown, frame_begun, shape}
 
 abbrev pub variables_of : Option Proctype → List Slot
 variables_of None = []

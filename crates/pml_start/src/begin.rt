@@ -3,18 +3,20 @@
 ghost use Rattle.std.specs.Prelude.{◌≡◌, ◌<◌, ◌≤◌, ◌++◌, ◌∷◌, [], IfOk, OnOk, Ok, length, map};
 ghost use Rattle.profile.specs.declared.TheConstants.{MOST_PROCESSES};
 ghost use Rattle.pml_store.specs.Store.{HasPlace, frame_at, size_at};
-ghost use Rattle.pml_start.specs.Begin.{Begins, shown, shape, initial_value, cell_in, with_value, with_channel, empty_channel, cell_begun, with_values, fields_begun, variable_begun, variables_begun, frame_begun, size};
-ghost use Rattle.pml_start.specs.Known.{Keeps, is_zero, are_zero, have_no_initials};
+ghost use Rattle.pml_start.specs.Begin.{Begins, shown, shape, initial_value, cell_in, with_value, with_channel, empty_channel, cell_begun, leaf_begun, with_values, fields_begun, variable_begun, variables_begun, frame_begun};
+ghost use Rattle.pml_cells.specs.Cells.{size, leaf};
+ghost use Rattle.pml_start.specs.Known.{Keeps, known};
 
+use crate::beginnings::{Beginning, Beginnings, constant, is_zero};
 use crate::started::Started;
 use diagnostics::{Fault, Stop};
-use pml_cells::cells::leaf;
+use pml_cells::cells::{remainder, size};
 use pml_channel::channel::Channel;
 use pml_eval::clip::clip;
 use pml_eval::eval::eval;
 use pml_program::expr::Expr;
 use pml_program::form::Form;
-use pml_program::program::{Fields, Initial, Slot};
+use pml_program::program::{Initial, Slot};
 use pml_store::place::Place;
 use pml_value::live_channel::LiveChannel;
 use pml_value::view::View;
@@ -89,19 +91,19 @@ fn make_channel(
 
 /// What a cell begins with, by the variable or the field that has it.
 fn begin_cell(
+    alloc: Global,
     started: &mut Started,
     variable: usize,
     cell: usize,
     slot: &Slot<'_>,
 ) -> Result<(), Stop>
-    requires few { length started.old.kinds.items ≤ MOST_PROCESSES }
-    requires there { HasPlace started.old.store.frames (cell_in (shown started.old) variable cell) }
+    requires { HasPlace started.old.store.frames (cell_in (shown started.old) variable cell) }
     ensures value { Begins (cell_begun slot.now.initial slot.now.form variable cell (shown started.old)) result (shown started.new) }
     ensures keeps { Keeps (shown started.old) (shown started.new) }
 {
     match &slot.initial {
         Initial::Zero => Ok(()),
-        Initial::Value(value) => match initial_value(&*started, value, slot.form) {
+        Initial::Value(value) => match constant(alloc, value, slot.form) {
             Err(fault) => Err(Stop::Fault(fault)),
             Ok(number) => store_number(started, variable, cell, number),
         },
@@ -111,64 +113,72 @@ fn begin_cell(
     }
 }
 
-fn size(slot: &Slot<'_>) -> usize
-    ensures { result ≡ size slot.now }
-{
-    slot.length as usize * slot.stride as usize
-}
-
-fn is_zero(initial: &Initial) -> bool
-    ensures { result ≡ is_zero initial.now }
-{
-    match initial {
-        Initial::Zero => true,
-        _ => false,
-    }
-}
-
-fn are_zero(fields: &[Slot<'_>]) -> bool
-    ensures { result ≡ are_zero fields.now }
-{
-    for field in fields {
-        if !is_zero(&field.initial) {
-            return false;
-        }
-    }
-    true
-}
-
-/// Whether no field of a typedef has an initialiser.
-fn have_no_initials(typedefs: &[Fields<'_>]) -> bool
-    ensures { result ≡ have_no_initials typedefs.now }
-{
-    for fields in typedefs {
-        if !are_zero(fields.fields.as_slice()) {
-            return false;
-        }
-    }
-    true
-}
-
-/// What each cell of a variable begins with, by the field that has it. `zeroed` says that no field has an initialiser, so that
-/// a variable without one need not be gone through.
-fn begin_fields<'a>(
-    typedefs: &[Fields<'a>],
-    zeroed: bool,
+/// What a cell of a variable begins with, by the variable or the field that has it.
+fn begin_leaf(
+    alloc: Global,
+    beginnings: &Beginnings<'_, '_>,
     started: &mut Started,
     variable: usize,
-    slot: &Slot<'a>,
+    slot: &Slot<'_>,
+    cell: usize,
 ) -> Result<(), Stop>
-    requires zeroed { zeroed ≡ have_no_initials typedefs.now }
-    requires few { length started.old.kinds.items ≤ MOST_PROCESSES }
-    requires there { size_at started.old.store.frames (length started.old.kinds.items) variable ≡ size slot.now }
-    ensures value { Begins (fields_begun typedefs.now slot.now variable 0 (size slot.now) (shown started.old)) result (shown started.new) }
+    requires { HasPlace started.old.store.frames (cell_in (shown started.old) variable cell) }
+    ensures value { Begins (leaf_begun beginnings.now slot.now variable cell (shown started.old)) result (shown started.new) }
     ensures keeps { Keeps (shown started.old) (shown started.new) }
 {
-    if zeroed && is_zero(&slot.initial) {
+    let (place, _) = beginnings.typedefs().leaf(slot, cell);
+    match place {
+        None => begin_cell(alloc, started, variable, cell, slot),
+        Some((typedef, number)) => match beginnings.typedefs().field(typedef, number) {
+            None => begin_cell(alloc, started, variable, cell, slot),
+            Some(field) => begin_cell(alloc, started, variable, cell, field),
+        },
+    }
+}
+
+/// The same, where it is known before.
+fn begin_known(
+    alloc: Global,
+    beginnings: &Beginnings<'_, '_>,
+    started: &mut Started,
+    variable: usize,
+    slot: &Slot<'_>,
+    cell: usize,
+    beginning: Beginning,
+) -> Result<(), Stop>
+    requires known { beginning ≡ known (leaf beginnings.now slot.now cell) }
+    requires there { HasPlace started.old.store.frames (cell_in (shown started.old) variable cell) }
+    ensures value { Begins (leaf_begun beginnings.now slot.now variable cell (shown started.old)) result (shown started.new) }
+    ensures keeps { Keeps (shown started.old) (shown started.new) }
+{
+    match beginning {
+        Beginning::Nothing => Ok(()),
+        Beginning::Number(number) => store_number(started, variable, cell, number),
+        Beginning::Fails(fault) => Err(Stop::Fault(fault)),
+        Beginning::Channel => begin_leaf(alloc, beginnings, started, variable, slot, cell),
+    }
+}
+
+/// What each cell of a variable begins with, by the field that has it. Where no field has an initialiser, a variable without one
+/// need not be gone through.
+fn begin_fields(
+    alloc: Global,
+    beginnings: &Beginnings<'_, '_>,
+    started: &mut Started,
+    variable: usize,
+    slot: &Slot<'_>,
+) -> Result<(), Stop>
+    requires { size_at started.old.store.frames (length started.old.kinds.items) variable ≡ size slot.now }
+    ensures value { Begins (fields_begun beginnings.now slot.now variable 0 (size slot.now) (shown started.old)) result (shown started.new) }
+    ensures keeps { Keeps (shown started.old) (shown started.new) }
+{
+    if beginnings.are_nothing() && is_zero(&slot.initial) {
         return Ok(());
     }
+    let element = beginnings.element(alloc, slot).map_err(|_| Stop::Memory)?;
     for cell in 0..size(slot) {
-        begin_cell(started, variable, cell, leaf(&*typedefs, &*slot, cell))?;
+        let known = element[remainder(cell, slot.stride)];
+        begin_known(alloc, beginnings, started, variable, slot, cell, known)?;
     }
     Ok(())
 }
@@ -187,16 +197,15 @@ fn fill(started: &mut Started, variable: usize, cells: usize, number: i32) -> Re
 
 /// What a variable begins with.
 fn begin_variable(
-    typedefs: &[Fields<'_>],
-    zeroed: bool,
+    alloc: Global,
+    beginnings: &Beginnings<'_, '_>,
     started: &mut Started,
     variable: usize,
     slot: &Slot<'_>,
 ) -> Result<(), Stop>
-    requires zeroed { zeroed ≡ have_no_initials typedefs.now }
     requires few { length started.old.kinds.items ≤ MOST_PROCESSES }
     requires there { size_at started.old.store.frames (length started.old.kinds.items) variable ≡ size slot.now }
-    ensures value { Begins (variable_begun typedefs.now slot.now.initial slot.now variable (shown started.old)) result (shown started.new) }
+    ensures value { Begins (variable_begun beginnings.now slot.now.initial slot.now variable (shown started.old)) result (shown started.new) }
     ensures keeps { Keeps (shown started.old) (shown started.new) }
 {
     match &slot.initial {
@@ -204,25 +213,24 @@ fn begin_variable(
             Err(fault) => Err(Stop::Fault(fault)),
             Ok(number) => fill(started, variable, size(slot), number),
         },
-        _ => begin_fields(typedefs, zeroed, started, variable, slot),
+        _ => begin_fields(alloc, beginnings, started, variable, slot),
     }
 }
 
 /// What the variables of the youngest frame begin with.
 fn begin_variables(
-    typedefs: &[Fields<'_>],
-    zeroed: bool,
+    alloc: Global,
+    beginnings: &Beginnings<'_, '_>,
     started: &mut Started,
     slots: &[Slot<'_>],
 ) -> Result<(), Stop>
-    requires zeroed { zeroed ≡ have_no_initials typedefs.now }
     requires few { length started.old.kinds.items ≤ MOST_PROCESSES }
     requires there { map length (frame_at started.old.store.frames (length started.old.kinds.items)) ≡ map size slots.now }
-    ensures value { Begins (variables_begun typedefs.now slots.now 0 (shown started.old)) result (shown started.new) }
+    ensures value { Begins (variables_begun beginnings.now slots.now 0 (shown started.old)) result (shown started.new) }
     ensures keeps { Keeps (shown started.old) (shown started.new) }
 {
     for variable in 0..slots.len() {
-        begin_variable(typedefs, zeroed, started, variable, &slots[variable])?;
+        begin_variable(alloc, beginnings, started, variable, &slots[variable])?;
     }
     Ok(())
 }
@@ -241,13 +249,13 @@ fn sizes(alloc: Global, slots: &[Slot<'_>]) -> Result<Vec<usize>, AllocError>
 /// Adds the variables of the frame that is still to come, and initialises them.
 pub fn begin_frame(
     alloc: Global,
-    typedefs: &[Fields<'_>],
+    beginnings: &Beginnings<'_, '_>,
     started: &mut Started,
     slots: &[Slot<'_>],
 ) -> Result<(), Stop>
     requires few { length started.old.kinds.items ≤ MOST_PROCESSES }
     requires next { length started.old.store.frames ≡ length started.old.kinds.items }
-    ensures value { Begins (frame_begun typedefs.now slots.now (shown started.old)) result (shown started.new) }
+    ensures value { Begins (frame_begun beginnings.now slots.now (shown started.old)) result (shown started.new) }
     ensures sizes { OnOk result (shape started.new.store.frames ≡ shape started.old.store.frames ++ map size slots.now ∷ []) }
     ensures kinds { started.new.kinds.items ≡ started.old.kinds.items }
 {
@@ -256,6 +264,5 @@ pub fn begin_frame(
         .store
         .push_frame(sizes.as_slice())
         .map_err(|_| Stop::Memory)?;
-    let zeroed = have_no_initials(typedefs);
-    begin_variables(typedefs, zeroed, started, slots)
+    begin_variables(alloc, beginnings, started, slots)
 }

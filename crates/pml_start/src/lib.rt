@@ -2,6 +2,7 @@
 #![tactic(auto)]
 
 mod begin;
+mod beginnings;
 pub mod law;
 pub mod start;
 pub mod started;

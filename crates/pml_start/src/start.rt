@@ -5,6 +5,7 @@ ghost use Rattle.pml_start.specs.Begin.{Begins, shown};
 ghost use Rattle.pml_start.specs.Start.{Starts, IsDeclared, first_state, process_begun, kind_begun};
 
 use crate::begin::begin_frame;
+use crate::beginnings::Beginnings;
 use crate::started::Started;
 use diagnostics::Stop;
 use pml_program::program::Program;
@@ -16,9 +17,11 @@ use std::alloc::Global;
 fn begin_process(
     alloc: Global,
     program: &Program<'_>,
+    beginnings: &Beginnings<'_, '_>,
     kind: usize,
     started: &mut Started,
 ) -> Result<(), Stop>
+    requires known { beginnings.now ≡ program.now.typedefs }
     requires there { kind < length program.now.proctypes }
     requires declared { IsDeclared program.now (shown started.old) }
     ensures value { Begins (process_begun program.now kind (shown started.old)) result (shown started.new) }
@@ -29,24 +32,26 @@ fn begin_process(
     }
     started.kinds.push(kind).map_err(|_| Stop::Memory)?;
     let variables = program.proctypes.as_slice()[kind].variables.as_slice();
-    begin_frame(alloc, program.typedefs.as_slice(), started, variables)
+    begin_frame(alloc, beginnings, started, variables)
 }
 
 /// Begins the processes that a proctype starts with.
 fn begin_processes(
     alloc: Global,
     program: &Program<'_>,
+    beginnings: &Beginnings<'_, '_>,
     kind: usize,
     starts: u32,
     started: &mut Started,
 ) -> Result<(), Stop>
+    requires known { beginnings.now ≡ program.now.typedefs }
     requires there { kind < length program.now.proctypes }
     requires declared { IsDeclared program.now (shown started.old) }
     ensures value { Begins (kind_begun program.now kind starts (shown started.old)) result (shown started.new) }
     ensures declared { OnOk result (IsDeclared program.now (shown started.new)) }
 {
     for _start in 0..starts {
-        begin_process(alloc, program, kind, started)?;
+        begin_process(alloc, program, beginnings, kind, started)?;
     }
     Ok(())
 }
@@ -57,20 +62,18 @@ pub fn start(alloc: Global, program: &Program<'_>) -> Result<Started, Stop>
     ensures forgotten { IfOk result (λ s. s.store.written ≡ []) }
     ensures declared { IfOk result (λ s. IsDeclared program.now (shown s)) }
 {
+    let typedefs = program.typedefs.as_slice();
+    let beginnings = Beginnings::new(alloc, typedefs).map_err(|_| Stop::Memory)?;
     let mut started = Started {
         store: Store::new(alloc),
         channels: Vec::new(alloc),
         kinds: Vec::new(alloc),
     };
-    begin_frame(
-        alloc,
-        program.typedefs.as_slice(),
-        &mut started,
-        program.globals.as_slice(),
-    )?;
+    begin_frame(alloc, &beginnings, &mut started, program.globals.as_slice())?;
     let processes = program.proctypes.as_slice();
     for kind in 0..processes.len() {
-        begin_processes(alloc, program, kind, processes[kind].starts, &mut started)?;
+        let starts = processes[kind].starts;
+        begin_processes(alloc, program, &beginnings, kind, starts, &mut started)?;
     }
     started.store.forget();
     Ok(started)

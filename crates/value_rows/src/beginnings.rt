@@ -98,6 +98,90 @@ fn fields_of_nought(rt: HostRuntime) -> Result<(), Fail> {
     Ok(())
 }
 
+/// `1 + 1 + .. + 1`, of so many.
+fn ones(alloc: Global, count: usize) -> Result<Expr, AllocError> {
+    let mut sum = Expr::Number(1);
+    for _ in 1..count {
+        let left = Boxed::new(alloc, sum)?;
+        let right = Boxed::new(alloc, Expr::Number(1))?;
+        sum = Expr::Binary(Infix::Plus, left, right);
+    }
+    Ok(sum)
+}
+
+/// A byte keeps 235 of 491 ones, in each of 10,000 elements.
+#[test]
+fn a_constant_of_a_field(rt: HostRuntime) -> Result<(), Fail> {
+    let alloc = rt.alloc();
+    let sum = Initial::Value(ones(alloc, 491)?);
+    let mut fields = Items::new(alloc);
+    fields.push(slot(Form::Plain(Scalar::Byte), 0, 1, 1, sum))?;
+    let mut typedefs = Items::new(alloc);
+    typedefs.push(Fields { owner: 9, fields })?;
+    let mut slots = Items::new(alloc);
+    slots.push(slot(Form::Struct(9), 0, 10_000, 1, Initial::Zero))?;
+    let mut cells = Vec::new(alloc);
+    cells.resize(10_000, 235)?;
+    shows(&rt, begun(alloc, typedefs, slots), cells.as_slice())?;
+    Ok(())
+}
+
+/// Two elements of a typedef with two elements of another: each field begins anew in each, also behind a field without an
+/// initialiser.
+#[test]
+fn fields_of_fields(rt: HostRuntime) -> Result<(), Fail> {
+    let alloc = rt.alloc();
+    let byte = Form::Plain(Scalar::Byte);
+    let mut inner = Items::new(alloc);
+    inner.push(slot(byte, 0, 1, 1, Initial::Value(Expr::Number(300))))?;
+    inner.push(slot(byte, 1, 1, 1, Initial::Zero))?;
+    let mut outer = Items::new(alloc);
+    outer.push(slot(Form::Struct(2), 0, 2, 2, Initial::Zero))?;
+    outer.push(slot(byte, 4, 1, 1, Initial::Value(Expr::Number(7))))?;
+    let mut typedefs = Items::new(alloc);
+    typedefs.push(Fields {
+        owner: 2,
+        fields: inner,
+    })?;
+    typedefs.push(Fields {
+        owner: 5,
+        fields: outer,
+    })?;
+    let mut slots = Items::new(alloc);
+    slots.push(slot(byte, 0, 1, 1, Initial::Zero))?;
+    slots.push(slot(Form::Struct(5), 1, 2, 5, Initial::Zero))?;
+    let cells = [0, 44, 0, 44, 0, 7, 44, 0, 44, 0, 7];
+    shows(&rt, begun(alloc, typedefs, slots), &cells)?;
+    Ok(())
+}
+
+/// A field's fault is told where the first cell of it begins: behind 255 channels, and not behind 256.
+#[test]
+fn a_fault_of_a_field(rt: HostRuntime) -> Result<(), Fail> {
+    let alloc = rt.alloc();
+    let channel = Form::Plain(Scalar::Chan);
+    for made in 255..257u32 {
+        let mut fields = Items::new(alloc);
+        let bad = Initial::Value(quotient(alloc)?);
+        fields.push(slot(channel, 0, made, 1, channels(alloc, 0)?))?;
+        fields.push(slot(Form::Plain(Scalar::Byte), made, 1, 1, bad))?;
+        let mut typedefs = Items::new(alloc);
+        typedefs.push(Fields { owner: 9, fields })?;
+        let mut slots = Items::new(alloc);
+        slots.push(slot(Form::Struct(9), 0, 1, made + 1, Initial::Zero))?;
+        let fault = if made == 255 {
+            Fault::ZeroDivisor
+        } else {
+            Fault::TooManyChannels
+        };
+        match begun(alloc, typedefs, slots) {
+            Ok(_) => return Err(Fail::from("a first state")),
+            Err(stop) => assert_eq!(rt; stop, Stop::Fault(fault)),
+        }
+    }
+    Ok(())
+}
+
 /// The first fault ends it.
 #[test]
 fn a_fault(rt: HostRuntime) -> Result<(), Fail> {

@@ -8,7 +8,7 @@ use Rattle.pml_lines.proofs.change.lines_of_cells.Goals as goal
 
 pub loop-at-preserved : goal.loop-at-preserved
 loop-at-preserved c =
-    let f = line_at c.args.program.now (owners c.args.program.now c.args.wanted.globals c.args.wanted.locals c.args.kinds.now) in
+    let f = line_at c.args.tables.now (owners c.args.tables.now c.args.wanted.globals c.args.wanted.locals c.args.kinds.now) in
     let k = c.loop-at.at in
     let more = cells-more f c.args.before.now c.args.after.now k (omega arith) (omega arith) in
     let rest = cell_lines f (k + 1) (drop (k + 1) c.args.before.now) (drop (k + 1) c.args.after.now) in
@@ -29,6 +29,6 @@ loop-at-preserved c =
 
 pub returns-clause-added : goal.returns-clause-added
 returns-clause-added c =
-    let f = line_at c.args.program.now (owners c.args.program.now c.args.wanted.globals c.args.wanted.locals c.args.kinds.now) in
+    let f = line_at c.args.tables.now (owners c.args.tables.now c.args.wanted.globals c.args.wanted.locals c.args.kinds.now) in
     let none = cells-end f c.args.before.now c.args.after.now c.loop-at.at (omega (arith, c.min-count.ensures)) in
     sym (append-nil c.loop-at.text.items) ∙ ap (λ (x : List ℕ). c.loop-at.text.items ++ x) (sym none) ∙ c.loop-at.invariant.same

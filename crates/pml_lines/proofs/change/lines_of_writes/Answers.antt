@@ -8,7 +8,7 @@ use Rattle.pml_lines.proofs.change.lines_of_writes.Goals as goal
 
 pub loop-at-preserved : goal.loop-at-preserved
 loop-at-preserved c =
-    let f = line_at c.args.program.now (owners c.args.program.now c.args.wanted.globals c.args.wanted.locals c.args.kinds.now) in
+    let f = line_at c.args.tables.now (owners c.args.tables.now c.args.wanted.globals c.args.wanted.locals c.args.kinds.now) in
     let cells = c.args.cells.now in
     let w : ℕ × ℤ = (c.in-Some.at.now, c.in-Some.before.now) in
     let rest = c.next.new.self in

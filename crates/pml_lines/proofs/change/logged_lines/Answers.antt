@@ -8,7 +8,7 @@ use Rattle.pml_lines.proofs.change.logged_lines.Goals as goal
 
 pub returns-then-not-wanted-2-clause-added : goal.returns-then-not-wanted-2-clause-added
 returns-then-not-wanted-2-clause-added c = λ a.
-    let p = c.args.program.now in
+    let p = c.args.tables.now in
     let ks = c.args.kinds.now in
     let now = c.args.store.now in
     let old = c.args.text.now.items in
@@ -22,11 +22,11 @@ returns-then-not-wanted-2-clause-added c = λ a.
 
 pub returns-clause-added : goal.returns-clause-added
 returns-clause-added c = λ a.
-    let f = line_at c.args.program.now (owners c.args.program.now c.args.wanted.globals c.args.wanted.locals c.args.kinds.now) in
+    let f = line_at c.args.tables.now (owners c.args.tables.now c.args.wanted.globals c.args.wanted.locals c.args.kinds.now) in
     let now = c.args.store.now in
     let cells : c.as_slice.result.now ≡ joined now.frames = c.as_slice.ensures.value ∙ c.cells.ensures in
     let writes : c.in_ok-writes.writes.entries ≡ oldest now.written = c.in_ok-writes.ensures ∙ ap oldest c.written.ensures in
     subst (λ (l : List ℕ). OnOk c.lines_of_writes.result (c.lines_of_writes.new.text.items ≡ c.args.text.now.items ++ l))
     (ap (λ (xs : List ℤ). write_lines f xs c.in_ok-writes.writes.entries) cells ∙ ap (λ (ws : List (ℕ × ℤ)). write_lines f (joined now.frames) ws) writes
-    ∙ writes_flat c.args.program.now c.args.kinds.now now c.args.wanted.globals c.args.wanted.locals a)
+    ∙ writes_flat c.args.tables.now c.args.kinds.now now c.args.wanted.globals c.args.wanted.locals a)
     c.lines_of_writes.ensures.added

@@ -12,15 +12,15 @@ loop-i-preserved c =
     record {
       text = c.loop-i.invariant.text;
       left = λ v.
-          ap (λ (n : ℕ). line_at c.args.program.now (process_owners c.args.program.now true (c.loop-i.i + 1) (drop (c.loop-i.i + 1) c.args.kinds.now)) n v) c.find_local-rest.ensures.cell
-          ∙ sym (process-after c.args.program.now c.args.kinds.now c.loop-i.i c.loop-i.at v c.loop-i-test.true found)
+          ap (λ (n : ℕ). line_at c.args.tables.now (process_owners c.args.tables.now true (c.loop-i.i + 1) (drop (c.loop-i.i + 1) c.args.kinds.now)) n v) c.find_local-rest.ensures.cell
+          ∙ sym (process-after c.args.tables.now c.args.kinds.now c.loop-i.i c.loop-i.at v c.loop-i-test.true found)
           ∙ c.loop-i.invariant.left v;
     }
 
 pub returns-in-Some-clause-added : goal.returns-in-Some-clause-added
 returns-in-Some-clause-added c =
     let found = rw c.in-Some.is at c.find_local-rest.ensures.slot in
-    let p = c.args.program.now in
+    let p = c.args.tables.now in
     let old = c.args.text.now.items in
     let heading = heading_of c.loop-i.i (slice_get p.proctypes (get_or c.args.kinds.now c.loop-i.i 0)) in
     let fits : FitsSigned w32 c.args.number = search rules in
@@ -35,5 +35,5 @@ returns-in-Some-clause-added c =
 pub returns-clause-added : goal.returns-clause-added
 returns-clause-added c =
     let z : drop c.loop-i.i c.args.kinds.now ≡ [] = drop_all c.loop-i.i c.args.kinds.now (omega arith) in
-    let none = ap (λ (ks : List ℕ). line_at c.args.program.now (process_owners c.args.program.now true c.loop-i.i ks) c.loop-i.at c.args.number) (sym z) ∙ c.loop-i.invariant.left c.args.number in
+    let none = ap (λ (ks : List ℕ). line_at c.args.tables.now (process_owners c.args.tables.now true c.loop-i.i ks) c.loop-i.at c.args.number) (sym z) ∙ c.loop-i.invariant.left c.args.number in
     c.loop-i.invariant.text ∙ sym (append-nil c.args.text.now.items) ∙ ap (λ (x : List ℕ). c.args.text.now.items ++ x) none

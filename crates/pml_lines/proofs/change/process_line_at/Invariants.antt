@@ -6,5 +6,5 @@ use Rattle.pml_lines.proofs.change.process_line_at.Given as goal
 abbrev pub invariant-loop-i : goal.invariant-loop-i
 invariant-loop-i l = record {
   text : l.text.items ≡ l.initial.text.items;
-  left : (v : ℤ) → line_at l.program (process_owners l.program true l.i (drop l.i l.kinds)) l.at v ≡ line_at l.program (process_owners l.program true 0 l.kinds) l.fn.at v;
+  left : (v : ℤ) → line_at l.tables (process_owners l.tables true l.i (drop l.i l.kinds)) l.at v ≡ line_at l.tables (process_owners l.tables true 0 l.kinds) l.fn.at v;
 }

@@ -1,11 +1,12 @@
 use Rattle.std.proofs.Common.{◌≡◌, ◌-◌}
-use Rattle.pml_start.specs.Begin.{shown, size, fields_begun}
+use Rattle.pml_cells.specs.Cells.{size}
+use Rattle.pml_start.specs.Begin.{shown, fields_begun}
 use Rattle.pml_start.specs.Known.{Keeps}
 use Rattle.pml_start.proofs.begin.begin_fields.Given as goal
 
 -- what is begun by now, and then the other cells, is what all begin with
 abbrev pub invariant-loop-cell : goal.invariant-loop-cell
 invariant-loop-cell l = record {
-  same : fields_begun l.typedefs l.slot l.variable l.cell (size l.slot - l.cell) (shown l.started) ≡ fields_begun l.typedefs l.slot l.variable 0 (size l.slot) (shown l.initial.started);
+  same : fields_begun l.beginnings l.slot l.variable l.cell (size l.slot - l.cell) (shown l.started) ≡ fields_begun l.beginnings l.slot l.variable 0 (size l.slot) (shown l.initial.started);
   keeps : Keeps (shown l.initial.started) (shown l.started);
 }

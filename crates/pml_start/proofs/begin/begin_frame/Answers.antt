@@ -1,6 +1,6 @@
 use Rattle.std.proofs.Common.{◌≡◌, ◌++◌, ◌∷◌, [], map, ◌∙◌, rules}
 use Rattle.pml_store.specs.Store.{zeros}
-use Rattle.pml_start.specs.Begin.{size}
+use Rattle.pml_cells.specs.Cells.{size}
 use Rattle.pml_start.proofs.Shapes.{added_sizes, added_shape, OnOk-always}
 use Rattle.pml_start.proofs.begin.begin_frame.Goals as goal
 

@@ -1,0 +1,105 @@
+//! Where the variables of a model lie.
+
+ghost use Rattle.std.specs.Prelude.{◌≡◌, IfOk, map, slice_get};
+ghost use Rattle.std.specs.Option.{option_copied};
+ghost use Rattle.pml_cells.specs.Cells.{slot_of, cell_of};
+ghost use Rattle.pml_lines.specs.Changes.{slots_of};
+ghost use Rattle.pml_lines.specs.Tables.{variables};
+
+use pml_cells::row::Row;
+use pml_cells::typedefs::Typedefs;
+use pml_program::program::{Proctype, Program, Slot};
+use std::alloc::{AllocError, Global};
+use std::marker::Model;
+
+/// A model, and the rows of its globals, of the variables of each proctype, and of the fields of its typedefs. Contracts see the
+/// model.
+#[derive(Drop)]
+pub struct Tables<'p, 'a> {
+    program: &'p Program<'a>,
+    typedefs: Typedefs<'p, 'a>,
+    globals: Row<'p, 'a>,
+    locals: Vec<Row<'p, 'a>>,
+}
+
+impl<'p, 'a> Model for Tables<'p, 'a> {
+    ghost use Rattle.pml_program.specs.declared.program.Program.{Program};
+    ghost use Rattle.pml_program.specs.contracts.expr.Expr as worth;
+    ghost use Rattle.pml_program.specs.contracts.program.Seq as seq;
+    ghost use Rattle.std.specs.Coded.{codes};
+    ghost use Rattle.std.specs.Prelude.{[]};
+    ghost use mir.Syntax.{named};
+    ghost use Rattle.pml_lines.specs.Tables.{AreRows};
+
+    ghost Value = { Program };
+
+    ghost coded = { Prim.hlevel (codes, worth.the_row.coded, (seq.the_row (record { mir = named 0; lft = [] })).coded) };
+
+    ghost view = { λ t. t.program.now };
+
+    ghost invariant = { λ t. AreRows t.program.now t.typedefs t.globals t.locals.items };
+}
+
+// The row of the variables of each proctype.
+fn rows_of<'p, 'a>(
+    alloc: Global,
+    proctypes: &'p [Proctype<'a>],
+) -> Result<Vec<Row<'p, 'a>>, AllocError>
+    ensures { IfOk result (λ rows. rows.items ≡ map variables proctypes.now) }
+{
+    let mut rows = Vec::new(alloc);
+    for proctype in proctypes {
+        rows.push(Row::new(alloc, proctype.variables.as_slice())?)?;
+    }
+    Ok(rows)
+}
+
+impl<'p, 'a> Tables<'p, 'a> {
+    /// The tables of a model.
+    pub fn new(alloc: Global, program: &'p Program<'a>) -> Result<Tables<'p, 'a>, AllocError>
+        ensures { IfOk result (λ tables. tables ≡ program.now) }
+    {
+        let typedefs = Typedefs::new(alloc, program.typedefs.as_slice())?;
+        let globals = Row::new(alloc, program.globals.as_slice())?;
+        let locals = rows_of(alloc, program.proctypes.as_slice())?;
+        Ok(Tables {
+            program,
+            typedefs,
+            globals,
+            locals,
+        })
+    }
+
+    /// The model.
+    pub fn program(&self) -> &'p Program<'a>
+        ensures { result.now ≡ self.now }
+    {
+        self.program
+    }
+
+    /// Its typedefs.
+    pub fn typedefs(&self) -> &Typedefs<'p, 'a>
+        ensures { result.now ≡ self.now.typedefs }
+    {
+        &self.typedefs
+    }
+
+    /// The global variable with the cell of this index, and the number of the cell in it, or among the cells of the processes.
+    pub fn find_global(&self, at: usize) -> (Option<&'p Slot<'a>>, usize)
+        ensures slot { option_copied result.0 ≡ slot_of self.now.globals at }
+        ensures cell { result.1 ≡ cell_of self.now.globals at }
+    {
+        self.globals.find(at)
+    }
+
+    /// The same among the variables of a proctype, by its number in the model.
+    pub fn find_local(&self, kind: usize, at: usize) -> (Option<&'p Slot<'a>>, usize)
+        ensures slot { option_copied result.0 ≡ slot_of (slots_of (slice_get self.now.proctypes kind)) at }
+        ensures cell { result.1 ≡ cell_of (slots_of (slice_get self.now.proctypes kind)) at }
+    {
+        match self.locals.get(kind) {
+            Some(row) => row.find(at),
+            None => (None, at),
+        }
+    }
+}
