@@ -93,3 +93,7 @@ pub clipped-only : (form : Form) (v r : ℤ) → IsClip form v r → r ≡ clipp
 clipped-only form v r c =
     let d = IsClip-clipped form v in
     one_in_bits (is_signed form) (bits_of form) v r (clipped form v) (bits_at_least form) c.range d.range c.differ d.differ
+
+-- a number in the range is kept as it is
+pub clipped-same : (form : Form) (v : ℤ) → InBits (is_signed form) (bits_of form) v → v ≡ clipped form v
+clipped-same form v range = clipped-only form v v (record { range = range; differ = (0, 0, refl) })

@@ -2,7 +2,7 @@
 
 ghost use Rattle.std.specs.Prelude.{◌≡◌, ◌≤◌, ◌<◌, ◌^◌, true, false, pos, ℤ};
 ghost use Rattle.pml_program.specs.declared.form.Form.{Form};
-ghost use Rattle.pml_eval.specs.Clip.{bits_of, bits_of_word, is_signed, is_word_signed, clipped, IsClip};
+ghost use Rattle.pml_eval.specs.Clip.{bits_of, bits_of_word, is_signed, is_word_signed, clipped, InBits, IsClip};
 
 use pml_program::form::Form;
 use pml_tree::tree::Scalar;
@@ -12,6 +12,9 @@ use pml_tree::tree::Scalar;
 pub fn clip(form: Form, v: i32) -> i32
     ensures { result ≡ clipped form v }
 {
+    if is_in_range(form, v) {
+        return v;
+    }
     let whole = modulus(bits(form));
     let low = i64::from(v).rem_euclid(whole);
     if !is_signed(form) {
@@ -21,6 +24,20 @@ pub fn clip(form: Form, v: i32) -> i32
         return low as i32;
     }
     (low - whole) as i32
+}
+
+/// Whether a number is in the type's range.
+fn is_in_range(form: Form, v: i32) -> bool
+    ensures { result ≡ true → InBits (is_signed form) (bits_of form) v }
+{
+    let whole = modulus(bits(form));
+    let number = i64::from(v);
+    if is_signed(form) {
+        let half = whole / 2;
+        -half <= number && number < half
+    } else {
+        0 <= number && number < whole
+    }
 }
 
 /// There is one such number, and it is what `clip` answers.

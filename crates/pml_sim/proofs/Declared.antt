@@ -6,7 +6,8 @@ use Rattle.pml_program.specs.declared.program.Proctype.{Proctype}
 use Rattle.pml_program.specs.declared.program.Program.{Program}
 use Rattle.pml_store.specs.declared.place.Place.{Place}
 use Rattle.pml_store.specs.Store.{Frame, with_number}
-use Rattle.pml_start.specs.Begin.{Begun, shape, size}
+use Rattle.pml_cells.specs.Cells.{size}
+use Rattle.pml_start.specs.Begin.{Begun, shape}
 use Rattle.pml_start.specs.Start.{IsDeclared, variables_of, variables_at}
 use Rattle.pml_start.proofs.Shapes.{shape-with_number}
 use Rattle.pml_lines.specs.Changes.{Owner, AreFrames, AreDeclared, process_owners, owners, slots_of}

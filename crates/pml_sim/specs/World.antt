@@ -19,7 +19,9 @@ use Rattle.pml_sim.specs.declared.control.OnlyMove.{OnlyMove}
 use Rattle.pml_sim.specs.declared.control.Halt.{Halt}
 use Rattle.pml_sim.specs.Served.{are_served, body_of}
 use Rattle.pml_sim.specs.State.{State}
-use Rattle.pml_sim.specs.Texts.{joined, first_line, place}
+use Rattle.pml_flow.specs.Marks.{line_of}
+use Rattle.pml_flow.specs.Texts as texts
+use Rattle.pml_sim.specs.Texts.{place}
 
 -- ---- the first state
 
@@ -148,17 +150,12 @@ closing_by (Some p) = p.end.line
 abbrev pub proctype_of : State → Option Proctype
 proctype_of s = slice_get s.program.proctypes s.kind
 
--- the line of the first token of what stands first, or of the closing brace
-abbrev pub line : ℕ → Option Stmt → ℕ
-line closing (Some x) = first_line x.tokens
-line closing None = closing
-
 abbrev pub action : Option Stmt → List ℕ
-action (Some x) = joined x.tokens
+action (Some x) = texts.action x.basic x.tokens
 action None = codes "-end-"
 
 abbrev pub place_of : State → List ℕ
-place_of s = place (name_by (proctype_of s)) (line (closing_by (proctype_of s)) (standing s))
+place_of s = place (name_by (proctype_of s)) (line_of (standing s) (closing_by (proctype_of s)))
 
 -- `PLACE [TEXT]`
 abbrev pub move_text : State → List ℕ

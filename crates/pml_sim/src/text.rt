@@ -1,4 +1,4 @@
-//! The texts of a move and of a place.
+//! The text of a place.
 
 ghost use Rattle.std.specs.Prelude.{◌≡◌, ◌++◌, OnOk, OnErr};
 ghost use Rattle.std.specs.Io.{StartsWith};
@@ -8,7 +8,6 @@ ghost use Rattle.pml_sim.specs.Texts as texts;
 ghost use Rattle.pml_sim.specs.World.{name_by};
 
 use itoa::Buffer;
-use pml_lex::token::Token;
 use pml_lines::change::proctype_name;
 use pml_program::program::Proctype;
 use std::alloc::AllocError;
@@ -19,22 +18,6 @@ fn add_number(text: &mut Vec<u8>, number: u32) -> Result<(), AllocError>
 {
     let mut digits = Buffer::new();
     text.extend_from_slice(digits.format(number).as_bytes())
-}
-
-/// Appends tokens, joined by one space.
-pub fn add_tokens(text: &mut Vec<u8>, tokens: &[Token<'_>]) -> Result<(), AllocError>
-    ensures added { OnOk result (text.new.items ≡ text.old.items ++ texts.joined tokens.now) }
-    ensures kept { OnErr result (StartsWith text.new.items text.old.items) }
-{
-    let [first, rest @ ..] = tokens else {
-        return Ok(());
-    };
-    text.extend_from_slice(first.text())?;
-    for token in rest {
-        text.push(b' ')?;
-        text.extend_from_slice(token.text())?;
-    }
-    Ok(())
 }
 
 /// Appends the name of a proctype, by its number in the model.
@@ -61,14 +44,4 @@ pub fn add_place(
     add_name(text, proctype)?;
     text.extend_from_slice(b") line ")?;
     add_number(text, line)
-}
-
-/// The line of the first token.
-pub fn first_line(tokens: &[Token<'_>]) -> u32
-    ensures { result ≡ texts.first_line tokens.now }
-{
-    match tokens {
-        [] => 0,
-        [first, ..] => first.line(),
-    }
 }

@@ -1,6 +1,6 @@
 //! A model with one process as a machine.
 
-ghost use Rattle.std.specs.Prelude.{◌≡◌, ◌++◌, [], OnOk, OnErr, length, slice_get};
+ghost use Rattle.std.specs.Prelude.{◌≡◌, ◌++◌, [], IfOk, OnOk, OnErr, length, slice_get};
 ghost use Rattle.std.specs.Io.{StartsWith};
 ghost use Rattle.std.specs.Option.{option_copied};
 ghost use Rattle.pml_value.specs.Reads.{reading_of, seen};
@@ -12,9 +12,12 @@ ghost use Rattle.pml_sim.specs.World as world;
 
 use crate::control::{Control, Halt, OnlyMove};
 use crate::served::is_played;
-use crate::text::{add_place, add_tokens, first_line};
+use crate::text::add_place;
 use diagnostics::Stop;
+use pml_flow::lines::line_of;
+use pml_flow::text::add_action;
 use pml_lines::change::{Wanted, logged_lines};
+use pml_lines::tables::Tables;
 use pml_program::program::{Basic, Proctype, Program, Stmt};
 use pml_start::started::Started;
 use pml_store::store::Store;
@@ -28,7 +31,7 @@ use std::marker::Model;
 /// A model with one process, what its variables hold, where the process stands, and where it has stopped.
 #[derive(Drop)]
 pub struct World<'p, 'a> {
-    program: &'p Program<'a>,
+    tables: Tables<'p, 'a>,
     kind: usize,
     store: Store,
     channels: Vec<LiveChannel>,
@@ -49,17 +52,21 @@ impl<'p, 'a> Model for World<'p, 'a> {
 
     ghost coded = { Prim.hlevel (codes, worth.the_row.coded, (seq.the_row (record { mir = named 0; lft = [] })).coded) };
 
-    ghost view = { λ w. record { program = w.program.now; kind = w.kind; store = w.store; channels = w.channels.items; control = w.control; halt = w.halt } };
+    ghost view = { λ w. record { program = w.tables; kind = w.kind; store = w.store; channels = w.channels.items; control = w.control; halt = w.halt } };
 
-    ghost invariant = { λ w. AreDeclared w.program.now (w.kind ∷ []) w.store.frames };
+    ghost invariant = { λ w. AreDeclared w.tables (w.kind ∷ []) w.store.frames };
 }
 
 impl<'p, 'a> World<'p, 'a> {
     /// The first state, where the model is one that is played.
-    pub fn first(program: &'p Program<'a>, started: Started) -> Option<World<'p, 'a>>
+    pub fn first(
+        alloc: Global,
+        program: &'p Program<'a>,
+        started: Started,
+    ) -> Result<Option<World<'p, 'a>>, AllocError>
         requires declared { IsDeclared program.now (shown started) }
         requires fresh { started.store.written ≡ [] }
-        ensures { result ≡ world.first_by program.now (shown started) started.kinds.items }
+        ensures { IfOk result (λ first. first ≡ world.first_by program.now (shown started) started.kinds.items) }
     {
         let Started {
             store,
@@ -68,19 +75,20 @@ impl<'p, 'a> World<'p, 'a> {
         } = started;
         let kind = match kinds.as_slice() {
             [kind] => *kind,
-            [] | [_, _, ..] => return None,
+            [] | [_, _, ..] => return Ok(None),
         };
         if !is_played(proctype_at(program, kind)) {
-            return None;
+            return Ok(None);
         }
-        Some(World {
-            program,
+        let tables = Tables::new(alloc, program)?;
+        Ok(Some(World {
+            tables,
             kind,
             store,
             channels,
             control: Control::At(0),
             halt: None,
-        })
+        }))
     }
 
     /// The statement that stands first, if one does.
@@ -109,7 +117,7 @@ impl<'p, 'a> World<'p, 'a> {
     fn proctype(&self) -> Option<&Proctype<'a>>
         ensures { option_copied result ≡ world.proctype_of self.now }
     {
-        proctype_at(self.program, self.kind)
+        proctype_at(self.tables.program(), self.kind)
     }
 
     fn add_place(&self, text: &mut Vec<u8>) -> Result<(), AllocError>
@@ -117,7 +125,7 @@ impl<'p, 'a> World<'p, 'a> {
         ensures kept { OnErr result (StartsWith text.new.items text.old.items) }
     {
         let proctype = self.proctype();
-        let line = line(closing(proctype), self.standing());
+        let line = line_of(self.standing(), closing(proctype));
         add_place(text, proctype, line)
     }
 }
@@ -242,15 +250,6 @@ fn beyond(control: Control, count: usize) -> Control
     }
 }
 
-fn line(closing: u32, standing: Option<&Stmt<'_>>) -> u32
-    ensures { result ≡ world.line closing (option_copied standing.entry) }
-{
-    match standing {
-        Some(stmt) => first_line(stmt.tokens.as_slice()),
-        None => closing,
-    }
-}
-
 fn closing(proctype: Option<&Proctype<'_>>) -> u32
     ensures { result ≡ world.closing_by (option_copied proctype.entry) }
 {
@@ -260,12 +259,12 @@ fn closing(proctype: Option<&Proctype<'_>>) -> u32
     }
 }
 
-fn add_action(text: &mut Vec<u8>, standing: Option<&Stmt<'_>>) -> Result<(), AllocError>
+fn add_standing(text: &mut Vec<u8>, standing: Option<&Stmt<'_>>) -> Result<(), AllocError>
     ensures added { OnOk result (text.new.items ≡ text.old.items ++ world.action (option_copied standing.entry)) }
     ensures kept { OnErr result (StartsWith text.new.items text.old.items) }
 {
     match standing {
-        Some(stmt) => add_tokens(text, stmt.tokens.as_slice()),
+        Some(stmt) => add_action(text, &stmt.basic, stmt.tokens.as_slice()),
         None => text.extend_from_slice(b"-end-"),
     }
 }
@@ -275,23 +274,23 @@ impl Machine for World<'_, '_> {
 
     ghost rules = { world.rules };
 
-    fn moves(&self, alloc: Global) -> Result<Vec<OnlyMove>, AllocError> {
-        let mut moves = Vec::new(alloc);
+    fn moves(&self, moves: &mut Vec<OnlyMove>) -> Result<(), AllocError> {
+        moves.clear();
         if let Some(_) = self.halt {
-            return Ok(moves);
+            return Ok(());
         }
         if self.can_move(false) {
             moves.push(OnlyMove { timeout: false })?;
         } else if self.can_move(true) {
             moves.push(OnlyMove { timeout: true })?;
         }
-        Ok(moves)
+        Ok(())
     }
 
     fn show(&self, _: &OnlyMove, text: &mut Vec<u8>) -> Result<(), AllocError> {
         self.add_place(text)?;
         text.extend_from_slice(b" [")?;
-        add_action(text, self.standing())?;
+        add_standing(text, self.standing())?;
         text.extend_from_slice(b"]")
     }
 
@@ -299,7 +298,7 @@ impl Machine for World<'_, '_> {
         if let Some(halt) = self.halt {
             return Err(halt.why);
         }
-        let proctype = proctype_at(self.program, self.kind);
+        let proctype = proctype_at(self.tables.program(), self.kind);
         let standing = standing_of(proctype, self.control);
         self.store.forget();
         match do_first(
@@ -323,7 +322,7 @@ impl Machine for World<'_, '_> {
         let alloc = *text.allocator();
         let kinds = [self.kind];
         let wanted = Wanted { globals, locals };
-        logged_lines(alloc, self.program, &kinds, wanted, &self.store, text)
+        logged_lines(alloc, &self.tables, &kinds, wanted, &self.store, text)
     }
 
     fn is_valid(&self) -> bool {

@@ -6,10 +6,14 @@ use Rattle.pml_store.specs.declared.place.Place.{Place}
 use Rattle.pml_store.specs.declared.store.Extent.{Extent}
 use Rattle.pml_store.specs.declared.store.FrameExtents.{FrameExtents}
 use Rattle.pml_store.specs.Store.{Frame, Cells, frame_at, cells_at, number_at, HasPlace, flat, joined, index_of, size_at}
-use Rattle.pml_store.specs.Laid.{cells_of, frame_of, frames_of, nowhere, no_frame, frame_extents_at, extent_of, extent_at, ExtentsLie, extents_end, FramesLie, frames_end, IsLaid}
+use Rattle.pml_store.specs.Laid.{cells_of, frame_of, frames_of, nowhere, no_frame, frame_extents_at, extent_of, ExtentsLie, extents_end, FramesLie, frames_end, IsLaid}
 
 pub frame_is : (os : List FrameExtents) (cells : List ℤ) (o : ℕ) → frame_at (frames_of os cells) o ≡ frame_of cells (frame_extents_at os o)
 frame_is os cells o = get_or-map (frame_of cells) os o no_frame
+
+-- where the cells of a place's variable are
+abbrev pub extent_at : List FrameExtents → Place → Extent
+extent_at frames p = extent_of frames p.frame p.variable
 
 pub cells_is : (os : List FrameExtents) (cells : List ℤ) (p : Place) → cells_at (frames_of os cells) p ≡ cells_of cells (extent_at os p)
 cells_is os cells p =

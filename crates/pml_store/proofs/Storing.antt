@@ -6,8 +6,8 @@ use Rattle.pml_store.specs.declared.place.Place.{Place}
 use Rattle.pml_store.specs.declared.store.Extent.{Extent}
 use Rattle.pml_store.specs.declared.store.FrameExtents.{FrameExtents}
 use Rattle.pml_store.specs.Store.{Contents, Frame, Cells, frame_at, with_number, HasPlace}
-use Rattle.pml_store.specs.Laid.{cells_of, frame_of, frames_of, nowhere, frame_extents_at, extent_at, ExtentsLie, extents_end, FramesLie, IsLaid}
-use Rattle.pml_store.proofs.Places.{extents_on, frame_is, cells_is, found}
+use Rattle.pml_store.specs.Laid.{cells_of, frame_of, frames_of, nowhere, frame_extents_at, ExtentsLie, extents_end, FramesLie, IsLaid}
+use Rattle.pml_store.proofs.Places.{extent_at, extents_on, frame_is, cells_is, found}
 
 extent_in : (ss : List Extent) (at v : ℕ) → ExtentsLie ss at → v < length ss → (at ≤ (get_or ss v nowhere).start) × ((get_or ss v nowhere).start + (get_or ss v nowhere).size ≤ extents_end ss at)
 extent_in [] at v h l = absurd (omega arith)

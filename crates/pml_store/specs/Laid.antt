@@ -2,7 +2,6 @@
 use Rattle.std.specs.Prelude.{◌≡◌, ℕ, ◌+◌, List, [], ◌∷◌, length, take, drop, ℤ, map, slice_index_or}
 use Rattle.pml_store.specs.declared.store.Extent.{Extent}
 use Rattle.pml_store.specs.declared.store.FrameExtents.{FrameExtents}
-use Rattle.pml_store.specs.declared.place.Place.{Place}
 use Rattle.pml_store.specs.Store.{Cells, Frame}
 
 abbrev pub cells_of : List ℤ → Extent → Cells
@@ -25,9 +24,6 @@ frame_extents_at frames n = slice_index_or frames n no_frame
 
 abbrev pub extent_of : List FrameExtents → ℕ → ℕ → Extent
 extent_of frames frame variable = slice_index_or (frame_extents_at frames frame).extents variable nowhere
-
-abbrev pub extent_at : List FrameExtents → Place → Extent
-extent_at frames p = extent_of frames p.frame p.variable
 
 -- the extents lie one after another, from here on
 abbrev pub ExtentsLie : List Extent → ℕ → Type 0

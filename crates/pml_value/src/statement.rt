@@ -2,6 +2,7 @@
 
 ghost use Rattle.std.specs.Prelude.{◌≡◌, ◌<◌, IfOk, IfSome};
 ghost use Rattle.pml_store.specs.Store.{size_at};
+ghost use Rattle.pml_eval.specs.Clip.{clipped};
 ghost use Rattle.pml_value.specs.Statement.{is_executable, goes, assigned, counted, outcome, TakesStatement};
 ghost use Rattle.pml_value.specs.Reads.{reading_of, seen};
 
@@ -12,6 +13,7 @@ use pml_eval::clip::clip;
 use pml_eval::eval::{eval, place};
 use pml_eval::ground::Ground;
 use pml_program::expr::{Expr, Target};
+use pml_program::form::Form;
 use pml_program::program::Action;
 use pml_store::place::Place;
 use pml_store::store::Store;
@@ -38,16 +40,24 @@ pub fn can_be_taken(action: &Action<'_>, view: &View<'_>) -> bool
     }
 }
 
+/// What a place of this type keeps of a number.
+fn kept(place: Place, form: Form, number: i32) -> Goes
+    ensures place { result.place ≡ place }
+    ensures number { result.number ≡ clipped form number }
+{
+    Goes {
+        place,
+        number: clip(form, number),
+    }
+}
+
 /// Where a number goes that is stored to this target.
 fn store_to(target: &Target, number: i32, view: &View<'_>) -> Result<Goes, Fault>
     ensures value { result ≡ goes target.now number (seen view.now) }
     ensures there { IfOk result (λ g. g.place.cell < size_at view.now.store.now.frames g.place.frame g.place.variable) }
 {
     let at = place(target, view)?;
-    Ok(Goes {
-        place: at,
-        number: clip(target.form, number),
-    })
+    Ok(kept(at, target.form, number))
 }
 
 /// The value of the right side, then the place of the left.
@@ -69,7 +79,7 @@ fn counted(target: &Target, by: i32, view: &View<'_>) -> Result<Option<Goes>, Fa
 {
     let at = place(target, view)?;
     let number = view.number(at).wrapping_add(by);
-    Ok(Some(store_to(target, number, view)?))
+    Ok(Some(kept(at, target.form, number)))
 }
 
 /// What a statement stores, if anything.

@@ -1,12 +1,12 @@
 //! A machine as a session sees it.
-ghost use Rattle.std.specs.Prelude.{◌≡◌, ◌++◌, List, ℕ, IfOk, OnOk, OnErr};
+ghost use Rattle.std.specs.Prelude.{◌≡◌, ◌++◌, List, ℕ, OnOk, OnErr};
 ghost use Rattle.std.specs.Io.{StartsWith};
 ghost use Rattle.std.specs.List.{Contains};
 ghost use Rattle.session.specs.Machine.{Rules};
 ghost use Rattle.session.specs.Takes.{CanBeShown, CanBeTaken, StopsForGood, TakesStep, StaysStopped};
 
 use diagnostics::Stop;
-use std::alloc::{AllocError, Global};
+use std::alloc::AllocError;
 
 /// A machine whose moves are taken one by one. Its `rules` are what contracts know of it: as functions of its state, the
 /// list of moves, what a step leads to, where it has stopped, and the texts.
@@ -17,10 +17,11 @@ pub trait Machine {
     /// Its moves, steps and texts.
     ghost rules: { Rules Self Self.Move };
 
-    /// All moves of the present state, in the order in which they are listed. A machine that has stopped has none.
-    fn moves(&self, alloc: Global) -> Result<Vec<Self::Move>, AllocError>
-        ensures all { IfOk result (λ moves. moves.items ≡ rules.moves self.now) }
-        ensures stopped { IfOk result (λ moves. StopsForGood rules self.now moves.items) };
+    /// Lists all moves of the present state, in order, in the place of what the list had: it is lent, so that a step without a
+    /// question need not take memory. A machine that has stopped has none. Where memory is refused the list has any moves.
+    fn moves(&self, moves: &mut Vec<Self::Move>) -> Result<(), AllocError>
+        ensures all { OnOk result (moves.new.items ≡ rules.moves self.now) }
+        ensures stopped { OnOk result (StopsForGood rules self.now moves.new.items) };
 
     /// Appends the text of a move of the present state, or of the one at which the machine has stopped. Where memory is refused,
     /// here and below, the text has its old bytes, perhaps with more behind them.

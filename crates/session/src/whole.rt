@@ -157,10 +157,10 @@ fn act<M: Machine, D: Devices>(
     Ok(Some(stop(cause_of(said), *steps, draft, devices)?))
 }
 
-// One turn: the end, or a step.
+// One turn: the end, or a step. The moves are listed in a buffer that is kept.
 fn turn<M: Machine, D: Devices>(
-    alloc: Global,
     machine: &mut M,
+    moves: &mut Vec<M::Move>,
     options: &Options,
     steps: &mut u32,
     over: &mut bool,
@@ -173,14 +173,14 @@ fn turn<M: Machine, D: Devices>(
     ensures falls { IfOk result (λ end. IfNone end ((steps.old < steps.new) × (steps.new ≤ options.now.limit))) }
     ensures count { CountsAll result (D.holds devices.old).failures (D.holds devices.new).failures }
 {
-    let moves = machine.moves(alloc)?;
+    machine.moves(moves)?;
     if moves.len() == 0 {
         return Ok(Some(finish(machine, *steps, draft, devices)?));
     }
     if *steps == options.limit {
         return Ok(Some(stop(Cause::StepLimit, *steps, draft, devices)?));
     }
-    act(machine, &moves, options, steps, over, draft, devices)
+    act(machine, &*moves, options, steps, over, draft, devices)
 }
 
 /// Runs the session to its end, and counts its steps.
@@ -197,10 +197,11 @@ pub fn run<M: Machine, D: Devices>(
     ensures count { CountsAll result (D.holds devices.old).failures (D.holds devices.new).failures }
 {
     let mut over = false;
+    let mut moves = Vec::new(alloc);
     let mut draft = Draft::new(alloc);
     loop {
         if let Some(end) = turn(
-            alloc, machine, options, steps, &mut over, &mut draft, devices,
+            machine, &mut moves, options, steps, &mut over, &mut draft, devices,
         )? {
             return Ok(end);
         }

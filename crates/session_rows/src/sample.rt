@@ -4,7 +4,7 @@ ghost use Rattle.session_rows.specs.Samples.{sample_rules};
 
 use diagnostics::Fault;
 use session::{Machine, Stop};
-use std::alloc::{AllocError, Global};
+use std::alloc::AllocError;
 
 /// One process that sets `x` to 1 or 2, for some rounds or without end, and then dies.
 #[derive(Clone, Copy, Debug, PartialEq, Eq)]
@@ -60,8 +60,8 @@ impl Machine for Sample {
 
     ghost rules = { sample_rules };
 
-    fn moves(&self, alloc: Global) -> Result<Vec<u8>, AllocError> {
-        let mut moves = Vec::new(alloc);
+    fn moves(&self, moves: &mut Vec<u8>) -> Result<(), AllocError> {
+        moves.clear();
         match *self {
             Sample::Rounds(r) => {
                 if r.endless || r.left > 0 {
@@ -89,7 +89,7 @@ impl Machine for Sample {
             }
             Sample::Stopped(_, _) => {}
         }
-        Ok(moves)
+        Ok(())
     }
 
     fn show(&self, m: &u8, text: &mut Vec<u8>) -> Result<(), AllocError> {
