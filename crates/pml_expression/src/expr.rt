@@ -313,6 +313,7 @@ fn alternatives<'a>(
 }
 
 #[cycle(expr)]
+#[inline(never)]
 #[tactic(auto, unfolding(crate::specs::Reading::group, crate::specs::Reading::expr_behind, crate::specs::Reading::and_then))]
 fn group<'a>(alloc: Global, depth: usize, tokens: &mut Cursor<'a>) -> Result<Expr<'a>, ReadFault>
     ensures { Reads (reading.group (reading.expr depth) tokens.old) result tokens.new }
@@ -325,6 +326,7 @@ fn group<'a>(alloc: Global, depth: usize, tokens: &mut Cursor<'a>) -> Result<Exp
 
 /// A reference, or a poll of it.
 #[cycle(expr)]
+#[inline(never)]
 #[tactic(auto, unfolding(crate::specs::Reading::variable, crate::specs::Reading::and_then))]
 fn variable<'a>(alloc: Global, depth: usize, tokens: &mut Cursor<'a>) -> Result<Expr<'a>, ReadFault>
     ensures { Reads (reading.variable (reading.expr depth) tokens.old) result tokens.new }
@@ -335,6 +337,7 @@ fn variable<'a>(alloc: Global, depth: usize, tokens: &mut Cursor<'a>) -> Result<
 
 /// What is asked of a channel, behind the word.
 #[cycle(expr)]
+#[inline(never)]
 #[tactic(auto, unfolding(crate::specs::Reading::ask, crate::specs::Reading::and_then))]
 fn ask<'a>(
     alloc: Global,
@@ -412,6 +415,7 @@ fn infix_with<'a>(
 
 /// Goes on from an expression on the left, as long as operators of the level come.
 #[cycle(expr)]
+#[inline(never)]
 #[tactic(auto, unfolding(crate::specs::Reading::climb, crate::specs::Reading::and_then, crate::specs::Reading::pick))]
 pub fn climb<'a>(
     alloc: Global,
