@@ -1,5 +1,5 @@
-//! Bodies, and the lines, valid end points, outermost atomics and levels of their points.
-use crate::shown::{has_levels, has_marks};
+//! Bodies, and the lines, valid end points, outermost atomics, levels and texts of their points.
+use crate::shown::{has_levels, has_marks, has_texts};
 use std::test::Fail;
 
 #[test]
@@ -95,4 +95,52 @@ fn levels_of_options(rt: HostRuntime) -> Result<(), Fail> {
 6: 3 2
 ";
     has_levels(&rt, rt.alloc(), text, levels)
+}
+
+#[test]
+fn texts_of_each_kind_of_offer(rt: HostRuntime) -> Result<(), Fail> {
+    let text = "byte x;
+init {
+  if
+  :: L: x = 1 -> goto M
+  :: d_step { x = 2;
+       x = 3 }
+  :: goto M
+  :: else
+  fi;
+M:
+  do :: break
+  :: x++ od
+  unless { printf(\"%d\\n\", x) }
+}";
+    let texts = "0:
+1: line 13 [printf ( \"%d\\n\" , x )];
+2: line 11 [break]; line 12 [x ++]; line 13 [printf ( \"%d\\n\" , x )];
+3: line 12 [x ++]; line 13 [printf ( \"%d\\n\" , x )];
+4: line 8 [else];
+5: line 6 [x = 3];
+6: line 5 [x = 2];
+7: line 5 [d_step];
+8: line 4 [x = 1];
+9: line 4 [x = 1]; line 5 [d_step]; line 7 [goto M]; line 8 [else];
+";
+    has_texts(&rt, rt.alloc(), text, texts)
+}
+
+#[test]
+fn the_line_of_a_text_is_that_of_its_first_token(rt: HostRuntime) -> Result<(), Fail> {
+    let text = "byte x; init {
+A: B:
+  x =
+  1;
+  { C:
+  x = 2 } unless
+  { skip; x = 3 } }";
+    let texts = "0:
+1: line 7 [x = 3];
+2: line 7 [skip];
+3: line 6 [x = 2]; line 7 [skip];
+4: line 3 [x = 1];
+";
+    has_texts(&rt, rt.alloc(), text, texts)
 }

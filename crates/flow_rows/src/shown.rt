@@ -5,6 +5,8 @@
 //!
 //! The levels of a node are how many offers each has, from the lowest.
 //!
+//! The texts of a node are those of its edges, each with `;` behind it.
+//!
 //! What is known of nodes besides is a line for each: its line in the text, `end` where it is a valid end point, and `atomic N`
 //! where it lies in an atomic, N being the first node with the same outermost one.
 use pml_control::findings::examine;
@@ -28,6 +30,7 @@ use std::test::Fail;
 struct Read {
     edges: String,
     levels: String,
+    texts: String,
     marks: String,
 }
 
@@ -35,14 +38,19 @@ fn add_number(alloc: Global, out: &mut String, number: usize) -> Result<(), Allo
     out.push_str(format!(in alloc; "{number}")?.as_str())
 }
 
+fn add_bytes(out: &mut String, bytes: &[u8]) -> Result<(), AllocError> {
+    for byte in bytes {
+        out.push(char::from(*byte))?;
+    }
+    Ok(())
+}
+
 fn add_tokens(out: &mut String, tokens: &[Token<'_>]) -> Result<(), AllocError> {
     for (number, token) in tokens.iter().enumerate() {
         if number > 0 {
             out.push(' ')?;
         }
-        for byte in token.text() {
-            out.push(char::from(*byte))?;
-        }
+        add_bytes(out, token.text())?;
     }
     Ok(())
 }
@@ -58,10 +66,11 @@ fn add_edge(
     alloc: Global,
     out: &mut String,
     statements: &Statements<'_, '_>,
+    level: usize,
     edge: Edge,
 ) -> Result<(), AllocError> {
     out.push(' ')?;
-    add_number(alloc, out, edge.level)?;
+    add_number(alloc, out, level)?;
     out.push_str(" [")?;
     if let Some(stmt) = statements.get(edge.statement) {
         add_statement(out, stmt)?;
@@ -81,17 +90,33 @@ fn add_edge(
     out.push(';')
 }
 
+fn add_level(
+    alloc: Global,
+    out: &mut String,
+    statements: &Statements<'_, '_>,
+    level: usize,
+    edges: &[Edge],
+) -> Result<(), AllocError> {
+    for edge in edges {
+        add_edge(alloc, out, statements, level, *edge)?;
+    }
+    Ok(())
+}
+
 fn add_node(
     alloc: Global,
     out: &mut String,
     statements: &Statements<'_, '_>,
-    edges: &[Edge],
+    graph: &Graph,
     node: usize,
 ) -> Result<(), AllocError> {
+    if node >= graph.node_count() {
+        return Ok(());
+    }
     add_number(alloc, out, node)?;
     out.push(':')?;
-    for edge in edges {
-        add_edge(alloc, out, statements, *edge)?;
+    for level in 0..graph.level_count(node) {
+        add_level(alloc, out, statements, level, graph.level(node, level))?;
     }
     out.push('\n')
 }
@@ -103,7 +128,7 @@ fn shown_edges(alloc: Global, body: &Seq<'_>, graph: &Graph) -> Result<String, A
     add_number(alloc, &mut out, graph.start())?;
     out.push('\n')?;
     for node in 0..graph.node_count() {
-        add_node(alloc, &mut out, &statements, graph.edges(node), node)?;
+        add_node(alloc, &mut out, &statements, graph, node)?;
     }
     Ok(out)
 }
@@ -130,6 +155,40 @@ fn shown_levels(alloc: Global, graph: &Graph) -> Result<String, AllocError> {
     let mut out = String::new(alloc);
     for node in 0..graph.node_count() {
         add_levels(alloc, &mut out, graph, node)?;
+    }
+    Ok(out)
+}
+
+fn add_texts(out: &mut String, graph: &Graph, edges: &[Edge]) -> Result<(), AllocError> {
+    for edge in edges {
+        out.push(' ')?;
+        add_bytes(out, graph.text(edge.statement))?;
+        out.push(';')?;
+    }
+    Ok(())
+}
+
+fn add_node_texts(
+    alloc: Global,
+    out: &mut String,
+    graph: &Graph,
+    node: usize,
+) -> Result<(), AllocError> {
+    if node >= graph.node_count() {
+        return Ok(());
+    }
+    add_number(alloc, out, node)?;
+    out.push(':')?;
+    for level in 0..graph.level_count(node) {
+        add_texts(out, graph, graph.level(node, level))?;
+    }
+    out.push('\n')
+}
+
+fn shown_texts(alloc: Global, graph: &Graph) -> Result<String, AllocError> {
+    let mut out = String::new(alloc);
+    for node in 0..graph.node_count() {
+        add_node_texts(alloc, &mut out, graph, node)?;
     }
     Ok(out)
 }
@@ -162,13 +221,15 @@ fn shown_marks(alloc: Global, graph: &Graph) -> Result<String, AllocError> {
 }
 
 fn shown_proctype(alloc: Global, proctype: &Proctype<'_>) -> Result<Read, Fail> {
-    if examine(alloc, &proctype.body)?.circle {
+    let plan = examine(alloc, &proctype.body)?;
+    if plan.findings().circle {
         return Err(Fail::from("the text has a circle of gotos"));
     }
-    let graph = Graph::build(alloc, proctype)?;
+    let graph = Graph::build(alloc, proctype, &plan)?;
     Ok(Read {
         edges: shown_edges(alloc, &proctype.body, &graph)?,
         levels: shown_levels(alloc, &graph)?,
+        texts: shown_texts(alloc, &graph)?,
         marks: shown_marks(alloc, &graph)?,
     })
 }
@@ -230,5 +291,11 @@ pub fn has_levels<R: Abort>(rt: &R, alloc: Global, text: &str, levels: &str) -> 
 /// The nodes of a text's first proctype are marked so.
 pub fn has_marks<R: Abort>(rt: &R, alloc: Global, text: &str, marks: &str) -> Result<(), Fail> {
     are_same(rt, of_text(alloc, text)?.marks.as_str(), marks);
+    Ok(())
+}
+
+/// The edges of the nodes of a text's first proctype have these texts.
+pub fn has_texts<R: Abort>(rt: &R, alloc: Global, text: &str, texts: &str) -> Result<(), Fail> {
+    are_same(rt, of_text(alloc, text)?.texts.as_str(), texts);
     Ok(())
 }

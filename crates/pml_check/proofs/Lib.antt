@@ -1,4 +1,5 @@
 pub mod Looking
+pub mod Pairing
 pub mod Subjects
 pub mod Exclusive
 pub mod Models

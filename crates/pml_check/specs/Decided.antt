@@ -32,7 +32,7 @@ abbrev pub Decides : Bool → Refusal → List Mark → Program → Type 0
 Decides true x ms p = AppliesTo x ms p
 Decides false x ms p = FitsTo x ms p
 
--- the refusals that are judged on the tree, in the order of their numbers
+-- The refusals that are judged on the tree, in the order of their numbers. No clause of a public function cites it.
 abbrev pub all_judged : List Refusal
 all_judged =
     r.NameTwice ∷ r.UnknownName ∷ r.WrongKind ∷ r.ArgumentCount ∷ r.Label ∷ r.BreakOutsideDo ∷ r.DStep ∷ r.CircleOfGotos ∷ r.NumberOutOfRange

@@ -5,10 +5,11 @@ use Rattle.pml_marks.specs.Marks.{of_tree}
 use Rattle.pml_names.specs.Env.{env}
 use Rattle.pml_resolve.specs.Model.{numbered_model}
 use Rattle.pml_conditions.specs.Decided.{AreFound}
+use Rattle.pml_control.specs.Plan.{ArePlans}
 use Rattle.pml_check.specs.Decided.{DecidesCircles, DecidesSteps}
 use Rattle.pml_check.specs.declared.subject.Subject.{Subject}
 
--- the marks, the names and the numbered model of a tree, and what is found of its control
+-- the marks, the names and the numbered model of a tree, the plans of its bodies, and what is found of their control
 pub record IsSubject (t : Tree) (s : Subject) : Type 0 where
   pub marks : s.marks ≡ of_tree t
   pub names : s.names.table ≡ env (of_tree t)
@@ -16,3 +17,4 @@ pub record IsSubject (t : Tree) (s : Subject) : Type 0 where
   pub program : s.program ≡ numbered_model t
   pub circles : DecidesCircles s.control.circle (numbered_model t).proctypes
   pub steps : DecidesSteps s.control.bad_first_point (numbered_model t).proctypes
+  pub plans : ArePlans (numbered_model t).proctypes s.plans.items

@@ -5,9 +5,11 @@ ghost use Rattle.pml_check.specs.Judged.{IsFit, IsLeast};
 ghost use Rattle.pml_check.specs.Checked.{IsRefused};
 ghost use Rattle.pml_stands.specs.StandsModel.{StandsModel};
 
+use crate::control::all_graphs;
 use crate::judge::first_of;
 use crate::subject::{Subject, subject_of};
 use diagnostics::Refusal;
+use pml_flow::graph::Graph;
 use pml_program::program::Program;
 use pml_tree::tree::Tree;
 use sqlite_items::Boxed;
@@ -49,10 +51,11 @@ const JUDGED: [Refusal; 13] = [
     Refusal::Initialiser,
 ];
 
-/// A model that fits all conditions, with its names replaced by what they stand for.
+/// A model that fits all conditions, with its names replaced by what they stand for, and the control graphs of its proctypes.
 #[derive(Drop)]
 pub struct Checked<'a> {
     program: Boxed<Program<'a>>,
+    graphs: Vec<Graph>,
 }
 
 impl<'a> Model for Checked<'a> {
@@ -70,15 +73,24 @@ impl<'a> Model for Checked<'a> {
 
     ghost view = { λ c. c.program };
 
-    ghost invariant = { λ c. IsChecked c.program };
+    ghost invariant = { λ c. IsChecked c.program c.graphs.items };
 }
 
 impl<'a> Checked<'a> {
+    ghost use Rattle.pml_flow.specs.Flow.{AreGraphs};
+
     /// The model.
     pub fn program(&self) -> &Program<'a>
         ensures { result.now ≡ self.now }
     {
         self.program.get()
+    }
+
+    /// The control graphs of its proctypes, in their order.
+    pub fn graphs(&self) -> &[Graph]
+        ensures { AreGraphs self.now.proctypes result.now }
+    {
+        self.graphs.as_slice()
     }
 }
 
@@ -92,6 +104,7 @@ pub fn check<'a>(alloc: Global, tree: &Tree<'a>) -> Result<Checked<'a>, CheckFau
     if let Some(refusal) = first_of(alloc, &JUDGED, &subject)? {
         return Err(CheckFault::Refused(refusal));
     }
-    let Subject { program, .. } = subject;
-    Ok(Checked { program })
+    let Subject { program, plans, .. } = subject;
+    let graphs = all_graphs(alloc, program.get().proctypes.as_slice(), plans.as_slice())?;
+    Ok(Checked { program, graphs })
 }

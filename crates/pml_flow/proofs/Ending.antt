@@ -21,7 +21,7 @@ use Rattle.pml_flow.proofs.Differing.{one_node}
 
 -- ---- lines
 
-read_map : {X Y : Type 0} (f : X → Y) (xs : List X) (k : ℕ) (x : X) (d : Y) → slice_get xs k ≡ Some x → slice_index_or (map f xs) k d ≡ f x
+pub read_map : {X Y : Type 0} (f : X → Y) (xs : List X) (k : ℕ) (x : X) (d : Y) → slice_get xs k ≡ Some x → slice_index_or (map f xs) k d ≡ f x
 read_map f [] k x d h = cc
 read_map f (y ∷ xs) zero x d h = let e : y ≡ x = cc in ap f e
 read_map f (y ∷ xs) (suc k) x d h = read_map f xs k x d h
@@ -70,7 +70,7 @@ set-length [] m = refl
 set-length (x ∷ bs) zero = refl
 set-length (x ∷ bs) (suc m) = ap suc (set-length bs m)
 
-mark_keeps : (bs : List Bool) (m n : ℕ) → is_end_at bs n ≡ true → is_end_at (mark bs m) n ≡ true
+pub mark_keeps : (bs : List Bool) (m n : ℕ) → is_end_at bs n ≡ true → is_end_at (mark bs m) n ≡ true
 mark_keeps bs m n h = by_case (nat_lt m (length bs))
   where
     by_case : (t : Bool) → is_end_at (cond t (slice_set bs m true) bs) n ≡ true
@@ -84,14 +84,14 @@ mark_sound bs m n h = by_case (nat_lt m (length bs)) h
     by_case true h = set_sound bs m n h
     by_case false h = inr h
 
-mark_sets : (bs : List Bool) (m : ℕ) → m < length bs → is_end_at (mark bs m) m ≡ true
+pub mark_sets : (bs : List Bool) (m : ℕ) → m < length bs → is_end_at (mark bs m) m ≡ true
 mark_sets bs m h = by_case (nat_lt m (length bs)) refl
   where
     by_case : (t : Bool) → nat_lt m (length bs) ≡ t → is_end_at (cond t (slice_set bs m true) bs) m ≡ true
     by_case true e = set_sets bs m h
     by_case false e = let l = lt_false m (length bs) e in absurd (omega (arith, h, l))
 
-mark-length : (bs : List Bool) (m : ℕ) → length (mark bs m) ≡ length bs
+pub mark-length : (bs : List Bool) (m : ℕ) → length (mark bs m) ≡ length bs
 mark-length bs m = by_case (nat_lt m (length bs))
   where
     by_case : (t : Bool) → length (cond t (slice_set bs m true) bs) ≡ length bs

@@ -1,29 +1,32 @@
 //! The control graph of a proctype.
 
-ghost use Rattle.std.specs.Prelude.{◌≡◌, ℕ, ◌<◌, ◌-◌, ◌++◌, IfOk, OnOk, length, map, slice_get, slice_index_or, slice_range};
+ghost use Rattle.std.specs.Prelude.{◌≡◌, ℕ, ◌<◌, ◌-◌, ◌++◌, [], false, IfOk, OnOk, length, map, replicate, slice_get, slice_index_or};
 ghost use Rattle.std.specs.Option.{option_copied};
 ghost use Rattle.pml_control.specs.Control.{SettlesEverywhere};
-ghost use Rattle.pml_flow.specs.Flow.{kept, ranks_from, rank, node_by, targets, end_by, end_of, same_number, site_of, entry_by, edge, edges_level, edges_from, bounds_from, begin_of, node_of, node_at, edges_of, level_of, levels_of, atomic_in, is_end_at, IsGraph};
+ghost use Rattle.pml_control.specs.Plan.{IsPlan};
+ghost use Rattle.pml_flow.specs.Parts.{all_of, bounds_from};
+ghost use Rattle.pml_flow.specs.Texts.{text_at};
+ghost use Rattle.pml_flow.specs.Flow.{kept, ranks_from, rank, node_by, targets, end_by, end_of, same_number, site_of, entry_by, edge, edges_level, all_edges, levels_by, all_levels, node_of, node_at, levels_of, atomic_in, is_end_at, mark_edges, IsGraph};
 
 use crate::edge::Edge;
 use crate::level::{Level, Way};
 use crate::lines::kept_lines;
-use crate::marks::valid_ends;
+use crate::marks::{mark, valid_ends};
+use crate::parts::{begin_of, bound, part_of};
 use crate::site::Site;
 use crate::sites::sites;
 use crate::statements::all_statements;
-use pml_control::ends::{Ending, ends};
-use pml_control::graph::nodes;
-use pml_control::labels::nexts;
+use crate::text::{Texts, all_texts};
+use pml_control::ends::Ending;
+use pml_control::findings::Plan;
 use pml_program::program::Proctype;
 use std::alloc::{AllocError, Global};
 use std::marker::Model;
 
-/// Where settling ends: the offers there, and the outermost atomic that it lies in.
+/// Where settling ends: the levels of offers there, and the outermost atomic that it lies in.
 #[derive(Drop)]
 pub struct Node {
-    edges: Vec<Edge>,
-    bounds: Vec<usize>,
+    levels: Vec<usize>,
     atomic: Option<usize>,
 }
 
@@ -32,7 +35,7 @@ impl Model for Node {
 
     ghost Value = { Node };
 
-    ghost view = { λ n. record { edges = n.edges.items; bounds = n.bounds.items; atomic = n.atomic } };
+    ghost view = { λ n. record { levels = n.levels.items; atomic = n.atomic } };
 }
 
 /// What edges are made from, by the numbers of places: the node and the number where settling ends from each, and the sites.
@@ -51,13 +54,32 @@ impl<'t> Model for Tables<'t> {
     ghost view = { λ t. record { targets = t.targets.now; ends = t.ends.now; sites = t.sites.now } };
 }
 
-/// The control graph of a proctype.
+/// The edges of all places, level by level: where each level ends among them, and where those of each number end among the levels.
+#[derive(Drop)]
+struct AllEdges {
+    edges: Vec<Edge>,
+    bounds: Vec<usize>,
+    numbers: Vec<usize>,
+}
+
+impl Model for AllEdges {
+    ghost use Rattle.pml_flow.specs.Flow.{AllEdges};
+
+    ghost Value = { AllEdges };
+
+    ghost view = { λ a. record { edges = a.edges.items; bounds = a.bounds.items; numbers = a.numbers.items } };
+}
+
+/// The control graph of a proctype. Nodes under one escape have its edges in common.
 #[derive(Drop)]
 pub struct Graph {
     start: usize,
     nodes: Vec<Node>,
+    edges: Vec<Edge>,
+    bounds: Vec<usize>,
     lines: Vec<u32>,
     ends: Vec<bool>,
+    texts: Texts,
 }
 
 impl Model for Graph {
@@ -65,36 +87,42 @@ impl Model for Graph {
 
     ghost Value = { Graph };
 
-    ghost view = { λ g. record { start = g.start; nodes = g.nodes.items; lines = g.lines.items; ends = g.ends.items } };
+    ghost view = { λ g. record { start = g.start; nodes = g.nodes.items; edges = g.edges.items; bounds = g.bounds.items; lines = g.lines.items; ends = g.ends.items; texts = g.texts } };
 }
 
 impl Graph {
-    /// The graph of a proctype. Takes time and memory in proportion to the body and to the edges.
-    pub fn build(alloc: Global, proctype: &Proctype<'_>) -> Result<Graph, AllocError>
-        requires { SettlesEverywhere proctype.now.body }
+    /// The graph of a proctype, by its plan. Takes time and memory in proportion to the body and to the edges.
+    pub fn build(alloc: Global, proctype: &Proctype<'_>, plan: &Plan) -> Result<Graph, AllocError>
+        requires settles { SettlesEverywhere proctype.now.body }
+        requires plan { IsPlan proctype.now.body plan.now }
         ensures { IfOk result (λ g. IsGraph proctype.now.body proctype.now.end.line g) }
     {
-        let table = nodes(alloc, &proctype.body)?;
-        let next = nexts(alloc, table.as_slice())?;
-        let ends = ends(alloc, next.as_slice())?;
-        let ranks = ranks(alloc, next.as_slice())?;
-        let targets = targets(alloc, ranks.as_slice(), ends.as_slice())?;
+        let next = plan.next();
+        let ranks = ranks(alloc, next)?;
+        let targets = targets(alloc, ranks.as_slice(), plan.ends())?;
         let sites = sites(alloc, &proctype.body)?;
         let tables = Tables {
             targets: targets.as_slice(),
-            ends: ends.as_slice(),
+            ends: plan.ends(),
             sites: sites.as_slice(),
         };
-        let nodes = kept_nodes(alloc, &tables, next.as_slice())?;
+        let all = all_edges(alloc, &tables)?;
+        let nodes = kept_nodes(alloc, all.numbers.as_slice(), sites.as_slice(), next)?;
         let start = start_of(targets.as_slice());
         let statements = all_statements(alloc, &proctype.body)?;
-        let lines = kept_lines(alloc, next.as_slice(), &statements, proctype.end.line())?;
+        let lines = kept_lines(alloc, next, &statements, proctype.end.line())?;
         let ends = valid_ends(alloc, nodes.len(), targets.as_slice(), &statements)?;
+        let offered = offered(alloc, next.len(), all.edges.as_slice())?;
+        let texts = all_texts(alloc, &statements, offered.as_slice())?;
+        let AllEdges { edges, bounds, .. } = all;
         Ok(Graph {
             start,
             nodes,
+            edges,
+            bounds,
             lines,
             ends,
+            texts,
         })
     }
 
@@ -112,34 +140,28 @@ impl Graph {
         self.nodes.len()
     }
 
-    /// The offers of a node, by level and then in text order.
-    pub fn edges(&self, node: usize) -> &[Edge]
-        requires { node < length self.now.nodes }
-        ensures { result.now ≡ edges_of (slice_get self.now.nodes node) }
-    {
-        self.nodes[node].edges.as_slice()
-    }
-
     /// How many levels of offers a node has.
     pub fn level_count(&self, node: usize) -> usize
         requires { node < length self.now.nodes }
-        ensures { result ≡ levels_of (slice_get self.now.nodes node) }
+        ensures { result ≡ length (levels_of self.now (slice_get self.now.nodes node)) }
     {
-        self.nodes[node].bounds.len()
+        self.nodes[node].levels.len()
     }
 
-    /// The offers of one level of a node, in text order.
+    /// The offers of one level of a node, in text order; none where there is no such level.
     pub fn level(&self, node: usize, level: usize) -> &[Edge]
         requires { node < length self.now.nodes }
-        ensures { result.now ≡ level_of (slice_get self.now.nodes node) level }
+        ensures { result.now ≡ slice_index_or (levels_of self.now (slice_get self.now.nodes node)) level [] }
     {
-        let here = &self.nodes[node];
-        let bounds = here.bounds.as_slice();
-        between(
-            here.edges.as_slice(),
-            begin_of(bounds, level),
-            bound(bounds, level),
-        )
+        let levels = self.nodes[node].levels.as_slice();
+        part_of(self.edges.as_slice(), self.bounds.as_slice(), levels, level)
+    }
+
+    /// The text of a statement that an edge offers, `line L [TEXT]`, by its number.
+    pub fn text(&self, statement: usize) -> &[u8]
+        ensures { result.now ≡ text_at self.now.texts statement }
+    {
+        self.texts.get(statement)
     }
 
     /// The line of what stands first at a node: that of its first token, or of the closing brace.
@@ -169,34 +191,6 @@ impl Graph {
     {
         self.nodes[node].atomic
     }
-}
-
-/// Where a level ends among the edges.
-fn bound(bounds: &[usize], level: usize) -> usize
-    ensures { result ≡ slice_index_or bounds.now level 0 }
-{
-    match bounds.get(level) {
-        Some(bound) => *bound,
-        None => 0,
-    }
-}
-
-/// Where a level begins among the edges.
-fn begin_of(bounds: &[usize], level: usize) -> usize
-    ensures { result ≡ begin_of bounds.now level }
-{
-    if level == 0 {
-        return 0;
-    }
-    bound(bounds, level - 1)
-}
-
-/// The edges from one place to another.
-fn between(edges: &[Edge], from: usize, to: usize) -> &[Edge]
-    ensures { result.now ≡ slice_range edges.now from to }
-{
-    let end = to.min(edges.len());
-    &edges[from.min(end)..end]
 }
 
 fn start_of(targets: &[usize]) -> usize
@@ -306,12 +300,11 @@ fn entry_by(targets: &[usize], entry: Option<usize>) -> Option<usize>
 }
 
 /// The edge of a way.
-fn edge(tables: &Tables<'_>, level: usize, way: Way) -> Edge
-    ensures { result ≡ edge tables.now level way }
+fn edge(tables: &Tables<'_>, way: Way) -> Edge
+    ensures { result ≡ edge tables.now way }
 {
     let end = end_of(tables.ends, way.target);
     Edge {
-        level,
         statement: way.statement,
         target: rank(tables.targets, way.target),
         keeps: is_same(
@@ -324,48 +317,72 @@ fn edge(tables: &Tables<'_>, level: usize, way: Way) -> Edge
 }
 
 /// Adds the edges of a level, which has the last way in text order first.
-fn add_edges(
-    tables: &Tables<'_>,
-    level: usize,
-    ways: &[Way],
-    edges: &mut Vec<Edge>,
-) -> Result<(), AllocError>
-    ensures { OnOk result (edges.new.items ≡ edges.old.items ++ edges_level tables.now level ways.now) }
+fn add_edges(tables: &Tables<'_>, ways: &[Way], edges: &mut Vec<Edge>) -> Result<(), AllocError>
+    ensures { OnOk result (edges.new.items ≡ edges.old.items ++ edges_level tables.now ways.now) }
 {
     let mut left = ways.len();
     while left > 0 {
         left -= 1;
-        edges.push(edge(tables, level, ways[left]))?;
+        edges.push(edge(tables, ways[left]))?;
     }
     Ok(())
 }
 
-/// The edges of all levels. Adds where each level ends among them.
-fn all_edges(
-    alloc: Global,
+/// Adds the edges of levels, and where each level ends.
+fn add_levels(
     tables: &Tables<'_>,
     ways: &[Level],
+    edges: &mut Vec<Edge>,
     bounds: &mut Vec<usize>,
-) -> Result<Vec<Edge>, AllocError>
-    ensures edges { IfOk result (λ v. v.items ≡ edges_from tables.now 0 ways.now) }
-    ensures bounds { OnOk result (bounds.new.items ≡ bounds.old.items ++ bounds_from 0 ways.now) }
+) -> Result<(), AllocError>
+    ensures edges { OnOk result (edges.new.items ≡ edges.old.items ++ all_of (map (edges_level tables.now) ways.now)) }
+    ensures bounds { OnOk result (bounds.new.items ≡ bounds.old.items ++ bounds_from (length edges.old.items) (map (edges_level tables.now) ways.now)) }
 {
-    let mut edges = Vec::new(alloc);
-    for (number, level) in ways.iter().enumerate() {
-        add_edges(tables, number, level.ways(), &mut edges)?;
+    for level in ways {
+        add_edges(tables, level.ways(), edges)?;
         bounds.push(edges.len())?;
     }
-    Ok(edges)
+    Ok(())
 }
 
-fn node_of(alloc: Global, tables: &Tables<'_>, site: &Site) -> Result<Node, AllocError>
-    ensures { IfOk result (λ n. n ≡ node_of tables.now site.now) }
+/// The edges of all places.
+fn all_edges(alloc: Global, tables: &Tables<'_>) -> Result<AllEdges, AllocError>
+    ensures { IfOk result (λ a. a ≡ all_edges tables.now) }
 {
+    let mut edges = Vec::new(alloc);
     let mut bounds = Vec::new(alloc);
-    let edges = all_edges(alloc, tables, site.ways(), &mut bounds)?;
-    Ok(Node {
+    let mut numbers = Vec::new(alloc);
+    for site in tables.sites {
+        add_levels(tables, site.ways(), &mut edges, &mut bounds)?;
+        numbers.push(bounds.len())?;
+    }
+    Ok(AllEdges {
         edges,
         bounds,
+        numbers,
+    })
+}
+
+/// Adds the levels of a number.
+fn add_numbers(numbers: &[usize], number: usize, levels: &mut Vec<usize>) -> Result<(), AllocError>
+    ensures { OnOk result (levels.new.items ≡ levels.old.items ++ levels_by numbers.now number) }
+{
+    for level in begin_of(numbers, number)..bound(numbers, number) {
+        levels.push(level)?;
+    }
+    Ok(())
+}
+
+/// The node of a place: the levels that it shows, its own and those of the escapes above it.
+fn node_of(alloc: Global, numbers: &[usize], site: &Site) -> Result<Node, AllocError>
+    ensures { IfOk result (λ n. n ≡ node_of numbers.now site.now) }
+{
+    let mut levels = Vec::new(alloc);
+    for number in site.shows() {
+        add_numbers(numbers, *number, &mut levels)?;
+    }
+    Ok(Node {
+        levels,
         atomic: site.atomic(),
     })
 }
@@ -373,17 +390,17 @@ fn node_of(alloc: Global, tables: &Tables<'_>, site: &Site) -> Result<Node, Allo
 /// Adds the node of a number, where settling ends there.
 fn add_node(
     alloc: Global,
-    tables: &Tables<'_>,
+    numbers: &[usize],
     step: Option<usize>,
     site: Option<&Site>,
     nodes: &mut Vec<Node>,
 ) -> Result<(), AllocError>
-    ensures { OnOk result (nodes.new.items ≡ nodes.old.items ++ node_at tables.now step (option_copied site.entry)) }
+    ensures { OnOk result (nodes.new.items ≡ nodes.old.items ++ node_at numbers.now step (option_copied site.entry)) }
 {
     match step {
         Some(_) => Ok(()),
         None => match site {
-            Some(site) => Ok(nodes.push(node_of(alloc, tables, site)?)?),
+            Some(site) => Ok(nodes.push(node_of(alloc, numbers, site)?)?),
             None => Ok(()),
         },
     }
@@ -398,20 +415,34 @@ fn site_at(sites: &[Site], number: usize) -> Option<&Site>
 /// A node for each number where settling ends.
 fn kept_nodes(
     alloc: Global,
-    tables: &Tables<'_>,
+    numbers: &[usize],
+    sites: &[Site],
     next: &[Option<usize>],
 ) -> Result<Vec<Node>, AllocError>
-    ensures { IfOk result (λ v. v.items ≡ map (node_of tables.now) (kept next.now tables.now.sites)) }
+    ensures { IfOk result (λ v. v.items ≡ map (node_of numbers.now) (kept next.now sites.now)) }
 {
     let mut nodes = Vec::new(alloc);
     for (number, step) in next.iter().enumerate() {
-        add_node(
-            alloc,
-            tables,
-            *step,
-            site_at(tables.sites, number),
-            &mut nodes,
-        )?;
+        add_node(alloc, numbers, *step, site_at(sites, number), &mut nodes)?;
     }
     Ok(nodes)
+}
+
+/// Marks the statements that edges offer.
+fn mark_edges(marks: &mut Vec<bool>, edges: &[Edge])
+    ensures { marks.new.items ≡ mark_edges marks.old.items edges.now }
+{
+    for edge in edges {
+        mark(marks, edge.statement);
+    }
+}
+
+/// Which statements edges offer, of so many numbers.
+fn offered(alloc: Global, count: usize, edges: &[Edge]) -> Result<Vec<bool>, AllocError>
+    ensures { IfOk result (λ v. v.items ≡ mark_edges (replicate count false) edges.now) }
+{
+    let mut marks = Vec::new(alloc);
+    marks.resize(count, false)?;
+    mark_edges(&mut marks, edges);
+    Ok(marks)
 }

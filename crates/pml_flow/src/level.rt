@@ -75,18 +75,25 @@ pub fn one(alloc: Global, way: Way) -> Result<Vec<Level>, AllocError>
     Ok(levels)
 }
 
-/// Copies of these levels, and of others above them.
-pub fn stacked(alloc: Global, low: &[Level], high: &[Level]) -> Result<Vec<Level>, AllocError>
-    ensures { IfOk result (λ v. v.items ≡ low.now ++ high.now) }
+/// Copies of these levels.
+pub fn copies(alloc: Global, levels: &[Level]) -> Result<Vec<Level>, AllocError>
+    ensures { IfOk result (λ v. v.items ≡ levels.now) }
 {
-    let mut levels = Vec::new(alloc);
-    for level in low {
+    let mut copied = Vec::new(alloc);
+    for level in levels {
+        copied.push(level.copy(alloc)?)?;
+    }
+    Ok(copied)
+}
+
+/// Adds copies of levels above others.
+pub fn add_copies(alloc: Global, levels: &mut Vec<Level>, more: &[Level]) -> Result<(), AllocError>
+    ensures { OnOk result (levels.new.items ≡ levels.old.items ++ more.now) }
+{
+    for level in more {
         levels.push(level.copy(alloc)?)?;
     }
-    for level in high {
-        levels.push(level.copy(alloc)?)?;
-    }
-    Ok(levels)
+    Ok(())
 }
 
 fn add_to(levels: &mut Vec<Level>, number: usize, more: &Level) -> Result<(), AllocError>

@@ -9,7 +9,8 @@ use pml_lex::token::Token;
 use pml_program::program::Stmt;
 use std::alloc::{AllocError, Global};
 
-fn first_line(tokens: &[Token<'_>], brace: u32) -> u32
+/// The line of the first token, or of the closing brace.
+pub fn first_line(tokens: &[Token<'_>], brace: u32) -> u32
     ensures { result ≡ first_line tokens.now brace }
 {
     match tokens {
@@ -19,7 +20,7 @@ fn first_line(tokens: &[Token<'_>], brace: u32) -> u32
 }
 
 /// The line of a statement, or of the closing brace.
-fn line_of(stmt: Option<&Stmt<'_>>, brace: u32) -> u32
+pub fn line_of(stmt: Option<&Stmt<'_>>, brace: u32) -> u32
     ensures { result ≡ line_of (option_copied stmt.entry) brace }
 {
     match stmt {

@@ -36,11 +36,12 @@ fn has_end(stmt: Option<&Stmt<'_>>) -> bool
     }
 }
 
-fn mark(ends: &mut Vec<bool>, node: usize)
-    ensures { ends.new.items ≡ mark ends.old.items node }
+/// Marks a number, if it is there.
+pub fn mark(marks: &mut Vec<bool>, number: usize)
+    ensures { marks.new.items ≡ mark marks.old.items number }
 {
-    if node < ends.len() {
-        ends[node] = true;
+    if number < marks.len() {
+        marks[number] = true;
     }
 }
 

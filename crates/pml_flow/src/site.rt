@@ -1,17 +1,18 @@
 //! Numbered places of a body.
 
-ghost use Rattle.std.specs.Prelude.{◌≡◌, []};
+ghost use Rattle.std.specs.Prelude.{◌≡◌};
 
 use crate::level::Level;
 use std::alloc::Global;
 use std::marker::Model;
 
-/// A numbered place: the ways on from it, the outermost atomic that it lies in, by the number of its end, and whether it lies in
-/// a d_step.
+/// A numbered place: the outermost atomic that it lies in, by the number of its end; whether it lies in a d_step; its own ways on;
+/// and the numbers whose ways it shows: its own, and those of the escapes above it, the innermost first.
 #[derive(Drop)]
 pub struct Site {
     atomic: Option<usize>,
     inside: bool,
+    shows: Vec<usize>,
     ways: Vec<Level>,
 }
 
@@ -20,30 +21,32 @@ impl Model for Site {
 
     ghost Value = { Site };
 
-    ghost view = { λ s. record { atomic = s.atomic; inside = s.inside; ways = s.ways.items } };
+    ghost view = { λ s. record { atomic = s.atomic; inside = s.inside; shows = s.shows.items; ways = s.ways.items } };
 }
 
 impl Site {
-    ghost use Rattle.pml_flow.specs.Ways.{site};
+    ghost use Rattle.pml_flow.specs.Ways.{site, bare};
 
-    /// A place where settling ends.
-    pub fn new(atomic: Option<usize>, inside: bool, ways: Vec<Level>) -> Site
-        ensures { result ≡ site atomic inside ways.items }
+    /// A place where settling ends, or the end of an escape.
+    pub fn new(atomic: Option<usize>, inside: bool, shows: Vec<usize>, ways: Vec<Level>) -> Site
+        ensures { result ≡ site atomic inside shows.items ways.items }
     {
         Site {
             atomic,
             inside,
+            shows,
             ways,
         }
     }
 
     /// A place where settling goes on.
     pub fn bare(alloc: Global, atomic: Option<usize>, inside: bool) -> Site
-        ensures { result ≡ site atomic inside [] }
+        ensures { result ≡ bare atomic inside }
     {
         Site {
             atomic,
             inside,
+            shows: Vec::new(alloc),
             ways: Vec::new(alloc),
         }
     }
@@ -62,7 +65,14 @@ impl Site {
         self.inside
     }
 
-    /// The ways on from it, by levels.
+    /// The numbers whose ways it shows.
+    pub fn shows(&self) -> &[usize]
+        ensures { result.now ≡ self.now.shows }
+    {
+        self.shows.as_slice()
+    }
+
+    /// Its own ways on, by levels.
     pub fn ways(&self) -> &[Level]
         ensures { result.now ≡ self.now.ways }
     {

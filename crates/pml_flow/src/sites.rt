@@ -2,9 +2,9 @@
 
 ghost use Rattle.std.specs.Prelude.{◌≡◌, ℕ, ◌+◌, ◌<◌, ◌++◌, ◌∷◌, [], Bool, true, false, None, IfOk, OnOk, length, slice_set};
 ghost use Rattle.pml_program.specs.declared.program.Basic.{DStep};
-ghost use Rattle.pml_flow.specs.Ways.{way, one, site, plain_site, outer, last_of, ways_in, ways_part, ways_list, ways_parts, sites_in, sites_part, sites_list, sites_parts, sites_of};
+ghost use Rattle.pml_flow.specs.Ways.{way, one, site, bare, outer, last_of, ways_in, ways_part, ways_list, ways_parts, sites_in, sites_part, sites_escape, sites_list, sites_parts, sites_of};
 
-use crate::level::{Level, Way, add_levels, one, stacked};
+use crate::level::{Level, Way, add_copies, add_levels, copies, one};
 use crate::site::Site;
 use pml_program::program::{Basic, Seq, Stmt};
 use std::alloc::{AllocError, Global};
@@ -15,15 +15,7 @@ pub fn sites(alloc: Global, body: &Seq<'_>) -> Result<Vec<Site>, AllocError>
 {
     let mut sites = Vec::new(alloc);
     sites.push(Site::bare(alloc, None, false))?;
-    let none = Vec::new(alloc);
-    add_steps(
-        alloc,
-        body.steps.as_slice(),
-        false,
-        None,
-        none.as_slice(),
-        &mut sites,
-    )?;
+    add_steps(alloc, body.steps.as_slice(), false, None, &[], &mut sites)?;
     Ok(sites)
 }
 
@@ -56,11 +48,36 @@ fn outer(atomic: Option<usize>, end: usize) -> Option<usize>
     }
 }
 
-/// No levels.
-fn bottom(levels: &[Level]) -> &[Level]
+/// No numbers.
+fn none(above: &[usize]) -> &[usize]
     ensures { result.now ≡ [] }
 {
-    &levels[..0]
+    &above[..0]
+}
+
+/// A number before others.
+fn before(alloc: Global, number: usize, numbers: &[usize]) -> Result<Vec<usize>, AllocError>
+    ensures { IfOk result (λ v. v.items ≡ number ∷ numbers.now) }
+{
+    let mut all = Vec::new(alloc);
+    all.push(number)?;
+    all.extend_from_slice(numbers)?;
+    Ok(all)
+}
+
+/// A place with copies of these ways, and escapes above it.
+fn own_site(
+    alloc: Global,
+    number: usize,
+    inside: bool,
+    atomic: Option<usize>,
+    above: &[usize],
+    ways: &[Level],
+) -> Result<Site, AllocError>
+    ensures { IfOk result (λ s. s ≡ site atomic inside (number ∷ above.now) ways.now) }
+{
+    let shows = before(alloc, number, above)?;
+    Ok(Site::new(atomic, inside, shows, copies(alloc, ways)?))
 }
 
 fn set_site(sites: &mut Vec<Site>, number: usize, site: Site)
@@ -70,22 +87,38 @@ fn set_site(sites: &mut Vec<Site>, number: usize, site: Site)
     sites[number] = site;
 }
 
+/// Adds the place of a statement where settling ends, with copies of these ways.
+fn add_own(
+    alloc: Global,
+    inside: bool,
+    atomic: Option<usize>,
+    above: &[usize],
+    ways: &[Level],
+    sites: &mut Vec<Site>,
+) -> Result<(), AllocError>
+    requires { 0 < length sites.old.items }
+    ensures { OnOk result (sites.new.items ≡ sites.old.items ++ site atomic inside ((last_of sites.old.items + 1) ∷ above.now) ways.now ∷ []) }
+{
+    let number = last(sites.as_slice()) + 1;
+    let own = own_site(alloc, number, inside, atomic, above, ways)?;
+    Ok(sites.push(own)?)
+}
+
 /// The place of a statement that gives no structure: settling ends there. Answers its way.
 fn add_plain(
     alloc: Global,
     inside: bool,
     atomic: Option<usize>,
-    above: &[Level],
+    above: &[usize],
     sites: &mut Vec<Site>,
 ) -> Result<Vec<Level>, AllocError>
     requires { 0 < length sites.old.items }
-    ensures sites { OnOk result (sites.new.items ≡ sites.old.items ++ plain_site (last_of sites.old.items) inside atomic above.now ∷ []) }
+    ensures sites { OnOk result (sites.new.items ≡ sites.old.items ++ site atomic inside ((last_of sites.old.items + 1) ∷ above.now) (one (way (last_of sites.old.items + 1) (last_of sites.old.items))) ∷ []) }
     ensures ways { IfOk result (λ w. w.items ≡ one (way (last_of sites.old.items + 1) (last_of sites.old.items))) }
 {
     let after = last(sites.as_slice());
     let ways = one(alloc, onward(after + 1, after))?;
-    let all = stacked(alloc, ways.as_slice(), above)?;
-    sites.push(Site::new(atomic, inside, all))?;
+    add_own(alloc, inside, atomic, above, ways.as_slice(), sites)?;
     Ok(ways)
 }
 
@@ -97,7 +130,7 @@ fn add_jump(
     sites: &mut Vec<Site>,
 ) -> Result<Vec<Level>, AllocError>
     requires { 0 < length sites.old.items }
-    ensures sites { OnOk result (sites.new.items ≡ sites.old.items ++ site atomic inside [] ∷ []) }
+    ensures sites { OnOk result (sites.new.items ≡ sites.old.items ++ bare atomic inside ∷ []) }
     ensures ways { IfOk result (λ w. w.items ≡ one (way (last_of sites.old.items + 1) (last_of sites.old.items + 1))) }
 {
     let own = last(sites.as_slice()) + 1;
@@ -112,7 +145,7 @@ fn add_steps(
     stmts: &[Stmt<'_>],
     inside: bool,
     atomic: Option<usize>,
-    above: &[Level],
+    above: &[usize],
     sites: &mut Vec<Site>,
 ) -> Result<Vec<Level>, AllocError>
     requires { 0 < length sites.old.items }
@@ -128,14 +161,14 @@ fn add_steps(
     Ok(ways)
 }
 
-/// The places of a statement under the ways of escapes. Answers its own ways.
+/// The places of a statement under escapes. Answers its own ways.
 #[cycle(sites)]
 fn add_basic(
     alloc: Global,
     basic: &Basic<'_>,
     inside: bool,
     atomic: Option<usize>,
-    above: &[Level],
+    above: &[usize],
     sites: &mut Vec<Site>,
 ) -> Result<Vec<Level>, AllocError>
     requires { 0 < length sites.old.items }
@@ -145,42 +178,76 @@ fn add_basic(
     let after = last(sites.as_slice());
     match basic {
         Basic::Plain(_) => Ok(add_plain(alloc, inside, atomic, above, sites)?),
-        Basic::Goto(_) => Ok(add_jump(alloc, inside, atomic, sites)?),
-        Basic::Break => Ok(add_jump(alloc, inside, atomic, sites)?),
+        Basic::Goto(_) | Basic::Break => Ok(add_jump(alloc, inside, atomic, sites)?),
         Basic::If(options) => {
             let ways = add_options(alloc, options.as_slice(), inside, atomic, above, sites)?;
-            let all = stacked(alloc, ways.as_slice(), above)?;
-            sites.push(Site::new(atomic, inside, all))?;
+            add_own(alloc, inside, atomic, above, ways.as_slice(), sites)?;
             Ok(ways)
         }
         Basic::Do(options) => {
             sites.push(Site::bare(alloc, atomic, inside))?;
             let ways = add_options(alloc, options.as_slice(), inside, atomic, above, sites)?;
-            let all = stacked(alloc, ways.as_slice(), above)?;
-            set_site(sites, after + 1, Site::new(atomic, inside, all));
+            let own = own_site(alloc, after + 1, inside, atomic, above, ways.as_slice())?;
+            set_site(sites, after + 1, own);
             sites.push(Site::bare(alloc, atomic, inside))?;
             Ok(ways)
         }
-        Basic::Block(body) => {
-            let ways = add_part(alloc, body, inside, atomic, above, sites)?;
-            sites.push(Site::bare(alloc, atomic, inside))?;
-            Ok(ways)
-        }
+        Basic::Block(body) => Ok(add_entered(alloc, body, inside, atomic, atomic, above, sites)?),
         Basic::Atomic(body) => {
             let within = outer(atomic, after + 1);
-            let ways = add_part(alloc, body, inside, within, above, sites)?;
-            sites.push(Site::bare(alloc, atomic, inside))?;
-            Ok(ways)
+            Ok(add_entered(alloc, body, inside, atomic, within, above, sites)?)
         }
         Basic::DStep(body) => Ok(add_d_step(alloc, body, inside, atomic, above, sites)?),
         Basic::Unless(main, escape) => {
-            let escaped = add_part(alloc, escape, inside, atomic, above, sites)?;
-            let over = stacked(alloc, escaped.as_slice(), above)?;
-            let ways = add_part(alloc, main, inside, atomic, over.as_slice(), sites)?;
+            let escaped = add_escape(alloc, escape, inside, atomic, above, sites)?;
+            let over = before(alloc, after + 1, above)?;
+            let mut ways = add_part(alloc, main, inside, atomic, over.as_slice(), sites)?;
             sites.push(Site::bare(alloc, atomic, inside))?;
-            Ok(stacked(alloc, ways.as_slice(), escaped.as_slice())?)
+            add_copies(alloc, &mut ways, escaped.as_slice())?;
+            Ok(ways)
         }
     }
+}
+
+/// The places of a statement that is entered at its part, which lies in the atomic `within`. Answers the part's ways.
+#[cycle(sites)]
+fn add_entered(
+    alloc: Global,
+    part: &Seq<'_>,
+    inside: bool,
+    atomic: Option<usize>,
+    within: Option<usize>,
+    above: &[usize],
+    sites: &mut Vec<Site>,
+) -> Result<Vec<Level>, AllocError>
+    requires { 0 < length sites.old.items }
+    ensures sites { OnOk result (sites.new.items ≡ sites.old.items ++ (sites_part (last_of sites.old.items) inside within above.now part.now ++ bare atomic inside ∷ [])) }
+    ensures ways { IfOk result (λ w. w.items ≡ ways_part (last_of sites.old.items) inside part.now) }
+{
+    let ways = add_part(alloc, part, inside, within, above, sites)?;
+    sites.push(Site::bare(alloc, atomic, inside))?;
+    Ok(ways)
+}
+
+/// The places of an escape, whose end has the ways of its first statement. Answers these ways.
+#[cycle(sites)]
+fn add_escape(
+    alloc: Global,
+    escape: &Seq<'_>,
+    inside: bool,
+    atomic: Option<usize>,
+    above: &[usize],
+    sites: &mut Vec<Site>,
+) -> Result<Vec<Level>, AllocError>
+    requires { 0 < length sites.old.items }
+    ensures sites { OnOk result (sites.new.items ≡ sites.old.items ++ sites_escape (last_of sites.old.items) inside atomic above.now escape.now) }
+    ensures ways { IfOk result (λ w. w.items ≡ ways_part (last_of sites.old.items) inside escape.now) }
+{
+    let end = last(sites.as_slice()) + 1;
+    let ways = add_part(alloc, escape, inside, atomic, above, sites)?;
+    let own = own_site(alloc, end, inside, atomic, none(above), ways.as_slice())?;
+    set_site(sites, end, own);
+    Ok(ways)
 }
 
 /// The places of a d_step, which is entered from inside one alone.
@@ -190,7 +257,7 @@ fn add_d_step(
     body: &Seq<'_>,
     inside: bool,
     atomic: Option<usize>,
-    above: &[Level],
+    above: &[usize],
     sites: &mut Vec<Site>,
 ) -> Result<Vec<Level>, AllocError>
     requires { 0 < length sites.old.items }
@@ -198,7 +265,7 @@ fn add_d_step(
     ensures ways { IfOk result (λ w. w.items ≡ ways_in (last_of sites.old.items) inside (DStep body.now)) }
 {
     let after = last(sites.as_slice());
-    let entered = add_part(alloc, body, true, atomic, bottom(above), sites)?;
+    let entered = add_part(alloc, body, true, atomic, none(above), sites)?;
     if inside {
         sites.push(Site::bare(alloc, atomic, inside))?;
         return Ok(entered);
@@ -212,8 +279,7 @@ fn add_d_step(
             entry: Some(first),
         },
     )?;
-    let all = stacked(alloc, ways.as_slice(), above)?;
-    sites.push(Site::new(atomic, inside, all))?;
+    add_own(alloc, inside, atomic, above, ways.as_slice(), sites)?;
     Ok(ways)
 }
 
@@ -224,7 +290,7 @@ fn add_options(
     options: &[Seq<'_>],
     inside: bool,
     atomic: Option<usize>,
-    above: &[Level],
+    above: &[usize],
     sites: &mut Vec<Site>,
 ) -> Result<Vec<Level>, AllocError>
     requires { 0 < length sites.old.items }
@@ -248,7 +314,7 @@ fn add_part(
     seq: &Seq<'_>,
     inside: bool,
     atomic: Option<usize>,
-    above: &[Level],
+    above: &[usize],
     sites: &mut Vec<Site>,
 ) -> Result<Vec<Level>, AllocError>
     requires { 0 < length sites.old.items }

@@ -121,9 +121,10 @@ fn world_of<'p, 'a>(alloc: Global, checked: &'p Checked<'a>) -> Result<World<'p,
 {
     let program = checked.program();
     match start(alloc, program) {
-        Ok(started) => match World::first(program, started) {
-            Some(world) => Ok(world),
-            None => Err(Rejection::NotServed),
+        Ok(started) => match World::first(alloc, program, started) {
+            Ok(Some(world)) => Ok(world),
+            Ok(None) => Err(Rejection::NotServed),
+            Err(AllocError) => Err(Rejection::Memory),
         },
         Err(Stop::Fault(_)) => Err(Rejection::Refused(Refusal::Initialiser, 0)),
         Err(Stop::Memory) => Err(Rejection::Memory),

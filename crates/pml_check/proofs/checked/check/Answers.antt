@@ -1,7 +1,12 @@
-use Rattle.std.proofs.Common.{Some, None}
+use Rattle.std.proofs.Common.{◌∙◌, Some, None, sym, ap, subst}
+use Rattle.pml_program.specs.declared.program.Program.{Program}
+use Rattle.pml_marks.specs.Marks.{of_tree}
+use Rattle.pml_resolve.specs.Model.{numbered_model}
+use Rattle.pml_flow.specs.Flow.{AreGraphs}
+use Rattle.pml_check.specs.Judged.{SettleEverywhere}
 use Rattle.pml_check.proofs.Least.{fit_by, first_is_least}
 use Rattle.pml_check.proofs.Standing.{stands_by}
-use Rattle.pml_check.proofs.Subjects.{found_of}
+use Rattle.pml_check.proofs.Subjects.{found_of, settles_of}
 use Rattle.pml_check.proofs.checked.check.Goals as goal
 
 pub returns-in-Some-clause-refused : goal.returns-in-Some-clause-refused
@@ -13,6 +18,7 @@ invariant_of-result c = record {
   fits = fit_by c.args.tree.now
       (found_of c.args.tree.now c.in_ok-subject.subject c.in_ok-subject.ensures c.in_ok-refusal.field-0 None c.in_default.is c.in_ok-refusal.ensures);
   stands = stands_by c.args.tree.now _ c.in_ok-subject.ensures.program;
+  graphs = subst (λ ps. AreGraphs ps c.in_ok-graphs.graphs.items) (c.as_slice.ensures ∙ ap (λ (p : Program). p.proctypes) c.get.ensures) c.in_ok-graphs.ensures;
 }
 
 pub returns-clause-fits : goal.returns-clause-fits
@@ -21,3 +27,10 @@ returns-clause-fits c = fit_by c.args.tree.now
 
 pub returns-clause-model : goal.returns-clause-model
 returns-clause-model c = stands_by c.args.tree.now _ c.in_ok-subject.ensures.program
+
+pub all_graphs-requires-clause-settle : goal.all_graphs-requires-clause-settle
+all_graphs-requires-clause-settle c =
+    let t = c.args.tree.now in
+    let e = c.as_slice.ensures ∙ ap (λ (p : Program). p.proctypes) (c.get.ensures ∙ c.in_ok-subject.ensures.program) in
+    subst SettleEverywhere (sym e)
+    (settles_of (of_tree t) (numbered_model t) (found_of t c.in_ok-subject.subject c.in_ok-subject.ensures c.in_ok-refusal.field-0 None c.in_default.is c.in_ok-refusal.ensures))
