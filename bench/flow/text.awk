@@ -27,6 +27,14 @@ BEGIN {
         for (i = 0; i < count; i++) print "x = 1;"
         print "} unless { x == 2 }"
     }
+    if (family == "wide escapes") {
+        # an escape of a tenth as many options as there are statements
+        print "{"
+        for (i = 0; i < count; i++) print "x = 1;"
+        print "} unless { if"
+        for (i = 0; i < count / 10; i++) printf ":: x == %d -> x = 1\n", i
+        print "fi }"
+    }
     if (family == "atomics") for (i = 0; i < count; i++) print "atomic { x = 1; d_step { x = 2; x = 3 }; x = 4 };"
     print "}"
 }

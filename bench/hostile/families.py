@@ -1,0 +1,91 @@
+import os, resource, subprocess, sys, tempfile
+
+SIZES = [64 * 1024, 256 * 1024, 1024 * 1024]
+MOST_SECONDS = 60
+
+def many(size, head, part, tail):
+    """A head, as many parts as go into the size, and a tail: a part is a text of its number."""
+    parts, length, number = [], len(head) + len(tail), 0
+    while True:
+        text = part(number)
+        if length + len(text) > size:
+            return head + "".join(parts) + tail
+        parts.append(text)
+        length += len(text)
+        number += 1
+
+def fixed(text):
+    return lambda number: text
+
+def late(head, part, tail, step):
+    """Half of the size declares, and half steps what was declared last."""
+    def text(size):
+        model = many(size // 2, head, part, tail)
+        last = model[len(head):len(model) - len(tail)].count(";") - 1
+        return many(size, model, fixed(step % last + ";"), "skip}")
+    return text
+
+def gotos(size):
+    """Each statement goes to the one before it, and the first one ends."""
+    return many(size, "init{L0:skip;", lambda n: "L%d:goto L%d;" % (n + 1, n), "skip}")
+
+def chain(size):
+    """Each typedef has a field of the one before it, and the last one an array."""
+    text = many(size, "typedef T0{byte x=1};", lambda n: "typedef T%d{T%d a};" % (n + 1, n), "")
+    return text + "T%d a[1000000];init{skip}" % (text.count(";") - 1)
+
+def names(size):
+    """Names of letters alone."""
+    letters = "abcdefghijklmnopqrstuvwxyz"
+    name = lambda n: "".join(letters[n // 26 ** k % 26] for k in range(5))
+    return many(size, "byte z", lambda n: ",n" + name(n), ";init{skip}")
+
+SHOWN = ["-g", "-l"]
+FAMILIES = [
+    ("a constant of a field", [], lambda size: many(min(size, 1000), "typedef A{byte x=1", fixed("+1"), "};A a[1000000];init{skip}")),
+    ("typedefs and cells", [], lambda size: many(size, "typedef A{byte x=1};", lambda n: "typedef T%d{int i};" % n, "A a[1000000];init{skip}")),
+    ("cells of processes", [], lambda size: "typedef A{byte x=1};active [255] proctype P(){A a[%d];skip}" % (size // 16)),
+    ("a chain of typedefs", [], chain),
+    ("a late global", SHOWN, late("", lambda n: "int g%d;" % n, "init{", "g%d++")),
+    ("a late field", SHOWN, late("typedef R{int z", lambda n: ";int g%d" % n, "};R r;init{", "r.g%d++")),
+    ("a late local", SHOWN, late("init{", lambda n: "int g%d;" % n, "", "g%d++")),
+    ("names", [], names),
+    ("options", [], lambda size: many(size, "init{do", fixed("::skip"), " od}")),
+    ("labels", [], lambda size: many(size, "init{", lambda n: "L%d:" % n, "skip}")),
+    ("gotos", [], gotos),
+    ("braces", [], lambda size: many(size, "init{", fixed("{" * 90 + "skip" + "}" * 90 + ";"), "skip}")),
+    ("nested ifs", [], lambda size: many(size, "init{", fixed("if::" * 40 + "skip" + " fi" * 40 + ";"), "skip}")),
+    ("nested unlesses", [], lambda size: many(size, "init{", fixed("{" * 40 + "skip" + "}unless{skip}" * 40 + ";"), "skip}")),
+    ("sends", [], lambda size: many(size, "chan c=[1] of{byte,byte};init{", fixed("c!1,2;"), "skip}")),
+    ("receives", [], lambda size: many(size, "chan c=[1] of{byte,byte};byte a;init{", fixed("c?a,2;"), "skip}")),
+    ("long sums", [], lambda size: many(size, "int a;init{a=1", fixed("+1"), "}")),
+    ("assignments", [], lambda size: many(size, "int a,b;init{", fixed("a=a*3+b;"), "skip}")),
+    ("typedefs", [], lambda size: many(size, "", lambda n: "typedef T%d{byte a,b};" % n, "init{skip}")),
+    ("mtype names", [], lambda size: many(size, "mtype={a", lambda n: ",m%d" % n, "};init{skip}")),
+    ("channels", [], lambda size: many(size, "", lambda n: "chan c%d=[1] of{byte};" % n, "init{skip}")),
+]
+
+def limit():
+    resource.setrlimit(resource.RLIMIT_CPU, (MOST_SECONDS, MOST_SECONDS))
+
+def played(program, words, text):
+    with tempfile.NamedTemporaryFile(suffix=".pml") as file:
+        file.write(text.encode())
+        file.flush()
+        child = subprocess.Popen([program, *words, file.name], stdin=subprocess.DEVNULL, stdout=subprocess.PIPE, stderr=subprocess.STDOUT, preexec_fn=limit)
+        output = child.stdout.read()
+        _, status, used = os.wait4(child.pid, 0)
+        last = output.decode(errors="replace").strip().split("\n")[-1]
+        return used.ru_utime + used.ru_stime, used.ru_maxrss / 1024, last[:50]
+
+print("family: bytes, seconds (growth), MB (growth), answer", flush=True)
+for name, words, text_of in FAMILIES:
+    before = None
+    for size in SIZES:
+        text = text_of(size)
+        seconds, memory, answer = played(sys.argv[1], words, text)
+        growth = (seconds / max(before[0], 0.01), memory / before[1]) if before else (1, 1)
+        print("%s: %d, %.2f (%.1f), %.0f (%.1f), %s" % (name, len(text), seconds, growth[0], memory, growth[1], answer), flush=True)
+        before = (seconds, memory)
+        if seconds >= MOST_SECONDS - 1:
+            break
