@@ -39,8 +39,7 @@ slot-at ts at (x ∷ ss) h m zero s e c p q =
     let o : x.offset ≡ at = h.0.offset ∙ omega (arith, m) in
     let from : x.offset ≤ c = subst (λ (y : Slot). y.offset ≤ c) (sym same) p in
     let to : c < x.offset + x.length * x.stride = subst (λ (y : Slot). c < y.offset + y.length * y.stride) (sym same) q in
-    let b = is-below (c - at) (x.length * x.stride) (omega (arith, o, from, to)) in
-    (
+    let b = is-below (c - at) (x.length * x.stride) (omega (arith, o, from, to)) in (
       ap (λ (t : Bool). cond t (Some x) (slot_of ss ((c - at) - x.length * x.stride))) b ∙ ap Some same,
       ap (λ (t : Bool). cond t (c - at) (cell_of ss ((c - at) - x.length * x.stride))) b ∙ ap (λ (n : ℕ). c - n) (sym o) ∙ ap (λ (y : Slot). c - y.offset) same,
     )
@@ -48,8 +47,7 @@ slot-at ts at (x ∷ ss) h m (suc k) s e c p q =
     let l = lies ts (at + x.length * x.stride) ss h.1 (omega (arith, m)) k s e in
     let r = slot-at ts (at + x.length * x.stride) ss h.1 (omega (arith, m)) k s e c p q in
     let b = not-below (c - at) (x.length * x.stride) (omega (arith, l.from, p)) in
-    let rest : (c - at) - x.length * x.stride ≡ c - (at + x.length * x.stride) = omega arith in
-    (
+    let rest : (c - at) - x.length * x.stride ≡ c - (at + x.length * x.stride) = omega arith in (
       ap (λ (t : Bool). cond t (Some x) (slot_of ss ((c - at) - x.length * x.stride))) b ∙ ap (slot_of ss) rest ∙ r.0,
       ap (λ (t : Bool). cond t (c - at) (cell_of ss ((c - at) - x.length * x.stride))) b ∙ ap (cell_of ss) rest ∙ r.1,
     )
@@ -184,8 +182,8 @@ module _ (ts : List Fields) (tile : TypedefsTile [] ts) (owners : OwnersFrom 1 t
       → fields_path ts (suc n) (kind.Struct t) c ≡ codes "." ++ (element s (c - s.offset) ++ fields_path ts n s.form ((c - s.offset) % s.stride))
   field-path n t c fs s found e d =
       ap (λ (gs : List Slot). behind n (cell_of gs c) (slot_of gs c)) (fields-are ts t fs found)
-          ∙ ap (λ (m : ℕ). behind n m (slot_of fs c)) d
-          ∙ ap (behind n (c - s.offset)) e
+      ∙ ap (λ (m : ℕ). behind n m (slot_of fs c)) d
+      ∙ ap (behind n (c - s.offset)) e
 
   -- ---- along a path
 

@@ -198,9 +198,7 @@ fn want(
             number_value(n.text()),
         )))),
         Argument::Fixed(b) => Ok(Want::Exactly(if *b { 1 } else { 0 })),
-        Argument::Eval(a) => {
-            Ok(Want::Equal(boxed(alloc, a.get(), all, table, owner)?))
-        }
+        Argument::Eval(a) => { Ok(Want::Equal(boxed(alloc, a.get(), all, table, owner)?)) }
         Argument::Into(r) => Ok(received(reference(alloc, r, all, table, owner)?)),
     }
 }
@@ -306,8 +304,6 @@ fn index(
 {
     match &step.index {
         None => Ok(None),
-        Some(e) => {
-            Ok(Some(boxed(alloc, e.get(), all, table, owner)?))
-        }
+        Some(e) => { Ok(Some(boxed(alloc, e.get(), all, table, owner)?)) }
     }
 }
