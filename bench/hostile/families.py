@@ -17,6 +17,10 @@ def many(size, head, part, tail):
 def fixed(text):
     return lambda number: text
 
+def groups(count, opening, part, closing):
+    """Parts in groups of so many, since a text without a break is refused early as too deep."""
+    return lambda number: opening + "".join(part(number * count + at) for at in range(count)) + closing
+
 def late(head, part, tail, step):
     """Half of the size declares, and half steps what was declared last."""
     def text(size):
@@ -38,7 +42,7 @@ def names(size):
     """Names of letters alone."""
     letters = "abcdefghijklmnopqrstuvwxyz"
     name = lambda n: "".join(letters[n // 26 ** k % 26] for k in range(5))
-    return many(size, "byte z", lambda n: ",n" + name(n), ";init{skip}")
+    return many(size, "", groups(100, "byte", lambda n: (" " if n % 100 == 0 else ",") + "n" + name(n), ";"), "init{skip}")
 
 SHOWN = ["-g", "-l"]
 FAMILIES = [
@@ -51,17 +55,17 @@ FAMILIES = [
     ("a late local", SHOWN, late("init{", lambda n: "int g%d;" % n, "", "g%d++")),
     ("names", [], names),
     ("options", [], lambda size: many(size, "init{do", fixed("::skip"), " od}")),
-    ("labels", [], lambda size: many(size, "init{", lambda n: "L%d:" % n, "skip}")),
+    ("labels", [], lambda size: many(size, "init{", groups(100, "", lambda n: "L%d:" % n, "skip;"), "skip}")),
     ("gotos", [], gotos),
     ("braces", [], lambda size: many(size, "init{", fixed("{" * 90 + "skip" + "}" * 90 + ";"), "skip}")),
     ("nested ifs", [], lambda size: many(size, "init{", fixed("if::" * 40 + "skip" + " fi" * 40 + ";"), "skip}")),
     ("nested unlesses", [], lambda size: many(size, "init{", fixed("{" * 40 + "skip" + "}unless{skip}" * 40 + ";"), "skip}")),
     ("sends", [], lambda size: many(size, "chan c=[1] of{byte,byte};init{", fixed("c!1,2;"), "skip}")),
     ("receives", [], lambda size: many(size, "chan c=[1] of{byte,byte};byte a;init{", fixed("c?a,2;"), "skip}")),
-    ("long sums", [], lambda size: many(size, "int a;init{a=1", fixed("+1"), "}")),
+    ("long sums", [], lambda size: many(size, "int a;init{", groups(400, "a=1", fixed("+1"), ";"), "skip}")),
     ("assignments", [], lambda size: many(size, "int a,b;init{", fixed("a=a*3+b;"), "skip}")),
     ("typedefs", [], lambda size: many(size, "", lambda n: "typedef T%d{byte a,b};" % n, "init{skip}")),
-    ("mtype names", [], lambda size: many(size, "mtype={a", lambda n: ",m%d" % n, "};init{skip}")),
+    ("mtype names", [], lambda size: many(size, "", groups(100, "mtype={", lambda n: (",m%d" if n % 100 else "m%d") % n, "};"), "init{skip}")),
     ("channels", [], lambda size: many(size, "", lambda n: "chan c%d=[1] of{byte};" % n, "init{skip}")),
 ]
 
