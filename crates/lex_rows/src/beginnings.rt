@@ -1,5 +1,5 @@
 //! A text with every kind of piece, and what each of its beginnings gives.
-use crate::written::{answer_to, text_of};
+use crate::written::{answer_to, text_and_answer, text_of};
 use std::alloc::Global;
 use std::test::Fail;
 
@@ -434,12 +434,8 @@ fn rows() -> &'static str {
 "##
 }
 
-// The answer that a row wants: the first tokens of the list and its own.
-fn wanted_answer(alloc: Global, wanted: &str) -> Result<String, Fail> {
-    let (number, own) = wanted.split_once(" ").unwrap_or((wanted, ""));
-    let Ok(count) = number.parse::<usize>() else {
-        return Ok(format!(in alloc; "{wanted}")?);
-    };
+// The first tokens of the list.
+fn first_tokens(alloc: Global, count: usize) -> Result<String, Fail> {
     let mut answer = String::new(alloc);
     for token in tokens().lines().take(count) {
         if !answer.is_empty() {
@@ -447,33 +443,61 @@ fn wanted_answer(alloc: Global, wanted: &str) -> Result<String, Fail> {
         }
         answer.push_str(token)?;
     }
-    if !answer.is_empty() && !own.is_empty() {
-        answer.push(' ')?;
-    }
-    answer.push_str(own)?;
-    if answer.is_empty() {
-        answer.push_str("none")?;
-    }
     Ok(answer)
 }
 
-#[test]
-fn every_beginning_is_answered(rt: HostRuntime) -> Result<(), Fail> {
-    let alloc = rt.alloc();
+// The answer that a row wants: the first tokens of the list and its own.
+fn wanted_answer(alloc: Global, wanted: &str) -> Result<String, Fail> {
+    let (number, own) = wanted.split_once(" ").unwrap_or((wanted, ""));
+    let Ok(count) = number.parse::<usize>() else {
+        return Ok(format!(in alloc; "{wanted}")?);
+    };
+    let first = first_tokens(alloc, count)?;
+    if first.is_empty() && own.is_empty() {
+        return Ok(format!(in alloc; "none")?);
+    }
+    if first.is_empty() || own.is_empty() {
+        return Ok(format!(in alloc; "{first}{own}")?);
+    }
+    Ok(format!(in alloc; "{first} {own}")?)
+}
+
+// The bytes of the text.
+fn whole_text(alloc: Global) -> Result<Vec<u8>, Fail> {
     let mut whole = Vec::new(alloc);
     for line in text().lines() {
         let bytes = text_of(alloc, line)?;
         whole.extend_from_slice(bytes.as_slice())?;
     }
+    Ok(whole)
+}
+
+// Whether the first bytes of the text, as many as a row says, are answered as it wants.
+fn is_right(alloc: Global, whole: &[u8], row: &str) -> Result<bool, Fail> {
+    let (number, wanted) = text_and_answer(row)?;
+    let beginning = whole
+        .get(..number.parse::<usize>()?)
+        .ok_or("the text is longer")?;
+    Ok(answer_to(alloc, beginning)? == wanted_answer(alloc, wanted)?)
+}
+
+#[test]
+fn every_beginning_is_answered(rt: HostRuntime) -> Result<(), Fail> {
+    let whole = whole_text(rt.alloc())?;
     assert_eq!(rt; whole.len(), 300);
+    for row in rows().lines() {
+        assert!(rt; is_right(rt.alloc(), whole.as_slice(), row)?, "at {row}");
+    }
+    Ok(())
+}
+
+// The rows stand for all lengths, in order.
+#[test]
+fn each_length_has_a_row(rt: HostRuntime) -> Result<(), Fail> {
     let mut length = 0usize;
     for row in rows().lines() {
-        let (number, wanted) = row.split_once(" => ").ok_or("a row has an arrow")?;
-        let expected = wanted_answer(alloc, wanted)?;
-        let beginning = whole.get(..length).ok_or("the text is longer")?;
-        let answer = answer_to(alloc, beginning)?;
+        let (number, _) = text_and_answer(row)?;
         assert_eq!(rt; number.parse::<usize>()?, length);
-        assert_eq!(rt; answer, expected, "at {number}");
         length = length.saturating_add(1);
     }
     assert_eq!(rt; length, 301);

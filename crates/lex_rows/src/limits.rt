@@ -1,10 +1,5 @@
 //! Rows for the limits: the bytes of a text, the depth of brackets, and the tokens in a row.
-//!
-//! A text is written as parts with `|` between them, each a number and what stands there that many times.
-use crate::written::{Outcome, text_of};
-use pml_lex::cut;
-use pml_lex::fault::LexFault;
-use std::alloc::Global;
+use crate::written::{Reading, outcome_of};
 use std::test::Fail;
 
 // `( [ { if do` go deeper and `) ] } fi od` come back, which at depth 0 changes nothing. 100 is the greatest depth.
@@ -141,49 +136,6 @@ fn long_texts() -> &'static str {
 "##
 }
 
-// The text that parts are.
-fn joined_parts(alloc: Global, parts: &str) -> Result<Vec<u8>, Fail> {
-    let mut text = Vec::new(alloc);
-    for part in parts.split("|") {
-        let (count, written) = part.split_once(" ").ok_or("a part has a number")?;
-        let count: usize = count.parse()?;
-        let bytes = text_of(alloc, written)?;
-        for _ in 0..count {
-            text.extend_from_slice(bytes.as_slice())?;
-        }
-    }
-    Ok(text)
-}
-
-// How many tokens a text has, or its refusal.
-fn short_answer(alloc: Global, text: &[u8]) -> Result<String, Fail> {
-    match cut(alloc, text) {
-        Ok(tokens) => {
-            let count = tokens.len();
-            Ok(format!(in alloc; "{count} tokens")?)
-        }
-        Err(LexFault::Memory) => Err(Fail::from("memory was refused")),
-        Err(fault) => Ok(format!(in alloc; "{fault:?}")?),
-    }
-}
-
-// Reads rows up to the first with another answer.
-fn outcome_of(alloc: Global, rows: &str) -> Result<Outcome, Fail> {
-    let mut count = 0u32;
-    for row in rows.lines() {
-        let (parts, wanted) = row.split_once(" => ").ok_or("a row has an arrow")?;
-        let text = joined_parts(alloc, parts)?;
-        let answer = short_answer(alloc, text.as_slice())?;
-        if answer.as_str() != wanted {
-            let wrong = format!(in alloc; "{parts} => {answer}, wanted: {wanted}")?;
-            return Ok(Outcome { count, wrong });
-        }
-        count = count.saturating_add(1);
-    }
-    let wrong = String::new(alloc);
-    Ok(Outcome { count, wrong })
-}
-
 #[test]
 fn limits_are_kept(rt: HostRuntime) -> Result<(), Fail> {
     let tables = [
@@ -192,7 +144,7 @@ fn limits_are_kept(rt: HostRuntime) -> Result<(), Fail> {
         (long_texts(), 37u32),
     ];
     for (rows, count) in tables {
-        let outcome = outcome_of(rt.alloc(), rows)?;
+        let outcome = outcome_of(rt.alloc(), Reading::Counts, rows)?;
         assert_eq!(rt; outcome.wrong.as_str(), "");
         assert_eq!(rt; outcome.count, count);
     }

@@ -1,5 +1,5 @@
 //! Rows for each kind of piece: blanks, comments, `#` lines, names, numbers, strings, and what is no piece.
-use crate::written::outcome_of;
+use crate::written::{Reading, outcome_of};
 use std::test::Fail;
 
 // Six bytes are blanks. Lines are counted by line feeds alone.
@@ -215,7 +215,7 @@ fn pieces_are_cut(rt: HostRuntime) -> Result<(), Fail> {
         (refused(), 29u32),
     ];
     for (rows, count) in tables {
-        let outcome = outcome_of(rt.alloc(), rows)?;
+        let outcome = outcome_of(rt.alloc(), Reading::Tokens, rows)?;
         assert_eq!(rt; outcome.wrong.as_str(), "");
         assert_eq!(rt; outcome.count, count);
     }

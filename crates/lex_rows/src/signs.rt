@@ -1,5 +1,5 @@
 //! Rows for each sign, and for each sign next to each sign.
-use crate::written::{answer_to, outcome_of};
+use crate::written::{Reading, answer_to, outcome_of, text_and_answer};
 use std::alloc::Global;
 use std::test::Fail;
 
@@ -129,7 +129,7 @@ a&b|c^~d => Name@1=a Ampersand@1=& Name@1=b Bar@1=| Name@1=c Caret@1=^ Tilde@1=~
 fn signs_have_kinds(rt: HostRuntime) -> Result<(), Fail> {
     let tables = [(alone(), 41u32), (among_others(), 28u32)];
     for (rows, count) in tables {
-        let outcome = outcome_of(rt.alloc(), rows)?;
+        let outcome = outcome_of(rt.alloc(), Reading::Tokens, rows)?;
         assert_eq!(rt; outcome.wrong.as_str(), "");
         assert_eq!(rt; outcome.count, count);
     }
@@ -148,7 +148,7 @@ fn apart(alloc: Global, first: &str, second: &str) -> Result<String, Fail> {
 // What the rows of `joined` say of two signs.
 fn when_joined(first: &str, second: &str) -> Result<Option<&'static str>, Fail> {
     for row in joined().lines() {
-        let (signs, answer) = row.split_once(" => ").ok_or("a row has an arrow")?;
+        let (signs, answer) = text_and_answer(row)?;
         if signs.split_once(" ") == Some((first, second)) {
             return Ok(Some(answer));
         }
@@ -156,31 +156,65 @@ fn when_joined(first: &str, second: &str) -> Result<Option<&'static str>, Fail> 
     Ok(None)
 }
 
+// Whether two signs, each with what it gives alone, are answered as they should be with a blank between them.
+fn are_right_apart(alloc: Global, one: (&str, &str), other: (&str, &str)) -> Result<bool, Fail> {
+    let (first, second) = (one.0, other.0);
+    let text = format!(in alloc; "{first} {second}")?;
+    Ok(answer_to(alloc, text.as_bytes())? == apart(alloc, one.1, other.1)?)
+}
+
+// Whether they are without it: as `joined` has it, or else as apart.
+fn are_right_joined(alloc: Global, one: (&str, &str), other: (&str, &str)) -> Result<bool, Fail> {
+    let (first, second) = (one.0, other.0);
+    let text = format!(in alloc; "{first}{second}")?;
+    let found = answer_to(alloc, text.as_bytes())?;
+    match when_joined(first, second)? {
+        Some(wanted) => Ok(found.as_str() == wanted),
+        None => Ok(found == apart(alloc, one.1, other.1)?),
+    }
+}
+
+// How many signs stand rightly behind a row's, up to the first that does not.
+fn right_behind(alloc: Global, row: &str) -> Result<u32, Fail> {
+    let one = text_and_answer(row)?;
+    let mut count = 0u32;
+    for other in alone().lines() {
+        let other = text_and_answer(other)?;
+        if !are_right_apart(alloc, one, other)? || !are_right_joined(alloc, one, other)? {
+            return Ok(count);
+        }
+        count = count.saturating_add(1);
+    }
+    Ok(count)
+}
+
 #[test]
 fn each_sign_stands_next_to_each_sign(rt: HostRuntime) -> Result<(), Fail> {
-    let alloc = rt.alloc();
-    let mut pairs = 0u32;
-    let mut joins = 0u32;
     for row in alone().lines() {
-        let (first, first_answer) = row.split_once(" => ").ok_or("a row has an arrow")?;
-        for other in alone().lines() {
-            let (second, second_answer) = other.split_once(" => ").ok_or("a row has an arrow")?;
-            let blank = format!(in alloc; "{first} {second}")?;
-            let wanted_apart = apart(alloc, first_answer, second_answer)?;
-            let found_apart = answer_to(alloc, blank.as_bytes())?;
-            assert_eq!(rt; found_apart, wanted_apart, "at {first} {second}");
-            let side_by_side = format!(in alloc; "{first}{second}")?;
-            let found = answer_to(alloc, side_by_side.as_bytes())?;
-            pairs = pairs.saturating_add(1);
-            if let Some(wanted) = when_joined(first, second)? {
-                assert_eq!(rt; found.as_str(), wanted, "at {first}{second}");
-                joins = joins.saturating_add(1);
-            } else {
-                assert_eq!(rt; found, wanted_apart, "at {first}{second}");
-            }
+        assert_eq!(rt; right_behind(rt.alloc(), row)?, 41, "at {row}");
+    }
+    Ok(())
+}
+
+// How many signs give another token where they stand right behind a row's.
+fn joins_behind(row: &str) -> Result<u32, Fail> {
+    let (first, _) = text_and_answer(row)?;
+    let mut count = 0u32;
+    for other in alone().lines() {
+        let (second, _) = text_and_answer(other)?;
+        if when_joined(first, second)?.is_some() {
+            count = count.saturating_add(1);
         }
     }
-    assert_eq!(rt; pairs, 1681);
+    Ok(count)
+}
+
+#[test]
+fn each_row_of_two_signs_is_read(rt: HostRuntime) -> Result<(), Fail> {
+    let mut joins = 0u32;
+    for row in alone().lines() {
+        joins = joins.saturating_add(joins_behind(row)?);
+    }
     assert_eq!(rt; joins, 37);
     Ok(())
 }

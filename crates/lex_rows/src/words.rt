@@ -1,5 +1,5 @@
 //! Rows for each word that is reserved or left out, and for names that are nearly such a word.
-use crate::written::{answer_to, outcome_of};
+use crate::written::{Reading, answer_to, outcome_of, text_and_answer};
 use std::alloc::Global;
 use std::test::Fail;
 
@@ -107,7 +107,7 @@ x.len => Name@1=x Dot@1=. Len@1=len
 fn words_have_kinds(rt: HostRuntime) -> Result<(), Fail> {
     let tables = [(reserved(), 43u32), (left_out(), 23u32), (names(), 21u32)];
     for (rows, count) in tables {
-        let outcome = outcome_of(rt.alloc(), rows)?;
+        let outcome = outcome_of(rt.alloc(), Reading::Tokens, rows)?;
         assert_eq!(rt; outcome.wrong.as_str(), "");
         assert_eq!(rt; outcome.count, count);
     }
@@ -121,21 +121,22 @@ fn is_name(alloc: Global, word: &str) -> Result<bool, Fail> {
     Ok(answer == wanted)
 }
 
-// None of these five bytes in front of or behind a word makes another word.
+// Whether a word with a byte more is a name: none of these five makes another word.
+fn are_names(alloc: Global, word: &str) -> Result<bool, Fail> {
+    for (before, behind) in [("", "x"), ("", "_"), ("", "0"), ("_", ""), ("Z", "")] {
+        let longer = format!(in alloc; "{before}{word}{behind}")?;
+        if !is_name(alloc, longer.as_str())? {
+            return Ok(false);
+        }
+    }
+    Ok(true)
+}
+
 #[test]
 fn words_with_a_byte_more_are_names(rt: HostRuntime) -> Result<(), Fail> {
-    let alloc = rt.alloc();
     for row in reserved().lines().chain(left_out().lines()) {
-        let (word, _) = row.split_once(" => ").ok_or("a row has an arrow")?;
-        for longer in [
-            format!(in alloc; "{word}x")?,
-            format!(in alloc; "{word}_")?,
-            format!(in alloc; "{word}0")?,
-            format!(in alloc; "_{word}")?,
-            format!(in alloc; "Z{word}")?,
-        ] {
-            assert!(rt; is_name(alloc, longer.as_str())?, "at {longer}");
-        }
+        let (word, _) = text_and_answer(row)?;
+        assert!(rt; are_names(rt.alloc(), word)?, "at {word}");
     }
     Ok(())
 }

@@ -3,6 +3,9 @@
 //! In a text, a grave accent and two hexadecimal digits are one byte. An answer is `Kind@LINE=TEXT` for each token,
 //! with blanks between them, `none` where there is no token, or the refusal. In a token's text every byte but the
 //! visible ones of ASCII is written by its digits.
+//!
+//! A long text is written as parts with `|` between them, each a number and what stands there that many times; its answer is how many
+//! tokens it has, or the refusal.
 use crate::MARK;
 use pml_lex::cut;
 use pml_lex::fault::LexFault;
@@ -76,6 +79,52 @@ pub fn answer_to(alloc: Global, text: &[u8]) -> Result<String, Fail> {
     }
 }
 
+// Adds the bytes that a part is: a number, and what stands there that many times.
+fn add_part(alloc: Global, part: &str, text: &mut Vec<u8>) -> Result<(), Fail> {
+    let (count, written) = part.split_once(" ").ok_or("a part has a number")?;
+    let count: usize = count.parse()?;
+    let bytes = text_of(alloc, written)?;
+    for _ in 0..count {
+        text.extend_from_slice(bytes.as_slice())?;
+    }
+    Ok(())
+}
+
+// The text that parts are.
+fn joined_parts(alloc: Global, parts: &str) -> Result<Vec<u8>, Fail> {
+    let mut text = Vec::new(alloc);
+    for part in parts.split("|") {
+        add_part(alloc, part, &mut text)?;
+    }
+    Ok(text)
+}
+
+// How many tokens a text has, or its refusal.
+fn count_of(alloc: Global, text: &[u8]) -> Result<String, Fail> {
+    match cut(alloc, text) {
+        Ok(tokens) => {
+            let count = tokens.len();
+            Ok(format!(in alloc; "{count} tokens")?)
+        }
+        Err(LexFault::Memory) => Err(Fail::from("memory was refused")),
+        Err(fault) => Ok(format!(in alloc; "{fault:?}")?),
+    }
+}
+
+/// A row's text and the answer that it wants.
+pub fn text_and_answer(row: &str) -> Result<(&str, &str), Fail> {
+    Ok(row.split_once(" => ").ok_or("a row has an arrow")?)
+}
+
+/// What a row's text is answered with.
+#[derive(Clone, Copy)]
+pub enum Reading {
+    /// Its tokens are written.
+    Tokens,
+    /// It is written as parts, and its tokens are counted.
+    Counts,
+}
+
 /// How many rows were read, and what is wrong in the first that is not answered as it wants.
 #[derive(Drop)]
 pub struct Outcome {
@@ -83,15 +132,29 @@ pub struct Outcome {
     pub wrong: String,
 }
 
+fn answer_by(alloc: Global, reading: Reading, written: &str) -> Result<String, Fail> {
+    match reading {
+        Reading::Tokens => answer_to(alloc, text_of(alloc, written)?.as_slice()),
+        Reading::Counts => count_of(alloc, joined_parts(alloc, written)?.as_slice()),
+    }
+}
+
+// What is wrong in a row, empty where nothing is.
+fn wrong_in(alloc: Global, reading: Reading, row: &str) -> Result<String, Fail> {
+    let (written, wanted) = text_and_answer(row)?;
+    let answer = answer_by(alloc, reading, written)?;
+    if answer.as_str() == wanted {
+        return Ok(String::new(alloc));
+    }
+    Ok(format!(in alloc; "{written} => {answer}, wanted: {wanted}")?)
+}
+
 /// Reads rows, one a line as `TEXT => ANSWER`, up to the first with another answer.
-pub fn outcome_of(alloc: Global, rows: &str) -> Result<Outcome, Fail> {
+pub fn outcome_of(alloc: Global, reading: Reading, rows: &str) -> Result<Outcome, Fail> {
     let mut count = 0u32;
     for row in rows.lines() {
-        let (written, wanted) = row.split_once(" => ").ok_or("a row has an arrow")?;
-        let text = text_of(alloc, written)?;
-        let answer = answer_to(alloc, text.as_slice())?;
-        if answer.as_str() != wanted {
-            let wrong = format!(in alloc; "{written} => {answer}, wanted: {wanted}")?;
+        let wrong = wrong_in(alloc, reading, row)?;
+        if !wrong.is_empty() {
             return Ok(Outcome { count, wrong });
         }
         count = count.saturating_add(1);
