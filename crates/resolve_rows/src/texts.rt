@@ -43,21 +43,19 @@ fn text(
 fn stmt(alloc: Global, out: &mut String, s: &Stmt<'_>) -> Result<(), AllocError> {
     let tokens = s.tokens.as_slice();
     match &s.basic {
-        Basic::Plain(_) | Basic::Goto(_) | Basic::Break => {
-            Ok(text(alloc, out, tokens, tokens.len())?)
-        }
+        Basic::Plain(_) | Basic::Goto(_) | Basic::Break => text(alloc, out, tokens, tokens.len()),
         Basic::If(options) | Basic::Do(options) => {
             text(alloc, out, tokens, 1)?;
-            Ok(seqs(alloc, out, options)?)
+            seqs(alloc, out, options)
         }
         Basic::DStep(inside) => {
             text(alloc, out, tokens, 1)?;
-            Ok(seq(alloc, out, inside)?)
+            seq(alloc, out, inside)
         }
-        Basic::Block(inside) | Basic::Atomic(inside) => Ok(seq(alloc, out, inside)?),
+        Basic::Block(inside) | Basic::Atomic(inside) => seq(alloc, out, inside),
         Basic::Unless(main, escape) => {
             seq(alloc, out, main)?;
-            Ok(seq(alloc, out, escape)?)
+            seq(alloc, out, escape)
         }
     }
 }

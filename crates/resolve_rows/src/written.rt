@@ -21,6 +21,10 @@ fn number(alloc: Global, out: &mut String, n: usize) -> Result<(), AllocError> {
     out.push_str(format!(in alloc; "{n}")?.as_str())
 }
 
+fn signed(alloc: Global, out: &mut String, n: i32) -> Result<(), AllocError> {
+    out.push_str(format!(in alloc; "{n}")?.as_str())
+}
+
 fn token(out: &mut String, t: &Token<'_>) -> Result<(), AllocError> {
     for byte in t.text() {
         out.push(char::from(*byte))?;
@@ -73,11 +77,18 @@ fn looked_for(search: Search) -> &'static str {
     }
 }
 
+fn polled(search: Search) -> &'static str {
+    match search {
+        Search::First => "poll ? ",
+        Search::Matching => "poll ?? ",
+    }
+}
+
 fn prefix(op: Prefix) -> &'static str {
     match op {
-        Prefix::Not => "! ",
-        Prefix::Complement => "~ ",
-        Prefix::Minus => "- ",
+        Prefix::Not => "(! ",
+        Prefix::Complement => "(~ ",
+        Prefix::Minus => "(- ",
     }
 }
 
@@ -107,48 +118,48 @@ fn infix(op: Infix) -> &'static str {
 #[cycle(value)]
 fn value(alloc: Global, out: &mut String, v: &Expr) -> Result<(), AllocError> {
     match v {
-        Expr::Number(n) => {
-            let n = *n;
-            Ok(out.push_str(format!(in alloc; "{n}")?.as_str())?)
-        }
-        Expr::Pid => Ok(word(out, "_pid")?),
-        Expr::ProcessCount => Ok(word(out, "_nr_pr")?),
-        Expr::Timeout => Ok(word(out, "timeout")?),
-        Expr::Read(t) => Ok(target(alloc, out, t)?),
-        Expr::Ask(fill, t) => {
-            word(out, asked(*fill))?;
-            Ok(target(alloc, out, t)?)
-        }
+        Expr::Number(n) => signed(alloc, out, *n),
+        Expr::Pid => word(out, "_pid"),
+        Expr::ProcessCount => word(out, "_nr_pr"),
+        Expr::Timeout => word(out, "timeout"),
+        Expr::Read(t) => target(alloc, out, t),
+        Expr::Ask(fill, t) => named(alloc, out, asked(*fill), t),
         Expr::Poll(t, search, ws) => {
-            word(out, "poll")?;
-            word(out, looked_for(*search))?;
-            word(out, " ")?;
-            target(alloc, out, t)?;
-            Ok(wants(alloc, out, ws)?)
+            named(alloc, out, polled(*search), t)?;
+            wants(alloc, out, ws)
         }
-        Expr::Unary(op, a) => {
-            word(out, "(")?;
-            word(out, prefix(*op))?;
-            value(alloc, out, a.get())?;
-            Ok(word(out, ")")?)
-        }
+        Expr::Unary(op, a) => between(alloc, out, prefix(*op), a.get(), ")"),
         Expr::Binary(op, a, b) => {
-            word(out, "(")?;
-            value(alloc, out, a.get())?;
-            word(out, infix(*op))?;
-            value(alloc, out, b.get())?;
-            Ok(word(out, ")")?)
+            between(alloc, out, "(", a.get(), infix(*op))?;
+            between(alloc, out, "", b.get(), ")")
         }
         Expr::Choice(a, b, c) => {
-            word(out, "(")?;
-            value(alloc, out, a.get())?;
-            word(out, " -> ")?;
-            value(alloc, out, b.get())?;
-            word(out, " : ")?;
-            value(alloc, out, c.get())?;
-            Ok(word(out, ")")?)
+            between(alloc, out, "(", a.get(), " -> ")?;
+            between(alloc, out, "", b.get(), " : ")?;
+            between(alloc, out, "", c.get(), ")")
         }
     }
+}
+
+/// An expression between two words.
+#[cycle(value)]
+fn between(
+    alloc: Global,
+    out: &mut String,
+    before: &str,
+    v: &Expr,
+    behind: &str,
+) -> Result<(), AllocError> {
+    word(out, before)?;
+    value(alloc, out, v)?;
+    word(out, behind)
+}
+
+/// A place behind a word.
+#[cycle(value)]
+fn named(alloc: Global, out: &mut String, before: &str, t: &Target) -> Result<(), AllocError> {
+    word(out, before)?;
+    target(alloc, out, t)
 }
 
 #[cycle(value)]
@@ -164,15 +175,12 @@ fn wants(alloc: Global, out: &mut String, ws: &Items<Want>) -> Result<(), AllocE
 fn want(alloc: Global, out: &mut String, w: &Want) -> Result<(), AllocError> {
     match w {
         Want::Exactly(n) => {
-            let n = *n;
-            Ok(out.push_str(format!(in alloc; "={n}")?.as_str())?)
+            word(out, "=")?;
+            signed(alloc, out, *n)
         }
-        Want::Equal(a) => {
-            word(out, "==")?;
-            Ok(value(alloc, out, a.get())?)
-        }
-        Want::Into(t) => Ok(target(alloc, out, t)?),
-        Want::Anything => Ok(word(out, "_")?),
+        Want::Equal(a) => between(alloc, out, "==", a.get(), ""),
+        Want::Into(t) => target(alloc, out, t),
+        Want::Anything => word(out, "_"),
     }
 }
 
@@ -189,15 +197,10 @@ fn target(alloc: Global, out: &mut String, t: &Target) -> Result<(), AllocError>
 
 #[cycle(value)]
 fn turn(alloc: Global, out: &mut String, t: &Turn) -> Result<(), AllocError> {
-    let (offset, length, stride) = (t.offset, t.length, t.stride);
-    out.push_str(format!(in alloc; "+{offset}:{length}*{stride}")?.as_str())?;
+    cells(alloc, out, t.offset, t.length, t.stride)?;
     match &t.index {
         None => Ok(()),
-        Some(a) => {
-            word(out, "[")?;
-            value(alloc, out, a.get())?;
-            Ok(word(out, "]")?)
-        }
+        Some(a) => between(alloc, out, "[", a.get(), "]"),
     }
 }
 
@@ -239,6 +242,25 @@ fn left(removal: Removal) -> &'static str {
     }
 }
 
+/// A channel, and how it is sent to or received from.
+fn channel(
+    alloc: Global,
+    out: &mut String,
+    t: &Target,
+    how: &str,
+    left: &str,
+) -> Result<(), AllocError> {
+    target(alloc, out, t)?;
+    word(out, how)?;
+    word(out, left)
+}
+
+/// A token behind a word.
+fn named_by(out: &mut String, before: &str, t: &Token<'_>) -> Result<(), AllocError> {
+    word(out, before)?;
+    token(out, t)
+}
+
 fn action(alloc: Global, out: &mut String, a: &Action<'_>) -> Result<(), AllocError> {
     match a {
         Action::Else => word(out, "else"),
@@ -250,39 +272,23 @@ fn action(alloc: Global, out: &mut String, a: &Action<'_>) -> Result<(), AllocEr
             store(alloc, out, t)?;
             run(alloc, out, r)
         }
-        Action::Increment(t) => {
-            word(out, "++")?;
-            target(alloc, out, t)
-        }
-        Action::Decrement(t) => {
-            word(out, "--")?;
-            target(alloc, out, t)
-        }
+        Action::Increment(t) => named(alloc, out, "++", t),
+        Action::Decrement(t) => named(alloc, out, "--", t),
         Action::Run(r) => run(alloc, out, r),
         Action::Send(t, order, vs) => {
-            target(alloc, out, t)?;
-            word(out, sent(*order))?;
+            channel(alloc, out, t, sent(*order), "")?;
             values(alloc, out, vs)
         }
         Action::Receive(t, search, removal, ws) => {
-            target(alloc, out, t)?;
-            word(out, looked_for(*search))?;
-            word(out, left(*removal))?;
+            channel(alloc, out, t, looked_for(*search), left(*removal))?;
             wants(alloc, out, ws)
         }
         Action::Printf(text, vs) => {
-            word(out, "printf ")?;
-            token(out, text)?;
+            named_by(out, "printf ", text)?;
             values(alloc, out, vs)
         }
-        Action::Printm(v) => {
-            word(out, "printm ")?;
-            value(alloc, out, v)
-        }
-        Action::Assert(v) => {
-            word(out, "assert ")?;
-            value(alloc, out, v)
-        }
+        Action::Printm(v) => between(alloc, out, "printm ", v, ""),
+        Action::Assert(v) => between(alloc, out, "assert ", v, ""),
         Action::Holds(v) => value(alloc, out, v),
     }
 }
@@ -290,63 +296,58 @@ fn action(alloc: Global, out: &mut String, a: &Action<'_>) -> Result<(), AllocEr
 #[cycle(statement)]
 fn basic(alloc: Global, out: &mut String, b: &Basic<'_>) -> Result<(), AllocError> {
     match b {
-        Basic::Plain(a) => Ok(action(alloc, out, a)?),
-        Basic::Goto(l) => {
-            word(out, "goto ")?;
-            Ok(token(out, l)?)
-        }
-        Basic::Break => Ok(word(out, "break")?),
-        Basic::If(options) => {
-            word(out, "if")?;
-            Ok(seqs(alloc, out, options)?)
-        }
-        Basic::Do(options) => {
-            word(out, "do")?;
-            Ok(seqs(alloc, out, options)?)
-        }
-        Basic::Block(s) => Ok(seq(alloc, out, s)?),
-        Basic::Atomic(s) => {
-            word(out, "atomic ")?;
-            Ok(seq(alloc, out, s)?)
-        }
-        Basic::DStep(s) => {
-            word(out, "d_step ")?;
-            Ok(seq(alloc, out, s)?)
-        }
+        Basic::Plain(a) => action(alloc, out, a),
+        Basic::Goto(l) => named_by(out, "goto ", l),
+        Basic::Break => word(out, "break"),
+        Basic::If(options) => seqs(alloc, out, "if", options),
+        Basic::Do(options) => seqs(alloc, out, "do", options),
+        Basic::Block(s) => seq(alloc, out, "", s),
+        Basic::Atomic(s) => seq(alloc, out, "atomic ", s),
+        Basic::DStep(s) => seq(alloc, out, "d_step ", s),
         Basic::Unless(main, escape) => {
-            seq(alloc, out, main)?;
-            word(out, " unless ")?;
-            Ok(seq(alloc, out, escape)?)
+            seq(alloc, out, "", main)?;
+            seq(alloc, out, " unless ", escape)
         }
     }
 }
 
 #[cycle(statement)]
-fn seqs(alloc: Global, out: &mut String, ss: &Items<Seq<'_>>) -> Result<(), AllocError> {
+fn seqs(
+    alloc: Global,
+    out: &mut String,
+    before: &str,
+    ss: &Items<Seq<'_>>,
+) -> Result<(), AllocError> {
+    word(out, before)?;
     for s in ss.as_slice() {
-        word(out, " ::")?;
-        seq(alloc, out, s)?;
+        seq(alloc, out, " ::", s)?;
     }
     Ok(())
 }
 
 #[cycle(statement)]
-fn seq(alloc: Global, out: &mut String, s: &Seq<'_>) -> Result<(), AllocError> {
+fn seq(alloc: Global, out: &mut String, before: &str, s: &Seq<'_>) -> Result<(), AllocError> {
+    word(out, before)?;
     word(out, "{\n")?;
     for one in s.steps.as_slice() {
         stmt(alloc, out, one)?;
     }
-    Ok(word(out, "}")?)
+    word(out, "}")
+}
+
+fn labels(out: &mut String, all: &Items<Token<'_>>) -> Result<(), AllocError> {
+    for label in all.as_slice() {
+        token(out, label)?;
+        word(out, ": ")?;
+    }
+    Ok(())
 }
 
 #[cycle(statement)]
 fn stmt(alloc: Global, out: &mut String, s: &Stmt<'_>) -> Result<(), AllocError> {
-    for label in s.labels.as_slice() {
-        token(out, label)?;
-        word(out, ": ")?;
-    }
+    labels(out, &s.labels)?;
     basic(alloc, out, &s.basic)?;
-    Ok(word(out, ";\n")?)
+    word(out, ";\n")
 }
 
 fn fields_of_messages(alloc: Global, out: &mut String, forms: &[Form]) -> Result<(), AllocError> {
@@ -357,27 +358,36 @@ fn fields_of_messages(alloc: Global, out: &mut String, forms: &[Form]) -> Result
     Ok(())
 }
 
-fn slot(alloc: Global, out: &mut String, s: &Slot<'_>) -> Result<(), AllocError> {
-    form(alloc, out, s.form)?;
-    word(out, " ")?;
-    token(out, &s.name)?;
-    word(out, if s.array { "[]" } else { "" })?;
-    let (offset, length, stride) = (s.offset, s.length, s.stride);
-    out.push_str(format!(in alloc; "+{offset}:{length}*{stride}")?.as_str())?;
-    match &s.initial {
-        Initial::Zero => word(out, "; "),
-        Initial::Value(v) => {
-            word(out, " = ")?;
-            value(alloc, out, v)?;
-            word(out, "; ")
-        }
+/// A cell, and how far on the others of its array lie.
+fn cells(
+    alloc: Global,
+    out: &mut String,
+    offset: u32,
+    length: u32,
+    stride: u32,
+) -> Result<(), AllocError> {
+    out.push_str(format!(in alloc; "+{offset}:{length}*{stride}")?.as_str())
+}
+
+fn initial(alloc: Global, out: &mut String, i: &Initial) -> Result<(), AllocError> {
+    match i {
+        Initial::Zero => Ok(()),
+        Initial::Value(v) => between(alloc, out, " = ", v, ""),
         Initial::Channel(n, fields) => {
             let n = *n;
             out.push_str(format!(in alloc; " = [{n}] of")?.as_str())?;
-            fields_of_messages(alloc, out, fields.as_slice())?;
-            word(out, "; ")
+            fields_of_messages(alloc, out, fields.as_slice())
         }
     }
+}
+
+fn slot(alloc: Global, out: &mut String, s: &Slot<'_>) -> Result<(), AllocError> {
+    form(alloc, out, s.form)?;
+    named_by(out, " ", &s.name)?;
+    word(out, if s.array { "[]" } else { "" })?;
+    cells(alloc, out, s.offset, s.length, s.stride)?;
+    initial(alloc, out, &s.initial)?;
+    word(out, "; ")
 }
 
 fn slots(alloc: Global, out: &mut String, all: &Items<Slot<'_>>) -> Result<(), AllocError> {
@@ -400,7 +410,7 @@ fn process(alloc: Global, out: &mut String, p: &Proctype<'_>) -> Result<(), Allo
     token(out, &p.name)?;
     out.push_str(format!(in alloc; " {owner} starts {starts} parameters {parameters} ")?.as_str())?;
     slots(alloc, out, &p.variables)?;
-    seq(alloc, out, &p.body)?;
+    seq(alloc, out, "", &p.body)?;
     let line = p.end.line();
     out.push_str(format!(in alloc; " to line {line}\n")?.as_str())
 }

@@ -152,19 +152,38 @@ fn choices(alloc: Global, block: &'static str) -> Result<(Vec<u8>, usize), Fail>
     Ok((choices, read))
 }
 
+/// The text of a part, in which `@this` and `@that` stand for these.
+fn filled_text(
+    alloc: Global,
+    block: &'static str,
+    word: &str,
+    this: &str,
+    that: &str,
+) -> Result<String, Fail> {
+    let text = text(alloc, block, word)?;
+    filled(alloc, &text, this, that)
+}
+
+/// The exit status and the line of a refusal that a block says.
+fn numbers(block: &'static str) -> Result<(u8, u32), Fail> {
+    let status = behind(block, "status").unwrap_or("").parse::<u8>()?;
+    let line = behind(block, "line").unwrap_or("0").parse::<u32>()?;
+    Ok((status, line))
+}
+
 /// The row of a well-formed block.
 pub fn row_of(alloc: Global, block: &'static str, this: &str, that: &str) -> Result<Row, Fail> {
+    let options = options(behind(block, "flags"))?;
+    let (status, line) = numbers(block)?;
     let (choices, read) = choices(alloc, block)?;
-    let model = text(alloc, block, "model")?;
-    let output = text(alloc, block, "output")?;
     Ok(Row {
-        options: options(behind(block, "flags"))?,
-        model: filled(alloc, &model, this, that)?,
+        options,
+        model: filled_text(alloc, block, "model", this, that)?,
         choices,
         read,
-        output: filled(alloc, &output, this, that)?,
-        status: behind(block, "status").unwrap_or("").parse::<u8>()?,
-        line: behind(block, "line").unwrap_or("0").parse::<u32>()?,
+        output: filled_text(alloc, block, "output", this, that)?,
+        status,
+        line,
         record: bytes(alloc, behind(block, "record").unwrap_or(""))?,
     })
 }

@@ -14,61 +14,102 @@ fn readable(bytes: &[u8]) -> &str {
     }
 }
 
-/// Complains where this came, and something else was wanted.
-fn told(complaint: &mut String, what: &str, wanted: &str, came: &str) -> Result<(), Fail> {
-    if wanted == came {
-        return Ok(());
-    }
-    for piece in [
+/// What a session has, to be compared.
+#[derive(Clone, Copy)]
+enum Seen<'s> {
+    Bytes(&'s [u8]),
+    Number(usize),
+}
+
+/// What was wanted of a session, and what came.
+#[derive(Clone, Copy)]
+struct Told<'s> {
+    what: &'static str,
+    wanted: Seen<'s>,
+    came: Seen<'s>,
+}
+
+fn bytes<'s>(what: &'static str, wanted: &'s [u8], came: &'s [u8]) -> Told<'s> {
+    Told {
         what,
-        ", wanted:\n",
-        wanted,
-        "\nbut there came:\n",
-        came,
-        "\n",
-    ] {
-        complaint.push_str(piece)?;
+        wanted: Seen::Bytes(wanted),
+        came: Seen::Bytes(came),
+    }
+}
+
+fn number<'s>(what: &'static str, wanted: usize, came: usize) -> Told<'s> {
+    Told {
+        what,
+        wanted: Seen::Number(wanted),
+        came: Seen::Number(came),
+    }
+}
+
+fn is_same(wanted: Seen<'_>, came: Seen<'_>) -> bool {
+    match (wanted, came) {
+        (Seen::Bytes(wanted), Seen::Bytes(came)) => wanted == came,
+        (Seen::Number(wanted), Seen::Number(came)) => wanted == came,
+        _ => false,
+    }
+}
+
+fn add_seen(alloc: Global, complaint: &mut String, seen: Seen<'_>) -> Result<(), Fail> {
+    match seen {
+        Seen::Bytes(bytes) => complaint.push_str(readable(bytes))?,
+        Seen::Number(number) => complaint.push_str(format!(in alloc; "{number}")?.as_str())?,
     }
     Ok(())
 }
 
-fn told_bytes(complaint: &mut String, what: &str, wanted: &[u8], came: &[u8]) -> Result<(), Fail> {
-    if wanted == came {
-        return Ok(());
-    }
-    complaint.push_str("another ")?;
-    told(complaint, what, readable(wanted), readable(came))
+/// Complains where this came, and something else was wanted.
+fn tell(alloc: Global, complaint: &mut String, told: Told<'_>) -> Result<(), Fail> {
+    let what = told.what;
+    complaint.push_str(format!(in alloc; "another {what}, wanted:\n")?.as_str())?;
+    add_seen(alloc, complaint, told.wanted)?;
+    complaint.push_str("\nbut there came:\n")?;
+    add_seen(alloc, complaint, told.came)?;
+    complaint.push_str("\n")?;
+    Ok(())
 }
 
-fn told_numbers(
-    alloc: Global,
-    complaint: &mut String,
-    what: &str,
-    wanted: usize,
-    came: usize,
-) -> Result<(), Fail> {
-    let wanted = format!(in alloc; "{wanted}")?;
-    let came = format!(in alloc; "{came}")?;
-    told(complaint, what, &wanted, &came)
+/// The complaints, in order; none, where all came as it was wanted.
+fn told_of(alloc: Global, all: &[Told<'_>]) -> Result<String, Fail> {
+    let mut complaint = String::new(alloc);
+    for told in all {
+        if !is_same(told.wanted, told.came) {
+            tell(alloc, &mut complaint, *told)?;
+        }
+    }
+    Ok(complaint)
+}
+
+/// What the output says of an end before the number of steps, where it says both.
+fn words_of(cause: &Cause) -> Option<&'static str> {
+    match cause {
+        Cause::Valid => Some("end: valid"),
+        Cause::Quit => Some("end: quit"),
+        Cause::Invalid => Some("end: invalid"),
+        Cause::ChoicesEnded => Some("stop: choices ended"),
+        Cause::LineTooLong => Some("stop: line too long"),
+        Cause::BadChoices => Some("stop: 100 bad choices"),
+        Cause::StepLimit => Some("stop: step limit"),
+        _ => None,
+    }
 }
 
 /// What the output of a session with this end says of it.
 fn said(alloc: Global, end: &End) -> Result<String, Fail> {
     let steps = end.steps;
     let tried = steps.saturating_add(1);
-    Ok(match end.cause {
-        Cause::Valid => format!(in alloc; "end: valid, steps {steps}\n")?,
-        Cause::Quit => format!(in alloc; "end: quit, steps {steps}\n")?,
-        Cause::Invalid => format!(in alloc; "end: invalid, steps {steps}\n")?,
-        Cause::Fault(_) => format!(in alloc; "): step {tried}: ")?,
-        Cause::Refused(refusal, _) => format!(in alloc; "refused M{} (", refusal.number())?,
-        Cause::NotServed => format!(in alloc; "refused M99 (not served)\n")?,
-        Cause::ChoicesEnded => format!(in alloc; "stop: choices ended, steps {steps}\n")?,
-        Cause::LineTooLong => format!(in alloc; "stop: line too long, steps {steps}\n")?,
-        Cause::BadChoices => format!(in alloc; "stop: 100 bad choices, steps {steps}\n")?,
-        Cause::StepLimit => format!(in alloc; "stop: step limit, steps {steps}\n")?,
-        _ => format!(in alloc; "a device or memory failed")?,
-    })
+    if let Some(words) = words_of(&end.cause) {
+        return Ok(format!(in alloc; "{words}, steps {steps}\n")?);
+    }
+    match end.cause {
+        Cause::Fault(_) => Ok(format!(in alloc; "): step {tried}: ")?),
+        Cause::Refused(refusal, _) => Ok(format!(in alloc; "refused M{} (", refusal.number())?),
+        Cause::NotServed => Ok(format!(in alloc; "refused M99 (not served)\n")?),
+        _ => Ok(format!(in alloc; "a device or memory failed")?),
+    }
 }
 
 fn line_of(end: &End) -> u32 {
@@ -78,27 +119,35 @@ fn line_of(end: &End) -> u32 {
     }
 }
 
+/// What a session says of its end, where its row has other words.
+fn end_told(alloc: Global, row: &Row, end: &End) -> Result<String, Fail> {
+    let said = said(alloc, end)?;
+    if row.output.contains(said.as_str()) {
+        return Ok(String::new(alloc));
+    }
+    told_of(
+        alloc,
+        &[bytes("end", row.output.as_bytes(), said.as_bytes())],
+    )
+}
+
 /// What a session has otherwise than its row, in words; none, where it has all as the row says.
 fn compared(alloc: Global, row: &Row, behind: &Behind) -> Result<String, Fail> {
-    let mut complaint = String::new(alloc);
+    let end = &behind.end;
     let read = row.choices.len().saturating_sub(behind.unread);
-    let wanted = usize::from(row.status);
-    let status = usize::from(behind.end.status);
-    told_bytes(&mut complaint, "output", row.output.as_bytes(), &behind.out)?;
-    told_bytes(&mut complaint, "record", &row.record, &behind.rec)?;
-    told_numbers(alloc, &mut complaint, "status", wanted, status)?;
-    told_numbers(alloc, &mut complaint, "bytes that are read", row.read, read)?;
-    told_numbers(
-        alloc,
-        &mut complaint,
-        "line of the refusal",
-        row.line as usize,
-        line_of(&behind.end) as usize,
-    )?;
-    let said = said(alloc, &behind.end)?;
-    if !row.output.contains(said.as_str()) {
-        told(&mut complaint, "the end", &row.output, &said)?;
-    }
+    let all = [
+        bytes("output", row.output.as_bytes(), behind.out.as_slice()),
+        bytes("record", row.record.as_slice(), behind.rec.as_slice()),
+        number("status", usize::from(row.status), usize::from(end.status)),
+        number("bytes that are read", row.read, read),
+        number(
+            "line of the refusal",
+            row.line as usize,
+            line_of(end) as usize,
+        ),
+    ];
+    let mut complaint = told_of(alloc, &all)?;
+    complaint.push_str(&end_told(alloc, row, end)?)?;
     Ok(complaint)
 }
 
@@ -121,57 +170,69 @@ pub fn without_bad_lines(alloc: Global, out: &[u8]) -> Result<Vec<u8>, Fail> {
     Ok(kept)
 }
 
+/// Whether a run was ended by its choices: a replay of its record then ends where they do.
+fn is_cut_short(cause: &Cause) -> bool {
+    matches!(
+        cause,
+        Cause::Quit | Cause::ChoicesEnded | Cause::LineTooLong | Cause::BadChoices
+    )
+}
+
+/// What the end of a replay has otherwise than it should, in words.
+fn end_replayed(alloc: Global, before: &Behind, again: &Behind) -> Result<String, Fail> {
+    if is_cut_short(&before.end.cause) {
+        let ended = again.end.cause == Cause::ChoicesEnded;
+        return told_of(
+            alloc,
+            &[number("end of the replay's choices", 1, usize::from(ended))],
+        );
+    }
+    let wanted = without_bad_lines(alloc, before.out.as_slice())?;
+    told_of(
+        alloc,
+        &[bytes(
+            "output of the replay",
+            wanted.as_slice(),
+            again.out.as_slice(),
+        )],
+    )
+}
+
 /// What a session that was played again on its record has otherwise than before, in words.
 fn replayed(alloc: Global, row: &Row, before: &Behind) -> Result<String, Fail> {
-    let mut complaint = String::new(alloc);
-    let model = row.model.as_bytes();
-    let again = played(alloc, model, &row.options, &row.record, NEVER)?;
-    let cut_short = matches!(
-        before.end.cause,
-        Cause::Quit | Cause::ChoicesEnded | Cause::LineTooLong | Cause::BadChoices
-    );
-    let steps = before.end.steps as usize;
-    let status = if cut_short { 5 } else { before.end.status };
-    told_bytes(
-        &mut complaint,
-        "record of the replay",
-        &row.record,
-        &again.rec,
-    )?;
-    told_numbers(
+    let again = played(
         alloc,
-        &mut complaint,
-        "what the replay leaves unread",
-        0,
-        again.unread,
+        row.model.as_bytes(),
+        &row.options,
+        row.record.as_slice(),
+        NEVER,
     )?;
-    told_numbers(
-        alloc,
-        &mut complaint,
-        "steps of the replay",
-        steps,
-        again.end.steps as usize,
-    )?;
-    told_numbers(
-        alloc,
-        &mut complaint,
-        "status of the replay",
-        usize::from(status),
-        usize::from(again.end.status),
-    )?;
-    if cut_short {
-        let ended = again.end.cause == Cause::ChoicesEnded;
-        told_numbers(
-            alloc,
-            &mut complaint,
-            "the replay's choices end",
-            1,
-            usize::from(ended),
-        )?;
+    let (then, now) = (&before.end, &again.end);
+    let status = if is_cut_short(&then.cause) {
+        5
     } else {
-        let wanted = without_bad_lines(alloc, &before.out)?;
-        told_bytes(&mut complaint, "output of the replay", &wanted, &again.out)?;
-    }
+        then.status
+    };
+    let all = [
+        bytes(
+            "record of the replay",
+            row.record.as_slice(),
+            again.rec.as_slice(),
+        ),
+        number("rest that the replay leaves unread", 0, again.unread),
+        number(
+            "number of steps of the replay",
+            then.steps as usize,
+            now.steps as usize,
+        ),
+        number(
+            "status of the replay",
+            usize::from(status),
+            usize::from(now.status),
+        ),
+    ];
+    let mut complaint = told_of(alloc, &all)?;
+    complaint.push_str(&end_replayed(alloc, before, &again)?)?;
     Ok(complaint)
 }
 
