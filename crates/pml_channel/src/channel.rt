@@ -1,6 +1,6 @@
 //! A channel: messages in order, never more than its capacity.
 
-ghost use Rattle.std.specs.Prelude.{◌≡◌, ◌+◌, ◌*◌, ◌<◌, ◌≤◌, ◌++◌, ◌∷◌, List, ℤ, [], length, take, drop, vec_len, OnOk, OnErr, remove, slice_get, Some, insert};
+ghost use Rattle.std.specs.Prelude.{◌≡◌, ◌+◌, ◌*◌, ◌<◌, ◌≤◌, ◌++◌, ◌∷◌, List, ℤ, [], length, take, drop, vec_len, IfSome, OnOk, OnErr, remove, slice_get, Some, insert};
 ghost use Rattle.std.specs.List.{position_from};
 ghost use Rattle.pml_eval.specs.Pattern.{matched};
 ghost use Rattle.pml_channel.specs.State.{cut, sorted_in, is_greater, rotated};
@@ -152,7 +152,8 @@ impl Channel {
 
     /// The least place whose message matches.
     pub fn find(&self, sought: &[Sought]) -> Option<usize>
-        ensures { result ≡ position_from (matched sought.now) 0 self.now.messages }
+        ensures value { result ≡ position_from (matched sought.now) 0 self.now.messages }
+        ensures within { IfSome result (λ n. n < length self.now.messages) }
     {
         for place in 0..self.len() {
             if matches(sought, self.message(place)) {
