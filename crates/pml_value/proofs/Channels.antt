@@ -1,5 +1,5 @@
 -- The channel at a place.
-use Rattle.std.proofs.Common.{◌≡◌, ℕ, zero, suc, ◌-◌, ◌<◌, List, [], ◌∷◌, length, get_or, set, map, ℤ, pos, negsuc, Option, Some, None, Result, Ok, Err, OnOk, refl, sym, ap, ◌∙◌, arith}
+use Rattle.std.proofs.Common.{◌≡◌, ℕ, zero, suc, ◌-◌, ◌<◌, List, [], ◌∷◌, length, get_or, set, ℤ, pos, negsuc, Option, Some, Result, Ok, Err, OnOk, refl, ap, arith}
 use Rattle.std.specs.Prelude.{option_map, slice_get}
 use lib.IntN.{nat_abs}
 use Rattle.pml_tree.specs.declared.tree.Removal.TheVariants.{Keep}

@@ -1,5 +1,5 @@
 -- What a send and a receive do to channels and variables, taken by one process alone, and what an `assert` does.
-use Rattle.std.specs.Prelude.{◌≡◌, ℕ, zero, suc, Bool, ◌&&◌, if◌then◌else◌, nat_eq, nat_le, nat_lt, length, map, List, [], ◌∷◌, ◌++◌, ℤ, pos, Option, Some, None, Result, Ok, Err, slice_index_or, remove}
+use Rattle.std.specs.Prelude.{◌≡◌, ℕ, zero, suc, ◌&&◌, if◌then◌else◌, nat_eq, nat_le, nat_lt, length, map, List, [], ◌∷◌, ◌++◌, ℤ, pos, Option, Some, None, Result, Ok, Err, slice_index_or, remove}
 use Rattle.std.specs.List.{position_from}
 use Rattle.profile.specs.declared.TheConstants.{MOST_FIELDS}
 use Rattle.diagnostics.specs.declared.fault.Fault.{Fault}

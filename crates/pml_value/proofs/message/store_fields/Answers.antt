@@ -1,4 +1,4 @@
-use Rattle.std.proofs.Common.{◌≡◌, ◌+◌, ◌<◌, ◌≤◌, length, get_or, min, pos, arith, rules, w32, FitsSigned, sym, ap, ◌∙◌}
+use Rattle.std.proofs.Common.{◌≡◌, ◌<◌, ◌≤◌, length, get_or, min, pos, arith, rules, w32, FitsSigned}
 use Rattle.std.proofs.lemmas.Int.{to_z-of_z}
 use Rattle.pml_eval.specs.declared.pattern.Sought.TheVariants.{Exactly}
 use Rattle.pml_value.specs.Messages.{stored_all, goes_of}
