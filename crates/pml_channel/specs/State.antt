@@ -1,6 +1,5 @@
 -- A channel as a list of messages.
-use Rattle.std.specs.Prelude.{◌≡◌, ℕ, ◌≤◌, Bool, true, false, if◌then◌else◌, List, [], ◌∷◌, length, ℤ, int_lt}
-use Rattle.std.specs.List.{AllByRecursion}
+use Rattle.std.specs.Prelude.{◌≡◌, ℕ, zero, suc, ◌+◌, ◌-◌, ◌*◌, ◌≤◌, Bool, true, false, if◌then◌else◌, List, [], ◌∷◌, ◌++◌, take, drop, length, ℤ, int_lt}
 use Rattle.std.specs.Ordering.{int_eq}
 use Rattle.pml_program.specs.declared.form.Form.{Form}
 use Rattle.pml_eval.specs.Clip.{clipped}
@@ -10,10 +9,20 @@ pub record ChannelState : Type 0 where
   pub types : List Form
   pub messages : List (List ℤ)
 
--- never more messages than the capacity, each with one field for each type
-pub record IsChannel (capacity : ℕ) (types : List Form) (messages : List (List ℤ)) : Type 0 where
-  pub few : length messages ≤ capacity
-  pub arity : AllByRecursion (λ m. length m ≡ length types) messages
+-- so many messages of so many fields each, one behind another
+abbrev pub messages_in : ℕ → ℕ → List ℤ → List (List ℤ)
+messages_in zero fields xs = []
+messages_in (suc n) fields xs = take fields xs ∷ messages_in n fields (drop fields xs)
+
+-- never more messages than the capacity, and from the start of the oldest on there are their numbers and no others
+pub record IsLaid (capacity fields count start : ℕ) (numbers : List ℤ) : Type 0 where
+  pub few : count ≤ capacity
+  pub cover : length numbers ≡ start + count * fields
+
+-- the last numbers of a part before the others of it
+abbrev pub rotated : ℕ → ℕ → ℕ → List ℤ → List ℤ
+rotated from end by xs =
+    take from xs ++ (take by (drop (end - by) xs) ++ (take (end - by - from) (drop from xs) ++ drop end xs))
 
 -- each field cut to its type
 abbrev pub cut : List Form → List ℤ → List ℤ

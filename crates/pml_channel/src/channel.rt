@@ -1,9 +1,9 @@
 //! A channel: messages in order, never more than its capacity.
 
-ghost use Rattle.std.specs.Prelude.{◌≡◌, ◌<◌, ◌≤◌, ◌++◌, ◌∷◌, [], length, OnOk, OnErr, IfOk, remove, slice_get, Some, insert};
-ghost use Rattle.std.specs.List.{AllByRecursion, position_from};
+ghost use Rattle.std.specs.Prelude.{◌≡◌, ◌+◌, ◌*◌, ◌<◌, ◌≤◌, ◌++◌, ◌∷◌, List, ℤ, [], length, take, drop, vec_len, IfSome, OnOk, OnErr, remove, slice_get, Some, insert};
+ghost use Rattle.std.specs.List.{position_from};
 ghost use Rattle.pml_eval.specs.Pattern.{matched};
-ghost use Rattle.pml_channel.specs.State.{cut, sorted_in, is_greater};
+ghost use Rattle.pml_channel.specs.State.{cut, sorted_in, is_greater, rotated};
 
 use pml_eval::clip::clip;
 use pml_eval::pattern::{Sought, matches};
@@ -12,23 +12,28 @@ use sqlite_items::Items;
 use std::alloc::{AllocError, Global};
 use std::marker::Model;
 
-/// A channel.
+/// A channel. The messages are numbers one behind another, the oldest first: a send takes memory only where the vector grows, and
+/// to take out the oldest moves none of the others.
 #[derive(Drop)]
 pub struct Channel {
     capacity: u16,
     types: Items<Form>,
-    messages: Vec<Items<i32>>,
+    /// The fields of the messages, behind those of messages that are gone.
+    numbers: Vec<i32>,
+    /// Where the oldest message begins.
+    start: usize,
+    count: usize,
 }
 
 impl Model for Channel {
-    ghost use Rattle.std.specs.Prelude.{◌≤◌, vec_len};
-    ghost use Rattle.pml_channel.specs.State.{ChannelState, IsChannel};
+    ghost use Rattle.std.specs.Prelude.{drop, length};
+    ghost use Rattle.pml_channel.specs.State.{ChannelState, IsLaid, messages_in};
 
     ghost Value = { ChannelState };
 
-    ghost view = { λ c. record { capacity = c.capacity; types = c.types; messages = c.messages.items } };
+    ghost view = { λ c. record { capacity = c.capacity; types = c.types; messages = messages_in c.count (length c.types) (drop c.start c.numbers.items) } };
 
-    ghost invariant = { λ c. IsChannel c.capacity c.types c.messages.items };
+    ghost invariant = { λ c. IsLaid c.capacity (length c.types) c.count c.start c.numbers.items };
 }
 
 impl Channel {
@@ -39,7 +44,9 @@ impl Channel {
         Channel {
             capacity,
             types,
-            messages: Vec::new(alloc),
+            numbers: Vec::new(alloc),
+            start: 0,
+            count: 0,
         }
     }
 
@@ -55,7 +62,7 @@ impl Channel {
         ensures value { result ≡ length self.now.messages }
         ensures few { length self.now.messages ≤ self.now.capacity }
     {
-        self.messages.len()
+        self.count
     }
 
     /// The types of its fields.
@@ -68,12 +75,14 @@ impl Channel {
     /// The fields of a message, the oldest at place 0.
     pub fn message(&self, place: usize) -> &[i32]
         requires { place < length self.now.messages }
-        ensures { slice_get self.now.messages place ≡ Some result.now }
+        ensures value { slice_get self.now.messages place ≡ Some result.now }
+        ensures arity { length result.now ≡ length self.now.types }
     {
-        self.messages[place].as_slice()
+        let fields = self.types.len();
+        message_in(self.numbers.as_slice(), self.start, place, fields)
     }
 
-    /// Puts a message at the end, each field cut to its type.
+    /// Puts a message at the end, each field cut to its type. Want of memory changes nothing.
     pub fn send(&mut self, fields: &[i32]) -> Result<(), AllocError>
         requires room { length self.old.messages < self.old.capacity }
         requires arity { length fields.now ≡ length self.old.types }
@@ -81,12 +90,28 @@ impl Channel {
             ≡ record self.old { messages = self.old.messages ++ cut self.old.types fields.now ∷ [] }) }
         ensures err { OnErr result (self.new ≡ self.old) }
     {
-        let message = cut_fields(*self.messages.allocator(), self.types.as_slice(), fields)?;
-        self.messages.push(message)?;
+        self.reclaim();
+        append(&mut self.numbers, self.types.as_slice(), fields)?;
+        self.count += 1;
         Ok(())
     }
 
-    /// Puts a message right before the first that is greater, or else at the end.
+    /// Takes back the numbers of messages that are gone, where they are as many as those of the others: so a message is moved as
+    /// often as one goes, at most.
+    fn reclaim(&mut self)
+        ensures { self.new ≡ self.old }
+    {
+        let held = self.numbers.len() - self.start;
+        if self.start < held {
+            return;
+        }
+        let end = self.numbers.len();
+        rotate(&mut self.numbers, 0, end, held);
+        self.numbers.truncate(held);
+        self.start = 0;
+    }
+
+    /// Puts a message right before the first that is greater, or else at the end. Want of memory changes nothing.
     pub fn send_sorted(&mut self, fields: &[i32]) -> Result<(), AllocError>
         requires room { length self.old.messages < self.old.capacity }
         requires arity { length fields.now ≡ length self.old.types }
@@ -94,37 +119,103 @@ impl Channel {
             ≡ record self.old { messages = sorted_in (cut self.old.types fields.now) self.old.messages }) }
         ensures err { OnErr result (self.new ≡ self.old) }
     {
-        let message = cut_fields(*self.messages.allocator(), self.types.as_slice(), fields)?;
-        let at = first_greater(self.messages.as_slice(), message.as_slice());
-        self.messages.insert(at, message)?;
+        self.send(fields)?;
+        let at = self.place_of_last();
+        self.move_last(at);
         Ok(())
+    }
+
+    /// Where the last message belongs among the others, if they are in order: right before the first that is greater.
+    fn place_of_last(&self) -> usize
+        requires { 0 < length self.now.messages }
+        ensures { (others : List (List ℤ)) (last : List ℤ) → self.now.messages ≡ others ++ last ∷ [] → (result ≤ length others) × (insert others result last ≡ sorted_in last others) }
+    {
+        let others = self.len() - 1;
+        for place in 0..others {
+            if greater(self.message(place), self.message(others)) {
+                return place;
+            }
+        }
+        others
+    }
+
+    /// Moves the last message to a place.
+    fn move_last(&mut self, place: usize)
+        requires { place < length self.old.messages }
+        ensures { (others : List (List ℤ)) (last : List ℤ) → self.old.messages ≡ others ++ last ∷ [] → self.new ≡ record self.old { messages = insert others place last } }
+    {
+        let fields = self.types.len();
+        let from = end_of(self.numbers.as_slice(), self.start, place, fields) - fields;
+        let end = self.numbers.len();
+        rotate(&mut self.numbers, from, end, fields);
     }
 
     /// The least place whose message matches.
     pub fn find(&self, sought: &[Sought]) -> Option<usize>
-        ensures { result ≡ position_from (matched sought.now) 0 self.now.messages }
+        ensures value { result ≡ position_from (matched sought.now) 0 self.now.messages }
+        ensures within { IfSome result (λ n. n < length self.now.messages) }
     {
-        first_match(self.messages.as_slice(), sought)
+        for place in 0..self.len() {
+            if matches(sought, self.message(place)) {
+                return Some(place);
+            }
+        }
+        None
     }
 
-    /// Removes a message.
+    /// Removes a message: those before it are moved.
     pub fn take(&mut self, place: usize)
         requires { place < length self.old.messages }
         ensures { self.new ≡ record self.old { messages = remove self.old.messages place } }
     {
-        self.messages.remove(place);
+        let fields = self.types.len();
+        let end = end_of(self.numbers.as_slice(), self.start, place, fields);
+        rotate(&mut self.numbers, self.start, end, fields);
+        self.start += fields;
+        self.count -= 1;
     }
 }
 
-fn cut_fields(alloc: Global, types: &[Form], fields: &[i32]) -> Result<Items<i32>, AllocError>
-    requires { length fields.now ≡ length types.now }
-    ensures { IfOk result (λ m. m ≡ cut types.now fields.now) }
+/// Where a message ends, among numbers that hold it.
+fn end_of(numbers: &[i32], start: usize, place: usize, fields: usize) -> usize
+    requires { start + place * fields + fields ≤ length numbers.now }
+    ensures { result ≡ start + place * fields + fields }
 {
-    let mut message = Items::new(alloc);
+    start + place * fields + fields
+}
+
+/// The fields of a message, among numbers that hold it.
+fn message_in(numbers: &[i32], start: usize, place: usize, fields: usize) -> &[i32]
+    requires { start + place * fields + fields ≤ length numbers.now }
+    ensures { result.now ≡ take fields (drop (start + place * fields) numbers.now) }
+{
+    let end = end_of(numbers, start, place, fields);
+    &numbers[end - fields..end]
+}
+
+/// Appends the fields of a message, each cut to its type. Want of memory changes nothing.
+fn append(numbers: &mut Vec<i32>, types: &[Form], fields: &[i32]) -> Result<(), AllocError>
+    requires { length fields.now ≡ length types.now }
+    ensures ok { OnOk result (numbers.new.items ≡ numbers.old.items ++ cut types.now fields.now) }
+    ensures err { OnErr result (numbers.new.items ≡ numbers.old.items) }
+{
+    let before = numbers.len();
     for i in 0..types.len() {
-        message.push(clip(types[i], fields[i]))?;
+        if numbers.push(clip(types[i], fields[i])).is_err() {
+            numbers.truncate(before);
+            return Err(AllocError);
+        }
     }
-    Ok(message)
+    Ok(())
+}
+
+/// Puts the last `by` numbers of a part before the others of it.
+fn rotate(numbers: &mut Vec<i32>, from: usize, end: usize, by: usize)
+    requires order { from + by ≤ end }
+    requires within { end ≤ vec_len numbers.old }
+    ensures { numbers.new.items ≡ rotated from end by numbers.old.items }
+{
+    numbers.as_mut_slice()[from..end].rotate_right(by);
 }
 
 /// Whether `a` is greater than `b`, by the first field in which they differ.
@@ -138,28 +229,4 @@ fn greater(a: &[i32], b: &[i32]) -> bool
         }
     }
     false
-}
-
-fn first_greater(messages: &[Items<i32>], message: &[i32]) -> usize
-    requires { AllByRecursion (λ m. length m ≡ length message.now) messages.now }
-    ensures within { result ≤ length messages.now }
-    ensures value { insert messages.now result message.now ≡ sorted_in message.now messages.now }
-{
-    for i in 0..messages.len() {
-        if greater(messages[i].as_slice(), message) {
-            return i;
-        }
-    }
-    messages.len()
-}
-
-fn first_match(messages: &[Items<i32>], sought: &[Sought]) -> Option<usize>
-    ensures { result ≡ position_from (matched sought.now) 0 messages.now }
-{
-    for i in 0..messages.len() {
-        if matches(sought, messages[i].as_slice()) {
-            return Some(i);
-        }
-    }
-    None
 }

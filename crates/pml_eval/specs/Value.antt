@@ -9,6 +9,7 @@ use Rattle.diagnostics.specs.declared.fault.Fault.{Fault}
 use Rattle.diagnostics.specs.declared.fault.Fault.TheVariants.{IndexOutOfRange, NoSuchChannel, WrongNumberOfFields}
 use Rattle.pml_program.specs.declared.expr.Expr.{Expr, Expr-F, fold-Expr}
 use Rattle.pml_program.specs.declared.expr.Want.{Want, Want-F, fold-Want}
+use Rattle.pml_program.specs.declared.form.Form.{Form}
 use Rattle.pml_eval.specs.declared.pattern.Sought.{Sought}
 use Rattle.pml_eval.specs.declared.pattern.Sought.TheVariants.{Exactly, Into, Anything}
 use Rattle.pml_eval.specs.Pattern.{matched}
@@ -79,12 +80,14 @@ inside whole cell = if nat_lt cell whole then Ok cell else Err IndexOutOfRange
 
 -- ---- one level of the tree, each part replaced by what it gives
 
--- an expression gives a value, a reference a place, and a turn the cells that it goes on by
+-- an expression gives a value, and a turn the cells that it goes on by
 abbrev pub Valued : Type 0
 Valued = Reading → Result ℤ Fault
 
-abbrev pub Placed : Type 0
-Placed = Reading → Result Place Fault
+-- a reference gives a place, and its type is known before
+pub record Placed : Type 0 where
+  pub form : Form
+  pub lies : Reading → Result Place Fault
 
 abbrev pub Turned : Type 0
 Turned = Reading → Result ℕ Fault
@@ -115,9 +118,9 @@ value_step (Expr-F.Number n) r = Ok n
 value_step Expr-F.Pid r = Ok r.pid
 value_step Expr-F.ProcessCount r = Ok r.process_count
 value_step Expr-F.Timeout r = Ok (truth r.timeout)
-value_step (Expr-F.Read p) r = p r >>= λ at. Ok (r.holds at)
-value_step (Expr-F.Ask fill p) r = p r >>= λ at. asked fill (r.channel (r.holds at))
-value_step (Expr-F.Poll p search args) r = p r >>= λ at. polled search (length args) (wants_of args r) (r.channel (r.holds at))
+value_step (Expr-F.Read p) r = p.lies r >>= λ at. Ok (r.holds at)
+value_step (Expr-F.Ask fill p) r = p.lies r >>= λ at. asked fill (r.channel (r.holds at))
+value_step (Expr-F.Poll p search args) r = p.lies r >>= λ at. polled search (length args) (wants_of args r) (r.channel (r.holds at))
 value_step (Expr-F.Unary op a) r = a r >>= λ x. Ok (prefixed op x)
 value_step (Expr-F.Binary op a b) r = a r >>= λ x. or_both op x (decided op x) (b r)
 value_step (Expr-F.Choice a b c) r = a r >>= λ x. if_zero x (c r) (b r)
@@ -125,7 +128,7 @@ value_step (Expr-F.Choice a b c) r = a r >>= λ x. if_zero x (c r) (b r)
 abbrev pub want_step : Want-F Valued Wanted Placed Turned → Wanted
 want_step (Want-F.Exactly n) r = Ok (Exactly n)
 want_step (Want-F.Equal a) r = a r >>= λ n. Ok (Exactly n)
-want_step (Want-F.Into p) r = p r >>= λ at. Ok (Into at)
+want_step (Want-F.Into p) r = p.lies r >>= λ at. Ok (Into at p.form)
 want_step Want-F.Anything r = Ok Anything
 
 -- from a cell on by each turn, never out of the whole
@@ -133,10 +136,14 @@ abbrev pub cells_of : List Turned → ℕ → ℕ → Reading → Result ℕ Fau
 cells_of [] whole cell r = Ok cell
 cells_of (s ∷ ss) whole cell r = s r >>= λ n. inside whole (cell + n) >>= λ c. cells_of ss whole c r
 
+-- the cell of a variable of a frame that turns lead to
+abbrev pub cell_in : ℕ → ℕ → List Turned → Reading → Result Place Fault
+cell_in frame variable turns r =
+    let whole = r.cells frame variable in
+    inside whole 0 >>= λ c. cells_of turns whole c r >>= λ cell. Ok (record { frame = frame; variable = variable; cell = cell })
+
 abbrev pub target_step : Target-F Valued Wanted Placed Turned → Placed
-target_step p r =
-    let whole = r.cells (r.frame p.local) p.variable in
-    inside whole 0 >>= λ c. cells_of p.turns whole c r >>= λ cell. Ok (record { frame = r.frame p.local; variable = p.variable; cell = cell })
+target_step p = record { form = p.form; lies = λ r. cell_in (r.frame p.local) p.variable p.turns r }
 
 abbrev pub index_of : Option Valued → ℕ → Reading → Result ℕ Fault
 index_of None length r = Ok 0
@@ -150,8 +157,11 @@ turn_step s r = index_of s.index s.length r >>= λ i. Ok (s.offset + i * s.strid
 abbrev pub val : Expr → Valued
 val = fold-Expr Valued Wanted Placed Turned value_step want_step target_step turn_step
 
-abbrev pub place : Target → Placed
-place = fold-Target Valued Wanted Placed Turned value_step want_step target_step turn_step
+abbrev pub placed : Target → Placed
+placed = fold-Target Valued Wanted Placed Turned value_step want_step target_step turn_step
+
+abbrev pub place : Target → Reading → Result Place Fault
+place t = (placed t).lies
 
 abbrev pub cells : Turn → Turned
 cells = fold-Turn Valued Wanted Placed Turned value_step want_step target_step turn_step
@@ -163,6 +173,10 @@ want = fold-Want Valued Wanted Placed Turned value_step want_step target_step tu
 abbrev pub asked_by : List Want → Reading → Result (List Sought) Fault
 asked_by ws = wants_of (map want ws)
 
+-- whether each field is what arguments ask of it, where all that they ask has a value
+abbrev pub is_asked : List Want → List ℤ → Reading → Result Bool Fault
+is_asked ws xs r = asked_by ws r >>= λ asked. Ok (matched asked xs)
+
 -- what a poll is worth of the channel whose number stands at a place
 abbrev pub poll_of : Search → List Want → Place → Valued
 poll_of search ws at r = polled search (length ws) (asked_by ws r) (r.channel (r.holds at))
@@ -170,3 +184,7 @@ poll_of search ws at r = polled search (length ws) (asked_by ws r) (r.channel (r
 -- the messages of the channel with a number
 abbrev pub messages_at : Reading → ℤ → List (List ℤ)
 messages_at r n = messages_of (r.channel n)
+
+-- whether the oldest of them, or any, is what arguments ask, where all that they ask has a value
+abbrev pub has_match : List Want → Search → ℤ → Reading → Result Bool Fault
+has_match ws search n r = asked_by ws r >>= λ asked. Ok (is_match search asked (messages_at r n))

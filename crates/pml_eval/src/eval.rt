@@ -3,8 +3,8 @@
 ghost use Rattle.std.specs.Prelude.{◌≡◌, ◌+◌, ◌*◌, ◌<◌, ◌≤◌, IfOk, List, Option, Ok, length, map, option_map};
 ghost use Rattle.profile.specs.declared.TheConstants.{MOST_FIELDS};
 ghost use Rattle.pml_eval.specs.declared.pattern.Sought.{Sought};
-ghost use Rattle.pml_eval.specs.Value.{val, place, cells, want, asked, asked_by, within, inside, poll_of, is_match, messages_at, Filling, settled};
-ghost use Rattle.pml_eval.specs.Pattern.{matched};
+ghost use Rattle.pml_eval.specs.Value.{val, place, cells, want, asked, asked_by, is_asked, has_match, within, inside, poll_of, is_match, messages_at, Filling, settled};
+ghost use Rattle.pml_eval.specs.Pattern.{matched, IsThere, AreThere};
 ghost use Rattle.pml_eval.specs.Ground.{shown};
 
 use crate::ground::{Filled, Ground};
@@ -77,12 +77,12 @@ fn poll<G: Ground>(arguments: &[Want], search: Search, at: Place, ground: &G) ->
         return Ok(0);
     }
     first_fault(arguments, ground)?;
-    Ok(number_of(has_match(arguments, search, number, c.length, ground)?))
+    Ok(number_of(any_fits(arguments, search, number, c.length, ground)?))
 }
 
 /// The first fault from the left in what is asked, if there is one.
 #[cycle(eval)]
-fn first_fault<G: Ground>(arguments: &[Want], ground: &G) -> Result<(), Fault>
+pub fn first_fault<G: Ground>(arguments: &[Want], ground: &G) -> Result<(), Fault>
     ensures { result ≡ settled (asked_by arguments.now (G.reading ground.now)) }
 {
     for argument in arguments {
@@ -93,7 +93,7 @@ fn first_fault<G: Ground>(arguments: &[Want], ground: &G) -> Result<(), Fault>
 
 /// Whether a message of this channel matches: the oldest, or any of them. What is asked has no fault.
 #[cycle(eval)]
-fn has_match<G: Ground>(
+fn any_fits<G: Ground>(
     arguments: &[Want],
     search: Search,
     number: i32,
@@ -104,7 +104,7 @@ fn has_match<G: Ground>(
     ensures { (ws : List Sought) → asked_by arguments.now (G.reading ground.now) ≡ Ok ws → result ≡ Ok (is_match search ws (messages_at (G.reading ground.now) number)) }
 {
     for place in 0..messages as usize {
-        if is_asked(arguments, ground.message(number, place), ground)? {
+        if fits(arguments, ground.message(number, place), ground)? {
             return Ok(true);
         }
         if let Search::First = search {
@@ -116,7 +116,7 @@ fn has_match<G: Ground>(
 
 /// Whether each field is what is asked. What is asked has no fault, and is evaluated as far as the first field that is not.
 #[cycle(eval)]
-fn is_asked<G: Ground>(arguments: &[Want], fields: &[i32], ground: &G) -> Result<bool, Fault>
+fn fits<G: Ground>(arguments: &[Want], fields: &[i32], ground: &G) -> Result<bool, Fault>
     ensures { (ws : List Sought) → asked_by arguments.now (G.reading ground.now) ≡ Ok ws → result ≡ Ok (matched ws fields.now) }
 {
     if arguments.len() != fields.len() {
@@ -131,10 +131,36 @@ fn is_asked<G: Ground>(arguments: &[Want], fields: &[i32], ground: &G) -> Result
     Ok(true)
 }
 
+/// Whether each field is what is asked of it, or the first fault from the left in what is asked. No memory is taken.
+pub fn is_asked<G: Ground>(arguments: &[Want], fields: &[i32], ground: &G) -> Result<bool, Fault>
+    ensures { result ≡ is_asked arguments.now fields.now (G.reading ground.now) }
+{
+    first_fault(arguments, ground)?;
+    fits(arguments, fields, ground)
+}
+
+/// Whether a message of the channel with this number is what is asked, the oldest or any of them, or the first fault from the left in
+/// what is asked. No memory is taken.
+pub fn has_match<G: Ground>(
+    arguments: &[Want],
+    search: Search,
+    number: i32,
+    ground: &G,
+) -> Result<bool, Fault>
+    ensures { result ≡ has_match arguments.now search number (G.reading ground.now) }
+{
+    first_fault(arguments, ground)?;
+    match ground.channel(number) {
+        None => Ok(false),
+        Some(c) => any_fits(arguments, search, number, c.length, ground),
+    }
+}
+
 /// What the arguments of a receive ask, or the first fault from the left. No memory is taken.
 pub fn pattern<G: Ground>(arguments: &[Want], ground: &G) -> Result<Pattern, Fault>
     requires { length arguments.now ≤ MOST_FIELDS }
-    ensures { result ≡ asked_by arguments.now (G.reading ground.now) }
+    ensures value { result ≡ asked_by arguments.now (G.reading ground.now) }
+    ensures there { IfOk result (AreThere (G.reading ground.now).cells) }
 {
     let mut pattern = Pattern::new();
     for argument in arguments {
@@ -143,15 +169,16 @@ pub fn pattern<G: Ground>(arguments: &[Want], ground: &G) -> Result<Pattern, Fau
     Ok(pattern)
 }
 
-/// What an argument asks of its field.
+/// What an argument asks of its field, or the first fault from the left.
 #[cycle(eval)]
-fn want<G: Ground>(argument: &Want, ground: &G) -> Result<Sought, Fault>
-    ensures { result ≡ want argument.now (G.reading ground.now) }
+pub fn want<G: Ground>(argument: &Want, ground: &G) -> Result<Sought, Fault>
+    ensures value { result ≡ want argument.now (G.reading ground.now) }
+    ensures there { IfOk result (IsThere (G.reading ground.now).cells) }
 {
     match argument {
         Want::Exactly(n) => Ok(Sought::Exactly(*n)),
         Want::Equal(a) => Ok(Sought::Exactly(eval(a.get(), ground)?)),
-        Want::Into(target) => Ok(Sought::Into(place(target, ground)?)),
+        Want::Into(target) => Ok(Sought::Into(place(target, ground)?, target.form)),
         Want::Anything => Ok(Sought::Anything),
     }
 }

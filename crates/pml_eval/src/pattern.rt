@@ -4,6 +4,7 @@ ghost use Rattle.std.specs.Prelude.{◌≡◌, ◌<◌, ◌++◌, ◌∷◌, [],
 ghost use Rattle.profile.specs.declared.TheConstants.{MOST_FIELDS};
 ghost use Rattle.pml_eval.specs.Pattern.{matched, taken};
 
+use pml_program::form::Form;
 use pml_store::place::Place;
 use profile::MOST_FIELDS;
 use std::marker::Model;
@@ -13,8 +14,8 @@ use std::marker::Model;
 pub enum Sought {
     /// This number.
     Exactly(i32),
-    /// Any number, which is stored there.
-    Into(Place),
+    /// Any number, of which this place stores what its type keeps.
+    Into(Place, Form),
     Anything,
 }
 
@@ -86,6 +87,6 @@ pub fn takes(one: Sought, field: i32) -> bool
 {
     match one {
         Sought::Exactly(n) => n == field,
-        Sought::Into(_) | Sought::Anything => true,
+        Sought::Into(_, _) | Sought::Anything => true,
     }
 }

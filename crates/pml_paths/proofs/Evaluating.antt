@@ -8,7 +8,7 @@ use Rattle.pml_program.specs.declared.expr.Expr.{Expr}
 use Rattle.pml_program.specs.declared.expr.Want.{Want}
 use Rattle.pml_program.specs.declared.expr.Turn.{Turn, Turn-F, map-Turn, out-Turn, fold-roll-Turn, roll-out-Turn}
 use Rattle.pml_program.specs.declared.expr.Target.{Target, out-Target, fold-roll-Target, roll-out-Target}
-use Rattle.pml_eval.specs.Value.{Reading, Valued, Wanted, Placed, Turned, val, want, place, cells, cells_of, inside, within, index_of, value_step, want_step, target_step, turn_step, ◌>>=◌}
+use Rattle.pml_eval.specs.Value.{Reading, Valued, Wanted, Placed, Turned, val, want, placed, place, cells, cells_of, inside, within, index_of, value_step, want_step, target_step, turn_step, ◌>>=◌}
 use Rattle.pml_stands.specs.Tiled.{reached, AreWithin}
 use Rattle.pml_paths.specs.Paths.{IsWorth, AreWorth, cell_at}
 
@@ -26,7 +26,7 @@ index-is None now n i h w = ap Ok (sym w)
 index-is (Some e) now n i h w = ap (λ (r : Result ℤ Fault). r >>= within n) w ∙ within-is n i h
 
 abbrev turned : Turn-F Expr Want Target Turn → Turned
-turned y = turn_step (map-Turn Expr Want Target Turn Valued Wanted Placed Turned val want place cells y)
+turned y = turn_step (map-Turn Expr Want Target Turn Valued Wanted Placed Turned val want placed cells y)
 
 layer-of : (o l s : ℕ) (x : Option Expr) (now : Reading) → turned (record { offset = o; length = l; stride = s; index = x }) now ≡ (index_of (option_map val x) l now >>= λ i. Ok (o + i * s))
 layer-of o l s None now = refl
@@ -57,7 +57,7 @@ place-layer : (x : Target) (now : Reading) → place x now
     ≡ (inside (now.cells (now.frame (out-Target x).local) (out-Target x).variable) 0 >>= λ c. cells_of (map cells (out-Target x).turns) (now.cells (now.frame (out-Target x).local) (out-Target x).variable) c now >>= λ cell. Ok (cell_at now x cell))
 place-layer x now =
     ap (λ (u : Target). place u now) (sym (roll-out-Target x))
-    ∙ ap (λ (f : Placed). f now) (fold-roll-Target Valued Wanted Placed Turned value_step want_step target_step turn_step (out-Target x))
+    ∙ ap (λ (f : Placed). f.lies now) (fold-roll-Target Valued Wanted Placed Turned value_step want_step target_step turn_step (out-Target x))
 
 -- a target evaluates to the cell that its turns reach
 pub target-reaches : (x : Target) (is : List ℕ) (now : Reading) → AreWithin (out-Target x).turns is → AreWorth now (out-Target x).turns is

@@ -13,7 +13,7 @@ use Rattle.pml_program.specs.declared.program.Action.{Action}
 use Rattle.pml_program.specs.declared.program.Action.TheVariants as a
 use Rattle.pml_program.specs.declared.program.Basic.{Basic, Plain, Goto, Break, If', Do', Block, Atomic, DStep, Unless}
 use Rattle.pml_program.specs.declared.program.Stmt.{Stmt}
-use Rattle.pml_eval.specs.Value.{Reading, Valued, Wanted, Placed, Turned, val, want, place, cells, inside, cells_of, value_step, want_step, target_step, turn_step, ◌>>=◌}
+use Rattle.pml_eval.specs.Value.{Reading, Valued, Wanted, Placed, Turned, val, want, placed, place, cells, inside, cells_of, value_step, want_step, target_step, turn_step, ◌>>=◌}
 use Rattle.pml_store.specs.declared.place.Place.{Place}
 use Rattle.pml_store.specs.Store.{size_at, before}
 use Rattle.pml_store.proofs.Back.{before_set, has_cell}
@@ -50,7 +50,7 @@ cells_inside (s ∷ ss) whole cell r c l h =
 abbrev LiesInside : Reading → Place → Type 0
 LiesInside r at = at.cell < r.cells at.frame at.variable
 
-target_inside : (p : Target-F Valued Wanted Placed Turned) (r : Reading) (at : Place) → target_step p r ≡ Ok at → LiesInside r at
+target_inside : (p : Target-F Valued Wanted Placed Turned) (r : Reading) (at : Place) → (target_step p).lies r ≡ Ok at → LiesInside r at
 target_inside p r at h =
     let whole = r.cells (r.frame p.local) p.variable in
     let first = bind_ok (inside whole 0) _ at h in
@@ -59,8 +59,8 @@ target_inside p r at h =
 
 place_inside : (t : Target) (r : Reading) (at : Place) → place t r ≡ Ok at → LiesInside r at
 place_inside t r at h =
-    let layer : Target-F Valued Wanted Placed Turned = map-Target Expr Want Target Turn Valued Wanted Placed Turned val want place cells (out-Target t) in
-    target_inside layer r at (sym (ap (λ (f : Placed). f r) (fold_out-Target Valued Wanted Placed Turned value_step want_step target_step turn_step t)) ∙ h)
+    let layer : Target-F Valued Wanted Placed Turned = map-Target Expr Want Target Turn Valued Wanted Placed Turned val want placed cells (out-Target t) in
+    target_inside layer r at (sym (ap (λ (f : Placed). f.lies r) (fold_out-Target Valued Wanted Placed Turned value_step want_step target_step turn_step t)) ∙ h)
 
 -- ---- so does what a statement stores
 

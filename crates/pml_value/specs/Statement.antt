@@ -1,5 +1,5 @@
 -- What an assignment, an increment, a decrement and a condition do.
-use Rattle.std.specs.Prelude.{◌≡◌, ℕ, ◌++◌, [], ◌∷◌, ℤ, pos, negsuc, ◌+ℤ◌, Bool, true, false, not, Option, Some, None, Result, Ok, Err}
+use Rattle.std.specs.Prelude.{◌≡◌, ℤ, pos, negsuc, ◌+ℤ◌, Bool, true, false, not, Option, Some, None, Result, Ok, Err}
 use Rattle.diagnostics.specs.declared.fault.Fault.{Fault}
 use Rattle.pml_program.specs.declared.expr.Expr.{Expr}
 use Rattle.pml_program.specs.declared.expr.Target.{Target, out-Target}
@@ -8,7 +8,6 @@ use Rattle.pml_program.specs.declared.program.Action.TheVariants as a
 use Rattle.pml_eval.specs.Clip.{clipped}
 use Rattle.pml_eval.specs.Operators.{is_zero, wrapped}
 use Rattle.pml_eval.specs.Value.{Reading, val, place, ◌>>=◌}
-use Rattle.pml_store.specs.declared.place.Place.{Place}
 use Rattle.pml_store.specs.Store.{Contents, stored}
 use Rattle.pml_value.specs.declared.statement.Goes.{Goes}
 use Rattle.diagnostics.specs.declared.stop.Stop.{Stop}

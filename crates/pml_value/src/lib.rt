@@ -1,7 +1,9 @@
 //! What a process reads of a state, and what its statements store (Holzmann, *The SPIN Model Checker*, chapter 3).
 #![tactic(auto)]
 
+pub mod fields;
 pub mod live_channel;
+pub mod message;
 pub mod statement;
 pub mod view;
 

@@ -17,7 +17,7 @@ use std::test::Fail;
 
 /// Each variable has four cells, which hold this number, channel 1 is empty, and channel 2 holds (2, 9) and (7, 1).
 #[derive(Drop)]
-struct Holding(i32);
+pub struct Holding(pub i32);
 
 impl Ground for Holding {
     ghost reading = { λ s. holding s.0 };

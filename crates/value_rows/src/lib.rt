@@ -9,6 +9,8 @@ mod channels;
 #[cfg(test)]
 mod expressions;
 #[cfg(test)]
+mod messages;
+#[cfg(test)]
 mod refused;
 #[cfg(test)]
 mod statements;

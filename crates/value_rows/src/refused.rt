@@ -1,15 +1,18 @@
 //! Growths that may be refused: each test passes with memory enough, and where any one growth of it is refused.
 use crate::beginnings::program;
 use crate::channels::of_three;
+use crate::messages::{TAKER, globals, variable};
 use diagnostics::Stop;
 use pml_channel::channel::Channel;
-use pml_program::expr::Target;
+use pml_program::expr::{Expr, Target, Want};
 use pml_program::form::Form;
 use pml_program::program::Action;
 use pml_start::start::start;
 use pml_store::place::Place;
 use pml_store::store::Store;
-use pml_tree::tree::Scalar;
+use pml_tree::tree::{Removal, Scalar, Search, SendOrder};
+use pml_value::live_channel::LiveChannel;
+use pml_value::message::{receive, send};
 use pml_value::statement::take;
 use sqlite_items::Items;
 use std::alloc::Global;
@@ -151,4 +154,47 @@ fn first_states(rt: HostRuntime) {
         Ok(started) => assert_eq!(rt; started.store.cells().len(), 8),
         Err(stop) => assert_eq!(rt; stop, Stop::Memory),
     }
+}
+
+/// A message goes through a channel, or memory was refused: then it stands where it stood.
+fn goes_through<R: Abort>(
+    rt: &R,
+    store: &mut Store,
+    channels: &mut [LiveChannel],
+    q: &Target,
+    wants: &[Want],
+) {
+    let fields = [Expr::Number(300), Expr::Number(7)];
+    if send(store, channels, TAKER, q, SendOrder::Sorted, &fields).is_err() {
+        return;
+    }
+    let received = receive(
+        store,
+        channels,
+        TAKER,
+        q,
+        Search::First,
+        Removal::Remove,
+        wants,
+    );
+    if let Err(stop) = received {
+        assert_eq!(rt; stop, Stop::Memory);
+        assert_eq!(rt; store.cells().as_slice(), [1, 0, 0, 0, 0].as_slice());
+    }
+}
+
+#[test]
+fn sent_and_received(rt: HostRuntime) {
+    let (Ok(mut store), Ok(channel)) = (globals(rt.alloc()), of_three(rt.alloc())) else {
+        return;
+    };
+    let mut channels = [LiveChannel { frame: 0, channel }];
+    let q = variable(rt.alloc(), 0, Scalar::Chan);
+    let wants = [
+        Want::Into(variable(rt.alloc(), 1, Scalar::Byte)),
+        Want::Anything,
+    ];
+    goes_through(&rt, &mut store, &mut channels, &q, &wants);
+    let [live] = channels;
+    assert_eq!(rt; live.channel.capacity(), 3);
 }

@@ -6,8 +6,8 @@ use Rattle.pml_eval.proofs.Asking.{Rest-next, wants-length, match-next}
 use Rattle.pml_eval.proofs.Matching.{matched-length}
 use Rattle.pml_eval.proofs.eval.+eval.Goals as goal
 
-pub has_match-loop-place-preserved : goal.has_match-loop-place-preserved
-has_match-loop-place-preserved g t c ws all =
+pub any_fits-loop-place-preserved : goal.any_fits-loop-place-preserved
+any_fits-loop-place-preserved g t c ws all =
     let e : matched ws c.message.result.now ≡ false = search rules in
     let n : to_z w32 (of_z w32 c.args.number) ≡ c.args.number = let f : FitsSigned w32 c.args.number = search rules in to_z-of_z w32 _ f in
     let ms : List (List ℤ) = messages_of ((g.G.Ground.reading c.args.ground.now).channel c.args.number) in
@@ -16,12 +16,12 @@ has_match-loop-place-preserved g t c ws all =
     let before = rw n at (c.loop-place.invariant ws all) in
     rw n (match-next _ ws ms _ l c.in_default.is (rw (← m) e) ∙ before)
 
-pub is_asked-returns-then-arguments-fields : goal.is_asked-returns-then-arguments-fields
-is_asked-returns-then-arguments-fields g t c ws all =
+pub fits-returns-then-arguments-fields : goal.fits-returns-then-arguments-fields
+fits-returns-then-arguments-fields g t c ws all =
     ap Ok (sym (matched-length ws c.args.fields.now (λ e. c.if-arguments-fields.true (sym (wants-length _ _ ws all) ∙ e))))
 
-pub is_asked-loop-i-preserved : goal.is_asked-loop-i-preserved
-is_asked-loop-i-preserved g t c ws =
+pub fits-loop-i-preserved : goal.fits-loop-i-preserved
+fits-loop-i-preserved g t c ws =
     let l : c.loop-i.i < length c.args.arguments.now = search rules in
     let k : c.loop-i.i < length c.args.fields.now = search rules in
     let e : want c.index-arguments-i.result (g.G.Ground.reading c.args.ground.now) ≡ Ok c.in_ok-one.one = search rules in

@@ -20,12 +20,12 @@ invariant-first_fault-loop-argument g l =
     settled (wants_of (map want (drop l.argument-index l.arguments)) r) ≡ settled (wants_of (map want l.arguments) r)
 
 -- whether one of the rest matches is whether one of all does
-abbrev pub invariant-has_match-loop-place : goal.invariant-has_match-loop-place
-invariant-has_match-loop-place g l =
+abbrev pub invariant-any_fits-loop-place : goal.invariant-any_fits-loop-place
+invariant-any_fits-loop-place g l =
     let r = g.G.Ground.reading l.ground in
     let messages = messages_of (r.channel l.number) in
     (ws : List Sought) → wants_of (map want l.arguments) r ≡ Ok ws → is_match l.search ws (drop l.place messages) ≡ is_match l.search ws messages
 
 -- the rest of what is asked decides
-abbrev pub invariant-is_asked-loop-i : goal.invariant-is_asked-loop-i
-invariant-is_asked-loop-i g l = (ws : List Sought) → Rest l.i l.arguments l.fields (g.G.Ground.reading l.ground) ws
+abbrev pub invariant-fits-loop-i : goal.invariant-fits-loop-i
+invariant-fits-loop-i g l = (ws : List Sought) → Rest l.i l.arguments l.fields (g.G.Ground.reading l.ground) ws

@@ -1,0 +1,3 @@
+pub mod Channels
+pub mod Storing
+pub mod Rows
