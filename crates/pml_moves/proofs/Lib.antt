@@ -1,0 +1,6 @@
+pub mod Searching
+pub mod Matching
+pub mod Offering
+pub mod Placing
+pub mod Samples
+pub mod Rows

@@ -1,0 +1,113 @@
+-- The last that gives anything, met from the end.
+use Rattle.std.proofs.Common.{zero, suc, ◌++◌, ◌<◌, ◌≤◌, length, length-append, append-nil, ◌≡◌, ℕ, ◌+◌, List, [], ◌∷◌, drop, map, refl, sym, ap, ◌∙◌, arith, Some, None}
+use Rattle.std.specs.Prelude.{slice_get, slice_index_or}
+use Rattle.pml_moves.specs.Search.{or_else, last}
+
+or_else_none : {A : Type 0} → (xs ys : List A) → xs ≡ [] → or_else xs ys ≡ ys
+or_else_none [] ys h = refl
+or_else_none (x ∷ xs) ys h = cc
+
+or_else_some : {A : Type 0} → (xs ys : List A) → (xs ≡ [] → ⊥) → or_else xs ys ≡ xs
+or_else_some [] ys h = absurd (h refl)
+or_else_some (x ∷ xs) ys h = refl
+
+-- what is left from a place on begins with what is there
+pub opens : {A : Type 0} (xs : List A) (k : ℕ) (d : A) → k < length xs → drop k xs ≡ slice_index_or xs k d ∷ drop (k + 1) xs
+opens [] k d h = absurd (omega (arith, h))
+opens (y ∷ ys) zero d h = refl
+opens (y ∷ ys) (suc k) d h =
+    let e : suc k + 1 ≡ suc (k + 1) = omega arith in
+    let l : k < length ys = omega (arith, h) in
+    opens ys k d l ∙ ap (λ (n : ℕ). slice_index_or ys k d ∷ drop n (y ∷ ys)) (sym e)
+
+pub index_map : {A B : Type 0} (g : A → B) (xs : List A) (k : ℕ) (d : A) (e : B) → k < length xs → slice_index_or (map g xs) k e ≡ g (slice_index_or xs k d)
+index_map g [] k d e h = absurd (omega (arith, h))
+index_map g (x ∷ xs) zero d e h = refl
+index_map g (x ∷ xs) (suc k) d e h = let l : k < length xs = omega (arith, h) in index_map g xs k d e l
+
+-- a place past the end has the default
+pub index_total : {A B : Type 0} (g : A → B) (xs : List A) (k : ℕ) (d : A) → slice_index_or (map g xs) k (g d) ≡ g (slice_index_or xs k d)
+index_total g [] k d = refl
+index_total g (x ∷ xs) zero d = refl
+index_total g (x ∷ xs) (suc k) d = index_total g xs k d
+
+pub got : {A : Type 0} (xs : List A) (k : ℕ) (x d : A) → slice_get xs k ≡ Some x → slice_index_or xs k d ≡ x
+got [] k x d h = cc
+got (y ∷ ys) zero x d h = cc
+got (y ∷ ys) (suc k) x d h = got ys k x d h
+
+pub got_none : {A : Type 0} (xs : List A) (k : ℕ) (d : A) → length xs ≤ k → slice_index_or xs k d ≡ d
+got_none [] k d h = refl
+got_none (y ∷ ys) zero d h = absurd (omega (arith, h))
+got_none (y ∷ ys) (suc k) d h = let l : length ys ≤ k = omega (arith, h) in got_none ys k d l
+
+-- what is there, or the end
+pub there : {A : Type 0} (xs : List A) (k : ℕ) → k < length xs → (x : A) × (slice_get xs k ≡ Some x)
+there [] k h = absurd (omega (arith, h))
+there (y ∷ ys) zero h = (y, refl)
+there (y ∷ ys) (suc k) h = let l : k < length ys = omega (arith, h) in there ys k l
+
+pub past : {A : Type 0} (xs : List A) (k : ℕ) → length xs ≤ k → slice_get xs k ≡ None
+past [] k h = refl
+past (y ∷ ys) zero h = absurd (omega (arith, h))
+past (y ∷ ys) (suc k) h = let l : length ys ≤ k = omega (arith, h) in past ys k l
+
+pub within : {A : Type 0} (xs : List A) (k : ℕ) (x : A) → slice_get xs k ≡ Some x → k < length xs
+within [] k x h = cc
+within (y ∷ ys) zero x h = omega arith
+within (y ∷ ys) (suc k) x h = let l = within ys k x h in omega (arith, l)
+
+pub at_end : {A : Type 0} (xs : List A) (k : ℕ) → slice_get xs k ≡ None → length xs ≤ k
+at_end [] k h = omega arith
+at_end (y ∷ ys) zero h = cc
+at_end (y ∷ ys) (suc k) h = let l = at_end ys k h in omega (arith, l)
+
+pub opens_at : {A : Type 0} (xs : List A) (k : ℕ) (x : A) → slice_get xs k ≡ Some x → drop k xs ≡ x ∷ drop (k + 1) xs
+opens_at xs k x h = opens xs k x (within xs k x h) ∙ ap (λ y. y ∷ drop (k + 1) xs) (got xs k x x h)
+
+-- of a list that has grown, what was added is not empty, and of one that has not it is
+grown : {A : Type 0} (a b x : List A) (n k : ℕ) → b ≡ a ++ x → n ≡ length a → k ≡ length b → (k ≡ n → ⊥) → x ≡ [] → ⊥
+grown a b x n k e p q h z = h (q ∙ (ap length e ∙ (ap (λ y. length (a ++ y)) z ∙ (ap length (append-nil a) ∙ sym p))))
+
+not_grown : {A : Type 0} (a b x : List A) (n k : ℕ) → b ≡ a ++ x → n ≡ length a → k ≡ length b → k ≡ n → x ≡ []
+not_grown a b [] n k e p q h = refl
+not_grown a b (y ∷ x) n k e p q h =
+    let l : length b ≡ length a + length (y ∷ x) = ap length e ∙ length-append a (y ∷ x) in
+    absurd (let z : length (y ∷ x) ≡ 0 = omega (arith, l, p, q, h) in omega (arith, z))
+
+-- ---- level by level, from the last down
+
+module _ {A B : Type 0} (f : ℕ → A → List B) (d : A) where
+  found : (i l : ℕ) (xs : List A) → l < length xs → last f (i + (l + 1)) (drop (l + 1) xs) ≡ [] → (f (i + l) (slice_index_or xs l d) ≡ [] → ⊥) → last f i xs ≡ f (i + l) (slice_index_or xs l d)
+  found i l [] e h k = absurd (omega (arith, e))
+  found i zero (y ∷ ys) e h k =
+      let n : i + 0 ≡ i = omega arith in
+      or_else_none (last f (i + 1) ys) (f i y) h ∙ ap (λ (j : ℕ). f j y) (sym n)
+  found i (suc l) (y ∷ ys) e h k =
+      let n : i + 1 + l ≡ i + suc l = omega arith in
+      let c : suc l + 1 ≡ suc (l + 1) = omega arith in
+      let m : i + 1 + (l + 1) ≡ i + suc (l + 1) = omega arith in
+      let s : l < length ys = omega (arith, e) in
+      let x : A = slice_index_or ys l d in
+      let rest : last f (i + 1) ys ≡ f (i + 1 + l) x = found (i + 1) l ys s (ap (λ (j : ℕ). last f j (drop (l + 1) ys)) m ∙ (ap (λ (n : ℕ). last f (i + n) (drop n (y ∷ ys))) (sym c) ∙ h)) (λ z. k (ap (λ (j : ℕ). f j x) (sym n) ∙ z)) in
+      or_else_some (last f (i + 1) ys) (f i y) (λ z. k (ap (λ (j : ℕ). f j x) (sym n) ∙ (sym rest ∙ z))) ∙ (rest ∙ ap (λ (j : ℕ). f j x) n)
+
+  still_none : (l : ℕ) (xs : List A) → l < length xs → last f (l + 1) (drop (l + 1) xs) ≡ [] → f l (slice_index_or xs l d) ≡ [] → last f l (drop l xs) ≡ []
+  still_none l xs e h k =
+      ap (λ (ys : List A). last f l ys) (opens xs l d e)
+      ∙ (or_else_none (last f (l + 1) (drop (l + 1) xs)) (f l (slice_index_or xs l d)) h ∙ k)
+
+  -- what the first level that gives anything gives is what the last of all gives
+  pub ends : (a b : List B) (n m k : ℕ) (x : A) (xs : List A) → k < length xs → x ≡ slice_index_or xs k d → last f (k + 1) (drop (k + 1) xs) ≡ [] → b ≡ a ++ f k x → n ≡ length a → m ≡ length b → (m ≡ n → ⊥) → b ≡ a ++ last f 0 xs
+  ends a b n m k x xs l e h g p q u =
+      let o : 0 + (k + 1) ≡ k + 1 = omega arith in
+      let z : 0 + k ≡ k = omega arith in
+      let c : f (0 + k) (slice_index_or xs k d) ≡ f k x = ap (λ (j : ℕ). f j (slice_index_or xs k d)) z ∙ ap (f k) (sym e) in
+      let r : last f 0 xs ≡ f (0 + k) (slice_index_or xs k d) = found 0 k xs l (ap (λ (j : ℕ). last f j (drop (k + 1) xs)) o ∙ h) (λ w. grown a b (f k x) n m g p q u (sym c ∙ w)) in
+      g ∙ ap (λ (w : List B). a ++ w) (sym (r ∙ c))
+
+  -- a level that gives nothing changes nothing
+  pub goes_on : (a b : List B) (n m k : ℕ) (x : A) (xs : List A) → k < length xs → x ≡ slice_index_or xs k d → last f (k + 1) (drop (k + 1) xs) ≡ [] → b ≡ a ++ f k x → n ≡ length a → m ≡ length b → m ≡ n → (b ≡ a) × (last f k (drop k xs) ≡ [])
+  goes_on a b n m k x xs l e h g p q u =
+      let z : f k x ≡ [] = not_grown a b (f k x) n m g p q u in
+      (g ∙ (ap (λ (w : List B). a ++ w) z ∙ append-nil a), still_none k xs l h (ap (f k) (sym e) ∙ z))

@@ -1,0 +1,8 @@
+use Rattle.std.proofs.Common.{sym}
+use Rattle.pml_value.specs.Reads.{seen}
+use Rattle.pml_moves.proofs.Offering.{fields-length}
+use Rattle.pml_moves.proofs.message.Message.len.Goals as goal
+
+pub returns : goal.returns
+returns c =
+    rw (← c.self.view_is) (sym (fields-length c.self.inside.types.now c.self.inside.fields.now (seen c.self.inside.view) c.self.invariant))

@@ -1,0 +1,16 @@
+use Rattle.std.proofs.Common.{List, sym, ap, ◌∙◌}
+use Rattle.pml_flow.specs.Flow.{Offer, maybe}
+use Rattle.pml_flow.specs.Points.{point_at}
+use Rattle.pml_value.specs.Reads.{seen}
+use Rattle.pml_moves.specs.State.{levels_from}
+use Rattle.pml_moves.specs.Search.{choices, is_some}
+use Rattle.pml_moves.proofs.Placing.{at_node}
+use Rattle.pml_moves.proofs.search.can_begin.Goals as goal
+
+pub returns-in-Some : goal.returns-in-Some
+returns-in-Some c =
+    let cs = c.args.view.now.channels.now in
+    let b = c.args.body.now.proctype.now.body in
+    c.has_choice.ensures
+    ∙ ap (λ (ls : List (List Offer)). is_some (choices cs (seen c.args.view.now) ls)) (at_node c.args.body.now c.in-Some.node c.requires)
+    ∙ ap (λ o. is_some (choices cs (seen c.args.view.now) (levels_from b (maybe (point_at b) o)))) (sym c.in-Some.is)

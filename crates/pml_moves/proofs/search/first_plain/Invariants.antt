@@ -1,0 +1,11 @@
+use Rattle.std.proofs.Common.{◌≡◌, drop, map}
+use Rattle.std.specs.List.{filter}
+use Rattle.pml_value.specs.Reads.{seen}
+use Rattle.pml_moves.specs.Scene.{shows}
+use Rattle.pml_moves.specs.Search.{first, is_choice}
+use Rattle.pml_moves.proofs.search.first_plain.Given as goal
+
+-- none is found so far
+abbrev pub invariant-loop-edge : goal.invariant-loop-edge
+invariant-loop-edge l =
+    first (filter (is_choice l.view.channels.now (seen l.view)) (map (shows l.body) (drop l.edge-index l.edges))) ≡ first (filter (is_choice l.view.channels.now (seen l.view)) (map (shows l.body) l.edges))

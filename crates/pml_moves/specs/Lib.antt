@@ -1,0 +1,5 @@
+pub mod State
+pub mod Executable
+pub mod Fields
+pub mod Search
+pub mod Scene

@@ -1,0 +1,173 @@
+-- The search for moves.
+use Rattle.std.specs.Prelude.{ℕ, ◌+◌, Bool, true, false, not, ◌&&◌, if◌then◌else◌, nat_eq, length, List, [], ◌∷◌, ◌++◌, ℤ, Option, Some, None, Result, Ok, Err, slice_get}
+use Rattle.std.specs.List.{filter}
+use Rattle.std.specs.Ordering.{int_eq}
+use Rattle.diagnostics.specs.declared.fault.Fault.{Fault}
+use Rattle.pml_program.specs.declared.program.Action.TheVariants as a
+use Rattle.pml_program.specs.declared.program.Basic.{Basic, Plain, DStep}
+use Rattle.pml_program.specs.declared.program.Seq.{Seq}
+use Rattle.pml_control.specs.Control.{Control}
+use Rattle.pml_flow.specs.Flow.{Offer}
+use Rattle.pml_eval.specs.declared.pattern.Sought.{Sought}
+use Rattle.pml_eval.specs.Pattern.{matched}
+use Rattle.pml_eval.specs.Value.{Reading, asked_by}
+use Rattle.pml_channel.specs.State.{cut}
+use Rattle.pml_value.specs.declared.live_channel.LiveChannel.{LiveChannel}
+use Rattle.pml_moves.specs.declared.moves.Pick.{Pick}
+use Rattle.pml_moves.specs.declared.moves.Move.{Move}
+use Rattle.pml_moves.specs.declared.moves.Move.TheVariants.{Death, Alone, Pair}
+use Rattle.pml_moves.specs.State.{Stand, State, reads, body_of, levels, levels_in, levels_from}
+use Rattle.pml_moves.specs.Executable.{Named, named, values, is_rendezvous, can}
+
+-- ---- lists
+
+-- the second, where the first is empty
+abbrev pub or_else : {A : Type 0} → List A → List A → List A
+or_else [] ys = ys
+or_else (x ∷ xs) ys = x ∷ xs
+
+-- what each gives, in order, where they are numbered from i on
+abbrev pub each : {A B : Type 0} → (ℕ → A → List B) → ℕ → List A → List B
+each f i [] = []
+each f i (x ∷ xs) = f i x ++ each f (i + 1) xs
+
+-- what the last of them gives that gives any
+abbrev pub last : {A B : Type 0} → (ℕ → A → List B) → ℕ → List A → List B
+last f i [] = []
+last f i (x ∷ xs) = or_else (last f (i + 1) xs) (f i x)
+
+abbrev pub only_if : {A : Type 0} → Bool → A → List A
+only_if b x = if b then x ∷ [] else []
+
+abbrev pub is_some : {A : Type 0} → List A → Bool
+is_some [] = false
+is_some (x ∷ xs) = true
+
+-- ---- inside a d_step
+
+abbrev pub is_else : Option Basic → Bool
+is_else (Some (Plain a.Else)) = true
+is_else x = false
+
+-- whether a statement can be taken inside a d_step
+abbrev pub can_inside : List LiveChannel → Reading → Option Basic → Bool
+can_inside cs r (Some (Plain x)) = can cs r true x
+can_inside cs r x = true
+
+abbrev pub is_choice : List LiveChannel → Reading → Offer → Bool
+is_choice cs r o = not (is_else o.basic) && can_inside cs r o.basic
+
+abbrev pub is_other : Offer → Bool
+is_other o = is_else o.basic
+
+-- What can be taken at a point inside a d_step, where there is one level: an `else` only where nothing else can. The first is taken.
+abbrev pub choices : List LiveChannel → Reading → List (List Offer) → List Offer
+choices cs r [] = []
+choices cs r (os ∷ ls) = or_else (filter (is_choice cs r) os) (filter is_other os)
+
+abbrev pub first : {A : Type 0} → List A → Option A
+first [] = None
+first (x ∷ xs) = Some x
+
+-- ---- an offer by itself
+
+-- a d_step can be taken where its first point has a move; a goto and a break can
+abbrev pub can_alone : List LiveChannel → Reading → Seq → Offer → Option Basic → Bool
+can_alone cs r b o (Some (Plain x)) = can cs r false x
+can_alone cs r b o (Some (DStep d)) = is_some (choices cs r (levels_from b o.entry))
+can_alone cs r b o x = true
+
+-- ---- the rendezvous
+
+-- a message that is offered to receivers: the number of its channel, and its fields cut to their types
+pub record Message : Type 0 where
+  pub number : ℤ
+  pub fields : List ℤ
+
+abbrev pub message_of : Named → Result (List ℤ) Fault → Option Message
+message_of c (Ok vs) =
+    if is_rendezvous c.contents then Some (record { number = c.number; fields = cut c.contents.types vs }) else None
+message_of c (Err f) = None
+
+abbrev pub message_on : Result Named Fault → Result (List ℤ) Fault → Option Message
+message_on (Ok c) vs = message_of c vs
+message_on (Err f) vs = None
+
+-- what a statement offers to receivers, if nothing in it has a fault
+abbrev pub message : List LiveChannel → Reading → Option Basic → Option Message
+message cs r (Some (Plain (a.Send t order es))) = message_on (named cs r t (length es)) (values es r)
+message cs r x = None
+
+-- a pattern without value matches
+abbrev pub does_match : Result (List Sought) Fault → List ℤ → Bool
+does_match (Ok ws) xs = matched ws xs
+does_match (Err f) xs = true
+
+abbrev pub accepts_on : Result Named Fault → Result (List Sought) Fault → Message → Bool
+accepts_on (Ok c) ws m = int_eq c.number m.number && does_match ws m.fields
+accepts_on (Err f) ws m = false
+
+-- whether a statement receives this message
+abbrev pub accepts : List LiveChannel → Reading → Message → Option Basic → Bool
+accepts cs r m (Some (Plain (a.Receive t search _ ws))) = accepts_on (named cs r t (length ws)) (asked_by ws r) m
+accepts cs r m x = false
+
+abbrev pub pick : ℕ → ℕ → ℕ → Pick
+pick p l i = record { process = p; level = l; place = i }
+
+-- the pairs of a message with the receives of a level of process j
+abbrev pub pairs_on : State → Bool → Pick → Message → ℕ → ℕ → List Offer → List Move
+pairs_on s t k m j l os = each (λ i o. only_if (accepts s.channels (reads s j t) m o.basic) (Pair k (pick j l i) t)) 0 os
+
+-- with those of its highest level that has a receive of it; not with the sender's own
+abbrev pub pairs_with : State → Bool → Pick → Message → ℕ → Stand → List Move
+pairs_with s t k m j y =
+    if nat_eq j k.process then [] else last (pairs_on s t k m j) 0 (levels_in (body_of s.program y.kind) y.control)
+
+abbrev pub pairs : State → Bool → Pick → Option Message → List Move
+pairs s t k None = []
+pairs s t k (Some m) = each (pairs_with s t k m) 0 s.stands
+
+-- ---- the moves of a process
+
+-- those of an offer that is no `else`
+abbrev pub moves_by : State → ℕ → Bool → Seq → ℕ → ℕ → Offer → List Move
+moves_by s p t b l i o =
+    if can_alone s.channels (reads s p t) b o o.basic then Alone (pick p l i) t ∷ []
+    else pairs s t (pick p l i) (message s.channels (reads s p t) o.basic)
+
+abbrev pub plain_moves : State → ℕ → Bool → Seq → ℕ → List Offer → List Move
+plain_moves s p t b l os = each (λ i o. if is_else o.basic then [] else moves_by s p t b l i o) 0 os
+
+abbrev pub else_moves : ℕ → Bool → ℕ → List Offer → List Move
+else_moves p t l os = each (λ i o. only_if (is_else o.basic) (Alone (pick p l i) t)) 0 os
+
+-- those of a level: its `else` offers where no other offer gives any
+abbrev pub moves_on : State → ℕ → Bool → Seq → ℕ → List Offer → List Move
+moves_on s p t b l os = or_else (plain_moves s p t b l os) (else_moves p t l os)
+
+-- At the closing brace the death, where no younger process is alive; else those of the highest level that has any.
+abbrev pub moves_of : State → ℕ → Bool → Option Seq → Control → List Move
+moves_of s p t b [] = only_if (nat_eq (p + 1) (length s.stands)) (Death p)
+moves_of s p t None (f ∷ c) = []
+moves_of s p t (Some b) (f ∷ c) = last (moves_on s p t b) 0 (levels b (f ∷ c))
+
+abbrev pub moves_at : State → ℕ → Bool → Stand → List Move
+moves_at s p t y = moves_of s p t (body_of s.program y.kind) y.control
+
+-- ---- the moves of a state
+
+abbrev pub moves_under : State → Bool → List Move
+moves_under s t = each (λ p y. moves_at s p t y) 0 s.stands
+
+abbrev pub moves_if : State → ℕ → Option Stand → List Move
+moves_if s p None = []
+moves_if s p (Some y) = moves_at s p false y
+
+abbrev pub moves_held : State → Option ℕ → List Move
+moves_held s None = []
+moves_held s (Some p) = moves_if s p (slice_get s.stands p)
+
+-- those of the holder of exclusive control, else those of all, else those under `timeout`
+abbrev pub moves : State → List Move
+moves s = or_else (moves_held s s.holder) (or_else (moves_under s false) (moves_under s true))

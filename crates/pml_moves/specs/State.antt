@@ -1,0 +1,47 @@
+-- A state of a model with any number of processes, and what its processes are offered.
+use Rattle.std.specs.Prelude.{ℕ, Bool, List, [], length, map, Option, Some, None, option_map, slice_get}
+use Rattle.pml_program.specs.declared.program.Seq.{Seq}
+use Rattle.pml_program.specs.declared.program.Program.{Program}
+use Rattle.pml_control.specs.Control.{Control}
+use Rattle.pml_control.specs.Offers.{offers}
+use Rattle.pml_flow.specs.Flow.{Offer, offer_of}
+use Rattle.pml_eval.specs.Value.{Reading}
+use Rattle.pml_store.specs.Store.{Frame}
+use Rattle.pml_value.specs.declared.live_channel.LiveChannel.{LiveChannel}
+use Rattle.pml_value.specs.Reads.{reading_of}
+
+-- A process: its proctype, by its number in the model, and what it still has to do. At its closing brace nothing is left.
+pub record Stand : Type 0 where
+  pub kind : ℕ
+  pub control : Control
+
+-- A state. The frames are what the variables hold, the globals' first, then those of each process; the oldest process is first, and
+-- so is the oldest channel. The holder has exclusive control.
+pub record State : Type 0 where
+  pub program : Program
+  pub frames : List Frame
+  pub stands : List Stand
+  pub channels : List LiveChannel
+  pub holder : Option ℕ
+
+-- what an expression of a process reads, under this `timeout`
+abbrev pub reads : State → ℕ → Bool → Reading
+reads s process timeout = reading_of s.frames s.channels process (length s.stands) timeout
+
+-- the body of the proctype with this number
+abbrev pub body_of : Program → ℕ → Option Seq
+body_of pr k = option_map (λ q. q.body) (slice_get pr.proctypes k)
+
+-- the offers of a point of a body, level by level from 0 upwards
+abbrev pub levels : Seq → Control → List (List Offer)
+levels b c = map (map (offer_of b)) (offers b c)
+
+-- none, where there is no body
+abbrev pub levels_in : Option Seq → Control → List (List Offer)
+levels_in None c = []
+levels_in (Some b) c = levels b c
+
+-- none, where there is no point
+abbrev pub levels_from : Seq → Option Control → List (List Offer)
+levels_from b None = []
+levels_from b (Some c) = levels b c

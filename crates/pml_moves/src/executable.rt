@@ -1,0 +1,128 @@
+//! When a statement can be taken by itself.
+
+ghost use Rattle.std.specs.Prelude.{◌≡◌, List, IfOk, IfErr, Ok, Err, length};
+ghost use Rattle.pml_eval.specs.declared.pattern.Sought.{Sought};
+ghost use Rattle.pml_eval.specs.Value.{val, asked_by, is_match, settled};
+ghost use Rattle.pml_value.specs.Reads.{seen};
+ghost use Rattle.pml_moves.specs.Fields.{evaluated};
+ghost use Rattle.pml_moves.specs.Executable.{named as names, values, nonzero, or_fault, can, can_send as sends, can_receive as receives};
+
+use crate::asking::{first_fault, is_asked};
+use diagnostics::Fault;
+use pml_channel::channel::Channel;
+use pml_eval::eval::{eval, place};
+use pml_eval::ground::Ground;
+use pml_program::expr::{Expr, Target, Want};
+use pml_program::program::Action;
+use pml_tree::tree::Search;
+use pml_value::view::{View, named as channel_at};
+use profile::MOST_PROCESSES;
+
+/// The channel that a variable names, with its number, where it has so many fields.
+pub fn named<'w>(
+    view: &View<'w>,
+    target: &Target,
+    count: usize,
+) -> Result<(i32, &'w Channel), Fault>
+    ensures ok { IfOk result (λ c. names view.now.channels.now (seen view.now) target.now count ≡ Ok (record { number = c.0; contents = c.1.now })) }
+    ensures err { IfErr result (λ f. names view.now.channels.now (seen view.now) target.now count ≡ Err f) }
+{
+    let at = place(target, view)?;
+    let number = view.number(at);
+    match channel_at(view.channels, number) {
+        None => Err(Fault::NoSuchChannel),
+        Some(channel) => {
+            if channel.types().len() == count {
+                Ok((number, channel))
+            } else {
+                Err(Fault::WrongNumberOfFields)
+            }
+        }
+    }
+}
+
+/// The first fault from the left in the values of expressions, if there is one.
+pub fn first_fault_of(list: &[Expr], view: &View<'_>) -> Result<(), Fault>
+    ensures { result ≡ evaluated (values list.now (seen view.now)) }
+{
+    for one in list {
+        eval(one, view)?;
+    }
+    Ok(())
+}
+
+/// Whether the oldest message matches, or any of them, as the search has it. What is asked has no fault.
+fn has_match(
+    arguments: &[Want],
+    search: Search,
+    channel: &Channel,
+    view: &View<'_>,
+) -> Result<bool, Fault>
+    ensures { (ws : List Sought) → asked_by arguments.now (seen view.now) ≡ Ok ws → result ≡ Ok (is_match search ws channel.now.messages) }
+{
+    for place in 0..channel.len() {
+        if is_asked(arguments, channel.message(place), view)? {
+            return Ok(true);
+        }
+        if let Search::First = search {
+            return Ok(false);
+        }
+    }
+    Ok(false)
+}
+
+fn holds(view: &View<'_>, value: &Expr) -> bool
+    ensures { result ≡ or_fault (nonzero (val value.now (seen view.now))) }
+{
+    match eval(value, view) {
+        Ok(number) => number != 0,
+        Err(_) => true,
+    }
+}
+
+/// Whether a send can be taken by itself.
+fn can_send(view: &View<'_>, in_d_step: bool, channel: &Channel, fields: &[Expr]) -> bool
+    ensures { result ≡ or_fault (sends in_d_step channel.now (values fields.now (seen view.now))) }
+{
+    if channel.capacity() != 0 {
+        return channel.len() < usize::from(channel.capacity());
+    }
+    !in_d_step && first_fault_of(fields, view).is_err()
+}
+
+/// Whether a receive can be taken by itself.
+fn can_receive(view: &View<'_>, search: Search, channel: &Channel, arguments: &[Want]) -> bool
+    ensures { result ≡ or_fault (receives search channel.now (asked_by arguments.now (seen view.now))) }
+{
+    if channel.capacity() == 0 || channel.len() == 0 {
+        return false;
+    }
+    if first_fault(arguments, view).is_err() {
+        return true;
+    }
+    match has_match(arguments, search, channel, view) {
+        Ok(found) => found,
+        Err(_) => true,
+    }
+}
+
+/// Whether a statement can be taken by itself, inside a d_step or not. What has no value can: to take it is the fault.
+pub fn can_be_taken(view: &View<'_>, in_d_step: bool, action: &Action<'_>) -> bool
+    ensures { result ≡ can view.now.channels.now (seen view.now) in_d_step action.now }
+{
+    match action {
+        Action::Holds(value) => holds(view, value),
+        Action::Run(_) => usize::from(view.process_count) < MOST_PROCESSES,
+        Action::Send(target, _, fields) => match named(view, target, fields.len()) {
+            Ok((_, channel)) => can_send(view, in_d_step, channel, fields.as_slice()),
+            Err(_) => true,
+        },
+        Action::Receive(target, search, _, arguments) => {
+            match named(view, target, arguments.len()) {
+                Ok((_, channel)) => can_receive(view, *search, channel, arguments.as_slice()),
+                Err(_) => true,
+            }
+        }
+        _ => true,
+    }
+}

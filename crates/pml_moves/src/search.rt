@@ -1,0 +1,427 @@
+//! The search for moves: the holder of exclusive control alone, else all processes, else all under `timeout`; of each process the
+//! highest level that has a move.
+
+ghost use Rattle.std.specs.Prelude.{◌≡◌, ◌++◌, ◌<◌, OnOk, OnErr, Some, length, map, option_map, slice_get};
+ghost use Rattle.std.specs.List.{filter};
+ghost use Rattle.std.specs.Option.{option_copied};
+ghost use Rattle.pml_flow.specs.Flow.{maybe};
+ghost use Rattle.pml_flow.specs.Points.{point_at};
+ghost use Rattle.pml_value.specs.Reads.{seen};
+ghost use Rattle.pml_moves.specs.State.{levels_from};
+ghost use Rattle.pml_moves.specs.Scene.{state_of, stand_of, Fits, IsBody, shows, edges_at};
+ghost use Rattle.pml_moves.specs.Search.{is_else as else_of, can_inside, is_choice, is_other, choices, first, is_some, can_alone, pairs_on, pairs_with, pairs, moves_by, plain_moves, else_moves, moves_on, moves_at, moves_under, moves_held, moves as all_moves, last};
+
+use crate::executable::can_be_taken;
+use crate::message::{Message, is_received, offered};
+use crate::moves::{Move, Pick};
+use crate::scene::{Body, Scene, Seat, body_at, standing, view};
+use pml_flow::edge::Edge;
+use pml_program::program::{Action, Basic};
+use pml_value::view::View;
+use std::alloc::AllocError;
+
+fn is_else(basic: Option<&Basic<'_>>) -> bool
+    ensures { result ≡ else_of (option_copied basic.entry) }
+{
+    match basic {
+        Some(Basic::Plain(Action::Else)) => true,
+        _ => false,
+    }
+}
+
+// ---- inside a d_step
+
+/// Whether a statement inside a d_step can be taken.
+fn is_taken(view: &View<'_>, basic: Option<&Basic<'_>>) -> bool
+    ensures { result ≡ can_inside view.now.channels.now (seen view.now) (option_copied basic.entry) }
+{
+    match basic {
+        Some(Basic::Plain(action)) => can_be_taken(view, true, action),
+        _ => true,
+    }
+}
+
+/// The first offer of a level inside a d_step that is no `else` and can be taken.
+fn first_plain(view: &View<'_>, body: &Body<'_, '_, '_>, edges: &[Edge]) -> Option<Edge>
+    requires { IsBody body.now }
+    ensures { option_map (shows body.now) result ≡ first (filter (is_choice view.now.channels.now (seen view.now)) (map (shows body.now) edges.now)) }
+{
+    for edge in edges {
+        let basic = body.basic(*edge);
+        if !is_else(basic) && is_taken(view, basic) {
+            return Some(*edge);
+        }
+    }
+    None
+}
+
+/// The first `else` of a level.
+fn first_else(body: &Body<'_, '_, '_>, edges: &[Edge]) -> Option<Edge>
+    requires { IsBody body.now }
+    ensures { option_map (shows body.now) result ≡ first (filter is_other (map (shows body.now) edges.now)) }
+{
+    for edge in edges {
+        if is_else(body.basic(*edge)) {
+            return Some(*edge);
+        }
+    }
+    None
+}
+
+/// The offer that is taken at a node inside a d_step, if one can be.
+pub fn choice(view: &View<'_>, body: &Body<'_, '_, '_>, node: usize) -> Option<Edge>
+    requires { IsBody body.now }
+    ensures { option_map (shows body.now) result ≡ first (choices view.now.channels.now (seen view.now) (map (map (shows body.now)) (edges_at body.now node))) }
+{
+    if !body.has_node(node) {
+        return None;
+    }
+    let edges = body.graph.level(node, 0);
+    match first_plain(view, body, edges) {
+        Some(edge) => Some(edge),
+        None => first_else(body, edges),
+    }
+}
+
+// ---- an offer by itself
+
+/// Whether something can be taken at a node inside a d_step.
+fn has_choice(view: &View<'_>, body: &Body<'_, '_, '_>, node: usize) -> bool
+    requires { IsBody body.now }
+    ensures { result ≡ is_some (choices view.now.channels.now (seen view.now) (map (map (shows body.now)) (edges_at body.now node))) }
+{
+    choice(view, body, node).is_some()
+}
+
+/// Whether something can be taken at the first node inside a d_step.
+fn can_begin(view: &View<'_>, body: &Body<'_, '_, '_>, entry: Option<usize>) -> bool
+    requires { IsBody body.now }
+    ensures { result ≡ is_some (choices view.now.channels.now (seen view.now) (levels_from body.now.proctype.now.body (maybe (point_at body.now.proctype.now.body) entry))) }
+{
+    match entry {
+        Some(node) => has_choice(view, body, node),
+        None => false,
+    }
+}
+
+/// Whether an offer is a move by itself.
+fn can_be_alone(view: &View<'_>, body: &Body<'_, '_, '_>, edge: Edge) -> bool
+    requires { IsBody body.now }
+    ensures { result ≡ can_alone view.now.channels.now (seen view.now) body.now.proctype.now.body (shows body.now edge) (shows body.now edge).basic }
+{
+    match body.basic(edge) {
+        Some(Basic::Plain(action)) => can_be_taken(view, false, action),
+        Some(Basic::DStep(_)) => can_begin(view, body, edge.entry),
+        _ => true,
+    }
+}
+
+// ---- the rendezvous
+
+/// A message, by which offer it is sent, and under which value of `timeout`.
+#[derive(Drop)]
+struct Sending<'w, 'p> {
+    message: Message<'w, 'p>,
+    sender: Pick,
+    timeout: bool,
+}
+
+/// Adds the pairs of a message with the receives of a level of process j.
+fn add_pairs_on(
+    scene: &Scene<'_, '_, '_>,
+    body: &Body<'_, '_, '_>,
+    sending: &Sending<'_, '_>,
+    j: usize,
+    level: usize,
+    edges: &[Edge],
+    moves: &mut Vec<Move>,
+) -> Result<(), AllocError>
+    requires fits { Fits scene.now }
+    requires there { j < length scene.now.seats.now }
+    requires body { IsBody body.now }
+    ensures { OnOk result (moves.new.items ≡ moves.old.items ++ pairs_on (state_of scene.now) sending.now.timeout sending.now.sender sending.now.message j level (map (shows body.now) edges.now)) }
+{
+    let view = view(scene, j, sending.timeout);
+    for place in 0..edges.len() {
+        if is_received(&view, &sending.message, body.basic(edges[place])) {
+            let receiver = Pick {
+                process: j,
+                level,
+                place,
+            };
+            moves.push(Move::Pair(sending.sender, receiver, sending.timeout))?;
+        }
+    }
+    Ok(())
+}
+
+/// Adds those with the highest level of a node that has a receive of it.
+fn add_pairs_down(
+    scene: &Scene<'_, '_, '_>,
+    body: &Body<'_, '_, '_>,
+    sending: &Sending<'_, '_>,
+    j: usize,
+    node: usize,
+    moves: &mut Vec<Move>,
+) -> Result<(), AllocError>
+    requires fits { Fits scene.now }
+    requires there { j < length scene.now.seats.now }
+    requires body { IsBody body.now }
+    requires node { node < length body.now.graph.now.nodes }
+    ensures { OnOk result (moves.new.items ≡ moves.old.items ++ last (pairs_on (state_of scene.now) sending.now.timeout sending.now.sender sending.now.message j) 0 (map (map (shows body.now)) (edges_at body.now node))) }
+{
+    let before = moves.len();
+    let mut level = body.graph.level_count(node);
+    while 0 < level {
+        level -= 1;
+        let edges = body.graph.level(node, level);
+        add_pairs_on(scene, body, sending, j, level, edges, moves)?;
+        if moves.len() != before {
+            return Ok(());
+        }
+    }
+    Ok(())
+}
+
+/// Adds the pairs of a message with the receives of process j.
+fn add_pairs_with(
+    scene: &Scene<'_, '_, '_>,
+    sending: &Sending<'_, '_>,
+    j: usize,
+    seat: Seat,
+    moves: &mut Vec<Move>,
+) -> Result<(), AllocError>
+    requires fits { Fits scene.now }
+    requires there { j < length scene.now.seats.now }
+    ensures { OnOk result (moves.new.items ≡ moves.old.items ++ pairs_with (state_of scene.now) sending.now.timeout sending.now.sender sending.now.message j (stand_of scene.now.program.now seat)) }
+{
+    if j == sending.sender.process {
+        return Ok(());
+    }
+    match standing(scene, seat) {
+        None => Ok(()),
+        Some(body) => add_pairs_down(scene, &body, sending, j, seat.node, moves),
+    }
+}
+
+/// Adds the pairs of a message.
+fn add_pairs(
+    scene: &Scene<'_, '_, '_>,
+    sending: &Sending<'_, '_>,
+    moves: &mut Vec<Move>,
+) -> Result<(), AllocError>
+    requires { Fits scene.now }
+    ensures { OnOk result (moves.new.items ≡ moves.old.items ++ pairs (state_of scene.now) sending.now.timeout sending.now.sender (Some sending.now.message)) }
+{
+    let seats = scene.seats;
+    for j in 0..seats.len() {
+        add_pairs_with(scene, sending, j, seats[j], moves)?;
+    }
+    Ok(())
+}
+
+// ---- the moves of a process
+
+/// Adds the moves of an offer that is no `else`.
+fn add_moves_by(
+    scene: &Scene<'_, '_, '_>,
+    body: &Body<'_, '_, '_>,
+    timeout: bool,
+    offer: Pick,
+    edge: Edge,
+    moves: &mut Vec<Move>,
+) -> Result<(), AllocError>
+    requires fits { Fits scene.now }
+    requires there { offer.process < length scene.now.seats.now }
+    requires body { IsBody body.now }
+    ensures { OnOk result (moves.new.items ≡ moves.old.items ++ moves_by (state_of scene.now) offer.process timeout body.now.proctype.now.body offer.level offer.place (shows body.now edge)) }
+{
+    let view = view(scene, offer.process, timeout);
+    if can_be_alone(&view, body, edge) {
+        moves.push(Move::Alone(offer, timeout))?;
+        return Ok(());
+    }
+    match offered(view, body.basic(edge)) {
+        None => Ok(()),
+        Some(message) => {
+            let sending = Sending {
+                message,
+                sender: offer,
+                timeout,
+            };
+            add_pairs(scene, &sending, moves)
+        }
+    }
+}
+
+/// Adds the moves of a level's offers that are no `else`.
+fn add_plain(
+    scene: &Scene<'_, '_, '_>,
+    body: &Body<'_, '_, '_>,
+    process: usize,
+    timeout: bool,
+    level: usize,
+    edges: &[Edge],
+    moves: &mut Vec<Move>,
+) -> Result<(), AllocError>
+    requires fits { Fits scene.now }
+    requires there { process < length scene.now.seats.now }
+    requires body { IsBody body.now }
+    ensures { OnOk result (moves.new.items ≡ moves.old.items ++ plain_moves (state_of scene.now) process timeout body.now.proctype.now.body level (map (shows body.now) edges.now)) }
+{
+    for place in 0..edges.len() {
+        if !is_else(body.basic(edges[place])) {
+            let offer = Pick {
+                process,
+                level,
+                place,
+            };
+            add_moves_by(scene, body, timeout, offer, edges[place], moves)?;
+        }
+    }
+    Ok(())
+}
+
+/// Adds a level's `else` offers.
+fn add_else(
+    body: &Body<'_, '_, '_>,
+    process: usize,
+    timeout: bool,
+    level: usize,
+    edges: &[Edge],
+    moves: &mut Vec<Move>,
+) -> Result<(), AllocError>
+    requires { IsBody body.now }
+    ensures { OnOk result (moves.new.items ≡ moves.old.items ++ else_moves process timeout level (map (shows body.now) edges.now)) }
+{
+    for place in 0..edges.len() {
+        if is_else(body.basic(edges[place])) {
+            let offer = Pick {
+                process,
+                level,
+                place,
+            };
+            moves.push(Move::Alone(offer, timeout))?;
+        }
+    }
+    Ok(())
+}
+
+/// Adds the moves of a level: its `else` offers where no other gives any.
+fn add_moves_on(
+    scene: &Scene<'_, '_, '_>,
+    body: &Body<'_, '_, '_>,
+    process: usize,
+    timeout: bool,
+    level: usize,
+    edges: &[Edge],
+    moves: &mut Vec<Move>,
+) -> Result<(), AllocError>
+    requires fits { Fits scene.now }
+    requires there { process < length scene.now.seats.now }
+    requires body { IsBody body.now }
+    ensures { OnOk result (moves.new.items ≡ moves.old.items ++ moves_on (state_of scene.now) process timeout body.now.proctype.now.body level (map (shows body.now) edges.now)) }
+{
+    let before = moves.len();
+    add_plain(scene, body, process, timeout, level, edges, moves)?;
+    if moves.len() != before {
+        return Ok(());
+    }
+    add_else(body, process, timeout, level, edges, moves)
+}
+
+/// Adds the moves of the highest level of a node that has any.
+fn add_moves_down(
+    scene: &Scene<'_, '_, '_>,
+    body: &Body<'_, '_, '_>,
+    process: usize,
+    timeout: bool,
+    node: usize,
+    moves: &mut Vec<Move>,
+) -> Result<(), AllocError>
+    requires fits { Fits scene.now }
+    requires there { process < length scene.now.seats.now }
+    requires body { IsBody body.now }
+    requires node { node < length body.now.graph.now.nodes }
+    ensures { OnOk result (moves.new.items ≡ moves.old.items ++ last (moves_on (state_of scene.now) process timeout body.now.proctype.now.body) 0 (map (map (shows body.now)) (edges_at body.now node))) }
+{
+    let before = moves.len();
+    let mut level = body.graph.level_count(node);
+    while 0 < level {
+        level -= 1;
+        let edges = body.graph.level(node, level);
+        add_moves_on(scene, body, process, timeout, level, edges, moves)?;
+        if moves.len() != before {
+            return Ok(());
+        }
+    }
+    Ok(())
+}
+
+/// Adds the moves of a process.
+fn add_moves_at(
+    scene: &Scene<'_, '_, '_>,
+    process: usize,
+    timeout: bool,
+    seat: Seat,
+    moves: &mut Vec<Move>,
+) -> Result<(), AllocError>
+    requires fits { Fits scene.now }
+    requires there { process < length scene.now.seats.now }
+    ensures { OnOk result (moves.new.items ≡ moves.old.items ++ moves_at (state_of scene.now) process timeout (stand_of scene.now.program.now seat)) }
+{
+    if let Some(body) = standing(scene, seat) {
+        return add_moves_down(scene, &body, process, timeout, seat.node, moves);
+    }
+    if process + 1 == scene.seats.len() {
+        moves.push(Move::Death(process))?;
+    }
+    Ok(())
+}
+
+/// Adds the moves of all processes.
+fn add_moves_under(
+    scene: &Scene<'_, '_, '_>,
+    timeout: bool,
+    moves: &mut Vec<Move>,
+) -> Result<(), AllocError>
+    requires { Fits scene.now }
+    ensures { OnOk result (moves.new.items ≡ moves.old.items ++ moves_under (state_of scene.now) timeout) }
+{
+    let seats = scene.seats;
+    for process in 0..seats.len() {
+        add_moves_at(scene, process, timeout, seats[process], moves)?;
+    }
+    Ok(())
+}
+
+/// Adds the moves of the holder of exclusive control, if there is one.
+fn add_moves_held(scene: &Scene<'_, '_, '_>, moves: &mut Vec<Move>) -> Result<(), AllocError>
+    requires { Fits scene.now }
+    ensures { OnOk result (moves.new.items ≡ moves.old.items ++ moves_held (state_of scene.now) scene.now.holder) }
+{
+    let Some(process) = scene.holder else {
+        return Ok(());
+    };
+    if process < scene.seats.len() {
+        return add_moves_at(scene, process, false, scene.seats[process], moves);
+    }
+    Ok(())
+}
+
+/// Adds the moves of a state.
+pub fn add_moves(scene: &Scene<'_, '_, '_>, moves: &mut Vec<Move>) -> Result<(), AllocError>
+    requires { Fits scene.now }
+    ensures { OnOk result (moves.new.items ≡ moves.old.items ++ all_moves (state_of scene.now)) }
+{
+    let before = moves.len();
+    add_moves_held(scene, moves)?;
+    if moves.len() != before {
+        return Ok(());
+    }
+    add_moves_under(scene, false, moves)?;
+    if moves.len() != before {
+        return Ok(());
+    }
+    add_moves_under(scene, true, moves)
+}
