@@ -7,3 +7,6 @@ pub mod Holding
 pub mod Zeroed
 mod Samples
 mod Elements
+mod Counted
+mod Creating
+pub mod Past

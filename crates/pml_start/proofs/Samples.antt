@@ -1,5 +1,5 @@
 -- Worked examples, computed.
-use Rattle.std.proofs.Common.{◌≡◌, ℕ, [], ◌∷◌, pos, refl, true, Ok}
+use Rattle.std.proofs.Common.{◌≡◌, ℕ, [], ◌∷◌, pos, negsuc, refl, true, Ok, Err, replicate}
 use Rattle.pml_lex.specs.declared.token.Kind.TheVariants as kind
 use Rattle.pml_tree.specs.declared.tree.Scalar.TheVariants as scalar
 use Rattle.pml_program.specs.declared.form.Form.{Form}
@@ -10,7 +10,10 @@ use Rattle.pml_program.specs.declared.program.Slot.{Slot}
 use Rattle.pml_program.specs.declared.program.Fields.{Fields}
 use Rattle.pml_eval.specs.Clip.{clipped, bits_of, is_signed}
 use Rattle.pml_value.specs.declared.live_channel.LiveChannel.{LiveChannel}
-use Rattle.pml_start.specs.Begin.{nothing, frame_begun, with_values}
+use Rattle.diagnostics.specs.declared.fault.Fault.TheVariants.{TooManyChannels}
+use Rattle.pml_program.specs.declared.expr.Expr.{Expr}
+use Rattle.pml_start.specs.Begin.{Begun, nothing, frame_begun, with_values}
+use Rattle.pml_start.specs.Created.{channels_of, with_arguments, created}
 
 abbrev byte : Form
 byte = form.Plain scalar.Byte
@@ -49,3 +52,43 @@ fields = refl
 -- a process's channels are its own
 second : frame_begun [] (variable (form.Plain scalar.Chan) 0 1 1 (initial.Channel 3 (byte ∷ [])) ∷ []) (record { frames = [] ∷ [] ∷ []; channels = []; kinds = 4 ∷ 4 ∷ [] }) ≡ Ok (record { frames = [] ∷ [] ∷ ((pos 1 ∷ []) ∷ []) ∷ []; channels = owned 2 ∷ []; kinds = 4 ∷ 4 ∷ [] })
 second = refl
+
+-- ---- new processes
+
+-- a global, a process with a variable, and a channel of the globals
+abbrev one_process : Begun
+one_process = record { frames = ((pos 9 ∷ []) ∷ []) ∷ ((pos 8 ∷ []) ∷ []) ∷ []; channels = owned 0 ∷ []; kinds = 4 ∷ [] }
+
+abbrev full : Begun
+full = record one_process { channels = replicate 255 (owned 0) }
+
+abbrev short : Form
+short = form.Plain scalar.Short
+
+abbrev chan : Form
+chan = form.Plain scalar.Chan
+
+-- arguments are cut to the types of the parameters, and what is too much is left out
+arguments : with_arguments 0 (variable byte 0 1 1 initial.Zero ∷ variable short 1 1 1 initial.Zero ∷ []) (pos 300 ∷ pos 40000 ∷ pos 5 ∷ [])
+    (record one_process { frames = ((pos 9 ∷ []) ∷ []) ∷ ((pos 0 ∷ []) ∷ (pos 0 ∷ []) ∷ []) ∷ [] })
+    ≡ record one_process { frames = ((pos 9 ∷ []) ∷ []) ∷ ((pos 44 ∷ []) ∷ (negsuc 25535 ∷ []) ∷ []) ∷ [] }
+unfolding bits_of is_signed
+arguments = refl
+
+-- a parameter keeps its argument, and a local channel belongs to the new frame
+locals : created [] 7 (variable byte 0 1 1 initial.Zero ∷ variable chan 1 2 1 (initial.Channel 3 (byte ∷ [])) ∷ []) (pos 6 ∷ []) one_process
+    ≡ Ok (record {
+      frames = ((pos 9 ∷ []) ∷ []) ∷ ((pos 8 ∷ []) ∷ []) ∷ ((pos 6 ∷ []) ∷ (pos 2 ∷ pos 3 ∷ []) ∷ []) ∷ [];
+      channels = owned 0 ∷ owned 2 ∷ owned 2 ∷ [];
+      kinds = 4 ∷ 7 ∷ [];
+    })
+unfolding bits_of is_signed
+locals = refl
+
+-- too many channels are a fault before any initialiser is evaluated, whatever it is
+too_many : (value : Expr) → created [] 7 (variable byte 0 1 1 (initial.Value value) ∷ variable chan 1 1 1 (initial.Channel 0 (byte ∷ [])) ∷ []) [] full ≡ Err TooManyChannels
+too_many value = refl
+
+-- each cell that begins with a channel counts; with a value none does
+counted : (value : Expr) → channels_of [] (variable chan 0 3 1 (initial.Channel 0 []) ∷ variable chan 3 1 1 initial.Zero ∷ variable chan 4 2 1 (initial.Value value) ∷ []) ≡ 3
+counted value = refl

@@ -52,9 +52,12 @@ last_none ts zero s cell h e = e
 last_none ts (suc n) s cell h e =
     after_none ts n s (cell_of (fields_of ts s.form) cell) (slot_of (fields_of ts s.form) cell) (λ f c g. last_none ts n f c h g) e (found_none (fields_of ts s.form) cell (type_none ts s.form h))
 
+pub leaf_none : (ts : List Fields) (s : Slot) (cell : ℕ) → have_no_initials ts ≡ true → is_zero s.initial ≡ true → (leaf ts s cell).initial ≡ i.Zero
+leaf_none ts s cell h e = last_none ts (length ts) s (cell % s.stride) h (zero_is s.initial e)
+
 -- no cell of a variable begins with anything
 pub nothing_begun : (ts : List Fields) (s : Slot) (v c n : ℕ) (b : Begun) → have_no_initials ts ≡ true → is_zero s.initial ≡ true → fields_begun ts s v c n b ≡ Ok b
 nothing_begun ts s v c zero b h e = refl
 nothing_begun ts s v c (suc n) b h e =
-    let x : (leaf ts s c).initial ≡ i.Zero = last_none ts (length ts) s (c % s.stride) h (zero_is s.initial e) in
+    let x : (leaf ts s c).initial ≡ i.Zero = leaf_none ts s c h e in
     rw x (nothing_begun ts s v (c + 1) n b h e)

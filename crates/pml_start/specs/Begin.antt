@@ -12,7 +12,7 @@ use Rattle.pml_program.specs.declared.program.Fields.{Fields}
 use Rattle.pml_eval.specs.Clip.{clipped}
 use Rattle.pml_eval.specs.Value.{Reading, val, ◌>>=◌}
 use Rattle.pml_store.specs.declared.place.Place.{Place}
-use Rattle.pml_store.specs.Store.{Frame, with_number, zeros}
+use Rattle.pml_store.specs.Store.{Contents, Frame, with_number, zeros}
 use Rattle.pml_channel.specs.State.{ChannelState}
 use Rattle.pml_cells.specs.Cells.{size, leaf}
 use Rattle.pml_value.specs.declared.live_channel.LiveChannel.{LiveChannel}
@@ -28,8 +28,11 @@ pub record Begun : Type 0 where
   pub channels : List LiveChannel
   pub kinds : List ℕ
 
+abbrev pub held : Contents → List LiveChannel → List ℕ → Begun
+held store channels kinds = record { frames = store.frames; channels = channels; kinds = kinds }
+
 abbrev pub shown : Started → Begun
-shown s = record { frames = s.store.frames; channels = s.channels.items; kinds = s.kinds.items }
+shown s = held s.store s.channels.items s.kinds.items
 
 abbrev pub nothing : Begun
 nothing = record { frames = []; channels = []; kinds = [] }
@@ -94,9 +97,13 @@ abbrev pub variables_begun : List Fields → List Slot → ℕ → Begun → Res
 variables_begun ts [] variable b = Ok b
 variables_begun ts (s ∷ ss) variable b = variable_begun ts s.initial s variable b >>= variables_begun ts ss (variable + 1)
 
+-- one more frame, with 0 in each cell
+abbrev pub with_frame : List Slot → Begun → Begun
+with_frame ss b = record b { frames = b.frames ++ zeros (map size ss) ∷ [] }
+
 -- the variables of one more frame: 0 in each cell, and then the initialisers
 abbrev pub frame_begun : List Fields → List Slot → Begun → Result Begun Fault
-frame_begun ts ss b = variables_begun ts ss 0 (record b { frames = b.frames ++ zeros (map size ss) ∷ [] })
+frame_begun ts ss b = variables_begun ts ss 0 (with_frame ss b)
 
 -- ---- what is known of it
 

@@ -1,5 +1,5 @@
 -- What is known of a beginning.
-use Rattle.std.specs.Prelude.{◌≡◌, ℕ, zero, suc, ◌++◌, Option, Some, None, Bool, true, false, ◌&&◌, nat_eq, List, [], ◌∷◌, length, map, ℤ, Result, Ok, Err}
+use Rattle.std.specs.Prelude.{◌≡◌, ℕ, zero, suc, ◌++◌, Option, Some, None, Bool, true, false, ◌&&◌, nat_eq, List, [], ◌∷◌, length, take, map, ℤ, Result, Ok, Err}
 use Rattle.pml_program.specs.declared.form.Form.{Form}
 use Rattle.pml_program.specs.declared.form.Form.TheVariants.{Struct}
 use Rattle.pml_program.specs.declared.program.Initial.{Initial}
@@ -7,16 +7,22 @@ use Rattle.pml_program.specs.declared.program.Initial.TheVariants as i
 use Rattle.pml_program.specs.declared.program.Slot.{Slot}
 use Rattle.pml_program.specs.declared.program.Fields.{Fields}
 use Rattle.pml_store.specs.declared.place.Place.{Place}
+use Rattle.pml_store.specs.Store.{before}
 use Rattle.diagnostics.specs.declared.fault.Fault.{Fault}
+use Rattle.pml_start.specs.declared.started.Started.{Started}
 use Rattle.pml_start.specs.declared.beginnings.Beginning.{Beginning}
 use Rattle.pml_start.specs.declared.beginnings.Beginning.TheVariants.{Nothing, Number, Fails, Channel}
 use Rattle.pml_cells.specs.Cells.{leaf}
 use Rattle.pml_start.specs.Begin.{Begun, nothing, shape, initial_value}
 
--- no frame, no variable and no cell comes or goes
-pub record Keeps (old new : Begun) : Type 0 where
-  pub shape : shape new.frames ≡ shape old.frames
-  pub kinds : new.kinds ≡ old.kinds
+-- no frame, no variable and no cell comes or goes; what older frames hold and the channels that are there stay as they are; and the
+-- log leads back to the same numbers
+pub record Keeps (old new : Started) : Type 0 where
+  pub shape : shape new.store.frames ≡ shape old.store.frames
+  pub kinds : new.kinds.items ≡ old.kinds.items
+  pub older : take (length old.kinds.items) new.store.frames ≡ take (length old.kinds.items) old.store.frames
+  pub channels : take (length old.channels.items) new.channels.items ≡ old.channels.items
+  pub past : before new.store ≡ before old.store
 
 -- a place in the youngest frame's variable with this number
 abbrev pub is_of : Begun → ℕ → Place → Bool

@@ -1,9 +1,9 @@
 //! What the variables of the youngest frame begin with. Frame 0 has the globals, and frame n + 1 the variables of process n.
 
-ghost use Rattle.std.specs.Prelude.{◌≡◌, ◌<◌, ◌≤◌, ◌++◌, ◌∷◌, [], IfOk, OnOk, Ok, length, map};
+ghost use Rattle.std.specs.Prelude.{◌≡◌, ◌<◌, ◌≤◌, ◌++◌, ◌∷◌, [], IfOk, OnOk, OnErr, Ok, length, map};
 ghost use Rattle.profile.specs.declared.TheConstants.{MOST_PROCESSES};
 ghost use Rattle.pml_store.specs.Store.{HasPlace, frame_at, size_at};
-ghost use Rattle.pml_start.specs.Begin.{Begins, shown, shape, initial_value, cell_in, with_value, with_channel, empty_channel, cell_begun, leaf_begun, with_values, fields_begun, variable_begun, variables_begun, frame_begun};
+ghost use Rattle.pml_start.specs.Begin.{Begins, shown, shape, initial_value, cell_in, with_value, with_frame, with_channel, empty_channel, cell_begun, leaf_begun, with_values, fields_begun, variable_begun, variables_begun, frame_begun};
 ghost use Rattle.pml_cells.specs.Cells.{size, leaf};
 ghost use Rattle.pml_start.specs.Known.{Keeps, known};
 
@@ -41,8 +41,8 @@ fn initial_value(started: &Started, value: &Expr, form: Form) -> Result<i32, Fau
     Ok(clip(form, number))
 }
 
-/// Stores a number in a cell, and remembers none before it: nothing is undone here.
-fn store_number(
+/// Stores a number in a cell.
+pub fn store_number(
     started: &mut Started,
     variable: usize,
     cell: usize,
@@ -50,16 +50,14 @@ fn store_number(
 ) -> Result<(), Stop>
     requires { HasPlace started.old.store.frames (cell_in (shown started.old) variable cell) }
     ensures value { Begins (Ok (with_value variable cell number (shown started.old))) result (shown started.new) }
-    ensures keeps { Keeps (shown started.old) (shown started.new) }
+    ensures keeps { Keeps started.old started.new }
 {
     let place = Place {
         frame: started.kinds.len(),
         variable,
         cell,
     };
-    started.store.set(place, number).map_err(|_| Stop::Memory)?;
-    started.store.forget();
-    Ok(())
+    started.store.set(place, number).map_err(|_| Stop::Memory)
 }
 
 /// Makes a channel, and stores its number in a cell.
@@ -72,7 +70,7 @@ fn make_channel(
 ) -> Result<(), Stop>
     requires { HasPlace started.old.store.frames (cell_in (shown started.old) variable cell) }
     ensures value { Begins (with_channel variable cell (empty_channel capacity types.now) (shown started.old)) result (shown started.new) }
-    ensures keeps { Keeps (shown started.old) (shown started.new) }
+    ensures keeps { Keeps started.old started.new }
 {
     let before = started.channels.len();
     if before >= MOST_CHANNELS {
@@ -99,7 +97,7 @@ fn begin_cell(
 ) -> Result<(), Stop>
     requires { HasPlace started.old.store.frames (cell_in (shown started.old) variable cell) }
     ensures value { Begins (cell_begun slot.now.initial slot.now.form variable cell (shown started.old)) result (shown started.new) }
-    ensures keeps { Keeps (shown started.old) (shown started.new) }
+    ensures keeps { Keeps started.old started.new }
 {
     match &slot.initial {
         Initial::Zero => Ok(()),
@@ -124,7 +122,7 @@ fn begin_leaf(
 ) -> Result<(), Stop>
     requires { HasPlace started.old.store.frames (cell_in (shown started.old) variable cell) }
     ensures value { Begins (leaf_begun beginnings.now slot.now variable cell (shown started.old)) result (shown started.new) }
-    ensures keeps { Keeps (shown started.old) (shown started.new) }
+    ensures keeps { Keeps started.old started.new }
 {
     let (place, _) = beginnings.typedefs().leaf(slot, cell);
     match place {
@@ -149,7 +147,7 @@ fn begin_known(
     requires known { beginning ≡ known (leaf beginnings.now slot.now cell) }
     requires there { HasPlace started.old.store.frames (cell_in (shown started.old) variable cell) }
     ensures value { Begins (leaf_begun beginnings.now slot.now variable cell (shown started.old)) result (shown started.new) }
-    ensures keeps { Keeps (shown started.old) (shown started.new) }
+    ensures keeps { Keeps started.old started.new }
 {
     match beginning {
         Beginning::Nothing => Ok(()),
@@ -170,7 +168,7 @@ fn begin_fields(
 ) -> Result<(), Stop>
     requires { size_at started.old.store.frames (length started.old.kinds.items) variable ≡ size slot.now }
     ensures value { Begins (fields_begun beginnings.now slot.now variable 0 (size slot.now) (shown started.old)) result (shown started.new) }
-    ensures keeps { Keeps (shown started.old) (shown started.new) }
+    ensures keeps { Keeps started.old started.new }
 {
     if beginnings.are_nothing() && is_zero(&slot.initial) {
         return Ok(());
@@ -187,7 +185,7 @@ fn begin_fields(
 fn fill(started: &mut Started, variable: usize, cells: usize, number: i32) -> Result<(), Stop>
     requires { size_at started.old.store.frames (length started.old.kinds.items) variable ≡ cells }
     ensures value { Begins (Ok (with_values variable number 0 cells (shown started.old))) result (shown started.new) }
-    ensures keeps { Keeps (shown started.old) (shown started.new) }
+    ensures keeps { Keeps started.old started.new }
 {
     for cell in 0..cells {
         store_number(started, variable, cell, number)?;
@@ -206,7 +204,7 @@ fn begin_variable(
     requires few { length started.old.kinds.items ≤ MOST_PROCESSES }
     requires there { size_at started.old.store.frames (length started.old.kinds.items) variable ≡ size slot.now }
     ensures value { Begins (variable_begun beginnings.now slot.now.initial slot.now variable (shown started.old)) result (shown started.new) }
-    ensures keeps { Keeps (shown started.old) (shown started.new) }
+    ensures keeps { Keeps started.old started.new }
 {
     match &slot.initial {
         Initial::Value(value) => match initial_value(&*started, value, slot.form) {
@@ -217,8 +215,8 @@ fn begin_variable(
     }
 }
 
-/// What the variables of the youngest frame begin with.
-fn begin_variables(
+/// Initialises the variables of the youngest frame, in order.
+pub fn begin_variables(
     alloc: Global,
     beginnings: &Beginnings<'_, '_>,
     started: &mut Started,
@@ -227,7 +225,7 @@ fn begin_variables(
     requires few { length started.old.kinds.items ≤ MOST_PROCESSES }
     requires there { map length (frame_at started.old.store.frames (length started.old.kinds.items)) ≡ map size slots.now }
     ensures value { Begins (variables_begun beginnings.now slots.now 0 (shown started.old)) result (shown started.new) }
-    ensures keeps { Keeps (shown started.old) (shown started.new) }
+    ensures keeps { Keeps started.old started.new }
 {
     for variable in 0..slots.len() {
         begin_variable(alloc, beginnings, started, variable, &slots[variable])?;
@@ -246,6 +244,17 @@ fn sizes(alloc: Global, slots: &[Slot<'_>]) -> Result<Vec<usize>, AllocError>
     Ok(sizes)
 }
 
+/// Adds the variables of one more frame, each cell 0.
+pub fn add_frame(alloc: Global, started: &mut Started, slots: &[Slot<'_>]) -> Result<(), Stop>
+    ensures value { Begins (Ok (with_frame slots.now (shown started.old))) result (shown started.new) }
+    ensures log { started.new.store.written ≡ started.old.store.written }
+    ensures kept { OnErr result (started.new ≡ started.old) }
+{
+    let sizes = sizes(alloc, slots).map_err(|_| Stop::Memory)?;
+    let pushed = started.store.push_frame(sizes.as_slice());
+    pushed.map_err(|_| Stop::Memory)
+}
+
 /// Adds the variables of the frame that is still to come, and initialises them.
 pub fn begin_frame(
     alloc: Global,
@@ -259,10 +268,6 @@ pub fn begin_frame(
     ensures sizes { OnOk result (shape started.new.store.frames ≡ shape started.old.store.frames ++ map size slots.now ∷ []) }
     ensures kinds { started.new.kinds.items ≡ started.old.kinds.items }
 {
-    let sizes = sizes(alloc, slots).map_err(|_| Stop::Memory)?;
-    started
-        .store
-        .push_frame(sizes.as_slice())
-        .map_err(|_| Stop::Memory)?;
+    add_frame(alloc, started, slots)?;
     begin_variables(alloc, beginnings, started, slots)
 }

@@ -8,5 +8,5 @@ use Rattle.pml_start.proofs.begin.begin_fields.Given as goal
 abbrev pub invariant-loop-cell : goal.invariant-loop-cell
 invariant-loop-cell l = record {
   same : fields_begun l.beginnings l.slot l.variable l.cell (size l.slot - l.cell) (shown l.started) ≡ fields_begun l.beginnings l.slot l.variable 0 (size l.slot) (shown l.initial.started);
-  keeps : Keeps (shown l.initial.started) (shown l.started);
+  keeps : Keeps l.initial.started l.started;
 }

@@ -7,5 +7,5 @@ use Rattle.pml_start.proofs.begin.begin_variables.Given as goal
 abbrev pub invariant-loop-variable : goal.invariant-loop-variable
 invariant-loop-variable l = record {
   same : variables_begun l.beginnings (drop l.variable l.slots) l.variable (shown l.started) ≡ variables_begun l.beginnings l.slots 0 (shown l.initial.started);
-  keeps : Keeps (shown l.initial.started) (shown l.started);
+  keeps : Keeps l.initial.started l.started;
 }

@@ -7,5 +7,5 @@ use Rattle.pml_start.proofs.begin.fill.Given as goal
 abbrev pub invariant-loop-cell : goal.invariant-loop-cell
 invariant-loop-cell l = record {
   same : with_values l.variable l.number l.cell (l.cells - l.cell) (shown l.started) ≡ with_values l.variable l.number 0 l.cells (shown l.initial.started);
-  keeps : Keeps (shown l.initial.started) (shown l.started);
+  keeps : Keeps l.initial.started l.started;
 }

@@ -1,0 +1,22 @@
+use Rattle.std.proofs.Common.{◌≡◌, length, rules}
+use Rattle.pml_start.specs.Begin.{shown}
+use Rattle.pml_start.proofs.Shapes.{OnOk-always, OnErr-always}
+use Rattle.pml_start.proofs.Creating.{process_sizes, past, dropped}
+use Rattle.pml_start.proofs.create.create_process.Goals as goal
+
+pub begin_youngest-begun-requires-clause-there : goal.begin_youngest-begun-requires-clause-there
+begin_youngest-begun-requires-clause-there c =
+    process_sizes c.args.kind c.args.slots.now (shown c.args.started.now) (shown c.add_process.new.started) c.in_ok-add_process.ensures.value c.requires.next
+
+pub returns-else-is_err-clause-past : goal.returns-else-is_err-clause-past
+returns-else-is_err-clause-past c =
+    OnOk-always c.begin_youngest-begun.result
+    (past c.args.kind c.args.slots.now c.args.started.now c.add_process.new.started c.begin_youngest-begun.new.started c.in_ok-add_process.ensures.value c.in_ok-add_process.ensures.log
+    c.begin_youngest-begun.ensures.keeps)
+
+pub returns-then-is_err-clause-kept : goal.returns-then-is_err-clause-kept
+returns-then-is_err-clause-kept c =
+    let count : c.len-channels.result ≡ length c.args.started.now.channels.items = search rules in
+    OnErr-always c.begin_youngest-begun.result
+    (dropped c.args.kind c.args.slots.now c.args.started.now c.add_process.new.started c.begin_youngest-begun.new.started _ _ _ c.in_ok-add_process.ensures.value
+    c.begin_youngest-begun.ensures.keeps c.requires.next c.drop_youngest.ensures.frames (rw (← count) c.drop_youngest.ensures.channels) c.drop_youngest.ensures.kinds)

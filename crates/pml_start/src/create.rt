@@ -1,0 +1,154 @@
+//! New processes of a run.
+
+ghost use Rattle.std.specs.Prelude.{◌≡◌, ◌+◌, ◌-◌, ◌<◌, ◌≤◌, ◌++◌, List, Ok, OnOk, OnErr, length, map, take};
+ghost use Rattle.profile.specs.declared.TheConstants.{MOST_PROCESSES};
+ghost use Rattle.pml_store.specs.Store.{Frame, before, but_last, frame_at};
+ghost use Rattle.pml_cells.specs.Cells.{size};
+ghost use Rattle.pml_start.specs.Begin.{Begins, shown, held, with_value};
+ghost use Rattle.pml_start.specs.Created.{with_arguments, begun_with, with_process, created};
+ghost use Rattle.pml_start.specs.Known.{Keeps};
+
+use crate::begin::{add_frame, begin_variables, store_number};
+use crate::beginnings::Beginnings;
+use crate::counting::are_too_many;
+use crate::started::Started;
+use diagnostics::{Fault, Stop};
+use pml_eval::clip::clip;
+use pml_program::program::Slot;
+use pml_store::store::Store;
+use pml_value::live_channel::LiveChannel;
+use std::alloc::Global;
+use std::mem;
+
+/// Stores an argument in the first cell of a variable, if it has one.
+fn set_argument(started: &mut Started, variable: usize, number: i32) -> Result<(), Stop>
+    ensures value { Begins (Ok (with_value variable 0 number (shown started.old))) result (shown started.new) }
+    ensures keeps { Keeps started.old started.new }
+{
+    if started.store.size(started.kinds.len(), variable) == 0 {
+        return Ok(());
+    }
+    store_number(started, variable, 0, number)
+}
+
+/// Sets the arguments of the youngest process, cut to the types of its first variables.
+fn set_arguments(started: &mut Started, slots: &[Slot<'_>], arguments: &[i32]) -> Result<(), Stop>
+    ensures value { Begins (Ok (with_arguments 0 slots.now arguments.now (shown started.old))) result (shown started.new) }
+    ensures keeps { Keeps started.old started.new }
+{
+    let count = arguments.len().min(slots.len());
+    for variable in 0..count {
+        let number = clip(slots[variable].form, arguments[variable]);
+        set_argument(started, variable, number)?;
+    }
+    Ok(())
+}
+
+/// Sets the arguments of the youngest process, and initialises its variables.
+fn begin_youngest(
+    alloc: Global,
+    beginnings: &Beginnings<'_, '_>,
+    started: &mut Started,
+    slots: &[Slot<'_>],
+    arguments: &[i32],
+) -> Result<(), Stop>
+    requires few { length started.old.kinds.items ≤ MOST_PROCESSES }
+    requires there { map length (frame_at started.old.store.frames (length started.old.kinds.items)) ≡ map size slots.now }
+    ensures value { Begins (begun_with beginnings.now slots.now arguments.now (shown started.old)) result (shown started.new) }
+    ensures keeps { Keeps started.old started.new }
+{
+    set_arguments(started, slots, arguments)?;
+    begin_variables(alloc, beginnings, started, slots)
+}
+
+/// Adds a process with nothing in its variables.
+fn add_process(
+    alloc: Global,
+    started: &mut Started,
+    kind: usize,
+    slots: &[Slot<'_>],
+) -> Result<(), Stop>
+    ensures value { Begins (Ok (with_process kind slots.now (shown started.old))) result (shown started.new) }
+    ensures log { started.new.store.written ≡ started.old.store.written }
+    ensures kept { OnErr result (shown started.new ≡ shown started.old) }
+{
+    started.kinds.push(kind).map_err(|_| Stop::Memory)?;
+    let added = add_frame(alloc, started, slots);
+    if added.is_err() {
+        started.kinds.pop();
+    }
+    added
+}
+
+/// Takes away the youngest process, and the channels but these.
+fn drop_youngest(started: &mut Started, channels: usize)
+    requires { 0 < length started.old.store.frames }
+    ensures frames { started.new.store.frames ≡ but_last started.old.store.frames }
+    ensures channels { started.new.channels.items ≡ take channels started.old.channels.items }
+    ensures kinds { started.new.kinds.items ≡ take (length started.old.kinds.items - 1) started.old.kinds.items }
+{
+    started.kinds.pop();
+    started.channels.truncate(channels);
+    started.store.pop_frame();
+}
+
+/// Creates a process, or leaves what was there.
+fn create_process(
+    alloc: Global,
+    beginnings: &Beginnings<'_, '_>,
+    started: &mut Started,
+    kind: usize,
+    slots: &[Slot<'_>],
+    arguments: &[i32],
+) -> Result<(), Stop>
+    requires few { length started.old.kinds.items < MOST_PROCESSES }
+    requires next { length started.old.store.frames ≡ length started.old.kinds.items + 1 }
+    ensures value { Begins (created beginnings.now kind slots.now arguments.now (shown started.old)) result (shown started.new) }
+    ensures kept { OnErr result (shown started.new ≡ shown started.old) }
+    ensures past { OnOk result ((rest : List Frame) × (before started.new.store ≡ before started.old.store ++ rest)) }
+{
+    let channels = started.channels.len();
+    if are_too_many(alloc, beginnings, slots, channels).map_err(|_| Stop::Memory)? {
+        return Err(Stop::Fault(Fault::TooManyChannels));
+    }
+    add_process(alloc, started, kind, slots)?;
+    let begun = begin_youngest(alloc, beginnings, started, slots, arguments);
+    if begun.is_err() {
+        drop_youngest(started, channels);
+    }
+    begun
+}
+
+/// Creates a process of the proctype with this number and these variables. Its arguments are stored first, cut to the types of its
+/// parameters, and then its variables begin in the order of the text. Where it cannot be created, what is held stays as it was, but the
+/// log may have grown.
+pub fn create(
+    beginnings: &Beginnings<'_, '_>,
+    kind: usize,
+    slots: &[Slot<'_>],
+    arguments: &[i32],
+    store: &mut Store,
+    channels: &mut Vec<LiveChannel>,
+    kinds: &mut Vec<usize>,
+) -> Result<(), Stop>
+    requires few { length kinds.old.items < MOST_PROCESSES }
+    requires next { length store.old.frames ≡ length kinds.old.items + 1 }
+    ensures value { Begins (created beginnings.now kind slots.now arguments.now (held store.old channels.old.items kinds.old.items)) result (held store.new channels.new.items kinds.new.items) }
+    ensures kept { OnErr result (held store.new channels.new.items kinds.new.items ≡ held store.old channels.old.items kinds.old.items) }
+    ensures past { OnOk result ((rest : List Frame) × (before store.new ≡ before store.old ++ rest)) }
+{
+    let alloc = *channels.allocator();
+    let mut started = Started {
+        store: Store::new(alloc),
+        channels: Vec::new(alloc),
+        kinds: Vec::new(alloc),
+    };
+    mem::swap(&mut started.store, store);
+    mem::swap(&mut started.channels, channels);
+    mem::swap(&mut started.kinds, kinds);
+    let created = create_process(alloc, beginnings, &mut started, kind, slots, arguments);
+    mem::swap(&mut started.store, store);
+    mem::swap(&mut started.channels, channels);
+    mem::swap(&mut started.kinds, kinds);
+    created
+}
