@@ -7,10 +7,10 @@ ghost use Rattle.pml_value.specs.Reads.{seen};
 ghost use Rattle.pml_moves.specs.Fields.{evaluated};
 ghost use Rattle.pml_moves.specs.Executable.{named as names, values, nonzero, or_fault, can, can_send as sends, can_receive as receives};
 
-use crate::asking::{first_fault, is_asked};
+use crate::asking::is_asked;
 use diagnostics::Fault;
 use pml_channel::channel::Channel;
-use pml_eval::eval::{eval, place};
+use pml_eval::eval::{eval, first_fault, place};
 use pml_eval::ground::Ground;
 use pml_program::expr::{Expr, Target, Want};
 use pml_program::program::Action;

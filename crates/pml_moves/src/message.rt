@@ -11,11 +11,10 @@ ghost use Rattle.pml_moves.specs.Fields.{worth, worths};
 ghost use Rattle.pml_channel.specs.State.{cut};
 ghost use Rattle.pml_moves.specs.Search.{message, message_on, does_match, accepts};
 
-use crate::asking::{first_fault, want};
 use crate::executable::{first_fault_of, named};
 use diagnostics::Fault;
 use pml_eval::clip::clip;
-use pml_eval::eval::eval;
+use pml_eval::eval::{eval, first_fault, want};
 use pml_eval::pattern::takes;
 use pml_program::expr::{Expr, Target, Want};
 use pml_program::form::Form;
