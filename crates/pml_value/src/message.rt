@@ -172,7 +172,7 @@ fn store_field(store: &mut Store, one: Sought, field: i32) -> Result<(), AllocEr
 }
 
 /// Stores the fields that have a place, from left to right. Want of memory leaves those that are stored by then.
-fn store_fields(store: &mut Store, sought: &[Sought], fields: &[i32]) -> Result<(), AllocError>
+pub fn store_fields(store: &mut Store, sought: &[Sought], fields: &[i32]) -> Result<(), AllocError>
     requires { AreThere (size_at store.old.frames) sought.now }
     ensures ok { OnOk result (store.new ≡ stored_all store.old (stores sought.now fields.now)) }
     ensures err { OnErr result (StoresSome store.old store.new (stores sought.now fields.now)) }

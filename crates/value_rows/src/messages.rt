@@ -2,6 +2,7 @@
 use crate::channels::of_three;
 use crate::expressions::Holding;
 use diagnostics::{Fault, Stop};
+use pml_channel::channel::Channel;
 use pml_eval::eval::{first_fault, has_match, is_asked, want};
 use pml_eval::pattern::Sought;
 use pml_program::expr::{Expr, Target, Turn, Want};
@@ -68,6 +69,11 @@ fn element(alloc: Global) -> Result<Target, AllocError> {
     })
 }
 
+/// The only channel.
+pub fn only(channels: &[LiveChannel; 1]) -> &Channel {
+    &channels[0].channel
+}
+
 /// `1 / 0`.
 fn quotient(alloc: Global) -> Result<Expr, AllocError> {
     let left = Boxed::new(alloc, Expr::Number(1))?;
@@ -114,12 +120,12 @@ fn sent_messages(rt: HostRuntime) -> Result<(), Fail> {
         sends(alloc, &store, &mut channels, SendOrder::Fifo, 9, 9),
         Ok(())
     );
-    let [live] = channels;
-    assert_eq!(rt; live.channel.len(), 3);
-    if live.channel.len() == 3 {
-        assert_eq!(rt; live.channel.message(0), [1, -25_536].as_slice());
-        assert_eq!(rt; live.channel.message(1), [2, 0].as_slice());
-        assert_eq!(rt; live.channel.message(2), [3, 7].as_slice());
+    let channel = only(&channels);
+    assert_eq!(rt; channel.len(), 3);
+    if channel.len() == 3 {
+        assert_eq!(rt; channel.message(0), [1, -25_536].as_slice());
+        assert_eq!(rt; channel.message(1), [2, 0].as_slice());
+        assert_eq!(rt; channel.message(2), [3, 7].as_slice());
     }
     Ok(())
 }
@@ -152,8 +158,8 @@ fn faults_of_sends(rt: HostRuntime) -> Result<(), Fail> {
         send(&store, &mut channels, TAKER, &q, order, &two),
         Err(Stop::Fault(Fault::ZeroDivisor))
     );
-    let [live] = channels;
-    assert_eq!(rt; live.channel.len(), 0);
+    let channel = only(&channels);
+    assert_eq!(rt; channel.len(), 0);
     Ok(())
 }
 
@@ -196,8 +202,8 @@ fn kept_messages(rt: HostRuntime) -> Result<(), Fail> {
         ),
         Ok(())
     );
-    let [live] = channels;
-    assert_eq!(rt; live.channel.len(), 2);
+    let channel = only(&channels);
+    assert_eq!(rt; channel.len(), 2);
     Ok(())
 }
 

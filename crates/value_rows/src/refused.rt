@@ -1,7 +1,7 @@
 //! Growths that may be refused: each test passes with memory enough, and where any one growth of it is refused.
 use crate::beginnings::program;
 use crate::channels::of_three;
-use crate::messages::{TAKER, globals, variable};
+use crate::messages::{TAKER, globals, only, variable};
 use diagnostics::Stop;
 use pml_channel::channel::Channel;
 use pml_program::expr::{Expr, Target, Want};
@@ -195,6 +195,5 @@ fn sent_and_received(rt: HostRuntime) {
         Want::Anything,
     ];
     goes_through(&rt, &mut store, &mut channels, &q, &wants);
-    let [live] = channels;
-    assert_eq!(rt; live.channel.capacity(), 3);
+    assert_eq!(rt; only(&channels).capacity(), 3);
 }
