@@ -1,4 +1,4 @@
-//! Values, stores, channels, statements and first states, each public call once with memory enough, and growths that may be
+//! Values, stores, channels, statements, first states, new processes and printed strings, each public call once with memory enough, and growths that may be
 //! refused.
 #![tactic(auto)]
 
@@ -7,7 +7,11 @@ mod beginnings;
 #[cfg(test)]
 mod channels;
 #[cfg(test)]
+mod created;
+#[cfg(test)]
 mod expressions;
+#[cfg(test)]
+mod printed;
 #[cfg(test)]
 mod refused;
 #[cfg(test)]
