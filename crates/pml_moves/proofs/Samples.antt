@@ -115,4 +115,4 @@ unfolding roll-Want roll
 exactly_is n r = ap (λ (f : Wanted). f r) (fold-roll-Want Valued Wanted Placed Turned value_step want_step target_step turn_step (Want-F.Exactly n))
 
 pub global_is : (x : ℕ) (r : Reading) → place (global x) r ≡ (inside (r.cells (r.frame false) x) 0 >>= λ c. Ok (record { frame = r.frame false; variable = x; cell = c }))
-global_is x r = ap (λ (f : Placed). f r) (fold-roll-Target Valued Wanted Placed Turned value_step want_step target_step turn_step record { local = false; variable = x; form = form.Plain scalar.Byte; turns = [] })
+global_is x r = ap (λ (f : Placed). f.lies r) (fold-roll-Target Valued Wanted Placed Turned value_step want_step target_step turn_step record { local = false; variable = x; form = form.Plain scalar.Byte; turns = [] })

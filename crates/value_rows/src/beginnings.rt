@@ -33,7 +33,7 @@ pub fn channels(alloc: Global, capacity: u32) -> Result<Initial, AllocError> {
 }
 
 /// `1 / 0`.
-fn quotient(alloc: Global) -> Result<Expr, AllocError> {
+pub fn quotient(alloc: Global) -> Result<Expr, AllocError> {
     let left = Boxed::new(alloc, Expr::Number(1))?;
     let right = Boxed::new(alloc, Expr::Number(0))?;
     Ok(Expr::Binary(Infix::Divide, left, right))

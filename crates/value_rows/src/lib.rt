@@ -1,4 +1,4 @@
-//! Values, stores, channels, statements and first states, each public call once with memory enough, and growths that may be
+//! Values, stores, channels, statements, first states, new processes and printed strings, each public call once with memory enough, and growths that may be
 //! refused.
 #![tactic(auto)]
 
@@ -7,9 +7,13 @@ mod beginnings;
 #[cfg(test)]
 mod channels;
 #[cfg(test)]
+mod created;
+#[cfg(test)]
 mod expressions;
 #[cfg(test)]
 mod messages;
+#[cfg(test)]
+mod printed;
 #[cfg(test)]
 mod refused;
 #[cfg(test)]

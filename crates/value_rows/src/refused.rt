@@ -1,9 +1,12 @@
 //! Growths that may be refused: each test passes with memory enough, and where any one growth of it is refused.
 use crate::beginnings::program;
 use crate::channels::of_three;
+use crate::created::{created, variables};
 use crate::messages::{TAKER, globals, only, variable};
+use crate::printed::constants;
 use diagnostics::Stop;
 use pml_channel::channel::Channel;
+use pml_printed::string::printed;
 use pml_program::expr::{Expr, Target, Want};
 use pml_program::form::Form;
 use pml_program::program::Action;
@@ -196,4 +199,42 @@ fn sent_and_received(rt: HostRuntime) {
     ];
     goes_through(&rt, &mut store, &mut channels, &q, &wants);
     assert_eq!(rt; only(&channels).capacity(), 3);
+}
+
+/// A process is created, or what there was stays.
+#[test]
+fn processes(rt: HostRuntime) {
+    let Ok(variables) = variables(rt.alloc()) else {
+        return;
+    };
+    let Ok((started, ended)) = created(rt.alloc(), &[], variables.as_slice(), &[3]) else {
+        return;
+    };
+    match ended {
+        Ok(()) => {
+            assert_eq!(rt; started.store.cells().len(), 9);
+            assert_eq!(rt; started.kinds.len(), 1);
+        }
+        Err(stop) => {
+            assert_eq!(rt; stop, Stop::Memory);
+            assert_eq!(rt; started.store.cells().as_slice(), [0].as_slice());
+            assert_eq!(rt; started.kinds.len(), 0);
+        }
+    }
+}
+
+/// A string is printed behind what is there, or what is there begins as before.
+#[test]
+fn strings(rt: HostRuntime) {
+    let names = constants();
+    let Ok(mut text) = Vec::from_slice(rt.alloc(), b"old ") else {
+        return;
+    };
+    let string = b"\"%e %x\\n%%%c %d\"";
+    match printed(names.as_slice(), string, &[1, -1, 65, 7], &mut text) {
+        Ok(()) => {
+            assert_eq!(rt; text.as_slice(), b"old nak ffffffff\n%A 7".as_slice());
+        }
+        Err(_) => assert_eq!(rt; text.as_slice().starts_with(b"old "), true),
+    }
 }
