@@ -2,5 +2,6 @@ pub mod Searching
 pub mod Matching
 pub mod Offering
 pub mod Placing
+pub mod Keeping
 pub mod Samples
 pub mod Rows

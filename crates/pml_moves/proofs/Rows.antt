@@ -9,7 +9,7 @@ use Rattle.pml_control.specs.Control.{settle}
 use Rattle.pml_eval.specs.Clip.{bits_of, is_signed}
 use Rattle.pml_moves.specs.declared.moves.Move.TheVariants.{Death, Alone, Pair}
 use Rattle.pml_moves.specs.Search.{pick, moves}
-use Rattle.pml_moves.proofs.Samples.{body, only, yes, no, timeout, otherwise, sends, receives, channel, state, held_by, at_braces, number_is, timeout_is, exactly_is, global_is}
+use Rattle.pml_moves.proofs.Samples.{body, only, yes, no, timeout, otherwise, sends, receives, polls, channel, state, held_by, at_braces, number_is, timeout_is, exactly_is, global_is, poll_is}
 
 -- a condition that does not hold
 blocked : moves (state (only no ∷ []) []) ≡ []
@@ -97,6 +97,15 @@ oldest = rw (global_is, global_is, exactly_is, exactly_is) refl
 any : moves (state (only (receives 0 Matching (pos 2)) ∷ []) (channel 2 ((pos 1 ∷ []) ∷ (pos 2 ∷ []) ∷ []) ∷ [])) ≡ Alone (pick 0 0 0) false ∷ []
 unfolding settle roll-Seq roll hidden shape-the_row-Stmt-1 hidden-the_row-Stmt-1 shape-the_row-Seq-0 hidden-the_row-Seq-0
 any = rw (global_is, exactly_is) refl
+
+-- the same asked by conditions
+oldest_polled : moves (state (only (polls 0 First (pos 2)) ∷ []) (channel 2 ((pos 1 ∷ []) ∷ (pos 2 ∷ []) ∷ []) ∷ [])) ≡ []
+unfolding settle roll-Seq roll hidden shape-the_row-Stmt-1 hidden-the_row-Stmt-1 shape-the_row-Seq-0 hidden-the_row-Seq-0
+oldest_polled = simp (poll_is, global_is, exactly_is) refl
+
+any_polled : moves (state (only (polls 0 Matching (pos 2)) ∷ []) (channel 2 ((pos 1 ∷ []) ∷ (pos 2 ∷ []) ∷ []) ∷ [])) ≡ Alone (pick 0 0 0) false ∷ []
+unfolding settle roll-Seq roll hidden shape-the_row-Stmt-1 hidden-the_row-Stmt-1 shape-the_row-Seq-0 hidden-the_row-Seq-0
+any_polled = simp (poll_is, global_is, exactly_is) refl
 
 -- a full channel takes no message, and an empty one gives none
 full : moves (state (only (sends 0 (pos 7)) ∷ []) (channel 1 ((pos 1 ∷ []) ∷ []) ∷ [])) ≡ []

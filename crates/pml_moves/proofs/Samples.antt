@@ -21,7 +21,7 @@ use Rattle.pml_program.specs.declared.program.Proctype.{Proctype}
 use Rattle.pml_control.specs.Control.{Control, settle, at, steps}
 use Rattle.pml_eval.specs.Operators.{truth}
 use Rattle.pml_eval.specs.declared.pattern.Sought.TheVariants as sought
-use Rattle.pml_eval.specs.Value.{Reading, Valued, Wanted, Placed, Turned, val, want as asks, place, inside, value_step, want_step, target_step, turn_step, ◌>>=◌}
+use Rattle.pml_eval.specs.Value.{Reading, Valued, Wanted, Placed, Turned, val, want as asks, place, polled, inside, value_step, want_step, target_step, turn_step, ◌>>=◌}
 use Rattle.pml_value.specs.declared.live_channel.LiveChannel.{LiveChannel}
 use Rattle.pml_moves.specs.State.{Stand, State}
 
@@ -62,6 +62,10 @@ sends x n = Plain (action.Send (global x) order.Fifo (expr.Number n ∷ []))
 
 abbrev pub receives : ℕ → Search → ℤ → Basic
 receives x s n = Plain (action.Receive (global x) s removal.Remove (want.Exactly n ∷ []))
+
+-- a poll of the channel as a condition
+abbrev pub polls : ℕ → Search → ℤ → Basic
+polls x s n = Plain (action.Holds (expr.Poll (global x) s (want.Exactly n ∷ [])))
 
 -- ---- states
 
@@ -116,3 +120,8 @@ exactly_is n r = ap (λ (f : Wanted). f r) (fold-roll-Want Valued Wanted Placed 
 
 pub global_is : (x : ℕ) (r : Reading) → place (global x) r ≡ (inside (r.cells (r.frame false) x) 0 >>= λ c. Ok (record { frame = r.frame false; variable = x; cell = c }))
 global_is x r = ap (λ (f : Placed). f.lies r) (fold-roll-Target Valued Wanted Placed Turned value_step want_step target_step turn_step record { local = false; variable = x; form = form.Plain scalar.Byte; turns = [] })
+
+pub poll_is : (x : ℕ) (s : Search) (n : ℤ) (r : Reading) → val (expr.Poll (global x) s (want.Exactly n ∷ [])) r
+    ≡ (place (global x) r >>= λ at. polled s 1 (asks (want.Exactly n) r >>= λ w. Ok (w ∷ [])) (r.channel (r.holds at)))
+unfolding roll-Expr roll
+poll_is x s n r = ap (λ (f : Valued). f r) (fold-roll-Expr Valued Wanted Placed Turned value_step want_step target_step turn_step (Expr-F.Poll (global x) s (want.Exactly n ∷ [])))

@@ -3,3 +3,4 @@ pub mod Executable
 pub mod Fields
 pub mod Search
 pub mod Scene
+pub mod Kept

@@ -1,15 +1,19 @@
 //! The search for moves: the holder of exclusive control alone, else all processes, else all under `timeout`; of each process the
 //! highest level that has a move.
 
-ghost use Rattle.std.specs.Prelude.{◌≡◌, ◌++◌, ◌<◌, OnOk, OnErr, Some, length, map, option_map, slice_get};
+#![tactic(auto, using(crate::proofs::Keeping::kept_on, crate::proofs::Keeping::kept_same, crate::proofs::Keeping::kept_push))]
+
+ghost use Rattle.std.specs.Prelude.{◌≡◌, ◌++◌, ◌<◌, [], if◌then◌else◌, OnOk, Some, length, map, option_map, slice_get};
 ghost use Rattle.std.specs.List.{filter};
 ghost use Rattle.std.specs.Option.{option_copied};
 ghost use Rattle.pml_flow.specs.Flow.{maybe};
 ghost use Rattle.pml_flow.specs.Points.{point_at};
 ghost use Rattle.pml_value.specs.Reads.{seen};
 ghost use Rattle.pml_moves.specs.State.{levels_from};
+ghost use Rattle.pml_moves.specs.Kept.{Extends};
 ghost use Rattle.pml_moves.specs.Scene.{state_of, stand_of, Fits, IsBody, shows, edges_at};
-ghost use Rattle.pml_moves.specs.Search.{is_else as else_of, can_inside, is_choice, is_other, choices, first, is_some, can_alone, pairs_on, pairs_with, pairs, moves_by, plain_moves, else_moves, moves_on, moves_at, moves_under, moves_held, moves as all_moves, last};
+ghost use Rattle.pml_moves.specs.Search.{is_else as else_of, can_inside, is_choice, is_other, choices, first, is_some, can_alone, pairs_on, pairs_with, pairs, moves_by, plain_moves, else_moves, moves_on, moves_at, moves_under, moves_held, moves as all_moves, last, only_if, accepts};
+ghost use Rattle.pml_moves.specs.declared.moves.Move.TheVariants.{Alone, Pair};
 
 use crate::executable::can_be_taken;
 use crate::message::{Message, is_received, offered};
@@ -126,6 +130,26 @@ struct Sending<'w, 'p> {
     timeout: bool,
 }
 
+/// Adds the pair of a message with an offer, where that receives it.
+fn add_pair(
+    view: &View<'_>,
+    body: &Body<'_, '_, '_>,
+    sending: &Sending<'_, '_>,
+    receiver: Pick,
+    edge: Edge,
+    moves: &mut Vec<Move>,
+) -> Result<(), AllocError>
+    requires { IsBody body.now }
+    ensures added { OnOk result (moves.new.items ≡ moves.old.items ++ only_if (accepts view.now.channels.now (seen view.now) sending.now.message (shows body.now edge).basic) (Pair sending.now.sender receiver sending.now.timeout)) }
+    ensures kept { Extends moves.new.items moves.old.items }
+{
+    if !is_received(view, &sending.message, body.basic(edge)) {
+        return Ok(());
+    }
+    moves.push(Move::Pair(sending.sender, receiver, sending.timeout))?;
+    Ok(())
+}
+
 /// Adds the pairs of a message with the receives of a level of process j.
 fn add_pairs_on(
     scene: &Scene<'_, '_, '_>,
@@ -139,18 +163,17 @@ fn add_pairs_on(
     requires fits { Fits scene.now }
     requires there { j < length scene.now.seats.now }
     requires body { IsBody body.now }
-    ensures { OnOk result (moves.new.items ≡ moves.old.items ++ pairs_on (state_of scene.now) sending.now.timeout sending.now.sender sending.now.message j level (map (shows body.now) edges.now)) }
+    ensures added { OnOk result (moves.new.items ≡ moves.old.items ++ pairs_on (state_of scene.now) sending.now.timeout sending.now.sender sending.now.message j level (map (shows body.now) edges.now)) }
+    ensures kept { Extends moves.new.items moves.old.items }
 {
     let view = view(scene, j, sending.timeout);
     for place in 0..edges.len() {
-        if is_received(&view, &sending.message, body.basic(edges[place])) {
-            let receiver = Pick {
-                process: j,
-                level,
-                place,
-            };
-            moves.push(Move::Pair(sending.sender, receiver, sending.timeout))?;
-        }
+        let receiver = Pick {
+            process: j,
+            level,
+            place,
+        };
+        add_pair(&view, body, sending, receiver, edges[place], moves)?;
     }
     Ok(())
 }
@@ -168,7 +191,8 @@ fn add_pairs_down(
     requires there { j < length scene.now.seats.now }
     requires body { IsBody body.now }
     requires node { node < length body.now.graph.now.nodes }
-    ensures { OnOk result (moves.new.items ≡ moves.old.items ++ last (pairs_on (state_of scene.now) sending.now.timeout sending.now.sender sending.now.message j) 0 (map (map (shows body.now)) (edges_at body.now node))) }
+    ensures added { OnOk result (moves.new.items ≡ moves.old.items ++ last (pairs_on (state_of scene.now) sending.now.timeout sending.now.sender sending.now.message j) 0 (map (map (shows body.now)) (edges_at body.now node))) }
+    ensures kept { Extends moves.new.items moves.old.items }
 {
     let before = moves.len();
     let mut level = body.graph.level_count(node);
@@ -193,7 +217,8 @@ fn add_pairs_with(
 ) -> Result<(), AllocError>
     requires fits { Fits scene.now }
     requires there { j < length scene.now.seats.now }
-    ensures { OnOk result (moves.new.items ≡ moves.old.items ++ pairs_with (state_of scene.now) sending.now.timeout sending.now.sender sending.now.message j (stand_of scene.now.program.now seat)) }
+    ensures added { OnOk result (moves.new.items ≡ moves.old.items ++ pairs_with (state_of scene.now) sending.now.timeout sending.now.sender sending.now.message j (stand_of scene.now.program.now seat)) }
+    ensures kept { Extends moves.new.items moves.old.items }
 {
     if j == sending.sender.process {
         return Ok(());
@@ -211,7 +236,8 @@ fn add_pairs(
     moves: &mut Vec<Move>,
 ) -> Result<(), AllocError>
     requires { Fits scene.now }
-    ensures { OnOk result (moves.new.items ≡ moves.old.items ++ pairs (state_of scene.now) sending.now.timeout sending.now.sender (Some sending.now.message)) }
+    ensures added { OnOk result (moves.new.items ≡ moves.old.items ++ pairs (state_of scene.now) sending.now.timeout sending.now.sender (Some sending.now.message)) }
+    ensures kept { Extends moves.new.items moves.old.items }
 {
     let seats = scene.seats;
     for j in 0..seats.len() {
@@ -234,7 +260,8 @@ fn add_moves_by(
     requires fits { Fits scene.now }
     requires there { offer.process < length scene.now.seats.now }
     requires body { IsBody body.now }
-    ensures { OnOk result (moves.new.items ≡ moves.old.items ++ moves_by (state_of scene.now) offer.process timeout body.now.proctype.now.body offer.level offer.place (shows body.now edge)) }
+    ensures added { OnOk result (moves.new.items ≡ moves.old.items ++ moves_by (state_of scene.now) offer.process timeout body.now.proctype.now.body offer.level offer.place (shows body.now edge)) }
+    ensures kept { Extends moves.new.items moves.old.items }
 {
     let view = view(scene, offer.process, timeout);
     if can_be_alone(&view, body, edge) {
@@ -254,6 +281,27 @@ fn add_moves_by(
     }
 }
 
+/// Adds the moves of an offer, none where it is an `else`.
+fn add_plain_by(
+    scene: &Scene<'_, '_, '_>,
+    body: &Body<'_, '_, '_>,
+    timeout: bool,
+    offer: Pick,
+    edge: Edge,
+    moves: &mut Vec<Move>,
+) -> Result<(), AllocError>
+    requires fits { Fits scene.now }
+    requires there { offer.process < length scene.now.seats.now }
+    requires body { IsBody body.now }
+    ensures added { OnOk result (moves.new.items ≡ moves.old.items ++ (if else_of (shows body.now edge).basic then [] else moves_by (state_of scene.now) offer.process timeout body.now.proctype.now.body offer.level offer.place (shows body.now edge))) }
+    ensures kept { Extends moves.new.items moves.old.items }
+{
+    if is_else(body.basic(edge)) {
+        return Ok(());
+    }
+    add_moves_by(scene, body, timeout, offer, edge, moves)
+}
+
 /// Adds the moves of a level's offers that are no `else`.
 fn add_plain(
     scene: &Scene<'_, '_, '_>,
@@ -267,18 +315,36 @@ fn add_plain(
     requires fits { Fits scene.now }
     requires there { process < length scene.now.seats.now }
     requires body { IsBody body.now }
-    ensures { OnOk result (moves.new.items ≡ moves.old.items ++ plain_moves (state_of scene.now) process timeout body.now.proctype.now.body level (map (shows body.now) edges.now)) }
+    ensures added { OnOk result (moves.new.items ≡ moves.old.items ++ plain_moves (state_of scene.now) process timeout body.now.proctype.now.body level (map (shows body.now) edges.now)) }
+    ensures kept { Extends moves.new.items moves.old.items }
 {
     for place in 0..edges.len() {
-        if !is_else(body.basic(edges[place])) {
-            let offer = Pick {
-                process,
-                level,
-                place,
-            };
-            add_moves_by(scene, body, timeout, offer, edges[place], moves)?;
-        }
+        let offer = Pick {
+            process,
+            level,
+            place,
+        };
+        add_plain_by(scene, body, timeout, offer, edges[place], moves)?;
     }
+    Ok(())
+}
+
+/// Adds an offer, where it is an `else`.
+fn add_else_by(
+    body: &Body<'_, '_, '_>,
+    timeout: bool,
+    offer: Pick,
+    edge: Edge,
+    moves: &mut Vec<Move>,
+) -> Result<(), AllocError>
+    requires { IsBody body.now }
+    ensures added { OnOk result (moves.new.items ≡ moves.old.items ++ only_if (else_of (shows body.now edge).basic) (Alone offer timeout)) }
+    ensures kept { Extends moves.new.items moves.old.items }
+{
+    if !is_else(body.basic(edge)) {
+        return Ok(());
+    }
+    moves.push(Move::Alone(offer, timeout))?;
     Ok(())
 }
 
@@ -292,17 +358,16 @@ fn add_else(
     moves: &mut Vec<Move>,
 ) -> Result<(), AllocError>
     requires { IsBody body.now }
-    ensures { OnOk result (moves.new.items ≡ moves.old.items ++ else_moves process timeout level (map (shows body.now) edges.now)) }
+    ensures added { OnOk result (moves.new.items ≡ moves.old.items ++ else_moves process timeout level (map (shows body.now) edges.now)) }
+    ensures kept { Extends moves.new.items moves.old.items }
 {
     for place in 0..edges.len() {
-        if is_else(body.basic(edges[place])) {
-            let offer = Pick {
-                process,
-                level,
-                place,
-            };
-            moves.push(Move::Alone(offer, timeout))?;
-        }
+        let offer = Pick {
+            process,
+            level,
+            place,
+        };
+        add_else_by(body, timeout, offer, edges[place], moves)?;
     }
     Ok(())
 }
@@ -320,7 +385,8 @@ fn add_moves_on(
     requires fits { Fits scene.now }
     requires there { process < length scene.now.seats.now }
     requires body { IsBody body.now }
-    ensures { OnOk result (moves.new.items ≡ moves.old.items ++ moves_on (state_of scene.now) process timeout body.now.proctype.now.body level (map (shows body.now) edges.now)) }
+    ensures added { OnOk result (moves.new.items ≡ moves.old.items ++ moves_on (state_of scene.now) process timeout body.now.proctype.now.body level (map (shows body.now) edges.now)) }
+    ensures kept { Extends moves.new.items moves.old.items }
 {
     let before = moves.len();
     add_plain(scene, body, process, timeout, level, edges, moves)?;
@@ -343,7 +409,8 @@ fn add_moves_down(
     requires there { process < length scene.now.seats.now }
     requires body { IsBody body.now }
     requires node { node < length body.now.graph.now.nodes }
-    ensures { OnOk result (moves.new.items ≡ moves.old.items ++ last (moves_on (state_of scene.now) process timeout body.now.proctype.now.body) 0 (map (map (shows body.now)) (edges_at body.now node))) }
+    ensures added { OnOk result (moves.new.items ≡ moves.old.items ++ last (moves_on (state_of scene.now) process timeout body.now.proctype.now.body) 0 (map (map (shows body.now)) (edges_at body.now node))) }
+    ensures kept { Extends moves.new.items moves.old.items }
 {
     let before = moves.len();
     let mut level = body.graph.level_count(node);
@@ -368,7 +435,8 @@ fn add_moves_at(
 ) -> Result<(), AllocError>
     requires fits { Fits scene.now }
     requires there { process < length scene.now.seats.now }
-    ensures { OnOk result (moves.new.items ≡ moves.old.items ++ moves_at (state_of scene.now) process timeout (stand_of scene.now.program.now seat)) }
+    ensures added { OnOk result (moves.new.items ≡ moves.old.items ++ moves_at (state_of scene.now) process timeout (stand_of scene.now.program.now seat)) }
+    ensures kept { Extends moves.new.items moves.old.items }
 {
     if let Some(body) = standing(scene, seat) {
         return add_moves_down(scene, &body, process, timeout, seat.node, moves);
@@ -386,7 +454,8 @@ fn add_moves_under(
     moves: &mut Vec<Move>,
 ) -> Result<(), AllocError>
     requires { Fits scene.now }
-    ensures { OnOk result (moves.new.items ≡ moves.old.items ++ moves_under (state_of scene.now) timeout) }
+    ensures added { OnOk result (moves.new.items ≡ moves.old.items ++ moves_under (state_of scene.now) timeout) }
+    ensures kept { Extends moves.new.items moves.old.items }
 {
     let seats = scene.seats;
     for process in 0..seats.len() {
@@ -398,7 +467,8 @@ fn add_moves_under(
 /// Adds the moves of the holder of exclusive control, if there is one.
 fn add_moves_held(scene: &Scene<'_, '_, '_>, moves: &mut Vec<Move>) -> Result<(), AllocError>
     requires { Fits scene.now }
-    ensures { OnOk result (moves.new.items ≡ moves.old.items ++ moves_held (state_of scene.now) scene.now.holder) }
+    ensures added { OnOk result (moves.new.items ≡ moves.old.items ++ moves_held (state_of scene.now) scene.now.holder) }
+    ensures kept { Extends moves.new.items moves.old.items }
 {
     let Some(process) = scene.holder else {
         return Ok(());
@@ -412,7 +482,8 @@ fn add_moves_held(scene: &Scene<'_, '_, '_>, moves: &mut Vec<Move>) -> Result<()
 /// Adds the moves of a state.
 pub fn add_moves(scene: &Scene<'_, '_, '_>, moves: &mut Vec<Move>) -> Result<(), AllocError>
     requires { Fits scene.now }
-    ensures { OnOk result (moves.new.items ≡ moves.old.items ++ all_moves (state_of scene.now)) }
+    ensures added { OnOk result (moves.new.items ≡ moves.old.items ++ all_moves (state_of scene.now)) }
+    ensures kept { Extends moves.new.items moves.old.items }
 {
     let before = moves.len();
     add_moves_held(scene, moves)?;

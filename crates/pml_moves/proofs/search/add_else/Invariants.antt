@@ -3,6 +3,7 @@ use Rattle.pml_flow.specs.Flow.{Offer}
 use Rattle.pml_moves.specs.declared.moves.Move.{Move}
 use Rattle.pml_moves.specs.declared.moves.Move.TheVariants.{Alone}
 use Rattle.pml_moves.specs.Scene.{shows}
+use Rattle.pml_moves.specs.Kept.{Extends}
 use Rattle.pml_moves.specs.Search.{each, is_else, only_if, pick}
 use Rattle.pml_moves.proofs.search.add_else.Given as goal
 
@@ -10,4 +11,7 @@ use Rattle.pml_moves.proofs.search.add_else.Given as goal
 abbrev pub invariant-loop-place : goal.invariant-loop-place
 invariant-loop-place l =
     let f : ℕ → Offer → List Move = λ i o. only_if (is_else o.basic) (Alone (pick l.process l.level i) l.timeout) in
-    l.moves.items ++ each f l.place (map (shows l.body) (drop l.place l.edges)) ≡ l.initial.moves.items ++ each f 0 (map (shows l.body) l.edges)
+    record {
+      same : l.moves.items ++ each f l.place (map (shows l.body) (drop l.place l.edges)) ≡ l.initial.moves.items ++ each f 0 (map (shows l.body) l.edges);
+      kept : Extends l.moves.items l.initial.moves.items;
+    }

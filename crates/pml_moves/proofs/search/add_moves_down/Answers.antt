@@ -8,8 +8,8 @@ use Rattle.pml_moves.proofs.Placing.{level_is}
 use Rattle.pml_moves.proofs.Searching.{ends, goes_on}
 use Rattle.pml_moves.proofs.search.add_moves_down.Goals as goal
 
-pub returns-then-len-before : goal.returns-then-len-before
-returns-then-len-before c =
+pub returns-then-len-before-clause-added : goal.returns-then-len-before-clause-added
+returns-then-len-before-clause-added c =
     let f : ℕ → List Offer → List Move = moves_on (state_of c.args.scene.now) c.args.process c.args.timeout c.args.body.now.proctype.now.body in
     let b : Body = c.args.body.now in
     let ls : List (List Offer) = map (map (shows b)) (edges_at b c.args.node) in
