@@ -1,7 +1,7 @@
 //! All numbers in one vector, the youngest frame last.
 
 ghost use Rattle.std.specs.Prelude.{◌≡◌, ◌+◌, ◌<◌, ◌++◌, ◌∷◌, [], length, OnOk, OnErr, IfOk, sum, slice_index_or, pos};
-ghost use Rattle.pml_store.specs.Store.{HasPlace, number_at, index_of, size_at, stored, zeros, joined, but_last};
+ghost use Rattle.pml_store.specs.Store.{HasPlace, number_at, index_of, size_at, stored, before, zeros, joined, but_last};
 ghost use Rattle.pml_store.specs.Laid.{nowhere, extent_of, extents_of};
 
 use crate::place::Place;
@@ -85,6 +85,7 @@ impl Store {
         requires { HasPlace self.old.frames place }
         ensures ok { OnOk result (self.new ≡ stored self.old place number) }
         ensures err { OnErr result (self.new ≡ self.old) }
+        ensures past { before self.new ≡ before self.old }
     {
         let at = self.index(place);
         let before = self.cells[at];

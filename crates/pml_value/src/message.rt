@@ -2,7 +2,7 @@
 
 ghost use Rattle.std.specs.Prelude.{◌≡◌, ◌<◌, ◌≤◌, IfOk, IfSome, OnOk, OnErr, length};
 ghost use Rattle.profile.specs.declared.TheConstants.{MOST_FIELDS};
-ghost use Rattle.pml_store.specs.Store.{size_at};
+ghost use Rattle.pml_store.specs.Store.{size_at, before};
 ghost use Rattle.pml_eval.specs.Pattern.{IsThere, AreThere};
 ghost use Rattle.pml_value.specs.Messages.{named, contents_at, changed, values, with_message, addressed, sent, SendsMessage, found, goes_of, stores, stored_all, without, taken_from, asked_at, received, AreAsLarge, StoresSome, ReceivesMessage, asserted};
 ghost use Rattle.pml_value.specs.Reads.{reading_of, seen};
@@ -164,6 +164,7 @@ fn store_field(store: &mut Store, one: Sought, field: i32) -> Result<(), AllocEr
     ensures ok { OnOk result (store.new ≡ stored_all store.old (goes_of one field)) }
     ensures err { OnErr result (store.new ≡ store.old) }
     ensures sizes { AreAsLarge store.old store.new }
+    ensures past { before store.new ≡ before store.old }
 {
     match one {
         Sought::Into(place, form) => store.set(place, clip(form, field)),
@@ -176,6 +177,7 @@ pub fn store_fields(store: &mut Store, sought: &[Sought], fields: &[i32]) -> Res
     requires { AreThere (size_at store.old.frames) sought.now }
     ensures ok { OnOk result (store.new ≡ stored_all store.old (stores sought.now fields.now)) }
     ensures err { OnErr result (StoresSome store.old store.new (stores sought.now fields.now)) }
+    ensures past { before store.new ≡ before store.old }
 {
     for i in 0..sought.len().min(fields.len()) {
         store_field(store, sought[i], fields[i])?;
@@ -220,6 +222,7 @@ fn take_from(
         OnOk result ((store.new ≡ stored_all store.old x.numbers) × (channels.new ≡ x.live)) }
     ensures err { let x = taken_from channels.old at removal sought.now (found search sought.now (contents_at channels.old at).messages) in
         OnErr result (StoresSome store.old store.new x.numbers × (channels.new ≡ channels.old)) }
+    ensures past { before store.new ≡ before store.old }
 {
     let Some(message) = find(&channels[at].channel, search, sought) else {
         return Ok(());
@@ -239,7 +242,8 @@ pub fn receive(
     removal: Removal,
     wants: &[Want],
 ) -> Result<(), Stop>
-    ensures { ReceivesMessage (received channels.old (reading_of store.old.frames channels.old taker.pid taker.process_count taker.timeout) target.now search removal wants.now) result store.old store.new channels.old channels.new }
+    ensures value { ReceivesMessage (received channels.old (reading_of store.old.frames channels.old taker.pid taker.process_count taker.timeout) target.now search removal wants.now) result store.old store.new channels.old channels.new }
+    ensures past { before store.new ≡ before store.old }
 {
     let view = View {
         store: &*store,

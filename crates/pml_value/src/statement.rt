@@ -1,7 +1,7 @@
 //! Assignments, increments, decrements and conditions (Holzmann, *The SPIN Model Checker*, chapter 3).
 
 ghost use Rattle.std.specs.Prelude.{◌≡◌, ◌<◌, IfOk, IfSome};
-ghost use Rattle.pml_store.specs.Store.{size_at};
+ghost use Rattle.pml_store.specs.Store.{size_at, before};
 ghost use Rattle.pml_eval.specs.Clip.{clipped};
 ghost use Rattle.pml_value.specs.Statement.{is_executable, goes, assigned, counted, outcome, TakesStatement};
 ghost use Rattle.pml_value.specs.Reads.{reading_of, seen};
@@ -108,7 +108,8 @@ pub fn take(
     timeout: bool,
     action: &Action<'_>,
 ) -> Result<(), Stop>
-    ensures { TakesStatement (outcome action.now (reading_of store.old.frames channels.now pid process_count timeout)) result store.old store.new }
+    ensures value { TakesStatement (outcome action.now (reading_of store.old.frames channels.now pid process_count timeout)) result store.old store.new }
+    ensures past { before store.new ≡ before store.old }
 {
     let view = View {
         store: &*store,

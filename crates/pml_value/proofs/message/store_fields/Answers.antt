@@ -1,4 +1,4 @@
-use Rattle.std.proofs.Common.{◌≡◌, ◌<◌, ◌≤◌, length, get_or, min, pos, arith, rules, w32, FitsSigned}
+use Rattle.std.proofs.Common.{◌≡◌, ◌<◌, ◌≤◌, length, get_or, min, pos, arith, rules, w32, FitsSigned, ◌∙◌}
 use Rattle.std.proofs.lemmas.Int.{to_z-of_z}
 use Rattle.pml_eval.specs.declared.pattern.Sought.TheVariants.{Exactly}
 use Rattle.pml_value.specs.Messages.{stored_all, goes_of}
@@ -15,6 +15,7 @@ loop-i-preserved c =
     record {
       done = done-next c.loop-i.i c.args.store.now c.loop-i.store c.store_field.new.store c.args.sought.now c.args.fields.now (Exactly (pos 0)) l k c.loop-i.invariant.done made;
       there = all-there-still c.loop-i.store c.store_field.new.store _ c.in_ok-store_field.ensures.sizes (there-next _ c.args.sought.now c.loop-i.i (Exactly (pos 0)) l c.loop-i.invariant.there);
+      past = c.in_ok-store_field.ensures.past ∙ c.loop-i.invariant.past;
     }
 
 pub returns-clause-ok : goal.returns-clause-ok

@@ -1,7 +1,9 @@
 use Rattle.std.proofs.Common.{arith, rules, FitsSigned, w32, ℕ, ℤ, pos, set, ◌∙◌, ap}
 use Rattle.std.proofs.lemmas.List.{get_or_default}
 use Rattle.std.proofs.lemmas.Int.{to_z-of_z}
+use Rattle.pml_store.specs.Store.{before}
 use Rattle.pml_store.specs.Laid.{frames_of}
+use Rattle.pml_store.proofs.Back.{before_set}
 use Rattle.pml_store.proofs.Places.{joined_is, index_is}
 use Rattle.pml_store.proofs.Storing.{frames_of-set, contents_is, noted}
 use Rattle.pml_store.proofs.store.Store.set.Goals as goal
@@ -36,3 +38,6 @@ returns-clause-ok c =
     ∙ ap (λ (n : ℕ). frames_of c.self.inside.frames.items (set c.self.inside.cells.items n c.args.number)) (v ∙ i) ∙ fs in
     let written = c.in_ok-push.ensures.items ∙ noted _ _ _ _ _ v before in
     rw (← c.self.view_is) (contents_is _ _ _ _ frames written)
+
+pub returns-clause-past : goal.returns-clause-past
+returns-clause-past c = ap before (returns-clause-ok c) ∙ before_set c.args.self.now c.args.place c.args.number c.requires
