@@ -4,3 +4,4 @@ pub mod Fields
 pub mod Search
 pub mod Scene
 pub mod Kept
+pub mod Picked

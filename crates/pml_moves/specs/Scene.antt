@@ -14,6 +14,7 @@ use Rattle.pml_flow.specs.Flow.{Offer, levels_of, shown, IsGraph, AreGraphs}
 use Rattle.pml_moves.specs.declared.scene.Seat.{Seat}
 use Rattle.pml_moves.specs.declared.scene.Body.{Body}
 use Rattle.pml_moves.specs.declared.scene.Scene.{Scene}
+use Rattle.pml_moves.specs.declared.moves.Pick.{Pick}
 use Rattle.pml_moves.specs.State.{Stand, State, body_of}
 
 -- what is to do at a node; nothing, where there is none
@@ -63,3 +64,9 @@ pub record StandsIn (c : Scene) (x : Seat) (k : Body) : Type 0 where
   pub is : IsBody k
   pub node : x.node < length k.graph.now.nodes
   pub left : point_at k.proctype.now.body x.node ≡ [] → ⊥
+
+-- The process of a pick stands in this body.
+pub record IsPicked (c : Scene) (p : Pick) (k : Body) : Type 0 where
+  pub seat : Seat
+  pub at : slice_get c.seats.now p.process ≡ Some seat
+  pub stands : StandsIn c seat k

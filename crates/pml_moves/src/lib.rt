@@ -5,5 +5,6 @@ mod asking;
 pub mod executable;
 pub mod message;
 pub mod moves;
+pub mod picked;
 pub mod scene;
 pub mod search;

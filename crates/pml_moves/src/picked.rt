@@ -1,0 +1,53 @@
+//! The offer that a pick names.
+
+ghost use Rattle.std.specs.Prelude.{◌≡◌, ◌<◌, IfSome, length, map, option_map, slice_get};
+ghost use Rattle.std.specs.Option.{option_copied};
+ghost use Rattle.pml_moves.specs.Scene.{state_of, Fits, IsBody, shows, edges_at, IsPicked};
+ghost use Rattle.pml_moves.specs.Picked.{offer_on, picked as picks};
+
+use crate::moves::Pick;
+use crate::scene::{Body, Scene, Seat, standing};
+use pml_flow::edge::Edge;
+
+/// An offer: the body in which its process stands, and its edge.
+#[derive(Drop)]
+pub struct Picked<'w, 'p, 'a> {
+    pub body: Body<'w, 'p, 'a>,
+    pub edge: Edge,
+}
+
+fn seat_at(seats: &[Seat], process: usize) -> Option<&Seat>
+    ensures { option_copied result ≡ slice_get seats.now process }
+{
+    seats.get(process)
+}
+
+fn edge_at(edges: &[Edge], place: usize) -> Option<&Edge>
+    ensures { option_copied result ≡ slice_get edges.now place }
+{
+    edges.get(place)
+}
+
+/// The edge of a node with this level and place.
+fn edge_of(body: &Body<'_, '_, '_>, node: usize, pick: Pick) -> Option<Edge>
+    requires { node < length body.now.graph.now.nodes }
+    ensures { option_map (shows body.now) result ≡ offer_on (slice_get (map (map (shows body.now)) (edges_at body.now node)) pick.level) pick.place }
+{
+    if pick.level >= body.graph.level_count(node) {
+        return None;
+    }
+    let edge = edge_at(body.graph.level(node, pick.level), pick.place)?;
+    Some(*edge)
+}
+
+/// The offer that a pick names, if its process stands where it has such an offer.
+pub fn picked<'w, 'p, 'a>(scene: &Scene<'w, 'p, 'a>, pick: Pick) -> Option<Picked<'w, 'p, 'a>>
+    requires { Fits scene.now }
+    ensures offer { option_map (λ k. shows k.body k.edge) result ≡ picks (state_of scene.now) pick }
+    ensures is { IfSome result (λ k. IsPicked scene.now pick k.body) }
+{
+    let seat = *seat_at(scene.seats, pick.process)?;
+    let body = standing(scene, seat)?;
+    let edge = edge_of(&body, seat.node, pick)?;
+    Some(Picked { body, edge })
+}

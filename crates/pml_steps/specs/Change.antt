@@ -1,0 +1,43 @@
+-- What may change in a state.
+use Rattle.std.specs.Prelude.{ℕ, ◌-◌, Bool, not, nat_eq, if◌then◌else◌, length, take, List, [], ◌∷◌, Option, Some, None, slice_get, slice_set}
+use Rattle.std.specs.List.{filter}
+use Rattle.pml_control.specs.Control.{Control}
+use Rattle.pml_flow.specs.Flow.{Offer}
+use Rattle.pml_store.specs.Store.{with_number}
+use Rattle.pml_value.specs.declared.live_channel.LiveChannel.{LiveChannel}
+use Rattle.pml_value.specs.declared.statement.Goes.{Goes}
+use Rattle.pml_moves.specs.State.{Stand, State}
+
+-- a number is stored
+abbrev pub put : State → Goes → State
+put s g = record s { frames = with_number s.frames g.place g.number }
+
+abbrev pub put_if : State → Option Goes → State
+put_if s None = s
+put_if s (Some g) = put s g
+
+-- numbers are stored from left to right
+abbrev pub put_all : State → List Goes → State
+put_all s [] = s
+put_all s (g ∷ gs) = put_all (put s g) gs
+
+abbrev pub moved_to : Control → Option Stand → ℕ → List Stand → List Stand
+moved_to next None p ys = ys
+moved_to next (Some y) p ys = slice_set ys p (record y { control = next })
+
+-- a process has this left to do
+abbrev pub go_to : State → ℕ → Control → State
+go_to s p next = record s { stands = moved_to next (slice_get s.stands p) p s.stands }
+
+-- a process takes an offer: it goes on, and holds exclusive control, or nobody does
+abbrev pub went : State → ℕ → Offer → State
+went s p o = record (go_to s p o.next) { holder = if o.keeps then Some p else None }
+
+-- the youngest process dies, with its variables and its channels; nobody holds exclusive control
+abbrev pub without_youngest : State → State
+without_youngest s = record s {
+  frames = take (length s.stands) s.frames;
+  stands = take (length s.stands - 1) s.stands;
+  channels = filter (λ (o : LiveChannel). not (nat_eq o.frame (length s.stands))) s.channels;
+  holder = None;
+}

@@ -1,0 +1,45 @@
+-- A state and the log of its step, and what calls make of them.
+use Rattle.std.specs.Prelude.{◌≡◌, ℕ, List, ◌++◌, ℤ, Result, Ok, Err}
+use Rattle.diagnostics.specs.declared.fault.Fault.{Fault}
+use Rattle.diagnostics.specs.declared.stop.Stop.{Stop}
+use Rattle.diagnostics.specs.declared.stop.Stop.TheVariants as stop
+use Rattle.pml_store.specs.Store.{Frame, Contents, before}
+use Rattle.pml_value.specs.declared.statement.Goes.{Goes}
+use Rattle.pml_value.specs.Messages.{StoresSome, stored_all}
+use Rattle.pml_moves.specs.State.{Stand, State}
+use Rattle.pml_steps.specs.Outcome.{Done}
+
+-- a state, and what was written since its step began
+pub record Live : Type 0 where
+  pub state : State
+  pub written : List (ℕ × ℤ)
+
+-- what the variables held when the step began, those of new processes behind
+abbrev pub past : Live → List Frame
+past l = before (record { frames = l.state.frames; written = l.written })
+
+-- Processes are added at most, behind the others, and the log leads back to what it led back to, and what is new.
+pub record Grows (old new : Live) : Type 0 where
+  pub program : new.state.program ≡ old.state.program
+  pub more : List Stand
+  pub stands : new.state.stands ≡ old.state.stands ++ more
+  pub rest : List Frame
+  pub past : past new ≡ past old ++ rest
+
+-- it is done, and what it prints is appended; or its fault is answered, or memory is refused
+abbrev pub Does : Result Done Fault → Result (Unit {0}) Stop → State → List ℕ → List ℕ → Type 0
+Does (Ok d) (Ok u) new before after = (new ≡ d.state) × (after ≡ before ++ d.printed)
+Does (Ok d) (Err stop.Memory) new before after = Unit {0}
+Does (Ok d) (Err (stop.Fault f)) new before after = ⊥
+Does (Err f) (Err (stop.Fault g)) new before after = g ≡ f
+Does (Err f) (Err stop.Memory) new before after = Unit {0}
+Does (Err f) (Ok u) new before after = ⊥
+
+-- numbers are stored from left to right, or the fault is answered and nothing changes; for want of memory a part is stored
+abbrev pub StoresAll : Result (List Goes) Fault → Result (Unit {0}) Stop → Contents → Contents → Type 0
+StoresAll (Ok gs) (Ok u) old new = new ≡ stored_all old gs
+StoresAll (Ok gs) (Err stop.Memory) old new = StoresSome old new gs
+StoresAll (Ok gs) (Err (stop.Fault f)) old new = ⊥
+StoresAll (Err f) (Err (stop.Fault g)) old new = (g ≡ f) × (new ≡ old)
+StoresAll (Err f) (Err stop.Memory) old new = ⊥
+StoresAll (Err f) (Ok u) old new = ⊥

@@ -1,0 +1,127 @@
+-- What a move leads to.
+use Rattle.std.specs.Prelude.{ℕ, zero, suc, Bool, true, false, length, List, [], ◌∷◌, ◌++◌, ℤ, Option, Some, None, Result, Ok, Err, slice_get}
+use Rattle.diagnostics.specs.declared.fault.Fault.{Fault}
+use Rattle.diagnostics.specs.declared.fault.Fault.TheVariants.{DStepBlocks, DStepTooLong}
+use Rattle.pml_program.specs.declared.program.Action.{Action}
+use Rattle.pml_program.specs.declared.program.Action.TheVariants as a
+use Rattle.pml_program.specs.declared.program.Basic.{Basic, Plain, DStep}
+use Rattle.pml_program.specs.declared.program.Seq.{Seq}
+use Rattle.pml_control.specs.Control.{Control}
+use Rattle.pml_flow.specs.Flow.{Offer}
+use Rattle.pml_eval.specs.Value.{Reading, val, asked_by, ◌>>=◌}
+use Rattle.pml_value.specs.declared.statement.Goes.{Goes}
+use Rattle.pml_value.specs.Statement.{outcome, goes_to}
+use Rattle.pml_value.specs.Messages.{sent, received, Received, stores, values, asserted}
+use Rattle.pml_lines.specs.Places.{named}
+use Rattle.pml_printed.specs.Printed.{printed}
+use Rattle.pml_moves.specs.declared.moves.Pick.{Pick}
+use Rattle.pml_moves.specs.declared.moves.Move.{Move}
+use Rattle.pml_moves.specs.declared.moves.Move.TheVariants.{Death, Alone, Pair}
+use Rattle.pml_moves.specs.State.{Stand, State, reads, body_of, levels}
+use Rattle.pml_moves.specs.Search.{Message, message, choices}
+use Rattle.pml_moves.specs.Picked.{picked}
+use Rattle.pml_steps.specs.Change.{put_if, put_all, go_to, went, without_youngest}
+use Rattle.pml_steps.specs.Created.{ran, run_number}
+
+-- a state, and the bytes that were printed on the way
+pub record Done : Type 0 where
+  pub state : State
+  pub printed : List ℕ
+
+-- nothing is printed
+abbrev pub quiet : State → Result Done Fault
+quiet s = Ok (record { state = s; printed = [] })
+
+-- nothing but this is done
+abbrev pub prints : State → List ℕ → Result Done Fault
+prints s bytes = Ok (record { state = s; printed = bytes })
+
+-- ---- what a statement does by itself, under this `timeout`
+
+abbrev pub does : State → ℕ → Bool → Action → Result Done Fault
+does s p t (a.Run q) = ran s (reads s p t) q >>= quiet
+does s p t (a.AssignRun x q) =
+    ran s (reads s p t) q >>= λ now. goes_to x (run_number s) (reads now p t) >>= λ g. quiet (put_if now g)
+does s p t (a.Send q order es) = sent s.channels (reads s p t) q order es >>= λ cs. quiet (record s { channels = cs })
+does s p t (a.Receive q search how ws) =
+    received s.channels (reads s p t) q search how ws >>= λ x. quiet (record (put_all s x.numbers) { channels = x.live })
+does s p t (a.Printf text es) = values es (reads s p t) >>= λ vs. prints s (printed s.program.constants text.text vs)
+does s p t (a.Printm e) = val e (reads s p t) >>= λ v. prints s (named s.program.constants v)
+does s p t (a.Assert e) = asserted e (reads s p t) >>= λ u. quiet s
+does s p t a.Else = quiet s
+does s p t (a.Assign x e) = outcome (a.Assign x e) (reads s p t) >>= λ g. quiet (put_if s g)
+does s p t (a.Increment x) = outcome (a.Increment x) (reads s p t) >>= λ g. quiet (put_if s g)
+does s p t (a.Decrement x) = outcome (a.Decrement x) (reads s p t) >>= λ g. quiet (put_if s g)
+does s p t (a.Holds e) = outcome (a.Holds e) (reads s p t) >>= λ g. quiet (put_if s g)
+
+-- a goto, a break and what gives structure do nothing by themselves
+abbrev pub effect : State → ℕ → Bool → Option Basic → Result Done Fault
+effect s p t (Some (Plain x)) = does s p t x
+effect s p t x = quiet s
+
+-- ---- inside a d_step
+
+abbrev pub behind : List ℕ → Done → Result Done Fault
+behind bytes d = Ok (record d { printed = bytes ++ d.printed })
+
+-- the first that can be taken, or the fault that none can
+abbrev pub first_of : List Offer → (Offer → Result Done Fault) → Result Done Fault
+first_of [] rest = Err DStepBlocks
+first_of (o ∷ os) rest = rest o
+
+-- on with the rest, where control is still inside
+abbrev pub onward : Bool → Done → (Done → Result Done Fault) → Result Done Fault
+onward true d rest = rest d
+onward false d rest = Ok d
+
+-- At each point of a body the first choice is taken until control leaves, by at most n statements. `timeout` is for the first of them.
+abbrev pub within : ℕ → State → ℕ → Bool → Seq → Control → Result Done Fault
+within zero s p t b c = Err DStepTooLong
+within (suc n) s p t b c =
+    first_of (choices s.channels (reads s p t) (levels b c)) (λ o.
+    effect s p t o.basic >>= λ d.
+    onward o.stays d (λ e. within n e.state p false b o.next >>= behind e.printed))
+
+abbrev pub within_from : ℕ → State → ℕ → Bool → Option Seq → Option Control → Result Done Fault
+within_from most s p t (Some b) (Some c) = within most s p t b c
+within_from most s p t b c = quiet s
+
+-- ---- steps
+
+-- a statement by itself, at most `most` of them in a d_step
+abbrev pub taken : ℕ → State → ℕ → Bool → Option Seq → Offer → Option Basic → Result Done Fault
+taken most s p t b o (Some (DStep d)) = within_from most s p t b o.entry
+taken most s p t b o x = effect s p t x
+
+-- the body in which a process stands
+abbrev pub body_by : State → Option Stand → Option Seq
+body_by s None = None
+body_by s (Some y) = body_of s.program y.kind
+
+-- and then its process goes on
+abbrev pub moved : ℕ → Offer → Done → Result Done Fault
+moved p o d = Ok (record d { state = went d.state p o })
+
+abbrev pub alone : ℕ → State → Pick → Bool → Option Offer → Result Done Fault
+alone most s k t None = quiet s
+alone most s k t (Some o) = taken most s k.process t (body_by s (slice_get s.stands k.process)) o o.basic >>= moved k.process o
+
+-- what the receiver of a message stores, by what it asks before the step
+abbrev pub passed : Reading → Option Message → Option Basic → Result (List Goes) Fault
+passed r (Some m) (Some (Plain (a.Receive q search how ws))) = asked_by ws r >>= λ ss. Ok (stores ss m.fields)
+passed r m x = Ok []
+
+-- it stores, and both go on; the receiver may hold
+abbrev pub both_on : State → ℕ → ℕ → Offer → Offer → List Goes → Result Done Fault
+both_on s p q o w gs = quiet (went (go_to (put_all s gs) p o.next) q w)
+
+abbrev pub paired : State → Pick → Pick → Bool → Option Offer → Option Offer → Result Done Fault
+paired s k j t (Some o) (Some w) =
+    passed (reads s j.process t) (message s.channels (reads s k.process t) o.basic) w.basic >>= both_on s k.process j.process o w
+paired s k j t o w = quiet s
+
+-- What a move leads to: a state and the bytes that are printed, or the first fault. A d_step has at most `most` statements.
+abbrev pub step : ℕ → State → Move → Result Done Fault
+step most s (Death p) = quiet (without_youngest s)
+step most s (Alone k t) = alone most s k t (picked s k)
+step most s (Pair k j t) = paired s k j t (picked s k) (picked s j)
