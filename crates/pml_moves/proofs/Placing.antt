@@ -22,6 +22,7 @@ use Rattle.pml_moves.specs.declared.scene.Body.{Body}
 use Rattle.pml_moves.specs.declared.scene.Scene.{Scene}
 use Rattle.pml_moves.specs.State.{State, Stand, body_of, levels, levels_in}
 use Rattle.pml_moves.specs.Search.{Message, last, only_if, pairs_on, pairs_with, moves_on, moves_of, moves_at, moves_if, moves_held}
+use Rattle.pml_moves.specs.Picked.{offer_on, offer_at, picked}
 use Rattle.pml_moves.specs.Scene.{control_at, stand_of, state_of, statements_of, Fits, IsBody, StandsIn, shows, edges_at}
 use Rattle.pml_moves.proofs.Searching.{index_map, index_total, got, got_none, there, past, within, at_end}
 
@@ -146,3 +147,15 @@ pairs_closed s t q m j y n e =
 pub none_held : (c : Scene) (p : ℕ) → length c.seats.now ≤ p → moves_held (state_of c) (Some p) ≡ []
 none_held c p h =
     ap (λ (o : Option Stand). moves_if (state_of c) p o) (slice_get-map (stand_of c.program.now) c.seats.now p ∙ ap (λ (o : Option Seat). option_map (stand_of c.program.now) o) (past c.seats.now p h))
+
+-- ---- the offer that a pick names
+
+-- that of the edge at its place
+pub picked_in : (c : Scene) (p : Pick) (x : Seat) (k : Body) → slice_get c.seats.now p.process ≡ Some x → StandsIn c x k → offer_on (slice_get (map (map (shows k)) (edges_at k x.node)) p.level) p.place ≡ picked (state_of c) p
+picked_in c p x k at h =
+    let b : Seq = k.proctype.now.body in
+    let stand : slice_get (map (stand_of c.program.now) c.seats.now) p.process ≡ Some (stand_of c.program.now x) =
+    slice_get-map (stand_of c.program.now) c.seats.now p.process ∙ ap (λ (o : Option Seat). option_map (stand_of c.program.now) o) at in
+    let levels : levels_in (body_of c.program.now x.kind) (control_at (body_of c.program.now x.kind) x.node) ≡ map (map (shows k)) (edges_at k x.node) =
+    ap (λ (o : Option Seq). levels_in o (control_at o x.node)) h.body ∙ sym (at_node k x.node h.is) in
+    sym (ap (λ (o : Option Stand). offer_at (state_of c) p o) stand ∙ ap (λ (ls : List (List Offer)). offer_on (slice_get ls p.level) p.place) levels)

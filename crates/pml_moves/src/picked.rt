@@ -11,7 +11,7 @@ use pml_flow::edge::Edge;
 
 /// An offer: the body in which its process stands, and its edge.
 #[derive(Drop)]
-pub struct Picked<'w, 'p, 'a> {
+pub struct Offered<'w, 'p, 'a> {
     pub body: Body<'w, 'p, 'a>,
     pub edge: Edge,
 }
@@ -41,7 +41,7 @@ fn edge_of(body: &Body<'_, '_, '_>, node: usize, pick: Pick) -> Option<Edge>
 }
 
 /// The offer that a pick names, if its process stands where it has such an offer.
-pub fn picked<'w, 'p, 'a>(scene: &Scene<'w, 'p, 'a>, pick: Pick) -> Option<Picked<'w, 'p, 'a>>
+pub fn picked<'w, 'p, 'a>(scene: &Scene<'w, 'p, 'a>, pick: Pick) -> Option<Offered<'w, 'p, 'a>>
     requires { Fits scene.now }
     ensures offer { option_map (λ k. shows k.body k.edge) result ≡ picks (state_of scene.now) pick }
     ensures is { IfSome result (λ k. IsPicked scene.now pick k.body) }
@@ -49,5 +49,5 @@ pub fn picked<'w, 'p, 'a>(scene: &Scene<'w, 'p, 'a>, pick: Pick) -> Option<Picke
     let seat = *seat_at(scene.seats, pick.process)?;
     let body = standing(scene, seat)?;
     let edge = edge_of(&body, seat.node, pick)?;
-    Some(Picked { body, edge })
+    Some(Offered { body, edge })
 }

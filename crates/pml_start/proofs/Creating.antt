@@ -12,11 +12,11 @@ use Rattle.pml_cells.specs.Cells.{size}
 use Rattle.pml_value.specs.declared.live_channel.LiveChannel.{LiveChannel}
 use Rattle.pml_start.specs.declared.started.Started.{Started}
 use Rattle.pml_eval.specs.Clip.{clipped}
-use Rattle.pml_start.specs.Begin.{Begun, shown, with_value}
+use Rattle.pml_start.specs.Begin.{Begun, shown, shape, with_value}
 use Rattle.pml_start.specs.Created.{with_arguments, with_process}
 use Rattle.pml_start.specs.Known.{Keeps}
 use Rattle.pml_start.proofs.Past.{keeps_past}
-use Rattle.pml_start.proofs.Shapes.{added_sizes}
+use Rattle.pml_start.proofs.Shapes.{added_shape, added_sizes}
 
 no_first : (cells : Cells) (x : ℤ) → length cells ≡ 0 → set cells 0 x ≡ cells
 no_first [] x e = refl
@@ -57,6 +57,10 @@ all_set ss vs variable b h = ⊎_elim
 -- the sizes in the frame of a process that is added
 pub process_sizes : (kind : ℕ) (ss : List Slot) (b n : Begun) → n ≡ with_process kind ss b → length b.frames ≡ length b.kinds + 1 → map length (frame_at n.frames (length n.kinds)) ≡ map size ss
 process_sizes kind ss b n e l = added_sizes ss (record b { kinds = b.kinds ++ kind ∷ [] }) n e (l ∙ sym (length_push b.kinds kind))
+
+-- and the frames have one more
+pub process_shape : (kind : ℕ) (ss : List Slot) (b n : Begun) → n ≡ with_process kind ss b → shape n.frames ≡ shape b.frames ++ map size ss ∷ []
+process_shape kind ss b n e = added_shape ss (record b { kinds = b.kinds ++ kind ∷ [] }) n e
 
 -- the log leads back to what there was, and to a frame more
 pub past : (kind : ℕ) (ss : List Slot) (old mid new : Started) → shown mid ≡ with_process kind ss (shown old) → mid.store.written ≡ old.store.written → Keeps mid new →

@@ -1,10 +1,10 @@
 //! New processes of a run.
 
-ghost use Rattle.std.specs.Prelude.{◌≡◌, ◌+◌, ◌-◌, ◌<◌, ◌≤◌, ◌++◌, List, Ok, OnOk, OnErr, length, map, take};
+ghost use Rattle.std.specs.Prelude.{◌≡◌, ◌+◌, ◌-◌, ◌<◌, ◌≤◌, ◌++◌, ◌∷◌, [], List, Ok, OnOk, OnErr, length, map, take};
 ghost use Rattle.profile.specs.declared.TheConstants.{MOST_PROCESSES};
 ghost use Rattle.pml_store.specs.Store.{Frame, before, but_last, frame_at};
 ghost use Rattle.pml_cells.specs.Cells.{size};
-ghost use Rattle.pml_start.specs.Begin.{Begins, shown, held, with_value};
+ghost use Rattle.pml_start.specs.Begin.{Begins, shown, held, shape, with_value};
 ghost use Rattle.pml_start.specs.Created.{with_arguments, begun_with, with_process, created};
 ghost use Rattle.pml_start.specs.Known.{Keeps};
 
@@ -106,6 +106,8 @@ fn create_process(
     ensures value { Begins (created beginnings.now kind slots.now arguments.now (shown started.old)) result (shown started.new) }
     ensures kept { OnErr result (shown started.new ≡ shown started.old) }
     ensures past { OnOk result ((rest : List Frame) × (before started.new.store ≡ before started.old.store ++ rest)) }
+    ensures shape { OnOk result (shape started.new.store.frames ≡ shape started.old.store.frames ++ map size slots.now ∷ []) }
+    ensures kinds { OnOk result (started.new.kinds.items ≡ started.old.kinds.items ++ kind ∷ []) }
 {
     let channels = started.channels.len();
     if are_too_many(alloc, beginnings, slots, channels).map_err(|_| Stop::Memory)? {
@@ -136,6 +138,8 @@ pub fn create(
     ensures value { Begins (created beginnings.now kind slots.now arguments.now (held store.old channels.old.items kinds.old.items)) result (held store.new channels.new.items kinds.new.items) }
     ensures kept { OnErr result (held store.new channels.new.items kinds.new.items ≡ held store.old channels.old.items kinds.old.items) }
     ensures past { OnOk result ((rest : List Frame) × (before store.new ≡ before store.old ++ rest)) }
+    ensures shape { OnOk result (shape store.new.frames ≡ shape store.old.frames ++ map size slots.now ∷ []) }
+    ensures kinds { OnOk result (kinds.new.items ≡ kinds.old.items ++ kind ∷ []) }
 {
     let alloc = *channels.allocator();
     let mut started = Started {

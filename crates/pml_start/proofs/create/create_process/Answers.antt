@@ -1,7 +1,7 @@
-use Rattle.std.proofs.Common.{◌≡◌, length, rules}
-use Rattle.pml_start.specs.Begin.{shown}
+use Rattle.std.proofs.Common.{◌≡◌, ◌∙◌, ap, length, rules}
+use Rattle.pml_start.specs.Begin.{Begun, shown}
 use Rattle.pml_start.proofs.Shapes.{OnOk-always, OnErr-always}
-use Rattle.pml_start.proofs.Creating.{process_sizes, past, dropped}
+use Rattle.pml_start.proofs.Creating.{process_sizes, process_shape, past, dropped}
 use Rattle.pml_start.proofs.create.create_process.Goals as goal
 
 pub begin_youngest-begun-requires-clause-there : goal.begin_youngest-begun-requires-clause-there
@@ -20,3 +20,14 @@ returns-then-is_err-clause-kept c =
     OnErr-always c.begin_youngest-begun.result
     (dropped c.args.kind c.args.slots.now c.args.started.now c.add_process.new.started c.begin_youngest-begun.new.started _ _ _ c.in_ok-add_process.ensures.value
     c.begin_youngest-begun.ensures.keeps c.requires.next c.drop_youngest.ensures.frames (rw (← count) c.drop_youngest.ensures.channels) c.drop_youngest.ensures.kinds)
+
+pub returns-else-is_err-clause-shape : goal.returns-else-is_err-clause-shape
+returns-else-is_err-clause-shape c =
+    OnOk-always c.begin_youngest-begun.result
+    (c.begin_youngest-begun.ensures.keeps.shape
+    ∙ process_shape c.args.kind c.args.slots.now (shown c.args.started.now) (shown c.add_process.new.started) c.in_ok-add_process.ensures.value)
+
+pub returns-else-is_err-clause-kinds : goal.returns-else-is_err-clause-kinds
+returns-else-is_err-clause-kinds c =
+    OnOk-always c.begin_youngest-begun.result
+    (c.begin_youngest-begun.ensures.keeps.kinds ∙ ap (λ (x : Begun). x.kinds) c.in_ok-add_process.ensures.value)
