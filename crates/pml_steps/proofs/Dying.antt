@@ -1,0 +1,71 @@
+-- The youngest process dies.
+use Rattle.std.proofs.Common.{◌≡◌, ℕ, zero, suc, ◌+◌, ◌-◌, ◌<◌, ◌≤◌, Bool, not, nat_eq, List, [], ◌∷◌, length, map, take, refl, sym, ap, ◌∙◌, arith, Option, Some, None}
+use Rattle.std.specs.List.{filter, AllByRecursion}
+use Rattle.std.proofs.lemmas.List.{length-map, length-take}
+use Rattle.pml_program.specs.declared.program.Program.{Program}
+use Rattle.pml_store.specs.Store.{Contents, Frame, but_last}
+use Rattle.pml_value.specs.declared.live_channel.LiveChannel.{LiveChannel}
+use Rattle.pml_cells.specs.Cells.{size}
+use Rattle.pml_start.specs.Begin.{Begun, shape}
+use Rattle.pml_start.specs.Start.{IsDeclared, variables_at}
+use Rattle.pml_start.proofs.Declaring.{frames_of_kinds}
+use Rattle.pml_moves.specs.declared.scene.Seat.{Seat}
+use Rattle.pml_moves.specs.State.{Stand, State}
+use Rattle.pml_moves.specs.Scene.{stand_of}
+use Rattle.pml_steps.specs.Change.{without_youngest}
+use Rattle.pml_steps.specs.Live.{Live}
+use Rattle.pml_steps.specs.Held.{live_of}
+
+pub map-take : {A B : Type 0} (f : A → B) (n : ℕ) (xs : List A) → map f (take n xs) ≡ take n (map f xs)
+map-take f zero xs = refl
+map-take f (suc n) [] = refl
+map-take f (suc n) (x ∷ xs) = ap (λ (l : List _). f x ∷ l) (map-take f n xs)
+
+pub all-take : {A : Type 0} (P : A → Type 0) (n : ℕ) (xs : List A) → AllByRecursion P xs → AllByRecursion P (take n xs)
+all-take P zero xs h = tt
+all-take P (suc n) [] h = tt
+all-take P (suc n) (x ∷ xs) h = (h.0, all-take P n xs h.1)
+
+few-taken : {A : Type 0} (n m : ℕ) (xs : List A) → length xs ≤ m → length (take n xs) ≤ m
+few-taken zero m xs h = omega arith
+few-taken (suc n) m [] h = h
+few-taken (suc n) zero (x ∷ xs) h = absurd (omega (arith, h))
+few-taken (suc n) (suc m) (x ∷ xs) h = let l = few-taken n m xs (omega (arith, h)) in omega (arith, l)
+
+-- the variables of the others are declared
+pub declared_less : (p : Program) (fs : List Frame) (cs ds : List LiveChannel) (ks : List ℕ) (n : ℕ) → IsDeclared p (record { frames = fs; channels = cs; kinds = ks }) → length ks ≡ n + 1 →
+    IsDeclared p (record { frames = but_last fs; channels = ds; kinds = take n ks })
+declared_less p fs cs ds ks n h e =
+    let k : ℕ → List ℕ = λ k. map size (variables_at p k) in
+    let m = frames_of_kinds p (record { frames = fs; channels = cs; kinds = ks }) h in
+    let count : length fs - 1 ≡ suc n = omega (arith, m, e) in
+    record {
+      few = few-taken n 255 ks h.few;
+      kinds = all-take _ n ks h.kinds;
+      sizes =
+          ap (λ (i : ℕ). shape (take i fs)) count ∙ map-take (map length) (suc n) fs ∙ ap (take (suc n)) h.sizes
+          ∙ ap (λ (l : List (List ℕ)). map size p.globals ∷ l) (sym (map-take k n ks));
+    }
+
+-- a state by its parts
+pub died : (s : State) (xs : List Seat) (fs : List Frame) (cs : List LiveChannel) (n : ℕ) → s.stands ≡ map (stand_of s.program) xs → length xs ≡ n + 1 → length s.frames ≡ length xs + 1 →
+    fs ≡ but_last s.frames → cs ≡ filter (λ (o : LiveChannel). not (nat_eq o.frame (n + 1))) s.channels →
+    ◌≡◌ {A = State} (record { program = s.program; frames = fs; stands = map (stand_of s.program) (take n xs); channels = cs; holder = None }) (without_youngest s)
+died s xs fs cs n e l m f c =
+    let count : length s.stands ≡ n + 1 = ap length e ∙ length-map xs (stand_of s.program) ∙ l in
+    let less : length s.frames - 1 ≡ length s.stands = omega (arith, m, l, count) in
+    let one : n ≡ length s.stands - 1 = omega (arith, count) in
+    ap (λ (z : List Frame). record { program = s.program; frames = z; stands = map (stand_of s.program) (take n xs); channels = cs; holder = None }) (f ∙ ap (λ (i : ℕ). take i s.frames) less)
+    ∙ ap (λ (z : List Stand). record { program = s.program; frames = take (length s.stands) s.frames; stands = z; channels = cs; holder = None })
+    (map-take (stand_of s.program) n xs ∙ ap (take n) (sym e) ∙ ap (λ (i : ℕ). take i s.stands) one)
+    ∙ ap (λ (z : List LiveChannel). record { program = s.program; frames = take (length s.stands) s.frames; stands = take (length s.stands - 1) s.stands; channels = z; holder = None })
+    (c ∙ ap (λ (i : ℕ). filter (λ (o : LiveChannel). not (nat_eq o.frame i)) s.channels) (sym count))
+
+-- what lives, by its parts
+pub live_died : (p : Program) (store new : Contents) (cs ds : List LiveChannel) (xs ys : List Seat) (holder : Option ℕ) (n : ℕ) → length xs ≡ n + 1 → length store.frames ≡ length xs + 1 →
+    new ≡ record store { frames = but_last store.frames } → ds ≡ filter (λ (o : LiveChannel). not (nat_eq o.frame (n + 1))) cs → ys ≡ take n xs →
+    live_of p new ds ys None ≡ (let l : Live = live_of p store cs xs holder in record l { state = without_youngest l.state })
+live_died p store new cs ds xs ys holder n l m e c y =
+    let live : Live = live_of p store cs xs holder in
+    ap (λ (z : List Seat). live_of p new ds z None) y ∙ ap (λ (z : Contents). live_of p z ds (take n xs) None) e
+    ∙ ap (λ (s : State). record live { state = s }) (died live.state xs (but_last store.frames) ds n refl l m refl c)

@@ -1,0 +1,203 @@
+//! What lives in a run.
+
+ghost use Rattle.std.specs.Prelude.{◌≡◌, ◌<◌, [], Some, None, IfOk, IfSome, OnOk, if◌then◌else◌, nat_eq, not, length, map, slice_get};
+ghost use Rattle.std.specs.List.{filter};
+ghost use Rattle.pml_value.specs.declared.live_channel.LiveChannel.{LiveChannel};
+ghost use Rattle.std.specs.Option.{option_copied};
+ghost use Rattle.pml_flow.specs.Flow.{AreGraphs};
+ghost use Rattle.pml_start.specs.Begin.{shown};
+ghost use Rattle.pml_start.specs.Start.{IsDeclared};
+ghost use Rattle.pml_moves.specs.Scene.{control_at, stand_of, state_of, statements_of, Fits};
+ghost use Rattle.pml_steps.specs.Change.{go_to, without_youngest};
+ghost use Rattle.pml_steps.specs.Held.{kinds_of, begins_at, first_state};
+ghost use Rattle.pml_steps.specs.Outcome.{body_by};
+
+use pml_flow::edge::Edge;
+use pml_flow::graph::Graph;
+use pml_flow::statements::{Statements, all_statements};
+use pml_moves::scene::{Scene, Seat};
+use pml_program::program::{Proctype, Program};
+use pml_start::Beginnings;
+use pml_start::started::Started;
+use pml_store::store::Store;
+use pml_value::live_channel::LiveChannel;
+use std::alloc::{AllocError, Global};
+use std::marker::Model;
+
+/// A model that is played, with its graphs and tables; and what lives: variables, channels, processes, and which of them holds
+/// exclusive control.
+#[derive(Drop)]
+pub struct Live<'p, 'a> {
+    program: &'p Program<'a>,
+    graphs: &'p [Graph],
+    statements: Vec<Statements<'p, 'a>>,
+    beginnings: Beginnings<'p, 'a>,
+    store: Store,
+    channels: Vec<LiveChannel>,
+    kinds: Vec<usize>,
+    seats: Vec<Seat>,
+    holder: Option<usize>,
+}
+
+impl<'p, 'a> Model for Live<'p, 'a> {
+    ghost use Rattle.std.specs.Prelude.{[], map};
+    ghost use Rattle.std.specs.Coded.{codes};
+    ghost use mir.Syntax.{named};
+    ghost use Rattle.pml_program.specs.contracts.expr.Expr as worth;
+    ghost use Rattle.pml_program.specs.contracts.program.Seq as seq;
+    ghost use Rattle.pml_program.specs.contracts.program.Basic as basic;
+    ghost use Rattle.pml_steps.specs.Live.{Live};
+    ghost use Rattle.pml_steps.specs.Held.{IsHeld, live_of};
+
+    ghost Value = { Live };
+
+    ghost coded = { Prim.hlevel (codes, worth.the_row.coded, (seq.the_row (record { mir = named 0; lft = [] })).coded, (basic.the_row (record { mir = named 0; lft = [] })).coded) };
+
+    ghost view = { λ l. live_of l.program.now l.store l.channels.items l.seats.items l.holder };
+
+    ghost invariant = { λ l. IsHeld l.program.now l.graphs.now l.statements.items l.beginnings l.store l.channels.items l.kinds.items l.seats.items };
+}
+
+/// The statements of each proctype.
+fn statements_of_all<'p, 'a>(
+    alloc: Global,
+    proctypes: &'p [Proctype<'a>],
+) -> Result<Vec<Statements<'p, 'a>>, AllocError>
+    ensures { IfOk result (λ v. v.items ≡ map (λ q. statements_of q.body) proctypes.now) }
+{
+    let mut all = Vec::with_capacity(alloc, proctypes.len())?;
+    for proctype in proctypes {
+        all.push(all_statements(alloc, &proctype.body)?)?;
+    }
+    Ok(all)
+}
+
+fn graph_at(graphs: &[Graph], kind: usize) -> Option<&Graph>
+    ensures { option_copied result ≡ slice_get graphs.now kind }
+{
+    graphs.get(kind)
+}
+
+/// The first node of a proctype, by its number.
+fn start_of(graphs: &[Graph], kind: usize) -> usize
+    ensures { IfSome (slice_get graphs.now kind) (λ g. result ≡ g.start) }
+{
+    match graph_at(graphs, kind) {
+        Some(graph) => graph.start(),
+        None => 0,
+    }
+}
+
+/// Processes before their first statements.
+fn seats_of(
+    alloc: Global,
+    program: &Program<'_>,
+    graphs: &[Graph],
+    kinds: &[usize],
+) -> Result<Vec<Seat>, AllocError>
+    requires graphs { AreGraphs program.now.proctypes graphs.now }
+    ensures stands { IfOk result (λ v. map (stand_of program.now) v.items ≡ map (begins_at program.now) kinds.now) }
+    ensures kinds { IfOk result (λ v. kinds.now ≡ kinds_of v.items) }
+{
+    let mut seats = Vec::with_capacity(alloc, kinds.len())?;
+    for kind in kinds {
+        let node = start_of(graphs, *kind);
+        seats.push(Seat { kind: *kind, node })?;
+    }
+    Ok(seats)
+}
+
+/// The channels end that live with this frame.
+fn keep_others(channels: &mut Vec<LiveChannel>, frame: usize)
+    ensures { channels.new.items ≡ filter (λ (o : LiveChannel). not (nat_eq o.frame frame)) channels.old.items }
+{
+    channels.retain(|live| live.frame != frame);
+}
+
+impl<'p, 'a> Live<'p, 'a> {
+    /// The first state.
+    pub fn first(
+        alloc: Global,
+        program: &'p Program<'a>,
+        graphs: &'p [Graph],
+        started: Started,
+    ) -> Result<Live<'p, 'a>, AllocError>
+        requires declared { IsDeclared program.now (shown started) }
+        requires graphs { AreGraphs program.now.proctypes graphs.now }
+        requires fresh { started.store.written ≡ [] }
+        ensures { IfOk result (λ l. l ≡ record { state = first_state program.now (shown started); written = [] }) }
+    {
+        let Started {
+            store,
+            channels,
+            kinds,
+        } = started;
+        let seats = seats_of(alloc, program, graphs, kinds.as_slice())?;
+        let statements = statements_of_all(alloc, program.proctypes.as_slice())?;
+        let beginnings = Beginnings::new(alloc, program.typedefs.as_slice())?;
+        Ok(Live {
+            program,
+            graphs,
+            statements,
+            beginnings,
+            store,
+            channels,
+            kinds,
+            seats,
+            holder: None,
+        })
+    }
+
+    /// The state, as a search looks at it.
+    pub fn scene(&self) -> Scene<'_, 'p, 'a>
+        ensures state { state_of result ≡ self.now.state }
+        ensures fits { Fits result }
+    {
+        Scene {
+            program: self.program,
+            graphs: self.graphs,
+            statements: self.statements.as_slice(),
+            store: &self.store,
+            seats: self.seats.as_slice(),
+            channels: self.channels.as_slice(),
+            holder: self.holder,
+        }
+    }
+
+    /// Forgets what was written.
+    pub fn forget(&mut self)
+        ensures { self.new ≡ record self.old { written = [] } }
+    {
+        self.store.forget();
+    }
+
+    /// A process goes on to a node of its graph.
+    pub fn go_to(&mut self, process: usize, node: usize)
+        ensures { self.new ≡ record self.old { state = go_to self.old.state process (control_at (body_by self.old.state (slice_get self.old.state.stands process)) node) } }
+    {
+        if process < self.seats.len() {
+            self.seats[process].node = node;
+        }
+    }
+
+    /// A process goes where an edge leads, and holds exclusive control where the edge stays in one atomic; else nobody does.
+    pub fn follow(&mut self, process: usize, edge: Edge)
+        ensures { self.new ≡ record self.old { state = record (go_to self.old.state process (control_at (body_by self.old.state (slice_get self.old.state.stands process)) edge.target)) { holder = if edge.keeps then Some process else None } } }
+    {
+        self.go_to(process, edge.target);
+        self.holder = if edge.keeps { Some(process) } else { None };
+    }
+
+    /// The youngest process dies.
+    pub fn die(&mut self)
+        requires { 0 < length self.old.state.stands }
+        ensures { self.new ≡ record self.old { state = without_youngest self.old.state } }
+    {
+        let youngest = self.seats.len() - 1;
+        keep_others(&mut self.channels, youngest + 1);
+        self.store.pop_frame();
+        self.kinds.truncate(youngest);
+        self.seats.truncate(youngest);
+        self.holder = None;
+    }
+}
