@@ -2,3 +2,5 @@ pub mod Change
 pub mod Created
 pub mod Outcome
 pub mod Live
+pub mod Arguments
+pub mod Passing
