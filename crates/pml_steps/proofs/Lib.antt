@@ -1,3 +1,4 @@
 pub mod Beginning
 pub mod Going
 pub mod Dying
+pub mod Passing

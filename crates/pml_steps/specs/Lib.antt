@@ -3,3 +3,5 @@ pub mod Created
 pub mod Outcome
 pub mod Live
 pub mod Held
+pub mod Arguments
+pub mod Passing

@@ -1,4 +1,7 @@
-//! What moves lead to (Holzmann, *The SPIN Model Checker*, chapters 3 and 7).
+//! What moves lead to: the effect of a statement, new processes, pairs, d_steps and deaths (Holzmann, *The SPIN Model Checker*,
+//! chapters 3 and 7).
 #![tactic(auto)]
 
+pub mod arguments;
 pub mod live;
+pub mod pair;

@@ -1,0 +1,9 @@
+use Rattle.std.proofs.Common.{◌≡◌, ◌++◌, Ok, drop}
+use Rattle.pml_eval.specs.Value.{◌>>=◌}
+use Rattle.pml_value.specs.Messages.{values}
+use Rattle.pml_value.specs.Reads.{seen}
+use Rattle.pml_steps.proofs.arguments.values_of.Given as goal
+
+-- the values so far and those of the rest are those of all
+abbrev pub invariant-loop-one : goal.invariant-loop-one
+invariant-loop-one l = (values (drop l.one-index l.expressions) (seen l.view) >>= λ more. Ok (l.numbers.items ++ more)) ≡ values l.expressions (seen l.view)
