@@ -1,4 +1,5 @@
 pub mod Beginning
 pub mod Going
 pub mod Dying
+pub mod Holding
 pub mod Passing

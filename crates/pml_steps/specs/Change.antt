@@ -1,11 +1,14 @@
 -- What may change in a state.
-use Rattle.std.specs.Prelude.{ℕ, ◌-◌, Bool, not, nat_eq, if◌then◌else◌, length, take, List, [], ◌∷◌, Option, Some, None, slice_get, slice_set}
+use Rattle.std.specs.Prelude.{ℕ, ◌-◌, Bool, not, nat_eq, if◌then◌else◌, length, take, List, [], ◌∷◌, Option, Some, None, Result, Ok, slice_get, slice_set}
 use Rattle.std.specs.List.{filter}
 use Rattle.pml_control.specs.Control.{Control}
 use Rattle.pml_flow.specs.Flow.{Offer}
 use Rattle.pml_store.specs.Store.{with_number}
 use Rattle.pml_value.specs.declared.live_channel.LiveChannel.{LiveChannel}
 use Rattle.pml_value.specs.declared.statement.Goes.{Goes}
+use Rattle.diagnostics.specs.declared.fault.Fault.{Fault}
+use Rattle.pml_eval.specs.Value.{◌>>=◌}
+use Rattle.pml_value.specs.Messages.{Received}
 use Rattle.pml_moves.specs.State.{Stand, State}
 
 -- a number is stored
@@ -16,10 +19,24 @@ abbrev pub put_if : State → Option Goes → State
 put_if s None = s
 put_if s (Some g) = put s g
 
+abbrev pub put_by : State → Result (Option Goes) Fault → Result State Fault
+put_by s r = r >>= λ g. Ok (put_if s g)
+
 -- numbers are stored from left to right
 abbrev pub put_all : State → List Goes → State
 put_all s [] = s
 put_all s (g ∷ gs) = put_all (put s g) gs
+
+abbrev pub put_any : State → Result (List Goes) Fault → Result State Fault
+put_any s r = r >>= λ gs. Ok (put_all s gs)
+
+-- the channels hold other messages
+abbrev pub with_sent : State → Result (List LiveChannel) Fault → Result State Fault
+with_sent s r = r >>= λ cs. Ok (record s { channels = cs })
+
+-- what was received is stored
+abbrev pub with_received : State → Result Received Fault → Result State Fault
+with_received s r = r >>= λ x. Ok (record (put_all s x.numbers) { channels = x.live })
 
 abbrev pub moved_to : Control → Option Stand → ℕ → List Stand → List Stand
 moved_to next None p ys = ys

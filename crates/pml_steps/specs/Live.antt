@@ -18,13 +18,30 @@ pub record Live : Type 0 where
 abbrev pub past : Live → List Frame
 past l = before (record { frames = l.state.frames; written = l.written })
 
--- Processes are added at most, behind the others, and the log leads back to what it led back to, and what is new.
-pub record Grows (old new : Live) : Type 0 where
+-- no process comes, goes or moves, and the log leads back to what it led back to
+pub record Keeps (old new : Live) : Type 0 where
   pub program : new.state.program ≡ old.state.program
+  pub stands : new.state.stands ≡ old.state.stands
+  pub past : past new ≡ past old
+
+-- processes are added at most, behind the others
+pub record Joins (old new : State) : Type 0 where
+  pub program : new.program ≡ old.program
   pub more : List Stand
-  pub stands : new.state.stands ≡ old.state.stands ++ more
-  pub rest : List Frame
-  pub past : past new ≡ past old ++ rest
+  pub stands : new.stands ≡ old.stands ++ more
+
+-- the log leads back to what it led back to, and to what is new
+abbrev pub PastGrows : Live → Live → Type 0
+PastGrows old new = (rest : List Frame) × (past new ≡ past old ++ rest)
+
+-- it leads to this state; or its fault is answered, or memory is refused
+abbrev pub Leads : Result State Fault → Result (Unit {0}) Stop → State → Type 0
+Leads (Ok s) (Ok u) new = new ≡ s
+Leads (Ok s) (Err stop.Memory) new = Unit {0}
+Leads (Ok s) (Err (stop.Fault f)) new = ⊥
+Leads (Err f) (Err (stop.Fault g)) new = g ≡ f
+Leads (Err f) (Err stop.Memory) new = Unit {0}
+Leads (Err f) (Ok u) new = ⊥
 
 -- it is done, and what it prints is appended; or its fault is answered, or memory is refused
 abbrev pub Does : Result Done Fault → Result (Unit {0}) Stop → State → List ℕ → List ℕ → Type 0

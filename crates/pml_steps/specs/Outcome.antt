@@ -2,6 +2,8 @@
 use Rattle.std.specs.Prelude.{ℕ, zero, suc, Bool, true, false, length, List, [], ◌∷◌, ◌++◌, ℤ, Option, Some, None, Result, Ok, Err, slice_get}
 use Rattle.diagnostics.specs.declared.fault.Fault.{Fault}
 use Rattle.diagnostics.specs.declared.fault.Fault.TheVariants.{DStepBlocks, DStepTooLong}
+use Rattle.pml_program.specs.declared.expr.Target.{Target}
+use Rattle.pml_program.specs.declared.program.Run.{Run}
 use Rattle.pml_program.specs.declared.program.Action.{Action}
 use Rattle.pml_program.specs.declared.program.Action.TheVariants as a
 use Rattle.pml_program.specs.declared.program.Basic.{Basic, Plain, DStep}
@@ -11,7 +13,7 @@ use Rattle.pml_flow.specs.Flow.{Offer}
 use Rattle.pml_eval.specs.Value.{Reading, val, asked_by, ◌>>=◌}
 use Rattle.pml_value.specs.declared.statement.Goes.{Goes}
 use Rattle.pml_value.specs.Statement.{outcome, goes_to}
-use Rattle.pml_value.specs.Messages.{sent, received, Received, stores, values, asserted}
+use Rattle.pml_value.specs.Messages.{sent, received, stores, values, asserted}
 use Rattle.pml_lines.specs.Places.{named}
 use Rattle.pml_printed.specs.Printed.{printed}
 use Rattle.pml_moves.specs.declared.moves.Pick.{Pick}
@@ -20,7 +22,7 @@ use Rattle.pml_moves.specs.declared.moves.Move.TheVariants.{Death, Alone, Pair}
 use Rattle.pml_moves.specs.State.{Stand, State, reads, body_of, levels}
 use Rattle.pml_moves.specs.Search.{Message, message, choices}
 use Rattle.pml_moves.specs.Picked.{picked}
-use Rattle.pml_steps.specs.Change.{put_if, put_all, go_to, went, without_youngest}
+use Rattle.pml_steps.specs.Change.{put_by, put_all, with_sent, with_received, go_to, went, without_youngest}
 use Rattle.pml_steps.specs.Created.{ran, run_number}
 
 -- a state, and the bytes that were printed on the way
@@ -38,21 +40,23 @@ prints s bytes = Ok (record { state = s; printed = bytes })
 
 -- ---- what a statement does by itself, under this `timeout`
 
+-- the process first, then the place of its number
+abbrev pub run_into : State → ℕ → Bool → Option Target → Run → Result State Fault
+run_into s p t x q = ran s (reads s p t) q >>= λ now. put_by now (goes_to x (run_number s) (reads now p t))
+
 abbrev pub does : State → ℕ → Bool → Action → Result Done Fault
 does s p t (a.Run q) = ran s (reads s p t) q >>= quiet
-does s p t (a.AssignRun x q) =
-    ran s (reads s p t) q >>= λ now. goes_to x (run_number s) (reads now p t) >>= λ g. quiet (put_if now g)
-does s p t (a.Send q order es) = sent s.channels (reads s p t) q order es >>= λ cs. quiet (record s { channels = cs })
-does s p t (a.Receive q search how ws) =
-    received s.channels (reads s p t) q search how ws >>= λ x. quiet (record (put_all s x.numbers) { channels = x.live })
+does s p t (a.AssignRun x q) = run_into s p t x q >>= quiet
+does s p t (a.Send q order es) = with_sent s (sent s.channels (reads s p t) q order es) >>= quiet
+does s p t (a.Receive q search how ws) = with_received s (received s.channels (reads s p t) q search how ws) >>= quiet
 does s p t (a.Printf text es) = values es (reads s p t) >>= λ vs. prints s (printed s.program.constants text.text vs)
 does s p t (a.Printm e) = val e (reads s p t) >>= λ v. prints s (named s.program.constants v)
 does s p t (a.Assert e) = asserted e (reads s p t) >>= λ u. quiet s
 does s p t a.Else = quiet s
-does s p t (a.Assign x e) = outcome (a.Assign x e) (reads s p t) >>= λ g. quiet (put_if s g)
-does s p t (a.Increment x) = outcome (a.Increment x) (reads s p t) >>= λ g. quiet (put_if s g)
-does s p t (a.Decrement x) = outcome (a.Decrement x) (reads s p t) >>= λ g. quiet (put_if s g)
-does s p t (a.Holds e) = outcome (a.Holds e) (reads s p t) >>= λ g. quiet (put_if s g)
+does s p t (a.Assign x e) = put_by s (outcome (a.Assign x e) (reads s p t)) >>= quiet
+does s p t (a.Increment x) = put_by s (outcome (a.Increment x) (reads s p t)) >>= quiet
+does s p t (a.Decrement x) = put_by s (outcome (a.Decrement x) (reads s p t)) >>= quiet
+does s p t (a.Holds e) = put_by s (outcome (a.Holds e) (reads s p t)) >>= quiet
 
 -- a goto, a break and what gives structure do nothing by themselves
 abbrev pub effect : State → ℕ → Bool → Option Basic → Result Done Fault

@@ -1,6 +1,6 @@
 //! What lives in a run.
 
-ghost use Rattle.std.specs.Prelude.{◌≡◌, ◌<◌, [], Some, None, IfOk, IfSome, OnOk, if◌then◌else◌, nat_eq, not, length, map, slice_get};
+ghost use Rattle.std.specs.Prelude.{◌≡◌, ◌<◌, List, [], Some, None, IfOk, IfSome, OnOk, if◌then◌else◌, nat_eq, not, length, map, slice_get};
 ghost use Rattle.std.specs.List.{filter};
 ghost use Rattle.pml_value.specs.declared.live_channel.LiveChannel.{LiveChannel};
 ghost use Rattle.std.specs.Option.{option_copied};
@@ -8,19 +8,33 @@ ghost use Rattle.pml_flow.specs.Flow.{AreGraphs};
 ghost use Rattle.pml_start.specs.Begin.{shown};
 ghost use Rattle.pml_start.specs.Start.{IsDeclared};
 ghost use Rattle.pml_moves.specs.Scene.{control_at, stand_of, state_of, statements_of, Fits};
-ghost use Rattle.pml_steps.specs.Change.{go_to, without_youngest};
+ghost use Rattle.pml_store.specs.Store.{Frame};
+ghost use Rattle.pml_value.specs.Messages.{sent, received};
+ghost use Rattle.pml_value.specs.Reads.{reading_of, seen};
+ghost use Rattle.pml_value.specs.Statement.{outcome};
+ghost use Rattle.pml_moves.specs.Search.{message};
+ghost use Rattle.pml_moves.specs.State.{reads};
+ghost use Rattle.pml_steps.specs.Change.{put_by, put_any, with_sent, with_received, go_to, without_youngest};
 ghost use Rattle.pml_steps.specs.Held.{kinds_of, begins_at, first_state};
-ghost use Rattle.pml_steps.specs.Outcome.{body_by};
+ghost use Rattle.pml_steps.specs.Live.{Leads, Keeps};
+ghost use Rattle.pml_steps.specs.Outcome.{body_by, passed};
 
+use crate::pair::pass;
+use diagnostics::Stop;
 use pml_flow::edge::Edge;
 use pml_flow::graph::Graph;
 use pml_flow::statements::{Statements, all_statements};
-use pml_moves::scene::{Scene, Seat};
-use pml_program::program::{Proctype, Program};
+use pml_moves::scene::{Scene, Seat, view};
+use pml_program::expr::{Expr, Target, Want};
+use pml_program::program::{Action, Basic, Proctype, Program};
 use pml_start::Beginnings;
 use pml_start::started::Started;
 use pml_store::store::Store;
+use pml_tree::tree::{Removal, Search, SendOrder};
 use pml_value::live_channel::LiveChannel;
+use pml_value::message::{Taker, receive, send};
+use pml_value::statement::take;
+use pml_value::view::View;
 use std::alloc::{AllocError, Global};
 use std::marker::Model;
 
@@ -199,5 +213,125 @@ impl<'p, 'a> Live<'p, 'a> {
         self.kinds.truncate(youngest);
         self.seats.truncate(youngest);
         self.holder = None;
+    }
+}
+
+impl<'p, 'a> Live<'p, 'a> {
+    /// What an expression of a process reads.
+    pub fn view(&self, process: usize, timeout: bool) -> View<'_>
+        requires { process < length self.now.state.stands }
+        ensures reads { seen result ≡ reads self.now.state process timeout }
+        ensures channels { result.channels.now ≡ self.now.state.channels }
+    {
+        view(&self.scene(), process, timeout)
+    }
+
+    /// A process that takes a statement.
+    fn taker(&self, process: usize, timeout: bool) -> Taker
+        requires { process < length self.now.state.stands }
+        ensures { (fs : List Frame) (cs : List LiveChannel) → reading_of fs cs result.pid result.process_count result.timeout ≡ reading_of fs cs process (length self.now.state.stands) timeout }
+    {
+        let process_count = self.seats.len() as u8;
+        Taker {
+            pid: process as u8,
+            process_count,
+            timeout,
+        }
+    }
+
+    /// Takes an assignment, an increment, a decrement or a condition of a process.
+    pub fn store(&mut self, process: usize, timeout: bool, action: &Action<'_>) -> Result<(), Stop>
+        requires { process < length self.old.state.stands }
+        ensures value { Leads (put_by self.old.state (outcome action.now (reads self.old.state process timeout))) result self.new.state }
+        ensures keeps { Keeps self.old self.new }
+    {
+        let Taker {
+            pid,
+            process_count,
+            timeout,
+        } = self.taker(process, timeout);
+        let channels = self.channels.as_slice();
+        take(
+            &mut self.store,
+            channels,
+            pid,
+            process_count,
+            timeout,
+            action,
+        )
+    }
+
+    /// A process sends a message by itself.
+    pub fn send(
+        &mut self,
+        process: usize,
+        timeout: bool,
+        target: &Target,
+        order: SendOrder,
+        fields: &[Expr],
+    ) -> Result<(), Stop>
+        requires { process < length self.old.state.stands }
+        ensures value { Leads (with_sent self.old.state (sent self.old.state.channels (reads self.old.state process timeout) target.now order fields.now)) result self.new.state }
+        ensures keeps { Keeps self.old self.new }
+    {
+        let taker = self.taker(process, timeout);
+        let channels = self.channels.as_mut_slice();
+        send(&self.store, channels, taker, target, order, fields)
+    }
+
+    /// A process receives a message by itself.
+    pub fn receive(
+        &mut self,
+        process: usize,
+        timeout: bool,
+        target: &Target,
+        search: Search,
+        removal: Removal,
+        wants: &[Want],
+    ) -> Result<(), Stop>
+        requires { process < length self.old.state.stands }
+        ensures value { Leads (with_received self.old.state (received self.old.state.channels (reads self.old.state process timeout) target.now search removal wants.now)) result self.new.state }
+        ensures keeps { Keeps self.old self.new }
+    {
+        let taker = self.taker(process, timeout);
+        let channels = self.channels.as_mut_slice();
+        receive(
+            &mut self.store,
+            channels,
+            taker,
+            target,
+            search,
+            removal,
+            wants,
+        )
+    }
+
+    /// A process stores what another one sends it.
+    pub fn pass(
+        &mut self,
+        sender: usize,
+        sent: Option<&Basic<'_>>,
+        receiver: usize,
+        received: Option<&Basic<'_>>,
+        timeout: bool,
+    ) -> Result<(), Stop>
+        requires sends { sender < length self.old.state.stands }
+        requires receives { receiver < length self.old.state.stands }
+        ensures value { Leads (put_any self.old.state (passed (reads self.old.state receiver timeout) (message self.old.state.channels (reads self.old.state sender timeout) (option_copied sent.entry)) (option_copied received.entry))) result self.new.state }
+        ensures keeps { Keeps self.old self.new }
+    {
+        let sender = self.taker(sender, timeout);
+        let receiver = self.taker(receiver, timeout);
+        let alloc = *self.channels.allocator();
+        let channels = self.channels.as_slice();
+        pass(
+            alloc,
+            &mut self.store,
+            channels,
+            sender,
+            sent,
+            receiver,
+            received,
+        )
     }
 }

@@ -1,0 +1,17 @@
+use Rattle.std.proofs.Common.{rules, ◌≡◌, length}
+use Rattle.pml_steps.proofs.Holding.{held_still, received_shape, received_lives}
+use Rattle.pml_steps.proofs.live.Live.receive.Goals as goal
+
+pub invariant_of-self : goal.invariant_of-self
+invariant_of-self c =
+    held_still c.self.inside.program.now c.self.inside.graphs.now c.self.inside.statements.items c.self.inside.beginnings c.self.inside.store c.receive.new.store c.self.inside.channels.items _
+    c.self.inside.kinds.items c.self.inside.seats.items c.self.invariant (received_shape _ c.receive.result c.self.inside.store c.receive.new.store _ _ c.receive.ensures.value)
+
+pub returns-clause-value : goal.returns-clause-value
+returns-clause-value c =
+    let same : c.as_mut_slice-channels.result.now ≡ c.self.inside.channels.items = search rules in
+    let count : c.self.inside.channels.len ≡ length c.self.inside.channels.items = search rules in
+    let reads = rw (← c.self.view_is) at c.taker-taker.ensures in
+    rw (← c.self.view_is)
+    (received_lives c.self.inside.program.now c.self.inside.store c.self.inside.channels.items c.self.inside.seats.items c.self.inside.holder c.args.process c.args.timeout _ _ _
+    c.self.inside.channels.len c.as_mut_slice-channels.result.now _ c.receive.new.store c.args.target.now c.args.search c.args.removal c.args.wants.now c.receive.result count same reads c.receive.ensures.value)

@@ -1,0 +1,16 @@
+use Rattle.std.proofs.Common.{rules, ◌≡◌}
+use Rattle.pml_steps.proofs.Holding.{held_still, taken_shape, taken_leads}
+use Rattle.pml_steps.proofs.live.Live.store.Goals as goal
+
+pub invariant_of-self : goal.invariant_of-self
+invariant_of-self c =
+    held_still c.self.inside.program.now c.self.inside.graphs.now c.self.inside.statements.items c.self.inside.beginnings c.self.inside.store c.take.new.store c.self.inside.channels.items c.self.inside.channels.items
+    c.self.inside.kinds.items c.self.inside.seats.items c.self.invariant (taken_shape _ c.take.result c.self.inside.store c.take.new.store c.take.ensures.value)
+
+pub returns-clause-value : goal.returns-clause-value
+returns-clause-value c =
+    let reads = rw (← c.self.view_is) at (c.taker-pid.ensures c.self.inside.store.frames c.self.inside.channels.items) in
+    let same : c.as_slice-channels.result.now ≡ c.self.inside.channels.items = search rules in
+    let does = rw (same, reads) at c.take.ensures.value in
+    rw (← c.self.view_is)
+    (taken_leads c.self.inside.program.now c.self.inside.channels.items c.self.inside.channels.items c.self.inside.seats.items c.self.inside.holder c.self.inside.store c.take.new.store _ c.take.result does)
