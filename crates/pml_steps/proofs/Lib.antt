@@ -2,4 +2,5 @@ pub mod Beginning
 pub mod Going
 pub mod Dying
 pub mod Holding
+pub mod Creating
 pub mod Passing
