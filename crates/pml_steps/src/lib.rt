@@ -3,5 +3,6 @@
 #![tactic(auto)]
 
 pub mod arguments;
+pub mod effect;
 pub mod live;
 pub mod pair;

@@ -1,6 +1,6 @@
 //! What lives in a run.
 
-ghost use Rattle.std.specs.Prelude.{◌≡◌, ◌<◌, List, [], Some, None, Ok, IfOk, IfSome, OnOk, if◌then◌else◌, nat_eq, not, length, map, slice_get};
+ghost use Rattle.std.specs.Prelude.{◌≡◌, ◌<◌, ◌≤◌, List, [], Some, None, Ok, IfOk, IfSome, OnOk, if◌then◌else◌, nat_eq, not, length, map, slice_get};
 ghost use Rattle.std.specs.List.{filter};
 ghost use Rattle.pml_value.specs.declared.live_channel.LiveChannel.{LiveChannel};
 ghost use Rattle.std.specs.Option.{option_copied};
@@ -227,6 +227,21 @@ impl<'p, 'a> Live<'p, 'a> {
 }
 
 impl<'p, 'a> Live<'p, 'a> {
+    /// The model.
+    pub fn program(&self) -> &'p Program<'a>
+        ensures { result.now ≡ self.now.state.program }
+    {
+        self.program
+    }
+
+    /// How many processes live.
+    pub fn process_count(&self) -> usize
+        ensures value { result ≡ length self.now.state.stands }
+        ensures few { result ≤ MOST_PROCESSES }
+    {
+        self.seats.len()
+    }
+
     /// What an expression of a process reads.
     pub fn view(&self, process: usize, timeout: bool) -> View<'_>
         requires { process < length self.now.state.stands }
