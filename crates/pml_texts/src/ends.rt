@@ -5,13 +5,12 @@ ghost use Rattle.std.specs.Io.{StartsWith};
 ghost use Rattle.std.specs.Option.{option_copied};
 ghost use Rattle.pml_flow.specs.Points.{point_at};
 ghost use Rattle.pml_flow.specs.Marks.{line_at};
-ghost use Rattle.pml_flow.specs.Flow.{IsGraph};
 ghost use Rattle.pml_moves.specs.Scene.{state_of, stand_of, Fits};
 ghost use Rattle.pml_texts.specs.Ends.{may_end as may_end_at, is_done as done_at, is_valid as ends_well};
 ghost use Rattle.pml_texts.specs.Texts.{stuck_line, stuck_at, stuck_by, stuck};
 ghost use Rattle.pml_texts.specs.Charts.{HasGraph};
 
-use crate::texts::{add_heading, add_line, proctype_at};
+use crate::place::{add_heading, add_line, proctype_at};
 use pml_flow::graph::Graph;
 use pml_moves::scene::{Scene, Seat};
 use pml_program::program::Proctype;

@@ -3,4 +3,5 @@
 
 pub mod ends;
 pub mod laws;
+mod place;
 pub mod texts;
