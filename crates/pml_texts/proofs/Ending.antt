@@ -176,9 +176,9 @@ agree P false true h k = absurd (h k)
 agree P false false h k = refl
 
 -- what a graph says of its nodes
-pub end_is : (b : Seq) (brace : ℕ) (g : Graph) (n : ℕ) → IsGraph b brace g → n < length g.nodes → is_end_at g.ends n ≡ may_end b (point_at b n)
-end_is b brace g n h l =
+pub end_is : (b : Seq) (brace : ℕ) (g : Graph) (n : ℕ) (says : Bool) → IsGraph b brace g → n < length g.nodes → says ≡ is_end_at g.ends n → says ≡ may_end b (point_at b n)
+end_is b brace g n says h l k =
     let x = got (points_of b) n (omega (arith, l, h.nodes)) in
     let e : point_at b n ≡ x.0 = read (points_of b) n x.0 [] x.1 in
-    agree (IsValidEnd b x.0) (is_end_at g.ends n) (may_end b x.0) (h.ends n x.0 x.1) (decides b x.0 (placed b n x.0 x.1))
+    k ∙ agree (IsValidEnd b x.0) (is_end_at g.ends n) (may_end b x.0) (h.ends n x.0 x.1) (decides b x.0 (placed b n x.0 x.1))
     ∙ ap (may_end b) (sym e)

@@ -58,6 +58,7 @@ fn add_stuck_line(
 
 impl<'w, 'p, 'a> Chart<'w, 'p, 'a> {
     /// Whether a process may end at a node; nothing is left where there is none.
+    #[tactic(auto, using(crate::proofs::Ending::end_is))]
     fn may_end(&self, node: usize) -> bool
         requires { HasGraph self.now }
         ensures { result ≡ may_end_at self.now.proctype.now.body (point_at self.now.proctype.now.body node) }
