@@ -60,6 +60,7 @@ fn add_pick(scene: &Scene<'_, '_, '_>, pick: Pick, text: &mut Vec<u8>) -> Result
 }
 
 /// Appends the text of a move.
+#[tactic(auto, using(crate::proofs::Keeping::kept_behind))]
 pub fn add_move(scene: &Scene<'_, '_, '_>, m: Move, text: &mut Vec<u8>) -> Result<(), AllocError>
     requires { Fits scene.now }
     ensures added { OnOk result (text.new.items ≡ text.old.items ++ move_text (state_of scene.now) m) }
