@@ -1,0 +1,184 @@
+-- A process may end exactly at a valid end point.
+use Rattle.std.proofs.Common.{◌≡◌, ◌≢◌, ◌⊎◌, inl, inr, MatchBool, ℕ, zero, suc, ◌<◌, Bool, true, false, ◌&&◌, ◌||◌, List, [], ◌∷◌, length, Option, Some, None, refl, sym, ap, ◌∙◌, arith, eqb}
+use Rattle.std.specs.Prelude.{slice_get}
+use Rattle.std.specs.List.{list_any}
+use Rattle.std.proofs.lemmas.Bool.Decides.{eqb_tells}
+use Rattle.pml_program.specs.declared.program.Stmt.{Stmt}
+use Rattle.pml_program.specs.declared.program.Seq.{Seq}
+use Rattle.pml_program.specs.declared.program.Basic.{Basic}
+use Rattle.pml_control.specs.Control.{Turn, Place, Todo, Back, Under, InAtomic, InDStep, Control, steps, basic_of, basic_at, sequence, at, settle}
+use Rattle.pml_control.specs.Told.{told_of}
+use Rattle.pml_control.proofs.Places as places
+use Rattle.pml_control.proofs.Reaching.{IsAt, all_at-get, at_part, zero_plus}
+use Rattle.pml_control.proofs.Telling.{Holds}
+use Rattle.pml_control.proofs.Covering.{covered_at}
+use Rattle.pml_control.proofs.Circling.{got}
+use Rattle.pml_flow.specs.Points.{points_of, point_at}
+use Rattle.pml_flow.specs.Statements.{statement_at, stated}
+use Rattle.pml_flow.specs.Marks.{has_end, IsValidEnd, at_end, by_label}
+use Rattle.pml_flow.specs.Flow.{same_turns, same_place, Placed, IsGraph, Graph, is_end_at}
+use Rattle.pml_flow.proofs.Begun.{begun}
+use Rattle.pml_flow.proofs.Beginning.{read}
+use Rattle.pml_flow.proofs.Differing.{placed}
+use Rattle.pml_texts.specs.Ends.{standing, is_end, may_end}
+use Rattle.pml_texts.proofs.Settled.{settled_at}
+
+-- ---- places that are equal
+
+both : (s t : Bool) → (s && t) ≡ true → (s ≡ true) × (t ≡ true)
+both true t h = (refl, h)
+both false t h = cc
+
+number_is : (m n : ℕ) → eqb m n ≡ true → m ≡ n
+number_is m n h = by_case (eqb_tells m n)
+  where
+    by_case : ((eqb m n ≡ true) × (m ≡ n)) ⊎ ((eqb m n ≡ false) × (m ≢ n)) → m ≡ n
+    by_case (inl e) = e.1
+    by_case (inr e) = let z : true ≡ false = sym h ∙ e.0 in cc
+
+number_same : (n : ℕ) → eqb n n ≡ true
+number_same n = by_case (eqb_tells n n)
+  where
+    by_case : ((eqb n n ≡ true) × (n ≡ n)) ⊎ ((eqb n n ≡ false) × (n ≢ n)) → eqb n n ≡ true
+    by_case (inl e) = e.0
+    by_case (inr e) = absurd (e.1 refl)
+
+turns_are : (q r : List Turn) → same_turns q r ≡ true → q ≡ r
+turns_are [] [] h = refl
+turns_are (t ∷ q) (u ∷ r) h =
+    let a = both (eqb t.0 u.0) (eqb t.1 u.1 && same_turns q r) h in
+    let c = both (eqb t.1 u.1) (same_turns q r) a.1 in
+    ap (λ (n : ℕ). (n, t.1) ∷ q) (number_is t.0 u.0 a.0) ∙ ap (λ (n : ℕ). (u.0, n) ∷ q) (number_is t.1 u.1 c.0)
+    ∙ ap (λ (s : List Turn). u ∷ s) (turns_are q r c.1)
+turns_are [] (u ∷ r) h = cc
+turns_are (t ∷ q) [] h = cc
+
+turns_same : (q : List Turn) → same_turns q q ≡ true
+turns_same [] = refl
+turns_same (t ∷ q) =
+    ap (λ x. x && (eqb t.1 t.1 && same_turns q q)) (number_same t.0) ∙ ap (λ x. x && same_turns q q) (number_same t.1) ∙ turns_same q
+
+place_is : (p r : Place) → same_place (Some p) (Some r) ≡ true → p ≡ r
+place_is p r h =
+    let a = both (eqb p.1 r.1) (same_turns p.0 r.0) h in
+    ap (λ (n : ℕ). (p.0, n)) (number_is p.1 r.1 a.0) ∙ ap (λ (q : List Turn). (q, r.1)) (turns_are p.0 r.0 a.1)
+
+place_same : (p : Place) → same_place (Some p) (Some p) ≡ true
+place_same p = ap (λ x. x && same_turns p.0 p.0) (number_same p.1) ∙ turns_same p.0
+
+-- ---- one of a list
+
+record Passes (f : Control → Bool) (xs : List Control) : Type 0 where
+  index : ℕ
+  item : Control
+  there : slice_get xs index ≡ Some item
+  does : f item ≡ true
+
+passes : (f : Control → Bool) (xs : List Control) → list_any f xs ≡ true → Passes f xs
+passes f [] h = cc
+passes f (x ∷ xs) h = by_case (f x) refl (passes f xs) h
+  where
+    by_case : (t : Bool) → f x ≡ t → (list_any f xs ≡ true → Passes f xs) → (t || list_any f xs) ≡ true → Passes f (x ∷ xs)
+    by_case true e rest h = record { index = 0; item = x; there = refl; does = e }
+    by_case false e rest h = let r = rest h in record { index = suc r.index; item = r.item; there = r.there; does = r.does }
+
+passed : (f : Control → Bool) (xs : List Control) (k : ℕ) (x : Control) → slice_get xs k ≡ Some x → f x ≡ true → list_any f xs ≡ true
+passed f [] k x h e = cc
+passed f (y ∷ xs) zero x h e = let z : y ≡ x = cc in ap (λ t. t || list_any f xs) (ap f z ∙ e)
+passed f (y ∷ xs) (suc k) x h e = by_case (f y) (passed f xs k x h e)
+  where
+    by_case : (t : Bool) → list_any f xs ≡ true → (t || list_any f xs) ≡ true
+    by_case true g = refl
+    by_case false g = g
+
+-- ---- the points of a body
+
+module _ (b : Seq) where
+  -- c is what is to do at the place of what stands first
+  record Stands (c : Control) : Type 0 where
+    place : Place
+    first : standing c ≡ Some place
+    is : at (steps b) place ≡ c
+
+  stands_by : (c : Control) (h : Placed b c) → (c ≡ [] → ⊥) → (o : Option Basic) → basic_at (sequence (steps b) h.place.0) h.place.1 ≡ o → Stands c
+  stands_by c h l None e = absurd (l (sym h.is ∙ h.point.stands e))
+  stands_by c h l (Some x) e = record {
+    place = h.place;
+    first = ap standing (sym h.is ∙ places.stands (steps b) h.place.0 h.place.1 x e);
+    is = h.is;
+  }
+
+  stands : (c : Control) → Placed b c → (c ≡ [] → ⊥) → Stands c
+  stands c h l = stands_by c h l (basic_at (sequence (steps b) h.place.0) h.place.1) refl
+
+  told_at : (k : ℕ) (c : Control) → slice_get (told_of b) k ≡ Some c → IsAt (steps b) c
+  told_at k c h = all_at-get (steps b) (told_of b) k c (at_part (steps b) [] [] b refl refl) h
+
+  whole : Holds b (told_of b) 0 (told_of b)
+  whole k x e = ap (slice_get (told_of b)) (zero_plus k) ∙ e
+
+  -- where the same stands first, the same is to do
+  same : (c d : Control) (p : Place) → at (steps b) p ≡ c → IsAt (steps b) d → same_place (standing d) (Some p) ≡ true → d ≡ c
+  same c [] p e i h = cc
+  same c (Todo q x ∷ d) p e i h = sym (begun (steps b) q x d i) ∙ ap (at (steps b)) (place_is q p h) ∙ e
+  same c (Back q x ∷ d) p e i h = cc
+  same c (Under q x ∷ d) p e i h = cc
+  same c (InAtomic q ∷ d) p e i h = cc
+  same c (InDStep q ∷ d) p e i h = cc
+
+  labelled : (x c : Control) → has_end (stated b x) ≡ true → IsAt (steps b) x → settle b x ≡ c → IsValidEnd b c
+  labelled [] c h i e = cc
+  labelled (Todo p s ∷ d) c h i e = by_label p h (ap (settle b) (begun (steps b) p s d i) ∙ e)
+  labelled (Back p s ∷ d) c h i e = cc
+  labelled (Under p s ∷ d) c h i e = cc
+  labelled (InAtomic p ∷ d) c h i e = cc
+  labelled (InDStep p ∷ d) c h i e = cc
+
+  sound : (c : Control) → Stands c → list_any (is_end b c) (told_of b) ≡ true → IsValidEnd b c
+  sound c s h =
+      let r = passes (is_end b c) (told_of b) h in
+      let a = both (has_end (stated b r.item)) (same_place (standing (settle b r.item)) (standing c)) r.does in
+      let i = told_at r.index r.item r.there in
+      let e : same_place (standing (settle b r.item)) (Some s.place) ≡ true = ap (same_place (standing (settle b r.item))) (sym s.first) ∙ a.1 in
+      labelled r.item c a.0 i (same c (settle b r.item) s.place s.is (settled_at b r.item i) e)
+
+  complete : (c : Control) → Stands c → (c ≡ [] → ⊥) → IsValidEnd b c → list_any (is_end b c) (told_of b) ≡ true
+  complete c s l (at_end e) = absurd (l e)
+  complete c s l (by_label p f e) = by_statement (statement_at b p) refl f
+    where
+      by_statement : (o : Option Stmt) → statement_at b p ≡ o → has_end o ≡ true → list_any (is_end b c) (told_of b) ≡ true
+      by_statement None g f = cc
+      by_statement (Some x) g f =
+          let a : basic_at (sequence (steps b) p.0) p.1 ≡ Some x.basic = ap basic_of g in
+          let k = covered_at b (told_of b) whole p x.basic a in
+          let w : stated b (at (steps b) p) ≡ Some x = ap (stated b) (places.stands (steps b) p.0 p.1 x.basic a) ∙ g in
+          let m : same_place (standing (settle b (at (steps b) p))) (standing c) ≡ true =
+          ap (λ z. same_place (standing z) (standing c)) e ∙ ap (λ z. same_place z z) s.first ∙ place_same s.place in
+          passed (is_end b c) (told_of b) k.node (at (steps b) p) k.is
+          (ap (λ o. has_end o && same_place (standing (settle b (at (steps b) p))) (standing c)) w ∙ ap (λ t. t && same_place (standing (settle b (at (steps b) p))) (standing c)) f ∙ m)
+
+  pub decides : (c : Control) → Placed b c → MatchBool (may_end b c) (IsValidEnd b c) (IsValidEnd b c → ⊥)
+  decides [] h = at_end refl
+  decides (f ∷ c) h = by_case (list_any (is_end b (f ∷ c)) (told_of b)) refl
+    where
+      left : f ∷ c ≡ [] → ⊥
+      left e = cc
+
+      by_case : (t : Bool) → list_any (is_end b (f ∷ c)) (told_of b) ≡ t → MatchBool t (IsValidEnd b (f ∷ c)) (IsValidEnd b (f ∷ c) → ⊥)
+      by_case true e = sound (f ∷ c) (stands (f ∷ c) h left) e
+      by_case false e = λ v. let z : true ≡ false = sym (complete (f ∷ c) (stands (f ∷ c) h left) left v) ∙ e in cc
+
+-- two answers to one question
+agree : (P : Type 0) (s t : Bool) → MatchBool s P (P → ⊥) → MatchBool t P (P → ⊥) → s ≡ t
+agree P true true h k = refl
+agree P true false h k = absurd (k h)
+agree P false true h k = absurd (h k)
+agree P false false h k = refl
+
+-- what a graph says of its nodes
+pub end_is : (b : Seq) (brace : ℕ) (g : Graph) (n : ℕ) (says : Bool) → IsGraph b brace g → n < length g.nodes → says ≡ is_end_at g.ends n → says ≡ may_end b (point_at b n)
+end_is b brace g n says h l k =
+    let x = got (points_of b) n (omega (arith, l, h.nodes)) in
+    let e : point_at b n ≡ x.0 = read (points_of b) n x.0 [] x.1 in
+    k ∙ agree (IsValidEnd b x.0) (is_end_at g.ends n) (may_end b x.0) (h.ends n x.0 x.1) (decides b x.0 (placed b n x.0 x.1))
+    ∙ ap (may_end b) (sym e)

@@ -1,0 +1,6 @@
+pub mod Settled
+pub mod Ending
+pub mod Staying
+pub mod Keeping
+pub mod Samples
+pub mod Rows

@@ -1,0 +1,16 @@
+use Rattle.std.proofs.Common.{◌≡◌, ◌++◌, drop, map, List, ℕ}
+use Rattle.std.specs.Io.{StartsWith}
+use Rattle.pml_moves.specs.State.{Stand}
+use Rattle.pml_moves.specs.Scene.{stand_of}
+use Rattle.pml_moves.specs.Search.{each}
+use Rattle.pml_texts.specs.Texts.{stuck_by}
+use Rattle.pml_texts.proofs.ends.add_stuck.Given as goal
+
+-- what is added and the rest's are all
+abbrev pub invariant-loop-process : goal.invariant-loop-process
+invariant-loop-process l =
+    let f : ℕ → Stand → List ℕ = stuck_by l.scene.program.now in
+    record {
+      same : l.text.items ++ each f l.process (map (stand_of l.scene.program.now) (drop l.process l.seats)) ≡ l.initial.text.items ++ each f 0 (map (stand_of l.scene.program.now) l.seats);
+      kept : StartsWith l.text.items l.initial.text.items;
+    }

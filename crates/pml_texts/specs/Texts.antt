@@ -1,0 +1,80 @@
+-- The texts of moves, and of the processes where a run does not end well. What is not there has no text.
+use Rattle.std.specs.Prelude.{ℕ, ◌<◌, List, [], ◌∷◌, ◌++◌, Option, Some, None, if◌then◌else◌, slice_get, codes}
+use Rattle.std.specs.Fmt.{decimal}
+use Rattle.pml_program.specs.declared.program.Proctype.{Proctype}
+use Rattle.pml_program.specs.declared.program.Program.{Program}
+use Rattle.pml_control.specs.Control.{Control}
+use Rattle.pml_flow.specs.Flow.{Offer}
+use Rattle.pml_flow.specs.Marks.{line_at}
+use Rattle.pml_lines.specs.Changes.{proctype_name}
+use Rattle.pml_moves.specs.declared.moves.Pick.{Pick}
+use Rattle.pml_moves.specs.declared.moves.Move.{Move}
+use Rattle.pml_moves.specs.declared.moves.Move.TheVariants.{Death, Alone, Pair}
+use Rattle.pml_moves.specs.State.{Stand, State}
+use Rattle.pml_moves.specs.Search.{each}
+use Rattle.pml_moves.specs.Picked.{picked}
+use Rattle.pml_texts.specs.Ends.{may_end}
+
+-- the proctype of a process
+abbrev pub kind_of : Program → Option Stand → Option Proctype
+kind_of pr None = None
+kind_of pr (Some y) = slice_get pr.proctypes y.kind
+
+-- that of process p
+abbrev pub proctype_of : State → ℕ → Option Proctype
+proctype_of s p = kind_of s.program (slice_get s.stands p)
+
+-- `proc P (NAME) `
+abbrev pub heading : ℕ → Proctype → List ℕ
+heading p q = codes "proc " ++ (decimal p ++ (codes " (" ++ (proctype_name q.name ++ codes ") ")))
+
+-- `line L`
+abbrev pub line : ℕ → List ℕ
+line n = codes "line " ++ decimal n
+
+-- ---- moves
+
+abbrev pub offer_text : ℕ → Option Proctype → Option Offer → List ℕ
+offer_text p (Some q) (Some o) = heading p q ++ o.text
+offer_text p q o = []
+
+-- `proc P (NAME) line L [TEXT]`
+abbrev pub pick_text : State → Pick → List ℕ
+pick_text s k = offer_text k.process (proctype_of s k.process) (picked s k)
+
+-- `proc P (NAME) line L [-end-]`, with the line of the closing brace
+abbrev pub death_text : ℕ → Option Proctype → List ℕ
+death_text p None = []
+death_text p (Some q) = heading p q ++ (line q.end.line ++ codes " [-end-]")
+
+-- of a rendezvous, the sender's and then the receiver's
+abbrev pub move_text : State → Move → List ℕ
+move_text s (Death p) = death_text p (proctype_of s p)
+move_text s (Alone k t) = pick_text s k
+move_text s (Pair k j t) = pick_text s k ++ (codes " -> " ++ pick_text s j)
+
+-- ---- where a run does not end well
+
+-- `at: proc P (NAME) line L`
+abbrev pub stuck_line : ℕ → Proctype → ℕ → List ℕ
+stuck_line p q n = codes "at: " ++ (heading p q ++ (line n ++ 10 ∷ []))
+
+-- where process p may not end, with the line of what stands first
+abbrev pub stuck_at : ℕ → Option Proctype → Control → List ℕ
+stuck_at p None c = []
+stuck_at p (Some q) c = if may_end q.body c then [] else stuck_line p q (line_at q.body q.end.line c)
+
+abbrev pub stuck_by : Program → ℕ → Stand → List ℕ
+stuck_by pr p y = stuck_at p (slice_get pr.proctypes y.kind) y.control
+
+-- of each process, in their order
+abbrev pub stuck : State → List ℕ
+stuck s = each (stuck_by s.program) 0 s.stands
+
+-- ---- which processes a move names
+
+-- only some of the first n
+abbrev pub IsWithin : ℕ → Move → Type 0
+IsWithin n (Death p) = p < n
+IsWithin n (Alone k t) = k.process < n
+IsWithin n (Pair k j t) = (k.process < n) × (j.process < n)

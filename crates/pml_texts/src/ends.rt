@@ -1,0 +1,143 @@
+//! The ends of runs.
+
+ghost use Rattle.std.specs.Prelude.{◌≡◌, ◌++◌, false, OnOk, OnErr, IfSome, option_map, slice_get};
+ghost use Rattle.std.specs.Io.{StartsWith};
+ghost use Rattle.std.specs.Option.{option_copied};
+ghost use Rattle.pml_flow.specs.Points.{point_at};
+ghost use Rattle.pml_flow.specs.Marks.{line_at};
+ghost use Rattle.pml_moves.specs.Scene.{state_of, stand_of, Fits};
+ghost use Rattle.pml_texts.specs.Ends.{may_end as may_end_at, is_done as done_at, is_valid as ends_well};
+ghost use Rattle.pml_texts.specs.Texts.{stuck_line, stuck_at, stuck_by, stuck};
+ghost use Rattle.pml_texts.specs.Charts.{HasGraph};
+
+use crate::place::{add_heading, add_line, proctype_at};
+use pml_flow::graph::Graph;
+use pml_moves::scene::{Scene, Seat};
+use pml_program::program::Proctype;
+use std::alloc::AllocError;
+
+/// A proctype and its graph.
+#[derive(Drop)]
+struct Chart<'w, 'p, 'a> {
+    proctype: &'p Proctype<'a>,
+    graph: &'w Graph,
+}
+
+fn graph_at(graphs: &[Graph], kind: usize) -> Option<&Graph>
+    ensures { option_copied result ≡ slice_get graphs.now kind }
+{
+    graphs.get(kind)
+}
+
+/// The proctype with this number, and its graph.
+fn chart_at<'w, 'p, 'a>(scene: &Scene<'w, 'p, 'a>, kind: usize) -> Option<Chart<'w, 'p, 'a>>
+    requires { Fits scene.now }
+    ensures proctype { option_map (λ k. k.proctype.now) result ≡ slice_get scene.now.program.now.proctypes kind }
+    ensures graph { IfSome result HasGraph }
+{
+    let proctype = proctype_at(scene.program, kind)?;
+    let graph = graph_at(scene.graphs, kind)?;
+    Some(Chart { proctype, graph })
+}
+
+/// Appends `at: proc P (NAME) line L`.
+fn add_stuck_line(
+    process: usize,
+    proctype: &Proctype<'_>,
+    line: u32,
+    text: &mut Vec<u8>,
+) -> Result<(), AllocError>
+    ensures added { OnOk result (text.new.items ≡ text.old.items ++ stuck_line process proctype.now line) }
+    ensures kept { OnErr result (StartsWith text.new.items text.old.items) }
+{
+    text.extend_from_slice(b"at: ")?;
+    add_heading(process, proctype, text)?;
+    add_line(line, text)?;
+    text.extend_from_slice(b"\n")
+}
+
+impl<'w, 'p, 'a> Chart<'w, 'p, 'a> {
+    /// Whether a process may end at a node; nothing is left where there is none.
+    #[tactic(auto, using(crate::proofs::Ending::end_is))]
+    fn may_end(&self, node: usize) -> bool
+        requires { HasGraph self.now }
+        ensures { result ≡ may_end_at self.now.proctype.now.body (point_at self.now.proctype.now.body node) }
+    {
+        node >= self.graph.node_count() || self.graph.is_valid_end(node)
+    }
+
+    /// The line of what stands first at a node where a process may not end.
+    fn line(&self, node: usize) -> u32
+        requires graph { HasGraph self.now }
+        requires left { may_end_at self.now.proctype.now.body (point_at self.now.proctype.now.body node) ≡ false }
+        ensures { result ≡ line_at self.now.proctype.now.body self.now.proctype.now.end.line (point_at self.now.proctype.now.body node) }
+    {
+        self.graph.line(node)
+    }
+
+    /// Appends where a process stands, if it may not end there.
+    fn add_stuck(&self, process: usize, node: usize, text: &mut Vec<u8>) -> Result<(), AllocError>
+        requires { HasGraph self.now }
+        ensures added { OnOk result (text.new.items ≡ text.old.items ++ stuck_at process (Some self.now.proctype.now) (point_at self.now.proctype.now.body node)) }
+        ensures kept { OnErr result (StartsWith text.new.items text.old.items) }
+    {
+        if self.may_end(node) {
+            return Ok(());
+        }
+        add_stuck_line(process, self.proctype, self.line(node), text)
+    }
+}
+
+/// Whether a process may end where it stands.
+fn is_done(scene: &Scene<'_, '_, '_>, seat: Seat) -> bool
+    requires { Fits scene.now }
+    ensures { result ≡ done_at scene.now.program.now (stand_of scene.now.program.now seat) }
+{
+    match chart_at(scene, seat.kind) {
+        Some(chart) => chart.may_end(seat.node),
+        None => true,
+    }
+}
+
+/// Whether a run that ends here ends well.
+pub fn is_valid(scene: &Scene<'_, '_, '_>) -> bool
+    requires { Fits scene.now }
+    ensures { result ≡ ends_well (state_of scene.now) }
+{
+    for seat in scene.seats {
+        if !is_done(scene, *seat) {
+            return false;
+        }
+    }
+    true
+}
+
+/// Appends where a process stands, if it may not end there.
+fn add_stuck_at(
+    scene: &Scene<'_, '_, '_>,
+    process: usize,
+    seat: Seat,
+    text: &mut Vec<u8>,
+) -> Result<(), AllocError>
+    requires { Fits scene.now }
+    ensures added { OnOk result (text.new.items ≡ text.old.items ++ stuck_by scene.now.program.now process (stand_of scene.now.program.now seat)) }
+    ensures kept { OnErr result (StartsWith text.new.items text.old.items) }
+{
+    match chart_at(scene, seat.kind) {
+        Some(chart) => chart.add_stuck(process, seat.node, text),
+        None => Ok(()),
+    }
+}
+
+/// Appends, for each process that may not end where it stands, a line that says where: `at: proc P (NAME) line L`.
+pub fn add_stuck(scene: &Scene<'_, '_, '_>, text: &mut Vec<u8>) -> Result<(), AllocError>
+    requires { Fits scene.now }
+    ensures added { OnOk result (text.new.items ≡ text.old.items ++ stuck (state_of scene.now)) }
+    ensures kept { OnErr result (StartsWith text.new.items text.old.items) }
+{
+    let seats = scene.seats;
+    for process in 0..seats.len() {
+        add_stuck_at(scene, process, seats[process], text)?;
+    }
+    Ok(())
+}

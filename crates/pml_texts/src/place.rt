@@ -1,0 +1,45 @@
+//! Where a process is, in words.
+
+ghost use Rattle.std.specs.Prelude.{◌≡◌, ◌++◌, OnOk, OnErr, slice_get};
+ghost use Rattle.std.specs.Io.{StartsWith};
+ghost use Rattle.std.specs.Option.{option_copied};
+ghost use Rattle.pml_texts.specs.Texts.{heading as heading_of, line};
+
+use itoa::Buffer;
+use pml_lines::change::proctype_name;
+use pml_program::program::{Proctype, Program};
+use std::alloc::AllocError;
+
+/// Appends `proc P (NAME) `.
+pub fn add_heading(
+    process: usize,
+    proctype: &Proctype<'_>,
+    text: &mut Vec<u8>,
+) -> Result<(), AllocError>
+    ensures added { OnOk result (text.new.items ≡ text.old.items ++ heading_of process proctype.now) }
+    ensures kept { OnErr result (StartsWith text.new.items text.old.items) }
+{
+    let mut digits = Buffer::new();
+    text.extend_from_slice(b"proc ")?;
+    text.extend_from_slice(digits.format(process).as_bytes())?;
+    text.extend_from_slice(b" (")?;
+    proctype_name(&proctype.name, text)?;
+    text.extend_from_slice(b") ")
+}
+
+/// Appends `line L`.
+pub fn add_line(number: u32, text: &mut Vec<u8>) -> Result<(), AllocError>
+    ensures added { OnOk result (text.new.items ≡ text.old.items ++ line number) }
+    ensures kept { OnErr result (StartsWith text.new.items text.old.items) }
+{
+    let mut digits = Buffer::new();
+    text.extend_from_slice(b"line ")?;
+    text.extend_from_slice(digits.format(number).as_bytes())
+}
+
+/// The proctype with this number.
+pub fn proctype_at<'p, 'a>(program: &'p Program<'a>, kind: usize) -> Option<&'p Proctype<'a>>
+    ensures { option_copied result ≡ slice_get program.now.proctypes kind }
+{
+    program.proctypes.as_slice().get(kind)
+}

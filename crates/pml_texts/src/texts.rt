@@ -1,0 +1,78 @@
+//! The texts of moves.
+
+ghost use Rattle.std.specs.Prelude.{◌≡◌, ◌++◌, OnOk, OnErr, slice_get};
+ghost use Rattle.std.specs.Io.{StartsWith};
+ghost use Rattle.std.specs.Option.{option_copied};
+ghost use Rattle.pml_moves.specs.Scene.{state_of, Fits};
+ghost use Rattle.pml_texts.specs.Texts.{proctype_of as proctype_in, pick_text, death_text, move_text};
+
+use crate::place::{add_heading, add_line, proctype_at};
+use pml_moves::moves::{Move, Pick};
+use pml_moves::picked::picked;
+use pml_moves::scene::{Scene, Seat};
+use pml_program::program::Proctype;
+use std::alloc::AllocError;
+
+fn seat_at(seats: &[Seat], process: usize) -> Option<&Seat>
+    ensures { option_copied result ≡ slice_get seats.now process }
+{
+    seats.get(process)
+}
+
+/// The proctype of a process.
+fn proctype_of<'p, 'a>(scene: &Scene<'_, 'p, 'a>, process: usize) -> Option<&'p Proctype<'a>>
+    ensures { option_copied result ≡ proctype_in (state_of scene.now) process }
+{
+    proctype_at(scene.program, seat_at(scene.seats, process)?.kind)
+}
+
+/// Appends `proc P (NAME) line L [-end-]`, where L is the line of the closing brace.
+fn add_death(
+    process: usize,
+    proctype: Option<&Proctype<'_>>,
+    text: &mut Vec<u8>,
+) -> Result<(), AllocError>
+    ensures added { OnOk result (text.new.items ≡ text.old.items ++ death_text process (option_copied proctype.entry)) }
+    ensures kept { OnErr result (StartsWith text.new.items text.old.items) }
+{
+    let Some(proctype) = proctype else {
+        return Ok(());
+    };
+    add_heading(process, proctype, text)?;
+    add_line(proctype.end.line(), text)?;
+    text.extend_from_slice(b" [-end-]")
+}
+
+/// Appends the text of the offer that a pick names.
+fn add_pick(scene: &Scene<'_, '_, '_>, pick: Pick, text: &mut Vec<u8>) -> Result<(), AllocError>
+    requires { Fits scene.now }
+    ensures added { OnOk result (text.new.items ≡ text.old.items ++ pick_text (state_of scene.now) pick) }
+    ensures kept { OnErr result (StartsWith text.new.items text.old.items) }
+{
+    let Some(proctype) = proctype_of(scene, pick.process) else {
+        return Ok(());
+    };
+    let Some(offer) = picked(scene, pick) else {
+        return Ok(());
+    };
+    add_heading(pick.process, proctype, text)?;
+    text.extend_from_slice(offer.body.graph.text(offer.edge.statement))
+}
+
+/// Appends the text of a move.
+#[tactic(auto, using(crate::proofs::Keeping::kept_behind))]
+pub fn add_move(scene: &Scene<'_, '_, '_>, m: Move, text: &mut Vec<u8>) -> Result<(), AllocError>
+    requires { Fits scene.now }
+    ensures added { OnOk result (text.new.items ≡ text.old.items ++ move_text (state_of scene.now) m) }
+    ensures kept { OnErr result (StartsWith text.new.items text.old.items) }
+{
+    match m {
+        Move::Death(process) => add_death(process, proctype_of(scene, process), text),
+        Move::Alone(pick, _) => add_pick(scene, pick, text),
+        Move::Pair(sender, receiver, _) => {
+            add_pick(scene, sender, text)?;
+            text.extend_from_slice(b" -> ")?;
+            add_pick(scene, receiver, text)
+        }
+    }
+}
