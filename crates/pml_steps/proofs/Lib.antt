@@ -3,3 +3,4 @@ pub mod Going
 pub mod Dying
 pub mod Holding
 pub mod Passing
+pub mod Inward

@@ -5,3 +5,4 @@
 pub mod arguments;
 pub mod live;
 pub mod pair;
+pub mod within;
