@@ -2,5 +2,6 @@ pub mod Beginning
 pub mod Going
 pub mod Dying
 pub mod Holding
+pub mod Creating
 pub mod Passing
 pub mod Inward

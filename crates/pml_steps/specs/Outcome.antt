@@ -38,6 +38,14 @@ quiet s = Ok (record { state = s; printed = [] })
 abbrev pub prints : State → List ℕ → Result Done Fault
 prints s bytes = Ok (record { state = s; printed = bytes })
 
+-- a string, with values for its conversions
+abbrev pub prints_string : State → List ℕ → Result (List ℤ) Fault → Result Done Fault
+prints_string s string r = r >>= λ vs. prints s (printed s.program.constants string vs)
+
+-- the name of a number
+abbrev pub prints_name : State → Result ℤ Fault → Result Done Fault
+prints_name s r = r >>= λ v. prints s (named s.program.constants v)
+
 -- ---- what a statement does by itself, under this `timeout`
 
 -- the process first, then the place of its number
@@ -49,8 +57,8 @@ does s p t (a.Run q) = ran s (reads s p t) q >>= quiet
 does s p t (a.AssignRun x q) = run_into s p t x q >>= quiet
 does s p t (a.Send q order es) = with_sent s (sent s.channels (reads s p t) q order es) >>= quiet
 does s p t (a.Receive q search how ws) = with_received s (received s.channels (reads s p t) q search how ws) >>= quiet
-does s p t (a.Printf text es) = values es (reads s p t) >>= λ vs. prints s (printed s.program.constants text.text vs)
-does s p t (a.Printm e) = val e (reads s p t) >>= λ v. prints s (named s.program.constants v)
+does s p t (a.Printf text es) = prints_string s text.text (values es (reads s p t))
+does s p t (a.Printm e) = prints_name s (val e (reads s p t))
 does s p t (a.Assert e) = asserted e (reads s p t) >>= λ u. quiet s
 does s p t a.Else = quiet s
 does s p t (a.Assign x e) = put_by s (outcome (a.Assign x e) (reads s p t)) >>= quiet

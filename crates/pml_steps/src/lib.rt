@@ -3,6 +3,7 @@
 #![tactic(auto)]
 
 pub mod arguments;
+pub mod effect;
 pub mod live;
 pub mod pair;
 pub mod within;

@@ -1,22 +1,24 @@
 //! What lives in a run.
 
-ghost use Rattle.std.specs.Prelude.{◌≡◌, ◌<◌, List, [], Some, None, IfOk, IfSome, OnOk, if◌then◌else◌, nat_eq, not, length, map, slice_get};
+ghost use Rattle.std.specs.Prelude.{◌≡◌, ◌<◌, ◌≤◌, List, [], Some, None, Ok, IfOk, IfSome, OnOk, if◌then◌else◌, nat_eq, not, length, map, slice_get};
 ghost use Rattle.std.specs.List.{filter};
 ghost use Rattle.pml_value.specs.declared.live_channel.LiveChannel.{LiveChannel};
 ghost use Rattle.std.specs.Option.{option_copied};
+ghost use Rattle.profile.specs.declared.TheConstants.{MOST_PROCESSES};
 ghost use Rattle.pml_flow.specs.Flow.{AreGraphs};
 ghost use Rattle.pml_start.specs.Begin.{shown};
 ghost use Rattle.pml_start.specs.Start.{IsDeclared};
 ghost use Rattle.pml_moves.specs.Scene.{control_at, stand_of, state_of, statements_of, Fits};
-ghost use Rattle.pml_store.specs.Store.{Frame};
+ghost use Rattle.pml_store.specs.Store.{Frame, size_at};
 ghost use Rattle.pml_value.specs.Messages.{sent, received};
 ghost use Rattle.pml_value.specs.Reads.{reading_of, seen};
 ghost use Rattle.pml_value.specs.Statement.{outcome};
 ghost use Rattle.pml_moves.specs.Search.{message};
 ghost use Rattle.pml_moves.specs.State.{reads};
-ghost use Rattle.pml_steps.specs.Change.{put_by, put_any, with_sent, with_received, go_to, without_youngest};
+ghost use Rattle.pml_steps.specs.Change.{put_if, put_by, put_any, with_sent, with_received, go_to, without_youngest};
+ghost use Rattle.pml_steps.specs.Created.{with_new};
 ghost use Rattle.pml_steps.specs.Held.{kinds_of, begins_at, first_state};
-ghost use Rattle.pml_steps.specs.Live.{Leads, Keeps};
+ghost use Rattle.pml_steps.specs.Live.{Leads, Keeps, Joins, PastGrows};
 ghost use Rattle.pml_steps.specs.Outcome.{body_by, passed};
 
 use crate::pair::pass;
@@ -28,12 +30,13 @@ use pml_moves::scene::{Scene, Seat, view};
 use pml_program::expr::{Expr, Target, Want};
 use pml_program::program::{Action, Basic, Proctype, Program};
 use pml_start::Beginnings;
+use pml_start::create::create;
 use pml_start::started::Started;
 use pml_store::store::Store;
 use pml_tree::tree::{Removal, Search, SendOrder};
 use pml_value::live_channel::LiveChannel;
 use pml_value::message::{Taker, receive, send};
-use pml_value::statement::take;
+use pml_value::statement::{Goes, take};
 use pml_value::view::View;
 use std::alloc::{AllocError, Global};
 use std::marker::Model;
@@ -61,6 +64,7 @@ impl<'p, 'a> Model for Live<'p, 'a> {
     ghost use Rattle.pml_program.specs.contracts.program.Seq as seq;
     ghost use Rattle.pml_program.specs.contracts.program.Basic as basic;
     ghost use Rattle.pml_steps.specs.Live.{Live};
+    ghost use Rattle.pml_steps.specs.Created.{with_new};
     ghost use Rattle.pml_steps.specs.Held.{IsHeld, live_of};
 
     ghost Value = { Live };
@@ -84,6 +88,12 @@ fn statements_of_all<'p, 'a>(
         all.push(all_statements(alloc, &proctype.body)?)?;
     }
     Ok(all)
+}
+
+fn proctype_at<'p, 'a>(program: &'p Program<'a>, kind: usize) -> Option<&'p Proctype<'a>>
+    ensures { option_copied result ≡ slice_get program.now.proctypes kind }
+{
+    program.proctypes.as_slice().get(kind)
 }
 
 fn graph_at(graphs: &[Graph], kind: usize) -> Option<&Graph>
@@ -217,6 +227,21 @@ impl<'p, 'a> Live<'p, 'a> {
 }
 
 impl<'p, 'a> Live<'p, 'a> {
+    /// The model.
+    pub fn program(&self) -> &'p Program<'a>
+        ensures { result.now ≡ self.now.state.program }
+    {
+        self.program
+    }
+
+    /// How many processes live.
+    pub fn process_count(&self) -> usize
+        ensures value { result ≡ length self.now.state.stands }
+        ensures few { result ≤ MOST_PROCESSES }
+    {
+        self.seats.len()
+    }
+
     /// What an expression of a process reads.
     pub fn view(&self, process: usize, timeout: bool) -> View<'_>
         requires { process < length self.now.state.stands }
@@ -333,5 +358,51 @@ impl<'p, 'a> Live<'p, 'a> {
             receiver,
             received,
         )
+    }
+}
+
+impl<'p, 'a> Live<'p, 'a> {
+    /// Stores a number where it goes, if anywhere.
+    pub fn put(&mut self, goes: Option<Goes>) -> Result<(), Stop>
+        requires { IfSome goes (λ g. g.place.cell < size_at self.old.state.frames g.place.frame g.place.variable) }
+        ensures value { Leads (Ok (put_if self.old.state goes)) result self.new.state }
+        ensures keeps { Keeps self.old self.new }
+    {
+        match goes {
+            None => Ok(()),
+            Some(goes) => match self.store.set(goes.place, goes.number) {
+                Ok(()) => Ok(()),
+                Err(_) => Err(Stop::Memory),
+            },
+        }
+    }
+
+    /// Creates a process of the proctype with this number. Where it cannot be created, what lives stays as it was.
+    pub fn create(&mut self, kind: usize, arguments: &[i32]) -> Result<(), Stop>
+        requires { length self.old.state.stands < MOST_PROCESSES }
+        ensures value { Leads (with_new self.old.state kind (slice_get self.old.state.program.proctypes kind) arguments.now) result self.new.state }
+        ensures joins { Joins self.old.state self.new.state }
+        ensures past { OnOk result (PastGrows self.old self.new) }
+    {
+        let Some(proctype) = proctype_at(self.program, kind) else {
+            return Ok(());
+        };
+        let node = start_of(self.graphs, kind);
+        if self.seats.push(Seat { kind, node }).is_err() {
+            return Err(Stop::Memory);
+        }
+        let created = create(
+            &self.beginnings,
+            kind,
+            proctype.variables.as_slice(),
+            arguments,
+            &mut self.store,
+            &mut self.channels,
+            &mut self.kinds,
+        );
+        if created.is_err() {
+            self.seats.pop();
+        }
+        created
     }
 }
