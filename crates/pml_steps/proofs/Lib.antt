@@ -4,3 +4,4 @@ pub mod Dying
 pub mod Holding
 pub mod Creating
 pub mod Passing
+pub mod Inward

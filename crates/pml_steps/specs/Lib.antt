@@ -5,3 +5,4 @@ pub mod Live
 pub mod Held
 pub mod Arguments
 pub mod Passing
+pub mod Inside

@@ -6,3 +6,4 @@ pub mod arguments;
 pub mod effect;
 pub mod live;
 pub mod pair;
+pub mod within;

@@ -1,0 +1,51 @@
+-- One statement inside a d_step.
+use Rattle.std.specs.Prelude.{◌≡◌, ℕ, Bool, if◌then◌else◌, List, ◌++◌, Option, Some, None, Result, Ok, Err}
+use Rattle.std.specs.Option.{option_copied}
+use Rattle.diagnostics.specs.declared.fault.Fault.{Fault}
+use Rattle.diagnostics.specs.declared.fault.Fault.TheVariants.{DStepBlocks}
+use Rattle.diagnostics.specs.declared.stop.Stop.{Stop}
+use Rattle.diagnostics.specs.declared.stop.Stop.TheVariants as stop
+use Rattle.pml_program.specs.declared.program.Seq.{Seq}
+use Rattle.pml_control.specs.Control.{Control}
+use Rattle.pml_flow.specs.Flow.{Offer}
+use Rattle.pml_flow.specs.Points.{point_at}
+use Rattle.pml_eval.specs.Value.{◌>>=◌}
+use Rattle.pml_moves.specs.State.{State, reads, levels}
+use Rattle.pml_moves.specs.Search.{choices, first}
+use Rattle.pml_steps.specs.declared.within.Choice.{Choice}
+use Rattle.pml_steps.specs.declared.within.Inner.{Inner}
+use Rattle.pml_steps.specs.declared.within.Inner.TheVariants.{Left, At}
+use Rattle.pml_steps.specs.Outcome.{Done, effect}
+
+-- what is chosen, the place behind it known by its node
+abbrev pub Chooses : Seq → Option Offer → Option Choice → Type 0
+Chooses b None None = Unit {0}
+Chooses b (Some o) (Some k) = (option_copied k.basic ≡ o.basic) × (point_at b k.next ≡ o.next) × (k.stays ≡ o.stays)
+Chooses b None (Some k) = ⊥
+Chooses b (Some o) None = ⊥
+
+-- What one statement does, and what is to do then inside the d_step; none where control has left.
+pub record Advance : Type 0 where
+  pub done : Done
+  pub next : Option Control
+
+abbrev pub then_at : Offer → Done → Result Advance Fault
+then_at o d = Ok (record { done = d; next = if o.stays then Some o.next else None })
+
+abbrev pub advanced_by : State → ℕ → Bool → Option Offer → Result Advance Fault
+advanced_by s p t None = Err DStepBlocks
+advanced_by s p t (Some o) = effect s p t o.basic >>= then_at o
+
+-- the first choice of a point is taken
+abbrev pub advanced : State → ℕ → Bool → Seq → Control → Result Advance Fault
+advanced s p t b c = advanced_by s p t (first (choices s.channels (reads s p t) (levels b c)))
+
+-- it is done, what it prints is appended, and this is where control is; or its fault is answered, or memory is refused
+abbrev pub Advances : Seq → Result Advance Fault → Result Inner Stop → State → List ℕ → List ℕ → Type 0
+Advances b (Ok x) (Ok Left) new before after = (new ≡ x.done.state) × (after ≡ before ++ x.done.printed) × (x.next ≡ None)
+Advances b (Ok x) (Ok (At n)) new before after = (new ≡ x.done.state) × (after ≡ before ++ x.done.printed) × (x.next ≡ Some (point_at b n))
+Advances b (Ok x) (Err stop.Memory) new before after = Unit {0}
+Advances b (Ok x) (Err (stop.Fault f)) new before after = ⊥
+Advances b (Err f) (Err (stop.Fault g)) new before after = g ≡ f
+Advances b (Err f) (Err stop.Memory) new before after = Unit {0}
+Advances b (Err f) (Ok i) new before after = ⊥
