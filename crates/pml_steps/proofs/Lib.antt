@@ -5,3 +5,4 @@ pub mod Holding
 pub mod Creating
 pub mod Passing
 pub mod Inward
+pub mod Taking

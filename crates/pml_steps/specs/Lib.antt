@@ -3,6 +3,7 @@ pub mod Created
 pub mod Outcome
 pub mod Live
 pub mod Held
+pub mod Taking
 pub mod Arguments
 pub mod Passing
 pub mod Inside

@@ -6,4 +6,5 @@ pub mod arguments;
 pub mod effect;
 pub mod live;
 pub mod pair;
+pub mod take;
 pub mod within;

@@ -24,9 +24,6 @@ pub const MOST_MESSAGES: u32 = 65_535;
 /// The bits that an `unsigned` may have.
 pub const MOST_BITS: u32 = 32;
 
-/// The statements that one step may take inside a `d_step`.
-pub const MOST_DSTEP_STATEMENTS: usize = 10_000;
-
 /// The bytes that a text may have.
 pub const MOST_TEXT_BYTES: usize = 1_048_576;
 

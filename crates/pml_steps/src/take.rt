@@ -1,0 +1,156 @@
+//! What a move leads to.
+
+ghost use Rattle.std.specs.Prelude.{◌≡◌, ◌<◌, ℕ, List, Some, None, IfSome, slice_get, OnOk, OnErr, length};
+ghost use Rattle.std.specs.Io.{StartsWith};
+ghost use Rattle.std.specs.Option.{option_copied};
+ghost use Rattle.pml_program.specs.declared.program.Seq.{Seq};
+ghost use Rattle.pml_flow.specs.Points.{point_at};
+ghost use Rattle.pml_flow.specs.Flow.{maybe, Offer as Offered};
+ghost use Rattle.pml_moves.specs.Picked.{picked as picks};
+ghost use Rattle.pml_steps.specs.declared.within.TheConstants.{MOST_DSTEP_STATEMENTS};
+ghost use Rattle.pml_steps.specs.Live.{Does, Joins, PastGrows};
+ghost use Rattle.pml_steps.specs.Outcome.{body_by, within_from, taken, alone as alone_by, paired as paired_by, step};
+ghost use Rattle.pml_steps.specs.Taking.{IsOffer, CanDie, PastBy};
+
+use crate::effect::effect;
+use crate::live::Live;
+use crate::within::within;
+use diagnostics::Stop;
+use pml_flow::edge::Edge;
+use pml_moves::moves::{Move, Pick};
+use pml_moves::picked::picked;
+use pml_program::program::Basic;
+
+/// An offer: its edge, and its statement without its labels.
+#[derive(Drop)]
+struct Offer<'p, 'a> {
+    edge: Edge,
+    basic: Option<&'p Basic<'a>>,
+}
+
+/// The offer that a pick names.
+fn find_offer<'p, 'a>(live: &Live<'p, 'a>, pick: Pick) -> Option<Offer<'p, 'a>>
+    ensures some { IfSome result (λ o. IsOffer live.now.state pick o) }
+    ensures none { result ≡ None → picks live.now.state pick ≡ None }
+{
+    let offered = picked(&live.scene(), pick)?;
+    let edge = offered.edge;
+    let basic = offered.body.basic(edge);
+    Some(Offer { edge, basic })
+}
+
+/// Takes the statements of a d_step, from the node inside at which it begins.
+fn inside(
+    live: &mut Live<'_, '_>,
+    pick: Pick,
+    timeout: bool,
+    entry: Option<usize>,
+    text: &mut Vec<u8>,
+) -> Result<(), Stop>
+    requires { pick.process < length live.old.state.stands }
+    ensures value { (b : Seq) → body_by live.old.state (slice_get live.old.state.stands pick.process) ≡ Some b → Does (within_from MOST_DSTEP_STATEMENTS live.old.state pick.process timeout (Some b) (maybe (point_at b) entry)) result live.new.state text.old.items text.new.items }
+    ensures kept { OnErr result (StartsWith text.new.items text.old.items) }
+    ensures joins { Joins live.old.state live.new.state }
+    ensures past { OnOk result (PastGrows live.old live.new) }
+{
+    match entry {
+        Some(node) => within(live, pick.process, timeout, node, text),
+        None => Ok(()),
+    }
+}
+
+/// Takes the statement of an offer.
+fn take_offer(
+    live: &mut Live<'_, '_>,
+    pick: Pick,
+    timeout: bool,
+    offer: &Offer<'_, '_>,
+    text: &mut Vec<u8>,
+) -> Result<(), Stop>
+    requires { IsOffer live.old.state pick offer.now }
+    ensures value { (o : Offered) → picks live.old.state pick ≡ Some o → Does (taken MOST_DSTEP_STATEMENTS live.old.state pick.process timeout (body_by live.old.state (slice_get live.old.state.stands pick.process)) o o.basic) result live.new.state text.old.items text.new.items }
+    ensures kept { OnErr result (StartsWith text.new.items text.old.items) }
+    ensures joins { Joins live.old.state live.new.state }
+    ensures past { OnOk result (PastGrows live.old live.new) }
+{
+    match offer.basic {
+        Some(Basic::DStep(_)) => inside(live, pick, timeout, offer.edge.entry, text),
+        _ => effect(live, pick.process, timeout, offer.basic, text),
+    }
+}
+
+/// A process takes an offer by itself.
+fn alone(live: &mut Live<'_, '_>, pick: Pick, timeout: bool, text: &mut Vec<u8>) -> Result<(), Stop>
+    ensures value { Does (alone_by MOST_DSTEP_STATEMENTS live.old.state pick timeout (picks live.old.state pick)) result live.new.state text.old.items text.new.items }
+    ensures kept { OnErr result (StartsWith text.new.items text.old.items) }
+    ensures joins { OnErr result (Joins live.old.state live.new.state) }
+    ensures past { OnOk result (PastGrows live.old live.new) }
+{
+    let Some(offer) = find_offer(live, pick) else {
+        return Ok(());
+    };
+    take_offer(live, pick, timeout, &offer, text)?;
+    live.follow(pick.process, offer.edge);
+    Ok(())
+}
+
+/// A process sends to another: that one stores, and both go on.
+fn pass_on(
+    live: &mut Live<'_, '_>,
+    sender: Pick,
+    sent: &Offer<'_, '_>,
+    receiver: Pick,
+    received: &Offer<'_, '_>,
+    timeout: bool,
+) -> Result<(), Stop>
+    requires sends { IsOffer live.old.state sender sent.now }
+    requires receives { IsOffer live.old.state receiver received.now }
+    ensures value { (text : List ℕ) → Does (paired_by live.old.state sender receiver timeout (picks live.old.state sender) (picks live.old.state receiver)) result live.new.state text text }
+    ensures joins { OnErr result (Joins live.old.state live.new.state) }
+    ensures past { OnOk result (PastGrows live.old live.new) }
+{
+    live.pass(
+        sender.process,
+        sent.basic,
+        receiver.process,
+        received.basic,
+        timeout,
+    )?;
+    live.go_to(sender.process, sent.edge.target);
+    live.follow(receiver.process, received.edge);
+    Ok(())
+}
+
+/// Two processes meet.
+fn pair(live: &mut Live<'_, '_>, sender: Pick, receiver: Pick, timeout: bool) -> Result<(), Stop>
+    ensures value { (text : List ℕ) → Does (paired_by live.old.state sender receiver timeout (picks live.old.state sender) (picks live.old.state receiver)) result live.new.state text text }
+    ensures joins { OnErr result (Joins live.old.state live.new.state) }
+    ensures past { OnOk result (PastGrows live.old live.new) }
+{
+    let Some(sent) = find_offer(live, sender) else {
+        return Ok(());
+    };
+    let Some(received) = find_offer(live, receiver) else {
+        return Ok(());
+    };
+    pass_on(live, sender, &sent, receiver, &received, timeout)
+}
+
+/// Takes a move, and appends what it prints. After a fault, or want of memory, variables and channels may hold anything; no process has
+/// moved, but some may have been added.
+pub fn take(live: &mut Live<'_, '_>, m: Move, text: &mut Vec<u8>) -> Result<(), Stop>
+    requires { CanDie live.old.state m }
+    ensures value { Does (step MOST_DSTEP_STATEMENTS live.old.state m) result live.new.state text.old.items text.new.items }
+    ensures kept { OnErr result (StartsWith text.new.items text.old.items) }
+    ensures joins { OnErr result (Joins live.old.state live.new.state) }
+    ensures past { OnOk result (PastBy m live.old live.new) }
+{
+    match m {
+        Move::Death(_) => {
+            live.die();
+            Ok(())
+        }
+        Move::Alone(pick, timeout) => alone(live, pick, timeout, text),
+        Move::Pair(sender, receiver, timeout) => pair(live, sender, receiver, timeout),
+    }
+}
