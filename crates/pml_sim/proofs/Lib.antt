@@ -1,4 +1,0 @@
-pub mod Moves
-pub mod Declared
-pub mod Stepping
-pub mod Leading

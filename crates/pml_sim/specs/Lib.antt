@@ -1,4 +1,1 @@
-pub mod Served
-pub mod State
-pub mod Texts
 pub mod World

@@ -1,18 +1,11 @@
 //! Laws of states.
 
-ghost use Rattle.std.specs.Prelude.{◌≡◌, ◌≤◌, ℕ, List, length};
+ghost use Rattle.std.specs.Prelude.{◌≡◌, List, ℕ, length, take};
 ghost use Rattle.session.specs.Machine.{Goes};
-ghost use Rattle.pml_store.specs.Store.{before};
-ghost use Rattle.pml_sim.specs.State.{State};
-ghost use Rattle.pml_sim.specs.World.{moves, step};
-ghost use Rattle.pml_sim.specs.declared.control.OnlyMove.{OnlyMove};
+ghost use Rattle.pml_moves.specs.declared.moves.Move.{Move};
+ghost use Rattle.pml_sim.specs.World.{Running, step};
 
-/// The numbers before the last step are those of the state before it.
+/// The numbers before the last step are those of the state before it, as far as its variables are still there.
 pub fn steps_lead_back()
-    ensures { (s t : State) (m : OnlyMove) (printed : List ℕ) → step s m ≡ Goes t printed → before t.store ≡ s.store.frames }
-{}
-
-/// A state has one move at most.
-pub fn one_move()
-    ensures { (s : State) → length (moves s) ≤ 1 }
+    ensures { (s t : Running) (m : Move) (printed : List ℕ) → step s m ≡ Goes t printed → t.past ≡ take (length t.state.frames) s.state.frames }
 {}

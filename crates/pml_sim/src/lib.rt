@@ -1,9 +1,7 @@
-//! The states of a checked model, their moves and their steps (Holzmann, *The SPIN Model Checker*, chapters 3 and 7). So far: one process of
-//! assignments, increments, decrements and conditions.
+//! A checked model as a machine: its states, their moves, its steps, and the texts (Holzmann, *The SPIN Model Checker*, chapters 3
+//! and 7).
 #![tactic(auto)]
 
-pub mod control;
+pub mod halt;
 pub mod laws;
-mod served;
-mod text;
 pub mod world;

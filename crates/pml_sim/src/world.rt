@@ -1,314 +1,108 @@
-//! A model with one process as a machine.
+//! A checked model as a machine.
 
-ghost use Rattle.std.specs.Prelude.{◌≡◌, ◌++◌, [], IfOk, OnOk, OnErr, length, slice_get};
-ghost use Rattle.std.specs.Io.{StartsWith};
-ghost use Rattle.std.specs.Option.{option_copied};
-ghost use Rattle.pml_value.specs.Reads.{reading_of, seen};
-ghost use Rattle.pml_value.specs.Statement.{TakesStatement};
+ghost use Rattle.std.specs.Prelude.{◌≡◌, [], IfOk, length};
+ghost use Rattle.pml_flow.specs.Flow.{AreGraphs};
 ghost use Rattle.pml_start.specs.Begin.{shown};
 ghost use Rattle.pml_start.specs.Start.{IsDeclared};
-ghost use Rattle.pml_sim.specs.Served.{steps_of};
 ghost use Rattle.pml_sim.specs.World as world;
 
-use crate::control::{Control, Halt, OnlyMove};
-use crate::served::is_played;
-use crate::text::add_place;
+use crate::halt::Halt;
 use diagnostics::Stop;
-use pml_flow::lines::line_of;
-use pml_flow::text::add_action;
+use pml_flow::graph::Graph;
 use pml_lines::change::{Wanted, logged_lines};
 use pml_lines::tables::Tables;
-use pml_program::program::{Basic, Proctype, Program, Stmt};
+use pml_moves::moves::Move;
+use pml_moves::search::add_moves;
+use pml_program::program::Program;
 use pml_start::started::Started;
-use pml_store::store::Store;
-use pml_value::live_channel::LiveChannel;
-use pml_value::statement::{can_be_taken, take};
-use pml_value::view::View;
+use pml_steps::live::Live;
+use pml_steps::take::take;
+use pml_texts::ends::{add_stuck, is_valid};
+use pml_texts::texts::add_move;
 use session::Machine;
 use std::alloc::{AllocError, Global};
 use std::marker::Model;
 
-/// A model with one process, what its variables hold, where the process stands, and where it has stopped.
+/// A model that is played, and where it has stopped.
 #[derive(Drop)]
 pub struct World<'p, 'a> {
     tables: Tables<'p, 'a>,
-    kind: usize,
-    store: Store,
-    channels: Vec<LiveChannel>,
-    control: Control,
+    live: Live<'p, 'a>,
+    /// How many processes lived before the last step and still do.
+    older: usize,
     halt: Option<Halt>,
 }
 
 impl<'p, 'a> Model for World<'p, 'a> {
-    ghost use Rattle.pml_sim.specs.State.{State};
-    ghost use Rattle.pml_lines.specs.Changes.{AreDeclared};
-    ghost use Rattle.std.specs.Prelude.{◌∷◌, []};
-    ghost use Rattle.pml_program.specs.contracts.expr.Expr as worth;
-    ghost use Rattle.pml_program.specs.contracts.program.Seq as seq;
+    ghost use Rattle.std.specs.Prelude.{◌≡◌, ◌+◌, [], take};
     ghost use Rattle.std.specs.Coded.{codes};
     ghost use mir.Syntax.{named};
+    ghost use Rattle.pml_program.specs.contracts.expr.Expr as worth;
+    ghost use Rattle.pml_program.specs.contracts.program.Seq as seq;
+    ghost use Rattle.pml_program.specs.contracts.program.Basic as basic;
+    ghost use Rattle.pml_steps.specs.Live.{past};
+    ghost use Rattle.pml_sim.specs.World.{Running};
 
-    ghost Value = { State };
+    ghost Value = { Running };
 
-    ghost coded = { Prim.hlevel (codes, worth.the_row.coded, (seq.the_row (record { mir = named 0; lft = [] })).coded) };
+    ghost coded = { Prim.hlevel (codes, worth.the_row.coded, (seq.the_row (record { mir = named 0; lft = [] })).coded, (basic.the_row (record { mir = named 0; lft = [] })).coded) };
 
-    ghost view = { λ w. record { program = w.tables; kind = w.kind; store = w.store; channels = w.channels.items; control = w.control; halt = w.halt } };
+    ghost view = { λ w. record { state = w.live.state; past = take (w.older + 1) (past w.live); halt = w.halt } };
 
-    ghost invariant = { λ w. AreDeclared w.tables (w.kind ∷ []) w.store.frames };
+    ghost invariant = { λ w. w.tables ≡ w.live.state.program };
 }
 
 impl<'p, 'a> World<'p, 'a> {
-    /// The first state, where the model is one that is played.
+    /// The first state.
     pub fn first(
         alloc: Global,
         program: &'p Program<'a>,
+        graphs: &'p [Graph],
         started: Started,
-    ) -> Result<Option<World<'p, 'a>>, AllocError>
+    ) -> Result<World<'p, 'a>, AllocError>
         requires declared { IsDeclared program.now (shown started) }
+        requires graphs { AreGraphs program.now.proctypes graphs.now }
         requires fresh { started.store.written ≡ [] }
-        ensures { IfOk result (λ first. first ≡ world.first_by program.now (shown started) started.kinds.items) }
+        ensures { IfOk result (λ w. w ≡ world.first program.now (shown started)) }
     {
-        let Started {
-            store,
-            channels,
-            kinds,
-        } = started;
-        let kind = match kinds.as_slice() {
-            [kind] => *kind,
-            [] | [_, _, ..] => return Ok(None),
-        };
-        if !is_played(proctype_at(program, kind)) {
-            return Ok(None);
-        }
         let tables = Tables::new(alloc, program)?;
-        Ok(Some(World {
+        let live = Live::first(alloc, program, graphs, started)?;
+        let older = live.process_count();
+        Ok(World {
             tables,
-            kind,
-            store,
-            channels,
-            control: Control::At(0),
+            live,
+            older,
             halt: None,
-        }))
-    }
-
-    /// The statement that stands first, if one does.
-    fn standing(&self) -> Option<&Stmt<'a>>
-        ensures { option_copied result ≡ world.standing self.now }
-    {
-        standing_of(self.proctype(), self.control)
-    }
-
-    fn can_move(&self, timeout: bool) -> bool
-        ensures { result ≡ world.can_move self.now timeout }
-    {
-        if !is_alive(self.control) {
-            return false;
-        }
-        let view = View {
-            store: &self.store,
-            channels: self.channels.as_slice(),
-            pid: 0,
-            process_count: 1,
-            timeout,
-        };
-        can_take(self.standing(), &view)
-    }
-
-    fn proctype(&self) -> Option<&Proctype<'a>>
-        ensures { option_copied result ≡ world.proctype_of self.now }
-    {
-        proctype_at(self.tables.program(), self.kind)
-    }
-
-    fn add_place(&self, text: &mut Vec<u8>) -> Result<(), AllocError>
-        ensures added { OnOk result (text.new.items ≡ text.old.items ++ world.place_of self.now) }
-        ensures kept { OnErr result (StartsWith text.new.items text.old.items) }
-    {
-        let proctype = self.proctype();
-        let line = line_of(self.standing(), closing(proctype));
-        add_place(text, proctype, line)
-    }
-}
-
-fn proctype_at<'p, 'a>(program: &'p Program<'a>, kind: usize) -> Option<&'p Proctype<'a>>
-    ensures { option_copied result ≡ slice_get program.now.proctypes kind }
-{
-    program.proctypes.as_slice().get(kind)
-}
-
-fn is_alive(control: Control) -> bool
-    ensures { result ≡ world.is_alive control }
-{
-    match control {
-        Control::At(_) => true,
-        Control::Dead => false,
-    }
-}
-
-fn standing_at<'s, 'a>(body: &'s [Stmt<'a>], control: Control) -> Option<&'s Stmt<'a>>
-    ensures { option_copied result ≡ world.standing_at body.now control }
-{
-    match control {
-        Control::At(place) => body.get(place),
-        Control::Dead => None,
-    }
-}
-
-fn standing_of<'s, 'a>(proctype: Option<&'s Proctype<'a>>, control: Control) -> Option<&'s Stmt<'a>>
-    ensures { option_copied result ≡ world.standing_at (steps_of (option_copied proctype.entry)) control }
-{
-    match proctype {
-        None => None,
-        Some(proctype) => standing_at(proctype.body.steps.as_slice(), control),
-    }
-}
-
-fn count_of(proctype: Option<&Proctype<'_>>) -> usize
-    ensures { result ≡ length (steps_of (option_copied proctype.entry)) }
-{
-    match proctype {
-        None => 0,
-        Some(proctype) => proctype.body.steps.len(),
-    }
-}
-
-fn can_do(basic: &Basic<'_>, view: &View<'_>) -> bool
-    ensures { result ≡ world.can_do basic.now (seen view.now) }
-{
-    match basic {
-        Basic::Plain(action) => can_be_taken(action, view),
-        Basic::Goto(_)
-        | Basic::Break
-        | Basic::If(_)
-        | Basic::Do(_)
-        | Basic::Block(_)
-        | Basic::Atomic(_)
-        | Basic::DStep(_)
-        | Basic::Unless(_, _) => false,
-    }
-}
-
-fn can_take(standing: Option<&Stmt<'_>>, view: &View<'_>) -> bool
-    ensures { result ≡ world.can_take (option_copied standing.entry) (seen view.now) }
-{
-    match standing {
-        Some(stmt) => can_do(&stmt.basic, view),
-        None => true,
-    }
-}
-
-/// Does what a statement does to the variables. No structure is played.
-fn do_basic(
-    store: &mut Store,
-    channels: &[LiveChannel],
-    timeout: bool,
-    basic: &Basic<'_>,
-) -> Result<(), Stop>
-    ensures { TakesStatement (world.done_by basic.now (reading_of store.old.frames channels.now 0 1 timeout)) result store.old store.new }
-{
-    match basic {
-        Basic::Plain(action) => take(store, channels, 0, 1, timeout, action),
-        Basic::Goto(_)
-        | Basic::Break
-        | Basic::If(_)
-        | Basic::Do(_)
-        | Basic::Block(_)
-        | Basic::Atomic(_)
-        | Basic::DStep(_)
-        | Basic::Unless(_, _) => Ok(()),
-    }
-}
-
-/// Does what the statement does that stands first. A process dies without a trace among the variables.
-fn do_first(
-    store: &mut Store,
-    channels: &[LiveChannel],
-    timeout: bool,
-    standing: Option<&Stmt<'_>>,
-) -> Result<(), Stop>
-    ensures { TakesStatement (world.done_first (option_copied standing.entry) (reading_of store.old.frames channels.now 0 1 timeout)) result store.old store.new }
-{
-    match standing {
-        Some(stmt) => do_basic(store, channels, timeout, &stmt.basic),
-        None => Ok(()),
-    }
-}
-
-/// Where a process with so many statements stands once what stood first was taken.
-fn beyond(control: Control, count: usize) -> Control
-    ensures { result ≡ world.beyond count control }
-{
-    match control {
-        Control::At(place) => {
-            if place < count {
-                Control::At(place + 1)
-            } else {
-                Control::Dead
-            }
-        }
-        Control::Dead => Control::Dead,
-    }
-}
-
-fn closing(proctype: Option<&Proctype<'_>>) -> u32
-    ensures { result ≡ world.closing_by (option_copied proctype.entry) }
-{
-    match proctype {
-        Some(proctype) => proctype.end.line(),
-        None => 0,
-    }
-}
-
-fn add_standing(text: &mut Vec<u8>, standing: Option<&Stmt<'_>>) -> Result<(), AllocError>
-    ensures added { OnOk result (text.new.items ≡ text.old.items ++ world.action (option_copied standing.entry)) }
-    ensures kept { OnErr result (StartsWith text.new.items text.old.items) }
-{
-    match standing {
-        Some(stmt) => add_action(text, &stmt.basic, stmt.tokens.as_slice()),
-        None => text.extend_from_slice(b"-end-"),
+        })
     }
 }
 
 impl Machine for World<'_, '_> {
-    type Move = OnlyMove;
+    type Move = Move;
 
     ghost rules = { world.rules };
 
-    fn moves(&self, moves: &mut Vec<OnlyMove>) -> Result<(), AllocError> {
+    fn moves(&self, moves: &mut Vec<Move>) -> Result<(), AllocError> {
         moves.clear();
-        if let Some(_) = self.halt {
+        if self.halt.is_some() {
             return Ok(());
         }
-        if self.can_move(false) {
-            moves.push(OnlyMove { timeout: false })?;
-        } else if self.can_move(true) {
-            moves.push(OnlyMove { timeout: true })?;
-        }
-        Ok(())
+        add_moves(&self.live.scene(), moves)
     }
 
-    fn show(&self, _: &OnlyMove, text: &mut Vec<u8>) -> Result<(), AllocError> {
-        self.add_place(text)?;
-        text.extend_from_slice(b" [")?;
-        add_standing(text, self.standing())?;
-        text.extend_from_slice(b"]")
+    fn show(&self, m: &Move, text: &mut Vec<u8>) -> Result<(), AllocError> {
+        add_move(&self.live.scene(), *m, text)
     }
 
-    fn take(&mut self, m: &OnlyMove, _: &mut Vec<u8>) -> Result<(), Stop> {
+    fn take(&mut self, m: &Move, text: &mut Vec<u8>) -> Result<(), Stop> {
         if let Some(halt) = self.halt {
             return Err(halt.why);
         }
-        let proctype = proctype_at(self.tables.program(), self.kind);
-        let standing = standing_of(proctype, self.control);
-        self.store.forget();
-        match do_first(
-            &mut self.store,
-            self.channels.as_slice(),
-            m.timeout,
-            standing,
-        ) {
+        let before = self.live.process_count();
+        self.live.forget();
+        match take(&mut self.live, *m, text) {
             Ok(()) => {
-                self.control = beyond(self.control, count_of(proctype));
+                self.older = before.min(self.live.process_count());
                 Ok(())
             }
             Err(why) => {
@@ -320,18 +114,24 @@ impl Machine for World<'_, '_> {
 
     fn values(&self, globals: bool, locals: bool, text: &mut Vec<u8>) -> Result<(), AllocError> {
         let alloc = *text.allocator();
-        let kinds = [self.kind];
         let wanted = Wanted { globals, locals };
-        logged_lines(alloc, &self.tables, &kinds, wanted, &self.store, text)
+        let kinds = self.live.kinds();
+        let older = self.older.min(kinds.len());
+        logged_lines(
+            alloc,
+            &self.tables,
+            &kinds[..older],
+            wanted,
+            self.live.variables(),
+            text,
+        )
     }
 
     fn is_valid(&self) -> bool {
-        !is_alive(self.control)
+        is_valid(&self.live.scene())
     }
 
     fn stuck(&self, text: &mut Vec<u8>) -> Result<(), AllocError> {
-        text.extend_from_slice(b"at: ")?;
-        self.add_place(text)?;
-        text.extend_from_slice(b"\n")
+        add_stuck(&self.live.scene(), text)
     }
 }

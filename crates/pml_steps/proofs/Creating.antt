@@ -49,7 +49,7 @@ held_more p gs ss ts old new cs ds ks ls xs ys kind n q h few e s k y =
       typedefs = h.typedefs;
     }
 
-kinds_are : (p : Program) (xs : List Seat) → map (λ (y : Stand). y.kind) (map (stand_of p) xs) ≡ kinds_of xs
+pub kinds_are : (p : Program) (xs : List Seat) → map (λ (y : Stand). y.kind) (map (stand_of p) xs) ≡ kinds_of xs
 kinds_are p [] = refl
 kinds_are p (x ∷ xs) = ap (λ (l : List ℕ). x.kind ∷ l) (kinds_are p xs)
 

@@ -1,6 +1,6 @@
 //! What lives in a run.
 
-ghost use Rattle.std.specs.Prelude.{◌≡◌, ◌<◌, ◌≤◌, List, [], Some, None, Ok, IfOk, IfSome, OnOk, if◌then◌else◌, nat_eq, not, length, map, slice_get};
+ghost use Rattle.std.specs.Prelude.{◌≡◌, ◌+◌, ◌<◌, ◌≤◌, List, [], Some, None, Ok, IfOk, IfSome, OnOk, if◌then◌else◌, nat_eq, not, length, map, slice_get};
 ghost use Rattle.std.specs.List.{filter};
 ghost use Rattle.pml_value.specs.declared.live_channel.LiveChannel.{LiveChannel};
 ghost use Rattle.std.specs.Option.{option_copied};
@@ -16,7 +16,7 @@ ghost use Rattle.pml_value.specs.Statement.{outcome};
 ghost use Rattle.pml_moves.specs.Search.{message};
 ghost use Rattle.pml_moves.specs.State.{reads};
 ghost use Rattle.pml_steps.specs.Change.{put_if, put_by, put_any, with_sent, with_received, go_to, without_youngest};
-ghost use Rattle.pml_steps.specs.Created.{with_new};
+ghost use Rattle.pml_steps.specs.Created.{kinds, there, with_new};
 ghost use Rattle.pml_steps.specs.Held.{kinds_of, begins_at, first_state};
 ghost use Rattle.pml_steps.specs.Live.{Leads, Keeps, Joins, PastGrows};
 ghost use Rattle.pml_steps.specs.Outcome.{body_by, passed};
@@ -64,7 +64,7 @@ impl<'p, 'a> Model for Live<'p, 'a> {
     ghost use Rattle.pml_program.specs.contracts.program.Seq as seq;
     ghost use Rattle.pml_program.specs.contracts.program.Basic as basic;
     ghost use Rattle.pml_steps.specs.Live.{Live};
-    ghost use Rattle.pml_steps.specs.Created.{with_new};
+    ghost use Rattle.pml_steps.specs.Created.{kinds, there, with_new};
     ghost use Rattle.pml_steps.specs.Held.{IsHeld, live_of};
 
     ghost Value = { Live };
@@ -234,10 +234,26 @@ impl<'p, 'a> Live<'p, 'a> {
         self.program
     }
 
+    /// What the variables hold, and the log of what was written.
+    pub fn variables(&self) -> &Store
+        ensures { result.now ≡ record { frames = self.now.state.frames; written = self.now.written } }
+    {
+        &self.store
+    }
+
+    /// The proctypes of the processes, by their numbers.
+    pub fn kinds(&self) -> &[usize]
+        ensures value { result.now ≡ kinds self.now.state }
+        ensures declared { IsDeclared self.now.state.program (there self.now.state) }
+    {
+        self.kinds.as_slice()
+    }
+
     /// How many processes live.
     pub fn process_count(&self) -> usize
         ensures value { result ≡ length self.now.state.stands }
         ensures few { result ≤ MOST_PROCESSES }
+        ensures frames { length self.now.state.frames ≡ result + 1 }
     {
         self.seats.len()
     }

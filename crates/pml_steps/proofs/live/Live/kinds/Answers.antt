@@ -1,0 +1,16 @@
+use Rattle.std.proofs.Common.{rules, ◌≡◌, ◌∙◌, sym, subst, List, ℕ}
+use Rattle.pml_start.specs.Begin.{held}
+use Rattle.pml_start.specs.Start.{IsDeclared}
+use Rattle.pml_steps.proofs.Creating.{kinds_are}
+use Rattle.pml_steps.proofs.live.Live.kinds.Goals as goal
+
+pub returns-clause-value : goal.returns-clause-value
+returns-clause-value c =
+    let same : c.as_slice.result.now ≡ c.self.inside.kinds.items = search rules in
+    rw (← c.self.view_is) (same ∙ c.self.invariant.seated ∙ sym (kinds_are c.self.inside.program.now c.self.inside.seats.items))
+
+pub returns-clause-declared : goal.returns-clause-declared
+returns-clause-declared c =
+    rw (← c.self.view_is)
+    (subst (λ (ks : List ℕ). IsDeclared c.self.inside.program.now (held c.self.inside.store c.self.inside.channels.items ks))
+    (c.self.invariant.seated ∙ sym (kinds_are c.self.inside.program.now c.self.inside.seats.items)) c.self.invariant.declared)
