@@ -1,5 +1,5 @@
--- Each text is refused, or uses what is not served, or stands for a model.
-use Rattle.std.proofs.Common.{◌≡◌, ◌⊎◌, inl, inr, ℕ, zero, suc, ◌<◌, ◌≤◌, Bool, true, false, List, [], length, take, drop, Option, Some, None, Result, Ok, Err, refl, subst, arith, length-drop}
+-- Each text is refused, or stands for a model.
+use Rattle.std.proofs.Common.{◌≡◌, ◌⊎◌, inl, inr, ℕ, zero, suc, ◌<◌, ◌≤◌, Bool, true, false, List, [], length, take, drop, Some, None, Result, Ok, Err, refl, subst, arith, length-drop}
 use Rattle.std.proofs.lemmas.Bool.{cases_eq, cases_lt}
 use Rattle.profile.specs.declared.TheConstants.{MOST_IN_A_ROW, MOST_OPEN, MOST_TEXT_BYTES}
 use Rattle.diagnostics.specs.declared.refusal.Refusal.{Refusal}
@@ -7,7 +7,7 @@ use Rattle.diagnostics.specs.declared.refusal.Refusal.TheVariants as r
 use Rattle.session.specs.declared.Options.{Options}
 use Rattle.session.specs.declared.End.{End}
 use Rattle.session.specs.Part.{Part}
-use Rattle.session.specs.Session.{refused, not_served, transcript}
+use Rattle.session.specs.Session.{refused, transcript}
 use Rattle.pml_lex.specs.Word.{Word}
 use Rattle.pml_lex.specs.Scanning.{Found, next}
 use Rattle.pml_lex.specs.Division.{IsCut}
@@ -23,11 +23,11 @@ use Rattle.pml_syntax.specs.ReadingUnits as reading
 use Rattle.pml_syntax.proofs.Whole.{is_found, is_none}
 use Rattle.pml_resolve.specs.Model.{numbered_model}
 use Rattle.pml_stands.proofs.Model.{model-stands}
-use Rattle.pml_check.specs.Judged.{IsFit, IsLeast}
+use Rattle.pml_check.specs.Judged.{FitsTo, HasGoodStart, IsFit, IsLeast}
+use Rattle.pml_check.proofs.Standing.{fitted}
 use Rattle.pml_check.proofs.Deciding.{judge}
-use Rattle.pml_sim.specs.State.{State}
-use Rattle.pml_sim.specs.World.{rules}
-use Rattle.pml_play.specs.Transcript.{begins, IsSpelled, IsRefused, too_long, lexical, left_out, too_deep, unspelled, unfit, IsTranscript, of_unserved, of_refusal, of_model}
+use Rattle.pml_sim.specs.World.{first, rules}
+use Rattle.pml_play.specs.Transcript.{IsSpelled, IsRefused, too_long, lexical, left_out, too_deep, unspelled, unfit, IsTranscript, of_refusal, of_model}
 
 -- ---- the tokens
 
@@ -139,16 +139,23 @@ spelled_or text = by_tokens (tokens_or text)
 
 -- ---- the session
 
+-- in a tree that fits, no initialiser of the first state has a fault
+pub good_start : (t : Tree) → IsFit t → HasGoodStart (numbered_model t)
+unfolding FitsTo
+good_start t f = (fitted t r.Initialiser (f r.Initialiser)).1
+
 module _ (text : List ℕ) (options : Options) where
   abbrev pub Has : Type 0
   Has = (part : List ℕ → Part End) × IsTranscript text options part
 
-  of_state : (t : Tree) → IsSpelled text t → IsFit t → (o : Option State) → begins (numbered_model t) ≡ o → Has
-  of_state t is fits None e = (not_served false, of_unserved (record { tree = t; is_spelled = is; fits = fits; program = numbered_model t; stands = model-stands t; none = e }))
-  of_state t is fits (Some s) e = (transcript rules options s, of_model (record { tree = t; is_spelled = is; fits = fits; program = numbered_model t; stands = model-stands t; is = e }))
+  of_state : (t : Tree) → IsSpelled text t → IsFit t → Has
+  of_state t is fits =
+      let start = good_start t fits in
+      (transcript rules options (first (numbered_model t) start.0),
+      of_model (record { tree = t; is_spelled = is; fits = fits; program = numbered_model t; stands = model-stands t; begun = start.0; starts = start.1; is = refl }))
 
   of_judged : (t : Tree) → IsSpelled text t → IsFit t ⊎ ((x : Refusal) × IsLeast t x) → Has
-  of_judged t is (inl fits) = of_state t is fits (begins (numbered_model t)) refl
+  of_judged t is (inl fits) = of_state t is fits
   of_judged t is (inr h) = (refused h.0 0 false, of_refusal (unfit (record { tree = t; is_spelled = is; least = h.1 })))
 
   of_spelled : ((t : Tree) × IsSpelled text t) ⊎ Refusals text → Has

@@ -1,4 +1,3 @@
-pub mod Silent
 pub mod Outcomes
 pub mod Playing
 pub mod Each

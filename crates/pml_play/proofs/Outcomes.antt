@@ -1,11 +1,11 @@
 -- A text is refused in one way, or stands for one model.
-use Rattle.std.proofs.Common.{◌≡◌, ℕ, ◌<◌, true, false, List, length, Some, refl, sym, ap, ◌∙◌, subst, arith, Option, inl, inr, ◌≤◌, ◌^◌}
+use Rattle.std.proofs.Common.{◌≡◌, ℕ, ◌<◌, true, false, List, length, refl, sym, ap, ◌∙◌, subst, arith, inl, inr, Result, Ok}
 use Rattle.diagnostics.specs.declared.refusal.Refusal.{Refusal}
 use Rattle.diagnostics.specs.declared.refusal.Refusal.TheVariants as r
 use Rattle.session.specs.declared.Options.{Options}
 use Rattle.session.specs.declared.End.{End}
 use Rattle.session.specs.Part.{Part}
-use Rattle.session.specs.Session.{refused, not_served, transcript}
+use Rattle.session.specs.Session.{refused, transcript}
 use Rattle.pml_lex.specs.Word.{Word}
 use Rattle.pml_lex.specs.Limits.{has_left_out, IsTooDeep}
 use Rattle.profile.specs.declared.TheConstants.{MOST_TEXT_BYTES}
@@ -21,15 +21,16 @@ use Rattle.pml_marks.specs.declared.mark.Mark.{Mark}
 use Rattle.pml_program.specs.declared.program.Program.{Program}
 use Rattle.pml_check.specs.Judged.{AppliesTo, IsFit, IsLeast}
 use Rattle.pml_check.proofs.Least.{one_least, fit_has_none}
-use Rattle.pml_sim.specs.State.{State}
-use Rattle.pml_sim.specs.World.{rules}
-use Rattle.pml_sim.proofs.Moves.{few_moves}
+use Rattle.diagnostics.specs.declared.fault.Fault.{Fault}
+use Rattle.pml_start.specs.Begin.{Begun}
+use Rattle.pml_start.specs.Start.{first_state}
+use Rattle.pml_sim.specs.World.{Running, first, rules}
 use Rattle.session.specs.Replay.{CanBeReplayed}
-use Rattle.session.proofs.CutShort.{can_be_replayed, refused_can_be_replayed, not_served_can_be_replayed}
-use Rattle.pml_play.specs.Transcript.{begins, IsSpelled, IsModel, IsUnspelled, IsUnserved, IsRefused, too_long, lexical, left_out, too_deep, unspelled, unfit, IsTranscript, HasLine, of_unserved, of_refusal, of_model}
+use Rattle.session.proofs.CutShort.{can_be_replayed, refused_can_be_replayed}
+use Rattle.pml_play.specs.Transcript.{IsSpelled, IsModel, IsUnspelled, IsRefused, too_long, lexical, left_out, too_deep, unspelled, unfit, IsTranscript, HasLine, of_refusal, of_model}
 
-some_is : {A : Type 0} {x y : A} → ◌≡◌ {A = Option A} (Some x) (Some y) → x ≡ y
-some_is h = cc
+ok_is : {x y : Begun} → ◌≡◌ {A = Result Begun Fault} (Ok x) (Ok y) → x ≡ y
+ok_is h = cc
 
 -- a condition on the tree has no line
 condition_line : (text : List ℕ) (x : Refusal) (ms : List Mark) (p : Program) → AppliesTo x ms p → HasLine text x 0
@@ -144,20 +145,18 @@ module _ {text : List ℕ} where
   no_fit (unspelled h) is fits = not_unspelled is h
   no_fit {a} {t = t} (unfit h) is fits = fit_has_none t a fits (subst (λ (t : Tree). IsLeast t a) (same_tree h.is_spelled is) h.least)
 
-  pub no_model : {a : Refusal} {m : ℕ} {model : State} → IsRefused text a m → IsModel text model → ⊥
+  pub no_model : {a : Refusal} {m : ℕ} {model : Running} → IsRefused text a m → IsModel text model → ⊥
   no_model h m = no_fit h m.is_spelled m.fits
 
-  pub not_both : {a : Refusal} {m : ℕ} → IsRefused text a m → IsUnserved text → ⊥
-  not_both h u = no_fit h u.is_spelled u.fits
+  -- equal models begin alike
+  same_begun : {t u : Tree} {p q : Program} {b c : Begun} → IsSpelled text t → IsSpelled text u → StandsModel t p → StandsModel u q → first_state p ≡ Ok b → first_state q ≡ Ok c → first p b ≡ first q c
+  same_begun {t} {u} {p} {q} {b} {c} is other stands too sb sc =
+      let same : p ≡ q = one-model t p q stands (subst (λ (x : Tree). StandsModel x q) (same_tree other is) too) in
+      let begun : b ≡ c = ok_is (sym sb ∙ ap first_state same ∙ sc) in
+      ap (λ (x : Program). first x b) same ∙ ap (first q) begun
 
-  same_served : {t u : Tree} {p q : Program} → IsSpelled text t → IsSpelled text u → StandsModel t p → StandsModel u q → begins p ≡ begins q
-  same_served {t} {u} {p} {q} a b is other = ap begins (one-model t p q is (subst (λ (x : Tree). StandsModel x q) (same_tree b a) other))
-
-  pub model_is_served : {model : State} → IsModel text model → IsUnserved text → ⊥
-  model_is_served m u = let e = sym m.is ∙ same_served m.is_spelled u.is_spelled m.stands u.stands ∙ u.none in absurd cc
-
-  pub one_model : {a b : State} → IsModel text a → IsModel text b → a ≡ b
-  one_model {a} {b} m n = some_is (sym m.is ∙ same_served m.is_spelled n.is_spelled m.stands n.stands ∙ n.is)
+  pub one_model : {a b : Running} → IsModel text a → IsModel text b → a ≡ b
+  one_model {a} {b} m n = m.is ∙ same_begun m.is_spelled n.is_spelled m.stands n.stands m.starts n.starts ∙ sym n.is
 
   pub line_of : {a : Refusal} {line : ℕ} → IsRefused text a line → HasLine text a line
   line_of (too_long h) = refl
@@ -168,34 +167,22 @@ module _ {text : List ℕ} where
   line_of {a} (unfit h) = condition_line text a _ _ h.least.applies.applies
 
   pub when_refused : {options : Options} {part : List ℕ → Part End} {a : Refusal} {m : ℕ} → IsRefused text a m → IsTranscript text options part → (line : ℕ) × (part ≡ refused a line false)
-  when_refused h (of_unserved u) = absurd (not_both h u)
   when_refused h (of_refusal {line} g) = (line, ap (λ (x : Refusal). refused x line false) (one_refusal g h))
   when_refused h (of_model g) = absurd (no_model h g)
 
-  pub when_modelled : {options : Options} {part : List ℕ → Part End} {model : State} → IsModel text model → IsTranscript text options part → part ≡ transcript rules options model
-  when_modelled h (of_unserved u) = absurd (model_is_served h u)
+  pub when_modelled : {options : Options} {part : List ℕ → Part End} {model : Running} → IsModel text model → IsTranscript text options part → part ≡ transcript rules options model
   when_modelled h (of_refusal g) = absurd (no_model g h)
-  when_modelled {options} h (of_model g) = ap (λ (x : State). transcript rules options x) (one_model g h)
-
-  pub when_unserved : {options : Options} {part : List ℕ → Part End} → IsUnserved text → IsTranscript text options part → part ≡ not_served false
-  when_unserved h (of_unserved u) = refl
-  when_unserved h (of_refusal g) = absurd (not_both g h)
-  when_unserved h (of_model g) = absurd (model_is_served g h)
+  when_modelled {options} h (of_model g) = ap (λ (x : Running). transcript rules options x) (one_model g h)
 
 events_of : (a b : List ℕ → Part End) → a ≡ b → (choices : List ℕ) → (a choices).events ≡ (b choices).events
 events_of a b same choices = ap (λ (x : List ℕ → Part End). (x choices).events) same
 
 -- the transcripts of a text have the same events
 pub same_events : {text : List ℕ} {options : Options} {a b : List ℕ → Part End} → IsTranscript text options a → IsTranscript text options b → (choices : List ℕ) → (a choices).events ≡ (b choices).events
-same_events {b = b} (of_unserved h) given = events_of (not_served false) b (sym (when_unserved h given))
 same_events {b = b} (of_refusal {refusal} {line} h) given = let p = when_refused h given in events_of (refused refusal p.0 false) b (sym p.1)
 same_events {options = options} {b = b} (of_model {state} h) given = events_of (transcript rules options state) b (sym (when_modelled h given))
 
-few : {n : ℕ} → n ≤ 1 → n < 2 ^ 64
-few h = omega arith
-
 -- a session over a text can be played again on its record
 pub replays : {text : List ℕ} {options : Options} {part : List ℕ → Part End} → IsTranscript text options part → CanBeReplayed part
-replays (of_unserved h) = not_served_can_be_replayed
 replays (of_refusal {refusal} {line} h) = refused_can_be_replayed refusal line
-replays {options} (of_model {state} h) = can_be_replayed rules options state (λ s reached. few (few_moves s))
+replays {options} (of_model {state} h) = can_be_replayed rules options state

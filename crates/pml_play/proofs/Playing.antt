@@ -3,15 +3,14 @@ use Rattle.std.proofs.Common.{◌≡◌, ℕ, ◌≤◌, List, false, Result, Ok
 use Rattle.std.specs.Prelude.{All}
 use Rattle.devices.specs.Holdings.{Holdings}
 use Rattle.diagnostics.specs.declared.fault.Fault.{Fault}
-use Rattle.diagnostics.specs.declared.refusal.Refusal.TheVariants as refusal
 use Rattle.session.specs.declared.Options.{Options}
 use Rattle.session.specs.declared.End.{End}
 use Rattle.session.specs.declared.Cause.TheVariants as cause
 use Rattle.session.specs.declared.Broken.{Broken}
 use Rattle.session.specs.declared.Broken.TheVariants as broken
-use Rattle.session.specs.Session.{only, end_of, refused, not_served, transcript}
+use Rattle.session.specs.Session.{only, end_of, refused, transcript}
 use Rattle.session.specs.Stands.{Breaks}
-use Rattle.session.specs.Texts.{refusal_line, not_served_line}
+use Rattle.session.specs.Texts.{refusal_line}
 use Rattle.session.specs.Writes.{Runs}
 use Rattle.session.proofs.Parts.{Leads-does, puts, memory_breaks, only_does}
 use Rattle.session.proofs.Turns.{write_breaks}
@@ -29,23 +28,22 @@ use Rattle.pml_syntax.specs.Answer.{Answers}
 use Rattle.pml_check.specs.declared.checked.CheckFault.{CheckFault}
 use Rattle.pml_check.specs.declared.checked.CheckFault.TheVariants as check
 use Rattle.pml_check.specs.Checked.{IsRefused}
-use Rattle.pml_check.specs.Judged.{FitsTo, HasGoodStart, IsFit}
+use Rattle.pml_check.specs.Judged.{IsFit}
 use Rattle.pml_program.specs.declared.program.Program.{Program}
 use Rattle.pml_resolve.specs.Model.{numbered_model}
 use Rattle.pml_stands.specs.StandsModel.{StandsModel}
-use Rattle.pml_check.proofs.Standing.{fitted, is_numbered}
+use Rattle.pml_check.proofs.Standing.{is_numbered}
 use Rattle.diagnostics.specs.declared.stop.Stop.{Stop}
 use Rattle.diagnostics.specs.declared.stop.Stop.TheVariants as stop
 use Rattle.pml_start.specs.Begin.{Begun}
 use Rattle.pml_start.specs.Start.{Starts, first_state}
 use Rattle.pml_play.specs.declared.whole.Rejection.{Rejection}
-use Rattle.pml_play.specs.declared.whole.Rejection.TheVariants.{Memory, NotServed, Refused}
-use Rattle.pml_sim.specs.State.{State}
-use Rattle.pml_sim.specs.World.{rules}
-use Rattle.pml_play.specs.Transcript.{IsSpelled, IsModel, too_long, lexical, left_out, too_deep, unspelled, unfit, of_unserved, of_refusal, of_model}
+use Rattle.pml_play.specs.declared.whole.Rejection.TheVariants.{Memory, Refused}
+use Rattle.pml_sim.specs.World.{Running, rules}
+use Rattle.pml_play.specs.Transcript.{IsSpelled, IsModel, too_long, lexical, left_out, too_deep, unspelled, unfit, of_refusal, of_model}
 use Rattle.pml_play.specs.Plays.{IsReady, IsRejected, of_lexical, of_syntax, of_check, Rejects, PlaysText, PlaysWhole}
 use Rattle.pml_lex.proofs.Lines.{token_lines}
-use Rattle.pml_play.proofs.Each.{has_transcript}
+use Rattle.pml_play.proofs.Each.{good_start, has_transcript}
 
 -- ---- reading
 
@@ -71,11 +69,6 @@ is_ready text t p is fits stands = record { tree = t; is_spelled = is; fits = fi
 
 -- ---- the first state
 
--- in a tree that fits, no initialiser of the first state has a fault
-good_start : (t : Tree) → IsFit t → HasGoodStart (numbered_model t)
-unfolding FitsTo
-good_start t f = (fitted t refusal.Initialiser (f refusal.Initialiser)).1
-
 no_fault : (b : Begun) (d : Result Begun Fault) (e : Stop) (f : Fault) → d ≡ Ok b → e ≡ stop.Fault f → Starts d (Err e) → ⊥
 no_fault b d e f is of h = subst (λ (k : Stop). Starts (Ok b) (Err k)) of (subst (λ (x : Result Begun Fault). Starts x (Err e)) is h)
 
@@ -93,16 +86,6 @@ module _ (text : List ℕ) (options : Options) (a b : Holdings) where
       let t = has_transcript text options in
       let e_is : e ≡ broken.Memory = (let w = h.0 in cc) in
       record { part = t.0; is_transcript = t.1; breaks = subst (λ (x : Broken). Breaks x a b 0 0 t.0) (sym e_is) (memory_breaks t.0 h.1) }
-  rejected NotServed (Ok end) is h = subst (λ (x : End). PlaysWhole text options a b 0 x) (sym h.1) (record {
-    part = not_served false;
-    is_transcript = of_unserved is;
-    ends = (false, Leads-does (puts not_served_line (only (end_of cause.NotServed 0) false) h.0) (only_does (end_of cause.NotServed 0) false));
-  })
-  rejected NotServed (Err e) is h = record {
-    part = not_served false;
-    is_transcript = of_unserved is;
-    breaks = write_breaks e not_served_line (only (end_of cause.NotServed 0) false) h.0;
-  }
   rejected (Refused r line) (Ok end) is h = subst (λ (x : End). PlaysWhole text options a b 0 x) (sym h.1) (record {
     part = refused r line false;
     is_transcript = of_refusal is;
@@ -118,6 +101,6 @@ module _ (text : List ℕ) (options : Options) (a b : Holdings) where
   rejected_plays n rejection result zero is h = subst (λ (m : ℕ). PlaysText text options result a b m) (sym zero) (rejected rejection result is h)
 
   -- a text that is a model
-  pub model_plays : (n : ℕ) (result : Result End Broken) (state : State) → IsModel text state → Runs result a b n (transcript rules options state) → PlaysText text options result a b n
+  pub model_plays : (n : ℕ) (result : Result End Broken) (state : Running) → IsModel text state → Runs result a b n (transcript rules options state) → PlaysText text options result a b n
   model_plays n (Ok end) state is h = record { part = transcript rules options state; is_transcript = of_model is; ends = h }
   model_plays n (Err e) state is h = record { part = transcript rules options state; is_transcript = of_model is; breaks = h }

@@ -10,7 +10,7 @@ use Rattle.session.specs.declared.Broken.TheVariants as broken
 use Rattle.session.specs.Part.{Part}
 use Rattle.session.specs.Session.{end_of}
 use Rattle.session.specs.Stands.{Breaks, CountsBroken}
-use Rattle.session.specs.Texts.{refusal_line, not_served_line}
+use Rattle.session.specs.Texts.{refusal_line}
 use Rattle.session.specs.Writes.{Writes, Ends, failure_of}
 use Rattle.pml_lex.specs.declared.fault.LexFault.{LexFault}
 use Rattle.pml_lex.specs.declared.fault.LexFault.TheVariants as lex
@@ -23,13 +23,12 @@ use Rattle.pml_check.specs.Judged.{IsFit}
 use Rattle.pml_check.specs.declared.checked.CheckFault.{CheckFault}
 use Rattle.pml_check.specs.declared.checked.CheckFault.TheVariants as check
 use Rattle.pml_play.specs.declared.whole.Rejection.{Rejection}
-use Rattle.pml_play.specs.declared.whole.Rejection.TheVariants.{Memory, NotServed, Refused}
-use Rattle.pml_play.specs.Transcript.{IsSpelled, IsRefused, IsUnserved, IsTranscript}
+use Rattle.pml_play.specs.declared.whole.Rejection.TheVariants.{Memory, Refused}
+use Rattle.pml_play.specs.Transcript.{IsSpelled, IsRefused, IsTranscript}
 
--- memory ran out, or the text uses what is not served yet, or it is refused so
+-- memory ran out, or the text is refused so
 abbrev pub IsRejected : List ℕ → Rejection → Type 0
 IsRejected text Memory = Unit {0}
-IsRejected text NotServed = IsUnserved text
 IsRejected text (Refused r line) = IsRefused text r line
 
 -- what a fault of cutting, of reading or of the checks makes of a text
@@ -58,8 +57,6 @@ pub record IsReady (text : List ℕ) (p : Program) : Type 0 where
 -- what is written of a rejected text, and how its session ends
 abbrev pub Rejects : Rejection → Result End Broken → Holdings → Holdings → Type 0
 Rejects Memory result before after = (result ≡ Err broken.Memory) × Moved before after [] [] []
-Rejects NotServed result before after =
-    Writes result before after not_served_line × IfOk result (λ end. end ≡ end_of cause.NotServed 0)
 Rejects (Refused r line) result before after =
     Writes result before after (refusal_line r) × IfOk result (λ end. end ≡ end_of (cause.Refused r line) 0)
 

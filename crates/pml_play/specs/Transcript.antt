@@ -1,11 +1,11 @@
 -- What a text stands for: a refusal, or a model; and the session over it.
-use Rattle.std.specs.Prelude.{◌≡◌, ◌<◌, ℕ, List, length, Option, Some, None, false}
+use Rattle.std.specs.Prelude.{◌≡◌, ◌<◌, ℕ, List, length, Ok, false}
 use Rattle.diagnostics.specs.declared.refusal.Refusal.{Refusal}
 use Rattle.diagnostics.specs.declared.refusal.Refusal.TheVariants as r
 use Rattle.session.specs.declared.Options.{Options}
 use Rattle.session.specs.declared.End.{End}
 use Rattle.session.specs.Part.{Part}
-use Rattle.session.specs.Session.{refused, not_served, transcript}
+use Rattle.session.specs.Session.{refused, transcript}
 use Rattle.pml_lex.specs.Word.{Word}
 use Rattle.profile.specs.declared.TheConstants.{MOST_TEXT_BYTES}
 use Rattle.pml_lex.specs.Cut.{IsLine, AreTokens, CannotBeCut, HoldsLeftOut, GoesTooDeep}
@@ -14,9 +14,9 @@ use Rattle.pml_syntax.specs.Grammar.{Spells}
 use Rattle.pml_stands.specs.StandsModel.{StandsModel}
 use Rattle.pml_check.specs.Judged.{IsFit, IsLeast}
 use Rattle.pml_program.specs.declared.program.Program.{Program}
+use Rattle.pml_start.specs.Begin.{Begun}
 use Rattle.pml_start.specs.Start.{first_state}
-use Rattle.pml_sim.specs.State.{State}
-use Rattle.pml_sim.specs.World.{first, rules}
+use Rattle.pml_sim.specs.World.{Running, first, rules}
 
 -- The text's tokens spell this tree.
 pub record IsSpelled (text : List ℕ) (tree : Tree) : Type 0 where
@@ -24,18 +24,16 @@ pub record IsSpelled (text : List ℕ) (tree : Tree) : Type 0 where
   pub are_tokens : AreTokens text tokens
   pub spells : Spells tree tokens
 
--- what the first state of a checked model is, where the model is of the part that is served
-abbrev pub begins : Program → Option State
-begins p = first p (first_state p)
-
--- The text has a tree that fits all conditions, and the model that it stands for is of the part that is served: it begins in this state.
-pub record IsModel (text : List ℕ) (state : State) : Type 0 where
+-- The text has a tree that fits all conditions, and the model that it stands for begins in this state.
+pub record IsModel (text : List ℕ) (state : Running) : Type 0 where
   pub tree : Tree
   pub is_spelled : IsSpelled text tree
   pub fits : IsFit tree
   pub program : Program
   pub stands : StandsModel tree program
-  pub is : begins program ≡ Some state
+  pub begun : Begun
+  pub starts : first_state program ≡ Ok begun
+  pub is : state ≡ first program begun
 
 -- The text has tokens, and no tree spells them.
 pub record IsUnspelled (text : List ℕ) (line : ℕ) : Type 0 where
@@ -43,15 +41,6 @@ pub record IsUnspelled (text : List ℕ) (line : ℕ) : Type 0 where
   pub are_tokens : AreTokens text tokens
   pub none : (tree : Tree) → Spells tree tokens → ⊥
   pub on_line : IsLine text line
-
--- The text has a tree that fits all conditions, and the model that it stands for is not of the part that is served.
-pub record IsUnserved (text : List ℕ) : Type 0 where
-  pub tree : Tree
-  pub is_spelled : IsSpelled text tree
-  pub fits : IsFit tree
-  pub program : Program
-  pub stands : StandsModel tree program
-  pub none : begins program ≡ None
 
 -- The text has a tree, and of the conditions that apply to it this is the least.
 pub record IsUnfit (text : List ℕ) (refusal : Refusal) : Type 0 where
@@ -89,9 +78,7 @@ HasLine text r.NoProcess line = line ≡ 0
 HasLine text r.TooManyAtStart line = line ≡ 0
 HasLine text r.Initialiser line = line ≡ 0
 
--- The session over a text: one line where it is refused or uses what is not served yet, and else that of the process that it
--- describes.
+-- The session over a text: one line where it is refused, and else that of the model that it stands for.
 pub data IsTranscript (text : List ℕ) (options : Options) : (List ℕ → Part End) → Type 0 where
-  of_unserved : IsUnserved text → IsTranscript text options (not_served false)
   of_refusal : {refusal : Refusal} {line : ℕ} → IsRefused text refusal line → IsTranscript text options (refused refusal line false)
-  of_model : {state : State} → IsModel text state → IsTranscript text options (transcript rules options state)
+  of_model : {state : Running} → IsModel text state → IsTranscript text options (transcript rules options state)

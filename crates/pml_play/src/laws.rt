@@ -2,19 +2,17 @@
 
 ghost use Rattle.std.specs.Prelude.{◌≡◌, ℕ, List};
 ghost use Rattle.diagnostics.specs.declared.refusal.Refusal.{Refusal};
-ghost use Rattle.pml_sim.specs.State.{State};
+ghost use Rattle.pml_sim.specs.World.{Running};
 ghost use Rattle.session.specs.declared.End.{End};
 ghost use Rattle.session.specs.declared.Options.{Options};
 ghost use Rattle.session.specs.Part.{Part};
-ghost use Rattle.pml_play.specs.Transcript.{IsModel, IsRefused, IsUnserved, IsTranscript, HasLine};
+ghost use Rattle.pml_play.specs.Transcript.{IsModel, IsRefused, IsTranscript, HasLine};
 
-/// A text is refused in one way at most, or uses what is not served, or stands for one model at most, and only one of these.
+/// A text is refused in one way at most, or stands for one model at most, and not both.
 pub fn one_outcome()
     ensures refusal { (text : List ℕ) (a b : Refusal) (m n : ℕ) → IsRefused text a m → IsRefused text b n → a ≡ b }
-    ensures either { (text : List ℕ) (a : Refusal) (m : ℕ) (model : State) → IsRefused text a m → IsModel text model → ⊥ }
-    ensures unserved { (text : List ℕ) (a : Refusal) (m : ℕ) → IsRefused text a m → IsUnserved text → ⊥ }
-    ensures served { (text : List ℕ) (model : State) → IsModel text model → IsUnserved text → ⊥ }
-    ensures model { (text : List ℕ) (a b : State) → IsModel text a → IsModel text b → a ≡ b }
+    ensures either { (text : List ℕ) (a : Refusal) (m : ℕ) (model : Running) → IsRefused text a m → IsModel text model → ⊥ }
+    ensures model { (text : List ℕ) (a b : Running) → IsModel text a → IsModel text b → a ≡ b }
 {}
 
 /// Each text has a transcript, and the transcripts of a text have the same events: only the line of a refusal is left open.

@@ -1,5 +1,5 @@
-//! A session over a text of a part of Promela: one process of assignments and conditions, from the bytes of the model
-//! to the bytes of the output (Holzmann, The SPIN Model Checker, chapters 3 and 7).
+//! A session over a text of Promela, from the bytes of the model and of the choices to those of the output and of the record
+//! (Holzmann, *The SPIN Model Checker*, chapters 3 and 7).
 #![tactic(auto)]
 
 pub mod laws;

@@ -1,8 +1,6 @@
 //! The session over a text.
 
-ghost use Rattle.std.specs.Prelude.{◌≡◌, ◌≢◌, ◌<◌, [], ℕ, List, Err, IfOk, IfErr, OnOk};
-ghost use Rattle.std.specs.Io.KnownBytes.{Appends};
-ghost use Rattle.devices.specs.Holdings.{Gave};
+ghost use Rattle.std.specs.Prelude.{◌≡◌, ◌≢◌, ◌<◌, ℕ, List, Err, IfOk, IfErr, OnOk};
 ghost use Rattle.session.specs.declared.End.{End};
 ghost use Rattle.session.specs.Part.{Part};
 ghost use Rattle.session.specs.Replay.{CanBeReplayed};
@@ -24,15 +22,13 @@ use pml_lex::token::Token;
 use pml_sim::world::World;
 use pml_start::start::start;
 use pml_syntax::{SyntaxFault, parse};
-use session::{Broken, End, Options, end_of, failure, refuse, refuse_unserved, run};
+use session::{Broken, End, Options, end_of, failure, refuse, run};
 use std::alloc::{AllocError, Global};
 
 /// Why a text has no model.
 #[derive(Clone, Copy, Debug, PartialEq, Eq)]
 enum Rejection {
     Memory,
-    /// It is a model of Promela, and uses something that is not served yet.
-    NotServed,
     /// It is refused, on this line, or 0 where the refusal has none.
     Refused(Refusal, u32),
 }
@@ -113,17 +109,15 @@ fn checked_of<'a>(alloc: Global, tokens: &'a [Token<'a>]) -> Result<Checked<'a>,
     }
 }
 
-/// The first state of a checked model, where it is of the part that is served. The check has evaluated what it begins with before,
-/// so no fault comes here.
+/// The first state of a checked model. The check has evaluated what it begins with before, so no fault comes here.
 fn world_of<'p, 'a>(alloc: Global, checked: &'p Checked<'a>) -> Result<World<'p, 'a>, Rejection>
     ensures ok { (text : List ℕ) → IsReady text checked.now → IfOk result (IsModel text) }
     ensures err { (text : List ℕ) → IsReady text checked.now → IfErr result (IsRejected text) }
 {
     let program = checked.program();
     match start(alloc, program) {
-        Ok(started) => match World::first(alloc, program, started) {
-            Ok(Some(world)) => Ok(world),
-            Ok(None) => Err(Rejection::NotServed),
+        Ok(started) => match World::first(alloc, program, checked.graphs(), started) {
+            Ok(world) => Ok(world),
             Err(AllocError) => Err(Rejection::Memory),
         },
         Err(Stop::Fault(_)) => Err(Rejection::Refused(Refusal::Initialiser, 0)),
@@ -139,7 +133,6 @@ fn reject<D: Devices>(alloc: Global, rejection: Rejection, devices: &mut D) -> R
 {
     match rejection {
         Rejection::Memory => Err(Broken::Memory),
-        Rejection::NotServed => refuse_unserved(devices),
         Rejection::Refused(refusal, line) => refuse(alloc, refusal, line, devices),
     }
 }
@@ -156,8 +149,6 @@ fn play_checked<D: Devices>(
     ensures part { (text : List ℕ) → IsReady text checked.now → PlaysText text options.now result (D.holds devices.old) (D.holds devices.new) steps.new }
     ensures own { IfOk result (IsOwnEnd steps.new) }
     ensures count { CountsAll result (D.holds devices.old).failures (D.holds devices.new).failures }
-    ensures unread { Gave (D.holds devices.old).source (D.holds devices.new).source [] }
-    ensures unrecorded { Appends (D.holds devices.old).rec (D.holds devices.new).rec [] }
 {
     match world_of(alloc, checked) {
         Ok(world) => {
@@ -180,8 +171,6 @@ fn stages<D: Devices>(
     ensures part { PlaysText text.now options.now result (D.holds devices.old) (D.holds devices.new) steps.new }
     ensures own { IfOk result (IsOwnEnd steps.new) }
     ensures count { CountsAll result (D.holds devices.old).failures (D.holds devices.new).failures }
-    ensures unread { Gave (D.holds devices.old).source (D.holds devices.new).source [] }
-    ensures unrecorded { Appends (D.holds devices.old).rec (D.holds devices.new).rec [] }
 {
     let tokens = match tokens_of(alloc, text) {
         Ok(tokens) => tokens,
@@ -195,17 +184,14 @@ fn stages<D: Devices>(
 
 /// Plays the text of a model. Where the status is not 6, the two sinks have taken the output and the record of its
 /// transcript and its end is answered. Where it is 6, a device or memory failed, and what the devices hold is where a
-/// beginning of the transcript's events leaves them. No question is ever asked: nothing is read, and nothing recorded.
+/// beginning of the transcript's events leaves them.
 pub fn play<D: Devices>(alloc: Global, text: &[u8], options: &Options, devices: &mut D) -> End
     ensures left { (left : List ℕ) × (D.holds devices.new).source left }
     ensures whole { result.status ≢ 6 → PlaysWhole text.now options.now (D.holds devices.old) (D.holds devices.new) result.steps result }
     ensures quiet { result.status ≢ 6 → (D.holds devices.new).failures ≡ (D.holds devices.old).failures }
     ensures broken { result.status ≡ 6 → PlaysBroken text.now options.now (D.holds devices.old) (D.holds devices.new) result }
     ensures end { result ≡ end_of result.cause result.steps }
-    // No question is ever asked, so no byte of the choices is read, and nothing is recorded.
-    ensures unread { Gave (D.holds devices.old).source (D.holds devices.new).source [] }
-    ensures unrecorded { Appends (D.holds devices.old).rec (D.holds devices.new).rec [] }
-    // Played again on its record, which is empty, it is the same.
+    // Played again on its record, it is the same.
     ensures replay { (part : List ℕ → Part End) → IsTranscript text.now options.now part → CanBeReplayed part }
 {
     let mut steps = 0;

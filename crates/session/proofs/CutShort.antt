@@ -15,10 +15,11 @@ use Rattle.session.specs.Part.{Part, preceded, followed}
 use Rattle.session.specs.Machine.{Rules, Outcome, Goes, Faults}
 use Rattle.session.specs.Session.{one_line, ask, only, kept, choose, select, stopped, finished, stepped, answered, story, transcript, refused, not_served, end_of, step_text}
 use Rattle.session.specs.Texts.{record_line, list_from, prompt}
-use Rattle.session.specs.Replay.{is_cut_short, IsSameBeginning, CanBeReplayed, HasFewMoves, arrived}
+use Rattle.session.specs.Replay.{is_cut_short, IsSameBeginning, CanBeReplayed}
 use Rattle.session.proofs.LineReading.{line_end}
 use Rattle.session.proofs.Parts.{front-append, recorded-append, front-asks, recorded-asks}
-use Rattle.session.proofs.Replay.{picked_is_there, few_behind, Silent, chosen, recorded_chosen, picked_again, ask_silent, ask_range, story_again, same_run}
+use Rattle.session.proofs.Written.{IsShort, ask_short}
+use Rattle.session.proofs.Replay.{picked_is_there, Silent, chosen, recorded_chosen, picked_again, ask_silent, ask_range, story_again, same_run}
 use Rattle.session.proofs.Turns.{story_none, story_limit, story_some, answer_part}
 
 -- Where the choices cut this part short, it begins so when it is played again.
@@ -70,34 +71,34 @@ record StopsAt (steps : ℕ) (next : Answer → Bool → List ℕ → Part End) 
   pub count : (said : Answer) → ((k : ℕ) → said ≡ answer.Pick k → ⊥) → (over : Bool) (left : List ℕ) → ((next said over left).value.steps ≡ steps) × (recorded (next said over left).events ≡ [])
   pub ended : (over : Bool) (left : List ℕ) → ((next answer.Ended over left).value ≡ end_of cause.ChoicesEnded steps) × (recorded (next answer.Ended over left).events ≡ []) × (front (next answer.Ended over left).events ≡ [])
 
-module _ {M : Type 0} (text : M → List ℕ) (moves : List M) (few : length moves < 2 ^ 64) (next : Answer → Bool → List ℕ → Part End) (steps : ℕ) (stops : StopsAt steps next) where
+module _ {M : Type 0} (text : M → List ℕ) (moves : List M) (next : Answer → Bool → List ℕ → Part End) (steps : ℕ) (stops : StopsAt steps next) where
   -- no number was picked
   unpicked : (asked : List Event) (said : Answer) (over : Bool) (left : List ℕ) → Silent asked → ((k : ℕ) → said ≡ answer.Pick k → ⊥) → (kept said over left ≡ only said over left)
-      → IsSameBeginning (chosen text moves few next asked said over left) (followed (choose text moves false (recorded (chosen text moves few next asked said over left).events)) next)
+      → IsSameBeginning (chosen text moves next asked said over left) (followed (choose text moves false (recorded (chosen text moves next asked said over left).events)) next)
   unpicked asked said over left silent other is =
       let c = stops.count said other over left in
       let e = stops.ended true [] in
-      let none : recorded (chosen text moves few next asked said over left).events ≡ [] = rw is (rw (append-nil asked) (rw (recorded-append asked (next said over left).events, silent.0) c.1)) in
+      let none : recorded (chosen text moves next asked said over left).events ≡ [] = rw is (rw (append-nil asked) (rw (recorded-append asked (next said over left).events, silent.0) c.1)) in
       rw none (rw (ended_ask (length moves) (most_bad_lines - 1)) (record { ends = e.0 ∙ ap (end_of cause.ChoicesEnded) (sym (rw is c.0)); keeps = e.1 ∙ sym none; reads = e.2 ∙ sym none }))
 
-  chosen_begins : ((k : ℕ) → 0 < k → k ≤ length moves → BeginsAgain (next (answer.Pick k))) → (asked : List Event) (said : Answer) (over : Bool) (left : List ℕ) → Silent asked → IsPickUpTo (length moves) said
-      → is_cut_short (chosen text moves few next asked said over left).value.cause ≡ true
-      → IsSameBeginning (chosen text moves few next asked said over left) (followed (choose text moves false (recorded (chosen text moves few next asked said over left).events)) next)
-  chosen_begins ih asked (answer.Pick n) over left silent range cut =
+  chosen_begins : ((k : ℕ) → 0 < k → k ≤ length moves → BeginsAgain (next (answer.Pick k))) → (asked : List Event) (said : Answer) (over : Bool) (left : List ℕ) → Silent asked → IsPickUpTo (length moves) said → IsShort said
+      → is_cut_short (chosen text moves next asked said over left).value.cause ≡ true
+      → IsSameBeginning (chosen text moves next asked said over left) (followed (choose text moves false (recorded (chosen text moves next asked said over left).events)) next)
+  chosen_begins ih asked (answer.Pick n) over left silent range short cut =
       let rest = next (answer.Pick n) over left in
-      let whole = chosen text moves few next asked (answer.Pick n) over left in
+      let whole = chosen text moves next asked (answer.Pick n) over left in
       let front_events = Put Told (list_from text 1 moves) ∷ Put Told (prompt (length moves)) ∷ (asks (record_line n) false ++ Recorded (record_line n) ∷ []) in
       let b = ih n range.0 range.1 over left cut in
-      let is = recorded_chosen text moves few next asked n over left silent in
-      rw is (rw (picked_again text moves few next n (recorded rest.events) range.0 range.1) (record {
+      let is = recorded_chosen text moves next asked n over left silent in
+      rw is (rw (picked_again text moves next n (recorded rest.events) range.0 range.1 short) (record {
         ends = b.ends;
         keeps = rw is (rw (recorded-append front_events (next (answer.Pick n) false (recorded rest.events)).events, recorded-append (asks (record_line n) false) (Recorded (record_line n) ∷ []), recorded-asks (record_line n) false, b.keeps) (ap (λ l. l ++ recorded rest.events) (append-nil (record_line n))));
         reads = rw is (rw (front-append front_events (next (answer.Pick n) false (recorded rest.events)).events, front-append (asks (record_line n) false) (Recorded (record_line n) ∷ []), front-asks (record_line n) false, b.reads) (ap (λ l. l ++ recorded rest.events) (append-nil (record_line n))));
       }))
-  chosen_begins ih asked answer.Quit over left silent range cut = unpicked asked answer.Quit over left silent (λ k e. cc) refl
-  chosen_begins ih asked answer.Ended over left silent range cut = unpicked asked answer.Ended over left silent (λ k e. cc) refl
-  chosen_begins ih asked answer.TooLong over left silent range cut = unpicked asked answer.TooLong over left silent (λ k e. cc) refl
-  chosen_begins ih asked answer.Hundred over left silent range cut = unpicked asked answer.Hundred over left silent (λ k e. cc) refl
+  chosen_begins ih asked answer.Quit over left silent range short cut = unpicked asked answer.Quit over left silent (λ k e. cc) refl
+  chosen_begins ih asked answer.Ended over left silent range short cut = unpicked asked answer.Ended over left silent (λ k e. cc) refl
+  chosen_begins ih asked answer.TooLong over left silent range short cut = unpicked asked answer.TooLong over left silent (λ k e. cc) refl
+  chosen_begins ih asked answer.Hundred over left silent range short cut = unpicked asked answer.Hundred over left silent (λ k e. cc) refl
 
 module _ {S M : Type 0} (rules : Rules S M) (options : Options) where
   answered_stops : (s : S) (moves : List M) (first : M) (steps : ℕ) (later : S → Bool → List ℕ → Part End) → StopsAt steps (answered rules options s moves first steps later)
@@ -115,15 +116,16 @@ module _ {S M : Type 0} (rules : Rules S M) (options : Options) where
       by_answer answer.TooLong other over left = (refl, refl)
       by_answer answer.Hundred other over left = (refl, refl)
 
-  select_begins : (s : S) (moves : List M) → 0 < length moves → length moves < 2 ^ 64 → (first : M) (steps : ℕ) (later : S → Bool → List ℕ → Part End) → StepsBeginAgain rules options s moves later
+  select_begins : (s : S) (moves : List M) → 0 < length moves → (first : M) (steps : ℕ) (later : S → Bool → List ℕ → Part End) → StepsBeginAgain rules options s moves later
       → BeginsAgain (λ over rest. followed (select rules s moves over rest) (answered rules options s moves first steps later))
   unfolding select
-  select_begins s [] some small first steps later ih over choices cut = absurd (omega arith)
-  select_begins s (m ∷ []) some small first steps later ih over choices cut = answered_begins rules options s (m ∷ []) first steps later ih 1 (omega arith) (omega arith) over choices cut
-  select_begins s (m ∷ k ∷ ms) some small first steps later ih over choices cut =
+  select_begins s [] some first steps later ih over choices cut = absurd (omega arith)
+  select_begins s (m ∷ []) some first steps later ih over choices cut = answered_begins rules options s (m ∷ []) first steps later ih 1 (omega arith) (omega arith) over choices cut
+  select_begins s (m ∷ k ∷ ms) some first steps later ih over choices cut =
       let asked = ask (length (m ∷ k ∷ ms)) (most_bad_lines - 1) over choices in
-      chosen_begins (rules.text s) (m ∷ k ∷ ms) small (answered rules options s (m ∷ k ∷ ms) first steps later) steps (answered_stops s (m ∷ k ∷ ms) first steps later)
-      (answered_begins rules options s (m ∷ k ∷ ms) first steps later ih) asked.events asked.value asked.over asked.left (ask_silent (length (m ∷ k ∷ ms)) (most_bad_lines - 1) over choices) (ask_range (length (m ∷ k ∷ ms)) (most_bad_lines - 1) over choices) cut
+      chosen_begins (rules.text s) (m ∷ k ∷ ms) (answered rules options s (m ∷ k ∷ ms) first steps later) steps (answered_stops s (m ∷ k ∷ ms) first steps later)
+      (answered_begins rules options s (m ∷ k ∷ ms) first steps later ih) asked.events asked.value asked.over asked.left (ask_silent (length (m ∷ k ∷ ms)) (most_bad_lines - 1) over choices) (ask_range (length (m ∷ k ∷ ms)) (most_bad_lines - 1) over choices)
+      (ask_short (length (m ∷ k ∷ ms)) (most_bad_lines - 1) over choices) cut
 
   finished_whole : (s : S) (steps : ℕ) (valid : Bool) → BeginsAgain (finished valid (rules.stuck s) steps)
   finished_whole s steps true over choices cut = absurd (true≢false (sym cut))
@@ -133,19 +135,18 @@ module _ {S M : Type 0} (rules : Rules S M) (options : Options) where
   limit_begins s steps [] is = BeginsAgain-same _ (finished (rules.is_valid s) (rules.stuck s) steps) (λ over rest. story_none rules options s steps over 0 is rest) (finished_whole s steps (rules.is_valid s))
   limit_begins s steps (m ∷ ms) is = BeginsAgain-same _ (stopped cause.StepLimit steps) (λ over rest. story_limit rules options s steps over m ms is rest) (λ over choices cut. absurd (true≢false (sym cut)))
 
-  move_begins : (fuel : ℕ) (s : S) (steps : ℕ) → HasFewMoves rules s → ((t : S) → HasFewMoves rules t → BeginsAgain (story rules options fuel t (steps + 1))) → (moves : List M) → rules.moves s ≡ moves → BeginsAgain (story rules options (suc fuel) s steps)
-  move_begins fuel s steps few later [] is = BeginsAgain-same _ (finished (rules.is_valid s) (rules.stuck s) steps) (λ over rest. story_none rules options s steps over (suc fuel) is rest) (finished_whole s steps (rules.is_valid s))
-  move_begins fuel s steps few later (m ∷ ms) is = BeginsAgain-same _ (λ over rest. answer_part rules options s steps over fuel (m ∷ ms) m rest) (λ over rest. story_some rules options s steps over fuel m ms is rest)
-      (select_begins s (m ∷ ms) (omega arith) (subst (λ (l : List M). length l < 2 ^ 64) is (few s arrived)) m steps (λ t o q. story rules options fuel t (steps + 1) o q)
-      (λ n t printed there goes. later t (few_behind rules s n t printed few (subst (λ (l : List M). Contains l n) (sym is) there) goes)))
+  move_begins : (fuel : ℕ) (s : S) (steps : ℕ) → ((t : S) → BeginsAgain (story rules options fuel t (steps + 1))) → (moves : List M) → rules.moves s ≡ moves → BeginsAgain (story rules options (suc fuel) s steps)
+  move_begins fuel s steps later [] is = BeginsAgain-same _ (finished (rules.is_valid s) (rules.stuck s) steps) (λ over rest. story_none rules options s steps over (suc fuel) is rest) (finished_whole s steps (rules.is_valid s))
+  move_begins fuel s steps later (m ∷ ms) is = BeginsAgain-same _ (λ over rest. answer_part rules options s steps over fuel (m ∷ ms) m rest) (λ over rest. story_some rules options s steps over fuel m ms is rest)
+      (select_begins s (m ∷ ms) (omega arith) m steps (λ t o q. story rules options fuel t (steps + 1) o q) (λ n t printed there goes. later t))
 
-  pub story_begins : (fuel : ℕ) (s : S) (steps : ℕ) → HasFewMoves rules s → BeginsAgain (story rules options fuel s steps)
-  story_begins zero s steps few = limit_begins s steps (rules.moves s) refl
-  story_begins (suc fuel) s steps few = move_begins fuel s steps few (λ t. story_begins fuel t (steps + 1)) (rules.moves s) refl
+  pub story_begins : (fuel : ℕ) (s : S) (steps : ℕ) → BeginsAgain (story rules options fuel s steps)
+  story_begins zero s steps = limit_begins s steps (rules.moves s) refl
+  story_begins (suc fuel) s steps = move_begins fuel s steps (λ t. story_begins fuel t (steps + 1)) (rules.moves s) refl
 
-pub can_be_replayed : {S M : Type 0} (rules : Rules S M) (options : Options) (s : S) → HasFewMoves rules s → CanBeReplayed (transcript rules options s)
-can_be_replayed rules options s few choices =
-    (same_run (story rules options options.limit s 0) (story_again rules options options.limit s 0 few) choices, story_begins rules options options.limit s 0 few false choices)
+pub can_be_replayed : {S M : Type 0} (rules : Rules S M) (options : Options) (s : S) → CanBeReplayed (transcript rules options s)
+can_be_replayed rules options s choices =
+    (same_run (story rules options options.limit s 0) (story_again rules options options.limit s 0) choices, story_begins rules options options.limit s 0 false choices)
 
 pub refused_can_be_replayed : (r : Refusal) (line : ℕ) → CanBeReplayed (refused r line false)
 refused_can_be_replayed r line choices = (λ complete. record { ends = refl; keeps = refl; reads = refl; writes = refl }, λ cut. absurd (true≢false (sym cut)))

@@ -2,9 +2,6 @@
 use Rattle.std.proofs.Common.{◌≡◌, ℕ, zero, suc, ◌+◌, ◌-◌, ◌*◌, ◌<◌, ◌≤◌, ◌^◌, List, [], ◌∷◌, ◌++◌, length, fold, Bool, true, false, ◌&&◌, cond, eqb, leb, ltb, Some, None, refl, sym, ap, ◌∙◌, arith, append-nil}
 use Rattle.std.proofs.lemmas.Bool.Decides.{nat_tests}
 use Rattle.std.proofs.lemmas.Bool.{true≢false}
-use Rattle.std.proofs.lemmas.Str.Parse.{IsNumeralModel, IsDigitsTest, FoldsDigits, numerals_by_fold}
-use Rattle.std.proofs.lemmas.Fmt.{digits_decimal, digits_value-decimal, length-decimal-le}
-use Rattle.std.specs.Fmt.{decimal}
 use Rattle.std.specs.List.{list_all}
 use Rattle.session.specs.declared.line.LineEnd.TheVariants.{Whole}
 use Rattle.session.specs.declared.choice.Answer.TheVariants as answer
@@ -12,8 +9,9 @@ use Rattle.session.specs.Events.{asks}
 use Rattle.session.specs.Limits.{most_line_bytes}
 use Rattle.session.specs.Lines.{line_within, lengthened, is_blank, is_digit, front_trimmed, end_trimmed, trimmed, number_of, number_up_to, is_quit, picked, reply_of}
 use Rattle.session.specs.Session.{one_line, ask}
-use Rattle.session.specs.Texts.{record_line}
+use Rattle.session.specs.Texts.{record_line, all_digits}
 use Rattle.session.proofs.LineReading.{line_feed, line_byte}
+use Rattle.session.proofs.Written.{all_are_digits, number_is}
 
 both : (a b : Bool) → (a && b) ≡ true → (a ≡ true) × (b ≡ true)
 both true b holds = (refl, holds)
@@ -59,50 +57,26 @@ line_of_digits (b ∷ bs) more (suc room) fits digits =
     let d = both (is_digit b) (list_all is_digit bs) digits in
     line_byte room b ((bs ++ 10 ∷ []) ++ more) (digit_not_feed b d.0) ∙ ap (lengthened (b ∷ [])) (line_of_digits bs more room (omega arith) d.1)
 
--- ---- the decimal text of a number
-
-test : IsDigitsTest AreDigits
-test = record {
-  empty = refl;
-  parts = λ c cs digits. let d = both (is_digit c) (list_all is_digit cs) digits in (grind (arith, nat_tests), d.1);
-  more = λ c cs range digits. grind (arith, nat_tests);
-}
-
-read_from : ℕ → List ℕ → ℕ
-read_from n digits = fold (λ v b. 10 * v + (b - 48)) n digits
-
-folds : FoldsDigits read_from
-unfolding read_from
-folds = record { empty = λ n. refl; more = λ n c cs range. let same : 10 * n + (c - 48) ≡ n * 10 + (c - 48) = omega arith in ap (λ v. fold (λ v b. 10 * v + (b - 48)) v cs) same }
-
-own : IsNumeralModel AreDigits (read_from 0)
-own = numerals_by_fold AreDigits test read_from folds
-
-decimal_digits : (n : ℕ) → n < 2 ^ 64 → AreDigits (decimal n)
-decimal_digits n small = digits_decimal own n small
-
-decimal_value : (n : ℕ) → n < 2 ^ 64 → number_of (decimal n) ≡ n
-unfolding read_from
-decimal_value n small = digits_value-decimal own n small
+-- ---- the digits of a number
 
 said_in : (n most : ℕ) → 0 < n → n ≤ most → (d : Bool) (v : ℕ) → d ≡ true → v ≡ n → picked (cond (d && (ltb 0 v && leb v most)) (Some v) None) ≡ Some (answer.Pick n)
 said_in n most some within d v digits is = let a : ltb 0 n ≡ true = grind (arith, nat_tests) in let b : leb n most ≡ true = grind (arith, nat_tests) in rw (digits, is, a, b) refl
 
-record_said : (most n : ℕ) → 0 < n → n ≤ most → n < 2 ^ 64 → reply_of most (decimal n) ≡ Some (answer.Pick n)
+record_said : (most n : ℕ) → 0 < n → n ≤ most → reply_of most (all_digits n) ≡ Some (answer.Pick n)
 unfolding reply_of number_up_to
-record_said most n some within small =
-    let digits = decimal_digits n small in
-    rw (trimmed_digits (decimal n) digits) (rw (digits_not_quit (decimal n) digits) (said_in n most some within _ _ digits (decimal_value n small)))
+record_said most n some within =
+    let digits = all_are_digits n in
+    rw (trimmed_digits (all_digits n) digits) (rw (digits_not_quit (all_digits n) digits) (said_in n most some within _ _ digits (number_is n)))
 
-record_one_line : (most n : ℕ) (more : List ℕ) → 0 < n → n ≤ most → n < 2 ^ 64
+record_one_line : (most n : ℕ) (more : List ℕ) → 0 < n → n ≤ most → length (all_digits n) ≤ most_line_bytes
     → one_line most false (record_line n ++ more) ≡ record { events = asks (record_line n) false; value = Some (answer.Pick n); over = false; left = more }
 unfolding one_line
 record_one_line most n more some within small =
-    let line = line_of_digits (decimal n) more (most_line_bytes + 1) (omega (arith, length-decimal-le 20 n (omega arith) (omega arith) small)) (decimal_digits n small) in
-    rw line (rw (record_said most n some within small) refl)
+    let line = line_of_digits (all_digits n) more (most_line_bytes + 1) (omega (arith, small)) (all_are_digits n) in
+    rw line (rw (record_said most n some within) refl)
 
 -- the line of a number that can be picked answers a question at once
-pub record_asked : (most tries n : ℕ) (more : List ℕ) → 0 < n → n ≤ most → n < 2 ^ 64
+pub record_asked : (most tries n : ℕ) (more : List ℕ) → 0 < n → n ≤ most → length (all_digits n) ≤ most_line_bytes
     → ask most tries false (record_line n ++ more) ≡ record { events = asks (record_line n) false; value = answer.Pick n; over = false; left = more }
 unfolding ask
 record_asked most zero n more some within small = rw (record_one_line most n more some within small) (rw append-nil refl)

@@ -18,9 +18,10 @@ use Rattle.session.specs.Part.{Part, preceded, followed}
 use Rattle.session.specs.Machine.{Rules, Outcome, Goes, Faults}
 use Rattle.session.specs.Session.{one_line, reply_at, ask, after_line, only, kept, choose, select, stopped, finished, stepped, answered, story, step_text}
 use Rattle.session.specs.Texts.{record_line, list_from, prompt}
-use Rattle.session.specs.Replay.{without_corrections, is_complete, IsSameRun, HasFewMoves, arrived, onward}
+use Rattle.session.specs.Replay.{without_corrections, is_complete, IsSameRun}
 use Rattle.session.proofs.Parts.{front-append, output-append, recorded-append, front-asks, output-asks, recorded-asks}
 use Rattle.session.proofs.Records.{record_asked}
+use Rattle.session.proofs.Written.{IsShort, ask_short}
 use Rattle.session.proofs.Turns.{story_none, story_limit, story_some, answer_part}
 
 -- ---- what becomes of events
@@ -147,10 +148,6 @@ ask_range most (suc tries) over rest = after_range most _ (λ o l. ask_range mos
 pub picked_is_there : {M : Type 0} (moves : List M) (k : ℕ) (first : M) → 0 < k → k ≤ length moves → Contains moves (get_or moves (k - 1) first)
 picked_is_there moves k first some within = Contains-get_or moves (k - 1) first (omega arith)
 
--- what is reached from a later state is reached
-pub few_behind : {S M : Type 0} (rules : Rules S M) (s : S) (m : M) (t : S) (printed : List ℕ) → HasFewMoves rules s → Contains (rules.moves s) m → rules.step s m ≡ Goes t printed → HasFewMoves rules t
-few_behind rules s m t printed few there goes u reaches = few u (onward there goes reaches)
-
 -- ---- complete runs
 
 -- what a part becomes when it is played again on its record and more
@@ -182,7 +179,7 @@ module _ {S M : Type 0} (rules : Rules S M) (options : Options) (s : S) where
       stepped_again m steps later (λ t printed goes. ih m t printed (picked_is_there moves k first some within) goes) (rules.step s m) refl
 
 -- the number that a question picked is recorded, and answers it when it is asked again
-module _ {M : Type 0} (text : M → List ℕ) (moves : List M) (few : length moves < 2 ^ 64) (next : Answer → Bool → List ℕ → Part End) where
+module _ {M : Type 0} (text : M → List ℕ) (moves : List M) (next : Answer → Bool → List ℕ → Part End) where
   -- a question with its list and its prompt, these events and this answer
   abbrev pub chosen : List Event → Answer → Bool → List ℕ → Part End
   chosen asked said over left = followed (preceded (Put Told (list_from text 1 moves) ∷ []) (preceded (Put Told (prompt (length moves)) ∷ [])
@@ -201,20 +198,20 @@ module _ {M : Type 0} (text : M → List ℕ) (moves : List M) (few : length mov
       rw (replayed-append (asked ++ Recorded (record_line n) ∷ []) rest, replayed-append asked (Recorded (record_line n) ∷ []), silent.1) (rw append-nil refl)
 
   -- it is asked again with its record and more
-  pub picked_again : (n : ℕ) (more : List ℕ) → 0 < n → n ≤ length moves → followed (choose text moves false (record_line n ++ more)) next
+  pub picked_again : (n : ℕ) (more : List ℕ) → 0 < n → n ≤ length moves → IsShort (answer.Pick n) → followed (choose text moves false (record_line n ++ more)) next
       ≡ preceded (Put Told (list_from text 1 moves) ∷ Put Told (prompt (length moves)) ∷ (asks (record_line n) false ++ Recorded (record_line n) ∷ [])) (next (answer.Pick n) false more)
-  picked_again n more some within = rw (record_asked (length moves) (most_bad_lines - 1) n more some within (omega arith)) refl
+  picked_again n more some within short = rw (record_asked (length moves) (most_bad_lines - 1) n more some within short) refl
 
   chosen_again : ((k : ℕ) → 0 < k → k ≤ length moves → RunsAgain (next (answer.Pick k))) → ((said : Answer) → ((k : ℕ) → said ≡ answer.Pick k → ⊥) → (over : Bool) (left : List ℕ) → is_complete (next said over left).value.cause ≡ false)
-      → (asked : List Event) (said : Answer) (over : Bool) (left more : List ℕ) → Silent asked → IsPickUpTo (length moves) said → is_complete (chosen asked said over left).value.cause ≡ true
+      → (asked : List Event) (said : Answer) (over : Bool) (left more : List ℕ) → Silent asked → IsPickUpTo (length moves) said → IsShort said → is_complete (chosen asked said over left).value.cause ≡ true
       → followed (choose text moves false (recorded (chosen asked said over left).events ++ more)) next ≡ again_of (chosen asked said over left) more
-  chosen_again ih stops asked (answer.Pick n) over left more silent range complete =
+  chosen_again ih stops asked (answer.Pick n) over left more silent range short complete =
       let rest = next (answer.Pick n) over left in
-      rw (recorded_chosen asked n over left silent, replayed_chosen asked n over left silent) (rw append_assoc (rw (picked_again n (recorded rest.events ++ more) range.0 range.1) (rw (ih n range.0 range.1 over left more complete) refl)))
-  chosen_again ih stops asked answer.Quit over left more silent range complete = absurd (true≢false (sym complete ∙ stops answer.Quit (λ k e. cc) over left))
-  chosen_again ih stops asked answer.Ended over left more silent range complete = absurd (true≢false (sym complete ∙ stops answer.Ended (λ k e. cc) over left))
-  chosen_again ih stops asked answer.TooLong over left more silent range complete = absurd (true≢false (sym complete ∙ stops answer.TooLong (λ k e. cc) over left))
-  chosen_again ih stops asked answer.Hundred over left more silent range complete = absurd (true≢false (sym complete ∙ stops answer.Hundred (λ k e. cc) over left))
+      rw (recorded_chosen asked n over left silent, replayed_chosen asked n over left silent) (rw append_assoc (rw (picked_again n (recorded rest.events ++ more) range.0 range.1 short) (rw (ih n range.0 range.1 over left more complete) refl)))
+  chosen_again ih stops asked answer.Quit over left more silent range short complete = absurd (true≢false (sym complete ∙ stops answer.Quit (λ k e. cc) over left))
+  chosen_again ih stops asked answer.Ended over left more silent range short complete = absurd (true≢false (sym complete ∙ stops answer.Ended (λ k e. cc) over left))
+  chosen_again ih stops asked answer.TooLong over left more silent range short complete = absurd (true≢false (sym complete ∙ stops answer.TooLong (λ k e. cc) over left))
+  chosen_again ih stops asked answer.Hundred over left more silent range short complete = absurd (true≢false (sym complete ∙ stops answer.Hundred (λ k e. cc) over left))
 
 module _ {S M : Type 0} (rules : Rules S M) (options : Options) where
   answered_stops : (s : S) (moves : List M) (first : M) (steps : ℕ) (later : S → Bool → List ℕ → Part End) (said : Answer) → ((k : ℕ) → said ≡ answer.Pick k → ⊥) → (over : Bool) (left : List ℕ)
@@ -227,31 +224,31 @@ module _ {S M : Type 0} (rules : Rules S M) (options : Options) where
   answered_stops s moves first steps later answer.Hundred other over left = refl
 
   -- a move is selected and taken
-  select_again : (s : S) (moves : List M) → 0 < length moves → length moves < 2 ^ 64 → (first : M) (steps : ℕ) (later : S → Bool → List ℕ → Part End) → StepsRunAgain rules options s moves later
+  select_again : (s : S) (moves : List M) → 0 < length moves → (first : M) (steps : ℕ) (later : S → Bool → List ℕ → Part End) → StepsRunAgain rules options s moves later
       → RunsAgain (λ over rest. followed (select rules s moves over rest) (answered rules options s moves first steps later))
   unfolding select
-  select_again s [] some small first steps later ih over choices more complete = absurd (omega arith)
-  select_again s (m ∷ []) some small first steps later ih over choices more complete = answered_again rules options s (m ∷ []) first steps later ih 1 (omega arith) (omega arith) over choices more complete
-  select_again s (m ∷ k ∷ ms) some small first steps later ih over choices more complete =
+  select_again s [] some first steps later ih over choices more complete = absurd (omega arith)
+  select_again s (m ∷ []) some first steps later ih over choices more complete = answered_again rules options s (m ∷ []) first steps later ih 1 (omega arith) (omega arith) over choices more complete
+  select_again s (m ∷ k ∷ ms) some first steps later ih over choices more complete =
       let asked = ask (length (m ∷ k ∷ ms)) (most_bad_lines - 1) over choices in
-      chosen_again (rules.text s) (m ∷ k ∷ ms) small (answered rules options s (m ∷ k ∷ ms) first steps later) (answered_again rules options s (m ∷ k ∷ ms) first steps later ih)
-      (answered_stops s (m ∷ k ∷ ms) first steps later) asked.events asked.value asked.over asked.left more (ask_silent (length (m ∷ k ∷ ms)) (most_bad_lines - 1) over choices) (ask_range (length (m ∷ k ∷ ms)) (most_bad_lines - 1) over choices) complete
+      chosen_again (rules.text s) (m ∷ k ∷ ms) (answered rules options s (m ∷ k ∷ ms) first steps later) (answered_again rules options s (m ∷ k ∷ ms) first steps later ih)
+      (answered_stops s (m ∷ k ∷ ms) first steps later) asked.events asked.value asked.over asked.left more (ask_silent (length (m ∷ k ∷ ms)) (most_bad_lines - 1) over choices) (ask_range (length (m ∷ k ∷ ms)) (most_bad_lines - 1) over choices)
+      (ask_short (length (m ∷ k ∷ ms)) (most_bad_lines - 1) over choices) complete
 
   limit_again : (s : S) (steps : ℕ) (moves : List M) → rules.moves s ≡ moves → RunsAgain (story rules options 0 s steps)
   unfolding replay_of
   limit_again s steps [] is = RunsAgain-same _ (finished (rules.is_valid s) (rules.stuck s) steps) (λ over rest. story_none rules options s steps over 0 is rest) (λ over choices more complete. refl)
   limit_again s steps (m ∷ ms) is = RunsAgain-same _ (stopped cause.StepLimit steps) (λ over rest. story_limit rules options s steps over m ms is rest) (λ over choices more complete. refl)
 
-  move_again : (fuel : ℕ) (s : S) (steps : ℕ) → HasFewMoves rules s → ((t : S) → HasFewMoves rules t → RunsAgain (story rules options fuel t (steps + 1))) → (moves : List M) → rules.moves s ≡ moves → RunsAgain (story rules options (suc fuel) s steps)
+  move_again : (fuel : ℕ) (s : S) (steps : ℕ) → ((t : S) → RunsAgain (story rules options fuel t (steps + 1))) → (moves : List M) → rules.moves s ≡ moves → RunsAgain (story rules options (suc fuel) s steps)
   unfolding replay_of
-  move_again fuel s steps few later [] is = RunsAgain-same _ (finished (rules.is_valid s) (rules.stuck s) steps) (λ over rest. story_none rules options s steps over (suc fuel) is rest) (λ over choices more complete. refl)
-  move_again fuel s steps few later (m ∷ ms) is = RunsAgain-same _ (λ over rest. answer_part rules options s steps over fuel (m ∷ ms) m rest) (λ over rest. story_some rules options s steps over fuel m ms is rest)
-      (select_again s (m ∷ ms) (omega arith) (subst (λ (l : List M). length l < 2 ^ 64) is (few s arrived)) m steps (λ t o q. story rules options fuel t (steps + 1) o q)
-      (λ n t printed there goes. later t (few_behind rules s n t printed few (subst (λ (l : List M). Contains l n) (sym is) there) goes)))
+  move_again fuel s steps later [] is = RunsAgain-same _ (finished (rules.is_valid s) (rules.stuck s) steps) (λ over rest. story_none rules options s steps over (suc fuel) is rest) (λ over choices more complete. refl)
+  move_again fuel s steps later (m ∷ ms) is = RunsAgain-same _ (λ over rest. answer_part rules options s steps over fuel (m ∷ ms) m rest) (λ over rest. story_some rules options s steps over fuel m ms is rest)
+      (select_again s (m ∷ ms) (omega arith) m steps (λ t o q. story rules options fuel t (steps + 1) o q) (λ n t printed there goes. later t))
 
-  pub story_again : (fuel : ℕ) (s : S) (steps : ℕ) → HasFewMoves rules s → RunsAgain (story rules options fuel s steps)
-  story_again zero s steps few = limit_again s steps (rules.moves s) refl
-  story_again (suc fuel) s steps few = move_again fuel s steps few (λ t. story_again fuel t (steps + 1)) (rules.moves s) refl
+  pub story_again : (fuel : ℕ) (s : S) (steps : ℕ) → RunsAgain (story rules options fuel s steps)
+  story_again zero s steps = limit_again s steps (rules.moves s) refl
+  story_again (suc fuel) s steps = move_again fuel s steps (λ t. story_again fuel t (steps + 1)) (rules.moves s) refl
 
 -- a complete run is the same when its record is its choices
 pub same_run : (part : Bool → List ℕ → Part End) → RunsAgain part → (choices : List ℕ) → is_complete (part false choices).value.cause ≡ true → IsSameRun (part false choices) (part false (recorded (part false choices).events))

@@ -1,12 +1,10 @@
 -- A run that is played again on its own record.
-use Rattle.std.specs.Prelude.{◌≡◌, ℕ, ◌<◌, ◌^◌, List, length, filter, Bool, true, false}
-use Rattle.std.specs.List.{Contains}
+use Rattle.std.specs.Prelude.{◌≡◌, ℕ, List, filter, Bool, true, false}
 use Rattle.session.specs.declared.End.{End}
 use Rattle.session.specs.declared.Cause.{Cause}
 use Rattle.session.specs.declared.Cause.TheVariants as cause
 use Rattle.session.specs.Events.{Event, Put, Told, Corrected, Asked, AskedEnd, Recorded, Stepped, output, front, recorded}
 use Rattle.session.specs.Part.{Part}
-use Rattle.session.specs.Machine.{Rules, Goes}
 use Rattle.session.specs.Session.{end_of}
 
 -- all but the answers to bad lines and the prompts that follow them
@@ -72,12 +70,3 @@ pub record IsSameBeginning (run again : Part End) : Type 0 where
 abbrev pub CanBeReplayed : (List ℕ → Part End) → Type 0
 CanBeReplayed transcript = (choices : List ℕ) → let run = transcript choices in let again = transcript (recorded run.events) in
     (is_complete run.value.cause ≡ true → IsSameRun run again) × (is_cut_short run.value.cause ≡ true → IsSameBeginning run again)
-
--- steps lead from one state to another, each by a move of its list
-pub data Reaches {S M : Type 0} (rules : Rules S M) : S → S → Type 0 where
-  arrived : {s : S} → Reaches rules s s
-  onward : {s t u : S} {m : M} {printed : List ℕ} → Contains (rules.moves s) m → rules.step s m ≡ Goes t printed → Reaches rules t u → Reaches rules s u
-
--- in each state that is reached from this one the count of moves has a decimal text, as each count of moves in memory has
-abbrev pub HasFewMoves : {S M : Type 0} → Rules S M → S → Type 0
-HasFewMoves {S} rules s = (t : S) → Reaches rules s t → length (rules.moves t) < 2 ^ 64

@@ -1,6 +1,7 @@
 -- The lines that a session writes.
-use Rattle.std.specs.Prelude.{ℕ, ◌+◌, List, [], ◌∷◌, ◌++◌, codes}
+use Rattle.std.specs.Prelude.{ℕ, zero, suc, ◌+◌, ◌/◌, ◌%◌, nat_lt, if◌then◌else◌, List, [], ◌∷◌, ◌++◌, codes}
 use Rattle.std.specs.Fmt.{decimal}
+use Rattle.profile.specs.Characters.{zero_digit}
 use Rattle.diagnostics.specs.declared.fault.Fault.{Fault}
 use Rattle.diagnostics.specs.declared.refusal.Refusal.{Refusal}
 use Rattle.diagnostics.specs.Words.{fault_number, fault_words, refusal_number, refusal_words}
@@ -20,9 +21,18 @@ prompt most = codes "choose 1.." ++ (decimal most ++ codes "\n")
 abbrev pub bad_line : List ℕ
 bad_line = codes "bad choice" ++ codes "\n"
 
+-- a number in decimal digits, at most so many
+unfoldable pub digits_of : ℕ → ℕ → List ℕ
+digits_of zero n = []
+digits_of (suc room) n = if nat_lt n 10 then (zero_digit + n) ∷ [] else digits_of room (n / 10) ++ (zero_digit + n % 10) ∷ []
+
+-- all of them, however large the number is
+unfoldable pub all_digits : ℕ → List ℕ
+all_digits n = digits_of (suc n) n
+
 -- an accepted number in the record
 abbrev pub record_line : ℕ → List ℕ
-record_line n = decimal n ++ codes "\n"
+record_line n = all_digits n ++ codes "\n"
 
 -- how a last line begins, by its cause
 abbrev pub last_words : Cause → List ℕ

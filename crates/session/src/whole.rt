@@ -2,7 +2,7 @@
 ghost use Rattle.std.specs.Prelude.{◌≡◌, ◌<◌, ◌≤◌, ◌+◌, ◌^◌, List, ℕ, length, IfOk, IfNone, IfSome, ◌≢◌};
 ghost use Rattle.session.specs.Lines.{IsPickUpTo};
 ghost use Rattle.session.specs.Session.{choose, select, cause_of, final_lines, final_cause, end_of, transcript};
-ghost use Rattle.session.specs.Replay.{CanBeReplayed, HasFewMoves};
+ghost use Rattle.session.specs.Replay.{CanBeReplayed};
 ghost use Rattle.session.specs.Stands.{PlaysQuestion, CountsAll};
 ghost use Rattle.session.specs.Texts.{last_line, status_of};
 ghost use Rattle.session.specs.Writes.{Writes, Acts, Turns, Runs, Ends, IsOwnEnd, IsBrokenOff, failure_of};
@@ -236,7 +236,7 @@ pub fn play<M: Machine, D: Devices>(
     ensures quiet { result.status ≢ 6 → (D.holds devices.new).failures ≡ (D.holds devices.old).failures }
     ensures broken { result.status ≡ 6 → IsBrokenOff (D.holds devices.old) (D.holds devices.new) (transcript M.rules options.now machine.old) result }
     ensures end { result ≡ end_of result.cause result.steps }
-    ensures replay { HasFewMoves M.rules machine.old → CanBeReplayed (transcript M.rules options.now machine.old) }
+    ensures replay { CanBeReplayed (transcript M.rules options.now machine.old) }
 {
     let mut steps = 0;
     match run(alloc, machine, options, &mut steps, devices) {

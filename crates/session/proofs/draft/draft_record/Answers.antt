@@ -1,0 +1,11 @@
+use Rattle.std.proofs.Common.{rules, ◌≡◌, ◌<◌, ◌++◌, ◌^◌, List, ℕ, OnOk, subst, codes, ap}
+use Rattle.std.specs.Fmt.{decimal}
+use Rattle.session.specs.Texts.{all_digits}
+use Rattle.session.proofs.Written.{decimal_is}
+use Rattle.session.proofs.draft.draft_record.Goals as goal
+
+pub returns : goal.returns
+returns c =
+    let small : c.args.n < 2 ^ 64 = search rules in
+    let line : OnOk c.add_counted.result (c.add_counted.new.piece.items ≡ decimal c.args.n ++ codes "\n") = search rules in
+    subst (λ (ds : List ℕ). OnOk c.add_counted.result (c.add_counted.new.piece.items ≡ ds ++ codes "\n")) (decimal_is c.args.n small) line
