@@ -290,7 +290,8 @@ fn an_else_as_an_escape_and_as_a_statement(rt: HostRuntime) -> Result<(), Fail> 
 
 #[test]
 fn gotos_into_an_atomic_and_from_one_to_another(rt: HostRuntime) -> Result<(), Fail> {
-    let text = "byte x; init { if :: goto L :: else fi; atomic { x = 1; L: x = 2; x = 3; if :: goto M :: goto L fi };
+    let text =
+        "byte x; init { if :: goto L :: else fi; atomic { x = 1; L: x = 2; x = 3; if :: goto M :: goto L fi };
         atomic { x = 4; M: x = 5; x = 6 } }";
     let graph = "start 9
 0:
@@ -309,7 +310,8 @@ fn gotos_into_an_atomic_and_from_one_to_another(rt: HostRuntime) -> Result<(), F
 
 #[test]
 fn a_do_an_atomic_and_braces_in_a_d_step(rt: HostRuntime) -> Result<(), Fail> {
-    let text = "byte x; init { d_step { do :: x == 1 -> atomic { x = 2; x = 3 } :: else -> break od; { x = 4 } }; x = 5 }";
+    let text =
+        "byte x; init { d_step { do :: x == 1 -> atomic { x = 2; x = 3 } :: else -> break od; { x = 4 } }; x = 5 }";
     let graph = "start 8
 0:
 1: 0 [x = 5] 0;
