@@ -1,0 +1,4 @@
+pub mod Leading
+pub mod Living
+pub mod Values
+pub mod Stepping

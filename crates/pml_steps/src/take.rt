@@ -84,6 +84,7 @@ fn alone(live: &mut Live<'_, '_>, pick: Pick, timeout: bool, text: &mut Vec<u8>)
     ensures value { Does (alone_by MOST_DSTEP_STATEMENTS live.old.state pick timeout (picks live.old.state pick)) result live.new.state text.old.items text.new.items }
     ensures kept { OnErr result (StartsWith text.new.items text.old.items) }
     ensures joins { OnErr result (Joins live.old.state live.new.state) }
+    ensures program { live.new.state.program ≡ live.old.state.program }
     ensures past { OnOk result (PastGrows live.old live.new) }
 {
     let Some(offer) = find_offer(live, pick) else {
@@ -107,6 +108,7 @@ fn pass_on(
     requires receives { IsOffer live.old.state receiver received.now }
     ensures value { (text : List ℕ) → Does (paired_by live.old.state sender receiver timeout (picks live.old.state sender) (picks live.old.state receiver)) result live.new.state text text }
     ensures joins { OnErr result (Joins live.old.state live.new.state) }
+    ensures program { live.new.state.program ≡ live.old.state.program }
     ensures past { OnOk result (PastGrows live.old live.new) }
 {
     live.pass(
@@ -125,6 +127,7 @@ fn pass_on(
 fn pair(live: &mut Live<'_, '_>, sender: Pick, receiver: Pick, timeout: bool) -> Result<(), Stop>
     ensures value { (text : List ℕ) → Does (paired_by live.old.state sender receiver timeout (picks live.old.state sender) (picks live.old.state receiver)) result live.new.state text text }
     ensures joins { OnErr result (Joins live.old.state live.new.state) }
+    ensures program { live.new.state.program ≡ live.old.state.program }
     ensures past { OnOk result (PastGrows live.old live.new) }
 {
     let Some(sent) = find_offer(live, sender) else {
@@ -143,6 +146,7 @@ pub fn take(live: &mut Live<'_, '_>, m: Move, text: &mut Vec<u8>) -> Result<(), 
     ensures value { Does (step MOST_DSTEP_STATEMENTS live.old.state m) result live.new.state text.old.items text.new.items }
     ensures kept { OnErr result (StartsWith text.new.items text.old.items) }
     ensures joins { OnErr result (Joins live.old.state live.new.state) }
+    ensures program { live.new.state.program ≡ live.old.state.program }
     ensures past { OnOk result (PastBy m live.old live.new) }
 {
     match m {

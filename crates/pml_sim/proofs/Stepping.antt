@@ -1,0 +1,92 @@
+-- What a call does to the parts it does to the whole.
+use Rattle.std.proofs.Common.{◌≡◌, ℕ, ◌+◌, ◌<◌, min, Bool, List, [], ◌++◌, length, take, refl, sym, ap, ◌∙◌, subst, arith, Option, Some, None, Result, Ok, Err}
+use Rattle.std.specs.List.{Contains}
+use Rattle.diagnostics.specs.declared.fault.Fault.{Fault}
+use Rattle.diagnostics.specs.declared.stop.Stop.{Stop}
+use Rattle.diagnostics.specs.declared.stop.Stop.TheVariants as stop
+use Rattle.session.specs.Machine.{Goes, Faults, Stopped}
+use Rattle.session.specs.Takes.{CanBeTaken, IsReason}
+use Rattle.pml_program.specs.declared.program.Program.{Program}
+use Rattle.pml_store.specs.Store.{Frame, Contents}
+use Rattle.pml_start.specs.Start.{IsDeclared}
+use Rattle.pml_lines.specs.declared.change.Wanted.{Wanted}
+use Rattle.pml_lines.specs.Changes.{AreDeclared, step_lines, value_lines}
+use Rattle.pml_moves.specs.declared.moves.Move.{Move}
+use Rattle.pml_moves.specs.declared.moves.Move.TheVariants.{Death, Alone, Pair}
+use Rattle.pml_moves.specs.State.{State}
+use Rattle.pml_moves.specs.Search as search
+use Rattle.pml_steps.specs.declared.within.TheConstants.{MOST_DSTEP_STATEMENTS}
+use Rattle.pml_steps.specs.Created.{kinds, there}
+use Rattle.pml_steps.specs.Outcome.{Done, step}
+use Rattle.pml_steps.specs.Live.{Live, Does, Joins, past as past_of}
+use Rattle.pml_steps.specs.Taking.{CanDie, PastBy}
+use Rattle.pml_texts.specs.Texts.{IsWithin, move_text}
+use Rattle.pml_texts.proofs.Staying.{text_stays}
+use Rattle.pml_sim.specs.declared.halt.Halt.{Halt}
+use Rattle.pml_sim.specs.World.{Running, rules, unless_stopped, stopped, changed_lines, led_to}
+use Rattle.pml_sim.specs.World as world
+use Rattle.pml_sim.proofs.Living.{moves_within}
+use Rattle.pml_sim.proofs.Leading.{past_by, went, failed}
+use Rattle.pml_sim.proofs.Values.{first_declared, lines_of_first, taken_min}
+
+-- ---- the moves
+
+pub listed : (w : Running) (m : Move) → w.halt ≡ None → Contains (world.moves w) m → Contains (search.moves w.state) m
+listed w m none c = subst (λ (h : Option Halt). Contains (unless_stopped h (search.moves w.state)) m) none c
+
+pub present : (w : Running) (m : Move) → w.halt ≡ None → CanBeTaken rules w m → Contains (search.moves w.state) m
+present w m none c = listed w m none (c (ap stopped none))
+
+pub can_die : (s : State) (m : Move) → IsWithin (length s.stands) m → CanDie s m
+can_die s (Death p) h = omega (arith, h)
+can_die s (Alone k t) h = tt
+can_die s (Pair k j t) h = tt
+
+-- ---- a step
+
+module _ (w : Running) (live new : Live) (m : Move) (same : w.state ≡ live.state) where
+  abbrev old : Live
+  old = record live { written = [] }
+
+  abbrev of : State → Result Done Fault
+  of s = step MOST_DSTEP_STATEMENTS s m
+
+  pub taken_goes : (before after : List ℕ) (u : Unit {0}) (a b o : ℕ) (h : Option Halt) → length live.state.frames ≡ a + 1 → length new.state.frames ≡ b + 1 → o ≡ min a b → h ≡ None →
+      Does (of live.state) (Ok u) new.state before after → PastBy m old new →
+      (x : List ℕ) × (world.step w m ≡ Goes (record { state = new.state; past = take (o + 1) (past_of new); halt = h }) x) × (after ≡ before ++ x)
+  taken_goes before after u a b o h fa fb oi hi does by =
+      let past : take (o + 1) (past_of new) ≡ take (length new.state.frames) live.state.frames = ap (λ (i : ℕ). take (i + 1) (past_of new)) oi ∙ past_by m old new before after u a b does by refl fa fb in
+      let x = went live.state m new.state (take (o + 1) (past_of new)) before after (of live.state) u does past in
+      (x.0, ap (λ (s : State). led_to s.frames (of s)) same ∙ x.1 ∙ ap (λ (k : Option Halt). Goes (record { state = new.state; past = take (o + 1) (past_of new); halt = k }) x.0) (sym hi), x.2)
+
+  reason : (e : Stop) (before after : List ℕ) → Does (of live.state) (Err e) new.state before after → IsReason rules w m e
+  reason (stop.Fault f) before after h = ap (λ (s : State). led_to s.frames (of s)) same ∙ failed live.state m new.state [] before after (of live.state) f h
+  reason stop.Memory before after h = tt
+
+  pub taken_stops : (e : Stop) (before after : List ℕ) → w.halt ≡ None → Does (of live.state) (Err e) new.state before after → Joins live.state new.state → Contains (world.moves w) m →
+      IsReason rules w m e × (move_text new.state m ≡ move_text w.state m)
+  taken_stops e before after none h j c =
+      let inside : IsWithin (length live.state.stands) m = subst (λ (s : State). IsWithin (length s.stands) m) same (moves_within w.state m (listed w m none c)) in
+      (reason e before after h, text_stays live.state new.state j.more j.program j.stands m inside ∙ ap (λ (s : State). move_text s m) (sym same))
+
+-- ---- the lines of a step
+
+pub lines_are : (w : Running) (live : Live) (p : Program) (ks : List ℕ) (store : Contents) (older n : ℕ) (globals locals : Bool) → w.state ≡ live.state → w.past ≡ take (older + 1) (past_of live) →
+    p ≡ live.state.program → ks ≡ kinds live.state → store ≡ record { frames = live.state.frames; written = live.written } → n ≡ min older (length ks) →
+    step_lines p (take n ks) store (record { globals = globals; locals = locals }) ≡ changed_lines w globals locals
+lines_are w live p ks store older n globals locals s past pr k st ni =
+    let wanted : Wanted = record { globals = globals; locals = locals } in
+    let now : Contents = record { frames = live.state.frames; written = live.written } in
+    let q : Program = live.state.program in
+    ap (λ (i : ℕ). step_lines p (take i ks) store wanted) ni ∙ ap (λ (l : List ℕ). step_lines p l store wanted) (taken_min older ks)
+    ∙ ap (λ (r : Program). step_lines r (take older ks) store wanted) pr ∙ ap (λ (l : List ℕ). step_lines q (take older l) store wanted) k
+    ∙ ap (λ (c : Contents). step_lines q (take older (kinds live.state)) c wanted) st ∙ lines_of_first q older (kinds live.state) now wanted
+    ∙ ap (λ (fs : List Frame). value_lines q (kinds live.state) fs live.state.frames globals locals) (sym past)
+    ∙ ap (λ (t : State). value_lines t.program (kinds t) w.past t.frames globals locals) (sym s)
+
+pub are_declared : (live : Live) (p : Program) (ks : List ℕ) (store : Contents) (n : ℕ) → p ≡ live.state.program → ks ≡ kinds live.state → store ≡ record { frames = live.state.frames; written = live.written } →
+    IsDeclared live.state.program (there live.state) → AreDeclared p (take n ks) store.frames
+are_declared live p ks store n pr k st h =
+    subst (λ (c : Contents). AreDeclared p (take n ks) c.frames) (sym st)
+    (subst (λ (l : List ℕ). AreDeclared p (take n l) live.state.frames) (sym k)
+    (subst (λ (q : Program). AreDeclared q (take n (kinds live.state)) live.state.frames) (sym pr) (first_declared live.state.program (there live.state) n h)))

@@ -1,0 +1,72 @@
+-- Lines of the processes that were there before the step.
+use Rattle.std.proofs.Common.{◌≡◌, ◌⊎◌, inl, inr, ℕ, zero, suc, ◌+◌, ◌<◌, ◌≤◌, min, arith, Bool, true, Option, Some, None, List, [], ◌∷◌, ◌++◌, length, map, take, refl, sym, ap, ◌∙◌}
+use Rattle.std.specs.Prelude.{slice_get}
+use Rattle.std.proofs.lemmas.List.{take_all}
+use Rattle.std.proofs.lemmas.Bool.{cases_lt}
+use Rattle.pml_program.specs.declared.program.Program.{Program}
+use Rattle.pml_program.specs.declared.program.Proctype.{Proctype}
+use Rattle.pml_program.specs.declared.program.Slot.{Slot}
+use Rattle.pml_store.specs.Store.{Frame, Contents, before}
+use Rattle.pml_cells.specs.Cells.{size}
+use Rattle.pml_start.specs.Begin.{Begun, shape}
+use Rattle.pml_start.specs.Start.{IsDeclared, variables_of, variables_at}
+use Rattle.pml_lines.specs.declared.change.Wanted.{Wanted}
+use Rattle.pml_lines.specs.Changes.{Owner, AreFrames, AreDeclared, process_owners, process_owner, owners, global_owner, owner_lines, variable_lines, line, slots_of, value_lines, step_lines}
+
+head_is : {A : Type 0} {x y : A} {xs ys : List A} → x ∷ xs ≡ y ∷ ys → x ≡ y
+head_is h = cc
+
+tail_is : {A : Type 0} {x y : A} {xs ys : List A} → x ∷ xs ≡ y ∷ ys → xs ≡ ys
+tail_is h = cc
+
+same_slots : (o : Option Proctype) → variables_of o ≡ slots_of o
+same_slots None = refl
+same_slots (Some p) = refl
+
+locals : (p : Program) (i n : ℕ) (kinds : List ℕ) (frames : List Frame) → shape frames ≡ map (λ k. map size (variables_at p k)) kinds → AreFrames (process_owners p true i (take n kinds)) frames
+locals p i n [] [] h = tt
+locals p i n [] (f ∷ fs) h = absurd cc
+locals p i zero (k ∷ ks) [] h = tt
+locals p i (suc n) (k ∷ ks) [] h = tt
+locals p i zero (k ∷ ks) (f ∷ fs) h = tt
+locals p i (suc n) (k ∷ ks) (f ∷ fs) h = (head_is h ∙ ap (λ (l : List Slot). map size l) (same_slots (slice_get p.proctypes k)), locals p (i + 1) n ks fs (tail_is h))
+
+-- the first processes have what they are declared with
+pub first_declared : (p : Program) (b : Begun) (n : ℕ) → IsDeclared p b → AreDeclared p (take n b.kinds) b.frames
+first_declared p b n h = go b.frames h.sizes
+  where
+    go : (frames : List Frame) → shape frames ≡ map size p.globals ∷ map (λ k. map size (variables_at p k)) b.kinds → AreDeclared p (take n b.kinds) frames
+    go [] e = tt
+    go (f ∷ fs) e = (head_is e, locals p 0 n b.kinds fs (tail_is e))
+
+-- ---- as many owners as frames
+
+fewer : (p : Program) (os : List Owner) (n : ℕ) (xs ys : List Frame) → owner_lines p os (take n xs) ys ≡ owner_lines p (take n os) xs ys
+fewer p [] zero xs ys = refl
+fewer p [] (suc n) [] ys = refl
+fewer p [] (suc n) (x ∷ xs) ys = refl
+fewer p (o ∷ os) zero xs ys = refl
+fewer p (o ∷ os) (suc n) [] ys = refl
+fewer p (o ∷ os) (suc n) (x ∷ xs) [] = refl
+fewer p (o ∷ os) (suc n) (x ∷ xs) (y ∷ ys) = ap (λ (l : List ℕ). variable_lines (line p o) o.slots x y ++ l) (fewer p os n xs ys)
+
+owners_taken : (p : Program) (wanted : Bool) (i n : ℕ) (kinds : List ℕ) → process_owners p wanted i (take n kinds) ≡ take n (process_owners p wanted i kinds)
+owners_taken p wanted i zero kinds = refl
+owners_taken p wanted i (suc n) [] = refl
+owners_taken p wanted i (suc n) (k ∷ ks) = ap (λ (l : List Owner). process_owner wanted i (slice_get p.proctypes k) ∷ l) (owners_taken p wanted (i + 1) n ks)
+
+-- the numbers before of the first n processes, and so many processes
+pub lines_of_first : (p : Program) (n : ℕ) (kinds : List ℕ) (store : Contents) (w : Wanted) →
+    step_lines p (take n kinds) store w ≡ value_lines p kinds (take (n + 1) (before store)) store.frames w.globals w.locals
+lines_of_first p n kinds store w =
+    ap (λ (os : List Owner). owner_lines p (global_owner p w.globals ∷ os) (before store) store.frames) (owners_taken p w.locals 0 n kinds)
+    ∙ sym (fewer p (owners p w.globals w.locals kinds) (suc n) (before store) store.frames)
+    ∙ ap (λ (i : ℕ). value_lines p kinds (take i (before store)) store.frames w.globals w.locals) (let e : suc n ≡ n + 1 = omega arith in e)
+
+-- no more are taken than there are
+pub taken_min : (n : ℕ) (kinds : List ℕ) → take (min n (length kinds)) kinds ≡ take n kinds
+taken_min n kinds = by (cases_lt n (length kinds))
+  where
+    by : (n < length kinds) ⊎ (length kinds ≤ n) → take (min n (length kinds)) kinds ≡ take n kinds
+    by (inl h) = ap (λ (i : ℕ). take i kinds) (let e : min n (length kinds) ≡ n = omega (arith, h) in e)
+    by (inr h) = take_all (min n (length kinds)) kinds (omega (arith, h)) ∙ sym (take_all n kinds h)
