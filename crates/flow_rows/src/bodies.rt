@@ -224,3 +224,123 @@ fn a_break_out_of_an_atomic(rt: HostRuntime) -> Result<(), Fail> {
 ";
     has_edges(&rt, rt.alloc(), text, graph)
 }
+
+#[test]
+fn a_goto_in_braces_under_an_escape_begins_an_option(rt: HostRuntime) -> Result<(), Fail> {
+    let text = "byte x; init { if :: { { goto L } unless { x = 1 } } :: x = 2 fi; L: x = 3 }";
+    let graph = "start 4
+0:
+1: 0 [x = 3] 0;
+2: 0 [x = 2] 1;
+3: 0 [x = 1] 1;
+4: 0 [goto L] 1; 0 [x = 2] 1; 1 [x = 1] 1;
+";
+    has_edges(&rt, rt.alloc(), text, graph)
+}
+
+#[test]
+fn escapes_that_begin_with_a_break_and_a_goto(rt: HostRuntime) -> Result<(), Fail> {
+    let text = "byte x; init { do :: { x = 1; x = 2 } unless { break } od;
+        { x = 3; x = 4 } unless { goto L }; x = 5; L: x = 6 }";
+    let graph = "start 5
+0:
+1: 0 [x = 6] 0;
+2: 0 [x = 5] 1;
+3: 0 [x = 4] 2; 1 [goto L] 1;
+4: 0 [x = 3] 3; 1 [goto L] 1;
+5: 0 [x = 1] 6; 1 [break] 4;
+6: 0 [x = 2] 5; 1 [break] 4;
+7: 0 [x = 1] 6; 1 [break] 4;
+";
+    has_edges(&rt, rt.alloc(), text, graph)
+}
+
+#[test]
+fn escapes_with_levels_of_their_own(rt: HostRuntime) -> Result<(), Fail> {
+    let text = "byte x; init { { x = 1 } unless { if :: { x = 2 } unless { x = 3 } :: x = 4 fi };
+        { x = 5 } unless { { x = 6; x = 7 } unless { x = 8 } } }";
+    let graph = "start 9
+0:
+1: 0 [x = 8] 0;
+2: 0 [x = 7] 0; 1 [x = 8] 0;
+3: 0 [x = 6] 2; 1 [x = 8] 0;
+4: 0 [x = 5] 0; 1 [x = 6] 2; 2 [x = 8] 0;
+5: 0 [x = 4] 4;
+6: 0 [x = 3] 4;
+7: 0 [x = 2] 4; 1 [x = 3] 4;
+8: 0 [x = 2] 4; 0 [x = 4] 4; 1 [x = 3] 4;
+9: 0 [x = 1] 4; 1 [x = 2] 4; 1 [x = 4] 4; 2 [x = 3] 4;
+";
+    has_edges(&rt, rt.alloc(), text, graph)
+}
+
+#[test]
+fn an_else_as_an_escape_and_as_a_statement(rt: HostRuntime) -> Result<(), Fail> {
+    let text = "byte x; init { { x = 1; else; x = 2 } unless { else }; else }";
+    let graph = "start 5
+0:
+1: 0 [else] 0;
+2: 0 [else] 1;
+3: 0 [x = 2] 1; 1 [else] 1;
+4: 0 [else] 3; 1 [else] 1;
+5: 0 [x = 1] 4; 1 [else] 1;
+";
+    has_edges(&rt, rt.alloc(), text, graph)
+}
+
+#[test]
+fn gotos_into_an_atomic_and_from_one_to_another(rt: HostRuntime) -> Result<(), Fail> {
+    let text =
+        "byte x; init { if :: goto L :: else fi; atomic { x = 1; L: x = 2; x = 3; if :: goto M :: goto L fi };
+        atomic { x = 4; M: x = 5; x = 6 } }";
+    let graph = "start 9
+0:
+1: 0 [x = 6] 0;
+2: 0 [x = 5] 1 keeps;
+3: 0 [x = 4] 2 keeps;
+4: 0 [goto M] 2; 0 [goto L] 6 keeps;
+5: 0 [x = 3] 4 keeps;
+6: 0 [x = 2] 5 keeps;
+7: 0 [x = 1] 6 keeps;
+8: 0 [else] 7;
+9: 0 [goto L] 6; 0 [else] 7;
+";
+    has_edges(&rt, rt.alloc(), text, graph)
+}
+
+#[test]
+fn a_do_an_atomic_and_braces_in_a_d_step(rt: HostRuntime) -> Result<(), Fail> {
+    let text =
+        "byte x; init { d_step { do :: x == 1 -> atomic { x = 2; x = 3 } :: else -> break od; { x = 4 } }; x = 5 }";
+    let graph = "start 8
+0:
+1: 0 [x = 5] 0;
+2: 0 [x = 4] 1;
+3: 0 [x == 1] 6 stays; 0 [else] 2 stays;
+4: 0 [else] 2 stays;
+5: 0 [x = 3] 3 stays;
+6: 0 [x = 2] 5 keeps stays;
+7: 0 [x == 1] 6 stays;
+8: 0 [d_step] 1 in 3;
+";
+    has_edges(&rt, rt.alloc(), text, graph)
+}
+
+#[test]
+fn an_escape_of_a_do_and_one_in_an_atomic(rt: HostRuntime) -> Result<(), Fail> {
+    let text = "byte x; init { { do :: x = 1 :: atomic { x = 2; x = 3 } od } unless { x = 4 };
+        atomic { { x = 5 } unless { x = 6; x = 7 }; x = 8 } }";
+    let graph = "start 6
+0:
+1: 0 [x = 8] 0;
+2: 0 [x = 7] 1 keeps;
+3: 0 [x = 6] 2 keeps;
+4: 0 [x = 5] 1 keeps; 1 [x = 6] 2 keeps;
+5: 0 [x = 4] 4;
+6: 0 [x = 1] 6; 0 [x = 2] 7 keeps; 1 [x = 4] 4;
+7: 0 [x = 3] 6; 1 [x = 4] 4;
+8: 0 [x = 2] 7 keeps; 1 [x = 4] 4;
+9: 0 [x = 1] 6; 1 [x = 4] 4;
+";
+    has_edges(&rt, rt.alloc(), text, graph)
+}

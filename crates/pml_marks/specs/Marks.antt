@@ -241,22 +241,28 @@ constant_mark n = mark 0 (what.Declares n declared_as.Constant)
 abbrev pub of_constants : List Word → List Mark
 of_constants ns = map constant_mark (reverse ns)
 
-abbrev pub of_process : ℕ → Proctype → List Mark
-of_process o p =
-    mark 0 (what.Declares p.name (declared_as.Proctype o (length p.parameters))) ∷ (of_starts p.starts o
+-- o is the proctype's owner, and k proctypes stand before it
+abbrev pub of_process : ℕ → ℕ → Proctype → List Mark
+of_process o k p =
+    mark 0 (what.Declares p.name (declared_as.Proctype k (length p.parameters))) ∷ (of_starts p.starts o
     ++ (of_variables role.Variable o p.parameters o ++ of_seq p.body o))
 
--- o is the unit's number from 1
-abbrev pub of_unit : ℕ → Part → List Mark
-of_unit o (part.Variables vs) = of_variables role.Variable 0 vs 0
-of_unit o (part.Constants ns) = of_constants ns
-of_unit o (part.Typedef t vs) = of_variables role.Field o vs 0 ++ one (what.Declares t (declared_as.Typedef o)) 0
-of_unit o (part.Proctype p) = of_process o p
+-- o is the unit's number from 1, and k proctypes stand before it
+abbrev pub of_unit : ℕ → ℕ → Part → List Mark
+of_unit o k (part.Variables vs) = of_variables role.Variable 0 vs 0
+of_unit o k (part.Constants ns) = of_constants ns
+of_unit o k (part.Typedef t vs) = of_variables role.Field o vs 0 ++ one (what.Declares t (declared_as.Typedef o)) 0
+of_unit o k (part.Proctype p) = of_process o k p
 
-abbrev pub of_units : ℕ → List Part → List Mark
-of_units o [] = []
-of_units o (u ∷ us) = of_unit o u ++ of_units (o + 1) us
+-- how many proctypes stand before what follows a unit, where k stand before it
+abbrev pub proctypes_past : ℕ → Part → ℕ
+proctypes_past k (part.Proctype p) = k + 1
+proctypes_past k _ = k
+
+abbrev pub of_units : ℕ → ℕ → List Part → List Mark
+of_units o k [] = []
+of_units o k (u ∷ us) = of_unit o k u ++ of_units (o + 1) (proctypes_past k u) us
 
 -- all marks of a model
 abbrev pub of_tree : Tree → List Mark
-of_tree t = of_units 1 t.units
+of_tree t = of_units 1 0 t.units

@@ -26,24 +26,24 @@ pub fn expr<'a>(
     ensures { OnOk result (out.new ≡ out.old ++ of_expr e.now owner) }
 {
     match e {
-        Expr::Number(n) => Ok(add(What::Number(n.copied()), owner, out)?),
+        Expr::Number(n) => add(What::Number(n.copied()), owner, out),
         Expr::Truth(_) => Ok(()),
         Expr::Timeout => Ok(()),
-        Expr::Read(r) => Ok(reference(alloc, r, Use::Read, owner, out)?),
-        Expr::Ask(_, r) => Ok(reference(alloc, r, Use::Channel, owner, out)?),
+        Expr::Read(r) => reference(alloc, r, Use::Read, owner, out),
+        Expr::Ask(_, r) => reference(alloc, r, Use::Channel, owner, out),
         Expr::Poll(r, _, all) => {
             reference(alloc, r, Use::Channel, owner, out)?;
-            Ok(arguments(alloc, all.as_slice(), owner, out)?)
+            arguments(alloc, all.as_slice(), owner, out)
         }
-        Expr::Unary(_, a) => Ok(expr(alloc, a.get(), owner, out)?),
+        Expr::Unary(_, a) => expr(alloc, a.get(), owner, out),
         Expr::Binary(_, a, b) => {
             expr(alloc, a.get(), owner, out)?;
-            Ok(expr(alloc, b.get(), owner, out)?)
+            expr(alloc, b.get(), owner, out)
         }
         Expr::Choice(a, b, c) => {
             expr(alloc, a.get(), owner, out)?;
             expr(alloc, b.get(), owner, out)?;
-            Ok(expr(alloc, c.get(), owner, out)?)
+            expr(alloc, c.get(), owner, out)
         }
     }
 }
@@ -74,10 +74,10 @@ fn argument<'a>(
     ensures { OnOk result (out.new ≡ out.old ++ of_argument one.now owner) }
 {
     match one {
-        Argument::Exactly(_, n) => Ok(add(What::Number(n.copied()), owner, out)?),
+        Argument::Exactly(_, n) => add(What::Number(n.copied()), owner, out),
         Argument::Fixed(_) => Ok(()),
-        Argument::Eval(a) => Ok(expr(alloc, a.get(), owner, out)?),
-        Argument::Into(r) => Ok(reference(alloc, r, Use::Receive, owner, out)?),
+        Argument::Eval(a) => expr(alloc, a.get(), owner, out),
+        Argument::Into(r) => reference(alloc, r, Use::Receive, owner, out),
     }
 }
 

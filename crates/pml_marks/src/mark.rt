@@ -72,7 +72,7 @@ pub enum Declared<'a> {
     Constant,
     /// The owner of its fields.
     Typedef(usize),
-    /// The owner of its names, and how many parameters it has.
+    /// How many proctypes stand before it, and how many parameters it has.
     Proctype(usize, usize),
 }
 

@@ -35,11 +35,12 @@ fn process<'a>(
     alloc: Global,
     p: &Proctype<'a>,
     owner: usize,
+    before: usize,
     out: &mut Items<Mark<'a>>,
 ) -> Result<(), AllocError>
-    ensures { OnOk result (out.new ≡ out.old ++ of_process owner p.now) }
+    ensures { OnOk result (out.new ≡ out.old ++ of_process owner before p.now) }
 {
-    let declared = Declared::Proctype(owner, p.parameters.len());
+    let declared = Declared::Proctype(before, p.parameters.len());
     add(What::Declares(p.name.copied(), declared), 0, out)?;
     starts(alloc, &p.starts, owner, out)?;
     variables(
@@ -70,9 +71,10 @@ fn unit<'a>(
     alloc: Global,
     u: &Unit<'a>,
     number: usize,
+    before: usize,
     out: &mut Items<Mark<'a>>,
 ) -> Result<(), AllocError>
-    ensures { OnOk result (out.new ≡ out.old ++ of_unit number u.now) }
+    ensures { OnOk result (out.new ≡ out.old ++ of_unit number before u.now) }
 {
     match u {
         Unit::Variables(all) => variables(alloc, Role::Variable, 0, all.as_slice(), 0, out),
@@ -85,7 +87,7 @@ fn unit<'a>(
                 out,
             )
         }
-        Unit::Proctype(p) => process(alloc, p, number, out),
+        Unit::Proctype(p) => process(alloc, p, number, before, out),
     }
 }
 
@@ -94,8 +96,12 @@ pub fn marks<'a>(alloc: Global, tree: &Tree<'a>) -> Result<Items<Mark<'a>>, Allo
     ensures { IfOk result (λ marks. marks ≡ of_tree tree.now) }
 {
     let mut out = Items::new(alloc);
+    let mut proctypes = 0usize;
     for (i, one) in tree.units.as_slice().iter().enumerate() {
-        unit(alloc, one, i + 1, &mut out)?;
+        unit(alloc, one, i + 1, proctypes, &mut out)?;
+        if let Unit::Proctype(_) = one {
+            proctypes += 1;
+        }
     }
     Ok(out)
 }

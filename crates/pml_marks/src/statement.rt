@@ -96,35 +96,28 @@ fn basic<'a>(
     ensures { OnOk result (out.new ≡ out.old ++ of_basic b.now owner) }
 {
     match b {
-        Basic::Declare(all) => Ok(variables(
-            alloc,
-            Role::Variable,
-            owner,
-            all.as_slice(),
-            owner,
-            out,
-        )?),
-        Basic::Exclusive(all) => Ok(references(alloc, all.as_slice(), owner, out)?),
-        Basic::Plain(a) => Ok(action(alloc, a.get(), owner, out)?),
-        Basic::Goto(l) => Ok(add(What::Goto(l.copied()), owner, out)?),
-        Basic::Break => Ok(add(What::Break, owner, out)?),
-        Basic::If(options) => Ok(seqs(alloc, options.as_slice(), owner, out)?),
+        Basic::Declare(all) => variables(alloc, Role::Variable, owner, all.as_slice(), owner, out),
+        Basic::Exclusive(all) => references(alloc, all.as_slice(), owner, out),
+        Basic::Plain(a) => action(alloc, a.get(), owner, out),
+        Basic::Goto(l) => add(What::Goto(l.copied()), owner, out),
+        Basic::Break => add(What::Break, owner, out),
+        Basic::If(options) => seqs(alloc, options.as_slice(), owner, out),
         Basic::Do(options) => {
             add(What::Enter(Structure::Do), owner, out)?;
             seqs(alloc, options.as_slice(), owner, out)?;
-            Ok(add(What::Leave, owner, out)?)
+            add(What::Leave, owner, out)
         }
-        Basic::Block(s) => Ok(seq(alloc, s, owner, out)?),
-        Basic::Atomic(s) => Ok(seq(alloc, s, owner, out)?),
+        Basic::Block(s) => seq(alloc, s, owner, out),
+        Basic::Atomic(s) => seq(alloc, s, owner, out),
         Basic::DStep(s) => {
             add(What::Enter(Structure::DStep), owner, out)?;
             seq(alloc, s, owner, out)?;
-            Ok(add(What::Leave, owner, out)?)
+            add(What::Leave, owner, out)
         }
         Basic::Unless(main, escape) => {
             add(What::Unless, owner, out)?;
             seq(alloc, main, owner, out)?;
-            Ok(seq(alloc, escape, owner, out)?)
+            seq(alloc, escape, owner, out)
         }
     }
 }
@@ -139,7 +132,7 @@ fn item<'a>(
     ensures { OnOk result (out.new ≡ out.old ++ of_item i.now owner) }
 {
     labels(i.labels.as_slice(), owner, out)?;
-    Ok(basic(alloc, i.basic.get(), owner, out)?)
+    basic(alloc, i.basic.get(), owner, out)
 }
 
 #[cycle(statement)]

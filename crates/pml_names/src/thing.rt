@@ -23,6 +23,6 @@ pub enum Thing {
     Constant(usize),
     /// A typedef: the owner of its fields, and its cells.
     Typedef(usize, u32),
-    /// A proctype: the owner of its names, and how many parameters it has.
+    /// A proctype: how many stand before it, and how many parameters it has.
     Proctype(usize, usize),
 }

@@ -7,7 +7,7 @@ use pml_tree::tokens::Tokens;
 use pml_tree::tree::{Removal, Search, SendOrder};
 use sqlite_items::Items;
 
-/// A run of the proctype whose names have this owner.
+/// A run of the proctype with this number: its place among the proctypes of the model, from 0.
 #[derive(Drop)]
 pub struct Run {
     pub proctype: usize,

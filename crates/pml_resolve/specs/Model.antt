@@ -32,10 +32,10 @@ count starts.Never = 0
 count starts.Once = 1
 count (starts.Times e) = natural (constant e)
 
--- The proctype whose names have the owner o. It is declared before its parameters and its body.
+-- The proctype whose names have the owner o, behind those of m. It is declared before its parameters and its body.
 abbrev pub with_process : List Entry → ℕ → TreeProctype → Made → Made
 with_process all o p m =
-    let es = after m.names 0 (what.Declares p.name (declared_as.Proctype o (length p.parameters))) in
+    let es = after m.names 0 (what.Declares p.name (declared_as.Proctype (length m.program.proctypes) (length p.parameters))) in
     let x = numbered_seq p.body all o (with_variables all role.Variable o p.parameters (known es [])) in
     let process : Proctype = record {
       name = p.name;

@@ -39,8 +39,9 @@ abbrev pub store : Reached → Option Target
 store (r.Place p) = Some p
 store _ = None
 
+-- its number
 abbrev pub proctype_of : Option Thing → ℕ
-proctype_of (Some (thing.Proctype o n)) = o
+proctype_of (Some (thing.Proctype k n)) = k
 proctype_of _ = 0
 
 abbrev pub run : TreeRun → Scope → Run

@@ -44,7 +44,7 @@ fn proctype_of(found: Option<Thing>) -> usize
     ensures { result ≡ proctype_of found }
 {
     match found {
-        Some(Thing::Proctype(o, _)) => o,
+        Some(Thing::Proctype(number, _)) => number,
         _ => 0,
     }
 }

@@ -60,7 +60,7 @@ fn process<'a>(
     ensures made { OnOk result (made program.new names.new.table ≡ with_process all.now owner p.now (made program.old names.old.table)) }
     ensures totalled { OnOk result (IsTotalled names.new.table names.new.totals names.new.constants) }
 {
-    let declared = Declared::Proctype(owner, p.parameters.len());
+    let declared = Declared::Proctype(program.proctypes.len(), p.parameters.len());
     declare(0, &What::Declares(p.name.copied(), declared), names)?;
     let mut slots = Items::new(alloc);
     variables(

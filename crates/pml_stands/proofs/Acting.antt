@@ -60,7 +60,7 @@ module _ (gs : Globals) (ls : List Slot) (sc : Scope) (sees : Sees gs ls sc) (ru
   arguments-stand (q ∷ qs) = parts.argument (argument-stands gs ls sc sees q) (arguments-stand qs)
 
   abbrev pick : List ℕ → Option (ℕ × Slot) → ℕ
-  pick n x = cond (is_some x) 0 (or_none (proctype_named 1 gs.text n))
+  pick n x = cond (is_some x) 0 (or_none (proctype_named 0 gs.text n))
 
   proctype-is : (n : List ℕ) → proctype_of gs ls n ≡ numbered_proctype (meaning (found sc.all) (found sc.names) sc.owner n)
   proctype-is n = go (variable_named ls n) refl

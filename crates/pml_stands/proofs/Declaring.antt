@@ -210,7 +210,7 @@ pub record Base (gs : Globals) (k : ℕ) (es : List Entry) : Type 0 where
 
 -- a run finds its proctype as the text has it
 abbrev pub Runs : Globals → List Entry → List Entry → Type 0
-Runs gs all es = (n : List ℕ) → proctype_of (or_else (found es 0 n) (only_process (found all 0 n))) ≡ or_none (proctype_named 1 gs.text n)
+Runs gs all es = (n : List ℕ) → proctype_of (or_else (found es 0 n) (only_process (found all 0 n))) ≡ or_none (proctype_named 0 gs.text n)
 
 -- in a typedef or a proctype with the number o, where `start` was declared before it
 pub record Ready (gs : Globals) (start : List Entry) (o : ℕ) (x : Known) : Type 0 where

@@ -23,7 +23,7 @@ use Rattle.pml_tree.specs.declared.tree.Starts.TheVariants as starts
 use Rattle.pml_tree.specs.declared.tree.Unit.{Unit as Part}
 use Rattle.pml_tree.specs.declared.tree.Unit.TheVariants as part
 use Rattle.pml_tree.specs.declared.tree.Tree.{Tree}
-use Rattle.pml_marks.specs.Marks.{Marked, Referred, Stepped, one, all_marks, steps_marks, expr_layer, argument_layer, reference_layer, step_layer, of_expr, of_argument, of_reference, of_step, of_exprs, of_arguments, of_sort, of_size, size_of, preset_layer, of_initial, made_by, of_variable, of_variables, of_run, of_action, of_references, basic_layer, item_layer, seq_layer, of_labels, of_basic, of_item, of_seq, of_starts, of_unit, of_units, of_tree}
+use Rattle.pml_marks.specs.Marks.{Marked, Referred, Stepped, one, all_marks, steps_marks, expr_layer, argument_layer, reference_layer, step_layer, of_expr, of_argument, of_reference, of_step, of_exprs, of_arguments, of_sort, of_size, size_of, preset_layer, of_initial, made_by, of_variable, of_variables, of_run, of_action, of_references, basic_layer, item_layer, seq_layer, of_labels, of_basic, of_item, of_seq, of_starts, of_unit, of_units, of_tree, proctypes_past}
 use Rattle.pml_marks.specs.declared.mark.Mark.{Mark}
 use Rattle.pml_marks.specs.declared.mark.Use.{Use}
 use Rattle.pml_marks.specs.declared.mark.Use.TheVariants as use_of
@@ -354,30 +354,38 @@ variables-marked (v ∷ vs) es n r =
     ∙ variable-read v es n (cond (has_name (names_of vs) n) None r)
     ∙ ap (or_process (found es 0 n)) (cond-or (bytes_eq n v.name.text) (has_name (names_of vs) n) r)
 
-unit-marked : (o : ℕ) → 0 < o → (u : Part) (es : List Entry) (n : List ℕ) (r : Option ℕ)
-    → or_process (found (env_from es (of_unit o u)) 0 n) r ≡ or_process (found es 0 n) (cond (declares u n) (cond (is_proctype u) (Some o) None) r)
-unit-marked o p (part.Variables vs) es n r = variables-marked vs es n r
-unit-marked o p (part.Constants ns) es n r =
+unit-marked : (o k : ℕ) → 0 < o → (u : Part) (es : List Entry) (n : List ℕ) (r : Option ℕ)
+    → or_process (found (env_from es (of_unit o k u)) 0 n) r ≡ or_process (found es 0 n) (cond (declares u n) (cond (is_proctype u) (Some k) None) r)
+unit-marked o k p (part.Variables vs) es n r = variables-marked vs es n r
+unit-marked o k p (part.Constants ns) es n r =
     constants-read (reverse ns) es n r ∙ ap (λ (b : Bool). or_process (found es 0 n) (cond b None r)) (name-reversed ns n)
-unit-marked o p (part.Typedef t vs) es n r =
+unit-marked o k p (part.Typedef t vs) es n r =
     let fs : List Entry = env_from es (of_variables role.Field o vs 0) in
     ap (λ (gs : List Entry). or_process (found gs 0 n) r) (env-append es (of_variables role.Field o vs 0) (one (what.Declares t (declared_as.Typedef o)) 0))
     ∙ after-read fs t (declared_as.Typedef o) n r
     ∙ ap (λ (x : Option Thing). or_process x (cond (bytes_eq n t.text) None r)) ((quiet-variables role.Field o p vs 0).still es n)
-unit-marked o p (part.Proctype q) es n r =
-    let d : Declared = declared_as.Proctype o (length q.parameters) in
+unit-marked o k p (part.Proctype q) es n r =
+    let d : Declared = declared_as.Proctype k (length q.parameters) in
     let rest : List Mark = of_starts q.starts o ++ (of_variables role.Variable o q.parameters o ++ of_seq q.body o) in
     let quiet : IsQuiet rest = both (quiet-begins q.starts o) (both (quiet-variables role.Variable o p q.parameters o) (quiet-seq q.body o p)) in
     ap (λ (x : Option Thing). or_process x r) (quiet.still (after es 0 (what.Declares q.name d)) n)
     ∙ after-read es q.name d n r
 
-units-marked : (us : List Part) (o : ℕ) → 0 < o → (es : List Entry) (n : List ℕ) → or_process (found (env_from es (of_units o us)) 0 n) None ≡ or_process (found es 0 n) (proctype_named o us n)
-units-marked [] o p es n = refl
-units-marked (u ∷ us) o p es n =
-    ap (λ (fs : List Entry). or_process (found fs 0 n) None) (env-append es (of_unit o u) (of_units (o + 1) us))
-    ∙ units-marked us (o + 1) (omega (arith, p)) (env_from es (of_unit o u)) n
-    ∙ unit-marked o p u es n (proctype_named (o + 1) us n)
+past-is : (k : ℕ) (u : Part) → proctypes_past k u ≡ cond (is_proctype u) (k + 1) k
+past-is k (part.Variables vs) = refl
+past-is k (part.Constants ns) = refl
+past-is k (part.Typedef t vs) = refl
+past-is k (part.Proctype q) = refl
+
+units-marked : (us : List Part) (o k : ℕ) → 0 < o → (es : List Entry) (n : List ℕ) → or_process (found (env_from es (of_units o k us)) 0 n) None ≡ or_process (found es 0 n) (proctype_named k us n)
+units-marked [] o k p es n = refl
+units-marked (u ∷ us) o k p es n =
+    let j : ℕ = proctypes_past k u in
+    ap (λ (fs : List Entry). or_process (found fs 0 n) None) (env-append es (of_unit o k u) (of_units (o + 1) j us))
+    ∙ units-marked us (o + 1) j (omega (arith, p)) (env_from es (of_unit o k u)) n
+    ∙ unit-marked o k p u es n (proctype_named j us n)
+    ∙ ap (λ (i : ℕ). or_process (found es 0 n) (cond (declares u n) (cond (is_proctype u) (Some k) None) (proctype_named i us n))) (past-is k u)
 
 pub tree-marked : (t : Tree) → ReadsAll t.units (env (of_tree t))
 unfolding env
-tree-marked t n = units-marked t.units 1 (omega arith) [] n
+tree-marked t n = units-marked t.units 1 0 (omega arith) [] n

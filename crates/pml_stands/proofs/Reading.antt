@@ -25,7 +25,7 @@ use Rattle.pml_stands.proofs.Growing.{if_so, found-own, after-new, after-old, sa
 use Rattle.pml_stands.proofs.Declaring.{Runs}
 
 abbrev pub in_process : Thing → Option ℕ
-in_process (thing.Proctype o n) = Some o
+in_process (thing.Proctype k n) = Some k
 in_process _ = None
 
 -- the proctype that is found, or else this one
@@ -33,12 +33,12 @@ abbrev pub or_process : Option Thing → Option ℕ → Option ℕ
 or_process None r = r
 or_process (Some x) r = in_process x
 
--- what is found before the units, which are numbered from o, and what these declare, is what the text has
+-- what is found before the units, whose proctypes are numbered from k, and what these declare, is what the text has
 abbrev pub Reads : List Part → ℕ → List Part → List Entry → Type 0
-Reads text o us es = (n : List ℕ) → or_process (found es 0 n) (proctype_named o us n) ≡ proctype_named 1 text n
+Reads text k us es = (n : List ℕ) → or_process (found es 0 n) (proctype_named k us n) ≡ proctype_named 0 text n
 
 abbrev pub ReadsAll : List Part → List Entry → Type 0
-ReadsAll text all = (n : List ℕ) → or_process (found all 0 n) None ≡ proctype_named 1 text n
+ReadsAll text all = (n : List ℕ) → or_process (found all 0 n) None ≡ proctype_named 0 text n
 
 process-is : (x : Thing) → proctype_of (Some x) ≡ or_none (in_process x)
 process-is (thing.Variable v) = refl
@@ -53,13 +53,13 @@ only-is (Some (thing.Typedef t n)) = refl
 only-is (Some (thing.Proctype o n)) = refl
 only-is None = refl
 
-pub runs-of : (gs : Globals) (all es : List Entry) (o : ℕ) (us : List Part) → Reads gs.text o us es → ReadsAll gs.text all → Runs gs all es
-runs-of gs all es o us h whole n = go (found es 0 n) refl
+pub runs-of : (gs : Globals) (all es : List Entry) (k : ℕ) (us : List Part) → Reads gs.text k us es → ReadsAll gs.text all → Runs gs all es
+runs-of gs all es k us h whole n = go (found es 0 n) refl
   where
-    go : (x : Option Thing) → found es 0 n ≡ x → proctype_of (or_else (found es 0 n) (only_process (found all 0 n))) ≡ or_none (proctype_named 1 gs.text n)
+    go : (x : Option Thing) → found es 0 n ≡ x → proctype_of (or_else (found es 0 n) (only_process (found all 0 n))) ≡ or_none (proctype_named 0 gs.text n)
     go (Some x) e =
         ap (λ (y : Option Thing). proctype_of (or_else y (only_process (found all 0 n)))) e ∙ process-is x
-        ∙ ap or_none (sym (ap (λ (y : Option Thing). or_process y (proctype_named o us n)) e) ∙ h n)
+        ∙ ap or_none (sym (ap (λ (y : Option Thing). or_process y (proctype_named k us n)) e) ∙ h n)
     go None e =
         ap (λ (y : Option Thing). proctype_of (or_else y (only_process (found all 0 n)))) e ∙ only-is (found all 0 n) ∙ ap or_none (whole n)
 

@@ -83,12 +83,12 @@ local_y = slot (codes "y") byte 1 1 1
 abbrev empty : TreeSeq
 empty = items_of []
 
-abbrev process_a : TreeProctype
-process_a = record { starts = starts.Never; name = named (codes "A"); parameters = []; body = empty; end = named (codes "}") }
+abbrev process : List ℕ → TreeProctype
+process n = record { starts = starts.Never; name = named n; parameters = []; body = empty; end = named (codes "}") }
 
 abbrev gs : Globals
 gs = record {
-  text = part.Constants (named (codes "green") ∷ named (codes "red") ∷ []) ∷ part.Typedef (named (codes "R")) [] ∷ part.Proctype process_a ∷ [];
+  text = part.Constants (named (codes "green") ∷ named (codes "red") ∷ []) ∷ part.Typedef (named (codes "R")) [] ∷ part.Proctype (process (codes "A")) ∷ part.Proctype (process (codes "B")) ∷ [];
   variables = global_x ∷ global_r ∷ global_q ∷ [];
   constants = named (codes "red") ∷ named (codes "green") ∷ [];
   typedefs = record { name = named (codes "R"); number = 2; fields = field_e ∷ field_f ∷ [] } ∷ [];
@@ -188,9 +188,13 @@ send = statement.send channel (statement.one_expr (Stands.read own) statement.no
 dropped : StandsAction gs ls (t.Assign (alone (codes "_")) (e.Read (alone (codes "x")))) (a.Assign None (v.Read at_x))
 dropped = statement.assign anything (Stands.read own)
 
--- `x = run A(red)`: A is the third unit
-running : StandsAction gs ls (t.AssignRun (alone (codes "x")) (record { name = named (codes "A"); arguments = e.Read (alone (codes "red")) ∷ [] })) (a.AssignRun (Some at_x) (record { proctype = 3; arguments = v.Number (pos 1) ∷ [] }))
+-- `x = run A(red)`: A is the first proctype
+running : StandsAction gs ls (t.AssignRun (alone (codes "x")) (record { name = named (codes "A"); arguments = e.Read (alone (codes "red")) ∷ [] })) (a.AssignRun (Some at_x) (record { proctype = 0; arguments = v.Number (pos 1) ∷ [] }))
 running = statement.assign_run own (statement.run (statement.one_expr (Stands.read red) statement.no_expr))
+
+-- `run B()`: B is the second one
+running_next : StandsAction gs ls (t.Run (record { name = named (codes "B"); arguments = [] })) (a.Run (record { proctype = 1; arguments = [] }))
+running_next = statement.run_alone (statement.run statement.no_expr)
 
 more : StandsAction gs ls (t.Increment (alone (codes "x"))) (a.Increment at_x)
 more = statement.increment own

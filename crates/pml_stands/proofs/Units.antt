@@ -1,7 +1,7 @@
 -- Units stand for what they are numbered as.
 use Rattle.std.proofs.Common.{◌≡◌, ℕ, ◌+◌, ◌<◌, Bool, true, false, cond, List, [], ◌∷◌, ◌++◌, map, length, reverse, Option, Some, None, refl, ap, sym, subst, ◌∙◌, inl, arith}
 use Rattle.std.specs.Option.{is_some}
-use Rattle.std.proofs.lemmas.List.{append_assoc, append-nil}
+use Rattle.std.proofs.lemmas.List.{append_assoc, append-nil, length-append}
 use Rattle.pml_lex.specs.Word.{Word}
 use Rattle.pml_tree.specs.declared.tree.Variable.{Variable as TreeVariable}
 use Rattle.pml_tree.specs.declared.tree.Starts.{Starts}
@@ -172,6 +172,13 @@ starts-is starts.Never = refl
 starts-is starts.Once = refl
 starts-is (starts.Times e) = count-is (constant e)
 
+-- how many proctypes are made
+abbrev made_so_far : Made → ℕ
+made_so_far m = length m.program.proctypes
+
+one-longer : {A : Type 0} → (xs : List A) (x : A) → length xs + 1 ≡ length (xs ++ x ∷ [])
+one-longer xs x = sym (length-append xs (x ∷ []))
+
 module _ (text : List Part) (all : List Entry) (whole : ReadsAll text all) where
   -- before the units us, the first with the number o
   pub record Whole (gs : Globals) (o : ℕ) (us : List Part) (m : Made) : Type 0 where
@@ -179,7 +186,7 @@ module _ (text : List Part) (all : List Entry) (whole : ReadsAll text all) where
     pub below : Below o m.names
     pub globals : m.program.globals ≡ gs.variables
     pub same : gs.text ≡ text
-    pub reads : Reads text o us m.names
+    pub reads : Reads text (made_so_far m) us m.names
 
   -- ---- variables
 
@@ -200,7 +207,7 @@ module _ (text : List Part) (all : List Entry) (whole : ReadsAll text all) where
         below = below-later o _ r.below;
         globals = refl;
         same = h.same;
-        reads = λ n. variables-read all vs (known m.names gs.variables) n (proctype_named (o + 1) us n) ∙ h.reads n;
+        reads = λ n. variables-read all vs (known m.names gs.variables) n (proctype_named (made_so_far m) us n) ∙ h.reads n;
       }
 
   -- ---- mtype names
@@ -215,8 +222,8 @@ module _ (text : List Part) (all : List Entry) (whole : ReadsAll text all) where
         globals = h.globals ∙ sym kept.1;
         same = kept.0 ∙ h.same;
         reads = λ n.
-            constants-read (reverse ns) m.names n (proctype_named (o + 1) us n)
-            ∙ ap (λ (b : Bool). or_process (found m.names 0 n) (cond b None (proctype_named (o + 1) us n))) (name-reversed ns n) ∙ h.reads n;
+            constants-read (reverse ns) m.names n (proctype_named (made_so_far m) us n)
+            ∙ ap (λ (b : Bool). or_process (found m.names 0 n) (cond b None (proctype_named (made_so_far m) us n))) (name-reversed ns n) ∙ h.reads n;
       }
 
   -- ---- typedefs
@@ -264,55 +271,55 @@ module _ (text : List Part) (all : List Entry) (whole : ReadsAll text all) where
         globals = h.globals ∙ sym kept.1;
         same = kept.0 ∙ h.same;
         reads = λ n.
-            after-read x.names t (declared_as.Typedef o) n (proctype_named (o + 1) us n)
-            ∙ ap (λ (f : Option Thing). or_process f (cond (declares (part.Typedef t vs) n) None (proctype_named (o + 1) us n))) (ready.still n) ∙ h.reads n;
+            after-read x.names t (declared_as.Typedef o) n (proctype_named (made_so_far m) us n)
+            ∙ ap (λ (f : Option Thing). or_process f (cond (declares (part.Typedef t vs) n) None (proctype_named (made_so_far m) us n))) (ready.still n) ∙ h.reads n;
       }
 
   -- ---- proctypes
 
   abbrev now_process : ℕ → TreeProctype → List Entry → List Entry
-  now_process o q es = after es 0 (what.Declares q.name (declared_as.Proctype o (length q.parameters)))
+  now_process k q es = after es 0 (what.Declares q.name (declared_as.Proctype k (length q.parameters)))
 
   record Opened (gs : Globals) (o : ℕ) (es : List Entry) : Type 0 where
     base : Base gs o es
     below : Below o es
 
-  process-opened : (gs : Globals) (o : ℕ) (q : TreeProctype) (es : List Entry) → 0 < o → Base gs o es → Below o es → (b : Bool) → is_declared gs q.name.text ≡ b → Opened (with_proctype gs q.name) o (now_process o q es)
-  process-opened gs o q es p h g true e =
-      subst (λ (hs : Globals). Opened hs o (now_process o q es)) (sym (ap (λ (b : Bool). cond b gs (record gs { proctypes = gs.proctypes ++ q.name ∷ [] })) e))
+  process-opened : (gs : Globals) (o k : ℕ) (q : TreeProctype) (es : List Entry) → 0 < o → Base gs o es → Below o es → (b : Bool) → is_declared gs q.name.text ≡ b → Opened (with_proctype gs q.name) o (now_process k q es)
+  process-opened gs o k q es p h g true e =
+      subst (λ (hs : Globals). Opened hs o (now_process k q es)) (sym (ap (λ (b : Bool). cond b gs (record gs { proctypes = gs.proctypes ++ q.name ∷ [] })) e))
       (subst (Opened gs o) (sym (old-name (found es 0 q.name.text) refl (h.declared q.name.text ∙ e))) (record { base = h; below = g }))
     where
-      old-name : (f : Option Thing) → found es 0 q.name.text ≡ f → is_some (found es 0 q.name.text) ≡ true → now_process o q es ≡ es
-      old-name (Some y) f g = after-old es 0 q.name (declared_as.Proctype o (length q.parameters)) y f
+      old-name : (f : Option Thing) → found es 0 q.name.text ≡ f → is_some (found es 0 q.name.text) ≡ true → now_process k q es ≡ es
+      old-name (Some y) f g = after-old es 0 q.name (declared_as.Proctype k (length q.parameters)) y f
       old-name None f g = let r : false ≡ true = sym (ap is_some f) ∙ g in cc
-  process-opened gs o q es p h g false e =
+  process-opened gs o k q es p h g false e =
       let none : found es 0 q.name.text ≡ None = undeclared gs o es q.name.text h e in
-      subst (λ (hs : Globals). Opened hs o (now_process o q es)) (sym (ap (λ (b : Bool). cond b gs (record gs { proctypes = gs.proctypes ++ q.name ∷ [] })) e))
-      (subst (Opened (record gs { proctypes = gs.proctypes ++ q.name ∷ [] }) o) (sym (after-new es 0 q.name (declared_as.Proctype o (length q.parameters)) none))
+      subst (λ (hs : Globals). Opened hs o (now_process k q es)) (sym (ap (λ (b : Bool). cond b gs (record gs { proctypes = gs.proctypes ++ q.name ∷ [] })) e))
+      (subst (Opened (record gs { proctypes = gs.proctypes ++ q.name ∷ [] }) o) (sym (after-new es 0 q.name (declared_as.Proctype k (length q.parameters)) none))
       (record {
-        base = base-proctype gs o es q.name o (length q.parameters) none h;
-        below = below-more o es (entry 0 q.name.text (thing.Proctype o (length q.parameters))) g p;
+        base = base-proctype gs o es q.name k (length q.parameters) none h;
+        below = below-more o es (entry 0 q.name.text (thing.Proctype k (length q.parameters))) g p;
       }))
 
   module _ (o : ℕ) (q : TreeProctype) (us : List Part) (gs : Globals) (m : Made) (p : 0 < o) (h : Whole gs o (part.Proctype q ∷ us) m) where
     abbrev es : List Entry
-    es = now_process o q m.names
+    es = now_process (made_so_far m) q m.names
 
     abbrev hs : Globals
     hs = with_proctype gs q.name
 
     opened : Opened hs o es
-    opened = process-opened gs o q m.names p h.base h.below (is_declared gs q.name.text) refl
+    opened = process-opened gs o (made_so_far m) q m.names p h.base h.below (is_declared gs q.name.text) refl
 
     kept : Same gs hs
     kept = same-if (is_declared gs q.name.text) gs (record gs { proctypes = gs.proctypes ++ q.name ∷ [] }) (refl, refl)
 
-    opened-reads : Reads text (o + 1) us es
-    opened-reads n = after-read m.names q.name (declared_as.Proctype o (length q.parameters)) n (proctype_named (o + 1) us n) ∙ h.reads n
+    opened-reads : Reads text (made_so_far m + 1) us es
+    opened-reads n = after-read m.names q.name (declared_as.Proctype (made_so_far m) (length q.parameters)) n (proctype_named (made_so_far m + 1) us n) ∙ h.reads n
 
     opened-runs : Runs hs all es
     opened-runs =
-        runs-of hs all es (o + 1) us (subst (λ (ts : List Part). Reads ts (o + 1) us es) (sym (kept.0 ∙ h.same)) opened-reads)
+        runs-of hs all es (made_so_far m + 1) us (subst (λ (ts : List Part). Reads ts (made_so_far m + 1) us es) (sym (kept.0 ∙ h.same)) opened-reads)
         (subst (λ (ts : List Part). ReadsAll ts all) (sym (kept.0 ∙ h.same)) whole)
 
     opened-start : Ready hs es o (known es [])
@@ -339,7 +346,9 @@ module _ (text : List Part) (all : List Entry) (whole : ReadsAll text all) where
       below = body-stands.1.below;
       globals = h.globals ∙ sym kept.1;
       same = kept.0 ∙ h.same;
-      reads = λ n. ap (λ (f : Option Thing). or_process f (proctype_named (o + 1) us n)) (body-stands.1.still n) ∙ opened-reads n;
+      reads =
+          subst (λ (k : ℕ). Reads text k us body.1.names) (one-longer m.program.proctypes _)
+          (λ n. ap (λ (f : Option Thing). or_process f (proctype_named (made_so_far m + 1) us n)) (body-stands.1.still n) ∙ opened-reads n);
     }
 
     -- ---- nothing else stands for the parameters and the body

@@ -82,10 +82,11 @@ abbrev pub is_proctype : Part → Bool
 is_proctype (part.Proctype p) = true
 is_proctype _ = false
 
--- the number of the proctype that is called so, where the units are numbered from o: none where another unit declares the name before it
+-- the number of the proctype that is called so, where the next one has the number k: none where another unit declares the name before it
 abbrev pub proctype_named : ℕ → List Part → List ℕ → Option ℕ
-proctype_named o [] n = None
-proctype_named o (u ∷ us) n = if declares u n then (if is_proctype u then Some o else None) else proctype_named (o + 1) us n
+proctype_named k [] n = None
+proctype_named k (u ∷ us) n =
+    if declares u n then (if is_proctype u then Some k else None) else proctype_named (if is_proctype u then k + 1 else k) us n
 
 -- ---- one declaration more: of two declarations of one name the first counts
 

@@ -123,9 +123,9 @@ abbrev pub as_store : Meaning → Option Target
 as_store (Place t) = Some t
 as_store _ = None
 
--- a proctype of the whole text, by its number, where no variable of the proctype hides its name
+-- a proctype of the whole text, by its number in the order of the text, where no variable of the proctype hides its name
 abbrev pub proctype_of : Globals → List Slot → List ℕ → ℕ
-proctype_of gs ls n = if is_some (variable_named ls n) then 0 else or_none (proctype_named 1 gs.text n)
+proctype_of gs ls n = if is_some (variable_named ls n) then 0 else or_none (proctype_named 0 gs.text n)
 
 pub data StandsRun (gs : Globals) (ls : List Slot) : TreeRun → Run → Type 0 where
   run : {q : TreeRun} {xs : List Expr} → StandsExprs gs ls q.arguments xs

@@ -37,8 +37,43 @@ chan G3+0:1*1 ? byte L0+0:1*1 ==int L4+0:1*1 _;
 } to line 12
 B 8 starts 2 parameters 0 {
 byte G0+0:1*1 = _pid;
-run 7 1 byte G1+0:1*1;
+run 0 1 byte G1+0:1*1;
 } to line 13
+"##;
+    has_model(&rt, rt.alloc(), text, model)
+}
+
+/// A run has the number of its proctype among the proctypes, wherever they stand and whatever stands between them.
+#[test]
+fn runs_by_number(rt: HostRuntime) -> Result<(), Fail> {
+    let text = r##"byte x;
+proctype A() { run C(x); run A() }
+mtype = { red };
+active proctype B(byte v) { x = run A(); run B(v); run C(1) }
+typedef R { byte e }
+proctype C(byte v) { run B(v) }
+init { run A(); _ = run C(2); run B(3) }
+"##;
+    let model = r##"byte x+0:1*1; 
+red 
+typedef 5 byte e+0:1*1; 
+A 2 starts 0 parameters 0 {
+run 2 byte G0+0:1*1;
+run 0;
+} to line 2
+B 4 starts 1 parameters 1 byte v+0:1*1; {
+byte G0+0:1*1 = run 0;
+run 1 byte L0+0:1*1;
+run 2 1;
+} to line 4
+C 6 starts 0 parameters 1 byte v+0:1*1; {
+run 1 byte L0+0:1*1;
+} to line 6
+init 7 starts 1 parameters 0 {
+run 0;
+_ = run 2 2;
+run 1 3;
+} to line 7
 "##;
     has_model(&rt, rt.alloc(), text, model)
 }

@@ -72,14 +72,14 @@ init 8 starts 1 parameters 0 byte v+0:1*1; byte w+1:1*1 = 2; {
 L: M: byte G2+0:1*1 = 1;
 _ = byte G3+0:3*1[byte L0+0:1*1];
 byte G4+0:2*6[byte G2+0:1*1]+1:4*1[2] = 300;
-byte G2+0:1*1 = run 7 1 byte L0+0:1*1;
-_ = run 7 byte G2+0:1*1 2;
+byte G2+0:1*1 = run 0 1 byte L0+0:1*1;
+_ = run 0 byte G2+0:1*1 2;
 ++byte G2+0:1*1;
 --byte L0+0:1*1;
 ++byte G3+0:3*1[1];
 --byte G4+0:2*6[0]+0:1*1;
-run 7 byte G3+0:3*1[0] 7;
-run 7 3 4;
+run 0 byte G3+0:3*1[0] 7;
+run 0 3 4;
 chan G0+0:1*1 ! 1 byte L0+0:1*1;
 chan G0+0:1*1 ! 2 byte G2+0:1*1;
 chan G0+0:1*1 ! 3;
