@@ -150,9 +150,10 @@ module _ (text : List ℕ) (options : Options) where
 
   of_state : (t : Tree) → IsSpelled text t → IsFit t → Has
   of_state t is fits =
-      let start = good_start t fits in
-      (transcript rules options (first (numbered_model t) start.0),
-      of_model (record { tree = t; is_spelled = is; fits = fits; program = numbered_model t; stands = model-stands t; begun = start.0; starts = start.1; is = refl }))
+      let start = good_start t fits in (
+        transcript rules options (first (numbered_model t) start.0),
+        of_model (record { tree = t; is_spelled = is; fits = fits; program = numbered_model t; stands = model-stands t; begun = start.0; starts = start.1; is = refl }),
+      )
 
   of_judged : (t : Tree) → IsSpelled text t → IsFit t ⊎ ((x : Refusal) × IsLeast t x) → Has
   of_judged t is (inl fits) = of_state t is fits

@@ -35,11 +35,12 @@ use Rattle.pml_stands.specs.StandsModel.{StandsModel}
 use Rattle.pml_check.proofs.Standing.{is_numbered}
 use Rattle.diagnostics.specs.declared.stop.Stop.{Stop}
 use Rattle.diagnostics.specs.declared.stop.Stop.TheVariants as stop
-use Rattle.pml_start.specs.Begin.{Begun}
+use Rattle.pml_start.specs.Begin.{Begun, shown}
+use Rattle.pml_start.specs.declared.started.Started.{Started}
 use Rattle.pml_start.specs.Start.{Starts, first_state}
 use Rattle.pml_play.specs.declared.whole.Rejection.{Rejection}
 use Rattle.pml_play.specs.declared.whole.Rejection.TheVariants.{Memory, Refused}
-use Rattle.pml_sim.specs.World.{Running, rules}
+use Rattle.pml_sim.specs.World.{Running, first, rules}
 use Rattle.pml_play.specs.Transcript.{IsSpelled, IsModel, too_long, lexical, left_out, too_deep, unspelled, unfit, of_refusal, of_model}
 use Rattle.pml_play.specs.Plays.{IsReady, IsRejected, of_lexical, of_syntax, of_check, Rejects, PlaysText, PlaysWhole}
 use Rattle.pml_lex.proofs.Lines.{token_lines}
@@ -104,3 +105,22 @@ module _ (text : List ℕ) (options : Options) (a b : Holdings) where
   pub model_plays : (n : ℕ) (result : Result End Broken) (state : Running) → IsModel text state → Runs result a b n (transcript rules options state) → PlaysText text options result a b n
   model_plays n (Ok end) state is h = record { part = transcript rules options state; is_transcript = of_model is; ends = h }
   model_plays n (Err e) state is h = record { part = transcript rules options state; is_transcript = of_model is; breaks = h }
+
+-- ---- a model
+
+started : (d : Result Begun Fault) (s : Started) → Starts d (Ok s) → d ≡ Ok (shown s)
+started (Ok b) s h = ap Ok (sym h)
+started (Err f) s h = absurd h
+
+-- a ready model begins with what was started
+pub is_model : (text : List ℕ) (p q : Program) (s : Started) (w : Running) → IsReady text p → q ≡ p → Starts (first_state q) (Ok s) → w ≡ first q (shown s) → IsModel text w
+is_model text p q s w ready same starts is = record {
+  tree = ready.tree;
+  is_spelled = ready.is_spelled;
+  fits = ready.fits;
+  program = p;
+  stands = ready.stands;
+  begun = shown s;
+  starts = sym (ap first_state same) ∙ started (first_state q) s starts;
+  is = is ∙ ap (λ (r : Program). first r (shown s)) same;
+}
