@@ -36,13 +36,18 @@ init { d_step { goto L; do :: skip; L: break od } } => M12 (d_step)
 byte x; init { d_step { x = 1; d_step { else } } } => M12 (d_step)
 byte x; init { d_step { x = 1; d_step { goto L }; L: x = 2 } } => M12 (d_step)
 byte x; init { d_step { do :: d_step { x = 1; break } od } } => M12 (d_step)
-init { d_step { if :: else -> skip fi } } => M99 (not served)
-init { d_step { goto L; skip; L: skip } } => M99 (not served)
-init { d_step { skip; else } } => M99 (not served)
 -- flags -p
 -- model @this
 -- output refused @that
 -- status 3
+== first points of d_steps that fit
+-- each
+init { d_step { if :: else -> skip fi } } => end: valid, steps 2
+init { d_step { goto L; skip; L: skip } } => end: valid, steps 2
+init { d_step { skip; else } } => end: valid, steps 2
+-- model @this
+-- output @that
+-- status 0
 == circles of gotos
 -- each
 init { L: goto L } => M13 (circle of gotos)
@@ -51,14 +56,42 @@ init { skip; L: { goto L } } => M13 (circle of gotos)
 init { do :: skip; L: goto L od } => M13 (circle of gotos)
 init { L: atomic { goto L } } => M13 (circle of gotos)
 proctype P() { L: goto L } init { skip } => M13 (circle of gotos)
-init { L: do :: goto L :: skip od } => M99 (not served)
-init { L: skip; goto L } => M99 (not served)
-init { goto L; L: skip } => M99 (not served)
-init { do :: goto L :: skip od; L: skip } => M99 (not served)
 -- flags -p
 -- model @this
 -- output refused @that
 -- status 3
+== a goto behind a statement closes no circle
+-- flags -u3
+-- model init { L: skip; goto L }
+-- output stop: step limit, steps 3
+-- status 5
+== a goto forwards closes no circle
+-- model init { goto L; L: skip }
+-- output end: valid, steps 2
+-- status 0
+== a goto that begins an option closes no circle
+-- model init { L: do :: goto L :: skip od }
+-- choices 1\n
+-- output
+choice 1: proc 0 (:init:) line 1 [goto L]
+choice 2: proc 0 (:init:) line 1 [skip]
+choose 1..2
+choice 1: proc 0 (:init:) line 1 [goto L]
+choice 2: proc 0 (:init:) line 1 [skip]
+choose 1..2
+stop: choices ended, steps 1
+-- status 5
+-- record 1\n
+== a goto out of a loop closes no circle
+-- model init { do :: goto L :: skip od; L: skip }
+-- choices 1\n
+-- output
+choice 1: proc 0 (:init:) line 1 [goto L]
+choice 2: proc 0 (:init:) line 1 [skip]
+choose 1..2
+end: valid, steps 3
+-- status 0
+-- record 1\n
 == the least of several
 -- each
 byte a, a; init { x = 1; break } => M6 (name twice)
@@ -79,8 +112,11 @@ chan c[256] = [0] of { byte }; => M16 (no process)
 -- model
 # 1 "m.pml"
 init { atomic { skip } }
--- output refused M99 (not served)
--- status 3
+-- output
+step 1: proc 0 (:init:) line 2 [skip]
+step 2: proc 0 (:init:) line 2 [-end-]
+end: valid, steps 2
+-- status 0
 "##
 }
 

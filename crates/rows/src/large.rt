@@ -1,8 +1,14 @@
 //! Large models, made at run time: each is read, checked and answered.
-use crate::row::{Row, STEPS};
+use crate::row::{NONE, Row, STEPS};
 use crate::runner::said_of;
+use session::Options;
 use std::alloc::Global;
 use std::test::Fail;
+
+/// What is shown of a process of one statement.
+const ONE_SKIP: &str = r#"step 1: proc 0 (:init:) line 1 [skip]
+step 2: proc 0 (:init:) line 1 [-end-]
+end: valid, steps 2"#;
 
 /// The front, then these pieces, each with its number where it has one, and what is behind them.
 fn repeated(
@@ -86,7 +92,7 @@ fn names_of_mtype(rt: HostRuntime) -> Result<(), Fail> {
     let alloc = rt.alloc();
     let behind = " }; init { atomic { skip } }";
     let most = repeated(alloc, "mtype = { m", ", m#", 254, behind)?;
-    shows(&rt, most, "refused M99 (not served)", 3, 0)?;
+    shows(&rt, most, ONE_SKIP, 0, 0)?;
     let more = repeated(alloc, "mtype = { m", ", m#", 255, behind)?;
     shows(&rt, more, "refused M14 (number out of range)", 3, 0)
 }
@@ -100,7 +106,7 @@ fn ten_thousand_declarations(rt: HostRuntime) -> Result<(), Fail> {
         10_000,
         "init { atomic { skip } }",
     )?;
-    shows(&rt, text, "refused M99 (not served)", 3, 0)
+    shows(&rt, text, ONE_SKIP, 0, 0)
 }
 
 #[test]
@@ -117,8 +123,17 @@ end: valid, steps 3"#;
 #[test]
 fn ten_thousand_labels_and_gotos(rt: HostRuntime) -> Result<(), Fail> {
     let alloc = rt.alloc();
-    let settled = repeated(alloc, "init { ", "L#: skip; goto L#; ", 10_000, "}")?;
-    shows(&rt, settled, "refused M99 (not served)", 3, 0)?;
+    let settled = Row {
+        options: Options { limit: 3, ..NONE },
+        model: repeated(alloc, "init { ", "L#: skip; goto L#; ", 10_000, "}")?,
+        choices: Vec::from_slice(alloc, b"1\n")?,
+        read: 0,
+        output: String::from_str(alloc, "stop: step limit, steps 3\n")?,
+        status: 5,
+        line: 0,
+        record: Vec::new(alloc),
+    };
+    passes(&rt, &settled)?;
     let circles = repeated(alloc, "init { ", "L#: goto L#; ", 10_000, "}")?;
     shows(&rt, circles, "refused M13 (circle of gotos)", 3, 0)
 }
@@ -128,7 +143,7 @@ fn ten_thousand_labels_and_gotos(rt: HostRuntime) -> Result<(), Fail> {
 fn a_hundred_thousand_statements(rt: HostRuntime) -> Result<(), Fail> {
     let alloc = rt.alloc();
     let row = Row {
-        options: crate::row::NONE,
+        options: NONE,
         model: repeated(alloc, "active proctype A() { ", "skip;", 100_000, "}")?,
         choices: Vec::from_slice(alloc, b"1\n")?,
         read: 0,
@@ -138,4 +153,85 @@ fn a_hundred_thousand_statements(rt: HostRuntime) -> Result<(), Fail> {
         record: Vec::new(alloc),
     };
     passes(&rt, &row)
+}
+
+/// A session over a model of two endless options.
+fn chosen(
+    rt: &HostRuntime,
+    choices: Vec<u8>,
+    read: usize,
+    output: String,
+    record: Vec<u8>,
+) -> Result<(), Fail> {
+    let row = Row {
+        options: NONE,
+        model: String::from_str(rt.alloc(), "init { do :: skip :: skip od }")?,
+        choices,
+        read,
+        output,
+        status: 5,
+        line: 0,
+        record,
+    };
+    passes(rt, &row)
+}
+
+const QUESTION: &str = r#"choice 1: proc 0 (:init:) line 1 [skip]
+choice 2: proc 0 (:init:) line 1 [skip]
+choose 1..2
+"#;
+
+/// The bytes of a text.
+fn bytes_of(alloc: Global, text: &str) -> Result<Vec<u8>, Fail> {
+    Ok(Vec::from_slice(alloc, text.as_bytes())?)
+}
+
+#[test]
+fn a_hundred_bad_lines(rt: HostRuntime) -> Result<(), Fail> {
+    let alloc = rt.alloc();
+    let bad = "bad choice\nstop: 100 bad choices, steps 0\n";
+    let output = repeated(alloc, QUESTION, "bad choice\nchoose 1..2\n", 99, bad)?;
+    let choices = repeated(alloc, "", "\n", 500, "")?;
+    chosen(
+        &rt,
+        bytes_of(alloc, &choices)?,
+        100,
+        output,
+        Vec::new(alloc),
+    )
+}
+
+/// The count of bad lines begins anew at each question.
+#[test]
+fn ninety_nine_bad_lines_twice(rt: HostRuntime) -> Result<(), Fail> {
+    let alloc = rt.alloc();
+    let bad = "bad choice\nchoose 1..2\n";
+    let first = repeated(alloc, QUESTION, bad, 99, QUESTION)?;
+    let ended = format!(in alloc; "{QUESTION}stop: choices ended, steps 2\n")?;
+    let output = repeated(alloc, &first, bad, 99, &ended)?;
+    let once = repeated(alloc, "", "x\n", 99, "2\n")?;
+    let choices = repeated(alloc, &once, "x\n", 99, "1\n")?;
+    let read = choices.len();
+    chosen(
+        &rt,
+        bytes_of(alloc, &choices)?,
+        read,
+        output,
+        bytes_of(alloc, "2\n1\n")?,
+    )
+}
+
+#[test]
+fn ten_thousand_choices(rt: HostRuntime) -> Result<(), Fail> {
+    let alloc = rt.alloc();
+    let choices = repeated(alloc, "", "2\n", 10_000, "")?;
+    let ended = "stop: choices ended, steps 10000\n";
+    let output = repeated(alloc, QUESTION, QUESTION, 10_000, ended)?;
+    chosen(
+        &rt,
+        bytes_of(alloc, &choices)?,
+        20_000,
+        output,
+        bytes_of(alloc, &choices)?,
+    )
 }

@@ -4,7 +4,13 @@
 #[cfg(test)]
 mod block;
 #[cfg(test)]
+mod channels;
+#[cfg(test)]
 mod checks;
+#[cfg(test)]
+mod choices;
+#[cfg(test)]
+mod control;
 #[cfg(test)]
 mod expressions;
 #[cfg(test)]
@@ -15,6 +21,10 @@ mod forms;
 mod large;
 #[cfg(test)]
 mod player;
+#[cfg(test)]
+mod printing;
+#[cfg(test)]
+mod processes;
 #[cfg(test)]
 mod refusals;
 #[cfg(test)]

@@ -12,6 +12,20 @@ use std::test::Fail;
 /// No call fails.
 pub const NEVER: u64 = u64::MAX;
 
+/// Which call of each device fails, counted from 0.
+#[derive(Clone, Copy)]
+pub struct Failing {
+    pub source: u64,
+    pub out: u64,
+    pub rec: u64,
+}
+
+pub const NONE_FAILS: Failing = Failing {
+    source: NEVER,
+    out: NEVER,
+    rec: NEVER,
+};
+
 /// What stands behind a session.
 #[derive(Drop)]
 pub struct Behind {
@@ -29,7 +43,7 @@ fn played_with<K: Ledger, L: Ledger>(
     text: &[u8],
     options: &Options,
     choices: &[u8],
-    out_fails: u64,
+    failing: Failing,
 ) -> Result<Behind, Fail>
     requires first_name { first.name ≡ K.name }
     requires first_parts { first.parts ≡ K.parts }
@@ -39,32 +53,35 @@ fn played_with<K: Ledger, L: Ledger>(
     requires second_one { second.parts ≡ 1 }
 {
     let mut devices = ThreeDevices {
-        source: SliceSource::new(choices),
+        source: FailsOnce::new(SliceSource::new(choices), failing.source),
         out: FailsOnce::new(
             OneByte {
                 sink: VecSink::new(Vec::new(alloc), Failures::<K>::new(first)),
             },
-            out_fails,
+            failing.out,
         ),
-        rec: VecSink::new(Vec::new(alloc), Failures::<L>::new(second)),
+        rec: FailsOnce::new(
+            VecSink::new(Vec::new(alloc), Failures::<L>::new(second)),
+            failing.rec,
+        ),
     };
     let end = play(alloc, text, options, &mut devices);
     Ok(Behind {
         out: Vec::from_slice(alloc, devices.out.device().sink.bytes())?,
-        rec: Vec::from_slice(alloc, devices.rec.bytes())?,
-        unread: devices.source.left().len(),
-        failed: devices.out.has_failed(),
+        rec: Vec::from_slice(alloc, devices.rec.device().bytes())?,
+        unread: devices.source.device().left().len(),
+        failed: devices.source.has_failed() || devices.out.has_failed() || devices.rec.has_failed(),
         end,
     })
 }
 
-/// Plays a text, the output failing at this call, counted from 0.
+/// Plays a text, with these failures.
 pub fn played(
     alloc: Global,
     text: &[u8],
     options: &Options,
     choices: &[u8],
-    out_fails: u64,
+    failing: Failing,
 ) -> Result<Behind, Fail> {
     played_with::<Brand, Brand>(
         alloc,
@@ -73,6 +90,6 @@ pub fn played(
         text,
         options,
         choices,
-        out_fails,
+        failing,
     )
 }

@@ -1,6 +1,6 @@
 //! Plays rows, compares what stands behind them with what they say, and plays those that have a record again on it.
 use crate::block::{fault, find, name, text};
-use crate::player::{Behind, NEVER, played};
+use crate::player::{Behind, NONE_FAILS, played};
 use crate::row::{Row, row_of};
 use session::{Cause, End};
 use std::alloc::Global;
@@ -205,7 +205,7 @@ fn replayed(alloc: Global, row: &Row, before: &Behind) -> Result<String, Fail> {
         row.model.as_bytes(),
         &row.options,
         row.record.as_slice(),
-        NEVER,
+        NONE_FAILS,
     )?;
     let (then, now) = (&before.end, &again.end);
     let status = if is_cut_short(&then.cause) {
@@ -239,7 +239,7 @@ fn replayed(alloc: Global, row: &Row, before: &Behind) -> Result<String, Fail> {
 /// What is otherwise than a row says, in words; none, where nothing is.
 pub fn said_of(alloc: Global, row: &Row) -> Result<String, Fail> {
     let model = row.model.as_bytes();
-    let behind = played(alloc, model, &row.options, &row.choices, NEVER)?;
+    let behind = played(alloc, model, &row.options, &row.choices, NONE_FAILS)?;
     let mut complaint = compared(alloc, row, &behind)?;
     if !row.record.is_empty() {
         let again = replayed(alloc, row, &behind)?;

@@ -317,8 +317,14 @@ end: valid, steps 2
 -- status 3
 == an initialiser of the second process is fine
 -- model active [2] proctype P() { byte x = 1 / (2 - _pid); skip }
--- output refused M99 (not served)
--- status 3
+-- choices 1\n
+-- output
+choice 1: proc 0 (P) line 1 [skip]
+choice 2: proc 1 (P) line 1 [skip]
+choose 1..2
+end: valid, steps 4
+-- status 0
+-- record 1\n
 == an initialiser counts the processes that live by then
 -- model byte x = 1 / (1 - _nr_pr); init { byte y = 1 / (1 - _nr_pr); skip }
 -- output refused M18 (initialiser)
