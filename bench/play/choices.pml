@@ -1,0 +1,1 @@
+init { do :: skip :: skip od }
