@@ -18,7 +18,7 @@ abbrev pub is_met : Result ℤ Fault → Bool
 is_met (Ok v) = not (is_zero v)
 is_met (Err f) = true
 
--- an assignment, `++` and `--` always, and a condition where it holds; no other kind is served
+-- an assignment, `++` and `--` always, and a condition where it holds; it speaks of no other kind
 abbrev pub is_executable : Action → Reading → Bool
 is_executable (a.Assign t v) r = true
 is_executable (a.Increment t) r = true

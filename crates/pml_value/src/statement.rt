@@ -26,7 +26,7 @@ pub struct Goes {
 }
 
 /// Whether a statement can be taken: an assignment, `++`, `--`, or a condition that holds. A condition that comes to a fault can:
-/// to take it is the fault. Statements of other kinds are not served yet, and cannot.
+/// to take it is the fault. Of statements of other kinds it answers no: `pml_moves` knows them.
 pub fn can_be_taken(action: &Action<'_>, view: &View<'_>) -> bool
     ensures { result ≡ is_executable action.now (seen view.now) }
 {
