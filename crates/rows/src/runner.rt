@@ -107,7 +107,6 @@ fn said(alloc: Global, end: &End) -> Result<String, Fail> {
     match end.cause {
         Cause::Fault(_) => Ok(format!(in alloc; "): step {tried}: ")?),
         Cause::Refused(refusal, _) => Ok(format!(in alloc; "refused M{} (", refusal.number())?),
-        Cause::NotServed => Ok(format!(in alloc; "refused M99 (not served)\n")?),
         _ => Ok(format!(in alloc; "a device or memory failed")?),
     }
 }

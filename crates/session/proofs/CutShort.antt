@@ -13,7 +13,7 @@ use Rattle.session.specs.Limits.{most_line_bytes, most_bad_lines}
 use Rattle.session.specs.Lines.{IsPickUpTo}
 use Rattle.session.specs.Part.{Part, preceded, followed}
 use Rattle.session.specs.Machine.{Rules, Outcome, Goes, Faults}
-use Rattle.session.specs.Session.{one_line, ask, only, kept, choose, select, stopped, finished, stepped, answered, story, transcript, refused, not_served, end_of, step_text}
+use Rattle.session.specs.Session.{one_line, ask, only, kept, choose, select, stopped, finished, stepped, answered, story, transcript, refused, end_of, step_text}
 use Rattle.session.specs.Texts.{record_line, list_from, prompt}
 use Rattle.session.specs.Replay.{is_cut_short, IsSameBeginning, CanBeReplayed}
 use Rattle.session.proofs.LineReading.{line_end}
@@ -150,6 +150,3 @@ can_be_replayed rules options s choices =
 
 pub refused_can_be_replayed : (r : Refusal) (line : ℕ) → CanBeReplayed (refused r line false)
 refused_can_be_replayed r line choices = (λ complete. record { ends = refl; keeps = refl; reads = refl; writes = refl }, λ cut. absurd (true≢false (sym cut)))
-
-pub not_served_can_be_replayed : CanBeReplayed (not_served false)
-not_served_can_be_replayed choices = (λ complete. record { ends = refl; keeps = refl; reads = refl; writes = refl }, λ cut. absurd (true≢false (sym cut)))

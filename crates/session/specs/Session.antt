@@ -15,7 +15,7 @@ use Rattle.session.specs.Limits.{most_line_bytes, most_bad_lines}
 use Rattle.session.specs.Lines.{line_within, read_of, saw_end, reply_of}
 use Rattle.session.specs.Part.{Part, preceded, followed}
 use Rattle.session.specs.Machine.{Rules, Outcome, Goes, Faults}
-use Rattle.session.specs.Texts.{list_from, prompt, bad_line, record_line, last_line, step_line, fault_line, refusal_line, not_served_line, status_of}
+use Rattle.session.specs.Texts.{list_from, prompt, bad_line, record_line, last_line, step_line, fault_line, refusal_line, status_of}
 
 -- what a line says that ends so, or `None` for a bad line
 abbrev pub reply_at : ℕ → LineEnd → List ℕ → Option Answer
@@ -112,10 +112,6 @@ stepped rules options s m steps later over left (Faults f) =
 -- the model is refused, at this line of its text
 abbrev pub refused : Refusal → ℕ → Bool → List ℕ → Part End
 refused r line over left = preceded (Put Told (refusal_line r) ∷ []) (only (end_of (cause.Refused r line) 0) over left)
-
--- the model uses something that is not served yet
-abbrev pub not_served : Bool → List ℕ → Part End
-not_served over left = preceded (Put Told not_served_line ∷ []) (only (end_of cause.NotServed 0) over left)
 
 -- why a session ends at an answer that picks no move
 abbrev pub cause_of : Answer → Cause

@@ -45,7 +45,6 @@ last_words cause.BadChoices = codes "stop: 100 bad choices, steps "
 last_words cause.StepLimit = codes "stop: step limit, steps "
 last_words (cause.Fault f) = []
 last_words (cause.Refused r line) = []
-last_words cause.NotServed = []
 last_words cause.SourceFailed = []
 last_words cause.OutFailed = []
 last_words cause.RecordFailed = []
@@ -67,10 +66,6 @@ fault_line f n text = codes "fault F" ++ (decimal (fault_number f) ++ (codes " (
 abbrev pub refusal_line : Refusal → List ℕ
 refusal_line r = codes "refused M" ++ (decimal (refusal_number r) ++ (codes " (" ++ (refusal_words r ++ codes ")\n")))
 
--- the line of a model that uses something not served yet
-abbrev pub not_served_line : List ℕ
-not_served_line = codes "refused M99 (not served)\n"
-
 -- the exit status of a cause
 abbrev pub status_of : Cause → ℕ
 status_of cause.Valid = 0
@@ -78,7 +73,6 @@ status_of cause.Quit = 0
 status_of cause.Invalid = 1
 status_of (cause.Fault f) = 2
 status_of (cause.Refused r line) = 3
-status_of cause.NotServed = 3
 status_of cause.ChoicesEnded = 5
 status_of cause.LineTooLong = 5
 status_of cause.BadChoices = 5

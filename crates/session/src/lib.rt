@@ -20,7 +20,7 @@ pub use choice::Answer;
 pub use diagnostics::Stop;
 pub use machine::Machine;
 pub use profile::{BAD_LINES, LINE_BYTES};
-pub use refused::{refuse, refuse_unserved};
+pub use refused::refuse;
 pub use whole::{end_of, failure, play, run};
 
 /// What is printed of each step, and how many steps are taken at most.
@@ -49,8 +49,6 @@ pub enum Cause {
     Fault(Fault),
     /// The model was refused, at this line of its text, or 0 where the refusal has none.
     Refused(Refusal, u32),
-    /// The model is one of Promela's, and uses something that is not served yet.
-    NotServed,
     /// The choices ended at a question.
     ChoicesEnded,
     /// A line of the choices has more than 80 bytes.

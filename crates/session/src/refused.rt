@@ -2,7 +2,7 @@
 ghost use Rattle.std.specs.Prelude.{◌≡◌, IfOk};
 ghost use Rattle.session.specs.Session.{end_of};
 ghost use Rattle.session.specs.Stands.{CountsAll};
-ghost use Rattle.session.specs.Texts.{refusal_line, not_served_line};
+ghost use Rattle.session.specs.Texts.{refusal_line};
 ghost use Rattle.session.specs.Writes.{Writes, IsOwnEnd};
 
 use crate::draft::draft_refusal;
@@ -29,15 +29,4 @@ pub fn refuse<D: Devices>(
     draft_refusal(refusal, &mut text)?;
     put_out(devices, &text)?;
     Ok(end_of(Cause::Refused(refusal, line), 0))
-}
-
-/// Writes the line of a model that uses something not served yet, and ends the session.
-pub fn refuse_unserved<D: Devices>(devices: &mut D) -> Result<End, Broken>
-    ensures text { Writes result (D.holds devices.old) (D.holds devices.new) not_served_line }
-    ensures end { IfOk result (λ end. end ≡ end_of Cause.NotServed 0) }
-    ensures own { IfOk result (IsOwnEnd 0) }
-    ensures count { CountsAll result (D.holds devices.old).failures (D.holds devices.new).failures }
-{
-    put_out(devices, b"refused M99 (not served)\n")?;
-    Ok(end_of(Cause::NotServed, 0))
 }

@@ -61,7 +61,7 @@ fn status(cause: Cause) -> u8
         Cause::Valid | Cause::Quit => 0,
         Cause::Invalid => 1,
         Cause::Fault(_) => 2,
-        Cause::Refused(_, _) | Cause::NotServed => 3,
+        Cause::Refused(_, _) => 3,
         Cause::ChoicesEnded | Cause::LineTooLong | Cause::BadChoices | Cause::StepLimit => 5,
         Cause::SourceFailed | Cause::OutFailed | Cause::RecordFailed | Cause::Memory => 6,
     }
