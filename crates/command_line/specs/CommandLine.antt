@@ -36,9 +36,20 @@ abbrev pub with_all : App → List Rule → App
 with_all a [] = a
 with_all a (r ∷ rs) = with_all (with_rule a r) rs
 
+-- the program, which has a version, and no argument yet
+abbrev pub named : App
+named = record { top = record ((new_app (codes "spinplay")).top) { has_version = true }; subs = [] }
+
+-- the command is `named`, without groups or settings that reach others
+pub record IsNamed (c : Command) : Type 0 where
+  pub app : app_of c ≡ named
+  pub empty : (args_of c ≡ []) × (groups_of c ≡ [])
+  pub local : (fields_of c).has_globals ≡ false
+  pub negates : (fields_of c).subcommand_negates_reqs ≡ false
+
 -- `spinplay [-i] [-p] [-g] [-l] [-T] [-uN] [--choices FILE] [--record FILE] MODEL`
 unfoldable pub command_line : App
-command_line = with_all (new_app (codes "spinplay")) (
+command_line = with_all named (
     counted_letter (codes "i") 105
     ∷ counted_letter (codes "p") 112
     ∷ counted_letter (codes "g") 103

@@ -4,9 +4,10 @@ ghost use Rattle.std.specs.String.{string_bytes};
 ghost use Rattle.clap.specs.Built.{TakesValue};
 ghost use Rattle.clap.specs.Words.{FailsBy, fault_of, first_value, found_of, matches_of, rule_of};
 ghost use Rattle.command_line.specs.CommandLine.{command_line, counted_letter, file_rule, limit_rule};
-ghost use Rattle.command_line.specs.CommandLine.{model_rule, IsArgument, IsCommandLine};
+ghost use Rattle.command_line.specs.CommandLine.{model_rule, IsArgument, IsCommandLine, IsNamed};
 ghost use Rattle.command_line.specs.Matched.{IsReadFrom};
 
+use crate::help::{HELP, VERSION};
 use crate::options::Arguments;
 use clap::{Arg, ArgAction, ArgMatches, Command, Error, value_parser};
 use session::Options;
@@ -63,11 +64,20 @@ fn model<'a>(alloc: Global) -> Arg<'a>
         .help("The file of the model")
 }
 
+// The program's name, its version and its help, without an argument yet.
+fn spinplay<'a>(alloc: Global) -> Command<'a>
+    ensures { IsNamed result }
+{
+    Command::new(alloc, "spinplay")
+        .version(VERSION)
+        .override_help(HELP)
+}
+
 // The command line that `command_line` writes out.
 fn command<'a>(alloc: Global) -> Result<Command<'a>, AllocError>
     ensures { IfOk result IsCommandLine }
 {
-    Command::new(alloc, "spinplay")
+    spinplay(alloc)
         .arg(flag(alloc, "i", 'i', "Accepted, and changes nothing"))?
         .arg(flag(alloc, "p", 'p', "Show each step"))?
         .arg(flag(

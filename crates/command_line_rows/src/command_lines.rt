@@ -112,7 +112,8 @@ fn refused(rt: HostRuntime) -> Result<(), Fail> {
         ("spinplay -m m.pml", "UnknownArgument"),
         ("spinplay --globals m.pml", "UnknownArgument"),
         ("spinplay -g", "MissingRequiredArgument"),
-        ("spinplay -V", "UnknownArgument"),
+        ("spinplay -V", "DisplayVersion"),
+        ("spinplay -p --version", "DisplayVersion"),
         ("spinplay --choices", "InvalidValue"),
     ];
     for (words, kind) in rows {

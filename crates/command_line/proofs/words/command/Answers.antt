@@ -1,14 +1,13 @@
 use Rattle.std.proofs.Common.{codes}
 use Rattle.std.proofs.lemmas.Result.{IfOk-weaker}
-use Rattle.clap.specs.Words.{new_app}
-use Rattle.command_line.specs.CommandLine.{command_line}
+use Rattle.command_line.specs.CommandLine.{command_line, named}
 use Rattle.command_line.proofs.ChainLemmas.{finished, more, starts}
 use Rattle.command_line.proofs.words.command.Goals as goal
 
 pub returns : goal.returns
 unfolding command_line
 returns c =
-    let none = starts c.new.result (new_app (codes "spinplay")) c.new.ensures.app in
+    let none = starts c.spinplay.result named c.spinplay.ensures.app in
     let one = more (codes "i") _ _ _ _ _ _ _ _ none c.in_ok-arg.ensures c.flag.ensures.plain c.flag.ensures.rule in
     let two = more (codes "p") _ _ _ _ _ _ _ _ one c.in_ok-arg-2.ensures c.flag-2.ensures.plain c.flag-2.ensures.rule in
     let three = more (codes "g") _ _ _ _ _ _ _ _ two c.in_ok-arg-3.ensures c.flag-3.ensures.plain c.flag-3.ensures.rule in
@@ -18,5 +17,5 @@ returns c =
     let seven = more (codes "choices") _ _ _ _ _ _ _ _ six c.in_ok-arg-7.ensures c.file.ensures.plain c.file.ensures.rule in
     let eight = more (codes "record") _ _ _ _ _ _ _ _ seven c.in_ok-arg-8.ensures c.file-2.ensures.plain c.file-2.ensures.rule in
     IfOk-weaker c.arg-9.result _ _ (λ d last.
-    finished c.new.result d _ (more (codes "MODEL") _ _ d _ _ _ _ _ eight last c.model.ensures.plain c.model.ensures.rule)
-    (c.new.ensures.empty.0, c.new.ensures.empty.1) c.new.ensures.local c.new.ensures.negates (λ _. c.model.ensures.value)) c.arg-9.ensures
+    finished c.spinplay.result d _ (more (codes "MODEL") _ _ d _ _ _ _ _ eight last c.model.ensures.plain c.model.ensures.rule)
+    (c.spinplay.ensures.empty.0, c.spinplay.ensures.empty.1) c.spinplay.ensures.local c.spinplay.ensures.negates (λ _. c.model.ensures.value)) c.arg-9.ensures

@@ -1,0 +1,44 @@
+// The texts of `--help` and `--version`.
+
+pub const VERSION: &str = "0.9.0";
+
+// It is written out, since the flags may be repeated and the one that is made of the arguments would show three points behind each.
+pub const HELP: &str = "\
+Plays a Promela model step by step, and replays a record of its choices.
+
+Usage: spinplay [OPTIONS] <MODEL>
+
+Arguments:
+  <MODEL>           The file of the model
+
+Options:
+  -p                Show each step
+  -g                Show each global variable that a step changed
+  -l                Show each local variable that a step changed
+  -u <N>            Take at most N steps (1000000 where it is not given)
+  --choices <FILE>  Read the choices from FILE, in place of standard input
+  --record <FILE>   Write the accepted choices to FILE, which is emptied first
+  -i, -T            Accepted as Spin has them, and change nothing
+  -h, --help        Print help
+  -V, --version     Print version
+
+Flags may be repeated and joined, as in -pgl.
+
+Where more than one statement can be taken, they are listed, and a line is
+read: the number of one of them, or q to quit. Any other line is answered by
+'bad choice' and asked again; the hundredth in a row ends the run. Where just
+one statement can be taken, it is taken without a question.
+
+To record a session, and to play it again:
+  spinplay -p --record run.txt model.pml
+  spinplay -p --choices run.txt model.pml
+
+Exit status:
+  0  the run came to a valid end, or was ended by q
+  1  it came to an invalid end
+  2  a fault of the run
+  3  the model is refused
+  4  wrong words, or a file that cannot be opened or read
+  5  stopped: choices ended, a line too long, 100 bad choices, the step limit
+  6  a device or memory failed
+";
