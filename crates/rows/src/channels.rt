@@ -190,6 +190,83 @@ at: proc 0 (:init:) line 1
 -- model chan q = [0] of { byte }; init { len(q) == 0; empty(q); full(q); !nempty(q); !nfull(q); !(q?[1]) }
 -- output end: valid, steps 7
 -- status 0
+== two receives of one receiver
+-- flags -g
+-- model
+chan q = [0] of { byte };
+byte x;
+active proctype S() { q!1 }
+active proctype R() { if :: q?x -> x = 10 :: q?x -> x = 20 fi }
+-- choices 2\n
+-- output
+choice 1: proc 0 (S) line 3 [q ! 1] -> proc 1 (R) line 4 [q ? x]
+choice 2: proc 0 (S) line 3 [q ! 1] -> proc 1 (R) line 4 [q ? x]
+choose 1..2
+global x = 1
+global x = 20
+end: valid, steps 4
+-- status 0
+-- record 2\n
+== receives on two levels of a receiver
+-- flags -g
+-- model
+chan q = [0] of { byte };
+byte x;
+active proctype S() { q!1 }
+active proctype R() { { q?x; x = 10 } unless { q?x -> x = 20 } }
+-- output
+global x = 1
+global x = 20
+end: valid, steps 4
+-- status 0
+== a receive on a higher level that does not match
+-- flags -g
+-- model
+chan q = [0] of { byte };
+byte x;
+active proctype S() { q!1 }
+active proctype R() { { q?x; x = 10 } unless { q?5 -> x = 20 } }
+-- output
+global x = 1
+global x = 10
+end: valid, steps 4
+-- status 0
+== two receivers, each with a receive on two levels
+-- flags -p
+-- model
+chan q = [0] of { byte };
+active proctype S() { q!1 }
+active [2] proctype R() { { q?_ } unless { if :: q?1 :: q?eval(_pid) fi } }
+-- choices 2\n
+-- output
+choice 1: proc 0 (S) line 2 [q ! 1] -> proc 1 (R) line 3 [q ? 1]
+choice 2: proc 0 (S) line 2 [q ! 1] -> proc 1 (R) line 3 [q ? eval ( _pid )]
+choice 3: proc 0 (S) line 2 [q ! 1] -> proc 2 (R) line 3 [q ? 1]
+choose 1..3
+step 1: proc 0 (S) line 2 [q ! 1] -> proc 1 (R) line 3 [q ? eval ( _pid )]
+end: invalid, steps 1
+at: proc 2 (R) line 3
+-- status 1
+-- record 2\n
+== a number is cut to the channel's type, and then to the variable's
+-- flags -g
+-- model chan q = [0] of { byte }; unsigned u : 3; active proctype S() { q!509 } active proctype R() { q?u }
+-- output
+global u = 5
+end: valid, steps 3
+-- status 0
+== a receiver that is blocked elsewhere is a partner all the same
+-- flags -p
+-- model
+chan q = [0] of { byte };
+active proctype S() { q!1 }
+active proctype R() { if :: false :: q?_ fi }
+-- output
+step 1: proc 0 (S) line 2 [q ! 1] -> proc 1 (R) line 3 [q ? _]
+step 2: proc 1 (R) line 3 [-end-]
+step 3: proc 0 (S) line 2 [-end-]
+end: valid, steps 3
+-- status 0
 "##
 }
 

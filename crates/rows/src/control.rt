@@ -146,6 +146,15 @@ at: proc 0 (A) line 3
 at: proc 1 (B) line 7
 at: proc 2 (C) line 11
 -- status 1
+== an else goes before an option that waits for timeout
+-- flags -p
+-- model byte x; init { if :: timeout -> x = 1 :: else -> x = 2 fi }
+-- output
+step 1: proc 0 (:init:) line 1 [else]
+step 2: proc 0 (:init:) line 1 [x = 2]
+step 3: proc 0 (:init:) line 1 [-end-]
+end: valid, steps 3
+-- status 0
 "##
 }
 
@@ -206,6 +215,70 @@ end: valid, steps 3
 -- output
 step 1: proc 0 (:init:) line 1 [x = 1]
 step 2: proc 0 (:init:) line 1 [x = 2]
+step 3: proc 0 (:init:) line 1 [-end-]
+end: valid, steps 3
+-- status 0
+== an escape that goes back into its main part
+-- flags -p
+-- model byte x; init { { L: x = x + 1; x < 5 -> x = x + 10 } unless { x == 1 -> x = 2; goto L } }
+-- output
+step 1: proc 0 (:init:) line 1 [x = x + 1]
+step 2: proc 0 (:init:) line 1 [x == 1]
+step 3: proc 0 (:init:) line 1 [x = 2]
+step 4: proc 0 (:init:) line 1 [x = x + 1]
+step 5: proc 0 (:init:) line 1 [x < 5]
+step 6: proc 0 (:init:) line 1 [x = x + 10]
+step 7: proc 0 (:init:) line 1 [-end-]
+end: valid, steps 7
+-- status 0
+== an escape is asked again where it went back into its main part
+-- flags -p
+-- model byte x, n; init { { L: x = 1; x = 2 } unless { x == 1 && n < 2 -> n++; goto L } }
+-- output
+step 1: proc 0 (:init:) line 1 [x = 1]
+step 2: proc 0 (:init:) line 1 [x == 1 && n < 2]
+step 3: proc 0 (:init:) line 1 [n ++]
+step 4: proc 0 (:init:) line 1 [x == 1 && n < 2]
+step 5: proc 0 (:init:) line 1 [n ++]
+step 6: proc 0 (:init:) line 1 [x = 1]
+step 7: proc 0 (:init:) line 1 [x = 2]
+step 8: proc 0 (:init:) line 1 [-end-]
+end: valid, steps 8
+-- status 0
+== a do in a main part
+-- flags -p
+-- model byte x; init { { do :: x < 3 -> x++ od } unless { x == 2 -> skip } }
+-- output
+step 1: proc 0 (:init:) line 1 [x < 3]
+step 2: proc 0 (:init:) line 1 [x ++]
+step 3: proc 0 (:init:) line 1 [x < 3]
+step 4: proc 0 (:init:) line 1 [x ++]
+step 5: proc 0 (:init:) line 1 [x == 2]
+step 6: proc 0 (:init:) line 1 [skip]
+step 7: proc 0 (:init:) line 1 [-end-]
+end: valid, steps 7
+-- status 0
+== an else is of its own level
+-- flags -p
+-- model byte x; init { { if :: false :: else -> x = 1 fi; x = 3 } unless { x == 1 -> x = 2 } }
+-- output
+step 1: proc 0 (:init:) line 1 [else]
+step 2: proc 0 (:init:) line 1 [x = 1]
+step 3: proc 0 (:init:) line 1 [x == 1]
+step 4: proc 0 (:init:) line 1 [x = 2]
+step 5: proc 0 (:init:) line 1 [-end-]
+end: valid, steps 5
+-- status 0
+== a fault in an escape hides its main part
+-- model byte x; init { { x = 1 } unless { 1 / x == 1 -> skip } }
+-- output fault F2 (zero divisor): step 1: proc 0 (:init:) line 1 [1 / x == 1]
+-- status 2
+== what a level has hides those below, of whatever kind
+-- flags -p
+-- model byte x; init { { x = 1 } unless { if :: x == 1 -> x = 2 :: else -> x = 3 fi } }
+-- output
+step 1: proc 0 (:init:) line 1 [else]
+step 2: proc 0 (:init:) line 1 [x = 3]
 step 3: proc 0 (:init:) line 1 [-end-]
 end: valid, steps 3
 -- status 0
@@ -286,6 +359,141 @@ step 2: proc 1 (P) line 1 [skip]
 step 3: proc 1 (P) line 1 [-end-]
 step 4: proc 0 (:init:) line 1 [-end-]
 end: valid, steps 4
+-- status 0
+== a d_step beside another option
+-- flags -g
+-- model byte x; init { if :: d_step { x = 1; x = 2 } :: x = 5 fi }
+-- choices 1\n
+-- output
+choice 1: proc 0 (:init:) line 1 [d_step]
+choice 2: proc 0 (:init:) line 1 [x = 5]
+choose 1..2
+global x = 2
+end: valid, steps 2
+-- status 0
+-- record 1\n
+== a d_step in an atomic sequence keeps control
+-- flags -p
+-- model
+byte x, y;
+active proctype A() { atomic { d_step { x = 1; x++ }; y = x } }
+active proctype B() { x = 9 }
+-- choices 1\n
+-- output
+choice 1: proc 0 (A) line 2 [d_step]
+choice 2: proc 1 (B) line 3 [x = 9]
+choose 1..2
+step 1: proc 0 (A) line 2 [d_step]
+step 2: proc 0 (A) line 2 [y = x]
+step 3: proc 1 (B) line 3 [x = 9]
+step 4: proc 1 (B) line 3 [-end-]
+step 5: proc 0 (A) line 2 [-end-]
+end: valid, steps 5
+-- status 0
+-- record 1\n
+== a d_step at the end of an atomic sequence lets go
+-- flags -p
+-- model
+byte x, y;
+active proctype A() { atomic { y = 1; d_step { x = 1; x++ } }; y = x }
+active proctype B() { x = 9 }
+-- choices 1\n2\n1\n
+-- output
+choice 1: proc 0 (A) line 2 [y = 1]
+choice 2: proc 1 (B) line 3 [x = 9]
+choose 1..2
+step 1: proc 0 (A) line 2 [y = 1]
+step 2: proc 0 (A) line 2 [d_step]
+choice 1: proc 0 (A) line 2 [y = x]
+choice 2: proc 1 (B) line 3 [x = 9]
+choose 1..2
+step 3: proc 1 (B) line 3 [x = 9]
+choice 1: proc 0 (A) line 2 [y = x]
+choice 2: proc 1 (B) line 3 [-end-]
+choose 1..2
+step 4: proc 0 (A) line 2 [y = x]
+step 5: proc 1 (B) line 3 [-end-]
+step 6: proc 0 (A) line 2 [-end-]
+end: valid, steps 6
+-- status 0
+-- record 1\n2\n1\n
+== messages in a d_step
+-- flags -g
+-- model chan q = [2] of { byte }; byte x; init { d_step { q!3; q!4; q?x; q?x } }
+-- output
+global x = 4
+end: valid, steps 2
+-- status 0
+== a d_step whose first statement blocks waits
+-- flags -p -g
+-- model
+byte x;
+active proctype A() { d_step { x == 1; x = 2 } }
+active proctype B() { x = 1 }
+-- choices 2\n
+-- output
+step 1: proc 1 (B) line 3 [x = 1]
+global x = 1
+choice 1: proc 0 (A) line 2 [d_step]
+choice 2: proc 1 (B) line 3 [-end-]
+choose 1..2
+step 2: proc 1 (B) line 3 [-end-]
+step 3: proc 0 (A) line 2 [d_step]
+global x = 2
+step 4: proc 0 (A) line 2 [-end-]
+end: valid, steps 4
+-- status 0
+-- record 2\n
+== a d_step that waits for ever
+-- model byte x; init { d_step { x == 1; x = 2 } }
+-- output
+end: invalid, steps 0
+at: proc 0 (:init:) line 1
+-- status 1
+== a d_step that blocks at a send
+-- model chan q = [1] of { byte }; init { d_step { q!1; q!2 } }
+-- output fault F7 (d_step blocks): step 1: proc 0 (:init:) line 1 [d_step]
+-- status 2
+== a d_step that blocks at a receive
+-- model chan q = [1] of { byte }; init { d_step { skip; q?_ } }
+-- output fault F7 (d_step blocks): step 1: proc 0 (:init:) line 1 [d_step]
+-- status 2
+== a d_step that blocks at its options
+-- model init { d_step { skip; if :: false :: timeout fi } }
+-- output fault F7 (d_step blocks): step 1: proc 0 (:init:) line 1 [d_step]
+-- status 2
+== a d_step that blocks at a rendezvous
+-- model
+chan q = [0] of { byte };
+active proctype S() { d_step { skip; q!1 } }
+active proctype R() { q?_ }
+-- output fault F7 (d_step blocks): step 1: proc 0 (S) line 2 [d_step]
+-- status 2
+== a d_step that blocks behind ten thousand statements is too long
+-- model int i; init { d_step { i = 0; do :: i < 4998 -> i++ :: else -> break od; skip; skip; false } }
+-- output fault F8 (d_step too long): step 1: proc 0 (:init:) line 1 [d_step]
+-- status 2
+== a d_step that blocks behind one less blocks
+-- model int i; init { d_step { i = 0; do :: i < 4998 -> i++ :: else -> break od; skip; false } }
+-- output fault F7 (d_step blocks): step 1: proc 0 (:init:) line 1 [d_step]
+-- status 2
+== a goto behind a statement of a d_step is no statement
+-- flags -g
+-- model int i; init { d_step { i = 0; L: if :: i < 4999 -> i++; goto L :: else fi } }
+-- output
+global i = 4999
+end: valid, steps 2
+-- status 0
+== a goto that begins an option of a d_step is a statement
+-- model int i; init { d_step { i = 1; L: do :: i < 5000 -> i++ :: else -> break od; if :: goto M fi; M: skip } }
+-- output fault F8 (d_step too long): step 1: proc 0 (:init:) line 1 [d_step]
+-- status 2
+== no escape is asked within a d_step
+-- flags -g
+-- model byte x; init { { d_step { x = 1; x = 2 } } unless { x == 1 -> x = 9 } }
+-- output
+global x = 2
+end: valid, steps 2
 -- status 0
 "##
 }

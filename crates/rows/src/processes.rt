@@ -147,6 +147,33 @@ end: valid, steps 4
 -- model proctype P(byte b; chan c) { c ! b } init { run P(1, 2) }
 -- output fault F4 (no such channel): step 2: proc 1 (P) line 1 [c ! b]
 -- status 2
+== too many channels go before a fault in the first values
+-- model byte z; chan c[255] = [1] of { byte }; proctype P() { chan d = [1] of { byte }; byte b = 1 / z; skip } init { run P() }
+-- output fault F6 (too many channels): step 1: proc 0 (:init:) line 1 [run P ( )]
+-- status 2
+== the process is made before the place of its number is looked up
+-- flags -p
+-- model byte a[2]; byte n; proctype P() { skip } init { a[_nr_pr] = run P() }
+-- output fault F3 (index out of range): step 1: proc 0 (:init:) line 1 [a [ _nr_pr ] = run P ( )]
+-- status 2
+== a process that calls itself
+-- model
+proctype Fibonacci(byte n; chan answer) {
+    chan c = [1] of { byte };
+    byte a, b;
+    if
+    :: n < 2 -> answer!n
+    :: else ->
+        run Fibonacci(n - 1, c); (_nr_pr == _pid + 1); c?a;
+        run Fibonacci(n - 2, c); (_nr_pr == _pid + 1); c?b;
+        answer!a + b
+    fi
+}
+init { chan c = [1] of { byte }; byte f; run Fibonacci(5, c); (_nr_pr == 1); c?f; printf("%d\n", f) }
+-- output
+5
+end: valid, steps 92
+-- status 0
 "##
 }
 
