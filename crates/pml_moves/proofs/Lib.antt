@@ -5,3 +5,4 @@ pub mod Placing
 pub mod Keeping
 pub mod Samples
 pub mod Rows
+pub mod EachMove

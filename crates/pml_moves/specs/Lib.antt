@@ -5,3 +5,4 @@ pub mod Search
 pub mod Scene
 pub mod Kept
 pub mod Picked
+pub mod Laws

@@ -3,6 +3,7 @@
 
 mod asking;
 pub mod executable;
+pub mod laws;
 pub mod message;
 pub mod moves;
 pub mod picked;

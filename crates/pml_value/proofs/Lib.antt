@@ -1,3 +1,4 @@
 pub mod Channels
 pub mod Storing
 pub mod Rows
+pub mod InOrder

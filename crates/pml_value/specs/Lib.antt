@@ -1,3 +1,4 @@
 pub mod Reads
 pub mod Statement
 pub mod Messages
+pub mod Laws

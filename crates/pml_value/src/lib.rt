@@ -2,6 +2,7 @@
 #![tactic(auto)]
 
 pub mod fields;
+pub mod laws;
 pub mod live_channel;
 pub mod message;
 pub mod statement;
