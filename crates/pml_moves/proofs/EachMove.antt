@@ -1,5 +1,5 @@
 -- What is so of each move of a process is so of each move that the search finds.
-use Rattle.std.proofs.Common.{◌≡◌, ℕ, ◌+◌, Bool, true, false, if◌then◌else◌, List, [], ◌∷◌, ◌++◌, length, Option, Some, None, slice_get, nat_eq, refl, sym, subst, not}
+use Rattle.std.proofs.Common.{◌≡◌, ℕ, ◌+◌, Bool, true, false, if◌then◌else◌, List, [], ◌∷◌, ◌++◌, length, Option, Some, None, slice_get, nat_eq, refl, sym, subst, not, arith}
 use Rattle.pml_program.specs.declared.program.Basic.{Basic}
 use Rattle.pml_program.specs.declared.program.Seq.{Seq}
 use Rattle.pml_control.specs.Control.{Control}
@@ -71,7 +71,7 @@ module _ (P : Move → Type 0) where
 -- ---- the two laws
 
 is_same : (m n : ℕ) → nat_eq m n ≡ true → m ≡ n
-is_same m n e = grind e
+is_same m n e = grind (arith, e)
 
 youngest_at : (s : State) (t : Bool) (p : ℕ) (y : Stand) → Each (IsOfTheYoungest s) (moves_at s p t y)
 youngest_at s t p y = at_each (IsOfTheYoungest s) s p (λ e. is_same (p + 1) (length s.stands) e) (λ k u e. tt) (λ k j u e. tt) t (body_of s.program y.kind) y.control
