@@ -7,3 +7,4 @@ pub mod Taking
 pub mod Arguments
 pub mod Passing
 pub mod Inside
+pub mod Laws

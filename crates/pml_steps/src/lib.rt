@@ -4,6 +4,7 @@
 
 pub mod arguments;
 pub mod effect;
+pub mod laws;
 pub mod live;
 pub mod pair;
 pub mod take;

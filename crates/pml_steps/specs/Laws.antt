@@ -1,0 +1,17 @@
+-- What is said of every step.
+use Rattle.std.specs.Prelude.{◌≡◌, ℕ, Bool, true, Some, Ok}
+use Rattle.pml_flow.specs.Flow.{Offer}
+use Rattle.pml_moves.specs.declared.moves.Pick.{Pick}
+use Rattle.pml_moves.specs.declared.moves.Move.TheVariants.{Death, Alone, Pair}
+use Rattle.pml_moves.specs.State.{State}
+use Rattle.pml_moves.specs.Picked.{picked}
+use Rattle.pml_steps.specs.Outcome.{Done, step}
+
+-- Who takes a statement that lies in the same atomic sequence as what follows it holds exclusive control then; of a pair the receiver.
+abbrev pub AtomicKeepsControl : Type 0
+AtomicKeepsControl = (most : ℕ) (s : State) (k : Pick) (t : Bool) (o : Offer) (d : Done) → picked s k ≡ Some o → o.keeps ≡ true
+    → step most s (Alone k t) ≡ Ok d → d.state.holder ≡ Some k.process
+
+abbrev pub ReceiversKeepControl : Type 0
+ReceiversKeepControl = (most : ℕ) (s : State) (k j : Pick) (t : Bool) (w : Offer) (o : Offer) (d : Done) → picked s k ≡ Some o → picked s j ≡ Some w → w.keeps ≡ true
+    → step most s (Pair k j t) ≡ Ok d → d.state.holder ≡ Some j.process
