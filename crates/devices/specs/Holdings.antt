@@ -40,6 +40,10 @@ Asks before after (Byte b) = Moved before after (b ∷ []) [] []
 Asks before after End = Moved before after [] [] [] × ((left : List ℕ) → after.source left → left ≡ [])
 Asks before after Failed = Moved before after [] [] []
 
+-- these first bytes of the piece were written, and not all
+abbrev pub WritesFirst : Holdings → Holdings → List ℕ → ℕ → Type 0
+WritesFirst before after piece n = (n < length piece) × Moved before after [] (take n piece) []
+
 -- less than the whole piece was written
 abbrev pub WritesPart : Holdings → Holdings → List ℕ → Type 0
 WritesPart before after piece = (n : ℕ) × (n < length piece) × Moved before after [] (take n piece) []

@@ -1,8 +1,8 @@
 //! The three devices of a session.
-ghost use Rattle.std.specs.Prelude.{◌≡◌, ℕ, List, [], OnOk, OnErr};
-ghost use Rattle.devices.specs.Holdings.{Holdings, Moved, Asks, WritesPart, RecordsPart, CountsAsk, CountsOut, CountsRecord};
+ghost use Rattle.std.specs.Prelude.{◌≡◌, ℕ, List, [], IfErr, OnOk, OnErr};
+ghost use Rattle.devices.specs.Holdings.{Holdings, Moved, Asks, WritesFirst, WritesPart, RecordsPart, CountsAsk, CountsOut, CountsRecord};
 
-use crate::{Failed, Next, Sink, Source, put_all};
+use crate::{Failed, Next, Sink, Source, put_all, put_counted};
 
 /// What a session is played over: a source of choices, a sink for the output, and a sink for the record of the choices.
 pub trait Devices {
@@ -18,6 +18,12 @@ pub trait Devices {
     fn write(&mut self, piece: &[u8]) -> Result<(), Failed>
         ensures ok { OnOk result (Moved (holds self.old) (holds self.new) [] piece.now []) }
         ensures err { OnErr result (WritesPart (holds self.old) (holds self.new) piece.now) }
+        ensures count { CountsOut (holds self.old).failures (holds self.new).failures result };
+
+    /// Hands the whole piece to the output, and says at an `Err` how many of its bytes were taken.
+    fn write_counted(&mut self, piece: &[u8]) -> Result<(), usize>
+        ensures ok { OnOk result (Moved (holds self.old) (holds self.new) [] piece.now []) }
+        ensures err { IfErr result (WritesFirst (holds self.old) (holds self.new) piece.now) }
         ensures count { CountsOut (holds self.old).failures (holds self.new).failures result };
 
     /// Hands the whole line to the record.
@@ -54,6 +60,10 @@ impl<S: Source, O: Sink, R: Sink> Devices for ThreeDevices<S, O, R> {
 
     fn write(&mut self, piece: &[u8]) -> Result<(), Failed> {
         put_all(&mut self.out, piece)
+    }
+
+    fn write_counted(&mut self, piece: &[u8]) -> Result<(), usize> {
+        put_counted(&mut self.out, piece)
     }
 
     fn keep(&mut self, line: &[u8]) -> Result<(), Failed> {

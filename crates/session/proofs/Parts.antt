@@ -81,7 +81,7 @@ Begins-more broken.Record done all ys b = (b.0, b.1, b.2, b.3 ++ ys, b.4, b.5, a
 -- ---- one part after another
 
 module _ {T : Type 0} where
-  preceded-preceded : (xs ys : List Event) (p : Part T) → preceded xs (preceded ys p) ≡ preceded (xs ++ ys) p
+  pub preceded-preceded : (xs ys : List Event) (p : Part T) → preceded xs (preceded ys p) ≡ preceded (xs ++ ys) p
   preceded-preceded xs ys p = ap (λ l. record { events = l; value = p.value; over = p.over; left = p.left }) (sym (append_assoc xs ys p.events))
 
   pub Leads-nil : {a : Holdings} {n : ℕ} (part : List ℕ → Part T) → Leads a a n n part part

@@ -51,6 +51,11 @@ RecordsAnswer r before after said = MatchResult r (λ _. Moved before after [] [
 
 -- ---- steps
 
+-- this is the text of a step that succeeds, or the line of its fault
+abbrev pub Composes : {S M : Type 0} → Rules S M → Options → S → M → ℕ → S → List ℕ → Option Fault → Type 0
+Composes rules options s m steps t text None = (printed : List ℕ) × (rules.step s m ≡ Goes t printed) × (text ≡ step_text rules options s m (steps + 1) t printed)
+Composes rules options s m steps t text (Some f) = (rules.step s m ≡ Faults f) × (text ≡ fault_line f (steps + 1) (rules.text s m))
+
 -- a step succeeded and its text was written, or it was a fault and its line was written
 abbrev pub StepsTo : {S M : Type 0} → Rules S M → Options → S → M → ℕ → S → ℕ → Holdings → Holdings → Option Fault → Type 0
 StepsTo rules options s m steps t steps' before after None = (printed : List ℕ) × (rules.step s m ≡ Goes t printed)

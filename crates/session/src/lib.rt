@@ -9,6 +9,7 @@ use std::alloc::{AllocError, AllocFailed};
 
 mod choice;
 mod draft;
+mod gathered;
 pub mod laws;
 mod line;
 mod machine;

@@ -1,15 +1,18 @@
 //! The session as a whole.
 ghost use Rattle.std.specs.Prelude.{◌≡◌, ◌<◌, ◌≤◌, ◌+◌, ◌^◌, List, ℕ, length, IfOk, IfNone, IfSome, ◌≢◌};
+ghost use Rattle.std.specs.List.{Contains};
 ghost use Rattle.session.specs.Lines.{IsPickUpTo};
 ghost use Rattle.session.specs.Session.{choose, select, cause_of, final_lines, final_cause, end_of, transcript};
 ghost use Rattle.session.specs.Replay.{CanBeReplayed};
 ghost use Rattle.session.specs.Stands.{PlaysQuestion, CountsAll};
 ghost use Rattle.session.specs.Texts.{last_line, status_of};
+ghost use Rattle.session.specs.Gathered.{Advances, TurnsOn};
 ghost use Rattle.session.specs.Writes.{Writes, Acts, Turns, Runs, Ends, IsOwnEnd, IsBrokenOff, failure_of};
 
 use crate::draft::Draft;
-use crate::question::question;
-use crate::writing::{keep, step, write_last, write_list, write_prompt, write_stuck};
+use crate::gathered::Gathered;
+use crate::question::{put_out, question};
+use crate::writing::{keep, step, take_step, write_last, write_list, write_prompt, write_stuck};
 use crate::{Answer, Broken, Cause, End, Machine, Options};
 use devices::Devices;
 use std::alloc::Global;
@@ -157,30 +160,90 @@ fn act<M: Machine, D: Devices>(
     Ok(Some(stop(cause_of(said), *steps, draft, devices)?))
 }
 
-// One turn: the end, or a step. The moves are listed in a buffer that is kept.
-fn turn<M: Machine, D: Devices>(
+// The end, or a question and the step that is picked.
+fn ask_or_end<M: Machine, D: Devices>(
     machine: &mut M,
-    moves: &mut Vec<M::Move>,
+    moves: &[M::Move],
     options: &Options,
     steps: &mut u32,
     over: &mut bool,
     draft: &mut Draft,
     devices: &mut D,
 ) -> Result<Option<End>, Broken>
-    requires { steps.old ≤ options.now.limit }
+    requires within { steps.old ≤ options.now.limit }
+    requires all { moves.now ≡ M.rules.moves machine.old }
     ensures part { Turns result M.rules options.now machine.old machine.new (D.holds devices.old) (D.holds devices.new) steps.old steps.new over.old over.new }
     ensures own { IfOk result (λ end. IfSome end (IsOwnEnd steps.new)) }
     ensures falls { IfOk result (λ end. IfNone end ((steps.old < steps.new) × (steps.new ≤ options.now.limit))) }
     ensures count { CountsAll result (D.holds devices.old).failures (D.holds devices.new).failures }
 {
-    machine.moves(moves)?;
     if moves.len() == 0 {
         return Ok(Some(finish(machine, *steps, draft, devices)?));
     }
     if *steps == options.limit {
         return Ok(Some(stop(Cause::StepLimit, *steps, draft, devices)?));
     }
-    act(machine, &*moves, options, steps, over, draft, devices)
+    act(machine, moves, options, steps, over, draft, devices)
+}
+
+// Takes the one move that there is and gathers the text of its step, or writes the line of its fault and ends the session.
+fn advance<M: Machine, D: Devices>(
+    machine: &mut M,
+    m: &M::Move,
+    options: &Options,
+    steps: &mut u32,
+    gathered: &mut Gathered,
+    draft: &mut Draft,
+    devices: &mut D,
+) -> Result<Option<End>, Broken>
+    requires present { Contains (M.rules.moves machine.old) m.now }
+    requires room { steps.old + 1 < 2 ^ 32 }
+    ensures part { Advances result M.rules options.now machine.old m.now machine.new (D.holds devices.old) (D.holds devices.new) steps.old steps.new gathered.old.bytes.items gathered.old.begins.items gathered.new.bytes.items gathered.new.begins.items }
+    ensures own { IfOk result (λ end. IfSome end (IsOwnEnd steps.new)) }
+    ensures falls { IfOk result (λ end. IfNone end (steps.new ≡ steps.old + 1)) }
+    ensures count { CountsAll result (D.holds devices.old).failures (D.holds devices.new).failures }
+{
+    match take_step(machine, m, options, *steps, draft)? {
+        Some(f) => {
+            gathered.write(steps, devices)?;
+            put_out(devices, &draft.piece)?;
+            Ok(Some(end_of(Cause::Fault(f), *steps)))
+        }
+        None => {
+            gathered.add(&draft.piece)?;
+            *steps += 1;
+            if gathered.is_enough() {
+                gathered.write(steps, devices)?;
+            }
+            Ok(None)
+        }
+    }
+}
+
+// One turn: the end, or a step. The moves are listed in a buffer that is kept. The texts of steps between which nothing is asked are
+// gathered, and written before anything else is.
+fn turn<M: Machine, D: Devices>(
+    machine: &mut M,
+    moves: &mut Vec<M::Move>,
+    options: &Options,
+    steps: &mut u32,
+    over: &mut bool,
+    gathered: &mut Gathered,
+    draft: &mut Draft,
+    devices: &mut D,
+) -> Result<Option<End>, Broken>
+    requires { steps.old ≤ options.now.limit }
+    ensures part { TurnsOn result M.rules options.now machine.old machine.new (D.holds devices.old) (D.holds devices.new) steps.old steps.new over.old over.new gathered.old.bytes.items gathered.old.begins.items gathered.new.bytes.items gathered.new.begins.items }
+    ensures own { IfOk result (λ end. IfSome end (IsOwnEnd steps.new)) }
+    ensures falls { IfOk result (λ end. IfNone end ((steps.old < steps.new) × (steps.new ≤ options.now.limit))) }
+    ensures count { CountsAll result (D.holds devices.old).failures (D.holds devices.new).failures }
+{
+    machine.moves(moves)?;
+    if moves.len() == 1 && *steps < options.limit {
+        return advance(machine, &moves[0], options, steps, gathered, draft, devices);
+    }
+    gathered.write(steps, devices)?;
+    ask_or_end(machine, &*moves, options, steps, over, draft, devices)
 }
 
 /// Runs the session to its end, and counts its steps.
@@ -198,12 +261,25 @@ pub fn run<M: Machine, D: Devices>(
 {
     let mut over = false;
     let mut moves = Vec::new(alloc);
+    let mut gathered = Gathered::new(alloc);
     let mut draft = Draft::new(alloc);
     loop {
-        if let Some(end) = turn(
-            machine, &mut moves, options, steps, &mut over, &mut draft, devices,
-        )? {
-            return Ok(end);
+        match turn(
+            machine,
+            &mut moves,
+            options,
+            steps,
+            &mut over,
+            &mut gathered,
+            &mut draft,
+            devices,
+        ) {
+            Ok(None) => {}
+            Ok(Some(end)) => return Ok(end),
+            Err(broken) => {
+                gathered.write(steps, devices)?;
+                return Err(broken);
+            }
         }
     }
 }

@@ -1,9 +1,10 @@
 //! Functions that compose a piece and hand it over.
-ghost use Rattle.std.specs.Prelude.{◌≡◌, ◌+◌, ◌<◌, ◌^◌, ◌++◌, OnOk};
+ghost use Rattle.std.specs.Prelude.{◌≡◌, ◌+◌, ◌<◌, ◌^◌, ◌++◌, IfOk, IfErr, OnOk};
 ghost use Rattle.std.specs.List.{Contains};
+ghost use Rattle.session.specs.declared.Broken.TheVariants.{Memory};
 ghost use Rattle.session.specs.Stands.{CountsAll};
 ghost use Rattle.session.specs.Texts.{list_from, prompt, last_line};
-ghost use Rattle.session.specs.Writes.{Writes, RecordsAnswer, Steps};
+ghost use Rattle.session.specs.Writes.{Writes, RecordsAnswer, Composes, Steps};
 
 use crate::draft::{
     Draft, draft_fault, draft_last, draft_list, draft_prompt, draft_record, draft_step,
@@ -88,8 +89,35 @@ pub fn keep<D: Devices>(said: Answer, draft: &mut Draft, devices: &mut D) -> Res
     }
 }
 
-/// Takes a step and writes its text, or the line of its fault. Where steps are not shown, the move's text is composed for
+/// Takes a step and composes its text, or the line of its fault. Where steps are not shown, the move's text is composed for
 /// a fault alone.
+pub fn take_step<M: Machine>(
+    machine: &mut M,
+    m: &M::Move,
+    options: &Options,
+    steps: u32,
+    draft: &mut Draft,
+) -> Result<Option<Fault>, Broken>
+    requires { Contains (M.rules.moves machine.old) m.now }
+    ensures text { IfOk result (Composes M.rules options.now machine.old m.now steps machine.new draft.new.piece.items) }
+    ensures broken { IfErr result (λ e. e ≡ Memory) }
+{
+    let n = u64::from(steps) + 1;
+    draft_step(machine, m, options.steps, n, draft)?;
+    match machine.take(m, &mut draft.piece) {
+        Ok(()) => {
+            machine.values(options.globals, options.locals, &mut draft.piece)?;
+            Ok(None)
+        }
+        Err(Stop::Fault(f)) => {
+            draft_fault(machine, m, f, n, draft)?;
+            Ok(Some(f))
+        }
+        Err(Stop::Memory) => Err(Broken::Memory),
+    }
+}
+
+/// Takes a step and writes its text, or the line of its fault.
 pub fn step<M: Machine, D: Devices>(
     machine: &mut M,
     m: &M::Move,
@@ -103,20 +131,15 @@ pub fn step<M: Machine, D: Devices>(
     ensures step { Steps result M.rules options.now machine.old m.now steps.old machine.new steps.new (D.holds devices.old) (D.holds devices.new) }
     ensures count { CountsAll result (D.holds devices.old).failures (D.holds devices.new).failures }
 {
-    let n = u64::from(*steps) + 1;
-    draft_step(machine, m, options.steps, n, draft)?;
-    match machine.take(m, &mut draft.piece) {
-        Ok(()) => {
+    match take_step(machine, m, options, *steps, draft)? {
+        None => {
             *steps += 1;
-            machine.values(options.globals, options.locals, &mut draft.piece)?;
             put_out(devices, &draft.piece)?;
             Ok(None)
         }
-        Err(Stop::Fault(f)) => {
-            draft_fault(machine, m, f, n, draft)?;
+        Some(f) => {
             put_out(devices, &draft.piece)?;
             Ok(Some(f))
         }
-        Err(Stop::Memory) => Err(Broken::Memory),
     }
 }

@@ -1,0 +1,88 @@
+-- The texts of steps that are done and still to be written.
+use Rattle.std.specs.Prelude.{Bool, ◌≡◌, ◌⊎◌, ℕ, ◌+◌, ◌-◌, ◌<◌, List, [], ◌∷◌, ◌++◌, length, take, nat_lt, Option, Some, None, Result, MatchResult}
+use Rattle.std.specs.List.{count_by}
+use Rattle.devices.specs.Holdings.{Holdings, Moved}
+use Rattle.session.specs.declared.End.{End}
+use Rattle.session.specs.declared.Broken.{Broken}
+use Rattle.session.specs.declared.Broken.TheVariants as broken
+use Rattle.session.specs.Events.{Event, Put, Told, Stepped, output}
+use Rattle.session.specs.Part.{Part, preceded}
+use Rattle.session.specs.Machine.{Rules}
+use Rattle.session.specs.Session.{stepped}
+use Rattle.session.specs.Stands.{Does, Leads, Breaks}
+use Rattle.session.specs.Writes.{story_after}
+use Rattle.session.specs.declared.Options.{Options}
+
+-- what a session does in steps with these texts
+abbrev pub told_steps : List (List ℕ) → List Event
+told_steps [] = []
+told_steps (text ∷ texts) = Stepped ∷ Put Told text ∷ told_steps texts
+
+-- where each of the texts begins, one behind another
+abbrev pub begins_from : ℕ → List (List ℕ) → List ℕ
+begins_from at [] = []
+begins_from at (text ∷ texts) = at ∷ begins_from (at + length text) texts
+
+-- how many begin behind the first bytes
+abbrev pub later : ℕ → List ℕ → ℕ
+later taken begins = count_by (nat_lt taken) begins
+
+-- a text is added, or it is empty, and so is all
+abbrev pub AddsText : (bytes begins text bytes' begins' : List ℕ) → Type 0
+AddsText bytes begins text bytes' begins' =
+    ((bytes' ≡ bytes ++ text) × (begins' ≡ begins ++ length bytes ∷ []))
+    ⊎ ((text ≡ []) × (begins ≡ []) × (bytes' ≡ bytes) × (begins' ≡ []))
+
+-- the first of the bytes were written, and the steps that begin behind them are not counted
+abbrev pub CutsTexts : Holdings → Holdings → (bytes begins : List ℕ) → ℕ → ℕ → Type 0
+CutsTexts before after bytes begins steps steps' = (n : ℕ) × (n < length bytes) × Moved before after [] (take n bytes) [] × (steps' ≡ steps - later n begins)
+
+-- these are the texts that are gathered
+pub record AreGathered (texts : List (List ℕ)) (bytes begins : List ℕ) : Type 0 where
+  pub bytes_are : bytes ≡ output (told_steps texts)
+  pub begins_are : begins ≡ begins_from 0 texts
+
+-- these texts are written, and then comes the rest
+abbrev pub behind : List (List ℕ) → (List ℕ → Part End) → List ℕ → Part End
+behind texts rest left = preceded (told_steps texts) (rest left)
+
+-- the whole part was begun, and the rest is still to do, behind the texts that are gathered
+pub record Waits (before after : Holdings) (steps steps' : ℕ) (whole rest : List ℕ → Part End) (bytes begins : List ℕ) : Type 0 where
+  pub texts : List (List ℕ)
+  pub written : ℕ
+  pub leads : Leads before after steps written whole (behind texts rest)
+  pub count : steps' ≡ written + length texts
+  pub are : AreGathered texts bytes begins
+
+-- a device broke the part off, and nothing is gathered
+abbrev pub BreaksBare : Broken → Holdings → Holdings → ℕ → ℕ → (List ℕ → Part End) → List ℕ → Type 0
+BreaksBare broken before after steps steps' whole bytes = Breaks broken before after steps steps' whole × (bytes ≡ [])
+
+-- The part was broken off: for want of memory, behind texts that are gathered.
+abbrev pub Halts : Broken → Holdings → Holdings → ℕ → ℕ → (List ℕ → Part End) → (bytes begins : List ℕ) → Type 0
+Halts broken.Memory before after steps steps' whole bytes begins = (rest : List ℕ → Part End) × Waits before after steps steps' whole rest bytes begins
+Halts broken.Source before after steps steps' whole bytes begins = BreaksBare broken.Source before after steps steps' whole bytes
+Halts broken.Out before after steps steps' whole bytes begins = BreaksBare broken.Out before after steps steps' whole bytes
+Halts broken.Record before after steps steps' whole bytes begins = BreaksBare broken.Record before after steps steps' whole bytes
+
+-- this rest is to do, behind the texts that are gathered, or the session ended
+abbrev pub WaitsOn : Holdings → Holdings → ℕ → ℕ → (whole rest : List ℕ → Part End) → Bool → (bytes begins : List ℕ) → Option End → Type 0
+WaitsOn before after steps steps' whole rest over bytes begins None = Waits before after steps steps' whole rest bytes begins
+WaitsOn before after steps steps' whole rest over bytes begins (Some end) = Does before after steps steps' whole end over
+
+-- the same, or the part was broken off
+abbrev pub GoesFurther : Result (Option End) Broken → Holdings → Holdings → ℕ → ℕ → (whole rest : List ℕ → Part End) → Bool → (bytes begins : List ℕ) → Type 0
+GoesFurther r before after steps steps' whole rest over bytes begins =
+    MatchResult r (WaitsOn before after steps steps' whole rest over bytes begins) (λ e. Halts e before after steps steps' whole bytes begins)
+
+-- a step was taken, or the session ended, or it was broken off: whatever texts are gathered before, and whatever follows the step
+abbrev pub Advances : {S M : Type 0} → Result (Option End) Broken → Rules S M → Options → S → M → S → Holdings → Holdings → ℕ → ℕ → (bytes begins bytes' begins' : List ℕ) → Type 0
+Advances {S} {M} r rules options s m t before after steps steps' bytes begins bytes' begins' =
+    (texts : List (List ℕ)) (written : ℕ) (later : S → Bool → List ℕ → Part End) (over : Bool) → AreGathered texts bytes begins → steps ≡ written + length texts
+    → GoesFurther r before after written steps' (behind texts (λ left. stepped rules options s m steps (λ q. later q over left) over left (rules.step s m))) (later t over) over bytes' begins'
+
+-- a turn of the session was played, whatever texts are gathered before
+abbrev pub TurnsOn : {S M : Type 0} → Result (Option End) Broken → Rules S M → Options → S → S → Holdings → Holdings → ℕ → ℕ → Bool → Bool → (bytes begins bytes' begins' : List ℕ) → Type 0
+TurnsOn r rules options s t before after steps steps' over over' bytes begins bytes' begins' =
+    (texts : List (List ℕ)) (written : ℕ) → AreGathered texts bytes begins → steps ≡ written + length texts
+    → GoesFurther r before after written steps' (behind texts (story_after rules options s steps over)) (story_after rules options t steps' over') over' bytes' begins'

@@ -1,0 +1,94 @@
+//! The texts of steps that are done and still to be written.
+ghost use Rattle.std.specs.Prelude.{◌≡◌, ◌-◌, ◌++◌, ◌∷◌, [], length, IfErr, OnOk, OnErr};
+ghost use Rattle.session.specs.declared.Broken.TheVariants.{Out};
+ghost use Rattle.session.specs.Gathered.{later, AddsText, CutsTexts};
+ghost use Rattle.session.specs.Stands.{CountsAll};
+ghost use Rattle.devices.specs.Holdings.{Moved};
+
+use crate::Broken;
+use devices::Devices;
+use std::alloc::{AllocError, Global};
+
+/// As many bytes are enough to be written at once.
+const ENOUGH_BYTES: usize = 4096;
+
+/// As many texts are enough.
+const ENOUGH_TEXTS: usize = 512;
+
+/// The texts of steps that are done and still to be written: one behind another, and where each of them begins.
+#[derive(Drop)]
+pub struct Gathered {
+    pub bytes: Vec<u8>,
+    pub begins: Vec<usize>,
+}
+
+/// How many of these begin behind the first `taken` bytes, as that many less of so many steps.
+fn begun(begins: &[usize], taken: usize, steps: u32) -> u32
+    ensures { result ≡ steps - later taken begins.now }
+{
+    let mut count = steps;
+    for begin in begins {
+        if taken < *begin {
+            count = count.saturating_sub(1);
+        }
+    }
+    count
+}
+
+impl Gathered {
+    /// No text.
+    pub fn new(alloc: Global) -> Self
+        ensures bytes { result.bytes.items ≡ [] }
+        ensures begins { result.begins.items ≡ [] }
+    {
+        Gathered {
+            bytes: Vec::new(alloc),
+            begins: Vec::new(alloc),
+        }
+    }
+
+    /// Adds the text of a step; an empty one behind none is written already. Want of memory changes nothing.
+    pub fn add(&mut self, text: &[u8]) -> Result<(), AllocError>
+        ensures ok { OnOk result (AddsText self.old.bytes.items self.old.begins.items text.now self.new.bytes.items self.new.begins.items) }
+        ensures err_bytes { OnErr result (self.new.bytes.items ≡ self.old.bytes.items) }
+        ensures err_begins { OnErr result (self.new.begins.items ≡ self.old.begins.items) }
+    {
+        if text.is_empty() && self.begins.is_empty() {
+            return Ok(());
+        }
+        let begin = self.bytes.len();
+        self.begins.push(begin)?;
+        if self.bytes.extend_from_slice(text).is_err() {
+            self.begins.pop();
+            return Err(AllocError);
+        }
+        Ok(())
+    }
+
+    /// Whether there is enough to be written.
+    pub fn is_enough(&self) -> bool {
+        self.bytes.len() >= ENOUGH_BYTES || self.begins.len() >= ENOUGH_TEXTS
+    }
+
+    /// Writes all texts. Where the output fails, the steps whose texts it has not begun to take are counted no more.
+    pub fn write<D: Devices>(&mut self, steps: &mut u32, devices: &mut D) -> Result<(), Broken>
+        ensures text { OnOk result (Moved (D.holds devices.old) (D.holds devices.new) [] self.old.bytes.items []) }
+        ensures same { OnOk result (steps.new ≡ steps.old) }
+        ensures cut { OnErr result (CutsTexts (D.holds devices.old) (D.holds devices.new) self.old.bytes.items self.old.begins.items steps.old steps.new) }
+        ensures broken { IfErr result (λ e. e ≡ Out) }
+        ensures bytes { self.new.bytes.items ≡ [] }
+        ensures begins { self.new.begins.items ≡ [] }
+        ensures count { CountsAll result (D.holds devices.old).failures (D.holds devices.new).failures }
+    {
+        let written = devices.write_counted(&self.bytes);
+        if let Err(taken) = written {
+            *steps = begun(&self.begins, taken, *steps);
+        }
+        self.bytes.clear();
+        self.begins.clear();
+        match written {
+            Ok(()) => Ok(()),
+            Err(_) => Err(Broken::Out),
+        }
+    }
+}
