@@ -1,0 +1,5 @@
+mod Folds
+mod Means
+mod Copies
+mod Same
+mod Models
