@@ -1,0 +1,16 @@
+mod Folds
+mod Means
+mod Copies
+mod Same
+mod Models
+mod Choices
+mod Values
+mod Control
+mod Atomic
+mod DSteps
+mod Rendezvous
+mod Channels
+mod Limits
+mod Random1
+mod Random2
+mod Random3

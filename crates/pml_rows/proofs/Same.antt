@@ -1,0 +1,82 @@
+-- The copies are the definitions, so what is seen of a session is what is seen by means that compute.
+use Rattle.std.proofs.Common.{◌≡◌, ℕ, List, Option, Some, None, Result, Ok, Err, refl, ap, ◌∙◌}
+use Rattle.std.specs.Prelude.{option_map}
+use Rattle.std.specs.Int.{int_wrap}
+use Rattle.std.specs.Fmt.{digits}
+use denote.Hole.Carrier.{roll, out, hidden}
+use Rattle.diagnostics.specs.declared.fault.Fault.{Fault}
+use Rattle.session.specs.declared.Options.{Options}
+use Rattle.session.specs.declared.End.{End}
+use Rattle.session.specs.Lines.{line_within, number_up_to, reply_of}
+use Rattle.session.specs.Part.{Part}
+use Rattle.session.specs.Session.{transcript, story, select, answered, stepped, ask, one_line}
+use Rattle.session.specs.Texts.{digits_of, all_digits}
+use Rattle.pml_program.specs.declared.expr.Expr.{roll-Expr}
+use Rattle.pml_program.specs.declared.expr.Want.{roll-Want}
+use Rattle.pml_program.specs.declared.expr.Target.{roll-Target, out-Target}
+use Rattle.pml_program.specs.declared.expr.Expr.TheBlock.{shape-the_row-Want-0, hidden-the_row-Want-0, shape-the_row-Expr-1, hidden-the_row-Expr-1}
+use Rattle.pml_program.specs.declared.expr.Expr.TheBlock.{shape-the_row-Turn-2, hidden-the_row-Turn-2}
+use Rattle.pml_program.specs.declared.program.Program.{Program}
+use Rattle.pml_program.specs.declared.program.Seq.{roll-Seq}
+use Rattle.pml_program.specs.declared.program.Basic.TheBlock.{shape-the_row-Stmt-1, hidden-the_row-Stmt-1, shape-the_row-Seq-0, hidden-the_row-Seq-0}
+use Rattle.pml_control.specs.Control.{settle}
+use Rattle.pml_eval.specs.Clip.{bits_of, is_signed}
+use Rattle.pml_start.specs.Begin.{Begun}
+use Rattle.pml_start.specs.Start.{first_state}
+use Rattle.pml_sim.specs.World.{first, rules}
+use Rattle.pml_rows.specs.Seen.{Seen, seen_of, played, seen}
+use Rattle.pml_rows.proofs.Means.{Means, stated, computing, means-are}
+use Rattle.pml_rows.proofs.Copies.{start-first_state, world-rules}
+
+-- ---- over any means
+
+abbrev pub played_from_by : Means → Options → Program → List ℕ → Result Begun Fault → Option (Part End)
+played_from_by m o p choices (Ok b) = Some (transcript (world-rules m) o (first p b) choices)
+played_from_by m o p choices (Err f) = None
+
+abbrev pub played_by : Means → Options → Program → List ℕ → Option (Part End)
+played_by m o p choices = played_from_by m o p choices (start-first_state m p)
+
+abbrev pub seen_by : Means → Options → Program → List ℕ → Option Seen
+seen_by m o p choices = option_map seen_of (played_by m o p choices)
+
+-- ---- over those of the definitions they are the definitions
+
+first-same : first_state ≡ start-first_state stated
+first-same = refl
+
+rules-same : rules ≡ world-rules stated
+rules-same = refl
+
+played-same : (o : Options) (p : Program) (choices : List ℕ) → played o p choices ≡ played_by stated o p choices
+played-same o p choices = refl
+
+played-is : (o : Options) (p : Program) (choices : List ℕ) → played o p choices ≡ played_by computing o p choices
+played-is o p choices = played-same o p choices ∙ ap (λ m. played_by m o p choices) means-are
+
+-- what computes to be seen is seen
+pub sees :
+    (o : Options) (p : Program) (choices : List ℕ) (x : Seen) → seen_by computing o p choices ≡ Some x → seen o p choices ≡ Some x
+sees o p choices x is = ap (option_map seen_of) (played-is o p choices) ∙ is
+
+-- ---- what a run computes with
+
+unfoldable pub session_computes : Unit {0}
+unfolding story select answered stepped ask one_line line_within number_up_to reply_of digits_of all_digits digits
+session_computes = tt
+
+unfoldable pub expression_computes : Unit {0}
+unfolding bits_of is_signed int_wrap roll-Expr roll-Want roll-Target out-Target
+expression_computes = tt
+
+unfoldable pub row_computes : Unit {0}
+unfolding shape-the_row-Want-0 hidden-the_row-Want-0 shape-the_row-Expr-1 hidden-the_row-Expr-1 shape-the_row-Turn-2 hidden-the_row-Turn-2
+row_computes = tt
+
+unfoldable pub body_computes : Unit {0}
+unfolding settle roll out hidden roll-Seq shape-the_row-Stmt-1 hidden-the_row-Stmt-1 shape-the_row-Seq-0 hidden-the_row-Seq-0
+body_computes = tt
+
+unfoldable pub computes : Unit {0}
+unfolding session_computes expression_computes row_computes body_computes
+computes = tt

@@ -1,0 +1,2 @@
+//! Worked runs of models, as theorems of the definitions.
+#![tactic(auto)]
