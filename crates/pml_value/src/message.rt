@@ -180,8 +180,8 @@ fn send_few(
     }
 }
 
-/// Sends a message.
-pub fn send(
+/// Sends a message of any number of fields.
+fn send_many(
     store: &Store,
     channels: &mut [LiveChannel],
     taker: Taker,
@@ -191,9 +191,6 @@ pub fn send(
 ) -> Result<(), Stop>
     ensures { SendsMessage (sent channels.old (reading_of store.now.frames channels.old taker.pid taker.process_count taker.timeout) target.now order fields.now) result channels.old channels.new }
 {
-    if fields.len() <= FEW_FIELDS {
-        return send_few(store, channels, taker, target, order, fields);
-    }
     let view = View {
         store,
         channels: &*channels,
@@ -208,6 +205,23 @@ pub fn send(
             Err(_) => Err(Stop::Memory),
         },
     }
+}
+
+/// Sends a message.
+pub fn send(
+    store: &Store,
+    channels: &mut [LiveChannel],
+    taker: Taker,
+    target: &Target,
+    order: SendOrder,
+    fields: &[Expr],
+) -> Result<(), Stop>
+    ensures { SendsMessage (sent channels.old (reading_of store.now.frames channels.old taker.pid taker.process_count taker.timeout) target.now order fields.now) result channels.old channels.new }
+{
+    if fields.len() <= FEW_FIELDS {
+        return send_few(store, channels, taker, target, order, fields);
+    }
+    send_many(store, channels, taker, target, order, fields)
 }
 
 /// The place of the message that is received: the oldest if it matches, or the first that does.
@@ -364,8 +378,8 @@ fn receive_few(
     }
 }
 
-/// Receives a message.
-pub fn receive(
+/// Receives a message of any number of fields.
+fn receive_many(
     store: &mut Store,
     channels: &mut [LiveChannel],
     taker: Taker,
@@ -377,9 +391,6 @@ pub fn receive(
     ensures value { ReceivesMessage (received channels.old (reading_of store.old.frames channels.old taker.pid taker.process_count taker.timeout) target.now search removal wants.now) result store.old store.new channels.old channels.new }
     ensures past { before store.new ≡ before store.old }
 {
-    if wants.len() <= FEW_FIELDS {
-        return receive_few(store, channels, taker, target, search, removal, wants);
-    }
     let view = View {
         store: &*store,
         channels: &*channels,
@@ -396,4 +407,23 @@ pub fn receive(
             }
         }
     }
+}
+
+/// Receives a message.
+pub fn receive(
+    store: &mut Store,
+    channels: &mut [LiveChannel],
+    taker: Taker,
+    target: &Target,
+    search: Search,
+    removal: Removal,
+    wants: &[Want],
+) -> Result<(), Stop>
+    ensures value { ReceivesMessage (received channels.old (reading_of store.old.frames channels.old taker.pid taker.process_count taker.timeout) target.now search removal wants.now) result store.old store.new channels.old channels.new }
+    ensures past { before store.new ≡ before store.old }
+{
+    if wants.len() <= FEW_FIELDS {
+        return receive_few(store, channels, taker, target, search, removal, wants);
+    }
+    receive_many(store, channels, taker, target, search, removal, wants)
 }
