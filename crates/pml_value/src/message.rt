@@ -1,19 +1,22 @@
 //! Sends and receives that a process takes by itself, and `assert` (Holzmann, *The SPIN Model Checker*, chapter 3).
 
-ghost use Rattle.std.specs.Prelude.{◌≡◌, ◌<◌, ◌≤◌, IfOk, IfSome, OnOk, OnErr, length};
+ghost use Rattle.std.specs.Prelude.{◌≡◌, ◌<◌, ◌≤◌, [], Ok, Err, IfOk, IfErr, IfSome, OnOk, OnErr, length};
 ghost use Rattle.profile.specs.declared.TheConstants.{MOST_FIELDS};
 ghost use Rattle.pml_store.specs.Store.{size_at, before};
+ghost use Rattle.pml_eval.specs.Value.{asked_by};
+ghost use Rattle.pml_value.specs.declared.few.TheConstants.{FEW_FIELDS};
 ghost use Rattle.pml_eval.specs.Pattern.{IsThere, AreThere};
 ghost use Rattle.pml_value.specs.Messages.{named, contents_at, changed, values, with_message, addressed, sent, SendsMessage, found, goes_of, stores, stored_all, without, taken_from, asked_at, received, AreAsLarge, StoresSome, ReceivesMessage, asserted};
 ghost use Rattle.pml_value.specs.Reads.{reading_of, seen};
 
+use crate::few::{FEW_FIELDS, FewFields, FewSought};
 use crate::fields::Fields;
 use crate::live_channel::LiveChannel;
 use crate::view::{View, named as channel_at};
 use diagnostics::{Fault, Stop};
 use pml_channel::channel::Channel;
 use pml_eval::clip::clip;
-use pml_eval::eval::{eval, pattern, place};
+use pml_eval::eval::{eval, pattern, place, want};
 use pml_eval::ground::Ground;
 use pml_eval::pattern::{Pattern, Sought, matches};
 use pml_program::expr::{Expr, Target, Want};
@@ -115,8 +118,70 @@ fn put_at(
     put(&mut channels[at].channel, order, fields)
 }
 
-/// Sends a message.
-pub fn send(
+/// Adds the values of a few expressions, or answers the first fault from the left.
+fn add_values(expressions: &[Expr], view: &View<'_>, fields: &mut FewFields) -> Result<(), Fault>
+    requires few { length expressions.now ≤ FEW_FIELDS }
+    requires none { fields.old ≡ [] }
+    ensures ok { OnOk result (values expressions.now (seen view.now) ≡ Ok fields.new) }
+    ensures err { IfErr result (λ f. values expressions.now (seen view.now) ≡ Err f) }
+    ensures arity { OnOk result (length fields.new ≡ length expressions.now) }
+{
+    for one in expressions {
+        fields.push(eval(one, view)?);
+    }
+    Ok(())
+}
+
+/// Where a message of a few fields goes; its fields are added.
+fn address_few(
+    target: &Target,
+    expressions: &[Expr],
+    view: &View<'_>,
+    fields: &mut FewFields,
+) -> Result<usize, Fault>
+    requires few { length expressions.now ≤ FEW_FIELDS }
+    requires none { fields.old ≡ [] }
+    ensures ok { IfOk result (λ n. addressed view.now.channels.now (seen view.now) target.now expressions.now ≡ Ok (n, fields.new)) }
+    ensures err { IfErr result (λ f. addressed view.now.channels.now (seen view.now) target.now expressions.now ≡ Err f) }
+    ensures there { IfOk result (λ n. n < length view.now.channels.now) }
+    ensures arity { IfOk result (λ n. length fields.new ≡ length (contents_at view.now.channels.now n).types) }
+{
+    let at = named(view, target, expressions.len())?;
+    add_values(expressions, view, fields)?;
+    Ok(at)
+}
+
+/// Sends a message of a few fields.
+fn send_few(
+    store: &Store,
+    channels: &mut [LiveChannel],
+    taker: Taker,
+    target: &Target,
+    order: SendOrder,
+    fields: &[Expr],
+) -> Result<(), Stop>
+    requires { length fields.now ≤ FEW_FIELDS }
+    ensures { SendsMessage (sent channels.old (reading_of store.now.frames channels.old taker.pid taker.process_count taker.timeout) target.now order fields.now) result channels.old channels.new }
+{
+    let view = View {
+        store,
+        channels: &*channels,
+        pid: taker.pid,
+        process_count: taker.process_count,
+        timeout: taker.timeout,
+    };
+    let mut numbers = FewFields::new();
+    match address_few(target, fields, &view, &mut numbers) {
+        Err(fault) => Err(Stop::Fault(fault)),
+        Ok(at) => match put_at(channels, at, order, numbers.as_slice()) {
+            Ok(()) => Ok(()),
+            Err(_) => Err(Stop::Memory),
+        },
+    }
+}
+
+/// Sends a message of any number of fields.
+fn send_many(
     store: &Store,
     channels: &mut [LiveChannel],
     taker: Taker,
@@ -140,6 +205,23 @@ pub fn send(
             Err(_) => Err(Stop::Memory),
         },
     }
+}
+
+/// Sends a message.
+pub fn send(
+    store: &Store,
+    channels: &mut [LiveChannel],
+    taker: Taker,
+    target: &Target,
+    order: SendOrder,
+    fields: &[Expr],
+) -> Result<(), Stop>
+    ensures { SendsMessage (sent channels.old (reading_of store.now.frames channels.old taker.pid taker.process_count taker.timeout) target.now order fields.now) result channels.old channels.new }
+{
+    if fields.len() <= FEW_FIELDS {
+        return send_few(store, channels, taker, target, order, fields);
+    }
+    send_many(store, channels, taker, target, order, fields)
 }
 
 /// The place of the message that is received: the oldest if it matches, or the first that does.
@@ -232,8 +314,72 @@ fn take_from(
     Ok(())
 }
 
-/// Receives a message.
-pub fn receive(
+/// Adds what a few arguments ask, or answers the first fault from the left.
+fn add_wants(wants: &[Want], view: &View<'_>, sought: &mut FewSought) -> Result<(), Fault>
+    requires few { length wants.now ≤ FEW_FIELDS }
+    requires none { sought.old ≡ [] }
+    ensures ok { OnOk result (asked_by wants.now (seen view.now) ≡ Ok sought.new) }
+    ensures err { IfErr result (λ f. asked_by wants.now (seen view.now) ≡ Err f) }
+    ensures places { OnOk result (AreThere (size_at view.now.store.now.frames) sought.new) }
+{
+    for one in wants {
+        sought.push(want(one, view)?);
+    }
+    Ok(())
+}
+
+/// Where a message of a few fields is received; what is asked of it is added.
+fn ask_few(
+    target: &Target,
+    wants: &[Want],
+    view: &View<'_>,
+    sought: &mut FewSought,
+) -> Result<usize, Fault>
+    requires few { length wants.now ≤ FEW_FIELDS }
+    requires none { sought.old ≡ [] }
+    ensures ok { IfOk result (λ n. asked_at view.now.channels.now (seen view.now) target.now wants.now ≡ Ok (n, sought.new)) }
+    ensures err { IfErr result (λ f. asked_at view.now.channels.now (seen view.now) target.now wants.now ≡ Err f) }
+    ensures there { IfOk result (λ n. n < length view.now.channels.now) }
+    ensures places { OnOk result (AreThere (size_at view.now.store.now.frames) sought.new) }
+{
+    let at = named(view, target, wants.len())?;
+    add_wants(wants, view, sought)?;
+    Ok(at)
+}
+
+/// Receives a message of a few fields.
+fn receive_few(
+    store: &mut Store,
+    channels: &mut [LiveChannel],
+    taker: Taker,
+    target: &Target,
+    search: Search,
+    removal: Removal,
+    wants: &[Want],
+) -> Result<(), Stop>
+    requires { length wants.now ≤ FEW_FIELDS }
+    ensures value { ReceivesMessage (received channels.old (reading_of store.old.frames channels.old taker.pid taker.process_count taker.timeout) target.now search removal wants.now) result store.old store.new channels.old channels.new }
+    ensures past { before store.new ≡ before store.old }
+{
+    let view = View {
+        store: &*store,
+        channels: &*channels,
+        pid: taker.pid,
+        process_count: taker.process_count,
+        timeout: taker.timeout,
+    };
+    let mut sought = FewSought::new();
+    match ask_few(target, wants, &view, &mut sought) {
+        Err(fault) => Err(Stop::Fault(fault)),
+        Ok(at) => match take_from(store, channels, at, search, removal, sought.as_slice()) {
+            Ok(()) => Ok(()),
+            Err(_) => Err(Stop::Memory),
+        },
+    }
+}
+
+/// Receives a message of any number of fields.
+fn receive_many(
     store: &mut Store,
     channels: &mut [LiveChannel],
     taker: Taker,
@@ -261,4 +407,23 @@ pub fn receive(
             }
         }
     }
+}
+
+/// Receives a message.
+pub fn receive(
+    store: &mut Store,
+    channels: &mut [LiveChannel],
+    taker: Taker,
+    target: &Target,
+    search: Search,
+    removal: Removal,
+    wants: &[Want],
+) -> Result<(), Stop>
+    ensures value { ReceivesMessage (received channels.old (reading_of store.old.frames channels.old taker.pid taker.process_count taker.timeout) target.now search removal wants.now) result store.old store.new channels.old channels.new }
+    ensures past { before store.new ≡ before store.old }
+{
+    if wants.len() <= FEW_FIELDS {
+        return receive_few(store, channels, taker, target, search, removal, wants);
+    }
+    receive_many(store, channels, taker, target, search, removal, wants)
 }

@@ -9,21 +9,18 @@ use diagnostics::{Fault, Refusal};
 use itoa::Buffer;
 use std::alloc::{AllocError, Global};
 
-/// The buffers that a session keeps: the piece that is composed, and the text of a move within it.
+/// The buffer that a session keeps for the piece that is composed.
 #[derive(Drop)]
 pub struct Draft {
     /// The piece that is composed.
     pub piece: Vec<u8>,
-    /// The text of a move within it.
-    pub text: Vec<u8>,
 }
 
 impl Draft {
-    /// Two empty buffers.
+    /// An empty buffer.
     pub fn new(alloc: Global) -> Self {
         Draft {
             piece: Vec::new(alloc),
-            text: Vec::new(alloc),
         }
     }
 }
@@ -46,14 +43,21 @@ fn add_counted(piece: &mut Vec<u8>, words: &[u8], n: u64) -> Result<(), AllocErr
     Ok(())
 }
 
-// Appends `WORDS N: TEXT` and a line feed.
-fn add_named(piece: &mut Vec<u8>, words: &[u8], n: u64, text: &[u8]) -> Result<(), AllocError>
-    ensures { OnOk result (piece.new.items ≡ piece.old.items ++ (words.now ++ (decimal n ++ (codes ": " ++ (text.now ++ codes "\n"))))) }
+// Appends `WORDS N: TEXT` and a line feed, with the text of a move.
+fn add_move<M: Machine>(
+    machine: &M,
+    m: &M::Move,
+    words: &[u8],
+    n: u64,
+    piece: &mut Vec<u8>,
+) -> Result<(), AllocError>
+    requires present { CanBeShown M.rules machine.now m.now }
+    ensures { OnOk result (piece.new.items ≡ piece.old.items ++ (words.now ++ (decimal n ++ (codes ": " ++ (M.rules.text machine.now m.now ++ codes "\n"))))) }
 {
     piece.extend_from_slice(words)?;
     add_number(piece, n)?;
     piece.extend_from_slice(b": ")?;
-    piece.extend_from_slice(text)?;
+    machine.show(m, piece)?;
     piece.push(b'\n')?;
     Ok(())
 }
@@ -69,15 +73,6 @@ fn add_diagnosis(piece: &mut Vec<u8>, letters: &[u8], n: u8, words: &[u8]) -> Re
     piece.extend_from_slice(b")")
 }
 
-// Composes the text of a move.
-fn draft_move<M: Machine>(machine: &M, m: &M::Move, text: &mut Vec<u8>) -> Result<(), AllocError>
-    requires present { CanBeShown M.rules machine.now m.now }
-    ensures { OnOk result (text.new.items ≡ M.rules.text machine.now m.now) }
-{
-    text.clear();
-    machine.show(m, text)
-}
-
 /// Composes the list of a question.
 pub fn draft_list<M: Machine>(
     machine: &M,
@@ -89,8 +84,7 @@ pub fn draft_list<M: Machine>(
 {
     draft.piece.clear();
     for (i, m) in moves.iter().enumerate() {
-        draft_move(machine, m, &mut draft.text)?;
-        add_named(&mut draft.piece, b"choice ", i as u64 + 1, &draft.text)?;
+        add_move(machine, m, b"choice ", i as u64 + 1, &mut draft.piece)?;
     }
     Ok(())
 }
@@ -147,8 +141,7 @@ pub fn draft_step<M: Machine>(
 {
     draft.piece.clear();
     if wanted {
-        draft_move(machine, m, &mut draft.text)?;
-        add_named(&mut draft.piece, b"step ", n, &draft.text)?;
+        add_move(machine, m, b"step ", n, &mut draft.piece)?;
     }
     Ok(())
 }
@@ -165,9 +158,8 @@ pub fn draft_fault<M: Machine>(
     ensures { OnOk result (draft.new.piece.items ≡ fault_line fault n (M.rules.text machine.now m.now)) }
 {
     draft.piece.clear();
-    draft_move(machine, m, &mut draft.text)?;
     add_diagnosis(&mut draft.piece, b"fault F", fault.number(), fault.words())?;
-    add_named(&mut draft.piece, b": step ", n, &draft.text)
+    add_move(machine, m, b": step ", n, &mut draft.piece)
 }
 
 /// Composes the line of a refused model.

@@ -1,0 +1,12 @@
+use Rattle.std.proofs.Common.{◌≡◌, ◌++◌, Ok, drop, length}
+use Rattle.pml_eval.specs.Value.{◌>>=◌}
+use Rattle.pml_value.specs.Messages.{values}
+use Rattle.pml_value.specs.Reads.{seen}
+use Rattle.pml_value.proofs.message.add_values.Given as goal
+
+-- the values so far and those of the rest are those of all, one for each expression so far
+abbrev pub invariant-loop-one : goal.invariant-loop-one
+invariant-loop-one l = record {
+  count : length l.fields ≡ l.one-index;
+  same : (values (drop l.one-index l.expressions) (seen l.view) >>= λ more. Ok (l.fields ++ more)) ≡ values l.expressions (seen l.view);
+}
