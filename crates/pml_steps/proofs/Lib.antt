@@ -6,3 +6,4 @@ pub mod Creating
 pub mod Passing
 pub mod Inward
 pub mod Taking
+pub mod Counting
