@@ -56,7 +56,7 @@ fn write(store: &mut Store, place: Place, number: i32) -> Result<(), AllocError>
 
 // The globals, a process of P and one of init, after these writes.
 fn written(alloc: Global, places: &[Place], numbers: &[i32]) -> Result<Store, AllocError> {
-    let mut store = Store::new(alloc);
+    let mut store = Store::new(alloc, 11);
     store.push_frame(&[6, 1, 1])?;
     store.push_frame(&[1, 1])?;
     store.push_frame(&[1])?;

@@ -5,7 +5,7 @@ use Rattle.pml_program.specs.declared.form.Form.{Form}
 use Rattle.pml_program.specs.declared.form.Form.TheVariants.{Plain}
 use Rattle.pml_tree.specs.declared.tree.Scalar.TheVariants.{Bit}
 use Rattle.pml_eval.specs.Clip.{clipped}
-use Rattle.pml_channel.specs.State.{cut, is_greater, sorted_in, messages_in, rotated}
+use Rattle.pml_channel.specs.State.{cut, is_greater, sorted_in, messages_in, rotated, numbers_in}
 use Rattle.std.proofs.lemmas.List.{length_push, at_drop_more, take-append-le, drop-append-le, length-append, length-drop, length-take-le, drop-drop, nil_from_length, take_at, drop_at, take-append-drop, append-nil, same_from_push, take-take, drop-take, take_all, take_more, drop_more, get_or_push, get_or_append_left}
 use Rattle.std.proofs.lemmas.Option.{get_or_from_slice_get}
 use Rattle.std.specs.List.{position_from}
@@ -63,6 +63,14 @@ length-message from k xs h = let l = length-drop from xs in length-take-le k (dr
 pub message-length : (start place n k : ℕ) (xs : List ℤ) → place < n → length xs ≡ start + n * k → length (take k (drop (start + place * k) xs)) ≡ k
 message-length start place n k xs h e =
     let w = ends-within start place n k h in length-message (start + place * k) k xs (omega (arith, w, e))
+
+-- so many messages have so many numbers
+pub numbers-are : (n k : ℕ) (xs : List ℤ) → n * k ≤ length xs → numbers_in (messages_in n k xs) ≡ n * k
+numbers-are zero k xs h = omega arith
+numbers-are (suc n) k xs h =
+    let l = length-take-le k xs (omega (arith, h)) in
+    let r = numbers-are n k (drop k xs) (omega (arith, h, length-drop k xs)) in
+    omega (arith, l, r)
 
 -- ---- parts
 

@@ -40,3 +40,8 @@ is_greater (x ∷ xs) (y ∷ ys) = if int_eq x y then is_greater xs ys else int_
 abbrev pub sorted_in : List ℤ → List (List ℤ) → List (List ℤ)
 sorted_in new [] = new ∷ []
 sorted_in new (m ∷ ms) = if is_greater m new then new ∷ m ∷ ms else m ∷ sorted_in new ms
+
+-- how many numbers messages have
+abbrev pub numbers_in : List (List ℤ) → ℕ
+numbers_in [] = 0
+numbers_in (m ∷ ms) = length m + numbers_in ms

@@ -3,7 +3,7 @@
 ghost use Rattle.std.specs.Prelude.{◌≡◌, ◌+◌, ◌*◌, ◌<◌, ◌≤◌, ◌++◌, ◌∷◌, List, ℤ, [], length, take, drop, vec_len, IfSome, OnOk, OnErr, remove, slice_get, Some, insert};
 ghost use Rattle.std.specs.List.{position_from};
 ghost use Rattle.pml_eval.specs.Pattern.{matched};
-ghost use Rattle.pml_channel.specs.State.{cut, sorted_in, is_greater, rotated};
+ghost use Rattle.pml_channel.specs.State.{cut, sorted_in, is_greater, rotated, numbers_in};
 
 use pml_eval::clip::clip;
 use pml_eval::pattern::{Sought, matches};
@@ -63,6 +63,14 @@ impl Channel {
         ensures few { length self.now.messages ≤ self.now.capacity }
     {
         self.count
+    }
+
+    /// How many numbers its messages have.
+    pub fn numbers(&self) -> usize
+        ensures value { result ≡ numbers_in self.now.messages }
+        ensures few { result ≤ self.now.capacity * length self.now.types }
+    {
+        self.numbers.len() - self.start
     }
 
     /// The types of its fields.

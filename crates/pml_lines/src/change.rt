@@ -209,7 +209,7 @@ pub fn value_lines(
 }
 
 // The oldest number of each cell of a log, by index.
-fn oldest(alloc: Global, written: &[(usize, i32)]) -> Result<BTreeMap<usize, i32>, AllocError>
+fn oldest(alloc: Global, written: &[(u32, i32)]) -> Result<BTreeMap<usize, i32>, AllocError>
     ensures { IfOk result (λ m. m.entries ≡ oldest written.now) }
 {
     let mut numbers = BTreeMap::new(alloc);
@@ -217,7 +217,7 @@ fn oldest(alloc: Global, written: &[(usize, i32)]) -> Result<BTreeMap<usize, i32
     while 0 < left {
         left -= 1;
         let (at, number) = written[left];
-        numbers.insert(at, number)?;
+        numbers.insert(at as usize, number)?;
     }
     Ok(numbers)
 }

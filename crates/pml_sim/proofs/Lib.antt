@@ -2,3 +2,4 @@ pub mod Leading
 pub mod Living
 pub mod Values
 pub mod Stepping
+mod Samples

@@ -8,6 +8,7 @@ use Rattle.session.specs.Machine.{Goes, Faults, Stopped}
 use Rattle.session.specs.Takes.{CanBeTaken, IsReason}
 use Rattle.pml_program.specs.declared.program.Program.{Program}
 use Rattle.pml_store.specs.Store.{Frame, Contents}
+use Rattle.pml_start.specs.Bound.{most_cells}
 use Rattle.pml_start.specs.Start.{IsDeclared}
 use Rattle.pml_lines.specs.declared.change.Wanted.{Wanted}
 use Rattle.pml_lines.specs.Changes.{AreDeclared, step_lines, value_lines}
@@ -72,11 +73,11 @@ module _ (w : Running) (live new : Live) (m : Move) (same : w.state ≡ live.sta
 -- ---- the lines of a step
 
 pub lines_are : (w : Running) (live : Live) (p : Program) (ks : List ℕ) (store : Contents) (older n : ℕ) (globals locals : Bool) → w.state ≡ live.state → w.past ≡ take (older + 1) (past_of live) →
-    p ≡ live.state.program → ks ≡ kinds live.state → store ≡ record { frames = live.state.frames; written = live.written } → n ≡ min older (length ks) →
+    p ≡ live.state.program → ks ≡ kinds live.state → store ≡ record { frames = live.state.frames; written = live.written; most = most_cells live.state.program } → n ≡ min older (length ks) →
     step_lines p (take n ks) store (record { globals = globals; locals = locals }) ≡ changed_lines w globals locals
 lines_are w live p ks store older n globals locals s past pr k st ni =
     let wanted : Wanted = record { globals = globals; locals = locals } in
-    let now : Contents = record { frames = live.state.frames; written = live.written } in
+    let now : Contents = record { frames = live.state.frames; written = live.written; most = most_cells live.state.program } in
     let q : Program = live.state.program in
     ap (λ (i : ℕ). step_lines p (take i ks) store wanted) ni ∙ ap (λ (l : List ℕ). step_lines p l store wanted) (taken_min older ks)
     ∙ ap (λ (r : Program). step_lines r (take older ks) store wanted) pr ∙ ap (λ (l : List ℕ). step_lines q (take older l) store wanted) k
@@ -84,7 +85,7 @@ lines_are w live p ks store older n globals locals s past pr k st ni =
     ∙ ap (λ (fs : List Frame). value_lines q (kinds live.state) fs live.state.frames globals locals) (sym past)
     ∙ ap (λ (t : State). value_lines t.program (kinds t) w.past t.frames globals locals) (sym s)
 
-pub are_declared : (live : Live) (p : Program) (ks : List ℕ) (store : Contents) (n : ℕ) → p ≡ live.state.program → ks ≡ kinds live.state → store ≡ record { frames = live.state.frames; written = live.written } →
+pub are_declared : (live : Live) (p : Program) (ks : List ℕ) (store : Contents) (n : ℕ) → p ≡ live.state.program → ks ≡ kinds live.state → store ≡ record { frames = live.state.frames; written = live.written; most = most_cells live.state.program } →
     IsDeclared live.state.program (there live.state) → AreDeclared p (take n ks) store.frames
 are_declared live p ks store n pr k st h =
     subst (λ (c : Contents). AreDeclared p (take n ks) c.frames) (sym st)

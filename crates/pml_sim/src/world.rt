@@ -1,9 +1,12 @@
 //! A checked model as a machine.
 
-ghost use Rattle.std.specs.Prelude.{◌≡◌, [], IfOk, length};
+ghost use Rattle.std.specs.Prelude.{◌≡◌, ◌≤◌, [], IfOk, length};
+ghost use Rattle.profile.specs.declared.TheConstants.{MOST_CHANNELS, MOST_PROCESSES};
 ghost use Rattle.pml_flow.specs.Flow.{AreGraphs};
 ghost use Rattle.pml_start.specs.Begin.{shown};
+ghost use Rattle.pml_start.specs.Bound.{bound, IsBounded};
 ghost use Rattle.pml_start.specs.Start.{IsDeclared};
+ghost use Rattle.pml_steps.specs.Footprint.{held};
 ghost use Rattle.pml_sim.specs.World as world;
 
 use crate::halt::Halt;
@@ -63,6 +66,7 @@ impl<'p, 'a> World<'p, 'a> {
         requires declared { IsDeclared program.now (shown started) }
         requires graphs { AreGraphs program.now.proctypes graphs.now }
         requires fresh { started.store.written ≡ [] }
+        requires bounded { IsBounded program.now started.store started.channels.items }
         ensures { IfOk result (λ w. w ≡ world.first program.now (shown started)) }
     {
         let tables = Tables::new(alloc, program)?;
@@ -74,6 +78,17 @@ impl<'p, 'a> World<'p, 'a> {
             older,
             halt: None,
         })
+    }
+
+    /// How much it keeps of a run: the numbers in variables and messages, two for each process and two for each channel; at any time, also
+    /// where it has stopped, no more than the model says.
+    pub fn footprint(&self) -> usize
+        ensures value { result ≡ held self.now.state }
+        ensures bound { result ≤ bound self.now.state.program }
+        ensures processes { length self.now.state.stands ≤ MOST_PROCESSES }
+        ensures channels { length self.now.state.channels ≤ MOST_CHANNELS }
+    {
+        self.live.footprint()
     }
 }
 

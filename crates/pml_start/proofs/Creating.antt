@@ -6,8 +6,7 @@ use Rattle.std.proofs.lemmas.List.{set-get_or, drop_more, length_push, length-ma
 use Rattle.std.proofs.Math.Seq.{take-append_seam}
 use Rattle.pml_program.specs.declared.program.Slot.{Slot}
 use Rattle.pml_store.specs.declared.place.Place.{Place}
-use Rattle.pml_store.specs.Store.{Frame, Cells, frame_at, cells_at, with_number, zeros, before, but_last}
-use Rattle.pml_store.proofs.Storing.{contents_is}
+use Rattle.pml_store.specs.Store.{Frame, Cells, frame_at, cells_at, with_number, zeros, undone, before, but_last}
 use Rattle.pml_cells.specs.Cells.{size}
 use Rattle.pml_value.specs.declared.live_channel.LiveChannel.{LiveChannel}
 use Rattle.pml_start.specs.declared.started.Started.{Started}
@@ -66,8 +65,10 @@ process_shape kind ss b n e = added_shape ss (record b { kinds = b.kinds ++ kind
 pub past : (kind : ℕ) (ss : List Slot) (old mid new : Started) → shown mid ≡ with_process kind ss (shown old) → mid.store.written ≡ old.store.written → Keeps mid new →
     (rest : List Frame) × (before new.store ≡ before old.store ++ rest)
 past kind ss old mid new e w k =
-    let p = keeps_past old.store (zeros (map size ss) ∷ []) in
-    (p.0, k.past ∙ ap before (contents_is mid.store.frames (old.store.frames ++ zeros (map size ss) ∷ []) mid.store.written old.store.written (ap (λ (x : Begun). x.frames) e) w) ∙ p.1)
+    let p = keeps_past old.store (zeros (map size ss) ∷ []) in (
+      p.0,
+      k.past ∙ ap (λ (x : Begun). undone x.frames mid.store.written) e ∙ ap (λ (ws : List (ℕ × ℤ)). undone (old.store.frames ++ zeros (map size ss) ∷ []) ws) w ∙ p.1,
+    )
 
 begun_is : (fs gs : List Frame) (cs ds : List LiveChannel) (ks ls : List ℕ) → fs ≡ gs → cs ≡ ds → ks ≡ ls →
     ◌≡◌ {A = Begun} (record { frames = fs; channels = cs; kinds = ks }) (record { frames = gs; channels = ds; kinds = ls })

@@ -10,3 +10,4 @@ mod Elements
 mod Counted
 mod Creating
 pub mod Past
+pub mod Bounding

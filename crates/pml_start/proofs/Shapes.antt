@@ -28,7 +28,7 @@ same_size fs gs o i e = sym (size_in gs o i) ∙ ap (λ (x : List (List ℕ)). g
 
 -- nothing is done
 pub keeps-all : (a : Started) → Keeps a a
-keeps-all a = record { shape = refl; kinds = refl; older = refl; channels = take-length a.channels.items; past = refl }
+keeps-all a = record { shape = refl; kinds = refl; older = refl; channels = take-length a.channels.items; past = refl; most = refl }
 
 -- of what is kept, the front is kept
 front_kept : (a b c : List LiveChannel) → take (length a) b ≡ a → take (length b) c ≡ b → take (length a) c ≡ a
@@ -43,6 +43,7 @@ keeps-then a b c h k = record {
   older = ap (λ (n : ℕ). take n c.store.frames) (sym (ap length h.kinds)) ∙ k.older ∙ ap (λ (n : ℕ). take n b.store.frames) (ap length h.kinds) ∙ h.older;
   channels = front_kept a.channels.items b.channels.items c.channels.items h.channels k.channels;
   past = k.past ∙ h.past;
+  most = k.most ∙ h.most;
 }
 
 -- a store or a refused one
@@ -55,6 +56,7 @@ set_keeps (Ok u) a new p v there young h k = record {
       ∙ take-set-le (length a.kinds.items) a.store.frames p.frame (set (frame_at a.store.frames p.frame) p.variable (set (cells_at a.store.frames p) p.cell v)) (omega (arith, young));
   channels = take-length a.channels.items;
   past = ap before h ∙ before_set a.store p v there;
+  most = ap (λ (x : Contents). x.most) h;
 }
 set_keeps (Err e) a new p v there young h k = record {
   shape = ap (λ (x : Contents). shape x.frames) k;
@@ -62,6 +64,7 @@ set_keeps (Err e) a new p v there young h k = record {
   older = ap (λ (x : Contents). take (length a.kinds.items) x.frames) k;
   channels = take-length a.channels.items;
   past = ap before k;
+  most = ap (λ (x : Contents). x.most) k;
 }
 
 -- a channel more, or a refused one
@@ -77,6 +80,7 @@ push_keeps b a new c s k e = record {
   older = ap (λ (x : Contents). take (length a.kinds.items) x.frames) s;
   channels = same_front b a.channels.items new.channels.items c e;
   past = ap before s;
+  most = ap (λ (x : Contents). x.most) s;
 }
 
 size_now : (old new : Started) (i n : ℕ) → Keeps old new → size_at old.store.frames (length old.kinds.items) i ≡ n → size_at new.store.frames (length new.kinds.items) i ≡ n

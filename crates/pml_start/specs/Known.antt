@@ -16,13 +16,14 @@ use Rattle.pml_cells.specs.Cells.{leaf}
 use Rattle.pml_start.specs.Begin.{Begun, nothing, shape, initial_value}
 
 -- no frame, no variable and no cell comes or goes; what older frames hold and the channels that are there stay as they are; and the
--- log leads back to the same numbers
+-- log leads back to the same numbers; there may be as many cells as before
 pub record Keeps (old new : Started) : Type 0 where
   pub shape : shape new.store.frames ≡ shape old.store.frames
   pub kinds : new.kinds.items ≡ old.kinds.items
   pub older : take (length old.kinds.items) new.store.frames ≡ take (length old.kinds.items) old.store.frames
   pub channels : take (length old.channels.items) new.channels.items ≡ old.channels.items
   pub past : before new.store ≡ before old.store
+  pub most : new.store.most ≡ old.store.most
 
 -- a place in the youngest frame's variable with this number
 abbrev pub is_of : Begun → ℕ → Place → Bool

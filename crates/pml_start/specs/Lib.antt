@@ -1,4 +1,5 @@
 pub mod Begin
+pub mod Bound
 pub mod Created
 pub mod Known
 pub mod Laws

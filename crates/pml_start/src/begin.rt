@@ -1,10 +1,11 @@
 //! What the variables of the youngest frame begin with. Frame 0 has the globals, and frame n + 1 the variables of process n.
 
-ghost use Rattle.std.specs.Prelude.{◌≡◌, ◌<◌, ◌≤◌, ◌++◌, ◌∷◌, [], IfOk, OnOk, OnErr, Ok, length, map};
+ghost use Rattle.std.specs.Prelude.{◌≡◌, ◌+◌, ◌<◌, ◌≤◌, ◌++◌, ◌∷◌, [], IfOk, OnOk, OnErr, Ok, length, map};
 ghost use Rattle.profile.specs.declared.TheConstants.{MOST_PROCESSES};
-ghost use Rattle.pml_store.specs.Store.{HasPlace, frame_at, size_at};
+ghost use Rattle.pml_store.specs.Store.{HasPlace, frame_at, joined, size_at};
 ghost use Rattle.pml_start.specs.Begin.{Begins, shown, shape, initial_value, cell_in, with_value, with_frame, with_channel, empty_channel, cell_begun, leaf_begun, with_values, fields_begun, variable_begun, variables_begun, frame_begun};
 ghost use Rattle.pml_cells.specs.Cells.{size, leaf};
+ghost use Rattle.pml_start.specs.Bound.{cells_of};
 ghost use Rattle.pml_start.specs.Known.{Keeps, known};
 
 use crate::beginnings::{Beginning, Beginnings, constant, is_zero};
@@ -246,9 +247,11 @@ fn sizes(alloc: Global, slots: &[Slot<'_>]) -> Result<Vec<usize>, AllocError>
 
 /// Adds the variables of one more frame, each cell 0.
 pub fn add_frame(alloc: Global, started: &mut Started, slots: &[Slot<'_>]) -> Result<(), Stop>
+    requires { length (joined started.old.store.frames) + cells_of slots.now ≤ started.old.store.most }
     ensures value { Begins (Ok (with_frame slots.now (shown started.old))) result (shown started.new) }
     ensures log { started.new.store.written ≡ started.old.store.written }
     ensures kept { OnErr result (started.new ≡ started.old) }
+    ensures most { started.new.store.most ≡ started.old.store.most }
 {
     let sizes = sizes(alloc, slots).map_err(|_| Stop::Memory)?;
     let pushed = started.store.push_frame(sizes.as_slice());
@@ -264,9 +267,11 @@ pub fn begin_frame(
 ) -> Result<(), Stop>
     requires few { length started.old.kinds.items ≤ MOST_PROCESSES }
     requires next { length started.old.store.frames ≡ length started.old.kinds.items }
+    requires room { length (joined started.old.store.frames) + cells_of slots.now ≤ started.old.store.most }
     ensures value { Begins (frame_begun beginnings.now slots.now (shown started.old)) result (shown started.new) }
     ensures sizes { OnOk result (shape started.new.store.frames ≡ shape started.old.store.frames ++ map size slots.now ∷ []) }
     ensures kinds { started.new.kinds.items ≡ started.old.kinds.items }
+    ensures most { started.new.store.most ≡ started.old.store.most }
 {
     add_frame(alloc, started, slots)?;
     begin_variables(alloc, beginnings, started, slots)

@@ -33,7 +33,7 @@ pub enum Beginning {
 pub fn constant(alloc: Global, value: &Expr, form: Form) -> Result<i32, Fault>
     ensures { result ≡ initial_value value.now form nothing }
 {
-    let store = Store::new(alloc);
+    let store = Store::new(alloc, 0);
     let view = View {
         store: &store,
         channels: &[],

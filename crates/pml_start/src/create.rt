@@ -2,9 +2,10 @@
 
 ghost use Rattle.std.specs.Prelude.{◌≡◌, ◌+◌, ◌-◌, ◌<◌, ◌≤◌, ◌++◌, ◌∷◌, [], List, Ok, OnOk, OnErr, length, map, take};
 ghost use Rattle.profile.specs.declared.TheConstants.{MOST_PROCESSES};
-ghost use Rattle.pml_store.specs.Store.{Frame, before, but_last, frame_at};
+ghost use Rattle.pml_store.specs.Store.{Frame, before, but_last, frame_at, joined};
 ghost use Rattle.pml_cells.specs.Cells.{size};
 ghost use Rattle.pml_start.specs.Begin.{Begins, shown, held, shape, with_value};
+ghost use Rattle.pml_start.specs.Bound.{cells_of};
 ghost use Rattle.pml_start.specs.Created.{with_arguments, begun_with, with_process, created};
 ghost use Rattle.pml_start.specs.Known.{Keeps};
 
@@ -68,9 +69,11 @@ fn add_process(
     kind: usize,
     slots: &[Slot<'_>],
 ) -> Result<(), Stop>
+    requires { length (joined started.old.store.frames) + cells_of slots.now ≤ started.old.store.most }
     ensures value { Begins (Ok (with_process kind slots.now (shown started.old))) result (shown started.new) }
     ensures log { started.new.store.written ≡ started.old.store.written }
     ensures kept { OnErr result (shown started.new ≡ shown started.old) }
+    ensures most { started.new.store.most ≡ started.old.store.most }
 {
     started.kinds.push(kind).map_err(|_| Stop::Memory)?;
     let added = add_frame(alloc, started, slots);
@@ -86,6 +89,7 @@ fn drop_youngest(started: &mut Started, channels: usize)
     ensures frames { started.new.store.frames ≡ but_last started.old.store.frames }
     ensures channels { started.new.channels.items ≡ take channels started.old.channels.items }
     ensures kinds { started.new.kinds.items ≡ take (length started.old.kinds.items - 1) started.old.kinds.items }
+    ensures most { started.new.store.most ≡ started.old.store.most }
 {
     started.kinds.pop();
     started.channels.truncate(channels);
@@ -103,11 +107,13 @@ fn create_process(
 ) -> Result<(), Stop>
     requires few { length started.old.kinds.items < MOST_PROCESSES }
     requires next { length started.old.store.frames ≡ length started.old.kinds.items + 1 }
+    requires room { length (joined started.old.store.frames) + cells_of slots.now ≤ started.old.store.most }
     ensures value { Begins (created beginnings.now kind slots.now arguments.now (shown started.old)) result (shown started.new) }
     ensures kept { OnErr result (shown started.new ≡ shown started.old) }
     ensures past { OnOk result ((rest : List Frame) × (before started.new.store ≡ before started.old.store ++ rest)) }
     ensures shape { OnOk result (shape started.new.store.frames ≡ shape started.old.store.frames ++ map size slots.now ∷ []) }
     ensures kinds { OnOk result (started.new.kinds.items ≡ started.old.kinds.items ++ kind ∷ []) }
+    ensures most { started.new.store.most ≡ started.old.store.most }
 {
     let channels = started.channels.len();
     if are_too_many(alloc, beginnings, slots, channels).map_err(|_| Stop::Memory)? {
@@ -135,15 +141,17 @@ pub fn create(
 ) -> Result<(), Stop>
     requires few { length kinds.old.items < MOST_PROCESSES }
     requires next { length store.old.frames ≡ length kinds.old.items + 1 }
+    requires room { length (joined store.old.frames) + cells_of slots.now ≤ store.old.most }
     ensures value { Begins (created beginnings.now kind slots.now arguments.now (held store.old channels.old.items kinds.old.items)) result (held store.new channels.new.items kinds.new.items) }
     ensures kept { OnErr result (held store.new channels.new.items kinds.new.items ≡ held store.old channels.old.items kinds.old.items) }
     ensures past { OnOk result ((rest : List Frame) × (before store.new ≡ before store.old ++ rest)) }
     ensures shape { OnOk result (shape store.new.frames ≡ shape store.old.frames ++ map size slots.now ∷ []) }
     ensures kinds { OnOk result (kinds.new.items ≡ kinds.old.items ++ kind ∷ []) }
+    ensures most { store.new.most ≡ store.old.most }
 {
     let alloc = *channels.allocator();
     let mut started = Started {
-        store: Store::new(alloc),
+        store: Store::new(alloc, 0),
         channels: Vec::new(alloc),
         kinds: Vec::new(alloc),
     };

@@ -2,10 +2,12 @@
 
 ghost use Rattle.std.specs.Prelude.{◌≡◌, ◌<◌, [], IfOk, OnOk, length};
 ghost use Rattle.pml_start.specs.Begin.{Begins, shown};
+ghost use Rattle.pml_start.specs.Bound.{most_cells, IsBounded};
 ghost use Rattle.pml_start.specs.Start.{Starts, IsDeclared, first_state, process_begun, kind_begun};
 
 use crate::begin::begin_frame;
 use crate::beginnings::Beginnings;
+use crate::bound::most_cells;
 use crate::started::Started;
 use diagnostics::Stop;
 use pml_program::program::Program;
@@ -24,8 +26,10 @@ fn begin_process(
     requires known { beginnings.now ≡ program.now.typedefs }
     requires there { kind < length program.now.proctypes }
     requires declared { IsDeclared program.now (shown started.old) }
+    requires most { started.old.store.most ≡ most_cells program.now }
     ensures value { Begins (process_begun program.now kind (shown started.old)) result (shown started.new) }
     ensures declared { OnOk result (IsDeclared program.now (shown started.new)) }
+    ensures most { started.new.store.most ≡ most_cells program.now }
 {
     if started.kinds.len() >= MOST_PROCESSES {
         return Ok(());
@@ -47,8 +51,10 @@ fn begin_processes(
     requires known { beginnings.now ≡ program.now.typedefs }
     requires there { kind < length program.now.proctypes }
     requires declared { IsDeclared program.now (shown started.old) }
+    requires most { started.old.store.most ≡ most_cells program.now }
     ensures value { Begins (kind_begun program.now kind starts (shown started.old)) result (shown started.new) }
     ensures declared { OnOk result (IsDeclared program.now (shown started.new)) }
+    ensures most { started.new.store.most ≡ most_cells program.now }
 {
     for _start in 0..starts {
         begin_process(alloc, program, beginnings, kind, started)?;
@@ -61,11 +67,13 @@ pub fn start(alloc: Global, program: &Program<'_>) -> Result<Started, Stop>
     ensures value { Starts (first_state program.now) result }
     ensures forgotten { IfOk result (λ s. s.store.written ≡ []) }
     ensures declared { IfOk result (λ s. IsDeclared program.now (shown s)) }
+    ensures bounded { IfOk result (λ s. IsBounded program.now s.store s.channels.items) }
 {
     let typedefs = program.typedefs.as_slice();
     let beginnings = Beginnings::new(alloc, typedefs).map_err(|_| Stop::Memory)?;
+    let most = most_cells(program).ok_or(Stop::Memory)?;
     let mut started = Started {
-        store: Store::new(alloc),
+        store: Store::new(alloc, most),
         channels: Vec::new(alloc),
         kinds: Vec::new(alloc),
     };

@@ -1,44 +1,41 @@
 -- A process is created, or nothing is.
-use Rattle.std.proofs.Common.{◌≡◌, ℕ, ◌+◌, ◌<◌, Bool, true, false, List, [], ◌∷◌, ◌++◌, ℤ, map, length, refl, sym, ap, ◌∙◌, subst, Option, Some, None, Result, Ok, Err, OnOk, OnErr}
+use Rattle.std.proofs.Common.{◌≡◌, ℕ, ◌+◌, ◌-◌, take, arith, ◌<◌, ◌≤◌, false, List, [], ◌∷◌, ◌++◌, ℤ, map, length, refl, sym, ap, ◌∙◌, subst, Option, Some, Result, Ok, Err, OnOk}
 use Rattle.std.specs.Prelude.{slice_get, option_map}
-use Rattle.std.proofs.lemmas.List.{map_push}
+use Rattle.std.specs.Result.{is_err}
+use Rattle.std.proofs.lemmas.List.{map_push, length_push}
+use Rattle.std.proofs.Math.Seq.{take-append_seam}
 use Rattle.diagnostics.specs.declared.fault.Fault.{Fault}
 use Rattle.diagnostics.specs.declared.stop.Stop.{Stop}
 use Rattle.diagnostics.specs.declared.stop.Stop.TheVariants as stop
 use Rattle.pml_program.specs.declared.program.Stmt.{Stmt}
 use Rattle.pml_program.specs.declared.program.Fields.{Fields}
+use Rattle.pml_program.specs.declared.program.Slot.{Slot}
 use Rattle.pml_program.specs.declared.program.Proctype.{Proctype}
 use Rattle.pml_program.specs.declared.program.Program.{Program}
-use Rattle.pml_program.specs.declared.program.Seq.{Seq}
 use Rattle.pml_flow.specs.Flow.{Graph}
 use Rattle.pml_eval.specs.Value.{◌>>=◌}
-use Rattle.pml_store.specs.declared.place.Place.{Place}
-use Rattle.pml_store.specs.Store.{Contents, stored}
+use Rattle.pml_store.specs.Store.{Contents, joined as cells}
 use Rattle.pml_value.specs.declared.live_channel.LiveChannel.{LiveChannel}
 use Rattle.pml_cells.specs.Cells.{size}
 use Rattle.pml_start.specs.Begin.{Begun, Begins, held, shape}
 use Rattle.pml_start.specs.Created.{created}
-use Rattle.pml_start.specs.Start.{variables_of, variables_at}
-use Rattle.pml_start.proofs.Shapes.{shape-with_number}
+use Rattle.pml_start.specs.Bound.{cells_of, AreBounded}
+use Rattle.pml_start.specs.Start.{IsDeclared, variables_of, variables_at}
+use Rattle.pml_start.proofs.Bounding.{room_for, created_bounded}
 use Rattle.pml_start.proofs.Declaring.{declared_next}
 use Rattle.pml_moves.specs.declared.scene.Seat.{Seat}
 use Rattle.pml_moves.specs.State.{Stand, State, body_of}
 use Rattle.pml_moves.specs.Scene.{stand_of}
 use Rattle.pml_moves.proofs.Searching.{within}
-use Rattle.pml_steps.specs.Created.{first_control, kinds, there, joined_by, with_new}
+use Rattle.pml_steps.specs.Created.{first_control, there, joined_by, with_new}
 use Rattle.pml_steps.specs.Live.{Leads}
 use Rattle.pml_steps.specs.Held.{IsHeld, kinds_of, begins_by, begins_at, live_of}
-
--- to store a number, or not, leaves the shape
-pub set_shape : {E : Type 0} (r : Result (Unit {0}) E) (old new : Contents) (p : Place) (v : ℤ) → OnOk r (new ≡ stored old p v) → OnErr r (new ≡ old) → shape new.frames ≡ shape old.frames
-set_shape (Ok u) old new p v h k = ap (λ (c : Contents). shape c.frames) h ∙ shape-with_number old.frames p v
-set_shape (Err e) old new p v h k = ap (λ (c : Contents). shape c.frames) k
 
 -- one process more
 pub held_more : (p : Program) (gs : List Graph) (ss : List (List (Option Stmt))) (ts : List Fields) (old new : Contents) (cs ds : List LiveChannel) (ks ls : List ℕ) (xs ys : List Seat) (kind n : ℕ) (q : Proctype) →
     IsHeld p gs ss ts old cs ks xs → length ks < 255 → slice_get p.proctypes kind ≡ Some q → shape new.frames ≡ shape old.frames ++ map size q.variables ∷ [] → ls ≡ ks ++ kind ∷ [] →
-    ys ≡ xs ++ record { kind = kind; node = n } ∷ [] → IsHeld p gs ss ts new ds ls ys
-held_more p gs ss ts old new cs ds ks ls xs ys kind n q h few e s k y =
+    ys ≡ xs ++ record { kind = kind; node = n } ∷ [] → new.most ≡ old.most → AreBounded p ds → IsHeld p gs ss ts new ds ls ys
+held_more p gs ss ts old new cs ds ks ls xs ys kind n q h few e s k y m b =
     let variables : variables_at p kind ≡ q.variables = ap variables_of e in
     let more : shape new.frames ≡ shape old.frames ++ map size (variables_at p kind) ∷ [] = s ∙ sym (ap (λ (l : List _). shape old.frames ++ map size l ∷ []) variables) in
     record {
@@ -47,7 +44,44 @@ held_more p gs ss ts old new cs ds ks ls xs ys kind n q h few e s k y =
       graphs = h.graphs;
       statements = h.statements;
       typedefs = h.typedefs;
+      bounded = record { counted = h.bounded.counted; most = m ∙ h.bounded.most; live = b };
     }
+
+-- there is room for its variables
+pub room_more : (p : Program) (gs : List Graph) (ss : List (List (Option Stmt))) (ts : List Fields) (store : Contents) (cs : List LiveChannel) (ks : List ℕ) (xs : List Seat) (kind : ℕ) (q : Proctype) →
+    IsHeld p gs ss ts store cs ks xs → length ks < 255 → slice_get p.proctypes kind ≡ Some q → length (cells store.frames) + cells_of q.variables ≤ store.most
+room_more p gs ss ts store cs ks xs kind q h few e =
+    subst (λ (l : List Slot). length (cells store.frames) + cells_of l ≤ store.most) (ap variables_of e) (room_for p (held store cs ks) kind store.most h.declared few h.bounded.most)
+
+-- and no channel of it has more room than the model says
+pub bounded_more : (p : Program) (gs : List Graph) (ss : List (List (Option Stmt))) (ts : List Fields) (store new : Contents) (cs ds : List LiveChannel) (ks ls : List ℕ) (xs : List Seat) (kind : ℕ) (q : Proctype) (vs : List ℤ) (r : Result (Unit {0}) Stop) →
+    IsHeld p gs ss ts store cs ks xs → slice_get p.proctypes kind ≡ Some q → Begins (created ts kind q.variables vs (held store cs ks)) r (held new ds ls) → is_err r ≡ false → AreBounded p ds
+bounded_more p gs ss ts store new cs ds ks ls xs kind q vs r h e b ok =
+    let one : Begins (created p.typedefs kind q.variables vs (held store cs ks)) r (held new ds ls) =
+    subst (λ (l : List Fields). Begins (created l kind q.variables vs (held store cs ks)) r (held new ds ls)) h.typedefs b in
+    by r ok (created_bounded p kind kind q vs (held store cs ks) (held new ds ls) r e h.bounded.live one)
+  where
+    by : (r : Result (Unit {0}) Stop) → is_err r ≡ false → OnOk r (AreBounded p ds) → AreBounded p ds
+    by (Ok u) ok f = f
+    by (Err s) ok f = absurd cc
+
+-- what was pushed is popped
+pub popped : (xs ys zs : List Seat) (x : Seat) (n : ℕ) → zs ≡ xs ++ x ∷ [] → n ≡ length zs → ys ≡ take (n - 1) zs → ys ≡ xs
+popped xs ys zs x n z l y =
+    let m : n - 1 ≡ length xs = omega (arith, l, ap length z, length_push xs x) in
+    y ∙ ap (λ (i : ℕ). take i zs) m ∙ ap (take (length xs)) z ∙ take-append_seam xs (x ∷ [])
+
+-- where it was not created, no more is kept than before
+pub held_yet : (p : Program) (gs : List Graph) (ss : List (List (Option Stmt))) (ts : List Fields) (old new : Contents) (cs ds : List LiveChannel) (ks ls : List ℕ) (xs ys : List Seat) →
+    IsHeld p gs ss ts old cs ks xs → held new ds ls ≡ held old cs ks → ys ≡ xs → new.most ≡ old.most → IsHeld p gs ss ts new ds ls ys
+held_yet p gs ss ts old new cs ds ks ls xs ys h e y m = record {
+  declared = subst (IsDeclared p) (sym e) h.declared;
+  seated = ap (λ (b : Begun). b.kinds) e ∙ h.seated ∙ sym (ap kinds_of y);
+  graphs = h.graphs;
+  statements = h.statements;
+  typedefs = h.typedefs;
+  bounded = record { counted = h.bounded.counted; most = m ∙ h.bounded.most; live = subst (AreBounded p) (sym (ap (λ (b : Begun). b.channels) e)) h.bounded.live };
+}
 
 pub kinds_are : (p : Program) (xs : List Seat) → map (λ (y : Stand). y.kind) (map (stand_of p) xs) ≡ kinds_of xs
 kinds_are p [] = refl

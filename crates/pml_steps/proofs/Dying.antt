@@ -1,12 +1,13 @@
 -- The youngest process dies.
-use Rattle.std.proofs.Common.{◌≡◌, ℕ, zero, suc, ◌+◌, ◌-◌, ◌<◌, ◌≤◌, Bool, not, nat_eq, List, [], ◌∷◌, length, map, take, refl, sym, ap, ◌∙◌, arith, Option, Some, None}
+use Rattle.std.proofs.Common.{◌≡◌, ℕ, zero, suc, ◌+◌, ◌-◌, ◌≤◌, Bool, true, false, if◌then◌else◌, subst, not, nat_eq, List, [], ◌∷◌, length, map, take, refl, sym, ap, ◌∙◌, arith, Option, None}
 use Rattle.std.specs.List.{filter, AllByRecursion}
-use Rattle.std.proofs.lemmas.List.{length-map, length-take}
+use Rattle.std.proofs.lemmas.List.{length-map}
 use Rattle.pml_program.specs.declared.program.Program.{Program}
 use Rattle.pml_store.specs.Store.{Contents, Frame, but_last}
 use Rattle.pml_value.specs.declared.live_channel.LiveChannel.{LiveChannel}
 use Rattle.pml_cells.specs.Cells.{size}
-use Rattle.pml_start.specs.Begin.{Begun, shape}
+use Rattle.pml_start.specs.Begin.{shape}
+use Rattle.pml_start.specs.Bound.{room, most_room, AreBounded}
 use Rattle.pml_start.specs.Start.{IsDeclared, variables_at}
 use Rattle.pml_start.proofs.Declaring.{frames_of_kinds}
 use Rattle.pml_moves.specs.declared.scene.Seat.{Seat}
@@ -46,6 +47,26 @@ declared_less p fs cs ds ks n h e =
           ap (λ (i : ℕ). shape (take i fs)) count ∙ map-take (map length) (suc n) fs ∙ ap (take (suc n)) h.sizes
           ∙ ap (λ (l : List (List ℕ)). map size p.globals ∷ l) (sym (map-take k n ks));
     }
+
+-- of the other channels there are no more, and none has more room
+room_left : (n : ℕ) (f : LiveChannel → Bool) (cs : List LiveChannel) → AllByRecursion (λ m. m ≤ n) (map room cs) → AllByRecursion (λ m. m ≤ n) (map room (filter f cs))
+room_left n f [] h = tt
+room_left n f (c ∷ cs) h = by (f c) (room_left n f cs h.1)
+  where
+    by : (t : Bool) → AllByRecursion (λ m. m ≤ n) (map room (filter f cs)) → AllByRecursion (λ m. m ≤ n) (map room (if t then c ∷ filter f cs else filter f cs))
+    by true k = (h.0, k)
+    by false k = k
+
+count_left : (f : LiveChannel → Bool) (cs : List LiveChannel) → length (filter f cs) ≤ length cs
+count_left f [] = omega arith
+count_left f (c ∷ cs) = by (f c) (count_left f cs)
+  where
+    by : (t : Bool) → length (filter f cs) ≤ length cs → length (if t then c ∷ filter f cs else filter f cs) ≤ length (c ∷ cs)
+    by true k = omega (arith, k)
+    by false k = omega (arith, k)
+
+pub bounded_left : (p : Program) (f : LiveChannel → Bool) (cs ds : List LiveChannel) → AreBounded p cs → ds ≡ filter f cs → AreBounded p ds
+bounded_left p f cs ds b e = subst (AreBounded p) (sym e) (record { few = omega (arith, b.few, count_left f cs); small = room_left (most_room p) f cs b.small })
 
 -- a state by its parts
 pub died : (s : State) (xs : List Seat) (fs : List Frame) (cs : List LiveChannel) (n : ℕ) → s.stands ≡ map (stand_of s.program) xs → length xs ≡ n + 1 → length s.frames ≡ length xs + 1 →

@@ -1,6 +1,7 @@
 -- What is always so stays so, and what a call does to the parts it does to the state.
-use Rattle.std.proofs.Common.{◌≡◌, ℕ, zero, suc, ◌+◌, Bool, ◌<◌, ℤ, take, drop, List, [], ◌∷◌, ◌++◌, map, length, refl, sym, ap, ◌∙◌, subst, Option, Some, None, Result, Ok, Err}
-use Rattle.std.proofs.lemmas.List.{append-nil}
+use Rattle.std.proofs.Common.{◌≡◌, ℕ, zero, suc, ◌*◌, ◌≤◌, nat_lt, if◌then◌else◌, true, false, OnOk, OnErr, arith, Bool, ℤ, take, drop, List, [], ◌∷◌, ◌++◌, map, length, refl, sym, ap, ◌∙◌, subst, Option, Some, None, Result, Ok, Err}
+use Rattle.std.specs.List.{AllByRecursion}
+use Rattle.std.proofs.lemmas.List.{append-nil, length-map}
 use Rattle.std.proofs.Math.Seq.{take-append_seam}
 use Rattle.diagnostics.specs.declared.fault.Fault.{Fault}
 use Rattle.diagnostics.specs.declared.stop.Stop.{Stop}
@@ -11,76 +12,94 @@ use Rattle.pml_program.specs.declared.program.Program.{Program}
 use Rattle.pml_flow.specs.Flow.{Graph}
 use Rattle.pml_eval.specs.declared.pattern.Sought.{Sought}
 use Rattle.pml_eval.specs.Value.{Reading, ◌>>=◌}
-use Rattle.pml_channel.specs.State.{ChannelState}
+use Rattle.pml_channel.specs.State.{ChannelState, cut}
 use Rattle.pml_tree.specs.declared.tree.SendOrder.{SendOrder}
 use Rattle.pml_tree.specs.declared.tree.Search.{Search}
 use Rattle.pml_tree.specs.declared.tree.Removal.{Removal}
+use Rattle.pml_tree.specs.declared.tree.Removal.TheVariants as removal
 use Rattle.pml_program.specs.declared.expr.Expr.{Expr}
 use Rattle.pml_program.specs.declared.expr.Target.{Target}
 use Rattle.pml_program.specs.declared.expr.Want.{Want}
 use Rattle.pml_value.specs.Reads.{reading_of}
+use Rattle.pml_store.specs.declared.place.Place.{Place}
 use Rattle.pml_store.specs.Store.{Contents, Frame, stored}
 use Rattle.pml_value.specs.declared.statement.Goes.{Goes}
 use Rattle.pml_value.specs.declared.live_channel.LiveChannel.{LiveChannel}
 use Rattle.pml_value.specs.Statement.{TakesStatement}
-use Rattle.pml_value.specs.Messages.{changed, contents_at, with_message, addressed, sent, found, without, taken_from, asked_at, received, Received, StoresSome, stored_all, SendsMessage, ReceivesMessage}
+use Rattle.pml_value.specs.Messages.{changed, contents_at, ordered, with_message, addressed, sent, found, without, taken_from, asked_at, received, Received, stored_all, SendsMessage, ReceivesMessage}
 use Rattle.pml_start.specs.Begin.{shape}
+use Rattle.pml_start.specs.Bound.{room, most_room, AreBounded}
 use Rattle.pml_start.proofs.Shapes.{shape-with_number}
 use Rattle.pml_moves.specs.declared.scene.Seat.{Seat}
 use Rattle.pml_moves.specs.State.{State, reads}
 use Rattle.pml_steps.specs.Change.{put, put_all, put_by, put_any, with_sent, with_received}
-use Rattle.pml_steps.specs.Outcome.{Done, quiet}
-use Rattle.pml_steps.specs.Live.{Live, Leads, Does, StoresAll}
+use Rattle.pml_steps.specs.Outcome.{quiet}
+use Rattle.pml_steps.specs.Live.{Leads, Does, StoresAll}
 use Rattle.pml_steps.specs.Held.{IsHeld, live_of}
+
+-- the variables have as many cells, and there may be as many
+pub record Stays (old new : Contents) : Type 0 where
+  pub shape : shape new.frames ≡ shape old.frames
+  pub most : new.most ≡ old.most
 
 -- other numbers in the same variables
 pub held_still : (p : Program) (gs : List Graph) (ss : List (List (Option Stmt))) (ts : List Fields) (old new : Contents) (cs ds : List LiveChannel) (ks : List ℕ) (xs : List Seat) →
-    IsHeld p gs ss ts old cs ks xs → shape new.frames ≡ shape old.frames → IsHeld p gs ss ts new ds ks xs
-held_still p gs ss ts old new cs ds ks xs h e = record {
-  declared = record { few = h.declared.few; kinds = h.declared.kinds; sizes = e ∙ h.declared.sizes };
+    IsHeld p gs ss ts old cs ks xs → Stays old new → AreBounded p ds → IsHeld p gs ss ts new ds ks xs
+held_still p gs ss ts old new cs ds ks xs h e b = record {
+  declared = record { few = h.declared.few; kinds = h.declared.kinds; sizes = e.shape ∙ h.declared.sizes };
   seated = h.seated;
   graphs = h.graphs;
   statements = h.statements;
   typedefs = h.typedefs;
+  bounded = record { counted = h.bounded.counted; most = e.most ∙ h.bounded.most; live = b };
 }
 
 -- ---- the shape
 
-all_shape : (s : Contents) (gs : List Goes) → shape (stored_all s gs).frames ≡ shape s.frames
-all_shape s [] = refl
-all_shape s (g ∷ gs) = all_shape (stored s g.place g.number) gs ∙ shape-with_number s.frames g.place g.number
+all_stay : (s : Contents) (gs : List Goes) → Stays s (stored_all s gs)
+all_stay s [] = record { shape = refl; most = refl }
+all_stay s (g ∷ gs) =
+    let r = all_stay (stored s g.place g.number) gs in
+    record { shape = r.shape ∙ shape-with_number s.frames g.place g.number; most = r.most }
 
-frames_same : (old new : Contents) → new ≡ old → shape new.frames ≡ shape old.frames
-frames_same old new e = ap (λ (c : Contents). shape c.frames) e
+same_stays : (old new : Contents) → new ≡ old → Stays old new
+same_stays old new e = record { shape = ap (λ (c : Contents). shape c.frames) e; most = ap (λ (c : Contents). c.most) e }
 
-some_shape : (old new : Contents) (gs : List Goes) → StoresSome old new gs → shape new.frames ≡ shape old.frames
-some_shape old new gs h = ap (λ (c : Contents). shape c.frames) h.stands ∙ all_shape old h.before
+all_are : (old new : Contents) (gs : List Goes) → new ≡ stored_all old gs → Stays old new
+all_are old new gs e =
+    let r = all_stay old gs in
+    record { shape = ap (λ (c : Contents). shape c.frames) e ∙ r.shape; most = ap (λ (c : Contents). c.most) e ∙ r.most }
 
-pub taken_shape : (d : Result (Option Goes) Fault) (r : Result (Unit {0}) Stop) (old new : Contents) → TakesStatement d r old new → shape new.frames ≡ shape old.frames
-taken_shape (Ok None) (Ok u) old new h = frames_same old new h
-taken_shape (Ok None) (Err s) old new h = absurd h
-taken_shape (Ok (Some g)) (Ok u) old new h = ap (λ (c : Contents). shape c.frames) h ∙ shape-with_number old.frames g.place g.number
-taken_shape (Ok (Some g)) (Err stop.Memory) old new h = frames_same old new h
-taken_shape (Ok (Some g)) (Err (stop.Fault f)) old new h = absurd h
-taken_shape (Err f) (Err (stop.Fault g)) old new h = frames_same old new h.1
-taken_shape (Err f) (Err stop.Memory) old new h = absurd h
-taken_shape (Err f) (Ok u) old new h = absurd h
+-- to store a number, or not
+pub set_stays : {E : Type 0} (r : Result (Unit {0}) E) (old new : Contents) (p : Place) (v : ℤ) → OnOk r (new ≡ stored old p v) → OnErr r (new ≡ old) → Stays old new
+set_stays (Ok u) old new p v h k = record { shape = ap (λ (c : Contents). shape c.frames) h ∙ shape-with_number old.frames p v; most = ap (λ (c : Contents). c.most) h }
+set_stays (Err e) old new p v h k = same_stays old new k
 
-pub received_shape : (d : Result Received Fault) (r : Result (Unit {0}) Stop) (old new : Contents) (cs ds : List LiveChannel) → ReceivesMessage d r old new cs ds → shape new.frames ≡ shape old.frames
-received_shape (Ok x) (Ok u) old new cs ds h = ap (λ (c : Contents). shape c.frames) h.0 ∙ all_shape old x.numbers
-received_shape (Ok x) (Err stop.Memory) old new cs ds h = some_shape old new x.numbers h.0
-received_shape (Ok x) (Err (stop.Fault f)) old new cs ds h = absurd h
-received_shape (Err f) (Err (stop.Fault g)) old new cs ds h = frames_same old new h.1
-received_shape (Err f) (Err stop.Memory) old new cs ds h = absurd h
-received_shape (Err f) (Ok u) old new cs ds h = absurd h
+pub taken_stays : (d : Result (Option Goes) Fault) (r : Result (Unit {0}) Stop) (old new : Contents) → TakesStatement d r old new → Stays old new
+taken_stays (Ok None) (Ok u) old new h = same_stays old new h
+taken_stays (Ok None) (Err s) old new h = absurd h
+taken_stays (Ok (Some g)) (Ok u) old new h = all_are old new (g ∷ []) h
+taken_stays (Ok (Some g)) (Err stop.Memory) old new h = same_stays old new h
+taken_stays (Ok (Some g)) (Err (stop.Fault f)) old new h = absurd h
+taken_stays (Err f) (Err (stop.Fault g)) old new h = same_stays old new h.1
+taken_stays (Err f) (Err stop.Memory) old new h = absurd h
+taken_stays (Err f) (Ok u) old new h = absurd h
 
-pub all_stored_shape : (d : Result (List Goes) Fault) (r : Result (Unit {0}) Stop) (old new : Contents) → StoresAll d r old new → shape new.frames ≡ shape old.frames
-all_stored_shape (Ok gs) (Ok u) old new h = ap (λ (c : Contents). shape c.frames) h ∙ all_shape old gs
-all_stored_shape (Ok gs) (Err stop.Memory) old new h = some_shape old new gs h
-all_stored_shape (Ok gs) (Err (stop.Fault f)) old new h = absurd h
-all_stored_shape (Err f) (Err (stop.Fault g)) old new h = frames_same old new h.1
-all_stored_shape (Err f) (Err stop.Memory) old new h = absurd h
-all_stored_shape (Err f) (Ok u) old new h = absurd h
+pub received_stays : (d : Result Received Fault) (r : Result (Unit {0}) Stop) (old new : Contents) (cs ds : List LiveChannel) → ReceivesMessage d r old new cs ds → Stays old new
+received_stays (Ok x) (Ok u) old new cs ds h = all_are old new x.numbers h.0
+received_stays (Ok x) (Err stop.Memory) old new cs ds h = all_are old new h.0.before h.0.stands
+received_stays (Ok x) (Err (stop.Fault f)) old new cs ds h = absurd h
+received_stays (Err f) (Err (stop.Fault g)) old new cs ds h = same_stays old new h.1
+received_stays (Err f) (Err stop.Memory) old new cs ds h = absurd h
+received_stays (Err f) (Ok u) old new cs ds h = absurd h
+
+pub all_stored_stays : (d : Result (List Goes) Fault) (r : Result (Unit {0}) Stop) (old new : Contents) → StoresAll d r old new → Stays old new
+all_stored_stays (Ok gs) (Ok u) old new h = all_are old new gs h
+all_stored_stays (Ok gs) (Err stop.Memory) old new h = all_are old new h.before h.stands
+all_stored_stays (Ok gs) (Err (stop.Fault f)) old new h = absurd h
+all_stored_stays (Err f) (Err (stop.Fault g)) old new h = same_stays old new h.1
+all_stored_stays (Err f) (Err stop.Memory) old new h = absurd h
+all_stored_stays (Err f) (Ok u) old new h = absurd h
 
 -- ---- the state
 
@@ -147,33 +166,67 @@ leads_quiet (Err f) (Err (stop.Fault g)) new text h = h
 leads_quiet (Err f) (Err stop.Memory) new text h = tt
 leads_quiet (Err f) (Ok u) new text h = absurd h
 
--- ---- as many channels as before
+-- ---- as many channels as before, with as much room
 
-changed_length : (n : ℕ) (f : ChannelState → ChannelState) (cs : List LiveChannel) → length (changed n f cs) ≡ length cs
-changed_length n f [] = refl
-changed_length zero f (o ∷ os) = refl
-changed_length (suc n) f (o ∷ os) = ap suc (changed_length n f os)
+abbrev KeepsRoom : (ChannelState → ChannelState) → Type 0
+KeepsRoom f = (c : ChannelState) → (f c).capacity * length (f c).types ≡ c.capacity * length c.types
+
+changed_rooms : (n : ℕ) (f : ChannelState → ChannelState) (cs : List LiveChannel) → KeepsRoom f → map room (changed n f cs) ≡ map room cs
+changed_rooms n f [] k = refl
+changed_rooms zero f (o ∷ os) k = ap (λ (m : ℕ). m ∷ map room os) (k o.channel)
+changed_rooms (suc n) f (o ∷ os) k = ap (λ (ms : List ℕ). room o ∷ ms) (changed_rooms n f os k)
+
+message_keeps_room : (order : SendOrder) (fields : List ℤ) → KeepsRoom (with_message order fields)
+message_keeps_room order fields c = by (nat_lt (length c.messages) c.capacity)
+  where
+    more : ChannelState
+    more = record c { messages = ordered order (cut c.types fields) c.messages }
+
+    by : (t : Bool) → (let x : ChannelState = if t then more else c in x.capacity * length x.types) ≡ c.capacity * length c.types
+    by true = refl
+    by false = refl
+
+without_keeps_room : (how : Removal) (n : ℕ) → KeepsRoom (without how n)
+without_keeps_room removal.Remove n c = refl
+without_keeps_room removal.Keep n c = refl
+
+as_many : (cs ds : List LiveChannel) → map room ds ≡ map room cs → length ds ≡ length cs
+as_many cs ds e = sym (length-map ds room) ∙ ap length e ∙ length-map cs room
+
+sent_rooms : (x : Result (ℕ × List ℤ) Fault) (order : SendOrder) (r : Result (Unit {0}) Stop) (cs ds : List LiveChannel) → SendsMessage (x >>= λ m. Ok (changed m.0 (with_message order m.1) cs)) r cs ds → map room ds ≡ map room cs
+sent_rooms (Ok m) order (Ok u) cs ds h = ap (map room) h ∙ changed_rooms m.0 (with_message order m.1) cs (message_keeps_room order m.1)
+sent_rooms (Ok m) order (Err stop.Memory) cs ds h = ap (map room) h
+sent_rooms (Ok m) order (Err (stop.Fault f)) cs ds h = absurd h
+sent_rooms (Err f) order (Ok u) cs ds h = absurd h
+sent_rooms (Err f) order (Err stop.Memory) cs ds h = absurd h
+sent_rooms (Err f) order (Err (stop.Fault g)) cs ds h = ap (map room) h.1
 
 sent_length : (x : Result (ℕ × List ℤ) Fault) (order : SendOrder) (r : Result (Unit {0}) Stop) (cs ds : List LiveChannel) → SendsMessage (x >>= λ m. Ok (changed m.0 (with_message order m.1) cs)) r cs ds → length ds ≡ length cs
-sent_length (Ok m) order (Ok u) cs ds h = ap length h ∙ changed_length m.0 (with_message order m.1) cs
-sent_length (Ok m) order (Err stop.Memory) cs ds h = ap length h
-sent_length (Ok m) order (Err (stop.Fault f)) cs ds h = absurd h
-sent_length (Err f) order (Ok u) cs ds h = absurd h
-sent_length (Err f) order (Err stop.Memory) cs ds h = absurd h
-sent_length (Err f) order (Err (stop.Fault g)) cs ds h = ap length h.1
+sent_length x order r cs ds h = as_many cs ds (sent_rooms x order r cs ds h)
 
-taken_length : (cs : List LiveChannel) (n : ℕ) (how : Removal) (ws : List Sought) (m : Option ℕ) → length (taken_from cs n how ws m).live ≡ length cs
-taken_length cs n how ws None = refl
-taken_length cs n how ws (Some m) = changed_length n (without how m) cs
+taken_rooms : (cs : List LiveChannel) (n : ℕ) (how : Removal) (ws : List Sought) (m : Option ℕ) → map room (taken_from cs n how ws m).live ≡ map room cs
+taken_rooms cs n how ws None = refl
+taken_rooms cs n how ws (Some m) = changed_rooms n (without how m) cs (without_keeps_room how m)
+
+received_rooms : (x : Result (ℕ × List Sought) Fault) (search : Search) (how : Removal) (r : Result (Unit {0}) Stop) (old new : Contents) (cs ds : List LiveChannel) →
+    ReceivesMessage (x >>= λ y. Ok (taken_from cs y.0 how y.1 (found search y.1 (contents_at cs y.0).messages))) r old new cs ds → map room ds ≡ map room cs
+received_rooms (Ok x) search how (Ok u) old new cs ds h = ap (map room) h.1 ∙ taken_rooms cs x.0 how x.1 (found search x.1 (contents_at cs x.0).messages)
+received_rooms (Ok x) search how (Err stop.Memory) old new cs ds h = ap (map room) h.1
+received_rooms (Ok x) search how (Err (stop.Fault f)) old new cs ds h = absurd h
+received_rooms (Err f) search how (Ok u) old new cs ds h = absurd h
+received_rooms (Err f) search how (Err stop.Memory) old new cs ds h = absurd h
+received_rooms (Err f) search how (Err (stop.Fault g)) old new cs ds h = ap (map room) h.2
 
 received_length : (x : Result (ℕ × List Sought) Fault) (search : Search) (how : Removal) (r : Result (Unit {0}) Stop) (old new : Contents) (cs ds : List LiveChannel) →
     ReceivesMessage (x >>= λ y. Ok (taken_from cs y.0 how y.1 (found search y.1 (contents_at cs y.0).messages))) r old new cs ds → length ds ≡ length cs
-received_length (Ok x) search how (Ok u) old new cs ds h = ap length h.1 ∙ taken_length cs x.0 how x.1 (found search x.1 (contents_at cs x.0).messages)
-received_length (Ok x) search how (Err stop.Memory) old new cs ds h = ap length h.1
-received_length (Ok x) search how (Err (stop.Fault f)) old new cs ds h = absurd h
-received_length (Err f) search how (Ok u) old new cs ds h = absurd h
-received_length (Err f) search how (Err stop.Memory) old new cs ds h = absurd h
-received_length (Err f) search how (Err (stop.Fault g)) old new cs ds h = ap length h.2
+received_length x search how r old new cs ds h = as_many cs ds (received_rooms x search how r old new cs ds h)
+
+-- with as much room, no more than the model says
+same_bounded : (p : Program) (cs ds : List LiveChannel) → AreBounded p cs → map room ds ≡ map room cs → AreBounded p ds
+same_bounded p cs ds b e = record {
+  few = omega (arith, b.few, as_many cs ds e);
+  small = subst (AllByRecursion (λ n. n ≤ most_room p)) (sym e) b.small;
+}
 
 -- a slice that was lent and has as many is the whole
 kept_whole : {A : Type 0} (n : ℕ) (xs ys : List A) → n ≡ length ys → length xs ≡ length ys → take n (xs ++ drop (length xs) ys) ≡ xs
@@ -208,3 +261,22 @@ module _ (p : Program) (store : Contents) (cs : List LiveChannel) (xs : List Sea
       let whole = kept_whole n es cs count_is (received_length (asked_at cs (reads before process timeout) target wants) search removal r store new cs es two) in
       received_leads p cs (take n (es ++ drop (length es) cs)) xs holder store new (received cs (reads before process timeout) target search removal wants) r
       (subst (λ (l : List LiveChannel). ReceivesMessage (received cs (reads before process timeout) target search removal wants) r store new cs l) (sym whole) two)
+
+-- no channel has more room after a send or a receive
+module _ (p : Program) (cs ds es : List LiveChannel) (n : ℕ) (count_is : n ≡ length cs) (same : ds ≡ cs) (b : AreBounded p cs) where
+  abbrev back : List LiveChannel
+  back = take n (es ++ drop (length es) cs)
+
+  whole_bounded : map room es ≡ map room cs → AreBounded p back
+  whole_bounded e = subst (AreBounded p) (sym (kept_whole n es cs count_is (as_many cs es e))) (same_bounded p cs es b e)
+
+  pub sent_bounded : (g : Reading) (target : Target) (order : SendOrder) (fields : List Expr) (r : Result (Unit {0}) Stop) → SendsMessage (sent ds g target order fields) r ds es → AreBounded p back
+  sent_bounded g target order fields r h =
+      let one : SendsMessage (sent cs g target order fields) r cs es = subst (λ (l : List LiveChannel). SendsMessage (sent l g target order fields) r l es) same h in
+      whole_bounded (sent_rooms (addressed cs g target fields) order r cs es one)
+
+  pub received_bounded : (g : Reading) (old new : Contents) (target : Target) (search : Search) (removal : Removal) (wants : List Want) (r : Result (Unit {0}) Stop) →
+      ReceivesMessage (received ds g target search removal wants) r old new ds es → AreBounded p back
+  received_bounded g old new target search removal wants r h =
+      let one : ReceivesMessage (received cs g target search removal wants) r old new cs es = subst (λ (l : List LiveChannel). ReceivesMessage (received l g target search removal wants) r old new l es) same h in
+      whole_bounded (received_rooms (asked_at cs g target wants) search removal r old new cs es one)

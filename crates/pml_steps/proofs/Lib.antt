@@ -7,3 +7,4 @@ pub mod Passing
 pub mod Inward
 pub mod Taking
 pub mod Keeping
+pub mod Counting

@@ -9,6 +9,7 @@ use Rattle.pml_flow.specs.Flow.{Graph, AreGraphs}
 use Rattle.pml_store.specs.Store.{Contents}
 use Rattle.pml_value.specs.declared.live_channel.LiveChannel.{LiveChannel}
 use Rattle.pml_start.specs.Begin.{Begun, held}
+use Rattle.pml_start.specs.Bound.{IsBounded}
 use Rattle.pml_start.specs.Start.{IsDeclared}
 use Rattle.pml_moves.specs.declared.scene.Seat.{Seat}
 use Rattle.pml_moves.specs.State.{Stand, State, body_of}
@@ -19,13 +20,14 @@ use Rattle.pml_steps.specs.Live.{Live}
 abbrev pub kinds_of : List Seat → List ℕ
 kinds_of xs = map (λ (x : Seat). x.kind) xs
 
--- each variable has the cells that it is declared with, and the tables are those of the program
+-- each variable has the cells that it is declared with, no more is kept than the model says, and the tables are those of the program
 pub record IsHeld (p : Program) (gs : List Graph) (ss : List (List (Option Stmt))) (ts : List Fields) (store : Contents) (channels : List LiveChannel) (kinds : List ℕ) (seats : List Seat) : Type 0 where
   pub declared : IsDeclared p (held store channels kinds)
   pub seated : kinds ≡ kinds_of seats
   pub graphs : AreGraphs p.proctypes gs
   pub statements : ss ≡ map (λ (q : Proctype). statements_of q.body) p.proctypes
   pub typedefs : ts ≡ p.typedefs
+  pub bounded : IsBounded p store channels
 
 abbrev pub live_of : Program → Contents → List LiveChannel → List Seat → Option ℕ → Live
 live_of p store channels seats holder = record {

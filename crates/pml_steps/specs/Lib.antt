@@ -2,6 +2,7 @@ pub mod Change
 pub mod Created
 pub mod Outcome
 pub mod Live
+pub mod Footprint
 pub mod Held
 pub mod Taking
 pub mod Arguments

@@ -3,7 +3,7 @@ use Rattle.std.specs.Prelude.{◌≡◌, ℕ, List, ◌++◌, ℤ, Result, Ok, E
 use Rattle.diagnostics.specs.declared.fault.Fault.{Fault}
 use Rattle.diagnostics.specs.declared.stop.Stop.{Stop}
 use Rattle.diagnostics.specs.declared.stop.Stop.TheVariants as stop
-use Rattle.pml_store.specs.Store.{Frame, Contents, before}
+use Rattle.pml_store.specs.Store.{Frame, Contents, undone}
 use Rattle.pml_value.specs.declared.statement.Goes.{Goes}
 use Rattle.pml_value.specs.Messages.{StoresSome, stored_all}
 use Rattle.pml_moves.specs.State.{Stand, State}
@@ -16,7 +16,7 @@ pub record Live : Type 0 where
 
 -- what the variables held when the step began, those of new processes behind
 abbrev pub past : Live → List Frame
-past l = before (record { frames = l.state.frames; written = l.written })
+past l = undone l.state.frames l.written
 
 -- no process comes, goes or moves, and the log leads back to what it led back to
 pub record Keeps (old new : Live) : Type 0 where

@@ -4,9 +4,10 @@ ghost use Rattle.std.specs.Prelude.{◌≡◌, ◌+◌, ◌<◌, ◌≤◌, List
 ghost use Rattle.std.specs.List.{filter};
 ghost use Rattle.pml_value.specs.declared.live_channel.LiveChannel.{LiveChannel};
 ghost use Rattle.std.specs.Option.{option_copied};
-ghost use Rattle.profile.specs.declared.TheConstants.{MOST_PROCESSES};
+ghost use Rattle.profile.specs.declared.TheConstants.{MOST_CHANNELS, MOST_PROCESSES};
 ghost use Rattle.pml_flow.specs.Flow.{AreGraphs};
 ghost use Rattle.pml_start.specs.Begin.{shown};
+ghost use Rattle.pml_start.specs.Bound.{bound, most_cells, IsBounded};
 ghost use Rattle.pml_start.specs.Start.{IsDeclared};
 ghost use Rattle.pml_moves.specs.Scene.{control_at, stand_of, state_of, statements_of, Fits};
 ghost use Rattle.pml_store.specs.Store.{Frame, size_at};
@@ -17,6 +18,7 @@ ghost use Rattle.pml_moves.specs.Search.{message};
 ghost use Rattle.pml_moves.specs.State.{reads};
 ghost use Rattle.pml_steps.specs.Change.{put_if, put_by, put_any, with_sent, with_received, go_to, without_youngest};
 ghost use Rattle.pml_steps.specs.Created.{kinds, there, with_new};
+ghost use Rattle.pml_steps.specs.Footprint.{all_room, held, message_numbers};
 ghost use Rattle.pml_steps.specs.Held.{kinds_of, begins_at, first_state};
 ghost use Rattle.pml_steps.specs.Live.{Leads, Keeps, Joins, PastGrows};
 ghost use Rattle.pml_steps.specs.Outcome.{body_by, passed};
@@ -138,6 +140,19 @@ fn keep_others(channels: &mut Vec<LiveChannel>, frame: usize)
     channels.retain(|live| live.frame != frame);
 }
 
+/// How many numbers the messages of channels have.
+fn message_numbers(channels: &[LiveChannel]) -> usize
+    requires { all_room channels.now ≤ 4294967295 }
+    ensures value { result ≡ message_numbers channels.now }
+    ensures few { result ≤ all_room channels.now }
+{
+    let mut count = 0;
+    for live in channels {
+        count += live.channel.numbers();
+    }
+    count
+}
+
 impl<'p, 'a> Live<'p, 'a> {
     /// The first state.
     pub fn first(
@@ -149,6 +164,7 @@ impl<'p, 'a> Live<'p, 'a> {
         requires declared { IsDeclared program.now (shown started) }
         requires graphs { AreGraphs program.now.proctypes graphs.now }
         requires fresh { started.store.written ≡ [] }
+        requires bounded { IsBounded program.now started.store started.channels.items }
         ensures { IfOk result (λ l. l ≡ record { state = first_state program.now (shown started); written = [] }) }
     {
         let Started {
@@ -236,7 +252,7 @@ impl<'p, 'a> Live<'p, 'a> {
 
     /// What the variables hold, and the log of what was written.
     pub fn variables(&self) -> &Store
-        ensures { result.now ≡ record { frames = self.now.state.frames; written = self.now.written } }
+        ensures { result.now ≡ record { frames = self.now.state.frames; written = self.now.written; most = most_cells self.now.state.program } }
     {
         &self.store
     }
@@ -256,6 +272,18 @@ impl<'p, 'a> Live<'p, 'a> {
         ensures frames { length self.now.state.frames ≡ result + 1 }
     {
         self.seats.len()
+    }
+
+    /// How much it keeps: the numbers in variables and messages, two for each process and two for each channel.
+    pub fn footprint(&self) -> usize
+        ensures value { result ≡ held self.now.state }
+        ensures bound { result ≤ bound self.now.state.program }
+        ensures processes { length self.now.state.stands ≤ MOST_PROCESSES }
+        ensures channels { length self.now.state.channels ≤ MOST_CHANNELS }
+    {
+        let cells = self.store.cells().len();
+        let numbers = message_numbers(self.channels.as_slice());
+        cells + numbers + 2 * self.seats.len() + 2 * self.channels.len()
     }
 
     /// What an expression of a process reads.

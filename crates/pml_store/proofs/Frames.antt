@@ -5,9 +5,9 @@ use Rattle.std.proofs.lemmas.List.Sums.{sum_by-cons}
 use Rattle.std.proofs.Math.Seq.{drop-append-add, take-append_seam}
 use Rattle.pml_store.specs.declared.store.Extent.{Extent}
 use Rattle.pml_store.specs.declared.store.FrameExtents.{FrameExtents}
-use Rattle.pml_store.specs.Store.{Frame, zeros, but_last}
-use Rattle.pml_store.specs.Laid.{cells_of, frame_of, frames_of, ExtentsLie, extents_end, FramesLie, frames_end, extents_of, IsLaid}
-use Rattle.pml_store.proofs.Places.{extents_on, frames_on}
+use Rattle.pml_store.specs.Store.{Frame, zeros, but_last, joined}
+use Rattle.pml_store.specs.Laid.{cells_of, frame_of, frames_of, ExtentsLie, extents_end, FramesLie, frames_end, extents_of, IsLaid, IsKept}
+use Rattle.pml_store.proofs.Places.{extents_on, frames_on, joined_is}
 
 both : {A : Type 0} (x y : A) (xs ys : List A) → x ≡ y → xs ≡ ys → x ∷ xs ≡ y ∷ ys
 both x y xs ys e f = ap (λ z. z ∷ xs) e ∙ ap (λ zs. y ∷ zs) f
@@ -112,3 +112,19 @@ pub grown : (cells : List ℤ) (n m k : ℕ) → m ≡ length cells → n ≡ m 
 grown cells n m k e f =
     let i : n - m ≡ k = omega arith in
     ap (λ (x : List ℤ). x ++ replicate (n - m) (pos 0)) (take_all n cells (omega arith)) ∙ ap (λ (j : ℕ). cells ++ replicate j (pos 0)) i
+
+-- ---- no more than there may be
+
+-- so many cells are there
+count_is : (os : List FrameExtents) (cells : List ℤ) (most : ℕ) → IsKept os cells most → length (joined (frames_of os cells)) ≡ length cells
+count_is os cells most h = ap length (joined_is os cells h.laid)
+
+pub kept_push : (os : List FrameExtents) (cells : List ℤ) (ns : List ℕ) (most : ℕ) → IsKept os cells most → length (joined (frames_of os cells)) + sum ns ≤ most →
+    IsKept (os ++ record { base = length cells; extents = extents_of (length cells) ns } ∷ []) (cells ++ replicate (sum ns) (pos 0)) most
+kept_push os cells ns most h room =
+    let a = length-append cells (replicate (sum ns) (pos 0)) in
+    let r = length-replicate (sum ns) (pos 0) in
+    record { laid = IsLaid-push os cells ns h.laid; few = omega (arith, a, r, room, count_is os cells most h) }
+
+pub room_left : (os : List FrameExtents) (cells : List ℤ) (ns : List ℕ) (most base : ℕ) → IsKept os cells most → length (joined (frames_of os cells)) + sum ns ≤ most → base ≡ length cells → most ≤ 4294967295 → base + sum ns ≤ 4294967295
+room_left os cells ns most base h room b fits = omega (arith, room, b, fits, count_is os cells most h)

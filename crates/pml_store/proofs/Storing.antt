@@ -80,8 +80,10 @@ frames_of-set os cells p x h there =
     ∙ ap (λ (c : Cells). set (frames_of os cells) p.frame (set (frame_at (frames_of os cells) p.frame) p.variable (set c p.cell x))) (sym (cells_is os cells p))
 
 -- the contents by their parts
-pub contents_is : (a b : List Frame) (w v : List (ℕ × ℤ)) → a ≡ b → w ≡ v → ◌≡◌ {A = Contents} (record { frames = a; written = w }) (record { frames = b; written = v })
-contents_is a b w v e f = ap (λ (x : List Frame). let r : Contents = record { frames = x; written = w } in r) e ∙ ap (λ (x : List (ℕ × ℤ)). let r : Contents = record { frames = b; written = x } in r) f
+pub contents_is : (a b : List Frame) (w v : List (ℕ × ℤ)) (most : ℕ) → a ≡ b → w ≡ v → ◌≡◌ {A = Contents} (record { frames = a; written = w; most = most }) (record { frames = b; written = v; most = most })
+contents_is a b w v most e f =
+    ap (λ (x : List Frame). let r : Contents = record { frames = x; written = w; most = most } in r) e
+    ∙ ap (λ (x : List (ℕ × ℤ)). let r : Contents = record { frames = b; written = x; most = most } in r) f
 
 pub noted : (ws : List (ℕ × ℤ)) (i j : ℕ) (x y : ℤ) → i ≡ j → x ≡ y → ws ++ (i, x) ∷ [] ≡ ws ++ (j, y) ∷ []
 noted ws i j x y e f = ap (λ (n : ℕ). ws ++ (n, x) ∷ []) e ∙ ap (λ (n : ℤ). ws ++ (j, n) ∷ []) f

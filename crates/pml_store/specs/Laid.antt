@@ -1,5 +1,5 @@
 -- How the numbers lie in one vector.
-use Rattle.std.specs.Prelude.{◌≡◌, ℕ, ◌+◌, List, [], ◌∷◌, length, take, drop, ℤ, map, slice_index_or}
+use Rattle.std.specs.Prelude.{◌≡◌, ℕ, ◌+◌, ◌≤◌, List, [], ◌∷◌, length, take, drop, ℤ, map, slice_index_or}
 use Rattle.pml_store.specs.declared.store.Extent.{Extent}
 use Rattle.pml_store.specs.declared.store.FrameExtents.{FrameExtents}
 use Rattle.pml_store.specs.Store.{Cells, Frame}
@@ -51,3 +51,8 @@ extents_of at (n ∷ ns) = record { start = at; size = n } ∷ extents_of (at + 
 pub record IsLaid (frames : List FrameExtents) (cells : List ℤ) : Type 0 where
   pub lie : FramesLie frames 0
   pub cover : frames_end frames 0 ≡ length cells
+
+-- and they are no more than there may be
+pub record IsKept (frames : List FrameExtents) (cells : List ℤ) (most : ℕ) : Type 0 where
+  pub laid : IsLaid frames cells
+  pub few : length cells ≤ most

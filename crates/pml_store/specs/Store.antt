@@ -9,10 +9,11 @@ Cells = List ℤ
 abbrev pub Frame : Type 0
 Frame = List Cells
 
--- the cells that were stored are known by their index, with the number before
+-- the cells that were stored are known by their index, with the number before; and how many cells there may be at most
 pub record Contents : Type 0 where
   pub frames : List Frame
   pub written : List (ℕ × ℤ)
+  pub most : ℕ
 
 abbrev pub frame_at : List Frame → ℕ → Frame
 frame_at frames frame = slice_index_or frames frame []

@@ -1,6 +1,6 @@
 //! A store is a map from places to numbers, and its log leads back.
 
-ghost use Rattle.std.specs.Prelude.{◌≡◌, ◌<◌, List, [], map, length};
+ghost use Rattle.std.specs.Prelude.{◌≡◌, ◌<◌, ℕ, List, [], map, length};
 ghost use Rattle.pml_store.specs.declared.place.Place.{Place};
 ghost use Rattle.pml_store.specs.Store.{Frame, Contents, HasPlace, size_at, before, OnePlaceChanges, LeadsBack};
 
@@ -17,6 +17,6 @@ pub fn has_place()
 /// The log leads back to the numbers before it.
 pub fn leads_back()
     ensures set { LeadsBack }
-    ensures forgotten { (frames : List Frame) → before (record { frames = frames; written = [] }) ≡ frames }
+    ensures forgotten { (frames : List Frame) (most : ℕ) → before (record { frames = frames; written = []; most = most }) ≡ frames }
     ensures shape { (now : Contents) → map (map length) (before now) ≡ map (map length) now.frames }
 {}

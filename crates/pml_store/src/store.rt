@@ -1,6 +1,6 @@
 //! All numbers in one vector, the youngest frame last.
 
-ghost use Rattle.std.specs.Prelude.{◌≡◌, ◌+◌, ◌<◌, ◌++◌, ◌∷◌, [], length, OnOk, OnErr, IfOk, sum, slice_index_or, pos};
+ghost use Rattle.std.specs.Prelude.{◌≡◌, ◌+◌, ◌<◌, ◌≤◌, ◌++◌, ◌∷◌, [], length, OnOk, OnErr, IfOk, sum, slice_index_or, pos};
 ghost use Rattle.pml_store.specs.Store.{HasPlace, number_at, index_of, size_at, stored, before, zeros, joined, but_last};
 ghost use Rattle.pml_store.specs.Laid.{nowhere, extent_of, extents_of};
 
@@ -23,34 +23,36 @@ pub struct FrameExtents {
     extents: Items<Extent>,
 }
 
-/// The numbers of variables.
+/// The numbers of variables, never more than `most`.
 #[derive(Drop)]
 pub struct Store {
     frames: Vec<FrameExtents>,
     cells: Vec<i32>,
-    written: Vec<(usize, i32)>,
+    written: Vec<(u32, i32)>,
+    most: u32,
 }
 
 impl Model for Store {
     ghost use Rattle.pml_store.specs.Store.{Contents};
-    ghost use Rattle.pml_store.specs.Laid.{frames_of, IsLaid};
+    ghost use Rattle.pml_store.specs.Laid.{frames_of, IsKept};
 
     ghost Value = { Contents };
 
-    ghost view = { λ s. record { frames = frames_of s.frames.items s.cells.items; written = s.written.items } };
+    ghost view = { λ s. record { frames = frames_of s.frames.items s.cells.items; written = s.written.items; most = s.most } };
 
-    ghost invariant = { λ s. IsLaid s.frames.items s.cells.items };
+    ghost invariant = { λ s. IsKept s.frames.items s.cells.items s.most };
 }
 
 impl Store {
-    /// No places.
-    pub fn new(alloc: Global) -> Store
-        ensures { result ≡ record { frames = []; written = [] } }
+    /// No places, and never more than `most` of them.
+    pub fn new(alloc: Global, most: u32) -> Store
+        ensures { result ≡ record { frames = []; written = []; most = most } }
     {
         Store {
             frames: Vec::new(alloc),
             cells: Vec::new(alloc),
             written: Vec::new(alloc),
+            most,
         }
     }
 
@@ -89,14 +91,14 @@ impl Store {
     {
         let at = self.index(place);
         let before = self.cells[at];
-        self.written.push((at, before))?;
+        self.written.push((at as u32, before))?;
         self.cells[at] = number;
         Ok(())
     }
 
-    /// Adds a frame with variables of these sizes, each cell 0. Want of memory changes nothing; no memory has more cells than
-    /// a `usize` counts.
+    /// Adds a frame with variables of these sizes, each cell 0. Want of memory changes nothing.
     pub fn push_frame(&mut self, sizes: &[usize]) -> Result<(), AllocError>
+        requires { length (joined self.old.frames) + sum sizes.now ≤ self.old.most }
         ensures ok { OnOk result (self.new ≡ record self.old { frames = self.old.frames ++ zeros sizes.now ∷ [] }) }
         ensures err { OnErr result (self.new ≡ self.old) }
     {
@@ -125,13 +127,14 @@ impl Store {
 
     /// The numbers, frame by frame, each variable's cells in order.
     pub fn cells(&self) -> &Vec<i32>
-        ensures { result.now.items ≡ joined self.now.frames }
+        ensures value { result.now.items ≡ joined self.now.frames }
+        ensures few { length (joined self.now.frames) ≤ self.now.most }
     {
         &self.cells
     }
 
     /// The cells that were stored since `forget`, by index, with their numbers before.
-    pub fn written(&self) -> &[(usize, i32)]
+    pub fn written(&self) -> &[(u32, i32)]
         ensures { result.now ≡ self.now.written }
     {
         self.written.as_slice()
@@ -171,6 +174,7 @@ fn extents_from(
     base: usize,
     sizes: &[usize],
 ) -> Result<(Items<Extent>, usize), AllocError>
+    requires { base + sum sizes.now ≤ 4294967295 }
     ensures { IfOk result (λ r. (r.0 ≡ extents_of base sizes.now) × (r.1 ≡ base + sum sizes.now)) }
 {
     let mut at = base;
@@ -180,7 +184,7 @@ fn extents_from(
             start: at,
             size: *size,
         })?;
-        at = at.checked_add(*size).ok_or(AllocError)?;
+        at += *size;
     }
     Ok((extents, at))
 }

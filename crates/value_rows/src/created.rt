@@ -5,6 +5,7 @@ use pml_program::expr::Expr;
 use pml_program::form::Form;
 use pml_program::program::{Fields, Initial, Slot};
 use pml_start::Beginnings;
+use pml_start::bound::cells_of;
 use pml_start::create::create;
 use pml_start::started::Started;
 use pml_store::store::Store;
@@ -21,7 +22,8 @@ pub fn created(
     arguments: &[i32],
 ) -> Result<(Started, Result<(), Stop>), AllocError> {
     let beginnings = Beginnings::new(alloc, typedefs)?;
-    let mut store = Store::new(alloc);
+    let cells = cells_of(variables).ok_or(AllocError)?;
+    let mut store = Store::new(alloc, cells.checked_add(1).ok_or(AllocError)?);
     store.push_frame(&[1])?;
     let mut channels = Vec::new(alloc);
     let mut kinds = Vec::new(alloc);

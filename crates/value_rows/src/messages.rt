@@ -37,7 +37,7 @@ pub fn variable(alloc: Global, variable: usize, word: Scalar) -> Target {
 
 /// The global `q` holds 1, the number of the only channel; behind it are `x`, `i` and `a[2]`.
 pub fn globals(alloc: Global) -> Result<Store, AllocError> {
-    let mut store = Store::new(alloc);
+    let mut store = Store::new(alloc, 5);
     store.push_frame(&[1, 1, 1, 2])?;
     let number = Place {
         frame: 0,

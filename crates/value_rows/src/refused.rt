@@ -1,4 +1,6 @@
 //! Growths that may be refused: each test passes with memory enough, and where any one growth of it is refused.
+ghost use Rattle.std.specs.Prelude.{◌≡◌};
+
 use crate::beginnings::program;
 use crate::channels::of_three;
 use crate::created::{created, variables};
@@ -29,8 +31,14 @@ const NUMBER: Place = Place {
 };
 
 /// A frame is added with its cells, or none of them is.
-fn adds_a_frame<R: Abort>(rt: &R, store: &mut Store) {
+fn adds_a_frame<R: Abort>(rt: &R, store: &mut Store)
+    requires { store.old.most ≡ 27 }
+    ensures { store.new.most ≡ 27 }
+{
     let before = store.cells().len();
+    if before > 24 {
+        return;
+    }
     let added = store.push_frame(&[2, 1]).is_ok();
     assert_eq!(rt;
         store.cells().len(),
@@ -45,7 +53,7 @@ fn adds_a_frame<R: Abort>(rt: &R, store: &mut Store) {
 
 #[test]
 fn frames(rt: HostRuntime) {
-    let mut store = Store::new(rt.alloc());
+    let mut store = Store::new(rt.alloc(), 27);
     for _frame in 0..9u8 {
         adds_a_frame(&rt, &mut store);
     }
@@ -69,7 +77,7 @@ fn stores<R: Abort>(rt: &R, store: &mut Store, number: i32, held: i32) -> i32 {
 
 #[test]
 fn numbers(rt: HostRuntime) {
-    let mut store = Store::new(rt.alloc());
+    let mut store = Store::new(rt.alloc(), 1);
     if store.push_frame(&[1]).is_ok() {
         let mut held = 0;
         for number in 1..20i32 {
@@ -137,7 +145,7 @@ fn takes<R: Abort>(rt: &R, store: &mut Store, action: &Action<'_>, held: i32) ->
 
 #[test]
 fn statements(rt: HostRuntime) {
-    let mut store = Store::new(rt.alloc());
+    let mut store = Store::new(rt.alloc(), 1);
     if store.push_frame(&[1]).is_ok() {
         let action = counted(rt.alloc());
         let mut held = 0;

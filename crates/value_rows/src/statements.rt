@@ -25,7 +25,7 @@ fn quotient(alloc: Global) -> Result<Expr, AllocError> {
 #[test]
 fn faults(rt: HostRuntime) -> Result<(), Fail> {
     let alloc = rt.alloc();
-    let mut store = Store::new(alloc);
+    let mut store = Store::new(alloc, 0);
     let action = Action::Holds(quotient(alloc)?);
     let view = View {
         store: &store,
@@ -74,7 +74,7 @@ fn element(alloc: Global, local: bool, variable: usize, index: i32) -> Result<Ta
 #[test]
 fn assignments(rt: HostRuntime) -> Result<(), Fail> {
     let alloc = rt.alloc();
-    let mut store = Store::new(alloc);
+    let mut store = Store::new(alloc, 5);
     store.push_frame(&[1])?;
     store.push_frame(&[])?;
     store.push_frame(&[1, 3])?;
@@ -127,7 +127,7 @@ fn worth(value: &Expr, store: &Store, channel: Channel) -> Result<i32, Fault> {
 #[test]
 fn polls(rt: HostRuntime) -> Result<(), Fail> {
     let alloc = rt.alloc();
-    let mut store = Store::new(alloc);
+    let mut store = Store::new(alloc, 1);
     store.push_frame(&[1])?;
     let first = Action::Increment(element(alloc, false, 0, 0)?);
     assert_eq!(rt; take(&mut store, &[], 0, 1, false, &first), Ok(()));

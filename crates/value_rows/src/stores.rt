@@ -6,7 +6,7 @@ use std::test::Fail;
 /// Globals of two cells and one, and a process of one variable of two cells.
 #[test]
 fn frames_come_and_go(rt: HostRuntime) -> Result<(), Fail> {
-    let mut store = Store::new(rt.alloc());
+    let mut store = Store::new(rt.alloc(), 5);
     store.push_frame(&[2, 1])?;
     let global = Place {
         frame: 0,

@@ -24,7 +24,7 @@ pub returns-clause-added : goal.returns-clause-added
 returns-clause-added c = λ a.
     let f = line_at c.args.tables.now (owners c.args.tables.now c.args.wanted.globals c.args.wanted.locals c.args.kinds.now) in
     let now = c.args.store.now in
-    let cells : c.as_slice.result.now ≡ joined now.frames = c.as_slice.ensures.value ∙ c.cells.ensures in
+    let cells : c.as_slice.result.now ≡ joined now.frames = c.as_slice.ensures.value ∙ c.cells.ensures.value in
     let writes : c.in_ok-writes.writes.entries ≡ oldest now.written = c.in_ok-writes.ensures ∙ ap oldest c.written.ensures in
     subst (λ (l : List ℕ). OnOk c.lines_of_writes.result (c.lines_of_writes.new.text.items ≡ c.args.text.now.items ++ l))
     (ap (λ (xs : List ℤ). write_lines f xs c.in_ok-writes.writes.entries) cells ∙ ap (λ (ws : List (ℕ × ℤ)). write_lines f (joined now.frames) ws) writes

@@ -5,6 +5,7 @@ use Rattle.pml_cells.specs.Cells.{size}
 use Rattle.pml_start.specs.Begin.{shown, shape}
 use Rattle.pml_start.specs.Start.{variables_at}
 use Rattle.pml_start.proofs.Shapes.{OnOk-then}
+use Rattle.pml_start.proofs.Bounding.{room_for}
 use Rattle.pml_start.proofs.Declaring.{declared_next, variables_at_is}
 use Rattle.pml_start.proofs.start.begin_process.Goals as goal
 
@@ -18,3 +19,11 @@ returns-clause-declared c =
     OnOk-then c.begin_frame.result
     (λ e. declared_next c.args.program.now (shown c.args.started.now) (shown c.begin_frame.new.started) c.args.kind c.requires.declared few c.requires.there (e ∙ ap (λ (x : List Slot). shape c.args.started.now.store.frames ++ map size x ∷ []) v) k)
     c.begin_frame.ensures.sizes
+
+pub begin_frame-requires-clause-room : goal.begin_frame-requires-clause-room
+begin_frame-requires-clause-room c =
+    let is = rw c.as_slice.ensures at c.index-as_slice-kind.is in
+    let v : c.as_slice-variables.result.now ≡ variables_at c.args.program.now c.args.kind =
+    c.as_slice-variables.ensures ∙ ap (λ (x : Proctype). x.variables) (sym c.index-as_slice-kind.is) ∙ sym (variables_at_is c.args.program.now c.args.kind c.index-as_slice-kind.result c.requires.there is) in
+    let few : length c.args.started.now.kinds.items < 255 = search rules in
+    rw v (room_for c.args.program.now (shown c.args.started.now) c.args.kind _ c.requires.declared few c.requires.most)

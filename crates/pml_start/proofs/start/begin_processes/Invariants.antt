@@ -1,5 +1,6 @@
 use Rattle.std.proofs.Common.{◌≡◌, ◌-◌}
 use Rattle.pml_start.specs.Begin.{shown}
+use Rattle.pml_start.specs.Bound.{most_cells}
 use Rattle.pml_start.specs.Start.{IsDeclared, kind_begun}
 use Rattle.pml_start.proofs.start.begin_processes.Given as goal
 
@@ -8,4 +9,5 @@ abbrev pub invariant-loop-start : goal.invariant-loop-start
 invariant-loop-start l = record {
   same : kind_begun l.program l.kind (l.starts - l._start) (shown l.started) ≡ kind_begun l.program l.kind l.starts (shown l.initial.started);
   declared : IsDeclared l.program (shown l.started);
+  most : l.started.store.most ≡ most_cells l.program;
 }

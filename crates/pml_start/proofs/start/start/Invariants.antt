@@ -1,5 +1,6 @@
 use Rattle.std.proofs.Common.{◌≡◌, drop}
 use Rattle.pml_start.specs.Begin.{shown}
+use Rattle.pml_start.specs.Bound.{most_cells}
 use Rattle.pml_start.specs.Start.{IsDeclared, first_state, kinds_begun}
 use Rattle.pml_start.proofs.start.start.Given as goal
 
@@ -8,4 +9,5 @@ abbrev pub invariant-loop-kind : goal.invariant-loop-kind
 invariant-loop-kind l = record {
   same : kinds_begun l.program l.kind (drop l.kind l.program.proctypes) (shown l.started) ≡ first_state l.program;
   declared : IsDeclared l.program (shown l.started);
+  most : l.started.store.most ≡ most_cells l.program;
 }

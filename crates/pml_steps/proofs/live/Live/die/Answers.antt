@@ -1,10 +1,11 @@
-use Rattle.std.proofs.Common.{rules, ◌≡◌, ◌+◌, ◌-◌, ◌<◌, ◌∙◌, ap, sym, length, List, map, take, arith, ℕ}
+use Rattle.std.proofs.Common.{rules, ◌≡◌, ◌+◌, ◌-◌, ◌<◌, ◌∙◌, ap, sym, length, map, take, arith, ℕ}
 use Rattle.std.proofs.lemmas.List.{length-map}
+use Rattle.pml_store.specs.Store.{Contents}
 use Rattle.pml_start.specs.Begin.{held}
 use Rattle.pml_start.proofs.Declaring.{frames_of_kinds}
 use Rattle.pml_moves.specs.declared.scene.Seat.{Seat}
 use Rattle.pml_moves.specs.Scene.{stand_of}
-use Rattle.pml_steps.proofs.Dying.{map-take, declared_less, live_died}
+use Rattle.pml_steps.proofs.Dying.{map-take, declared_less, bounded_left, live_died}
 use Rattle.pml_steps.proofs.live.Live.die.Goals as goal
 
 pub pop_frame-requires : goal.pop_frame-requires
@@ -34,6 +35,11 @@ invariant_of-self c =
       graphs = c.self.invariant.graphs;
       statements = c.self.invariant.statements;
       typedefs = c.self.invariant.typedefs;
+      bounded = record {
+        counted = c.self.invariant.bounded.counted;
+        most = ap (λ (s : Contents). s.most) c.pop_frame.ensures ∙ c.self.invariant.bounded.most;
+        live = bounded_left c.self.inside.program.now _ c.self.inside.channels.items c.keep_others.new.channels.items c.self.invariant.bounded.live c.keep_others.ensures;
+      };
     }
 
 pub returns : goal.returns

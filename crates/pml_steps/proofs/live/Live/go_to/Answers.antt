@@ -1,4 +1,4 @@
-use Rattle.std.proofs.Common.{rules, ◌≡◌, ◌<◌, ◌∙◌, sym, length}
+use Rattle.std.proofs.Common.{rules, ◌<◌, ◌∙◌, sym, length}
 use Rattle.pml_steps.proofs.Going.{same_kinds, seat_gone}
 use Rattle.pml_steps.proofs.live.Live.go_to.Goals as goal
 
@@ -9,6 +9,7 @@ invariant_of-self c = record {
   graphs = c.self.invariant.graphs;
   statements = c.self.invariant.statements;
   typedefs = c.self.invariant.typedefs;
+  bounded = c.self.invariant.bounded;
 }
 
 pub returns-then-process-len : goal.returns-then-process-len

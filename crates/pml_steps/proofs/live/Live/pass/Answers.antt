@@ -1,11 +1,11 @@
 use Rattle.std.proofs.Common.{rules, ◌≡◌}
-use Rattle.pml_steps.proofs.Holding.{held_still, all_stored_shape, all_lead}
+use Rattle.pml_steps.proofs.Holding.{held_still, all_stored_stays, all_lead}
 use Rattle.pml_steps.proofs.live.Live.pass.Goals as goal
 
 pub invariant_of-self : goal.invariant_of-self
 invariant_of-self c =
     held_still c.self.inside.program.now c.self.inside.graphs.now c.self.inside.statements.items c.self.inside.beginnings c.self.inside.store c.pass.new.store c.self.inside.channels.items c.self.inside.channels.items
-    c.self.inside.kinds.items c.self.inside.seats.items c.self.invariant (all_stored_shape _ c.pass.result c.self.inside.store c.pass.new.store c.pass.ensures.value)
+    c.self.inside.kinds.items c.self.inside.seats.items c.self.invariant (all_stored_stays _ c.pass.result c.self.inside.store c.pass.new.store c.pass.ensures.value) c.self.invariant.bounded.live
 
 pub returns-clause-value : goal.returns-clause-value
 returns-clause-value c =

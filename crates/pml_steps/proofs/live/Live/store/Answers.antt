@@ -1,11 +1,11 @@
 use Rattle.std.proofs.Common.{rules, ◌≡◌}
-use Rattle.pml_steps.proofs.Holding.{held_still, taken_shape, taken_leads}
+use Rattle.pml_steps.proofs.Holding.{held_still, taken_stays, taken_leads}
 use Rattle.pml_steps.proofs.live.Live.store.Goals as goal
 
 pub invariant_of-self : goal.invariant_of-self
 invariant_of-self c =
     held_still c.self.inside.program.now c.self.inside.graphs.now c.self.inside.statements.items c.self.inside.beginnings c.self.inside.store c.take.new.store c.self.inside.channels.items c.self.inside.channels.items
-    c.self.inside.kinds.items c.self.inside.seats.items c.self.invariant (taken_shape _ c.take.result c.self.inside.store c.take.new.store c.take.ensures.value)
+    c.self.inside.kinds.items c.self.inside.seats.items c.self.invariant (taken_stays _ c.take.result c.self.inside.store c.take.new.store c.take.ensures.value) c.self.invariant.bounded.live
 
 pub returns-clause-value : goal.returns-clause-value
 returns-clause-value c =

@@ -6,13 +6,13 @@ use Rattle.pml_store.proofs.store.Store.get.Goals as goal
 
 pub index-requires-2 : goal.index-requires-2
 index-requires-2 c =
-    let j = joined_is _ _ c.self.invariant in
+    let j = joined_is _ _ c.self.invariant.laid in
     let w = rw (← c.self.view_is, j) at c.index.ensures.within in
     omega (arith, c.self.inside.cells.ok.0)
 
 pub returns : goal.returns
 returns c =
-    let j = joined_is _ _ c.self.invariant in
+    let j = joined_is _ _ c.self.invariant.laid in
     let k = rw (← c.self.view_is, j) at c.index.ensures.within in
     let w = rw (← c.self.view_is, j) at c.index.ensures.holds in
     let f : FitsSigned w32 c.index-2.result.now = search rules in

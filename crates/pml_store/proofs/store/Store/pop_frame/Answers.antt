@@ -1,4 +1,4 @@
-use Rattle.std.proofs.Common.{List, ◌∙◌, sym, ap, refl}
+use Rattle.std.proofs.Common.{arith, length-take, List, ◌∙◌, sym, ap, refl}
 use Rattle.pml_store.specs.declared.store.FrameExtents.{FrameExtents}
 use Rattle.pml_store.specs.Store.{but_last}
 use Rattle.pml_store.specs.Laid.{frames_of}
@@ -8,11 +8,11 @@ use Rattle.pml_store.proofs.store.Store.pop_frame.Goals as goal
 
 pub invariant_of-self : goal.invariant_of-self
 invariant_of-self c =
-    let laid = rw c.in-Some.ensures.items at c.self.invariant in
-    rw c.truncate.ensures.items (IsLaid-pop _ _ _ laid)
+    let laid = rw c.in-Some.ensures.items at c.self.invariant.laid in
+    rw c.truncate.ensures.items (record { laid = IsLaid-pop _ _ _ laid; few = omega (arith, c.self.invariant.few, length-take c.in-Some.frame.base c.self.inside.cells.items) })
 
 pub returns-in-Some : goal.returns-in-Some
 returns-in-Some c =
-    let laid = rw c.in-Some.ensures.items at c.self.invariant in
+    let laid = rw c.in-Some.ensures.items at c.self.invariant.laid in
     let frames = frames_of-pop _ _ _ laid ∙ ap (λ (os : List FrameExtents). but_last (frames_of os c.self.inside.cells.items)) (sym c.in-Some.ensures.items) in
-    rw (← c.self.view_is, c.truncate.ensures.items) (contents_is _ _ _ _ frames refl)
+    rw (← c.self.view_is, c.truncate.ensures.items) (contents_is _ _ _ _ _ frames refl)

@@ -1,7 +1,7 @@
 use Rattle.std.proofs.Common.{arith, ◌≡◌, ◌++◌, ◌∷◌, [], pos, sum, replicate, ◌∙◌, ap, refl, length}
 use Rattle.pml_store.specs.declared.store.FrameExtents.{FrameExtents}
 use Rattle.pml_store.specs.Laid.{extents_of}
-use Rattle.pml_store.proofs.Frames.{IsLaid-push, frames_of-push, frame_extents_is, grown}
+use Rattle.pml_store.proofs.Frames.{kept_push, room_left, frames_of-push, frame_extents_is, grown}
 use Rattle.pml_store.proofs.Storing.{contents_is}
 use Rattle.pml_store.proofs.store.Store.push_frame.Goals as goal
 use Rattle.pml_store.proofs.store.Store.push_frame.Goals.{In-Ok}
@@ -20,9 +20,13 @@ made c =
 pub returns-in-Ok-clause-ok : goal.returns-in-Ok-clause-ok
 returns-in-Ok-clause-ok c =
     let m = made (goal.at.returns-in-Ok-clause-ok c).In-Ok in
-    rw (← c.self.view_is, m.0, m.1) (contents_is _ _ _ _ (frames_of-push _ _ _ c.self.invariant) refl)
+    rw (← c.self.view_is, m.0, m.1) (contents_is _ _ _ _ _ (frames_of-push _ _ _ c.self.invariant.laid) refl)
 
 pub invariant_of-self-in-Ok : goal.invariant_of-self-in-Ok
 invariant_of-self-in-Ok c =
     let m = made (goal.at.invariant_of-self-in-Ok c).In-Ok in
-    rw (m.0, m.1) (IsLaid-push _ _ _ c.self.invariant)
+    rw (m.0, m.1) (kept_push _ _ c.args.sizes.now _ c.self.invariant (rw (← c.self.view_is) at c.requires))
+
+pub extents_from-requires : goal.extents_from-requires
+extents_from-requires c =
+    room_left _ _ c.args.sizes.now _ _ c.self.invariant (rw (← c.self.view_is) at c.requires) (c.len-base.ensures ∙ c.self.inside.cells.ok.0) (omega (arith, c.self.ranges))
