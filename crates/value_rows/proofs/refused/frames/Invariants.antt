@@ -3,4 +3,4 @@ use Rattle.value_rows.proofs.refused.frames.Given as goal
 
 -- there may be as many cells as at first
 abbrev pub invariant-loop-frame : goal.invariant-loop-frame
-invariant-loop-frame l = l.store.most ≡ 27
+invariant-loop-frame g l = l.store.most ≡ 27
