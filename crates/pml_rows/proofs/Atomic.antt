@@ -262,3 +262,52 @@ row-atomic-in-do : seen (options true true true 200) model-atomic-in-do (codes "
     [])) (codes "1\n1\n1\n") 0 6)
 unfolding computes model-atomic-in-do
 row-atomic-in-do = sees (options true true true 200) model-atomic-in-do (codes "1\n1\n1\n1\n1\n") _ refl
+
+-- -p
+-- byte x;
+-- active proctype A() { atomic { x = 1; timeout; x = 2 } }
+-- active proctype B() { x == 1; x = 3 }
+tokens-control-lent-before-timeout : List Word
+tokens-control-lent-before-timeout =
+    on 1 kind.Byte "byte" ∷ on 1 kind.Name "x" ∷ on 1 kind.Semicolon ";" ∷ on 2 kind.Active "active" ∷
+    on 2 kind.Proctype "proctype" ∷ on 2 kind.Name "A" ∷ on 2 kind.OpenParen "(" ∷ on 2 kind.CloseParen ")" ∷
+    on 2 kind.OpenBrace "{" ∷ on 2 kind.Atomic "atomic" ∷ on 2 kind.OpenBrace "{" ∷ on 2 kind.Name "x" ∷ on 2 kind.Assign "=" ∷
+    on 2 kind.Number "1" ∷ on 2 kind.Semicolon ";" ∷ on 2 kind.Timeout "timeout" ∷ on 2 kind.Semicolon ";" ∷ on 2 kind.Name "x" ∷
+    on 2 kind.Assign "=" ∷ on 2 kind.Number "2" ∷ on 2 kind.CloseBrace "}" ∷ on 2 kind.CloseBrace "}" ∷ on 3 kind.Active "active" ∷
+    on 3 kind.Proctype "proctype" ∷ on 3 kind.Name "B" ∷ on 3 kind.OpenParen "(" ∷ on 3 kind.CloseParen ")" ∷
+    on 3 kind.OpenBrace "{" ∷ on 3 kind.Name "x" ∷ on 3 kind.Equal "==" ∷ on 3 kind.Number "1" ∷ on 3 kind.Semicolon ";" ∷
+    on 3 kind.Name "x" ∷ on 3 kind.Assign "=" ∷ on 3 kind.Number "3" ∷ on 3 kind.CloseBrace "}" ∷ []
+
+model-control-lent-before-timeout : Program
+unfolding tokens-control-lent-before-timeout
+model-control-lent-before-timeout =
+    let at : ℕ → Word = token_at tokens-control-lent-before-timeout in
+    let part : ℕ → ℕ → List Word = tokens_between tokens-control-lent-before-timeout in
+    record {
+      globals = (slot (at 1) byte false 0 1 1 initial.Zero ∷ []);
+      constants = [];
+      typedefs = [];
+      proctypes = (
+          process (at 5) 2 1 0 [] (
+          atomic (part 9 21) (
+          plain (part 11 14) (assign (global 0 byte) (number 1)) ∷
+          plain (part 15 16) (holds expr.Timeout) ∷
+          plain (part 17 20) (assign (global 0 byte) (number 2)) ∷ []) ∷ []) (at 21) ∷
+          process (at 24) 3 1 0 [] (
+          plain (part 28 31) (holds (expr.Binary op.Equal (read (global 0 byte)) (number 1))) ∷
+          plain (part 32 35) (assign (global 0 byte) (number 3)) ∷ []) (at 35) ∷ []);
+    }
+
+row-control-lent-before-timeout : seen (options true false false 1000) model-control-lent-before-timeout (codes "")
+    ≡ Some (whole (text (
+    "step 1: proc 0 (A) line 2 [x = 1]\n" ∷
+    "step 2: proc 1 (B) line 3 [x == 1]\n" ∷
+    "step 3: proc 1 (B) line 3 [x = 3]\n" ∷
+    "step 4: proc 1 (B) line 3 [-end-]\n" ∷
+    "step 5: proc 0 (A) line 2 [timeout]\n" ∷
+    "step 6: proc 0 (A) line 2 [x = 2]\n" ∷
+    "step 7: proc 0 (A) line 2 [-end-]\n" ∷
+    "end: valid, steps 7\n" ∷
+    [])) (codes "") 0 0)
+unfolding computes model-control-lent-before-timeout
+row-control-lent-before-timeout = sees (options true false false 1000) model-control-lent-before-timeout (codes "") _ refl

@@ -448,3 +448,38 @@ row-d-step-keeps-atomic : seen (options true true true 200) model-d-step-keeps-a
     [])) (codes "1\n") 0 2)
 unfolding computes model-d-step-keeps-atomic
 row-d-step-keeps-atomic = sees (options true true true 200) model-d-step-keeps-atomic (codes "1\n") _ refl
+
+-- -p
+-- chan q = [0] of { byte };
+-- byte z;
+-- init { d_step { z = 0; q!1 / z } }
+tokens-d-step-fields-not-asked : List Word
+tokens-d-step-fields-not-asked =
+    on 1 kind.Chan "chan" ∷ on 1 kind.Name "q" ∷ on 1 kind.Assign "=" ∷ on 1 kind.OpenBracket "[" ∷ on 1 kind.Number "0" ∷
+    on 1 kind.CloseBracket "]" ∷ on 1 kind.Of "of" ∷ on 1 kind.OpenBrace "{" ∷ on 1 kind.Byte "byte" ∷ on 1 kind.CloseBrace "}" ∷
+    on 1 kind.Semicolon ";" ∷ on 2 kind.Byte "byte" ∷ on 2 kind.Name "z" ∷ on 2 kind.Semicolon ";" ∷ on 3 kind.Init "init" ∷
+    on 3 kind.OpenBrace "{" ∷ on 3 kind.DStep "d_step" ∷ on 3 kind.OpenBrace "{" ∷ on 3 kind.Name "z" ∷ on 3 kind.Assign "=" ∷
+    on 3 kind.Number "0" ∷ on 3 kind.Semicolon ";" ∷ on 3 kind.Name "q" ∷ on 3 kind.Bang "!" ∷ on 3 kind.Number "1" ∷
+    on 3 kind.Slash "/" ∷ on 3 kind.Name "z" ∷ on 3 kind.CloseBrace "}" ∷ on 3 kind.CloseBrace "}" ∷ []
+
+model-d-step-fields-not-asked : Program
+unfolding tokens-d-step-fields-not-asked
+model-d-step-fields-not-asked =
+    let at : ℕ → Word = token_at tokens-d-step-fields-not-asked in
+    let part : ℕ → ℕ → List Word = tokens_between tokens-d-step-fields-not-asked in
+    record {
+      globals = (slot (at 1) chan false 0 1 1 (initial.Channel 0 (byte ∷ [])) ∷ slot (at 12) byte false 1 1 1 initial.Zero ∷ []);
+      constants = [];
+      typedefs = [];
+      proctypes = (
+          process (at 14) 3 1 0 [] (
+          d_step (part 16 28) (
+          plain (part 18 21) (assign (global 1 byte) (number 0)) ∷
+          plain (part 22 27) (action.Send (global 0 chan) Fifo ((expr.Binary op.Divide (number 1) (read (global 1 byte))) ∷ [])) ∷ []) ∷
+          []) (at 28) ∷ []);
+    }
+
+row-d-step-fields-not-asked : seen (options true false false 1000) model-d-step-fields-not-asked (codes "")
+    ≡ Some (whole (text ("fault F7 (d_step blocks): step 1: proc 0 (:init:) line 3 [d_step]\n" ∷ [])) (codes "") 2 0)
+unfolding computes model-d-step-fields-not-asked
+row-d-step-fields-not-asked = sees (options true false false 1000) model-d-step-fields-not-asked (codes "") _ refl

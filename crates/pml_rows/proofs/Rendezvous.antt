@@ -508,3 +508,41 @@ row-two-channels : seen (options true true true 200) model-two-channels (codes "
     [])) (codes "") 0 0)
 unfolding computes model-two-channels
 row-two-channels = sees (options true true true 200) model-two-channels (codes "") _ refl
+
+-- -p
+-- chan q = [0] of { byte };
+-- init { byte x; if :: q!1 :: q?x :: timeout fi }
+tokens-not-with-itself : List Word
+tokens-not-with-itself =
+    on 1 kind.Chan "chan" ∷ on 1 kind.Name "q" ∷ on 1 kind.Assign "=" ∷ on 1 kind.OpenBracket "[" ∷ on 1 kind.Number "0" ∷
+    on 1 kind.CloseBracket "]" ∷ on 1 kind.Of "of" ∷ on 1 kind.OpenBrace "{" ∷ on 1 kind.Byte "byte" ∷ on 1 kind.CloseBrace "}" ∷
+    on 1 kind.Semicolon ";" ∷ on 2 kind.Init "init" ∷ on 2 kind.OpenBrace "{" ∷ on 2 kind.Byte "byte" ∷ on 2 kind.Name "x" ∷
+    on 2 kind.Semicolon ";" ∷ on 2 kind.If "if" ∷ on 2 kind.DoubleColon "::" ∷ on 2 kind.Name "q" ∷ on 2 kind.Bang "!" ∷
+    on 2 kind.Number "1" ∷ on 2 kind.DoubleColon "::" ∷ on 2 kind.Name "q" ∷ on 2 kind.Query "?" ∷ on 2 kind.Name "x" ∷
+    on 2 kind.DoubleColon "::" ∷ on 2 kind.Timeout "timeout" ∷ on 2 kind.Fi "fi" ∷ on 2 kind.CloseBrace "}" ∷ []
+
+model-not-with-itself : Program
+unfolding tokens-not-with-itself
+model-not-with-itself =
+    let at : ℕ → Word = token_at tokens-not-with-itself in
+    let part : ℕ → ℕ → List Word = tokens_between tokens-not-with-itself in
+    record {
+      globals = (slot (at 1) chan false 0 1 1 (initial.Channel 0 (byte ∷ [])) ∷ []);
+      constants = [];
+      typedefs = [];
+      proctypes = (
+          process (at 11) 2 1 0 (slot (at 14) byte false 0 1 1 initial.Zero ∷ []) (
+          if_fi (part 16 28) (
+          (plain (part 18 21) (action.Send (global 0 chan) Fifo ((number 1) ∷ [])) ∷ []) ∷
+          (plain (part 22 25) (action.Receive (global 0 chan) First Remove (want.Into (local 0 byte) ∷ [])) ∷ []) ∷
+          (plain (part 26 27) (holds expr.Timeout) ∷ []) ∷ []) ∷ []) (at 28) ∷ []);
+    }
+
+row-not-with-itself : seen (options true false false 1000) model-not-with-itself (codes "")
+    ≡ Some (whole (text (
+    "step 1: proc 0 (:init:) line 2 [timeout]\n" ∷
+    "step 2: proc 0 (:init:) line 2 [-end-]\n" ∷
+    "end: valid, steps 2\n" ∷
+    [])) (codes "") 0 0)
+unfolding computes model-not-with-itself
+row-not-with-itself = sees (options true false false 1000) model-not-with-itself (codes "") _ refl

@@ -579,3 +579,45 @@ row-run-arguments : seen (options true true true 200) model-run-arguments (codes
     [])) (codes "2\n1\n") 0 4)
 unfolding computes model-run-arguments
 row-run-arguments = sees (options true true true 200) model-run-arguments (codes "2\n1\n1\n1\n1\n") _ refl
+
+-- -p -g
+-- byte a[3];
+-- proctype P() { skip }
+-- init { a[_nr_pr] = run P() }
+tokens-run-into-an-index : List Word
+tokens-run-into-an-index =
+    on 1 kind.Byte "byte" ∷ on 1 kind.Name "a" ∷ on 1 kind.OpenBracket "[" ∷ on 1 kind.Number "3" ∷ on 1 kind.CloseBracket "]" ∷
+    on 1 kind.Semicolon ";" ∷ on 2 kind.Proctype "proctype" ∷ on 2 kind.Name "P" ∷ on 2 kind.OpenParen "(" ∷
+    on 2 kind.CloseParen ")" ∷ on 2 kind.OpenBrace "{" ∷ on 2 kind.Skip "skip" ∷ on 2 kind.CloseBrace "}" ∷ on 3 kind.Init "init" ∷
+    on 3 kind.OpenBrace "{" ∷ on 3 kind.Name "a" ∷ on 3 kind.OpenBracket "[" ∷ on 3 kind.Name "_nr_pr" ∷ on 3 kind.CloseBracket "]" ∷
+    on 3 kind.Assign "=" ∷ on 3 kind.Run "run" ∷ on 3 kind.Name "P" ∷ on 3 kind.OpenParen "(" ∷ on 3 kind.CloseParen ")" ∷
+    on 3 kind.CloseBrace "}" ∷ []
+
+model-run-into-an-index : Program
+unfolding tokens-run-into-an-index
+model-run-into-an-index =
+    let at : ℕ → Word = token_at tokens-run-into-an-index in
+    let part : ℕ → ℕ → List Word = tokens_between tokens-run-into-an-index in
+    record {
+      globals = (slot (at 1) byte true 0 3 1 initial.Zero ∷ []);
+      constants = [];
+      typedefs = [];
+      proctypes = (
+          process (at 7) 2 0 0 [] (
+          plain (part 11 12) (holds (number 1)) ∷ []) (at 12) ∷
+          process (at 13) 3 1 0 [] (
+          plain (part 15 24) (action.AssignRun (Some (in_global 0 byte (turn 0 3 1 (Some expr.ProcessCount) ∷ []))) (run 0 [])) ∷ [])
+          (at 24) ∷ []);
+    }
+
+row-run-into-an-index : seen (options true true false 1000) model-run-into-an-index (codes "")
+    ≡ Some (whole (text (
+    "step 1: proc 0 (:init:) line 3 [a [ _nr_pr ] = run P ( )]\n" ∷
+    "global a[2] = 1\n" ∷
+    "step 2: proc 1 (P) line 2 [skip]\n" ∷
+    "step 3: proc 1 (P) line 2 [-end-]\n" ∷
+    "step 4: proc 0 (:init:) line 3 [-end-]\n" ∷
+    "end: valid, steps 4\n" ∷
+    [])) (codes "") 0 0)
+unfolding computes model-run-into-an-index
+row-run-into-an-index = sees (options true true false 1000) model-run-into-an-index (codes "") _ refl
