@@ -1,7 +1,7 @@
 pub mod Looking
-pub mod Lookup
 pub mod Open
 pub mod Counting
 pub mod Crossing
 pub mod Conversions
 pub mod Surrounding
+mod Samples

@@ -1,16 +1,13 @@
 -- Which conditions refuse a model.
-use Rattle.std.specs.Prelude.{◌≡◌, ◌⊎◌, ℕ, ◌<◌, ◌≤◌, nat_eq, Bool, true, false, ◌&&◌, ◌||◌, List, [], ◌∷◌, take, slice_get, Some}
-use Rattle.std.specs.Str.{bytes_eq}
+use Rattle.std.specs.Prelude.{◌≡◌, ◌⊎◌, ℕ, ◌<◌, ◌≤◌, Bool, true, false, ◌||◌, List, [], ◌∷◌, take, slice_get, Some}
 use Rattle.profile.specs.declared.TheConstants.{MOST_CHANNELS, MOST_PROCESSES}
-use Rattle.pml_marks.specs.declared.mark.What.{What}
-use Rattle.pml_marks.specs.declared.mark.What.TheVariants as what
 use Rattle.pml_marks.specs.declared.mark.Mark.{Mark}
 use Rattle.pml_names.specs.Naming.{before}
 use Rattle.pml_conditions.specs.declared.find.Found.{Found}
 use Rattle.pml_conditions.specs.declared.condition.Condition.{Condition}
 use Rattle.pml_conditions.specs.declared.condition.Condition.TheVariants as condition
 use Rattle.pml_conditions.specs.Conditions.{Around, judged}
-use Rattle.pml_conditions.specs.Structure.{round, labels_in, loose, crosses}
+use Rattle.pml_conditions.specs.Structure.{round, is_label, labels_in, loose, crosses}
 use Rattle.pml_conditions.specs.Start.{begins, processes, first_channels}
 
 -- at some number of the list, p holds of what stands before it and of what stands there
@@ -19,11 +16,6 @@ Somewhere p ms = (k : ℕ) × (m : Mark) × (slice_get ms k ≡ Some m) × (p (t
 
 abbrev pub Nowhere : (List Mark → Mark → Bool) → List Mark → Type 0
 Nowhere p ms = (k : ℕ) (m : Mark) → slice_get ms k ≡ Some m → p (take k ms) m ≡ false
-
--- whether this is the label n of o
-abbrev pub is_label : ℕ → List ℕ → ℕ → What → Bool
-is_label o n k (what.Label l) = nat_eq k o && bytes_eq l.text n
-is_label o n k _ = false
 
 -- whether one of these marks is
 abbrev pub has_label : List Mark → ℕ → List ℕ → Bool

@@ -1,5 +1,6 @@
 pub mod Conditions
 pub mod Structure
+pub mod Open
 pub mod Start
 pub mod Decided
 pub mod Labels

@@ -1,74 +1,76 @@
 -- What stands round a place of a body, and the conditions on breaks and d_steps.
-use Rattle.std.specs.Prelude.{ℕ, nat_eq, Bool, true, false, not, ◌&&◌, if◌then◌else◌, is_some, List, [], ◌∷◌, ◌++◌, map, length, reverse, drop, slice_index_or, Option, Some, None}
+use Rattle.std.specs.Prelude.{ℕ, zero, suc, ◌+◌, nat_eq, Bool, true, false, not, ◌&&◌, if◌then◌else◌, is_some, List, [], ◌∷◌, length, reverse, Option, Some, None}
 use Rattle.std.specs.Str.{bytes_eq}
-use Rattle.std.specs.Borrow.{Bor}
+use Rattle.pml_marks.specs.declared.mark.Structure.{Structure}
 use Rattle.pml_marks.specs.declared.mark.Structure.TheVariants.{Do, DStep}
 use Rattle.pml_marks.specs.declared.mark.What.{What}
 use Rattle.pml_marks.specs.declared.mark.What.TheVariants as what
 use Rattle.pml_marks.specs.declared.mark.Mark.{Mark}
 use Rattle.pml_conditions.specs.declared.round.Round.{Round}
 
--- nothing, a do, the d_step whose mark has k marks before it
-abbrev pub outside : Round
-outside = record { looped = false; cut = false; step = None }
+-- a do or a d_step, with how many marks stand before its own
+abbrev pub Open : Type 0
+Open = Structure × ℕ
 
-abbrev pub in_loop : Round → Round
-in_loop r = record { looped = true; cut = false; step = r.step }
+-- what a mark adds to those that are open before it, where so many are left behind it
+abbrev pub entered : What → ℕ → (ℕ → List Open) → ℕ → List Open
+entered (what.Enter s) k outer zero = (s, k) ∷ outer 0
+entered (what.Enter s) k outer (suc left) = outer left
+entered what.Leave k outer left = outer (left + 1)
+entered _ k outer left = outer left
 
-abbrev pub in_step : ℕ → Round → Round
-in_step k r = record { looped = r.looped; cut = true; step = Some k }
+-- what is entered and not left, the innermost first, going back over marks
+abbrev pub opened : List Mark → ℕ → List Open
+opened [] left = []
+opened (m ∷ ms) left = entered m.what (length ms) (opened ms) left
 
-abbrev pub top : List Round → Round
-top rs = slice_index_or rs 0 outside
+abbrev pub has_do : List Open → Bool
+has_do [] = false
+has_do ((Do, k) ∷ outer) = true
+has_do ((DStep, k) ∷ outer) = has_do outer
 
--- what is open behind one mark more, the innermost first
-unfoldable pub passed : List Round → ℕ → What → List Round
-passed rs k (what.Enter Do) = in_loop (top rs) ∷ rs
-passed rs k (what.Enter DStep) = in_step k (top rs) ∷ rs
-passed rs k what.Leave = drop 1 rs
-passed rs k _ = rs
+-- whether a break would leave a d_step
+abbrev pub is_cut : List Open → Bool
+is_cut [] = false
+is_cut ((Do, k) ∷ outer) = false
+is_cut ((DStep, k) ∷ outer) = true
 
--- what is open behind marks that are given from the last to the first
-abbrev pub rounds : List Mark → List Round
-rounds [] = []
-rounds (m ∷ ms) = passed (rounds ms) (length ms) m.what
+abbrev pub innermost_step : List Open → Option ℕ
+innermost_step [] = None
+innermost_step ((Do, k) ∷ outer) = innermost_step outer
+innermost_step ((DStep, k) ∷ outer) = Some k
+
+abbrev pub round_of : List Open → Round
+round_of xs = record { looped = has_do xs; cut = is_cut xs; step = innermost_step xs }
 
 -- what stands round the place behind these marks
 abbrev pub round : List Mark → Round
-round ms = top (rounds (reverse ms))
+round ms = round_of (opened (reverse ms) 0)
 
 -- ---- labels
 
--- a label, and the innermost d_step round it
-pub record LabelStep : Type 0 where
-  pub owner : ℕ
-  pub name : List ℕ
-  pub step : Option ℕ
-
-abbrev pub place : ℕ → List ℕ → Option ℕ → LabelStep
-place o n s = record { owner = o; name = n; step = s }
-
-abbrev pub place_of : (ℕ × Bor (List ℕ)) × Option ℕ → LabelStep
-place_of p = place p.0.0 p.0.1.now p.1
-
-abbrev pub places_of : List ((ℕ × Bor (List ℕ)) × Option ℕ) → List LabelStep
-places_of ps = map place_of ps
-
--- the innermost d_step round a label, if there is the label
-abbrev pub placed : List LabelStep → ℕ → List ℕ → Option (Option ℕ)
-placed [] o n = None
-placed (p ∷ ps) o n = if nat_eq o p.owner && bytes_eq n p.name then Some p.step else placed ps o n
+-- whether this is the label n of o
+abbrev pub is_label : ℕ → List ℕ → ℕ → What → Bool
+is_label o n k (what.Label l) = nat_eq k o && bytes_eq l.text n
+is_label o n k _ = false
 
 -- of two labels of one name the first counts
-unfoldable pub labelled : List LabelStep → Round → ℕ → What → List LabelStep
-labelled ps r o (what.Label l) =
-    if is_some (placed ps o l.text) then ps else ps ++ place o l.text r.step ∷ []
-labelled ps r o _ = ps
+abbrev pub first_of : Option (Option ℕ) → Option (Option ℕ) → Option (Option ℕ)
+first_of None y = y
+first_of (Some x) y = Some x
 
--- the labels of marks that are given from the last to the first
-abbrev pub labels : List Mark → List LabelStep
-labels [] = []
-labels (m ∷ ms) = labelled (labels ms) (top (rounds ms)) m.owner m.what
+-- the innermost d_step round the label n of o, where this mark is it
+abbrev pub step_there : ℕ → List ℕ → ℕ → What → Option ℕ → Option (Option ℕ)
+step_there o n k w step = if is_label o n k w then Some step else None
+
+-- the same of the first such label, going back over marks
+abbrev pub labelled : List Mark → ℕ → List ℕ → Option (Option ℕ)
+labelled [] o n = None
+labelled (m ∷ ms) o n = first_of (labelled ms o n) (step_there o n m.owner m.what (innermost_step (opened ms 0)))
+
+-- of a text
+abbrev pub labels_in : List Mark → ℕ → List ℕ → Option (Option ℕ)
+labels_in ms = labelled (reverse ms)
 
 -- ---- a break that no do is round
 abbrev pub loose : Round → What → Bool
@@ -87,13 +89,9 @@ abbrev pub elsewhere : Option (Option ℕ) → Round → Bool
 elsewhere None r = false
 elsewhere (Some s) r = not (same_step s r.step)
 
--- ps are the labels of the text
-abbrev pub crosses : List LabelStep → Round → ℕ → What → Bool
-crosses ps r o what.Break = r.cut
-crosses ps r o what.Unless = is_some r.step
-crosses ps r o (what.Goto l) = elsewhere (placed ps o l.text) r
-crosses ps r o _ = false
-
--- the labels of a text
-abbrev pub labels_in : List Mark → List LabelStep
-labels_in ms = labels (reverse ms)
+-- the labels are those of the text
+abbrev pub crosses : (ℕ → List ℕ → Option (Option ℕ)) → Round → ℕ → What → Bool
+crosses labels r o what.Break = r.cut
+crosses labels r o what.Unless = is_some r.step
+crosses labels r o (what.Goto l) = elsewhere (labels o l.text) r
+crosses labels r o _ = false

@@ -1,16 +1,15 @@
 //! The labels of a text, and each with the innermost d_step round it.
 
-ghost use Rattle.std.specs.Prelude.{◌≡◌, ◌++◌, ◌∷◌, ◌||◌, ℕ, List, [], None, OnOk, IfOk};
-ghost use Rattle.pml_names.specs.Places.{IsKept};
-ghost use Rattle.pml_conditions.specs.Decided.{is_label};
+ghost use Rattle.std.specs.Prelude.{◌≡◌, ◌||◌, ℕ, List, reverse, OnOk, IfOk};
+ghost use Rattle.pml_names.specs.Places.{IsKept, stands};
+ghost use Rattle.pml_conditions.specs.Structure.{is_label, first_of, step_there};
 ghost use Rattle.pml_conditions.specs.Labels.{labels_of, AreLabels};
+ghost use Rattle.pml_conditions.specs.Open.{AreSteps};
 
-use crate::round::Round;
-use indexmap::IndexMap;
+use crate::round::{Round, Rounds};
 use pml_marks::mark::{Mark, What};
 use pml_names::places::Places;
 use std::alloc::{AllocError, Global};
-use std::marker::Model;
 
 /// Adds the label that a mark is.
 pub fn add_label<'a>(
@@ -39,61 +38,41 @@ pub fn all_labels<'a>(alloc: Global, marks: &[Mark<'a>]) -> Result<Places<'a, us
     Ok(labels)
 }
 
-/// Labels in the order of the text, with the innermost d_step round each.
-#[derive(Drop)]
-pub struct LabelSteps<'a> {
-    map: IndexMap<(usize, &'a [u8]), Option<usize>>,
-}
-
-impl<'a> Model for LabelSteps<'a> {
-    ghost use Rattle.std.specs.Prelude.{List};
-    ghost use Rattle.pml_conditions.specs.Structure.{LabelStep, places_of};
-
-    ghost Value = { List LabelStep };
-
-    ghost view = { λ l. places_of l.map.entries };
-}
-
-impl<'a> LabelSteps<'a> {
-    ghost use Rattle.pml_conditions.specs.Structure.{place, placed, labelled};
-
-    /// No labels.
-    pub fn new(alloc: Global) -> LabelSteps<'a>
-        ensures { result ≡ [] }
-    {
-        LabelSteps {
-            map: IndexMap::new(alloc),
-        }
-    }
-
-    /// The innermost d_step round a label, if there is the label.
-    pub fn find(&self, owner: usize, name: &[u8]) -> Option<Option<usize>>
-        ensures { result ≡ placed self.now owner name.now }
-    {
-        self.map.get(&(owner, name)).copied()
-    }
-
-    fn add(&mut self, owner: usize, name: &'a [u8], step: Option<usize>) -> Result<(), AllocError>
-        requires { placed self.old owner name.now ≡ None }
-        ensures { OnOk result (self.new ≡ self.old ++ place owner name.entry.now step ∷ []) }
-    {
-        self.map.insert((owner, name), step)?;
-        Ok(())
-    }
-
-    /// Adds the label of a mark, unless it is there.
-    #[tactic(auto, unfolding(crate::specs::Structure::labelled))]
-    pub fn mark(&mut self, round: Round, owner: usize, what: &What<'a>) -> Result<(), AllocError>
-        ensures { OnOk result (self.new ≡ labelled self.old round owner what.now) }
-    {
-        match what {
-            What::Label(name) => {
-                if self.find(owner, name.text()).is_some() {
-                    return Ok(());
-                }
-                self.add(owner, name.text(), round.step)
+/// Keeps the innermost d_step round the label that a mark is, unless there is one of its name.
+fn add_step<'a>(
+    steps: &mut Places<'a, Option<usize>>,
+    round: Round,
+    owner: usize,
+    what: &What<'a>,
+) -> Result<(), AllocError>
+    requires { IsKept steps.old.numbers steps.old.places }
+    ensures kept { IsKept steps.new.numbers steps.new.places }
+    ensures added { OnOk result ((o : ℕ) (n : List ℕ) → stands steps.new.numbers steps.new.places o n
+        ≡ first_of (stands steps.old.numbers steps.old.places o n) (step_there o n owner what.now round.step)) }
+{
+    match what {
+        What::Label(name) => {
+            if steps.find(owner, name.text()).is_some() {
+                return Ok(());
             }
-            _ => Ok(()),
+            steps.put(owner, name.text(), round.step)
         }
+        _ => Ok(()),
     }
+}
+
+/// The labels of a text, each with the innermost d_step round the first of its name.
+pub fn label_steps<'a>(
+    alloc: Global,
+    marks: &[Mark<'a>],
+) -> Result<Places<'a, Option<usize>>, AllocError>
+    ensures { IfOk result (AreSteps (reverse marks.now)) }
+{
+    let mut rounds = Rounds::new(alloc);
+    let mut steps = Places::new(alloc);
+    for (i, mark) in marks.iter().enumerate() {
+        add_step(&mut steps, rounds.here(), mark.owner, &mark.what)?;
+        rounds.pass(i, &mark.what)?;
+    }
+    Ok(steps)
 }

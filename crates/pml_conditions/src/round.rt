@@ -1,7 +1,7 @@
 //! What stands round a place of a body.
 
 ghost use Rattle.std.specs.Prelude.{◌≡◌, [], slice_index_or, OnOk};
-ghost use Rattle.pml_conditions.specs.Structure.{outside, in_loop, in_step, top, passed};
+ghost use Rattle.pml_conditions.specs.Open.{outside, in_loop, in_step, top, passed};
 
 use pml_marks::mark::{Structure, What};
 use sqlite_items::Items;
@@ -92,7 +92,7 @@ impl Rounds {
     }
 
     /// Goes past a mark that stands behind `number` others.
-    #[tactic(auto, unfolding(crate::specs::Structure::passed))]
+    #[tactic(auto, unfolding(crate::specs::Open::passed))]
     pub fn pass(&mut self, number: usize, what: &What) -> Result<(), AllocError>
         ensures { OnOk result (self.new ≡ passed self.old number what.now) }
     {

@@ -1,12 +1,14 @@
 //! Breaks and d_steps.
 
-ghost use Rattle.std.specs.Prelude.{◌≡◌, IfOk, reverse};
-ghost use Rattle.pml_conditions.specs.Structure.{loose, same_step, elsewhere, crosses, labels_in};
+ghost use Rattle.std.specs.Prelude.{◌≡◌, IfOk};
+ghost use Rattle.pml_names.specs.Places.{stands};
+ghost use Rattle.pml_conditions.specs.Structure.{loose, same_step, elsewhere, crosses};
 ghost use Rattle.pml_conditions.specs.Decided.{Finds, breaks_loose, crosses_step};
 
-use crate::labels::LabelSteps;
+use crate::labels::label_steps;
 use crate::round::{Round, Rounds};
 use pml_marks::mark::{Mark, What};
+use pml_names::places::Places;
 use std::alloc::{AllocError, Global};
 
 fn loose(round: Round, what: &What) -> bool
@@ -56,8 +58,8 @@ fn elsewhere(label: Option<Option<usize>>, round: Round) -> bool
     }
 }
 
-fn crosses(labels: &LabelSteps, round: Round, owner: usize, what: &What) -> bool
-    ensures { result ≡ crosses labels.now round owner what.now }
+fn crosses(labels: &Places<'_, Option<usize>>, round: Round, owner: usize, what: &What) -> bool
+    ensures { result ≡ crosses (stands labels.now.numbers labels.now.places) round owner what.now }
 {
     match what {
         What::Break => round.cut,
@@ -67,24 +69,11 @@ fn crosses(labels: &LabelSteps, round: Round, owner: usize, what: &What) -> bool
     }
 }
 
-/// The labels of a text.
-fn labels<'a>(alloc: Global, marks: &[Mark<'a>]) -> Result<LabelSteps<'a>, AllocError>
-    ensures { IfOk result (λ labels. labels ≡ labels_in marks.now) }
-{
-    let mut rounds = Rounds::new(alloc);
-    let mut labels = LabelSteps::new(alloc);
-    for (i, mark) in marks.iter().enumerate() {
-        labels.mark(rounds.here(), mark.owner, &mark.what)?;
-        rounds.pass(i, &mark.what)?;
-    }
-    Ok(labels)
-}
-
 /// Whether a goto or a break somewhere enters or leaves a d_step, or an unless stands in one.
 pub fn crosses_step(alloc: Global, marks: &[Mark]) -> Result<bool, AllocError>
     ensures { IfOk result (λ b. Finds b (crosses_step marks.now) marks.now) }
 {
-    let labels = labels(alloc, marks)?;
+    let labels = label_steps(alloc, marks)?;
     let mut rounds = Rounds::new(alloc);
     for (i, mark) in marks.iter().enumerate() {
         if crosses(&labels, rounds.here(), mark.owner, &mark.what) {

@@ -5,7 +5,8 @@ use Rattle.pml_conditions.specs.declared.condition.Condition.{Condition}
 use Rattle.pml_conditions.specs.declared.condition.Condition.TheVariants as condition
 use Rattle.pml_conditions.specs.Conditions.{judged}
 use Rattle.std.specs.Option.{is_some}
-use Rattle.pml_conditions.specs.Decided.{broken, is_label}
+use Rattle.pml_conditions.specs.Structure.{is_label}
+use Rattle.pml_conditions.specs.Decided.{broken}
 use Rattle.pml_conditions.specs.Labels.{told_around}
 use Rattle.pml_conditions.proofs.Surrounding.{label-more, around-is}
 use Rattle.pml_conditions.proofs.Looking.{so_far-none, so_far-more, so_far-whole}
