@@ -92,7 +92,7 @@ pub fn reference<'a>(
 ) -> Result<(), AllocError>
     ensures { OnOk result (out.new ≡ out.old ++ of_reference r.now used owner) }
 {
-    let mut shapes = Items::new(alloc);
+    let mut shapes = Items::from_vec(Vec::with_capacity(alloc, r.fields.len().saturating_add(1))?);
     shapes.push(step(alloc, &r.first, owner, out)?)?;
     for field in r.fields.as_slice() {
         shapes.push(step(alloc, field, owner, out)?)?;

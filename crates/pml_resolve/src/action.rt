@@ -6,6 +6,7 @@ ghost use Rattle.pml_resolve.specs.Statements.{values, store, proctype_of, run, 
 
 use crate::expression::{expr, reference, target, wants};
 use crate::reached::Reached;
+use crate::room::room_for;
 use pml_names::meaning::meaning;
 use pml_names::table::Table;
 use pml_names::thing::Thing;
@@ -24,7 +25,7 @@ fn values(
 ) -> Result<Items<Expr>, AllocError>
     ensures { IfOk result (λ vs. vs ≡ values es.now (scope all.now table.now owner)) }
 {
-    let mut values = Items::new(alloc);
+    let mut values = room_for(alloc, es.len())?;
     for e in es {
         values.push(expr(alloc, e, all, table, owner)?)?;
     }

@@ -8,6 +8,7 @@ ghost use Rattle.pml_resolve.specs.Numbered.{scope};
 ghost use Rattle.pml_resolve.specs.Declarations.{known, natural, plain, initial, slot, declares, with_variable, with_variables};
 
 use crate::expression::expr;
+use crate::room::room_for;
 use pml_lex::token::Token;
 use pml_marks::constant::constant;
 use pml_marks::mark::{Constant, Declared, Makes, Role, What};
@@ -79,7 +80,7 @@ fn declares<'a>(role: Role, v: &Variable<'a>) -> What<'a>
 fn forms(alloc: Global, types: &[Scalar]) -> Result<Items<Form>, AllocError>
     ensures { IfOk result (λ fs. fs ≡ map plain types.now) }
 {
-    let mut forms = Items::new(alloc);
+    let mut forms = room_for(alloc, types.len())?;
     for one in types {
         forms.push(Form::Plain(*one))?;
     }

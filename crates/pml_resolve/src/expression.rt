@@ -5,6 +5,7 @@ ghost use Rattle.pml_tree.specs.declared.tree.Reference.{out-Reference};
 ghost use Rattle.pml_resolve.specs.Numbered.{scope, through, placed_by, numbered, numbered_argument, numbered_reference, numbered_step, at_scope, is_local, literal, signed, mtype, read, target, received, turn_of, target_of, no_target};
 
 use crate::reached::Reached;
+use crate::room::room_for;
 use pml_marks::arithmetic::{negative, value as number_value};
 use pml_marks::mark::Constant;
 use pml_names::meaning::{field, is_any, is_count, is_pid, meaning};
@@ -175,7 +176,7 @@ pub fn wants(
 ) -> Result<Items<Want>, AllocError>
     ensures { IfOk result (λ ws. ws ≡ at_scope (map numbered_argument arguments.now) (scope all.now table.now owner)) }
 {
-    let mut wants = Items::new(alloc);
+    let mut wants = room_for(alloc, arguments.len())?;
     for argument in arguments {
         wants.push(want(alloc, argument, all, table, owner)?)?;
     }
@@ -247,7 +248,7 @@ fn place(
 ) -> Result<Reached, AllocError>
     ensures { IfOk result (λ p. p ≡ placed_by local v r.now (scope all.now table.now owner)) }
 {
-    let mut turns = Items::new(alloc);
+    let mut turns = room_for(alloc, r.fields.len().saturating_add(1))?;
     turns.push(turn(0, v, index(alloc, &r.first, all, table, owner)?))?;
     let form = through(
         alloc,

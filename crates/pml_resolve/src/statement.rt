@@ -7,6 +7,7 @@ ghost use Rattle.pml_resolve.specs.Statements.{each, two, stmts, numbered_basic,
 
 use crate::action::action;
 use crate::declare::variables;
+use crate::room::room_for;
 use pml_lex::token::Token;
 use pml_marks::mark::Role;
 use pml_names::names::Names;
@@ -20,7 +21,7 @@ use std::alloc::{AllocError, Global};
 fn copied<'a>(alloc: Global, labels: &[Token<'a>]) -> Result<Items<Token<'a>>, AllocError>
     ensures { IfOk result (λ ls. ls ≡ labels.now) }
 {
-    let mut copies = Items::new(alloc);
+    let mut copies = room_for(alloc, labels.len())?;
     for label in labels {
         copies.push(label.copied())?;
     }
@@ -121,7 +122,7 @@ fn seqs<'a>(
     ensures known { OnOk result (known names.new.table slots.new ≡ (each (map numbered_seq ss.now) all.now owner (known names.old.table slots.old)).1) }
     ensures totalled { OnOk result (IsTotalled names.new.table names.new.totals names.new.constants) }
 {
-    let mut seqs = Items::new(alloc);
+    let mut seqs = room_for(alloc, ss.len())?;
     for s in ss {
         seqs.push(seq(alloc, s, all, owner, names, slots)?)?;
     }
@@ -143,7 +144,7 @@ pub fn seq<'a>(
     ensures known { OnOk result (known names.new.table slots.new ≡ (numbered_seq s.now all.now owner (known names.old.table slots.old)).1) }
     ensures totalled { OnOk result (IsTotalled names.new.table names.new.totals names.new.constants) }
 {
-    let mut steps = Items::new(alloc);
+    let mut steps = room_for(alloc, s.items.len())?;
     for i in s.items.as_slice() {
         item(alloc, i, all, owner, names, slots, &mut steps)?;
     }
