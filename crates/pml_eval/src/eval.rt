@@ -30,7 +30,7 @@ pub fn eval<G: Ground>(e: &Expr, ground: &G) -> Result<i32, Fault>
             poll(arguments.as_slice(), *search, at, ground)
         }
         Expr::Unary(op, a) => {
-            let x = eval(a.get(), ground)?;
+            let x = operand(a.get(), ground)?;
             Ok(prefix(*op, x))
         }
         Expr::Binary(op, a, b) => {
@@ -58,6 +58,19 @@ pub fn eval<G: Ground>(e: &Expr, ground: &G) -> Result<i32, Fault>
             ask(*fill, ground.channel(ground.number(at)))
         }
     }
+}
+
+/// The value of what an operator stands before: a thousand of them in a row take little of the stack.
+#[cycle(eval)]
+#[inline(never)]
+fn operand<G: Ground>(e: &Expr, ground: &G) -> Result<i32, Fault>
+    ensures { result ≡ val e.now (G.reading ground.now) }
+{
+    if let Expr::Unary(op, a) = e {
+        let x = operand(a.get(), ground)?;
+        return Ok(prefix(*op, x));
+    }
+    eval(e, ground)
 }
 
 /// Whether the oldest message matches, or any of them, as the search has it.

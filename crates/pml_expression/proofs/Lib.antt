@@ -1,5 +1,6 @@
 pub mod Turns
 pub mod Runs
+pub mod Signs
 pub mod Steps
 pub mod Lists
 pub mod Found

@@ -2,6 +2,7 @@
 
 ghost use Rattle.std.specs.Prelude.{◌≡◌, IfOk, length, []};
 ghost use Rattle.pml_tree.specs.declared.tree.Argument.TheVariants as g;
+ghost use Rattle.pml_expression.specs.Grammar.{prefix_level};
 ghost use Rattle.pml_expression.specs.Reading as reading;
 ghost use Rattle.pml_expression.specs.Reading.{Reads};
 
@@ -352,6 +353,28 @@ fn ask<'a>(
     tokens.closing(Kind::CloseParen, Expr::Ask(fill, r))
 }
 
+/// The operand of an operator before it, in a box: a thousand such operators in a row take little of the stack.
+#[cycle(expr)]
+#[inline(never)]
+#[tactic(auto, unfolding(crate::specs::Reading::expr, crate::specs::Reading::level_of, crate::specs::Reading::prefix, crate::specs::Reading::operand, crate::specs::Reading::and_then))]
+fn boxed_operand<'a>(
+    alloc: Global,
+    depth: usize,
+    tokens: &mut Cursor<'a>,
+) -> Result<Boxed<Expr<'a>>, ReadFault>
+    ensures { Reads (reading.expr depth prefix_level tokens.old) result tokens.new }
+{
+    let Start::Prefix(op) = start_of(tokens.peek()) else {
+        return boxed_expr(alloc, depth, PREFIX_LEVEL, tokens);
+    };
+    if depth == 0 {
+        return Err(tokens.refuse());
+    }
+    tokens.skip();
+    let x = boxed_operand(alloc, depth - 1, tokens)?;
+    Ok(Boxed::new(alloc, Expr::Unary(op, x))?)
+}
+
 /// The operand of an operator before it, behind that.
 #[cycle(expr)]
 #[tactic(auto, unfolding(crate::specs::Reading::operand, crate::specs::Reading::and_then))]
@@ -363,7 +386,7 @@ fn operand<'a>(
 ) -> Result<Expr<'a>, ReadFault>
     ensures { Reads (reading.operand (reading.expr depth) op tokens.old) result tokens.new }
 {
-    let x = boxed_expr(alloc, depth, PREFIX_LEVEL, tokens)?;
+    let x = boxed_operand(alloc, depth, tokens)?;
     Ok(Expr::Unary(op, x))
 }
 

@@ -1,8 +1,12 @@
-use Rattle.std.proofs.Common.{rules, arith}
+use Rattle.std.proofs.Common.{◌≡◌, ◌-◌, drop, Ok, rules, arith}
+use Rattle.pml_expression.specs.Grammar.{prefix_level}
+use Rattle.pml_expression.specs.Starts.{start}
+use Rattle.pml_expression.specs.declared.operators.Start.TheVariants as s
 use Rattle.std.proofs.lemmas.Grind.{common_steps}
 use Rattle.pml_expression.specs.Reading as reading
-use Rattle.pml_expression.specs.Reading.{and_then, pick}
+use Rattle.pml_expression.specs.Reading.{and_then, pick, next}
 use Rattle.pml_expression.proofs.Turns.{one_more, deeper}
+use Rattle.pml_expression.proofs.Signs.{before}
 use Rattle.pml_expression.proofs.expr.+expr.Goals as goal
 
 pub argument_list-loop-turn-preserved : goal.argument_list-loop-turn-preserved
@@ -10,6 +14,13 @@ unfolding reading.list_from and_then pick
 argument_list-loop-turn-preserved t c =
     let e = one_more (λ n. reading.list_from (reading.argument (reading.expr c.args.depth)) n c.loop-turn.found c.loop-turn.tokens) c.left-turn-end.result c.loop-turn._turn c.loop-turn-test.true c.loop-turn.invariant in
     first_of (search rules, grind (arith, common_steps))
+
+pub boxed_operand-returns : goal.boxed_operand-returns
+boxed_operand-returns t c =
+    let is : start (next c.args.tokens.now) ≡ s.Prefix c.in-Prefix.op = search rules in
+    let inside : reading.expr (c.args.depth - 1) prefix_level (drop 1 c.args.tokens.now) ≡ Ok (c.in_ok-x.x, c.boxed_operand.new.tokens) = search rules in
+    let read = before (c.args.depth - 1) c.in-Prefix.op c.args.tokens.now c.in_ok-x.x c.boxed_operand.new.tokens is inside in
+    rw (deeper (λ n. reading.expr n prefix_level c.args.tokens.now) c.args.depth (omega arith)) (search rules)
 
 pub climb-loop-turn-preserved : goal.climb-loop-turn-preserved
 unfolding reading.climb and_then pick

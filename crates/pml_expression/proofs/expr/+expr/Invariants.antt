@@ -26,6 +26,9 @@ decreases-behind_first l = 20 * l.depth + 11
 abbrev pub decreases-boxed_expr : goal.decreases-boxed_expr
 decreases-boxed_expr l = 20 * l.depth + 1
 
+abbrev pub decreases-boxed_operand : goal.decreases-boxed_operand
+decreases-boxed_operand l = 20 * l.depth + 2
+
 abbrev pub decreases-chosen : goal.decreases-chosen
 decreases-chosen l = 20 * l.depth + 3
 
@@ -60,7 +63,7 @@ abbrev pub decreases-infix_with : goal.decreases-infix_with
 decreases-infix_with l = 20 * l.depth + 2
 
 abbrev pub decreases-operand : goal.decreases-operand
-decreases-operand l = 20 * l.depth + 2
+decreases-operand l = 20 * l.depth + 3
 
 abbrev pub decreases-polled : goal.decreases-polled
 decreases-polled l = 20 * l.depth + 13
