@@ -1,5 +1,5 @@
 -- Statements that give no structure stand for what they are numbered as.
-use Rattle.std.proofs.Common.{◌≡◌, ℕ, false, cond, List, [], ◌∷◌, map, Option, Some, None, refl, ap, sym, subst, ◌∙◌}
+use Rattle.std.proofs.Common.{◌≡◌, ℕ, cond, List, [], ◌∷◌, map, Option, Some, None, refl, ap, sym, subst, ◌∙◌}
 use Rattle.std.specs.Option.{is_some}
 use Rattle.pml_tree.specs.declared.tree.Expr.{Expr as TreeExpr}
 use Rattle.pml_tree.specs.declared.tree.Argument.{Argument}

@@ -9,9 +9,12 @@ mod Acting
 mod Bodies
 mod Newly
 mod Reading
+mod Quiet
+pub mod Limits
 mod Marking
 mod Units
 pub mod Model
+pub mod Limited
 pub mod Tiling
 pub mod Leading
 mod Rows

@@ -31,7 +31,7 @@ nothing-yet us = record {
   declared = λ n. refl;
 }
 
-start-whole : (t : Tree) → Whole t.units (env (of_tree t)) (tree-marked t) (nothing_of t.units) 1 t.units (made no_program [])
+pub start-whole : (t : Tree) → Whole t.units (env (of_tree t)) (tree-marked t) (nothing_of t.units) 1 t.units (made no_program [])
 start-whole t = record { base = nothing-yet t.units; below = tt; globals = refl; same = refl; reads = λ n. refl }
 
 pub model-stands : (t : Tree) → StandsModel t (numbered_model t)

@@ -173,10 +173,10 @@ starts-is starts.Once = refl
 starts-is (starts.Times e) = count-is (constant e)
 
 -- how many proctypes are made
-abbrev made_so_far : Made → ℕ
+abbrev pub made_so_far : Made → ℕ
 made_so_far m = length m.program.proctypes
 
-one-longer : {A : Type 0} → (xs : List A) (x : A) → length xs + 1 ≡ length (xs ++ x ∷ [])
+pub one-longer : {A : Type 0} → (xs : List A) (x : A) → length xs + 1 ≡ length (xs ++ x ∷ [])
 one-longer xs x = sym (length-append xs (x ∷ []))
 
 module _ (text : List Part) (all : List Entry) (whole : ReadsAll text all) where
@@ -280,9 +280,9 @@ module _ (text : List Part) (all : List Entry) (whole : ReadsAll text all) where
   abbrev now_process : ℕ → TreeProctype → List Entry → List Entry
   now_process k q es = after es 0 (what.Declares q.name (declared_as.Proctype k (length q.parameters)))
 
-  record Opened (gs : Globals) (o : ℕ) (es : List Entry) : Type 0 where
-    base : Base gs o es
-    below : Below o es
+  pub record Opened (gs : Globals) (o : ℕ) (es : List Entry) : Type 0 where
+    pub base : Base gs o es
+    pub below : Below o es
 
   process-opened : (gs : Globals) (o k : ℕ) (q : TreeProctype) (es : List Entry) → 0 < o → Base gs o es → Below o es → (b : Bool) → is_declared gs q.name.text ≡ b → Opened (with_proctype gs q.name) o (now_process k q es)
   process-opened gs o k q es p h g true e =
@@ -308,7 +308,7 @@ module _ (text : List Part) (all : List Entry) (whole : ReadsAll text all) where
     abbrev hs : Globals
     hs = with_proctype gs q.name
 
-    opened : Opened hs o es
+    pub opened : Opened hs o es
     opened = process-opened gs o (made_so_far m) q m.names p h.base h.below (is_declared gs q.name.text) refl
 
     kept : Same gs hs
@@ -386,6 +386,15 @@ module _ (text : List Part) (all : List Entry) (whole : ReadsAll text all) where
 
   later : (o : ℕ) → 0 < o → 0 < o + 1
   later o p = omega (arith, p)
+
+  -- behind a unit what is left is before the others
+  pub unit-whole : (u : Part) (us : List Part) (o : ℕ) (gs : Globals) (m : Made) → 0 < o → Whole gs o (u ∷ us) m → (hs : Globals) × Whole hs (o + 1) us (with_unit all o u m)
+  unit-whole (part.Variables vs) us o gs m p h =
+      let hs : Globals = with_slots gs (variables_of vs gs m).slots in
+      (hs, subst (Whole hs (o + 1) us) (sym (variables-unit o vs gs m h.globals)) (variables-whole o vs us gs m p h))
+  unit-whole (part.Constants ns) us o gs m p h = (with_constants gs (reverse ns), constants-whole o ns us gs m p h)
+  unit-whole (part.Typedef t vs) us o gs m p h = (with_typedef gs (structure t o (fields_made o vs m).slots), typedef-whole o t vs us gs m p h)
+  unit-whole (part.Proctype q) us o gs m p h = (with_proctype gs q.name, process-whole o q us gs m p h)
 
   unit-stands : (u : Part) (us : List Part) → Goes us → Goes (u ∷ us)
   unit-stands (part.Variables vs) us rest o gs m p h =
