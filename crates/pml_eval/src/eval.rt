@@ -4,7 +4,7 @@ ghost use Rattle.std.specs.Prelude.{◌≡◌, ◌+◌, ◌*◌, ◌<◌, ◌≤
 ghost use Rattle.profile.specs.declared.TheConstants.{MOST_FIELDS};
 ghost use Rattle.pml_program.specs.declared.expr.Expr.TheVariants.{Read};
 ghost use Rattle.pml_eval.specs.declared.pattern.Sought.{Sought};
-ghost use Rattle.pml_eval.specs.Value.{val, place, cells, want, asked, asked_by, is_asked, has_match, within, inside, index_of, polled, is_match, messages_at, settled};
+ghost use Rattle.pml_eval.specs.Value.{val, place, cells, cells_of, want, asked, asked_by, is_asked, has_match, within, inside, index_of, polled, is_match, messages_at, settled};
 ghost use Rattle.pml_eval.specs.Pattern.{matched, IsThere, AreThere};
 
 use crate::ground::Ground;
@@ -203,10 +203,8 @@ pub fn place<G: Ground>(target: &Target, ground: &G) -> Result<Place, Fault>
 {
     let frame = ground.frame(target.local);
     let whole = ground.size(frame, target.variable);
-    let mut cell = further(whole, 0, 0)?;
-    for turn in target.turns.as_slice() {
-        cell = further(whole, cell, cells(turn, ground)?)?;
-    }
+    further(whole, 0, 0)?;
+    let cell = cell(target.turns.as_slice(), whole, ground)?;
     Ok(Place {
         frame,
         variable: target.variable,
@@ -214,9 +212,37 @@ pub fn place<G: Ground>(target: &Target, ground: &G) -> Result<Place, Fault>
     })
 }
 
-/// How many cells a turn goes on by.
+/// The cell that turns lead to in a variable of so many. One turn without an index, as most variables have, leads there at once.
 #[cycle(eval)]
 #[inline(always)]
+fn cell<G: Ground>(turns: &[Turn], whole: usize, ground: &G) -> Result<usize, Fault>
+    requires { 0 < whole }
+    ensures value { result ≡ cells_of (map cells turns.now) whole 0 (G.reading ground.now) }
+    ensures there { IfOk result (λ c. c < whole) }
+{
+    if turns.len() == 1 && turns[0].index.is_none() {
+        return further(whole, 0, turns[0].offset as usize);
+    }
+    turned(turns, whole, ground)
+}
+
+/// The cell that turns lead to, one after another.
+#[cycle(eval)]
+#[inline(never)]
+fn turned<G: Ground>(turns: &[Turn], whole: usize, ground: &G) -> Result<usize, Fault>
+    requires { 0 < whole }
+    ensures value { result ≡ cells_of (map cells turns.now) whole 0 (G.reading ground.now) }
+    ensures there { IfOk result (λ c. c < whole) }
+{
+    let mut cell = 0;
+    for turn in turns {
+        cell = further(whole, cell, cells(turn, ground)?)?;
+    }
+    Ok(cell)
+}
+
+/// How many cells a turn goes on by.
+#[cycle(eval)]
 fn cells<G: Ground>(turn: &Turn, ground: &G) -> Result<usize, Fault>
     ensures { result ≡ cells turn.now (G.reading ground.now) }
 {
@@ -231,7 +257,6 @@ fn cells<G: Ground>(turn: &Turn, ground: &G) -> Result<usize, Fault>
 
 /// The index of an element, in an array of so many.
 #[cycle(eval)]
-#[inline(never)]
 fn element_of<G: Ground>(index: &Expr, length: u32, ground: &G) -> Result<u32, Fault>
     ensures value { result ≡ index_of (Some (val index.now)) length (G.reading ground.now) }
     ensures below { IfOk result (λ i. i < length) }

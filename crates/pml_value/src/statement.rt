@@ -105,6 +105,7 @@ fn resolved(action: &Action<'_>, view: &View<'_>) -> Result<Option<Goes>, Fault>
 }
 
 /// Takes a statement of a process.
+#[inline(always)]
 pub fn take(
     store: &mut Store,
     channels: &[LiveChannel],
