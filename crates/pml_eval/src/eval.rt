@@ -1,13 +1,13 @@
 //! The value of an expression, and the place of a reference.
 
-ghost use Rattle.std.specs.Prelude.{◌≡◌, ◌+◌, ◌*◌, ◌<◌, ◌≤◌, IfOk, List, Option, Ok, length, map, option_map};
+ghost use Rattle.std.specs.Prelude.{◌≡◌, ◌+◌, ◌*◌, ◌<◌, ◌≤◌, IfOk, List, Some, Ok, length, map};
 ghost use Rattle.profile.specs.declared.TheConstants.{MOST_FIELDS};
+ghost use Rattle.pml_program.specs.declared.expr.Expr.TheVariants.{Read};
 ghost use Rattle.pml_eval.specs.declared.pattern.Sought.{Sought};
-ghost use Rattle.pml_eval.specs.Value.{val, place, cells, want, asked, asked_by, is_asked, has_match, within, inside, poll_of, is_match, messages_at, Filling, settled};
+ghost use Rattle.pml_eval.specs.Value.{val, place, cells, cells_of, want, asked, asked_by, is_asked, has_match, within, inside, index_of, polled, is_match, messages_at, settled};
 ghost use Rattle.pml_eval.specs.Pattern.{matched, IsThere, AreThere};
-ghost use Rattle.pml_eval.specs.Ground.{shown};
 
-use crate::ground::{Filled, Ground};
+use crate::ground::Ground;
 use crate::operators::{decide, infix, number_of, prefix};
 use crate::pattern::{Pattern, Sought, takes};
 use diagnostics::Fault;
@@ -26,8 +26,8 @@ pub fn eval<G: Ground>(e: &Expr, ground: &G) -> Result<i32, Fault>
         Expr::ProcessCount => Ok(ground.process_count()),
         Expr::Timeout => Ok(number_of(ground.timeout())),
         Expr::Poll(target, search, arguments) => {
-            let at = place(target, ground)?;
-            poll(arguments.as_slice(), *search, at, ground)
+            let number = read(target, ground)?;
+            poll(arguments.as_slice(), *search, number, ground)
         }
         Expr::Unary(op, a) => {
             let x = operand(a.get(), ground)?;
@@ -49,13 +49,10 @@ pub fn eval<G: Ground>(e: &Expr, ground: &G) -> Result<i32, Fault>
                 eval(b.get(), ground)
             }
         }
-        Expr::Read(target) => {
-            let at = place(target, ground)?;
-            Ok(ground.number(at))
-        }
+        Expr::Read(target) => read(target, ground),
         Expr::Ask(fill, target) => {
-            let at = place(target, ground)?;
-            ask(*fill, ground.channel(ground.number(at)))
+            let number = read(target, ground)?;
+            ask(*fill, number, ground)
         }
     }
 }
@@ -73,13 +70,27 @@ fn operand<G: Ground>(e: &Expr, ground: &G) -> Result<i32, Fault>
     eval(e, ground)
 }
 
-/// Whether the oldest message matches, or any of them, as the search has it.
+/// What stands at the place of a reference. It is a function of its own so that an expression of another kind has no room for a place.
 #[cycle(eval)]
-fn poll<G: Ground>(arguments: &[Want], search: Search, at: Place, ground: &G) -> Result<i32, Fault>
-    requires { at.cell < (G.reading ground.now).cells at.frame at.variable }
-    ensures { result ≡ poll_of search arguments.now at (G.reading ground.now) }
+#[inline(never)]
+fn read<G: Ground>(target: &Target, ground: &G) -> Result<i32, Fault>
+    ensures { result ≡ val (Read target.now) (G.reading ground.now) }
 {
-    let number = ground.number(at);
+    let at = place(target, ground)?;
+    Ok(ground.number(at))
+}
+
+/// Whether the oldest message of the channel with this number matches, or any of them, as the search has it.
+#[cycle(eval)]
+#[inline(never)]
+fn poll<G: Ground>(
+    arguments: &[Want],
+    search: Search,
+    number: i32,
+    ground: &G,
+) -> Result<i32, Fault>
+    ensures { result ≡ polled search (length arguments.now) (asked_by arguments.now (G.reading ground.now)) ((G.reading ground.now).channel number) }
+{
     let Some(c) = ground.channel(number) else {
         return Err(Fault::NoSuchChannel);
     };
@@ -198,21 +209,49 @@ pub fn want<G: Ground>(argument: &Want, ground: &G) -> Result<Sought, Fault>
 
 /// The place of a reference, or the first fault from the left.
 #[cycle(eval)]
+#[inline(always)]
 pub fn place<G: Ground>(target: &Target, ground: &G) -> Result<Place, Fault>
     ensures value { result ≡ place target.now (G.reading ground.now) }
     ensures there { IfOk result (λ p. p.cell < (G.reading ground.now).cells p.frame p.variable) }
 {
     let frame = ground.frame(target.local);
     let whole = ground.size(frame, target.variable);
-    let mut cell = further(whole, 0, 0)?;
-    for turn in target.turns.as_slice() {
-        cell = further(whole, cell, cells(turn, ground)?)?;
-    }
+    further(whole, 0, 0)?;
+    let cell = cell(target.turns.as_slice(), whole, ground)?;
     Ok(Place {
         frame,
         variable: target.variable,
         cell,
     })
+}
+
+/// The cell that turns lead to in a variable of so many. One turn without an index, as most variables have, leads there at once.
+#[cycle(eval)]
+#[inline(always)]
+fn cell<G: Ground>(turns: &[Turn], whole: usize, ground: &G) -> Result<usize, Fault>
+    requires { 0 < whole }
+    ensures value { result ≡ cells_of (map cells turns.now) whole 0 (G.reading ground.now) }
+    ensures there { IfOk result (λ c. c < whole) }
+{
+    if turns.len() == 1 && turns[0].index.is_none() {
+        return further(whole, 0, turns[0].offset as usize);
+    }
+    turned(turns, whole, ground)
+}
+
+/// The cell that turns lead to, one after another.
+#[cycle(eval)]
+#[inline(never)]
+fn turned<G: Ground>(turns: &[Turn], whole: usize, ground: &G) -> Result<usize, Fault>
+    requires { 0 < whole }
+    ensures value { result ≡ cells_of (map cells turns.now) whole 0 (G.reading ground.now) }
+    ensures there { IfOk result (λ c. c < whole) }
+{
+    let mut cell = 0;
+    for turn in turns {
+        cell = further(whole, cell, cells(turn, ground)?)?;
+    }
+    Ok(cell)
 }
 
 /// How many cells a turn goes on by.
@@ -223,11 +262,20 @@ fn cells<G: Ground>(turn: &Turn, ground: &G) -> Result<usize, Fault>
     match &turn.index {
         None => Ok(turn.offset as usize),
         Some(index) => {
-            let x = eval(index.get(), ground)?;
-            let i = index_within(turn.length, x)?;
+            let i = element_of(index.get(), turn.length, ground)?;
             Ok(element(turn.offset, i, turn.stride))
         }
     }
+}
+
+/// The index of an element, in an array of so many.
+#[cycle(eval)]
+fn element_of<G: Ground>(index: &Expr, length: u32, ground: &G) -> Result<u32, Fault>
+    ensures value { result ≡ index_of (Some (val index.now)) length (G.reading ground.now) }
+    ensures below { IfOk result (λ i. i < length) }
+{
+    let x = eval(index, ground)?;
+    index_within(length, x)
 }
 
 /// The cell so many cells further on, in a variable that has `whole`.
@@ -258,10 +306,12 @@ fn index_within(length: u32, x: i32) -> Result<u32, Fault>
     }
 }
 
-fn ask(fill: Fill, found: Option<Filled>) -> Result<i32, Fault>
-    ensures { (c : Option Filling) → found ≡ option_map shown c → result ≡ asked fill c }
+/// How full the channel with this number is.
+#[inline(never)]
+fn ask<G: Ground>(fill: Fill, number: i32, ground: &G) -> Result<i32, Fault>
+    ensures { result ≡ asked fill ((G.reading ground.now).channel number) }
 {
-    let Some(c) = found else {
+    let Some(c) = ground.channel(number) else {
         return Err(Fault::NoSuchChannel);
     };
     Ok(match fill {

@@ -23,6 +23,7 @@ pub struct Wanted {
 }
 
 /// Appends the name of a proctype, or `:init:`.
+#[inline(always)]
 pub fn proctype_name(name: &Token<'_>, text: &mut Vec<u8>) -> Result<(), AllocError>
     ensures added { OnOk result (text.new.items ≡ text.old.items ++ proctype_name name.now) }
     ensures kept { OnErr result (StartsWith text.new.items text.old.items) }

@@ -83,6 +83,7 @@ impl Store {
     }
 
     /// Stores a number. Want of memory changes nothing.
+    #[inline(always)]
     pub fn set(&mut self, place: Place, number: i32) -> Result<(), AllocError>
         requires { HasPlace self.old.frames place }
         ensures ok { OnOk result (self.new ≡ stored self.old place number) }

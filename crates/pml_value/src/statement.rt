@@ -41,6 +41,7 @@ pub fn can_be_taken(action: &Action<'_>, view: &View<'_>) -> bool
 }
 
 /// What a place of this type keeps of a number.
+#[inline(always)]
 fn kept(place: Place, form: Form, number: i32) -> Goes
     ensures place { result.place ≡ place }
     ensures number { result.number ≡ clipped form number }
@@ -52,6 +53,7 @@ fn kept(place: Place, form: Form, number: i32) -> Goes
 }
 
 /// Where a number goes that is stored to this target.
+#[inline(always)]
 fn store_to(target: &Target, number: i32, view: &View<'_>) -> Result<Goes, Fault>
     ensures value { result ≡ goes target.now number (seen view.now) }
     ensures there { IfOk result (λ g. g.place.cell < size_at view.now.store.now.frames g.place.frame g.place.variable) }
@@ -61,6 +63,7 @@ fn store_to(target: &Target, number: i32, view: &View<'_>) -> Result<Goes, Fault
 }
 
 /// The value of the right side, then the place of the left.
+#[inline(always)]
 fn assigned(target: &Option<Target>, value: &Expr, view: &View<'_>) -> Result<Option<Goes>, Fault>
     ensures value { result ≡ assigned target.now value.now (seen view.now) }
     ensures there { IfOk result (λ s. IfSome s (λ g. g.place.cell < size_at view.now.store.now.frames g.place.frame g.place.variable)) }
@@ -73,6 +76,7 @@ fn assigned(target: &Option<Target>, value: &Expr, view: &View<'_>) -> Result<Op
 }
 
 /// What a variable holds, and so much more.
+#[inline(always)]
 fn counted(target: &Target, by: i32, view: &View<'_>) -> Result<Option<Goes>, Fault>
     ensures value { result ≡ counted target.now by (seen view.now) }
     ensures there { IfOk result (λ s. IfSome s (λ g. g.place.cell < size_at view.now.store.now.frames g.place.frame g.place.variable)) }
@@ -83,6 +87,7 @@ fn counted(target: &Target, by: i32, view: &View<'_>) -> Result<Option<Goes>, Fa
 }
 
 /// What a statement stores, if anything.
+#[inline(always)]
 fn resolved(action: &Action<'_>, view: &View<'_>) -> Result<Option<Goes>, Fault>
     ensures value { result ≡ outcome action.now (seen view.now) }
     ensures there { IfOk result (λ s. IfSome s (λ g. g.place.cell < size_at view.now.store.now.frames g.place.frame g.place.variable)) }
@@ -100,6 +105,7 @@ fn resolved(action: &Action<'_>, view: &View<'_>) -> Result<Option<Goes>, Fault>
 }
 
 /// Takes a statement of a process.
+#[inline(always)]
 pub fn take(
     store: &mut Store,
     channels: &[LiveChannel],

@@ -26,6 +26,7 @@ impl Draft {
 }
 
 // Appends a number in decimal.
+#[inline(always)]
 fn add_number(piece: &mut Vec<u8>, n: u64) -> Result<(), AllocError>
     ensures { OnOk result (piece.new.items ≡ piece.old.items ++ decimal n) }
 {

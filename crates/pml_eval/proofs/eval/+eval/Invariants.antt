@@ -5,11 +5,11 @@ use Rattle.pml_eval.proofs.Asking.{Rest}
 use Rattle.pml_eval.proofs.eval.+eval.Given as goal
 
 -- from the cell so far on by the rest is from the first on by all
-abbrev pub invariant-place-loop-turn : goal.invariant-place-loop-turn
-invariant-place-loop-turn g l =
+abbrev pub invariant-turned-loop-turn : goal.invariant-turned-loop-turn
+invariant-turned-loop-turn g l =
     let r = g.G.Ground.reading l.ground in
     record {
-      same : cells_of (map cells (drop l.turn-index l.turn-items)) l.whole l.cell r ≡ cells_of (map cells l.turn-items) l.whole 0 r;
+      same : cells_of (map cells (drop l.turn-index l.turns)) l.whole l.cell r ≡ cells_of (map cells l.turns) l.whole 0 r;
       there : l.cell < l.whole;
     }
 
