@@ -1,6 +1,9 @@
 //! When a statement can be taken by itself.
 
-ghost use Rattle.std.specs.Prelude.{◌≡◌, List, IfOk, IfErr, Ok, Err, length};
+ghost use Rattle.std.specs.Prelude.{◌≡◌, Bool, List, IfOk, IfErr, Ok, Err, length};
+ghost use Rattle.pml_tree.specs.declared.tree.SendOrder.{SendOrder};
+ghost use Rattle.pml_tree.specs.declared.tree.Removal.{Removal};
+ghost use Rattle.pml_program.specs.declared.program.Action.TheVariants.{Send, Receive};
 ghost use Rattle.pml_eval.specs.declared.pattern.Sought.{Sought};
 ghost use Rattle.pml_eval.specs.Value.{val, asked_by, is_match, settled};
 ghost use Rattle.pml_value.specs.Reads.{seen};
@@ -71,6 +74,8 @@ fn has_match(
     Ok(false)
 }
 
+/// Whether a condition holds, or comes to a fault.
+#[inline(never)]
 fn holds(view: &View<'_>, value: &Expr) -> bool
     ensures { result ≡ or_fault (nonzero (val value.now (seen view.now))) }
 {
@@ -106,6 +111,28 @@ fn can_receive(view: &View<'_>, search: Search, channel: &Channel, arguments: &[
     }
 }
 
+/// Whether a send to a channel can be taken by itself.
+#[inline(never)]
+fn can_send_to(view: &View<'_>, in_d_step: bool, target: &Target, fields: &[Expr]) -> bool
+    ensures { (order : SendOrder) → result ≡ can view.now.channels.now (seen view.now) in_d_step (Send target.now order fields.now) }
+{
+    match named(view, target, fields.len()) {
+        Ok((_, channel)) => can_send(view, in_d_step, channel, fields),
+        Err(_) => true,
+    }
+}
+
+/// Whether a receive from a channel can be taken by itself.
+#[inline(never)]
+fn can_receive_from(view: &View<'_>, search: Search, target: &Target, arguments: &[Want]) -> bool
+    ensures { (in_d_step : Bool) (removal : Removal) → result ≡ can view.now.channels.now (seen view.now) in_d_step (Receive target.now search removal arguments.now) }
+{
+    match named(view, target, arguments.len()) {
+        Ok((_, channel)) => can_receive(view, search, channel, arguments),
+        Err(_) => true,
+    }
+}
+
 /// Whether a statement can be taken by itself, inside a d_step or not. What has no value can: to take it is the fault.
 pub fn can_be_taken(view: &View<'_>, in_d_step: bool, action: &Action<'_>) -> bool
     ensures { result ≡ can view.now.channels.now (seen view.now) in_d_step action.now }
@@ -113,15 +140,11 @@ pub fn can_be_taken(view: &View<'_>, in_d_step: bool, action: &Action<'_>) -> bo
     match action {
         Action::Holds(value) => holds(view, value),
         Action::Run(_) => usize::from(view.process_count) < MOST_PROCESSES,
-        Action::Send(target, _, fields) => match named(view, target, fields.len()) {
-            Ok((_, channel)) => can_send(view, in_d_step, channel, fields.as_slice()),
-            Err(_) => true,
-        },
+        Action::Send(target, _, fields) => {
+            can_send_to(view, in_d_step, target, fields.as_slice())
+        }
         Action::Receive(target, search, _, arguments) => {
-            match named(view, target, arguments.len()) {
-                Ok((_, channel)) => can_receive(view, *search, channel, arguments.as_slice()),
-                Err(_) => true,
-            }
+            can_receive_from(view, *search, target, arguments.as_slice())
         }
         _ => true,
     }

@@ -41,6 +41,7 @@ fn edge_of(body: &Body<'_, '_, '_>, node: usize, pick: Pick) -> Option<Edge>
 }
 
 /// The offer that a pick names, if its process stands where it has such an offer.
+#[inline(always)]
 pub fn picked<'w, 'p, 'a>(scene: &Scene<'w, 'p, 'a>, pick: Pick) -> Option<Offered<'w, 'p, 'a>>
     requires { Fits scene.now }
     ensures offer { option_map (λ k. shows k.body k.edge) result ≡ picks (state_of scene.now) pick }

@@ -109,11 +109,17 @@ fn can_begin(view: &View<'_>, body: &Body<'_, '_, '_>, entry: Option<usize>) -> 
 }
 
 /// Whether an offer is a move by itself.
-fn can_be_alone(view: &View<'_>, body: &Body<'_, '_, '_>, edge: Edge) -> bool
-    requires { IsBody body.now }
+fn can_be_alone(
+    view: &View<'_>,
+    body: &Body<'_, '_, '_>,
+    edge: Edge,
+    basic: Option<&Basic<'_>>,
+) -> bool
+    requires body { IsBody body.now }
+    requires basic { option_copied basic ≡ (shows body.now edge).basic }
     ensures { result ≡ can_alone view.now.channels.now (seen view.now) body.now.proctype.now.body (shows body.now edge) (shows body.now edge).basic }
 {
-    match body.basic(edge) {
+    match basic {
         Some(Basic::Plain(action)) => can_be_taken(view, false, action),
         Some(Basic::DStep(_)) => can_begin(view, body, edge.entry),
         _ => true,
@@ -255,20 +261,22 @@ fn add_moves_by(
     timeout: bool,
     offer: Pick,
     edge: Edge,
+    basic: Option<&Basic<'_>>,
     moves: &mut Vec<Move>,
 ) -> Result<(), AllocError>
     requires fits { Fits scene.now }
     requires there { offer.process < length scene.now.seats.now }
     requires body { IsBody body.now }
+    requires basic { option_copied basic ≡ (shows body.now edge).basic }
     ensures added { OnOk result (moves.new.items ≡ moves.old.items ++ moves_by (state_of scene.now) offer.process timeout body.now.proctype.now.body offer.level offer.place (shows body.now edge)) }
     ensures kept { Extends moves.new.items moves.old.items }
 {
     let view = view(scene, offer.process, timeout);
-    if can_be_alone(&view, body, edge) {
+    if can_be_alone(&view, body, edge, basic) {
         moves.push(Move::Alone(offer, timeout))?;
         return Ok(());
     }
-    match offered(view, body.basic(edge)) {
+    match offered(view, basic) {
         None => Ok(()),
         Some(message) => {
             let sending = Sending {
@@ -296,10 +304,11 @@ fn add_plain_by(
     ensures added { OnOk result (moves.new.items ≡ moves.old.items ++ (if else_of (shows body.now edge).basic then [] else moves_by (state_of scene.now) offer.process timeout body.now.proctype.now.body offer.level offer.place (shows body.now edge))) }
     ensures kept { Extends moves.new.items moves.old.items }
 {
-    if is_else(body.basic(edge)) {
+    let basic = body.basic(edge);
+    if is_else(basic) {
         return Ok(());
     }
-    add_moves_by(scene, body, timeout, offer, edge, moves)
+    add_moves_by(scene, body, timeout, offer, edge, basic, moves)
 }
 
 /// Adds the moves of a level's offers that are no `else`.
