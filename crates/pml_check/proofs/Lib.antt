@@ -4,6 +4,8 @@ pub mod Subjects
 pub mod Exclusive
 pub mod Models
 pub mod Standing
+pub mod Within
+pub mod Starting
 pub mod Least
 pub mod Seeking
 pub mod Ends

@@ -3,6 +3,7 @@ use Rattle.std.specs.Prelude.{List}
 use Rattle.pml_tree.specs.declared.tree.Tree.{Tree}
 use Rattle.pml_program.specs.declared.program.Program.{Program}
 use Rattle.pml_stands.specs.StandsModel.{StandsModel}
+use Rattle.pml_start.specs.Bound.{IsWithin}
 use Rattle.pml_flow.specs.Flow.{Graph, AreGraphs}
 use Rattle.pml_check.specs.declared.checked.CheckFault.{CheckFault}
 use Rattle.pml_check.specs.declared.checked.CheckFault.TheVariants as fault
@@ -13,9 +14,10 @@ abbrev pub IsRefused : Tree → CheckFault → Type 0
 IsRefused t fault.Memory = Unit {0}
 IsRefused t (fault.Refused x) = IsLeast t x
 
--- the model that a tree which fits all conditions stands for, with the graphs of its proctypes
+-- the model that a tree which fits all conditions stands for, within its limits, with the graphs of its proctypes
 pub record IsChecked (p : Program) (gs : List Graph) : Type 0 where
   pub tree : Tree
   pub fits : IsFit tree
   pub stands : StandsModel tree p
+  pub within : IsWithin p
   pub graphs : AreGraphs p.proctypes gs

@@ -32,11 +32,17 @@ abbrev pub Decides : Bool → Refusal → List Mark → Program → Type 0
 Decides true x ms p = AppliesTo x ms p
 Decides false x ms p = FitsTo x ms p
 
--- The refusals that are judged on the tree, in the order of their numbers. No clause of a public function cites it.
+-- The refusals that are judged on the tree, in the order of their numbers. No clause of a public function of the crate cites it.
 abbrev pub all_judged : List Refusal
 all_judged =
     r.NameTwice ∷ r.UnknownName ∷ r.WrongKind ∷ r.ArgumentCount ∷ r.Label ∷ r.BreakOutsideDo ∷ r.DStep ∷ r.CircleOfGotos ∷ r.NumberOutOfRange
     ∷ r.TooManyCells ∷ r.NoProcess ∷ r.TooManyAtStart ∷ r.Initialiser ∷ []
+
+-- those that are judged before the first state
+abbrev pub judged_before_start : List Refusal
+judged_before_start =
+    r.NameTwice ∷ r.UnknownName ∷ r.WrongKind ∷ r.ArgumentCount ∷ r.Label ∷ r.BreakOutsideDo ∷ r.DStep ∷ r.CircleOfGotos ∷ r.NumberOutOfRange
+    ∷ r.TooManyCells ∷ r.NoProcess ∷ r.TooManyAtStart ∷ []
 
 abbrev pub FitsAll : List Refusal → List Mark → Program → Type 0
 FitsAll [] ms p = Unit {0}

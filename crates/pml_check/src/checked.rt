@@ -6,7 +6,7 @@ ghost use Rattle.pml_check.specs.Checked.{IsRefused};
 ghost use Rattle.pml_stands.specs.StandsModel.{StandsModel};
 
 use crate::control::all_graphs;
-use crate::judge::first_of;
+use crate::judge::least_of;
 use crate::subject::{Subject, subject_of};
 use diagnostics::Refusal;
 use pml_flow::graph::Graph;
@@ -33,23 +33,6 @@ impl From<AllocError> for CheckFault {
         CheckFault::Memory
     }
 }
-
-/// The refusals that are judged on a tree, in the order in which they go before one another.
-const JUDGED: [Refusal; 13] = [
-    Refusal::NameTwice,
-    Refusal::UnknownName,
-    Refusal::WrongKind,
-    Refusal::ArgumentCount,
-    Refusal::Label,
-    Refusal::BreakOutsideDo,
-    Refusal::DStep,
-    Refusal::CircleOfGotos,
-    Refusal::NumberOutOfRange,
-    Refusal::TooManyCells,
-    Refusal::NoProcess,
-    Refusal::TooManyAtStart,
-    Refusal::Initialiser,
-];
 
 /// A model that fits all conditions, with its names replaced by what they stand for, and the control graphs of its proctypes.
 #[derive(Drop)]
@@ -78,10 +61,12 @@ impl<'a> Model for Checked<'a> {
 
 impl<'a> Checked<'a> {
     ghost use Rattle.pml_flow.specs.Flow.{AreGraphs};
+    ghost use Rattle.pml_start.specs.Bound.{IsWithin};
 
-    /// The model.
+    /// The model: its cells and its channels are within the limits.
     pub fn program(&self) -> &Program<'a>
-        ensures { result.now ≡ self.now }
+        ensures model { result.now ≡ self.now }
+        ensures within { IsWithin result.now }
     {
         self.program.get()
     }
@@ -101,7 +86,7 @@ pub fn check<'a>(alloc: Global, tree: &Tree<'a>) -> Result<Checked<'a>, CheckFau
     ensures refused { IfErr result (IsRefused tree.now) }
 {
     let subject = subject_of(alloc, tree)?;
-    if let Some(refusal) = first_of(alloc, &JUDGED, &subject)? {
+    if let Some(refusal) = least_of(alloc, &subject)? {
         return Err(CheckFault::Refused(refusal));
     }
     let Subject { program, plans, .. } = subject;

@@ -1,10 +1,15 @@
 //! The least refusal that applies.
 
-ghost use Rattle.std.specs.Prelude.{◌≡◌, IfOk};
+ghost use Rattle.std.specs.Prelude.{◌≡◌, ◌≢◌, IfOk};
+ghost use Rattle.std.specs.List.{AllByRecursion};
+ghost use Rattle.diagnostics.specs.declared.refusal.Refusal.TheVariants as r;
+ghost use Rattle.pml_tree.specs.declared.tree.Tree.{Tree};
+ghost use Rattle.pml_program.specs.declared.program.Program.{Program};
 ghost use Rattle.pml_names.specs.Env.{env};
 ghost use Rattle.pml_conditions.specs.Decided.{AreFound};
 ghost use Rattle.pml_check.specs.Judged.{condition_of};
-ghost use Rattle.pml_check.specs.Decided.{DecidesCircles, DecidesSteps, DecidesCondition, DecidesModel, Decides, Finds};
+ghost use Rattle.pml_check.specs.Decided.{DecidesCircles, DecidesSteps, DecidesCondition, DecidesModel, Decides, Finds, all_judged};
+ghost use Rattle.pml_check.specs.Subject.{IsSubject};
 
 use crate::start::has_bad_start;
 use crate::subject::Subject;
@@ -12,7 +17,6 @@ use diagnostics::Refusal;
 use pml_conditions::condition::Condition;
 use pml_conditions::decide::applies;
 use pml_control::findings::Findings;
-use pml_program::program::Program;
 use std::alloc::{AllocError, Global};
 
 /// The condition of a refusal that is decided on the marks.
@@ -57,28 +61,22 @@ fn breaks_condition<'a>(
     }
 }
 
-/// Whether what is asked of the model with its names replaced is broken.
-fn breaks_model(
-    alloc: Global,
-    refusal: Refusal,
-    control: Findings,
-    program: &Program,
-) -> Result<bool, AllocError>
-    requires circles { DecidesCircles control.circle program.now.proctypes }
-    requires steps { DecidesSteps control.bad_first_point program.now.proctypes }
-    ensures { IfOk result (λ b. DecidesModel b refusal program.now) }
+/// Whether what is asked of the control of the model with its names replaced is broken.
+fn breaks_control(refusal: Refusal, control: Findings) -> bool
+    requires other { refusal ≢ r.Initialiser }
+    ensures { (p : Program) → DecidesCircles control.circle p.proctypes → DecidesSteps control.bad_first_point p.proctypes → DecidesModel result refusal p }
 {
     match refusal {
-        Refusal::DStep => Ok(control.bad_first_point),
-        Refusal::CircleOfGotos => Ok(control.circle),
-        Refusal::Initialiser => has_bad_start(alloc, program),
-        _ => Ok(false),
+        Refusal::DStep => control.bad_first_point,
+        Refusal::CircleOfGotos => control.circle,
+        _ => false,
     }
 }
 
-/// Whether a refusal applies.
+/// Whether a refusal applies: any but that of the first state.
 #[tactic(auto, unfolding(crate::specs::Judged::AppliesTo, crate::specs::Judged::FitsTo))]
 fn refuses<'a>(alloc: Global, refusal: Refusal, subject: &Subject<'a>) -> Result<bool, AllocError>
+    requires other { refusal ≢ r.Initialiser }
     requires names { subject.now.names.table ≡ env subject.now.marks }
     requires found { AreFound subject.now.marks subject.now.found }
     requires circles { DecidesCircles subject.now.control.circle subject.now.program.proctypes }
@@ -88,15 +86,16 @@ fn refuses<'a>(alloc: Global, refusal: Refusal, subject: &Subject<'a>) -> Result
     if breaks_condition(alloc, refusal, subject)? {
         return Ok(true);
     }
-    breaks_model(alloc, refusal, subject.control, subject.program.get())
+    Ok(breaks_control(refusal, subject.control))
 }
 
 /// The first of these refusals that applies.
-pub fn first_of<'a>(
+fn first_of<'a>(
     alloc: Global,
     refusals: &[Refusal],
     subject: &Subject<'a>,
 ) -> Result<Option<Refusal>, AllocError>
+    requires others { AllByRecursion (λ x. x ≢ r.Initialiser) refusals.now }
     requires names { subject.now.names.table ≡ env subject.now.marks }
     requires found { AreFound subject.now.marks subject.now.found }
     requires circles { DecidesCircles subject.now.control.circle subject.now.program.proctypes }
@@ -107,6 +106,36 @@ pub fn first_of<'a>(
         if refuses(alloc, *refusal, subject)? {
             return Ok(Some(*refusal));
         }
+    }
+    Ok(None)
+}
+
+/// The refusals that are judged on a tree before its first state, in the order in which they go before one another.
+const JUDGED: [Refusal; 12] = [
+    Refusal::NameTwice,
+    Refusal::UnknownName,
+    Refusal::WrongKind,
+    Refusal::ArgumentCount,
+    Refusal::Label,
+    Refusal::BreakOutsideDo,
+    Refusal::DStep,
+    Refusal::CircleOfGotos,
+    Refusal::NumberOutOfRange,
+    Refusal::TooManyCells,
+    Refusal::NoProcess,
+    Refusal::TooManyAtStart,
+];
+
+/// The least refusal that applies. The first state is asked last: it is begun of a model within its limits alone.
+pub fn least_of<'a>(alloc: Global, subject: &Subject<'a>) -> Result<Option<Refusal>, AllocError>
+    requires subject { (t : Tree) × IsSubject t subject.now }
+    ensures { IfOk result (Finds all_judged subject.now.marks subject.now.program) }
+{
+    if let Some(refusal) = first_of(alloc, &JUDGED, subject)? {
+        return Ok(Some(refusal));
+    }
+    if has_bad_start(alloc, subject.program.get())? {
+        return Ok(Some(Refusal::Initialiser));
     }
     Ok(None)
 }

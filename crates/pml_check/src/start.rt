@@ -1,6 +1,7 @@
 //! What is asked of the first state.
 
 ghost use Rattle.std.specs.Prelude.{IfOk};
+ghost use Rattle.pml_start.specs.Bound.{IsWithin};
 ghost use Rattle.pml_check.specs.Decided.{DecidesStart};
 
 use diagnostics::Stop;
@@ -10,6 +11,7 @@ use std::alloc::{AllocError, Global};
 
 /// Whether what a variable of the first state begins with cannot be evaluated.
 pub fn has_bad_start(alloc: Global, program: &Program) -> Result<bool, AllocError>
+    requires within { IsWithin program.now }
     ensures { IfOk result (λ b. DecidesStart b program.now) }
 {
     match start(alloc, program) {

@@ -1,7 +1,7 @@
 -- How much a run of a model keeps at most.
 use Rattle.std.specs.Prelude.{◌≡◌, ℕ, ◌+◌, ◌*◌, ◌≤◌, max, map, length, List, [], ◌∷◌}
 use Rattle.std.specs.List.{AllByRecursion}
-use Rattle.profile.specs.declared.TheConstants.{MOST_PROCESSES, MOST_CHANNELS}
+use Rattle.profile.specs.declared.TheConstants.{MOST_CELLS, MOST_PROCESSES, MOST_CHANNELS}
 use Rattle.pml_program.specs.declared.program.Initial.{Initial}
 use Rattle.pml_program.specs.declared.program.Initial.TheVariants as i
 use Rattle.pml_program.specs.declared.program.Slot.{Slot}
@@ -48,6 +48,13 @@ room_of_processes (q ∷ qs) = max (room_of q.variables) (room_of_processes qs)
 
 abbrev pub most_room : Program → ℕ
 most_room p = max (room_of p.globals) (max (room_of_fields p.typedefs) (room_of_processes p.proctypes))
+
+-- The globals have no more cells than an owner may have, nor has any proctype, and no channel that an initialiser makes may hold more
+-- numbers than a channel may.
+pub record IsWithin (p : Program) : Type 0 where
+  pub globals : cells_of p.globals ≤ MOST_CELLS
+  pub processes : largest p.proctypes ≤ MOST_CELLS
+  pub channels : most_room p ≤ MOST_CELLS
 
 -- What a run keeps at most: the cells of the globals, and for each of as many processes and channels as may live its numbers and two
 -- more.

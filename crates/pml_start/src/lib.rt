@@ -3,7 +3,7 @@
 
 mod begin;
 mod beginnings;
-pub mod bound;
+mod bound;
 mod counting;
 pub mod create;
 pub mod law;

@@ -2,7 +2,7 @@
 
 ghost use Rattle.std.specs.Prelude.{◌≡◌, ◌<◌, [], IfOk, OnOk, length};
 ghost use Rattle.pml_start.specs.Begin.{Begins, shown};
-ghost use Rattle.pml_start.specs.Bound.{most_cells, IsBounded};
+ghost use Rattle.pml_start.specs.Bound.{most_cells, IsWithin, IsBounded};
 ghost use Rattle.pml_start.specs.Start.{Starts, IsDeclared, first_state, process_begun, kind_begun};
 
 use crate::begin::begin_frame;
@@ -64,6 +64,7 @@ fn begin_processes(
 
 /// The first state of a checked model.
 pub fn start(alloc: Global, program: &Program<'_>) -> Result<Started, Stop>
+    requires within { IsWithin program.now }
     ensures value { Starts (first_state program.now) result }
     ensures forgotten { IfOk result (λ s. s.store.written ≡ []) }
     ensures declared { IfOk result (λ s. IsDeclared program.now (shown s)) }
@@ -71,9 +72,8 @@ pub fn start(alloc: Global, program: &Program<'_>) -> Result<Started, Stop>
 {
     let typedefs = program.typedefs.as_slice();
     let beginnings = Beginnings::new(alloc, typedefs).map_err(|_| Stop::Memory)?;
-    let most = most_cells(program).ok_or(Stop::Memory)?;
     let mut started = Started {
-        store: Store::new(alloc, most),
+        store: Store::new(alloc, most_cells(program)),
         channels: Vec::new(alloc),
         kinds: Vec::new(alloc),
     };

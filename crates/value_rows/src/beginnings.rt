@@ -1,4 +1,5 @@
 //! First states.
+use crate::limits::within;
 use diagnostics::{Fault, Stop};
 use pml_lex::token::{Kind, Token};
 use pml_program::expr::Expr;
@@ -51,7 +52,15 @@ pub fn begun(
         typedefs,
         proctypes: Items::new(alloc),
     };
-    start(alloc, &program)
+    first_state(alloc, &program)
+}
+
+/// The first state of a model that is within its limits.
+pub fn first_state(alloc: Global, program: &Program<'_>) -> Result<Started, Stop> {
+    match within(program) {
+        Some(()) => start(alloc, program),
+        None => Err(Stop::Memory),
+    }
 }
 
 fn shows<R: Abort>(rt: &R, begun: Result<Started, Stop>, cells: &[i32]) -> Result<Started, Fail> {
@@ -251,7 +260,7 @@ pub fn program(alloc: Global) -> Result<Program<'static>, AllocError> {
 #[test]
 fn fields_and_processes(rt: HostRuntime) -> Result<(), Fail> {
     let alloc = rt.alloc();
-    let begun = start(alloc, &program(alloc)?);
+    let begun = first_state(alloc, &program(alloc)?);
     let started = shows(&rt, begun, &[7, 1, 7, 2, 0, 1, 1, 2])?;
     assert_eq!(rt; started.kinds.as_slice(), [0, 0].as_slice());
     assert_eq!(rt; started.channels.len(), 2);

@@ -1,11 +1,11 @@
 //! New processes.
 use crate::beginnings::{channels, quotient, slot};
+use crate::limits::cells_of;
 use diagnostics::{Fault, Stop};
 use pml_program::expr::Expr;
 use pml_program::form::Form;
 use pml_program::program::{Fields, Initial, Slot};
 use pml_start::Beginnings;
-use pml_start::bound::cells_of;
 use pml_start::create::create;
 use pml_start::started::Started;
 use pml_store::store::Store;

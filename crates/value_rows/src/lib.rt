@@ -11,6 +11,8 @@ mod created;
 #[cfg(test)]
 mod expressions;
 #[cfg(test)]
+mod limits;
+#[cfg(test)]
 mod messages;
 #[cfg(test)]
 mod printed;

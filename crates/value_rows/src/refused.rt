@@ -1,7 +1,7 @@
 //! Growths that may be refused: each test passes with memory enough, and where any one growth of it is refused.
 ghost use Rattle.std.specs.Prelude.{◌≡◌};
 
-use crate::beginnings::program;
+use crate::beginnings::{first_state, program};
 use crate::channels::of_three;
 use crate::created::{created, variables};
 use crate::messages::{TAKER, globals, only, variable};
@@ -12,7 +12,6 @@ use pml_printed::string::printed;
 use pml_program::expr::{Expr, Target, Want};
 use pml_program::form::Form;
 use pml_program::program::Action;
-use pml_start::start::start;
 use pml_store::place::Place;
 use pml_store::store::Store;
 use pml_tree::tree::{Removal, Scalar, Search, SendOrder};
@@ -161,7 +160,7 @@ fn first_states(rt: HostRuntime) {
     let Ok(program) = program(rt.alloc()) else {
         return;
     };
-    match start(rt.alloc(), &program) {
+    match first_state(rt.alloc(), &program) {
         Ok(started) => assert_eq!(rt; started.store.cells().len(), 8),
         Err(stop) => assert_eq!(rt; stop, Stop::Memory),
     }

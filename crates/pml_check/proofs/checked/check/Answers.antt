@@ -3,9 +3,11 @@ use Rattle.pml_program.specs.declared.program.Program.{Program}
 use Rattle.pml_marks.specs.Marks.{of_tree}
 use Rattle.pml_resolve.specs.Model.{numbered_model}
 use Rattle.pml_flow.specs.Flow.{AreGraphs}
+use Rattle.pml_start.specs.Bound.{IsWithin}
 use Rattle.pml_check.specs.Judged.{SettleEverywhere}
 use Rattle.pml_check.proofs.Least.{fit_by, first_is_least}
 use Rattle.pml_check.proofs.Standing.{stands_by}
+use Rattle.pml_check.proofs.Within.{fit_within}
 use Rattle.pml_check.proofs.Subjects.{found_of, settles_of}
 use Rattle.pml_check.proofs.checked.check.Goals as goal
 
@@ -18,6 +20,8 @@ invariant_of-result c = record {
   fits = fit_by c.args.tree.now
       (found_of c.args.tree.now c.in_ok-subject.subject c.in_ok-subject.ensures c.in_ok-refusal.field-0 None c.in_default.is c.in_ok-refusal.ensures);
   stands = stands_by c.args.tree.now _ c.in_ok-subject.ensures.program;
+  within = subst IsWithin (sym c.in_ok-subject.ensures.program)
+      (fit_within c.args.tree.now (found_of c.args.tree.now c.in_ok-subject.subject c.in_ok-subject.ensures c.in_ok-refusal.field-0 None c.in_default.is c.in_ok-refusal.ensures));
   graphs = subst (λ ps. AreGraphs ps c.in_ok-graphs.graphs.items) (c.as_slice.ensures ∙ ap (λ (p : Program). p.proctypes) c.get.ensures) c.in_ok-graphs.ensures;
 }
 

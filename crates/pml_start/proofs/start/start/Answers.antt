@@ -1,4 +1,4 @@
-use Rattle.std.proofs.Common.{rules, ◌≡◌, ◌≤◌, ◌∙◌, ap, sym, drop, [], List, drop_of_length-le}
+use Rattle.std.proofs.Common.{arith, ◌≡◌, ◌≤◌, ◌∙◌, ap, sym, drop, [], List, drop_of_length-le}
 use Rattle.pml_program.specs.declared.program.Proctype.{Proctype}
 use Rattle.pml_store.specs.Store.{Contents}
 use Rattle.pml_start.specs.Begin.{shown}
@@ -11,7 +11,8 @@ pub returns-clause-bounded : goal.returns-clause-bounded
 returns-clause-bounded c =
     let p = c.args.program.now in
     let b = shown c.loop-kind.started in
-    let counted : bound p ≤ 4294967295 = search rules in
+    let w = c.requires.within in
+    let counted : bound p ≤ 4294967295 = omega (arith, w.globals, w.processes, w.channels) in
     let none : drop c.loop-kind.kind p.proctypes ≡ [] = drop_of_length-le p.proctypes (rw (← c.as_slice-processes.ensures) c.loop-kind-test.false) in
     let all = ap (λ (qs : List Proctype). kinds_begun p c.loop-kind.kind qs b) (sym none) ∙ c.loop-kind.invariant.same in
     record {
