@@ -30,15 +30,15 @@ pub fn eval<G: Ground>(e: &Expr, ground: &G) -> Result<i32, Fault>
             poll(arguments.as_slice(), *search, number, ground)
         }
         Expr::Unary(op, a) => {
-            let x = eval(a.get(), ground)?;
+            let x = operand(a.get(), ground)?;
             Ok(prefix(*op, x))
         }
         Expr::Binary(op, a, b) => {
-            let x = eval(a.get(), ground)?;
+            let x = operand(a.get(), ground)?;
             if let Some(y) = decide(*op, x) {
                 return Ok(y);
             }
-            let y = eval(b.get(), ground)?;
+            let y = operand(b.get(), ground)?;
             infix(*op, x, y)
         }
         Expr::Choice(a, b, c) => {
@@ -54,6 +54,19 @@ pub fn eval<G: Ground>(e: &Expr, ground: &G) -> Result<i32, Fault>
             let number = read(target, ground)?;
             ask(*fill, number, ground)
         }
+    }
+}
+
+/// The value of an operand: most are numbers and variables, for which `eval` need not be entered once more.
+#[cycle(eval)]
+#[inline(always)]
+fn operand<G: Ground>(e: &Expr, ground: &G) -> Result<i32, Fault>
+    ensures { result ≡ val e.now (G.reading ground.now) }
+{
+    match e {
+        Expr::Number(n) => Ok(*n),
+        Expr::Read(target) => read(target, ground),
+        _ => eval(e, ground),
     }
 }
 
