@@ -30,15 +30,15 @@ pub fn eval<G: Ground>(e: &Expr, ground: &G) -> Result<i32, Fault>
             poll(arguments.as_slice(), *search, number, ground)
         }
         Expr::Unary(op, a) => {
-            let x = operand(a.get(), ground)?;
+            let x = signed(a.get(), ground)?;
             Ok(prefix(*op, x))
         }
         Expr::Binary(op, a, b) => {
-            let x = eval(a.get(), ground)?;
+            let x = operand(a.get(), ground)?;
             if let Some(y) = decide(*op, x) {
                 return Ok(y);
             }
-            let y = eval(b.get(), ground)?;
+            let y = operand(b.get(), ground)?;
             infix(*op, x, y)
         }
         Expr::Choice(a, b, c) => {
@@ -60,14 +60,27 @@ pub fn eval<G: Ground>(e: &Expr, ground: &G) -> Result<i32, Fault>
 /// The value of what an operator stands before: a thousand of them in a row take little of the stack.
 #[cycle(eval)]
 #[inline(never)]
-fn operand<G: Ground>(e: &Expr, ground: &G) -> Result<i32, Fault>
+fn signed<G: Ground>(e: &Expr, ground: &G) -> Result<i32, Fault>
     ensures { result ≡ val e.now (G.reading ground.now) }
 {
     if let Expr::Unary(op, a) = e {
-        let x = operand(a.get(), ground)?;
+        let x = signed(a.get(), ground)?;
         return Ok(prefix(*op, x));
     }
-    eval(e, ground)
+    operand(e, ground)
+}
+
+/// The value of an operand: most are numbers and variables, for which `eval` need not be entered once more.
+#[cycle(eval)]
+#[inline(always)]
+fn operand<G: Ground>(e: &Expr, ground: &G) -> Result<i32, Fault>
+    ensures { result ≡ val e.now (G.reading ground.now) }
+{
+    match e {
+        Expr::Number(n) => Ok(*n),
+        Expr::Read(target) => read(target, ground),
+        _ => eval(e, ground),
+    }
 }
 
 /// What stands at the place of a reference. It is a function of its own so that an expression of another kind has no room for a place.
