@@ -89,7 +89,15 @@ pub fn check<'a>(alloc: Global, tree: &Tree<'a>) -> Result<Checked<'a>, CheckFau
     if let Some(refusal) = least_of(alloc, &subject)? {
         return Err(CheckFault::Refused(refusal));
     }
-    let Subject { program, plans, .. } = subject;
+    let Subject {
+        marks,
+        names,
+        program,
+        plans,
+        ..
+    } = subject;
+    drop(marks);
+    drop(names);
     let graphs = all_graphs(alloc, program.get().proctypes.as_slice(), plans.as_slice())?;
     Ok(Checked { program, graphs })
 }
