@@ -309,6 +309,7 @@ impl<'p, 'a> Live<'p, 'a> {
     }
 
     /// Takes an assignment, an increment, a decrement or a condition of a process.
+    #[inline(always)]
     pub fn store(&mut self, process: usize, timeout: bool, action: &Action<'_>) -> Result<(), Stop>
         requires { process < length self.old.state.stands }
         ensures value { Leads (put_by self.old.state (outcome action.now (reads self.old.state process timeout))) result self.new.state }
@@ -331,6 +332,7 @@ impl<'p, 'a> Live<'p, 'a> {
     }
 
     /// A process sends a message by itself.
+    #[inline(never)]
     pub fn send(
         &mut self,
         process: usize,
@@ -349,6 +351,7 @@ impl<'p, 'a> Live<'p, 'a> {
     }
 
     /// A process receives a message by itself.
+    #[inline(never)]
     pub fn receive(
         &mut self,
         process: usize,
@@ -376,6 +379,7 @@ impl<'p, 'a> Live<'p, 'a> {
     }
 
     /// A process stores what another one sends it.
+    #[inline(never)]
     pub fn pass(
         &mut self,
         sender: usize,

@@ -29,6 +29,7 @@ struct Offer<'p, 'a> {
 }
 
 /// The offer that a pick names.
+#[inline(always)]
 fn find_offer<'p, 'a>(live: &Live<'p, 'a>, pick: Pick) -> Option<Offer<'p, 'a>>
     ensures some { IfSome result (λ o. IsOffer live.now.state pick o) }
     ensures none { result ≡ None → picks live.now.state pick ≡ None }
@@ -40,6 +41,7 @@ fn find_offer<'p, 'a>(live: &Live<'p, 'a>, pick: Pick) -> Option<Offer<'p, 'a>>
 }
 
 /// Takes the statements of a d_step, from the node inside at which it begins.
+#[inline(never)]
 fn inside(
     live: &mut Live<'_, '_>,
     pick: Pick,
@@ -124,6 +126,7 @@ fn pass_on(
 }
 
 /// Two processes meet.
+#[inline(never)]
 fn pair(live: &mut Live<'_, '_>, sender: Pick, receiver: Pick, timeout: bool) -> Result<(), Stop>
     ensures value { (text : List ℕ) → Does (paired_by live.old.state sender receiver timeout (picks live.old.state sender) (picks live.old.state receiver)) result live.new.state text text }
     ensures joins { OnErr result (Joins live.old.state live.new.state) }
