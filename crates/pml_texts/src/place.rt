@@ -11,6 +11,7 @@ use pml_program::program::{Proctype, Program};
 use std::alloc::AllocError;
 
 /// Appends `proc P (NAME) `.
+#[inline(always)]
 pub fn add_heading(
     process: usize,
     proctype: &Proctype<'_>,
