@@ -1,10 +1,9 @@
 //! How much a world keeps: the numbers in variables and messages, two for each process and two for each channel.
-use pml_check::{Checked, Parsed, check};
+use crate::models::{checked_of, world_of};
+use pml_check::Checked;
 use pml_lex::cut;
 use pml_lex::token::Token;
 use pml_sim::world::World;
-use pml_start::start::start;
-use pml_syntax::parse;
 use session::Machine;
 use std::alloc::{AllocError, Global};
 use std::process::Abort;
@@ -53,32 +52,10 @@ fn kept_of_checked(
     checked: &Checked<'_>,
     choices: &[usize],
 ) -> Result<Vec<usize>, Fail> {
-    let Ok(started) = start(alloc, checked.program()) else {
+    let Some(mut world) = world_of(alloc, checked) else {
         return Err(Fail::from("there is no first state"));
     };
-    let mut world = World::first(alloc, checked.program(), checked.graphs(), started)?;
     Ok(kept(alloc, &mut world, choices, 300)?)
-}
-
-fn model_of<'a>(alloc: Global, parsed: &Parsed<'a>) -> Result<Checked<'a>, Fail> {
-    match check(alloc, parsed.tree()) {
-        Ok(checked) => Ok(checked),
-        Err(_) => Err(Fail::from("the model does not fit")),
-    }
-}
-
-fn parsed_of<'a>(alloc: Global, tokens: &'a [Token<'a>]) -> Result<Parsed<'a>, Fail> {
-    match parse(alloc, tokens) {
-        Ok(tree) => Ok(Parsed::new(alloc, tree)?),
-        Err(_) => Err(Fail::from("no tree spells the text")),
-    }
-}
-
-fn checked_of<'a>(alloc: Global, tokens: &'a [Token<'a>]) -> Result<Checked<'a>, Fail> {
-    match parsed_of(alloc, tokens) {
-        Ok(parsed) => model_of(alloc, &parsed),
-        Err(fail) => Err(fail),
-    }
 }
 
 fn kept_of_tokens<'a>(
@@ -87,8 +64,8 @@ fn kept_of_tokens<'a>(
     choices: &[usize],
 ) -> Result<Vec<usize>, Fail> {
     match checked_of(alloc, tokens) {
-        Ok(checked) => kept_of_checked(alloc, &checked, choices),
-        Err(fail) => Err(fail),
+        Some(checked) => kept_of_checked(alloc, &checked, choices),
+        None => Err(Fail::from("the text is no model")),
     }
 }
 

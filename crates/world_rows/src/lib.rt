@@ -1,5 +1,9 @@
-//! Rows of models whose runs are taken step by step, each with what a world keeps after each step, counted by hand.
+//! Rows of models whose runs are taken step by step: what a world keeps after each step, counted by hand, and what it answers once it has stopped.
 #![tactic(auto)]
 
 #[cfg(test)]
 mod footprints;
+#[cfg(test)]
+mod models;
+#[cfg(test)]
+mod stopped;
