@@ -106,7 +106,8 @@ fn turn(offset: u32, v: Variable, index: Option<Boxed<Expr>>) -> Turn
     }
 }
 
-/// An expression with its names replaced, in a box. It stands by itself so that a level of nesting takes little of the stack.
+/// An expression with its names replaced, in a box. It stands by itself, and goes through operators before an operand by itself, so that a
+/// level of nesting takes little of the stack.
 #[cycle(expression)]
 #[inline(never)]
 fn boxed(
@@ -118,6 +119,10 @@ fn boxed(
 ) -> Result<Boxed<Expr>, AllocError>
     ensures { IfOk result (λ x. x ≡ numbered e.now (scope all.now table.now owner)) }
 {
+    if let TreeExpr::Unary(op, a) = e {
+        let x = boxed(alloc, a.get(), all, table, owner)?;
+        return Ok(Boxed::new(alloc, Expr::Unary(*op, x))?);
+    }
     let x = expr(alloc, e, all, table, owner)?;
     Ok(Boxed::new(alloc, x)?)
 }
