@@ -188,3 +188,68 @@ fn too_many_processes(rt: HostRuntime) -> Result<(), Fail> {
     assert_eq!(rt; found.as_slice().last(), Some(&510));
     Ok(())
 }
+
+/// Selections, gotos and printed texts keep what was there, up to the end or the fault.
+#[test]
+fn statements(rt: HostRuntime) -> Result<(), Fail> {
+    let alloc = rt.alloc();
+    keeps(&rt, alloc, "init { skip }", &[], &[2, 2, 0])?;
+    let chosen = "byte x; init { if :: x = 1 :: x = 2 fi }";
+    keeps(&rt, alloc, chosen, &[1], &[3, 3, 1])?;
+    let escapes = "byte x; init { { { x = 1 } unless { x = 2 } } unless { x = 3 } }";
+    keeps(&rt, alloc, escapes, &[], &[3, 3, 1])?;
+    let printed =
+        r##"mtype = { ack, nak }; init { printf("%e %d%% %x\n", nak, ack, -1); printm(7) }"##;
+    keeps(&rt, alloc, printed, &[], &[2, 2, 2, 0])?;
+    let outside = "byte a[2]; byte i = 2; init { if :: a[i] == 0 :: skip fi }";
+    keeps(&rt, alloc, outside, &[0], &[5])?;
+    let out_of_a_loop = "byte x; init { do :: goto L od; L: x = 1 }";
+    keeps(&rt, alloc, out_of_a_loop, &[], &[3, 3, 3, 1])?;
+    keeps(
+        &rt,
+        alloc,
+        "init { skip; goto L; L: skip }",
+        &[],
+        &[2, 2, 2, 0],
+    )
+}
+
+/// Control that goes from one process to another keeps nothing, and a process that waits keeps what it has.
+#[test]
+fn control(rt: HostRuntime) -> Result<(), Fail> {
+    let alloc = rt.alloc();
+    let left_alone = r##"chan q = [0] of { byte };
+active proctype S() { q!1 }
+active proctype R() { byte x; if :: q?x :: else fi }
+"##;
+    keeps(&rt, alloc, left_alone, &[1], &[8, 8, 5])?;
+    let escapes = r##"chan a = [0] of { byte }; chan b = [0] of { byte };
+active proctype P() { { a!1 } unless { b?_ } }
+active proctype Q() { { b!1 } unless { a?_ } }
+"##;
+    keeps(&rt, alloc, escapes, &[1], &[10, 10, 8, 6])?;
+    let atomic = r##"byte x;
+active proctype A() { atomic { x = 1; (x == 2); x = 3 } }
+active proctype B() { x = 2 }
+"##;
+    keeps(&rt, alloc, atomic, &[], &[5, 5, 5, 5, 5, 3, 1])?;
+    let ended = "chan q = [1] of { byte }; byte x; init { end: do :: q?x od }";
+    keeps(&rt, alloc, ended, &[], &[6])?;
+    let stuck = "chan q = [1] of { byte }; byte x; init { do :: q?x od }";
+    keeps(&rt, alloc, stuck, &[], &[6])
+}
+
+/// A loop keeps the same, however often it turns.
+#[test]
+fn loops(rt: HostRuntime) -> Result<(), Fail> {
+    let chosen = kept_of(rt.alloc(), "byte x; init { do :: x = 1 :: x = 2 od }", &[])?;
+    assert_eq!(rt; chosen.len(), 301);
+    for number in chosen.as_slice() {
+        assert_eq!(rt; *number, 3);
+    }
+    let quiet = kept_of(rt.alloc(), "init { do :: skip od }", &[])?;
+    for number in quiet.as_slice() {
+        assert_eq!(rt; *number, 2);
+    }
+    Ok(())
+}
