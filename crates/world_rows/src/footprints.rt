@@ -175,7 +175,11 @@ fn too_many_channels(rt: HostRuntime) -> Result<(), Fail> {
         "proctype P() { chan c[10] = [1] of { byte }; end: false } init { do :: run P() od }";
     let found = kept_of(rt.alloc(), model, &[])?;
     assert_eq!(rt; found.len(), 26);
-    assert_eq!(rt; found.as_slice().last(), Some(&802));
+    let mut processes = 0usize;
+    for kept in found.as_slice() {
+        assert_eq!(rt; *kept, processes.saturating_mul(32).saturating_add(2));
+        processes = processes.saturating_add(1);
+    }
     Ok(())
 }
 
@@ -185,7 +189,11 @@ fn too_many_processes(rt: HostRuntime) -> Result<(), Fail> {
     let model = "proctype P() { end: false } init { do :: run P() :: timeout -> break od }";
     let found = kept_of(rt.alloc(), model, &[])?;
     assert_eq!(rt; found.len(), 256);
-    assert_eq!(rt; found.as_slice().last(), Some(&510));
+    let mut processes = 1usize;
+    for kept in found.as_slice() {
+        assert_eq!(rt; *kept, processes.saturating_mul(2));
+        processes = processes.saturating_add(1).min(255);
+    }
     Ok(())
 }
 
