@@ -3,16 +3,19 @@
 
 #![tactic(auto, using(crate::proofs::Keeping::kept_on, crate::proofs::Keeping::kept_same, crate::proofs::Keeping::kept_push))]
 
-ghost use Rattle.std.specs.Prelude.{◌≡◌, ◌++◌, ◌<◌, [], if◌then◌else◌, OnOk, Some, length, map, option_map, slice_get};
+ghost use Rattle.std.specs.Prelude.{◌≡◌, ◌++◌, ◌<◌, true, false, List, [], if◌then◌else◌, OnOk, Some, length, map, option_map, slice_get};
 ghost use Rattle.std.specs.List.{filter};
 ghost use Rattle.std.specs.Option.{option_copied};
-ghost use Rattle.pml_flow.specs.Flow.{maybe};
+ghost use Rattle.pml_program.specs.declared.program.Seq.{Seq as Sequence};
+ghost use Rattle.pml_flow.specs.Flow.{Offer, maybe};
 ghost use Rattle.pml_flow.specs.Points.{point_at};
+ghost use Rattle.pml_eval.specs.Value.{Reading};
+ghost use Rattle.pml_value.specs.declared.live_channel.LiveChannel.{LiveChannel};
 ghost use Rattle.pml_value.specs.Reads.{seen};
-ghost use Rattle.pml_moves.specs.State.{levels_from};
+ghost use Rattle.pml_moves.specs.State.{levels_from, reads};
 ghost use Rattle.pml_moves.specs.Kept.{Extends};
 ghost use Rattle.pml_moves.specs.Scene.{state_of, stand_of, Fits, IsBody, shows, edges_at};
-ghost use Rattle.pml_moves.specs.Search.{is_else as else_of, can_inside, is_choice, is_other, choices, first, is_some, can_alone, pairs_on, pairs_with, pairs, moves_by, plain_moves, else_moves, moves_on, moves_at, moves_under, moves_held, moves as all_moves, last, only_if, accepts};
+ghost use Rattle.pml_moves.specs.Search.{Message as Sent, message, is_else as else_of, can_inside, is_choice, is_other, choices, first, is_some, can_alone, pairs_on, pairs_with, pairs, moves_by, plain_moves, else_moves, moves_on, moves_at, moves_under, moves_held, moves as all_moves, last, only_if, accepts};
 ghost use Rattle.pml_moves.specs.declared.moves.Move.TheVariants.{Alone, Pair};
 
 use crate::executable::can_be_taken;
@@ -136,24 +139,57 @@ struct Sending<'w, 'p> {
     timeout: bool,
 }
 
-/// Adds the pair of a message with an offer, where that receives it.
+/// Whether a statement is a receive: nothing else takes a message.
+fn is_receive(basic: Option<&Basic<'_>>) -> bool
+    ensures { (cs : List LiveChannel) (r : Reading) (m : Sent) → result ≡ false → accepts cs r m (option_copied basic.entry) ≡ false }
+{
+    match basic {
+        Some(Basic::Plain(Action::Receive(_, _, _, _))) => true,
+        _ => false,
+    }
+}
+
+/// Adds the pair of a message with a receive, where that takes it.
+fn add_received(
+    scene: &Scene<'_, '_, '_>,
+    sending: &Sending<'_, '_>,
+    receiver: Pick,
+    basic: Option<&Basic<'_>>,
+    moves: &mut Vec<Move>,
+) -> Result<(), AllocError>
+    requires fits { Fits scene.now }
+    requires there { receiver.process < length scene.now.seats.now }
+    ensures added { OnOk result (moves.new.items ≡ moves.old.items ++ only_if (accepts scene.now.channels.now (reads (state_of scene.now) receiver.process sending.now.timeout) sending.now.message (option_copied basic.entry)) (Pair sending.now.sender receiver sending.now.timeout)) }
+    ensures kept { Extends moves.new.items moves.old.items }
+{
+    let view = view(scene, receiver.process, sending.timeout);
+    if !is_received(&view, &sending.message, basic) {
+        return Ok(());
+    }
+    moves.push(Move::Pair(sending.sender, receiver, sending.timeout))?;
+    Ok(())
+}
+
+/// Adds the pair of a message with an offer, where that receives it. Only a receive is asked.
 fn add_pair(
-    view: &View<'_>,
+    scene: &Scene<'_, '_, '_>,
     body: &Body<'_, '_, '_>,
     sending: &Sending<'_, '_>,
     receiver: Pick,
     edge: Edge,
     moves: &mut Vec<Move>,
 ) -> Result<(), AllocError>
-    requires { IsBody body.now }
-    ensures added { OnOk result (moves.new.items ≡ moves.old.items ++ only_if (accepts view.now.channels.now (seen view.now) sending.now.message (shows body.now edge).basic) (Pair sending.now.sender receiver sending.now.timeout)) }
+    requires fits { Fits scene.now }
+    requires there { receiver.process < length scene.now.seats.now }
+    requires body { IsBody body.now }
+    ensures added { OnOk result (moves.new.items ≡ moves.old.items ++ only_if (accepts scene.now.channels.now (reads (state_of scene.now) receiver.process sending.now.timeout) sending.now.message (shows body.now edge).basic) (Pair sending.now.sender receiver sending.now.timeout)) }
     ensures kept { Extends moves.new.items moves.old.items }
 {
-    if !is_received(view, &sending.message, body.basic(edge)) {
+    let basic = body.basic(edge);
+    if !is_receive(basic) {
         return Ok(());
     }
-    moves.push(Move::Pair(sending.sender, receiver, sending.timeout))?;
-    Ok(())
+    add_received(scene, sending, receiver, basic, moves)
 }
 
 /// Adds the pairs of a message with the receives of a level of process j.
@@ -172,14 +208,13 @@ fn add_pairs_on(
     ensures added { OnOk result (moves.new.items ≡ moves.old.items ++ pairs_on (state_of scene.now) sending.now.timeout sending.now.sender sending.now.message j level (map (shows body.now) edges.now)) }
     ensures kept { Extends moves.new.items moves.old.items }
 {
-    let view = view(scene, j, sending.timeout);
     for place in 0..edges.len() {
         let receiver = Pick {
             process: j,
             level,
             place,
         };
-        add_pair(&view, body, sending, receiver, edges[place], moves)?;
+        add_pair(scene, body, sending, receiver, edges[place], moves)?;
     }
     Ok(())
 }
@@ -254,8 +289,53 @@ fn add_pairs(
 
 // ---- the moves of a process
 
-/// Adds the moves of an offer that is no `else`.
-fn add_moves_by(
+/// Whether a statement can be taken whatever the state, by itself: it is no `else`, and asks for nothing.
+fn needs_nothing(basic: Option<&Basic<'_>>) -> bool
+    ensures plain { result ≡ true → else_of (option_copied basic.entry) ≡ false }
+    ensures alone { (cs : List LiveChannel) (r : Reading) (b : Sequence) (o : Offer) → result ≡ true → can_alone cs r b o (option_copied basic.entry) ≡ true }
+{
+    match basic {
+        Some(Basic::Plain(action)) => match action {
+            Action::Else
+            | Action::Run(_)
+            | Action::Send(_, _, _)
+            | Action::Receive(_, _, _, _)
+            | Action::Holds(_) => false,
+            _ => true,
+        },
+        Some(Basic::DStep(_)) => false,
+        _ => true,
+    }
+}
+
+/// Adds the pairs of what a statement offers to receivers.
+fn add_sent(
+    scene: &Scene<'_, '_, '_>,
+    view: View<'_>,
+    timeout: bool,
+    offer: Pick,
+    basic: Option<&Basic<'_>>,
+    moves: &mut Vec<Move>,
+) -> Result<(), AllocError>
+    requires { Fits scene.now }
+    ensures added { OnOk result (moves.new.items ≡ moves.old.items ++ pairs (state_of scene.now) timeout offer (message view.entry.channels.now (seen view.entry) (option_copied basic.entry))) }
+    ensures kept { Extends moves.new.items moves.old.items }
+{
+    match offered(view, basic) {
+        None => Ok(()),
+        Some(message) => {
+            let sending = Sending {
+                message,
+                sender: offer,
+                timeout,
+            };
+            add_pairs(scene, &sending, moves)
+        }
+    }
+}
+
+/// Adds the moves of an offer that is no `else`, as the state has it.
+fn add_asked(
     scene: &Scene<'_, '_, '_>,
     body: &Body<'_, '_, '_>,
     timeout: bool,
@@ -276,20 +356,10 @@ fn add_moves_by(
         moves.push(Move::Alone(offer, timeout))?;
         return Ok(());
     }
-    match offered(view, basic) {
-        None => Ok(()),
-        Some(message) => {
-            let sending = Sending {
-                message,
-                sender: offer,
-                timeout,
-            };
-            add_pairs(scene, &sending, moves)
-        }
-    }
+    add_sent(scene, view, timeout, offer, basic, moves)
 }
 
-/// Adds the moves of an offer, none where it is an `else`.
+/// Adds the moves of an offer, none where it is an `else`. What needs nothing is offered at once.
 fn add_plain_by(
     scene: &Scene<'_, '_, '_>,
     body: &Body<'_, '_, '_>,
@@ -305,10 +375,14 @@ fn add_plain_by(
     ensures kept { Extends moves.new.items moves.old.items }
 {
     let basic = body.basic(edge);
+    if needs_nothing(basic) {
+        moves.push(Move::Alone(offer, timeout))?;
+        return Ok(());
+    }
     if is_else(basic) {
         return Ok(());
     }
-    add_moves_by(scene, body, timeout, offer, edge, basic, moves)
+    add_asked(scene, body, timeout, offer, edge, basic, moves)
 }
 
 /// Adds the moves of a level's offers that are no `else`.
