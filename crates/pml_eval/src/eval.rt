@@ -1,6 +1,6 @@
 //! The value of an expression, and the place of a reference.
 
-ghost use Rattle.std.specs.Prelude.{◌≡◌, ◌+◌, ◌*◌, ◌<◌, ◌≤◌, IfOk, List, Some, Ok, length, map};
+ghost use Rattle.std.specs.Prelude.{◌≡◌, ◌+◌, ◌*◌, ◌<◌, ◌≤◌, IfOk, IfSome, List, Some, Ok, length, map};
 ghost use Rattle.profile.specs.declared.TheConstants.{MOST_FIELDS};
 ghost use Rattle.pml_program.specs.declared.expr.Expr.TheVariants.{Read};
 ghost use Rattle.pml_eval.specs.declared.pattern.Sought.{Sought};
@@ -89,8 +89,34 @@ fn operand<G: Ground>(e: &Expr, ground: &G) -> Result<i32, Fault>
 fn read<G: Ground>(target: &Target, ground: &G) -> Result<i32, Fault>
     ensures { result ≡ val (Read target.now) (G.reading ground.now) }
 {
+    if let Some(at) = place_at_once(target, ground) {
+        return Ok(ground.number(at));
+    }
     let at = place(target, ground)?;
     Ok(ground.number(at))
+}
+
+/// The place of a reference without an index, as most are, where its variable has that cell. It stands in one straight line with what
+/// is read there, so that the variable is looked up once.
+#[inline(always)]
+fn place_at_once<G: Ground>(target: &Target, ground: &G) -> Option<Place>
+    ensures value { IfSome result (λ p. place target.now (G.reading ground.now) ≡ Ok p) }
+    ensures there { IfSome result (λ p. p.cell < (G.reading ground.now).cells p.frame p.variable) }
+{
+    let turns = target.turns.as_slice();
+    if turns.len() != 1 || turns[0].index.is_some() {
+        return None;
+    }
+    let frame = ground.frame(target.local);
+    let cell = turns[0].offset as usize;
+    if cell < ground.size(frame, target.variable) {
+        return Some(Place {
+            frame,
+            variable: target.variable,
+            cell,
+        });
+    }
+    None
 }
 
 /// Whether the oldest message of the channel with this number matches, or any of them, as the search has it.
