@@ -35,7 +35,7 @@ def gotos(size):
 
 def chain(size):
     """Each typedef has a field of the one before it, and the last one an array."""
-    text = many(size, "typedef T0{byte x=1};", lambda n: "typedef T%d{T%d a};" % (n + 1, n), "")
+    text = many(size - 40, "typedef T0{byte x=1};", lambda n: "typedef T%d{T%d a};" % (n + 1, n), "")
     return text + "T%d a[1000000];init{skip}" % (text.count(";") - 1)
 
 def names(size):
