@@ -263,6 +263,7 @@ fn lines_of_writes(
 /// Appends the lines of the places whose numbers differ from those before the writes of a store's log. The processes are known by
 /// the numbers of their proctypes in the model; the youngest may be left out, and have no lines then. Only cells that were
 /// written are looked at, and none where no lines are wanted.
+#[inline(always)]
 pub fn logged_lines(
     alloc: Global,
     tables: &Tables<'_, '_>,
@@ -278,6 +279,23 @@ pub fn logged_lines(
     if !wanted.globals && !wanted.locals {
         return Ok(());
     }
+    written_lines(alloc, tables, kinds, wanted, store, text)
+}
+
+/// The same, where lines may be wanted.
+#[inline(never)]
+fn written_lines(
+    alloc: Global,
+    tables: &Tables<'_, '_>,
+    kinds: &[usize],
+    wanted: Wanted,
+    store: &Store,
+    text: &mut Vec<u8>,
+) -> Result<(), AllocError>
+    ensures added { AreDeclared tables.now kinds.now store.now.frames →
+        OnOk result (text.new.items ≡ text.old.items ++ step_lines tables.now kinds.now store.now wanted) }
+    ensures kept { OnErr result (StartsWith text.new.items text.old.items) }
+{
     let writes = oldest(alloc, store.written())?;
     lines_of_writes(
         tables,
