@@ -1,3 +1,4 @@
 pub mod Seeking
 pub mod Numbering
 pub mod Leading
+pub mod Walking

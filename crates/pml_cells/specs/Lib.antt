@@ -1,2 +1,3 @@
 pub mod Cells
 pub mod Tables
+pub mod Walk

@@ -4,3 +4,4 @@
 pub mod cells;
 pub mod row;
 pub mod typedefs;
+pub mod walk;

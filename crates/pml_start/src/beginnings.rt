@@ -3,11 +3,13 @@
 ghost use Rattle.std.specs.Prelude.{◌≡◌, ◌<◌, IfOk, map, slice_get, slice_index_or};
 ghost use Rattle.std.specs.Option.{option_copied};
 ghost use Rattle.pml_cells.specs.Cells.{leaf};
+ghost use Rattle.pml_cells.specs.Tables.{field_by};
 ghost use Rattle.pml_start.specs.Begin.{initial_value, nothing, read_in};
 ghost use Rattle.pml_start.specs.Known.{is_zero, are_zero, have_no_initials, known, known_fields, known_in, known_cells};
 
 use diagnostics::Fault;
 use pml_cells::typedefs::Typedefs;
+use pml_cells::walk::Walk;
 use pml_eval::clip::clip;
 use pml_eval::eval::eval;
 use pml_program::expr::Expr;
@@ -179,11 +181,10 @@ impl<'p, 'a> Beginnings<'p, 'a> {
         }
     }
 
-    /// What a cell of a variable begins with.
-    fn cell(&self, alloc: Global, slot: &Slot<'_>, cell: usize) -> Beginning
-        ensures { result ≡ known (leaf self.now slot.now cell) }
+    /// What a cell of a variable begins with, by the place of the field that it is in.
+    fn cell(&self, alloc: Global, slot: &Slot<'_>, place: Option<(usize, usize)>) -> Beginning
+        ensures { result ≡ known (field_by self.now slot.now place) }
     {
-        let (place, _) = self.typedefs.leaf(slot, cell);
         match place {
             None => known(alloc, slot),
             Some((typedef, field)) => match self.field(typedef, field) {
@@ -193,13 +194,15 @@ impl<'p, 'a> Beginnings<'p, 'a> {
         }
     }
 
-    /// What each cell of an element of a variable begins with.
+    /// What each cell of an element of a variable begins with, in one walk over its cells.
     pub fn element(&self, alloc: Global, slot: &Slot<'_>) -> Result<Vec<Beginning>, AllocError>
         ensures { IfOk result (λ cells. cells.items ≡ known_cells self.now slot.now slot.now.stride) }
     {
+        let mut walk = Walk::new(alloc, &self.typedefs, slot);
         let mut cells = Vec::new(alloc);
         for cell in 0..slot.stride as usize {
-            cells.push(self.cell(alloc, slot, cell))?;
+            let place = walk.place(cell)?;
+            cells.push(self.cell(alloc, slot, place))?;
         }
         Ok(cells)
     }

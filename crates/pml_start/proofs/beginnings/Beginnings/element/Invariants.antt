@@ -2,6 +2,10 @@ use Rattle.std.proofs.Common.{◌≡◌}
 use Rattle.pml_start.specs.Known.{known_cells}
 use Rattle.pml_start.proofs.beginnings.Beginnings.element.Given as goal
 
--- the cells so far
+-- the cells so far, in a walk over those of the variable
 abbrev pub invariant-loop-cell : goal.invariant-loop-cell
-invariant-loop-cell l = l.cells.items ≡ known_cells l.self l.slot l.cell
+invariant-loop-cell l = record {
+  cells : l.cells.items ≡ known_cells l.self l.slot l.cell;
+  typedefs : l.walk.typedefs ≡ l.self;
+  slot : l.walk.slot ≡ l.slot;
+}
