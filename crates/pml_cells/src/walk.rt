@@ -1,9 +1,9 @@
 //! The ways to the cells of a variable, each from where it parts from the one before.
 
-ghost use Rattle.std.specs.Prelude.{◌≡◌, ◌≤◌, ◌<◌, ◌-◌, ◌^◌, ◌%◌, ◌+◌, IfOk, IfNone, IfSome, max};
+ghost use Rattle.std.specs.Prelude.{◌≡◌, ◌≤◌, ◌<◌, ◌-◌, ◌^◌, IfOk, IfNone, IfSome};
 ghost use Rattle.pml_cells.specs.Cells.{leaf};
 ghost use Rattle.pml_cells.specs.Tables.{field_by};
-ghost use Rattle.pml_cells.specs.Walk.{IsOnWay, offset};
+ghost use Rattle.pml_cells.specs.Walk.{IsOnWay};
 
 use crate::cells::{remainder, size};
 use crate::typedefs::Typedefs;
@@ -13,8 +13,8 @@ use std::alloc::{AllocError, Global};
 use std::marker::Model;
 
 /// A field on the way to a cell, by its typedef's number and its own (none, where it is the variable itself), its type and how many
-/// cells its elements have. Its cells from the one with number `within` on are those of the variable from `first` to `last`. So many
-/// fields at most follow on the way.
+/// cells its elements have. Its cells from the one with number `within` on are those of the variable from `first` to `last`. At most
+/// `following` fields come behind it on the way.
 #[derive(Clone, Copy)]
 pub struct Stage {
     place: Option<(usize, usize)>,

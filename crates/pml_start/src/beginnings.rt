@@ -2,7 +2,6 @@
 
 ghost use Rattle.std.specs.Prelude.{◌≡◌, ◌<◌, IfOk, map, slice_get, slice_index_or};
 ghost use Rattle.std.specs.Option.{option_copied};
-ghost use Rattle.pml_cells.specs.Cells.{leaf};
 ghost use Rattle.pml_cells.specs.Tables.{field_by};
 ghost use Rattle.pml_start.specs.Begin.{initial_value, nothing, read_in};
 ghost use Rattle.pml_start.specs.Known.{is_zero, are_zero, have_no_initials, known, known_fields, known_in, known_cells};
