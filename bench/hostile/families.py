@@ -35,8 +35,13 @@ def gotos(size):
 
 def chain(size):
     """Each typedef has a field of the one before it, and the last one an array."""
-    text = many(size - 40, "typedef T0{byte x=1};", lambda n: "typedef T%d{T%d a};" % (n + 1, n), "")
+    text = many(size - 50, "typedef T0{byte x=1};", lambda n: "typedef T%d{T%d a};" % (n + 1, n), "")
     return text + "T%d a[1000000];init{skip}" % (text.count(";") - 1)
+
+def stairs(size):
+    """Each typedef has a field of the one before it, and a number of its own."""
+    text = many(size - 50, "typedef T0{byte a=1};", lambda n: "typedef T%d{T%d t;byte a=1};" % (n + 1, n), "")
+    return text + "T%d x;init{x.a++}" % (text.count("typedef") - 1)
 
 def names(size):
     """Names of letters alone."""
@@ -50,6 +55,7 @@ FAMILIES = [
     ("typedefs and cells", [], lambda size: many(size, "typedef A{byte x=1};", lambda n: "typedef T%d{int i};" % n, "A a[1000000];init{skip}")),
     ("cells of processes", [], lambda size: "typedef A{byte x=1};active [255] proctype P(){A a[%d];skip}" % (size // 16)),
     ("a chain of typedefs", [], chain),
+    ("stairs of typedefs", [], stairs),
     ("a late global", SHOWN, late("", lambda n: "int g%d;" % n, "init{", "g%d++")),
     ("a late field", SHOWN, late("typedef R{int z", lambda n: ";int g%d" % n, "};R r;init{", "r.g%d++")),
     ("a late local", SHOWN, late("init{", lambda n: "int g%d;" % n, "", "g%d++")),
