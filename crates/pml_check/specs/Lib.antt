@@ -1,4 +1,5 @@
 pub mod Judged
 pub mod Decided
+pub mod Broken
 pub mod Subject
 pub mod Checked

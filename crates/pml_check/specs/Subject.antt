@@ -2,18 +2,15 @@
 use Rattle.std.specs.Prelude.{◌≡◌}
 use Rattle.pml_tree.specs.declared.tree.Tree.{Tree}
 use Rattle.pml_marks.specs.Marks.{of_tree}
-use Rattle.pml_names.specs.Env.{env}
 use Rattle.pml_resolve.specs.Model.{numbered_model}
-use Rattle.pml_conditions.specs.Decided.{AreFound}
 use Rattle.pml_control.specs.Plan.{ArePlans}
+use Rattle.pml_check.specs.Broken.{AreBroken}
 use Rattle.pml_check.specs.Decided.{DecidesCircles, DecidesSteps}
 use Rattle.pml_check.specs.declared.subject.Subject.{Subject}
 
--- the marks, the names and the numbered model of a tree, the plans of its bodies, and what is found of their control
+-- which conditions are broken on the marks of a tree, its numbered model, the plans of its bodies, and what is found of their control
 pub record IsSubject (t : Tree) (s : Subject) : Type 0 where
-  pub marks : s.marks ≡ of_tree t
-  pub names : s.names.table ≡ env (of_tree t)
-  pub found : AreFound (of_tree t) s.found
+  pub broken : AreBroken (of_tree t) s.broken
   pub program : s.program ≡ numbered_model t
   pub circles : DecidesCircles s.control.circle (numbered_model t).proctypes
   pub steps : DecidesSteps s.control.bad_first_point (numbered_model t).proctypes

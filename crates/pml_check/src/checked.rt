@@ -79,25 +79,17 @@ impl<'a> Checked<'a> {
     }
 }
 
-/// Checks a tree. It answers the least refusal that applies, exactly where one does, and else the checked model.
-pub fn check<'a>(alloc: Global, tree: &Tree<'a>) -> Result<Checked<'a>, CheckFault>
-    ensures fits { OnOk result (IsFit tree.now) }
-    ensures model { IfOk result (λ checked. StandsModel tree.now checked) }
-    ensures refused { IfErr result (IsRefused tree.now) }
+/// Checks a tree, and lets it go. It answers the least refusal that applies, exactly where one does, and else the checked model.
+pub fn check<'a>(alloc: Global, tree: Tree<'a>) -> Result<Checked<'a>, CheckFault>
+    ensures fits { OnOk result (IsFit tree.entry) }
+    ensures model { IfOk result (λ checked. StandsModel tree.entry checked) }
+    ensures refused { IfErr result (IsRefused tree.entry) }
 {
     let subject = subject_of(alloc, tree)?;
     if let Some(refusal) = least_of(alloc, &subject)? {
         return Err(CheckFault::Refused(refusal));
     }
-    let Subject {
-        marks,
-        names,
-        program,
-        plans,
-        ..
-    } = subject;
-    drop(marks);
-    drop(names);
+    let Subject { program, plans, .. } = subject;
     let graphs = all_graphs(alloc, program.get().proctypes.as_slice(), plans.as_slice())?;
     Ok(Checked { program, graphs })
 }

@@ -2,6 +2,7 @@
 //! (Holzmann, *The SPIN Model Checker*, chapter 3).
 #![tactic(auto)]
 
+mod broken;
 mod checked;
 mod control;
 mod judge;
@@ -11,4 +12,3 @@ mod start;
 mod subject;
 
 pub use checked::{CheckFault, Checked, check};
-pub use parsed::Parsed;

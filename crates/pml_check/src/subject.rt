@@ -1,49 +1,78 @@
 //! What is asked of a tree is asked of this.
 
 ghost use Rattle.std.specs.Prelude.{◌≡◌, IfOk};
+ghost use Rattle.pml_marks.specs.Marks.{of_tree};
+ghost use Rattle.pml_resolve.specs.Model.{numbered_model};
+ghost use Rattle.pml_check.specs.Broken.{AreBroken};
 ghost use Rattle.pml_check.specs.Subject.{IsSubject};
 
+use crate::broken::{Broken, broken_on};
 use crate::control::{Control, examine_all};
-use pml_conditions::find::{Found, find};
+use crate::parsed::Parsed;
 use pml_control::findings::{Findings, Plan};
-use pml_marks::mark::Mark;
 use pml_marks::model::marks;
-use pml_names::names::{Names, all_names};
+use pml_names::names::all_names;
 use pml_program::program::Program;
 use pml_resolve::model::number;
 use pml_tree::tree::Tree;
-use sqlite_items::{Boxed, Items};
+use sqlite_items::Boxed;
 use std::alloc::{AllocError, Global};
 
-/// The marks of a tree, its names, which conditions are broken on them, the model with its names replaced, the plans of its bodies, and
-/// what is found of their control.
+/// Which conditions are broken on the marks of a tree, the model with its names replaced, the plans of its bodies, and what is found of
+/// their control.
 #[derive(Drop)]
 pub struct Subject<'a> {
-    pub marks: Items<Mark<'a>>,
-    pub names: Names<'a>,
-    pub found: Found,
+    pub broken: Broken,
     pub program: Boxed<Program<'a>>,
     pub plans: Vec<Plan>,
     pub control: Findings,
 }
 
-/// What is asked of a tree.
-pub fn subject_of<'a>(alloc: Global, tree: &Tree<'a>) -> Result<Subject<'a>, AllocError>
-    ensures { IfOk result (λ subject. IsSubject tree.now subject) }
+/// Which conditions are broken on the marks of a tree, and the model with its names replaced.
+#[derive(Drop)]
+struct Numbered<'a> {
+    broken: Broken,
+    program: Program<'a>,
+}
+
+/// All that is read of a tree. Its marks are let go before the model is made.
+fn number_parsed<'a>(alloc: Global, parsed: &Parsed<'a>) -> Result<Numbered<'a>, AllocError>
+    ensures broken { IfOk result (λ n. AreBroken (of_tree parsed.now) n.broken) }
+    ensures program { IfOk result (λ n. n.program ≡ numbered_model parsed.now) }
 {
+    let tree = parsed.tree();
     let marks = marks(alloc, tree)?;
     let names = all_names(alloc, marks.as_slice())?;
-    let found = find(alloc, &names.table, marks.as_slice())?;
+    let broken = broken_on(alloc, &names.table, marks.as_slice())?;
+    drop(marks);
     let program = number(alloc, tree, &names.table)?;
+    Ok(Numbered { broken, program })
+}
+
+/// The same of a tree, which is let go.
+fn number_tree<'a>(alloc: Global, tree: Tree<'a>) -> Result<Numbered<'a>, AllocError>
+    ensures broken { IfOk result (λ n. AreBroken (of_tree tree.entry) n.broken) }
+    ensures program { IfOk result (λ n. n.program ≡ numbered_model tree.entry) }
+{
+    // Lent from a pattern: where a parameter is lent, the check of its loan does not end.
+    match Parsed::new(alloc, tree) {
+        Ok(parsed) => number_parsed(alloc, &parsed),
+        Err(AllocError) => Err(AllocError),
+    }
+}
+
+/// What is asked of a tree. The tree is let go as soon as the model with its names replaced is made.
+pub fn subject_of<'a>(alloc: Global, tree: Tree<'a>) -> Result<Subject<'a>, AllocError>
+    ensures { IfOk result (λ subject. IsSubject tree.entry subject) }
+{
+    let Numbered { broken, program } = number_tree(alloc, tree)?;
     let Control {
         plans,
         found: control,
     } = examine_all(alloc, program.proctypes.as_slice())?;
     let program = Boxed::new(alloc, program)?;
     Ok(Subject {
-        marks,
-        names,
-        found,
+        broken,
         program,
         plans,
         control,

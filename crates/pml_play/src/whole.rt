@@ -15,13 +15,14 @@ ghost use Rattle.pml_play.specs.Plays.{IsReady, IsRejected, Rejects, PlaysText, 
 
 use devices::Devices;
 use diagnostics::{Refusal, Stop};
-use pml_check::{CheckFault, Checked, Parsed, check};
+use pml_check::{CheckFault, Checked, check};
 use pml_lex::cut;
 use pml_lex::fault::LexFault;
 use pml_lex::token::Token;
 use pml_sim::world::World;
 use pml_start::start::start;
 use pml_syntax::{SyntaxFault, parse};
+use pml_tree::tree::Tree;
 use session::{Broken, End, Options, end_of, failure, refuse, run};
 use std::alloc::{AllocError, Global};
 
@@ -74,25 +75,22 @@ fn of_check(fault: CheckFault) -> Rejection
 }
 
 /// The tree that the tokens spell.
-fn tree_of<'a>(alloc: Global, tokens: &'a [Token<'a>]) -> Result<Parsed<'a>, Rejection>
+fn tree_of<'a>(alloc: Global, tokens: &'a [Token<'a>]) -> Result<Tree<'a>, Rejection>
     ensures ok { IfOk result (λ tree. Spells tree tokens.now) }
     ensures err { (text : List ℕ) → AreTokens text tokens.now → IfErr result (IsRejected text) }
 {
     match parse(alloc, tokens) {
-        Ok(tree) => match Parsed::new(alloc, tree) {
-            Ok(parsed) => Ok(parsed),
-            Err(AllocError) => Err(Rejection::Memory),
-        },
+        Ok(tree) => Ok(tree),
         Err(fault) => Err(of_syntax(fault)),
     }
 }
 
-/// The checked model of a tree.
-fn model_of<'a>(alloc: Global, parsed: &Parsed<'a>) -> Result<Checked<'a>, Rejection>
-    ensures ok { (text : List ℕ) → IsSpelled text parsed.now → IfOk result (IsReady text) }
-    ensures err { (text : List ℕ) → IsSpelled text parsed.now → IfErr result (IsRejected text) }
+/// The checked model of a tree, which is let go.
+fn model_of<'a>(alloc: Global, tree: Tree<'a>) -> Result<Checked<'a>, Rejection>
+    ensures ok { (text : List ℕ) → IsSpelled text tree.entry → IfOk result (IsReady text) }
+    ensures err { (text : List ℕ) → IsSpelled text tree.entry → IfErr result (IsRejected text) }
 {
-    match check(alloc, parsed.tree()) {
+    match check(alloc, tree) {
         Ok(checked) => Ok(checked),
         Err(fault) => Err(of_check(fault)),
     }
@@ -104,7 +102,7 @@ fn checked_of<'a>(alloc: Global, tokens: &'a [Token<'a>]) -> Result<Checked<'a>,
     ensures err { (text : List ℕ) → AreTokens text tokens.now → IfErr result (IsRejected text) }
 {
     match tree_of(alloc, tokens) {
-        Ok(parsed) => model_of(alloc, &parsed),
+        Ok(tree) => model_of(alloc, tree),
         Err(rejection) => Err(rejection),
     }
 }

@@ -5,6 +5,7 @@ use Rattle.pml_resolve.specs.Model.{numbered_model}
 use Rattle.pml_flow.specs.Flow.{AreGraphs}
 use Rattle.pml_start.specs.Bound.{IsWithin}
 use Rattle.pml_check.specs.Judged.{SettleEverywhere}
+use Rattle.pml_check.specs.Decided.{all_judged}
 use Rattle.pml_check.proofs.Least.{fit_by, first_is_least}
 use Rattle.pml_check.proofs.Standing.{stands_by}
 use Rattle.pml_check.proofs.Within.{fit_within}
@@ -12,29 +13,29 @@ use Rattle.pml_check.proofs.Subjects.{found_of, settles_of}
 use Rattle.pml_check.proofs.checked.check.Goals as goal
 
 pub returns-in-Some-clause-refused : goal.returns-in-Some-clause-refused
-returns-in-Some-clause-refused c = first_is_least c.args.tree.now c.in-Some.refusal (found_of c.args.tree.now c.in_ok-subject.subject c.in_ok-subject.ensures c.in_ok-refusal.field-0 (Some c.in-Some.refusal) c.in-Some.is c.in_ok-refusal.ensures)
+returns-in-Some-clause-refused c = first_is_least c.args.tree c.in-Some.refusal (found_of all_judged c.args.tree c.in_ok-refusal.field-0 (Some c.in-Some.refusal) c.in-Some.is (c.in_ok-refusal.ensures c.args.tree c.in_ok-subject.ensures))
 
 pub invariant_of-result : goal.invariant_of-result
 invariant_of-result c = record {
-  tree = c.args.tree.now;
-  fits = fit_by c.args.tree.now
-      (found_of c.args.tree.now c.in_ok-subject.subject c.in_ok-subject.ensures c.in_ok-refusal.field-0 None c.in_default.is c.in_ok-refusal.ensures);
-  stands = stands_by c.args.tree.now _ c.in_ok-subject.ensures.program;
+  tree = c.args.tree;
+  fits = fit_by c.args.tree
+      (found_of all_judged c.args.tree c.in_ok-refusal.field-0 None c.in_default.is (c.in_ok-refusal.ensures c.args.tree c.in_ok-subject.ensures));
+  stands = stands_by c.args.tree _ c.in_ok-subject.ensures.program;
   within = subst IsWithin (sym c.in_ok-subject.ensures.program)
-      (fit_within c.args.tree.now (found_of c.args.tree.now c.in_ok-subject.subject c.in_ok-subject.ensures c.in_ok-refusal.field-0 None c.in_default.is c.in_ok-refusal.ensures));
+      (fit_within c.args.tree (found_of all_judged c.args.tree c.in_ok-refusal.field-0 None c.in_default.is (c.in_ok-refusal.ensures c.args.tree c.in_ok-subject.ensures)));
   graphs = subst (λ ps. AreGraphs ps c.in_ok-graphs.graphs.items) (c.as_slice.ensures ∙ ap (λ (p : Program). p.proctypes) c.get.ensures) c.in_ok-graphs.ensures;
 }
 
 pub returns-clause-fits : goal.returns-clause-fits
-returns-clause-fits c = fit_by c.args.tree.now
-    (found_of c.args.tree.now c.in_ok-subject.subject c.in_ok-subject.ensures c.in_ok-refusal.field-0 None c.in_default.is c.in_ok-refusal.ensures)
+returns-clause-fits c = fit_by c.args.tree
+    (found_of all_judged c.args.tree c.in_ok-refusal.field-0 None c.in_default.is (c.in_ok-refusal.ensures c.args.tree c.in_ok-subject.ensures))
 
 pub returns-clause-model : goal.returns-clause-model
-returns-clause-model c = stands_by c.args.tree.now _ c.in_ok-subject.ensures.program
+returns-clause-model c = stands_by c.args.tree _ c.in_ok-subject.ensures.program
 
 pub all_graphs-requires-clause-settle : goal.all_graphs-requires-clause-settle
 all_graphs-requires-clause-settle c =
-    let t = c.args.tree.now in
+    let t = c.args.tree in
     let e = c.as_slice.ensures ∙ ap (λ (p : Program). p.proctypes) (c.get.ensures ∙ c.in_ok-subject.ensures.program) in
     subst SettleEverywhere (sym e)
-    (settles_of (of_tree t) (numbered_model t) (found_of t c.in_ok-subject.subject c.in_ok-subject.ensures c.in_ok-refusal.field-0 None c.in_default.is c.in_ok-refusal.ensures))
+    (settles_of (of_tree t) (numbered_model t) (found_of all_judged t c.in_ok-refusal.field-0 None c.in_default.is (c.in_ok-refusal.ensures c.args.tree c.in_ok-subject.ensures)))
