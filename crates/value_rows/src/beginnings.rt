@@ -164,6 +164,57 @@ fn fields_of_fields(rt: HostRuntime) -> Result<(), Fail> {
     Ok(())
 }
 
+/// A byte's field or variable of so many elements, with this number.
+fn bytes(offset: u32, length: u32, number: i32) -> Slot<'static> {
+    let initial = Initial::Value(Expr::Number(number));
+    slot(Form::Plain(Scalar::Byte), offset, length, 1, initial)
+}
+
+/// `A` is a byte of 1 and two of 2; `B` two of `A` and a byte of 3; `C` a byte of 4, two of `B`, one of `A` and a byte without a number.
+fn three_typedefs(alloc: Global) -> Result<Items<Fields<'static>>, AllocError> {
+    let mut a = Items::new(alloc);
+    a.push(bytes(0, 1, 1))?;
+    a.push(bytes(1, 2, 2))?;
+    let mut b = Items::new(alloc);
+    b.push(slot(Form::Struct(2), 0, 2, 3, Initial::Zero))?;
+    b.push(bytes(6, 1, 3))?;
+    let mut c = Items::new(alloc);
+    c.push(bytes(0, 1, 4))?;
+    c.push(slot(Form::Struct(5), 1, 2, 7, Initial::Zero))?;
+    c.push(slot(Form::Struct(2), 15, 1, 3, Initial::Zero))?;
+    c.push(slot(Form::Plain(Scalar::Byte), 18, 1, 1, Initial::Zero))?;
+    let mut typedefs = Items::new(alloc);
+    typedefs.push(Fields {
+        owner: 2,
+        fields: a,
+    })?;
+    typedefs.push(Fields {
+        owner: 5,
+        fields: b,
+    })?;
+    typedefs.push(Fields {
+        owner: 8,
+        fields: c,
+    })?;
+    Ok(typedefs)
+}
+
+/// Elements in elements in elements: each field begins in each of them, in the order of the text, and what stands behind a typedef's last
+/// element goes on behind it.
+#[test]
+fn elements_in_elements(rt: HostRuntime) -> Result<(), Fail> {
+    let alloc = rt.alloc();
+    let mut slots = Items::new(alloc);
+    slots.push(bytes(0, 1, 9))?;
+    slots.push(slot(Form::Struct(8), 1, 2, 19, Initial::Zero))?;
+    let cells = [
+        9, 4, 1, 2, 2, 1, 2, 2, 3, 1, 2, 2, 1, 2, 2, 3, 1, 2, 2, 0, 4, 1, 2, 2, 1, 2, 2, 3, 1, 2,
+        2, 1, 2, 2, 3, 1, 2, 2, 0,
+    ];
+    shows(&rt, begun(alloc, three_typedefs(alloc)?, slots), &cells)?;
+    Ok(())
+}
+
 /// A field's fault is told where the first cell of it begins: behind 255 channels, and not behind 256.
 #[test]
 fn a_fault_of_a_field(rt: HostRuntime) -> Result<(), Fail> {
