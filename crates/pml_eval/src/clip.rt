@@ -9,7 +9,32 @@ use pml_tree::tree::Scalar;
 
 /// What a variable of this type keeps of a number: the one number in the type's range that differs from it by a multiple of
 /// 2 ^ n, n its bits. An unsigned type of 32 bits is kept with a sign, and so is one of more, of which no model has any.
+#[inline(always)]
 pub fn clip(form: Form, v: i32) -> i32
+    ensures { result ≡ clipped form v }
+{
+    if is_small(form, v) {
+        return v;
+    }
+    cut(form, v)
+}
+
+/// Whether a number is in the range of a byte or of an int: most variables are of these two, and most numbers are kept as they are.
+#[inline(always)]
+#[tactic(auto, unfolding(crate::specs::Clip::bits_of, crate::specs::Clip::is_signed))]
+fn is_small(form: Form, v: i32) -> bool
+    ensures { result ≡ true → InBits (is_signed form) (bits_of form) v }
+{
+    match form {
+        Form::Plain(Scalar::Byte) => 0 <= v && v < 256,
+        Form::Plain(Scalar::Int) => true,
+        _ => false,
+    }
+}
+
+/// What a variable of any type keeps of a number.
+#[inline(never)]
+fn cut(form: Form, v: i32) -> i32
     ensures { result ≡ clipped form v }
 {
     if is_in_range(form, v) {

@@ -49,7 +49,7 @@ pub fn eval<G: Ground>(e: &Expr, ground: &G) -> Result<i32, Fault>
                 eval(b.get(), ground)
             }
         }
-        Expr::Read(target) => read(target, ground),
+        Expr::Read(target) => read_here(target, ground),
         Expr::Ask(fill, target) => {
             let number = read(target, ground)?;
             ask(*fill, number, ground)
@@ -78,9 +78,21 @@ fn operand<G: Ground>(e: &Expr, ground: &G) -> Result<i32, Fault>
 {
     match e {
         Expr::Number(n) => Ok(*n),
-        Expr::Read(target) => read(target, ground),
+        Expr::Read(target) => read_here(target, ground),
         _ => eval(e, ground),
     }
+}
+
+/// What stands at the place of a reference: at once where it has no index, as most have.
+#[cycle(eval)]
+#[inline(always)]
+fn read_here<G: Ground>(target: &Target, ground: &G) -> Result<i32, Fault>
+    ensures { result ≡ val (Read target.now) (G.reading ground.now) }
+{
+    if let Some(at) = place_at_once(target, ground) {
+        return Ok(ground.number(at));
+    }
+    read(target, ground)
 }
 
 /// What stands at the place of a reference. It is a function of its own so that an expression of another kind has no room for a place.
@@ -89,9 +101,6 @@ fn operand<G: Ground>(e: &Expr, ground: &G) -> Result<i32, Fault>
 fn read<G: Ground>(target: &Target, ground: &G) -> Result<i32, Fault>
     ensures { result ≡ val (Read target.now) (G.reading ground.now) }
 {
-    if let Some(at) = place_at_once(target, ground) {
-        return Ok(ground.number(at));
-    }
     let at = place(target, ground)?;
     Ok(ground.number(at))
 }
@@ -99,7 +108,7 @@ fn read<G: Ground>(target: &Target, ground: &G) -> Result<i32, Fault>
 /// The place of a reference without an index, as most are, where its variable has that cell. It stands in one straight line with what
 /// is read there, so that the variable is looked up once.
 #[inline(always)]
-fn place_at_once<G: Ground>(target: &Target, ground: &G) -> Option<Place>
+pub fn place_at_once<G: Ground>(target: &Target, ground: &G) -> Option<Place>
     ensures value { IfSome result (λ p. place target.now (G.reading ground.now) ≡ Ok p) }
     ensures there { IfSome result (λ p. p.cell < (G.reading ground.now).cells p.frame p.variable) }
 {
@@ -253,10 +262,23 @@ pub fn place<G: Ground>(target: &Target, ground: &G) -> Result<Place, Fault>
     ensures value { result ≡ place target.now (G.reading ground.now) }
     ensures there { IfOk result (λ p. p.cell < (G.reading ground.now).cells p.frame p.variable) }
 {
+    if let Some(at) = place_at_once(target, ground) {
+        return Ok(at);
+    }
+    place_by_turns(target, ground)
+}
+
+/// The place of a reference, turn by turn.
+#[cycle(eval)]
+#[inline(never)]
+fn place_by_turns<G: Ground>(target: &Target, ground: &G) -> Result<Place, Fault>
+    ensures value { result ≡ place target.now (G.reading ground.now) }
+    ensures there { IfOk result (λ p. p.cell < (G.reading ground.now).cells p.frame p.variable) }
+{
     let frame = ground.frame(target.local);
     let whole = ground.size(frame, target.variable);
     further(whole, 0, 0)?;
-    let cell = cell(target.turns.as_slice(), whole, ground)?;
+    let cell = turned(target.turns.as_slice(), whole, ground)?;
     Ok(Place {
         frame,
         variable: target.variable,
@@ -264,23 +286,8 @@ pub fn place<G: Ground>(target: &Target, ground: &G) -> Result<Place, Fault>
     })
 }
 
-/// The cell that turns lead to in a variable of so many. One turn without an index, as most variables have, leads there at once.
-#[cycle(eval)]
-#[inline(always)]
-fn cell<G: Ground>(turns: &[Turn], whole: usize, ground: &G) -> Result<usize, Fault>
-    requires { 0 < whole }
-    ensures value { result ≡ cells_of (map cells turns.now) whole 0 (G.reading ground.now) }
-    ensures there { IfOk result (λ c. c < whole) }
-{
-    if turns.len() == 1 && turns[0].index.is_none() {
-        return further(whole, 0, turns[0].offset as usize);
-    }
-    turned(turns, whole, ground)
-}
-
 /// The cell that turns lead to, one after another.
 #[cycle(eval)]
-#[inline(never)]
 fn turned<G: Ground>(turns: &[Turn], whole: usize, ground: &G) -> Result<usize, Fault>
     requires { 0 < whole }
     ensures value { result ≡ cells_of (map cells turns.now) whole 0 (G.reading ground.now) }

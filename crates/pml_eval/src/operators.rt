@@ -26,6 +26,7 @@ pub fn prefix(op: Prefix, v: i32) -> i32
 }
 
 /// An operator between its operands.
+#[inline(always)]
 pub fn infix(op: Infix, a: i32, b: i32) -> Result<i32, Fault>
     ensures { result ≡ infixed op a b }
 {

@@ -1,16 +1,16 @@
 //! Assignments, increments, decrements and conditions (Holzmann, *The SPIN Model Checker*, chapter 3).
 
-ghost use Rattle.std.specs.Prelude.{◌≡◌, ◌<◌, IfOk, IfSome};
+ghost use Rattle.std.specs.Prelude.{◌≡◌, ◌<◌, IfOk, IfSome, Ok, Some};
 ghost use Rattle.pml_store.specs.Store.{size_at, before};
 ghost use Rattle.pml_eval.specs.Clip.{clipped};
-ghost use Rattle.pml_value.specs.Statement.{is_executable, goes, assigned, counted, outcome, TakesStatement};
+ghost use Rattle.pml_value.specs.Statement.{is_executable, goes, goes_to, assigned, counted, outcome, TakesStatement};
 ghost use Rattle.pml_value.specs.Reads.{reading_of, seen};
 
 use crate::live_channel::LiveChannel;
 use crate::view::View;
 use diagnostics::{Fault, Stop};
 use pml_eval::clip::clip;
-use pml_eval::eval::{eval, place};
+use pml_eval::eval::{eval, place, place_at_once};
 use pml_eval::ground::Ground;
 use pml_program::expr::{Expr, Target};
 use pml_program::form::Form;
@@ -104,6 +104,77 @@ fn resolved(action: &Action<'_>, view: &View<'_>) -> Result<Option<Goes>, Fault>
     }
 }
 
+/// Stores a number.
+#[inline(always)]
+fn set(store: &mut Store, goes: Goes) -> Result<(), Stop>
+    requires { goes.place.cell < size_at store.old.frames goes.place.frame goes.place.variable }
+    ensures value { TakesStatement (Ok (Some goes)) result store.old store.new }
+    ensures past { before store.new ≡ before store.old }
+{
+    match store.set(goes.place, goes.number) {
+        Ok(()) => Ok(()),
+        Err(_) => Err(Stop::Memory),
+    }
+}
+
+/// Stores a number to the place that a target's turns lead to.
+#[inline(never)]
+fn set_by_turns(
+    store: &mut Store,
+    channels: &[LiveChannel],
+    pid: u8,
+    process_count: u8,
+    timeout: bool,
+    target: &Target,
+    number: i32,
+) -> Result<(), Stop>
+    ensures value { TakesStatement (goes_to (Some target.now) number (reading_of store.old.frames channels.now pid process_count timeout)) result store.old store.new }
+    ensures past { before store.new ≡ before store.old }
+{
+    let view = View {
+        store: &*store,
+        channels,
+        pid,
+        process_count,
+        timeout,
+    };
+    match store_to(target, number, &view) {
+        Err(fault) => Err(Stop::Fault(fault)),
+        Ok(goes) => set(store, goes),
+    }
+}
+
+/// Takes an assignment to a variable, at once where the variable has no index, as most have.
+#[inline(always)]
+fn assign(
+    store: &mut Store,
+    channels: &[LiveChannel],
+    pid: u8,
+    process_count: u8,
+    timeout: bool,
+    target: &Target,
+    value: &Expr,
+) -> Result<(), Stop>
+    ensures value { TakesStatement (assigned (Some target.now) value.now (reading_of store.old.frames channels.now pid process_count timeout)) result store.old store.new }
+    ensures past { before store.new ≡ before store.old }
+{
+    let view = View {
+        store: &*store,
+        channels,
+        pid,
+        process_count,
+        timeout,
+    };
+    let number = match eval(value, &view) {
+        Ok(number) => number,
+        Err(fault) => return Err(Stop::Fault(fault)),
+    };
+    match place_at_once(target, &view) {
+        Some(at) => set(store, kept(at, target.form, number)),
+        None => set_by_turns(store, channels, pid, process_count, timeout, target, number),
+    }
+}
+
 /// Takes a statement of a process.
 #[inline(always)]
 pub fn take(
@@ -117,6 +188,9 @@ pub fn take(
     ensures value { TakesStatement (outcome action.now (reading_of store.old.frames channels.now pid process_count timeout)) result store.old store.new }
     ensures past { before store.new ≡ before store.old }
 {
+    if let Action::Assign(Some(target), value) = action {
+        return assign(store, channels, pid, process_count, timeout, target, value);
+    }
     let view = View {
         store: &*store,
         channels,
@@ -127,9 +201,6 @@ pub fn take(
     match resolved(action, &view) {
         Err(fault) => Err(Stop::Fault(fault)),
         Ok(None) => Ok(()),
-        Ok(Some(goes)) => match store.set(goes.place, goes.number) {
-            Ok(()) => Ok(()),
-            Err(_) => Err(Stop::Memory),
-        },
+        Ok(Some(goes)) => set(store, goes),
     }
 }

@@ -3,7 +3,7 @@ use Rattle.pml_eval.specs.Clip.{clipped}
 use Rattle.pml_eval.proofs.ClipLemmas.{clipped-same}
 use Rattle.pml_eval.proofs.clip.clip.Goals as goal
 
-pub returns-then-is_in_range : goal.returns-then-is_in_range
-returns-then-is_in_range c =
+pub returns-then-is_small : goal.returns-then-is_small
+returns-then-is_small c =
     let fits : SFits w32 c.args.v = search rules in
-    clipped-same c.args.form _ (c.is_in_range.ensures c.if-is_in_range.true) ∙ ap (clipped c.args.form) (to_z-of_z fits)
+    clipped-same c.args.form _ (c.is_small.ensures c.if-is_small.true) ∙ ap (clipped c.args.form) (to_z-of_z fits)
