@@ -7,6 +7,7 @@ pub mod laws;
 mod level;
 pub mod lines;
 mod marks;
+mod only;
 mod parts;
 mod site;
 mod sites;

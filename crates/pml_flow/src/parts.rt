@@ -23,7 +23,8 @@ pub fn begin_of(bounds: &[usize], number: usize) -> usize
     bound(bounds, number - 1)
 }
 
-fn between<T>(all: &[T], from: usize, to: usize) -> &[T]
+/// What stands from one place to before another.
+pub fn between<T>(all: &[T], from: usize, to: usize) -> &[T]
     ensures { result.now ≡ slice_range all.now from to }
 {
     let end = to.min(all.len());
