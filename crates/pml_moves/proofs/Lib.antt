@@ -1,5 +1,5 @@
 pub mod Searching
-pub mod Matching
+pub mod Naming
 pub mod Offering
 pub mod Placing
 pub mod Keeping

@@ -1,19 +1,17 @@
 //! When a statement can be taken by itself.
 
-ghost use Rattle.std.specs.Prelude.{◌≡◌, Bool, List, IfOk, IfErr, Ok, Err, length};
+ghost use Rattle.std.specs.Prelude.{◌≡◌, Bool, IfOk, IfErr, Ok, Err, Some, length};
 ghost use Rattle.pml_tree.specs.declared.tree.SendOrder.{SendOrder};
 ghost use Rattle.pml_tree.specs.declared.tree.Removal.{Removal};
 ghost use Rattle.pml_program.specs.declared.program.Action.TheVariants.{Send, Receive};
-ghost use Rattle.pml_eval.specs.declared.pattern.Sought.{Sought};
-ghost use Rattle.pml_eval.specs.Value.{val, asked_by, is_match, settled};
-ghost use Rattle.pml_value.specs.Reads.{seen};
+ghost use Rattle.pml_eval.specs.Value.{val, asked_by};
+ghost use Rattle.pml_value.specs.Reads.{seen, channel_at as numbered_at};
 ghost use Rattle.pml_moves.specs.Fields.{evaluated};
 ghost use Rattle.pml_moves.specs.Executable.{named as names, values, nonzero, or_fault, can, can_send as sends, can_receive as receives};
 
-use crate::asking::is_asked;
 use diagnostics::Fault;
 use pml_channel::channel::Channel;
-use pml_eval::eval::{eval, first_fault, place};
+use pml_eval::eval::{eval, has_match, place};
 use pml_eval::ground::Ground;
 use pml_program::expr::{Expr, Target, Want};
 use pml_program::program::Action;
@@ -54,26 +52,6 @@ pub fn first_fault_of(list: &[Expr], view: &View<'_>) -> Result<(), Fault>
     Ok(())
 }
 
-/// Whether the oldest message matches, or any of them, as the search has it. What is asked has no fault.
-fn has_match(
-    arguments: &[Want],
-    search: Search,
-    channel: &Channel,
-    view: &View<'_>,
-) -> Result<bool, Fault>
-    ensures { (ws : List Sought) → asked_by arguments.now (seen view.now) ≡ Ok ws → result ≡ Ok (is_match search ws channel.now.messages) }
-{
-    for place in 0..channel.len() {
-        if is_asked(arguments, channel.message(place), view)? {
-            return Ok(true);
-        }
-        if let Search::First = search {
-            return Ok(false);
-        }
-    }
-    Ok(false)
-}
-
 /// Whether a condition holds, or comes to a fault.
 #[inline(never)]
 fn holds(view: &View<'_>, value: &Expr) -> bool
@@ -95,17 +73,21 @@ fn can_send(view: &View<'_>, in_d_step: bool, channel: &Channel, fields: &[Expr]
     !in_d_step && first_fault_of(fields, view).is_err()
 }
 
-/// Whether a receive can be taken by itself.
-fn can_receive(view: &View<'_>, search: Search, channel: &Channel, arguments: &[Want]) -> bool
+/// Whether a receive from the channel with this number can be taken by itself.
+fn can_receive(
+    view: &View<'_>,
+    search: Search,
+    number: i32,
+    channel: &Channel,
+    arguments: &[Want],
+) -> bool
+    requires { numbered_at view.now.channels.now number ≡ Some channel.now }
     ensures { result ≡ or_fault (receives search channel.now (asked_by arguments.now (seen view.now))) }
 {
     if channel.capacity() == 0 || channel.len() == 0 {
         return false;
     }
-    if first_fault(arguments, view).is_err() {
-        return true;
-    }
-    match has_match(arguments, search, channel, view) {
+    match has_match(arguments, search, number, view) {
         Ok(found) => found,
         Err(_) => true,
     }
@@ -124,11 +106,12 @@ fn can_send_to(view: &View<'_>, in_d_step: bool, target: &Target, fields: &[Expr
 
 /// Whether a receive from a channel can be taken by itself.
 #[inline(never)]
+#[tactic(auto, using(crate::proofs::Naming::named_at))]
 fn can_receive_from(view: &View<'_>, search: Search, target: &Target, arguments: &[Want]) -> bool
     ensures { (in_d_step : Bool) (removal : Removal) → result ≡ can view.now.channels.now (seen view.now) in_d_step (Receive target.now search removal arguments.now) }
 {
     match named(view, target, arguments.len()) {
-        Ok((_, channel)) => can_receive(view, search, channel, arguments),
+        Ok((number, channel)) => can_receive(view, search, number, channel, arguments),
         Err(_) => true,
     }
 }

@@ -1,7 +1,6 @@
 //! What may be done next in a state of many processes (Holzmann, *The SPIN Model Checker*, chapters 3 and 7).
 #![tactic(auto)]
 
-mod asking;
 pub mod executable;
 pub mod laws;
 pub mod message;

@@ -28,16 +28,39 @@ fn edge_at(edges: &[Edge], place: usize) -> Option<&Edge>
     edges.get(place)
 }
 
+/// The edge of a level with this place.
+#[inline(always)]
+fn edge_in(edges: &[Edge], place: usize) -> Option<Edge>
+    ensures { result ≡ slice_get edges.now place }
+{
+    let edge = edge_at(edges, place)?;
+    Some(*edge)
+}
+
 /// The edge of a node with this level and place.
-fn edge_of(body: &Body<'_, '_, '_>, node: usize, pick: Pick) -> Option<Edge>
+#[inline(never)]
+fn edge_on(body: &Body<'_, '_, '_>, node: usize, pick: Pick) -> Option<Edge>
     requires { node < length body.now.graph.now.nodes }
     ensures { option_map (shows body.now) result ≡ offer_on (slice_get (map (map (shows body.now)) (edges_at body.now node)) pick.level) pick.place }
 {
     if pick.level >= body.graph.level_count(node) {
         return None;
     }
-    let edge = edge_at(body.graph.level(node, pick.level), pick.place)?;
-    Some(*edge)
+    edge_in(body.graph.level(node, pick.level), pick.place)
+}
+
+/// The edge of a node with this level and place: at once where the node has just one level, as most have.
+#[inline(always)]
+fn edge_of(body: &Body<'_, '_, '_>, node: usize, pick: Pick) -> Option<Edge>
+    requires { node < length body.now.graph.now.nodes }
+    ensures { option_map (shows body.now) result ≡ offer_on (slice_get (map (map (shows body.now)) (edges_at body.now node)) pick.level) pick.place }
+{
+    if pick.level == 0 {
+        if let Some(edges) = body.graph.only_level(node) {
+            return edge_in(edges, pick.place);
+        }
+    }
+    edge_on(body, node, pick)
 }
 
 /// The offer that a pick names, if its process stands where it has such an offer.

@@ -3,7 +3,7 @@
 
 #![tactic(auto, using(crate::proofs::Keeping::kept_on, crate::proofs::Keeping::kept_same, crate::proofs::Keeping::kept_push))]
 
-ghost use Rattle.std.specs.Prelude.{◌≡◌, ◌++◌, ◌<◌, true, false, List, [], if◌then◌else◌, OnOk, Some, length, map, option_map, slice_get};
+ghost use Rattle.std.specs.Prelude.{◌≡◌, ◌++◌, ◌<◌, true, false, List, [], if◌then◌else◌, OnOk, Some, length, map, option_map, slice_get, slice_index_or};
 ghost use Rattle.std.specs.List.{filter};
 ghost use Rattle.std.specs.Option.{option_copied};
 ghost use Rattle.pml_program.specs.declared.program.Seq.{Seq as Sequence};
@@ -75,6 +75,18 @@ fn first_else(body: &Body<'_, '_, '_>, edges: &[Edge]) -> Option<Edge>
     None
 }
 
+/// The edges of a node's first level.
+#[inline(always)]
+fn first_level<'w>(body: &Body<'w, '_, '_>, node: usize) -> &'w [Edge]
+    requires { node < length body.now.graph.now.nodes }
+    ensures { result.now ≡ slice_index_or (edges_at body.now node) 0 [] }
+{
+    match body.graph.only_level(node) {
+        Some(edges) => edges,
+        None => body.graph.level(node, 0),
+    }
+}
+
 /// The offer that is taken at a node inside a d_step, if one can be.
 pub fn choice(view: &View<'_>, body: &Body<'_, '_, '_>, node: usize) -> Option<Edge>
     requires { IsBody body.now }
@@ -83,7 +95,7 @@ pub fn choice(view: &View<'_>, body: &Body<'_, '_, '_>, node: usize) -> Option<E
     if !body.has_node(node) {
         return None;
     }
-    let edges = body.graph.level(node, 0);
+    let edges = first_level(body, node);
     match first_plain(view, body, edges) {
         Some(edge) => Some(edge),
         None => first_else(body, edges),
@@ -220,6 +232,7 @@ fn add_pairs_on(
 }
 
 /// Adds those with the highest level of a node that has a receive of it.
+#[inline(never)]
 fn add_pairs_down(
     scene: &Scene<'_, '_, '_>,
     body: &Body<'_, '_, '_>,
@@ -248,6 +261,28 @@ fn add_pairs_down(
     Ok(())
 }
 
+/// Adds those with the highest level of a node that has a receive of it: at once where the node has just one level, as most have.
+fn add_pairs_in(
+    scene: &Scene<'_, '_, '_>,
+    body: &Body<'_, '_, '_>,
+    sending: &Sending<'_, '_>,
+    j: usize,
+    node: usize,
+    moves: &mut Vec<Move>,
+) -> Result<(), AllocError>
+    requires fits { Fits scene.now }
+    requires there { j < length scene.now.seats.now }
+    requires body { IsBody body.now }
+    requires node { node < length body.now.graph.now.nodes }
+    ensures added { OnOk result (moves.new.items ≡ moves.old.items ++ last (pairs_on (state_of scene.now) sending.now.timeout sending.now.sender sending.now.message j) 0 (map (map (shows body.now)) (edges_at body.now node))) }
+    ensures kept { Extends moves.new.items moves.old.items }
+{
+    match body.graph.only_level(node) {
+        Some(edges) => add_pairs_on(scene, body, sending, j, 0, edges, moves),
+        None => add_pairs_down(scene, body, sending, j, node, moves),
+    }
+}
+
 /// Adds the pairs of a message with the receives of process j.
 fn add_pairs_with(
     scene: &Scene<'_, '_, '_>,
@@ -266,7 +301,7 @@ fn add_pairs_with(
     }
     match standing(scene, seat) {
         None => Ok(()),
-        Some(body) => add_pairs_down(scene, &body, sending, j, seat.node, moves),
+        Some(body) => add_pairs_in(scene, &body, sending, j, seat.node, moves),
     }
 }
 
@@ -480,6 +515,7 @@ fn add_moves_on(
 }
 
 /// Adds the moves of the highest level of a node that has any.
+#[inline(never)]
 fn add_moves_down(
     scene: &Scene<'_, '_, '_>,
     body: &Body<'_, '_, '_>,
@@ -508,6 +544,28 @@ fn add_moves_down(
     Ok(())
 }
 
+/// Adds the moves of the highest level of a node that has any: at once where the node has just one level, as most have.
+fn add_moves_in(
+    scene: &Scene<'_, '_, '_>,
+    body: &Body<'_, '_, '_>,
+    process: usize,
+    timeout: bool,
+    node: usize,
+    moves: &mut Vec<Move>,
+) -> Result<(), AllocError>
+    requires fits { Fits scene.now }
+    requires there { process < length scene.now.seats.now }
+    requires body { IsBody body.now }
+    requires node { node < length body.now.graph.now.nodes }
+    ensures added { OnOk result (moves.new.items ≡ moves.old.items ++ last (moves_on (state_of scene.now) process timeout body.now.proctype.now.body) 0 (map (map (shows body.now)) (edges_at body.now node))) }
+    ensures kept { Extends moves.new.items moves.old.items }
+{
+    match body.graph.only_level(node) {
+        Some(edges) => add_moves_on(scene, body, process, timeout, 0, edges, moves),
+        None => add_moves_down(scene, body, process, timeout, node, moves),
+    }
+}
+
 /// Adds the moves of a process.
 fn add_moves_at(
     scene: &Scene<'_, '_, '_>,
@@ -522,7 +580,7 @@ fn add_moves_at(
     ensures kept { Extends moves.new.items moves.old.items }
 {
     if let Some(body) = standing(scene, seat) {
-        return add_moves_down(scene, &body, process, timeout, seat.node, moves);
+        return add_moves_in(scene, &body, process, timeout, seat.node, moves);
     }
     if process + 1 == scene.seats.len() {
         moves.push(Move::Death(process))?;

@@ -1,9 +1,0 @@
-use Rattle.std.proofs.Common.{List}
-use Rattle.pml_eval.specs.declared.pattern.Sought.{Sought}
-use Rattle.pml_eval.proofs.Asking.{Rest}
-use Rattle.pml_value.specs.Reads.{seen}
-use Rattle.pml_moves.proofs.asking.is_asked.Given as goal
-
--- the rest of what is asked decides
-abbrev pub invariant-loop-i : goal.invariant-loop-i
-invariant-loop-i l = (ws : List Sought) → Rest l.i l.arguments l.fields (seen l.view) ws
