@@ -125,6 +125,7 @@ fn check(live: &Live<'_, '_>, process: usize, timeout: bool, value: &Expr) -> Re
 }
 
 /// Does what a statement does that gives no structure, and appends what it prints.
+#[inline(never)]
 fn does(
     live: &mut Live<'_, '_>,
     process: usize,
@@ -177,8 +178,30 @@ fn does(
     }
 }
 
+/// Does what a statement does that gives no structure, an assignment, as most are, at once.
+#[inline(always)]
+fn does_at_once(
+    live: &mut Live<'_, '_>,
+    process: usize,
+    timeout: bool,
+    action: &Action<'_>,
+    text: &mut Vec<u8>,
+) -> Result<(), Stop>
+    requires { process < length live.old.state.stands }
+    ensures value { Does (does_by live.old.state process timeout action.now) result live.new.state text.old.items text.new.items }
+    ensures kept { OnErr result (StartsWith text.new.items text.old.items) }
+    ensures joins { Joins live.old.state live.new.state }
+    ensures past { OnOk result (PastGrows live.old live.new) }
+{
+    match action {
+        Action::Assign(_, _) => live.store(process, timeout, action),
+        _ => does(live, process, timeout, action, text),
+    }
+}
+
 /// Does what a statement does by itself, and appends what it prints: a goto, a break and what gives structure do nothing. After a fault,
 /// or want of memory, variables and channels may hold anything; no process has moved.
+#[inline(always)]
 pub fn effect(
     live: &mut Live<'_, '_>,
     process: usize,
@@ -193,7 +216,7 @@ pub fn effect(
     ensures past { OnOk result (PastGrows live.old live.new) }
 {
     match basic {
-        Some(Basic::Plain(action)) => does(live, process, timeout, action, text),
+        Some(Basic::Plain(action)) => does_at_once(live, process, timeout, action, text),
         _ => Ok(()),
     }
 }
