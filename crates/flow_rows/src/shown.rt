@@ -148,6 +148,9 @@ fn add_levels(
         out.push(' ')?;
         add_number(alloc, out, graph.level(node, level).len())?;
     }
+    if graph.only_level(node).is_some() != (graph.level_count(node) == 1) {
+        out.push_str(" one level is told where there are more, or is not told")?;
+    }
     out.push('\n')
 }
 
