@@ -15,9 +15,23 @@ use pml_program::expr::{Expr, Target, Turn, Want};
 use pml_store::place::Place;
 use pml_tree::tree::{Fill, Search};
 
-/// The value of an expression, or the first fault from the left.
+/// The value of an expression, or the first fault from the left. A number or a variable, as most are, is evaluated at once.
 #[cycle(eval)]
+#[inline(always)]
 pub fn eval<G: Ground>(e: &Expr, ground: &G) -> Result<i32, Fault>
+    ensures { result ≡ val e.now (G.reading ground.now) }
+{
+    match e {
+        Expr::Number(n) => Ok(*n),
+        Expr::Read(target) => read_here(target, ground),
+        _ => evaluated(e, ground),
+    }
+}
+
+/// The value of an expression of any kind.
+#[cycle(eval)]
+#[inline(never)]
+fn evaluated<G: Ground>(e: &Expr, ground: &G) -> Result<i32, Fault>
     ensures { result ≡ val e.now (G.reading ground.now) }
 {
     match e {
@@ -34,22 +48,22 @@ pub fn eval<G: Ground>(e: &Expr, ground: &G) -> Result<i32, Fault>
             Ok(prefix(*op, x))
         }
         Expr::Binary(op, a, b) => {
-            let x = operand(a.get(), ground)?;
+            let x = eval(a.get(), ground)?;
             if let Some(y) = decide(*op, x) {
                 return Ok(y);
             }
-            let y = operand(b.get(), ground)?;
+            let y = eval(b.get(), ground)?;
             infix(*op, x, y)
         }
         Expr::Choice(a, b, c) => {
-            let x = eval(a.get(), ground)?;
+            let x = evaluated(a.get(), ground)?;
             if x == 0 {
-                eval(c.get(), ground)
+                evaluated(c.get(), ground)
             } else {
-                eval(b.get(), ground)
+                evaluated(b.get(), ground)
             }
         }
-        Expr::Read(target) => read_here(target, ground),
+        Expr::Read(target) => read(target, ground),
         Expr::Ask(fill, target) => {
             let number = read(target, ground)?;
             ask(*fill, number, ground)
@@ -67,20 +81,7 @@ fn signed<G: Ground>(e: &Expr, ground: &G) -> Result<i32, Fault>
         let x = signed(a.get(), ground)?;
         return Ok(prefix(*op, x));
     }
-    operand(e, ground)
-}
-
-/// The value of an operand: most are numbers and variables, for which `eval` need not be entered once more.
-#[cycle(eval)]
-#[inline(always)]
-fn operand<G: Ground>(e: &Expr, ground: &G) -> Result<i32, Fault>
-    ensures { result ≡ val e.now (G.reading ground.now) }
-{
-    match e {
-        Expr::Number(n) => Ok(*n),
-        Expr::Read(target) => read_here(target, ground),
-        _ => eval(e, ground),
-    }
+    eval(e, ground)
 }
 
 /// What stands at the place of a reference: at once where it has no index, as most have.
