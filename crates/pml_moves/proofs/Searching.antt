@@ -1,5 +1,5 @@
 -- The last that gives anything, met from the end.
-use Rattle.std.proofs.Common.{zero, suc, ◌++◌, ◌<◌, ◌≤◌, length, length-append, append-nil, ◌≡◌, ℕ, ◌+◌, List, [], ◌∷◌, drop, map, refl, sym, ap, ◌∙◌, arith, Some, None}
+use Rattle.std.proofs.Common.{zero, suc, get_or, ◌++◌, ◌<◌, ◌≤◌, length, length-append, append-nil, ◌≡◌, ℕ, ◌+◌, List, [], ◌∷◌, drop, map, refl, sym, ap, ◌∙◌, arith, Some, None}
 use Rattle.std.specs.Prelude.{slice_get, slice_index_or}
 use Rattle.pml_moves.specs.Search.{or_else, last}
 
@@ -46,6 +46,12 @@ pub there : {A : Type 0} (xs : List A) (k : ℕ) → k < length xs → (x : A) �
 there [] k h = absurd (omega (arith, h))
 there (y ∷ ys) zero h = (y, refl)
 there (y ∷ ys) (suc k) h = let l : k < length ys = omega (arith, h) in there ys k l
+
+-- what stands at a place that is there
+pub held : {A : Type 0} (xs : List A) (k : ℕ) (d : A) → k < length xs → slice_get xs k ≡ Some (get_or xs k d)
+held [] k d h = absurd (omega (arith, h))
+held (y ∷ ys) zero d h = refl
+held (y ∷ ys) (suc k) d h = let l : k < length ys = omega (arith, h) in held ys k d l
 
 pub past : {A : Type 0} (xs : List A) (k : ℕ) → length xs ≤ k → slice_get xs k ≡ None
 past [] k h = refl

@@ -28,36 +28,27 @@ fn edge_at(edges: &[Edge], place: usize) -> Option<&Edge>
     edges.get(place)
 }
 
-/// The edge of a level with this place.
-#[inline(always)]
-fn edge_in(edges: &[Edge], place: usize) -> Option<Edge>
-    ensures { result ≡ slice_get edges.now place }
-{
-    let edge = edge_at(edges, place)?;
-    Some(*edge)
-}
-
 /// The edge of a node with this level and place.
 #[inline(never)]
-fn edge_on(body: &Body<'_, '_, '_>, node: usize, pick: Pick) -> Option<Edge>
+fn edge_on<'w>(body: &Body<'w, '_, '_>, node: usize, pick: Pick) -> Option<&'w Edge>
     requires { node < length body.now.graph.now.nodes }
-    ensures { option_map (shows body.now) result ≡ offer_on (slice_get (map (map (shows body.now)) (edges_at body.now node)) pick.level) pick.place }
+    ensures { option_map (shows body.now) (option_copied result) ≡ offer_on (slice_get (map (map (shows body.now)) (edges_at body.now node)) pick.level) pick.place }
 {
     if pick.level >= body.graph.level_count(node) {
         return None;
     }
-    edge_in(body.graph.level(node, pick.level), pick.place)
+    edge_at(body.graph.level(node, pick.level), pick.place)
 }
 
 /// The edge of a node with this level and place: at once where the node has just one level, as most have.
 #[inline(always)]
-fn edge_of(body: &Body<'_, '_, '_>, node: usize, pick: Pick) -> Option<Edge>
+fn edge_of<'w>(body: &Body<'w, '_, '_>, node: usize, pick: Pick) -> Option<&'w Edge>
     requires { node < length body.now.graph.now.nodes }
-    ensures { option_map (shows body.now) result ≡ offer_on (slice_get (map (map (shows body.now)) (edges_at body.now node)) pick.level) pick.place }
+    ensures { option_map (shows body.now) (option_copied result) ≡ offer_on (slice_get (map (map (shows body.now)) (edges_at body.now node)) pick.level) pick.place }
 {
     if pick.level == 0 {
         if let Some(edges) = body.graph.only_level(node) {
-            return edge_in(edges, pick.place);
+            return edge_at(edges, pick.place);
         }
     }
     edge_on(body, node, pick)
@@ -72,6 +63,6 @@ pub fn picked<'w, 'p, 'a>(scene: &Scene<'w, 'p, 'a>, pick: Pick) -> Option<Offer
 {
     let seat = *seat_at(scene.seats, pick.process)?;
     let body = standing(scene, seat)?;
-    let edge = edge_of(&body, seat.node, pick)?;
+    let edge = *edge_of(&body, seat.node, pick)?;
     Some(Offered { body, edge })
 }

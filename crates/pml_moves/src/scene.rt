@@ -65,21 +65,6 @@ fn proctype_at<'p, 'a>(program: &'p Program<'a>, kind: usize) -> Option<&'p Proc
     program.proctypes.as_slice().get(kind)
 }
 
-fn graph_at(graphs: &[Graph], kind: usize) -> Option<&Graph>
-    ensures { option_copied result ≡ slice_get graphs.now kind }
-{
-    graphs.get(kind)
-}
-
-fn statements_at<'w, 'p, 'a>(
-    statements: &'w [Statements<'p, 'a>],
-    kind: usize,
-) -> Option<&'w Statements<'p, 'a>>
-    ensures { option_copied result ≡ slice_get statements.now kind }
-{
-    statements.get(kind)
-}
-
 /// The body of the proctype with this number.
 pub fn body_at<'w, 'p, 'a>(scene: &Scene<'w, 'p, 'a>, kind: usize) -> Option<Body<'w, 'p, 'a>>
     requires { Fits scene.now }
@@ -87,12 +72,10 @@ pub fn body_at<'w, 'p, 'a>(scene: &Scene<'w, 'p, 'a>, kind: usize) -> Option<Bod
     ensures is { IfSome result IsBody }
 {
     let proctype = proctype_at(scene.program, kind)?;
-    let graph = graph_at(scene.graphs, kind)?;
-    let statements = statements_at(scene.statements, kind)?;
     Some(Body {
         proctype,
-        graph,
-        statements,
+        graph: &scene.graphs[kind],
+        statements: &scene.statements[kind],
     })
 }
 

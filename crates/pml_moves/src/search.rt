@@ -205,6 +205,7 @@ fn add_pair(
 }
 
 /// Adds the pairs of a message with the receives of a level of process j.
+#[inline(always)]
 fn add_pairs_on(
     scene: &Scene<'_, '_, '_>,
     body: &Body<'_, '_, '_>,
@@ -370,6 +371,7 @@ fn add_sent(
 }
 
 /// Adds the moves of an offer that is no `else`, as the state has it.
+#[inline(never)]
 fn add_asked(
     scene: &Scene<'_, '_, '_>,
     body: &Body<'_, '_, '_>,
@@ -395,6 +397,7 @@ fn add_asked(
 }
 
 /// Adds the moves of an offer, none where it is an `else`. What needs nothing is offered at once.
+#[inline(always)]
 fn add_plain_by(
     scene: &Scene<'_, '_, '_>,
     body: &Body<'_, '_, '_>,
@@ -421,6 +424,7 @@ fn add_plain_by(
 }
 
 /// Adds the moves of a level's offers that are no `else`.
+#[inline(always)]
 fn add_plain(
     scene: &Scene<'_, '_, '_>,
     body: &Body<'_, '_, '_>,
@@ -491,6 +495,7 @@ fn add_else(
 }
 
 /// Adds the moves of a level: its `else` offers where no other gives any.
+#[inline(always)]
 fn add_moves_on(
     scene: &Scene<'_, '_, '_>,
     body: &Body<'_, '_, '_>,
