@@ -92,7 +92,8 @@ impl Store {
     {
         let at = self.index(place);
         let before = self.cells[at];
-        self.written.push((at as u32, before))?;
+        self.written.reserve(1)?;
+        self.written.push_reserved((at as u32, before));
         self.cells[at] = number;
         Ok(())
     }

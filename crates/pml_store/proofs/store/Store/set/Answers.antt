@@ -36,7 +36,8 @@ returns-clause-ok c =
     let frames =
     ap (λ (n : ℤ). frames_of c.self.inside.frames.items (set c.self.inside.cells.items c.index-at.result n)) number
     ∙ ap (λ (n : ℕ). frames_of c.self.inside.frames.items (set c.self.inside.cells.items n c.args.number)) (v ∙ i) ∙ fs in
-    let written = c.in_ok-push.ensures.items ∙ noted _ _ _ _ _ v before in
+    let pushed = rw c.reserve.ensures.items at c.push_reserved.ensures.items in
+    let written = pushed ∙ noted _ _ _ _ _ v before in
     rw (← c.self.view_is) (contents_is _ _ _ _ _ frames written)
 
 pub returns-clause-past : goal.returns-clause-past
