@@ -95,5 +95,10 @@ clipped-only form v r c =
     one_in_bits (is_signed form) (bits_of form) v r (clipped form v) (bits_at_least form) c.range d.range c.differ d.differ
 
 -- a number in the range is kept as it is
+pub placed-same : (b : Bool) (n : ℕ) (v : ℤ) → (b ≡ true → 1 ≤ n) → InBits b n v → v ≡ placed b n (residue n v)
+placed-same b n v h range =
+    let p = placed_is b n (residue n v) v h (residue_below n v) (residue_differs n v) in
+    one_in_bits b n v v (placed b n (residue n v)) h range p.0 (0, 0, refl) p.1
+
 pub clipped-same : (form : Form) (v : ℤ) → InBits (is_signed form) (bits_of form) v → v ≡ clipped form v
 clipped-same form v range = clipped-only form v v (record { range = range; differ = (0, 0, refl) })

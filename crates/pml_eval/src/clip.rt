@@ -2,7 +2,7 @@
 
 ghost use Rattle.std.specs.Prelude.{◌≡◌, ◌≤◌, ◌<◌, ◌^◌, true, false, pos, ℤ};
 ghost use Rattle.pml_program.specs.declared.form.Form.{Form};
-ghost use Rattle.pml_eval.specs.Clip.{bits_of, bits_of_word, is_signed, is_word_signed, clipped, InBits, IsClip};
+ghost use Rattle.pml_eval.specs.Clip.{bits_of, bits_of_word, is_signed, is_word_signed, residue, placed, clipped, InBits, IsClip};
 
 use pml_program::form::Form;
 use pml_tree::tree::Scalar;
@@ -16,7 +16,7 @@ pub fn clip(form: Form, v: i32) -> i32
     if is_small(form, v) {
         return v;
     }
-    cut(form, v)
+    cut(bits(form), is_signed(form), v)
 }
 
 /// Whether a number is in the range of a byte or of an int: most variables are of these two, and most numbers are kept as they are.
@@ -32,17 +32,20 @@ fn is_small(form: Form, v: i32) -> bool
     }
 }
 
-/// What a variable of any type keeps of a number.
+/// What a type of so many bits, with a sign or without, keeps of a number.
 #[inline(never)]
-fn cut(form: Form, v: i32) -> i32
-    ensures { result ≡ clipped form v }
+fn cut(bits: u32, signed: bool, v: i32) -> i32
+    requires narrow { signed ≡ false → bits < 32 }
+    requires least { signed ≡ true → 1 ≤ bits }
+    requires most { bits ≤ 32 }
+    ensures { result ≡ placed signed bits (residue bits v) }
 {
-    if is_in_range(form, v) {
+    if is_in_range(bits, signed, v) {
         return v;
     }
-    let whole = modulus(bits(form));
+    let whole = modulus(bits);
     let low = i64::from(v).rem_euclid(whole);
-    if !is_signed(form) {
+    if !signed {
         return low as i32;
     }
     if low < whole / 2 {
@@ -51,13 +54,15 @@ fn cut(form: Form, v: i32) -> i32
     (low - whole) as i32
 }
 
-/// Whether a number is in the type's range.
-fn is_in_range(form: Form, v: i32) -> bool
-    ensures { result ≡ true → InBits (is_signed form) (bits_of form) v }
+/// Whether a number is in the range of so many bits, with a sign or without.
+fn is_in_range(bits: u32, signed: bool, v: i32) -> bool
+    requires least { signed ≡ true → 1 ≤ bits }
+    requires most { bits ≤ 32 }
+    ensures { result ≡ true → InBits signed bits v }
 {
-    let whole = modulus(bits(form));
+    let whole = modulus(bits);
     let number = i64::from(v);
-    if is_signed(form) {
+    if signed {
         let half = whole / 2;
         -half <= number && number < half
     } else {
@@ -71,6 +76,7 @@ pub fn one_clip()
     ensures only { (form : Form) (v r : ℤ) → IsClip form v r → r ≡ clipped form v }
 {}
 
+#[inline(always)]
 fn word_bits(word: Scalar) -> u32
     ensures value { result ≡ bits_of_word word }
     ensures narrow { is_word_signed word ≡ false → result < 32 }
@@ -85,6 +91,7 @@ fn word_bits(word: Scalar) -> u32
     }
 }
 
+#[inline(always)]
 #[tactic(auto, unfolding(crate::specs::Clip::bits_of, crate::specs::Clip::is_signed))]
 fn bits(form: Form) -> u32
     ensures value { result ≡ bits_of form }
@@ -99,6 +106,7 @@ fn bits(form: Form) -> u32
     }
 }
 
+#[inline(always)]
 fn is_word_signed(word: Scalar) -> bool
     ensures { result ≡ is_word_signed word }
 {
@@ -108,6 +116,7 @@ fn is_word_signed(word: Scalar) -> bool
     }
 }
 
+#[inline(always)]
 #[tactic(auto, unfolding(crate::specs::Clip::is_signed))]
 fn is_signed(form: Form) -> bool
     ensures { result ≡ is_signed form }
