@@ -13,7 +13,7 @@ use pml_flow::edge::Edge;
 #[derive(Drop)]
 pub struct Offered<'w, 'p, 'a> {
     pub body: Body<'w, 'p, 'a>,
-    pub edge: Edge,
+    pub edge: &'p Edge,
 }
 
 fn seat_at(seats: &[Seat], process: usize) -> Option<&Seat>
@@ -30,7 +30,7 @@ fn edge_at(edges: &[Edge], place: usize) -> Option<&Edge>
 
 /// The edge of a node with this level and place.
 #[inline(never)]
-fn edge_on<'w>(body: &Body<'w, '_, '_>, node: usize, pick: Pick) -> Option<&'w Edge>
+fn edge_on<'p>(body: &Body<'_, 'p, '_>, node: usize, pick: Pick) -> Option<&'p Edge>
     requires { node < length body.now.graph.now.nodes }
     ensures { option_map (shows body.now) (option_copied result) ≡ offer_on (slice_get (map (map (shows body.now)) (edges_at body.now node)) pick.level) pick.place }
 {
@@ -42,7 +42,7 @@ fn edge_on<'w>(body: &Body<'w, '_, '_>, node: usize, pick: Pick) -> Option<&'w E
 
 /// The edge of a node with this level and place: at once where the node has just one level, as most have.
 #[inline(always)]
-fn edge_of<'w>(body: &Body<'w, '_, '_>, node: usize, pick: Pick) -> Option<&'w Edge>
+fn edge_of<'p>(body: &Body<'_, 'p, '_>, node: usize, pick: Pick) -> Option<&'p Edge>
     requires { node < length body.now.graph.now.nodes }
     ensures { option_map (shows body.now) (option_copied result) ≡ offer_on (slice_get (map (map (shows body.now)) (edges_at body.now node)) pick.level) pick.place }
 {
@@ -58,11 +58,11 @@ fn edge_of<'w>(body: &Body<'w, '_, '_>, node: usize, pick: Pick) -> Option<&'w E
 #[inline(always)]
 pub fn picked<'w, 'p, 'a>(scene: &Scene<'w, 'p, 'a>, pick: Pick) -> Option<Offered<'w, 'p, 'a>>
     requires { Fits scene.now }
-    ensures offer { option_map (λ k. shows k.body k.edge) result ≡ picks (state_of scene.now) pick }
+    ensures offer { option_map (λ k. shows k.body k.edge.now) result ≡ picks (state_of scene.now) pick }
     ensures is { IfSome result (λ k. IsPicked scene.now pick k.body) }
 {
     let seat = *seat_at(scene.seats, pick.process)?;
     let body = standing(scene, seat)?;
-    let edge = *edge_of(&body, seat.node, pick)?;
+    let edge = edge_of(&body, seat.node, pick)?;
     Some(Offered { body, edge })
 }

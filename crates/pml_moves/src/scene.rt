@@ -27,7 +27,7 @@ pub struct Seat {
 #[derive(Drop)]
 pub struct Scene<'w, 'p, 'a> {
     pub program: &'p Program<'a>,
-    pub graphs: &'w [Graph],
+    pub graphs: &'p [Graph],
     pub statements: &'w [Statements<'p, 'a>],
     pub store: &'w Store,
     pub seats: &'w [Seat],
@@ -39,7 +39,7 @@ pub struct Scene<'w, 'p, 'a> {
 #[derive(Drop)]
 pub struct Body<'w, 'p, 'a> {
     pub proctype: &'p Proctype<'a>,
-    pub graph: &'w Graph,
+    pub graph: &'p Graph,
     pub statements: &'w Statements<'p, 'a>,
 }
 

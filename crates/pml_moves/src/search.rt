@@ -77,7 +77,7 @@ fn first_else(body: &Body<'_, '_, '_>, edges: &[Edge]) -> Option<Edge>
 
 /// The edges of a node's first level.
 #[inline(always)]
-fn first_level<'w>(body: &Body<'w, '_, '_>, node: usize) -> &'w [Edge]
+fn first_level<'p>(body: &Body<'_, 'p, '_>, node: usize) -> &'p [Edge]
     requires { node < length body.now.graph.now.nodes }
     ensures { result.now ≡ slice_index_or (edges_at body.now node) 0 [] }
 {
@@ -401,26 +401,39 @@ fn add_asked(
 fn add_plain_by(
     scene: &Scene<'_, '_, '_>,
     body: &Body<'_, '_, '_>,
+    process: usize,
     timeout: bool,
-    offer: Pick,
-    edge: Edge,
+    level: usize,
+    place: usize,
+    edge: &Edge,
     moves: &mut Vec<Move>,
 ) -> Result<(), AllocError>
     requires fits { Fits scene.now }
-    requires there { offer.process < length scene.now.seats.now }
+    requires there { process < length scene.now.seats.now }
     requires body { IsBody body.now }
-    ensures added { OnOk result (moves.new.items ≡ moves.old.items ++ (if else_of (shows body.now edge).basic then [] else moves_by (state_of scene.now) offer.process timeout body.now.proctype.now.body offer.level offer.place (shows body.now edge))) }
+    ensures added { OnOk result (moves.new.items ≡ moves.old.items ++ (if else_of (shows body.now edge.now).basic then [] else moves_by (state_of scene.now) process timeout body.now.proctype.now.body level place (shows body.now edge.now))) }
     ensures kept { Extends moves.new.items moves.old.items }
 {
-    let basic = body.basic(edge);
+    let basic = body.basic(*edge);
     if needs_nothing(basic) {
-        moves.push(Move::Alone(offer, timeout))?;
+        let offer = Pick {
+            process,
+            level,
+            place,
+        };
+        moves.reserve(1)?;
+        moves.push_reserved(Move::Alone(offer, timeout));
         return Ok(());
     }
     if is_else(basic) {
         return Ok(());
     }
-    add_asked(scene, body, timeout, offer, edge, basic, moves)
+    let offer = Pick {
+        process,
+        level,
+        place,
+    };
+    add_asked(scene, body, timeout, offer, *edge, basic, moves)
 }
 
 /// Adds the moves of a level's offers that are no `else`.
@@ -441,12 +454,8 @@ fn add_plain(
     ensures kept { Extends moves.new.items moves.old.items }
 {
     for place in 0..edges.len() {
-        let offer = Pick {
-            process,
-            level,
-            place,
-        };
-        add_plain_by(scene, body, timeout, offer, edges[place], moves)?;
+        let edge = &edges[place];
+        add_plain_by(scene, body, process, timeout, level, place, edge, moves)?;
     }
     Ok(())
 }
@@ -471,6 +480,7 @@ fn add_else_by(
 }
 
 /// Adds a level's `else` offers.
+#[inline(never)]
 fn add_else(
     body: &Body<'_, '_, '_>,
     process: usize,

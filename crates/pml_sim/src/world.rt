@@ -115,7 +115,7 @@ impl Machine for World<'_, '_> {
         }
         let before = self.live.process_count();
         self.live.forget();
-        match take(&mut self.live, *m, text) {
+        match take(&mut self.live, m, text) {
             Ok(()) => {
                 self.older = before.min(self.live.process_count());
                 Ok(())

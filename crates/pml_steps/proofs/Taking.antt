@@ -69,14 +69,14 @@ joined_body s t p j h =
 
 -- ---- where an edge leads
 
-next_is : (s t : State) (k : Pick) (x : Offer) (h : IsOffer s k x) → body_by t (slice_get t.stands k.process) ≡ body_by s (slice_get s.stands k.process) → control_at (body_by t (slice_get t.stands k.process)) x.edge.target ≡ h.offer.next
-next_is s t k x h e = ap (λ (b : Option Seq). control_at b x.edge.target) (e ∙ h.stands) ∙ h.next
+next_is : (s t : State) (k : Pick) (x : Offer) (h : IsOffer s k x) → body_by t (slice_get t.stands k.process) ≡ body_by s (slice_get s.stands k.process) → control_at (body_by t (slice_get t.stands k.process)) x.edge.now.target ≡ h.offer.next
+next_is s t k x h e = ap (λ (b : Option Seq). control_at b x.edge.now.target) (e ∙ h.stands) ∙ h.next
 
 -- the process goes there, and holds or not
 pub followed : (s t : State) (k : Pick) (x : Offer) (h : IsOffer s k x) → body_by t (slice_get t.stands k.process) ≡ body_by s (slice_get s.stands k.process) →
-    record (go_to t k.process (control_at (body_by t (slice_get t.stands k.process)) x.edge.target)) { holder = if x.edge.keeps then Some k.process else None } ≡ went t k.process h.offer
+    record (go_to t k.process (control_at (body_by t (slice_get t.stands k.process)) x.edge.now.target)) { holder = if x.edge.now.keeps then Some k.process else None } ≡ went t k.process h.offer
 followed s t k x h e =
-    ap (λ (c : Control). record (go_to t k.process c) { holder = if x.edge.keeps then Some k.process else None }) (next_is s t k x h e)
+    ap (λ (c : Control). record (go_to t k.process c) { holder = if x.edge.now.keeps then Some k.process else None }) (next_is s t k x h e)
     ∙ ap (λ (b : Bool). record (go_to t k.process h.offer.next) { holder = if b then Some k.process else None }) h.keeps
 
 -- ---- a process by itself
@@ -126,8 +126,8 @@ module _ (s : State) (k j : Pick) (timeout : Bool) (x y : Offer) (hx : IsOffer s
       (pass_stops s k.process j.process hx.offer hy.offer (numbers (option_copied x.basic) (option_copied y.basic)) e t text h)
 
   pub pair_goes : (u : Unit {0}) (t mid new : State) (text : List ℕ) → Leads (put_any s (numbers (option_copied x.basic) (option_copied y.basic))) (Ok u) t → t.program ≡ s.program → t.stands ≡ s.stands →
-      mid ≡ go_to t k.process (control_at (body_by t (slice_get t.stands k.process)) x.edge.target) →
-      new ≡ record (go_to mid j.process (control_at (body_by mid (slice_get mid.stands j.process)) y.edge.target)) { holder = if y.edge.keeps then Some j.process else None } →
+      mid ≡ go_to t k.process (control_at (body_by t (slice_get t.stands k.process)) x.edge.now.target) →
+      new ≡ record (go_to mid j.process (control_at (body_by mid (slice_get mid.stands j.process)) y.edge.now.target)) { holder = if y.edge.now.keeps then Some j.process else None } →
       Does (paired s k j timeout (picked s k) (picked s j)) (Ok u) new text text
   pair_goes u t mid new text h pr st m n =
       let body : (p : ℕ) → body_by t (slice_get t.stands p) ≡ body_by s (slice_get s.stands p) = λ p. same_body s t p pr (ap (λ (ys : List Stand). slice_get (map (λ (y : Stand). y.kind) ys) p) st) in

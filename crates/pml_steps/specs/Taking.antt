@@ -21,9 +21,9 @@ pub record IsOffer (s : State) (k : Pick) (x : Offer) : Type 0 where
   pub body : Seq
   pub stands : body_by s (slice_get s.stands k.process) ≡ Some body
   pub basic : option_copied x.basic ≡ offer.basic
-  pub next : point_at body x.edge.target ≡ offer.next
-  pub keeps : x.edge.keeps ≡ offer.keeps
-  pub entry : maybe (point_at body) x.edge.entry ≡ offer.entry
+  pub next : point_at body x.edge.now.target ≡ offer.next
+  pub keeps : x.edge.now.keeps ≡ offer.keeps
+  pub entry : maybe (point_at body) x.edge.now.entry ≡ offer.entry
 
 -- where a process dies, there is one
 abbrev pub CanDie : State → Move → Type 0

@@ -201,7 +201,7 @@ fn does_at_once(
 
 /// Does what a statement does by itself, and appends what it prints: a goto, a break and what gives structure do nothing. After a fault,
 /// or want of memory, variables and channels may hold anything; no process has moved.
-#[inline(never)]
+#[inline(always)]
 pub fn effect(
     live: &mut Live<'_, '_>,
     process: usize,

@@ -24,7 +24,7 @@ use pml_program::program::Basic;
 /// An offer: its edge, and its statement without its labels.
 #[derive(Drop)]
 struct Offer<'p, 'a> {
-    edge: Edge,
+    edge: &'p Edge,
     basic: Option<&'p Basic<'a>>,
 }
 
@@ -36,7 +36,7 @@ fn find_offer<'p, 'a>(live: &Live<'p, 'a>, pick: Pick) -> Option<Offer<'p, 'a>>
 {
     let offered = picked(&live.scene(), pick)?;
     let edge = offered.edge;
-    let basic = offered.body.basic(edge);
+    let basic = offered.body.basic(*edge);
     Some(Offer { edge, basic })
 }
 
@@ -93,7 +93,7 @@ fn alone(live: &mut Live<'_, '_>, pick: Pick, timeout: bool, text: &mut Vec<u8>)
         return Ok(());
     };
     take_offer(live, pick, timeout, &offer, text)?;
-    live.follow(pick.process, offer.edge);
+    live.follow(pick.process, *offer.edge);
     Ok(())
 }
 
@@ -121,7 +121,7 @@ fn pass_on(
         timeout,
     )?;
     live.go_to(sender.process, sent.edge.target);
-    live.follow(receiver.process, received.edge);
+    live.follow(receiver.process, *received.edge);
     Ok(())
 }
 
@@ -144,20 +144,20 @@ fn pair(live: &mut Live<'_, '_>, sender: Pick, receiver: Pick, timeout: bool) ->
 
 /// Takes a move, and appends what it prints. After a fault, or want of memory, variables and channels may hold anything; no process has
 /// moved, but some may have been added.
-pub fn take(live: &mut Live<'_, '_>, m: Move, text: &mut Vec<u8>) -> Result<(), Stop>
-    requires { CanDie live.old.state m }
-    ensures value { Does (step MOST_DSTEP_STATEMENTS live.old.state m) result live.new.state text.old.items text.new.items }
+pub fn take(live: &mut Live<'_, '_>, m: &Move, text: &mut Vec<u8>) -> Result<(), Stop>
+    requires { CanDie live.old.state m.now }
+    ensures value { Does (step MOST_DSTEP_STATEMENTS live.old.state m.now) result live.new.state text.old.items text.new.items }
     ensures kept { OnErr result (StartsWith text.new.items text.old.items) }
     ensures joins { OnErr result (Joins live.old.state live.new.state) }
     ensures program { live.new.state.program ≡ live.old.state.program }
-    ensures past { OnOk result (PastBy m live.old live.new) }
+    ensures past { OnOk result (PastBy m.now live.old live.new) }
 {
     match m {
         Move::Death(_) => {
             live.die();
             Ok(())
         }
-        Move::Alone(pick, timeout) => alone(live, pick, timeout, text),
-        Move::Pair(sender, receiver, timeout) => pair(live, sender, receiver, timeout),
+        Move::Alone(pick, timeout) => alone(live, *pick, *timeout, text),
+        Move::Pair(sender, receiver, timeout) => pair(live, *sender, *receiver, *timeout),
     }
 }

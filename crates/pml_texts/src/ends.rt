@@ -18,9 +18,9 @@ use std::alloc::AllocError;
 
 /// A proctype and its graph.
 #[derive(Drop)]
-struct Chart<'w, 'p, 'a> {
+struct Chart<'p, 'a> {
     proctype: &'p Proctype<'a>,
-    graph: &'w Graph,
+    graph: &'p Graph,
 }
 
 fn graph_at(graphs: &[Graph], kind: usize) -> Option<&Graph>
@@ -30,7 +30,7 @@ fn graph_at(graphs: &[Graph], kind: usize) -> Option<&Graph>
 }
 
 /// The proctype with this number, and its graph.
-fn chart_at<'w, 'p, 'a>(scene: &Scene<'w, 'p, 'a>, kind: usize) -> Option<Chart<'w, 'p, 'a>>
+fn chart_at<'p, 'a>(scene: &Scene<'_, 'p, 'a>, kind: usize) -> Option<Chart<'p, 'a>>
     requires { Fits scene.now }
     ensures proctype { option_map (λ k. k.proctype.now) result ≡ slice_get scene.now.program.now.proctypes kind }
     ensures graph { IfSome result HasGraph }
@@ -56,7 +56,7 @@ fn add_stuck_line(
     text.extend_from_slice(b"\n")
 }
 
-impl<'w, 'p, 'a> Chart<'w, 'p, 'a> {
+impl<'p, 'a> Chart<'p, 'a> {
     /// Whether a process may end at a node; nothing is left where there is none.
     #[tactic(auto, using(crate::proofs::Ending::end_is))]
     fn may_end(&self, node: usize) -> bool

@@ -8,7 +8,7 @@ use Rattle.pml_moves.proofs.picked.picked.Goals as goal
 pub returns-in_err-edge-clause-offer : goal.returns-in_err-edge-clause-offer
 returns-in_err-edge-clause-offer c =
     let none : c.from_residual-in_err-edge.result ≡ None = search rules in
-    ap (λ (o : Option Offered). option_map (λ (k : Offered). shows k.body k.edge) o) none
+    ap (λ (o : Option Offered). option_map (λ (k : Offered). shows k.body k.edge.now) o) none
     ∙ c.in_err-edge.ensures ∙ picked_in c.args.scene.now c.args.pick c.in_ok-seat.field-0.now c.in_ok-body.body (search rules) c.in_ok-body.ensures.left
 
 pub returns-clause-offer : goal.returns-clause-offer
