@@ -9,18 +9,21 @@ use diagnostics::{Fault, Refusal};
 use itoa::Buffer;
 use std::alloc::{AllocError, Global};
 
-/// The buffer that a session keeps for the piece that is composed.
+/// The buffers that a session keeps for what is composed.
 #[derive(Drop)]
 pub struct Draft {
     /// The piece that is composed.
     pub piece: Vec<u8>,
+    /// The prompt of the question that is asked.
+    pub prompt: Vec<u8>,
 }
 
 impl Draft {
-    /// An empty buffer.
+    /// Empty buffers.
     pub fn new(alloc: Global) -> Self {
         Draft {
             piece: Vec::new(alloc),
+            prompt: Vec::new(alloc),
         }
     }
 }

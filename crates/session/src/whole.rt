@@ -12,7 +12,7 @@ ghost use Rattle.session.specs.Writes.{Writes, Acts, Turns, Runs, Ends, IsOwnEnd
 use crate::draft::Draft;
 use crate::gathered::Gathered;
 use crate::question::{put_out, question};
-use crate::writing::{keep, step, take_step, write_last, write_list, write_prompt, write_stuck};
+use crate::writing::{keep, step, take_step, write_last, write_question, write_stuck};
 use crate::{Answer, Broken, Cause, End, Machine, Options};
 use devices::Devices;
 use std::alloc::Global;
@@ -30,9 +30,8 @@ fn choose<M: Machine, D: Devices>(
     ensures range { IfOk result (IsPickUpTo (length moves.now)) }
     ensures count { CountsAll result (D.holds devices.old).failures (D.holds devices.new).failures }
 {
-    write_list(machine, moves, draft, devices)?;
-    write_prompt(moves.len(), draft, devices)?;
-    let said = question(devices, over, moves.len(), &draft.piece)?;
+    write_question(machine, moves, draft, devices)?;
+    let said = question(devices, over, moves.len(), &draft.prompt)?;
     keep(said, draft, devices)?;
     Ok(said)
 }

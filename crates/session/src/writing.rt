@@ -1,5 +1,5 @@
 //! Functions that compose a piece and hand it over.
-ghost use Rattle.std.specs.Prelude.{◌≡◌, ◌+◌, ◌<◌, ◌^◌, ◌++◌, IfOk, IfErr, OnOk};
+ghost use Rattle.std.specs.Prelude.{◌≡◌, ◌+◌, ◌<◌, ◌^◌, ◌++◌, IfOk, IfErr, OnOk, length};
 ghost use Rattle.std.specs.List.{Contains};
 ghost use Rattle.session.specs.declared.Broken.TheVariants.{Memory};
 ghost use Rattle.session.specs.Stands.{CountsAll};
@@ -14,32 +14,21 @@ use crate::{Answer, Broken, Cause, Machine, Options, Stop};
 use devices::Devices;
 use diagnostics::Fault;
 
-/// Writes the list of a question.
-pub fn write_list<M: Machine, D: Devices>(
+/// Writes the list of a question and the prompt behind it, by one call, and leaves the prompt in the draft.
+pub fn write_question<M: Machine, D: Devices>(
     machine: &M,
     moves: &[M::Move],
     draft: &mut Draft,
     devices: &mut D,
 ) -> Result<(), Broken>
     requires { moves.now ≡ M.rules.moves machine.now }
-    ensures text { Writes result (D.holds devices.old) (D.holds devices.new) (list_from (M.rules.text machine.now) 1 moves.now) }
+    ensures prompt { OnOk result (draft.new.prompt.items ≡ prompt (length moves.now)) }
+    ensures text { Writes result (D.holds devices.old) (D.holds devices.new) (list_from (M.rules.text machine.now) 1 moves.now ++ prompt (length moves.now)) }
     ensures count { CountsAll result (D.holds devices.old).failures (D.holds devices.new).failures }
 {
     draft_list(machine, moves, draft)?;
-    put_out(devices, &draft.piece)
-}
-
-/// Writes the prompt, and leaves it in the draft.
-pub fn write_prompt<D: Devices>(
-    most: usize,
-    draft: &mut Draft,
-    devices: &mut D,
-) -> Result<(), Broken>
-    ensures prompt { OnOk result (draft.new.piece.items ≡ prompt most) }
-    ensures text { Writes result (D.holds devices.old) (D.holds devices.new) (prompt most) }
-    ensures count { CountsAll result (D.holds devices.old).failures (D.holds devices.new).failures }
-{
-    draft_prompt(most, &mut draft.piece)?;
+    draft_prompt(moves.len(), &mut draft.prompt)?;
+    draft.piece.extend_from_slice(&draft.prompt)?;
     put_out(devices, &draft.piece)
 }
 

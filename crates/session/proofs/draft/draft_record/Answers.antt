@@ -1,6 +1,5 @@
-use Rattle.std.proofs.Common.{rules, ◌≡◌, ◌<◌, ◌++◌, ◌^◌, List, ℕ, OnOk, subst, codes, ap}
+use Rattle.std.proofs.Common.{rules, ◌≡◌, ◌<◌, ◌++◌, ◌^◌, List, ℕ, OnOk, subst, codes}
 use Rattle.std.specs.Fmt.{decimal}
-use Rattle.session.specs.Texts.{all_digits}
 use Rattle.session.proofs.Written.{decimal_is}
 use Rattle.session.proofs.draft.draft_record.Goals as goal
 

@@ -1,30 +1,26 @@
 use Rattle.std.proofs.lemmas.Result.{err_from_is_err_and}
 use Rattle.session.specs.Session.{kept}
-use Rattle.session.proofs.Parts.{Leads-does, Leads-breaks, puts, Does-then, Breaks-then}
-use Rattle.session.proofs.Turns.{write_breaks, keep_does, keep_breaks}
+use Rattle.session.proofs.Parts.{Leads-does, Leads-breaks, Does-then, Breaks-then}
+use Rattle.session.proofs.Together.{both_written, both_broken}
+use Rattle.session.proofs.Turns.{keep_does, keep_breaks}
 use Rattle.session.proofs.whole.choose.Goals as goal
 
-pub returns-in_err-write_list-clause-part : goal.returns-in_err-write_list-clause-part
-returns-in_err-write_list-clause-part g c =
+pub returns-in_err-write_question-clause-part : goal.returns-in_err-write_question-clause-part
+returns-in_err-write_question-clause-part g c =
     let p = err_from_is_err_and c.from_residual.result c.from_residual.ensures.1 in
-    rw (p.1, p.2) (λ steps. write_breaks _ _ _ c.in_err-write_list.ensures.text)
-
-pub returns-in_err-write_prompt-clause-part : goal.returns-in_err-write_prompt-clause-part
-returns-in_err-write_prompt-clause-part g c =
-    let p = err_from_is_err_and c.from_residual-in_err-write_prompt.result c.from_residual-in_err-write_prompt.ensures.1 in
-    rw (p.1, p.2) (λ steps. Leads-breaks (puts _ _ c.in_ok-write_list.ensures.text) (write_breaks _ _ _ c.in_err-write_prompt.ensures.text))
+    rw (p.1, p.2) (λ steps. both_broken _ _ _ _ c.in_err-write_question.ensures.text)
 
 pub returns-in_err-said-clause-part : goal.returns-in_err-said-clause-part
 returns-in_err-said-clause-part g c =
     let p = err_from_is_err_and c.from_residual-in_err-said.result c.from_residual-in_err-said.ensures.1 in
-    rw (p.1, p.2) (λ steps. Leads-breaks (puts _ _ c.in_ok-write_list.ensures.text) (Leads-breaks (puts _ _ c.in_ok-write_prompt.ensures.text) (Breaks-then kept (c.in_err-said.ensures.part steps))))
+    rw (p.1, p.2) (λ steps. Leads-breaks (both_written _ _ _ c.in_ok-write_question.ensures.text) (Breaks-then kept (c.in_err-said.ensures.part steps)))
 
 pub returns-in_err-keep-clause-part : goal.returns-in_err-keep-clause-part
 returns-in_err-keep-clause-part g c =
     let p = err_from_is_err_and c.from_residual-in_err-keep.result c.from_residual-in_err-keep.ensures.1 in
-    rw (p.1, p.2) (λ steps. Leads-breaks (puts _ _ c.in_ok-write_list.ensures.text) (Leads-breaks (puts _ _ c.in_ok-write_prompt.ensures.text)
-    (Leads-breaks (Does-then kept (c.in_ok-said.ensures.part steps)) (keep_breaks _ c.in_ok-said.said c.question.new.over c.in_err-keep.ensures.text))))
+    rw (p.1, p.2) (λ steps. Leads-breaks (both_written _ _ _ c.in_ok-write_question.ensures.text)
+    (Leads-breaks (Does-then kept (c.in_ok-said.ensures.part steps)) (keep_breaks _ c.in_ok-said.said c.question.new.over c.in_err-keep.ensures.text)))
 
 pub returns-clause-part : goal.returns-clause-part
-returns-clause-part g c steps = Leads-does (puts _ _ c.in_ok-write_list.ensures.text) (Leads-does (puts _ _ c.in_ok-write_prompt.ensures.text)
-    (Leads-does (Does-then kept (c.in_ok-said.ensures.part steps)) (keep_does c.in_ok-said.said c.question.new.over c.in_ok-keep.ensures.text)))
+returns-clause-part g c steps = Leads-does (both_written _ _ _ c.in_ok-write_question.ensures.text)
+    (Leads-does (Does-then kept (c.in_ok-said.ensures.part steps)) (keep_does c.in_ok-said.said c.question.new.over c.in_ok-keep.ensures.text))
