@@ -10,8 +10,8 @@ use spinplay::{
     arguments, play,
 };
 use std::alloc::AllocError;
-use std::fs::File;
-use std::io::Read;
+use std::fs::{File, OpenFile};
+use std::io::{BufReader, Read};
 use std::marker::Brand;
 use std::process::ExitCode;
 use std::sync::ledger::{Blank, Ledger};
@@ -67,6 +67,31 @@ fn opened(rt: &HostRuntime, name: &str) -> Result<File, NoRun> {
     }
 }
 
+// Whether a file is neither a pipe nor a terminal nor a folder.
+fn is_regular(file: &File) -> bool {
+    match file.metadata() {
+        Ok(about) => about.is_file(),
+        Err(_) => false,
+    }
+}
+
+// The choices of a file of this name. A regular file is read ahead, since nobody else reads on from where this run stops; of a pipe
+// or a terminal no byte is taken that is not asked for.
+fn choices_of<L: Ledger>(
+    rt: &HostRuntime,
+    name: &str,
+    failures: Failures<L>,
+) -> Result<Either<ByteReader<BufReader<File>, L>, ByteReader<File, L>>, NoRun> {
+    let file = opened(rt, name)?;
+    if !is_regular(&file) {
+        return Ok(Either::Second(ByteReader::new(file, failures)));
+    }
+    match BufReader::new(rt.alloc(), file) {
+        Ok(reader) => Ok(Either::First(ByteReader::new(reader, failures))),
+        Err(_) => Err(NoRun::Memory),
+    }
+}
+
 fn created(rt: &HostRuntime, name: &str) -> Result<File, NoRun> {
     match fs::create(rt, name) {
         Ok(file) => Ok(file),
@@ -105,7 +130,7 @@ fn played<S: Ledger, O: Ledger, R: Ledger>(
 {
     let failures = Failures::<S>::new(of_source);
     let source = match &asked.choices {
-        Some(name) => Either::First(ByteReader::new(opened(rt, name.as_str())?, failures)),
+        Some(name) => Either::First(choices_of(rt, name.as_str(), failures)?),
         None => Either::Second(ByteReader::new(rt.stdin(), failures)),
     };
     let rec = match &asked.rec {
