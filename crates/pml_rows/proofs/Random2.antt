@@ -467,7 +467,7 @@ unfolding computes model-random-15
 row-random-15 = sees (options true false false 9) model-random-15 (codes "") _ refl
 
 -- -p
--- mtype = { m1 } typedef T3 { unsigned f2 : 8 } chan q4 = [ 1 ] of { short , byte , byte } chan q5 = [ 1 ] of {
+-- mtype = { m1 } typedef Ty { unsigned f2 : 8 } chan q4 = [ 1 ] of { short , byte , byte } chan q5 = [ 1 ] of {
 -- byte } ; chan q6 = [ 0 ] of { mtype } byte g10 [ 3 ]
 -- ; show chan g8 [ 3 ] = [ 0 ] of { mtype } ;
 -- byte g9 = ( 32768 ) == ( 0 ) chan g7 [ 2 ] = [ 1 ] of { short , byte , byte } init { do :: skip :: q6 ! m1 ; skip :: else :: skip ;
@@ -475,7 +475,7 @@ row-random-15 = sees (options true false false 9) model-random-15 (codes "") _ r
 tokens-random-16 : List Word
 tokens-random-16 =
     on 1 kind.Mtype "mtype" ∷ on 1 kind.Assign "=" ∷ on 1 kind.OpenBrace "{" ∷ on 1 kind.Name "m1" ∷ on 1 kind.CloseBrace "}" ∷
-    on 1 kind.Typedef "typedef" ∷ on 1 kind.Name "T3" ∷ on 1 kind.OpenBrace "{" ∷ on 1 kind.Unsigned "unsigned" ∷
+    on 1 kind.Typedef "typedef" ∷ on 1 kind.Name "Ty" ∷ on 1 kind.OpenBrace "{" ∷ on 1 kind.Unsigned "unsigned" ∷
     on 1 kind.Name "f2" ∷ on 1 kind.Colon ":" ∷ on 1 kind.Number "8" ∷ on 1 kind.CloseBrace "}" ∷ on 1 kind.Chan "chan" ∷
     on 1 kind.Name "q4" ∷ on 1 kind.Assign "=" ∷ on 1 kind.OpenBracket "[" ∷ on 1 kind.Number "1" ∷ on 1 kind.CloseBracket "]" ∷
     on 1 kind.Of "of" ∷ on 1 kind.OpenBrace "{" ∷ on 1 kind.Short "short" ∷ on 1 kind.Comma "," ∷ on 1 kind.Byte "byte" ∷

@@ -177,7 +177,7 @@ unfolding computes model-random-18
 row-random-18 = sees (options true true true 9) model-random-18 (codes "") _ refl
 
 -- -p -l
--- byte za[2] ; mtype = { m1 }; typedef T3 { show chan f2; } chan q4 = [1] of { bit, int }
+-- byte za[2] ; mtype = { m1 }; typedef Ty { show chan f2; } chan q4 = [1] of { bit, int }
 -- unsigned g5 : 4 = (2); byte g6, g7 = 2, g8 active proctype P9() { bool v10[0 + 1] = 4; atomic { g7 = 0; -> end11: skip; ->
 --     printf("%u\n", (m1) != _pid) } }
 -- init { za[- 1] == 0 ;  unsigned v12 : 3 = (timeout) << (g6); E13: accept14: q4!!false <= _nr_pr, - - (_pid) }
@@ -185,7 +185,7 @@ tokens-random-19 : List Word
 tokens-random-19 =
     on 1 kind.Byte "byte" ∷ on 1 kind.Name "za" ∷ on 1 kind.OpenBracket "[" ∷ on 1 kind.Number "2" ∷ on 1 kind.CloseBracket "]" ∷
     on 1 kind.Semicolon ";" ∷ on 1 kind.Mtype "mtype" ∷ on 1 kind.Assign "=" ∷ on 1 kind.OpenBrace "{" ∷ on 1 kind.Name "m1" ∷
-    on 1 kind.CloseBrace "}" ∷ on 1 kind.Semicolon ";" ∷ on 1 kind.Typedef "typedef" ∷ on 1 kind.Name "T3" ∷
+    on 1 kind.CloseBrace "}" ∷ on 1 kind.Semicolon ";" ∷ on 1 kind.Typedef "typedef" ∷ on 1 kind.Name "Ty" ∷
     on 1 kind.OpenBrace "{" ∷ on 1 kind.Show "show" ∷ on 1 kind.Chan "chan" ∷ on 1 kind.Name "f2" ∷ on 1 kind.Semicolon ";" ∷
     on 1 kind.CloseBrace "}" ∷ on 1 kind.Chan "chan" ∷ on 1 kind.Name "q4" ∷ on 1 kind.Assign "=" ∷ on 1 kind.OpenBracket "[" ∷
     on 1 kind.Number "1" ∷ on 1 kind.CloseBracket "]" ∷ on 1 kind.Of "of" ∷ on 1 kind.OpenBrace "{" ∷ on 1 kind.Bit "bit" ∷
