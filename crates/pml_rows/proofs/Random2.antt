@@ -325,7 +325,7 @@ row-random-13 = sees (options true true true 9) model-random-13 (codes "1\n2\n2\
 -- mtype =
 --   { m1 , m2 , m3 } ; typedef
 --
--- T8 { int f4 = 1 , f5 [ 4 ] = m2 , f6 = 300 ; ; chan f7 = [ 3 ] of { bool , byte } ;
+-- Tz { int f4 = 1 , f5 [ 4 ] = m2 , f6 = 300 ; ; chan f7 = [ 3 ] of { bool , byte } ;
 -- } int g14 = 1
 -- pid g11 [ 3 ] , g12 ; pid g13 ; chan q10 = [ 3 ] of { int , byte
 -- } ; chan q9 [ 2 ] = [ 3 ] of { bool , byte } ; active [ 2 ] proctype P15 ( ) { chan v16 ; end17 : g11 [ g13 % 3 ] =
@@ -335,7 +335,7 @@ tokens-random-14 : List Word
 tokens-random-14 =
     on 1 kind.Mtype "mtype" ∷ on 1 kind.Assign "=" ∷ on 2 kind.OpenBrace "{" ∷ on 2 kind.Name "m1" ∷ on 2 kind.Comma "," ∷
     on 2 kind.Name "m2" ∷ on 2 kind.Comma "," ∷ on 2 kind.Name "m3" ∷ on 2 kind.CloseBrace "}" ∷ on 2 kind.Semicolon ";" ∷
-    on 2 kind.Typedef "typedef" ∷ on 4 kind.Name "T8" ∷ on 4 kind.OpenBrace "{" ∷ on 4 kind.Int "int" ∷ on 4 kind.Name "f4" ∷
+    on 2 kind.Typedef "typedef" ∷ on 4 kind.Name "Tz" ∷ on 4 kind.OpenBrace "{" ∷ on 4 kind.Int "int" ∷ on 4 kind.Name "f4" ∷
     on 4 kind.Assign "=" ∷ on 4 kind.Number "1" ∷ on 4 kind.Comma "," ∷ on 4 kind.Name "f5" ∷ on 4 kind.OpenBracket "[" ∷
     on 4 kind.Number "4" ∷ on 4 kind.CloseBracket "]" ∷ on 4 kind.Assign "=" ∷ on 4 kind.Name "m2" ∷ on 4 kind.Comma "," ∷
     on 4 kind.Name "f6" ∷ on 4 kind.Assign "=" ∷ on 4 kind.Number "300" ∷ on 4 kind.Semicolon ";" ∷ on 4 kind.Semicolon ";" ∷
