@@ -49,6 +49,25 @@ def names(size):
     name = lambda n: "".join(letters[n // 26 ** k % 26] for k in range(5))
     return many(size, "", groups(100, "byte", lambda n: (" " if n % 100 == 0 else ",") + "n" + name(n), ";"), "init{skip}")
 
+def calls(size):
+    """An inline for each call, 10,000 at most."""
+    count = min(size // 40, 10000)
+    return "".join("inline f%d(){skip}" % n for n in range(count)) + "init{" + "".join("f%d()" % n for n in range(count)) + "}"
+
+def used_often(size):
+    """An argument of many tokens, which is used a thousand times: too many tokens stand in its place."""
+    return "inline f(a){%s}init{f(%s)}" % ("a;" * 1000, "1 " * (size // 10))
+
+def levels(size):
+    """Calls within one another, nearly as deep as may be, until there are too many tokens."""
+    text = "".join("inline f%d(){f%d()}" % (n, n + 1) for n in range(97)) + "inline f97(){skip}"
+    return many(size, text + "init{", fixed("f0()"), "}")
+
+def long_name(size):
+    """A name of a third of the text, called again and again by way of a body."""
+    name = "n" * (size * 3 // 10)
+    return "inline %s(){skip}inline g(n){%s}init{g(%s)}" % (name, "n()" * min(size // 40, 28000), name)
+
 SHOWN = ["-g", "-l"]
 FAMILIES = [
     ("a constant of a field", [], lambda size: many(min(size, 1000), "typedef A{byte x=1", fixed("+1"), "};A a[1000000];init{skip}")),
@@ -72,6 +91,15 @@ FAMILIES = [
     ("assignments", [], lambda size: many(size, "int a,b;init{", fixed("a=a*3+b;"), "skip}")),
     ("typedefs", [], lambda size: many(size, "", lambda n: "typedef T%d{byte a,b};" % n, "init{skip}")),
     ("mtype names", [], lambda size: many(size, "", groups(100, "mtype={", lambda n: (",m%d" if n % 100 else "m%d") % n, "};"), "init{skip}")),
+    ("inlines", [], calls),
+    ("an argument used often", [], used_often),
+    ("calls within one another", [], levels),
+    ("calls of a long name", [], long_name),
+    ("arguments of one call", [], lambda size: "inline f(%s){skip}init{f(%s)}" % (",".join("p%d" % n for n in range(size // 12)), ",".join("1" * (size // 12)))),
+    ("calls without an end", [], lambda size: many(size, "inline f(a){skip}init{", fixed("f("), "}")),
+    ("loops", [], lambda size: many(size, "int a;init{", fixed("for(a:1..2){a=a};"), "skip}")),
+    ("loops in loops", [], lambda size: many(size, "int a;init{", fixed("for(a:1..2){" * 18 + "skip" + "}" * 18 + ";"), "skip}")),
+    ("selects", [], lambda size: many(size, "int a;init{", fixed("select(a:1..2);"), "skip}")),
     ("channels", [], lambda size: many(size, "", lambda n: "chan c%d=[1] of{byte};" % n, "init{skip}")),
 ]
 

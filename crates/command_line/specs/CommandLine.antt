@@ -14,6 +14,10 @@ use Rattle.clap.specs.declared.builder.value_parser.ValueParser.TheVariants as v
 abbrev pub counted_letter : Text → ℕ → Rule
 counted_letter id letter = record (new_rule id) { short = Some letter; action = Some Count }
 
+-- the same of a whole word
+abbrev pub counted_word : Text → Rule
+counted_word id = record (new_rule id) { long = Some id; action = Some Count }
+
 -- `-uN`, a number of 32 bits
 abbrev pub limit_rule : Rule
 limit_rule = record (new_rule (codes "u")) {
@@ -47,25 +51,27 @@ pub record IsNamed (c : Command) : Type 0 where
   pub local : (fields_of c).has_globals ≡ false
   pub negates : (fields_of c).subcommand_negates_reqs ≡ false
 
--- `spinplay [-i] [-p] [-g] [-l] [-T] [-uN] [--choices FILE] [--record FILE] MODEL`
+-- `spinplay [-i] [-p] [-g] [-l] [-m] [-T] [-uN] [--choices FILE] [--record FILE] [--convert] MODEL`
 unfoldable pub command_line : App
 command_line = with_all named (
     counted_letter (codes "i") 105
     ∷ counted_letter (codes "p") 112
     ∷ counted_letter (codes "g") 103
     ∷ counted_letter (codes "l") 108
+    ∷ counted_letter (codes "m") 109
     ∷ counted_letter (codes "T") 84
     ∷ limit_rule
     ∷ file_rule (codes "choices")
     ∷ file_rule (codes "record")
+    ∷ counted_word (codes "convert")
     ∷ model_rule
     ∷ [])
 
 -- the ids of the arguments, in their order
 abbrev pub ids : List Text
 ids =
-    codes "i" ∷ codes "p" ∷ codes "g" ∷ codes "l" ∷ codes "T" ∷ codes "u"
-    ∷ codes "choices" ∷ codes "record" ∷ codes "MODEL" ∷ []
+    codes "i" ∷ codes "p" ∷ codes "g" ∷ codes "l" ∷ codes "m" ∷ codes "T" ∷ codes "u"
+    ∷ codes "choices" ∷ codes "record" ∷ codes "convert" ∷ codes "MODEL" ∷ []
 
 -- the argument excludes no other, belongs to this command alone and has this id
 abbrev pub IsArgument : Text → Arg → Type 0
@@ -82,4 +88,4 @@ pub record IsCommandLine (c : Command) : Type 0 where
   pub in_turn : AddsInTurn AddsArg start added c
   pub plain : All (λ a. IsPlainArg a × (a.global ≡ false)) added
   pub ids : map (λ a. a.id.now) added ≡ ids
-  pub model : (d : Arg) → TakesValue (slice_index_or added 8 d)
+  pub model : (d : Arg) → TakesValue (slice_index_or added 10 d)

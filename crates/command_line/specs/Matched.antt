@@ -18,7 +18,9 @@ pub record IsReadFrom (rows : List Row) (a : Arguments) : Type 0 where
   pub steps : IsTrue a.options.steps ↔ (0 < count_of (codes "p") rows)
   pub globals : IsTrue a.options.globals ↔ (0 < count_of (codes "g") rows)
   pub locals : IsTrue a.options.locals ↔ (0 < count_of (codes "l") rows)
+  pub lossy : IsTrue a.options.lossy ↔ (0 < count_of (codes "m") rows)
   pub limit : IsLimit (one_of (codes "u") rows) a.options.limit
   pub model : first_of (codes "MODEL") rows ≡ Some (string_bytes a.model)
   pub choices : first_of (codes "choices") rows ≡ option_map string_bytes a.choices
   pub rec : first_of (codes "record") rows ≡ option_map string_bytes a.rec
+  pub convert : IsTrue a.convert ↔ (0 < count_of (codes "convert") rows)

@@ -15,9 +15,11 @@ Options:
   -p                Show each step
   -g                Show each global variable that a step changed
   -l                Show each local variable that a step changed
+  -m                Lose messages that are sent to a full channel
   -u <N>            Take at most N steps (1000000 where it is not given)
   --choices <FILE>  Read the choices from FILE, in place of standard input
   --record <FILE>   Write the accepted choices to FILE, which is emptied first
+  --convert         Print the accepted choices with their lines, and no run
   -i, -T            Accepted as Spin has them, and change nothing
   -h, --help        Print help
   -V, --version     Print version
@@ -33,12 +35,18 @@ To record a session, and to play it again:
   spinplay -p --record run.txt model.pml
   spinplay -p --choices run.txt model.pml
 
+To have each choice with its process and its line, and to play it over the
+model when it was edited, until a choice does not fit:
+  spinplay --convert --choices run.txt model.pml > lines.txt
+  spinplay -p --choices lines.txt model.pml
+
 Exit status:
   0  the run came to a valid end, or was ended by q
   1  it came to an invalid end
   2  a fault of the run
   3  the model is refused
   4  wrong words, or a file that cannot be opened or read
-  5  stopped: choices ended, a line too long, 100 bad choices, the step limit
+  5  stopped: choices ended, a choice misfit, a line too long, 100 bad choices,
+     the step limit
   6  a device or memory failed
 ";

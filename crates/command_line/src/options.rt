@@ -11,4 +11,6 @@ pub struct Arguments {
     pub choices: Option<String>,
     /// The file of the record; without one nothing is recorded.
     pub rec: Option<String>,
+    /// The choices are converted, and no run is shown.
+    pub convert: bool,
 }

@@ -3,7 +3,7 @@ ghost use Rattle.std.specs.Prelude.{◌≡◌, IfOk, codes, map, option_map};
 ghost use Rattle.std.specs.String.{string_bytes};
 ghost use Rattle.clap.specs.Built.{TakesValue};
 ghost use Rattle.clap.specs.Words.{FailsBy, fault_of, first_value, found_of, matches_of, rule_of};
-ghost use Rattle.command_line.specs.CommandLine.{command_line, counted_letter, file_rule, limit_rule};
+ghost use Rattle.command_line.specs.CommandLine.{command_line, counted_letter, counted_word, file_rule, limit_rule};
 ghost use Rattle.command_line.specs.CommandLine.{model_rule, IsArgument, IsCommandLine, IsNamed};
 ghost use Rattle.command_line.specs.Matched.{IsReadFrom};
 
@@ -23,6 +23,17 @@ fn flag<'a>(alloc: Global, id: &'a str, letter: char, help: &'a str) -> Arg<'a>
 {
     Arg::new(alloc, id)
         .short(letter)
+        .action(ArgAction::Count)
+        .help(help)
+}
+
+// The same of a whole word.
+fn long_flag<'a>(alloc: Global, id: &'a str, help: &'a str) -> Arg<'a>
+    ensures rule { rule_of result ≡ counted_word id.entry.now }
+    ensures plain { IsArgument id.entry.now result }
+{
+    Arg::new(alloc, id)
+        .long(id)
         .action(ArgAction::Count)
         .help(help)
 }
@@ -92,10 +103,21 @@ fn command<'a>(alloc: Global) -> Result<Command<'a>, AllocError>
             'l',
             "Show each local variable that a step changed",
         ))?
+        .arg(flag(
+            alloc,
+            "m",
+            'm',
+            "Lose messages that are sent to a full channel",
+        ))?
         .arg(flag(alloc, "T", 'T', "Accepted, and changes nothing"))?
         .arg(limit(alloc))?
         .arg(file(alloc, "choices", "Read the choices from FILE"))?
         .arg(file(alloc, "record", "Write the accepted choices to FILE"))?
+        .arg(long_flag(
+            alloc,
+            "convert",
+            "Write the accepted choices with their lines, and show nothing",
+        ))?
         .arg(model(alloc))
 }
 
@@ -120,6 +142,7 @@ pub fn arguments<'a>(alloc: Global, words: &'a [&'a str]) -> Result<Arguments, E
         steps: matches.get_count("p") > 0,
         globals: matches.get_count("g") > 0,
         locals: matches.get_count("l") > 0,
+        lossy: matches.get_count("m") > 0,
         limit: matches.get_one::<u32>("u").unwrap_or(USUAL_LIMIT),
     };
     let choices = text_of(alloc, &matches, "choices")?;
@@ -129,5 +152,6 @@ pub fn arguments<'a>(alloc: Global, words: &'a [&'a str]) -> Result<Arguments, E
         model,
         choices,
         rec,
+        convert: matches.get_count("convert") > 0,
     })
 }

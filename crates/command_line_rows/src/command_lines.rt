@@ -5,50 +5,56 @@ use std::test::Fail;
 
 // A row a line: the words, ` => ` and what is read of them.
 fn rows() -> &'static str {
-    r#"spinplay m.pml => --- 1000000 m.pml - -
-spinplay --choices c m.pml => --- 1000000 m.pml c -
-spinplay --record=r m.pml => --- 1000000 m.pml - r
-spinplay --choices c --record=r m.pml => --- 1000000 m.pml c r
-spinplay -u0 m.pml => --- 0 m.pml - -
-spinplay -u0 --choices c m.pml => --- 0 m.pml c -
-spinplay -u0 --record=r m.pml => --- 0 m.pml - r
-spinplay -u0 --choices c --record=r m.pml => --- 0 m.pml c r
-spinplay -u7 m.pml => --- 7 m.pml - -
-spinplay -u7 --choices c m.pml => --- 7 m.pml c -
-spinplay -u7 --record=r m.pml => --- 7 m.pml - r
-spinplay -u7 --choices c --record=r m.pml => --- 7 m.pml c r
-spinplay -u4294967295 m.pml => --- 4294967295 m.pml - -
-spinplay -u4294967295 --choices c m.pml => --- 4294967295 m.pml c -
-spinplay -u4294967295 --record=r m.pml => --- 4294967295 m.pml - r
-spinplay -u4294967295 --choices c --record=r m.pml => --- 4294967295 m.pml c r
-spinplay -p m.pml => p-- 1000000 m.pml - -
-spinplay -p --choices c m.pml => p-- 1000000 m.pml c -
-spinplay -p --record=r m.pml => p-- 1000000 m.pml - r
-spinplay -p --choices c --record=r m.pml => p-- 1000000 m.pml c r
-spinplay -p -u0 m.pml => p-- 0 m.pml - -
-spinplay -p -u0 --choices c m.pml => p-- 0 m.pml c -
-spinplay -p -u0 --record=r m.pml => p-- 0 m.pml - r
-spinplay -p -u0 --choices c --record=r m.pml => p-- 0 m.pml c r
-spinplay -p -u7 m.pml => p-- 7 m.pml - -
-spinplay -p -u7 --choices c m.pml => p-- 7 m.pml c -
-spinplay -p -u7 --record=r m.pml => p-- 7 m.pml - r
-spinplay -p -u7 --choices c --record=r m.pml => p-- 7 m.pml c r
-spinplay -p -u4294967295 m.pml => p-- 4294967295 m.pml - -
-spinplay -p -u4294967295 --choices c m.pml => p-- 4294967295 m.pml c -
-spinplay -p -u4294967295 --record=r m.pml => p-- 4294967295 m.pml - r
-spinplay -p -u4294967295 --choices c --record=r m.pml => p-- 4294967295 m.pml c r
-spinplay -iTpp m.pml -p -u 3 => p-- 3 m.pml - -
-spinplay -i -T -u=+3 m.pml => --- 3 m.pml - -
-spinplay -u007 -- -p => --- 7 -p - -
-spinplay m.pml --record r -pu9 => p-- 9 m.pml - r
-spinplay -g m.pml => -g- 1000000 m.pml - -
-spinplay -l m.pml => --l 1000000 m.pml - -
-spinplay -g -l m.pml => -gl 1000000 m.pml - -
-spinplay -p -g m.pml => pg- 1000000 m.pml - -
-spinplay -l m.pml -p => p-l 1000000 m.pml - -
-spinplay -pgl -u5 m.pml => pgl 5 m.pml - -
-spinplay -lglg m.pml --choices g --record l => -gl 1000000 m.pml g l
-spinplay -ipTgl -u0 m.pml => pgl 0 m.pml - -
+    r#"spinplay m.pml => ---- 1000000 m.pml - - -
+spinplay --choices c m.pml => ---- 1000000 m.pml c - -
+spinplay --record=r m.pml => ---- 1000000 m.pml - r -
+spinplay --choices c --record=r m.pml => ---- 1000000 m.pml c r -
+spinplay -u0 m.pml => ---- 0 m.pml - - -
+spinplay -u0 --choices c m.pml => ---- 0 m.pml c - -
+spinplay -u0 --record=r m.pml => ---- 0 m.pml - r -
+spinplay -u0 --choices c --record=r m.pml => ---- 0 m.pml c r -
+spinplay -u7 m.pml => ---- 7 m.pml - - -
+spinplay -u7 --choices c m.pml => ---- 7 m.pml c - -
+spinplay -u7 --record=r m.pml => ---- 7 m.pml - r -
+spinplay -u7 --choices c --record=r m.pml => ---- 7 m.pml c r -
+spinplay -u4294967295 m.pml => ---- 4294967295 m.pml - - -
+spinplay -u4294967295 --choices c m.pml => ---- 4294967295 m.pml c - -
+spinplay -u4294967295 --record=r m.pml => ---- 4294967295 m.pml - r -
+spinplay -u4294967295 --choices c --record=r m.pml => ---- 4294967295 m.pml c r -
+spinplay -p m.pml => p--- 1000000 m.pml - - -
+spinplay -p --choices c m.pml => p--- 1000000 m.pml c - -
+spinplay -p --record=r m.pml => p--- 1000000 m.pml - r -
+spinplay -p --choices c --record=r m.pml => p--- 1000000 m.pml c r -
+spinplay -p -u0 m.pml => p--- 0 m.pml - - -
+spinplay -p -u0 --choices c m.pml => p--- 0 m.pml c - -
+spinplay -p -u0 --record=r m.pml => p--- 0 m.pml - r -
+spinplay -p -u0 --choices c --record=r m.pml => p--- 0 m.pml c r -
+spinplay -p -u7 m.pml => p--- 7 m.pml - - -
+spinplay -p -u7 --choices c m.pml => p--- 7 m.pml c - -
+spinplay -p -u7 --record=r m.pml => p--- 7 m.pml - r -
+spinplay -p -u7 --choices c --record=r m.pml => p--- 7 m.pml c r -
+spinplay -p -u4294967295 m.pml => p--- 4294967295 m.pml - - -
+spinplay -p -u4294967295 --choices c m.pml => p--- 4294967295 m.pml c - -
+spinplay -p -u4294967295 --record=r m.pml => p--- 4294967295 m.pml - r -
+spinplay -p -u4294967295 --choices c --record=r m.pml => p--- 4294967295 m.pml c r -
+spinplay -iTpp m.pml -p -u 3 => p--- 3 m.pml - - -
+spinplay -i -T -u=+3 m.pml => ---- 3 m.pml - - -
+spinplay -u007 -- -p => ---- 7 -p - - -
+spinplay m.pml --record r -pu9 => p--- 9 m.pml - r -
+spinplay -g m.pml => -g-- 1000000 m.pml - - -
+spinplay -l m.pml => --l- 1000000 m.pml - - -
+spinplay -g -l m.pml => -gl- 1000000 m.pml - - -
+spinplay -p -g m.pml => pg-- 1000000 m.pml - - -
+spinplay -l m.pml -p => p-l- 1000000 m.pml - - -
+spinplay -pgl -u5 m.pml => pgl- 5 m.pml - - -
+spinplay -lglg m.pml --choices g --record l => -gl- 1000000 m.pml g l -
+spinplay -ipTgl -u0 m.pml => pgl- 0 m.pml - - -
+spinplay -m m.pml => ---m 1000000 m.pml - - -
+spinplay -mm --choices m -pm n.pml => p--m 1000000 n.pml m - -
+spinplay --convert m.pml => ---- 1000000 m.pml - - convert
+spinplay m.pml --convert -u7 --convert --choices convert => ---- 7 m.pml convert - convert
+spinplay --convert --record r -p m.pml => p--- 1000000 m.pml - r convert
+spinplay -- --convert => ---- 1000000 --convert - - -
 "#
 }
 
@@ -61,6 +67,7 @@ fn shown(alloc: Global, read: &Arguments) -> Result<String, AllocError> {
     let p = mark(read.options.steps, "p");
     let g = mark(read.options.globals, "g");
     let l = mark(read.options.locals, "l");
+    let m = mark(read.options.lossy, "m");
     let limit = read.options.limit;
     let model = read.model.as_str();
     let choices = match &read.choices {
@@ -71,7 +78,8 @@ fn shown(alloc: Global, read: &Arguments) -> Result<String, AllocError> {
         Some(name) => name.as_str(),
         None => "-",
     };
-    format!(in alloc; "{p}{g}{l} {limit} {model} {choices} {rec}")
+    let convert = mark(read.convert, "convert");
+    format!(in alloc; "{p}{g}{l}{m} {limit} {model} {choices} {rec} {convert}")
 }
 
 fn answer(alloc: Global, words: &str) -> Result<String, AllocError> {
@@ -94,7 +102,7 @@ fn read_as_written(rt: HostRuntime) -> Result<(), Fail> {
         assert_eq!(rt; read.as_str(), wanted, "at {words}");
         count = count.saturating_add(1);
     }
-    assert_eq!(rt; count, 44);
+    assert_eq!(rt; count, 50);
     Ok(())
 }
 
@@ -109,12 +117,15 @@ fn refused(rt: HostRuntime) -> Result<(), Fail> {
         ("spinplay m.pml n.pml", "UnknownArgument"),
         ("spinplay -h", "DisplayHelp"),
         ("spinplay --help m.pml", "DisplayHelp"),
-        ("spinplay -m m.pml", "UnknownArgument"),
+        ("spinplay -n m.pml", "UnknownArgument"),
         ("spinplay --globals m.pml", "UnknownArgument"),
         ("spinplay -g", "MissingRequiredArgument"),
         ("spinplay -V", "DisplayVersion"),
         ("spinplay -p --version", "DisplayVersion"),
         ("spinplay --choices", "InvalidValue"),
+        ("spinplay --convert", "MissingRequiredArgument"),
+        ("spinplay --convert=c m.pml", "TooManyValues"),
+        ("spinplay -c m.pml", "UnknownArgument"),
     ];
     for (words, kind) in rows {
         let read = answer(rt.alloc(), words)?;

@@ -5,6 +5,7 @@ ghost use Rattle.pml_names.specs.Env.{env};
 use pml_conditions::condition::{Condition, number};
 use pml_conditions::decide::applies;
 use pml_conditions::find::find;
+use pml_inline::expand;
 use pml_lex::cut;
 use pml_lex::token::Token;
 use pml_marks::mark::Mark;
@@ -66,10 +67,17 @@ fn of_tokens<'a>(alloc: Global, tokens: &'a [Token<'a>]) -> Result<u8, Fail> {
     }
 }
 
+fn of_cut(alloc: Global, tokens: &[Token<'_>]) -> Result<u8, Fail> {
+    match expand(alloc, tokens) {
+        Ok(expanded) => of_tokens(alloc, expanded.as_slice()),
+        Err(_) => Err(Fail::from("the tokens do not expand")),
+    }
+}
+
 /// The number of the least condition that refuses a text, or 0.
 pub fn least(alloc: Global, text: &[u8]) -> Result<u8, Fail> {
     match cut(alloc, text) {
-        Ok(tokens) => of_tokens(alloc, tokens.as_slice()),
+        Ok(tokens) => of_cut(alloc, tokens.as_slice()),
         Err(_) => Err(Fail::from("the text is not cut")),
     }
 }

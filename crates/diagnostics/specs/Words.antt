@@ -47,6 +47,7 @@ refusal_number refusal.TooManyCells = 15
 refusal_number refusal.NoProcess = 16
 refusal_number refusal.TooManyAtStart = 17
 refusal_number refusal.Initialiser = 18
+refusal_number refusal.Inline = 19
 
 -- what a refusal's line says of it
 abbrev pub refusal_words : Refusal → List ℕ
@@ -68,3 +69,4 @@ refusal_words refusal.TooManyCells = codes "too many cells"
 refusal_words refusal.NoProcess = codes "no process"
 refusal_words refusal.TooManyAtStart = codes "too many at the start"
 refusal_words refusal.Initialiser = codes "initialiser"
+refusal_words refusal.Inline = codes "inline"

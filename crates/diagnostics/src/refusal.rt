@@ -42,6 +42,9 @@ pub enum Refusal {
     TooManyAtStart,
     /// What a variable of the first state begins with has a fault.
     Initialiser,
+    /// An inline or a call of one is not right. Then nothing stands in its place, so none of those from `TooDeep` on
+    /// applies beside it.
+    Inline,
 }
 
 impl Refusal {
@@ -68,6 +71,7 @@ impl Refusal {
             Refusal::NoProcess => 16,
             Refusal::TooManyAtStart => 17,
             Refusal::Initialiser => 18,
+            Refusal::Inline => 19,
         }
     }
 
@@ -94,6 +98,7 @@ impl Refusal {
             Refusal::NoProcess => b"no process",
             Refusal::TooManyAtStart => b"too many at the start",
             Refusal::Initialiser => b"initialiser",
+            Refusal::Inline => b"inline",
         }
     }
 }

@@ -13,6 +13,7 @@ use pml_control::findings::examine;
 use pml_flow::edge::Edge;
 use pml_flow::graph::Graph;
 use pml_flow::statements::{Statements, all_statements};
+use pml_inline::expand;
 use pml_lex::cut;
 use pml_lex::token::Token;
 use pml_marks::model::marks;
@@ -263,10 +264,17 @@ fn shown_tokens<'a>(alloc: Global, tokens: &'a [Token<'a>]) -> Result<Read, Fail
     }
 }
 
+fn shown_cut(alloc: Global, tokens: &[Token<'_>]) -> Result<Read, Fail> {
+    match expand(alloc, tokens) {
+        Ok(expanded) => shown_tokens(alloc, expanded.as_slice()),
+        Err(_) => Err(Fail::from("the tokens do not expand")),
+    }
+}
+
 /// What is written of the graph of the first proctype of a text.
 fn of_text(alloc: Global, text: &str) -> Result<Read, Fail> {
     match cut(alloc, text.as_bytes()) {
-        Ok(tokens) => shown_tokens(alloc, tokens.as_slice()),
+        Ok(tokens) => shown_cut(alloc, tokens.as_slice()),
         Err(_) => Err(Fail::from("the text is not cut")),
     }
 }

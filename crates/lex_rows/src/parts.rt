@@ -8,12 +8,11 @@ use std::test::Fail;
 
 #[test]
 fn faults_have_texts(rt: HostRuntime) -> Result<(), Fail> {
-    let rows: [(LexFault, &str); 5] = [
+    let rows: [(LexFault, &str); 4] = [
         (LexFault::Memory, "out of memory"),
         (LexFault::TooLong, "text too long"),
         (LexFault::Lexical(3), "line 3: lexical"),
         (LexFault::LeftOut(1), "line 1: left out"),
-        (LexFault::TooDeep(1048577), "line 1048577: too deep"),
     ];
     for (fault, wanted) in rows {
         let text = format!(in rt.alloc(); "{fault}")?;

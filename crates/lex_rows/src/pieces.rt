@@ -197,9 +197,9 @@ a`0a@ never`0a' => LeftOut(2)
 never`0a#x`0a" => Lexical(3)
 never /* => Lexical(1)
 #define`0a`80 => Lexical(2)
-inline f() { skip } => LeftOut(1)
-init { for } => LeftOut(1)
-init {`0aselect } => LeftOut(2)
+inline f() { skip } => Inline@1=inline Name@1=f OpenParen@1=( CloseParen@1=) OpenBrace@1={ Skip@1=skip CloseBrace@1=}
+init { c_code } => LeftOut(1)
+init {`0ac_expr } => LeftOut(2)
 init`0a{ never } => LeftOut(2)
 "##
 }

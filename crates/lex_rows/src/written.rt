@@ -5,10 +5,11 @@
 //! visible ones of ASCII is written by its digits.
 //!
 //! A long text is written as parts with `|` between them, each a number and what stands there that many times; its answer is how many
-//! tokens it has, or the refusal.
+//! tokens it has, the refusal, or `TooDeep` with the line of the first token at which they go too deep.
 use crate::MARK;
 use pml_lex::cut;
 use pml_lex::fault::LexFault;
+use pml_lex::limits::first_too_deep;
 use pml_lex::token::Token;
 use std::alloc::{AllocError, Global};
 use std::test::Fail;
@@ -99,13 +100,18 @@ fn joined_parts(alloc: Global, parts: &str) -> Result<Vec<u8>, Fail> {
     Ok(text)
 }
 
+fn depth_or_count(alloc: Global, tokens: &[Token<'_>]) -> Result<String, Fail> {
+    let count = tokens.len();
+    match first_too_deep(tokens) {
+        Some(line) => Ok(format!(in alloc; "TooDeep({line})")?),
+        None => Ok(format!(in alloc; "{count} tokens")?),
+    }
+}
+
 // How many tokens a text has, or its refusal.
 fn count_of(alloc: Global, text: &[u8]) -> Result<String, Fail> {
     match cut(alloc, text) {
-        Ok(tokens) => {
-            let count = tokens.len();
-            Ok(format!(in alloc; "{count} tokens")?)
-        }
+        Ok(tokens) => depth_or_count(alloc, tokens.as_slice()),
         Err(LexFault::Memory) => Err(Fail::from("memory was refused")),
         Err(fault) => Ok(format!(in alloc; "{fault:?}")?),
     }

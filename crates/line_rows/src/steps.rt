@@ -1,10 +1,10 @@
 //! Stores before and after writes, by the cells' indices.
+use pml_check::{Checked, check};
+use pml_inline::expand;
 use pml_lex::cut;
+use pml_lex::token::Token;
 use pml_lines::change::{Wanted, logged_lines, value_lines};
 use pml_lines::tables::Tables;
-use pml_marks::model::marks;
-use pml_names::names::all_names;
-use pml_resolve::model::number;
 use pml_store::place::Place;
 use pml_store::store::Store;
 use pml_syntax::parse;
@@ -21,30 +21,64 @@ proctype P(byte v) { byte a[1]; skip }
 init { byte k; skip }
 "##;
 
-fn lines_of_tree(
+fn model_of<'a>(alloc: Global, tree: Tree<'a>) -> Option<Checked<'a>> {
+    match check(alloc, tree) {
+        Ok(checked) => Some(checked),
+        Err(_) => None,
+    }
+}
+
+fn checked_of<'a>(alloc: Global, tokens: &'a [Token<'a>]) -> Option<Checked<'a>> {
+    match parse(alloc, tokens) {
+        Ok(tree) => model_of(alloc, tree),
+        Err(_) => None,
+    }
+}
+
+fn lines_of_checked(
     alloc: Global,
-    tree: &Tree<'_>,
+    checked: &Checked<'_>,
     wanted: Wanted,
     before: &[i32],
     after: &[i32],
 ) -> Result<Vec<u8>, AllocError> {
-    let marks = marks(alloc, tree)?;
-    let names = all_names(alloc, marks.as_slice())?;
-    let program = number(alloc, tree, &names.table)?;
-    let tables = Tables::new(alloc, &program)?;
+    let tables = Tables::new(alloc, checked.program())?;
     let mut text = Vec::new(alloc);
     value_lines(&tables, &[0, 1, 0], wanted, before, after, &mut text)?;
     Ok(text)
 }
 
+fn lines_of_tokens<'a>(
+    alloc: Global,
+    tokens: &'a [Token<'a>],
+    wanted: Wanted,
+    before: &[i32],
+    after: &[i32],
+) -> Result<Vec<u8>, Fail> {
+    match checked_of(alloc, tokens) {
+        Some(checked) => Ok(lines_of_checked(alloc, &checked, wanted, before, after)?),
+        None => Err(Fail::from("the text is no model")),
+    }
+}
+
+fn lines_of_cut(
+    alloc: Global,
+    tokens: &[Token<'_>],
+    wanted: Wanted,
+    before: &[i32],
+    after: &[i32],
+) -> Result<Vec<u8>, Fail> {
+    match expand(alloc, tokens) {
+        Ok(expanded) => lines_of_tokens(alloc, expanded.as_slice(), wanted, before, after),
+        Err(_) => Err(Fail::from("the tokens do not expand")),
+    }
+}
+
 fn lines(alloc: Global, wanted: Wanted, before: &[i32], after: &[i32]) -> Result<Vec<u8>, Fail> {
-    let Ok(tokens) = cut(alloc, MODEL.as_bytes()) else {
-        return Err(Fail::from("the text is not cut"));
-    };
-    let Ok(tree) = parse(alloc, tokens.as_slice()) else {
-        return Err(Fail::from("the tokens are no model"));
-    };
-    Ok(lines_of_tree(alloc, &tree, wanted, before, after)?)
+    match cut(alloc, MODEL.as_bytes()) {
+        Ok(tokens) => lines_of_cut(alloc, tokens.as_slice(), wanted, before, after),
+        Err(_) => Err(Fail::from("the text is not cut")),
+    }
 }
 
 fn write(store: &mut Store, place: Place, number: i32) -> Result<(), AllocError> {
@@ -67,21 +101,44 @@ fn written(alloc: Global, places: &[Place], numbers: &[i32]) -> Result<Store, Al
     Ok(store)
 }
 
-fn logged_of_tree(
+fn logged_of_checked(
     alloc: Global,
-    tree: &Tree<'_>,
+    checked: &Checked<'_>,
     wanted: Wanted,
     places: &[Place],
     numbers: &[i32],
 ) -> Result<Vec<u8>, AllocError> {
-    let marks = marks(alloc, tree)?;
-    let names = all_names(alloc, marks.as_slice())?;
-    let program = number(alloc, tree, &names.table)?;
-    let tables = Tables::new(alloc, &program)?;
+    let tables = Tables::new(alloc, checked.program())?;
     let store = written(alloc, places, numbers)?;
     let mut text = Vec::new(alloc);
     logged_lines(alloc, &tables, &[0], wanted, &store, &mut text)?;
     Ok(text)
+}
+
+fn logged_of_tokens<'a>(
+    alloc: Global,
+    tokens: &'a [Token<'a>],
+    wanted: Wanted,
+    places: &[Place],
+    numbers: &[i32],
+) -> Result<Vec<u8>, Fail> {
+    match checked_of(alloc, tokens) {
+        Some(checked) => Ok(logged_of_checked(alloc, &checked, wanted, places, numbers)?),
+        None => Err(Fail::from("the text is no model")),
+    }
+}
+
+fn logged_of_cut(
+    alloc: Global,
+    tokens: &[Token<'_>],
+    wanted: Wanted,
+    places: &[Place],
+    numbers: &[i32],
+) -> Result<Vec<u8>, Fail> {
+    match expand(alloc, tokens) {
+        Ok(expanded) => logged_of_tokens(alloc, expanded.as_slice(), wanted, places, numbers),
+        Err(_) => Err(Fail::from("the tokens do not expand")),
+    }
 }
 
 fn logged(
@@ -90,13 +147,10 @@ fn logged(
     places: &[Place],
     numbers: &[i32],
 ) -> Result<Vec<u8>, Fail> {
-    let Ok(tokens) = cut(alloc, MODEL.as_bytes()) else {
-        return Err(Fail::from("the text is not cut"));
-    };
-    let Ok(tree) = parse(alloc, tokens.as_slice()) else {
-        return Err(Fail::from("the tokens are no model"));
-    };
-    Ok(logged_of_tree(alloc, &tree, wanted, places, numbers)?)
+    match cut(alloc, MODEL.as_bytes()) {
+        Ok(tokens) => logged_of_cut(alloc, tokens.as_slice(), wanted, places, numbers),
+        Err(_) => Err(Fail::from("the text is not cut")),
+    }
 }
 
 #[test]

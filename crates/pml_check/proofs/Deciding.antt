@@ -157,6 +157,7 @@ on_model r.NumberOutOfRange p = inr tt
 on_model r.TooManyCells p = inr tt
 on_model r.NoProcess p = inr tt
 on_model r.TooManyAtStart p = inr tt
+on_model r.Inline p = inr tt
 
 -- ---- on a tree
 

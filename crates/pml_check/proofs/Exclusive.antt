@@ -74,6 +74,7 @@ model_apart r.TooManyCells p a f = a
 model_apart r.NoProcess p a f = a
 model_apart r.TooManyAtStart p a f = a
 model_apart r.Initialiser p a f = start_apart p a f
+model_apart r.Inline p a f = a
 
 -- a refusal does not apply to what fits it
 pub apart : (x : Refusal) (ms : List Mark) (p : Program) → AppliesTo x ms p → FitsTo x ms p → ⊥

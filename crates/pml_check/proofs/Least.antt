@@ -19,7 +19,8 @@ use Rattle.pml_check.proofs.Standing.{applies_by, applied, fits_by, not_both}
 abbrev by_number : ℕ → Refusal
 by_number n = get_or (
     r.TextTooLong ∷ r.Lexical ∷ r.LeftOut ∷ r.TooDeep ∷ r.Syntax ∷ r.NameTwice ∷ r.UnknownName ∷ r.WrongKind ∷ r.ArgumentCount ∷ r.Label
-    ∷ r.BreakOutsideDo ∷ r.DStep ∷ r.CircleOfGotos ∷ r.NumberOutOfRange ∷ r.TooManyCells ∷ r.NoProcess ∷ r.TooManyAtStart ∷ r.Initialiser ∷ []
+    ∷ r.BreakOutsideDo ∷ r.DStep ∷ r.CircleOfGotos ∷ r.NumberOutOfRange ∷ r.TooManyCells ∷ r.NoProcess ∷ r.TooManyAtStart ∷ r.Initialiser
+    ∷ r.Inline ∷ []
     ) (n - 1) r.Syntax
 
 numbered : (x : Refusal) → by_number (refusal_number x) ≡ x
@@ -41,6 +42,7 @@ numbered r.TooManyCells = refl
 numbered r.NoProcess = refl
 numbered r.TooManyAtStart = refl
 numbered r.Initialiser = refl
+numbered r.Inline = refl
 
 same_number : (x y : Refusal) → refusal_number x ≡ refusal_number y → x ≡ y
 same_number x y e = sym (numbered x) ∙ ap by_number e ∙ numbered y
@@ -76,6 +78,8 @@ judged r.TooManyCells ms p a = inr (inr (inr (inr (inr (inr (inr (inr (inr (inl 
 judged r.NoProcess ms p a = inr (inr (inr (inr (inr (inr (inr (inr (inr (inr (inl refl))))))))))
 judged r.TooManyAtStart ms p a = inr (inr (inr (inr (inr (inr (inr (inr (inr (inr (inr (inl refl)))))))))))
 judged r.Initialiser ms p a = inr (inr (inr (inr (inr (inr (inr (inr (inr (inr (inr (inr (inl refl))))))))))))
+judged r.Inline ms p (inl a) = absurd a
+judged r.Inline ms p (inr a) = absurd a
 
 -- and what has none of those judged fits all
 pub fits_each : (ms : List Mark) (p : Program) → FitsAll all_judged ms p → (x : Refusal) → FitsTo x ms p
@@ -98,6 +102,7 @@ fits_each ms p f r.TooManyCells = f.1.1.1.1.1.1.1.1.1.0
 fits_each ms p f r.NoProcess = f.1.1.1.1.1.1.1.1.1.1.0
 fits_each ms p f r.TooManyAtStart = f.1.1.1.1.1.1.1.1.1.1.1.0
 fits_each ms p f r.Initialiser = f.1.1.1.1.1.1.1.1.1.1.1.1.0
+fits_each ms p f r.Inline = (tt, tt)
 
 -- ---- those judged stand in the order of their numbers
 

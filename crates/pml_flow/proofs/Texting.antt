@@ -12,7 +12,7 @@ use Rattle.pml_flow.specs.Ways.{Ways, Site}
 use Rattle.pml_flow.specs.Parts.{all_of}
 use Rattle.pml_flow.specs.Statements.{statement_at, stated}
 use Rattle.pml_flow.specs.Marks.{mark}
-use Rattle.pml_flow.specs.Texts.{text_by, text_if, text_at, texts_from, texts_of}
+use Rattle.pml_flow.specs.Texts.{text_by, line_by, text_if, text_at, offer_line_at, texts_from, offer_lines_from, texts_of}
 use Rattle.pml_flow.specs.Flow.{first_place, numbered_at, is_end_at, Tables, edge, edges_level, own_levels, site_of, mark_edges}
 use Rattle.pml_flow.proofs.Beginning.{read, Own}
 use Rattle.pml_flow.proofs.Ending.{read_map, mark_keeps, mark_sets, mark-length}
@@ -102,12 +102,28 @@ texts_read ds k (x ∷ bs) zero h =
     ap (λ m. text_if m (slice_index_or ds k None)) h ∙ ap (λ i. text_by (slice_index_or ds i None)) (sym (plus_zero k))
 texts_read ds k (x ∷ bs) (suc n) h = texts_read ds (k + 1) bs n h ∙ ap (λ i. text_by (slice_index_or ds i None)) (plus_one k n)
 
+lines_read : (ds : List (Option Stmt)) (k : ℕ) (bs : List Bool) (n : ℕ) → is_end_at bs n ≡ true → slice_index_or (offer_lines_from ds k bs) n 0 ≡ line_by (slice_index_or ds (k + n) None)
+lines_read ds k [] n h = cc
+lines_read ds k (x ∷ bs) zero h = ap (λ i. line_by (slice_index_or ds i None)) (sym (plus_zero k))
+lines_read ds k (x ∷ bs) (suc n) h = lines_read ds (k + 1) bs n h ∙ ap (λ i. line_by (slice_index_or ds i None)) (plus_one k n)
+
 module _ (b : Seq) (cs : List Control) where
+  -- the statement with a way's number
+  way_is : {X : Type 0} (f : Option Stmt → X) (w : Way) → Own b cs w → f (slice_index_or (map (stated b) cs) w.statement None) ≡ f (statement_at b (first_place (numbered_at cs w.statement)))
+  way_is f w o =
+      let c : Control = Todo o.place o.statement ∷ o.after in
+      ap f (read_map (stated b) cs w.statement c None o.stands)
+      ∙ ap (λ (d : Control). f (statement_at b (first_place d))) (sym (read cs w.statement c [] o.stands))
+
+  pub line_is : (bs : List Bool) (w : Way) → (w.statement < length cs → is_end_at bs w.statement ≡ true) → Own b cs w → offer_line_at (texts_of (map (stated b) cs) bs) w.statement ≡ line_by (statement_at b (first_place (numbered_at cs w.statement)))
+  line_is bs w h o =
+      lines_read (map (stated b) cs) 0 bs w.statement (h (within cs w.statement (Todo o.place o.statement ∷ o.after) o.stands))
+      ∙ ap (λ i. line_by (slice_index_or (map (stated b) cs) i None)) (zero_plus w.statement)
+      ∙ way_is line_by w o
+
   pub text_is : (bs : List Bool) (w : Way) → (w.statement < length cs → is_end_at bs w.statement ≡ true) → Own b cs w → text_at (texts_of (map (stated b) cs) bs) w.statement ≡ text_by (statement_at b (first_place (numbered_at cs w.statement)))
   text_is bs w h o =
-      let c : Control = Todo o.place o.statement ∷ o.after in
       part_is (texts_from (map (stated b) cs) 0 bs) w.statement
-      ∙ texts_read (map (stated b) cs) 0 bs w.statement (h (within cs w.statement c o.stands))
+      ∙ texts_read (map (stated b) cs) 0 bs w.statement (h (within cs w.statement (Todo o.place o.statement ∷ o.after) o.stands))
       ∙ ap (λ i. text_by (slice_index_or (map (stated b) cs) i None)) (zero_plus w.statement)
-      ∙ ap text_by (read_map (stated b) cs w.statement c None o.stands)
-      ∙ ap (λ (d : Control). text_by (statement_at b (first_place d))) (sym (read cs w.statement c [] o.stands))
+      ∙ way_is text_by w o

@@ -28,24 +28,37 @@ action (Atomic s) ts = joined ts
 action (DStep s) ts = codes "d_step"
 action (Unless s e) ts = joined ts
 
+-- the line of an offered statement, in its text and by itself
+abbrev pub offer_line : Stmt → ℕ
+offer_line s = first_line s.tokens 0
+
 -- `line L [TEXT]`
 abbrev pub offer_text : Stmt → List ℕ
-offer_text s = codes "line " ++ (decimal (first_line s.tokens 0) ++ (codes " [" ++ (action s.basic s.tokens ++ codes "]")))
+offer_text s = codes "line " ++ (decimal (offer_line s) ++ (codes " [" ++ (action s.basic s.tokens ++ codes "]")))
 
 abbrev pub text_by : Option Stmt → List ℕ
 text_by None = []
 text_by (Some s) = offer_text s
 
+abbrev pub line_by : Option Stmt → ℕ
+line_by None = 0
+line_by (Some s) = offer_line s
+
 -- ---- those of a graph
 
--- Texts one behind another, and where each ends
+-- Texts one behind another, where each ends, and the line of each
 pub record Texts : Type 0 where
   pub bytes : List ℕ
   pub bounds : List ℕ
+  pub lines : List ℕ
 
 -- the text of a statement's number
 abbrev pub text_at : Texts → ℕ → List ℕ
 text_at t n = part t.bytes t.bounds n
+
+-- its line
+abbrev pub offer_line_at : Texts → ℕ → ℕ
+offer_line_at t n = slice_index_or t.lines n 0
 
 abbrev pub text_if : Bool → Option Stmt → List ℕ
 text_if true o = text_by o
@@ -56,5 +69,10 @@ abbrev pub texts_from : List (Option Stmt) → ℕ → List Bool → List (List 
 texts_from ds k [] = []
 texts_from ds k (f ∷ fs) = text_if f (slice_index_or ds k None) ∷ texts_from ds (k + 1) fs
 
+-- the lines of as many numbers from k on
+abbrev pub offer_lines_from : List (Option Stmt) → ℕ → List Bool → List ℕ
+offer_lines_from ds k [] = []
+offer_lines_from ds k (f ∷ fs) = line_by (slice_index_or ds k None) ∷ offer_lines_from ds (k + 1) fs
+
 abbrev pub texts_of : List (Option Stmt) → List Bool → Texts
-texts_of ds fs = record { bytes = all_of (texts_from ds 0 fs); bounds = bounds_from 0 (texts_from ds 0 fs) }
+texts_of ds fs = record { bytes = all_of (texts_from ds 0 fs); bounds = bounds_from 0 (texts_from ds 0 fs); lines = offer_lines_from ds 0 fs }

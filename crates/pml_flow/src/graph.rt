@@ -5,7 +5,7 @@ ghost use Rattle.std.specs.Option.{option_copied};
 ghost use Rattle.pml_control.specs.Control.{SettlesEverywhere};
 ghost use Rattle.pml_control.specs.Plan.{IsPlan};
 ghost use Rattle.pml_flow.specs.Parts.{all_of, bounds_from};
-ghost use Rattle.pml_flow.specs.Texts.{text_at};
+ghost use Rattle.pml_flow.specs.Texts.{text_at, offer_line_at};
 ghost use Rattle.pml_flow.specs.Only.{only_spans};
 ghost use Rattle.pml_flow.specs.Flow.{kept, ranks_from, rank, node_by, targets, end_by, end_of, same_number, site_of, entry_by, edge, edges_level, all_edges, levels_by, all_levels, node_of, node_at, levels_of, atomic_in, is_end_at, mark_edges, IsGraph};
 
@@ -181,6 +181,13 @@ impl Graph {
         ensures { result.now ≡ text_at self.now.texts statement }
     {
         self.texts.get(statement)
+    }
+
+    /// The line in this text.
+    pub fn offer_line(&self, statement: usize) -> u32
+        ensures { result ≡ offer_line_at self.now.texts statement }
+    {
+        self.texts.line(statement)
     }
 
     /// The line of what stands first at a node: that of its first token, or of the closing brace.

@@ -15,11 +15,12 @@ use pml_program::program::{Basic, Stmt};
 use std::alloc::{AllocError, Global};
 use std::marker::Model;
 
-/// The texts of statements, one behind another.
+/// The texts of statements, one behind another, and their lines.
 #[derive(Drop)]
 pub struct Texts {
     bytes: Vec<u8>,
     bounds: Vec<usize>,
+    lines: Vec<u32>,
 }
 
 impl Model for Texts {
@@ -27,7 +28,7 @@ impl Model for Texts {
 
     ghost Value = { Texts };
 
-    ghost view = { λ t. record { bytes = t.bytes.items; bounds = t.bounds.items } };
+    ghost view = { λ t. record { bytes = t.bytes.items; bounds = t.bounds.items; lines = t.lines.items } };
 }
 
 impl Texts {
@@ -36,6 +37,16 @@ impl Texts {
         ensures { result.now ≡ texts.text_at self.now statement }
     {
         part(self.bytes.as_slice(), self.bounds.as_slice(), statement)
+    }
+
+    /// The line that this text has.
+    pub fn line(&self, statement: usize) -> u32
+        ensures { result ≡ texts.offer_line_at self.now statement }
+    {
+        match self.lines.get(statement) {
+            Some(line) => *line,
+            None => 0,
+        }
     }
 }
 
@@ -84,15 +95,30 @@ pub fn add_action(
     }
 }
 
+/// The line of an offered statement.
+fn offer_line(stmt: &Stmt<'_>) -> u32
+    ensures { result ≡ texts.offer_line stmt.now }
+{
+    first_line(stmt.tokens.as_slice(), 0)
+}
+
+fn line_by(stmt: Option<&Stmt<'_>>) -> u32
+    ensures { result ≡ texts.line_by (option_copied stmt.entry) }
+{
+    match stmt {
+        Some(stmt) => offer_line(stmt),
+        None => 0,
+    }
+}
+
 /// Appends `line L [TEXT]`.
 fn add_offer(text: &mut Vec<u8>, stmt: &Stmt<'_>) -> Result<(), AllocError>
     ensures { OnOk result (text.new.items ≡ text.old.items ++ texts.offer_text stmt.now) }
 {
-    let tokens = stmt.tokens.as_slice();
     text.extend_from_slice(b"line ")?;
-    add_number(text, first_line(tokens, 0))?;
+    add_number(text, offer_line(stmt))?;
     text.extend_from_slice(b" [")?;
-    add_action(text, &stmt.basic, tokens)?;
+    add_action(text, &stmt.basic, stmt.tokens.as_slice())?;
     text.extend_from_slice(b"]")
 }
 
@@ -111,7 +137,7 @@ fn add_if(is_offered: bool, text: &mut Vec<u8>, stmt: Option<&Stmt<'_>>) -> Resu
     }
 }
 
-/// The texts of the statements that are offered, each composed once.
+/// The texts of the statements that are offered, each composed once, and the lines of all.
 pub fn all_texts(
     alloc: Global,
     statements: &Statements<'_, '_>,
@@ -121,9 +147,15 @@ pub fn all_texts(
 {
     let mut bytes = Vec::new(alloc);
     let mut bounds = Vec::new(alloc);
+    let mut lines = Vec::new(alloc);
     for (number, is_offered) in offered.iter().enumerate() {
         add_if(*is_offered, &mut bytes, statements.get(number))?;
         bounds.push(bytes.len())?;
+        lines.push(line_by(statements.get(number)))?;
     }
-    Ok(Texts { bytes, bounds })
+    Ok(Texts {
+        bytes,
+        bounds,
+        lines,
+    })
 }

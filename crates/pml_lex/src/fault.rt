@@ -20,10 +20,6 @@ pub enum LexFault {
     /// that of the first one.
     #[error("line {0}: left out")]
     LeftOut(u32),
-    /// More than 100 of `( [ { if do` are open, or more than 1,000 tokens stand in a row without one of
-    /// `; :: { } if fi do od`. The line is that of the token that passes the limit.
-    #[error("line {0}: too deep")]
-    TooDeep(u32),
 }
 
 impl From<AllocError> for LexFault {

@@ -15,7 +15,7 @@ ghost use Rattle.pml_lex.specs.Cut.{AreTokens, IsLeast, IsUncut, IsDivided};
 ghost use Rattle.profile.specs.declared.TheConstants.{MOST_TEXT_BYTES};
 
 use fault::LexFault;
-use limits::{first_left_out, first_too_deep};
+use limits::first_left_out;
 use piece::{Piece, is_blank, next};
 use profile::MOST_TEXT_BYTES;
 use std::alloc::Global;
@@ -102,9 +102,6 @@ pub fn cut<'t>(alloc: Global, text: &'t [u8]) -> Result<Vec<Token<'t>>, LexFault
     let tokens = divide(alloc, text)?;
     if let Some(line) = first_left_out(&tokens) {
         return Err(LexFault::LeftOut(line));
-    }
-    if let Some(line) = first_too_deep(&tokens) {
-        return Err(LexFault::TooDeep(line));
     }
     Ok(tokens)
 }

@@ -17,13 +17,13 @@ const OF_2: [(&[u8], Kind); 7] = [
 
 const OF_3: [(&[u8], Kind); 8] = [
     (b"bit", Kind::Bit),
+    (b"for", Kind::For),
     (b"int", Kind::Int),
     (b"len", Kind::Len),
     (b"pid", Kind::Pid),
     (b"run", Kind::Run),
     (b"ltl", Kind::LeftOut),
     (b"np_", Kind::LeftOut),
-    (b"for", Kind::LeftOut),
 ];
 
 const OF_4: [(&[u8], Kind); 11] = [
@@ -60,16 +60,16 @@ const OF_6: [(&[u8], Kind); 15] = [
     (b"atomic", Kind::Atomic),
     (b"d_step", Kind::DStep),
     (b"hidden", Kind::Hidden),
+    (b"inline", Kind::Inline),
     (b"nempty", Kind::Nempty),
     (b"printf", Kind::Printf),
     (b"printm", Kind::Printm),
+    (b"select", Kind::Select),
     (b"unless", Kind::Unless),
     (b"return", Kind::LeftOut),
     (b"c_code", Kind::LeftOut),
     (b"c_decl", Kind::LeftOut),
     (b"c_expr", Kind::LeftOut),
-    (b"inline", Kind::LeftOut),
-    (b"select", Kind::LeftOut),
 ];
 
 const OF_7: [(&[u8], Kind); 6] = [

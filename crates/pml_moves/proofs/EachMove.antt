@@ -50,7 +50,7 @@ module _ (P : Move → Type 0) where
     pairs_each t k is (Some m) = each_each (pairs_with s t k m) (λ j y. pairs_with_each t k is m j y) 0 s.stands
 
     plain_each : (t : Bool) (b : Seq) (l i : ℕ) (o : Offer) → Each P (if is_else o.basic then [] else moves_by s p t b l i o)
-    plain_each t b l i o = by (is_else o.basic) (can_alone s.channels (reads s p t) b o o.basic)
+    plain_each t b l i o = by (is_else o.basic) (can_alone s.lossy s.channels (reads s p t) b o o.basic)
       where
         by : (other can : Bool) → Each P (if other then [] else (if can then Alone (pick p l i) t ∷ [] else pairs s t (pick p l i) (message s.channels (reads s p t) o.basic)))
         by true can = tt

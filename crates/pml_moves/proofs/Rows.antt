@@ -112,6 +112,11 @@ full : moves (state (only (sends 0 (pos 7)) ∷ []) (channel 1 ((pos 1 ∷ []) �
 unfolding settle roll-Seq roll hidden shape-the_row-Stmt-1 hidden-the_row-Stmt-1 shape-the_row-Seq-0 hidden-the_row-Seq-0
 full = rw (global_is, global_is, number_is, number_is) refl
 
+-- where it is lossy, the message to a full channel is lost, and to send it is a move
+lossy_full : moves (record (state (only (sends 0 (pos 7)) ∷ []) (channel 1 ((pos 1 ∷ []) ∷ []) ∷ [])) { lossy = true }) ≡ Alone (pick 0 0 0) false ∷ []
+unfolding settle roll-Seq roll hidden shape-the_row-Stmt-1 hidden-the_row-Stmt-1 shape-the_row-Seq-0 hidden-the_row-Seq-0
+lossy_full = rw global_is refl
+
 empty : moves (state (only (receives 0 First (pos 7)) ∷ []) (channel 1 [] ∷ [])) ≡ []
 unfolding settle roll-Seq roll hidden shape-the_row-Stmt-1 hidden-the_row-Stmt-1 shape-the_row-Seq-0 hidden-the_row-Seq-0
 empty = rw (global_is, global_is) refl

@@ -91,6 +91,7 @@ state bs cs = record {
   stands = standing 0 bs;
   channels = cs;
   holder = None;
+  lossy = false;
 }
 
 abbrev pub held_by : ℕ → State → State

@@ -42,10 +42,10 @@ is_rendezvous c = nat_eq c.capacity 0
 -- ---- whether a statement can be taken by itself; a fault says that its condition has no value
 
 -- A rendezvous is no move by itself, unless its fields have no value; in a d_step they are not asked. Any other send: the channel
--- is not full.
-abbrev pub can_send : Bool → ChannelState → Result (List ℤ) Fault → Result Bool Fault
-can_send in_d_step c fields =
-    if is_rendezvous c then (if in_d_step then Ok false else (fields >>= λ vs. Ok false)) else Ok (nat_lt (length c.messages) c.capacity)
+-- is not full, or the first argument says that the message is lost there.
+abbrev pub can_send : Bool → Bool → ChannelState → Result (List ℤ) Fault → Result Bool Fault
+can_send lossy in_d_step c fields =
+    if is_rendezvous c then (if in_d_step then Ok false else (fields >>= λ vs. Ok false)) else Ok (lossy || nat_lt (length c.messages) c.capacity)
 
 abbrev pub nonzero : Result ℤ Fault → Result Bool Fault
 nonzero v = v >>= λ n. Ok (not (is_zero n))
@@ -55,18 +55,18 @@ abbrev pub can_receive : Search → ChannelState → Result (List Sought) Fault 
 can_receive search c wants =
     if is_rendezvous c || nat_eq (length c.messages) 0 then Ok false else (wants >>= λ ws. Ok (is_match search ws c.messages))
 
-abbrev pub ready : List LiveChannel → Reading → Bool → Action → Result Bool Fault
-ready cs r in_d_step (a.Holds e) = nonzero (val e r)
-ready cs r in_d_step (a.Run q) = Ok (int_lt r.process_count (pos MOST_PROCESSES))
-ready cs r in_d_step (a.Send t order es) = named cs r t (length es) >>= λ c. can_send in_d_step c.contents (values es r)
-ready cs r in_d_step (a.Receive t search _ ws) =
+abbrev pub ready : Bool → List LiveChannel → Reading → Bool → Action → Result Bool Fault
+ready lossy cs r in_d_step (a.Holds e) = nonzero (val e r)
+ready lossy cs r in_d_step (a.Run q) = Ok (int_lt r.process_count (pos MOST_PROCESSES))
+ready lossy cs r in_d_step (a.Send t order es) = named cs r t (length es) >>= λ c. can_send lossy in_d_step c.contents (values es r)
+ready lossy cs r in_d_step (a.Receive t search _ ws) =
     named cs r t (length ws) >>= λ c. can_receive search c.contents (asked_by ws r)
-ready cs r in_d_step x = Ok true
+ready lossy cs r in_d_step x = Ok true
 
 -- to take what has no value is the fault
 abbrev pub or_fault : Result Bool Fault → Bool
 or_fault (Ok b) = b
 or_fault (Err f) = true
 
-abbrev pub can : List LiveChannel → Reading → Bool → Action → Bool
-can cs r in_d_step x = or_fault (ready cs r in_d_step x)
+abbrev pub can : Bool → List LiveChannel → Reading → Bool → Action → Bool
+can lossy cs r in_d_step x = or_fault (ready lossy cs r in_d_step x)

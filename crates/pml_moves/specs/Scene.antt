@@ -32,6 +32,7 @@ state_of c = record {
   stands = map (stand_of c.program.now) c.seats.now;
   channels = c.channels.now;
   holder = c.holder;
+  lossy = c.lossy;
 }
 
 -- the statements of a body by the numbers of its places

@@ -50,20 +50,20 @@ is_else (Some (Plain a.Else)) = true
 is_else x = false
 
 -- whether a statement can be taken inside a d_step
-abbrev pub can_inside : List LiveChannel → Reading → Option Basic → Bool
-can_inside cs r (Some (Plain x)) = can cs r true x
-can_inside cs r x = true
+abbrev pub can_inside : Bool → List LiveChannel → Reading → Option Basic → Bool
+can_inside lossy cs r (Some (Plain x)) = can lossy cs r true x
+can_inside lossy cs r x = true
 
-abbrev pub is_choice : List LiveChannel → Reading → Offer → Bool
-is_choice cs r o = not (is_else o.basic) && can_inside cs r o.basic
+abbrev pub is_choice : Bool → List LiveChannel → Reading → Offer → Bool
+is_choice lossy cs r o = not (is_else o.basic) && can_inside lossy cs r o.basic
 
 abbrev pub is_other : Offer → Bool
 is_other o = is_else o.basic
 
 -- What can be taken at a point inside a d_step, where there is one level: an `else` only where nothing else can. The first is taken.
-abbrev pub choices : List LiveChannel → Reading → List (List Offer) → List Offer
-choices cs r [] = []
-choices cs r (os ∷ ls) = or_else (filter (is_choice cs r) os) (filter is_other os)
+abbrev pub choices : Bool → List LiveChannel → Reading → List (List Offer) → List Offer
+choices lossy cs r [] = []
+choices lossy cs r (os ∷ ls) = or_else (filter (is_choice lossy cs r) os) (filter is_other os)
 
 abbrev pub first : {A : Type 0} → List A → Option A
 first [] = None
@@ -72,10 +72,10 @@ first (x ∷ xs) = Some x
 -- ---- an offer by itself
 
 -- a d_step can be taken where its first point has a move; a goto and a break can
-abbrev pub can_alone : List LiveChannel → Reading → Seq → Offer → Option Basic → Bool
-can_alone cs r b o (Some (Plain x)) = can cs r false x
-can_alone cs r b o (Some (DStep d)) = is_some (choices cs r (levels_from b o.entry))
-can_alone cs r b o x = true
+abbrev pub can_alone : Bool → List LiveChannel → Reading → Seq → Offer → Option Basic → Bool
+can_alone lossy cs r b o (Some (Plain x)) = can lossy cs r false x
+can_alone lossy cs r b o (Some (DStep d)) = is_some (choices lossy cs r (levels_from b o.entry))
+can_alone lossy cs r b o x = true
 
 -- ---- the rendezvous
 
@@ -133,7 +133,7 @@ pairs s t k (Some m) = each (pairs_with s t k m) 0 s.stands
 -- those of an offer that is no `else`
 abbrev pub moves_by : State → ℕ → Bool → Seq → ℕ → ℕ → Offer → List Move
 moves_by s p t b l i o =
-    if can_alone s.channels (reads s p t) b o o.basic then Alone (pick p l i) t ∷ []
+    if can_alone s.lossy s.channels (reads s p t) b o o.basic then Alone (pick p l i) t ∷ []
     else pairs s t (pick p l i) (message s.channels (reads s p t) o.basic)
 
 abbrev pub plain_moves : State → ℕ → Bool → Seq → ℕ → List Offer → List Move

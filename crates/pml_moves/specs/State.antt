@@ -16,13 +16,14 @@ pub record Stand : Type 0 where
   pub control : Control
 
 -- A state. The frames are what the variables hold, the globals' first, then those of each process; the oldest process is first, and
--- so is the oldest channel. The holder has exclusive control.
+-- so is the oldest channel. The holder has exclusive control. Where it is lossy, what is sent to a full channel is lost.
 pub record State : Type 0 where
   pub program : Program
   pub frames : List Frame
   pub stands : List Stand
   pub channels : List LiveChannel
   pub holder : Option ℕ
+  pub lossy : Bool
 
 -- what an expression of a process reads, under this `timeout`
 abbrev pub reads : State → ℕ → Bool → Reading

@@ -64,11 +64,17 @@ fn holds(view: &View<'_>, value: &Expr) -> bool
 }
 
 /// Whether a send can be taken by itself.
-fn can_send(view: &View<'_>, in_d_step: bool, channel: &Channel, fields: &[Expr]) -> bool
-    ensures { result ≡ or_fault (sends in_d_step channel.now (values fields.now (seen view.now))) }
+fn can_send(
+    view: &View<'_>,
+    lossy: bool,
+    in_d_step: bool,
+    channel: &Channel,
+    fields: &[Expr],
+) -> bool
+    ensures { result ≡ or_fault (sends lossy in_d_step channel.now (values fields.now (seen view.now))) }
 {
     if channel.capacity() != 0 {
-        return channel.len() < usize::from(channel.capacity());
+        return lossy || channel.len() < usize::from(channel.capacity());
     }
     !in_d_step && first_fault_of(fields, view).is_err()
 }
@@ -95,11 +101,17 @@ fn can_receive(
 
 /// Whether a send to a channel can be taken by itself.
 #[inline(never)]
-fn can_send_to(view: &View<'_>, in_d_step: bool, target: &Target, fields: &[Expr]) -> bool
-    ensures { (order : SendOrder) → result ≡ can view.now.channels.now (seen view.now) in_d_step (Send target.now order fields.now) }
+fn can_send_to(
+    view: &View<'_>,
+    lossy: bool,
+    in_d_step: bool,
+    target: &Target,
+    fields: &[Expr],
+) -> bool
+    ensures { (order : SendOrder) → result ≡ can lossy view.now.channels.now (seen view.now) in_d_step (Send target.now order fields.now) }
 {
     match named(view, target, fields.len()) {
-        Ok((_, channel)) => can_send(view, in_d_step, channel, fields),
+        Ok((_, channel)) => can_send(view, lossy, in_d_step, channel, fields),
         Err(_) => true,
     }
 }
@@ -108,7 +120,7 @@ fn can_send_to(view: &View<'_>, in_d_step: bool, target: &Target, fields: &[Expr
 #[inline(never)]
 #[tactic(auto, using(crate::proofs::Naming::named_at))]
 fn can_receive_from(view: &View<'_>, search: Search, target: &Target, arguments: &[Want]) -> bool
-    ensures { (in_d_step : Bool) (removal : Removal) → result ≡ can view.now.channels.now (seen view.now) in_d_step (Receive target.now search removal arguments.now) }
+    ensures { (lossy in_d_step : Bool) (removal : Removal) → result ≡ can lossy view.now.channels.now (seen view.now) in_d_step (Receive target.now search removal arguments.now) }
 {
     match named(view, target, arguments.len()) {
         Ok((number, channel)) => can_receive(view, search, number, channel, arguments),
@@ -116,15 +128,15 @@ fn can_receive_from(view: &View<'_>, search: Search, target: &Target, arguments:
     }
 }
 
-/// Whether a statement can be taken by itself, inside a d_step or not. What has no value can: to take it is the fault.
-pub fn can_be_taken(view: &View<'_>, in_d_step: bool, action: &Action<'_>) -> bool
-    ensures { result ≡ can view.now.channels.now (seen view.now) in_d_step action.now }
+/// Whether a statement can be taken by itself, where messages to full channels are lost or not, inside a d_step or not. What has no value can: to take it is the fault.
+pub fn can_be_taken(view: &View<'_>, lossy: bool, in_d_step: bool, action: &Action<'_>) -> bool
+    ensures { result ≡ can lossy view.now.channels.now (seen view.now) in_d_step action.now }
 {
     match action {
         Action::Holds(value) => holds(view, value),
         Action::Run(_) => usize::from(view.process_count) < MOST_PROCESSES,
         Action::Send(target, _, fields) => {
-            can_send_to(view, in_d_step, target, fields.as_slice())
+            can_send_to(view, lossy, in_d_step, target, fields.as_slice())
         }
         Action::Receive(target, search, _, arguments) => {
             can_receive_from(view, *search, target, arguments.as_slice())

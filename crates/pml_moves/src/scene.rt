@@ -33,6 +33,8 @@ pub struct Scene<'w, 'p, 'a> {
     pub seats: &'w [Seat],
     pub channels: &'w [LiveChannel],
     pub holder: Option<usize>,
+    /// Whether what is sent to a full channel is lost.
+    pub lossy: bool,
 }
 
 /// A proctype, its graph, and its statements by number.

@@ -3,7 +3,7 @@
 
 #![tactic(auto, using(crate::proofs::Keeping::kept_on, crate::proofs::Keeping::kept_same, crate::proofs::Keeping::kept_push))]
 
-ghost use Rattle.std.specs.Prelude.{◌≡◌, ◌++◌, ◌<◌, true, false, List, [], if◌then◌else◌, OnOk, Some, length, map, option_map, slice_get, slice_index_or};
+ghost use Rattle.std.specs.Prelude.{◌≡◌, ◌++◌, ◌<◌, Bool, true, false, List, [], if◌then◌else◌, OnOk, Some, length, map, option_map, slice_get, slice_index_or};
 ghost use Rattle.std.specs.List.{filter};
 ghost use Rattle.std.specs.Option.{option_copied};
 ghost use Rattle.pml_program.specs.declared.program.Seq.{Seq as Sequence};
@@ -39,23 +39,28 @@ fn is_else(basic: Option<&Basic<'_>>) -> bool
 // ---- inside a d_step
 
 /// Whether a statement inside a d_step can be taken.
-fn is_taken(view: &View<'_>, basic: Option<&Basic<'_>>) -> bool
-    ensures { result ≡ can_inside view.now.channels.now (seen view.now) (option_copied basic.entry) }
+fn is_taken(view: &View<'_>, lossy: bool, basic: Option<&Basic<'_>>) -> bool
+    ensures { result ≡ can_inside lossy view.now.channels.now (seen view.now) (option_copied basic.entry) }
 {
     match basic {
-        Some(Basic::Plain(action)) => can_be_taken(view, true, action),
+        Some(Basic::Plain(action)) => can_be_taken(view, lossy, true, action),
         _ => true,
     }
 }
 
 /// The first offer of a level inside a d_step that is no `else` and can be taken.
-fn first_plain(view: &View<'_>, body: &Body<'_, '_, '_>, edges: &[Edge]) -> Option<Edge>
+fn first_plain(
+    view: &View<'_>,
+    lossy: bool,
+    body: &Body<'_, '_, '_>,
+    edges: &[Edge],
+) -> Option<Edge>
     requires { IsBody body.now }
-    ensures { option_map (shows body.now) result ≡ first (filter (is_choice view.now.channels.now (seen view.now)) (map (shows body.now) edges.now)) }
+    ensures { option_map (shows body.now) result ≡ first (filter (is_choice lossy view.now.channels.now (seen view.now)) (map (shows body.now) edges.now)) }
 {
     for edge in edges {
         let basic = body.basic(*edge);
-        if !is_else(basic) && is_taken(view, basic) {
+        if !is_else(basic) && is_taken(view, lossy, basic) {
             return Some(*edge);
         }
     }
@@ -88,15 +93,15 @@ fn first_level<'p>(body: &Body<'_, 'p, '_>, node: usize) -> &'p [Edge]
 }
 
 /// The offer that is taken at a node inside a d_step, if one can be.
-pub fn choice(view: &View<'_>, body: &Body<'_, '_, '_>, node: usize) -> Option<Edge>
+pub fn choice(view: &View<'_>, lossy: bool, body: &Body<'_, '_, '_>, node: usize) -> Option<Edge>
     requires { IsBody body.now }
-    ensures { option_map (shows body.now) result ≡ first (choices view.now.channels.now (seen view.now) (map (map (shows body.now)) (edges_at body.now node))) }
+    ensures { option_map (shows body.now) result ≡ first (choices lossy view.now.channels.now (seen view.now) (map (map (shows body.now)) (edges_at body.now node))) }
 {
     if !body.has_node(node) {
         return None;
     }
     let edges = first_level(body, node);
-    match first_plain(view, body, edges) {
+    match first_plain(view, lossy, body, edges) {
         Some(edge) => Some(edge),
         None => first_else(body, edges),
     }
@@ -105,20 +110,20 @@ pub fn choice(view: &View<'_>, body: &Body<'_, '_, '_>, node: usize) -> Option<E
 // ---- an offer by itself
 
 /// Whether something can be taken at a node inside a d_step.
-fn has_choice(view: &View<'_>, body: &Body<'_, '_, '_>, node: usize) -> bool
+fn has_choice(view: &View<'_>, lossy: bool, body: &Body<'_, '_, '_>, node: usize) -> bool
     requires { IsBody body.now }
-    ensures { result ≡ is_some (choices view.now.channels.now (seen view.now) (map (map (shows body.now)) (edges_at body.now node))) }
+    ensures { result ≡ is_some (choices lossy view.now.channels.now (seen view.now) (map (map (shows body.now)) (edges_at body.now node))) }
 {
-    choice(view, body, node).is_some()
+    choice(view, lossy, body, node).is_some()
 }
 
 /// Whether something can be taken at the first node inside a d_step.
-fn can_begin(view: &View<'_>, body: &Body<'_, '_, '_>, entry: Option<usize>) -> bool
+fn can_begin(view: &View<'_>, lossy: bool, body: &Body<'_, '_, '_>, entry: Option<usize>) -> bool
     requires { IsBody body.now }
-    ensures { result ≡ is_some (choices view.now.channels.now (seen view.now) (levels_from body.now.proctype.now.body (maybe (point_at body.now.proctype.now.body) entry))) }
+    ensures { result ≡ is_some (choices lossy view.now.channels.now (seen view.now) (levels_from body.now.proctype.now.body (maybe (point_at body.now.proctype.now.body) entry))) }
 {
     match entry {
-        Some(node) => has_choice(view, body, node),
+        Some(node) => has_choice(view, lossy, body, node),
         None => false,
     }
 }
@@ -126,17 +131,18 @@ fn can_begin(view: &View<'_>, body: &Body<'_, '_, '_>, entry: Option<usize>) -> 
 /// Whether an offer is a move by itself.
 fn can_be_alone(
     view: &View<'_>,
+    lossy: bool,
     body: &Body<'_, '_, '_>,
     edge: Edge,
     basic: Option<&Basic<'_>>,
 ) -> bool
     requires body { IsBody body.now }
     requires basic { option_copied basic ≡ (shows body.now edge).basic }
-    ensures { result ≡ can_alone view.now.channels.now (seen view.now) body.now.proctype.now.body (shows body.now edge) (shows body.now edge).basic }
+    ensures { result ≡ can_alone lossy view.now.channels.now (seen view.now) body.now.proctype.now.body (shows body.now edge) (shows body.now edge).basic }
 {
     match basic {
-        Some(Basic::Plain(action)) => can_be_taken(view, false, action),
-        Some(Basic::DStep(_)) => can_begin(view, body, edge.entry),
+        Some(Basic::Plain(action)) => can_be_taken(view, lossy, false, action),
+        Some(Basic::DStep(_)) => can_begin(view, lossy, body, edge.entry),
         _ => true,
     }
 }
@@ -328,7 +334,7 @@ fn add_pairs(
 /// Whether a statement can be taken whatever the state, by itself: it is no `else`, and asks for nothing.
 fn needs_nothing(basic: Option<&Basic<'_>>) -> bool
     ensures plain { result ≡ true → else_of (option_copied basic.entry) ≡ false }
-    ensures alone { (cs : List LiveChannel) (r : Reading) (b : Sequence) (o : Offer) → result ≡ true → can_alone cs r b o (option_copied basic.entry) ≡ true }
+    ensures alone { (lossy : Bool) (cs : List LiveChannel) (r : Reading) (b : Sequence) (o : Offer) → result ≡ true → can_alone lossy cs r b o (option_copied basic.entry) ≡ true }
 {
     match basic {
         Some(Basic::Plain(action)) => match action {
@@ -389,7 +395,7 @@ fn add_asked(
     ensures kept { Extends moves.new.items moves.old.items }
 {
     let view = view(scene, offer.process, timeout);
-    if can_be_alone(&view, body, edge, basic) {
+    if can_be_alone(&view, scene.lossy, body, edge, basic) {
         moves.push(Move::Alone(offer, timeout))?;
         return Ok(());
     }

@@ -1,5 +1,5 @@
 -- Each text is refused, or stands for a model.
-use Rattle.std.proofs.Common.{◌≡◌, ◌⊎◌, inl, inr, ℕ, zero, suc, ◌<◌, ◌≤◌, Bool, true, false, List, [], length, take, drop, Some, None, Result, Ok, Err, refl, subst, arith, length-drop}
+use Rattle.std.proofs.Common.{◌≡◌, ◌⊎◌, inl, inr, ℕ, zero, suc, ◌<◌, ◌≤◌, Bool, true, false, List, [], length, take, drop, Option, Some, None, Result, Ok, Err, refl, sym, ◌∙◌, subst, arith, length-drop}
 use Rattle.std.proofs.lemmas.Bool.{cases_eq, cases_lt}
 use Rattle.profile.specs.declared.TheConstants.{MOST_IN_A_ROW, MOST_OPEN, MOST_TEXT_BYTES}
 use Rattle.diagnostics.specs.declared.refusal.Refusal.{Refusal}
@@ -13,6 +13,7 @@ use Rattle.pml_lex.specs.Scanning.{Found, next}
 use Rattle.pml_lex.specs.Division.{IsCut}
 use Rattle.pml_lex.specs.Limits.{has_left_out, depth_behind, row_behind, IsPast, IsTooDeep}
 use Rattle.pml_lex.specs.Cut.{IsLine, AreTokens}
+use Rattle.pml_inline.specs.Expansion.{expansion, Expands}
 use Rattle.pml_lex.proofs.Longest.{IsNext}
 use Rattle.pml_lex.proofs.Scan.{next_is}
 use Rattle.pml_lex.proofs.Steps.{Reached, reached_start, reached_more, reached_end, reached_none}
@@ -27,7 +28,8 @@ use Rattle.pml_check.specs.Judged.{FitsTo, HasGoodStart, IsFit, IsLeast}
 use Rattle.pml_check.proofs.Standing.{fitted}
 use Rattle.pml_check.proofs.Deciding.{judge}
 use Rattle.pml_sim.specs.World.{first, rules}
-use Rattle.pml_play.specs.Transcript.{IsSpelled, IsRefused, too_long, lexical, left_out, too_deep, unspelled, unfit, IsTranscript, of_refusal, of_model}
+use Rattle.pml_play.specs.Transcript.{AreExpanded, IsSpelled, IsRefused, too_long, lexical, left_out, inline, too_deep, unspelled, unfit, IsTranscript, of_refusal, of_model}
+use Rattle.session.specs.declared.form.Stream.TheVariants.{Unread}
 
 -- ---- the tokens
 
@@ -101,13 +103,9 @@ Refusals text = (x : Refusal) × (line : ℕ) × IsRefused text x line
 tokens_or : (text : List ℕ) → ((ts : List Word) × AreTokens text ts) ⊎ Refusals text
 tokens_or text = by_length (cases_lt MOST_TEXT_BYTES (length text))
   where
-    by_depth : length text ≤ MOST_TEXT_BYTES → (ts : List Word) → IsCut text ts → has_left_out ts ≡ false → IsTooDeep ts ⊎ (IsTooDeep ts → ⊥) → ((us : List Word) × AreTokens text us) ⊎ Refusals text
-    by_depth short ts cut served (inl deep) = inr (r.TooDeep, 1, too_deep (record { short = short; tokens = ts; are_cut = cut; all_served = served; deep = deep; on_line = first_line text }))
-    by_depth short ts cut served (inr shallow) = inl (ts, record { short = short; are_cut = cut; all_served = served; shallow = shallow })
-
     by_words : length text ≤ MOST_TEXT_BYTES → (ts : List Word) → IsCut text ts → (b : Bool) → has_left_out ts ≡ b → ((us : List Word) × AreTokens text us) ⊎ Refusals text
     by_words short ts cut true e = inr (r.LeftOut, 1, left_out (record { short = short; tokens = ts; are_cut = cut; left_out = e; on_line = first_line text }))
-    by_words short ts cut false e = by_depth short ts cut e (deep_or_not ts)
+    by_words short ts cut false e = inl (ts, record { short = short; are_cut = cut; all_served = e })
 
     by_cut : length text ≤ MOST_TEXT_BYTES → ((ts : List Word) × IsCut text ts) ⊎ IsUncut text → ((us : List Word) × AreTokens text us) ⊎ Refusals text
     by_cut short (inl h) = by_words short h.0 h.1 (has_left_out h.0) refl
@@ -116,6 +114,26 @@ tokens_or text = by_length (cases_lt MOST_TEXT_BYTES (length text))
     by_length : (MOST_TEXT_BYTES < length text) ⊎ (length text ≤ MOST_TEXT_BYTES) → ((us : List Word) × AreTokens text us) ⊎ Refusals text
     by_length (inl long) = inr (r.TextTooLong, 0, too_long long)
     by_length (inr short) = by_cut short (cut_rest (length text) text text [] 1 true (omega arith) (reached_start text))
+
+-- ---- what comes of the tokens
+
+no_result : {us : List Word} → None ≡ Some us → ⊥
+no_result e = cc
+
+expanded_or : (text : List ℕ) → ((us : List Word) × AreExpanded text us) ⊎ Refusals text
+expanded_or text = by_tokens (tokens_or text)
+  where
+    by_depth : (ts : List Word) → AreTokens text ts → (us : List Word) → Expands ts us → IsTooDeep us ⊎ (IsTooDeep us → ⊥) → ((vs : List Word) × AreExpanded text vs) ⊎ Refusals text
+    by_depth ts are us e (inl deep) = inr (r.TooDeep, 1, too_deep (record { tokens = ts; are_tokens = are; deep = record { given = us; expands = e; deep = deep }; on_line = first_line text }))
+    by_depth ts are us e (inr shallow) = inl (us, record { tokens = ts; are_tokens = are; is_expanded = record { expands = e; shallow = shallow } })
+
+    by_result : (ts : List Word) → AreTokens text ts → (o : Option (List Word)) → expansion ts ≡ o → ((vs : List Word) × AreExpanded text vs) ⊎ Refusals text
+    by_result ts are None e = inr (r.Inline, 0, inline (record { tokens = ts; are_tokens = are; none = λ us f. no_result (sym e ∙ f) }))
+    by_result ts are (Some us) e = by_depth ts are us e (deep_or_not us)
+
+    by_tokens : ((ts : List Word) × AreTokens text ts) ⊎ Refusals text → ((vs : List Word) × AreExpanded text vs) ⊎ Refusals text
+    by_tokens (inl h) = by_result h.0 h.1 (expansion h.0) refl
+    by_tokens (inr refusal) = inr refusal
 
 -- ---- the tree
 
@@ -127,15 +145,15 @@ tree_or ts = by_result (reading.model (length ts) ts) refl
     by_result (Err left) e = inr (is_none (length ts) ts ts left refl e (omega arith))
 
 spelled_or : (text : List ℕ) → ((t : Tree) × IsSpelled text t) ⊎ Refusals text
-spelled_or text = by_tokens (tokens_or text)
+spelled_or text = by_expanded (expanded_or text)
   where
-    by_tree : (ts : List Word) → AreTokens text ts → ((t : Tree) × Spells t ts) ⊎ ((t : Tree) → Spells t ts → ⊥) → ((t : Tree) × IsSpelled text t) ⊎ Refusals text
-    by_tree ts are (inl h) = inl (h.0, record { tokens = ts; are_tokens = are; spells = h.1 })
-    by_tree ts are (inr none) = inr (r.Syntax, 1, unspelled (record { tokens = ts; are_tokens = are; none = none; on_line = first_line text }))
+    by_tree : (us : List Word) → AreExpanded text us → ((t : Tree) × Spells t us) ⊎ ((t : Tree) → Spells t us → ⊥) → ((t : Tree) × IsSpelled text t) ⊎ Refusals text
+    by_tree us are (inl h) = inl (h.0, record { expanded = us; are_expanded = are; spells = h.1 })
+    by_tree us are (inr none) = inr (r.Syntax, 1, unspelled (record { expanded = us; are_expanded = are; none = none; on_line = first_line text }))
 
-    by_tokens : ((ts : List Word) × AreTokens text ts) ⊎ Refusals text → ((t : Tree) × IsSpelled text t) ⊎ Refusals text
-    by_tokens (inl h) = by_tree h.0 h.1 (tree_or h.0)
-    by_tokens (inr refusal) = inr refusal
+    by_expanded : ((us : List Word) × AreExpanded text us) ⊎ Refusals text → ((t : Tree) × IsSpelled text t) ⊎ Refusals text
+    by_expanded (inl h) = by_tree h.0 h.1 (tree_or h.0)
+    by_expanded (inr refusal) = inr refusal
 
 -- ---- the session
 
@@ -151,17 +169,17 @@ module _ (text : List ℕ) (options : Options) where
   of_state : (t : Tree) → IsSpelled text t → IsFit t → Has
   of_state t is fits =
       let start = good_start t fits in (
-        transcript rules options (first (numbered_model t) start.0),
+        transcript rules options (first (numbered_model t) start.0 options.lossy),
         of_model (record { tree = t; is_spelled = is; fits = fits; program = numbered_model t; stands = model-stands t; begun = start.0; starts = start.1; is = refl }),
       )
 
   of_judged : (t : Tree) → IsSpelled text t → IsFit t ⊎ ((x : Refusal) × IsLeast t x) → Has
   of_judged t is (inl fits) = of_state t is fits
-  of_judged t is (inr h) = (refused h.0 0 false, of_refusal (unfit (record { tree = t; is_spelled = is; least = h.1 })))
+  of_judged t is (inr h) = (refused h.0 0 Unread, of_refusal (unfit (record { tree = t; is_spelled = is; least = h.1 })))
 
   of_spelled : ((t : Tree) × IsSpelled text t) ⊎ Refusals text → Has
   of_spelled (inl h) = of_judged h.0 h.1 (judge h.0)
-  of_spelled (inr h) = (refused h.0 h.1 false, of_refusal h.2)
+  of_spelled (inr h) = (refused h.0 h.1 Unread, of_refusal h.2)
 
   -- each text has a transcript
   pub has_transcript : Has

@@ -1,3 +1,5 @@
 pub mod Outcomes
 pub mod Playing
 pub mod Each
+pub mod Changing
+pub mod Plain

@@ -1,5 +1,5 @@
 -- From what the parts of playing a text answer to what the whole does.
-use Rattle.std.proofs.Common.{◌≡◌, ℕ, ◌≤◌, List, false, Result, Ok, Err, refl, sym, ap, ◌∙◌, subst, arith}
+use Rattle.std.proofs.Common.{◌≡◌, ℕ, ◌≤◌, Bool, List, Result, Ok, Err, refl, sym, ap, ◌∙◌, subst, arith}
 use Rattle.std.specs.Prelude.{All}
 use Rattle.devices.specs.Holdings.{Holdings}
 use Rattle.diagnostics.specs.declared.fault.Fault.{Fault}
@@ -16,10 +16,14 @@ use Rattle.session.proofs.Parts.{Leads-does, puts, memory_breaks, only_does}
 use Rattle.session.proofs.Turns.{write_breaks}
 use Rattle.pml_lex.specs.Word.{Word}
 use Rattle.pml_lex.specs.Division.{line_behind}
-use Rattle.pml_lex.specs.Limits.{IsOnLine}
+use Rattle.pml_lex.specs.Limits.{IsOnLine, AreOnLines}
 use Rattle.pml_lex.specs.Cut.{AreTokens, IsLeast}
 use Rattle.pml_lex.specs.declared.fault.LexFault.{LexFault}
 use Rattle.pml_lex.specs.declared.fault.LexFault.TheVariants as lex
+use Rattle.pml_inline.specs.declared.fault.InlineFault.{InlineFault}
+use Rattle.pml_inline.specs.declared.fault.InlineFault.TheVariants as inlines
+use Rattle.pml_inline.specs.Expansion.{IsLeast as inline_least, IsFaultOnLine}
+use Rattle.pml_inline.proofs.Keeping.{kept}
 use Rattle.pml_tree.specs.declared.tree.Tree.{Tree}
 use Rattle.pml_syntax.specs.declared.program.SyntaxFault.{SyntaxFault}
 use Rattle.pml_syntax.specs.declared.program.SyntaxFault.TheVariants as syntax
@@ -30,7 +34,6 @@ use Rattle.pml_check.specs.declared.checked.CheckFault.TheVariants as check
 use Rattle.pml_check.specs.Checked.{IsRefused}
 use Rattle.pml_check.specs.Judged.{IsFit}
 use Rattle.pml_program.specs.declared.program.Program.{Program}
-use Rattle.pml_resolve.specs.Model.{numbered_model}
 use Rattle.pml_stands.specs.StandsModel.{StandsModel}
 use Rattle.pml_check.proofs.Standing.{is_numbered}
 use Rattle.diagnostics.specs.declared.stop.Stop.{Stop}
@@ -41,10 +44,11 @@ use Rattle.pml_start.specs.Start.{Starts, first_state}
 use Rattle.pml_play.specs.declared.whole.Rejection.{Rejection}
 use Rattle.pml_play.specs.declared.whole.Rejection.TheVariants.{Memory, Refused}
 use Rattle.pml_sim.specs.World.{Running, first, rules}
-use Rattle.pml_play.specs.Transcript.{IsSpelled, IsModel, too_long, lexical, left_out, too_deep, unspelled, unfit, of_refusal, of_model}
-use Rattle.pml_play.specs.Plays.{IsReady, IsRejected, of_lexical, of_syntax, of_check, Rejects, PlaysText, PlaysWhole}
+use Rattle.pml_play.specs.Transcript.{AreExpanded, IsSpelled, IsModel, too_long, lexical, left_out, inline, too_deep, unspelled, unfit, of_refusal, of_model}
+use Rattle.pml_play.specs.Plays.{IsReady, IsRejected, of_lexical, of_inline, of_syntax, of_check, Rejects, PlaysText, PlaysWhole}
 use Rattle.pml_lex.proofs.Lines.{token_lines}
 use Rattle.pml_play.proofs.Each.{good_start, has_transcript}
+use Rattle.session.specs.declared.form.Stream.TheVariants.{Unread}
 
 -- ---- reading
 
@@ -53,12 +57,22 @@ rejected_lexical text lex.Memory h = tt
 rejected_lexical text lex.TooLong h = too_long h
 rejected_lexical text (lex.Lexical line) h = lexical h
 rejected_lexical text (lex.LeftOut line) h = left_out h
-rejected_lexical text (lex.TooDeep line) h = too_deep h
 
-pub rejected_syntax : (text : List ℕ) (ts : List Word) (fault : SyntaxFault) → AreTokens text ts → ((t : Tree) → Spells t ts → Answers t (Err fault))
-    → ((most : ℕ) → 1 ≤ most → All (λ w. IsOnLine most w.line) ts → (at : ℕ) → ◌≡◌ {A = Result Tree SyntaxFault} (Err fault) (Err (syntax.Syntax at)) → IsOnLine most at) → IsRejected text (of_syntax fault)
-rejected_syntax text ts syntax.Memory are none line = tt
-rejected_syntax text ts (syntax.Syntax at) are none line = unspelled (record { tokens = ts; are_tokens = are; none = none; on_line = line (line_behind text) (omega arith) (token_lines text ts are.are_cut) at refl })
+-- what comes of tokens on lines of the text is on lines of it
+expanded_lines : (text : List ℕ) (us : List Word) → AreExpanded text us → AreOnLines (line_behind text) us
+expanded_lines text us a = kept (λ w. IsOnLine (line_behind text) w.line) a.tokens us (token_lines text a.tokens a.are_tokens.are_cut) a.is_expanded.expands
+
+pub rejected_inline : (text : List ℕ) (ts : List Word) (fault : InlineFault) → AreTokens text ts → inline_least ts fault
+    → ((most : ℕ) → AreOnLines most ts → IsFaultOnLine most fault) → IsRejected text (of_inline fault)
+rejected_inline text ts inlines.Memory are least line = tt
+rejected_inline text ts inlines.Inline are least line = inline (record { tokens = ts; are_tokens = are; none = least })
+rejected_inline text ts (inlines.TooDeep at) are least line = too_deep (record { tokens = ts; are_tokens = are; deep = least; on_line = line (line_behind text) (token_lines text ts are.are_cut) })
+
+pub rejected_syntax : (text : List ℕ) (us : List Word) (fault : SyntaxFault) → AreExpanded text us → ((t : Tree) → Spells t us → Answers t (Err fault))
+    → ((most : ℕ) → 1 ≤ most → All (λ w. IsOnLine most w.line) us → (at : ℕ) → ◌≡◌ {A = Result Tree SyntaxFault} (Err fault) (Err (syntax.Syntax at)) → IsOnLine most at) → IsRejected text (of_syntax fault)
+rejected_syntax text us syntax.Memory are none line = tt
+rejected_syntax text us (syntax.Syntax at) are none line =
+    unspelled (record { expanded = us; are_expanded = are; none = none; on_line = line (line_behind text) (omega arith) (expanded_lines text us are) at refl })
 
 pub rejected_check : (text : List ℕ) (t : Tree) (fault : CheckFault) → IsSpelled text t → IsRefused t fault → IsRejected text (of_check fault)
 rejected_check text t check.Memory is h = tt
@@ -88,21 +102,21 @@ module _ (text : List ℕ) (options : Options) (a b : Holdings) where
       let e_is : e ≡ broken.Memory = (let w = h.0 in cc) in
       record { part = t.0; is_transcript = t.1; breaks = subst (λ (x : Broken). Breaks x a b 0 0 t.0) (sym e_is) (memory_breaks t.0 h.1) }
   rejected (Refused r line) (Ok end) is h = subst (λ (x : End). PlaysWhole text options a b 0 x) (sym h.1) (record {
-    part = refused r line false;
+    part = refused r line Unread;
     is_transcript = of_refusal is;
-    ends = (false, Leads-does (puts (refusal_line r) (only (end_of (cause.Refused r line) 0) false) h.0) (only_does (end_of (cause.Refused r line) 0) false));
+    ends = (Unread, Leads-does (puts (refusal_line r) (only (end_of (cause.Refused r line) 0) Unread) h.0) (only_does (end_of (cause.Refused r line) 0) Unread));
   })
   rejected (Refused r line) (Err e) is h = record {
-    part = refused r line false;
+    part = refused r line Unread;
     is_transcript = of_refusal is;
-    breaks = write_breaks e (refusal_line r) (only (end_of (cause.Refused r line) 0) false) h.0;
+    breaks = write_breaks e (refusal_line r) (only (end_of (cause.Refused r line) 0) Unread) h.0;
   }
 
   pub rejected_plays : (n : ℕ) (rejection : Rejection) (result : Result End Broken) → n ≡ 0 → IsRejected text rejection → Rejects rejection result a b → PlaysText text options result a b n
   rejected_plays n rejection result zero is h = subst (λ (m : ℕ). PlaysText text options result a b m) (sym zero) (rejected rejection result is h)
 
   -- a text that is a model
-  pub model_plays : (n : ℕ) (result : Result End Broken) (state : Running) → IsModel text state → Runs result a b n (transcript rules options state) → PlaysText text options result a b n
+  pub model_plays : (n : ℕ) (result : Result End Broken) (state : Running) → IsModel text options.lossy state → Runs result a b n (transcript rules options state) → PlaysText text options result a b n
   model_plays n (Ok end) state is h = record { part = transcript rules options state; is_transcript = of_model is; ends = h }
   model_plays n (Err e) state is h = record { part = transcript rules options state; is_transcript = of_model is; breaks = h }
 
@@ -113,8 +127,8 @@ started (Ok b) s h = ap Ok (sym h)
 started (Err f) s h = absurd h
 
 -- a ready model begins with what was started
-pub is_model : (text : List ℕ) (p q : Program) (s : Started) (w : Running) → IsReady text p → q ≡ p → Starts (first_state q) (Ok s) → w ≡ first q (shown s) → IsModel text w
-is_model text p q s w ready same starts is = record {
+pub is_model : (text : List ℕ) (p q : Program) (s : Started) (lossy : Bool) (w : Running) → IsReady text p → q ≡ p → Starts (first_state q) (Ok s) → w ≡ first q (shown s) lossy → IsModel text lossy w
+is_model text p q s lossy w ready same starts is = record {
   tree = ready.tree;
   is_spelled = ready.is_spelled;
   fits = ready.fits;
@@ -122,5 +136,5 @@ is_model text p q s w ready same starts is = record {
   stands = ready.stands;
   begun = shown s;
   starts = sym (ap first_state same) ∙ started (first_state q) s starts;
-  is = is ∙ ap (λ (r : Program). first r (shown s)) same;
+  is = is ∙ ap (λ (r : Program). first r (shown s) lossy) same;
 }

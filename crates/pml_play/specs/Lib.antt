@@ -1,2 +1,4 @@
 pub mod Transcript
 pub mod Plays
+pub mod Converts
+pub mod Plain

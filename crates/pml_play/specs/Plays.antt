@@ -14,6 +14,8 @@ use Rattle.session.specs.Texts.{refusal_line}
 use Rattle.session.specs.Writes.{Writes, Ends, failure_of}
 use Rattle.pml_lex.specs.declared.fault.LexFault.{LexFault}
 use Rattle.pml_lex.specs.declared.fault.LexFault.TheVariants as lex
+use Rattle.pml_inline.specs.declared.fault.InlineFault.{InlineFault}
+use Rattle.pml_inline.specs.declared.fault.InlineFault.TheVariants as inlines
 use Rattle.pml_syntax.specs.declared.program.SyntaxFault.{SyntaxFault}
 use Rattle.pml_syntax.specs.declared.program.SyntaxFault.TheVariants as syntax
 use Rattle.pml_tree.specs.declared.tree.Tree.{Tree}
@@ -31,13 +33,17 @@ abbrev pub IsRejected : List ℕ → Rejection → Type 0
 IsRejected text Memory = Unit {0}
 IsRejected text (Refused r line) = IsRefused text r line
 
--- what a fault of cutting, of reading or of the checks makes of a text
+-- what a fault of cutting, of replacing, of reading or of the checks makes of a text
 abbrev pub of_lexical : LexFault → Rejection
 of_lexical lex.Memory = Memory
 of_lexical lex.TooLong = Refused refusal.TextTooLong 0
 of_lexical (lex.Lexical line) = Refused refusal.Lexical line
 of_lexical (lex.LeftOut line) = Refused refusal.LeftOut line
-of_lexical (lex.TooDeep line) = Refused refusal.TooDeep line
+
+abbrev pub of_inline : InlineFault → Rejection
+of_inline inlines.Memory = Memory
+of_inline inlines.Inline = Refused refusal.Inline 0
+of_inline (inlines.TooDeep line) = Refused refusal.TooDeep line
 
 abbrev pub of_syntax : SyntaxFault → Rejection
 of_syntax syntax.Memory = Memory

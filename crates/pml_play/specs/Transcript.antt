@@ -1,5 +1,5 @@
 -- What a text stands for: a refusal, or a model; and the session over it.
-use Rattle.std.specs.Prelude.{◌≡◌, ◌<◌, ℕ, List, length, Ok, false}
+use Rattle.std.specs.Prelude.{◌≡◌, ◌<◌, ℕ, Bool, List, length, Ok}
 use Rattle.diagnostics.specs.declared.refusal.Refusal.{Refusal}
 use Rattle.diagnostics.specs.declared.refusal.Refusal.TheVariants as r
 use Rattle.session.specs.declared.Options.{Options}
@@ -8,7 +8,8 @@ use Rattle.session.specs.Part.{Part}
 use Rattle.session.specs.Session.{refused, transcript}
 use Rattle.pml_lex.specs.Word.{Word}
 use Rattle.profile.specs.declared.TheConstants.{MOST_TEXT_BYTES}
-use Rattle.pml_lex.specs.Cut.{IsLine, AreTokens, CannotBeCut, HoldsLeftOut, GoesTooDeep}
+use Rattle.pml_lex.specs.Cut.{IsLine, AreTokens, CannotBeCut, HoldsLeftOut}
+use Rattle.pml_inline.specs.Expansion.{Expands, IsExpanded, GoesTooDeep}
 use Rattle.pml_tree.specs.declared.tree.Tree.{Tree}
 use Rattle.pml_syntax.specs.Grammar.{Spells}
 use Rattle.pml_stands.specs.StandsModel.{StandsModel}
@@ -17,15 +18,22 @@ use Rattle.pml_program.specs.declared.program.Program.{Program}
 use Rattle.pml_start.specs.Begin.{Begun}
 use Rattle.pml_start.specs.Start.{first_state}
 use Rattle.pml_sim.specs.World.{Running, first, rules}
+use Rattle.session.specs.declared.form.Stream.TheVariants.{Unread}
 
--- The text's tokens spell this tree.
-pub record IsSpelled (text : List ℕ) (tree : Tree) : Type 0 where
+-- These come of the text's tokens, where the calls of inlines are replaced, and they are not too deep.
+pub record AreExpanded (text : List ℕ) (expanded : List Word) : Type 0 where
   pub tokens : List Word
   pub are_tokens : AreTokens text tokens
-  pub spells : Spells tree tokens
+  pub is_expanded : IsExpanded tokens expanded
 
--- The text has a tree that fits all conditions, and the model that it stands for begins in this state.
-pub record IsModel (text : List ℕ) (state : Running) : Type 0 where
+-- What comes of the text's tokens spells this tree.
+pub record IsSpelled (text : List ℕ) (tree : Tree) : Type 0 where
+  pub expanded : List Word
+  pub are_expanded : AreExpanded text expanded
+  pub spells : Spells tree expanded
+
+-- The text has a tree that fits all conditions, and the model that it stands for begins in this state, where messages to full channels are lost or not.
+pub record IsModel (text : List ℕ) (lossy : Bool) (state : Running) : Type 0 where
   pub tree : Tree
   pub is_spelled : IsSpelled text tree
   pub fits : IsFit tree
@@ -33,13 +41,26 @@ pub record IsModel (text : List ℕ) (state : Running) : Type 0 where
   pub stands : StandsModel tree program
   pub begun : Begun
   pub starts : first_state program ≡ Ok begun
-  pub is : state ≡ first program begun
+  pub is : state ≡ first program begun lossy
 
--- The text has tokens, and no tree spells them.
-pub record IsUnspelled (text : List ℕ) (line : ℕ) : Type 0 where
+-- The text has tokens, and nothing comes of them.
+pub record HasNoExpansion (text : List ℕ) : Type 0 where
   pub tokens : List Word
   pub are_tokens : AreTokens text tokens
-  pub none : (tree : Tree) → Spells tree tokens → ⊥
+  pub none : (expanded : List Word) → Expands tokens expanded → ⊥
+
+-- What comes of the text's tokens is too deep.
+pub record ExpandsTooDeep (text : List ℕ) (line : ℕ) : Type 0 where
+  pub tokens : List Word
+  pub are_tokens : AreTokens text tokens
+  pub deep : GoesTooDeep tokens
+  pub on_line : IsLine text line
+
+-- Something comes of the text's tokens, and no tree spells it.
+pub record IsUnspelled (text : List ℕ) (line : ℕ) : Type 0 where
+  pub expanded : List Word
+  pub are_expanded : AreExpanded text expanded
+  pub none : (tree : Tree) → Spells tree expanded → ⊥
   pub on_line : IsLine text line
 
 -- The text has a tree, and of the conditions that apply to it this is the least.
@@ -53,7 +74,8 @@ pub data IsRefused (text : List ℕ) : Refusal → ℕ → Type 0 where
   too_long : MOST_TEXT_BYTES < length text → IsRefused text r.TextTooLong 0
   lexical : {line : ℕ} → CannotBeCut text line → IsRefused text r.Lexical line
   left_out : {line : ℕ} → HoldsLeftOut text line → IsRefused text r.LeftOut line
-  too_deep : {line : ℕ} → GoesTooDeep text line → IsRefused text r.TooDeep line
+  inline : HasNoExpansion text → IsRefused text r.Inline 0
+  too_deep : {line : ℕ} → ExpandsTooDeep text line → IsRefused text r.TooDeep line
   unspelled : {line : ℕ} → IsUnspelled text line → IsRefused text r.Syntax line
   unfit : {refusal : Refusal} → IsUnfit text refusal → IsRefused text refusal 0
 
@@ -77,8 +99,9 @@ HasLine text r.TooManyCells line = line ≡ 0
 HasLine text r.NoProcess line = line ≡ 0
 HasLine text r.TooManyAtStart line = line ≡ 0
 HasLine text r.Initialiser line = line ≡ 0
+HasLine text r.Inline line = line ≡ 0
 
 -- The session over a text: one line where it is refused, and else that of the model that it stands for.
 pub data IsTranscript (text : List ℕ) (options : Options) : (List ℕ → Part End) → Type 0 where
-  of_refusal : {refusal : Refusal} {line : ℕ} → IsRefused text refusal line → IsTranscript text options (refused refusal line false)
-  of_model : {state : Running} → IsModel text state → IsTranscript text options (transcript rules options state)
+  of_refusal : {refusal : Refusal} {line : ℕ} → IsRefused text refusal line → IsTranscript text options (refused refusal line Unread)
+  of_model : {state : Running} → IsModel text options.lossy state → IsTranscript text options (transcript rules options state)

@@ -1,18 +1,24 @@
 //! Laws of the definitions, which functions without a body state.
 
-ghost use Rattle.std.specs.Prelude.{◌≡◌, ℕ, List};
+ghost use Rattle.std.specs.Prelude.{◌≡◌, ℕ, Bool, List};
 ghost use Rattle.diagnostics.specs.declared.refusal.Refusal.{Refusal};
+ghost use Rattle.diagnostics.specs.declared.refusal.Refusal.TheVariants as r;
+ghost use Rattle.pml_lex.specs.Cut.{IsLine};
+ghost use Rattle.pml_lex.specs.Limits.{IsTooDeep};
+ghost use Rattle.pml_lex.specs.Word.{Word};
 ghost use Rattle.pml_sim.specs.World.{Running};
+ghost use Rattle.pml_tree.specs.declared.tree.Tree.{Tree};
 ghost use Rattle.session.specs.declared.End.{End};
 ghost use Rattle.session.specs.declared.Options.{Options};
 ghost use Rattle.session.specs.Part.{Part};
-ghost use Rattle.pml_play.specs.Transcript.{IsModel, IsRefused, IsTranscript, HasLine};
+ghost use Rattle.pml_play.specs.Plain.{ArePlain, SpellItself, SpellNothing, SayTheSame};
+ghost use Rattle.pml_play.specs.Transcript.{IsModel, IsSpelled, IsRefused, IsTranscript, HasLine};
 
 /// A text is refused in one way at most, or stands for one model at most, and not both.
 pub fn one_outcome()
     ensures refusal { (text : List ℕ) (a b : Refusal) (m n : ℕ) → IsRefused text a m → IsRefused text b n → a ≡ b }
-    ensures either { (text : List ℕ) (a : Refusal) (m : ℕ) (model : Running) → IsRefused text a m → IsModel text model → ⊥ }
-    ensures model { (text : List ℕ) (a b : Running) → IsModel text a → IsModel text b → a ≡ b }
+    ensures either { (text : List ℕ) (a : Refusal) (m : ℕ) (lossy : Bool) (model : Running) → IsRefused text a m → IsModel text lossy model → ⊥ }
+    ensures model { (text : List ℕ) (lossy : Bool) (a b : Running) → IsModel text lossy a → IsModel text lossy b → a ≡ b }
 {}
 
 /// Each text has a transcript, and the transcripts of a text have the same events: only the line of a refusal is left open.
@@ -25,4 +31,14 @@ pub fn each_text_has_a_transcript()
 /// Four refusals have a line of the text, and the others have none.
 pub fn refusal_line()
     ensures { (text : List ℕ) (refusal : Refusal) (line : ℕ) → IsRefused text refusal line → HasLine text refusal line }
+{}
+
+/// A text without the word `inline` is taken as it stands: what its answer rests on is said of its own tokens.
+pub fn nothing_to_expand()
+    ensures tree { (text : List ℕ) (tokens : List Word) (tree : Tree) → ArePlain text tokens → SayTheSame (IsSpelled text tree) (SpellItself tokens tree) }
+    ensures too_deep { (text : List ℕ) (tokens : List Word) (line : ℕ) → ArePlain text tokens
+        → SayTheSame (IsRefused text r.TooDeep line) (IsTooDeep tokens × IsLine text line) }
+    ensures syntax { (text : List ℕ) (tokens : List Word) (line : ℕ) → ArePlain text tokens
+        → SayTheSame (IsRefused text r.Syntax line) (SpellNothing tokens × IsLine text line) }
+    ensures right { (text : List ℕ) (tokens : List Word) (line : ℕ) → ArePlain text tokens → IsRefused text r.Inline line → ⊥ }
 {}

@@ -2,7 +2,9 @@
 //! (Holzmann, *The SPIN Model Checker*, chapters 3 and 7).
 #![tactic(auto)]
 
+mod converting;
 pub mod laws;
 mod whole;
 
+pub use converting::convert;
 pub use whole::play;

@@ -4,18 +4,21 @@ ghost use Rattle.std.specs.Prelude.{◌≡◌, ◌≢◌, ◌<◌, ℕ, List, Er
 ghost use Rattle.session.specs.declared.End.{End};
 ghost use Rattle.session.specs.Part.{Part};
 ghost use Rattle.session.specs.Replay.{CanBeReplayed};
-ghost use Rattle.session.specs.Session.{end_of};
+ghost use Rattle.session.specs.Session.{end_of, transcript};
+ghost use Rattle.pml_sim.specs.World.{rules};
 ghost use Rattle.session.specs.Stands.{CountsAll};
-ghost use Rattle.session.specs.Writes.{IsOwnEnd};
+ghost use Rattle.session.specs.Writes.{IsOwnEnd, Runs};
 ghost use Rattle.pml_lex.specs.Cut.{AreTokens};
 ghost use Rattle.pml_syntax.specs.Grammar.{Spells};
-ghost use Rattle.pml_play.specs.Transcript.{IsModel, IsSpelled, IsTranscript};
+ghost use Rattle.pml_play.specs.Transcript.{AreExpanded, IsModel, IsSpelled, IsTranscript};
 ghost use Rattle.pml_play.specs.Plays as plays;
 ghost use Rattle.pml_play.specs.Plays.{IsReady, IsRejected, Rejects, PlaysText, PlaysWhole, PlaysBroken};
 
 use devices::Devices;
 use diagnostics::{Refusal, Stop};
 use pml_check::{CheckFault, Checked, check};
+use pml_inline::expand;
+use pml_inline::fault::InlineFault;
 use pml_lex::cut;
 use pml_lex::fault::LexFault;
 use pml_lex::token::Token;
@@ -23,12 +26,12 @@ use pml_sim::world::World;
 use pml_start::start::start;
 use pml_syntax::{SyntaxFault, parse};
 use pml_tree::tree::Tree;
-use session::{Broken, End, Options, end_of, failure, refuse, run};
+use session::{Broken, End, Options, Version, end_of, failure, refuse, run};
 use std::alloc::{AllocError, Global};
 
 /// Why a text has no model.
 #[derive(Clone, Copy, Debug, PartialEq, Eq)]
-enum Rejection {
+pub enum Rejection {
     Memory,
     /// It is refused, on this line, or 0 where the refusal has none.
     Refused(Refusal, u32),
@@ -42,10 +45,10 @@ fn of_lexical(fault: LexFault) -> Rejection
         LexFault::TooLong => Rejection::Refused(Refusal::TextTooLong, 0),
         LexFault::Lexical(line) => Rejection::Refused(Refusal::Lexical, line),
         LexFault::LeftOut(line) => Rejection::Refused(Refusal::LeftOut, line),
-        LexFault::TooDeep(line) => Rejection::Refused(Refusal::TooDeep, line),
     }
 }
 
+/// The text's tokens.
 fn tokens_of<'t>(alloc: Global, text: &'t [u8]) -> Result<Vec<Token<'t>>, Rejection>
     ensures ok { IfOk result (λ tokens. AreTokens text.now tokens.items) }
     ensures err { IfErr result (IsRejected text.now) }
@@ -53,6 +56,38 @@ fn tokens_of<'t>(alloc: Global, text: &'t [u8]) -> Result<Vec<Token<'t>>, Reject
     match cut(alloc, text) {
         Ok(tokens) => Ok(tokens),
         Err(fault) => Err(of_lexical(fault)),
+    }
+}
+
+fn of_inline(fault: InlineFault) -> Rejection
+    ensures { result ≡ plays.of_inline fault }
+{
+    match fault {
+        InlineFault::Memory => Rejection::Memory,
+        InlineFault::Inline => Rejection::Refused(Refusal::Inline, 0),
+        InlineFault::TooDeep(line) => Rejection::Refused(Refusal::TooDeep, line),
+    }
+}
+
+/// What comes of tokens, where the calls of inlines are replaced.
+fn expansion_of<'t>(alloc: Global, tokens: &[Token<'t>]) -> Result<Vec<Token<'t>>, Rejection>
+    ensures ok { (text : List ℕ) → AreTokens text tokens.now → IfOk result (λ expanded. AreExpanded text expanded.items) }
+    ensures err { (text : List ℕ) → AreTokens text tokens.now → IfErr result (IsRejected text) }
+{
+    match expand(alloc, tokens) {
+        Ok(expanded) => Ok(expanded),
+        Err(fault) => Err(of_inline(fault)),
+    }
+}
+
+/// What comes of the text's tokens, which are let go.
+pub fn expanded_of<'t>(alloc: Global, text: &'t [u8]) -> Result<Vec<Token<'t>>, Rejection>
+    ensures ok { IfOk result (λ expanded. AreExpanded text.now expanded.items) }
+    ensures err { IfErr result (IsRejected text.now) }
+{
+    match tokens_of(alloc, text) {
+        Ok(tokens) => expansion_of(alloc, &tokens),
+        Err(rejection) => Err(rejection),
     }
 }
 
@@ -77,7 +112,7 @@ fn of_check(fault: CheckFault) -> Rejection
 /// The tree that the tokens spell.
 fn tree_of<'a>(alloc: Global, tokens: &'a [Token<'a>]) -> Result<Tree<'a>, Rejection>
     ensures ok { IfOk result (λ tree. Spells tree tokens.now) }
-    ensures err { (text : List ℕ) → AreTokens text tokens.now → IfErr result (IsRejected text) }
+    ensures err { (text : List ℕ) → AreExpanded text tokens.now → IfErr result (IsRejected text) }
 {
     match parse(alloc, tokens) {
         Ok(tree) => Ok(tree),
@@ -97,9 +132,9 @@ fn model_of<'a>(alloc: Global, tree: Tree<'a>) -> Result<Checked<'a>, Rejection>
 }
 
 /// The checked model of the tree that the tokens spell.
-fn checked_of<'a>(alloc: Global, tokens: &'a [Token<'a>]) -> Result<Checked<'a>, Rejection>
-    ensures ok { (text : List ℕ) → AreTokens text tokens.now → IfOk result (IsReady text) }
-    ensures err { (text : List ℕ) → AreTokens text tokens.now → IfErr result (IsRejected text) }
+pub fn checked_of<'a>(alloc: Global, tokens: &'a [Token<'a>]) -> Result<Checked<'a>, Rejection>
+    ensures ok { (text : List ℕ) → AreExpanded text tokens.now → IfOk result (IsReady text) }
+    ensures err { (text : List ℕ) → AreExpanded text tokens.now → IfErr result (IsRejected text) }
 {
     match tree_of(alloc, tokens) {
         Ok(tree) => model_of(alloc, tree),
@@ -108,13 +143,17 @@ fn checked_of<'a>(alloc: Global, tokens: &'a [Token<'a>]) -> Result<Checked<'a>,
 }
 
 /// The first state of a checked model. The check has evaluated what it begins with before, so no fault comes here.
-fn world_of<'p, 'a>(alloc: Global, checked: &'p Checked<'a>) -> Result<World<'p, 'a>, Rejection>
-    ensures ok { (text : List ℕ) → IsReady text checked.now → IfOk result (IsModel text) }
+pub fn world_of<'p, 'a>(
+    alloc: Global,
+    checked: &'p Checked<'a>,
+    lossy: bool,
+) -> Result<World<'p, 'a>, Rejection>
+    ensures ok { (text : List ℕ) → IsReady text checked.now → IfOk result (IsModel text lossy) }
     ensures err { (text : List ℕ) → IsReady text checked.now → IfErr result (IsRejected text) }
 {
     let program = checked.program();
     match start(alloc, program) {
-        Ok(started) => match World::first(alloc, program, checked.graphs(), started) {
+        Ok(started) => match World::first(alloc, program, checked.graphs(), started, lossy) {
             Ok(world) => Ok(world),
             Err(AllocError) => Err(Rejection::Memory),
         },
@@ -135,6 +174,23 @@ fn reject<D: Devices>(alloc: Global, rejection: Rejection, devices: &mut D) -> R
     }
 }
 
+/// Runs the session of a model from its first state, which is let go, and counts its steps.
+fn run_world<D: Devices>(
+    alloc: Global,
+    world: World<'_, '_>,
+    options: &Options,
+    steps: &mut u32,
+    devices: &mut D,
+) -> Result<End, Broken>
+    requires { steps.old ≡ 0 }
+    ensures part { Runs result (D.holds devices.old) (D.holds devices.new) steps.new (transcript rules options.now world.entry) }
+    ensures own { IfOk result (IsOwnEnd steps.new) }
+    ensures count { CountsAll result (D.holds devices.old).failures (D.holds devices.new).failures }
+{
+    let mut world = world;
+    run(alloc, Version::First, &mut world, options, steps, devices)
+}
+
 /// Plays a checked model, and counts its steps.
 fn play_checked<D: Devices>(
     alloc: Global,
@@ -148,11 +204,8 @@ fn play_checked<D: Devices>(
     ensures own { IfOk result (IsOwnEnd steps.new) }
     ensures count { CountsAll result (D.holds devices.old).failures (D.holds devices.new).failures }
 {
-    match world_of(alloc, checked) {
-        Ok(world) => {
-            let mut world = world;
-            run(alloc, &mut world, options, steps, devices)
-        }
+    match world_of(alloc, checked, options.lossy) {
+        Ok(world) => run_world(alloc, world, options, steps, devices),
         Err(rejection) => reject(alloc, rejection, devices),
     }
 }
@@ -170,7 +223,7 @@ fn stages<D: Devices>(
     ensures own { IfOk result (IsOwnEnd steps.new) }
     ensures count { CountsAll result (D.holds devices.old).failures (D.holds devices.new).failures }
 {
-    let tokens = match tokens_of(alloc, text) {
+    let tokens = match expanded_of(alloc, text) {
         Ok(tokens) => tokens,
         Err(rejection) => return reject(alloc, rejection, devices),
     };

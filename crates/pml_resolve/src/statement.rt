@@ -13,7 +13,6 @@ use pml_marks::mark::Role;
 use pml_names::names::Names;
 use pml_names::table::Table;
 use pml_program::program::{Basic, Seq, Slot, Stmt};
-use pml_tree::tokens::Tokens;
 use pml_tree::tree::{Basic as TreeBasic, Item, Seq as TreeSeq};
 use sqlite_items::Items;
 use std::alloc::{AllocError, Global};
@@ -97,7 +96,7 @@ fn item<'a>(
     ensures totalled { OnOk result (IsTotalled names.new.table names.new.totals names.new.constants) }
 {
     let labels = copied(alloc, i.labels.as_slice())?;
-    let tokens = Tokens::new(i.tokens.as_slice());
+    let tokens = i.tokens.copied(alloc)?;
     match basic(alloc, i.basic.get(), all, owner, names, slots)? {
         None => Ok(()),
         Some(basic) => Ok(steps.push(Stmt {

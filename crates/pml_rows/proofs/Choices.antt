@@ -168,17 +168,8 @@ row-word-among-choices : seen (options true false false 1000) model-word-among-c
     "choice 1: proc 0 (A) line 2 [x = 1]\n" ∷
     "choice 2: proc 1 (B) line 3 [y = 2]\n" ∷
     "choose 1..2\n" ∷
-    "bad choice\n" ∷
-    "choose 1..2\n" ∷
-    "step 1: proc 1 (B) line 3 [y = 2]\n" ∷
-    "choice 1: proc 0 (A) line 2 [x = 1]\n" ∷
-    "choice 2: proc 1 (B) line 3 [-end-]\n" ∷
-    "choose 1..2\n" ∷
-    "step 2: proc 0 (A) line 2 [x = 1]\n" ∷
-    "step 3: proc 1 (B) line 3 [-end-]\n" ∷
-    "step 4: proc 0 (A) line 2 [-end-]\n" ∷
-    "end: valid, steps 4\n" ∷
-    [])) (codes "2\n1\n") 0 14)
+    "stop: choice misfit, steps 0\n" ∷
+    [])) (codes "") 5 12)
 unfolding computes model-word-among-choices
 row-word-among-choices = sees (options true false false 1000) model-word-among-choices (codes "choices 2\n2\n1\n") _ refl
 

@@ -38,7 +38,7 @@ use Rattle.pml_steps.specs.Created.{joined_by, run_number, there}
 use Rattle.pml_steps.specs.Outcome.{Done, behind, body_by, both_on, first_of, moved, onward, prints_name, prints_string, quiet}
 use Rattle.pml_steps.specs.declared.within.TheConstants.{MOST_DSTEP_STATEMENTS}
 use Rattle.pml_texts.specs.Ends.{is_valid}
-use Rattle.pml_texts.specs.Texts.{move_text, stuck}
+use Rattle.pml_texts.specs.Texts.{move_text, origin_of, stuck}
 use Rattle.pml_tree.specs.declared.tree.Removal.{Removal}
 use Rattle.pml_tree.specs.declared.tree.Search.{Search}
 use Rattle.pml_tree.specs.declared.tree.SendOrder.{SendOrder}
@@ -49,7 +49,7 @@ use Rattle.pml_value.specs.declared.statement.Goes.{Goes}
 use Rattle.profile.specs.declared.TheConstants.{MOST_CHANNELS, MOST_PROCESSES}
 use Rattle.session.specs.Machine.{Outcome, Rules}
 use Rattle.std.specs.List.{filter}
-use Rattle.std.specs.Prelude.{Bool, Err, List, None, Ok, Option, Result, Some, [], false, if◌then◌else◌, int_lt, length, map, nat_eq, nat_lt, negsuc, not, pos, slice_get, suc, true, zero, ℕ, ℤ, ◌&&◌, ◌++◌, ◌+ℤ◌, ◌+◌, ◌∷◌}
+use Rattle.std.specs.Prelude.{Bool, Err, List, None, Ok, Option, Result, Some, [], false, if◌then◌else◌, int_lt, length, map, nat_eq, nat_lt, negsuc, not, pos, slice_get, suc, true, zero, ℕ, ℤ, ◌&&◌, ◌*◌, ◌++◌, ◌+ℤ◌, ◌+◌, ◌-◌, ◌<◌, ◌==◌, ◌||◌, ◌∷◌, ◌≡◌, ◌≤◌}
 use Rattle.pml_program.specs.declared.program.Action.TheVariants as actions
 use Rattle.pml_program.specs.declared.program.Initial.TheVariants as initials
 use Rattle.pml_rows.proofs.Means.{Means}
@@ -158,33 +158,33 @@ module _ (means : Means) where
   abbrev pub executable-named : List LiveChannel → Reading → Target → ℕ → Result Named Fault
   executable-named cs r t count = means.place t r >>= λ at. executable-with_fields count (r.holds at) (channel_at cs (r.holds at))
 
-  abbrev pub executable-ready : List LiveChannel → Reading → Bool → Action → Result Bool Fault
-  executable-ready cs r in_d_step (actions.Holds e) = nonzero (means.val e r)
-  executable-ready cs r in_d_step (actions.Run q) = Ok (int_lt r.process_count (pos MOST_PROCESSES))
-  executable-ready cs r in_d_step (actions.Send t order es) = executable-named cs r t (length es) >>= λ c. can_send in_d_step c.contents
-      (executable-values es r)
-  executable-ready cs r in_d_step (actions.Receive t search _ ws) =
+  abbrev pub executable-ready : Bool → List LiveChannel → Reading → Bool → Action → Result Bool Fault
+  executable-ready lossy cs r in_d_step (actions.Holds e) = nonzero (means.val e r)
+  executable-ready lossy cs r in_d_step (actions.Run q) = Ok (int_lt r.process_count (pos MOST_PROCESSES))
+  executable-ready lossy cs r in_d_step (actions.Send t order es) = executable-named cs r t (length es) >>= λ c. can_send lossy in_d_step
+      c.contents (executable-values es r)
+  executable-ready lossy cs r in_d_step (actions.Receive t search _ ws) =
       executable-named cs r t (length ws) >>= λ c. can_receive search c.contents (value-asked_by ws r)
-  executable-ready cs r in_d_step x = Ok true
+  executable-ready lossy cs r in_d_step x = Ok true
 
-  abbrev pub executable-can : List LiveChannel → Reading → Bool → Action → Bool
-  executable-can cs r in_d_step x = or_fault (executable-ready cs r in_d_step x)
+  abbrev pub executable-can : Bool → List LiveChannel → Reading → Bool → Action → Bool
+  executable-can lossy cs r in_d_step x = or_fault (executable-ready lossy cs r in_d_step x)
 
-  abbrev pub search-can_inside : List LiveChannel → Reading → Option Basic → Bool
-  search-can_inside cs r (Some (Plain x)) = executable-can cs r true x
-  search-can_inside cs r x = true
+  abbrev pub search-can_inside : Bool → List LiveChannel → Reading → Option Basic → Bool
+  search-can_inside lossy cs r (Some (Plain x)) = executable-can lossy cs r true x
+  search-can_inside lossy cs r x = true
 
-  abbrev pub search-is_choice : List LiveChannel → Reading → Offer → Bool
-  search-is_choice cs r o = not (is_else o.basic) && search-can_inside cs r o.basic
+  abbrev pub search-is_choice : Bool → List LiveChannel → Reading → Offer → Bool
+  search-is_choice lossy cs r o = not (is_else o.basic) && search-can_inside lossy cs r o.basic
 
-  abbrev pub search-choices : List LiveChannel → Reading → List (List Offer) → List Offer
-  search-choices cs r [] = []
-  search-choices cs r (os ∷ ls) = or_else (filter (search-is_choice cs r) os) (filter is_other os)
+  abbrev pub search-choices : Bool → List LiveChannel → Reading → List (List Offer) → List Offer
+  search-choices lossy cs r [] = []
+  search-choices lossy cs r (os ∷ ls) = or_else (filter (search-is_choice lossy cs r) os) (filter is_other os)
 
-  abbrev pub search-can_alone : List LiveChannel → Reading → Seq → Offer → Option Basic → Bool
-  search-can_alone cs r b o (Some (Plain x)) = executable-can cs r false x
-  search-can_alone cs r b o (Some (DStep d)) = is_some (search-choices cs r (levels_from b o.entry))
-  search-can_alone cs r b o x = true
+  abbrev pub search-can_alone : Bool → List LiveChannel → Reading → Seq → Offer → Option Basic → Bool
+  search-can_alone lossy cs r b o (Some (Plain x)) = executable-can lossy cs r false x
+  search-can_alone lossy cs r b o (Some (DStep d)) = is_some (search-choices lossy cs r (levels_from b o.entry))
+  search-can_alone lossy cs r b o x = true
 
   abbrev pub search-message : List LiveChannel → Reading → Option Basic → Option Message
   search-message cs r (Some (Plain (actions.Send t order es))) = message_on (executable-named cs r t (length es)) (executable-values es r)
@@ -207,7 +207,7 @@ module _ (means : Means) where
 
   abbrev pub search-moves_by : State → ℕ → Bool → Seq → ℕ → ℕ → Offer → List Move
   search-moves_by s p t b l i o =
-      if search-can_alone s.channels (reads s p t) b o o.basic then Alone (pick p l i) t ∷ []
+      if search-can_alone s.lossy s.channels (reads s p t) b o o.basic then Alone (pick p l i) t ∷ []
       else search-pairs s t (pick p l i) (search-message s.channels (reads s p t) o.basic)
 
   abbrev pub search-plain_moves : State → ℕ → Bool → Seq → ℕ → List Offer → List Move
@@ -272,7 +272,7 @@ module _ (means : Means) where
   abbrev pub outcome-within : ℕ → State → ℕ → Bool → Seq → Control → Result Done Fault
   outcome-within zero s p t b c = Err DStepTooLong
   outcome-within (suc n) s p t b c =
-      first_of (search-choices s.channels (reads s p t) (levels b c)) (λ o.
+      first_of (search-choices s.lossy s.channels (reads s p t) (levels b c)) (λ o.
       outcome-effect s p t o.basic >>= λ d.
       onward o.stays d (λ e. outcome-within n e.state p false b o.next >>= behind e.printed))
 
@@ -314,6 +314,7 @@ module _ (means : Means) where
     step = world-step;
     stopped = λ w. stopped w.halt;
     text = λ w m. move_text w.state m;
+    origin = λ w m. origin_of w.state m;
     values = changed_lines;
     is_valid = λ w. is_valid w.state;
     stuck = λ w. stuck w.state;

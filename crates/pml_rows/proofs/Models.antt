@@ -154,7 +154,7 @@ process name owner starts parameters variables ss end =
 
 -- whether steps, globals and locals are shown, and the most steps
 abbrev pub options : Bool → Bool → Bool → ℕ → Options
-options steps globals locals limit = record { steps = steps; globals = globals; locals = locals; limit = limit }
+options steps globals locals limit = record { steps = steps; globals = globals; locals = locals; lossy = false; limit = limit }
 
 -- lines one behind another
 abbrev pub text : List String → List ℕ

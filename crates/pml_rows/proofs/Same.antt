@@ -7,9 +7,9 @@ use denote.Hole.Carrier.{roll, out, hidden}
 use Rattle.diagnostics.specs.declared.fault.Fault.{Fault}
 use Rattle.session.specs.declared.Options.{Options}
 use Rattle.session.specs.declared.End.{End}
-use Rattle.session.specs.Lines.{line_within, number_up_to, reply_of}
+use Rattle.session.specs.Lines.{line_within, number_up_to, reply_of, placed_answer, placed_reply, is_header}
 use Rattle.session.specs.Part.{Part}
-use Rattle.session.specs.Session.{transcript, story, select, answered, stepped, ask, one_line}
+use Rattle.session.specs.Session.{transcript, story, select, answered, stepped, ask, one_line, next_line, one_reply}
 use Rattle.session.specs.Texts.{digits_of, all_digits}
 use Rattle.pml_program.specs.declared.expr.Expr.{roll-Expr}
 use Rattle.pml_program.specs.declared.expr.Want.{roll-Want}
@@ -31,7 +31,7 @@ use Rattle.pml_rows.proofs.Copies.{start-first_state, world-rules}
 -- ---- over any means
 
 abbrev pub played_from_by : Means → Options → Program → List ℕ → Result Begun Fault → Option (Part End)
-played_from_by m o p choices (Ok b) = Some (transcript (world-rules m) o (first p b) choices)
+played_from_by m o p choices (Ok b) = Some (transcript (world-rules m) o (first p b o.lossy) choices)
 played_from_by m o p choices (Err f) = None
 
 abbrev pub played_by : Means → Options → Program → List ℕ → Option (Part End)
@@ -62,7 +62,7 @@ sees o p choices x is = ap (option_map seen_of) (played-is o p choices) ∙ is
 -- ---- what a run computes with
 
 unfoldable pub session_computes : Unit {0}
-unfolding story select answered stepped ask one_line line_within number_up_to reply_of digits_of all_digits digits
+unfolding story select answered stepped ask one_line next_line one_reply line_within number_up_to reply_of placed_answer placed_reply is_header digits_of all_digits digits
 session_computes = tt
 
 unfoldable pub expression_computes : Unit {0}

@@ -13,7 +13,7 @@ use Rattle.pml_sim.specs.World.{first, rules}
 
 -- the transcript from a first state
 abbrev pub played_from : Options → Program → List ℕ → Result Begun Fault → Option (Part End)
-played_from o p choices (Ok b) = Some (transcript rules o (first p b) choices)
+played_from o p choices (Ok b) = Some (transcript rules o (first p b o.lossy) choices)
 played_from o p choices (Err f) = None
 
 -- the transcript of a model, where it has a first state

@@ -71,7 +71,7 @@ module _ (s : State) where
   pairs_within t k (Some m) h = of_first n (pairs_with s t k m) 0 s.stands (omega arith) (λ j y l. paired_within t k m h j y l)
 
   by_within : (p : ℕ) (t : Bool) (b : Seq) (l i : ℕ) (o : Offer) → p < n → All n (moves_by s p t b l i o)
-  by_within p t b l i o h = by (can_alone s.channels (reads s p t) b o o.basic)
+  by_within p t b l i o h = by (can_alone s.lossy s.channels (reads s p t) b o o.basic)
     where
       by : (can : Bool) → All n (if can then Alone (pick p l i) t ∷ [] else pairs s t (pick p l i) (message s.channels (reads s p t) o.basic))
       by true = (h, tt)

@@ -39,7 +39,7 @@ abbrev stand : ℕ → Stand
 stand k = record { kind = k; control = [] }
 
 abbrev state : Program → List Frame → List Stand → List LiveChannel → State
-state p frames stands channels = record { program = p; frames = frames; stands = stands; channels = channels; holder = None }
+state p frames stands channels = record { program = p; frames = frames; stands = stands; channels = channels; holder = None; lossy = false }
 
 -- chan g; proctype P() { chan c = [1] of { byte }; .. } init { .. }
 abbrev by_runs : Program

@@ -35,6 +35,14 @@ use Rattle.pml_sim.proofs.Values.{first_declared, lines_of_first, taken_min}
 pub listed : (w : Running) (m : Move) → w.halt ≡ None → Contains (world.moves w) m → Contains (search.moves w.state) m
 listed w m none c = subst (λ (h : Option Halt). Contains (unless_stopped h (search.moves w.state)) m) none c
 
+-- each names processes that live
+pub listed_within : (w : Running) (m : Move) → Contains (world.moves w) m → IsWithin (length w.state.stands) m
+listed_within w m c = by w.halt c
+  where
+    by : (h : Option Halt) → Contains (unless_stopped h (search.moves w.state)) m → IsWithin (length w.state.stands) m
+    by None c = moves_within w.state m c
+    by (Some h) c = absurd (omega (arith, c.1))
+
 pub present : (w : Running) (m : Move) → w.halt ≡ None → CanBeTaken rules w m → Contains (search.moves w.state) m
 present w m none c = listed w m none (c (ap stopped none))
 

@@ -25,8 +25,8 @@ pub record Running : Type 0 where
   pub halt : Option Halt
 
 -- before the first step nothing has changed
-abbrev pub first : Program → Begun → Running
-first p b = record { state = first_state p b; past = b.frames; halt = None }
+abbrev pub first : Program → Begun → Bool → Running
+first p b lossy = record { state = first_state p b lossy; past = b.frames; halt = None }
 
 -- where it has stopped there is no move
 abbrev pub unless_stopped : Option Halt → List Move → List Move
@@ -59,6 +59,7 @@ rules = record {
   step = step;
   stopped = λ w. stopped w.halt;
   text = λ w m. texts.move_text w.state m;
+  origin = λ w m. texts.origin_of w.state m;
   values = changed_lines;
   is_valid = λ w. ends.is_valid w.state;
   stuck = λ w. texts.stuck w.state;

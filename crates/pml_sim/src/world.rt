@@ -1,12 +1,15 @@
 //! A checked model as a machine.
 
-ghost use Rattle.std.specs.Prelude.{◌≡◌, ◌≤◌, [], IfOk, length};
+ghost use Rattle.std.specs.Prelude.{◌≡◌, ◌≤◌, ◌++◌, [], IfOk, OnOk, OnErr, length};
+ghost use Rattle.std.specs.Io.{StartsWith};
 ghost use Rattle.profile.specs.declared.TheConstants.{MOST_CHANNELS, MOST_PROCESSES};
 ghost use Rattle.pml_flow.specs.Flow.{AreGraphs};
 ghost use Rattle.pml_start.specs.Begin.{shown};
 ghost use Rattle.pml_start.specs.Bound.{bound, IsBounded};
 ghost use Rattle.pml_start.specs.Start.{IsDeclared};
 ghost use Rattle.pml_steps.specs.Footprint.{held};
+ghost use Rattle.pml_texts.specs.Ends as ends;
+ghost use Rattle.pml_texts.specs.Texts as texts;
 ghost use Rattle.pml_sim.specs.World as world;
 
 use crate::halt::Halt;
@@ -21,8 +24,8 @@ use pml_start::started::Started;
 use pml_steps::live::Live;
 use pml_steps::take::take;
 use pml_texts::ends::{add_stuck, is_valid};
-use pml_texts::texts::add_move;
-use session::Machine;
+use pml_texts::texts::{add_move, origin};
+use session::{Machine, Report};
 use std::alloc::{AllocError, Global};
 use std::marker::Model;
 
@@ -62,15 +65,16 @@ impl<'p, 'a> World<'p, 'a> {
         program: &'p Program<'a>,
         graphs: &'p [Graph],
         started: Started,
+        lossy: bool,
     ) -> Result<World<'p, 'a>, AllocError>
         requires declared { IsDeclared program.now (shown started) }
         requires graphs { AreGraphs program.now.proctypes graphs.now }
         requires fresh { started.store.written ≡ [] }
         requires bounded { IsBounded program.now started.store started.channels.items }
-        ensures { IfOk result (λ w. w ≡ world.first program.now (shown started)) }
+        ensures { IfOk result (λ w. w ≡ world.first program.now (shown started) lossy) }
     {
         let tables = Tables::new(alloc, program)?;
-        let live = Live::first(alloc, program, graphs, started)?;
+        let live = Live::first(alloc, program, graphs, started, lossy)?;
         let older = live.process_count();
         Ok(World {
             tables,
@@ -89,6 +93,35 @@ impl<'p, 'a> World<'p, 'a> {
         ensures channels { length self.now.state.channels ≤ MOST_CHANNELS }
     {
         self.live.footprint()
+    }
+
+    /// Appends the value lines of the last step.
+    fn add_values(&self, wanted: Wanted, text: &mut Vec<u8>) -> Result<(), AllocError>
+        ensures added { OnOk result (text.new.items ≡ text.old.items ++ world.changed_lines self.now wanted.globals wanted.locals) }
+        ensures kept { OnErr result (StartsWith text.new.items text.old.items) }
+    {
+        let alloc = *text.allocator();
+        let kinds = self.live.kinds();
+        let older = self.older.min(kinds.len());
+        logged_lines(
+            alloc,
+            &self.tables,
+            &kinds[..older],
+            wanted,
+            self.live.variables(),
+            text,
+        )
+    }
+
+    /// Appends a line for each process that may not end where it stands, and answers whether each may.
+    fn add_ending(&self, text: &mut Vec<u8>) -> Result<bool, AllocError>
+        ensures valid { IfOk result (λ valid. valid ≡ ends.is_valid self.now.state) }
+        ensures added { OnOk result (text.new.items ≡ text.old.items ++ texts.stuck self.now.state) }
+        ensures kept { OnErr result (StartsWith text.new.items text.old.items) }
+    {
+        let valid = is_valid(&self.live.scene());
+        add_stuck(&self.live.scene(), text)?;
+        Ok(valid)
     }
 }
 
@@ -109,6 +142,10 @@ impl Machine for World<'_, '_> {
         add_move(&self.live.scene(), *m, text)
     }
 
+    fn origin(&self, m: &Move) -> (u32, u32) {
+        origin(&self.live.scene(), *m)
+    }
+
     fn take(&mut self, m: &Move, text: &mut Vec<u8>) -> Result<(), Stop> {
         if let Some(halt) = self.halt {
             return Err(halt.why);
@@ -127,26 +164,13 @@ impl Machine for World<'_, '_> {
         }
     }
 
-    fn values(&self, globals: bool, locals: bool, text: &mut Vec<u8>) -> Result<(), AllocError> {
-        let alloc = *text.allocator();
-        let wanted = Wanted { globals, locals };
-        let kinds = self.live.kinds();
-        let older = self.older.min(kinds.len());
-        logged_lines(
-            alloc,
-            &self.tables,
-            &kinds[..older],
-            wanted,
-            self.live.variables(),
-            text,
-        )
-    }
-
-    fn is_valid(&self) -> bool {
-        is_valid(&self.live.scene())
-    }
-
-    fn stuck(&self, text: &mut Vec<u8>) -> Result<(), AllocError> {
-        add_stuck(&self.live.scene(), text)
+    fn report(&self, what: Report, text: &mut Vec<u8>) -> Result<bool, AllocError> {
+        match what {
+            Report::Values(globals, locals) => {
+                self.add_values(Wanted { globals, locals }, text)?;
+                Ok(true)
+            }
+            Report::Ending => self.add_ending(text),
+        }
     }
 }

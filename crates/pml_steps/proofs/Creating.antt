@@ -1,5 +1,5 @@
 -- A process is created, or nothing is.
-use Rattle.std.proofs.Common.{◌≡◌, ℕ, ◌+◌, ◌-◌, take, arith, ◌<◌, ◌≤◌, false, List, [], ◌∷◌, ◌++◌, ℤ, map, length, refl, sym, ap, ◌∙◌, subst, Option, Some, Result, Ok, Err, OnOk}
+use Rattle.std.proofs.Common.{Bool, ◌≡◌, ℕ, ◌+◌, ◌-◌, take, arith, ◌<◌, ◌≤◌, false, List, [], ◌∷◌, ◌++◌, ℤ, map, length, refl, sym, ap, ◌∙◌, subst, Option, Some, Result, Ok, Err, OnOk}
 use Rattle.std.specs.Prelude.{slice_get, option_map}
 use Rattle.std.specs.Result.{is_err}
 use Rattle.std.proofs.lemmas.List.{map_push, length_push}
@@ -87,17 +87,17 @@ pub kinds_are : (p : Program) (xs : List Seat) → map (λ (y : Stand). y.kind) 
 kinds_are p [] = refl
 kinds_are p (x ∷ xs) = ap (λ (l : List ℕ). x.kind ∷ l) (kinds_are p xs)
 
-module _ (p : Program) (store new : Contents) (cs ds : List LiveChannel) (ks ls : List ℕ) (xs ys : List Seat) (holder : Option ℕ) (kind n : ℕ) (q : Proctype) where
+module _ (p : Program) (store new : Contents) (cs ds : List LiveChannel) (ks ls : List ℕ) (xs ys : List Seat) (holder : Option ℕ) (lossy : Bool) (kind n : ℕ) (q : Proctype) where
   abbrev was : State
-  was = (live_of p store cs xs holder).state
+  was = (live_of p store cs xs holder lossy).state
 
   abbrev is_now : State
-  is_now = (live_of p new ds ys holder).state
+  is_now = (live_of p new ds ys holder lossy).state
 
   joined : (b : Begun) → held new ds ls ≡ b → stand_of p (record { kind = kind; node = n }) ≡ record { kind = kind; control = first_control q.body } → ys ≡ xs ++ record { kind = kind; node = n } ∷ [] →
       is_now ≡ record was { frames = b.frames; channels = b.channels; stands = was.stands ++ record { kind = kind; control = first_control q.body } ∷ [] }
   joined b h s y =
-      ap (λ (zs : List Seat). (live_of p new ds zs holder).state) y
+      ap (λ (zs : List Seat). (live_of p new ds zs holder lossy).state) y
       ∙ ap (λ (zs : List Stand). record was { frames = new.frames; channels = ds; stands = zs }) (map_push (stand_of p) xs (record { kind = kind; node = n }) ∙ ap (λ (z : Stand). was.stands ++ z ∷ []) s)
       ∙ ap (λ (c : Begun). record was { frames = c.frames; channels = c.channels; stands = was.stands ++ record { kind = kind; control = first_control q.body } ∷ [] }) h
 

@@ -71,22 +71,22 @@ bounded_left p f cs ds b e = subst (AreBounded p) (sym e) (record { few = omega 
 -- a state by its parts
 pub died : (s : State) (xs : List Seat) (fs : List Frame) (cs : List LiveChannel) (n : ℕ) → s.stands ≡ map (stand_of s.program) xs → length xs ≡ n + 1 → length s.frames ≡ length xs + 1 →
     fs ≡ but_last s.frames → cs ≡ filter (λ (o : LiveChannel). not (nat_eq o.frame (n + 1))) s.channels →
-    ◌≡◌ {A = State} (record { program = s.program; frames = fs; stands = map (stand_of s.program) (take n xs); channels = cs; holder = None }) (without_youngest s)
+    ◌≡◌ {A = State} (record { program = s.program; frames = fs; stands = map (stand_of s.program) (take n xs); channels = cs; holder = None; lossy = s.lossy }) (without_youngest s)
 died s xs fs cs n e l m f c =
     let count : length s.stands ≡ n + 1 = ap length e ∙ length-map xs (stand_of s.program) ∙ l in
     let less : length s.frames - 1 ≡ length s.stands = omega (arith, m, l, count) in
     let one : n ≡ length s.stands - 1 = omega (arith, count) in
-    ap (λ (z : List Frame). record { program = s.program; frames = z; stands = map (stand_of s.program) (take n xs); channels = cs; holder = None }) (f ∙ ap (λ (i : ℕ). take i s.frames) less)
-    ∙ ap (λ (z : List Stand). record { program = s.program; frames = take (length s.stands) s.frames; stands = z; channels = cs; holder = None })
+    ap (λ (z : List Frame). record { program = s.program; frames = z; stands = map (stand_of s.program) (take n xs); channels = cs; holder = None; lossy = s.lossy }) (f ∙ ap (λ (i : ℕ). take i s.frames) less)
+    ∙ ap (λ (z : List Stand). record { program = s.program; frames = take (length s.stands) s.frames; stands = z; channels = cs; holder = None; lossy = s.lossy })
     (map-take (stand_of s.program) n xs ∙ ap (take n) (sym e) ∙ ap (λ (i : ℕ). take i s.stands) one)
-    ∙ ap (λ (z : List LiveChannel). record { program = s.program; frames = take (length s.stands) s.frames; stands = take (length s.stands - 1) s.stands; channels = z; holder = None })
+    ∙ ap (λ (z : List LiveChannel). record { program = s.program; frames = take (length s.stands) s.frames; stands = take (length s.stands - 1) s.stands; channels = z; holder = None; lossy = s.lossy })
     (c ∙ ap (λ (i : ℕ). filter (λ (o : LiveChannel). not (nat_eq o.frame i)) s.channels) (sym count))
 
 -- what lives, by its parts
-pub live_died : (p : Program) (store new : Contents) (cs ds : List LiveChannel) (xs ys : List Seat) (holder : Option ℕ) (n : ℕ) → length xs ≡ n + 1 → length store.frames ≡ length xs + 1 →
+pub live_died : (p : Program) (store new : Contents) (cs ds : List LiveChannel) (xs ys : List Seat) (holder : Option ℕ) (lossy : Bool) (n : ℕ) → length xs ≡ n + 1 → length store.frames ≡ length xs + 1 →
     new ≡ record store { frames = but_last store.frames } → ds ≡ filter (λ (o : LiveChannel). not (nat_eq o.frame (n + 1))) cs → ys ≡ take n xs →
-    live_of p new ds ys None ≡ (let l : Live = live_of p store cs xs holder in record l { state = without_youngest l.state })
-live_died p store new cs ds xs ys holder n l m e c y =
-    let live : Live = live_of p store cs xs holder in
-    ap (λ (z : List Seat). live_of p new ds z None) y ∙ ap (λ (z : Contents). live_of p z ds (take n xs) None) e
+    live_of p new ds ys None lossy ≡ (let l : Live = live_of p store cs xs holder lossy in record l { state = without_youngest l.state })
+live_died p store new cs ds xs ys holder lossy n l m e c y =
+    let live : Live = live_of p store cs xs holder lossy in
+    ap (λ (z : List Seat). live_of p new ds z None lossy) y ∙ ap (λ (z : Contents). live_of p z ds (take n xs) None lossy) e
     ∙ ap (λ (s : State). record live { state = s }) (died live.state xs (but_last store.frames) ds n refl l m refl c)

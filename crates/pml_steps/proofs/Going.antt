@@ -1,5 +1,5 @@
 -- A process goes on.
-use Rattle.std.proofs.Common.{◌≡◌, ℕ, ◌<◌, List, [], length, refl, sym, ap, ◌∙◌, Option, Some, None}
+use Rattle.std.proofs.Common.{Bool, ◌≡◌, ℕ, ◌<◌, List, [], length, refl, sym, ap, ◌∙◌, Option, Some, None}
 use Rattle.std.specs.Prelude.{slice_get, slice_set, slice_index_or, option_map, map}
 use Rattle.std.proofs.lemmas.Option.{slice_get-map}
 use Rattle.std.proofs.lemmas.List.{map-set}
@@ -36,9 +36,9 @@ gone_to s xs i n x d e l h =
     ∙ ap (λ (o : Option Stand). moved_to (control_at (body_by s o) n) o i s.stands) (sym y)
 
 -- so has the process of a seat
-pub seat_gone : (p : Program) (store : Contents) (cs : List LiveChannel) (xs : List Seat) (holder : Option ℕ) (i n : ℕ) (x d : Seat) → i < length xs → x ≡ slice_index_or xs i d →
-    live_of p store cs (slice_set xs i (record { kind = x.kind; node = n })) holder
-    ≡ (let l : Live = live_of p store cs xs holder in record l { state = go_to l.state i (control_at (body_by l.state (slice_get l.state.stands i)) n) })
-seat_gone p store cs xs holder i n x d l h =
-    let live : Live = live_of p store cs xs holder in
+pub seat_gone : (p : Program) (store : Contents) (cs : List LiveChannel) (xs : List Seat) (holder : Option ℕ) (lossy : Bool) (i n : ℕ) (x d : Seat) → i < length xs → x ≡ slice_index_or xs i d →
+    live_of p store cs (slice_set xs i (record { kind = x.kind; node = n })) holder lossy
+    ≡ (let l : Live = live_of p store cs xs holder lossy in record l { state = go_to l.state i (control_at (body_by l.state (slice_get l.state.stands i)) n) })
+seat_gone p store cs xs holder lossy i n x d l h =
+    let live : Live = live_of p store cs xs holder lossy in
     ap (λ (ys : List Stand). record live { state = record live.state { stands = ys } }) (gone_to live.state xs i n x d refl l h)

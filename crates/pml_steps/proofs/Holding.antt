@@ -103,24 +103,24 @@ all_stored_stays (Err f) (Ok u) old new h = absurd h
 
 -- ---- the state
 
-all_put : (p : Program) (c : Contents) (cs ds : List LiveChannel) (xs : List Seat) (holder : Option ℕ) (gs : List Goes) →
-    (live_of p (stored_all c gs) ds xs holder).state ≡ record (put_all (live_of p c cs xs holder).state gs) { channels = ds }
-all_put p c cs ds xs holder [] = refl
-all_put p c cs ds xs holder (g ∷ gs) = all_put p (stored c g.place g.number) cs ds xs holder gs
+all_put : (p : Program) (c : Contents) (cs ds : List LiveChannel) (xs : List Seat) (holder : Option ℕ) (lossy : Bool) (gs : List Goes) →
+    (live_of p (stored_all c gs) ds xs holder lossy).state ≡ record (put_all (live_of p c cs xs holder lossy).state gs) { channels = ds }
+all_put p c cs ds xs holder lossy [] = refl
+all_put p c cs ds xs holder lossy (g ∷ gs) = all_put p (stored c g.place g.number) cs ds xs holder lossy gs
 
 put_keeps : (s : State) (gs : List Goes) → record (put_all s gs) { channels = s.channels } ≡ put_all s gs
 put_keeps s [] = refl
 put_keeps s (g ∷ gs) = put_keeps (put s g) gs
 
-module _ (p : Program) (cs ds : List LiveChannel) (xs : List Seat) (holder : Option ℕ) (old new : Contents) where
+module _ (p : Program) (cs ds : List LiveChannel) (xs : List Seat) (holder : Option ℕ) (lossy : Bool) (old new : Contents) where
   abbrev was : State
-  was = (live_of p old cs xs holder).state
+  was = (live_of p old cs xs holder lossy).state
 
   abbrev now_is : State
-  now_is = (live_of p new ds xs holder).state
+  now_is = (live_of p new ds xs holder lossy).state
 
   abbrev with_store : Contents → State
-  with_store c = (live_of p c cs xs holder).state
+  with_store c = (live_of p c cs xs holder lossy).state
 
   pub taken_leads : (d : Result (Option Goes) Fault) (r : Result (Unit {0}) Stop) → TakesStatement d r old new → Leads (put_by was d) r (with_store new)
   taken_leads (Ok None) (Ok u) h = ap with_store h
@@ -134,7 +134,7 @@ module _ (p : Program) (cs ds : List LiveChannel) (xs : List Seat) (holder : Opt
 
   pub received_leads : (d : Result Received Fault) (r : Result (Unit {0}) Stop) → ReceivesMessage d r old new cs ds → Leads (with_received was d) r now_is
   received_leads (Ok x) (Ok u) h =
-      ap (λ (c : Contents). (live_of p c ds xs holder).state) h.0 ∙ all_put p old cs ds xs holder x.numbers ∙ ap (λ (es : List LiveChannel). record (put_all was x.numbers) { channels = es }) h.1
+      ap (λ (c : Contents). (live_of p c ds xs holder lossy).state) h.0 ∙ all_put p old cs ds xs holder lossy x.numbers ∙ ap (λ (es : List LiveChannel). record (put_all was x.numbers) { channels = es }) h.1
   received_leads (Ok x) (Err stop.Memory) h = tt
   received_leads (Ok x) (Err (stop.Fault f)) h = absurd h
   received_leads (Err f) (Err (stop.Fault g)) h = h.0
@@ -142,7 +142,7 @@ module _ (p : Program) (cs ds : List LiveChannel) (xs : List Seat) (holder : Opt
   received_leads (Err f) (Ok u) h = absurd h
 
   pub all_lead : (d : Result (List Goes) Fault) (r : Result (Unit {0}) Stop) → StoresAll d r old new → Leads (put_any was d) r (with_store new)
-  all_lead (Ok gs) (Ok u) h = ap with_store h ∙ all_put p old cs cs xs holder gs ∙ put_keeps was gs
+  all_lead (Ok gs) (Ok u) h = ap with_store h ∙ all_put p old cs cs xs holder lossy gs ∙ put_keeps was gs
   all_lead (Ok gs) (Err stop.Memory) h = tt
   all_lead (Ok gs) (Err (stop.Fault f)) h = absurd h
   all_lead (Err f) (Err (stop.Fault g)) h = h.0
@@ -235,9 +235,9 @@ kept_whole n xs ys e l =
 
 -- ---- the same of what calls read by other names
 
-module _ (p : Program) (store : Contents) (cs : List LiveChannel) (xs : List Seat) (holder : Option ℕ) (process : ℕ) (timeout : Bool) (pid count : ℕ) (t : Bool) where
+module _ (p : Program) (store : Contents) (cs : List LiveChannel) (xs : List Seat) (holder : Option ℕ) (lossy : Bool) (process : ℕ) (timeout : Bool) (pid count : ℕ) (t : Bool) where
   abbrev before : State
-  before = (live_of p store cs xs holder).state
+  before = (live_of p store cs xs holder lossy).state
 
   abbrev ReadsSame : Type 0
   ReadsSame = (fs : List Frame) (es : List LiveChannel) → reading_of fs es pid count t ≡ reading_of fs es process (length before.stands) timeout
@@ -254,12 +254,12 @@ module _ (p : Program) (store : Contents) (cs : List LiveChannel) (xs : List Sea
 
   pub received_lives : (n : ℕ) (ds es : List LiveChannel) (new : Contents) (target : Target) (search : Search) (removal : Removal) (wants : List Want) (r : Result (Unit {0}) Stop) → n ≡ length cs → ds ≡ cs → ReadsSame
       → ReceivesMessage (received ds (reading_of store.frames ds pid count t) target search removal wants) r store new ds es
-      → Leads (with_received before (received before.channels (reads before process timeout) target search removal wants)) r (live_of p new (take n (es ++ drop (length es) cs)) xs holder).state
+      → Leads (with_received before (received before.channels (reads before process timeout) target search removal wants)) r (live_of p new (take n (es ++ drop (length es) cs)) xs holder lossy).state
   received_lives n ds es new target search removal wants r count_is e same h =
       let one : ReceivesMessage (received cs (reading_of store.frames cs pid count t) target search removal wants) r store new cs es = subst (λ (l : List LiveChannel). ReceivesMessage (received l (reading_of store.frames l pid count t) target search removal wants) r store new l es) e h in
       let two : ReceivesMessage (received cs (reads before process timeout) target search removal wants) r store new cs es = subst (λ (g : Reading). ReceivesMessage (received cs g target search removal wants) r store new cs es) (same store.frames cs) one in
       let whole = kept_whole n es cs count_is (received_length (asked_at cs (reads before process timeout) target wants) search removal r store new cs es two) in
-      received_leads p cs (take n (es ++ drop (length es) cs)) xs holder store new (received cs (reads before process timeout) target search removal wants) r
+      received_leads p cs (take n (es ++ drop (length es) cs)) xs holder lossy store new (received cs (reads before process timeout) target search removal wants) r
       (subst (λ (l : List LiveChannel). ReceivesMessage (received cs (reads before process timeout) target search removal wants) r store new cs l) (sym whole) two)
 
 -- no channel has more room after a send or a receive

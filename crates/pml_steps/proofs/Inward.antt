@@ -26,16 +26,17 @@ use Rattle.pml_steps.specs.Live.{Live, Joins, PastGrows, Does, past}
 use Rattle.pml_steps.specs.Outcome.{Done, body_by, effect, behind, first_of, onward, within}
 
 -- the first choice among the edges of a node is that among the offers of what it stands for
-pub first_shown : (k : Body) (n : ℕ) (b : Seq) (cs ds : List LiveChannel) (q r : Reading) (e : Option Edge) → IsBody k → b ≡ k.proctype.now.body → cs ≡ ds → q ≡ r
-    → option_map (shows k) e ≡ first (choices cs q (map (map (shows k)) (edges_at k n)))
-    → first (choices ds r (levels b (point_at b n))) ≡ option_map (shows k) e
-first_shown k n b cs ds q r e is same channels reading h =
+pub first_shown : (k : Body) (n : ℕ) (b : Seq) (lossy loses : Bool) (cs ds : List LiveChannel) (q r : Reading) (e : Option Edge) → IsBody k → b ≡ k.proctype.now.body → lossy ≡ loses → cs ≡ ds → q ≡ r
+    → option_map (shows k) e ≡ first (choices lossy cs q (map (map (shows k)) (edges_at k n)))
+    → first (choices loses ds r (levels b (point_at b n))) ≡ option_map (shows k) e
+first_shown k n b lossy loses cs ds q r e is same losing channels reading h =
     sym (
     h
-    ∙ ap (λ (ls : List (List Offer)). first (choices cs q ls)) (at_node k n is)
-    ∙ ap (λ (s : Seq). first (choices cs q (levels s (point_at s n)))) (sym same)
-    ∙ ap (λ (os : List LiveChannel). first (choices os q (levels b (point_at b n)))) channels
-    ∙ ap (λ (x : Reading). first (choices ds x (levels b (point_at b n)))) reading
+    ∙ ap (λ (ls : List (List Offer)). first (choices lossy cs q ls)) (at_node k n is)
+    ∙ ap (λ (s : Seq). first (choices lossy cs q (levels s (point_at s n)))) (sym same)
+    ∙ ap (λ (l : Bool). first (choices l cs q (levels b (point_at b n)))) losing
+    ∙ ap (λ (os : List LiveChannel). first (choices loses os q (levels b (point_at b n)))) channels
+    ∙ ap (λ (x : Reading). first (choices loses ds x (levels b (point_at b n)))) reading
     )
 
 -- the body of the scene is that of the state
@@ -76,7 +77,7 @@ first_done n s p t b (o ∷ os) = one_done n p b o (effect s p t o.basic)
 
 -- a d_step is one statement, and what follows
 one_more : (n : ℕ) (s : State) (p : ℕ) (t : Bool) (b : Seq) (c : Control) → within (suc n) s p t b c ≡ (advanced s p t b c >>= λ x. goes_on n p b x.next x.done)
-one_more n s p t b c = first_done n s p t b (choices s.channels (reads s p t) (levels b c))
+one_more n s p t b c = first_done n s p t b (choices s.lossy s.channels (reads s p t) (levels b c))
 
 -- what is left after i statements, behind what was printed so far, is the whole
 pub record Follows (b : Seq) (most i : ℕ) (old now : State) (p : ℕ) (t u : Bool) (c d : Control) (before after : List ℕ) : Type 0 where

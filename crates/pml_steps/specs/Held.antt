@@ -1,5 +1,5 @@
 -- What is always so of what lives.
-use Rattle.std.specs.Prelude.{◌≡◌, ℕ, List, [], map, Option, Some, None}
+use Rattle.std.specs.Prelude.{◌≡◌, ℕ, Bool, List, [], map, Option, Some, None}
 use Rattle.pml_program.specs.declared.program.Stmt.{Stmt}
 use Rattle.pml_program.specs.declared.program.Seq.{Seq}
 use Rattle.pml_program.specs.declared.program.Fields.{Fields}
@@ -29,9 +29,9 @@ pub record IsHeld (p : Program) (gs : List Graph) (ss : List (List (Option Stmt)
   pub typedefs : ts ≡ p.typedefs
   pub bounded : IsBounded p store channels
 
-abbrev pub live_of : Program → Contents → List LiveChannel → List Seat → Option ℕ → Live
-live_of p store channels seats holder = record {
-  state = record { program = p; frames = store.frames; stands = map (stand_of p) seats; channels = channels; holder = holder };
+abbrev pub live_of : Program → Contents → List LiveChannel → List Seat → Option ℕ → Bool → Live
+live_of p store channels seats holder lossy = record {
+  state = record { program = p; frames = store.frames; stands = map (stand_of p) seats; channels = channels; holder = holder; lossy = lossy };
   written = store.written;
 }
 
@@ -46,5 +46,5 @@ abbrev pub begins_at : Program → ℕ → Stand
 begins_at p k = begins_by k (body_of p k)
 
 -- all processes stand before their first statements, and nobody holds exclusive control
-abbrev pub first_state : Program → Begun → State
-first_state p b = record { program = p; frames = b.frames; stands = map (begins_at p) b.kinds; channels = b.channels; holder = None }
+abbrev pub first_state : Program → Begun → Bool → State
+first_state p b lossy = record { program = p; frames = b.frames; stands = map (begins_at p) b.kinds; channels = b.channels; holder = None; lossy = lossy }

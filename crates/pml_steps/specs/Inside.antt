@@ -38,7 +38,7 @@ advanced_by s p t (Some o) = effect s p t o.basic >>= then_at o
 
 -- the first choice of a point is taken
 abbrev pub advanced : State → ℕ → Bool → Seq → Control → Result Advance Fault
-advanced s p t b c = advanced_by s p t (first (choices s.channels (reads s p t) (levels b c)))
+advanced s p t b c = advanced_by s p t (first (choices s.lossy s.channels (reads s p t) (levels b c)))
 
 -- it is done, what it prints is appended, and this is where control is; or its fault is answered, or memory is refused
 abbrev pub Advances : Seq → Result Advance Fault → Result Inner Stop → State → List ℕ → List ℕ → Type 0

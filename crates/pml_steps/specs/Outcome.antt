@@ -90,7 +90,7 @@ onward false d rest = Ok d
 abbrev pub within : ℕ → State → ℕ → Bool → Seq → Control → Result Done Fault
 within zero s p t b c = Err DStepTooLong
 within (suc n) s p t b c =
-    first_of (choices s.channels (reads s p t) (levels b c)) (λ o.
+    first_of (choices s.lossy s.channels (reads s p t) (levels b c)) (λ o.
     effect s p t o.basic >>= λ d.
     onward o.stays d (λ e. within n e.state p false b o.next >>= behind e.printed))
 

@@ -56,6 +56,7 @@ pub struct Live<'p, 'a> {
     kinds: Vec<usize>,
     seats: Vec<Seat>,
     holder: Option<usize>,
+    lossy: bool,
 }
 
 impl<'p, 'a> Model for Live<'p, 'a> {
@@ -73,7 +74,7 @@ impl<'p, 'a> Model for Live<'p, 'a> {
 
     ghost coded = { Prim.hlevel (codes, worth.the_row.coded, (seq.the_row (record { mir = named 0; lft = [] })).coded, (basic.the_row (record { mir = named 0; lft = [] })).coded) };
 
-    ghost view = { λ l. live_of l.program.now l.store l.channels.items l.seats.items l.holder };
+    ghost view = { λ l. live_of l.program.now l.store l.channels.items l.seats.items l.holder l.lossy };
 
     ghost invariant = { λ l. IsHeld l.program.now l.graphs.now l.statements.items l.beginnings l.store l.channels.items l.kinds.items l.seats.items };
 }
@@ -160,12 +161,13 @@ impl<'p, 'a> Live<'p, 'a> {
         program: &'p Program<'a>,
         graphs: &'p [Graph],
         started: Started,
+        lossy: bool,
     ) -> Result<Live<'p, 'a>, AllocError>
         requires declared { IsDeclared program.now (shown started) }
         requires graphs { AreGraphs program.now.proctypes graphs.now }
         requires fresh { started.store.written ≡ [] }
         requires bounded { IsBounded program.now started.store started.channels.items }
-        ensures { IfOk result (λ l. l ≡ record { state = first_state program.now (shown started); written = [] }) }
+        ensures { IfOk result (λ l. l ≡ record { state = first_state program.now (shown started) lossy; written = [] }) }
     {
         let Started {
             store,
@@ -185,7 +187,15 @@ impl<'p, 'a> Live<'p, 'a> {
             kinds,
             seats,
             holder: None,
+            lossy,
         })
+    }
+
+    /// Whether what is sent to a full channel is lost.
+    pub fn is_lossy(&self) -> bool
+        ensures { result ≡ self.now.state.lossy }
+    {
+        self.lossy
     }
 
     /// The state, as a search looks at it.
@@ -201,6 +211,7 @@ impl<'p, 'a> Live<'p, 'a> {
             seats: self.seats.as_slice(),
             channels: self.channels.as_slice(),
             holder: self.holder,
+            lossy: self.lossy,
         }
     }
 

@@ -58,10 +58,10 @@ fn chosen<'p, 'a>(
     node: usize,
 ) -> Option<Choice<'p, 'a>>
     requires { process < length live.now.state.stands }
-    ensures { (b : Seq) → body_by live.now.state (slice_get live.now.state.stands process) ≡ Some b → Chooses b (first (choices live.now.state.channels (reads live.now.state process timeout) (levels b (point_at b node)))) result }
+    ensures { (b : Seq) → body_by live.now.state (slice_get live.now.state.stands process) ≡ Some b → Chooses b (first (choices live.now.state.lossy live.now.state.channels (reads live.now.state process timeout) (levels b (point_at b node)))) result }
 {
     let body = body_in(&live.scene(), process)?;
-    let edge = choice(&live.view(process, timeout), &body, node)?;
+    let edge = choice(&live.view(process, timeout), live.is_lossy(), &body, node)?;
     Some(Choice {
         basic: body.basic(edge),
         next: edge.target,

@@ -8,8 +8,9 @@ use Rattle.pml_lex.specs.declared.token.Kind.TheVariants as k
 use Rattle.pml_tree.specs.declared.tree.Basic.{Basic}
 use Rattle.pml_tree.specs.declared.tree.Item.{Item}
 use Rattle.pml_tree.specs.declared.tree.Seq.{Seq}
+use Rattle.pml_syntax.specs.declared.range.Range.{Range}
 use Rattle.pml_syntax.specs.Grammar as grammar
-use Rattle.pml_syntax.specs.Grammar.{is_separator, is_exclusive, seq_of, SpellsSeparators, SpellsGap, SpellsLabels, SpellsBasic, SpellsStatement, SpellsItem, SpellsItems, SpellsOptions}
+use Rattle.pml_syntax.specs.Grammar.{is_separator, is_exclusive, seq_of, SpellsSeparators, SpellsGap, SpellsLabels, SpellsRange, SpellsBasic, SpellsStatement, SpellsItem, SpellsItems, SpellsOptions}
 use Rattle.pml_syntax.specs.Starts.{opening, declares, is_end}
 use Rattle.pml_expression.specs.Reading.{Read, and_then, pick, next, sees}
 use Rattle.pml_syntax.specs.ReadingStatements as reading
@@ -19,6 +20,7 @@ use Rattle.pml_syntax.proofs.Begins.{follows, stops, Plain, other_plain, action_
 use Rattle.pml_syntax.proofs.AgainActions.{action_again}
 use Rattle.pml_syntax.proofs.AgainDeclarations.{stops_settles, declaration_begins, declaration_is, declaration_again, declaration_moves, references_again, references_move}
 use Rattle.pml_syntax.proofs.FoundBodies.{or_assoc}
+use Rattle.pml_syntax.proofs.Ranges.{range_begins, range_moves, range_again}
 
 -- ---- separators
 
@@ -121,9 +123,14 @@ basic_begins (grammar.do_od is _ _) = at BeginsStatement is (begins_none k.Do re
 basic_begins (grammar.block is _ _) = at BeginsStatement is (begins_none k.OpenBrace refl refl refl refl)
 basic_begins (grammar.atomic is _ _ _) = at BeginsStatement is (begins_none k.Atomic refl refl refl refl)
 basic_begins (grammar.d_step is _ _ _) = at BeginsStatement is (begins_none k.DStep refl refl refl refl)
+basic_begins (grammar.for_loop r _ _ _) = at BeginsStatement (range_begins r) (begins_none k.For refl refl refl refl)
+basic_begins (grammar.select r) = at BeginsStatement (range_begins r) (begins_none k.Select refl refl refl refl)
 basic_begins (grammar.goto is _) = at BeginsStatement is (begins_none k.Goto refl refl refl refl)
 basic_begins (grammar.break is) = at BeginsStatement is (begins_none k.Break refl refl refl refl)
 basic_begins (grammar.action x) = let h = action_begins x in begins_none _ h.no_follow h.no_declare h.no_exclusive h.no_comma
+
+range_plain : {kind : Kind} {r : Range} {from to : List Word} → SpellsRange kind r from to → same_kind kind k.Name ≡ false → Plain from
+range_plain {kind} (grammar.range {w} {o} {from} is _ _ _ _ _ _ _) h = other_plain kind w (o ∷ from) is h
 
 basic_plain : {closed : Bool} {x : Basic} {from to : List Word} → SpellsBasic closed x from to → (closed ≡ false → follows (next to) ≡ true) → Plain from
 basic_plain (grammar.if_fi is _ _) follow = other_plain k.If _ _ is refl
@@ -131,6 +138,8 @@ basic_plain (grammar.do_od is _ _) follow = other_plain k.Do _ _ is refl
 basic_plain (grammar.block is _ _) follow = other_plain k.OpenBrace _ _ is refl
 basic_plain (grammar.atomic is _ _ _) follow = other_plain k.Atomic _ _ is refl
 basic_plain (grammar.d_step is _ _ _) follow = other_plain k.DStep _ _ is refl
+basic_plain (grammar.for_loop r _ _ _) follow = range_plain r refl
+basic_plain (grammar.select r) follow = range_plain r refl
 basic_plain (grammar.goto is _) follow = other_plain k.Goto _ _ is refl
 basic_plain (grammar.break is) follow = other_plain k.Break _ _ is refl
 basic_plain (grammar.action x) follow = action_plain x follow
@@ -222,6 +231,8 @@ mutual
   basic_moves (grammar.block _ xs _) = omega (arith, items_move xs)
   basic_moves (grammar.atomic _ _ xs _) = omega (arith, items_move xs)
   basic_moves (grammar.d_step _ _ xs _) = omega (arith, items_move xs)
+  basic_moves (grammar.for_loop r _ xs _) = omega (arith, range_moves r, items_move xs)
+  basic_moves (grammar.select r) = range_moves r
   basic_moves (grammar.goto _ _) = omega arith
   basic_moves (grammar.break _) = omega arith
   basic_moves (grammar.action x) = action_moves x
@@ -260,7 +271,7 @@ seq_deep zero xs from to room h = absurd (omega arith)
 seq_deep (suc d) xs from to room h = rw (h d (omega arith)) refl
 
 mutual
-  unfolding reading.if_fi reading.do_od reading.block reading.atomic reading.d_step reading.goto reading.plainly reading.options reading.options_from reading.braces reading.statement reading.declared reading.exclusive reading.escape reading.stepped reading.item reading.items_from reading.basic sees and_then pick
+  unfolding reading.if_fi reading.do_od reading.block reading.atomic reading.d_step reading.for_loop reading.select reading.goto reading.plainly reading.options reading.options_from reading.braces reading.statement reading.declared reading.exclusive reading.escape reading.stepped reading.item reading.items_from reading.basic sees and_then pick
 
   basic_again : {closed : Bool} {x : Basic} {from to : List Word} → SpellsBasic closed x from to → (depth : ℕ) → length from ≤ depth → (closed ≡ false → follows (next to) ≡ true) → reading.basic depth (reading.items depth) from ≡ Ok ((x, closed), to)
   basic_again (grammar.if_fi {o} {c} {from} {to} is os closed) depth room follow =
@@ -276,6 +287,10 @@ mutual
   basic_again (grammar.d_step {w} {o} {c} {xs} {from} {to} is opened h closed) depth room follow =
       let inside = seq_deep depth xs from (c ∷ to) (omega arith) (λ d deep. items_again h d (length from) deep (omega arith) (at (λ x. is_end x ≡ true) closed refl) false []) in
       basic_at depth _ (w ∷ o ∷ from) _ is (rw (expect_again k.OpenBrace o from opened, inside, expect_again k.CloseBrace c to closed) refl)
+  basic_again (grammar.for_loop {o} {c} {xs} {from} {middle} {to} r opened h closed) depth room follow =
+      let inside = seq_deep depth xs middle (c ∷ to) (omega (arith, range_moves r)) (λ d deep. items_again h d (length middle) deep (omega arith) (at (λ x. is_end x ≡ true) closed refl) false []) in
+      basic_at depth _ from _ (range_begins r) (rw (range_again r depth room, expect_again k.OpenBrace o middle opened, inside, expect_again k.CloseBrace c to closed) refl)
+  basic_again (grammar.select {from} r) depth room follow = basic_at depth _ from _ (range_begins r) (rw (range_again r depth room) refl)
   basic_again (grammar.goto {w} {n} {to} is named) depth room follow = basic_at depth _ (w ∷ n ∷ to) _ is (rw (expect_again k.Name n to named) refl)
   basic_again (grammar.break {w} {to} is) depth room follow = basic_at depth _ (w ∷ to) _ is refl
   basic_again (grammar.action x) depth room follow = rw ((action_begins x).no_structure, action_again x depth room follow) refl

@@ -11,7 +11,7 @@ use Rattle.pml_syntax.specs.declared.starts.Opening.{Opening}
 use Rattle.pml_syntax.specs.declared.starts.Opening.TheVariants as o
 use Rattle.pml_syntax.specs.Grammar as grammar
 use Rattle.pml_expression.specs.Grammar.{between}
-use Rattle.pml_syntax.specs.Grammar.{is_separator, is_exclusive, item_of, seq_of, SpellsDeclaration, SpellsSeparators, SpellsGap, SpellsLabels, SpellsBasic, SpellsStatement, SpellsItem, SpellsItems, SpellsOptions}
+use Rattle.pml_syntax.specs.Grammar.{is_separator, is_exclusive, item_of, seq_of, SpellsDeclaration, SpellsSeparators, SpellsGap, SpellsLabels, SpellsRange, SpellsBasic, SpellsStatement, SpellsItem, SpellsItems, SpellsOptions}
 use Rattle.pml_syntax.specs.Starts.{opening}
 use Rattle.pml_expression.specs.Reading.{Read, pick, next}
 use Rattle.pml_syntax.specs.ReadingStatements as reading
@@ -20,6 +20,7 @@ use Rattle.pml_expression.proofs.Steps.{bind_ok, chosen, ok_is, expect_ok, done,
 use Rattle.pml_expression.proofs.Lists.{GoesOn, one_more, just_one, none_more, all_found}
 use Rattle.pml_syntax.proofs.FoundActions.{action_found}
 use Rattle.pml_syntax.proofs.FoundDeclarations.{declaration_found, references_found}
+use Rattle.pml_syntax.proofs.Ranges.{range_found}
 
 -- ---- separators and labels
 
@@ -165,7 +166,7 @@ module _ (depth : ℕ) (body : List Word → Read (List Item × Bool)) (sound : 
   IsBasic ts x = SpellsBasic x.0.1 x.0.0 ts x.1
 
   basic_by_found : (start : Opening) (ts : List Word) (x : (Basic × Bool) × List Word) → opening (next ts) ≡ start → reading.basic_by depth body start ts ≡ Ok x → IsBasic ts x
-  unfolding reading.if_fi reading.do_od reading.block reading.atomic reading.d_step reading.goto reading.plainly
+  unfolding reading.if_fi reading.do_od reading.block reading.atomic reading.d_step reading.for_loop reading.select reading.goto reading.plainly
   basic_by_found o.If [] x is h = absurd cc
   basic_by_found o.If (w ∷ ws) x is h =
       let os = bind_ok h in
@@ -190,6 +191,15 @@ module _ (depth : ℕ) (body : List Word → Read (List Item × Bool)) (sound : 
       let xs = bind_ok h in
       let e = braces_found ws xs.0 xs.1 in
       subst (IsBasic (w ∷ ws)) (ok_is xs.2) (subst (λ (from : List Word). SpellsBasic true (b.DStep (seq_of xs.0.0)) (w ∷ from) xs.0.1) (sym e.front) (grammar.d_step (opening_d_step w.kind is) e.opens e.spells e.closes))
+  basic_by_found o.For ts x is h =
+      let r = bind_ok h in
+      let xs = bind_ok r.2 in
+      let e = braces_found r.0.1 xs.0 xs.1 in
+      subst (IsBasic ts) (ok_is xs.2)
+      (grammar.for_loop (subst (λ (to : List Word). SpellsRange k.For r.0.0 ts to) e.front (range_found depth k.For ts r.0 r.1)) e.opens e.spells e.closes)
+  basic_by_found o.Select ts x is h =
+      let r = bind_ok h in
+      subst (IsBasic ts) (ok_is r.2) (grammar.select (range_found depth k.Select ts r.0 r.1))
   basic_by_found o.Goto [] x is h = absurd cc
   basic_by_found o.Goto (w ∷ ws) x is h =
       let n = bind_ok h in

@@ -7,6 +7,7 @@ use Rattle.pml_expression.specs.Grammar.{between, SpellsExpr, SpellsList}
 use Rattle.pml_syntax.specs.Grammar as grammar
 use Rattle.pml_syntax.specs.Grammar.{SpellsScalar, SpellsRun, SpellsValues, SpellsAction, SpellsVisibility, SpellsOpener, SpellsInitial, SpellsVariable, SpellsVariables, SpellsDeclaration, SpellsSeparators, SpellsGap, SpellsLabels, SpellsBasic, SpellsStatement, SpellsItem, SpellsItems, SpellsOptions}
 use Rattle.pml_expression.proofs.Kept.{Leads, here, past, ◌then◌, step, index_leads, reference_leads, expr_leads, arguments_lead, list_leads, cut}
+use Rattle.pml_syntax.proofs.Ranges.{range_leads}
 
 exprs_lead : {xs : _} {from to : List Word} → SpellsList (SpellsExpr 1) xs from to → Leads from to
 exprs_lead xs = list_leads (λ x from to s. expr_leads s) xs
@@ -85,6 +86,8 @@ mutual
   basic_leads (grammar.block _ xs _) = past (step (items_lead xs))
   basic_leads (grammar.atomic _ _ xs _) = past (past (step (items_lead xs)))
   basic_leads (grammar.d_step _ _ xs _) = past (past (step (items_lead xs)))
+  basic_leads (grammar.for_loop r _ xs _) = step (range_leads r) then step (items_lead xs)
+  basic_leads (grammar.select r) = range_leads r
   basic_leads (grammar.goto _ _) = past (past here)
   basic_leads (grammar.break _) = past here
   basic_leads (grammar.action x) = action_leads x

@@ -1,6 +1,7 @@
 pub mod Turns
 pub mod FoundActions
 pub mod FoundDeclarations
+pub mod Ranges
 pub mod FoundBodies
 pub mod Begins
 pub mod AgainActions
@@ -10,3 +11,4 @@ pub mod FoundUnits
 pub mod AgainUnits
 pub mod Whole
 pub mod Kept
+pub mod Rows

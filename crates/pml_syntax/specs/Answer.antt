@@ -1,5 +1,8 @@
 -- What is answered for a tree.
-use Rattle.std.specs.Prelude.{◌≡◌, ℕ, ◌≤◌, Result, Ok, Err}
+use Rattle.std.specs.Prelude.{◌≡◌, ℕ, ◌≤◌, List, Result, Ok, Err}
+use Rattle.pml_lex.specs.Word.{Word}
+use Rattle.pml_expression.specs.declared.fault.ReadFault.{ReadFault}
+use Rattle.pml_expression.specs.Reading.{Read, Fails}
 use Rattle.pml_tree.specs.declared.tree.Tree.{Tree}
 use Rattle.pml_syntax.specs.declared.program.SyntaxFault.{SyntaxFault}
 use Rattle.pml_syntax.specs.declared.program.SyntaxFault.TheVariants as fault
@@ -13,3 +16,8 @@ Answers t (Err (fault.Syntax line)) = ⊥
 -- one of the lines of a text of this many
 abbrev pub IsOnLine : ℕ → ℕ → Type 0
 IsOnLine most line = (1 ≤ line) × (line ≤ most)
+
+-- what reading gives, whatever it leaves, unless memory ran out
+abbrev pub Gives : {A : Type 0} → Read A → Result A ReadFault → Type 0
+Gives read (Ok x) = (to : List Word) × (read ≡ Ok (x, to))
+Gives read (Err f) = Fails f read

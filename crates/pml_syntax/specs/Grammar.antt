@@ -1,12 +1,16 @@
 -- The grammar of Promela: which tree the tokens from one place up to another spell. Each relation has one rule for each
 -- production. `from` is the list of the tokens from a place on, and `to` the list of those that are left behind it.
-use Rattle.std.specs.Prelude.{◌≡◌, Bool, true, false, ◌||◌, List, [], ◌∷◌, ◌++◌, Option, Some, None}
+use Rattle.std.specs.Prelude.{◌≡◌, ℕ, Bool, true, false, ◌||◌, List, [], ◌∷◌, ◌++◌, Option, Some, None}
+use lib.Chars.{codes}
 use Rattle.pml_lex.specs.Word.{Word}
 use Rattle.pml_lex.specs.declared.token.Kind.{Kind}
 use Rattle.pml_lex.specs.declared.token.Kind.TheVariants as k
 use Rattle.pml_tree.specs.declared.tree.Scalar.{Scalar}
 use Rattle.pml_tree.specs.declared.tree.Scalar.TheVariants as scalars
+use Rattle.pml_tree.specs.declared.tree.Infix.{Infix}
+use Rattle.pml_tree.specs.declared.tree.Infix.TheVariants as op
 use Rattle.pml_tree.specs.declared.tree.Expr.{Expr}
+use Rattle.pml_tree.specs.declared.tree.Expr.TheVariants as e
 use Rattle.pml_tree.specs.declared.tree.Reference.{Reference}
 use Rattle.pml_tree.specs.declared.tree.Search.{Search}
 use Rattle.pml_tree.specs.declared.tree.SendOrder.{SendOrder}
@@ -33,6 +37,9 @@ use Rattle.pml_tree.specs.declared.tree.Unit.TheVariants as u
 use Rattle.pml_tree.specs.declared.tree.Tree.{Tree}
 use Rattle.pml_syntax.specs.declared.opener.Opener.{Opener}
 use Rattle.pml_syntax.specs.declared.opener.Opener.TheVariants as opener
+use Rattle.pml_syntax.specs.declared.range.Counter.{Counter}
+use Rattle.pml_syntax.specs.declared.range.Bound.{Bound}
+use Rattle.pml_syntax.specs.declared.range.Range.{Range}
 use Rattle.pml_expression.specs.Grammar.{query, between, SpellsIndex, SpellsReference, SpellsExpr, SpellsArguments, SpellsList}
 
 -- ---- what the tokens mean alone
@@ -83,6 +90,17 @@ item_of labels basic tokens = roll-Item (record { labels = labels; basic = basic
 
 abbrev pub seq_of : List Item → Seq
 seq_of items = roll-Seq (record { items = items })
+
+-- what a `for` or a `select` counts over: its variable, which stands in three statements (one sets it, one compares it, one raises it), with the line of
+-- the word before it, and its first and its last value, each with its tokens
+abbrev pub counter_of : ℕ → Reference → List Word → Counter
+counter_of line i tokens = record { line = line; set = i; compared = i; raised = i; tokens = tokens }
+
+abbrev pub bound_of : Expr → List Word → Bound
+bound_of value tokens = record { value = value; tokens = tokens }
+
+abbrev pub range_of : Counter → Bound → Bound → Range
+range_of counter first last = record { counter = counter; first = first; last = last }
 
 abbrev pub proctype_of : Starts → Word → List Variable → Seq → Word → Proctype
 proctype_of starts name parameters body end = record { starts = starts; name = name; parameters = parameters; body = body; end = end }
@@ -190,6 +208,67 @@ pub data SpellsDeclaration : Bool → List Variable → List Word → List Word 
       → SpellsOpener f typed named → SpellsVariables closed f vs named to
       → SpellsDeclaration closed vs from to
 
+-- ---- what `for` and `select` stand for
+
+-- the word, which is of this kind, and what stands in the parentheses behind it
+pub data SpellsRange (kind : Kind) : Range → List Word → List Word → Type 0 where
+  range : {w o c d z : Word} {i : Reference} {x y : Expr} {from first last to : List Word} → w.kind ≡ kind → o.kind ≡ k.OpenParen
+      → SpellsReference i from (c ∷ first) → c.kind ≡ k.Colon
+      → SpellsExpr 1 x first (d ∷ last) → d.kind ≡ k.DotDot → SpellsExpr 1 y last (z ∷ to) → z.kind ≡ k.CloseParen
+      → SpellsRange kind (range_of (counter_of w.line i (between from (c ∷ first))) (bound_of x (between first (d ∷ last))) (bound_of y (between last (z ∷ to)))) (w ∷ o ∷ from) to
+
+-- A token that the text has not is on the line of the word.
+abbrev pub made : Kind → List ℕ → ℕ → Word
+made kind text line = record { kind = kind; text = text; line = line }
+
+-- `i = a`
+abbrev pub setting : ℕ → Reference → List Word → Bound → Item
+setting line i named x = item_of [] (b.Plain (a.Assign i x.value)) (named ++ made k.Assign (codes "=") line ∷ x.tokens)
+
+-- `i <= b` or `i < b`, where b is the whole right side
+abbrev pub comparing : Infix → Word → Reference → List Word → Bound → Item
+comparing o word i named y = item_of [] (b.Plain (a.Holds (e.Binary o (e.Read i) y.value))) (named ++ word ∷ y.tokens)
+
+-- `i++`
+abbrev pub raising : ℕ → Reference → List Word → Item
+raising line i named = item_of [] (b.Plain (a.Increment i)) (named ++ made k.Increment (codes "++") line ∷ [])
+
+abbrev pub otherwise_item : ℕ → Item
+otherwise_item line = item_of [] (b.Plain a.Else) (made k.Else (codes "else") line ∷ [])
+
+abbrev pub breaking : ℕ → Item
+breaking line = item_of [] b.Break (made k.Break (codes "break") line ∷ [])
+
+-- `do OPTIONS od`
+abbrev pub turning : ℕ → List Seq → Item
+turning line options = item_of [] (b.Do options) (made k.Do (codes "do") line ∷ [])
+
+-- `:: i <= b -> S; i++` and `:: else -> break`
+abbrev pub for_on : ℕ → Reference → Reference → List Word → Bound → List Item → Seq
+for_on line compared raised named y s = seq_of (comparing op.AtMost (made k.AtMost (codes "<=") line) compared named y ∷ s ++ raising line raised named ∷ [])
+
+abbrev pub for_out : ℕ → Seq
+for_out line = seq_of (otherwise_item line ∷ breaking line ∷ [])
+
+-- `:: i < b -> i++` and `:: break`
+abbrev pub select_on : ℕ → Reference → Reference → List Word → Bound → Seq
+select_on line compared raised named y = seq_of (comparing op.Below (made k.Less (codes "<") line) compared named y ∷ raising line raised named ∷ [])
+
+abbrev pub select_out : ℕ → Seq
+select_out line = seq_of (breaking line ∷ [])
+
+-- `{ i = a; do :: i <= b -> S; i++ :: else -> break od }`
+abbrev pub for_of : Range → List Item → Basic
+for_of r s =
+    let i = r.counter in
+    b.Block (seq_of (setting i.line i.set i.tokens r.first ∷ turning i.line (for_on i.line i.compared i.raised i.tokens r.last s ∷ for_out i.line ∷ []) ∷ []))
+
+-- `{ i = a; do :: i < b -> i++ :: break od }`
+abbrev pub select_of : Range → Basic
+select_of r =
+    let i = r.counter in
+    b.Block (seq_of (setting i.line i.set i.tokens r.first ∷ turning i.line (select_on i.line i.compared i.raised i.tokens r.last ∷ select_out i.line ∷ []) ∷ []))
+
 -- ---- bodies
 
 pub data SpellsSeparators : List Word → List Word → Type 0 where
@@ -221,6 +300,10 @@ mutual
     d_step : {w o c : Word} {xs : List Item} {from to : List Word} → w.kind ≡ k.DStep → o.kind ≡ k.OpenBrace → SpellsItems true xs from (c ∷ to)
         → c.kind ≡ k.CloseBrace
         → SpellsBasic true (b.DStep (seq_of xs)) (w ∷ o ∷ from) to
+    for_loop : {o c : Word} {r : Range} {xs : List Item} {from middle to : List Word} → SpellsRange k.For r from (o ∷ middle) → o.kind ≡ k.OpenBrace
+        → SpellsItems true xs middle (c ∷ to) → c.kind ≡ k.CloseBrace
+        → SpellsBasic true (for_of r xs) from to
+    select : {r : Range} {from to : List Word} → SpellsRange k.Select r from to → SpellsBasic false (select_of r) from to
     goto : {w n : Word} {to : List Word} → w.kind ≡ k.Goto → n.kind ≡ k.Name → SpellsBasic false (b.Goto n) (w ∷ n ∷ to) to
     break : {w : Word} {to : List Word} → w.kind ≡ k.Break → SpellsBasic false b.Break (w ∷ to) to
     action : {closed : Bool} {x : Action} {from to : List Word} → SpellsAction closed x from to → SpellsBasic closed (b.Plain x) from to

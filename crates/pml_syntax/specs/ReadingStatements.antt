@@ -33,7 +33,10 @@ use Rattle.pml_syntax.specs.declared.starts.Deed.{Deed}
 use Rattle.pml_syntax.specs.declared.starts.Deed.TheVariants as d
 use Rattle.pml_syntax.specs.declared.starts.Change.{Change}
 use Rattle.pml_syntax.specs.declared.starts.Change.TheVariants as c
-use Rattle.pml_syntax.specs.Grammar.{scalar, is_visibility, is_exclusive, is_separator, run_of, variable_of, item_of, seq_of}
+use Rattle.pml_syntax.specs.declared.range.Counter.{Counter}
+use Rattle.pml_syntax.specs.declared.range.Bound.{Bound}
+use Rattle.pml_syntax.specs.declared.range.Range.{Range}
+use Rattle.pml_syntax.specs.Grammar.{scalar, is_visibility, is_exclusive, is_separator, run_of, variable_of, item_of, seq_of, counter_of, bound_of, range_of, for_of, select_of}
 use Rattle.pml_syntax.specs.Starts.{opening, deed, change, declares, is_end}
 
 -- whether `run` stands behind any number of `(`
@@ -91,6 +94,13 @@ unfoldable pub format : List Word → Read Word
 format ts = do
   front ← expect_all (k.Printf ∷ k.OpenParen ∷ []) ts
   expect k.Quoted front.1
+
+-- a word of this kind, and the parenthesis behind it; what is read is the line of the word
+unfoldable pub opened : Kind → List Word → Read ℕ
+opened kind ts = do
+  word ← expect kind ts
+  paren ← expect k.OpenParen word.1
+  Ok (word.0.line, paren.1)
 
 -- The number is how deep the expressions nest.
 module _ (depth : ℕ) where
@@ -212,6 +222,42 @@ module _ (depth : ℕ) where
 
   unfoldable pub action : List Word → Read (Action × Bool)
   action ts = action_by (deed (next ts)) ts
+
+  -- ---- what `for` and `select` count over
+
+  -- behind the parenthesis
+  unfoldable pub loop_variable : ℕ → List Word → Read Counter
+  loop_variable line ts = do
+    i ← reference (expr depth) ts
+    Ok (counter_of line i.0 (between ts i.1), i.1)
+
+  -- behind a token of this kind
+  unfoldable pub loop_bound : Kind → List Word → Read Bound
+  loop_bound kind ts = do
+    word ← expect kind ts
+    x ← expr depth 1 word.1
+    Ok (bound_of x.0 (between word.1 x.1), x.1)
+
+  -- up to the parenthesis
+  unfoldable pub loop_bounds : List Word → Read (Bound × Bound)
+  loop_bounds ts = do
+    x ← loop_bound k.Colon ts
+    y ← loop_bound k.DotDot x.1
+    close ← expect k.CloseParen y.1
+    Ok ((x.0, y.0), close.1)
+
+  -- with the word, which is to be of this kind
+  unfoldable pub loop_range : Kind → List Word → Read Range
+  loop_range kind ts = do
+    line ← opened kind ts
+    i ← loop_variable line.0 line.1
+    xs ← loop_bounds i.1
+    Ok (range_of i.0 xs.0.0 xs.0.1, xs.1)
+
+  unfoldable pub select : List Word → Read (Basic × Bool)
+  select ts = do
+    r ← loop_range k.Select ts
+    Ok ((select_of r.0, false), r.1)
 
   -- ---- declarations
 
@@ -356,6 +402,12 @@ module _ (depth : ℕ) (body : List Word → Read (List Item × Bool)) where
     xs ← braces ts
     Ok ((b.DStep (seq_of xs.0), true), xs.1)
 
+  unfoldable pub for_loop : List Word → Read (Basic × Bool)
+  for_loop ts = do
+    r ← loop_range depth k.For ts
+    xs ← braces r.1
+    Ok ((for_of r.0 xs.0, true), xs.1)
+
   abbrev pub branching : Opening → List Word → Read (Basic × Bool)
   branching o.Do ts = do_od ts
   branching _ ts = if_fi ts
@@ -371,6 +423,8 @@ module _ (depth : ℕ) (body : List Word → Read (List Item × Bool)) where
   basic_by o.Block ts = block ts
   basic_by o.Atomic ts = atomic (drop 1 ts)
   basic_by o.DStep ts = d_step (drop 1 ts)
+  basic_by o.For ts = for_loop ts
+  basic_by o.Select ts = select depth ts
   basic_by o.Goto ts = goto (drop 1 ts)
   basic_by o.Break ts = Ok ((b.Break, false), drop 1 ts)
   basic_by o.Other ts = plainly depth ts

@@ -9,7 +9,9 @@ ghost use Rattle.pml_syntax.specs.ReadingStatements as reading;
 
 use crate::action::action;
 use crate::ahead::{is_declaration, is_label, skip_separators};
+use crate::counting::{alone, for_of, select_of, unlabelled};
 use crate::declaration::{declaration, references};
+use crate::range::loop_range;
 use crate::starts::{Opening, is_end, is_exclusive, is_separator, opening_of};
 use pml_expression::cursor::Cursor;
 use pml_expression::fault::ReadFault;
@@ -41,15 +43,6 @@ fn either(a: bool, b: bool) -> bool
     a || b
 }
 
-/// One statement, as items.
-fn alone<'a>(alloc: Global, item: Item<'a>) -> Result<Items<Item<'a>>, AllocError>
-    ensures { IfOk result (λ r. r ≡ item.entry ∷ []) }
-{
-    let mut items = Items::new(alloc);
-    items.push(item)?;
-    Ok(items)
-}
-
 /// A statement that gives way to another.
 fn unless<'a>(
     alloc: Global,
@@ -61,21 +54,6 @@ fn unless<'a>(
 {
     let basic = Basic::Unless(Seq { items: main }, Seq { items: escape });
     unlabelled(alloc, basic, tokens)
-}
-
-/// An item without labels.
-fn unlabelled<'a>(
-    alloc: Global,
-    basic: Basic<'a>,
-    tokens: Tokens<'a>,
-) -> Result<Item<'a>, AllocError>
-    ensures { IfOk result (λ r. r ≡ grammar.item_of [] basic.entry tokens.entry) }
-{
-    Ok(Item {
-        labels: Items::new(alloc),
-        basic: Boxed::new(alloc, basic)?,
-        tokens,
-    })
 }
 
 #[tactic(auto, unfolding(crate::specs::ReadingStatements::declared, pml_expression::specs::Reading::and_then))]
@@ -126,6 +104,19 @@ fn goto<'a>(alloc: Global, tokens: &mut Cursor<'a>) -> Result<(Boxed<Basic<'a>>,
 {
     let name = tokens.expect(Kind::Name)?;
     Ok((Boxed::new(alloc, Basic::Goto(name))?, false))
+}
+
+/// A `select`, with its word.
+#[tactic(auto, unfolding(crate::specs::ReadingStatements::select, pml_expression::specs::Reading::and_then))]
+fn select<'a>(
+    alloc: Global,
+    depth: usize,
+    tokens: &mut Cursor<'a>,
+) -> Result<(Boxed<Basic<'a>>, bool), ReadFault>
+    ensures { Reads (reading.select depth tokens.old) result tokens.new }
+{
+    let range = loop_range(alloc, depth, Kind::Select, tokens)?;
+    Ok((select_of(alloc, range)?, false))
 }
 
 /// The items of a body with a statement.
@@ -236,6 +227,21 @@ fn embraced<'a>(
     Ok((Boxed::new(alloc, basic)?, true))
 }
 
+/// A `for`, with its word.
+#[cycle(body)]
+#[tactic(auto, unfolding(crate::specs::ReadingStatements::for_loop, pml_expression::specs::Reading::and_then))]
+fn for_loop<'a>(
+    alloc: Global,
+    depth: usize,
+    tokens: &mut Cursor<'a>,
+) -> Result<(Boxed<Basic<'a>>, bool), ReadFault>
+    ensures { Reads (reading.for_loop depth (reading.items depth) tokens.old) result tokens.new }
+{
+    let range = loop_range(alloc, depth, Kind::For, tokens)?;
+    let items = braces(alloc, depth, tokens)?;
+    Ok((for_of(alloc, range, items)?, true))
+}
+
 #[cycle(body)]
 #[tactic(auto, unfolding(crate::specs::ReadingStatements::basic, pml_expression::specs::Reading::and_then))]
 fn basic<'a>(
@@ -263,6 +269,8 @@ fn basic<'a>(
             tokens.skip();
             embraced(alloc, depth, Opening::DStep, tokens)
         }
+        Opening::For => for_loop(alloc, depth, tokens),
+        Opening::Select => select(alloc, depth, tokens),
         Opening::Goto => {
             tokens.skip();
             goto(alloc, tokens)

@@ -4,10 +4,12 @@
 mod action;
 mod ahead;
 mod body;
+mod counting;
 mod declaration;
 pub mod laws;
 mod opener;
 mod program;
+mod range;
 mod starts;
 mod unit;
 

@@ -4,15 +4,15 @@ use denote.Hole.Carrier.{roll, hidden}
 use Rattle.std.specs.Fmt.{digits}
 use Rattle.pml_tree.specs.declared.tree.Search.TheVariants.{First}
 use Rattle.pml_program.specs.declared.program.Seq.{Seq, roll-Seq}
-use Rattle.pml_program.specs.declared.program.Basic.{Goto, If, Do, Block, DStep}
+use Rattle.pml_program.specs.declared.program.Basic.{Goto, If, Do, Block, Atomic, DStep}
 use Rattle.pml_program.specs.declared.program.Basic.TheBlock.{shape-the_row-Stmt-1, hidden-the_row-Stmt-1, shape-the_row-Seq-0, hidden-the_row-Seq-0}
 use Rattle.pml_control.specs.Control.{settle}
 use Rattle.pml_moves.specs.declared.moves.Move.TheVariants.{Death, Alone, Pair}
 use Rattle.pml_moves.specs.State.{Stand, State}
 use Rattle.pml_moves.specs.Search.{pick}
-use Rattle.pml_moves.proofs.Samples.{yes, sends, receives}
+use Rattle.pml_moves.proofs.Samples.{yes, timeout, otherwise, sends, receives}
 use Rattle.pml_texts.specs.Ends.{is_valid}
-use Rattle.pml_texts.specs.Texts.{move_text, stuck}
+use Rattle.pml_texts.specs.Texts.{move_text, origin_of, stuck}
 use Rattle.pml_texts.proofs.Samples.{word, labelled, said, body, proctype, init, before, closed, state}
 
 -- ---- moves
@@ -90,6 +90,62 @@ first_option = refl
 second_option : move_text choosing (Alone (pick 0 0 1) false) ≡ codes "proc 0 (A) line 6 [d_step]"
 unfolding settle roll-Seq roll hidden shape-the_row-Stmt-1 hidden-the_row-Stmt-1 shape-the_row-Seq-0 hidden-the_row-Seq-0 digits
 second_option = refl
+
+-- ---- where moves come from
+
+from_statement : origin_of (some (ready ∷ [])) (Alone (pick 0 0 0) false) ≡ (0, 2)
+unfolding settle roll-Seq roll hidden shape-the_row-Stmt-1 hidden-the_row-Stmt-1 shape-the_row-Seq-0 hidden-the_row-Seq-0
+from_statement = refl
+
+-- a death, of the closing brace
+from_brace : origin_of (some (ready ∷ done ∷ [])) (Death 1) ≡ (1, 3)
+unfolding settle roll-Seq roll hidden shape-the_row-Stmt-1 hidden-the_row-Stmt-1 shape-the_row-Seq-0 hidden-the_row-Seq-0
+from_brace = refl
+
+from_brace_of_init : origin_of (state (init 1 assigns ∷ []) (done ∷ [])) (Death 0) ≡ (0, 1)
+unfolding settle roll-Seq roll hidden shape-the_row-Stmt-1 hidden-the_row-Stmt-1 shape-the_row-Seq-0 hidden-the_row-Seq-0
+from_brace_of_init = refl
+
+from_the_eleventh : origin_of (some (done ∷ done ∷ done ∷ done ∷ done ∷ done ∷ done ∷ done ∷ done ∷ done ∷ ready ∷ [])) (Alone (pick 10 0 0) true) ≡ (10, 2)
+unfolding settle roll-Seq roll hidden shape-the_row-Stmt-1 hidden-the_row-Stmt-1 shape-the_row-Seq-0 hidden-the_row-Seq-0
+from_the_eleventh = refl
+
+-- a rendezvous, of the sender, also where it is the younger
+from_sender : origin_of meeting (Pair (pick 0 0 0) (pick 1 0 0) false) ≡ (0, 2)
+unfolding settle roll-Seq roll hidden shape-the_row-Stmt-1 hidden-the_row-Stmt-1 shape-the_row-Seq-0 hidden-the_row-Seq-0
+from_sender = refl
+
+from_younger_sender : origin_of meeting (Pair (pick 2 0 0) (pick 1 0 0) false) ≡ (2, 2)
+unfolding settle roll-Seq roll hidden shape-the_row-Stmt-1 hidden-the_row-Stmt-1 shape-the_row-Seq-0 hidden-the_row-Seq-0
+from_younger_sender = refl
+
+-- of the option, and not of the if
+from_first_option : origin_of choosing (Alone (pick 0 0 0) false) ≡ (0, 5)
+unfolding settle roll-Seq roll hidden shape-the_row-Stmt-1 hidden-the_row-Stmt-1 shape-the_row-Seq-0 hidden-the_row-Seq-0
+from_first_option = refl
+
+from_d_step : origin_of choosing (Alone (pick 0 0 1) false) ≡ (0, 6)
+unfolding settle roll-Seq roll hidden shape-the_row-Stmt-1 hidden-the_row-Stmt-1 shape-the_row-Seq-0 hidden-the_row-Seq-0
+from_d_step = refl
+
+-- atomic { x = 1 }, with the statement on the next line but one; and do :: timeout :: else od, over three lines
+abbrev together : Seq
+together = body (said 4 (codes "atomic" ∷ []) (Atomic (body (said 6 (codes "x" ∷ codes "=" ∷ codes "1" ∷ []) yes ∷ []))) ∷ [])
+
+abbrev last_ways : Seq
+last_ways = body (said 4 (codes "do" ∷ []) (Do (body (said 5 (codes "timeout" ∷ []) timeout ∷ []) ∷ body (said 6 (codes "else" ∷ []) otherwise ∷ []) ∷ [])) ∷ [])
+
+from_atomic : origin_of (state (proctype (codes "A") 7 together ∷ []) (before 0 together 0 ∷ [])) (Alone (pick 0 0 0) false) ≡ (0, 6)
+unfolding settle roll-Seq roll hidden shape-the_row-Stmt-1 hidden-the_row-Stmt-1 shape-the_row-Seq-0 hidden-the_row-Seq-0
+from_atomic = refl
+
+from_timeout : origin_of (state (proctype (codes "A") 7 last_ways ∷ []) (before 0 last_ways 0 ∷ [])) (Alone (pick 0 0 0) true) ≡ (0, 5)
+unfolding settle roll-Seq roll hidden shape-the_row-Stmt-1 hidden-the_row-Stmt-1 shape-the_row-Seq-0 hidden-the_row-Seq-0
+from_timeout = refl
+
+from_else : origin_of (state (proctype (codes "A") 7 last_ways ∷ []) (before 0 last_ways 0 ∷ [])) (Alone (pick 0 0 1) false) ≡ (0, 6)
+unfolding settle roll-Seq roll hidden shape-the_row-Stmt-1 hidden-the_row-Stmt-1 shape-the_row-Seq-0 hidden-the_row-Seq-0
+from_else = refl
 
 -- ---- ends
 

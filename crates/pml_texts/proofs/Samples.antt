@@ -1,5 +1,5 @@
 -- Small models and states.
-use Rattle.std.proofs.Common.{ℕ, List, [], map, None, codes}
+use Rattle.std.proofs.Common.{ℕ, List, [], false, map, None, codes}
 use Rattle.pml_lex.specs.Word.{Word}
 use Rattle.pml_lex.specs.declared.token.Kind.TheVariants as kind
 use Rattle.pml_program.specs.declared.program.Stmt.{Stmt}
@@ -43,4 +43,5 @@ state ps ys = record {
   stands = ys;
   channels = [];
   holder = None;
+  lossy = false;
 }

@@ -1,4 +1,5 @@
--- The texts of moves, and of the processes where a run does not end well. What is not there has no text.
+-- The texts of moves and where they come from, and the texts of the processes where a run does not end well. What is not there has
+-- no text.
 use Rattle.std.specs.Prelude.{ℕ, ◌<◌, List, [], ◌∷◌, ◌++◌, Option, Some, None, if◌then◌else◌, slice_get, codes}
 use Rattle.std.specs.Fmt.{decimal}
 use Rattle.pml_program.specs.declared.program.Proctype.{Proctype}
@@ -52,6 +53,24 @@ abbrev pub move_text : State → Move → List ℕ
 move_text s (Death p) = death_text p (proctype_of s p)
 move_text s (Alone k t) = pick_text s k
 move_text s (Pair k j t) = pick_text s k ++ (codes " -> " ++ pick_text s j)
+
+-- ---- where moves come from
+
+-- the line in an offer's text
+abbrev pub line_in : Option Offer → ℕ
+line_in None = 0
+line_in (Some o) = o.line
+
+-- that of the closing brace
+abbrev pub brace_of : Option Proctype → ℕ
+brace_of None = 0
+brace_of (Some q) = q.end.line
+
+-- P and L of a move's text, of a rendezvous the sender's
+abbrev pub origin_of : State → Move → ℕ × ℕ
+origin_of s (Death p) = (p, brace_of (proctype_of s p))
+origin_of s (Alone k t) = (k.process, line_in (picked s k))
+origin_of s (Pair k j t) = (k.process, line_in (picked s k))
 
 -- ---- where a run does not end well
 

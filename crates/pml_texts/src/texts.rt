@@ -1,10 +1,11 @@
-//! The texts of moves.
+//! The texts of moves, and where moves come from.
 
-ghost use Rattle.std.specs.Prelude.{◌≡◌, ◌++◌, OnOk, OnErr, slice_get};
+ghost use Rattle.std.specs.Prelude.{◌≡◌, ◌++◌, OnOk, OnErr, length, slice_get};
 ghost use Rattle.std.specs.Io.{StartsWith};
 ghost use Rattle.std.specs.Option.{option_copied};
 ghost use Rattle.pml_moves.specs.Scene.{state_of, Fits};
-ghost use Rattle.pml_texts.specs.Texts.{proctype_of as proctype_in, pick_text, death_text, move_text};
+ghost use Rattle.pml_moves.specs.Picked.{picked as picks};
+ghost use Rattle.pml_texts.specs.Texts.{proctype_of as proctype_in, pick_text, death_text, move_text, line_in, brace_of, origin_of, IsWithin};
 
 use crate::place::{add_heading, add_line, proctype_at};
 use pml_moves::moves::{Move, Pick};
@@ -74,5 +75,39 @@ pub fn add_move(scene: &Scene<'_, '_, '_>, m: Move, text: &mut Vec<u8>) -> Resul
             text.extend_from_slice(b" -> ")?;
             add_pick(scene, receiver, text)
         }
+    }
+}
+
+/// The line in the text of the offer that a pick names.
+fn pick_line(scene: &Scene<'_, '_, '_>, pick: Pick) -> u32
+    requires { Fits scene.now }
+    ensures { result ≡ line_in (picks (state_of scene.now) pick) }
+{
+    match picked(scene, pick) {
+        Some(offer) => offer.body.graph.offer_line(offer.edge.statement),
+        None => 0,
+    }
+}
+
+/// The line of the closing brace.
+fn brace_of(proctype: Option<&Proctype<'_>>) -> u32
+    ensures { result ≡ brace_of (option_copied proctype.entry) }
+{
+    match proctype {
+        Some(proctype) => proctype.end.line(),
+        None => 0,
+    }
+}
+
+/// The process and the line of a move, as its text has them: of a rendezvous the sender's, of a death the line of the closing brace.
+pub fn origin(scene: &Scene<'_, '_, '_>, m: Move) -> (u32, u32)
+    requires fits { Fits scene.now }
+    requires lives { IsWithin (length (state_of scene.now).stands) m }
+    ensures { result ≡ origin_of (state_of scene.now) m }
+{
+    match m {
+        Move::Death(process) => (process as u32, brace_of(proctype_of(scene, process))),
+        Move::Alone(pick, _) => (pick.process as u32, pick_line(scene, pick)),
+        Move::Pair(sender, _, _) => (sender.process as u32, pick_line(scene, sender)),
     }
 }

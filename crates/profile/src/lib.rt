@@ -30,6 +30,12 @@ pub const MOST_TEXT_BYTES: usize = 1_048_576;
 /// How many of `( [ { if do` may be open at once in a text.
 pub const MOST_OPEN: u32 = 100;
 
+/// The calls of inlines that may stand within one another.
+pub const MOST_CALLS: u32 = 100;
+
+/// The tokens that all that stands in place of calls of inlines may have together.
+pub const MOST_REPLACED: usize = 200_000;
+
 /// The tokens that may stand in a row without one of `; :: { } if fi do od` among them.
 pub const MOST_IN_A_ROW: u32 = 1_000;
 

@@ -1,6 +1,7 @@
 //! The checked models of texts, as rows write them.
 use crate::texts::texts;
 use crate::written::written;
+use pml_inline::expand;
 use pml_lex::cut;
 use pml_lex::token::Token;
 use pml_marks::model::marks;
@@ -41,9 +42,16 @@ fn of_tokens<'a>(alloc: Global, tokens: &'a [Token<'a>]) -> Result<Read, Fail> {
     }
 }
 
+fn of_cut(alloc: Global, tokens: &[Token<'_>]) -> Result<Read, Fail> {
+    match expand(alloc, tokens) {
+        Ok(expanded) => of_tokens(alloc, expanded.as_slice()),
+        Err(_) => Err(Fail::from("the tokens do not expand")),
+    }
+}
+
 fn of_text(alloc: Global, text: &str) -> Result<Read, Fail> {
     match cut(alloc, text.as_bytes()) {
-        Ok(tokens) => of_tokens(alloc, tokens.as_slice()),
+        Ok(tokens) => of_cut(alloc, tokens.as_slice()),
         Err(_) => Err(Fail::from("the text is not cut")),
     }
 }

@@ -109,29 +109,20 @@ choose 1..2
 stop: choices ended, steps 1
 -- status 5
 -- record 1\n
-== words are a bad line
+== a number without its process and line
 -- flags -p
 -- model
 byte x, y;
 active proctype A() { x = 1 }
 active proctype B() { y = 2 }
--- choices choices 2\n2\n1\n
+-- choices choices 2\n2\n
+-- unread 1\n
 -- output
 choice 1: proc 0 (A) line 2 [x = 1]
 choice 2: proc 1 (B) line 3 [y = 2]
 choose 1..2
-bad choice
-choose 1..2
-step 1: proc 1 (B) line 3 [y = 2]
-choice 1: proc 0 (A) line 2 [x = 1]
-choice 2: proc 1 (B) line 3 [-end-]
-choose 1..2
-step 2: proc 0 (A) line 2 [x = 1]
-step 3: proc 1 (B) line 3 [-end-]
-step 4: proc 0 (A) line 2 [-end-]
-end: valid, steps 4
--- status 0
--- record 2\n1\n
+stop: choice misfit, steps 0
+-- status 5
 == no choices
 -- model byte x; init { do :: x = 1 :: x = 2 od }
 -- choices

@@ -235,3 +235,66 @@ fn ten_thousand_choices(rt: HostRuntime) -> Result<(), Fail> {
         bytes_of(alloc, &choices)?,
     )
 }
+
+/// Inlines `f0` to the one of this number, each of which calls the next; and what stands behind them.
+fn chained(alloc: Global, last: u32, behind: &str) -> Result<String, Fail> {
+    let mut text = String::new(alloc);
+    for i in 0..last {
+        let next = i.saturating_add(1);
+        text.push_str(format!(in alloc; "inline f{i}() {{ f{next}() }} ")?.as_str())?;
+    }
+    text.push_str(format!(in alloc; "inline f{last}() {{ skip }} {behind}")?.as_str())?;
+    Ok(text)
+}
+
+/// A hundred calls may stand within one another; their braces count as all others do.
+#[test]
+fn a_hundred_calls_within_one_another(rt: HostRuntime) -> Result<(), Fail> {
+    let alloc = rt.alloc();
+    shows(&rt, chained(alloc, 99, "init f0()")?, ONE_SKIP, 0, 0)?;
+    let inline = "refused M19 (inline)";
+    shows(&rt, chained(alloc, 100, "init f0()")?, inline, 3, 0)?;
+    shows(&rt, chained(alloc, 100, "init { f0() }")?, inline, 3, 0)?;
+    let deep = "refused M4 (too deep)";
+    shows(&rt, chained(alloc, 99, "init { f0() }")?, deep, 3, 1)?;
+    shows(&rt, chained(alloc, 98, "init { f0() }")?, ONE_SKIP, 0, 0)
+}
+
+/// All replacements together may have 200,000 tokens, each with its braces.
+#[test]
+fn two_hundred_thousand_tokens(rt: HostRuntime) -> Result<(), Fail> {
+    let alloc = rt.alloc();
+    let front = "inline f() { skip; skip; skip; } inline g() { skip; skip; skip;; } init { ";
+    let row = Row {
+        options: NONE,
+        model: repeated(alloc, front, "f() ", 25_000, "}")?,
+        choices: Vec::from_slice(alloc, b"1\n")?,
+        read: 0,
+        output: String::from_str(alloc, "end: valid, steps 75001\n")?,
+        status: 0,
+        line: 0,
+        record: Vec::new(alloc),
+    };
+    passes(&rt, &row)?;
+    let more = repeated(alloc, front, "f() ", 24_999, "g() }")?;
+    shows(&rt, more, "refused M19 (inline)", 3, 0)
+}
+
+/// Where both apply, no list is there to be too deep.
+#[test]
+fn an_inline_goes_before_depth(rt: HostRuntime) -> Result<(), Fail> {
+    let alloc = rt.alloc();
+    let front = "inline f(a) { skip } init { f(); ";
+    let both = repeated(alloc, front, "(", 200, "")?;
+    shows(&rt, both, "refused M19 (inline)", 3, 0)?;
+    let unused = repeated(
+        alloc,
+        "inline f() { ",
+        "(",
+        200,
+        "} init { atomic { skip } }",
+    )?;
+    shows(&rt, unused, ONE_SKIP, 0, 0)?;
+    let used = repeated(alloc, "inline f() { ", "(", 200, "} init { f() }")?;
+    shows(&rt, used, "refused M4 (too deep)", 3, 1)
+}

@@ -18,7 +18,13 @@ mod failing;
 #[cfg(test)]
 mod forms;
 #[cfg(test)]
+mod inlines;
+#[cfg(test)]
 mod large;
+#[cfg(test)]
+mod loops;
+#[cfg(test)]
+mod losses;
 #[cfg(test)]
 mod player;
 #[cfg(test)]
@@ -35,3 +41,5 @@ mod runner;
 mod sessions;
 #[cfg(test)]
 mod values;
+#[cfg(test)]
+mod versions;

@@ -2,8 +2,8 @@
 ghost use Rattle.std.specs.Prelude.{◌≡◌};
 
 use devices::{FailsOnce, Failures, OneByte, SliceSource, ThreeDevices, VecSink};
-use pml_play::play;
-use session::{End, Options};
+use pml_play::{convert, play};
+use session::{Conversion, End, Options};
 use std::alloc::Global;
 use std::marker::Brand;
 use std::sync::ledger::{Blank, Ledger};
@@ -92,4 +92,46 @@ pub fn played(
         choices,
         failing,
     )
+}
+
+fn converted_with<K: Ledger>(
+    alloc: Global,
+    blank: Blank,
+    text: &[u8],
+    options: &Options,
+    choices: &[u8],
+    failing: Failing,
+) -> Result<Behind, Fail>
+    requires name { blank.name ≡ K.name }
+    requires parts { blank.parts ≡ K.parts }
+    requires one { blank.parts ≡ 1 }
+{
+    let mut devices = Conversion {
+        source: FailsOnce::new(SliceSource::new(choices), failing.source),
+        out: FailsOnce::new(
+            OneByte {
+                sink: VecSink::new(Vec::new(alloc), Failures::<K>::new(blank)),
+            },
+            failing.out,
+        ),
+    };
+    let end = convert(alloc, text, options, &mut devices);
+    Ok(Behind {
+        out: Vec::from_slice(alloc, devices.out.device().sink.bytes())?,
+        rec: Vec::new(alloc),
+        unread: devices.source.device().left().len(),
+        failed: devices.source.has_failed() || devices.out.has_failed(),
+        end,
+    })
+}
+
+/// Converts the choices of a text, with these failures.
+pub fn converted(
+    alloc: Global,
+    text: &[u8],
+    options: &Options,
+    choices: &[u8],
+    failing: Failing,
+) -> Result<Behind, Fail> {
+    converted_with::<Brand>(alloc, Blank::new(1), text, options, choices, failing)
 }

@@ -23,6 +23,7 @@ pub const NONE: Options = Options {
     steps: false,
     globals: false,
     locals: false,
+    lossy: false,
     limit: 1_000_000,
 };
 
@@ -45,6 +46,10 @@ fn lettered(options: Options, letter: u8) -> Result<Options, Fail> {
         }),
         b'l' => Ok(Options {
             locals: true,
+            ..options
+        }),
+        b'm' => Ok(Options {
+            lossy: true,
             ..options
         }),
         b'i' | b'T' => Ok(options),
@@ -140,9 +145,10 @@ pub fn filled(alloc: Global, text: &str, this: &str, that: &str) -> Result<Strin
     Ok(out)
 }
 
-/// The choices of a block, and how many bytes of them are read.
-fn choices(alloc: Global, block: &'static str) -> Result<(Vec<u8>, usize), Fail> {
-    let mut choices = bytes(alloc, behind(block, "choices").unwrap_or(""))?;
+/// The choices of a block, in which `@this` stands for this, and how many bytes of them are read.
+fn choices(alloc: Global, block: &'static str, this: &str) -> Result<(Vec<u8>, usize), Fail> {
+    let written = filled(alloc, behind(block, "choices").unwrap_or(""), this, "")?;
+    let mut choices = bytes(alloc, &written)?;
     let read = choices.len();
     let unread = bytes(alloc, behind(block, "unread").unwrap_or(""))?;
     choices.extend_from_slice(unread.as_slice())?;
@@ -175,7 +181,7 @@ fn numbers(block: &'static str) -> Result<(u8, u32), Fail> {
 pub fn row_of(alloc: Global, block: &'static str, this: &str, that: &str) -> Result<Row, Fail> {
     let options = options(behind(block, "flags"))?;
     let (status, line) = numbers(block)?;
-    let (choices, read) = choices(alloc, block)?;
+    let (choices, read) = choices(alloc, block, this)?;
     Ok(Row {
         options,
         model: filled_text(alloc, block, "model", this, that)?,

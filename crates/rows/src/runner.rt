@@ -1,6 +1,7 @@
-//! Plays rows, compares what stands behind them with what they say, and plays those that have a record again on it.
+//! Plays rows, compares what stands behind them with what they say, and plays those that have a record again on it, and once more on
+//! their choices as they are converted.
 use crate::block::{fault, find, name, text};
-use crate::player::{Behind, NONE_FAILS, played};
+use crate::player::{Behind, NONE_FAILS, converted, played};
 use crate::row::{Row, row_of};
 use session::{Cause, End};
 use std::alloc::Global;
@@ -92,6 +93,7 @@ fn words_of(cause: &Cause) -> Option<&'static str> {
         Cause::ChoicesEnded => Some("stop: choices ended"),
         Cause::LineTooLong => Some("stop: line too long"),
         Cause::BadChoices => Some("stop: 100 bad choices"),
+        Cause::Misfit => Some("stop: choice misfit"),
         Cause::StepLimit => Some("stop: step limit"),
         _ => None,
     }
@@ -173,7 +175,7 @@ pub fn without_bad_lines(alloc: Global, out: &[u8]) -> Result<Vec<u8>, Fail> {
 fn is_cut_short(cause: &Cause) -> bool {
     matches!(
         cause,
-        Cause::Quit | Cause::ChoicesEnded | Cause::LineTooLong | Cause::BadChoices
+        Cause::Quit | Cause::ChoicesEnded | Cause::LineTooLong | Cause::BadChoices | Cause::Misfit
     )
 }
 
@@ -235,6 +237,36 @@ fn replayed(alloc: Global, row: &Row, before: &Behind) -> Result<String, Fail> {
     Ok(complaint)
 }
 
+/// What a session on a row's choices, converted to the second version, has otherwise than the one on its record, in words.
+fn converted_told(alloc: Global, row: &Row) -> Result<String, Fail> {
+    let model = row.model.as_bytes();
+    let second = converted(alloc, model, &row.options, &row.choices, NONE_FAILS)?;
+    let first = played(alloc, model, &row.options, &row.record, NONE_FAILS)?;
+    let again = played(alloc, model, &row.options, &second.out, NONE_FAILS)?;
+    let (then, now) = (&first.end, &again.end);
+    let all = [
+        number(
+            "status of the conversion",
+            usize::from(row.status),
+            usize::from(second.end.status),
+        ),
+        bytes("output on the converted choices", &first.out, &again.out),
+        bytes("record of the converted choices", &first.rec, &again.rec),
+        number(
+            "status on the converted choices",
+            usize::from(then.status),
+            usize::from(now.status),
+        ),
+        number(
+            "number of steps on the converted choices",
+            then.steps as usize,
+            now.steps as usize,
+        ),
+        number("rest of the converted choices", 0, again.unread),
+    ];
+    told_of(alloc, &all)
+}
+
 /// What is otherwise than a row says, in words; none, where nothing is.
 pub fn said_of(alloc: Global, row: &Row) -> Result<String, Fail> {
     let model = row.model.as_bytes();
@@ -243,6 +275,7 @@ pub fn said_of(alloc: Global, row: &Row) -> Result<String, Fail> {
     if !row.record.is_empty() {
         let again = replayed(alloc, row, &behind)?;
         complaint.push_str(&again)?;
+        complaint.push_str(&converted_told(alloc, row)?)?;
     }
     Ok(complaint)
 }

@@ -10,7 +10,7 @@ use Rattle.session.specs.declared.Broken.{Broken}
 use Rattle.session.specs.declared.Broken.TheVariants as broken
 use Rattle.session.specs.Events.{Event, Put, Told, Stepped, output, front, recorded, steps_in, step_of}
 use Rattle.session.specs.Part.{Part, preceded}
-use Rattle.session.specs.Stands.{MovedBy, Leads, Breaks, CountsBroken}
+use Rattle.session.specs.Stands.{AreReadable, MovedBy, Leads, Breaks, CountsBroken}
 use Rattle.session.specs.Gathered.{told_steps, begins_from, later, AddsText, CutsTexts, AreGathered, behind, Waits, BreaksBare, Halts, GoesFurther, Advances, TurnsOn}
 use Rattle.session.specs.declared.Options.{Options}
 use Rattle.session.specs.Machine.{Rules, Goes}
@@ -19,6 +19,8 @@ use Rattle.session.specs.Writes.{Continues, story_after}
 use Rattle.session.proofs.Turns.{step_part, step_leads}
 use Rattle.session.proofs.Moving.{Moved-nil, Moved-still}
 use Rattle.session.proofs.Parts.{Leads-nil, preceded-preceded, Leads-same, Leads-trans, Leads-does, Leads-breaks, output-append}
+use Rattle.session.specs.declared.form.Stream.{Stream}
+use Rattle.session.specs.declared.form.Version.{Version}
 
 -- ---- what is gathered, as events
 
@@ -33,6 +35,10 @@ front-told (x ∷ xs) = front-told xs
 recorded-told : (xs : List (List ℕ)) → recorded (told_steps xs) ≡ []
 recorded-told [] = refl
 recorded-told (x ∷ xs) = recorded-told xs
+
+readable-told : (xs : List (List ℕ)) → AreReadable (told_steps xs)
+readable-told [] = refl
+readable-told (x ∷ xs) = readable-told xs
 
 steps-told : (xs : List (List ℕ)) → steps_in (told_steps xs) ≡ length xs
 steps-told [] = refl
@@ -146,6 +152,7 @@ module _ {a b : Holdings} {n : ℕ} where
   moved_told xs m = record {
     moved = rw (front-told xs, recorded-told xs) m;
     count = ap (λ k. n + k) (sym (steps-told xs));
+    readable = readable-told xs;
   }
 
   behind_leads : (rest : List ℕ → Part End) (xs : List (List ℕ)) → Moved a b [] (output (told_steps xs)) [] → Leads a b n (n + length xs) (behind xs rest) rest
@@ -213,7 +220,7 @@ module _ {a b : Holdings} {n n' : ℕ} {whole : List ℕ → Part End} where
   -- memory was refused, and nothing is gathered
   pub memory_halts : Breaks broken.Memory a b n n' whole → Halts broken.Memory a b n n' whole [] []
   memory_halts broken =
-      let rest : List ℕ → Part End = λ left. let part = whole (front broken.done ++ left) in record { events = drop (length broken.done) part.events; value = part.value; over = part.over; left = part.left } in (
+      let rest : List ℕ → Part End = λ left. let part = whole (front broken.done ++ left) in record { events = drop (length broken.done) part.events; value = part.value; stream = part.stream; left = part.left } in (
         rest,
         waits_nil rest record {
           done = broken.done;
@@ -221,7 +228,7 @@ module _ {a b : Holdings} {n n' : ℕ} {whole : List ℕ → Part End} where
           is = λ left now.
               let part = whole (front broken.done ++ left) in
               let all = broken.begins left now in
-              ap (λ (es : List Event). record { events = es; value = part.value; over = part.over; left = part.left })
+              ap (λ (es : List Event). record { events = es; value = part.value; stream = part.stream; left = part.left })
               (all.1 ∙ ap (λ es. broken.done ++ es) (sym (ap (drop (length broken.done)) all.1 ∙ drop-append_seam broken.done all.0)));
         },
       )
@@ -236,7 +243,7 @@ module _ {a b : Holdings} {n n' : ℕ} {whole : List ℕ → Part End} where
 breaks_still : {a b c : Holdings} {n n' : ℕ} {whole : List ℕ → Part End} (e : Broken) → Breaks e a b n n' whole → Moved b c [] [] [] → Breaks e a c n n' whole
 breaks_still e broken m = record {
   done = broken.done;
-  moved = record { moved = Moved-still broken.moved.moved m; count = broken.moved.count };
+  moved = record { moved = Moved-still broken.moved.moved m; count = broken.moved.count; readable = broken.moved.readable };
   begins = λ left now. broken.begins left (m.read.gave left now);
 }
 
@@ -272,22 +279,22 @@ module _ (a b c : Holdings) (n n' : ℕ) (whole : List ℕ → Part End) (bytes 
 
 module _ {a b : Holdings} {n n' : ℕ} {whole : List ℕ → Part End} (c : Holdings) (n'' : ℕ) where
   -- what goes further from the rest goes further from the whole
-  pub goes_on : (rest later : List ℕ → Part End) (over : Bool) (bytes begins : List ℕ) (r : Result (Option End) Broken) → Leads a b n n' whole rest
-      → GoesFurther r b c n' n'' rest later over bytes begins → GoesFurther r a c n n'' whole later over bytes begins
-  goes_on rest later over bytes begins (Ok None) leads w = record { texts = w.texts; written = w.written; leads = Leads-trans leads w.leads; count = w.count; are = w.are }
-  goes_on rest later over bytes begins (Ok (Some end)) leads does = Leads-does leads does
-  goes_on rest later over bytes begins (Err broken.Memory) leads h =
+  pub goes_on : (rest later : List ℕ → Part End) (stream : Stream) (bytes begins : List ℕ) (r : Result (Option End) Broken) → Leads a b n n' whole rest
+      → GoesFurther r b c n' n'' rest later stream bytes begins → GoesFurther r a c n n'' whole later stream bytes begins
+  goes_on rest later stream bytes begins (Ok None) leads w = record { texts = w.texts; written = w.written; leads = Leads-trans leads w.leads; count = w.count; are = w.are }
+  goes_on rest later stream bytes begins (Ok (Some end)) leads does = Leads-does leads does
+  goes_on rest later stream bytes begins (Err broken.Memory) leads h =
       let w = h.1 in (h.0, record { texts = w.texts; written = w.written; leads = Leads-trans leads w.leads; count = w.count; are = w.are })
-  goes_on rest later over bytes begins (Err broken.Source) leads bare = (Leads-breaks leads bare.0, bare.1)
-  goes_on rest later over bytes begins (Err broken.Out) leads bare = (Leads-breaks leads bare.0, bare.1)
-  goes_on rest later over bytes begins (Err broken.Record) leads bare = (Leads-breaks leads bare.0, bare.1)
+  goes_on rest later stream bytes begins (Err broken.Source) leads bare = (Leads-breaks leads bare.0, bare.1)
+  goes_on rest later stream bytes begins (Err broken.Out) leads bare = (Leads-breaks leads bare.0, bare.1)
+  goes_on rest later stream bytes begins (Err broken.Record) leads bare = (Leads-breaks leads bare.0, bare.1)
 
   -- and so does what continues where nothing is gathered
-  pub continues : (rest later : List ℕ → Part End) (over : Bool) (r : Result (Option End) Broken) → Leads a b n n' whole rest
-      → Continues r b c n' n'' rest later over → GoesFurther r a c n n'' whole later over [] []
-  continues rest later over (Ok None) leads more = waits_nil later (Leads-trans leads more)
-  continues rest later over (Ok (Some end)) leads does = Leads-does leads does
-  continues rest later over (Err e) leads broken = halts_nil e (Leads-breaks leads broken)
+  pub continues : (rest later : List ℕ → Part End) (stream : Stream) (r : Result (Option End) Broken) → Leads a b n n' whole rest
+      → Continues r b c n' n'' rest later stream → GoesFurther r a c n n'' whole later stream [] []
+  continues rest later stream (Ok None) leads more = waits_nil later (Leads-trans leads more)
+  continues rest later stream (Ok (Some end)) leads does = Leads-does leads does
+  continues rest later stream (Err e) leads broken = halts_nil e (Leads-breaks leads broken)
 
 -- ---- a step whose text is gathered
 
@@ -296,35 +303,35 @@ none_begin [] is = refl
 none_begin (x ∷ xs) is = cc
 
 module _ {S M : Type 0} (rules : Rules S M) (options : Options) (at : S) (m : M) (steps : ℕ) where
-  step_added : (follows : S → Bool → List ℕ → Part End) (over : Bool) (t : S) (printed text : List ℕ) → rules.step at m ≡ Goes t printed → text ≡ step_text rules options at m (steps + 1) t printed
-      → (xs : List (List ℕ)) (left : List ℕ) → behind xs (step_part rules options at m steps follows over) left ≡ behind (xs ++ text ∷ []) (follows t over) left
+  step_added : (follows : S → Stream → List ℕ → Part End) (stream : Stream) (t : S) (printed text : List ℕ) → rules.step at m ≡ Goes t printed → text ≡ step_text rules options at m (steps + 1) t printed
+      → (xs : List (List ℕ)) (left : List ℕ) → behind xs (step_part rules options at m steps follows stream) left ≡ behind (xs ++ text ∷ []) (follows t stream) left
   unfolding stepped
-  step_added follows over t printed text goes is xs left =
-      rw (goes, ← is, told-append xs (text ∷ [])) (preceded-preceded (told_steps xs) (Stepped ∷ Put Told text ∷ []) (follows t over left))
+  step_added follows stream t printed text goes is xs left =
+      rw (goes, ← is, told-append xs (text ∷ [])) (preceded-preceded (told_steps xs) (Stepped ∷ Put Told text ∷ []) (follows t stream left))
 
-  pub waits_more : {a : Holdings} {n : ℕ} (follows : S → Bool → List ℕ → Part End) (over : Bool) (t : S) (printed text : List ℕ) → rules.step at m ≡ Goes t printed → text ≡ step_text rules options at m (steps + 1) t printed
+  pub waits_more : {a : Holdings} {n : ℕ} (follows : S → Stream → List ℕ → Part End) (stream : Stream) (t : S) (printed text : List ℕ) → rules.step at m ≡ Goes t printed → text ≡ step_text rules options at m (steps + 1) t printed
       → (xs : List (List ℕ)) (bytes begins bytes' begins' : List ℕ) → AreGathered xs bytes begins → steps ≡ n + length xs → AddsText bytes begins text bytes' begins'
-      → Waits a a n (steps + 1) (behind xs (step_part rules options at m steps follows over)) (follows t over) bytes' begins'
-  waits_more {n = n} follows over t printed text goes is xs bytes begins bytes' begins' are count (inl added) =
+      → Waits a a n (steps + 1) (behind xs (step_part rules options at m steps follows stream)) (follows t stream) bytes' begins'
+  waits_more {n = n} follows stream t printed text goes is xs bytes begins bytes' begins' are count (inl added) =
       let more = length-append xs (text ∷ []) in
       record {
         texts = xs ++ text ∷ [];
         written = n;
-        leads = Leads-same (step_added follows over t printed text goes is xs) (Leads-nil (behind xs (step_part rules options at m steps follows over)));
+        leads = Leads-same (step_added follows stream t printed text goes is xs) (Leads-nil (behind xs (step_part rules options at m steps follows stream)));
         count = omega arith;
         are = record {
           bytes_are = added.0 ∙ (ap (λ bs. bs ++ text) are.bytes_are ∙ sym (told_last xs text));
           begins_are = added.1 ∙ (ap (λ bs. bs ++ length bytes ∷ []) are.begins_are ∙ (ap (λ bs. begins_from 0 xs ++ length bs ∷ []) are.bytes_are ∙ sym (begins-last xs text)));
         };
       }
-  waits_more {n = n} follows over t printed text goes is xs bytes begins bytes' begins' are count (inr empty) =
+  waits_more {n = n} follows stream t printed text goes is xs bytes begins bytes' begins' are count (inr empty) =
       let none : xs ≡ [] = none_begin xs (sym are.begins_are ∙ empty.1) in
       let few : length xs ≡ 0 = ap (λ (ts : List (List ℕ)). length ts) none in
       let now : steps ≡ n = omega arith in
       record {
         texts = [];
         written = steps + 1;
-        leads = rw (none, ← now) (Leads-same (λ left. refl) (step_leads rules options at m steps follows over t printed (steps + 1) goes (rw (← is, empty.0) Moved-nil) refl));
+        leads = rw (none, ← now) (Leads-same (λ left. refl) (step_leads rules options at m steps follows stream t printed (steps + 1) goes (rw (← is, empty.0) Moved-nil) refl));
         count = sym (add-zero (steps + 1));
         are = record { bytes_are = empty.2 ∙ (are.bytes_are ∙ ap (λ ts. output (told_steps ts)) none); begins_are = empty.3 };
       }
@@ -332,40 +339,40 @@ module _ {S M : Type 0} (rules : Rules S M) (options : Options) (at : S) (m : M)
 -- ---- a turn with one move
 
 -- what follows a step
-abbrev pub after_step : {S M : Type 0} → Rules S M → Options → ℕ → S → Bool → List ℕ → Part End
-after_step rules options steps t over left = story rules options (options.limit - (steps + 1)) t (steps + 1) over left
+abbrev pub after_step : {S M : Type 0} → Version → Rules S M → Options → ℕ → S → Stream → List ℕ → Part End
+after_step notes rules options steps t stream left = story notes rules options (options.limit - (steps + 1)) t (steps + 1) stream left
 
-module _ {S M : Type 0} (rules : Rules S M) (options : Options) (at : S) (steps : ℕ) (over : Bool) where
+module _ {S M : Type 0} (notes : Version) (rules : Rules S M) (options : Options) (at : S) (steps : ℕ) (stream : Stream) where
   one_of : (m : M) (moves : List M) → length moves ≡ 1 → get_or moves 0 m ≡ m → moves ≡ m ∷ []
   one_of m [] one is = cc
   one_of m (x ∷ []) one is = ap (λ y. y ∷ []) is
   one_of m (x ∷ y ∷ ms) one is = cc
 
   one_story : (m : M) (fuel : ℕ) → rules.moves at ≡ m ∷ [] → (left : List ℕ)
-      → story rules options (suc fuel) at steps over left ≡ stepped rules options at m steps (λ t. story rules options fuel t (steps + 1) over left) over left (rules.step at m)
+      → story notes rules options (suc fuel) at steps stream left ≡ stepped rules options at m steps (λ t. story notes rules options fuel t (steps + 1) stream left) stream left (rules.step at m)
   unfolding story select answered
   one_story m fuel is left = rw is refl
 
   pub one_move : (m : M) (moves : List M) → moves ≡ rules.moves at → length moves ≡ 1 → m ≡ get_or moves 0 m → steps < options.limit
-      → (left : List ℕ) → story_after rules options at steps over left ≡ step_part rules options at m steps (after_step rules options steps) over left
+      → (left : List ℕ) → story_after notes rules options at steps stream left ≡ step_part rules options at m steps (after_step notes rules options steps) stream left
   one_move m moves is one first lt left =
       let more : options.limit - steps ≡ suc (options.limit - (steps + 1)) = omega arith in
       rw more (one_story m (options.limit - (steps + 1)) (sym is ∙ one_of m moves one (sym first)) left)
 
 -- a turn in which the one move was taken
-module _ {S M : Type 0} (rules : Rules S M) (options : Options) (at t : S) (m : M) (steps steps' : ℕ) (over : Bool) (a b : Holdings) (moves : List M) (bytes begins bytes' begins' : List ℕ) where
+module _ {S M : Type 0} (notes : Version) (rules : Rules S M) (options : Options) (at t : S) (m : M) (steps steps' : ℕ) (stream : Stream) (a b : Holdings) (moves : List M) (bytes begins bytes' begins' : List ℕ) where
   -- what follows the step is what follows after so many steps
   next_story : (n : ℕ) (whole : List ℕ → Part End) (r : Result (Option End) Broken) → IfOk r (λ end. IfNone end (steps' ≡ steps + 1))
-      → GoesFurther r a b n steps' whole (after_step rules options steps t over) over bytes' begins' → GoesFurther r a b n steps' whole (story_after rules options t steps' over) over bytes' begins'
+      → GoesFurther r a b n steps' whole (after_step notes rules options steps t stream) stream bytes' begins' → GoesFurther r a b n steps' whole (story_after notes rules options t steps' stream) stream bytes' begins'
   next_story n whole (Ok None) next w = rw next (rw next at w)
   next_story n whole (Ok (Some end)) next does = does
   next_story n whole (Err e) next halts = halts
 
   pub one_turn : moves ≡ rules.moves at → length moves ≡ 1 → m ≡ get_or moves 0 m → steps < options.limit → (r : Result (Option End) Broken) → IfOk r (λ end. IfNone end (steps' ≡ steps + 1))
-      → Advances r rules options at m t a b steps steps' bytes begins bytes' begins' → TurnsOn r rules options at t a b steps steps' over over bytes begins bytes' begins'
+      → Advances r rules options at m t a b steps steps' bytes begins bytes' begins' → TurnsOn r notes rules options at t a b steps steps' stream stream bytes begins bytes' begins'
   one_turn is one first lt r next advances xs n are count =
-      let rest = step_part rules options at m steps (after_step rules options steps) over in
-      let same : (left : List ℕ) → behind xs (story_after rules options at steps over) left ≡ behind xs rest left = λ left. ap (preceded (told_steps xs)) (one_move rules options at steps over m moves is one first lt left) in
-      next_story n (behind xs (story_after rules options at steps over)) r next
-      (goes_on b steps' (behind xs rest) (after_step rules options steps t over) over bytes' begins' r (Leads-same same (Leads-nil (behind xs (story_after rules options at steps over))))
-      (advances xs n (after_step rules options steps) over are count))
+      let rest = step_part rules options at m steps (after_step notes rules options steps) stream in
+      let same : (left : List ℕ) → behind xs (story_after notes rules options at steps stream) left ≡ behind xs rest left = λ left. ap (preceded (told_steps xs)) (one_move notes rules options at steps stream m moves is one first lt left) in
+      next_story n (behind xs (story_after notes rules options at steps stream)) r next
+      (goes_on b steps' (behind xs rest) (after_step notes rules options steps t stream) stream bytes' begins' r (Leads-same same (Leads-nil (behind xs (story_after notes rules options at steps stream))))
+      (advances xs n (after_step notes rules options steps) stream are count))

@@ -1,15 +1,20 @@
 -- The line of an accepted number, read again.
-use Rattle.std.proofs.Common.{◌≡◌, ℕ, zero, suc, ◌+◌, ◌-◌, ◌*◌, ◌<◌, ◌≤◌, ◌^◌, List, [], ◌∷◌, ◌++◌, length, fold, Bool, true, false, ◌&&◌, cond, eqb, leb, ltb, Some, None, refl, sym, ap, ◌∙◌, arith, append-nil}
+use Rattle.std.proofs.Common.{◌≡◌, ℕ, zero, suc, ◌+◌, ◌<◌, ◌≤◌, List, [], ◌∷◌, ◌++◌, length, Bool, true, false, ◌&&◌, cond, eqb, leb, ltb, Some, None, refl, sym, ap, ◌∙◌, arith, append-nil}
 use Rattle.std.proofs.lemmas.Bool.Decides.{nat_tests}
 use Rattle.std.proofs.lemmas.Bool.{true≢false}
 use Rattle.std.specs.List.{list_all}
 use Rattle.session.specs.declared.line.LineEnd.TheVariants.{Whole}
 use Rattle.session.specs.declared.choice.Answer.TheVariants as answer
 use Rattle.session.specs.Events.{asks}
+use Rattle.session.specs.declared.form.Stream.{Stream}
+use Rattle.session.specs.declared.form.Stream.TheVariants.{Unread, Known, Over}
+use Rattle.session.specs.declared.form.Version.TheVariants.{First}
 use Rattle.session.specs.Limits.{most_line_bytes}
-use Rattle.session.specs.Lines.{line_within, lengthened, is_blank, is_digit, front_trimmed, end_trimmed, trimmed, number_of, number_up_to, is_quit, picked, reply_of}
-use Rattle.session.specs.Session.{one_line, ask}
-use Rattle.session.specs.Texts.{record_line, all_digits}
+use Rattle.session.specs.Lines.{line_within, lengthened, is_blank, is_digit, front_trimmed, end_trimmed, trimmed, number_up_to, is_quit, is_header, picked, reply_of}
+use Rattle.session.specs.Session.{one_line, next_line, one_reply, ask}
+use Rattle.std.specs.Prelude.{⊤}
+use Rattle.std.specs.Str.{bytes_eq}
+use Rattle.session.specs.Texts.{record_line, all_digits, header}
 use Rattle.session.proofs.LineReading.{line_feed, line_byte}
 use Rattle.session.proofs.Written.{all_are_digits, number_is}
 
@@ -27,6 +32,9 @@ digit_not_blank b digit = grind (arith, nat_tests)
 
 digit_not_feed : (b : ℕ) → is_digit b ≡ true → eqb b 10 ≡ false
 digit_not_feed b digit = grind (arith, nat_tests)
+
+digit_not_c : (b : ℕ) → is_digit b ≡ true → eqb b 99 ≡ false
+digit_not_c b digit = grind (arith, nat_tests)
 
 digit_not_quit : (b : ℕ) → is_digit b ≡ true → eqb b 113 ≡ false
 digit_not_quit b digit = grind (arith, nat_tests)
@@ -68,16 +76,36 @@ record_said most n some within =
     let digits = all_are_digits n in
     rw (trimmed_digits (all_digits n) digits) (rw (digits_not_quit (all_digits n) digits) (said_in n most some within _ _ digits (number_is n)))
 
-record_one_line : (most n : ℕ) (more : List ℕ) → 0 < n → n ≤ most → length (all_digits n) ≤ most_line_bytes
-    → one_line most false (record_line n ++ more) ≡ record { events = asks (record_line n) false; value = Some (answer.Pick n); over = false; left = more }
-unfolding one_line
-record_one_line most n more some within small =
-    let line = line_of_digits (all_digits n) more (most_line_bytes + 1) (omega (arith, small)) (all_are_digits n) in
-    rw line (rw (record_said most n some within) refl)
+-- choices of which nothing was read, or of the first version
+abbrev pub IsPlain : Stream → Type 0
+IsPlain Unread = ⊤
+IsPlain (Known version) = version ≡ First
+IsPlain Over = ⊥
 
--- the line of a number that can be picked answers a question at once
-pub record_asked : (most tries n : ℕ) (more : List ℕ) → 0 < n → n ≤ most → length (all_digits n) ≤ most_line_bytes
-    → ask most tries false (record_line n ++ more) ≡ record { events = asks (record_line n) false; value = answer.Pick n; over = false; left = more }
-unfolding ask
-record_asked most zero n more some within small = rw (record_one_line most n more some within small) (rw append-nil refl)
-record_asked most (suc tries) n more some within small = rw (record_one_line most n more some within small) (rw append-nil refl)
+digits_no_header : (word : List ℕ) → AreDigits word → bytes_eq word header ≡ false
+digits_no_header [] digits = refl
+digits_no_header (b ∷ bs) digits = rw (digit_not_c b (both (is_digit b) (list_all is_digit bs) digits).0) refl
+
+number_no_header : (n : ℕ) → is_header (all_digits n) ≡ false
+unfolding is_header
+number_no_header n = rw (trimmed_digits (all_digits n) (all_are_digits n)) (digits_no_header (all_digits n) (all_are_digits n))
+
+module _ (most : ℕ) (place : ℕ → ℕ × ℕ) (n : ℕ) (more : List ℕ) (some : 0 < n) (within : n ≤ most) (small : length (all_digits n) ≤ most_line_bytes) where
+  the_line : line_within (most_line_bytes + 1) (record_line n ++ more) ≡ record { ends = Whole; bytes = all_digits n; left = more }
+  the_line = line_of_digits (all_digits n) more (most_line_bytes + 1) (omega (arith, small)) (all_are_digits n)
+
+  record_one_line : one_line First most place (record_line n ++ more) ≡ record { events = asks (record_line n) false; value = Some (answer.Pick n); stream = Known First; left = more }
+  unfolding one_line
+  record_one_line = rw the_line (rw (record_said most n some within) refl)
+
+  record_reply : (stream : Stream) → IsPlain stream → one_reply most place stream (record_line n ++ more) ≡ record { events = asks (record_line n) false; value = Some (answer.Pick n); stream = Known First; left = more }
+  unfolding one_reply next_line
+  record_reply Unread plain = rw the_line (rw (number_no_header n) record_one_line)
+  record_reply (Known version) plain = rw plain record_one_line
+  record_reply Over plain = absurd plain
+
+  -- the line of a number that can be picked answers a question at once
+  pub record_asked : (tries : ℕ) (stream : Stream) → IsPlain stream → ask most place tries stream (record_line n ++ more) ≡ record { events = asks (record_line n) false; value = answer.Pick n; stream = Known First; left = more }
+  unfolding ask
+  record_asked zero stream plain = rw (record_reply stream plain) (rw append-nil refl)
+  record_asked (suc tries) stream plain = rw (record_reply stream plain) (rw append-nil refl)

@@ -18,8 +18,8 @@ module _ {S M : Type 0} (rules : Rules S M) (options : Options) (s : S) (m : M) 
   step_refused none = record {
     done = [];
     no_byte = refl;
-    moved = record { moved = none; count = sym (add-zero steps) };
-    begins = λ later over left. (_, refl);
+    moved = record { moved = none; count = sym (add-zero steps); readable = refl };
+    begins = λ later stream left. (_, refl);
   }
 
   -- the step was taken, and nothing of its text was written for want of memory
@@ -28,8 +28,8 @@ module _ {S M : Type 0} (rules : Rules S M) (options : Options) (s : S) (m : M) 
   step_untold t printed goes none = record {
     done = Stepped ∷ [];
     no_byte = refl;
-    moved = record { moved = none; count = refl };
-    begins = λ later over left. rw goes (_, refl);
+    moved = record { moved = none; count = refl; readable = refl };
+    begins = λ later stream left. rw goes (_, refl);
   }
 
   -- its text was broken off
@@ -42,8 +42,8 @@ module _ {S M : Type 0} (rules : Rules S M) (options : Options) (s : S) (m : M) 
   step_cut broken.Out t printed text goes is took = record {
     done = Stepped ∷ Put Told (take took.0 text) ∷ [];
     no_byte = refl;
-    moved = record { moved = Moved-piece (take took.0 text) took.2; count = refl };
-    begins = λ later over left. rw (goes, ← is) (Stepped ∷ [], Told, text, took.0, _, took.1, refl, refl);
+    moved = record { moved = Moved-piece (take took.0 text) took.2; count = refl; readable = refl };
+    begins = λ later stream left. rw (goes, ← is) (Stepped ∷ [], Told, text, took.0, _, took.1, refl, refl);
   }
 
   -- the line of a fault was broken off
@@ -56,8 +56,8 @@ module _ {S M : Type 0} (rules : Rules S M) (options : Options) (s : S) (m : M) 
   fault_cut broken.Out f text faults is took = record {
     done = Put Told (take took.0 text) ∷ [];
     no_byte = refl;
-    moved = record { moved = Moved-piece (take took.0 text) took.2; count = sym (add-zero steps) };
-    begins = λ later over left. rw (faults, ← is) ([], Told, text, took.0, _, took.1, refl, refl);
+    moved = record { moved = Moved-piece (take took.0 text) took.2; count = sym (add-zero steps); readable = refl };
+    begins = λ later stream left. rw (faults, ← is) ([], Told, text, took.0, _, took.1, refl, refl);
   }
 
 -- a piece was written, or broken off

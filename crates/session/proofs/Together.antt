@@ -20,7 +20,7 @@ module _ {T : Type 0} {a b : Holdings} {n : ℕ} {first second : Role} (x y : Li
   pub both_written : Moved a b [] (x ++ y) [] → Leads a b n n (both first second x y rest) rest
   both_written took = record {
     done = Put first x ∷ Put second y ∷ [];
-    moved = record { moved = rw (append-nil y) took; count = sym (add-zero n) };
+    moved = record { moved = rw (append-nil y) took; count = sym (add-zero n); readable = refl };
     is = λ left now. refl;
   }
 
@@ -37,6 +37,7 @@ module _ {T : Type 0} {a b : Holdings} {n : ℕ} {first second : Role} (x y : Li
     moved = record {
       moved = rw (append-nil (take k y)) (subst (λ (bs : List ℕ). Moved a b [] bs []) (take-append-add x y k) took);
       count = sym (add-zero n);
+      readable = refl;
     };
     begins = λ left now. (Put first x ∷ [], second, y, k, (rest left).events, lt, refl, refl);
   }

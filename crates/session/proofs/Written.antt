@@ -5,16 +5,21 @@ use Rattle.std.proofs.lemmas.Bool.Decides.{nat_tests}
 use Rattle.std.proofs.lemmas.Fmt.{decimal_by_steps}
 use Rattle.std.specs.Fmt.{decimal}
 use Rattle.std.specs.List.{list_all}
-use Rattle.std.specs.Prelude.{⊤, if◌then◌else◌}
+use Rattle.std.specs.Prelude.{⊤, if◌then◌else◌, codes}
 use Rattle.session.specs.declared.line.LineEnd.{LineEnd}
 use Rattle.session.specs.declared.line.LineEnd.TheVariants.{Whole, Last, TooLong}
 use Rattle.session.specs.declared.choice.Answer.{Answer}
 use Rattle.session.specs.declared.choice.Answer.TheVariants as answer
 use Rattle.session.specs.Limits.{most_line_bytes}
-use Rattle.session.specs.Lines.{Line, line_within, lengthened, is_blank, is_digit, number_of, number_up_to, is_quit, front_trimmed, end_trimmed, trimmed, picked, reply_of}
-use Rattle.session.specs.Part.{Part}
-use Rattle.session.specs.Session.{one_line, reply_at, ask, after_line, only}
-use Rattle.session.specs.Texts.{digits_of, all_digits}
+use Rattle.session.specs.Lines.{Line, line_within, lengthened, is_blank, is_digit, number_of, number_up_to, is_quit, is_gap, front_trimmed, end_trimmed, trimmed, first_word, behind_word, writes, picked, picked_at, placed_answer, placed_reply, reply_of, reply_in, read_of, saw_end}
+use Rattle.session.specs.Events.{asks}
+use Rattle.session.specs.Part.{Part, preceded}
+use Rattle.session.specs.Session.{one_line, next_line, one_reply, begins_second, stream_behind, reply_at, ask, after_line, only}
+use Rattle.session.specs.Texts.{digits_of, all_digits, record_line, placed_line}
+use Rattle.session.specs.declared.form.Stream.{Stream}
+use Rattle.session.specs.declared.form.Stream.TheVariants.{Unread, Known, Over}
+use Rattle.session.specs.declared.form.Version.{Version}
+use Rattle.session.specs.declared.form.Version.TheVariants.{First, Second}
 
 -- ---- one digit, and one more
 
@@ -60,6 +65,44 @@ module _ (P : ℕ → List ℕ → Type 0) (one : (n : ℕ) → n < 10 → P n (
 -- below 2 ^ 64 they are the decimal text that is known
 pub decimal_is : (n : ℕ) → n < 2 ^ 64 → decimal n ≡ all_digits n
 decimal_is n small = decimal_by_steps (λ m ds. ds ≡ all_digits m) (λ m l. sym (all_one m l)) (λ m ds l h. ap (λ (es : List ℕ). es ++ (48 + m % 10) ∷ []) h ∙ sym (all_more m l)) n small
+
+-- ---- how many digits
+
+abbrev pub tens : ℕ → ℕ
+tens zero = 10
+tens (suc k) = 10 * tens k
+
+pub few_digits : (k n : ℕ) → n < tens k → length (all_digits n) ≤ suc k
+few_digits zero n h = let e = ap length (all_one n h) in omega (arith, e)
+few_digits (suc k) n h = by (few_digits k (n / 10)) (cases_lt n 10)
+  where
+    by : (n / 10 < tens k → length (all_digits (n / 10)) ≤ suc k) → (n < 10) ⊎ (10 ≤ n) → length (all_digits n) ≤ suc (suc k)
+    by again (inl l) = let e = ap length (all_one n l) in omega (arith, e)
+    by again (inr l) =
+        let e = ap length (all_more n l) in
+        let f = length-append (all_digits (n / 10)) ((48 + n % 10) ∷ []) in
+        let g = again (omega (arith, h)) in
+        omega (arith, e, f, g)
+
+pub record_readable : (n : ℕ) → n < 2 ^ 64 → length (record_line n) ≤ most_line_bytes + 1
+record_readable n small =
+    let few = few_digits 19 n (omega (arith, small)) in
+    let all = length-append (all_digits n) (codes "\n") in
+    omega (arith, few, all)
+
+pub placed_readable : (n p l : ℕ) → n < 2 ^ 64 → p < 2 ^ 32 → l < 2 ^ 32 → length (placed_line n (p, l)) ≤ most_line_bytes + 1
+placed_readable n p l small_n small_p small_l =
+    let a = few_digits 19 n (omega (arith, small_n)) in
+    let b = few_digits 9 p (omega (arith, small_p)) in
+    let c = few_digits 9 l (omega (arith, small_l)) in
+    let x = length-append (all_digits n) (codes " " ++ (all_digits p ++ (codes " " ++ (all_digits l ++ codes "\n")))) in
+    let y = length-append (all_digits p) (codes " " ++ (all_digits l ++ codes "\n")) in
+    let z = length-append (all_digits l) (codes "\n") in
+    omega (arith, a, b, c, x, y, z)
+
+-- the line of a number with the place of its move
+pub placed_text : (n p l : ℕ) → n < 2 ^ 64 → p < 2 ^ 64 → l < 2 ^ 64 → decimal n ++ (codes " " ++ (decimal p ++ (codes " " ++ (decimal l ++ codes "\n")))) ≡ placed_line n (p, l)
+placed_text n p l a b c = rw (decimal_is n a, decimal_is p b, decimal_is l c) refl
 
 -- ---- they are digits, and read as the number
 
@@ -134,6 +177,7 @@ IsShort answer.Quit = ⊤
 IsShort answer.Ended = ⊤
 IsShort answer.TooLong = ⊤
 IsShort answer.Hundred = ⊤
+IsShort answer.Misfit = ⊤
 
 front_shorter : (bs : List ℕ) → length (front_trimmed bs) ≤ length bs
 front_shorter [] = omega arith
@@ -169,6 +213,39 @@ reply_short most line h = by_quit (is_quit (trimmed line))
     by_quit true = tt
     by_quit false = let a = front_shorter line in let b = end_shorter (front_trimmed line) in number_short most (trimmed line) (omega (arith, a, b, h))
 
+-- the number of a line with the place of its move
+first_no_longer : (bs : List ℕ) → length (first_word bs) ≤ length bs
+first_no_longer [] = omega arith
+first_no_longer (b ∷ bs) = by (is_gap b) (first_no_longer bs)
+  where
+    by : (t : Bool) → length (first_word bs) ≤ length bs → length (if t then [] else b ∷ first_word bs) ≤ length (b ∷ bs)
+    by true h = omega arith
+    by false h = omega (arith, h)
+
+picked_short : (place : ℕ → ℕ × ℕ) (p l : List ℕ) (k : Option ℕ) → IfSome (picked k) IsShort → IsShort (picked_at place p l k)
+picked_short place p l None h = tt
+picked_short place p l (Some n) h = by (writes p (place n).0 && writes l (place n).1)
+  where
+    by : (t : Bool) → IsShort (if t then answer.Pick n else answer.Misfit)
+    by true = h
+    by false = tt
+
+placed_short : (most : ℕ) (place : ℕ → ℕ × ℕ) (line : List ℕ) → length line ≤ most_line_bytes → IsShort (placed_reply most place line)
+unfolding placed_reply placed_answer
+placed_short most place line h = by_quit (is_quit (trimmed line))
+  where
+    by_quit : (q : Bool) → IsShort (if q then answer.Quit else placed_answer most place (trimmed line))
+    by_quit true = tt
+    by_quit false =
+        let a = front_shorter line in
+        let b = end_shorter (front_trimmed line) in
+        let c = first_no_longer (trimmed line) in
+        picked_short place (first_word (behind_word (trimmed line))) (behind_word (behind_word (trimmed line))) (number_up_to most (first_word (trimmed line))) (number_short most (first_word (trimmed line)) (omega (arith, a, b, c, h)))
+
+reply_in_short : (version : Version) (most : ℕ) (place : ℕ → ℕ × ℕ) (line : List ℕ) → length line ≤ most_line_bytes → IfSome (reply_in version most place line) IsShort
+reply_in_short First most place line h = reply_short most line h
+reply_in_short Second most place line h = placed_short most place line h
+
 -- a line that is no longer than it may be has room to spare
 abbrev Spared : ℕ → Line → Type 0
 Spared room line = elim line.ends as (λ _. Type 0) [
@@ -195,22 +272,38 @@ spared (suc room) (b ∷ rest) = by (eqb b 10) (spared room rest)
     by true h = omega arith
     by false h = spared_more room b (line_within room rest) h
 
-reply_at_short : (most : ℕ) (ends : LineEnd) (bytes left : List ℕ) → Spared (most_line_bytes + 1) (record { ends = ends; bytes = bytes; left = left }) → IfSome (reply_at most ends bytes) IsShort
-reply_at_short most Whole bytes left h = reply_short most bytes (omega (arith, h))
-reply_at_short most TooLong bytes left h = tt
-reply_at_short most Last [] left h = tt
-reply_at_short most Last (b ∷ bs) left h = reply_short most (b ∷ bs) (omega (arith, h))
+reply_at_short : (version : Version) (most : ℕ) (place : ℕ → ℕ × ℕ) (ends : LineEnd) (bytes left : List ℕ) → Spared (most_line_bytes + 1) (record { ends = ends; bytes = bytes; left = left }) → IfSome (reply_at version most place ends bytes) IsShort
+reply_at_short version most place Whole bytes left h = reply_in_short version most place bytes (omega (arith, h))
+reply_at_short version most place TooLong bytes left h = tt
+reply_at_short version most place Last [] left h = tt
+reply_at_short version most place Last (b ∷ bs) left h = reply_in_short version most place (b ∷ bs) (omega (arith, h))
 
-line_short : (most : ℕ) (over : Bool) (rest : List ℕ) → IfSome (one_line most over rest).value IsShort
+line_short : (version : Version) (most : ℕ) (place : ℕ → ℕ × ℕ) (rest : List ℕ) → IfSome (one_line version most place rest).value IsShort
 unfolding one_line
-line_short most true rest = tt
-line_short most false rest = let line = line_within (most_line_bytes + 1) rest in reply_at_short most line.ends line.bytes line.left (spared (most_line_bytes + 1) rest)
+line_short version most place rest = let line = line_within (most_line_bytes + 1) rest in reply_at_short version most place line.ends line.bytes line.left (spared (most_line_bytes + 1) rest)
 
-after_short : (more : Bool → List ℕ → Part Answer) → ((over : Bool) (left : List ℕ) → IsShort (more over left).value) → (said : Option Answer) (over : Bool) (left : List ℕ) → IfSome said IsShort → IsShort (after_line more said over left).value
-after_short more short (Some said) over left here = here
-after_short more short None over left here = short over left
+next_short : (most : ℕ) (place : ℕ → ℕ × ℕ) (stream : Stream) (rest : List ℕ) → IfSome (next_line most place stream rest).value IsShort
+unfolding next_line
+next_short most place Unread rest = line_short First most place rest
+next_short most place (Known version) rest = line_short version most place rest
+next_short most place Over rest = tt
 
-pub ask_short : (most tries : ℕ) (over : Bool) (rest : List ℕ) → IsShort (ask most tries over rest).value
+one_short : (most : ℕ) (place : ℕ → ℕ × ℕ) (stream : Stream) (rest : List ℕ) → IfSome (one_reply most place stream rest).value IsShort
+unfolding one_reply
+one_short most place Unread rest = let line = line_within (most_line_bytes + 1) rest in by line (begins_second line.ends line.bytes)
+  where
+    by : (line : Line) (t : Bool)
+        → IfSome (if t then preceded (asks (read_of line.ends line.bytes) (saw_end line.ends)) (next_line most place (stream_behind Second line.ends) line.left) else next_line most place Unread rest).value IsShort
+    by line true = next_short most place (stream_behind Second line.ends) line.left
+    by line false = next_short most place Unread rest
+one_short most place (Known version) rest = next_short most place (Known version) rest
+one_short most place Over rest = next_short most place Over rest
+
+after_short : (more : Stream → List ℕ → Part Answer) → ((stream : Stream) (left : List ℕ) → IsShort (more stream left).value) → (said : Option Answer) (stream : Stream) (left : List ℕ) → IfSome said IsShort → IsShort (after_line more said stream left).value
+after_short more short (Some said) stream left here = here
+after_short more short None stream left here = short stream left
+
+pub ask_short : (most : ℕ) (place : ℕ → ℕ × ℕ) (tries : ℕ) (stream : Stream) (rest : List ℕ) → IsShort (ask most place tries stream rest).value
 unfolding ask
-ask_short most zero over rest = after_short (only answer.Hundred) (λ o l. tt) (one_line most over rest).value (one_line most over rest).over (one_line most over rest).left (line_short most over rest)
-ask_short most (suc tries) over rest = after_short _ (λ o l. ask_short most tries o l) (one_line most over rest).value (one_line most over rest).over (one_line most over rest).left (line_short most over rest)
+ask_short most place zero stream rest = let one = one_reply most place stream rest in after_short (only answer.Hundred) (λ o l. tt) one.value one.stream one.left (one_short most place stream rest)
+ask_short most place (suc tries) stream rest = let one = one_reply most place stream rest in after_short _ (λ o l. ask_short most place tries o l) one.value one.stream one.left (one_short most place stream rest)

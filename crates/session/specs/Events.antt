@@ -17,8 +17,8 @@ pub data Event : Type 0 where
   Asked : ℕ → Event
   -- a byte is asked for, and the end comes
   AskedEnd : Event
-  -- an accepted number, as its line in the record
-  Recorded : List ℕ → Event
+  -- an accepted number, as its line in the record, and as its line with the place of its move
+  Recorded : List ℕ → List ℕ → Event
   -- a step has succeeded
   Stepped : Event
 
@@ -27,7 +27,7 @@ abbrev pub output_of : Event → List ℕ
 output_of (Put role piece) = piece
 output_of (Asked b) = []
 output_of AskedEnd = []
-output_of (Recorded line) = []
+output_of (Recorded line placed) = []
 output_of Stepped = []
 
 -- the byte of the choices that one event reads
@@ -35,7 +35,7 @@ abbrev pub bytes_of : Event → List ℕ
 bytes_of (Put role piece) = []
 bytes_of (Asked b) = b ∷ []
 bytes_of AskedEnd = []
-bytes_of (Recorded line) = []
+bytes_of (Recorded line placed) = []
 bytes_of Stepped = []
 
 -- what one event writes to the record
@@ -43,7 +43,7 @@ abbrev pub record_of : Event → List ℕ
 record_of (Put role piece) = []
 record_of (Asked b) = []
 record_of AskedEnd = []
-record_of (Recorded line) = line
+record_of (Recorded line placed) = line
 record_of Stepped = []
 
 -- the steps that one event counts for
@@ -51,7 +51,7 @@ abbrev pub step_of : Event → ℕ
 step_of (Put role piece) = 0
 step_of (Asked b) = 0
 step_of AskedEnd = 0
-step_of (Recorded line) = 0
+step_of (Recorded line placed) = 0
 step_of Stepped = 1
 
 -- what a list of events writes to the output
@@ -79,5 +79,5 @@ abbrev pub IsAsk : Event → Type 0
 IsAsk (Put role piece) = ⊥
 IsAsk (Asked b) = Unit {0}
 IsAsk AskedEnd = Unit {0}
-IsAsk (Recorded line) = ⊥
+IsAsk (Recorded line placed) = ⊥
 IsAsk Stepped = ⊥

@@ -1,5 +1,5 @@
 -- The texts of steps that are done and still to be written.
-use Rattle.std.specs.Prelude.{Bool, ◌≡◌, ◌⊎◌, ℕ, ◌+◌, ◌-◌, ◌<◌, List, [], ◌∷◌, ◌++◌, length, take, nat_lt, Option, Some, None, Result, MatchResult}
+use Rattle.std.specs.Prelude.{◌≡◌, ◌⊎◌, ℕ, ◌+◌, ◌-◌, ◌<◌, List, [], ◌∷◌, ◌++◌, length, take, nat_lt, Option, Some, None, Result, MatchResult}
 use Rattle.std.specs.List.{count_by}
 use Rattle.devices.specs.Holdings.{Holdings, Moved}
 use Rattle.session.specs.declared.End.{End}
@@ -12,6 +12,8 @@ use Rattle.session.specs.Session.{stepped}
 use Rattle.session.specs.Stands.{Does, Leads, Breaks}
 use Rattle.session.specs.Writes.{story_after}
 use Rattle.session.specs.declared.Options.{Options}
+use Rattle.session.specs.declared.form.Stream.{Stream}
+use Rattle.session.specs.declared.form.Version.{Version}
 
 -- what a session does in steps with these texts
 abbrev pub told_steps : List (List ℕ) → List Event
@@ -66,23 +68,23 @@ Halts broken.Out before after steps steps' whole bytes begins = BreaksBare broke
 Halts broken.Record before after steps steps' whole bytes begins = BreaksBare broken.Record before after steps steps' whole bytes
 
 -- this rest is to do, behind the texts that are gathered, or the session ended
-abbrev pub WaitsOn : Holdings → Holdings → ℕ → ℕ → (whole rest : List ℕ → Part End) → Bool → (bytes begins : List ℕ) → Option End → Type 0
-WaitsOn before after steps steps' whole rest over bytes begins None = Waits before after steps steps' whole rest bytes begins
-WaitsOn before after steps steps' whole rest over bytes begins (Some end) = Does before after steps steps' whole end over
+abbrev pub WaitsOn : Holdings → Holdings → ℕ → ℕ → (whole rest : List ℕ → Part End) → Stream → (bytes begins : List ℕ) → Option End → Type 0
+WaitsOn before after steps steps' whole rest stream bytes begins None = Waits before after steps steps' whole rest bytes begins
+WaitsOn before after steps steps' whole rest stream bytes begins (Some end) = Does before after steps steps' whole end stream
 
 -- the same, or the part was broken off
-abbrev pub GoesFurther : Result (Option End) Broken → Holdings → Holdings → ℕ → ℕ → (whole rest : List ℕ → Part End) → Bool → (bytes begins : List ℕ) → Type 0
-GoesFurther r before after steps steps' whole rest over bytes begins =
-    MatchResult r (WaitsOn before after steps steps' whole rest over bytes begins) (λ e. Halts e before after steps steps' whole bytes begins)
+abbrev pub GoesFurther : Result (Option End) Broken → Holdings → Holdings → ℕ → ℕ → (whole rest : List ℕ → Part End) → Stream → (bytes begins : List ℕ) → Type 0
+GoesFurther r before after steps steps' whole rest stream bytes begins =
+    MatchResult r (WaitsOn before after steps steps' whole rest stream bytes begins) (λ e. Halts e before after steps steps' whole bytes begins)
 
 -- a step was taken, or the session ended, or it was broken off: whatever texts are gathered before, and whatever follows the step
 abbrev pub Advances : {S M : Type 0} → Result (Option End) Broken → Rules S M → Options → S → M → S → Holdings → Holdings → ℕ → ℕ → (bytes begins bytes' begins' : List ℕ) → Type 0
 Advances {S} {M} r rules options s m t before after steps steps' bytes begins bytes' begins' =
-    (texts : List (List ℕ)) (written : ℕ) (later : S → Bool → List ℕ → Part End) (over : Bool) → AreGathered texts bytes begins → steps ≡ written + length texts
-    → GoesFurther r before after written steps' (behind texts (λ left. stepped rules options s m steps (λ q. later q over left) over left (rules.step s m))) (later t over) over bytes' begins'
+    (texts : List (List ℕ)) (written : ℕ) (later : S → Stream → List ℕ → Part End) (stream : Stream) → AreGathered texts bytes begins → steps ≡ written + length texts
+    → GoesFurther r before after written steps' (behind texts (λ left. stepped rules options s m steps (λ q. later q stream left) stream left (rules.step s m))) (later t stream) stream bytes' begins'
 
 -- a turn of the session was played, whatever texts are gathered before
-abbrev pub TurnsOn : {S M : Type 0} → Result (Option End) Broken → Rules S M → Options → S → S → Holdings → Holdings → ℕ → ℕ → Bool → Bool → (bytes begins bytes' begins' : List ℕ) → Type 0
-TurnsOn r rules options s t before after steps steps' over over' bytes begins bytes' begins' =
+abbrev pub TurnsOn : {S M : Type 0} → Result (Option End) Broken → Version → Rules S M → Options → S → S → Holdings → Holdings → ℕ → ℕ → Stream → Stream → (bytes begins bytes' begins' : List ℕ) → Type 0
+TurnsOn r notes rules options s t before after steps steps' stream stream' bytes begins bytes' begins' =
     (texts : List (List ℕ)) (written : ℕ) → AreGathered texts bytes begins → steps ≡ written + length texts
-    → GoesFurther r before after written steps' (behind texts (story_after rules options s steps over)) (story_after rules options t steps' over') over' bytes' begins'
+    → GoesFurther r before after written steps' (behind texts (story_after notes rules options s steps stream)) (story_after notes rules options t steps' stream') stream' bytes' begins'

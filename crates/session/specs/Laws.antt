@@ -1,8 +1,7 @@
 -- What is said of all sessions of a machine.
-use Rattle.std.specs.Prelude.{◌≡◌, ℕ, List, [], ◌∷◌, ◌++◌, filter, Bool, true, false}
+use Rattle.std.specs.Prelude.{◌≡◌, ℕ, List, ◌++◌, filter, Bool, true, false}
 use Rattle.std.specs.List.{list_any}
 use Rattle.session.specs.declared.Options.{Options}
-use Rattle.session.specs.declared.End.{End}
 use Rattle.session.specs.Events.{Event, Put, Asked, AskedEnd, Recorded, Stepped}
 use Rattle.session.specs.Machine.{Rules}
 use Rattle.session.specs.Part.{Part}
@@ -13,7 +12,7 @@ abbrev pub is_no_piece : Event → Bool
 is_no_piece (Put role piece) = false
 is_no_piece (Asked b) = true
 is_no_piece AskedEnd = true
-is_no_piece (Recorded line) = true
+is_no_piece (Recorded line placed) = true
 is_no_piece Stepped = true
 
 -- what is done beside the output
@@ -36,7 +35,7 @@ abbrev pub is_asked_end : Event → Bool
 is_asked_end (Put role piece) = false
 is_asked_end (Asked b) = false
 is_asked_end AskedEnd = true
-is_asked_end (Recorded line) = false
+is_asked_end (Recorded line placed) = false
 is_asked_end Stepped = false
 
 abbrev pub meets_the_end : List Event → Bool
@@ -44,7 +43,7 @@ meets_the_end events = list_any is_asked_end events
 
 -- the same, and more bytes are left
 abbrev pub with_more_left : {T : Type 0} → List ℕ → Part T → Part T
-with_more_left more part = record { events = part.events; value = part.value; over = part.over; left = part.left ++ more }
+with_more_left more part = record { events = part.events; value = part.value; stream = part.stream; left = part.left ++ more }
 
 -- a run that does not meet the end of its choices is the same with more choices behind them
 abbrev pub WhatIsBehindChangesNothing : {S M : Type 0} → Rules S M → Type 0

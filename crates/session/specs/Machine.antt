@@ -23,6 +23,8 @@ pub record Rules (S M : Type 0) : Type 0 where
   pub stopped : S → Option (Stopped M)
   -- the text of a move
   pub text : S → M → List ℕ
+  -- the number of its process and its line, of a move of two processes those of the sender
+  pub origin : S → M → ℕ × ℕ
   -- the value lines of the step that led here: of globals, of locals
   pub values : S → Bool → Bool → List ℕ
   -- a state without a move is a valid end

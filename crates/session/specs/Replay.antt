@@ -13,7 +13,7 @@ is_no_correction (Put Told piece) = true
 is_no_correction (Put Corrected piece) = false
 is_no_correction (Asked b) = true
 is_no_correction AskedEnd = true
-is_no_correction (Recorded line) = true
+is_no_correction (Recorded line placed) = true
 is_no_correction Stepped = true
 
 abbrev pub without_corrections : List Event → List Event
@@ -30,6 +30,7 @@ is_complete cause.Quit = false
 is_complete cause.ChoicesEnded = false
 is_complete cause.LineTooLong = false
 is_complete cause.BadChoices = false
+is_complete cause.Misfit = false
 is_complete cause.SourceFailed = false
 is_complete cause.OutFailed = false
 is_complete cause.RecordFailed = false
@@ -46,6 +47,7 @@ is_cut_short cause.Quit = true
 is_cut_short cause.ChoicesEnded = true
 is_cut_short cause.LineTooLong = true
 is_cut_short cause.BadChoices = true
+is_cut_short cause.Misfit = true
 is_cut_short cause.SourceFailed = false
 is_cut_short cause.OutFailed = false
 is_cut_short cause.RecordFailed = false

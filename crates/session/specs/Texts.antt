@@ -6,6 +6,8 @@ use Rattle.diagnostics.specs.declared.fault.Fault.{Fault}
 use Rattle.diagnostics.specs.declared.refusal.Refusal.{Refusal}
 use Rattle.diagnostics.specs.Words.{fault_number, fault_words, refusal_number, refusal_words}
 use Rattle.session.specs.declared.Cause.{Cause}
+use Rattle.session.specs.declared.form.Version.{Version}
+use Rattle.session.specs.declared.form.Version.TheVariants.{First, Second}
 use Rattle.session.specs.declared.Cause.TheVariants as cause
 
 -- the list of a question, its moves counted from k
@@ -34,6 +36,22 @@ all_digits n = digits_of (suc n) n
 abbrev pub record_line : ℕ → List ℕ
 record_line n = all_digits n ++ codes "\n"
 
+-- a number with the process and the line of its move: `K P L`
+abbrev pub placed_line : ℕ → ℕ × ℕ → List ℕ
+placed_line n place = all_digits n ++ (codes " " ++ (all_digits place.0 ++ (codes " " ++ (all_digits place.1 ++ codes "\n"))))
+
+-- the line of an accepted number, in this version
+abbrev pub noted : Version → ℕ → ℕ × ℕ → List ℕ
+noted First n place = record_line n
+noted Second n place = placed_line n place
+
+-- the first line of choices of the second version, without its line feed
+abbrev pub header : List ℕ
+header = codes "choices 2"
+
+abbrev pub header_line : List ℕ
+header_line = header ++ codes "\n"
+
 -- how a last line begins, by its cause
 abbrev pub last_words : Cause → List ℕ
 last_words cause.Valid = codes "end: valid, steps "
@@ -42,6 +60,7 @@ last_words cause.Invalid = codes "end: invalid, steps "
 last_words cause.ChoicesEnded = codes "stop: choices ended, steps "
 last_words cause.LineTooLong = codes "stop: line too long, steps "
 last_words cause.BadChoices = codes "stop: 100 bad choices, steps "
+last_words cause.Misfit = codes "stop: choice misfit, steps "
 last_words cause.StepLimit = codes "stop: step limit, steps "
 last_words (cause.Fault f) = []
 last_words (cause.Refused r line) = []
@@ -76,6 +95,7 @@ status_of (cause.Refused r line) = 3
 status_of cause.ChoicesEnded = 5
 status_of cause.LineTooLong = 5
 status_of cause.BadChoices = 5
+status_of cause.Misfit = 5
 status_of cause.StepLimit = 5
 status_of cause.SourceFailed = 6
 status_of cause.OutFailed = 6

@@ -1,5 +1,5 @@
 -- What calls do that write, that record, that take a step, and that play a turn.
-use Rattle.std.specs.Prelude.{◌≡◌, ℕ, ◌+◌, ◌-◌, ◌<◌, List, [], Option, Some, None, Bool, Result, MatchResult}
+use Rattle.std.specs.Prelude.{◌≡◌, ℕ, ◌+◌, ◌-◌, ◌<◌, List, [], Option, Some, None, Result, MatchResult}
 use Rattle.devices.specs.Holdings.{Holdings, Moved, WritesPart, RecordsPart}
 use Rattle.diagnostics.specs.declared.fault.Fault.{Fault}
 use Rattle.session.specs.declared.Options.{Options}
@@ -15,7 +15,9 @@ use Rattle.session.specs.Machine.{Rules, Goes, Faults}
 use Rattle.session.specs.Part.{Part, followed}
 use Rattle.session.specs.Session.{stepped, step_text, select, answered, story, end_of}
 use Rattle.session.specs.Stands.{MovedBy, Begins, Does, Leads, Breaks, CountsBroken}
-use Rattle.session.specs.Texts.{record_line, fault_line}
+use Rattle.session.specs.Texts.{noted, fault_line}
+use Rattle.session.specs.declared.form.Stream.{Stream}
+use Rattle.session.specs.declared.form.Version.{Version}
 
 -- ---- pieces
 
@@ -31,12 +33,13 @@ abbrev pub Writes : {T : Type 0} → Result T Broken → Holdings → Holdings �
 Writes r before after piece = MatchResult r (λ _. Moved before after [] piece []) (λ e. WriteBreaks e before after piece)
 
 -- what an answer writes to the record
-abbrev pub kept_text : Answer → List ℕ
-kept_text (answer.Pick n) = record_line n
-kept_text answer.Quit = []
-kept_text answer.Ended = []
-kept_text answer.TooLong = []
-kept_text answer.Hundred = []
+abbrev pub kept_text : Version → (ℕ → ℕ × ℕ) → Answer → List ℕ
+kept_text notes place (answer.Pick n) = noted notes n (place n)
+kept_text notes place answer.Quit = []
+kept_text notes place answer.Ended = []
+kept_text notes place answer.TooLong = []
+kept_text notes place answer.Hundred = []
+kept_text notes place answer.Misfit = []
 
 -- a line of the record was broken off, in the same way
 abbrev pub RecordBreaks : Broken → Holdings → Holdings → List ℕ → Type 0
@@ -45,9 +48,9 @@ RecordBreaks broken.Source before after line = ⊥
 RecordBreaks broken.Out before after line = ⊥
 RecordBreaks broken.Record before after line = RecordsPart before after line
 
--- the answer was recorded, or its line was broken off
-abbrev pub RecordsAnswer : {T : Type 0} → Result T Broken → Holdings → Holdings → Answer → Type 0
-RecordsAnswer r before after said = MatchResult r (λ _. Moved before after [] [] (kept_text said)) (λ e. RecordBreaks e before after (kept_text said))
+-- a line of the record was written, or broken off
+abbrev pub RecordsAnswer : {T : Type 0} → Result T Broken → Holdings → Holdings → List ℕ → Type 0
+RecordsAnswer r before after line = MatchResult r (λ _. Moved before after [] [] line) (λ e. RecordBreaks e before after line)
 
 -- ---- steps
 
@@ -69,8 +72,8 @@ pub record StepBreaks {S M : Type 0} (broken : Broken) (rules : Rules S M) (opti
   pub done : List Event
   pub no_byte : front done ≡ []
   pub moved : MovedBy before after steps steps' done
-  pub begins : (later : S → Part End) (over : Bool) (left : List ℕ)
-      → Begins broken done (stepped rules options s m steps later over left (rules.step s m)).events
+  pub begins : (later : S → Part End) (stream : Stream) (left : List ℕ)
+      → Begins broken done (stepped rules options s m steps later stream left (rules.step s m)).events
 
 -- a step was taken, or was a fault, or was broken off
 abbrev pub Steps : {S M : Type 0} → Result (Option Fault) Broken → Rules S M → Options → S → M → ℕ → S → ℕ → Holdings → Holdings → Type 0
@@ -80,39 +83,39 @@ Steps r rules options s m steps t steps' before after =
 -- ---- turns
 
 -- this rest is to do, or the session ended
-abbrev pub GoesOn : Holdings → Holdings → ℕ → ℕ → (part rest : List ℕ → Part End) → Bool → Option End → Type 0
-GoesOn before after steps steps' part rest over None = Leads before after steps steps' part rest
-GoesOn before after steps steps' part rest over (Some end) = Does before after steps steps' part end over
+abbrev pub GoesOn : Holdings → Holdings → ℕ → ℕ → (part rest : List ℕ → Part End) → Stream → Option End → Type 0
+GoesOn before after steps steps' part rest stream None = Leads before after steps steps' part rest
+GoesOn before after steps steps' part rest stream (Some end) = Does before after steps steps' part end stream
 
 -- this rest is to do, or the session ended, or it was broken off
-abbrev pub Continues : Result (Option End) Broken → Holdings → Holdings → ℕ → ℕ → (part rest : List ℕ → Part End) → Bool → Type 0
-Continues r before after steps steps' part rest over =
-    MatchResult r (GoesOn before after steps steps' part rest over) (λ e. Breaks e before after steps steps' part)
+abbrev pub Continues : Result (Option End) Broken → Holdings → Holdings → ℕ → ℕ → (part rest : List ℕ → Part End) → Stream → Type 0
+Continues r before after steps steps' part rest stream =
+    MatchResult r (GoesOn before after steps steps' part rest stream) (λ e. Breaks e before after steps steps' part)
 
 -- a move is selected, and what follows the answer is done
-abbrev pub acted : {S M : Type 0} → Rules S M → Options → S → M → ℕ → (S → Bool → List ℕ → Part End) → Bool → List ℕ → Part End
-acted rules options s first steps later over rest =
-    followed (select rules s (rules.moves s) over rest) (answered rules options s (rules.moves s) first steps later)
+abbrev pub acted : {S M : Type 0} → Version → Rules S M → Options → S → M → ℕ → (S → Stream → List ℕ → Part End) → Stream → List ℕ → Part End
+acted notes rules options s first steps later stream rest =
+    followed (select notes rules s (rules.moves s) stream rest) (answered rules options s (rules.moves s) first steps later)
 
 -- a move was selected and taken, or the session ended, or it was broken off: whatever follows the step
-abbrev pub Acts : {S M : Type 0} → Result (Option End) Broken → Rules S M → Options → S → S → Holdings → Holdings → ℕ → ℕ → Bool → Bool → Type 0
-Acts {S} {M} r rules options s t before after steps steps' over over' = (later : S → Bool → List ℕ → Part End) (first : M)
-    → Continues r before after steps steps' (acted rules options s first steps later over) (later t over') over'
+abbrev pub Acts : {S M : Type 0} → Result (Option End) Broken → Version → Rules S M → Options → S → S → Holdings → Holdings → ℕ → ℕ → Stream → Stream → Type 0
+Acts {S} {M} r notes rules options s t before after steps steps' stream stream' = (later : S → Stream → List ℕ → Part End) (first : M)
+    → Continues r before after steps steps' (acted notes rules options s first steps later stream) (later t stream') stream'
 
 -- what is still to do of a session after so many steps
-abbrev pub story_after : {S M : Type 0} → Rules S M → Options → S → ℕ → Bool → List ℕ → Part End
-story_after rules options s steps over = story rules options (options.limit - steps) s steps over
+abbrev pub story_after : {S M : Type 0} → Version → Rules S M → Options → S → ℕ → Stream → List ℕ → Part End
+story_after notes rules options s steps stream = story notes rules options (options.limit - steps) s steps stream
 
 -- a turn of the session was played
-abbrev pub Turns : {S M : Type 0} → Result (Option End) Broken → Rules S M → Options → S → S → Holdings → Holdings → ℕ → ℕ → Bool → Bool → Type 0
-Turns r rules options s t before after steps steps' over over' =
-    Continues r before after steps steps' (story_after rules options s steps over) (story_after rules options t steps' over') over'
+abbrev pub Turns : {S M : Type 0} → Result (Option End) Broken → Version → Rules S M → Options → S → S → Holdings → Holdings → ℕ → ℕ → Stream → Stream → Type 0
+Turns r notes rules options s t before after steps steps' stream stream' =
+    Continues r before after steps steps' (story_after notes rules options s steps stream) (story_after notes rules options t steps' stream') stream'
 
 -- ---- ends
 
 -- a session came to this end, after so many steps
 abbrev pub Ends : Holdings → Holdings → ℕ → (List ℕ → Part End) → End → Type 0
-Ends before after steps part end = (over : Bool) × Does before after 0 steps part end over
+Ends before after steps part end = (stream : Stream) × Does before after 0 steps part end stream
 
 -- it came to its end, or was broken off
 abbrev pub Runs : Result End Broken → Holdings → Holdings → ℕ → (List ℕ → Part End) → Type 0

@@ -1,8 +1,9 @@
 //! The texts of a session, composed in buffers that are kept.
-ghost use Rattle.std.specs.Prelude.{◌≡◌, ◌+◌, ◌++◌, ◌<◌, ◌^◌, [], ◌∷◌, length, IfOk, OnOk, if◌then◌else◌, codes};
+ghost use Rattle.std.specs.Prelude.{◌≡◌, ◌+◌, ◌++◌, ◌<◌, ◌≤◌, ◌^◌, [], ◌∷◌, length, IfOk, OnOk, if◌then◌else◌, codes};
 ghost use Rattle.std.specs.Fmt.{decimal};
+ghost use Rattle.session.specs.Limits.{most_line_bytes};
 ghost use Rattle.session.specs.Takes.{CanBeShown};
-ghost use Rattle.session.specs.Texts.{list_from, prompt, record_line, last_words, last_line, step_line, fault_line, refusal_line};
+ghost use Rattle.session.specs.Texts.{list_from, prompt, record_line, placed_line, last_words, last_line, step_line, fault_line, refusal_line};
 
 use crate::{Cause, Machine};
 use diagnostics::{Fault, Refusal};
@@ -103,10 +104,38 @@ pub fn draft_prompt(most: usize, piece: &mut Vec<u8>) -> Result<(), AllocError>
 
 /// Composes the record's line of an accepted number.
 pub fn draft_record(n: usize, piece: &mut Vec<u8>) -> Result<(), AllocError>
-    ensures { OnOk result (piece.new.items ≡ record_line n) }
+    ensures line { OnOk result (piece.new.items ≡ record_line n) }
+    ensures short { length (record_line n) ≤ most_line_bytes + 1 }
 {
     piece.clear();
     add_counted(piece, b"", n as u64)
+}
+
+// Appends a number, a process and a line, parted by spaces, and a line feed.
+fn add_placed(piece: &mut Vec<u8>, n: u64, process: u32, line: u32) -> Result<(), AllocError>
+    ensures { OnOk result (piece.new.items ≡ piece.old.items ++ (decimal n ++ (codes " " ++ (decimal process ++ (codes " " ++ (decimal line ++ codes "\n")))))) }
+{
+    add_number(piece, n)?;
+    piece.push(b' ')?;
+    add_number(piece, u64::from(process))?;
+    piece.push(b' ')?;
+    add_number(piece, u64::from(line))?;
+    piece.push(b'\n')?;
+    Ok(())
+}
+
+/// Composes the line of an accepted number with the process and the line of its move.
+pub fn draft_placed(
+    n: usize,
+    process: u32,
+    line: u32,
+    piece: &mut Vec<u8>,
+) -> Result<(), AllocError>
+    ensures line { OnOk result (piece.new.items ≡ placed_line n (process, line)) }
+    ensures short { length (placed_line n (process, line)) ≤ most_line_bytes + 1 }
+{
+    piece.clear();
+    add_placed(piece, n as u64, process, line)
 }
 
 fn words_of(cause: Cause) -> &'static [u8]
@@ -119,6 +148,7 @@ fn words_of(cause: Cause) -> &'static [u8]
         Cause::ChoicesEnded => b"stop: choices ended, steps ",
         Cause::LineTooLong => b"stop: line too long, steps ",
         Cause::BadChoices => b"stop: 100 bad choices, steps ",
+        Cause::Misfit => b"stop: choice misfit, steps ",
         Cause::StepLimit => b"stop: step limit, steps ",
         _ => b"",
     }

@@ -8,7 +8,9 @@ use diagnostics::{Fault, Refusal};
 use std::alloc::{AllocError, AllocFailed};
 
 mod choice;
+mod converting;
 mod draft;
+mod form;
 mod gathered;
 pub mod laws;
 mod line;
@@ -19,8 +21,10 @@ mod whole;
 mod writing;
 
 pub use choice::Answer;
+pub use converting::{Conversion, convert};
 pub use diagnostics::Stop;
-pub use machine::Machine;
+pub use form::{Stream, Version};
+pub use machine::{Machine, Report};
 pub use profile::{BAD_LINES, LINE_BYTES};
 pub use refused::refuse;
 pub use whole::{end_of, failure, play, run};
@@ -34,6 +38,8 @@ pub struct Options {
     pub globals: bool,
     /// Whether changed local variables are shown.
     pub locals: bool,
+    /// Whether a message that is sent to a full channel is lost; else the sender waits.
+    pub lossy: bool,
     /// The most steps that are taken.
     pub limit: u32,
 }
@@ -57,6 +63,8 @@ pub enum Cause {
     LineTooLong,
     /// A question was answered badly a hundred times.
     BadChoices,
+    /// A line of choices of the second version does not fit the moves that there are.
+    Misfit,
     /// As many steps were taken as the options allow.
     StepLimit,
     /// The source of the choices failed.

@@ -1,12 +1,22 @@
 //! A machine as a session sees it.
-ghost use Rattle.std.specs.Prelude.{◌≡◌, ◌++◌, List, ℕ, OnOk, OnErr};
+ghost use Rattle.std.specs.Prelude.{◌≡◌, ◌++◌, List, ℕ, OnOk, OnErr, IfOk};
 ghost use Rattle.std.specs.Io.{StartsWith};
 ghost use Rattle.std.specs.List.{Contains};
 ghost use Rattle.session.specs.Machine.{Rules};
 ghost use Rattle.session.specs.Takes.{CanBeShown, CanBeTaken, StopsForGood, TakesStep, StaysStopped};
+ghost use Rattle.session.specs.Reports.{reported, IsVerdict};
 
 use diagnostics::Stop;
 use std::alloc::AllocError;
+
+/// What can be told of a state beside its moves.
+#[derive(Clone, Copy)]
+pub enum Report {
+    /// The value lines of the last step, of global and of local variables.
+    Values(bool, bool),
+    /// The lines that follow the last line of an invalid end.
+    Ending,
+}
 
 /// A machine whose moves are taken one by one. Its `rules` are what contracts know of it: as functions of its state, the
 /// list of moves, what a step leads to, where it has stopped, and the texts.
@@ -30,6 +40,11 @@ pub trait Machine {
         ensures added { OnOk result (text.new.items ≡ text.old.items ++ rules.text self.now m.now) }
         ensures kept { OnErr result (StartsWith text.new.items text.old.items) };
 
+    /// The number of the process of a move of the present state and its line, of a move of two processes those of the sender.
+    fn origin(&self, m: &Self::Move) -> (u32, u32)
+        requires present { Contains (rules.moves self.now) m.now }
+        ensures { result ≡ rules.origin self.now m.now };
+
     /// Takes a move of the present state, and appends what it prints. After a fault or want of memory the machine has stopped:
     /// each later call answers the same, and changes nothing. The move can still be shown, with the text that it had. The text
     /// has its old bytes, perhaps with more behind them.
@@ -39,17 +54,9 @@ pub trait Machine {
         ensures stopped { StaysStopped rules self.old self.new result }
         ensures kept { OnErr result (StartsWith text.new.items text.old.items) };
 
-    /// Appends the value lines of the last step, of global and of local variables.
-    fn values(&self, globals: bool, locals: bool, text: &mut Vec<u8>) -> Result<(), AllocError>
-        ensures added { OnOk result (text.new.items ≡ text.old.items ++ rules.values self.now globals locals) }
-        ensures kept { OnErr result (StartsWith text.new.items text.old.items) };
-
-    /// Whether an end in the present state is a valid one.
-    fn is_valid(&self) -> bool
-        ensures { result ≡ rules.is_valid self.now };
-
-    /// Appends the lines that follow the last line of an invalid end.
-    fn stuck(&self, text: &mut Vec<u8>) -> Result<(), AllocError>
-        ensures added { OnOk result (text.new.items ≡ text.old.items ++ rules.stuck self.now) }
+    /// Appends what is asked for, and of an ending answers whether it is a valid one.
+    fn report(&self, what: Report, text: &mut Vec<u8>) -> Result<bool, AllocError>
+        ensures verdict { IfOk result (IsVerdict rules self.now what) }
+        ensures added { OnOk result (text.new.items ≡ text.old.items ++ reported rules self.now what) }
         ensures kept { OnErr result (StartsWith text.new.items text.old.items) };
 }

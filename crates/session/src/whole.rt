@@ -2,7 +2,7 @@
 ghost use Rattle.std.specs.Prelude.{◌≡◌, ◌<◌, ◌≤◌, ◌+◌, ◌^◌, List, ℕ, length, IfOk, IfNone, IfSome, ◌≢◌};
 ghost use Rattle.std.specs.List.{Contains};
 ghost use Rattle.session.specs.Lines.{IsPickUpTo};
-ghost use Rattle.session.specs.Session.{choose, select, cause_of, final_lines, final_cause, end_of, transcript};
+ghost use Rattle.session.specs.Session.{choose, select, cause_of, final_lines, final_cause, end_of, place_of, transcript, transcript_noting};
 ghost use Rattle.session.specs.Replay.{CanBeReplayed};
 ghost use Rattle.session.specs.Stands.{PlaysQuestion, CountsAll};
 ghost use Rattle.session.specs.Texts.{last_line, status_of};
@@ -12,48 +12,50 @@ ghost use Rattle.session.specs.Writes.{Writes, Acts, Turns, Runs, Ends, IsOwnEnd
 use crate::draft::Draft;
 use crate::gathered::Gathered;
 use crate::question::{put_out, question};
-use crate::writing::{keep, step, take_step, write_last, write_question, write_stuck};
-use crate::{Answer, Broken, Cause, End, Machine, Options};
+use crate::writing::{keep, step, take_step, write_ending, write_last, write_question};
+use crate::{Answer, Broken, Cause, End, Machine, Options, Stream, Version};
 use devices::Devices;
 use std::alloc::Global;
 
 // Asks for one of several moves, and records the answer.
 fn choose<M: Machine, D: Devices>(
+    notes: Version,
     machine: &M,
     moves: &[M::Move],
-    over: &mut bool,
+    stream: &mut Stream,
     draft: &mut Draft,
     devices: &mut D,
 ) -> Result<Answer, Broken>
     requires { moves.now ≡ M.rules.moves machine.now }
-    ensures part { PlaysQuestion result (D.holds devices.old) (D.holds devices.new) (choose (M.rules.text machine.now) moves.now over.old) over.new }
+    ensures part { (first : M.Move) → PlaysQuestion result (D.holds devices.old) (D.holds devices.new) (choose notes (M.rules.text machine.now) (place_of M.rules machine.now first moves.now) moves.now stream.old) stream.new }
     ensures range { IfOk result (IsPickUpTo (length moves.now)) }
     ensures count { CountsAll result (D.holds devices.old).failures (D.holds devices.new).failures }
 {
     write_question(machine, moves, draft, devices)?;
-    let said = question(devices, over, moves.len(), &draft.prompt)?;
-    keep(said, draft, devices)?;
+    let said = question(devices, stream, machine, moves, &draft.prompt)?;
+    keep(notes, said, machine, moves, draft, devices)?;
     Ok(said)
 }
 
 // Takes one move without asking, and asks for one of several.
 fn select<M: Machine, D: Devices>(
+    notes: Version,
     machine: &M,
     moves: &[M::Move],
-    over: &mut bool,
+    stream: &mut Stream,
     draft: &mut Draft,
     devices: &mut D,
 ) -> Result<Answer, Broken>
     requires all { moves.now ≡ M.rules.moves machine.now }
     requires some { 0 < length moves.now }
-    ensures part { PlaysQuestion result (D.holds devices.old) (D.holds devices.new) (select M.rules machine.now moves.now over.old) over.new }
+    ensures part { PlaysQuestion result (D.holds devices.old) (D.holds devices.new) (select notes M.rules machine.now moves.now stream.old) stream.new }
     ensures range { IfOk result (IsPickUpTo (length moves.now)) }
     ensures count { CountsAll result (D.holds devices.old).failures (D.holds devices.new).failures }
 {
     if moves.len() == 1 {
         return Ok(Answer::Pick(1));
     }
-    choose(machine, moves, over, draft, devices)
+    choose(notes, machine, moves, stream, draft, devices)
 }
 
 fn status(cause: Cause) -> u8
@@ -64,7 +66,11 @@ fn status(cause: Cause) -> u8
         Cause::Invalid => 1,
         Cause::Fault(_) => 2,
         Cause::Refused(_, _) => 3,
-        Cause::ChoicesEnded | Cause::LineTooLong | Cause::BadChoices | Cause::StepLimit => 5,
+        Cause::ChoicesEnded
+        | Cause::LineTooLong
+        | Cause::BadChoices
+        | Cause::Misfit
+        | Cause::StepLimit => 5,
         Cause::SourceFailed | Cause::OutFailed | Cause::RecordFailed | Cause::Memory => 6,
     }
 }
@@ -109,11 +115,9 @@ fn finish<M: Machine, D: Devices>(
     ensures own { IfOk result (IsOwnEnd steps) }
     ensures count { CountsAll result (D.holds devices.old).failures (D.holds devices.new).failures }
 {
-    if machine.is_valid() {
-        write_last(Cause::Valid, steps, draft, devices)?;
+    if write_ending(machine, steps, draft, devices)? {
         return Ok(end_of(Cause::Valid, steps));
     }
-    write_stuck(machine, steps, draft, devices)?;
     Ok(end_of(Cause::Invalid, steps))
 }
 
@@ -128,28 +132,30 @@ fn cause_of(said: Answer) -> Cause
         Answer::Ended => Cause::ChoicesEnded,
         Answer::TooLong => Cause::LineTooLong,
         Answer::Hundred => Cause::BadChoices,
+        Answer::Misfit => Cause::Misfit,
     }
 }
 
 // Selects a move and takes it, or ends the session.
 fn act<M: Machine, D: Devices>(
+    notes: Version,
     machine: &mut M,
     moves: &[M::Move],
     options: &Options,
     steps: &mut u32,
-    over: &mut bool,
+    stream: &mut Stream,
     draft: &mut Draft,
     devices: &mut D,
 ) -> Result<Option<End>, Broken>
     requires all { moves.now ≡ M.rules.moves machine.old }
     requires some { 0 < length moves.now }
     requires room { steps.old + 1 < 2 ^ 32 }
-    ensures part { Acts result M.rules options.now machine.old machine.new (D.holds devices.old) (D.holds devices.new) steps.old steps.new over.old over.new }
+    ensures part { Acts result notes M.rules options.now machine.old machine.new (D.holds devices.old) (D.holds devices.new) steps.old steps.new stream.old stream.new }
     ensures falls { IfOk result (λ end. IfNone end (steps.new ≡ steps.old + 1)) }
     ensures own { IfOk result (λ end. IfSome end (IsOwnEnd steps.new)) }
     ensures count { CountsAll result (D.holds devices.old).failures (D.holds devices.new).failures }
 {
-    let said = select(machine, moves, over, draft, devices)?;
+    let said = select(notes, machine, moves, stream, draft, devices)?;
     if let Answer::Pick(n) = said {
         return match step(machine, &moves[n - 1], options, steps, draft, devices)? {
             None => Ok(None),
@@ -161,17 +167,18 @@ fn act<M: Machine, D: Devices>(
 
 // The end, or a question and the step that is picked.
 fn ask_or_end<M: Machine, D: Devices>(
+    notes: Version,
     machine: &mut M,
     moves: &[M::Move],
     options: &Options,
     steps: &mut u32,
-    over: &mut bool,
+    stream: &mut Stream,
     draft: &mut Draft,
     devices: &mut D,
 ) -> Result<Option<End>, Broken>
     requires within { steps.old ≤ options.now.limit }
     requires all { moves.now ≡ M.rules.moves machine.old }
-    ensures part { Turns result M.rules options.now machine.old machine.new (D.holds devices.old) (D.holds devices.new) steps.old steps.new over.old over.new }
+    ensures part { Turns result notes M.rules options.now machine.old machine.new (D.holds devices.old) (D.holds devices.new) steps.old steps.new stream.old stream.new }
     ensures own { IfOk result (λ end. IfSome end (IsOwnEnd steps.new)) }
     ensures falls { IfOk result (λ end. IfNone end ((steps.old < steps.new) × (steps.new ≤ options.now.limit))) }
     ensures count { CountsAll result (D.holds devices.old).failures (D.holds devices.new).failures }
@@ -182,7 +189,9 @@ fn ask_or_end<M: Machine, D: Devices>(
     if *steps == options.limit {
         return Ok(Some(stop(Cause::StepLimit, *steps, draft, devices)?));
     }
-    act(machine, moves, options, steps, over, draft, devices)
+    act(
+        notes, machine, moves, options, steps, stream, draft, devices,
+    )
 }
 
 // Takes the one move that there is and gathers the text of its step, or writes the line of its fault and ends the session.
@@ -222,17 +231,18 @@ fn advance<M: Machine, D: Devices>(
 // One turn: the end, or a step. The moves are listed in a buffer that is kept. The texts of steps between which nothing is asked are
 // gathered, and written before anything else is.
 fn turn<M: Machine, D: Devices>(
+    notes: Version,
     machine: &mut M,
     moves: &mut Vec<M::Move>,
     options: &Options,
     steps: &mut u32,
-    over: &mut bool,
+    stream: &mut Stream,
     gathered: &mut Gathered,
     draft: &mut Draft,
     devices: &mut D,
 ) -> Result<Option<End>, Broken>
     requires { steps.old ≤ options.now.limit }
-    ensures part { TurnsOn result M.rules options.now machine.old machine.new (D.holds devices.old) (D.holds devices.new) steps.old steps.new over.old over.new gathered.old.bytes.items gathered.old.begins.items gathered.new.bytes.items gathered.new.begins.items }
+    ensures part { TurnsOn result notes M.rules options.now machine.old machine.new (D.holds devices.old) (D.holds devices.new) steps.old steps.new stream.old stream.new gathered.old.bytes.items gathered.old.begins.items gathered.new.bytes.items gathered.new.begins.items }
     ensures own { IfOk result (λ end. IfSome end (IsOwnEnd steps.new)) }
     ensures falls { IfOk result (λ end. IfNone end ((steps.old < steps.new) × (steps.new ≤ options.now.limit))) }
     ensures count { CountsAll result (D.holds devices.old).failures (D.holds devices.new).failures }
@@ -242,33 +252,37 @@ fn turn<M: Machine, D: Devices>(
         return advance(machine, &moves[0], options, steps, gathered, draft, devices);
     }
     gathered.write(steps, devices)?;
-    ask_or_end(machine, &*moves, options, steps, over, draft, devices)
+    ask_or_end(
+        notes, machine, &*moves, options, steps, stream, draft, devices,
+    )
 }
 
-/// Runs the session to its end, and counts its steps.
+/// Runs the session to its end, with a record in lines of this version, and counts its steps.
 pub fn run<M: Machine, D: Devices>(
     alloc: Global,
+    notes: Version,
     machine: &mut M,
     options: &Options,
     steps: &mut u32,
     devices: &mut D,
 ) -> Result<End, Broken>
     requires { steps.old ≡ 0 }
-    ensures part { Runs result (D.holds devices.old) (D.holds devices.new) steps.new (transcript M.rules options.now machine.old) }
+    ensures part { Runs result (D.holds devices.old) (D.holds devices.new) steps.new (transcript_noting notes M.rules options.now machine.old) }
     ensures own { IfOk result (IsOwnEnd steps.new) }
     ensures count { CountsAll result (D.holds devices.old).failures (D.holds devices.new).failures }
 {
-    let mut over = false;
+    let mut stream = Stream::Unread;
     let mut moves = Vec::new(alloc);
     let mut gathered = Gathered::new(alloc);
     let mut draft = Draft::new(alloc);
     loop {
         match turn(
+            notes,
             machine,
             &mut moves,
             options,
             steps,
-            &mut over,
+            &mut stream,
             &mut gathered,
             &mut draft,
             devices,
@@ -314,7 +328,7 @@ pub fn play<M: Machine, D: Devices>(
     ensures replay { CanBeReplayed (transcript M.rules options.now machine.old) }
 {
     let mut steps = 0;
-    match run(alloc, machine, options, &mut steps, devices) {
+    match run(alloc, Version::First, machine, options, &mut steps, devices) {
         Ok(end) => end,
         Err(broken) => end_of(failure(broken), steps),
     }

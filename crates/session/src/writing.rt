@@ -1,18 +1,23 @@
 //! Functions that compose a piece and hand it over.
-ghost use Rattle.std.specs.Prelude.{◌≡◌, ◌+◌, ◌<◌, ◌^◌, ◌++◌, IfOk, IfErr, OnOk, length};
+ghost use Rattle.std.specs.Prelude.{◌≡◌, ◌+◌, ◌<◌, ◌≤◌, ◌^◌, ◌++◌, IfOk, IfErr, OnOk, length};
 ghost use Rattle.std.specs.List.{Contains};
 ghost use Rattle.session.specs.declared.Broken.TheVariants.{Memory};
 ghost use Rattle.session.specs.Stands.{CountsAll};
-ghost use Rattle.session.specs.Texts.{list_from, prompt, last_line};
-ghost use Rattle.session.specs.Writes.{Writes, RecordsAnswer, Composes, Steps};
+ghost use Rattle.session.specs.Limits.{most_line_bytes};
+ghost use Rattle.session.specs.Lines.{IsPickUpTo};
+ghost use Rattle.session.specs.Session.{place_of, final_lines};
+ghost use Rattle.session.specs.Texts.{list_from, prompt, last_line, noted};
+ghost use Rattle.session.specs.Writes.{Writes, kept_text, RecordsAnswer, Composes, Steps};
 
 use crate::draft::{
-    Draft, draft_fault, draft_last, draft_list, draft_prompt, draft_record, draft_step,
+    Draft, draft_fault, draft_last, draft_list, draft_placed, draft_prompt, draft_record,
+    draft_step,
 };
 use crate::question::put_out;
-use crate::{Answer, Broken, Cause, Machine, Options, Stop};
+use crate::{Answer, Broken, Cause, Machine, Options, Report, Stop, Version};
 use devices::Devices;
 use diagnostics::Fault;
+use std::alloc::AllocError;
 
 /// Writes the list of a question and the prompt behind it, by one call, and leaves the prompt in the draft.
 pub fn write_question<M: Machine, D: Devices>(
@@ -46,29 +51,67 @@ pub fn write_last<D: Devices>(
     put_out(devices, &draft.piece)
 }
 
-/// Writes the last lines of an invalid end.
-pub fn write_stuck<M: Machine, D: Devices>(
+/// Writes the last lines where there is no move, and answers whether the end is a valid one.
+pub fn write_ending<M: Machine, D: Devices>(
     machine: &M,
     steps: u32,
     draft: &mut Draft,
     devices: &mut D,
-) -> Result<(), Broken>
-    ensures text { Writes result (D.holds devices.old) (D.holds devices.new) (last_line Cause.Invalid steps ++ M.rules.stuck machine.now) }
+) -> Result<bool, Broken>
+    ensures text { Writes result (D.holds devices.old) (D.holds devices.new) (final_lines (M.rules.is_valid machine.now) (M.rules.stuck machine.now) steps) }
+    ensures valid { IfOk result (λ valid. valid ≡ M.rules.is_valid machine.now) }
     ensures count { CountsAll result (D.holds devices.old).failures (D.holds devices.new).failures }
 {
     draft_last(Cause::Invalid, steps, &mut draft.piece)?;
-    machine.stuck(&mut draft.piece)?;
-    put_out(devices, &draft.piece)
+    let valid = machine.report(Report::Ending, &mut draft.piece)?;
+    if valid {
+        draft_last(Cause::Valid, steps, &mut draft.piece)?;
+    }
+    put_out(devices, &draft.piece)?;
+    Ok(valid)
 }
 
-/// Records an accepted number.
-pub fn keep<D: Devices>(said: Answer, draft: &mut Draft, devices: &mut D) -> Result<(), Broken>
-    ensures text { RecordsAnswer result (D.holds devices.old) (D.holds devices.new) said }
+/// Composes the line of an accepted number, in this version.
+fn draft_noted<M: Machine>(
+    notes: Version,
+    n: usize,
+    machine: &M,
+    moves: &[M::Move],
+    draft: &mut Draft,
+) -> Result<(), AllocError>
+    requires all { moves.now ≡ M.rules.moves machine.now }
+    requires some { 0 < n }
+    requires within { n ≤ length moves.now }
+    ensures line { (first : M.Move) → OnOk result (draft.new.piece.items ≡ noted notes n (place_of M.rules machine.now first moves.now n)) }
+    ensures short { (first : M.Move) → length (noted notes n (place_of M.rules machine.now first moves.now n)) ≤ most_line_bytes + 1 }
+{
+    match notes {
+        Version::First => draft_record(n, &mut draft.piece),
+        Version::Second => {
+            let (process, line) = machine.origin(&moves[n - 1]);
+            draft_placed(n, process, line, &mut draft.piece)
+        }
+    }
+}
+
+/// Records an accepted number, in a line of this version.
+pub fn keep<M: Machine, D: Devices>(
+    notes: Version,
+    said: Answer,
+    machine: &M,
+    moves: &[M::Move],
+    draft: &mut Draft,
+    devices: &mut D,
+) -> Result<(), Broken>
+    requires all { moves.now ≡ M.rules.moves machine.now }
+    requires range { IsPickUpTo (length moves.now) said }
+    ensures text { (first : M.Move) → RecordsAnswer result (D.holds devices.old) (D.holds devices.new) (kept_text notes (place_of M.rules machine.now first moves.now) said) }
+    ensures short { (first : M.Move) → length (kept_text notes (place_of M.rules machine.now first moves.now) said) ≤ most_line_bytes + 1 }
     ensures count { CountsAll result (D.holds devices.old).failures (D.holds devices.new).failures }
 {
     match said {
         Answer::Pick(n) => {
-            draft_record(n, &mut draft.piece)?;
+            draft_noted(notes, n, machine, moves, draft)?;
             match devices.keep(&draft.piece) {
                 Ok(()) => Ok(()),
                 Err(_) => Err(Broken::Record),
@@ -95,7 +138,8 @@ pub fn take_step<M: Machine>(
     draft_step(machine, m, options.steps, n, draft)?;
     match machine.take(m, &mut draft.piece) {
         Ok(()) => {
-            machine.values(options.globals, options.locals, &mut draft.piece)?;
+            let shown = Report::Values(options.globals, options.locals);
+            machine.report(shown, &mut draft.piece)?;
             Ok(None)
         }
         Err(Stop::Fault(f)) => {

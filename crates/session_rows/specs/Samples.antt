@@ -47,6 +47,13 @@ text_of (sample.Pair p) m = if m == 1 then (if p.a == 0 then codes "proc 0 (A) l
 text_of (sample.Countdown n) m = if m == 1 then codes "1" else codes "2"
 text_of (sample.Stopped n why) m = if m == 1 then codes "1" else codes "2"
 
+-- the process and the line of a move
+abbrev pub origin_of : Sample → ℕ → ℕ × ℕ
+origin_of (sample.Rounds r) m = (0, 1)
+origin_of (sample.Pair p) m = if m == 1 then (0, 2) else (1, 3)
+origin_of (sample.Countdown n) m = (0, m)
+origin_of (sample.Stopped n why) m = (0, m)
+
 -- the value lines of the last step
 abbrev pub values_of : Sample → Bool → Bool → List ℕ
 values_of (sample.Rounds r) globals locals = if globals && r.changed then (if r.x == 1 then codes "global x = 1\n" else codes "global x = 2\n") else []
@@ -56,4 +63,4 @@ values_of (sample.Stopped n why) globals locals = []
 
 -- the samples as machines
 abbrev pub sample_rules : Rules Sample ℕ
-sample_rules = record { moves = moves_of; step = step_of; stopped = stopped_of; text = text_of; values = values_of; is_valid = λ s. true; stuck = λ s. [] }
+sample_rules = record { moves = moves_of; step = step_of; stopped = stopped_of; text = text_of; origin = origin_of; values = values_of; is_valid = λ s. true; stuck = λ s. [] }

@@ -11,6 +11,8 @@ mod player;
 mod replays;
 mod sample;
 #[cfg(test)]
+mod versions;
+#[cfg(test)]
 mod words;
 
 pub use sample::{Pair, Rounds, Sample};

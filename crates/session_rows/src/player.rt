@@ -3,7 +3,7 @@ ghost use Rattle.std.specs.Prelude.{◌≡◌};
 
 use crate::{Pair, Rounds, Sample};
 use devices::{FailsOnce, Failures, Next, OneByte, SliceSource, Source, ThreeDevices, VecSink};
-use session::{Cause, End, Options, play};
+use session::{Cause, Conversion, End, Options, convert, play};
 use std::alloc::Global;
 use std::marker::Brand;
 use std::sync::ledger::{Blank, Ledger};
@@ -146,6 +146,57 @@ pub fn played(
     )
 }
 
+fn converted_with<K: Ledger>(
+    alloc: Global,
+    blank: Blank,
+    sample: Sample,
+    options: &Options,
+    choices: &[u8],
+    failing: Failing,
+) -> Result<Behind, Fail>
+    requires name { blank.name ≡ K.name }
+    requires parts { blank.parts ≡ K.parts }
+    requires one { blank.parts ≡ 1 }
+{
+    let mut machine = sample;
+    let mut devices = Conversion {
+        source: Counting {
+            source: FailsOnce::new(SliceSource::new(choices), failing.source),
+            calls: 0,
+            ended: false,
+            asked_after_end: false,
+        },
+        out: FailsOnce::new(
+            OneByte {
+                sink: VecSink::new(Vec::new(alloc), Failures::<K>::new(blank)),
+            },
+            failing.out,
+        ),
+    };
+    let end = convert(alloc, &mut machine, options, &mut devices);
+    let left = devices.source.source.device().left().len();
+    Ok(Behind {
+        out: Vec::from_slice(alloc, devices.out.device().sink.bytes())?,
+        rec: Vec::new(alloc),
+        read: choices.len().saturating_sub(left),
+        calls: devices.source.calls,
+        asked_after_end: devices.source.asked_after_end,
+        failed: devices.source.source.has_failed() || devices.out.has_failed(),
+        end,
+    })
+}
+
+/// Converts the choices of a sample, with these failures.
+pub fn converted(
+    alloc: Global,
+    sample: Sample,
+    options: &Options,
+    choices: &[u8],
+    failing: Failing,
+) -> Result<Behind, Fail> {
+    converted_with::<Brand>(alloc, Blank::new(1), sample, options, choices, failing)
+}
+
 pub fn end(status: u8, steps: u32, cause: Cause) -> End {
     End {
         status,
@@ -159,6 +210,7 @@ pub const STEPS: Options = Options {
     steps: true,
     globals: false,
     locals: false,
+    lossy: false,
     limit: 1_000_000,
 };
 
@@ -167,6 +219,7 @@ pub const GLOBALS: Options = Options {
     steps: false,
     globals: true,
     locals: false,
+    lossy: false,
     limit: 1_000_000,
 };
 

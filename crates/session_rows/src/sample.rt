@@ -1,9 +1,10 @@
 //! Three small machines.
-ghost use Rattle.std.specs.Prelude.{◌≡◌, Err};
-ghost use Rattle.session_rows.specs.Samples.{sample_rules};
+ghost use Rattle.std.specs.Prelude.{◌≡◌, ◌++◌, Err, OnOk, OnErr};
+ghost use Rattle.std.specs.Io.{StartsWith};
+ghost use Rattle.session_rows.specs.Samples.{sample_rules, values_of};
 
 use diagnostics::Fault;
-use session::{Machine, Stop};
+use session::{Machine, Report, Stop};
 use std::alloc::AllocError;
 
 /// One process that sets `x` to 1 or 2, for some rounds or without end, and then dies.
@@ -52,6 +53,20 @@ impl Sample {
     {
         *self = Sample::Stopped(m, why);
         Err(why)
+    }
+
+    // Appends the value lines of the last step: a global variable alone may have changed.
+    fn add_values(&self, globals: bool, _locals: bool, text: &mut Vec<u8>) -> Result<(), AllocError>
+        ensures added { OnOk result (text.new.items ≡ text.old.items ++ values_of self.now globals _locals) }
+        ensures kept { OnErr result (StartsWith text.new.items text.old.items) }
+    {
+        match *self {
+            Sample::Rounds(r) if globals && r.changed => match r.x {
+                1 => text.extend_from_slice(b"global x = 1\n"),
+                _ => text.extend_from_slice(b"global x = 2\n"),
+            },
+            _ => Ok(()),
+        }
     }
 }
 
@@ -112,6 +127,14 @@ impl Machine for Sample {
         }
     }
 
+    fn origin(&self, m: &u8) -> (u32, u32) {
+        match *self {
+            Sample::Rounds(_) => (0, 1),
+            Sample::Pair(_) => { if *m == 1 { (0, 2) } else { (1, 3) } }
+            Sample::Countdown(_) | Sample::Stopped(_, _) => (0, u32::from(*m)),
+        }
+    }
+
     fn take(&mut self, m: &u8, text: &mut Vec<u8>) -> Result<(), Stop> {
         match *self {
             Sample::Rounds(r) => {
@@ -161,21 +184,13 @@ impl Machine for Sample {
         }
     }
 
-    fn values(&self, globals: bool, _: bool, text: &mut Vec<u8>) -> Result<(), AllocError> {
-        match *self {
-            Sample::Rounds(r) if globals && r.changed => match r.x {
-                1 => text.extend_from_slice(b"global x = 1\n"),
-                _ => text.extend_from_slice(b"global x = 2\n"),
-            },
-            _ => Ok(()),
+    fn report(&self, what: Report, text: &mut Vec<u8>) -> Result<bool, AllocError> {
+        match what {
+            Report::Values(globals, locals) => {
+                self.add_values(globals, locals, text)?;
+                Ok(true)
+            }
+            Report::Ending => Ok(true),
         }
-    }
-
-    fn is_valid(&self) -> bool {
-        true
-    }
-
-    fn stuck(&self, _: &mut Vec<u8>) -> Result<(), AllocError> {
-        Ok(())
     }
 }

@@ -42,6 +42,7 @@ fn refusals(rt: HostRuntime) -> Result<(), Fail> {
         (Refusal::NoProcess, 16, "no process"),
         (Refusal::TooManyAtStart, 17, "too many at the start"),
         (Refusal::Initialiser, 18, "initialiser"),
+        (Refusal::Inline, 19, "inline"),
     ];
     for (refusal, number, words) in rows {
         assert_eq!(rt; refusal.number(), number, "at {words}");

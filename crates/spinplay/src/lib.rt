@@ -8,5 +8,5 @@ pub use devices::{
     ThreeDevices,
 };
 pub use diagnostics::{Fault, Refusal};
-pub use pml_play::play;
-pub use session::{Cause, End, Options};
+pub use pml_play::{convert, play};
+pub use session::{Cause, Conversion, End, Options};

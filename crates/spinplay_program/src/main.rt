@@ -6,13 +6,14 @@ ghost use Rattle.std.specs.Prelude.{◌≡◌};
 use clap::error::ErrorKind;
 use profile::MOST_TEXT_BYTES;
 use spinplay::{
-    Arguments, ByteReader, Cause, Either, End, Failures, Nowhere, PieceWriter, ThreeDevices,
-    arguments, play,
+    Arguments, ByteReader, Cause, Conversion, Either, End, Failures, Nowhere, PieceWriter,
+    ThreeDevices, arguments, convert, play,
 };
 use std::alloc::AllocError;
-use std::fs::{File, OpenFile};
+use std::fs::{File, Metadata, OpenFile};
 use std::io::{BufReader, Read};
 use std::marker::Brand;
+use std::os::unix::fs::MetadataExt;
 use std::process::ExitCode;
 use std::sync::ledger::{Blank, Ledger};
 use std::{env, fs, io};
@@ -25,8 +26,11 @@ const MOST_READ: u64 = MOST_TEXT_BYTES as u64 + 1;
 enum NoRun {
     Words(clap::Error),
     NotText,
+    ConvertWithRecord,
     CannotOpen(String),
     CannotRead(String),
+    // The record would empty the file of the model, or that of the choices.
+    WouldEmpty(String, &'static str),
     Memory,
 }
 
@@ -67,53 +71,149 @@ fn opened(rt: &HostRuntime, name: &str) -> Result<File, NoRun> {
     }
 }
 
-// Whether a file is neither a pipe nor a terminal nor a folder.
-fn is_regular(file: &File) -> bool {
-    match file.metadata() {
-        Ok(about) => about.is_file(),
-        Err(_) => false,
+// A regular file, by its device and its number there: a name, a link and another name of one file lead to the same.
+#[derive(Clone, Copy)]
+struct Identity {
+    device: u64,
+    number: u64,
+}
+
+fn regular(about: &Metadata) -> Option<Identity> {
+    if about.is_file() {
+        Some(Identity {
+            device: about.dev(),
+            number: about.ino(),
+        })
+    } else {
+        None
     }
 }
 
-// The choices of a file of this name. A regular file is read ahead, since nobody else reads on from where this run stops; of a pipe
-// or a terminal no byte is taken that is not asked for.
+fn identity_of(file: &File) -> Option<Identity> {
+    match file.metadata() {
+        Ok(about) => regular(&about),
+        Err(_) => None,
+    }
+}
+
+// Which regular file a name leads to, if there is one. Of another error is told where the file is opened.
+fn identity_at(rt: &HostRuntime, name: &str) -> Result<Option<Identity>, NoRun> {
+    match fs::metadata(rt, name) {
+        Ok(about) => Ok(regular(&about)),
+        Err(error) if error.kind() == io::ErrorKind::OutOfMemory => Err(NoRun::Memory),
+        Err(_) => Ok(None),
+    }
+}
+
+fn is_same(one: Identity, other: Option<Identity>) -> bool {
+    match other {
+        Some(other) => one.device == other.device && one.number == other.number,
+        None => false,
+    }
+}
+
+// The choices of a file of this name, and which file it is. A regular file is read ahead, since nobody else reads on from where this
+// run stops; of a pipe or a terminal no byte is taken that is not asked for.
 fn choices_of<L: Ledger>(
     rt: &HostRuntime,
     name: &str,
     failures: Failures<L>,
-) -> Result<Either<ByteReader<BufReader<File>, L>, ByteReader<File, L>>, NoRun> {
+) -> Result<
+    (
+        Either<ByteReader<BufReader<File>, L>, ByteReader<File, L>>,
+        Option<Identity>,
+    ),
+    NoRun,
+> {
     let file = opened(rt, name)?;
-    if !is_regular(&file) {
-        return Ok(Either::Second(ByteReader::new(file, failures)));
+    let identity = identity_of(&file);
+    if identity.is_none() {
+        return Ok((Either::Second(ByteReader::new(file, failures)), None));
     }
     match BufReader::new(rt.alloc(), file) {
-        Ok(reader) => Ok(Either::First(ByteReader::new(reader, failures))),
+        Ok(reader) => Ok((Either::First(ByteReader::new(reader, failures)), identity)),
         Err(_) => Err(NoRun::Memory),
     }
 }
 
-fn created(rt: &HostRuntime, name: &str) -> Result<File, NoRun> {
+// The files that are read, which a record may not be.
+#[derive(Clone, Copy)]
+struct Inputs {
+    model: Option<Identity>,
+    choices: Option<Identity>,
+}
+
+// The file of the record, emptied, unless it is the model's or that of the choices.
+fn created(rt: &HostRuntime, name: &str, inputs: Inputs) -> Result<File, NoRun> {
+    if let Some(own) = identity_at(rt, name)? {
+        if is_same(own, inputs.model) {
+            return Err(NoRun::WouldEmpty(String::from_str(rt.alloc(), name)?, "model"));
+        }
+        if is_same(own, inputs.choices) {
+            return Err(NoRun::WouldEmpty(String::from_str(rt.alloc(), name)?, "choices"));
+        }
+    }
     match fs::create(rt, name) {
         Ok(file) => Ok(file),
         Err(error) => Err(not_opened(rt, name, &error)),
     }
 }
 
-fn model_of(rt: &HostRuntime, name: &str) -> Result<Vec<u8>, NoRun> {
+// The record, where one is asked for. It counts its failures in this book.
+fn record_of<L: Ledger>(
+    rt: &HostRuntime,
+    asked: &Arguments,
+    inputs: Inputs,
+    blank: Blank,
+) -> Result<Either<PieceWriter<File, L>, Nowhere>, NoRun>
+    requires name { blank.name ≡ L.name }
+    requires parts { blank.parts ≡ L.parts }
+    requires one { blank.parts ≡ 1 }
+{
+    match &asked.rec {
+        Some(name) => Ok(Either::First(PieceWriter::new(
+            created(rt, name.as_str(), inputs)?,
+            Failures::<L>::new(blank),
+        ))),
+        None => Ok(Either::Second(Nowhere)),
+    }
+}
+
+// The text of a model, and which file it is.
+#[derive(Drop)]
+struct Model {
+    text: Vec<u8>,
+    file: Option<Identity>,
+}
+
+fn model_of(rt: &HostRuntime, name: &str) -> Result<Model, NoRun> {
     let file = opened(rt, name)?;
+    let identity = identity_of(&file);
     let mut text = Vec::new(rt.alloc());
     match file.take(MOST_READ).read_to_end(&mut text) {
-        Ok(_) => Ok(text),
+        Ok(_) => Ok(Model {
+            text,
+            file: identity,
+        }),
         Err(error) if error.kind() == io::ErrorKind::OutOfMemory => Err(NoRun::Memory),
         Err(_) => Err(NoRun::CannotRead(String::from_str(rt.alloc(), name)?)),
     }
 }
 
-// Opens the choices and then the record, and plays the text. Each device counts its failures in a book of its own.
+// Which file standard input is, if it is one; it is of no matter without a record.
+fn standard_input(rt: &HostRuntime, asked: &Arguments) -> Result<Option<Identity>, NoRun> {
+    match &asked.rec {
+        Some(_) => identity_at(rt, "/dev/stdin"),
+        None => Ok(None),
+    }
+}
+
+// Opens the choices and then the record, and plays the text; or converts the choices. Each device counts its failures in a book of its
+// own.
 fn played<S: Ledger, O: Ledger, R: Ledger>(
     rt: &HostRuntime,
     asked: &Arguments,
-    text: &[u8],
+    model: &Model,
     of_source: Blank,
     of_out: Blank,
     of_rec: Blank,
@@ -129,34 +229,63 @@ fn played<S: Ledger, O: Ledger, R: Ledger>(
     requires rec_one { of_rec.parts ≡ 1 }
 {
     let failures = Failures::<S>::new(of_source);
-    let source = match &asked.choices {
-        Some(name) => Either::First(choices_of(rt, name.as_str(), failures)?),
-        None => Either::Second(ByteReader::new(rt.stdin(), failures)),
-    };
-    let rec = match &asked.rec {
-        Some(name) => Either::First(PieceWriter::new(
-            created(rt, name.as_str())?,
-            Failures::<R>::new(of_rec),
-        )),
-        None => Either::Second(Nowhere),
+    let (source, choices) = match &asked.choices {
+        Some(name) => {
+            let (source, choices) = choices_of(rt, name.as_str(), failures)?;
+            (Either::First(source), choices)
+        }
+        None => {
+            let choices = standard_input(rt, asked)?;
+            (
+                Either::Second(ByteReader::new(rt.stdin(), failures)),
+                choices,
+            )
+        }
     };
     let out = PieceWriter::new(rt.stdout(), Failures::<O>::new(of_out));
+    let text = model.text.as_slice();
+    if asked.convert {
+        let mut devices = Conversion { source, out };
+        return Ok(convert(rt.alloc(), text, &asked.options, &mut devices));
+    }
+    let inputs = Inputs {
+        model: model.file,
+        choices,
+    };
+    let rec = record_of::<R>(rt, asked, inputs, of_rec)?;
     let mut devices = ThreeDevices { source, out, rec };
     Ok(play(rt.alloc(), text, &asked.options, &mut devices))
 }
 
-fn run(rt: &HostRuntime) -> Result<End, NoRun> {
+fn run(rt: &HostRuntime) -> Result<u8, NoRun> {
     let words = words_of(rt)?;
     let asked = arguments_of(rt, words.as_slice())?;
-    let text = model_of(rt, asked.model.as_str())?;
-    played::<Brand, Brand, Brand>(
+    if asked.convert && asked.rec.is_some() {
+        return Err(NoRun::ConvertWithRecord);
+    }
+    let model = model_of(rt, asked.model.as_str())?;
+    let end = played::<Brand, Brand, Brand>(
         rt,
         &asked,
-        text.as_slice(),
+        &model,
         Blank::new(1),
         Blank::new(1),
         Blank::new(1),
-    )
+    )?;
+    if asked.convert {
+        tell_refusal(rt, &end);
+    }
+    tell_end(rt, &end);
+    Ok(end.status)
+}
+
+// Says why a model is refused whose choices are converted: the line that a run would have in its output.
+fn tell_refusal(rt: &HostRuntime, end: &End) {
+    if let Cause::Refused(refusal, _) = end.cause {
+        if let Ok(words) = str::from_utf8(refusal.words()) {
+            let _ = eprintln!(rt; "refused M{} ({words})", refusal.number());
+        }
+    }
 }
 
 // What standard error says of an end, beside the output. A message that cannot be shown is left out.
@@ -181,12 +310,23 @@ fn tell_stop(rt: &HostRuntime, stop: NoRun) -> u8 {
             let _ = eprintln!(rt; "error: invalid UTF-8 was detected in one or more arguments");
             4
         }
+        NoRun::ConvertWithRecord => {
+            let _ = eprintln!(rt; "spinplay: --convert with --record");
+            4
+        }
         NoRun::CannotOpen(name) => {
             let _ = eprintln!(rt; "spinplay: cannot open {name}");
             4
         }
         NoRun::CannotRead(name) => {
             let _ = eprintln!(rt; "spinplay: cannot read {name}");
+            4
+        }
+        NoRun::WouldEmpty(name, what) => {
+            let _ = eprintln!(rt; "spinplay: cannot open {name}");
+            let _ = eprintln!(rt;
+                "spinplay: it is the file of the {what}, which a record would empty"
+            );
             4
         }
         NoRun::Memory => {
@@ -222,10 +362,7 @@ fn held_descriptors(rt: &HostRuntime) -> [io::Result<File>; 3] {
 fn main(rt: HostRuntime) -> ExitCode {
     let _held = held_descriptors(&rt);
     let status = match run(&rt) {
-        Ok(end) => {
-            tell_end(&rt, &end);
-            end.status
-        }
+        Ok(status) => status,
         Err(stop) => tell_stop(&rt, stop),
     };
     ExitCode::from(status)

@@ -1,4 +1,5 @@
 use crate::shape::write_tree;
+use pml_inline::expand;
 use pml_lex::cut;
 use pml_lex::token::Token;
 use pml_syntax::parse;
@@ -35,6 +36,9 @@ fn first_wrong<'r>(alloc: Global, rows: &'r str) -> Result<Option<&'r str>, Fail
         text.push_str(expr)?;
         text.push_str(" }")?;
         let Ok(tokens) = cut(alloc, text.as_bytes()) else {
+            return Ok(Some(row));
+        };
+        let Ok(tokens) = expand(alloc, tokens.as_slice()) else {
             return Ok(Some(row));
         };
         let found = shape_of(alloc, tokens.as_slice())?;

@@ -16,6 +16,7 @@ mod statements;
 #[cfg(test)]
 mod units;
 
+use pml_inline::expand;
 use pml_lex::cut;
 use pml_lex::token::Token;
 use pml_syntax::{SyntaxFault, parse};
@@ -40,10 +41,18 @@ pub fn read_tokens<'a>(alloc: Global, tokens: &'a [Token<'a>]) -> Outcome {
     }
 }
 
+/// How the tokens of a text were read.
+pub fn read_cut(alloc: Global, tokens: &[Token<'_>]) -> Outcome {
+    match expand(alloc, tokens) {
+        Ok(expanded) => read_tokens(alloc, expanded.as_slice()),
+        Err(_) => Outcome::Stopped,
+    }
+}
+
 /// How a text was read.
 pub fn read_text(alloc: Global, text: &str) -> Outcome {
     match cut(alloc, text.as_bytes()) {
-        Ok(tokens) => read_tokens(alloc, tokens.as_slice()),
+        Ok(tokens) => read_cut(alloc, tokens.as_slice()),
         Err(_) => Outcome::Stopped,
     }
 }

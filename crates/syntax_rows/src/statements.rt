@@ -31,7 +31,16 @@ x
 skip
 timeout
 a unless b
-L: M: x = 1"##;
+L: M: x = 1
+for (i : 1 .. 3) { x = i }
+for (a[i].f : x + 1 .. (y -> 1 : 2)) { byte k; x; }
+for (i : 0 .. 1) { for (j : i .. 2 || n) { skip } }
+for (i : 1 .. 2) { a } b
+L: for (i : 1 .. 2) { break } unless { x }
+select (i : 1 .. 3)
+select (r.f[2] : -1 .. n && m); x
+select(i:1..3) -> x
+select (i : 1 .. 2) unless a"##;
     assert_eq!(rt;
         first_other(rt.alloc(), "init { ", rows, " }", Outcome::Tree)?,
         None
@@ -134,6 +143,26 @@ do :: a fi
 if a fi
 atomic a
 x ++ ++
+for (i : 1 .. 3) x
+for (i = 1 .. 3) { x }
+for (i : 1, 3) { x }
+for (i in a) { x }
+for (i : 1 .. 3) { }
+for (i : 1 .. 3) { byte k }
+for i : 1 .. 3 { x }
+for (1 : 1 .. 3) { x }
+for (i : 1 .. 3)
+for (i : 1 .. 3); { x }
+for (i : 1 .. 3 { x }
+for (i : run P() .. 3) { x }
+select (i : 1 .. 3) x
+select (i : 1 ... 3)
+select (i : 1)
+select (i : .. 2)
+select (i++ : 1 .. 2)
+select i : 1 .. 2
+for
+select
 proctype P() { skip }"##;
     assert_eq!(rt;
         first_other(rt.alloc(), "init { ", rows, " }", Outcome::Fault(1))?,

@@ -1,6 +1,7 @@
 //! How much a world keeps: the numbers in variables and messages, two for each process and two for each channel.
 use crate::models::{checked_of, world_of};
 use pml_check::Checked;
+use pml_inline::expand;
 use pml_lex::cut;
 use pml_lex::token::Token;
 use pml_sim::world::World;
@@ -69,9 +70,16 @@ fn kept_of_tokens<'a>(
     }
 }
 
+fn kept_of_cut(alloc: Global, tokens: &[Token<'_>], choices: &[usize]) -> Result<Vec<usize>, Fail> {
+    match expand(alloc, tokens) {
+        Ok(expanded) => kept_of_tokens(alloc, expanded.as_slice(), choices),
+        Err(_) => Err(Fail::from("the tokens do not expand")),
+    }
+}
+
 fn kept_of(alloc: Global, model: &str, choices: &[usize]) -> Result<Vec<usize>, Fail> {
     match cut(alloc, model.as_bytes()) {
-        Ok(tokens) => kept_of_tokens(alloc, tokens.as_slice(), choices),
+        Ok(tokens) => kept_of_cut(alloc, tokens.as_slice(), choices),
         Err(_) => Err(Fail::from("the text is not cut")),
     }
 }

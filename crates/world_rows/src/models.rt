@@ -26,7 +26,7 @@ pub fn checked_of<'a>(alloc: Global, tokens: &'a [Token<'a>]) -> Option<Checked<
 pub fn world_of<'p, 'a>(alloc: Global, checked: &'p Checked<'a>) -> Option<World<'p, 'a>> {
     let program = checked.program();
     match start(alloc, program) {
-        Ok(started) => match World::first(alloc, program, checked.graphs(), started) {
+        Ok(started) => match World::first(alloc, program, checked.graphs(), started, false) {
             Ok(world) => Some(world),
             Err(_) => None,
         },

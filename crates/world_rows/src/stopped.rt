@@ -2,6 +2,7 @@
 use crate::models::{checked_of, world_of};
 use diagnostics::Stop;
 use pml_check::Checked;
+use pml_inline::expand;
 use pml_lex::cut;
 use pml_lex::token::Token;
 use session::Machine;
@@ -64,9 +65,16 @@ fn plays_tokens<'a, R: Abort>(rt: &R, alloc: Global, tokens: &'a [Token<'a>]) {
     }
 }
 
+fn plays_cut<R: Abort>(rt: &R, alloc: Global, tokens: &[Token<'_>]) {
+    match expand(alloc, tokens) {
+        Ok(expanded) => plays_tokens(rt, alloc, expanded.as_slice()),
+        Err(_) => (),
+    }
+}
+
 fn stops_for_good<R: Abort>(rt: &R, alloc: Global, model: &str) {
     match cut(alloc, model.as_bytes()) {
-        Ok(tokens) => plays_tokens(rt, alloc, tokens.as_slice()),
+        Ok(tokens) => plays_cut(rt, alloc, tokens.as_slice()),
         Err(_) => (),
     }
 }

@@ -67,8 +67,10 @@ returns-clause-ok c =
       steps = set_where _ _ (c.get_count.ensures.value ∙ counted (codes "p"));
       globals = set_where _ _ (c.get_count-2.ensures.value ∙ counted (codes "g"));
       locals = set_where _ _ (c.get_count-3.ensures.value ∙ counted (codes "l"));
+      lossy = set_where _ _ (c.get_count-4.ensures.value ∙ counted (codes "m"));
       limit = subst (λ (o : Option Text). IsLimit o c.unwrap_or.result) (one_text-rows f (codes "u") ∙ ap (one_of (codes "u")) rows_are) (rw c.unwrap_or.ensures limit);
       model = sym (first (codes "MODEL")) ∙ (sym c.get_str.ensures ∙ (ap (option_map (λ s. s.now)) c.unwrap.ensures ∙ ap Some (sym c.in_ok-model.ensures.ok)));
       choices = sym (first (codes "choices")) ∙ sym c.in_ok-choices.ensures;
       rec = sym (first (codes "record")) ∙ sym c.in_ok-rec.ensures;
+      convert = set_where _ _ (c.get_count-5.ensures.value ∙ counted (codes "convert"));
     }

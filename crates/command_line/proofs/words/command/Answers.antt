@@ -12,10 +12,12 @@ returns c =
     let two = more (codes "p") _ _ _ _ _ _ _ _ one c.in_ok-arg-2.ensures c.flag-2.ensures.plain c.flag-2.ensures.rule in
     let three = more (codes "g") _ _ _ _ _ _ _ _ two c.in_ok-arg-3.ensures c.flag-3.ensures.plain c.flag-3.ensures.rule in
     let four = more (codes "l") _ _ _ _ _ _ _ _ three c.in_ok-arg-4.ensures c.flag-4.ensures.plain c.flag-4.ensures.rule in
-    let five = more (codes "T") _ _ _ _ _ _ _ _ four c.in_ok-arg-5.ensures c.flag-5.ensures.plain c.flag-5.ensures.rule in
-    let six = more (codes "u") _ _ _ _ _ _ _ _ five c.in_ok-arg-6.ensures c.limit.ensures.plain c.limit.ensures.rule in
-    let seven = more (codes "choices") _ _ _ _ _ _ _ _ six c.in_ok-arg-7.ensures c.file.ensures.plain c.file.ensures.rule in
-    let eight = more (codes "record") _ _ _ _ _ _ _ _ seven c.in_ok-arg-8.ensures c.file-2.ensures.plain c.file-2.ensures.rule in
-    IfOk-weaker c.arg-9.result _ _ (λ d last.
-    finished c.spinplay.result d _ (more (codes "MODEL") _ _ d _ _ _ _ _ eight last c.model.ensures.plain c.model.ensures.rule)
-    (c.spinplay.ensures.empty.0, c.spinplay.ensures.empty.1) c.spinplay.ensures.local c.spinplay.ensures.negates (λ _. c.model.ensures.value)) c.arg-9.ensures
+    let five = more (codes "m") _ _ _ _ _ _ _ _ four c.in_ok-arg-5.ensures c.flag-5.ensures.plain c.flag-5.ensures.rule in
+    let six = more (codes "T") _ _ _ _ _ _ _ _ five c.in_ok-arg-6.ensures c.flag-6.ensures.plain c.flag-6.ensures.rule in
+    let seven = more (codes "u") _ _ _ _ _ _ _ _ six c.in_ok-arg-7.ensures c.limit.ensures.plain c.limit.ensures.rule in
+    let eight = more (codes "choices") _ _ _ _ _ _ _ _ seven c.in_ok-arg-8.ensures c.file.ensures.plain c.file.ensures.rule in
+    let nine = more (codes "record") _ _ _ _ _ _ _ _ eight c.in_ok-arg-9.ensures c.file-2.ensures.plain c.file-2.ensures.rule in
+    let ten = more (codes "convert") _ _ _ _ _ _ _ _ nine c.in_ok-arg-10.ensures c.long_flag.ensures.plain c.long_flag.ensures.rule in
+    IfOk-weaker c.arg-11.result _ _ (λ d last.
+    finished c.spinplay.result d _ (more (codes "MODEL") _ _ d _ _ _ _ _ ten last c.model.ensures.plain c.model.ensures.rule)
+    (c.spinplay.ensures.empty.0, c.spinplay.ensures.empty.1) c.spinplay.ensures.local c.spinplay.ensures.negates (λ _. c.model.ensures.value)) c.arg-11.ensures

@@ -12,5 +12,5 @@ returns-in-Some c =
     let cs = c.args.view.now.channels.now in
     let b = c.args.body.now.proctype.now.body in
     c.has_choice.ensures
-    ∙ ap (λ (ls : List (List Offer)). is_some (choices cs (seen c.args.view.now) ls)) (at_node c.args.body.now c.in-Some.node c.requires)
-    ∙ ap (λ o. is_some (choices cs (seen c.args.view.now) (levels_from b (maybe (point_at b) o)))) (sym c.in-Some.is)
+    ∙ ap (λ (ls : List (List Offer)). is_some (choices c.args.lossy cs (seen c.args.view.now) ls)) (at_node c.args.body.now c.in-Some.node c.requires)
+    ∙ ap (λ o. is_some (choices c.args.lossy cs (seen c.args.view.now) (levels_from b (maybe (point_at b) o)))) (sym c.in-Some.is)

@@ -8,4 +8,4 @@ use Rattle.pml_moves.proofs.search.first_plain.Given as goal
 -- none is found so far
 abbrev pub invariant-loop-edge : goal.invariant-loop-edge
 invariant-loop-edge l =
-    first (filter (is_choice l.view.channels.now (seen l.view)) (map (shows l.body) (drop l.edge-index l.edges))) ≡ first (filter (is_choice l.view.channels.now (seen l.view)) (map (shows l.body) l.edges))
+    first (filter (is_choice l.lossy l.view.channels.now (seen l.view)) (map (shows l.body) (drop l.edge-index l.edges))) ≡ first (filter (is_choice l.lossy l.view.channels.now (seen l.view)) (map (shows l.body) l.edges))

@@ -7,4 +7,4 @@ returns-in-Err-Fault-clause-err c text ready =
 
 pub returns-in-Ok-first-clause-ok : goal.returns-in-Ok-first-clause-ok
 returns-in-Ok-first-clause-ok c text ready =
-    is_model text c.args.checked.now c.program-program.result.now c.in-Ok.started c.in-Ok-first.world ready c.program-program.ensures.model c.in-Ok.ensures.value c.in-Ok-first.ensures
+    is_model text c.args.checked.now c.program-program.result.now c.in-Ok.started c.args.lossy c.in-Ok-first.world ready c.program-program.ensures.model c.in-Ok.ensures.value c.in-Ok-first.ensures

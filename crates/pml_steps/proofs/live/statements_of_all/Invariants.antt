@@ -1,9 +1,8 @@
-use Rattle.std.proofs.Common.{◌≡◌, ◌++◌, drop, map}
+use Rattle.std.proofs.Common.{◌≡◌, take, map}
 use Rattle.pml_program.specs.declared.program.Proctype.{Proctype}
 use Rattle.pml_moves.specs.Scene.{statements_of}
 use Rattle.pml_steps.proofs.live.statements_of_all.Given as goal
 
--- those of the proctypes so far, and of the rest
+-- those of the proctypes so far
 abbrev pub invariant-loop-proctype : goal.invariant-loop-proctype
-invariant-loop-proctype l =
-    l.all.items ++ map (λ (q : Proctype). statements_of q.body) (drop l.proctype-index l.proctypes) ≡ map (λ (q : Proctype). statements_of q.body) l.proctypes
+invariant-loop-proctype l = l.all.items ≡ map (λ (q : Proctype). statements_of q.body) (take l.proctype-index l.proctypes)

@@ -21,7 +21,7 @@ returns-in_err-edge c b h =
     let same = body_same x s p k b c.scene.ensures.state at h in
     let channels : c.view.result.channels.now ≡ s.channels = search rules in
     let reading : seen c.view.result ≡ reads s p c.args.timeout = search rules in
-    let one = first_shown k c.args.node b _ s.channels _ (reads s p c.args.timeout) c.choice.result (search rules) same channels reading c.choice.ensures in
+    let one = first_shown k c.args.node b _ s.lossy _ s.channels _ (reads s p c.args.timeout) c.choice.result (search rules) same c.is_lossy.ensures channels reading c.choice.ensures in
     let none : c.choice.result ≡ None = search rules in
     subst (λ (o : Option Offer). Chooses b o c.from_residual-in_err-edge.result) (sym (one ∙ ap (option_map (shows k)) none))
     (subst (λ o. Chooses b None o) (sym c.from_residual-in_err-edge.ensures) tt)
@@ -37,7 +37,7 @@ returns c b h =
     let same = body_same x s p k b c.scene.ensures.state at h in
     let channels : c.view.result.channels.now ≡ s.channels = search rules in
     let reading : seen c.view.result ≡ reads s p c.args.timeout = search rules in
-    let one = first_shown k c.args.node b _ s.channels _ (reads s p c.args.timeout) c.choice.result (search rules) same channels reading c.choice.ensures in
+    let one = first_shown k c.args.node b _ s.lossy _ s.channels _ (reads s p c.args.timeout) c.choice.result (search rules) same c.is_lossy.ensures channels reading c.choice.ensures in
     let some : c.choice.result ≡ Some e = search rules in
     subst (λ (o : Option Offer). Chooses b o (Some (record { basic = c.basic.result; next = e.target; stays = e.stays }))) (sym (one ∙ ap (option_map (shows k)) some))
     (c.basic.ensures, ap (λ d. point_at d e.target) same, refl)

@@ -20,6 +20,9 @@ decreases-embraced l = 11 * l.depth + 3
 abbrev pub decreases-escape : goal.decreases-escape
 decreases-escape l = 11 * l.depth + 7
 
+abbrev pub decreases-for_loop : goal.decreases-for_loop
+decreases-for_loop l = 11 * l.depth + 3
+
 abbrev pub decreases-item : goal.decreases-item
 decreases-item l = 11 * l.depth + 9
 

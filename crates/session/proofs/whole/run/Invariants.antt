@@ -1,5 +1,5 @@
 use Rattle.std.proofs.Common.{◌≡◌, ◌≤◌, ◌-◌}
-use Rattle.session.specs.Session.{transcript}
+use Rattle.session.specs.Session.{transcript_noting}
 use Rattle.session.specs.Gathered.{Waits}
 use Rattle.session.specs.Writes.{story_after}
 use Rattle.session.proofs.whole.run.Given as goal
@@ -7,7 +7,7 @@ use Rattle.session.proofs.whole.run.Given as goal
 abbrev pub invariant-loop-end : goal.invariant-loop-end
 invariant-loop-end g l = record {
   waits : Waits (g.D.Devices.holds l.initial.devices) (g.D.Devices.holds l.devices) 0 l.steps
-      (transcript g.M.Machine.rules l.options l.initial.machine) (story_after g.M.Machine.rules l.options l.machine l.steps l.over) l.gathered.bytes.items l.gathered.begins.items;
+      (transcript_noting l.notes g.M.Machine.rules l.options l.initial.machine) (story_after l.notes g.M.Machine.rules l.options l.machine l.steps l.stream) l.gathered.bytes.items l.gathered.begins.items;
   within : l.steps ≤ l.options.limit;
   count : (g.D.Devices.holds l.devices).failures ≡ (g.D.Devices.holds l.initial.devices).failures;
 }

@@ -39,7 +39,7 @@ returns-then-is_err-2-clause-value c =
     started c.self.inside.program.now c.self.inside.graphs.now c.args.kind c.start_of-node.result c.self.invariant.graphs c.start_of-node.ensures in
     rw (← c.self.view_is)
     (created_leads c.self.inside.program.now c.self.inside.store c.create-created.new.store c.self.inside.channels.items c.create-created.new.channels.items c.self.inside.kinds.items c.create-created.new.kinds.items
-    seats c.pop.new.self.items c.self.inside.holder c.args.kind c.start_of-node.result c.in-Some.proctype.now c.self.inside.beginnings c.args.arguments.now c.create-created.result
+    seats c.pop.new.self.items c.self.inside.holder c.self.inside.lossy c.args.kind c.start_of-node.result c.in-Some.proctype.now c.self.inside.beginnings c.args.arguments.now c.create-created.result
     c.self.invariant.typedefs c.self.invariant.seated (search rules) stands (search rules) (search rules))
 
 pub returns-else-is_err-2-clause-value : goal.returns-else-is_err-2-clause-value
@@ -49,5 +49,5 @@ returns-else-is_err-2-clause-value c =
     started c.self.inside.program.now c.self.inside.graphs.now c.args.kind c.start_of-node.result c.self.invariant.graphs c.start_of-node.ensures in
     rw (← c.self.view_is)
     (created_leads c.self.inside.program.now c.self.inside.store c.create-created.new.store c.self.inside.channels.items c.create-created.new.channels.items c.self.inside.kinds.items c.create-created.new.kinds.items
-    seats c.push.new.self.items c.self.inside.holder c.args.kind c.start_of-node.result c.in-Some.proctype.now c.self.inside.beginnings c.args.arguments.now c.create-created.result
+    seats c.push.new.self.items c.self.inside.holder c.self.inside.lossy c.args.kind c.start_of-node.result c.in-Some.proctype.now c.self.inside.beginnings c.args.arguments.now c.create-created.result
     c.self.invariant.typedefs c.self.invariant.seated (search rules) stands (search rules) (search rules))

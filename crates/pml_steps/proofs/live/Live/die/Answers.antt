@@ -52,5 +52,5 @@ returns c =
     let frames = frames_of_kinds c.self.inside.program.now (held c.self.inside.store c.self.inside.channels.items c.self.inside.kinds.items) c.self.invariant.declared in
     let kinds : length c.self.inside.kinds.items ≡ length seats = ap length c.self.invariant.seated ∙ length-map seats (λ (x : Seat). x.kind) in
     rw (← c.self.view_is)
-    (live_died c.self.inside.program.now c.self.inside.store c.pop_frame.new.self c.self.inside.channels.items c.keep_others.new.channels.items seats c.truncate-2.new.self.items c.self.inside.holder n count
+    (live_died c.self.inside.program.now c.self.inside.store c.pop_frame.new.self c.self.inside.channels.items c.keep_others.new.channels.items seats c.truncate-2.new.self.items c.self.inside.holder c.self.inside.lossy n count
     (frames ∙ ap (λ (m : ℕ). m + 1) kinds) c.pop_frame.ensures (search rules) c.truncate-2.ensures.items)

@@ -16,5 +16,5 @@ pub returns-then-process-len : goal.returns-then-process-len
 returns-then-process-len c =
     let l : c.args.process < length c.self.inside.seats.items = search rules in
     rw (← c.self.view_is)
-    (seat_gone c.self.inside.program.now c.self.inside.store c.self.inside.channels.items c.self.inside.seats.items c.self.inside.holder c.args.process c.args.node c.index_mut.result.now c.index_mut.result.now l
+    (seat_gone c.self.inside.program.now c.self.inside.store c.self.inside.channels.items c.self.inside.seats.items c.self.inside.holder c.self.inside.lossy c.args.process c.args.node c.index_mut.result.now c.index_mut.result.now l
     c.index_mut.ensures.value)

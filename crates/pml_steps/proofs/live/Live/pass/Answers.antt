@@ -14,4 +14,4 @@ returns-clause-value c =
     let same : c.as_slice-channels.result.now ≡ c.self.inside.channels.items = search rules in
     let does = rw (same, sends, receives) at c.pass.ensures.value in
     rw (← c.self.view_is)
-    (all_lead c.self.inside.program.now c.self.inside.channels.items c.self.inside.channels.items c.self.inside.seats.items c.self.inside.holder c.self.inside.store c.pass.new.store _ c.pass.result does)
+    (all_lead c.self.inside.program.now c.self.inside.channels.items c.self.inside.channels.items c.self.inside.seats.items c.self.inside.holder c.self.inside.lossy c.self.inside.store c.pass.new.store _ c.pass.result does)

@@ -16,5 +16,5 @@ returns-clause-value c =
     let count : c.self.inside.channels.len ≡ length c.self.inside.channels.items = search rules in
     let reads = rw (← c.self.view_is) at c.taker-taker.ensures in
     rw (← c.self.view_is)
-    (sent_lives c.self.inside.program.now c.self.inside.store c.self.inside.channels.items c.self.inside.seats.items c.self.inside.holder c.args.process c.args.timeout _ _ _
+    (sent_lives c.self.inside.program.now c.self.inside.store c.self.inside.channels.items c.self.inside.seats.items c.self.inside.holder c.self.inside.lossy c.args.process c.args.timeout _ _ _
     c.self.inside.channels.len c.as_mut_slice-channels.result.now _ c.args.target.now c.args.order c.args.fields.now c.send.result count same reads c.send.ensures)

@@ -13,4 +13,4 @@ returns-clause-value c =
     let same : c.as_slice-channels.result.now ≡ c.self.inside.channels.items = search rules in
     let does = rw (same, reads) at c.take.ensures.value in
     rw (← c.self.view_is)
-    (taken_leads c.self.inside.program.now c.self.inside.channels.items c.self.inside.channels.items c.self.inside.seats.items c.self.inside.holder c.self.inside.store c.take.new.store _ c.take.result does)
+    (taken_leads c.self.inside.program.now c.self.inside.channels.items c.self.inside.channels.items c.self.inside.seats.items c.self.inside.holder c.self.inside.lossy c.self.inside.store c.take.new.store _ c.take.result does)

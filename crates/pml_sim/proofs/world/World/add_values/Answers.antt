@@ -1,13 +1,13 @@
 use Rattle.std.proofs.Common.{rules, ◌≡◌, ◌++◌, ap, sym, take, subst, List, ℕ, OnOk}
 use Rattle.pml_sim.specs.World.{Running}
 use Rattle.pml_sim.proofs.Stepping.{lines_are, are_declared}
-use Rattle.pml_sim.proofs.world.WorldMachine.values.Goals as goal
+use Rattle.pml_sim.proofs.world.World.add_values.Goals as goal
 
 pub returns-clause-added : goal.returns-clause-added
 returns-clause-added c =
     let live = c.self.inside.live in
     let lines =
-    lines_are c.args.self.now live c.self.inside.tables c.kinds-kinds.result.now c.variables.result.now c.self.inside.older c.min-older.result c.args.globals c.args.locals (ap (λ (w : Running). w.state) (sym c.self.view_is))
+    lines_are c.args.self.now live c.self.inside.tables c.kinds-kinds.result.now c.variables.result.now c.self.inside.older c.min-older.result c.args.wanted.globals c.args.wanted.locals (ap (λ (w : Running). w.state) (sym c.self.view_is))
     (ap (λ (w : Running). w.past) (sym c.self.view_is)) c.self.invariant c.kinds-kinds.ensures.value c.variables.ensures (search rules) in
     let declared =
     are_declared live c.self.inside.tables c.kinds-kinds.result.now c.variables.result.now c.min-older.result c.self.invariant c.kinds-kinds.ensures.value c.variables.ensures c.kinds-kinds.ensures.declared in

@@ -1,0 +1,74 @@
+-- The expansion, from its parts.
+use Rattle.std.proofs.Common.{◌≡◌, ℕ, Bool, true, false, cond, List, [], map, Option, Some, None, refl, ap, sym, subst, ◌∙◌}
+use Rattle.pml_lex.specs.Word.{Word}
+use Rattle.pml_lex.specs.Limits.{IsTooDeep}
+use Rattle.pml_inline.specs.declared.fault.InlineFault.{InlineFault}
+use Rattle.pml_inline.specs.declared.fault.InlineFault.TheVariants.{Memory, Inline as Misused, TooDeep}
+use Rattle.pml_inline.specs.Inlines.{Inline, all_differ, definitions}
+use Rattle.pml_inline.specs.Expansion.{texts, limited, by_definitions, expansion, Expands, IsExpanded, IsLeast, IsFaultOnLine}
+use Rattle.pml_inline.specs.Parts.{IsUndefined, IsRepeated}
+use Rattle.pml_inline.specs.Calls.{Given}
+use Rattle.pml_inline.specs.Texts.{IsMisread}
+
+pub expansion_is : (ts : List Word) (ds : List Inline) → definitions ts 0 ≡ Some ds → all_differ (map (λ d. d.name) ds) ≡ true → expansion ts ≡ limited (texts ts [] ds 0 0)
+unfolding expansion
+expansion_is ts ds e f = ap (by_definitions ts) e ∙ ap (λ (b : Bool). cond b (limited (texts ts [] ds 0 0)) None) f
+
+expansion_repeated : (ts : List Word) (ds : List Inline) → definitions ts 0 ≡ Some ds → all_differ (map (λ d. d.name) ds) ≡ false → expansion ts ≡ None
+unfolding expansion
+expansion_repeated ts ds e f = ap (by_definitions ts) e ∙ ap (λ (b : Bool). cond b (limited (texts ts [] ds 0 0)) None) f
+
+expansion_undefined : (ts : List Word) → definitions ts 0 ≡ None → expansion ts ≡ None
+unfolding expansion
+expansion_undefined ts e = ap (by_definitions ts) e
+
+none : {us : List Word} → None ≡ Some us → ⊥
+none e = cc
+
+some : {us vs : List Word} → Some us ≡ Some vs → us ≡ vs
+some e = cc
+
+no_result : (ts : List Word) → expansion ts ≡ None → (us : List Word) → Expands ts us → ⊥
+no_result ts e us f = none (sym e ∙ f)
+
+pub one_result : (ts us vs : List Word) → Expands ts us → Expands ts vs → us ≡ vs
+one_result ts us vs e f = some (sym e ∙ f)
+
+pub least_undefined : (ts : List Word) (f : InlineFault) → IsUndefined ts f → IsLeast ts f
+least_undefined ts Memory h = tt
+least_undefined ts Misused h = λ us e. no_result ts (expansion_undefined ts h) us e
+least_undefined ts (TooDeep line) h = absurd h
+
+pub least_repeated : (ts : List Word) (ds : List Inline) (f : InlineFault) → definitions ts 0 ≡ Some ds → IsRepeated ds f → IsLeast ts f
+least_repeated ts ds Memory e h = tt
+least_repeated ts ds Misused e h = λ us g. no_result ts (expansion_repeated ts ds e h) us g
+least_repeated ts ds (TooDeep line) e h = absurd h
+
+pub least_misread : (ts : List Word) (ds : List Inline) (f : InlineFault) → definitions ts 0 ≡ Some ds → all_differ (map (λ d. d.name) ds) ≡ true → IsMisread (texts ts [] ds 0 0) f → IsLeast ts f
+least_misread ts ds Memory e d h = tt
+least_misread ts ds Misused e d h = λ us g. no_result ts (expansion_is ts ds e d ∙ h) us g
+least_misread ts ds (TooDeep line) e d h = absurd h
+
+-- where something is answered, no other fault stands
+pub only_memory : (ts us : List Word) (f : InlineFault) → IsExpanded ts us → IsLeast ts f → f ≡ Memory
+only_memory ts us Memory x h = refl
+only_memory ts us Misused x h = absurd (h us x.expands)
+only_memory ts us (TooDeep line) x h = absurd (x.shallow (deep_same h.deep (one_result ts h.given us h.expands x.expands)))
+  where
+    deep_same : {vs ws : List Word} → IsTooDeep vs → vs ≡ ws → IsTooDeep ws
+    deep_same {vs} {ws} h e = subst (λ (x : List Word). IsTooDeep x) e h
+
+pub line_undefined : (most : ℕ) (ts : List Word) (f : InlineFault) → IsUndefined ts f → IsFaultOnLine most f
+line_undefined most ts Memory h = tt
+line_undefined most ts Misused h = tt
+line_undefined most ts (TooDeep line) h = absurd h
+
+pub line_repeated : (most : ℕ) (ds : List Inline) (f : InlineFault) → IsRepeated ds f → IsFaultOnLine most f
+line_repeated most ds Memory h = tt
+line_repeated most ds Misused h = tt
+line_repeated most ds (TooDeep line) h = absurd h
+
+pub line_misread : (most : ℕ) (r : Option Given) (f : InlineFault) → IsMisread r f → IsFaultOnLine most f
+line_misread most r Memory h = tt
+line_misread most r Misused h = tt
+line_misread most r (TooDeep line) h = absurd h

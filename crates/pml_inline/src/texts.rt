@@ -1,0 +1,115 @@
+//! What comes out of a text.
+
+ghost use Rattle.std.specs.Prelude.{◌≡◌, ◌<◌, ◌≤◌, ◌+◌, ◌^◌, ◌-◌, [], Some, IfOk, IfErr, MatchOption};
+ghost use Rattle.pml_lex.specs.Word.{Word};
+ghost use Rattle.pml_inline.specs.Inlines.{definitions};
+ghost use Rattle.pml_inline.specs.Expansion as expansion;
+ghost use Rattle.pml_inline.specs.Texts.{IsText, inlines, given_of, IsCall, IsWrongCall, IsReadCall, IsMisread};
+
+use crate::calls::{Given, Text, callee, read};
+use crate::fault::InlineFault;
+use crate::places::{closing, has_inline, is_inline};
+use pml_lex::token::{Kind, Token, same_kind};
+use profile::MOST_REPLACED;
+use std::alloc::{AllocError, Global};
+
+/// How many braces are open behind a token.
+fn braces_behind(braces: usize, token: &Token<'_>) -> usize
+    requires { braces < 2 ^ 64 - 1 }
+    ensures { result ≡ expansion.braces_behind braces token.now }
+{
+    if same_kind(token.kind(), Kind::OpenBrace) {
+        braces + 1
+    } else if same_kind(token.kind(), Kind::CloseBrace) {
+        braces.saturating_sub(1)
+    } else {
+        braces
+    }
+}
+
+/// Reads a call outside all others. The place behind it, if it is right; what comes out of it stands behind what did before.
+fn outermost<'t>(
+    alloc: Global,
+    text: &Text<'_, 't>,
+    known: usize,
+    at: usize,
+    given: &mut Given<'t>,
+) -> Result<Option<usize>, AllocError>
+    requires text { IsText text.now }
+    requires call { IsCall text.now known at }
+    requires counted { given.old.count ≤ MOST_REPLACED }
+    ensures { IfOk result (λ o. MatchOption o (IsWrongCall text.now known at (given_of given.old))
+        (IsReadCall text.now known at (given_of given.old) (given_of given.new))) }
+{
+    let Some(length) = closing(
+        text.tokens,
+        &text.places[at + 2..],
+        Kind::OpenParen,
+        Kind::CloseParen,
+    ) else {
+        return Ok(None);
+    };
+    if has_inline(&text.tokens[at + 2..at + 2 + length]) {
+        return Ok(None);
+    }
+    let end = at + 3 + length;
+    let mut active = Vec::new(alloc);
+    if !read(
+        alloc,
+        text,
+        known,
+        &mut active,
+        &text.places[at..end],
+        given,
+    )? {
+        return Ok(None);
+    }
+    Ok(Some(end))
+}
+
+/// What comes out of a text.
+pub(crate) fn expanded<'t>(
+    alloc: Global,
+    text: &Text<'_, 't>,
+) -> Result<Vec<Token<'t>>, InlineFault>
+    requires text { IsText text.now }
+    requires defined { definitions text.now.tokens.now 0 ≡ Some (inlines text.now) }
+    ensures ok { IfOk result (λ v. expansion.limited (expansion.texts text.now.tokens.now [] (inlines text.now) 0 0) ≡ Some v.items) }
+    ensures err { IfErr result (λ f. IsMisread (expansion.texts text.now.tokens.now [] (inlines text.now) 0 0) f) }
+{
+    let mut given = Given {
+        tokens: Vec::new(alloc),
+        count: 0,
+    };
+    let mut known = 0;
+    let mut braces = 0;
+    let mut at = 0;
+    while at < text.tokens.len() {
+        let token = &text.tokens[at];
+        if is_inline(token) {
+            if braces > 0 {
+                return Err(InlineFault::Inline);
+            }
+            if known >= text.definitions.len() {
+                return Err(InlineFault::Inline);
+            }
+            at += 1 + text.definitions[known].size;
+            known += 1;
+        } else {
+            match callee(text, known, text.places, at) {
+                None => {
+                    braces = braces_behind(braces, token);
+                    given.tokens.push(token.copied())?;
+                    at += 1;
+                }
+                Some(_number) => {
+                    let Some(end) = outermost(alloc, text, known, at, &mut given)? else {
+                        return Err(InlineFault::Inline);
+                    };
+                    at = end;
+                }
+            }
+        }
+    }
+    Ok(given.tokens)
+}

@@ -1,0 +1,49 @@
+-- What converting the choices of a text answers.
+use Rattle.std.specs.Prelude.{◌≡◌, ◌≢◌, ℕ, List}
+use Rattle.devices.specs.Holdings.{Holdings}
+use Rattle.diagnostics.specs.declared.refusal.Refusal.{Refusal}
+use Rattle.session.specs.declared.Options.{Options}
+use Rattle.session.specs.declared.End.{End}
+use Rattle.session.specs.declared.Cause.{Cause}
+use Rattle.session.specs.declared.Cause.TheVariants as cause
+use Rattle.session.specs.declared.form.Stream.TheVariants.{Unread}
+use Rattle.session.specs.Convert.{converted, IsConvertedBy}
+use Rattle.session.specs.Part.{Part}
+use Rattle.session.specs.Session.{only, end_of, transcript}
+use Rattle.session.specs.Writes.{Ends, IsBrokenOff}
+use Rattle.pml_sim.specs.World.{Running, rules}
+use Rattle.pml_play.specs.declared.whole.Rejection.{Rejection}
+use Rattle.pml_play.specs.declared.whole.Rejection.TheVariants.{Memory, Refused}
+use Rattle.pml_play.specs.Transcript.{IsModel, IsRefused, IsTranscript}
+
+-- The conversion of the choices of a session over a text: nothing is done where it is refused, and else that of the model.
+pub data IsConversion (text : List ℕ) (options : Options) : (List ℕ → Part End) → Type 0 where
+  no_model : {refusal : Refusal} {line : ℕ} → IsRefused text refusal line → IsConversion text options (only (end_of (cause.Refused refusal line) 0) Unread)
+  of_its_model : {state : Running} → IsModel text options.lossy state → IsConversion text options (converted (transcript rules options state))
+
+-- the choices over the text were converted, and stand for the record
+pub record ConvertsWhole (text : List ℕ) (options : Options) (before after : Holdings) (end : End) : Type 0 where
+  pub part : List ℕ → Part End
+  pub is_conversion : IsConversion text options part
+  pub ends : Ends before after end.steps part end
+  pub run : List ℕ → Part End
+  pub is_transcript : IsTranscript text options run
+  pub stands : IsConvertedBy before.source after.source run
+
+-- a device or memory broke the conversion off, behind a beginning of its events
+pub record ConvertsBroken (text : List ℕ) (options : Options) (before after : Holdings) (end : End) : Type 0 where
+  pub part : List ℕ → Part End
+  pub is_conversion : IsConversion text options part
+  pub broken : IsBrokenOff before after part end
+
+-- the choices over the text were converted, or it was broken off
+pub record Converts (text : List ℕ) (options : Options) (before after : Holdings) (end : End) : Type 0 where
+  pub whole : end.status ≢ 6 → ConvertsWhole text options before after end
+  pub quiet : end.status ≢ 6 → after.failures ≡ before.failures
+  pub broken : end.status ≡ 6 → ConvertsBroken text options before after end
+  pub is_end : end ≡ end_of end.cause end.steps
+
+-- why the conversion over a rejected text ends
+abbrev pub cause_rejected : Rejection → Cause
+cause_rejected Memory = cause.Memory
+cause_rejected (Refused refusal line) = cause.Refused refusal line

@@ -1,0 +1,79 @@
+//! The conversion of the choices of a session over a text.
+
+ghost use Rattle.std.specs.Prelude.{◌≡◌, ◌≢◌, ℕ, List, None};
+ghost use Rattle.devices.specs.Holdings.{holding};
+ghost use Rattle.session.specs.declared.End.{End};
+ghost use Rattle.session.specs.Convert.{CanBeConverted};
+ghost use Rattle.session.specs.Part.{Part};
+ghost use Rattle.session.specs.Session.{end_of};
+ghost use Rattle.pml_play.specs.Converts.{Converts, cause_rejected};
+ghost use Rattle.pml_play.specs.Plays.{IsReady};
+ghost use Rattle.pml_play.specs.Transcript.{IsModel, IsTranscript};
+
+use crate::whole::{Rejection, checked_of, expanded_of, world_of};
+use devices::{Sink, Source};
+use pml_check::Checked;
+use pml_sim::world::World;
+use session::{Cause, Conversion, End, Options, end_of};
+use std::alloc::Global;
+
+/// How the conversion over a rejected text ends.
+fn end_rejected(rejection: Rejection) -> End
+    ensures { result ≡ end_of (cause_rejected rejection) 0 }
+{
+    match rejection {
+        Rejection::Memory => end_of(Cause::Memory, 0),
+        Rejection::Refused(refusal, line) => end_of(Cause::Refused(refusal, line), 0),
+    }
+}
+
+/// Converts the choices of a model from its first state, which is let go.
+fn convert_world<S: Source, O: Sink>(
+    alloc: Global,
+    world: World<'_, '_>,
+    options: &Options,
+    devices: &mut Conversion<S, O>,
+) -> End
+    ensures left { (left : List ℕ) × S.may_give devices.new.source left }
+    ensures part { (text : List ℕ) → IsModel text options.now.lossy world.entry → Converts text options.now (holding (S.may_give devices.old.source) (O.taken devices.old.out) None (S.failures devices.old.source) (O.failures devices.old.out) 0) (holding (S.may_give devices.new.source) (O.taken devices.new.out) None (S.failures devices.new.source) (O.failures devices.new.out) 0) result }
+{
+    let mut world = world;
+    session::convert(alloc, &mut world, options, devices)
+}
+
+/// Converts the choices of a checked model.
+fn convert_checked<S: Source, O: Sink>(
+    alloc: Global,
+    checked: &Checked<'_>,
+    options: &Options,
+    devices: &mut Conversion<S, O>,
+) -> End
+    ensures part { (text : List ℕ) → IsReady text checked.now → Converts text options.now (holding (S.may_give devices.old.source) (O.taken devices.old.out) None (S.failures devices.old.source) (O.failures devices.old.out) 0) (holding (S.may_give devices.new.source) (O.taken devices.new.out) None (S.failures devices.new.source) (O.failures devices.new.out) 0) result }
+{
+    match world_of(alloc, checked, options.lossy) {
+        Ok(world) => convert_world(alloc, world, options, devices),
+        Err(rejection) => end_rejected(rejection),
+    }
+}
+
+/// Plays the text of a model, and writes its choices in the second version in place of its output and its record: the first line once
+/// the model is accepted, and the line of each accepted number before its step. A refused text gives no byte.
+pub fn convert<S: Source, O: Sink>(
+    alloc: Global,
+    text: &[u8],
+    options: &Options,
+    devices: &mut Conversion<S, O>,
+) -> End
+    ensures left { (left : List ℕ) × S.may_give devices.new.source left }
+    ensures part { Converts text.now options.now (holding (S.may_give devices.old.source) (O.taken devices.old.out) None (S.failures devices.old.source) (O.failures devices.old.out) 0) (holding (S.may_give devices.new.source) (O.taken devices.new.out) None (S.failures devices.new.source) (O.failures devices.new.out) 0) result }
+    ensures law { (run : List ℕ → Part End) → IsTranscript text.now options.now run → CanBeConverted run }
+{
+    let tokens = match expanded_of(alloc, text) {
+        Ok(tokens) => tokens,
+        Err(rejection) => return end_rejected(rejection),
+    };
+    match checked_of(alloc, &tokens) {
+        Ok(checked) => convert_checked(alloc, &checked, options, devices),
+        Err(rejection) => end_rejected(rejection),
+    }
+}

@@ -1,0 +1,10 @@
+use Rattle.std.proofs.Common.{◌≡◌, ◌+◌, min, take, true}
+use Rattle.std.specs.List.{list_all}
+use Rattle.session.specs.Lines.{is_digit, number_of}
+use Rattle.session.proofs.choice.writes.Given as goal
+
+abbrev pub invariant-loop-b : goal.invariant-loop-b
+invariant-loop-b l = record {
+  sum : l.n ≡ min (number_of (take l.b-index l.word)) (l.number + 1);
+  digits : list_all is_digit (take l.b-index l.word) ≡ true;
+}
