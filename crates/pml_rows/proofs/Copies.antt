@@ -36,7 +36,7 @@ use Rattle.pml_start.specs.Start.{variables_at}
 use Rattle.pml_steps.specs.Change.{put_by, with_received, with_sent, without_youngest}
 use Rattle.pml_steps.specs.Created.{joined_by, run_number, there}
 use Rattle.pml_steps.specs.Outcome.{Done, behind, body_by, both_on, first_of, moved, onward, prints_name, prints_string, quiet}
-use Rattle.pml_steps.specs.declared.within.TheConstants.{MOST_DSTEP_STATEMENTS}
+use Rattle.profile.specs.declared.TheConstants.{MOST_DSTEP_STATEMENTS}
 use Rattle.pml_texts.specs.Ends.{is_valid}
 use Rattle.pml_texts.specs.Texts.{move_text, origin_of, stuck}
 use Rattle.pml_tree.specs.declared.tree.Removal.{Removal}

@@ -10,7 +10,7 @@ use Rattle.diagnostics.specs.declared.stop.Stop.TheVariants as stop
 use Rattle.pml_moves.specs.declared.moves.Move.{Move}
 use Rattle.pml_moves.specs.declared.moves.Move.TheVariants.{Death, Alone, Pair}
 use Rattle.pml_moves.specs.State.{State}
-use Rattle.pml_steps.specs.declared.within.TheConstants.{MOST_DSTEP_STATEMENTS}
+use Rattle.profile.specs.declared.TheConstants.{MOST_DSTEP_STATEMENTS}
 use Rattle.pml_steps.specs.Outcome.{Done, step}
 use Rattle.pml_steps.specs.Live.{Live, Does, past as past_of}
 use Rattle.pml_steps.specs.Taking.{PastBy}

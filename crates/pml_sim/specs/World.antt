@@ -9,7 +9,7 @@ use Rattle.pml_lines.specs.Changes.{value_lines}
 use Rattle.pml_moves.specs.declared.moves.Move.{Move}
 use Rattle.pml_moves.specs.State.{State}
 use Rattle.pml_moves.specs.Search as search
-use Rattle.pml_steps.specs.declared.within.TheConstants.{MOST_DSTEP_STATEMENTS}
+use Rattle.profile.specs.declared.TheConstants.{MOST_DSTEP_STATEMENTS}
 use Rattle.pml_steps.specs.Created.{kinds}
 use Rattle.pml_steps.specs.Held.{first_state}
 use Rattle.pml_steps.specs.Outcome as outcome

@@ -7,7 +7,7 @@ ghost use Rattle.pml_program.specs.declared.program.Seq.{Seq};
 ghost use Rattle.pml_flow.specs.Points.{point_at};
 ghost use Rattle.pml_flow.specs.Flow.{maybe, Offer as Offered};
 ghost use Rattle.pml_moves.specs.Picked.{picked as picks};
-ghost use Rattle.pml_steps.specs.declared.within.TheConstants.{MOST_DSTEP_STATEMENTS};
+ghost use Rattle.profile.specs.declared.TheConstants.{MOST_DSTEP_STATEMENTS};
 ghost use Rattle.pml_steps.specs.Live.{Does, Joins, PastGrows};
 ghost use Rattle.pml_steps.specs.Outcome.{body_by, within_from, taken, alone as alone_by, paired as paired_by, step};
 ghost use Rattle.pml_steps.specs.Taking.{IsOffer, CanDie, PastBy};

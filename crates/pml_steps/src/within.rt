@@ -8,7 +8,7 @@ ghost use Rattle.pml_flow.specs.Points.{point_at};
 ghost use Rattle.pml_moves.specs.State.{reads, levels};
 ghost use Rattle.pml_moves.specs.Scene.{state_of, Fits, IsBody};
 ghost use Rattle.pml_moves.specs.Search.{choices, first};
-ghost use Rattle.pml_steps.specs.declared.within.TheConstants.{MOST_DSTEP_STATEMENTS};
+ghost use Rattle.profile.specs.declared.TheConstants.{MOST_DSTEP_STATEMENTS};
 ghost use Rattle.pml_steps.specs.Live.{Does, Joins, PastGrows};
 ghost use Rattle.pml_steps.specs.Outcome.{body_by, within};
 ghost use Rattle.pml_steps.specs.Inside.{Chooses, Advances, advanced};
@@ -19,9 +19,7 @@ use diagnostics::{Fault, Stop};
 use pml_moves::scene::{Body, Scene, body_at};
 use pml_moves::search::choice;
 use pml_program::program::Basic;
-
-/// The statements that one step may take inside a `d_step`.
-pub const MOST_DSTEP_STATEMENTS: usize = 10_000;
+use profile::MOST_DSTEP_STATEMENTS;
 
 /// What is taken inside a d_step, and where control is then.
 #[derive(Clone, Copy, Debug, PartialEq, Eq)]

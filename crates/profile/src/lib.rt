@@ -2,6 +2,10 @@
 //! users.
 #![tactic(auto)]
 
+mod numbers;
+
+pub use numbers::the_limits_are_these;
+
 /// The cells that the variables of one owner may have: the globals, a proctype or a typedef. Also the elements that an array may have,
 /// and the fields that all messages of one channel may have together.
 pub const MOST_CELLS: u32 = 1_000_000;
@@ -38,6 +42,9 @@ pub const MOST_REPLACED: usize = 200_000;
 
 /// The tokens that may stand in a row without one of `; :: { } if fi do od` among them.
 pub const MOST_IN_A_ROW: u32 = 1_000;
+
+/// The statements that one step may take inside a `d_step`.
+pub const MOST_DSTEP_STATEMENTS: usize = 10_000;
 
 /// The bytes that a line of the choices may have, without its line feed.
 pub const LINE_BYTES: usize = 80;

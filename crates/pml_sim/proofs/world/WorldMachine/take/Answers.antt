@@ -1,6 +1,6 @@
 use Rattle.std.proofs.Common.{rules, ◌≡◌, ◌∙◌, ap, sym, subst, Ok, Err, None, refl}
 use Rattle.pml_moves.specs.State.{State}
-use Rattle.pml_steps.specs.declared.within.TheConstants.{MOST_DSTEP_STATEMENTS}
+use Rattle.profile.specs.declared.TheConstants.{MOST_DSTEP_STATEMENTS}
 use Rattle.pml_steps.specs.Outcome.{step}
 use Rattle.pml_steps.specs.Live.{Live, Does, Joins}
 use Rattle.pml_steps.specs.Taking.{CanDie, PastBy}
