@@ -54,7 +54,14 @@ condition_of r.NumberOutOfRange = Some condition.Range
 condition_of r.TooManyCells = Some condition.Cells
 condition_of r.NoProcess = Some condition.NoProcess
 condition_of r.TooManyAtStart = Some condition.Start
-condition_of _ = None
+condition_of r.TextTooLong = None
+condition_of r.Lexical = None
+condition_of r.LeftOut = None
+condition_of r.TooDeep = None
+condition_of r.Syntax = None
+condition_of r.CircleOfGotos = None
+condition_of r.Initialiser = None
+condition_of r.Inline = None
 
 abbrev pub BreaksCondition : Option Condition → List Mark → Type 0
 BreaksCondition None ms = ⊥
@@ -70,13 +77,43 @@ abbrev pub BreaksModel : Refusal → Program → Type 0
 BreaksModel r.DStep p = HasBadStep p.proctypes
 BreaksModel r.CircleOfGotos p = HasCircle p.proctypes
 BreaksModel r.Initialiser p = HasBadStart p
-BreaksModel _ p = ⊥
+BreaksModel r.TextTooLong p = ⊥
+BreaksModel r.Lexical p = ⊥
+BreaksModel r.LeftOut p = ⊥
+BreaksModel r.TooDeep p = ⊥
+BreaksModel r.Syntax p = ⊥
+BreaksModel r.NameTwice p = ⊥
+BreaksModel r.UnknownName p = ⊥
+BreaksModel r.WrongKind p = ⊥
+BreaksModel r.ArgumentCount p = ⊥
+BreaksModel r.Label p = ⊥
+BreaksModel r.BreakOutsideDo p = ⊥
+BreaksModel r.NumberOutOfRange p = ⊥
+BreaksModel r.TooManyCells p = ⊥
+BreaksModel r.NoProcess p = ⊥
+BreaksModel r.TooManyAtStart p = ⊥
+BreaksModel r.Inline p = ⊥
 
 abbrev pub KeepsModel : Refusal → Program → Type 0
 KeepsModel r.DStep p = HaveGoodSteps p.proctypes
 KeepsModel r.CircleOfGotos p = SettleEverywhere p.proctypes
 KeepsModel r.Initialiser p = HasGoodStart p
-KeepsModel _ p = Unit {0}
+KeepsModel r.TextTooLong p = Unit {0}
+KeepsModel r.Lexical p = Unit {0}
+KeepsModel r.LeftOut p = Unit {0}
+KeepsModel r.TooDeep p = Unit {0}
+KeepsModel r.Syntax p = Unit {0}
+KeepsModel r.NameTwice p = Unit {0}
+KeepsModel r.UnknownName p = Unit {0}
+KeepsModel r.WrongKind p = Unit {0}
+KeepsModel r.ArgumentCount p = Unit {0}
+KeepsModel r.Label p = Unit {0}
+KeepsModel r.BreakOutsideDo p = Unit {0}
+KeepsModel r.NumberOutOfRange p = Unit {0}
+KeepsModel r.TooManyCells p = Unit {0}
+KeepsModel r.NoProcess p = Unit {0}
+KeepsModel r.TooManyAtStart p = Unit {0}
+KeepsModel r.Inline p = Unit {0}
 
 -- ---- a refusal applies to a tree, or the tree fits it
 

@@ -3,8 +3,9 @@ use Rattle.std.specs.Prelude.{ℕ, ◌+◌, Bool, true, false, not, ◌&&◌, if
 use Rattle.std.specs.List.{filter}
 use Rattle.std.specs.Ordering.{int_eq}
 use Rattle.diagnostics.specs.declared.fault.Fault.{Fault}
+use Rattle.pml_program.specs.declared.program.Action.{Action}
 use Rattle.pml_program.specs.declared.program.Action.TheVariants as a
-use Rattle.pml_program.specs.declared.program.Basic.{Basic, Plain, DStep}
+use Rattle.pml_program.specs.declared.program.Basic.{Basic, Plain, Goto, Break, If', Do', Block, Atomic, DStep, Unless}
 use Rattle.pml_program.specs.declared.program.Seq.{Seq}
 use Rattle.pml_control.specs.Control.{Control}
 use Rattle.pml_flow.specs.Flow.{Offer}
@@ -52,7 +53,15 @@ is_else x = false
 -- whether a statement can be taken inside a d_step
 abbrev pub can_inside : Bool → List LiveChannel → Reading → Option Basic → Bool
 can_inside lossy cs r (Some (Plain x)) = can lossy cs r true x
-can_inside lossy cs r x = true
+can_inside lossy cs r (Some (Goto l)) = true
+can_inside lossy cs r (Some Break) = true
+can_inside lossy cs r (Some (If' m row)) = true
+can_inside lossy cs r (Some (Do' m row)) = true
+can_inside lossy cs r (Some (Block s)) = true
+can_inside lossy cs r (Some (Atomic s)) = true
+can_inside lossy cs r (Some (DStep s)) = true
+can_inside lossy cs r (Some (Unless s e)) = true
+can_inside lossy cs r None = true
 
 abbrev pub is_choice : Bool → List LiveChannel → Reading → Offer → Bool
 is_choice lossy cs r o = not (is_else o.basic) && can_inside lossy cs r o.basic
@@ -75,7 +84,14 @@ first (x ∷ xs) = Some x
 abbrev pub can_alone : Bool → List LiveChannel → Reading → Seq → Offer → Option Basic → Bool
 can_alone lossy cs r b o (Some (Plain x)) = can lossy cs r false x
 can_alone lossy cs r b o (Some (DStep d)) = is_some (choices lossy cs r (levels_from b o.entry))
-can_alone lossy cs r b o x = true
+can_alone lossy cs r b o (Some (Goto l)) = true
+can_alone lossy cs r b o (Some Break) = true
+can_alone lossy cs r b o (Some (If' m row)) = true
+can_alone lossy cs r b o (Some (Do' m row)) = true
+can_alone lossy cs r b o (Some (Block s)) = true
+can_alone lossy cs r b o (Some (Atomic s)) = true
+can_alone lossy cs r b o (Some (Unless s e)) = true
+can_alone lossy cs r b o None = true
 
 -- ---- the rendezvous
 
@@ -94,9 +110,31 @@ message_on (Ok c) vs = message_of c vs
 message_on (Err f) vs = None
 
 -- what a statement offers to receivers, if nothing in it has a fault
+abbrev pub message_by : List LiveChannel → Reading → Action → Option Message
+message_by cs r (a.Send t order es) = message_on (named cs r t (length es)) (values es r)
+message_by cs r a.Else = None
+message_by cs r (a.Assign x e) = None
+message_by cs r (a.AssignRun x q) = None
+message_by cs r (a.Increment x) = None
+message_by cs r (a.Decrement x) = None
+message_by cs r (a.Run q) = None
+message_by cs r (a.Receive t search how ws) = None
+message_by cs r (a.Printf text es) = None
+message_by cs r (a.Printm e) = None
+message_by cs r (a.Assert e) = None
+message_by cs r (a.Holds e) = None
+
 abbrev pub message : List LiveChannel → Reading → Option Basic → Option Message
-message cs r (Some (Plain (a.Send t order es))) = message_on (named cs r t (length es)) (values es r)
-message cs r x = None
+message cs r (Some (Plain x)) = message_by cs r x
+message cs r (Some (Goto l)) = None
+message cs r (Some Break) = None
+message cs r (Some (If' m row)) = None
+message cs r (Some (Do' m row)) = None
+message cs r (Some (Block s)) = None
+message cs r (Some (Atomic s)) = None
+message cs r (Some (DStep s)) = None
+message cs r (Some (Unless s e)) = None
+message cs r None = None
 
 -- a pattern without value matches
 abbrev pub does_match : Result (List Sought) Fault → List ℤ → Bool
@@ -108,9 +146,31 @@ accepts_on (Ok c) ws m = int_eq c.number m.number && does_match ws m.fields
 accepts_on (Err f) ws m = false
 
 -- whether a statement receives this message
+abbrev pub accepts_by : List LiveChannel → Reading → Message → Action → Bool
+accepts_by cs r m (a.Receive t search how ws) = accepts_on (named cs r t (length ws)) (asked_by ws r) m
+accepts_by cs r m a.Else = false
+accepts_by cs r m (a.Assign x e) = false
+accepts_by cs r m (a.AssignRun x q) = false
+accepts_by cs r m (a.Increment x) = false
+accepts_by cs r m (a.Decrement x) = false
+accepts_by cs r m (a.Run q) = false
+accepts_by cs r m (a.Send t order es) = false
+accepts_by cs r m (a.Printf text es) = false
+accepts_by cs r m (a.Printm e) = false
+accepts_by cs r m (a.Assert e) = false
+accepts_by cs r m (a.Holds e) = false
+
 abbrev pub accepts : List LiveChannel → Reading → Message → Option Basic → Bool
-accepts cs r m (Some (Plain (a.Receive t search _ ws))) = accepts_on (named cs r t (length ws)) (asked_by ws r) m
-accepts cs r m x = false
+accepts cs r m (Some (Plain x)) = accepts_by cs r m x
+accepts cs r m (Some (Goto l)) = false
+accepts cs r m (Some Break) = false
+accepts cs r m (Some (If' m row)) = false
+accepts cs r m (Some (Do' m row)) = false
+accepts cs r m (Some (Block s)) = false
+accepts cs r m (Some (Atomic s)) = false
+accepts cs r m (Some (DStep s)) = false
+accepts cs r m (Some (Unless s e)) = false
+accepts cs r m None = false
 
 abbrev pub pick : ℕ → ℕ → ℕ → Pick
 pick p l i = record { process = p; level = l; place = i }
