@@ -243,9 +243,13 @@ breaking line = item_of [] b.Break (made k.Break (codes "break") line ∷ [])
 abbrev pub turning : ℕ → List Seq → Item
 turning line options = item_of [] (b.Do options) (made k.Do (codes "do") line ∷ [])
 
+-- `i <= b`
+abbrev pub at_most : ℕ → Reference → List Word → Bound → Item
+at_most line compared named y = comparing op.AtMost (made k.AtMost (codes "<=") line) compared named y
+
 -- `:: i <= b -> S; i++` and `:: else -> break`
 abbrev pub for_on : ℕ → Reference → Reference → List Word → Bound → List Item → Seq
-for_on line compared raised named y s = seq_of (comparing op.AtMost (made k.AtMost (codes "<=") line) compared named y ∷ s ++ raising line raised named ∷ [])
+for_on line compared raised named y s = seq_of (at_most line compared named y ∷ s ++ raising line raised named ∷ [])
 
 abbrev pub for_out : ℕ → Seq
 for_out line = seq_of (otherwise_item line ∷ breaking line ∷ [])

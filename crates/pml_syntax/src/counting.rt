@@ -203,37 +203,37 @@ fn block<'a>(alloc: Global, x: Item<'a>, y: Item<'a>) -> Result<Boxed<Basic<'a>>
     Ok(Boxed::new(alloc, Basic::Block(Seq { items }))?)
 }
 
-/// Items between two others.
-fn between<'a>(
+/// What is done in each turn of a `for`: its items, and then the variable is raised.
+fn raised_behind<'a>(
     alloc: Global,
-    first: Item<'a>,
-    items: Items<Item<'a>>,
-    last: Item<'a>,
-) -> Result<Seq<'a>, AllocError>
-    ensures { IfOk result (λ r. r ≡ grammar.seq_of (first.entry ∷ items.entry ++ last.entry ∷ [])) }
+    line: u32,
+    variable: Reference<'a>,
+    named: &[Token<'a>],
+    mut items: Items<Item<'a>>,
+) -> Result<Items<Item<'a>>, AllocError>
+    ensures { IfOk result (λ r. r ≡ items.entry ++ grammar.raising line variable.entry named.now ∷ []) }
 {
-    let mut all = alone(alloc, first)?;
-    all.append(items)?;
-    all.push(last)?;
-    Ok(Seq { items: all })
+    let raise = raising(alloc, line, variable, named)?;
+    items.push(raise)?;
+    Ok(items)
 }
 
-/// The option that goes on with a `for`.
+/// The option that goes on with a `for`: these items, behind the comparison.
 fn for_on<'a>(
     alloc: Global,
     line: u32,
-    compared: Reference<'a>,
-    raised: Reference<'a>,
+    variable: Reference<'a>,
     named: &[Token<'a>],
     last: Bound<'a>,
     items: Items<Item<'a>>,
 ) -> Result<Seq<'a>, AllocError>
-    ensures { IfOk result (λ r. r ≡ grammar.for_on line compared.entry raised.entry named.now last.entry items.entry) }
+    ensures { IfOk result (λ r. r ≡ grammar.seq_of (grammar.at_most line variable.entry named.now last.entry ∷ items.entry)) }
 {
     let word = Token::new(Kind::AtMost, b"<=", line);
-    let test = comparing(alloc, Infix::AtMost, word, compared, named, last)?;
-    let raise = raising(alloc, line, raised, named)?;
-    between(alloc, test, items, raise)
+    let test = comparing(alloc, Infix::AtMost, word, variable, named, last)?;
+    let mut all = alone(alloc, test)?;
+    all.append(items)?;
+    Ok(Seq { items: all })
 }
 
 /// The option that ends a `for`.
@@ -287,6 +287,19 @@ fn counted<'a>(
     block(alloc, set, turns)
 }
 
+/// The option that goes on with a `for`, beside the one that ends it.
+fn for_counted<'a>(
+    alloc: Global,
+    line: u32,
+    set: Item<'a>,
+    on: Seq<'a>,
+) -> Result<Boxed<Basic<'a>>, AllocError>
+    ensures { IfOk result (λ r. r ≡ b.Block (grammar.seq_of (set.entry ∷ grammar.turning line (on.entry ∷ grammar.for_out line ∷ []) ∷ []))) }
+{
+    let out = for_out(alloc, line)?;
+    counted(alloc, line, set, on, out)
+}
+
 /// What a `for` over these items stands for.
 pub fn for_of<'a>(
     alloc: Global,
@@ -309,9 +322,9 @@ pub fn for_of<'a>(
     } = counter;
     let named = tokens.as_slice();
     let set = setting(alloc, line, set, named, first)?;
-    let on = for_on(alloc, line, compared, raised, named, last, items)?;
-    let out = for_out(alloc, line)?;
-    counted(alloc, line, set, on, out)
+    let items = raised_behind(alloc, line, raised, named, items)?;
+    let on = for_on(alloc, line, compared, named, last, items)?;
+    for_counted(alloc, line, set, on)
 }
 
 /// What a `select` stands for.
