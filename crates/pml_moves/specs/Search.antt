@@ -164,8 +164,8 @@ abbrev pub accepts : List LiveChannel → Reading → Message → Option Basic �
 accepts cs r m (Some (Plain x)) = accepts_by cs r m x
 accepts cs r m (Some (Goto l)) = false
 accepts cs r m (Some Break) = false
-accepts cs r m (Some (If' m row)) = false
-accepts cs r m (Some (Do' m row)) = false
+accepts cs r m (Some (If' n row)) = false
+accepts cs r m (Some (Do' n row)) = false
 accepts cs r m (Some (Block s)) = false
 accepts cs r m (Some (Atomic s)) = false
 accepts cs r m (Some (DStep s)) = false

@@ -9,7 +9,7 @@ use spinplay::{
     Arguments, ByteReader, Cause, Conversion, Either, End, Failures, Nowhere, PieceWriter,
     ThreeDevices, arguments, convert, play,
 };
-use std::alloc::AllocError;
+use std::alloc::{AllocError, Global};
 use std::fs::{File, Metadata, OpenFile};
 use std::io::{BufReader, Read};
 use std::marker::Brand;
@@ -20,6 +20,9 @@ use std::{env, fs, io};
 
 // At most so many bytes of a model are read: one more than a model may have.
 const MOST_READ: u64 = MOST_TEXT_BYTES as u64 + 1;
+
+// The options of Spin that have no meaning here.
+const OPTIONS_OF_SPIN: [char; 8] = ['c', 'j', 'k', 'n', 'r', 's', 't', 'v'];
 
 // Why there is no run.
 #[derive(Drop)]
@@ -336,13 +339,39 @@ fn tell_stop(rt: &HostRuntime, stop: NoRun) -> u8 {
     }
 }
 
+// What is shown of an unexpected word: an option of Spin that has no meaning here is to be left out, not to be handed on as a value.
+fn without_options_of_spin(alloc: Global, error: &clap::Error) -> Result<String, AllocError> {
+    let text = format!(in alloc; "{error}")?;
+    for letter in OPTIONS_OF_SPIN {
+        let tip = format!(in alloc; "to pass '-{letter}' as a value, use '-- -{letter}'")?;
+        if text.contains(tip.as_str()) {
+            let own = format!(in alloc;
+                "leave '-{letter}' out: it is an option of Spin, and spinplay has none like it"
+            )?;
+            return text.replace(alloc, tip.as_str(), own.as_str());
+        }
+    }
+    Ok(text)
+}
+
+// Shows a mistake in the words, or help.
+fn shown_words(rt: &HostRuntime, error: &clap::Error) -> io::Result<()> {
+    if error.kind() != ErrorKind::UnknownArgument {
+        return error.print(rt);
+    }
+    match without_options_of_spin(rt.alloc(), error) {
+        Ok(text) => eprint!(rt; "{text}"),
+        Err(_) => error.print(rt),
+    }
+}
+
 // Help goes to standard output, and a mistake in the words to standard error.
 fn tell_words(rt: &HostRuntime, error: &clap::Error) -> u8 {
     if error.kind() == ErrorKind::OutOfMemory {
         let _ = eprintln!(rt; "spinplay: out of memory");
         return 6;
     }
-    let shown = error.print(rt).is_ok();
+    let shown = shown_words(rt, error).is_ok();
     if error.use_stderr() {
         4
     } else if shown {
