@@ -5,4 +5,5 @@ pub mod Stepping
 pub mod Weight
 pub mod Settling
 pub mod Crowding
+pub mod Lasting
 mod Samples
