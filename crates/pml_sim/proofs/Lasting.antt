@@ -99,7 +99,7 @@ module _ (most : ℕ) where
 
   -- ---- lists
 
-  get_light : {A : Type 0} (P : A → Type 0) (xs : List A) (i : ℕ) → AllByRecursion P xs → IfSome (slice_get xs i) P
+  pub get_light : {A : Type 0} (P : A → Type 0) (xs : List A) (i : ℕ) → AllByRecursion P xs → IfSome (slice_get xs i) P
   get_light P [] i h = tt
   get_light P (x ∷ xs) zero h = h.0
   get_light P (x ∷ xs) (suc i) h = get_light P xs i h.1
@@ -153,8 +153,11 @@ module _ (most : ℕ) where
   of_proctype None h = tt
   of_proctype (Some q) h = omega (arith, h)
 
-  pub kind_light : (s : State) → Light s → (k : ℕ) → IfSome (body_of s.program k) IsLightBody
-  kind_light s h k = of_proctype (slice_get s.program.proctypes k) (proctype_light s h k)
+  pub body_weighs : (p : Program) (k : ℕ) → AllByRecursion (IsLightProctype most) p.proctypes → IfSome (body_of p k) IsLightBody
+  body_weighs p k h = of_proctype (slice_get p.proctypes k) (get_light (IsLightProctype most) p.proctypes k h)
+
+  kind_light : (s : State) → Light s → (k : ℕ) → IfSome (body_of s.program k) IsLightBody
+  kind_light s h k = body_weighs s.program k h.bodies
 
   stand_body : (s : State) → Light s → (o : Option Stand) → IfSome (body_by s o) IsLightBody
   stand_body s h None = tt

@@ -6,4 +6,6 @@ pub mod Weight
 pub mod Settling
 pub mod Crowding
 pub mod Lasting
+pub mod Fitting
+pub mod Short
 mod Samples
