@@ -6,19 +6,21 @@ use Rattle.session.specs.declared.End.{End}
 use Rattle.session.specs.declared.Cause.TheVariants as cause
 use Rattle.session.specs.declared.Broken.TheVariants as broken
 use Rattle.session.specs.declared.form.Stream.TheVariants.{Unread}
-use Rattle.session.specs.Convert.{converted, IsConvertedBy, CanBeConverted}
+use Rattle.session.specs.Convert.{converted, IsConvertedBy}
 use Rattle.session.specs.Part.{Part}
 use Rattle.session.specs.Session.{only, end_of, refused, transcript}
 use Rattle.session.specs.Writes.{Ends, IsBrokenOff}
 use Rattle.session.proofs.Moving.{Moved-nil}
 use Rattle.session.proofs.Parts.{memory_breaks, only_does}
-use Rattle.session.proofs.Placing.{can_be_converted, refused_can_be_converted}
+use Rattle.session.proofs.Placing.{refused_can_be_converted}
 use Rattle.pml_sim.specs.World.{Running, rules}
 use Rattle.pml_play.specs.declared.whole.Rejection.{Rejection}
 use Rattle.pml_play.specs.declared.whole.Rejection.TheVariants.{Memory, Refused}
 use Rattle.pml_play.specs.Transcript.{IsModel, IsTranscript, of_refusal, of_model}
 use Rattle.pml_play.specs.Plays.{IsRejected}
-use Rattle.pml_play.specs.Converts.{IsConversion, no_model, of_its_model, Converts, cause_rejected}
+use Rattle.pml_sim.proofs.Short.{light_stands}
+use Rattle.pml_play.specs.Converts.{IsConversion, no_model, of_its_model, Converts, IsAlwaysConverted, cause_rejected}
+use Rattle.pml_play.proofs.Light.{text_light}
 use Rattle.pml_play.proofs.Each.{has_transcript}
 
 -- each text has a conversion
@@ -29,9 +31,9 @@ conversion_of text options run (of_model {state} h) = (converted (transcript rul
 has_conversion : (text : List ℕ) (options : Options) → (part : List ℕ → Part End) × IsConversion text options part
 has_conversion text options = let t = has_transcript text options in conversion_of text options t.0 t.1
 
-pub law : (text : List ℕ) (options : Options) (run : List ℕ → Part End) → IsTranscript text options run → CanBeConverted run
-law text options run (of_refusal {refusal} {line} h) choices fit = refused_can_be_converted refusal line choices
-law text options run (of_model {state} h) choices fit = can_be_converted rules options state choices fit
+pub law : (text : List ℕ) (options : Options) (run : List ℕ → Part End) → IsTranscript text options run → IsAlwaysConverted run
+law text options run (of_refusal {refusal} {line} h) choices = refused_can_be_converted refusal line choices
+law text options run (of_model {state} h) choices = light_stands state options (text_light text options.lossy state h) choices
 
 -- nothing is done over a rejected text
 pub rejected_converts : (text : List ℕ) (options : Options) (rejection : Rejection) (a : Holdings) → IsRejected text rejection → Converts text options a a (end_of (cause_rejected rejection) 0)

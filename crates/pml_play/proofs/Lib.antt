@@ -1,5 +1,9 @@
 pub mod Outcomes
 pub mod Playing
 pub mod Each
+pub mod Measured
+pub mod Spelled
+pub mod Tokens
+pub mod Light
 pub mod Changing
 pub mod Plain

@@ -7,7 +7,7 @@ use Rattle.session.specs.declared.End.{End}
 use Rattle.session.specs.declared.Cause.{Cause}
 use Rattle.session.specs.declared.Cause.TheVariants as cause
 use Rattle.session.specs.declared.form.Stream.TheVariants.{Unread}
-use Rattle.session.specs.Convert.{converted, IsConvertedBy}
+use Rattle.session.specs.Convert.{converted, IsConvertedBy, StandsForRecord}
 use Rattle.session.specs.Part.{Part}
 use Rattle.session.specs.Session.{only, end_of, transcript}
 use Rattle.session.specs.Writes.{Ends, IsBrokenOff}
@@ -42,6 +42,10 @@ pub record Converts (text : List ℕ) (options : Options) (before after : Holdin
   pub quiet : end.status ≢ 6 → after.failures ≡ before.failures
   pub broken : end.status ≡ 6 → ConvertsBroken text options before after end
   pub is_end : end ≡ end_of end.cause end.steps
+
+-- whatever the choices are, what they are converted to stands for the record
+abbrev pub IsAlwaysConverted : (List ℕ → Part End) → Type 0
+IsAlwaysConverted transcript = (choices : List ℕ) → StandsForRecord transcript choices
 
 -- why the conversion over a rejected text ends
 abbrev pub cause_rejected : Rejection → Cause

@@ -3,10 +3,9 @@
 ghost use Rattle.std.specs.Prelude.{◌≡◌, ◌≢◌, ℕ, List, None};
 ghost use Rattle.devices.specs.Holdings.{holding};
 ghost use Rattle.session.specs.declared.End.{End};
-ghost use Rattle.session.specs.Convert.{CanBeConverted};
 ghost use Rattle.session.specs.Part.{Part};
 ghost use Rattle.session.specs.Session.{end_of};
-ghost use Rattle.pml_play.specs.Converts.{Converts, cause_rejected};
+ghost use Rattle.pml_play.specs.Converts.{Converts, IsAlwaysConverted, cause_rejected};
 ghost use Rattle.pml_play.specs.Plays.{IsReady};
 ghost use Rattle.pml_play.specs.Transcript.{IsModel, IsTranscript};
 
@@ -66,7 +65,7 @@ pub fn convert<S: Source, O: Sink>(
 ) -> End
     ensures left { (left : List ℕ) × S.may_give devices.new.source left }
     ensures part { Converts text.now options.now (holding (S.may_give devices.old.source) (O.taken devices.old.out) None (S.failures devices.old.source) (O.failures devices.old.out) 0) (holding (S.may_give devices.new.source) (O.taken devices.new.out) None (S.failures devices.new.source) (O.failures devices.new.out) 0) result }
-    ensures law { (run : List ℕ → Part End) → IsTranscript text.now options.now run → CanBeConverted run }
+    ensures law { (run : List ℕ → Part End) → IsTranscript text.now options.now run → IsAlwaysConverted run }
 {
     let tokens = match expanded_of(alloc, text) {
         Ok(tokens) => tokens,

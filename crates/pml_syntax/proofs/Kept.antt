@@ -40,11 +40,11 @@ action_leads (grammar.holds x) = expr_leads x
 scalar_leads : (s : _) (from to : List Word) → SpellsScalar s from to → Leads from to
 scalar_leads s from to (grammar.scalar_type _) = past here
 
-visibility_leads : {from to : List Word} → SpellsVisibility from to → Leads from to
+pub visibility_leads : {from to : List Word} → SpellsVisibility from to → Leads from to
 visibility_leads grammar.no_visibility = here
 visibility_leads (grammar.visibility _) = past here
 
-opener_leads : {f : _} {from to : List Word} → SpellsOpener f from to → Leads from to
+pub opener_leads : {f : _} {from to : List Word} → SpellsOpener f from to → Leads from to
 opener_leads (grammar.of_scalar _) = past here
 opener_leads (grammar.of_unsigned _) = past here
 opener_leads (grammar.of_typedef _) = past here
@@ -60,22 +60,22 @@ variable_leads (grammar.structured _ size) = past (index_leads size)
 variable_leads (grammar.packed _ _ _) = past (past (past here))
 variable_leads (grammar.packed_value _ _ _ _ x) = past (past (past (past (expr_leads x))))
 
-variables_lead : {closed : Bool} {f : _} {vs : _} {from to : List Word} → SpellsVariables closed f vs from to → Leads from to
+pub variables_lead : {closed : Bool} {f : _} {vs : _} {from to : List Word} → SpellsVariables closed f vs from to → Leads from to
 variables_lead (grammar.last_variable v) = variable_leads v
 variables_lead (grammar.more_variables v _ vs) = step (variable_leads v) then variables_lead vs
 
-declaration_leads : {closed : Bool} {vs : _} {from to : List Word} → SpellsDeclaration closed vs from to → Leads from to
+pub declaration_leads : {closed : Bool} {vs : _} {from to : List Word} → SpellsDeclaration closed vs from to → Leads from to
 declaration_leads (grammar.declaration v f vs) = visibility_leads v then opener_leads f then variables_lead vs
 
-separators_lead : {from to : List Word} → SpellsSeparators from to → Leads from to
+pub separators_lead : {from to : List Word} → SpellsSeparators from to → Leads from to
 separators_lead grammar.no_separator = here
 separators_lead (grammar.one_separator _ s) = past (separators_lead s)
 
-gap_leads : {closed : Bool} {from to : List Word} → SpellsGap closed from to → Leads from to
+pub gap_leads : {closed : Bool} {from to : List Word} → SpellsGap closed from to → Leads from to
 gap_leads (grammar.separated _ s) = past (separators_lead s)
 gap_leads grammar.joined = here
 
-labels_lead : {ls from to : List Word} → SpellsLabels ls from to → Leads from to
+pub labels_lead : {ls from to : List Word} → SpellsLabels ls from to → Leads from to
 labels_lead grammar.no_label = here
 labels_lead (grammar.one_label _ _ ls) = past (past (labels_lead ls))
 
@@ -92,20 +92,20 @@ mutual
   basic_leads (grammar.break _) = past here
   basic_leads (grammar.action x) = action_leads x
 
-  statement_leads : {closed : Bool} {x : Item} {from to : List Word} → SpellsStatement closed x from to → Leads from to
+  pub statement_leads : {closed : Bool} {x : Item} {from to : List Word} → SpellsStatement closed x from to → Leads from to
   statement_leads (grammar.statement ls x) = labels_lead ls then basic_leads x
 
-  item_leads : {s closed : Bool} {x : Item} {from to : List Word} → SpellsItem s closed x from to → Leads from to
+  pub item_leads : {s closed : Bool} {x : Item} {from to : List Word} → SpellsItem s closed x from to → Leads from to
   item_leads (grammar.declared d) = declaration_leads d
   item_leads (grammar.exclusive _ rs) = past (list_leads (λ r from to s. reference_leads s) rs)
   item_leads (grammar.only x) = statement_leads x
   item_leads (grammar.unless x _ y) = step (statement_leads x) then statement_leads y
 
-  items_lead : {s : Bool} {xs : List Item} {from to : List Word} → SpellsItems s xs from to → Leads from to
+  pub items_lead : {s : Bool} {xs : List Item} {from to : List Word} → SpellsItems s xs from to → Leads from to
   items_lead (grammar.last_item x s) = item_leads x then separators_lead s
   items_lead (grammar.more_items x g xs) = item_leads x then gap_leads g then items_lead xs
 
-  options_lead : {os : _} {from to : List Word} → SpellsOptions os from to → Leads from to
+  pub options_lead : {os : _} {from to : List Word} → SpellsOptions os from to → Leads from to
   options_lead (grammar.last_option _ xs) = past (items_lead xs)
   options_lead (grammar.more_options _ xs os) = past (items_lead xs then options_lead os)
 

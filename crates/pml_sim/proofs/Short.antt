@@ -1,0 +1,134 @@
+-- The lines of a model's choices with their places are short.
+use Rattle.std.proofs.Common.{◌≡◌, ℕ, zero, suc, ◌+◌, ◌-◌, ◌*◌, ◌<◌, ◌≤◌, Bool, List, [], ◌∷◌, ◌++◌, length, map, take, Option, Some, None, Result, Ok, Err, IfOk, refl, sym, ap, arith, length-append, subst, ◌∙◌, codes}
+use Rattle.std.specs.Prelude.{slice_get, slice_index_or, IfSome}
+use Rattle.std.specs.List.{AllByRecursion, Contains}
+use Rattle.std.proofs.lemmas.List.{length-take, length-map}
+use Rattle.diagnostics.specs.declared.fault.Fault.{Fault}
+use Rattle.session.specs.declared.Options.{Options}
+use Rattle.session.specs.Convert.{StandsForRecord}
+use Rattle.session.specs.Limits.{most_line_bytes}
+use Rattle.session.specs.Machine.{Outcome, Goes, Faults}
+use Rattle.session.specs.Session.{place_of, transcript}
+use Rattle.session.specs.Texts.{all_digits, placed_line}
+use Rattle.session.proofs.Placing.{can_be_converted}
+use Rattle.session.proofs.Replay.{picked_is_there}
+use Rattle.session.proofs.Written.{few_digits}
+use Rattle.pml_program.specs.declared.program.Seq.{Seq}
+use Rattle.pml_program.specs.declared.program.Proctype.{Proctype}
+use Rattle.pml_program.specs.declared.program.Program.{Program}
+use Rattle.pml_flow.specs.Flow.{Offer}
+use Rattle.pml_store.specs.Store.{Frame}
+use Rattle.pml_start.specs.Begin.{Begun}
+use Rattle.pml_start.specs.Start.{first_state, starting}
+use Rattle.pml_start.proofs.Living.{living_are}
+use Rattle.pml_moves.specs.declared.moves.Move.{Move}
+use Rattle.pml_moves.specs.declared.moves.Move.TheVariants.{Death, Alone, Pair}
+use Rattle.pml_moves.specs.State.{Stand, State, body_of}
+use Rattle.pml_moves.specs.Picked.{picked}
+use Rattle.pml_moves.specs.Search as search
+use Rattle.pml_steps.specs.declared.within.TheConstants.{MOST_DSTEP_STATEMENTS}
+use Rattle.pml_steps.specs.Held.{begins_by, begins_at}
+use Rattle.pml_steps.specs.Outcome.{Done}
+use Rattle.pml_steps.specs.Outcome as outcome
+use Rattle.pml_texts.specs.Texts.{kind_of, proctype_of, line_in, brace_of, origin_of, IsWithin}
+use Rattle.pml_sim.specs.declared.halt.Halt.{Halt}
+use Rattle.pml_sim.specs.World.{Running, first, unless_stopped, moves, led_to, step, rules}
+use Rattle.pml_sim.proofs.Weight.{weight_part, IsLight}
+use Rattle.pml_sim.proofs.Crowding.{IsLightProctype, IsLightStand, IsLightState, moves_few}
+use Rattle.pml_sim.proofs.Lasting.{IsLightOffer, first_light, get_light, picked_light, step_light, body_weighs}
+use Rattle.pml_sim.proofs.Stepping.{listed_within}
+use Rattle.pml_sim.proofs.Fitting.{session_fits}
+
+-- the most that a body weighs, with the line of its closing brace
+abbrev pub most : ℕ
+most = 1000000000000000000
+
+abbrev IsLightHere : Running → Type 0
+IsLightHere w = IsLightState most w.state
+
+-- ---- the first state and those behind it
+
+led_light : (frames : List Frame) (r : Result Done Fault) (t : Running) (printed : List ℕ) → IfOk r (λ d. IsLightState most d.state) → led_to frames r ≡ Goes t printed → IsLightHere t
+led_light frames (Ok d) t printed h e =
+    let same : record { state = d.state; past = take (length d.state.frames) frames; halt = None } ≡ t = goes_is _ t d.printed printed e in
+    subst IsLightHere same h
+  where
+    goes_is : (x y : Running) (p q : List ℕ) → Goes x p ≡ Goes y q → x ≡ y
+    goes_is x y p q f = cc
+led_light frames (Err f) t printed h e = cc
+
+goes_light : (s t : Running) (m : Move) (printed : List ℕ) → IsLightHere s → step s m ≡ Goes t printed → IsLightHere t
+goes_light s t m printed h e = led_light s.state.frames (outcome.step MOST_DSTEP_STATEMENTS s.state m) t printed (step_light most MOST_DSTEP_STATEMENTS s.state m h) e
+
+begins_light : (k : ℕ) (o : Option Seq) → IfSome o (λ b. weight_part b ≤ most) → IsLightStand most (begins_by k o)
+begins_light k None h = tt
+begins_light k (Some b) h = first_light most b h
+
+-- ---- places
+
+stood_line : (pr : Program) (o : Option Stand) → AllByRecursion (IsLightProctype most) pr.proctypes → brace_of (kind_of pr o) ≤ most
+stood_line pr None h = omega arith
+stood_line pr (Some y) h = by (slice_get pr.proctypes y.kind) (get_light most (IsLightProctype most) pr.proctypes y.kind h)
+  where
+    by : (q : Option Proctype) → IfSome q (IsLightProctype most) → brace_of q ≤ most
+    by None w = omega arith
+    by (Some q) w = omega (arith, w)
+
+offered_line : (o : Option Offer) → IfSome o (IsLightOffer most) → line_in o ≤ most
+offered_line None h = omega arith
+offered_line (Some o) h = h.line
+
+line_light : (s : State) (m : Move) → IsLightState most s → (origin_of s m).1 ≤ most
+line_light s (Death p) h = stood_line s.program (slice_get s.stands p) h.bodies
+line_light s (Alone k t) h = offered_line (picked s k) (picked_light most s k h)
+line_light s (Pair k j t) h = offered_line (picked s k) (picked_light most s k h)
+
+process_lives : (s : State) (m : Move) → IsWithin (length s.stands) m → (origin_of s m).0 < length s.stands
+process_lives s (Death p) h = h
+process_lives s (Alone k t) h = h
+process_lives s (Pair k j t) h = h.0
+
+-- ---- lines
+
+short_line : (n p l : ℕ) → n ≤ 255 * (most * (255 * most + 1) + most + 1) → p < 255 → l ≤ most → length (placed_line n (p, l)) ≤ most_line_bytes + 1
+short_line n p l few_n few_p few_l =
+    let a = few_digits 42 n (omega (arith, few_n)) in
+    let b = few_digits 2 p (omega (arith, few_p)) in
+    let c = few_digits 18 l (omega (arith, few_l)) in
+    let x = length-append (all_digits n) (codes " " ++ (all_digits p ++ (codes " " ++ (all_digits l ++ codes "\n")))) in
+    let y = length-append (all_digits p) (codes " " ++ (all_digits l ++ codes "\n")) in
+    let z = length-append (all_digits l) (codes "\n") in
+    omega (arith, a, b, c, x, y, z)
+
+listed_few : (s : State) (h : Option Halt) → IsLightState most s → length (unless_stopped h (search.moves s)) ≤ 255 * (most * (255 * most + 1) + most + 1)
+listed_few s None l = moves_few most s l
+listed_few s (Some h) l = omega arith
+
+short : (w : Running) (m : Move) (ms : List Move) → IsLightHere w → moves w ≡ ms → (n : ℕ) → 0 < n → n ≤ length ms → length (placed_line n (place_of rules w m ms n)) ≤ most_line_bytes + 1
+short w m ms h e n some within =
+    let k = slice_index_or ms (n - 1) m in
+    let there : Contains (moves w) k = subst (λ (l : List Move). Contains l k) (sym e) (picked_is_there ms n m some within) in
+    let few : length ms ≤ 255 * (most * (255 * most + 1) + most + 1) = subst (λ (l : List Move). length l ≤ 255 * (most * (255 * most + 1) + most + 1)) e (listed_few w.state w.halt h) in
+    let lives = process_lives w.state k (listed_within w k there) in
+    let all = h.few in
+    short_line n (origin_of w.state k).0 (origin_of w.state k).1 (omega (arith, few, within)) (omega (arith, lives, all)) (line_light w.state k h)
+
+-- a session of a model whose bodies weigh no more leads, on its converted choices, where its record leads
+pub light_stands : (w : Running) (options : Options) → IsLightState most w.state → (choices : List ℕ) → StandsForRecord (transcript rules options w) choices
+light_stands w options h choices = can_be_converted rules options w choices (session_fits rules options IsLightHere goes_light short w h choices)
+
+-- ---- the first state
+
+begun_few : (p : Program) (b : Begun) → first_state p ≡ Ok b → length b.kinds ≤ 255
+begun_few p b e = let are = subst (λ (r : Result Begun Fault). IfOk r (λ n. n.kinds ≡ take 255 (starting 0 p.proctypes))) e (living_are p) in let l = ap length are ∙ length-take 255 (starting 0 p.proctypes) in omega (arith, l)
+
+begun_stands : (p : Program) → AllByRecursion (IsLightProctype most) p.proctypes → (ks : List ℕ) → AllByRecursion (IsLightStand most) (map (begins_at p) ks)
+begun_stands p h [] = tt
+begun_stands p h (k ∷ ks) = (begins_light k (body_of p k) (body_weighs most p k h), begun_stands p h ks)
+
+pub first_is_light : (p : Program) (b : Begun) (lossy : Bool) → AllByRecursion (IsLightProctype most) p.proctypes → first_state p ≡ Ok b → IsLightState most (first p b lossy).state
+first_is_light p b lossy h e = record {
+  few = let f = begun_few p b e in let l = length-map b.kinds (begins_at p) in omega (arith, f, l);
+  bodies = h;
+  stands = begun_stands p h b.kinds;
+}
