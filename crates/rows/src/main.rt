@@ -49,10 +49,10 @@ impl Tally {
     }
 }
 
-// A block of a file.
+// A block, and the name of its file.
 #[derive(Clone, Copy)]
-struct Place<'t> {
-    file: &'t str,
+struct Place<'f, 't> {
+    file: &'f str,
     block: Block<'t>,
 }
 
@@ -74,7 +74,7 @@ fn told_or_refused(
 }
 
 // Plays a row, shows what is told of it, and answers whether nothing is.
-fn passes(rt: &HostRuntime, place: Place<'_>, this: &str, that: &str) -> Result<bool, Refused> {
+fn passes(rt: &HostRuntime, place: Place<'_, '_>, this: &str, that: &str) -> Result<bool, Refused> {
     let told = told_or_refused(rt.alloc(), place.block, this, that)?;
     if told.is_empty() {
         return Ok(true);
@@ -86,7 +86,7 @@ fn passes(rt: &HostRuntime, place: Place<'_>, this: &str, that: &str) -> Result<
 }
 
 // Plays a row for each line of a part.
-fn each_played(rt: &HostRuntime, place: Place<'_>, lines: &str) -> Result<Tally, Refused> {
+fn each_played(rt: &HostRuntime, place: Place<'_, '_>, lines: &str) -> Result<Tally, Refused> {
     let mut tally = NO_ROWS;
     for line in lines.lines() {
         let (this, that) = line
@@ -97,7 +97,7 @@ fn each_played(rt: &HostRuntime, place: Place<'_>, lines: &str) -> Result<Tally,
     Ok(tally)
 }
 
-fn block_played(rt: &HostRuntime, place: Place<'_>) -> Result<Tally, Refused> {
+fn block_played(rt: &HostRuntime, place: Place<'_, '_>) -> Result<Tally, Refused> {
     if place.block.has("each") {
         let lines = place.block.lines(rt.alloc(), "each")?;
         return each_played(rt, place, &lines);

@@ -1,6 +1,6 @@
 //! Plays a row, and compares what stands behind it with what it says.
 use crate::failing::tell_each;
-use crate::player::{Behind, Device, played};
+use crate::player::{Behind, played};
 use crate::replay::tell_again;
 use crate::row::{Row, WORDS, row_of};
 use crate::texts::bytes;
@@ -46,22 +46,17 @@ fn line_of(end: &End) -> u32 {
 
 /// Tells where a session ends for another cause than its row says: in its output, or by the device that fails.
 fn tell_end(alloc: Global, told: &mut Told, row: &Row, end: &End) -> Result<(), Refused> {
-    if let (Some(device), Some(_)) = (row.device, row.call) {
-        return tell_cause(told, device, end);
-    }
     let said = said(alloc, end)?;
+    if let (Some(device), Some(_)) = (row.device, row.call) {
+        if end.cause == device.cause() {
+            return Ok(());
+        }
+        return told.bytes("end", b"the device fails", said.as_bytes());
+    }
     if row.output.contains(said.as_str()) {
         return Ok(());
     }
     told.bytes("end", row.output.as_bytes(), said.as_bytes())
-}
-
-/// Tells where it is not this device by which a session ended.
-fn tell_cause(told: &mut Told, device: Device, end: &End) -> Result<(), Refused> {
-    if end.cause == device.cause() {
-        return Ok(());
-    }
-    told.add("another end than by the device that fails\n")
 }
 
 /// Tells what a session has otherwise than its row.
