@@ -10,8 +10,7 @@ mod texts;
 
 use crate::row::WORDS;
 use crate::runner::told_of;
-use row_files::{Block, Refused, Told, blocks, names, text_of};
-use std::alloc::Global;
+use row_files::{Block, Refused, blocks, names, text_of};
 use std::process::ExitCode;
 
 // How many rows pass, and how many do not.
@@ -56,26 +55,9 @@ struct Place<'f, 't> {
     block: Block<'t>,
 }
 
-// What is told of a row. One that cannot be read is told of too.
-fn told_or_refused(
-    alloc: Global,
-    block: Block<'_>,
-    this: &str,
-    that: &str,
-) -> Result<Told, Refused> {
-    match told_of(alloc, block, this, that) {
-        Ok(told) => Ok(told),
-        Err(refused) => {
-            let mut told = Told::new(alloc);
-            told.add(refused.why)?;
-            Ok(told)
-        }
-    }
-}
-
 // Plays a row, shows what is told of it, and answers whether nothing is.
 fn passes(rt: &HostRuntime, place: Place<'_, '_>, this: &str, that: &str) -> Result<bool, Refused> {
-    let told = told_or_refused(rt.alloc(), place.block, this, that)?;
+    let told = told_of(rt.alloc(), place.block, this, that)?;
     if told.is_empty() {
         return Ok(true);
     }
@@ -141,6 +123,10 @@ fn all_played(rt: &HostRuntime) -> Result<Tally, Refused> {
 fn main(rt: HostRuntime) -> ExitCode {
     match all_played(&rt) {
         Ok(Tally { passed, failed: 0 }) if passed > 0 => ExitCode::from(0),
-        _ => ExitCode::from(1),
+        Ok(_) => ExitCode::from(1),
+        Err(refused) => {
+            let _ = eprintln!(rt; "rows: {}", refused.why);
+            ExitCode::from(1)
+        }
     }
 }

@@ -93,17 +93,6 @@ fn told_of_row(alloc: Global, row: &Row) -> Result<Told, Refused> {
     Ok(told)
 }
 
-/// What is told of a row that has to differ in this: nothing, where that is the first thing that does.
-fn told_of_differing(alloc: Global, told: Told, what: &str) -> Result<Told, Refused> {
-    let mut wrong = Told::new(alloc);
-    let words = format!(in alloc; "another {what}, wanted:\n")?;
-    if !told.words().starts_with(words.as_str()) {
-        wrong.add("it does not differ as it should\n")?;
-        wrong.add(told.words())?;
-    }
-    Ok(wrong)
-}
-
 /// What is told of a text of rows that has to be refused with these words.
 fn told_of_file(alloc: Global, block: Block<'_>, wanted: &str) -> Result<Told, Refused> {
     let mut told = Told::new(alloc);
@@ -121,15 +110,39 @@ fn told_of_file(alloc: Global, block: Block<'_>, wanted: &str) -> Result<Told, R
     Ok(told)
 }
 
-/// What is otherwise than a block says, in which `@this` and `@that` stand for these.
-pub fn told_of(alloc: Global, block: Block<'_>, this: &str, that: &str) -> Result<Told, Refused> {
+fn told_of_block(alloc: Global, block: Block<'_>, this: &str, that: &str) -> Result<Told, Refused> {
     if let Some(wanted) = block.behind("refused") {
         return told_of_file(alloc, block, wanted);
     }
     let row = row_of(alloc, block, this, that)?;
-    let told = told_of_row(alloc, &row)?;
+    told_of_row(alloc, &row)
+}
+
+/// Only these words are told.
+fn telling(alloc: Global, words: &str) -> Result<Told, Refused> {
+    let mut told = Told::new(alloc);
+    told.add(words)?;
+    Ok(told)
+}
+
+/// What is told of a block that has to differ: nothing, where what is told of it begins with these words.
+fn told_of_differing(alloc: Global, told: Told, words: &str) -> Result<Told, Refused> {
+    if told.words().starts_with(words) {
+        return Ok(Told::new(alloc));
+    }
+    let mut wrong = telling(alloc, "it does not differ as it should\n")?;
+    wrong.add(told.words())?;
+    Ok(wrong)
+}
+
+/// What is otherwise than a block says, in which `@this` and `@that` stand for these. One that is no row is told of too.
+pub fn told_of(alloc: Global, block: Block<'_>, this: &str, that: &str) -> Result<Told, Refused> {
+    let told = match told_of_block(alloc, block, this, that) {
+        Ok(told) => told,
+        Err(refused) => telling(alloc, refused.why)?,
+    };
     match block.behind("differs") {
-        Some(what) => told_of_differing(alloc, told, what),
+        Some(words) => told_of_differing(alloc, told, words),
         None => Ok(told),
     }
 }
