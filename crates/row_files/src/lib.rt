@@ -1,0 +1,12 @@
+//! Files of rows: texts that are read into blocks, each with a name and parts.
+#![tactic(auto)]
+
+mod block;
+mod file;
+mod refused;
+mod told;
+
+pub use block::{Block, blocks};
+pub use file::{MOST_READ, names, text_of};
+pub use refused::Refused;
+pub use told::Told;
