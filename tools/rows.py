@@ -1,13 +1,23 @@
-"""The rows of crates/rows, read from its sources: each a model with flags and choices, and what stands behind its session."""
-import collections, glob, os, re
+"""The rows of crates/rows, read from its files: each a model with flags and choices, and what stands behind its session. docs/ROWS.md
+has their form. 'python3 tools/rows.py' prints how many rows each file has, as crates/rows/stdout has to say."""
+import collections, os, re, sys
 
 Row = collections.namedtuple("Row", "name flags model choices read output status record")
 TOP = os.path.dirname(os.path.dirname(os.path.abspath(__file__)))
+CRATE = TOP + "/crates/rows"
 ESCAPES = {"n": "\n", "t": "\t", "r": "\r", "f": "\f", "\\": "\\"}
+# rows that no program is swept with: those of long sessions, of devices that fail, and of the form of rows
+APART = ["large.txt", "failing.txt", "forms.txt"]
 
 
 def unescaped(text):
     return re.sub(r"\\(.)", lambda found: ESCAPES[found.group(1)], text)
+
+
+def repeated(text):
+    """A text with each of its pieces as often as it says."""
+    numbered = lambda piece, number: piece.replace("##", str(number + 1)).replace("#", str(number))
+    return re.sub(r"@\((\d+) (.*?)@\)", lambda found: "".join(numbered(found.group(2), number) for number in range(int(found.group(1)))), text, flags=re.S)
 
 
 def parts_of(block):
@@ -21,21 +31,44 @@ def parts_of(block):
     return name, texts
 
 
+def pairs_of(texts):
+    """What stands for `@this` and for `@that` in each row of a block."""
+    return [line.split(" => ") for line in texts.get("each", " => ").strip("\n").split("\n")]
+
+
 def rows_of(block):
     """The rows of a block: one, or one for each line of its part `each`."""
     name, texts = parts_of(block)
-    pairs = [line.split(" => ") for line in texts.get("each", " => ").strip("\n").split("\n")]
-    for this, that in pairs:
-        text = lambda word: texts.get(word, "").replace("@that", that).replace("@this", this)
+    for this, that in pairs_of(texts):
+        text = lambda word: repeated(texts.get(word, "").replace("@that", that).replace("@this", this))
         choices = unescaped(text("choices"))
         rest = unescaped(text("unread")) if "choices" in texts or "unread" in texts else "7\n"
         title = name + (": " + this if this else "")
         yield Row(title, text("flags").split(), text("model"), (choices + rest).encode("latin-1"), len(choices), text("output"), int(text("status")), unescaped(text("record")).encode("latin-1"))
 
 
+def file_names():
+    """The names of the files, as the program is given them."""
+    with open(CRATE + "/args", encoding="utf-8") as file:
+        names = file.read().split()
+    if names != sorted(os.listdir(CRATE + "/data")):
+        sys.exit("rows.py: crates/rows/args does not have the names of crates/rows/data, in order")
+    return names
+
+
+def blocks_of(name):
+    with open(CRATE + "/data/" + name, encoding="utf-8", newline="") as file:
+        return ("\n" + file.read().rstrip("\n")).split("\n== ")[1:]
+
+
 def all_rows():
-    """All rows, in the order of the sources' names."""
-    for path in sorted(glob.glob(TOP + "/crates/rows/src/*.rt")):
-        for text in re.findall(r'r##"\n(.*?)"##', open(path, encoding="utf-8").read(), re.S):
-            for block in ("\n" + text.rstrip("\n")).split("\n== ")[1:]:
+    """All rows that any program can be swept with, in the order of the files' names."""
+    for name in file_names():
+        if name not in APART:
+            for block in blocks_of(name):
                 yield from rows_of(block)
+
+
+if __name__ == "__main__":
+    for name in file_names():
+        print("%s: %d rows passed" % (name, sum(len(pairs_of(parts_of(block)[1])) for block in blocks_of(name))))

@@ -3,14 +3,43 @@ ghost use Rattle.std.specs.Prelude.{◌≡◌};
 
 use devices::{FailsOnce, Failures, OneByte, SliceSource, ThreeDevices, VecSink};
 use pml_play::{convert, play};
-use session::{Conversion, End, Options};
+use row_files::Refused;
+use session::{Cause, Conversion, End, Options};
 use std::alloc::Global;
 use std::marker::Brand;
 use std::sync::ledger::{Blank, Ledger};
-use std::test::Fail;
 
 /// No call fails.
-pub const NEVER: u64 = u64::MAX;
+const NEVER: u64 = u64::MAX;
+
+/// A device of a session.
+#[derive(Clone, Copy)]
+pub enum Device {
+    Source,
+    Out,
+    Record,
+}
+
+impl Device {
+    /// The device of this name.
+    pub fn named(name: &str) -> Result<Device, Refused> {
+        match name {
+            "source" => Ok(Device::Source),
+            "output" => Ok(Device::Out),
+            "record" => Ok(Device::Record),
+            _ => Err(Refused::from("an unknown device")),
+        }
+    }
+
+    /// Why a session ends in which it fails.
+    pub fn cause(self) -> Cause {
+        match self {
+            Device::Source => Cause::SourceFailed,
+            Device::Out => Cause::OutFailed,
+            Device::Record => Cause::RecordFailed,
+        }
+    }
+}
 
 /// Which call of each device fails, counted from 0.
 #[derive(Clone, Copy)]
@@ -25,6 +54,26 @@ pub const NONE_FAILS: Failing = Failing {
     out: NEVER,
     rec: NEVER,
 };
+
+impl Failing {
+    /// This call of a device fails.
+    pub fn of(device: Device, call: u64) -> Failing {
+        match device {
+            Device::Source => Failing {
+                source: call,
+                ..NONE_FAILS
+            },
+            Device::Out => Failing {
+                out: call,
+                ..NONE_FAILS
+            },
+            Device::Record => Failing {
+                rec: call,
+                ..NONE_FAILS
+            },
+        }
+    }
+}
 
 /// What stands behind a session.
 #[derive(Drop)]
@@ -44,7 +93,7 @@ fn played_with<K: Ledger, L: Ledger>(
     options: &Options,
     choices: &[u8],
     failing: Failing,
-) -> Result<Behind, Fail>
+) -> Result<Behind, Refused>
     requires first_name { first.name ≡ K.name }
     requires first_parts { first.parts ≡ K.parts }
     requires first_one { first.parts ≡ 1 }
@@ -82,7 +131,7 @@ pub fn played(
     options: &Options,
     choices: &[u8],
     failing: Failing,
-) -> Result<Behind, Fail> {
+) -> Result<Behind, Refused> {
     played_with::<Brand, Brand>(
         alloc,
         Blank::new(1),
@@ -100,38 +149,31 @@ fn converted_with<K: Ledger>(
     text: &[u8],
     options: &Options,
     choices: &[u8],
-    failing: Failing,
-) -> Result<Behind, Fail>
+) -> Result<Behind, Refused>
     requires name { blank.name ≡ K.name }
     requires parts { blank.parts ≡ K.parts }
     requires one { blank.parts ≡ 1 }
 {
     let mut devices = Conversion {
-        source: FailsOnce::new(SliceSource::new(choices), failing.source),
-        out: FailsOnce::new(
-            OneByte {
-                sink: VecSink::new(Vec::new(alloc), Failures::<K>::new(blank)),
-            },
-            failing.out,
-        ),
+        source: SliceSource::new(choices),
+        out: VecSink::new(Vec::new(alloc), Failures::<K>::new(blank)),
     };
     let end = convert(alloc, text, options, &mut devices);
     Ok(Behind {
-        out: Vec::from_slice(alloc, devices.out.device().sink.bytes())?,
+        out: Vec::from_slice(alloc, devices.out.bytes())?,
         rec: Vec::new(alloc),
-        unread: devices.source.device().left().len(),
-        failed: devices.source.has_failed() || devices.out.has_failed(),
+        unread: devices.source.left().len(),
+        failed: false,
         end,
     })
 }
 
-/// Converts the choices of a text, with these failures.
+/// Converts the choices of a text.
 pub fn converted(
     alloc: Global,
     text: &[u8],
     options: &Options,
     choices: &[u8],
-    failing: Failing,
-) -> Result<Behind, Fail> {
-    converted_with::<Brand>(alloc, Blank::new(1), text, options, choices, failing)
+) -> Result<Behind, Refused> {
+    converted_with::<Brand>(alloc, Blank::new(1), text, options, choices)
 }

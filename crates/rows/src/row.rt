@@ -1,8 +1,15 @@
 //! What a row says: a session, and what stands behind it.
-use crate::block::{behind, find, text};
+use crate::player::{Device, Failing, NONE_FAILS};
+use crate::texts::{bytes, filled};
+use row_files::{Block, Refused};
 use session::Options;
 use std::alloc::Global;
-use std::test::Fail;
+
+/// The words of the parts of a row.
+pub const WORDS: [&str; 14] = [
+    "flags", "model", "choices", "unread", "output", "status", "line", "steps", "record", "each",
+    "failing", "differs", "file", "refused",
+];
 
 /// A session of a model, and what stands behind it.
 #[derive(Drop)]
@@ -16,10 +23,26 @@ pub struct Row {
     pub status: u8,
     pub line: u32,
     pub record: Vec<u8>,
+    /// How many steps are taken, where it says so.
+    pub steps: Option<u32>,
+    /// The device of which calls fail.
+    pub device: Option<Device>,
+    /// Which call of it fails; none, where each one does in turn.
+    pub call: Option<u64>,
+}
+
+impl Row {
+    /// Which calls fail when the row is played.
+    pub fn failing(&self) -> Failing {
+        match (self.device, self.call) {
+            (Some(device), Some(call)) => Failing::of(device, call),
+            _ => NONE_FAILS,
+        }
+    }
 }
 
 /// Nothing is shown of a step.
-pub const NONE: Options = Options {
+const NONE: Options = Options {
     steps: false,
     globals: false,
     locals: false,
@@ -27,14 +50,8 @@ pub const NONE: Options = Options {
     limit: 1_000_000,
 };
 
-/// Steps are shown.
-pub const STEPS: Options = Options {
-    steps: true,
-    ..NONE
-};
-
 /// The options with a letter more.
-fn lettered(options: Options, letter: u8) -> Result<Options, Fail> {
+fn lettered(options: Options, letter: u8) -> Result<Options, Refused> {
     match letter {
         b'p' => Ok(Options {
             steps: true,
@@ -53,11 +70,11 @@ fn lettered(options: Options, letter: u8) -> Result<Options, Fail> {
             ..options
         }),
         b'i' | b'T' => Ok(options),
-        _ => Err(Fail::from("an unknown flag")),
+        _ => Err(Refused::from("an unknown flag")),
     }
 }
 
-fn flagged(options: Options, letters: &str) -> Result<Options, Fail> {
+fn flagged(options: Options, letters: &str) -> Result<Options, Refused> {
     let mut options = options;
     for letter in letters.bytes() {
         options = lettered(options, letter)?;
@@ -66,7 +83,7 @@ fn flagged(options: Options, letters: &str) -> Result<Options, Fail> {
 }
 
 /// The options with a word more, as `-pg` or `-u7`.
-fn with_word(options: Options, word: &str) -> Result<Options, Fail> {
+fn with_word(options: Options, word: &str) -> Result<Options, Refused> {
     let letters = word.strip_prefix('-').ok_or("a flag begins with -")?;
     match letters.split_once('u') {
         None => flagged(options, letters),
@@ -78,7 +95,7 @@ fn with_word(options: Options, word: &str) -> Result<Options, Fail> {
 }
 
 /// The options that flags ask for.
-fn options(flags: Option<&str>) -> Result<Options, Fail> {
+fn options(flags: Option<&str>) -> Result<Options, Refused> {
     let mut options = NONE;
     let Some(flags) = flags else {
         return Ok(options);
@@ -89,107 +106,83 @@ fn options(flags: Option<&str>) -> Result<Options, Fail> {
     Ok(options)
 }
 
-/// The byte that is written as a backslash and this one.
-fn escaped(letter: u8) -> Result<u8, Fail> {
-    match letter {
-        b'n' => Ok(b'\n'),
-        b't' => Ok(b'\t'),
-        b'r' => Ok(b'\r'),
-        b'f' => Ok(b'\x0c'),
-        b'\\' => Ok(b'\\'),
-        _ => Err(Fail::from("an unknown escape")),
+/// The device that a part names, and the call of it.
+fn failing(block: Block<'_>) -> Result<(Option<Device>, Option<u64>), Refused> {
+    let Some(words) = block.behind("failing") else {
+        return Ok((None, None));
+    };
+    match words.split_once(' ') {
+        None => Ok((Some(Device::named(words)?), None)),
+        Some((device, call)) => Ok((Some(Device::named(device)?), Some(call.parse::<u64>()?))),
     }
 }
 
-/// The bytes that a text writes.
-pub fn bytes(alloc: Global, text: &str) -> Result<Vec<u8>, Fail> {
-    let mut bytes = Vec::new(alloc);
-    let mut behind = false;
-    for byte in text.bytes() {
-        if behind {
-            bytes.push(escaped(byte)?)?;
-            behind = false;
-        } else if byte == b'\\' {
-            behind = true;
-        } else {
-            bytes.push(byte)?;
-        }
-    }
-    Ok(bytes)
+/// The text of a part, in which `@this` and `@that` stand for these.
+fn text(
+    alloc: Global,
+    block: Block<'_>,
+    word: &str,
+    this: &str,
+    that: &str,
+) -> Result<String, Refused> {
+    let text = block.text(alloc, word)?;
+    filled(alloc, &text, this, that)
 }
 
-/// `@that` in a text stands for this.
-fn fill_that(out: &mut String, text: &str, that: &str) -> Result<(), Fail> {
-    let mut begun = false;
-    for piece in text.split("@that") {
-        if begun {
-            out.push_str(that)?;
-        }
-        out.push_str(piece)?;
-        begun = true;
-    }
-    Ok(())
-}
-
-/// A text in which `@this` and `@that` stand for these.
-pub fn filled(alloc: Global, text: &str, this: &str, that: &str) -> Result<String, Fail> {
-    let mut out = String::new(alloc);
-    let mut begun = false;
-    for piece in text.split("@this") {
-        if begun {
-            out.push_str(this)?;
-        }
-        fill_that(&mut out, piece, that)?;
-        begun = true;
-    }
-    Ok(out)
+/// The bytes that a part writes, in which `@this` stands for this.
+fn part_bytes(alloc: Global, block: Block<'_>, word: &str, this: &str) -> Result<Vec<u8>, Refused> {
+    let text = filled(alloc, block.behind(word).unwrap_or(""), this, "")?;
+    bytes(alloc, &text)
 }
 
 /// The choices of a block, in which `@this` stands for this, and how many bytes of them are read.
-fn choices(alloc: Global, block: &'static str, this: &str) -> Result<(Vec<u8>, usize), Fail> {
-    let written = filled(alloc, behind(block, "choices").unwrap_or(""), this, "")?;
-    let mut choices = bytes(alloc, &written)?;
+fn choices(alloc: Global, block: Block<'_>, this: &str) -> Result<(Vec<u8>, usize), Refused> {
+    let mut choices = part_bytes(alloc, block, "choices", this)?;
     let read = choices.len();
-    let unread = bytes(alloc, behind(block, "unread").unwrap_or(""))?;
+    let unread = part_bytes(alloc, block, "unread", this)?;
     choices.extend_from_slice(unread.as_slice())?;
-    if find(block, "choices").is_none() && find(block, "unread").is_none() {
+    if !block.has("choices") && !block.has("unread") {
         choices.extend_from_slice(b"7\n")?;
     }
     Ok((choices, read))
 }
 
-/// The text of a part, in which `@this` and `@that` stand for these.
-fn filled_text(
-    alloc: Global,
-    block: &'static str,
-    word: &str,
-    this: &str,
-    that: &str,
-) -> Result<String, Fail> {
-    let text = text(alloc, block, word)?;
-    filled(alloc, &text, this, that)
-}
-
 /// The exit status and the line of a refusal that a block says.
-fn numbers(block: &'static str) -> Result<(u8, u32), Fail> {
-    let status = behind(block, "status").unwrap_or("").parse::<u8>()?;
-    let line = behind(block, "line").unwrap_or("0").parse::<u32>()?;
-    Ok((status, line))
+fn numbers(block: Block<'_>) -> Result<(u8, u32), Refused> {
+    let status = block.behind("status").ok_or("a row has a status")?;
+    let line = block.behind("line").unwrap_or("0");
+    Ok((status.parse::<u8>()?, line.parse::<u32>()?))
 }
 
-/// The row of a well-formed block.
-pub fn row_of(alloc: Global, block: &'static str, this: &str, that: &str) -> Result<Row, Fail> {
-    let options = options(behind(block, "flags"))?;
+/// How many steps are taken, where a block says so.
+fn steps(block: Block<'_>) -> Result<Option<u32>, Refused> {
+    match block.behind("steps") {
+        Some(digits) => Ok(Some(digits.parse::<u32>()?)),
+        None => Ok(None),
+    }
+}
+
+/// The row of a block, in which `@this` and `@that` stand for these.
+pub fn row_of(alloc: Global, block: Block<'_>, this: &str, that: &str) -> Result<Row, Refused> {
+    if !block.has("model") || !block.has("output") {
+        return Err(Refused::from("a row has a model and an output"));
+    }
+    let options = options(block.behind("flags"))?;
     let (status, line) = numbers(block)?;
+    let (device, call) = failing(block)?;
     let (choices, read) = choices(alloc, block, this)?;
+    let output = block.lines(alloc, "output")?;
     Ok(Row {
         options,
-        model: filled_text(alloc, block, "model", this, that)?,
+        model: text(alloc, block, "model", this, that)?,
         choices,
         read,
-        output: filled_text(alloc, block, "output", this, that)?,
+        output: filled(alloc, &output, this, that)?,
         status,
         line,
-        record: bytes(alloc, behind(block, "record").unwrap_or(""))?,
+        record: part_bytes(alloc, block, "record", this)?,
+        steps: steps(block)?,
+        device,
+        call,
     })
 }
