@@ -3,7 +3,7 @@
 //! the tokens behind them.
 use crate::answer::answer;
 use crate::bytes::bytes_of;
-use crate::layer::{Layer, View};
+use crate::layer::{Asked, Layer, View};
 use crate::place::{Found, Place};
 use crate::tally::Tally;
 use row_files::Refused;
@@ -50,7 +50,11 @@ fn compare_beginning(
         return Err(Refused::from("a length that does not follow"));
     }
     let wanted = wanted_tokens(rt.alloc(), list, wanted)?;
-    let came = answer(rt.alloc(), View::Tokens, beginning)?;
+    let asked = Asked {
+        view: View::Tokens,
+        block: place.block,
+    };
+    let came = answer(rt.alloc(), asked, beginning)?;
     let found = Found {
         layer: Layer::Tokens,
         what: "tokens",

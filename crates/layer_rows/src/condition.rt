@@ -26,11 +26,7 @@ const CONDITIONS: [Condition; 11] = [
 ];
 
 // The number of the least condition that refuses the model with these marks.
-fn first<'a>(
-    alloc: Global,
-    all: &Table<'a>,
-    marks: &[Mark<'a>],
-) -> Result<Option<u8>, AllocError>
+fn first<'a>(alloc: Global, all: &Table<'a>, marks: &[Mark<'a>]) -> Result<Option<u8>, AllocError>
     requires { all.now ≡ env marks.now }
 {
     let found = find(alloc, all, marks)?;

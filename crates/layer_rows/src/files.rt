@@ -6,11 +6,7 @@ use crate::rows::{WORDS, compare_rows};
 use crate::tally::Tally;
 use row_files::{Refused, blocks, names, text_of};
 
-fn compare_block(
-    rt: &HostRuntime,
-    place: Place<'_>,
-    tally: &mut Tally,
-) -> Result<(), Refused> {
+fn compare_block(rt: &HostRuntime, place: Place<'_>, tally: &mut Tally) -> Result<(), Refused> {
     if place.block.has("signs") {
         return compare_signs(rt, place, tally);
     }

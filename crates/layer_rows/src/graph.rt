@@ -208,12 +208,7 @@ fn shown_marks(alloc: Global, graph: &Graph) -> Result<String, AllocError> {
 }
 
 /// What is asked of the graph of a body.
-pub fn shown(
-    alloc: Global,
-    view: View,
-    body: &Seq<'_>,
-    graph: &Graph,
-) -> Result<String, Refused> {
+pub fn shown(alloc: Global, view: View, body: &Seq<'_>, graph: &Graph) -> Result<String, Refused> {
     match view {
         View::Levels => Ok(shown_levels(alloc, graph)?),
         View::Texts => Ok(shown_texts(alloc, graph)?),

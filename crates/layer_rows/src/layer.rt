@@ -1,4 +1,5 @@
 //! The layers, and what rows ask of them.
+use row_files::Block;
 
 /// A layer.
 #[derive(Clone, Copy, Debug, PartialEq, Eq)]
@@ -8,15 +9,19 @@ pub enum Layer {
     Conditions,
     Names,
     Graphs,
+    Lines,
+    Words,
 }
 
-/// The layers, in the order in which they read a text.
-pub const LAYERS: [Layer; 5] = [
+/// The layers.
+pub const LAYERS: [Layer; 7] = [
     Layer::Tokens,
     Layer::Grammar,
     Layer::Conditions,
     Layer::Names,
     Layer::Graphs,
+    Layer::Lines,
+    Layer::Words,
 ];
 
 impl Layer {
@@ -28,6 +33,8 @@ impl Layer {
             Layer::Conditions => "conditions",
             Layer::Names => "names",
             Layer::Graphs => "graphs",
+            Layer::Lines => "value lines",
+            Layer::Words => "command lines",
         }
     }
 }
@@ -61,10 +68,18 @@ pub enum View {
     Texts,
     /// The lines, ends and atomics of the nodes.
     Marks,
+    /// The lines of the places that changed from the cells before to those after.
+    Values,
+    /// Those of locals alone.
+    LocalValues,
+    /// The lines of the places that writes changed.
+    LoggedValues,
+    /// What is read of it as a command line.
+    Words,
 }
 
 /// All that is asked.
-pub const VIEWS: [View; 13] = [
+pub const VIEWS: [View; 17] = [
     View::Tokens,
     View::Count,
     View::Tree,
@@ -78,6 +93,10 @@ pub const VIEWS: [View; 13] = [
     View::Levels,
     View::Texts,
     View::Marks,
+    View::Values,
+    View::LocalValues,
+    View::LoggedValues,
+    View::Words,
 ];
 
 impl View {
@@ -97,6 +116,10 @@ impl View {
             View::Levels => "levels",
             View::Texts => "texts",
             View::Marks => "marks",
+            View::Values => "values",
+            View::LocalValues => "local-values",
+            View::LoggedValues => "logged-values",
+            View::Words => "words",
         }
     }
 
@@ -108,6 +131,15 @@ impl View {
             View::Condition | View::Control => Layer::Conditions,
             View::Model | View::Statements => Layer::Names,
             View::Graph | View::Levels | View::Texts | View::Marks => Layer::Graphs,
+            View::Values | View::LocalValues | View::LoggedValues => Layer::Lines,
+            View::Words => Layer::Words,
         }
     }
+}
+
+/// What is asked of a text, and the block that asks.
+#[derive(Clone, Copy)]
+pub struct Asked<'r> {
+    pub view: View,
+    pub block: Block<'r>,
 }

@@ -9,6 +9,7 @@ mod condition;
 mod files;
 mod graph;
 mod layer;
+mod lines;
 mod model;
 mod pairs;
 mod place;
@@ -19,6 +20,7 @@ mod statements;
 mod tally;
 mod tokens;
 mod tree;
+mod words;
 
 use crate::files::compare_files;
 use std::process::ExitCode;

@@ -2,7 +2,7 @@
 //! pairs that give other tokens without a blank between them, each as `SIGN SIGN => TOKENS`.
 use crate::answer::answer;
 use crate::bytes::bytes_of;
-use crate::layer::{Layer, View};
+use crate::layer::{Asked, Layer, View};
 use crate::place::{Found, Place};
 use crate::tally::Tally;
 use row_files::Refused;
@@ -49,7 +49,11 @@ fn compare(
     tally: &mut Tally,
 ) -> Result<(), Refused> {
     let text = bytes_of(rt.alloc(), written)?;
-    let came = answer(rt.alloc(), View::Tokens, text.as_slice())?;
+    let asked = Asked {
+        view: View::Tokens,
+        block: place.block,
+    };
+    let came = answer(rt.alloc(), asked, text.as_slice())?;
     let found = Found {
         layer: Layer::Tokens,
         what: "tokens",
@@ -119,18 +123,21 @@ fn are_of_signs(joined: &str, signs: &str) -> bool {
 }
 
 /// Compares the signs of a block.
-pub fn compare_signs(
-    rt: &HostRuntime,
-    place: Place<'_>,
-    tally: &mut Tally,
-) -> Result<(), Refused> {
+pub fn compare_signs(rt: &HostRuntime, place: Place<'_>, tally: &mut Tally) -> Result<(), Refused> {
     let signs = place.block.text(rt.alloc(), "signs")?;
     let joined = place.block.text(rt.alloc(), "joined")?;
     if !are_of_signs(joined.as_str(), signs.as_str()) {
         return Err(Refused::from("two that are no signs of the block"));
     }
     for line in signs.lines() {
-        compare_sign(rt, place, sign_of(line)?, signs.as_str(), joined.as_str(), tally)?;
+        compare_sign(
+            rt,
+            place,
+            sign_of(line)?,
+            signs.as_str(),
+            joined.as_str(),
+            tally,
+        )?;
     }
     Ok(())
 }

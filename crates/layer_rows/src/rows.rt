@@ -3,14 +3,14 @@
 //! `@that` stand in the other parts.
 use crate::answer::answer;
 use crate::bytes::{bytes_of, joined_parts};
-use crate::layer::{VIEWS, View};
+use crate::layer::{Asked, VIEWS, View};
 use crate::place::{Found, Place};
 use crate::tally::Tally;
 use row_files::{Block, Refused};
 use std::alloc::Global;
 
 /// The words that begin a part.
-pub const WORDS: [&str; 20] = [
+pub const WORDS: [&str; 28] = [
     "each",
     "text",
     "parts",
@@ -31,6 +31,14 @@ pub const WORDS: [&str; 20] = [
     "levels",
     "texts",
     "marks",
+    "values",
+    "local-values",
+    "logged-values",
+    "processes",
+    "before",
+    "after",
+    "writes",
+    "words",
 ];
 
 /// What stands for `@this` and `@that`.
@@ -83,7 +91,11 @@ fn compare_view(
     tally: &mut Tally,
 ) -> Result<(), Refused> {
     let wanted = filled(rt.alloc(), place.block, view.word(), filling)?;
-    let came = answer(rt.alloc(), view, text)?;
+    let asked = Asked {
+        view,
+        block: place.block,
+    };
+    let came = answer(rt.alloc(), asked, text)?;
     let found = Found {
         layer: view.layer(),
         what: view.word(),
@@ -119,11 +131,7 @@ fn wants_nothing(block: Block<'_>) -> bool {
 }
 
 /// Compares the rows of a block.
-pub fn compare_rows(
-    rt: &HostRuntime,
-    place: Place<'_>,
-    tally: &mut Tally,
-) -> Result<(), Refused> {
+pub fn compare_rows(rt: &HostRuntime, place: Place<'_>, tally: &mut Tally) -> Result<(), Refused> {
     if wants_nothing(place.block) {
         return Err(Refused::from("a row that wants nothing"));
     }

@@ -1,6 +1,7 @@
 //! What the layers make of a tree.
 use crate::condition::condition_of;
-use crate::layer::View;
+use crate::layer::{Asked, Layer, View};
+use crate::lines::lines_of;
 use crate::program::of_program;
 use crate::shape::expressions_of;
 use pml_lex::token::Token;
@@ -43,11 +44,17 @@ fn of_owned<'a>(alloc: Global, view: View, tree: Tree<'a>) -> Result<String, Ref
 /// What the layers make of the tree that tokens have, or the line that no rule reads.
 pub fn of_tokens<'a>(
     alloc: Global,
-    view: View,
+    asked: Asked<'_>,
     tokens: &'a [Token<'a>],
 ) -> Result<String, Refused> {
     match parse(alloc, tokens) {
-        Ok(tree) => of_owned(alloc, view, tree),
+        Ok(tree) => {
+            if asked.view.layer() == Layer::Lines {
+                lines_of(alloc, asked, tree)
+            } else {
+                of_owned(alloc, asked.view, tree)
+            }
+        }
         Err(SyntaxFault::Syntax(line)) => Ok(format!(in alloc; "fault at line {line}")?),
         Err(SyntaxFault::Memory) => Err(Refused::from("out of memory")),
     }
