@@ -1,0 +1,134 @@
+//! The lines of the places whose numbers changed: from the cells `before` to those `after`, each in the order of their places, or in the
+//! log of a store with these `writes`, each a line `FRAME VARIABLE CELL => NUMBER`. The `processes` are known by the numbers of their
+//! proctypes.
+use crate::layer::{Asked, View};
+use pml_check::{CheckFault, Checked, check};
+use pml_lines::change::{Wanted, logged_lines, value_lines};
+use pml_lines::tables::Tables;
+use pml_store::place::Place;
+use pml_store::store::Store;
+use pml_tree::tree::Tree;
+use row_files::{Block, Refused};
+use std::alloc::{AllocError, Global};
+
+const ALL: Wanted = Wanted {
+    globals: true,
+    locals: true,
+};
+
+const LOCALS: Wanted = Wanted {
+    globals: false,
+    locals: true,
+};
+
+/// The numbers that a text has, with a blank between them.
+fn indices(alloc: Global, text: &str) -> Result<Vec<usize>, Refused> {
+    let mut indices = Vec::new(alloc);
+    for word in text.split(' ') {
+        if indices.push(word.parse::<usize>()?).is_err() {
+            return Err(Refused::from("out of memory"));
+        }
+    }
+    Ok(indices)
+}
+
+fn cells(alloc: Global, text: &str) -> Result<Vec<i32>, Refused> {
+    let mut cells = Vec::new(alloc);
+    for word in text.split(' ') {
+        if cells.push(word.parse::<i32>()?).is_err() {
+            return Err(Refused::from("out of memory"));
+        }
+    }
+    Ok(cells)
+}
+
+fn add_changes(
+    alloc: Global,
+    tables: &Tables<'_, '_>,
+    block: Block<'_>,
+    wanted: Wanted,
+    lines: &mut Vec<u8>,
+) -> Result<(), Refused> {
+    let kinds = indices(alloc, block.behind("processes").unwrap_or(""))?;
+    let before = cells(alloc, block.behind("before").unwrap_or(""))?;
+    let after = cells(alloc, block.behind("after").unwrap_or(""))?;
+    Ok(value_lines(tables, &kinds, wanted, &before, &after, lines)?)
+}
+
+/// The store that writes go to: of the globals and of two processes, each with so many cells for each of its variables.
+fn first_store(alloc: Global) -> Result<Store, AllocError> {
+    let mut store = Store::new(alloc, 11);
+    store.push_frame(&[6, 1, 1])?;
+    store.push_frame(&[1, 1])?;
+    store.push_frame(&[1])?;
+    Ok(store)
+}
+
+fn write(alloc: Global, store: &mut Store, line: &str) -> Result<(), Refused> {
+    let (place, number) = line.split_once(" => ").ok_or("a write has an arrow")?;
+    let place = indices(alloc, place)?;
+    let [frame, variable, cell] = place.as_slice() else {
+        return Err(Refused::from("a place has three numbers"));
+    };
+    let place = Place {
+        frame: *frame,
+        variable: *variable,
+        cell: *cell,
+    };
+    if place.cell >= store.size(place.frame, place.variable) {
+        return Err(Refused::from("a place that is not there"));
+    }
+    Ok(store.set(place, number.parse::<i32>()?)?)
+}
+
+fn written(alloc: Global, block: Block<'_>) -> Result<Store, Refused> {
+    let mut store = first_store(alloc)?;
+    let writes = block.text(alloc, "writes")?;
+    for line in writes.lines() {
+        write(alloc, &mut store, line)?;
+    }
+    Ok(store)
+}
+
+fn add_logged(
+    alloc: Global,
+    tables: &Tables<'_, '_>,
+    block: Block<'_>,
+    lines: &mut Vec<u8>,
+) -> Result<(), Refused> {
+    let kinds = indices(alloc, block.behind("processes").unwrap_or(""))?;
+    let store = written(alloc, block)?;
+    Ok(logged_lines(alloc, tables, &kinds, ALL, &store, lines)?)
+}
+
+fn add_lines(
+    alloc: Global,
+    asked: Asked<'_>,
+    checked: &Checked<'_>,
+    lines: &mut Vec<u8>,
+) -> Result<(), Refused> {
+    let tables = Tables::new(alloc, checked.program())?;
+    match asked.view {
+        View::LoggedValues => add_logged(alloc, &tables, asked.block, lines),
+        View::LocalValues => add_changes(alloc, &tables, asked.block, LOCALS, lines),
+        _ => add_changes(alloc, &tables, asked.block, ALL, lines),
+    }
+}
+
+fn of_checked(alloc: Global, asked: Asked<'_>, checked: &Checked<'_>) -> Result<String, Refused> {
+    let mut lines = Vec::new(alloc);
+    add_lines(alloc, asked, checked, &mut lines)?;
+    match str::from_utf8(lines.as_slice()) {
+        Ok(text) => Ok(format!(in alloc; "{text}")?),
+        Err(_) => Err(Refused::from("lines that are no text")),
+    }
+}
+
+/// The lines of the model that a tree is.
+pub fn lines_of<'a>(alloc: Global, asked: Asked<'_>, tree: Tree<'a>) -> Result<String, Refused> {
+    match check(alloc, tree) {
+        Ok(checked) => of_checked(alloc, asked, &checked),
+        Err(CheckFault::Refused(_)) => Ok(format!(in alloc; "no model")?),
+        Err(CheckFault::Memory) => Err(Refused::from("out of memory")),
+    }
+}

@@ -1,0 +1,61 @@
+//! What the layers make of a tree.
+use crate::condition::condition_of;
+use crate::layer::{Asked, Layer, View};
+use crate::lines::lines_of;
+use crate::program::of_program;
+use crate::shape::expressions_of;
+use pml_lex::token::Token;
+use pml_marks::model::marks;
+use pml_names::names::all_names;
+use pml_resolve::model::number;
+use pml_syntax::{SyntaxFault, parse};
+use pml_tree::tree::Tree;
+use row_files::Refused;
+use std::alloc::Global;
+
+fn numbered(alloc: Global, view: View, tree: &Tree<'_>) -> Result<String, Refused> {
+    let marks = marks(alloc, tree)?;
+    let names = all_names(alloc, marks.as_slice())?;
+    let program = number(alloc, tree, &names.table)?;
+    of_program(alloc, view, &program)
+}
+
+fn marked(alloc: Global, tree: &Tree<'_>) -> Result<String, Refused> {
+    let marks = marks(alloc, tree)?;
+    condition_of(alloc, marks.as_slice())
+}
+
+fn of_tree(alloc: Global, view: View, tree: &Tree<'_>) -> Result<String, Refused> {
+    match view {
+        View::Expressions => expressions_of(alloc, tree),
+        View::Condition => marked(alloc, tree),
+        _ => numbered(alloc, view, tree),
+    }
+}
+
+// The tree as a parameter: where it is a local, the check of its loan does not end.
+fn of_owned<'a>(alloc: Global, view: View, tree: Tree<'a>) -> Result<String, Refused> {
+    match view {
+        View::Tree | View::BareTree => Ok(format!(in alloc; "tree")?),
+        _ => of_tree(alloc, view, &tree),
+    }
+}
+
+/// What the layers make of the tree that tokens have, or the line that no rule reads.
+pub fn of_tokens<'a>(
+    alloc: Global,
+    asked: Asked<'_>,
+    tokens: &'a [Token<'a>],
+) -> Result<String, Refused> {
+    match parse(alloc, tokens) {
+        Ok(tree) => {
+            if asked.view.layer() == Layer::Lines {
+                lines_of(alloc, asked, tree)
+            } else {
+                of_owned(alloc, asked.view, tree)
+            }
+        }
+        Err(SyntaxFault::Syntax(line)) => Ok(format!(in alloc; "fault at line {line}")?),
+        Err(SyntaxFault::Memory) => Err(Refused::from("out of memory")),
+    }
+}
