@@ -26,7 +26,7 @@ use Rattle.pml_moves.specs.declared.moves.Move.TheVariants.{Death, Alone, Pair}
 use Rattle.pml_moves.specs.State.{Stand, State, body_of}
 use Rattle.pml_moves.specs.Picked.{picked}
 use Rattle.pml_moves.specs.Search as search
-use Rattle.pml_steps.specs.declared.within.TheConstants.{MOST_DSTEP_STATEMENTS}
+use Rattle.profile.specs.declared.TheConstants.{MOST_DSTEP_STATEMENTS}
 use Rattle.pml_steps.specs.Held.{begins_by, begins_at}
 use Rattle.pml_steps.specs.Outcome.{Done}
 use Rattle.pml_steps.specs.Outcome as outcome
