@@ -8,4 +8,5 @@ pub mod Crowding
 pub mod Lasting
 pub mod Fitting
 pub mod Short
+pub mod Naming
 mod Samples
