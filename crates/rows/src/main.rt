@@ -63,7 +63,8 @@ fn passes(rt: &HostRuntime, place: Place<'_, '_>, this: &str, that: &str) -> Res
     }
     let Place { file, block } = place;
     let (line, name, words) = (block.line, block.name(), told.words());
-    eprintln!(rt; "{file}:{line}: row '{name}' {this}: {words}")?;
+    let gap = if this.is_empty() { "" } else { " " };
+    eprintln!(rt; "{file}:{line}: row '{name}'{gap}{this}: {words}")?;
     Ok(false)
 }
 
