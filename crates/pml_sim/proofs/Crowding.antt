@@ -1,5 +1,5 @@
 -- How many moves a state has at most, whose processes have no more to do than so much weighs.
-use Rattle.std.proofs.Common.{◌≡◌, ℕ, zero, suc, ◌+◌, ◌*◌, ◌≤◌, Bool, true, false, List, [], ◌∷◌, ◌++◌, length, map, nat_eq, refl, sym, arith, Option, Some, None, length-append}
+use Rattle.std.proofs.Common.{◌≡◌, ℕ, zero, suc, ◌+◌, ◌*◌, ◌≤◌, Bool, true, false, List, [], ◌∷◌, length, map, nat_eq, refl, sym, arith, Option, Some, None, length-append}
 use Rattle.std.specs.Prelude.{slice_get, option_map, if◌then◌else◌}
 use Rattle.std.specs.List.{AllByRecursion}
 use Rattle.std.proofs.Math.Nat.{mul-le-mul_right}
@@ -7,8 +7,7 @@ use Rattle.std.proofs.lemmas.List.{length-map}
 use Rattle.profile.specs.declared.TheConstants.{MOST_PROCESSES}
 use Rattle.pml_program.specs.declared.program.Seq.{Seq}
 use Rattle.pml_program.specs.declared.program.Proctype.{Proctype}
-use Rattle.pml_program.specs.declared.program.Program.{Program}
-use Rattle.pml_control.specs.Control.{Control, steps}
+use Rattle.pml_control.specs.Control.{Control}
 use Rattle.pml_control.specs.Offers.{Levels, offers}
 use Rattle.pml_flow.specs.Flow.{Offer, offer_of}
 use Rattle.pml_moves.specs.declared.moves.Pick.{Pick}
@@ -86,10 +85,6 @@ module _ (most : ℕ) where
     levels_in_few None k c e l = tt
     levels_in_few (Some b) k c e l = levels_few b c (body_of_light k b e) l
 
-    -- all pairs of one message
-    abbrev many_pairs : ℕ
-    many_pairs = 255 * most
-
     pairs_on_few : (t : Bool) (k : Pick) (m : Message) (j l : ℕ) (os : List Offer) → IsFew os → length (pairs_on s t k m j l os) ≤ most
     pairs_on_few t k m j l os h =
         let e = each_any 1 (λ i o. only_if (accepts s.channels (reads s j t) m o.basic) (Pair k (pick j l i) t)) (λ i o. if_one (accepts s.channels (reads s j t) m o.basic) (Pair k (pick j l i) t)) 0 os in
@@ -129,6 +124,7 @@ module _ (most : ℕ) where
     else_few : (p : ℕ) (t : Bool) (l : ℕ) (os : List Offer) → IsFew os → length (else_moves p t l os) ≤ most
     else_few p t l os h = let e = each_any 1 (λ i o. only_if (is_else o.basic) (Alone (pick p l i) t)) (λ i o. if_one (is_else o.basic) (Alone (pick p l i) t)) 0 os in omega (arith, e, h)
 
+    -- the most moves of one process
     abbrev many : ℕ
     many = most * (255 * most + 1) + most + 1
 

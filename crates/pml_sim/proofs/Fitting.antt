@@ -1,5 +1,5 @@
 -- A session of a machine in whose states each line of a choice with its place can be read: each such line of it can be.
-use Rattle.std.proofs.Common.{◌≡◌, ℕ, zero, suc, ◌+◌, ◌-◌, ◌<◌, ◌≤◌, List, [], ◌∷◌, ◌++◌, length, get_or, if◌then◌else◌, Bool, true, false, Option, Some, None, refl, sym, ap, ◌∙◌, arith}
+use Rattle.std.proofs.Common.{◌≡◌, ℕ, zero, suc, ◌+◌, ◌-◌, ◌<◌, ◌≤◌, List, [], ◌∷◌, ◌++◌, length, get_or, if◌then◌else◌, Bool, true, false, Option, Some, None, refl}
 use Rattle.std.proofs.lemmas.Bool.{le-leb}
 use Rattle.std.proofs.lemmas.List.Folds.{list_all-append}
 use Rattle.std.specs.List.{list_all}
@@ -13,11 +13,11 @@ use Rattle.session.specs.declared.form.Stream.TheVariants.{Unread, Known, Over}
 use Rattle.session.specs.declared.form.Version.{Version}
 use Rattle.session.specs.declared.form.Version.TheVariants.{First, Second}
 use Rattle.session.specs.Convert.{fits_line}
-use Rattle.session.specs.Events.{Event, Put, Told, Corrected, Asked, AskedEnd, Recorded, Stepped, asks}
+use Rattle.session.specs.Events.{Event, asks}
 use Rattle.session.specs.Limits.{most_line_bytes, most_bad_lines}
 use Rattle.session.specs.Lines.{Line, line_within, read_of, saw_end, IsPickUpTo}
 use Rattle.session.specs.Machine.{Rules, Outcome, Goes, Faults}
-use Rattle.session.specs.Part.{Part, preceded, followed}
+use Rattle.session.specs.Part.{Part, preceded}
 use Rattle.session.specs.Session.{one_line, next_line, one_reply, begins_second, stream_behind, only, after_line, ask, kept, place_of, select, stopped, finished, stepped, answered, story, transcript}
 use Rattle.session.specs.Texts.{placed_line}
 use Rattle.session.proofs.Replay.{ask_range}

@@ -1,8 +1,7 @@
 -- What a step leads to weighs no more than the bodies of the model.
-use Rattle.std.proofs.Common.{◌≡◌, ℕ, zero, suc, ◌+◌, ◌-◌, ◌<◌, ◌≤◌, Bool, true, false, List, [], ◌∷◌, ◌++◌, length, map, take, ℤ, Option, Some, None, Result, Ok, Err, IfOk, refl, sym, ap, arith, length-append, nat_lt}
+use Rattle.std.proofs.Common.{◌≡◌, ℕ, zero, suc, ◌-◌, ◌<◌, ◌≤◌, Bool, true, false, List, [], ◌∷◌, ◌++◌, length, map, take, ℤ, Option, Some, None, Result, Ok, IfOk, refl, ap, arith, length-append, nat_lt}
 use Rattle.std.specs.Prelude.{slice_get, slice_set, option_map, IfSome, if◌then◌else◌}
-use Rattle.std.specs.List.{filter}
-use Rattle.std.specs.List.{AllByRecursion}
+use Rattle.std.specs.List.{filter, AllByRecursion}
 use Rattle.std.proofs.lemmas.Bool.{ltb-true}
 use Rattle.std.proofs.lemmas.List.{length-take}
 use Rattle.diagnostics.specs.declared.fault.Fault.{Fault}
@@ -15,20 +14,17 @@ use Rattle.pml_program.specs.declared.program.Action.TheVariants as a
 use Rattle.pml_program.specs.declared.program.Proctype.{Proctype}
 use Rattle.pml_program.specs.declared.program.Program.{Program}
 use Rattle.pml_program.specs.declared.program.Run.{Run}
-use Rattle.pml_control.specs.Control.{Place, Control, settle, at, steps, turn, sequence, basic_at}
+use Rattle.pml_control.specs.Control.{Place, Control, at, steps, turn, sequence, basic_at}
 use Rattle.pml_control.specs.Offers.{Edge, Levels, offers}
 use Rattle.pml_flow.specs.Flow.{Offer, offer_of, entry_of}
-use Rattle.pml_flow.specs.Marks.{first_line}
-use Rattle.pml_flow.specs.Statements.{statement_at}
 use Rattle.pml_flow.specs.Texts.{line_by}
 use Rattle.pml_eval.specs.Value.{Reading, val, ◌>>=◌}
 use Rattle.pml_value.specs.declared.statement.Goes.{Goes}
 use Rattle.pml_value.specs.declared.live_channel.LiveChannel.{LiveChannel}
 use Rattle.pml_value.specs.Statement.{outcome, goes_to}
-use Rattle.pml_value.specs.Messages.{Received, sent, received, values, asserted}
+use Rattle.pml_value.specs.Messages.{sent, received, values, asserted}
 use Rattle.pml_start.specs.Begin.{Begun}
-use Rattle.pml_start.specs.Created.{created}
-use Rattle.pml_start.proofs.Chaining.{chain, chain_any, weaker}
+use Rattle.pml_start.proofs.Chaining.{chain, chain_any}
 use Rattle.pml_moves.specs.declared.moves.Pick.{Pick}
 use Rattle.pml_moves.specs.declared.moves.Move.{Move}
 use Rattle.pml_moves.specs.declared.moves.Move.TheVariants.{Death, Alone, Pair}
@@ -37,8 +33,8 @@ use Rattle.pml_moves.specs.Search.{or_else, choices, is_choice, is_other, messag
 use Rattle.pml_moves.specs.Picked.{offer_on, offer_at, picked}
 use Rattle.pml_steps.specs.Change.{put, put_if, put_by, put_all, with_sent, with_received, moved_to, go_to, went, without_youngest}
 use Rattle.pml_steps.specs.Created.{first_control, with_new, joined_by, ran, run_number}
-use Rattle.pml_steps.specs.Outcome.{Done, quiet, prints, prints_string, prints_name, run_into, does, effect, behind, first_of, onward, within, within_from, taken, body_by, moved, alone, both_on, paired, passed, step}
-use Rattle.pml_sim.proofs.Weight.{weight_in, weight_part, AreLight, IsLight, light_steps, light_sequence, light_at}
+use Rattle.pml_steps.specs.Outcome.{Done, quiet, run_into, does, effect, behind, first_of, onward, within, within_from, taken, body_by, moved, alone, both_on, paired, passed, step}
+use Rattle.pml_sim.proofs.Weight.{weight_part, AreLight, IsLight, light_steps, light_sequence, light_at}
 use Rattle.pml_sim.proofs.Settling.{GoOn, AreFew, few_offers, light_settled}
 use Rattle.pml_sim.proofs.Crowding.{IsLightProctype, IsLightStand, IsLightState}
 

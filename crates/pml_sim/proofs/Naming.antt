@@ -1,12 +1,11 @@
 -- The text of a move names where the move comes from.
-use Rattle.std.proofs.Common.{◌≡◌, ◌⊎◌, inl, inr, ℕ, List, [], ◌∷◌, ◌++◌, map, Option, Some, None, refl, sym, ap, ◌∙◌, codes, append_assoc}
+use Rattle.std.proofs.Common.{◌≡◌, ◌⊎◌, inl, inr, ℕ, List, [], ◌∷◌, ◌++◌, map, Option, Some, None, refl, ap, ◌∙◌, codes, append_assoc}
 use Rattle.std.specs.Prelude.{slice_get, IfSome, IsSome}
 use Rattle.std.specs.Fmt.{decimal}
 use Rattle.std.specs.List.{AllByRecursion}
 use Rattle.pml_program.specs.declared.program.Stmt.{Stmt}
 use Rattle.pml_program.specs.declared.program.Seq.{Seq}
 use Rattle.pml_program.specs.declared.program.Proctype.{Proctype}
-use Rattle.pml_program.specs.declared.program.Program.{Program}
 use Rattle.pml_control.specs.Control.{Control}
 use Rattle.pml_control.specs.Offers.{Edge, Levels, offers}
 use Rattle.pml_flow.specs.Flow.{Offer, offer_of}
@@ -14,12 +13,11 @@ use Rattle.pml_flow.specs.Statements.{statement_at}
 use Rattle.pml_flow.specs.Texts.{action, text_by, line_by}
 use Rattle.pml_lines.specs.Changes.{proctype_name}
 use Rattle.pml_moves.specs.declared.moves.Pick.{Pick}
-use Rattle.pml_moves.specs.declared.moves.Move.{Move}
 use Rattle.pml_moves.specs.declared.moves.Move.TheVariants.{Death, Alone, Pair}
 use Rattle.pml_moves.specs.State.{Stand, State, body_of, levels_in}
 use Rattle.pml_moves.specs.Picked.{offer_on, offer_at, picked}
-use Rattle.pml_texts.specs.Texts.{kind_of, proctype_of, heading, offer_text, pick_text, death_text, line_in, brace_of, origin_of, move_text}
-use Rattle.pml_sim.specs.Origins.{Names, IsOffered, IsThere, TextsNameOrigins}
+use Rattle.pml_texts.specs.Texts.{kind_of, proctype_of, heading, offer_text, pick_text, death_text, line_in, brace_of}
+use Rattle.pml_sim.specs.Origins.{Names, IsOffered, TextsNameOrigins}
 use Rattle.pml_sim.proofs.Lasting.{get_light}
 
 -- its text begins with its line, or there is none

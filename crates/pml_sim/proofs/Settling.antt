@@ -1,5 +1,5 @@
 -- What settling comes to, and what is offered there, weighs no more than the body.
-use Rattle.std.proofs.Common.{ℕ, zero, suc, ◌+◌, ◌≤◌, List, [], ◌∷◌, ◌++◌, length, Bool, true, false, Option, Some, None, refl, arith, length-append, if◌then◌else◌}
+use Rattle.std.proofs.Common.{ℕ, zero, suc, ◌+◌, ◌≤◌, List, [], ◌∷◌, ◌++◌, length, Bool, true, false, Option, Some, None, arith, length-append, if◌then◌else◌}
 use Rattle.pml_program.specs.declared.program.Seq.{Seq, Seq', Row_of-Stmt, end_of-Stmt, more_of-Stmt, items-the_row-Stmt}
 use Rattle.pml_program.specs.declared.program.Basic.{Basic, Plain, Goto, Break, If', Do', Block, Atomic, DStep, Unless, Row_of-Seq, end_of-Seq, more_of-Seq}
 use Rattle.pml_control.specs.Control.{Place, Turn, Control, Todo, Back, Under, InAtomic, InDStep, steps, turn, todos, into, all_of, place_of, at_place, broken, in_d_step, move_on, go_on, settle_within, settle, most_moves}

@@ -1,5 +1,5 @@
 -- The lines of a model's choices with their places are short.
-use Rattle.std.proofs.Common.{◌≡◌, ℕ, zero, suc, ◌+◌, ◌-◌, ◌*◌, ◌<◌, ◌≤◌, Bool, List, [], ◌∷◌, ◌++◌, length, map, take, Option, Some, None, Result, Ok, Err, IfOk, refl, sym, ap, arith, length-append, subst, ◌∙◌, codes}
+use Rattle.std.proofs.Common.{◌≡◌, ℕ, ◌+◌, ◌-◌, ◌*◌, ◌<◌, ◌≤◌, Bool, List, [], ◌∷◌, ◌++◌, length, map, take, Option, Some, None, Result, Ok, Err, IfOk, sym, ap, arith, length-append, subst, ◌∙◌, codes}
 use Rattle.std.specs.Prelude.{slice_get, slice_index_or, IfSome}
 use Rattle.std.specs.List.{AllByRecursion, Contains}
 use Rattle.std.proofs.lemmas.List.{length-take, length-map}
@@ -7,7 +7,7 @@ use Rattle.diagnostics.specs.declared.fault.Fault.{Fault}
 use Rattle.session.specs.declared.Options.{Options}
 use Rattle.session.specs.Convert.{StandsForRecord}
 use Rattle.session.specs.Limits.{most_line_bytes}
-use Rattle.session.specs.Machine.{Outcome, Goes, Faults}
+use Rattle.session.specs.Machine.{Goes}
 use Rattle.session.specs.Session.{place_of, transcript}
 use Rattle.session.specs.Texts.{all_digits, placed_line}
 use Rattle.session.proofs.Placing.{can_be_converted}
@@ -30,10 +30,10 @@ use Rattle.profile.specs.declared.TheConstants.{MOST_DSTEP_STATEMENTS}
 use Rattle.pml_steps.specs.Held.{begins_by, begins_at}
 use Rattle.pml_steps.specs.Outcome.{Done}
 use Rattle.pml_steps.specs.Outcome as outcome
-use Rattle.pml_texts.specs.Texts.{kind_of, proctype_of, line_in, brace_of, origin_of, IsWithin}
+use Rattle.pml_texts.specs.Texts.{kind_of, line_in, brace_of, origin_of, IsWithin}
 use Rattle.pml_sim.specs.declared.halt.Halt.{Halt}
 use Rattle.pml_sim.specs.World.{Running, first, unless_stopped, moves, led_to, step, rules}
-use Rattle.pml_sim.proofs.Weight.{weight_part, IsLight}
+use Rattle.pml_sim.proofs.Weight.{weight_part}
 use Rattle.pml_sim.proofs.Crowding.{IsLightProctype, IsLightStand, IsLightState, moves_few}
 use Rattle.pml_sim.proofs.Lasting.{IsLightOffer, first_light, get_light, picked_light, step_light, body_weighs}
 use Rattle.pml_sim.proofs.Stepping.{listed_within}
