@@ -1,12 +1,11 @@
 -- The bodies of a text's model weigh little.
-use Rattle.std.proofs.Common.{◌≡◌, ℕ, ◌+◌, ◌*◌, ◌<◌, ◌≤◌, Bool, List, [], ◌∷◌, length, map, sym, subst, arith}
+use Rattle.std.proofs.Common.{ℕ, ◌+◌, ◌*◌, ◌≤◌, Bool, List, ◌∷◌, length, map, sym, subst, arith}
 use Rattle.std.specs.List.{AllByRecursion}
 use Rattle.pml_lex.specs.Word.{Word}
 use Rattle.pml_tree.specs.declared.tree.Item.{Item}
 use Rattle.pml_tree.specs.declared.tree.Variable.{Variable}
 use Rattle.pml_tree.specs.declared.tree.Starts.{Starts}
 use Rattle.pml_tree.specs.declared.tree.Unit.{Unit as Part}
-use Rattle.pml_tree.specs.declared.tree.Unit.TheVariants as part
 use Rattle.pml_tree.specs.declared.tree.Tree.{Tree}
 use Rattle.pml_expression.specs.Grammar.{SpellsList}
 use Rattle.pml_expression.proofs.Kept.{Leads, here, past, ◌then◌, step, expr_leads, list_leads}
@@ -20,7 +19,6 @@ use Rattle.pml_program.specs.declared.program.Program.{Program}
 use Rattle.pml_stands.specs.Known.{Globals}
 use Rattle.pml_stands.specs.StandsModel as stands
 use Rattle.pml_stands.specs.StandsModel.{StandsUnits, StandsModel}
-use Rattle.pml_sim.proofs.Weight.{weight_part}
 use Rattle.pml_sim.specs.World.{Running}
 use Rattle.pml_sim.proofs.Crowding.{IsLightProctype, IsLightState}
 use Rattle.pml_sim.proofs.Short.{most, first_is_light}

@@ -1,5 +1,5 @@
 -- How much a tree weighs: no less than what it stands for.
-use Rattle.std.proofs.Common.{◌≡◌, ℕ, ◌+◌, ◌≤◌, List, [], ◌∷◌, map, Option, Some, None, refl, sym, ap, ◌∙◌, arith}
+use Rattle.std.proofs.Common.{◌≡◌, ℕ, ◌+◌, ◌≤◌, List, [], ◌∷◌, map, Option, Some, None, sym, ap, ◌∙◌, arith}
 use denote.Hole.Carrier.{roll}
 use Rattle.pml_lex.specs.Word.{Word}
 use Rattle.pml_tree.specs.declared.tree.Action.{Action}
@@ -7,8 +7,8 @@ use Rattle.pml_tree.specs.declared.tree.Reference.{Reference}
 use Rattle.pml_tree.specs.declared.tree.Variable.{Variable}
 use Rattle.pml_tree.specs.declared.tree.Basic.{Basic as TreeBasic, Basic-F, map-Basic, roll-Basic, fold-Basic, fold-roll-Basic}
 use Rattle.pml_tree.specs.declared.tree.Basic.TheVariants as form
-use Rattle.pml_tree.specs.declared.tree.Item.{Item, Item-F, roll-Item, fold-Item, fold-roll-Item}
-use Rattle.pml_tree.specs.declared.tree.Seq.{Seq as TreeSeq, Seq-F, roll-Seq as tree-Seq, fold-Seq, fold-roll-Seq}
+use Rattle.pml_tree.specs.declared.tree.Item.{Item, Item-F, fold-Item, fold-roll-Item}
+use Rattle.pml_tree.specs.declared.tree.Seq.{Seq as TreeSeq, Seq-F, fold-Seq, fold-roll-Seq}
 use Rattle.pml_program.specs.declared.program.Slot.{Slot}
 use Rattle.pml_program.specs.declared.program.Basic.{Basic}
 use Rattle.pml_program.specs.declared.program.Basic.TheBlock.{shape-the_row-Stmt-1}

@@ -1,5 +1,5 @@
 -- A tree weighs little, where its tokens are few and on few lines.
-use Rattle.std.proofs.Common.{◌≡◌, ℕ, zero, suc, ◌+◌, ◌-◌, ◌*◌, ◌<◌, ◌≤◌, Bool, true, false, List, [], ◌∷◌, ◌++◌, length, map, take, Option, Some, None, refl, sym, ap, ◌∙◌, subst, arith, length-append}
+use Rattle.std.proofs.Common.{◌≡◌, ℕ, zero, suc, ◌+◌, ◌-◌, ◌*◌, ◌<◌, ◌≤◌, Bool, List, [], ◌∷◌, ◌++◌, length, map, take, ap, subst, arith, length-append}
 use Rattle.std.specs.List.{AllByRecursion}
 use lib.Chars.{codes}
 use Rattle.pml_lex.specs.Word.{Word}
@@ -14,19 +14,16 @@ use Rattle.pml_tree.specs.declared.tree.Expr.TheVariants as e
 use Rattle.pml_tree.specs.declared.tree.Item.{Item}
 use Rattle.pml_tree.specs.declared.tree.Reference.{Reference}
 use Rattle.pml_tree.specs.declared.tree.Seq.{Seq}
-use Rattle.pml_tree.specs.declared.tree.Unit.{Unit as Part}
-use Rattle.pml_tree.specs.declared.tree.Unit.TheVariants as u
-use Rattle.pml_tree.specs.declared.tree.Tree.{Tree}
 use Rattle.pml_flow.specs.Marks.{first_line}
 use Rattle.pml_expression.specs.Grammar.{between, SpellsReference, SpellsList}
-use Rattle.pml_expression.proofs.Kept.{Leads, here, past, ◌then◌, step, expr_leads, reference_leads, list_leads}
+use Rattle.pml_expression.proofs.Kept.{Leads, ◌then◌, reference_leads, list_leads}
 use Rattle.pml_syntax.specs.declared.opener.Opener.{Opener}
 use Rattle.pml_syntax.specs.declared.range.Bound.{Bound}
 use Rattle.pml_syntax.specs.declared.range.Range.{Range}
 use Rattle.pml_syntax.specs.Grammar as grammar
 use Rattle.pml_syntax.specs.Grammar.{SpellsOpener, SpellsDeclaration, SpellsRange, SpellsBasic, SpellsStatement, SpellsItem, SpellsItems, SpellsOptions, SpellsBody, item_of, seq_of, made, setting, comparing, raising, otherwise_item, breaking, turning, for_on, for_out, select_on, select_out, for_of, select_of}
 use Rattle.pml_syntax.proofs.Begins.{action_moves}
-use Rattle.pml_syntax.proofs.Kept.{visibility_leads, opener_leads, variables_lead, declaration_leads, separators_lead, labels_lead, gap_leads, item_leads, items_lead}
+use Rattle.pml_syntax.proofs.Kept.{visibility_leads, variables_lead, separators_lead, labels_lead, gap_leads, item_leads, items_lead}
 use Rattle.pml_syntax.proofs.Ranges.{range_moves, range_leads}
 use Rattle.pml_play.proofs.Measured.{total, tree_basic, tree_item, tree_seq, item-is, seq-is, declare-is, exclusive-is, plain-is, goto-is, break-is, if-is, do-is, block-is, atomic-is, d_step-is, unless-is}
 

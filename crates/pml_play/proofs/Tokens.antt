@@ -1,17 +1,17 @@
 -- The tokens of a text, and what comes of them, are few and on few lines.
-use Rattle.std.proofs.Common.{◌≡◌, ℕ, zero, suc, ◌+◌, ◌≤◌, Bool, true, false, not, ◌&&◌, nat_le, cond, List, [], ◌∷◌, ◌++◌, length, take, drop, map, All, Option, Some, None, refl, sym, ap, ◌∙◌, subst, arith, length-append, append_assoc}
+use Rattle.std.proofs.Common.{◌≡◌, ℕ, zero, suc, ◌+◌, ◌≤◌, Bool, true, false, not, ◌&&◌, nat_le, cond, List, [], ◌∷◌, ◌++◌, length, take, drop, map, All, Option, Some, None, refl, ap, subst, arith, length-append}
 use Rattle.std.specs.List.{concat, AllByRecursion}
 use Rattle.std.proofs.lemmas.Bool.{leb-true}
 use Rattle.std.proofs.lemmas.List.Elements.{All-head, All-tail}
 use Rattle.std.proofs.lemmas.List.Sums.{count_by-le-length}
-use Rattle.profile.specs.declared.TheConstants.{MOST_CALLS, MOST_REPLACED, MOST_TEXT_BYTES}
+use Rattle.profile.specs.declared.TheConstants.{MOST_CALLS, MOST_REPLACED}
 use Rattle.pml_lex.specs.declared.token.Kind.TheVariants.{OpenParen, CloseParen}
 use Rattle.pml_lex.specs.declared.piece.Piece.{Piece}
 use Rattle.pml_lex.specs.declared.piece.Piece.TheVariants.{Skipped, Token}
 use Rattle.pml_lex.specs.Word.{Word}
 use Rattle.pml_lex.specs.Pieces.{piece}
 use Rattle.pml_lex.specs.Division.{IsCut, is_line_feed, line_behind, is_fresh, word, words}
-use Rattle.pml_lex.specs.Limits.{IsOnLine, AreOnLines}
+use Rattle.pml_lex.specs.Limits.{IsOnLine}
 use Rattle.pml_lex.specs.Cut.{AreTokens}
 use Rattle.pml_lex.proofs.Lines.{token_lines}
 use Rattle.pml_inline.specs.Brackets.{is_inline, has_inline, closing}
