@@ -58,7 +58,7 @@ def file_names():
 
 def blocks_of(name):
     with open(CRATE + "/data/" + name, encoding="utf-8", newline="") as file:
-        return ("\n" + file.read().rstrip("\n")).split("\n== ")[1:]
+        return ("\n" + file.read()[:-1]).split("\n== ")[1:]
 
 
 def all_rows():
