@@ -1,10 +1,20 @@
 """The rows of crates/rows, read from its files: each a model with flags and choices, and what stands behind its session. docs/ROWS.md
-has their form. 'python3 tools/rows.py' prints how many rows each file has, as crates/rows/stdout has to say."""
+has their form. 'python3 tools/rows.py' prints how many rows each file has, as crates/rows/stdout has to say, and 'python3 tools/rows.py
+layer_rows' how many rows of each layer there are, as crates/layer_rows/stdout has to say."""
 import collections, os, re, sys
 
 Row = collections.namedtuple("Row", "name flags model choices read output status record")
 TOP = os.path.dirname(os.path.dirname(os.path.abspath(__file__)))
-CRATE = TOP + "/crates/rows"
+# what rows of each layer want
+LAYERS = {
+    "tokens": ["tokens", "count"],
+    "grammar": ["parsed", "parsed-as-cut", "expressions"],
+    "conditions": ["condition", "control"],
+    "names": ["model", "statements"],
+    "graphs": ["graph", "levels", "texts", "marks"],
+    "value lines": ["values", "local-values", "logged-values"],
+    "command lines": ["words"],
+}
 ESCAPES = {"n": "\n", "t": "\t", "r": "\r", "f": "\f", "\\": "\\"}
 # rows that no program is swept with: those of long sessions, of devices that fail, and of the form of rows
 APART = ["large.txt", "failing.txt", "forms.txt"]
@@ -47,17 +57,17 @@ def rows_of(block):
         yield Row(title, text("flags").split(), text("model"), (choices + rest).encode("latin-1"), len(choices), text("output"), int(text("status")), unescaped(text("record")).encode("latin-1"))
 
 
-def file_names():
+def file_names(crate="rows"):
     """The names of the files, as the program is given them."""
-    with open(CRATE + "/args", encoding="utf-8") as file:
+    with open("%s/crates/%s/args" % (TOP, crate), encoding="utf-8") as file:
         names = file.read().split()
-    if names != sorted(os.listdir(CRATE + "/data")):
-        sys.exit("rows.py: crates/rows/args does not have the names of crates/rows/data, in order")
+    if names != sorted(os.listdir("%s/crates/%s/data" % (TOP, crate))):
+        sys.exit("rows.py: crates/%s/args does not have the names of crates/%s/data, in order" % (crate, crate))
     return names
 
 
-def blocks_of(name):
-    with open(CRATE + "/data/" + name, encoding="utf-8", newline="") as file:
+def blocks_of(name, crate="rows"):
+    with open("%s/crates/%s/data/%s" % (TOP, crate, name), encoding="utf-8", newline="") as file:
         return ("\n" + file.read()[:-1]).split("\n== ")[1:]
 
 
@@ -69,6 +79,24 @@ def all_rows():
                 yield from rows_of(block)
 
 
-if __name__ == "__main__":
+def count_of_layer(texts, words):
+    """How many rows of a layer a block has, of these words."""
+    lines = lambda word: len(texts[word].rstrip("\n").split("\n"))
+    if "signs" in texts:
+        return lines("signs") * (1 + 2 * lines("signs")) if "tokens" in words else 0
+    if "beginnings" in texts:
+        return lines("beginnings") if "tokens" in words else 0
+    return sum(word in texts for word in words) * (lines("each") if "each" in texts else 1)
+
+
+def print_layers():
+    blocks = [parts_of(block)[1] for name in file_names("layer_rows") for block in blocks_of(name, "layer_rows")]
+    for layer, words in LAYERS.items():
+        print("%s: %d rows passed" % (layer, sum(count_of_layer(texts, words) for texts in blocks)))
+
+
+if __name__ == "__main__" and sys.argv[1:] == ["layer_rows"]:
+    print_layers()
+elif __name__ == "__main__":
     for name in file_names():
         print("%s: %d rows passed" % (name, sum(len(pairs_of(parts_of(block)[1])) for block in blocks_of(name))))

@@ -1,5 +1,0 @@
-// Rows of command lines.
-#![tactic(auto)]
-
-#[cfg(test)]
-mod command_lines;
