@@ -85,6 +85,28 @@ pub struct Behind {
     pub end: End,
 }
 
+/// The devices of a session: what it writes is kept, each of them may fail, and the output takes one byte a call.
+type Kept<'c, K, L> = ThreeDevices<
+    FailsOnce<SliceSource<'c>>,
+    FailsOnce<OneByte<VecSink<K>>>,
+    FailsOnce<VecSink<L>>,
+>;
+
+/// What stands behind a session that ended so.
+fn read_back<K: Ledger, L: Ledger>(
+    alloc: Global,
+    devices: &Kept<'_, K, L>,
+    end: End,
+) -> Result<Behind, Refused> {
+    Ok(Behind {
+        out: Vec::from_slice(alloc, devices.out.device().sink.bytes())?,
+        rec: Vec::from_slice(alloc, devices.rec.device().bytes())?,
+        unread: devices.source.device().left().len(),
+        failed: devices.source.has_failed() || devices.out.has_failed() || devices.rec.has_failed(),
+        end,
+    })
+}
+
 fn played_with<K: Ledger, L: Ledger>(
     alloc: Global,
     first: Blank,
@@ -115,13 +137,7 @@ fn played_with<K: Ledger, L: Ledger>(
         ),
     };
     let end = play(alloc, text, options, &mut devices);
-    Ok(Behind {
-        out: Vec::from_slice(alloc, devices.out.device().sink.bytes())?,
-        rec: Vec::from_slice(alloc, devices.rec.device().bytes())?,
-        unread: devices.source.device().left().len(),
-        failed: devices.source.has_failed() || devices.out.has_failed() || devices.rec.has_failed(),
-        end,
-    })
+    read_back(alloc, &devices, end)
 }
 
 /// Plays a text, with these failures.
