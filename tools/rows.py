@@ -68,7 +68,7 @@ def file_names(crate="rows"):
 
 def blocks_of(name, crate="rows"):
     with open("%s/crates/%s/data/%s" % (TOP, crate, name), encoding="utf-8", newline="") as file:
-        return ("\n" + file.read().rstrip("\n")).split("\n== ")[1:]
+        return ("\n" + file.read()[:-1]).split("\n== ")[1:]
 
 
 def all_rows():

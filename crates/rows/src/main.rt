@@ -63,17 +63,23 @@ fn passes(rt: &HostRuntime, place: Place<'_, '_>, this: &str, that: &str) -> Res
     }
     let Place { file, block } = place;
     let (line, name, words) = (block.line, block.name(), told.words());
-    eprintln!(rt; "{file}:{line}: row '{name}' {this}: {words}")?;
+    let gap = if this.is_empty() { "" } else { " " };
+    eprintln!(rt; "{file}:{line}: row '{name}'{gap}{this}: {words}")?;
     Ok(false)
 }
 
-// Plays a row for each line of a part.
+// Plays a row for each line of a part. A part without a line is refused, since no row would be played.
 fn each_played(rt: &HostRuntime, place: Place<'_, '_>, lines: &str) -> Result<Tally, Refused> {
+    let refused = Refused {
+        line: place.block.line,
+        why: "a part 'each' is lines with an arrow",
+    };
+    if lines.is_empty() {
+        return Err(refused);
+    }
     let mut tally = NO_ROWS;
     for line in lines.lines() {
-        let (this, that) = line
-            .split_once(" => ")
-            .ok_or("a line of 'each' has an arrow")?;
+        let (this, that) = line.split_once(" => ").ok_or(refused)?;
         tally = tally.counted(passes(rt, place, this, that)?);
     }
     Ok(tally)
