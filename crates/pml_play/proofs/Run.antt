@@ -34,7 +34,7 @@ use Rattle.pml_play.proofs.Outcomes.{when_modelled}
 -- ---- the record's lines give its numbers
 
 -- bytes up to the first line feed, and those behind it
-cut : List ℕ → List ℕ × List ℕ
+abbrev cut : List ℕ → List ℕ × List ℕ
 cut [] = ([], [])
 cut (b ∷ bs) = if eqb b 10 then ([], bs) else (b ∷ (cut bs).0, (cut bs).1)
 
@@ -102,14 +102,14 @@ module _ {S M : Type 0} (rules : Rules S M) where
 
   same_path : (s : S) (path again : List (Turn S M)) (ns ms us vs : List ℕ) → IsPath rules s path ns → IsPath rules s again ms → ns ++ us ≡ ms ++ vs → length path ≡ length again → path ≡ again
   same_path s [] [] ns ms us vs here there same long = refl
-  same_path s [] (b ∷ bs) ns ms us vs here there same long = absurd (omega (arith, long))
-  same_path s (a ∷ as) [] ns ms us vs here there same long = absurd (omega (arith, long))
-  same_path s (a ∷ as) (b ∷ bs) ns ms us vs (first, rest, is, step, path) (first', rest', is', step', path') same long =
+  same_path s [] (y ∷ ys) ns ms us vs here there same long = absurd (omega (arith, long))
+  same_path s (x ∷ xs) [] ns ms us vs here there same long = absurd (omega (arith, long))
+  same_path s (x ∷ xs) (y ∷ ys) ns ms us vs (first, rest, is, step, path) (first', rest', is', step', path') same long =
       let all : first ++ (rest ++ us) ≡ first' ++ (rest' ++ vs) =
-          sym (ap (λ (l : List ℕ). l ++ us) is ∙ append_assoc first rest us) ∙ same ∙ (ap (λ (l : List ℕ). l ++ vs) is' ∙ append_assoc first' rest' vs) in
-      let one = same_step s first first' a b (rest ++ us) (rest' ++ vs) step step' all in
-      let on : IsPath rules a.next bs rest' = subst (λ (t : Turn S M). IsPath rules t.next bs rest') (sym one.0) path' in
-      ap (λ (t : Turn S M). t ∷ as) one.0 ∙ ap (λ (l : List (Turn S M)). b ∷ l) (same_path a.next as bs rest rest' us vs path on one.1 (omega (arith, long)))
+      sym (ap (λ (l : List ℕ). l ++ us) is ∙ append_assoc first rest us) ∙ same ∙ (ap (λ (l : List ℕ). l ++ vs) is' ∙ append_assoc first' rest' vs) in
+      let one = same_step s first first' x y (rest ++ us) (rest' ++ vs) step step' all in
+      let on : IsPath rules x.next ys rest' = subst (λ (t : Turn S M). IsPath rules t.next ys rest') (sym one.0) path' in
+      ap (λ (t : Turn S M). t ∷ xs) one.0 ∙ ap (λ (l : List (Turn S M)). y ∷ l) (same_path x.next xs ys rest rest' us vs path on one.1 (omega (arith, long)))
 
   pub record_gives_run : (s : S) → RecordGivesRun rules s
   record_gives_run s limit other path again a b run same_run records steps =
@@ -133,30 +133,35 @@ module _ {S M : Type 0} (rules : Rules S M) (options : Options) where
 
   -- no step is taken
   ends_here : (s : S) (steps : ℕ) (part : Part End) (last : List ℕ) → part.value.steps ≡ steps → recorded part.events ≡ flat_map record_line last → IsLast rules options.limit s steps last part.value.cause → RunsFrom s steps part
-  ends_here s steps part last counted kept ends = ([], record {
-    numbers = [];
-    last = last;
-    is_path = refl;
-    counted = counted ∙ omega arith;
-    kept = kept;
-    ends = let same : steps ≡ steps + 0 = omega arith in subst (λ (n : ℕ). IsLast rules options.limit s n last part.value.cause) same ends;
-  })
+  ends_here s steps part last counted kept ends = (
+    [],
+    record {
+      numbers = [];
+      last = last;
+      is_path = refl;
+      counted = counted ∙ omega arith;
+      kept = kept;
+      ends = let same : steps ≡ steps + 0 = omega arith in subst (λ (n : ℕ). IsLast rules options.limit s n last part.value.cause) same ends;
+    },
+  )
 
   -- a step is taken, and then comes the rest
   goes_on : (s : S) (steps : ℕ) (ns : List ℕ) (turn : Turn S M) (part later : Part End) → IsStep rules s ns turn → part.value ≡ later.value → recorded part.events ≡ flat_map record_line ns ++ recorded later.events
       → RunsFrom turn.next (steps + 1) later → RunsFrom s steps part
   goes_on s steps ns turn part later step same kept run =
       let r = run.1 in
-      let long : (steps + 1) + length run.0 ≡ steps + length (turn ∷ run.0) = omega arith in
-      (turn ∷ run.0, record {
-        numbers = ns ++ r.numbers;
-        last = r.last;
-        is_path = (ns, r.numbers, refl, step, r.is_path);
-        counted = ap (λ (e : End). e.steps) same ∙ r.counted ∙ long;
-        kept = kept ∙ ap (λ (l : List ℕ). flat_map record_line ns ++ l) r.kept ∙ sym (flat_map-append record_line ns (r.numbers ++ r.last)) ∙ ap (flat_map record_line) (sym (append_assoc ns r.numbers r.last));
-        ends = subst (λ (c : Cause). IsLast rules options.limit (last_state turn.next run.0) (steps + length (turn ∷ run.0)) r.last c) (sym (ap (λ (e : End). e.cause) same))
-            (subst (λ (n : ℕ). IsLast rules options.limit (last_state turn.next run.0) n r.last later.value.cause) long r.ends);
-      })
+      let long : (steps + 1) + length run.0 ≡ steps + length (turn ∷ run.0) = omega arith in (
+        turn ∷ run.0,
+        record {
+          numbers = ns ++ r.numbers;
+          last = r.last;
+          is_path = (ns, r.numbers, refl, step, r.is_path);
+          counted = ap (λ (e : End). e.steps) same ∙ r.counted ∙ long;
+          kept = kept ∙ ap (λ (l : List ℕ). flat_map record_line ns ++ l) r.kept ∙ sym (flat_map-append record_line ns (r.numbers ++ r.last)) ∙ ap (flat_map record_line) (sym (append_assoc ns r.numbers r.last));
+          ends = subst (λ (c : Cause). IsLast rules options.limit (last_state turn.next run.0) (steps + length (turn ∷ run.0)) r.last c) (sym (ap (λ (e : End). e.cause) same))
+              (subst (λ (n : ℕ). IsLast rules options.limit (last_state turn.next run.0) n r.last later.value.cause) long r.ends);
+        },
+      )
 
   -- what a state's moves lead to runs through a path
   abbrev RunsOn : ℕ → (S → Stream → List ℕ → Part End) → Type 0
@@ -191,7 +196,7 @@ module _ {S M : Type 0} (rules : Rules S M) (options : Options) where
         let back : n ≡ (n - 1) + 1 = omega (arith, range.0) in
         step_runs taken (n ∷ []) stream left (rw is (picked_is_there moves n m range.0 range.1)) (rw is (n - 1, ap (λ (x : ℕ). x ∷ []) back, slice_get-get_or moves (n - 1) m within)) (rules.step s taken) refl _ refl
         (recorded_chosen (rules.text s) (place_of rules s m moves) moves (answered rules options s moves m steps later) asked n stream left silent
-          ∙ ap (λ (l : List ℕ). l ++ recorded (answered rules options s moves m steps later (answer.Pick n) stream left).events) (sym (append-nil (record_line n))))
+        ∙ ap (λ (l : List ℕ). l ++ recorded (answered rules options s moves m steps later (answer.Pick n) stream left).events) (sym (append-nil (record_line n))))
     question_runs m k ms is asked silent answer.Quit range stream left = ends_here s steps _ [] refl (rw (append-nil asked) (rw (recorded-append asked _, silent.0) refl)) (at_question below (rw is (omega arith)) refl)
     question_runs m k ms is asked silent answer.Ended range stream left = ends_here s steps _ [] refl (rw (append-nil asked) (rw (recorded-append asked _, silent.0) refl)) (at_question below (rw is (omega arith)) refl)
     question_runs m k ms is asked silent answer.TooLong range stream left = ends_here s steps _ [] refl (rw (append-nil asked) (rw (recorded-append asked _, silent.0) refl)) (at_question below (rw is (omega arith)) refl)
@@ -209,20 +214,20 @@ module _ {S M : Type 0} (rules : Rules S M) (options : Options) where
       question_runs s steps below (λ t o q. story First rules options fuel t (steps + 1) o q) on m k ms is asked.events (ask_silent (length moves) place (most_bad_lines - 1) stream rest)
       asked.value (ask_range (length moves) place (most_bad_lines - 1) stream rest) asked.stream asked.left
 
-  finish_runs : (s : S) (steps : ℕ) → rules.moves s ≡ [] → (valid : Bool) → rules.is_valid s ≡ valid → (stream : Stream) (rest : List ℕ) → RunsFrom s steps (finished valid (rules.stuck s) steps stream rest)
-  finish_runs s steps none valid is stream rest = by valid (subst (λ (v : Bool). IsLast rules options.limit s steps [] (final_cause v)) is (no_move none))
+  finish_runs : (s : S) (steps : ℕ) → steps ≤ options.limit → rules.moves s ≡ [] → (valid : Bool) → rules.is_valid s ≡ valid → (stream : Stream) (rest : List ℕ) → RunsFrom s steps (finished valid (rules.stuck s) steps stream rest)
+  finish_runs s steps within none valid is stream rest = by valid (subst (λ (v : Bool). IsLast rules options.limit s steps [] (final_cause v)) is (no_move within none))
     where
       by : (v : Bool) → IsLast rules options.limit s steps [] (final_cause v) → RunsFrom s steps (finished v (rules.stuck s) steps stream rest)
       by true ends = ends_here s steps _ [] refl refl ends
       by false ends = ends_here s steps _ [] refl refl ends
 
   limit_runs : (s : S) (steps : ℕ) → steps ≡ options.limit → (moves : List M) → rules.moves s ≡ moves → (stream : Stream) (rest : List ℕ) → RunsFrom s steps (story First rules options 0 s steps stream rest)
-  limit_runs s steps at [] is stream rest = rw (story_none First rules options s steps stream 0 is rest) (finish_runs s steps is (rules.is_valid s) refl stream rest)
-  limit_runs s steps at (m ∷ ms) is stream rest = rw (story_limit First rules options s steps stream m ms is rest) (ends_here s steps _ [] refl refl (at_limit (λ none. let no = sym is ∙ none in cc) at))
+  limit_runs s steps at [] is stream rest = rw (story_none First rules options s steps stream 0 is rest) (finish_runs s steps (omega (arith, at)) is (rules.is_valid s) refl stream rest)
+  limit_runs s steps at (m ∷ ms) is stream rest = rw (story_limit First rules options s steps stream m ms is rest) (ends_here s steps _ [] refl refl (at_limit at (λ none. let no = sym is ∙ none in cc)))
 
   move_runs : (fuel : ℕ) (s : S) (steps : ℕ) → steps < options.limit → RunsOn steps (λ t o q. story First rules options fuel t (steps + 1) o q) → (moves : List M) → rules.moves s ≡ moves → (stream : Stream) (rest : List ℕ)
       → RunsFrom s steps (story First rules options (suc fuel) s steps stream rest)
-  move_runs fuel s steps below on [] is stream rest = rw (story_none First rules options s steps stream (suc fuel) is rest) (finish_runs s steps is (rules.is_valid s) refl stream rest)
+  move_runs fuel s steps below on [] is stream rest = rw (story_none First rules options s steps stream (suc fuel) is rest) (finish_runs s steps (omega (arith, below)) is (rules.is_valid s) refl stream rest)
   move_runs fuel s steps below on (m ∷ ms) is stream rest = rw (story_some First rules options s steps stream fuel m ms is rest) (select_runs fuel s steps below on m ms is stream rest)
 
   story_runs : (fuel : ℕ) (s : S) (steps : ℕ) → steps + fuel ≡ options.limit → (stream : Stream) (rest : List ℕ) → RunsFrom s steps (story First rules options fuel s steps stream rest)
@@ -231,8 +236,18 @@ module _ {S M : Type 0} (rules : Rules S M) (options : Options) where
 
   pub session_runs : (s : S) (choices : List ℕ) → HasRun rules options.limit s (transcript rules options s choices)
   session_runs s choices =
-      let r = story_runs options.limit s 0 refl Unread choices in
-      (r.0, record { numbers = r.1.numbers; last = r.1.last; is_path = r.1.is_path; counted = r.1.counted; kept = r.1.kept; ends = r.1.ends })
+      let r = story_runs options.limit s 0 (omega arith) Unread choices in
+      let none : 0 + length r.0 ≡ length r.0 = omega arith in (
+        r.0,
+        record {
+          numbers = r.1.numbers;
+          last = r.1.last;
+          is_path = r.1.is_path;
+          counted = r.1.counted ∙ none;
+          kept = r.1.kept;
+          ends = subst (λ (n : ℕ). IsLast rules options.limit (last_state s r.0) n r.1.last (transcript rules options s choices).value.cause) none r.1.ends;
+        },
+      )
 
 -- so does each session over a text that stands for a model
 pub text_runs : {text : List ℕ} {options : Options} {model : Running} {part : List ℕ → Part End} → IsModel text options.lossy model → IsTranscript text options part → (choices : List ℕ) → HasRun rules options.limit model (part choices)

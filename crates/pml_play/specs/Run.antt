@@ -1,5 +1,5 @@
 -- What a run of a session is: a path through the states of its machine, and why it ends.
-use Rattle.std.specs.Prelude.{◌≡◌, ◌≢◌, ◌<◌, ℕ, ◌+◌, List, [], ◌∷◌, ◌++◌, length, slice_get, Some, true, ⊥}
+use Rattle.std.specs.Prelude.{◌≡◌, ◌≢◌, ◌<◌, ◌≤◌, ℕ, ◌+◌, List, [], ◌∷◌, ◌++◌, length, slice_get, Some, true}
 use Rattle.std.specs.List.{Contains, flat_map}
 use Rattle.diagnostics.specs.declared.fault.Fault.{Fault}
 use Rattle.session.specs.declared.End.{End}
@@ -20,7 +20,7 @@ pub record Turn (S M : Type 0) : Type 0 where
 -- the only move, and no number is recorded; or of several moves the one whose number, counted from 1, is recorded
 abbrev pub IsChosen : {M : Type 0} → List M → List ℕ → M → Type 0
 IsChosen [] numbers m = ⊥
-IsChosen (only ∷ []) numbers m = (numbers ≡ []) × (m ≡ only)
+IsChosen (a ∷ []) numbers m = (numbers ≡ []) × (m ≡ a)
 IsChosen (a ∷ b ∷ more) numbers m = (k : ℕ) × (numbers ≡ (k + 1) ∷ []) × (slice_get (a ∷ b ∷ more) k ≡ Some m)
 
 -- The move is one of the state's moves, chosen so, and leads to the next state.
@@ -30,7 +30,7 @@ pub record IsStep {S M : Type 0} (rules : Rules S M) (s : S) (numbers : List ℕ
   pub printed : List ℕ
   pub goes : rules.step s turn.move ≡ Goes turn.next printed
 
--- From this state on each step leads to the next one's state, and the numbers recorded of them are these, one behind another.
+-- Each step begins in the state that the one before it leads to, the first in this one, and these numbers are recorded, one behind another.
 abbrev pub IsPath : {S M : Type 0} → Rules S M → S → List (Turn S M) → List ℕ → Type 0
 IsPath rules s [] numbers = numbers ≡ []
 IsPath rules s (turn ∷ turns) numbers =
@@ -41,19 +41,19 @@ abbrev pub last_state : {S M : Type 0} → S → List (Turn S M) → S
 last_state s [] = s
 last_state s (turn ∷ turns) = last_state turn.next turns
 
--- Why a run ends in a state after so many steps, and what number is recorded of a move that is a fault.
+-- Why a run ends in a state after so many steps: nothing more is recorded, or the number of the move whose step is a fault.
 pub data IsLast {S M : Type 0} (rules : Rules S M) (limit : ℕ) (s : S) (steps : ℕ) : List ℕ → Cause → Type 0 where
   -- the state has no move
-  no_move : rules.moves s ≡ [] → IsLast rules limit s steps [] (final_cause (rules.is_valid s))
+  no_move : steps ≤ limit → rules.moves s ≡ [] → IsLast rules limit s steps [] (final_cause (rules.is_valid s))
   -- it has moves, and the limit is reached
-  at_limit : rules.moves s ≢ [] → steps ≡ limit → IsLast rules limit s steps [] cause.StepLimit
+  at_limit : steps ≡ limit → rules.moves s ≢ [] → IsLast rules limit s steps [] cause.StepLimit
   -- the step of the move is a fault
   at_fault : {m : M} {f : Fault} {numbers : List ℕ} → steps < limit → IsChosen (rules.moves s) numbers m → rules.step s m ≡ Faults f
       → IsLast rules limit s steps numbers (cause.Fault f)
   -- of several moves one is asked for, and the choices pick none: `q`, their end, a line too long, 100 bad lines or a misfit
-  at_question : {cause : Cause} → steps < limit → 1 < length (rules.moves s) → is_cut_short cause ≡ true → IsLast rules limit s steps [] cause
+  at_question : {why : Cause} → steps < limit → 1 < length (rules.moves s) → is_cut_short why ≡ true → IsLast rules limit s steps [] why
 
--- The path is what this session runs through from its first state: it has as many steps, its numbers are the record, and it ends as the session does.
+-- The session runs through this path from its first state: as many steps, its numbers are the record, and it ends as the session does.
 pub record IsRun {S M : Type 0} (rules : Rules S M) (limit : ℕ) (s : S) (path : List (Turn S M)) (part : Part End) : Type 0 where
   pub numbers : List ℕ
   pub last : List ℕ
