@@ -1,5 +1,5 @@
 -- Each session runs through a path, and its record gives it.
-use Rattle.std.proofs.Common.{◌≡◌, ℕ, zero, suc, ◌+◌, ◌-◌, ◌<◌, ◌≤◌, List, [], ◌∷◌, ◌++◌, length, get_or, slice_get, Bool, true, false, ◌&&◌, ◌==◌, eqb, if◌then◌else◌, Some, refl, sym, ap, subst, ◌∙◌, arith, append-nil, append_assoc}
+use Rattle.std.proofs.Common.{◌≡◌, ℕ, zero, suc, ◌+◌, ◌-◌, ◌<◌, ◌≤◌, List, [], ◌∷◌, ◌++◌, length, get_or, slice_get, Bool, true, false, ◌&&◌, eqb, if◌then◌else◌, Some, refl, sym, ap, subst, ◌∙◌, arith, append-nil, append_assoc}
 use Rattle.std.proofs.lemmas.Bool.Decides.{nat_tests}
 use Rattle.std.proofs.lemmas.Bool.{true≢false}
 use Rattle.std.proofs.lemmas.Grind.{flat_map-append}
@@ -8,7 +8,6 @@ use Rattle.std.specs.List.{list_all, flat_map, Contains}
 use Rattle.session.specs.declared.Options.{Options}
 use Rattle.session.specs.declared.End.{End}
 use Rattle.session.specs.declared.Cause.{Cause}
-use Rattle.session.specs.declared.Cause.TheVariants as cause
 use Rattle.session.specs.declared.choice.Answer.{Answer}
 use Rattle.session.specs.declared.choice.Answer.TheVariants as answer
 use Rattle.session.specs.declared.form.Stream.{Stream}
@@ -19,8 +18,7 @@ use Rattle.session.specs.Limits.{most_bad_lines}
 use Rattle.session.specs.Lines.{is_digit, number_of, IsPickUpTo}
 use Rattle.session.specs.Machine.{Rules, Outcome, Goes, Faults}
 use Rattle.session.specs.Part.{Part}
-use Rattle.session.specs.Replay.{is_cut_short}
-use Rattle.session.specs.Session.{ask, place_of, select, finished, stopped, stepped, answered, story, transcript, final_cause}
+use Rattle.session.specs.Session.{ask, place_of, select, finished, stepped, answered, story, transcript, final_cause}
 use Rattle.session.specs.Texts.{record_line, all_digits}
 use Rattle.session.proofs.Parts.{recorded-append}
 use Rattle.session.proofs.Replay.{Silent, ask_silent, ask_range, picked_is_there, chosen, recorded_chosen}
@@ -28,7 +26,7 @@ use Rattle.session.proofs.Turns.{story_none, story_limit, story_some, answer_par
 use Rattle.session.proofs.Written.{all_are_digits, number_is}
 use Rattle.pml_sim.specs.World.{Running, rules}
 use Rattle.pml_play.specs.Transcript.{IsModel, IsTranscript}
-use Rattle.pml_play.specs.Run.{Turn, IsChosen, IsStep, IsPath, last_state, IsLast, no_move, at_limit, at_fault, at_question, IsRun, HasRun, RecordGivesRun}
+use Rattle.pml_play.specs.Run.{Turn, IsChosen, IsStep, IsPath, last_state, IsLast, no_move, at_limit, at_fault, at_question, HasRun, RecordGivesRun}
 use Rattle.pml_play.proofs.Outcomes.{when_modelled}
 
 -- ---- the record's lines give its numbers
