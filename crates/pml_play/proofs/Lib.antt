@@ -7,3 +7,4 @@ pub mod Tokens
 pub mod Light
 pub mod Changing
 pub mod Plain
+pub mod Run

@@ -2,3 +2,4 @@ pub mod Transcript
 pub mod Plays
 pub mod Converts
 pub mod Plain
+pub mod Run

@@ -6,12 +6,13 @@ ghost use Rattle.diagnostics.specs.declared.refusal.Refusal.TheVariants as r;
 ghost use Rattle.pml_lex.specs.Cut.{IsLine};
 ghost use Rattle.pml_lex.specs.Limits.{IsTooDeep};
 ghost use Rattle.pml_lex.specs.Word.{Word};
-ghost use Rattle.pml_sim.specs.World.{Running};
+ghost use Rattle.pml_sim.specs.World.{Running, rules};
 ghost use Rattle.pml_tree.specs.declared.tree.Tree.{Tree};
 ghost use Rattle.session.specs.declared.End.{End};
 ghost use Rattle.session.specs.declared.Options.{Options};
 ghost use Rattle.session.specs.Part.{Part};
 ghost use Rattle.pml_play.specs.Plain.{ArePlain, SpellItself, SpellNothing, SayTheSame};
+ghost use Rattle.pml_play.specs.Run.{HasRun, RecordGivesRun};
 ghost use Rattle.pml_play.specs.Transcript.{IsModel, IsSpelled, IsRefused, IsTranscript, HasLine};
 
 /// A text is refused in one way at most, or stands for one model at most, and not both.
@@ -41,4 +42,12 @@ pub fn nothing_to_expand()
     ensures syntax { (text : List ℕ) (tokens : List Word) (line : ℕ) → ArePlain text tokens
         → SayTheSame (IsRefused text r.Syntax line) (SpellNothing tokens × IsLine text line) }
     ensures right { (text : List ℕ) (tokens : List Word) (line : ℕ) → ArePlain text tokens → IsRefused text r.Inline line → ⊥ }
+{}
+
+/// A session over a text that stands for a model runs through a path of its states: each move is one of its state's moves, the only one or the one
+/// that the record's next number picks, and leads to the next state, and there are as many as steps. The same record and as many steps are the same path.
+pub fn a_session_runs_through_a_path()
+    ensures path { (text : List ℕ) (options : Options) (model : Running) (part : List ℕ → Part End) → IsModel text options.lossy model
+        → IsTranscript text options part → (choices : List ℕ) → HasRun rules options.limit model (part choices) }
+    ensures one { (model : Running) → RecordGivesRun rules model }
 {}
