@@ -36,7 +36,8 @@ pub enum Piece {
     Token(Kind),
 }
 
-pub(crate) fn is_blank(b: u8) -> bool
+/// Whether a byte is a blank: a space, or one from the tab to the carriage return.
+pub fn is_blank(b: u8) -> bool
     ensures { result ≡ pieces.is_blank b }
 {
     b == b' ' || (b'\t' <= b && b <= b'\r')
@@ -103,7 +104,8 @@ fn name_bytes(text: &[u8]) -> usize
     end
 }
 
-fn digits(text: &[u8]) -> usize
+/// How many digits a text begins with.
+pub fn digits(text: &[u8]) -> usize
     ensures value { result ≡ prefix_len pieces.is_digit text.now }
     ensures within { result ≤ length text.now }
 {
@@ -114,7 +116,8 @@ fn digits(text: &[u8]) -> usize
     end
 }
 
-fn line_bytes(text: &[u8]) -> usize
+/// How many bytes stand before the first line feed.
+pub fn line_bytes(text: &[u8]) -> usize
     ensures value { result ≡ prefix_len pieces.is_in_line text.now }
     ensures within { result ≤ length text.now }
 {
@@ -125,7 +128,8 @@ fn line_bytes(text: &[u8]) -> usize
     end
 }
 
-fn spaces(text: &[u8]) -> usize
+/// How many spaces and tabs a text begins with.
+pub fn spaces(text: &[u8]) -> usize
     ensures value { result ≡ prefix_len pieces.is_space text.now }
     ensures within { result ≤ length text.now }
 {
@@ -235,7 +239,7 @@ fn hash(fresh: bool, rest: &[u8]) -> Option<(usize, Piece)>
 
 /// The longest piece at the front of a text. `fresh`: its line has only blanks before it.
 #[tactic(auto, unfolding(crate::specs::Scanning::next))]
-pub(crate) fn next(fresh: bool, text: &[u8]) -> Option<(usize, Piece)>
+pub fn next(fresh: bool, text: &[u8]) -> Option<(usize, Piece)>
     ensures value { result ≡ scanning.next fresh text.now }
     ensures within { IfSome result (λ x. x.0 ≤ length text.now) }
 {
