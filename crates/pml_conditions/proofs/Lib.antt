@@ -1,4 +1,5 @@
 pub mod Looking
+pub mod Stopping
 pub mod Open
 pub mod Counting
 pub mod Crossing

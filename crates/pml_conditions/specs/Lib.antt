@@ -3,5 +3,6 @@ pub mod Structure
 pub mod Open
 pub mod Start
 pub mod Decided
+pub mod First
 pub mod Labels
 pub mod Laws

@@ -32,7 +32,7 @@ pub struct Found {
 
 /// Which are broken at a mark, among the names and labels of all marks and behind those of the marks before it.
 #[tactic(auto, unfolding(crate::specs::Conditions::judged))]
-fn at_mark(
+pub(crate) fn at_mark(
     all: &Table,
     every: &Places<usize>,
     names: &Names,

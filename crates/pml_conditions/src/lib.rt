@@ -5,6 +5,8 @@ pub mod condition;
 mod counts;
 pub mod decide;
 pub mod find;
+pub mod first;
+mod first_crossed;
 mod labels;
 pub mod laws;
 mod round;

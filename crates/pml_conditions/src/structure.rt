@@ -11,7 +11,7 @@ use pml_marks::mark::{Mark, What};
 use pml_names::places::Places;
 use std::alloc::{AllocError, Global};
 
-fn loose(round: Round, what: &What) -> bool
+pub(crate) fn loose(round: Round, what: &What) -> bool
     ensures { result ≡ loose round what.now }
 {
     match what {
@@ -58,7 +58,12 @@ fn elsewhere(label: Option<Option<usize>>, round: Round) -> bool
     }
 }
 
-fn crosses(labels: &Places<'_, Option<usize>>, round: Round, owner: usize, what: &What) -> bool
+pub(crate) fn crosses(
+    labels: &Places<'_, Option<usize>>,
+    round: Round,
+    owner: usize,
+    what: &What,
+) -> bool
     ensures { result ≡ crosses (stands labels.now.numbers labels.now.places) round owner what.now }
 {
     match what {

@@ -1,0 +1,7 @@
+use Rattle.std.proofs.Common.{◌≡◌, ◌≤◌, ◌+◌, take}
+use Rattle.std.specs.Prelude.{count_by}
+use Rattle.pml_lex.specs.Division.{is_line_feed}
+use Rattle.explain.proofs.position.line_number.Given as goal
+
+abbrev pub invariant-loop-byte : goal.invariant-loop-byte
+invariant-loop-byte l = (l.number ≡ 1 + count_by is_line_feed (take l.byte-index l.front)) × (l.number ≤ l.byte-index + 1)

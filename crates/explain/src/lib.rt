@@ -1,0 +1,107 @@
+//! What a user is told of a refused model: where the refusal lies, why, and what to write.
+#![tactic(auto)]
+
+mod counts;
+mod message;
+mod names;
+mod position;
+mod shown;
+mod texts;
+
+use counts::{of_control, of_count, of_inline, of_label, of_range, of_start};
+use diagnostics::Refusal;
+use message::{Message, Part};
+use names::{of_twice, of_unknown, of_wrong};
+use pml_causes::cause::{Cause, Finding, Place};
+use pml_refused::cause_of;
+use position::{column, line_of, shown_offset};
+use shown::{show_line, window_round};
+use std::alloc::{AllocError, Global};
+use std::str;
+use texts::{of_syntax, of_text};
+
+/// Adds the words of a cause.
+fn tell(message: &mut Message<'_>, cause: Cause<'_>) -> Result<(), AllocError> {
+    match cause {
+        Cause::Text(cause) => of_text(message, cause),
+        Cause::Syntax(cause) => of_syntax(message, cause),
+        Cause::Twice(cause) => of_twice(message, cause),
+        Cause::Unknown(cause) => of_unknown(message, cause),
+        Cause::Wrong(cause) => of_wrong(message, cause),
+        Cause::Count(cause) => of_count(message, cause),
+        Cause::Label(cause) => of_label(message, cause),
+        Cause::Control(cause) => of_control(message, cause),
+        Cause::Range(cause) => of_range(message, cause),
+        Cause::Start(cause) => of_start(message, cause),
+        Cause::Inline(cause) => of_inline(message, cause),
+        Cause::Untold => Ok(()),
+    }
+}
+
+/// Adds the number and the words of a refusal.
+fn tell_refusal(message: &mut Message<'_>, refusal: Refusal) -> Result<(), AllocError> {
+    message.say(&[
+        Part::Words(": M"),
+        Part::Number(usize::from(refusal.number())),
+        Part::Words(" "),
+    ])?;
+    match str::from_utf8(refusal.words()) {
+        Ok(words) => message.push(words),
+        Err(_) => Ok(()),
+    }
+}
+
+/// Adds the first line but for the name of the file.
+fn tell_head(
+    message: &mut Message<'_>,
+    refusal: Refusal,
+    cause: Cause<'_>,
+) -> Result<(), AllocError> {
+    tell_refusal(message, refusal)?;
+    if let Cause::Untold = cause {
+        return message.push("\n");
+    }
+    message.push(": ")?;
+    tell(message, cause)?;
+    message.push("\n")
+}
+
+/// Adds all that is told of a place.
+fn tell_place(
+    message: &mut Message<'_>,
+    refusal: Refusal,
+    cause: Cause<'_>,
+    place: Place,
+) -> Result<(), AllocError> {
+    let offset = shown_offset(message.text(), place.offset);
+    let line = line_of(message.text(), offset);
+    message.say(&[
+        Part::Words(":"),
+        Part::Number(line.number),
+        Part::Words(":"),
+        Part::Number(column(line, offset)),
+    ])?;
+    tell_head(message, refusal, cause)?;
+    let mark = offset.saturating_sub(line.start);
+    show_line(message, line, window_round(line.bytes, mark, place.length))
+}
+
+/// What a user is told of a refused model: its lines, each with its line feed, for standard error.
+///
+/// `name` is that of the model's file, as it was given, and `refusal` what `play` refused the text with. Where no place is found, it is
+/// the first line alone, without line and column.
+pub fn explain(
+    alloc: Global,
+    name: &str,
+    text: &[u8],
+    refusal: Refusal,
+) -> Result<String, AllocError> {
+    let Finding { place, cause } = cause_of(alloc, text, refusal)?;
+    let mut message = Message::new(alloc, text);
+    message.push(name)?;
+    match place {
+        Some(place) => tell_place(&mut message, refusal, cause, place)?,
+        None => tell_head(&mut message, refusal, cause)?,
+    }
+    Ok(message.into_text())
+}

@@ -1,0 +1,166 @@
+//! The line of a place, and the carets below it.
+
+use crate::message::{Message, Part, printable};
+use crate::position::{Line, between};
+use std::alloc::AllocError;
+use std::str;
+
+/// So many bytes of a line are shown in front of a place, and so many behind its beginning.
+const SHOWN_BEFORE: usize = 60;
+
+const SHOWN_BEHIND: usize = 80;
+
+/// What is shown of a line: from one of its bytes to another, and which of them are marked.
+#[derive(Clone, Copy)]
+pub struct Window {
+    pub from: usize,
+    pub to: usize,
+    pub mark: usize,
+    pub mark_end: usize,
+}
+
+/// Whether a byte goes on with a character of UTF-8.
+fn goes_on(line: &[u8], at: usize) -> bool {
+    match line.get(at) {
+        Some(byte) => 128 <= *byte && *byte < 192,
+        None => false,
+    }
+}
+
+/// The place itself, or the first one behind it at which a character begins.
+fn rounded(line: &[u8], at: usize) -> usize {
+    let mut place = at;
+    for _ in 0..3 {
+        if goes_on(line, place) {
+            place = place.saturating_add(1);
+        }
+    }
+    place
+}
+
+/// What is shown of a line round the bytes from `mark` on, of which there are `length`.
+pub fn window_round(line: &[u8], mark: usize, length: usize) -> Window {
+    let mark = mark.min(line.len());
+    let mark_end = mark.saturating_add(length).min(line.len());
+    let from = rounded(line, mark.saturating_sub(SHOWN_BEFORE)).min(mark);
+    let to = rounded(line, mark.saturating_add(SHOWN_BEHIND)).min(line.len());
+    Window {
+        from,
+        to: to.max(mark),
+        mark,
+        mark_end: mark_end.min(to.max(mark)),
+    }
+}
+
+fn shown_char(c: char) -> char {
+    if c == '\t' || !c.is_control() { c } else { '?' }
+}
+
+/// Adds bytes of a line: its characters, or its bytes where they are no UTF-8.
+fn show(message: &mut Message<'_>, bytes: &[u8]) -> Result<(), AllocError> {
+    match str::from_utf8(bytes) {
+        Ok(text) => {
+            for c in text.chars() {
+                message.push_char(shown_char(c))?;
+            }
+            Ok(())
+        }
+        Err(_) => {
+            for byte in bytes {
+                let c = if *byte == b'\t' {
+                    '\t'
+                } else {
+                    printable(*byte)
+                };
+                message.push_char(c)?;
+            }
+            Ok(())
+        }
+    }
+}
+
+/// Adds as many blanks as characters are shown of these bytes; a tab stays one.
+fn blank(message: &mut Message<'_>, bytes: &[u8]) -> Result<(), AllocError> {
+    match str::from_utf8(bytes) {
+        Ok(text) => {
+            for c in text.chars() {
+                message.push_char(if c == '\t' { '\t' } else { ' ' })?;
+            }
+            Ok(())
+        }
+        Err(_) => {
+            for byte in bytes {
+                message.push_char(if *byte == b'\t' { '\t' } else { ' ' })?;
+            }
+            Ok(())
+        }
+    }
+}
+
+/// Adds a caret for each character of these bytes, and one at least.
+fn carets(message: &mut Message<'_>, bytes: &[u8]) -> Result<(), AllocError> {
+    for _ in 0..crate::position::width(bytes).max(1) {
+        message.push_char('^')?;
+    }
+    Ok(())
+}
+
+/// Adds a number with blanks before it, five characters at least, or as many blanks.
+fn margin(
+    message: &mut Message<'_>,
+    number: Option<usize>,
+    digits: usize,
+) -> Result<(), AllocError> {
+    for _ in digits..5 {
+        message.push_char(' ')?;
+    }
+    match number {
+        Some(number) => message.say(&[Part::Number(number)])?,
+        None => {
+            for _ in 0..digits {
+                message.push_char(' ')?;
+            }
+        }
+    }
+    message.push(" | ")
+}
+
+/// How many digits a number has.
+fn digits_of(number: usize) -> usize {
+    let mut rest = number / 10;
+    let mut digits = 1usize;
+    for _ in 0..20 {
+        if rest == 0 {
+            return digits;
+        }
+        rest /= 10;
+        digits = digits.saturating_add(1);
+    }
+    digits
+}
+
+/// Adds the line and the carets below it.
+pub fn show_line(
+    message: &mut Message<'_>,
+    line: Line<'_>,
+    window: Window,
+) -> Result<(), AllocError> {
+    let digits = digits_of(line.number);
+    let is_cut_before = 0 < window.from;
+    margin(message, Some(line.number), digits)?;
+    if is_cut_before {
+        message.push("..")?;
+    }
+    show(message, between(line.bytes, window.from, window.to))?;
+    if window.to < line.bytes.len() {
+        message.push("..")?;
+    }
+    message.push("\n")?;
+    margin(message, None, digits)?;
+    if is_cut_before {
+        message.push("  ")?;
+    }
+    blank(message, between(line.bytes, window.from, window.mark))?;
+    carets(message, between(line.bytes, window.mark, window.mark_end))?;
+    message.push("\n")
+}

@@ -1,0 +1,11 @@
+//! Why a model is refused: what is found at the first mark that breaks a condition.
+#![tactic(auto)]
+
+pub mod control;
+pub mod counts;
+pub mod names;
+mod near;
+pub mod range;
+pub mod start;
+pub mod subject;
+pub mod wrong;

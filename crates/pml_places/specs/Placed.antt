@@ -1,0 +1,47 @@
+-- The tokens of a text, each with its place.
+use Rattle.std.specs.Prelude.{◌≡◌, ◌<◌, ◌≤◌, ℕ, List, [], ◌++◌, ◌∷◌, length, take, drop}
+use Rattle.std.specs.List.{concat}
+use Rattle.profile.specs.declared.TheConstants.{MOST_TEXT_BYTES}
+use Rattle.pml_lex.specs.declared.fault.LexFault.{LexFault}
+use Rattle.pml_lex.specs.declared.fault.LexFault.TheVariants.{Memory, TooLong, Lexical, LeftOut}
+use Rattle.pml_lex.specs.declared.token.Kind.{Kind}
+use Rattle.pml_lex.specs.Word.{Word}
+use Rattle.pml_lex.specs.Pieces.{piece}
+use Rattle.pml_lex.specs.Division.{CanStand, IsDivision, IsCut, is_fresh, word}
+
+-- the tokens among pieces, each with how many bytes stand before it in place of its line
+abbrev pub placed_words : List ℕ → List (List ℕ) → List Word
+placed_words before [] = []
+placed_words before (p ∷ ps) = word (piece (is_fresh before) p) p (length before) ++ placed_words (before ++ p) ps
+
+-- the tokens of a text, each with its place in place of its line
+pub record ArePlaced (text : List ℕ) (ts : List Word) : Type 0 where
+  pub pieces : List (List ℕ)
+  pub divides : IsDivision text pieces
+  pub are_words : ts ≡ placed_words [] pieces
+
+-- the text has no tokens, since nothing can stand behind so many of its bytes
+pub record StopsAt (text : List ℕ) (place : ℕ) : Type 0 where
+  pub within : place < length text
+  pub nothing : (p : List ℕ) → CanStand (is_fresh (take place text)) (drop place text) p → ⊥
+  pub never : (ts : List Word) → IsCut text ts → ⊥
+
+abbrev pub IsUnplaced : List ℕ → LexFault → Type 0
+IsUnplaced text Memory = Unit {0}
+IsUnplaced text TooLong = MOST_TEXT_BYTES < length text
+IsUnplaced text (Lexical place) = StopsAt text place
+IsUnplaced text (LeftOut place) = ⊥
+
+-- of two lists each token has the same kind and bytes
+pub record IsSame (v w : Word) : Type 0 where
+  pub kind : v.kind ≡ w.kind
+  pub text : v.text ≡ w.text
+
+abbrev pub AreSame : List Word → List Word → Type 0
+AreSame [] [] = Unit {0}
+AreSame (v ∷ vs) (w ∷ ws) = IsSame v w × AreSame vs ws
+AreSame _ _ = ⊥
+
+-- the token's bytes stand in the text at its place
+abbrev pub StandsThere : List ℕ → Word → Type 0
+StandsThere text w = take (length w.text) (drop w.line text) ≡ w.text

@@ -1,0 +1,56 @@
+//! The tokens of a text with their places.
+
+ghost use Rattle.std.specs.Prelude.{◌≡◌, ◌≤◌, ◌<◌, ◌+◌, length, IfOk, IfErr};
+ghost use Rattle.pml_lex.specs.Division.{fresh_from};
+ghost use Rattle.pml_places.specs.Placed.{ArePlaced, IsUnplaced};
+
+use pml_lex::fault::LexFault;
+use pml_lex::piece::{Piece, is_blank, next};
+use pml_lex::token::Token;
+use profile::MOST_TEXT_BYTES;
+use std::alloc::Global;
+
+/// Whether the line that a text ends in has only blanks, where `fresh` says the same of what stands before it.
+fn fresh_behind(fresh: bool, text: &[u8]) -> bool
+    ensures { result ≡ fresh_from fresh text.now }
+{
+    let mut so_far = fresh;
+    for b in text {
+        so_far = *b == b'\n' || (so_far && is_blank(*b));
+    }
+    so_far
+}
+
+/// The tokens of a text, what is left out among them, each with its place in place of its line: how many bytes of the text stand before it.
+/// A text that cannot be cut answers the place where nothing can stand.
+pub fn placed<'t>(alloc: Global, text: &'t [u8]) -> Result<Vec<Token<'t>>, LexFault>
+    ensures ok { IfOk result (λ v. ArePlaced text.now v.items) }
+    ensures err { IfErr result (λ f. IsUnplaced text.now f) }
+{
+    if text.len() > MOST_TEXT_BYTES {
+        return Err(LexFault::TooLong);
+    }
+    let mut tokens = Vec::new(alloc);
+    let mut rest = text;
+    let mut place = 0u32;
+    let mut fresh = true;
+    while !rest.is_empty() {
+        let Some((length, piece)) = next(fresh, rest) else {
+            return Err(LexFault::Lexical(place));
+        };
+        let (front, back) = rest.split_at(length);
+        let behind = place + length as u32;
+        match piece {
+            Piece::Token(kind) => {
+                tokens.push(Token::new(kind, front, place))?;
+                fresh = false;
+            }
+            Piece::Skipped => {
+                fresh = fresh_behind(fresh, front);
+            }
+        }
+        place = behind;
+        rest = back;
+    }
+    Ok(tokens)
+}

@@ -1,0 +1,55 @@
+//! Trees of tokens, and what is asked of them.
+
+use diagnostics::Refusal;
+use pml_check::parsed::Parsed;
+use pml_check::{CheckFault, check};
+use pml_lex::token::Token;
+use pml_marks::mark::Mark;
+use pml_marks::model::marks;
+use pml_syntax::{SyntaxFault, parse};
+use pml_tree::tree::Tree;
+use sqlite_items::Items;
+use std::alloc::{AllocError, Global};
+
+fn marks_in<'a>(alloc: Global, parsed: &Parsed<'a>) -> Result<Items<Mark<'a>>, AllocError> {
+    marks(alloc, parsed.tree())
+}
+
+/// The marks of a tree, which is let go.
+fn marks_of_tree<'a>(alloc: Global, tree: Tree<'a>) -> Result<Items<Mark<'a>>, AllocError> {
+    // Lent from a pattern: where a parameter is lent, the check of its loan does not end.
+    match Parsed::new(alloc, tree) {
+        Ok(parsed) => marks_in(alloc, &parsed),
+        Err(AllocError) => Err(AllocError),
+    }
+}
+
+/// The marks of the tree that tokens spell, if they spell one.
+pub fn marks_of<'a>(
+    alloc: Global,
+    tokens: &'a [Token<'a>],
+) -> Result<Option<Items<Mark<'a>>>, AllocError> {
+    match parse(alloc, tokens) {
+        Ok(tree) => Ok(Some(marks_of_tree(alloc, tree)?)),
+        Err(SyntaxFault::Syntax(_)) => Ok(None),
+        Err(SyntaxFault::Memory) => Err(AllocError),
+    }
+}
+
+fn is_bad_start<'a>(alloc: Global, tree: Tree<'a>) -> Result<bool, AllocError> {
+    match check(alloc, tree) {
+        Ok(_) => Ok(false),
+        Err(CheckFault::Refused(Refusal::Initialiser)) => Ok(true),
+        Err(CheckFault::Refused(_)) => Ok(false),
+        Err(CheckFault::Memory) => Err(AllocError),
+    }
+}
+
+/// Whether the tokens are refused for an initialiser.
+pub fn is_refused_at_start<'a>(alloc: Global, tokens: &'a [Token<'a>]) -> Result<bool, AllocError> {
+    match parse(alloc, tokens) {
+        Ok(tree) => is_bad_start(alloc, tree),
+        Err(SyntaxFault::Syntax(_)) => Ok(false),
+        Err(SyntaxFault::Memory) => Err(AllocError),
+    }
+}

@@ -1,0 +1,103 @@
+//! How far tokens are read, as they stand or with a change.
+
+use pml_lex::token::{Kind, Token};
+use pml_syntax::{SyntaxFault, parse};
+use std::alloc::{AllocError, Global};
+
+/// A change of one token.
+#[derive(Clone, Copy)]
+pub enum Change {
+    /// A token is put in front of it.
+    Insert(Kind, &'static [u8]),
+    /// It is another one.
+    Replace(Kind, &'static [u8]),
+    /// It is left out.
+    Remove,
+}
+
+/// Adds a token with its number in the list in place of its line.
+fn add<'t>(kind: Kind, text: &'t [u8], list: &mut Vec<Token<'t>>) -> Result<(), AllocError> {
+    let number = u32::try_from(list.len()).unwrap_or(u32::MAX);
+    list.push(Token::new(kind, text, number))?;
+    Ok(())
+}
+
+/// The tokens, each with its number in place of its line.
+fn numbered<'t>(alloc: Global, tokens: &[Token<'t>]) -> Result<Vec<Token<'t>>, AllocError> {
+    let mut list = Vec::with_capacity(alloc, tokens.len())?;
+    for token in tokens {
+        add(token.kind(), token.text(), &mut list)?;
+    }
+    Ok(list)
+}
+
+/// Adds what stands in place of the token that is changed.
+fn add_changed<'t>(
+    token: &Token<'t>,
+    change: Change,
+    list: &mut Vec<Token<'t>>,
+) -> Result<(), AllocError> {
+    match change {
+        Change::Insert(kind, text) => {
+            add(kind, text, list)?;
+            add(token.kind(), token.text(), list)
+        }
+        Change::Replace(kind, text) => add(kind, text, list),
+        Change::Remove => Ok(()),
+    }
+}
+
+/// The tokens with a change of the one at `at`.
+fn changed<'t>(
+    alloc: Global,
+    tokens: &[Token<'t>],
+    at: usize,
+    change: Change,
+) -> Result<Vec<Token<'t>>, AllocError> {
+    let mut list = Vec::with_capacity(alloc, tokens.len().saturating_add(1))?;
+    for (i, token) in tokens.iter().enumerate() {
+        if i == at {
+            add_changed(token, change, &mut list)?;
+        } else {
+            add(token.kind(), token.text(), &mut list)?;
+        }
+    }
+    Ok(list)
+}
+
+/// The number of the token that no rule reads, or of the last one, where no tree spells these.
+fn stop_of<'a>(alloc: Global, numbered: &'a [Token<'a>]) -> Result<Option<usize>, AllocError> {
+    match parse(alloc, numbered) {
+        Ok(_) => Ok(None),
+        Err(SyntaxFault::Syntax(number)) => Ok(Some(number as usize)),
+        Err(SyntaxFault::Memory) => Err(AllocError),
+    }
+}
+
+/// The token that no rule reads, or the last one, where no tree spells the tokens.
+pub fn stop(alloc: Global, tokens: &[Token<'_>]) -> Result<Option<usize>, AllocError> {
+    let list = numbered(alloc, tokens)?;
+    stop_of(alloc, &list)
+}
+
+/// The first token that has to be read behind a change, so that it was of use.
+fn aim(at: usize, change: Change) -> usize {
+    match change {
+        Change::Insert(_, _) => at.saturating_add(1),
+        _ => at,
+    }
+}
+
+/// Whether the tokens are read on, past the one at `at`, with a change of it.
+pub fn reads_on(
+    alloc: Global,
+    tokens: &[Token<'_>],
+    at: usize,
+    change: Change,
+) -> Result<bool, AllocError> {
+    let list = changed(alloc, tokens, at, change)?;
+    match stop_of(alloc, &list)? {
+        None => Ok(true),
+        Some(place) => Ok(place > aim(at, change)),
+    }
+}
