@@ -4,7 +4,7 @@ use Rattle.std.proofs.lemmas.Bool.{lt-ltb, le-ltb}
 use Rattle.std.proofs.lemmas.List.{drop_more}
 use Rattle.std.proofs.lemmas.Option.{slice_get_past, slice_get_read}
 use Rattle.pml_program.specs.declared.program.Slot.{Slot}
-use Rattle.pml_cells.specs.Cells.{size, slot_of, cell_of}
+use Rattle.pml_cells.specs.Cells.{size, slot_of, cell_of, number_of}
 use Rattle.pml_cells.specs.Tables.{AreStarts}
 
 -- one place more
@@ -28,6 +28,8 @@ pub record Found (ss : List Slot) (at k begun cell : ℕ) : Type 0 where
   pub there : k < length ss
   pub inside : (d : Slot) → cell - begun < size (get_or ss k d) → (slot_of ss (cell - at) ≡ Some (get_or ss k d)) × (cell_of ss (cell - at) ≡ cell - begun)
   pub outside : (d : Slot) → size (get_or ss k d) ≤ cell - begun → (slot_of ss (cell - at) ≡ None) × (cell_of ss (cell - at) ≡ cell - begun - size (get_or ss k d))
+  pub numbered : (d : Slot) → cell - begun < size (get_or ss k d) → number_of ss (cell - at) ≡ k
+  pub passed : (d : Slot) → size (get_or ss k d) ≤ cell - begun → number_of ss (cell - at) ≡ length ss
 
 pub find : (ss : List Slot) (xs : List ℕ) (at k cell : ℕ) → AreStarts at ss xs → k < length xs → get_or xs k 0 ≤ cell → (k + 1 < length xs → cell < get_or xs (k + 1) 0) → cell < 2 ^ 64 → Found ss at k (get_or xs k 0) cell
 find ss [] at k cell h l b n w = absurd (omega (arith, l))
@@ -40,6 +42,10 @@ find (s ∷ ss) (x ∷ xs) at zero cell h l b n w =
       outside = λ d o. let j : size s ≤ cell - at = omega (arith, o, e) in
           let none : ss ≡ [] = over ss xs h.1 n j in
           rw (le-ltb (cell - at) (size s) j, none) (refl, omega (arith, e));
+      numbered = λ d i. let j : cell - at < size s = omega (arith, i, e) in rw (lt-ltb (cell - at) (size s) j) refl;
+      passed = λ d o. let j : size s ≤ cell - at = omega (arith, o, e) in
+          let none : ss ≡ [] = over ss xs h.1 n j in
+          rw (le-ltb (cell - at) (size s) j, none) refl;
     }
   where
     over : (ss : List Slot) (xs : List ℕ) → AreStarts (at + size s) ss xs → (1 < length (x ∷ xs) → cell < get_or (x ∷ xs) 1 0) → size s ≤ cell - at → ss ≡ []
@@ -59,6 +65,8 @@ find (s ∷ ss) (x ∷ xs) at (suc k) cell h l b n w =
       there = omega (arith, r.there);
       inside = λ d i. rw (le-ltb (cell - at) (size s) j, y) (r.inside d i);
       outside = λ d o. rw (le-ltb (cell - at) (size s) j, y) (r.outside d o);
+      numbered = λ d i. rw (le-ltb (cell - at) (size s) j, y) (ap suc (r.numbered d i));
+      passed = λ d o. rw (le-ltb (cell - at) (size s) j, y) (ap suc (r.passed d o));
     }
 
 -- no more places than variables
@@ -84,3 +92,18 @@ outside us ss xs ys k cell n s u e h l b p w z i =
     let r = f.outside s (omega (arith, i, z)) in
     let y : cell - 0 ≡ cell = omega arith in
     (ap (λ (vs : List Slot). slice_get vs (length ss)) u ∙ slice_get_past ss (length ss) (omega arith) ∙ sym r.0 ∙ ap (slot_of ss) y ∙ sym (ap (λ (vs : List Slot). slot_of vs cell) u), ap (λ (m : ℕ). cell - get_or ys k 0 - m) z ∙ sym r.1 ∙ ap (cell_of ss) y ∙ sym (ap (λ (vs : List Slot). cell_of vs cell) u))
+
+-- the number of the variable that the cell lies in, or of all
+pub number : (us ss : List Slot) (xs ys : List ℕ) (k cell n : ℕ) (s : Slot) → us ≡ ss → ys ≡ xs → AreStarts 0 ss xs → k < length ys → get_or ys k 0 ≤ cell → (k + 1 < length ys → cell < get_or ys (k + 1) 0) → cell < 2 ^ 64
+    → n ≡ size (get_or ss k s) → cell - get_or ys k 0 < n → k ≡ number_of us cell
+number us ss xs ys k cell n s u e h l b p w z i =
+    let f = find ss ys 0 k cell (subst (AreStarts 0 ss) (sym e) h) l b p w in
+    let y : cell - 0 ≡ cell = omega arith in
+    sym (f.numbered s (omega (arith, i, z))) ∙ ap (number_of ss) y ∙ sym (ap (λ (vs : List Slot). number_of vs cell) u)
+
+pub count : (us ss : List Slot) (xs ys : List ℕ) (k cell n : ℕ) (s : Slot) → us ≡ ss → ys ≡ xs → AreStarts 0 ss xs → k < length ys → get_or ys k 0 ≤ cell → (k + 1 < length ys → cell < get_or ys (k + 1) 0) → cell < 2 ^ 64
+    → n ≡ size (get_or ss k s) → n ≤ cell - get_or ys k 0 → length ss ≡ number_of us cell
+count us ss xs ys k cell n s u e h l b p w z i =
+    let f = find ss ys 0 k cell (subst (AreStarts 0 ss) (sym e) h) l b p w in
+    let y : cell - 0 ≡ cell = omega arith in
+    sym (f.passed s (omega (arith, i, z))) ∙ ap (number_of ss) y ∙ sym (ap (λ (vs : List Slot). number_of vs cell) u)

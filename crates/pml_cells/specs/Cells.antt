@@ -19,6 +19,15 @@ abbrev pub cell_of : List Slot → ℕ → ℕ
 cell_of [] i = i
 cell_of (s ∷ ss) i = if ltb i (size s) then i else cell_of ss (i - size s)
 
+-- how many of them lie before the one with this cell, or how many there are
+abbrev pub number_of : List Slot → ℕ → ℕ
+number_of [] i = 0
+number_of (s ∷ ss) i = if ltb i (size s) then 0 else suc (number_of ss (i - size s))
+
+-- the number of the one with this cell, if one has it
+abbrev pub number_in : List Slot → ℕ → Option ℕ
+number_in ss i = if ltb (number_of ss i) (length ss) then Some (number_of ss i) else None
+
 -- the fields of the typedef with this owner
 abbrev pub fields_at : List Fields → ℕ → List Slot
 fields_at [] o = []

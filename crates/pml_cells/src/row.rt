@@ -2,7 +2,7 @@
 
 ghost use Rattle.std.specs.Prelude.{◌≡◌, ◌≤◌, ◌<◌, ◌+◌, IfOk, length, slice_get, slice_index_or};
 ghost use Rattle.std.specs.Option.{option_copied};
-ghost use Rattle.pml_cells.specs.Cells.{slot_of, cell_of};
+ghost use Rattle.pml_cells.specs.Cells.{slot_of, cell_of, number_of, number_in};
 ghost use Rattle.pml_cells.specs.Tables.{AreStarts};
 
 use crate::cells::size;
@@ -79,11 +79,12 @@ impl<'p, 'a> Row<'p, 'a> {
         Ok(Row { slots, starts })
     }
 
-    /// The number of the variable with this cell, or a number that none has, and the number of the cell in it, or among the cells
+    /// The number of the variable with this cell, or how many there are, and the number of the cell in it, or among the cells
     /// behind them all.
     #[tactic(auto, using(crate::proofs::Seeking::fewer))]
     pub fn number(&self, cell: usize) -> (usize, usize)
         ensures slot { slice_get self.now result.0 ≡ slot_of self.now cell }
+        ensures number { result.0 ≡ number_of self.now cell }
         ensures cell { result.1 ≡ cell_of self.now cell }
     {
         let starts = self.starts.as_slice();
@@ -107,5 +108,19 @@ impl<'p, 'a> Row<'p, 'a> {
     {
         let (number, within) = self.number(cell);
         (self.slots.get(number), within)
+    }
+
+    /// The number of the variable with this cell, if one has it, and the number of the cell in it, or among the cells behind them
+    /// all.
+    pub fn place(&self, cell: usize) -> (Option<usize>, usize)
+        ensures number { result.0 ≡ number_in self.now cell }
+        ensures cell { result.1 ≡ cell_of self.now cell }
+    {
+        let (number, within) = self.number(cell);
+        if number < self.slots.len() {
+            (Some(number), within)
+        } else {
+            (None, within)
+        }
     }
 }

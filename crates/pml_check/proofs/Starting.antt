@@ -40,3 +40,8 @@ module _ (ms : List Mark) (p : Program) where
 -- none of them is that of the first state
 pub none_start : AllByRecursion (λ (x : Refusal). x ≢ r.Initialiser) judged_before_start
 none_start = (λ e. cc, (λ e. cc, (λ e. cc, (λ e. cc, (λ e. cc, (λ e. cc, (λ e. cc, (λ e. cc, (λ e. cc, (λ e. cc, (λ e. cc, (λ e. cc, tt))))))))))))
+
+-- a tree that fits all has a first state
+pub fit_start : (ms : List Mark) (p : Program) → FitsAll all_judged ms p → HasGoodStart p
+unfolding FitsTo
+fit_start ms p f = f.1.1.1.1.1.1.1.1.1.1.1.1.0.1

@@ -62,11 +62,13 @@ impl<'a> Model for Checked<'a> {
 impl<'a> Checked<'a> {
     ghost use Rattle.pml_flow.specs.Flow.{AreGraphs};
     ghost use Rattle.pml_start.specs.Bound.{IsWithin};
+    ghost use Rattle.pml_check.specs.Judged.{HasGoodStart};
 
-    /// The model: its cells and its channels are within the limits.
+    /// The model: its cells and its channels are within the limits, and no variable of its first state begins with a fault.
     pub fn program(&self) -> &Program<'a>
         ensures model { result.now ≡ self.now }
         ensures within { IsWithin result.now }
+        ensures start { HasGoodStart result.now }
     {
         self.program.get()
     }

@@ -7,7 +7,7 @@ mod checked;
 mod control;
 mod judge;
 pub mod laws;
-mod parsed;
+pub mod parsed;
 mod start;
 mod subject;
 

@@ -6,26 +6,29 @@ use Rattle.pml_program.specs.declared.program.Slot.{Slot}
 use Rattle.pml_program.specs.declared.program.Program.{Program}
 use Rattle.pml_store.specs.Store.{Frame, flat, joined}
 use Rattle.pml_cells.specs.Cells.{size, slot_of, cell_of}
-use Rattle.pml_lines.specs.Changes.{Owner, line, cell_lines, variable_lines, owner_lines, line_at, IsFrame, AreFrames, IsState, global_owner, process_owner, process_owners, owners, slots_of, value_lines}
+use Rattle.pml_lines.specs.Changes.{Owner, line, each_change, variable_lines, owner_lines, line_at, IsFrame, AreFrames, IsState, global_owner, process_owner, process_owners, owners, slots_of, value_lines}
 
 abbrev Line : Type 0
 Line = ℕ → ℤ → List ℕ
 
-cell_lines-split : (f : Line) (k : ℕ) (xs ys us vs : List ℤ) → length xs ≡ length ys → cell_lines f k (xs ++ us) (ys ++ vs) ≡ cell_lines f k xs ys ++ cell_lines f (k + length xs) us vs
-cell_lines-split f k [] [] us vs h = ap (λ (n : ℕ). cell_lines f n us vs) (let e : k ≡ k + 0 = omega arith in e)
-cell_lines-split f k [] (y ∷ ys) us vs h = absurd (let e : 0 ≡ suc (length ys) = h in omega arith)
-cell_lines-split f k (x ∷ xs) [] us vs h = absurd (let e : suc (length xs) ≡ 0 = h in omega arith)
-cell_lines-split f k (x ∷ xs) (y ∷ ys) us vs h =
+abbrev Makes : Type 0 → Type 0
+Makes A = ℕ → ℤ → List A
+
+pub each_change-split : {A : Type 0} (f : Makes A) (k : ℕ) (xs ys us vs : List ℤ) → length xs ≡ length ys → each_change f k (xs ++ us) (ys ++ vs) ≡ each_change f k xs ys ++ each_change f (k + length xs) us vs
+each_change-split f k [] [] us vs h = ap (λ (n : ℕ). each_change f n us vs) (let e : k ≡ k + 0 = omega arith in e)
+each_change-split f k [] (y ∷ ys) us vs h = absurd (let e : 0 ≡ suc (length ys) = h in omega arith)
+each_change-split f k (x ∷ xs) [] us vs h = absurd (let e : suc (length xs) ≡ 0 = h in omega arith)
+each_change-split f k (x ∷ xs) (y ∷ ys) us vs h =
     let e : length xs ≡ length ys = (let g : suc (length xs) ≡ suc (length ys) = h in omega arith) in
     let n : k + 1 + length xs ≡ k + suc (length xs) = omega arith in
-    let rest = cell_lines-split f (k + 1) xs ys us vs e ∙ ap (λ (m : ℕ). cell_lines f (k + 1) xs ys ++ cell_lines f m us vs) n in
-    ap (λ (l : List ℕ). (if int_eq x y then [] else f k y) ++ l) rest
-    ∙ sym (append_assoc (if int_eq x y then [] else f k y) (cell_lines f (k + 1) xs ys) (cell_lines f (k + suc (length xs)) us vs))
+    let rest = each_change-split f (k + 1) xs ys us vs e ∙ ap (λ (m : ℕ). each_change f (k + 1) xs ys ++ each_change f m us vs) n in
+    ap (λ (l : List _). (if int_eq x y then [] else f k y) ++ l) rest
+    ∙ sym (append_assoc (if int_eq x y then [] else f k y) (each_change f (k + 1) xs ys) (each_change f (k + suc (length xs)) us vs))
 
-cell_lines-same : (f g : Line) (k m : ℕ) (xs ys : List ℤ) → ((i : ℕ) (v : ℤ) → i < length xs → f (k + i) v ≡ g (m + i) v) → cell_lines f k xs ys ≡ cell_lines g m xs ys
-cell_lines-same f g k m [] ys h = refl
-cell_lines-same f g k m (x ∷ xs) [] h = refl
-cell_lines-same f g k m (x ∷ xs) (y ∷ ys) h =
+pub each_change-same : {A : Type 0} (f g : Makes A) (k m : ℕ) (xs ys : List ℤ) → ((i : ℕ) (v : ℤ) → i < length xs → f (k + i) v ≡ g (m + i) v) → each_change f k xs ys ≡ each_change g m xs ys
+each_change-same f g k m [] ys h = refl
+each_change-same f g k m (x ∷ xs) [] h = refl
+each_change-same f g k m (x ∷ xs) (y ∷ ys) h =
     let a : k + 0 ≡ k = omega arith in
     let b : m + 0 ≡ m = omega arith in
     let z : 0 < suc (length xs) = omega arith in
@@ -35,26 +38,26 @@ cell_lines-same f g k m (x ∷ xs) (y ∷ ys) h =
     let q : m + (i + 1) ≡ m + 1 + i = omega arith in
     let r : i + 1 < suc (length xs) = omega arith in
     ap (λ (n : ℕ). f n v) p ∙ h (i + 1) v r ∙ ap (λ (n : ℕ). g n v) q) in
-    ap (λ (l : List ℕ). (if int_eq x y then [] else l) ++ cell_lines f (k + 1) xs ys) here
-    ∙ ap (λ (l : List ℕ). (if int_eq x y then [] else g m y) ++ l) (cell_lines-same f g (k + 1) (m + 1) xs ys after)
+    ap (λ (l : List _). (if int_eq x y then [] else l) ++ each_change f (k + 1) xs ys) here
+    ∙ ap (λ (l : List _). (if int_eq x y then [] else g m y) ++ l) (each_change-same f g (k + 1) (m + 1) xs ys after)
 
-cell_lines-none : (f : Line) (k : ℕ) (xs ys : List ℤ) → ((i : ℕ) (v : ℤ) → f i v ≡ []) → cell_lines f k xs ys ≡ []
-cell_lines-none f k [] ys h = refl
-cell_lines-none f k (x ∷ xs) [] h = refl
-cell_lines-none f k (x ∷ xs) (y ∷ ys) h =
-    ap (λ (l : List ℕ). (if int_eq x y then [] else l) ++ cell_lines f (k + 1) xs ys) (h k y)
-    ∙ ap (λ (l : List ℕ). (if int_eq x y then [] else []) ++ l) (cell_lines-none f (k + 1) xs ys h)
-    ∙ nothing (int_eq x y)
-  where
-    nothing : (b : Bool) → ◌≡◌ {A = List ℕ} ((if b then [] else []) ++ []) []
-    nothing true = refl
-    nothing false = refl
+nothing_either : {A : Type 0} (b : Bool) → ◌≡◌ {A = List A} ((if b then [] else []) ++ []) []
+nothing_either true = refl
+nothing_either false = refl
 
-cell_lines-short : (f : Line) (k : ℕ) (xs : List ℤ) → cell_lines f k xs [] ≡ []
-cell_lines-short f k [] = refl
-cell_lines-short f k (x ∷ xs) = refl
+pub each_change-none : {A : Type 0} (f : Makes A) (k : ℕ) (xs ys : List ℤ) → ((i : ℕ) (v : ℤ) → f i v ≡ []) → each_change f k xs ys ≡ []
+each_change-none f k [] ys h = refl
+each_change-none f k (x ∷ xs) [] h = refl
+each_change-none f k (x ∷ xs) (y ∷ ys) h =
+    ap (λ (l : List _). (if int_eq x y then [] else l) ++ each_change f (k + 1) xs ys) (h k y)
+    ∙ ap (λ (l : List _). (if int_eq x y then [] else []) ++ l) (each_change-none f (k + 1) xs ys h)
+    ∙ nothing_either (int_eq x y)
 
-length-flat : (x y : Frame) → map length x ≡ map length y → length (flat x) ≡ length (flat y)
+pub each_change-short : {A : Type 0} (f : Makes A) (k : ℕ) (xs : List ℤ) → each_change f k xs [] ≡ []
+each_change-short f k [] = refl
+each_change-short f k (x ∷ xs) = refl
+
+pub length-flat : (x y : Frame) → map length x ≡ map length y → length (flat x) ≡ length (flat y)
 length-flat [] [] h = refl
 length-flat [] (d ∷ ds) h = absurd (let e : [] ≡ length d ∷ map length ds = h in cc)
 length-flat (c ∷ cs) [] h = absurd (let e : length c ∷ map length cs ≡ [] = h in cc)
@@ -78,7 +81,7 @@ slot_after f next s ss n i h =
     let left : n + i - size s ≡ i = omega arith in
     rw (le-ltb (n + i) (size s) more, left) refl
 
-variables_flat : (f : Slot → ℕ → ℤ → List ℕ) (next : ℕ → ℤ → List ℕ) (ss : List Slot) (x y : Frame) (g : Line) → IsFrame ss x → IsFrame ss y → ((i : ℕ) (v : ℤ) → i < length (flat x) → g i v ≡ at_slot (λ s c. f s c v) (λ c. next c v) (slot_of ss i) (cell_of ss i)) → cell_lines g 0 (flat x) (flat y) ≡ variable_lines f ss x y
+variables_flat : (f : Slot → ℕ → ℤ → List ℕ) (next : ℕ → ℤ → List ℕ) (ss : List Slot) (x y : Frame) (g : Line) → IsFrame ss x → IsFrame ss y → ((i : ℕ) (v : ℤ) → i < length (flat x) → g i v ≡ at_slot (λ s c. f s c v) (λ c. next c v) (slot_of ss i) (cell_of ss i)) → each_change g 0 (flat x) (flat y) ≡ variable_lines f ss x y
 variables_flat f next [] [] y g p q h = refl
 variables_flat f next [] (c ∷ cs) y g p q h = absurd (let e : length c ∷ map length cs ≡ [] = p in cc)
 variables_flat f next (s ∷ ss) [] y g p q h = absurd (let e : [] ≡ size s ∷ map size ss = p in cc)
@@ -101,9 +104,9 @@ variables_flat f next (s ∷ ss) (c ∷ cs) (d ∷ ds) g p q h =
     let rest : (i : ℕ) (v : ℤ) → i < length (flat cs) → g (length c + i) v ≡ at_slot (λ s c. f s c v) (λ c. next c v) (slot_of ss i) (cell_of ss i) = λ i v l.
     (let k : length c + i < length (c ++ flat cs) = omega arith in
     h (length c + i) v k ∙ slot_after (λ (t : Slot) (n : ℕ). f t n v) (λ (n : ℕ). next n v) s ss (length c) i m) in
-    cell_lines-split g 0 c d (flat cs) (flat ds) n
-    ∙ ap (λ (l : List ℕ). l ++ cell_lines g (0 + length c) (flat cs) (flat ds)) (cell_lines-same g (f s) 0 0 c d here)
-    ∙ ap (λ (l : List ℕ). cell_lines (f s) 0 c d ++ l) (cell_lines-same g (λ (i : ℕ) (v : ℤ). g (length c + i) v) (0 + length c) 0 (flat cs) (flat ds) after ∙ variables_flat f next ss cs ds (λ (i : ℕ) (v : ℤ). g (length c + i) v) ps qs rest)
+    each_change-split g 0 c d (flat cs) (flat ds) n
+    ∙ ap (λ (l : List ℕ). l ++ each_change g (0 + length c) (flat cs) (flat ds)) (each_change-same g (f s) 0 0 c d here)
+    ∙ ap (λ (l : List ℕ). each_change (f s) 0 c d ++ l) (each_change-same g (λ (i : ℕ) (v : ℤ). g (length c + i) v) (0 + length c) 0 (flat cs) (flat ds) after ∙ variables_flat f next ss cs ds (λ (i : ℕ) (v : ℤ). g (length c + i) v) ps qs rest)
 
 -- past the cells of an owner
 beyond : (f : Slot → ℕ → List ℕ) (next : ℕ → List ℕ) (ss : List Slot) (x : Frame) (n i : ℕ) → IsFrame ss x → n ≡ length (flat x) → at_slot f next (slot_of ss (n + i)) (cell_of ss (n + i)) ≡ next i
@@ -124,10 +127,10 @@ opened p o os i v = cases (slot_of o.slots i)
     cases None = refl
     cases (Some s) = refl
 
-owners_flat : (p : Program) (os : List Owner) (b a : List Frame) (g : Line) → AreFrames os b → AreFrames os a → ((i : ℕ) (v : ℤ) → g i v ≡ line_at p os i v) → cell_lines g 0 (joined b) (joined a) ≡ owner_lines p os b a
-owners_flat p [] b a g d e h = cell_lines-none g 0 (joined b) (joined a) h
+owners_flat : (p : Program) (os : List Owner) (b a : List Frame) (g : Line) → AreFrames os b → AreFrames os a → ((i : ℕ) (v : ℤ) → g i v ≡ line_at p os i v) → each_change g 0 (joined b) (joined a) ≡ owner_lines p os b a
+owners_flat p [] b a g d e h = each_change-none g 0 (joined b) (joined a) h
 owners_flat p (o ∷ os) [] a g d e h = refl
-owners_flat p (o ∷ os) (x ∷ xs) [] g d e h = cell_lines-short g 0 (joined (x ∷ xs))
+owners_flat p (o ∷ os) (x ∷ xs) [] g d e h = each_change-short g 0 (joined (x ∷ xs))
 owners_flat p (o ∷ os) (x ∷ xs) (y ∷ ys) g d e h =
     let n : length (flat x) ≡ length (flat y) = length-flat x y (d.0 ∙ sym e.0) in
     let here : (i : ℕ) (v : ℤ) → i < length (flat x) → g i v ≡ at_slot (λ s c. line p o s c v) (λ c. line_at p os c v) (slot_of o.slots i) (cell_of o.slots i) = λ i v l. (h i v ∙ opened p o os i v) in
@@ -135,9 +138,9 @@ owners_flat p (o ∷ os) (x ∷ xs) (y ∷ ys) g d e h =
     (let z : 0 + length (flat x) + i ≡ length (flat x) + (0 + i) = omega arith in ap (λ (n : ℕ). g n v) z) in
     let rest : (i : ℕ) (v : ℤ) → g (length (flat x) + i) v ≡ line_at p os i v = λ i v.
     (h (length (flat x) + i) v ∙ opened p o os (length (flat x) + i) v ∙ beyond (λ (s : Slot) (c : ℕ). line p o s c v) (λ (c : ℕ). line_at p os c v) o.slots x (length (flat x)) i d.0 refl) in
-    cell_lines-split g 0 (flat x) (flat y) (joined xs) (joined ys) n
-    ∙ ap (λ (l : List ℕ). l ++ cell_lines g (0 + length (flat x)) (joined xs) (joined ys)) (variables_flat (line p o) (λ (c : ℕ) (v : ℤ). line_at p os c v) o.slots x y g d.0 e.0 here)
-    ∙ ap (λ (l : List ℕ). variable_lines (line p o) o.slots x y ++ l) (cell_lines-same g (λ (i : ℕ) (v : ℤ). g (length (flat x) + i) v) (0 + length (flat x)) 0 (joined xs) (joined ys) after ∙ owners_flat p os xs ys (λ (i : ℕ) (v : ℤ). g (length (flat x) + i) v) d.1 e.1 rest)
+    each_change-split g 0 (flat x) (flat y) (joined xs) (joined ys) n
+    ∙ ap (λ (l : List ℕ). l ++ each_change g (0 + length (flat x)) (joined xs) (joined ys)) (variables_flat (line p o) (λ (c : ℕ) (v : ℤ). line_at p os c v) o.slots x y g d.0 e.0 here)
+    ∙ ap (λ (l : List ℕ). variable_lines (line p o) o.slots x y ++ l) (each_change-same g (λ (i : ℕ) (v : ℤ). g (length (flat x) + i) v) (0 + length (flat x)) 0 (joined xs) (joined ys) after ∙ owners_flat p os xs ys (λ (i : ℕ) (v : ℤ). g (length (flat x) + i) v) d.1 e.1 rest)
 
 processes_wanted : (p : Program) (w u : Bool) (i : ℕ) (ks : List ℕ) (fs : List Frame) → AreFrames (process_owners p w i ks) fs → AreFrames (process_owners p u i ks) fs
 processes_wanted p w u i ks [] h = tt
@@ -148,11 +151,11 @@ owners_wanted : (p : Program) (w u x y : Bool) (ks : List ℕ) (fs : List Frame)
 owners_wanted p w u x y ks [] h = tt
 owners_wanted p w u x y ks (f ∷ fs) h = (h.0, processes_wanted p u y 0 ks fs h.1)
 
-pub lines_flat : (p : Program) (ks : List ℕ) (b a : List Frame) (before after : List ℤ) (globals locals : Bool) → IsState p ks b before → IsState p ks a after → cell_lines (line_at p (owners p globals locals ks)) 0 before after ≡ value_lines p ks b a globals locals
+pub lines_flat : (p : Program) (ks : List ℕ) (b a : List Frame) (before after : List ℤ) (globals locals : Bool) → IsState p ks b before → IsState p ks a after → each_change (line_at p (owners p globals locals ks)) 0 before after ≡ value_lines p ks b a globals locals
 lines_flat p ks b a before after globals locals h k =
     let os = owners p globals locals ks in
     let whole = owners_flat p os b a (line_at p os) (owners_wanted p true true globals locals ks b h.declared) (owners_wanted p true true globals locals ks a k.declared) (λ i v. refl) in
-    ap (λ (xs : List ℤ). cell_lines (line_at p os) 0 xs after) (sym h.numbers) ∙ ap (λ (ys : List ℤ). cell_lines (line_at p os) 0 (joined b) ys) (sym k.numbers) ∙ whole
+    ap (λ (xs : List ℤ). each_change (line_at p os) 0 xs after) (sym h.numbers) ∙ ap (λ (ys : List ℤ). each_change (line_at p os) 0 (joined b) ys) (sym k.numbers) ∙ whole
 
 -- ---- nothing is wanted
 
@@ -160,7 +163,7 @@ variables-none : (f : Slot → ℕ → ℤ → List ℕ) (ss : List Slot) (x y :
 variables-none f [] x y h = refl
 variables-none f (s ∷ ss) [] y h = refl
 variables-none f (s ∷ ss) (c ∷ cs) [] h = refl
-variables-none f (s ∷ ss) (c ∷ cs) (d ∷ ds) h = ap (λ (l : List ℕ). l ++ variable_lines f ss cs ds) (cell_lines-none (f s) 0 c d (h s)) ∙ variables-none f ss cs ds h
+variables-none f (s ∷ ss) (c ∷ cs) (d ∷ ds) h = ap (λ (l : List ℕ). l ++ variable_lines f ss cs ds) (each_change-none (f s) 0 c d (h s)) ∙ variables-none f ss cs ds h
 
 processes-none : (p : Program) (i : ℕ) (ks : List ℕ) (b a : List Frame) → owner_lines p (process_owners p false i ks) b a ≡ []
 processes-none p i [] b a = refl

@@ -7,7 +7,7 @@ use Rattle.pml_program.specs.declared.program.Slot.{Slot}
 use Rattle.pml_program.specs.declared.program.Program.{Program}
 use Rattle.pml_lines.specs.Places.{place_line}
 use Rattle.pml_cells.specs.Cells.{slot_of, cell_of}
-use Rattle.pml_lines.specs.Changes.{Owner, line, cell_lines, line_at, heading_of, slots_of, process_owner, process_owners}
+use Rattle.pml_lines.specs.Changes.{Owner, line, each_change, line_at, heading_of, slots_of, process_owner, process_owners}
 
 pub line-here : (p : Program) (o : Owner) (os : List Owner) (i : ℕ) (v : ℤ) (s : Slot) → Some s ≡ slot_of o.slots i → line_at p (o ∷ os) i v ≡ line p o s (cell_of o.slots i) v
 line-here p o os i v s h = subst (λ (x : Option Slot). (elim x as (λ _. List ℕ) [ None ↦ line_at p os (cell_of o.slots i) v | Some t ↦ line p o t (cell_of o.slots i) v ]) ≡ line p o s (cell_of o.slots i) v) h refl
@@ -41,22 +41,22 @@ process-after p ks n i v l h =
     ∙ ap (λ (m : ℕ). line_at p (process_owners p true (n + 1) (drop m ks)) (cell_of (slots_of (slice_get p.proctypes (get_or ks n 0))) i) v) e
 
 -- the cell k and those after it
-pub cells-more : (f : ℕ → ℤ → List ℕ) (xs ys : List ℤ) (k : ℕ) → k < length xs → k < length ys → cell_lines f k (drop k xs) (drop k ys) ≡ (if int_eq (get_or xs k (pos 0)) (get_or ys k (pos 0)) then [] else f k (get_or ys k (pos 0))) ++ cell_lines f (k + 1) (drop (k + 1) xs) (drop (k + 1) ys)
+pub cells-more : (f : ℕ → ℤ → List ℕ) (xs ys : List ℤ) (k : ℕ) → k < length xs → k < length ys → each_change f k (drop k xs) (drop k ys) ≡ (if int_eq (get_or xs k (pos 0)) (get_or ys k (pos 0)) then [] else f k (get_or ys k (pos 0))) ++ each_change f (k + 1) (drop (k + 1) xs) (drop (k + 1) ys)
 cells-more f xs ys k l m =
     let d : drop k xs ≡ get_or xs k (pos 0) ∷ drop (suc k) xs = drop-cons xs k (pos 0) l in
     let e : drop k ys ≡ get_or ys k (pos 0) ∷ drop (suc k) ys = drop-cons ys k (pos 0) m in
     let n : suc k ≡ k + 1 = omega arith in
-    ap (λ (x : List ℤ). cell_lines f k x (drop k ys)) d
-    ∙ ap (λ (y : List ℤ). cell_lines f k (get_or xs k (pos 0) ∷ drop (suc k) xs) y) e
-    ∙ ap (λ (i : ℕ). (if int_eq (get_or xs k (pos 0)) (get_or ys k (pos 0)) then [] else f k (get_or ys k (pos 0))) ++ cell_lines f (k + 1) (drop i xs) (drop i ys)) n
+    ap (λ (x : List ℤ). each_change f k x (drop k ys)) d
+    ∙ ap (λ (y : List ℤ). each_change f k (get_or xs k (pos 0) ∷ drop (suc k) xs) y) e
+    ∙ ap (λ (i : ℕ). (if int_eq (get_or xs k (pos 0)) (get_or ys k (pos 0)) then [] else f k (get_or ys k (pos 0))) ++ each_change f (k + 1) (drop i xs) (drop i ys)) n
 
-no-cells : (f : ℕ → ℤ → List ℕ) (k : ℕ) (xs : List ℤ) → cell_lines f k xs [] ≡ []
+no-cells : (f : ℕ → ℤ → List ℕ) (k : ℕ) (xs : List ℤ) → each_change f k xs [] ≡ []
 no-cells f k [] = refl
 no-cells f k (x ∷ xs) = refl
 
-past : (f : ℕ → ℤ → List ℕ) (xs ys : List ℤ) (k : ℕ) → (length xs ≤ k) ⊎ (length ys ≤ k) → cell_lines f k (drop k xs) (drop k ys) ≡ []
-past f xs ys k (inl h) = ap (λ (x : List ℤ). cell_lines f k x (drop k ys)) (drop_all k xs h)
-past f xs ys k (inr h) = ap (λ (y : List ℤ). cell_lines f k (drop k xs) y) (drop_all k ys h) ∙ no-cells f k (drop k xs)
+past : (f : ℕ → ℤ → List ℕ) (xs ys : List ℤ) (k : ℕ) → (length xs ≤ k) ⊎ (length ys ≤ k) → each_change f k (drop k xs) (drop k ys) ≡ []
+past f xs ys k (inl h) = ap (λ (x : List ℤ). each_change f k x (drop k ys)) (drop_all k xs h)
+past f xs ys k (inr h) = ap (λ (y : List ℤ). each_change f k (drop k xs) y) (drop_all k ys h) ∙ no-cells f k (drop k xs)
 
 -- one of two numbers is no more than the other bound
 least : (a b k : ℕ) → min a b ≤ k → (a ≤ k) ⊎ (b ≤ k)
@@ -65,5 +65,5 @@ least a b k h = elim (leb a k) as (λ t. leb a k ≡ t → (a ≤ k) ⊎ (b ≤ 
   | false ↦ λ e. let g : k < a = leb-false a k e in inr (omega arith)
 ] refl
 
-pub cells-end : (f : ℕ → ℤ → List ℕ) (xs ys : List ℤ) (k : ℕ) → min (length xs) (length ys) ≤ k → cell_lines f k (drop k xs) (drop k ys) ≡ []
+pub cells-end : (f : ℕ → ℤ → List ℕ) (xs ys : List ℤ) (k : ℕ) → min (length xs) (length ys) ≤ k → each_change f k (drop k xs) (drop k ys) ≡ []
 cells-end f xs ys k h = past f xs ys k (least (length xs) (length ys) k h)

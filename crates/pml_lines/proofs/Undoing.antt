@@ -8,8 +8,11 @@ use Rattle.std.specs.BTreeMap.{insert_entry}
 use Rattle.pml_program.specs.declared.program.Program.{Program}
 use Rattle.pml_store.specs.Store.{Frame, Contents, joined, undone, before}
 use Rattle.pml_store.proofs.Back.{joined_with, before_shape}
-use Rattle.pml_lines.specs.Changes.{Owner, cell_lines, line_at, owners, value_lines, oldest, write_line, write_lines, AreFrames, AreDeclared}
+use Rattle.pml_lines.specs.Changes.{Owner, each_change, line_at, owners, value_lines, oldest, if_changed, each_write, AreFrames, AreDeclared}
+use Rattle.pml_lines.specs.Changed.{step_changes}
+use Rattle.pml_lines.specs.Placed.{changed_at}
 use Rattle.pml_lines.proofs.Flat.{lines_flat}
+use Rattle.pml_lines.proofs.Placing.{changes_flat}
 
 -- cells before they were written: the last write is undone first
 abbrev cells_before : List ℤ → List (ℕ × ℤ) → List ℤ
@@ -84,15 +87,15 @@ take-before : (n : ℕ) (cells : List ℤ) (ws : List (ℕ × ℤ)) → Above n 
 take-before n cells [] h = refl
 take-before n cells (w ∷ ws) h = take-set-le n (cells_before cells ws) w.0 w.1 h.0 ∙ take-before n cells ws h.1
 
-same-none : (a b : ℤ) (l : List ℕ) → a ≡ b → (if int_eq a b then [] else l) ≡ []
+same-none : {A : Type 0} (a b : ℤ) (l : List A) → a ≡ b → (if int_eq a b then [] else l) ≡ []
 same-none a b l e = ap (λ (c : Bool). if c then [] else l) (ap (λ (x : ℤ). int_eq x b) e ∙ int_eq_equiv.refl b)
 
-lines-same : (f : ℕ → ℤ → List ℕ) (k : ℕ) (xs : List ℤ) → cell_lines f k xs xs ≡ []
+pub lines-same : {A : Type 0} (f : ℕ → ℤ → List A) (k : ℕ) (xs : List ℤ) → each_change f k xs xs ≡ []
 lines-same f k [] = refl
-lines-same f k (x ∷ xs) = ap (λ (l : List ℕ). l ++ cell_lines f (k + 1) xs xs) (same-none x x (f k x) refl) ∙ lines-same f (k + 1) xs
+lines-same f k (x ∷ xs) = ap (λ (l : List _). l ++ each_change f (k + 1) xs xs) (same-none x x (f k x) refl) ∙ lines-same f (k + 1) xs
 
 -- one cell more differs, behind those that are the same
-lines-set : (f : ℕ → ℤ → List ℕ) (k : ℕ) (xs ys : List ℤ) (j : ℕ) (x : ℤ) → take (suc j) xs ≡ take (suc j) ys → cell_lines f k (set xs j x) ys ≡ write_line f (k + j, x) (slice_get ys j) ++ cell_lines f k xs ys
+lines-set : {A : Type 0} (f : ℕ → ℤ → List A) (k : ℕ) (xs ys : List ℤ) (j : ℕ) (x : ℤ) → take (suc j) xs ≡ take (suc j) ys → each_change f k (set xs j x) ys ≡ if_changed f (k + j, x) (slice_get ys j) ++ each_change f k xs ys
 lines-set f k [] [] j x h = refl
 lines-set f k [] (y ∷ ys) j x h = absurd (let e : [] ≡ y ∷ take j ys = h in cc)
 lines-set f k (y ∷ xs) [] j x h = absurd (let e : y ∷ take j xs ≡ [] = h in cc)
@@ -100,27 +103,27 @@ lines-set f k (a ∷ xs) (b ∷ ys) zero x h =
     let e : a ∷ take 0 xs ≡ b ∷ take 0 ys = h in
     let same : a ≡ b = cc in
     let n : k + 0 ≡ k = omega arith in
-    let rest = cell_lines f (k + 1) xs ys in
-    sym (ap (λ (i : ℕ). write_line f (i, x) (Some b) ++ ((if int_eq a b then [] else f k b) ++ rest)) n ∙ ap (λ (l : List ℕ). write_line f (k, x) (Some b) ++ (l ++ rest)) (same-none a b (f k b) same))
+    let rest = each_change f (k + 1) xs ys in
+    sym (ap (λ (i : ℕ). if_changed f (i, x) (Some b) ++ ((if int_eq a b then [] else f k b) ++ rest)) n ∙ ap (λ (l : List _). if_changed f (k, x) (Some b) ++ (l ++ rest)) (same-none a b (f k b) same))
 lines-set f k (a ∷ xs) (b ∷ ys) (suc j) x h =
     let e : a ∷ take (suc j) xs ≡ b ∷ take (suc j) ys = h in
     let same : a ≡ b = cc in
     let left : take (suc j) xs ≡ take (suc j) ys = cc in
     let n : k + 1 + j ≡ k + suc j = omega arith in
     let none = same-none a b (f k b) same in
-    let rest = cell_lines f (k + 1) xs ys in
-    ap (λ (l : List ℕ). l ++ cell_lines f (k + 1) (set xs j x) ys) none
+    let rest = each_change f (k + 1) xs ys in
+    ap (λ (l : List _). l ++ each_change f (k + 1) (set xs j x) ys) none
     ∙ lines-set f (k + 1) xs ys j x left
-    ∙ ap (λ (i : ℕ). write_line f (i, x) (slice_get ys j) ++ rest) n
-    ∙ ap (λ (l : List ℕ). write_line f (k + suc j, x) (slice_get ys j) ++ (l ++ rest)) (sym none)
+    ∙ ap (λ (i : ℕ). if_changed f (i, x) (slice_get ys j) ++ rest) n
+    ∙ ap (λ (l : List _). if_changed f (k + suc j, x) (slice_get ys j) ++ (l ++ rest)) (sym none)
 
-lines-ascending : (f : ℕ → ℤ → List ℕ) (cells : List ℤ) (ws : List (ℕ × ℤ)) → Ascends ws → cell_lines f 0 (cells_before cells ws) cells ≡ write_lines f cells ws
+lines-ascending : {A : Type 0} (f : ℕ → ℤ → List A) (cells : List ℤ) (ws : List (ℕ × ℤ)) → Ascends ws → each_change f 0 (cells_before cells ws) cells ≡ each_write f cells ws
 lines-ascending f cells [] h = lines-same f 0 cells
 lines-ascending f cells (w ∷ ws) h =
     let n : 0 + w.0 ≡ w.0 = omega arith in
     lines-set f 0 (cells_before cells ws) cells w.0 w.1 (take-before (suc w.0) cells ws h.0)
-    ∙ ap (λ (i : ℕ). write_line f (i, w.1) (slice_get cells w.0) ++ cell_lines f 0 (cells_before cells ws) cells) n
-    ∙ ap (λ (l : List ℕ). write_line f w (slice_get cells w.0) ++ l) (lines-ascending f cells ws h.1)
+    ∙ ap (λ (i : ℕ). if_changed f (i, w.1) (slice_get cells w.0) ++ each_change f 0 (cells_before cells ws) cells) n
+    ∙ ap (λ (l : List _). if_changed f w (slice_get cells w.0) ++ l) (lines-ascending f cells ws h.1)
 
 -- ---- the places
 
@@ -135,11 +138,20 @@ same_shape (o ∷ os) (g ∷ gs) (f ∷ fs) e h =
     (here ∙ h.0, same_shape os gs fs rest h.1)
 
 pub writes_flat : (p : Program) (ks : List ℕ) (now : Contents) (globals locals : Bool) → AreDeclared p ks now.frames →
-    write_lines (line_at p (owners p globals locals ks)) (joined now.frames) (oldest now.written) ≡ value_lines p ks (before now) now.frames globals locals
+    each_write (line_at p (owners p globals locals ks)) (joined now.frames) (oldest now.written) ≡ value_lines p ks (before now) now.frames globals locals
 writes_flat p ks now globals locals a =
     let f = line_at p (owners p globals locals ks) in
     let ys = joined now.frames in
     let declared = same_shape (owners p true true ks) (before now) now.frames (before_shape now) a in
     sym (lines-ascending f ys (oldest now.written) (ascends-oldest now.written))
-    ∙ ap (λ (xs : List ℤ). cell_lines f 0 xs ys) (before-oldest ys now.written ∙ sym (joined_undone now.frames now.written))
+    ∙ ap (λ (xs : List ℤ). each_change f 0 xs ys) (before-oldest ys now.written ∙ sym (joined_undone now.frames now.written))
     ∙ lines_flat p ks (before now) now.frames (joined (before now)) ys globals locals (record { numbers = refl; declared = declared }) (record { numbers = refl; declared = a })
+
+pub changes_written : (p : Program) (ks : List ℕ) (now : Contents) → AreDeclared p ks now.frames → each_write (changed_at p ks) (joined now.frames) (oldest now.written) ≡ step_changes ks now
+changes_written p ks now a =
+    let f = changed_at p ks in
+    let ys = joined now.frames in
+    let declared = same_shape (owners p true true ks) (before now) now.frames (before_shape now) a in
+    sym (lines-ascending f ys (oldest now.written) (ascends-oldest now.written))
+    ∙ ap (λ (xs : List ℤ). each_change f 0 xs ys) (before-oldest ys now.written ∙ sym (joined_undone now.frames now.written))
+    ∙ changes_flat p ks (before now) now.frames declared a

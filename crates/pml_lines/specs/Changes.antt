@@ -63,18 +63,18 @@ line p o s cell number = if o.wanted then o.heading ++ place_line p s cell numbe
 
 -- ---- two states compared
 
--- the lines of the cells that differ, where the first of them has the number k
-abbrev pub cell_lines : (ℕ → ℤ → List ℕ) → ℕ → Cells → Cells → List ℕ
-cell_lines f k [] after = []
-cell_lines f k (x ∷ xs) [] = []
-cell_lines f k (x ∷ xs) (y ∷ ys) = (if int_eq x y then [] else f k y) ++ cell_lines f (k + 1) xs ys
+-- what is made of each cell that differs and of its number after, where the first cell has the number k
+abbrev pub each_change : {A : Type 0} → (ℕ → ℤ → List A) → ℕ → Cells → Cells → List A
+each_change f k [] after = []
+each_change f k (x ∷ xs) [] = []
+each_change f k (x ∷ xs) (y ∷ ys) = (if int_eq x y then [] else f k y) ++ each_change f (k + 1) xs ys
 
--- those of the variables of an owner
+-- the lines of the variables of an owner
 abbrev pub variable_lines : (Slot → ℕ → ℤ → List ℕ) → List Slot → Frame → Frame → List ℕ
 variable_lines f [] before after = []
 variable_lines f (s ∷ ss) [] after = []
 variable_lines f (s ∷ ss) (x ∷ xs) [] = []
-variable_lines f (s ∷ ss) (x ∷ xs) (y ∷ ys) = cell_lines (f s) 0 x y ++ variable_lines f ss xs ys
+variable_lines f (s ∷ ss) (x ∷ xs) (y ∷ ys) = each_change (f s) 0 x y ++ variable_lines f ss xs ys
 
 -- those of all owners
 abbrev pub owner_lines : Program → List Owner → List Frame → List Frame → List ℕ
@@ -137,14 +137,14 @@ abbrev pub oldest : List (ℕ × ℤ) → List (ℕ × ℤ)
 oldest [] = []
 oldest (w ∷ ws) = insert_entry nat_cmp (oldest ws) w.0 w.1
 
--- the line of a cell that was written, by its index and its number before, if it is still there and its number is another now
-abbrev pub write_line : (ℕ → ℤ → List ℕ) → ℕ × ℤ → Option ℤ → List ℕ
-write_line f w None = []
-write_line f w (Some number) = if int_eq w.1 number then [] else f w.0 number
+-- what is made of a cell that was written, by its index and its number before, if it is still there and its number is another now
+abbrev pub if_changed : {A : Type 0} → (ℕ → ℤ → List A) → ℕ × ℤ → Option ℤ → List A
+if_changed f w None = []
+if_changed f w (Some number) = if int_eq w.1 number then [] else f w.0 number
 
-abbrev pub write_lines : (ℕ → ℤ → List ℕ) → Cells → List (ℕ × ℤ) → List ℕ
-write_lines f cells [] = []
-write_lines f cells (w ∷ ws) = write_line f w (slice_get cells w.0) ++ write_lines f cells ws
+abbrev pub each_write : {A : Type 0} → (ℕ → ℤ → List A) → Cells → List (ℕ × ℤ) → List A
+each_write f cells [] = []
+each_write f cells (w ∷ ws) = if_changed f w (slice_get cells w.0) ++ each_write f cells ws
 
 -- the value lines of the step that led to this store, by its log
 abbrev pub step_lines : Program → List ℕ → Contents → Wanted → List ℕ

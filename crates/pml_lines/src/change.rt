@@ -4,7 +4,7 @@ ghost use Rattle.std.specs.Prelude.{◌≡◌, ◌++◌, true, slice_get, OnOk, 
 ghost use Rattle.std.specs.Io.{StartsWith};
 ghost use Rattle.std.specs.Fmt.{decimal};
 ghost use Rattle.pml_lines.specs.Places.{place_line};
-ghost use Rattle.pml_lines.specs.Changes.{proctype_name, local_heading, heading_of, local_line, process_owners, line_at, wanted_line, changed_line, cell_lines, AreDeclared, AddsChanges, oldest, write_line, write_lines, step_lines};
+ghost use Rattle.pml_lines.specs.Changes.{proctype_name, local_heading, heading_of, local_line, process_owners, line_at, wanted_line, changed_line, each_change, AreDeclared, AddsChanges, oldest, if_changed, each_write, step_lines};
 
 use crate::place::place_line;
 use crate::tables::Tables;
@@ -182,7 +182,7 @@ fn lines_of_cells(
     after: &[i32],
     text: &mut Vec<u8>,
 ) -> Result<(), AllocError>
-    ensures added { OnOk result (text.new.items ≡ text.old.items ++ cell_lines (wanted_line tables.now kinds.now wanted) 0 before.now after.now) }
+    ensures added { OnOk result (text.new.items ≡ text.old.items ++ each_change (wanted_line tables.now kinds.now wanted) 0 before.now after.now) }
     ensures kept { OnErr result (StartsWith text.new.items text.old.items) }
 {
     let count = before.len().min(after.len());
@@ -209,8 +209,8 @@ pub fn value_lines(
     lines_of_cells(tables, kinds, wanted, before, after, text)
 }
 
-// The oldest number of each cell of a log, by index.
-fn oldest(alloc: Global, written: &[(u32, i32)]) -> Result<BTreeMap<usize, i32>, AllocError>
+/// The oldest number of each cell of a log, by index.
+pub fn oldest(alloc: Global, written: &[(u32, i32)]) -> Result<BTreeMap<usize, i32>, AllocError>
     ensures { IfOk result (λ m. m.entries ≡ oldest written.now) }
 {
     let mut numbers = BTreeMap::new(alloc);
@@ -232,7 +232,7 @@ fn line_of_write(
     cells: &[i32],
     text: &mut Vec<u8>,
 ) -> Result<(), AllocError>
-    ensures added { OnOk result (text.new.items ≡ text.old.items ++ write_line (wanted_line tables.now kinds.now wanted) write (slice_get cells.now write.0)) }
+    ensures added { OnOk result (text.new.items ≡ text.old.items ++ if_changed (wanted_line tables.now kinds.now wanted) write (slice_get cells.now write.0)) }
     ensures kept { OnErr result (StartsWith text.new.items text.old.items) }
 {
     let (at, before) = write;
@@ -251,7 +251,7 @@ fn lines_of_writes(
     cells: &[i32],
     text: &mut Vec<u8>,
 ) -> Result<(), AllocError>
-    ensures added { OnOk result (text.new.items ≡ text.old.items ++ write_lines (wanted_line tables.now kinds.now wanted) cells.now writes.now.entries) }
+    ensures added { OnOk result (text.new.items ≡ text.old.items ++ each_write (wanted_line tables.now kinds.now wanted) cells.now writes.now.entries) }
     ensures kept { OnErr result (StartsWith text.new.items text.old.items) }
 {
     for (at, before) in writes {

@@ -2,5 +2,6 @@
 #![tactic(auto)]
 
 pub mod change;
+pub mod changed;
 pub mod place;
 pub mod tables;

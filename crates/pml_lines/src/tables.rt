@@ -2,7 +2,7 @@
 
 ghost use Rattle.std.specs.Prelude.{◌≡◌, IfOk, map, slice_get};
 ghost use Rattle.std.specs.Option.{option_copied};
-ghost use Rattle.pml_cells.specs.Cells.{slot_of, cell_of};
+ghost use Rattle.pml_cells.specs.Cells.{slot_of, cell_of, number_in};
 ghost use Rattle.pml_lines.specs.Changes.{slots_of};
 ghost use Rattle.pml_lines.specs.Tables.{variables};
 
@@ -99,6 +99,26 @@ impl<'p, 'a> Tables<'p, 'a> {
     {
         match self.locals.get(kind) {
             Some(row) => row.find(at),
+            None => (None, at),
+        }
+    }
+
+    /// The number of the global variable with the cell of this index, if one has it, and the number of the cell in it, or among the
+    /// cells of the processes.
+    pub fn number_global(&self, at: usize) -> (Option<usize>, usize)
+        ensures number { result.0 ≡ number_in self.now.globals at }
+        ensures cell { result.1 ≡ cell_of self.now.globals at }
+    {
+        self.globals.place(at)
+    }
+
+    /// The same among the variables of a proctype, by its number in the model.
+    pub fn number_local(&self, kind: usize, at: usize) -> (Option<usize>, usize)
+        ensures number { result.0 ≡ number_in (slots_of (slice_get self.now.proctypes kind)) at }
+        ensures cell { result.1 ≡ cell_of (slots_of (slice_get self.now.proctypes kind)) at }
+    {
+        match self.locals.get(kind) {
+            Some(row) => row.place(at),
             None => (None, at),
         }
     }

@@ -1,8 +1,7 @@
 -- From what the parts of playing a text answer to what the whole does.
-use Rattle.std.proofs.Common.{◌≡◌, ℕ, ◌≤◌, Bool, List, Result, Ok, Err, refl, sym, ap, ◌∙◌, subst, arith}
+use Rattle.std.proofs.Common.{◌≡◌, ℕ, ◌≤◌, Bool, List, Result, Ok, Err, refl, sym, subst, arith}
 use Rattle.std.specs.Prelude.{All}
 use Rattle.devices.specs.Holdings.{Holdings}
-use Rattle.diagnostics.specs.declared.fault.Fault.{Fault}
 use Rattle.session.specs.declared.Options.{Options}
 use Rattle.session.specs.declared.End.{End}
 use Rattle.session.specs.declared.Cause.TheVariants as cause
@@ -35,19 +34,13 @@ use Rattle.pml_check.specs.Checked.{IsRefused}
 use Rattle.pml_check.specs.Judged.{IsFit}
 use Rattle.pml_program.specs.declared.program.Program.{Program}
 use Rattle.pml_stands.specs.StandsModel.{StandsModel}
-use Rattle.pml_check.proofs.Standing.{is_numbered}
-use Rattle.diagnostics.specs.declared.stop.Stop.{Stop}
-use Rattle.diagnostics.specs.declared.stop.Stop.TheVariants as stop
-use Rattle.pml_start.specs.Begin.{Begun, shown}
-use Rattle.pml_start.specs.declared.started.Started.{Started}
-use Rattle.pml_start.specs.Start.{Starts, first_state}
 use Rattle.pml_play.specs.declared.whole.Rejection.{Rejection}
 use Rattle.pml_play.specs.declared.whole.Rejection.TheVariants.{Memory, Refused}
-use Rattle.pml_sim.specs.World.{Running, first, rules}
+use Rattle.pml_sim.specs.World.{IsFirst, Running, rules}
 use Rattle.pml_play.specs.Transcript.{AreExpanded, IsSpelled, IsModel, too_long, lexical, left_out, inline, too_deep, unspelled, unfit, of_refusal, of_model}
 use Rattle.pml_play.specs.Plays.{IsReady, IsRejected, of_lexical, of_inline, of_syntax, of_check, Rejects, PlaysText, PlaysWhole}
 use Rattle.pml_lex.proofs.Lines.{token_lines}
-use Rattle.pml_play.proofs.Each.{good_start, has_transcript}
+use Rattle.pml_play.proofs.Each.{has_transcript}
 use Rattle.session.specs.declared.form.Stream.TheVariants.{Unread}
 
 -- ---- reading
@@ -82,16 +75,6 @@ rejected_check text t (check.Refused r) is h = unfit (record { tree = t; is_spel
 pub is_ready : (text : List ℕ) (t : Tree) (p : Program) → IsSpelled text t → IsFit t → StandsModel t p → IsReady text p
 is_ready text t p is fits stands = record { tree = t; is_spelled = is; fits = fits; stands = stands }
 
--- ---- the first state
-
-no_fault : (b : Begun) (d : Result Begun Fault) (e : Stop) (f : Fault) → d ≡ Ok b → e ≡ stop.Fault f → Starts d (Err e) → ⊥
-no_fault b d e f is of h = subst (λ (k : Stop). Starts (Ok b) (Err k)) of (subst (λ (x : Result Begun Fault). Starts x (Err e)) is h)
-
-pub no_start_fault : (text : List ℕ) (p q : Program) (e : Stop) (f : Fault) → IsReady text p → q ≡ p → e ≡ stop.Fault f → Starts (first_state q) (Err e) → ⊥
-no_start_fault text p q e f ready same of h =
-    let start = good_start ready.tree ready.fits in
-    no_fault start.0 (first_state q) e f (ap first_state (same ∙ is_numbered ready.tree p ready.stands) ∙ start.1) of h
-
 -- ---- a rejected text
 
 module _ (text : List ℕ) (options : Options) (a b : Holdings) where
@@ -122,19 +105,15 @@ module _ (text : List ℕ) (options : Options) (a b : Holdings) where
 
 -- ---- a model
 
-started : (d : Result Begun Fault) (s : Started) → Starts d (Ok s) → d ≡ Ok (shown s)
-started (Ok b) s h = ap Ok (sym h)
-started (Err f) s h = absurd h
-
--- a ready model begins with what was started
-pub is_model : (text : List ℕ) (p q : Program) (s : Started) (lossy : Bool) (w : Running) → IsReady text p → q ≡ p → Starts (first_state q) (Ok s) → w ≡ first q (shown s) lossy → IsModel text lossy w
-is_model text p q s lossy w ready same starts is = record {
+-- a ready model begins with its first state
+pub is_model : (text : List ℕ) (p : Program) (lossy : Bool) (w : Running) → IsReady text p → IsFirst p lossy w → IsModel text lossy w
+is_model text p lossy w ready first = record {
   tree = ready.tree;
   is_spelled = ready.is_spelled;
   fits = ready.fits;
   program = p;
   stands = ready.stands;
-  begun = shown s;
-  starts = sym (ap first_state same) ∙ started (first_state q) s starts;
-  is = is ∙ ap (λ (r : Program). first r (shown s) lossy) same;
+  begun = first.begun;
+  starts = first.starts;
+  is = first.is;
 }

@@ -15,7 +15,7 @@ ghost use Rattle.pml_play.specs.Plays as plays;
 ghost use Rattle.pml_play.specs.Plays.{IsReady, IsRejected, Rejects, PlaysText, PlaysWhole, PlaysBroken};
 
 use devices::Devices;
-use diagnostics::{Refusal, Stop};
+use diagnostics::Refusal;
 use pml_check::{CheckFault, Checked, check};
 use pml_inline::expand;
 use pml_inline::fault::InlineFault;
@@ -23,7 +23,6 @@ use pml_lex::cut;
 use pml_lex::fault::LexFault;
 use pml_lex::token::Token;
 use pml_sim::world::World;
-use pml_start::start::start;
 use pml_syntax::{SyntaxFault, parse};
 use pml_tree::tree::Tree;
 use session::{Broken, End, Options, Version, end_of, failure, refuse, run};
@@ -142,7 +141,7 @@ pub fn checked_of<'a>(alloc: Global, tokens: &'a [Token<'a>]) -> Result<Checked<
     }
 }
 
-/// The first state of a checked model. The check has evaluated what it begins with before, so no fault comes here.
+/// The first state of a checked model.
 pub fn world_of<'p, 'a>(
     alloc: Global,
     checked: &'p Checked<'a>,
@@ -151,14 +150,9 @@ pub fn world_of<'p, 'a>(
     ensures ok { (text : List ℕ) → IsReady text checked.now → IfOk result (IsModel text lossy) }
     ensures err { (text : List ℕ) → IsReady text checked.now → IfErr result (IsRejected text) }
 {
-    let program = checked.program();
-    match start(alloc, program) {
-        Ok(started) => match World::first(alloc, program, checked.graphs(), started, lossy) {
-            Ok(world) => Ok(world),
-            Err(AllocError) => Err(Rejection::Memory),
-        },
-        Err(Stop::Fault(_)) => Err(Rejection::Refused(Refusal::Initialiser, 0)),
-        Err(Stop::Memory) => Err(Rejection::Memory),
+    match World::start(alloc, checked, lossy) {
+        Ok(world) => Ok(world),
+        Err(AllocError) => Err(Rejection::Memory),
     }
 }
 

@@ -1,5 +1,5 @@
 -- What a call does to the parts it does to the whole.
-use Rattle.std.proofs.Common.{◌≡◌, ℕ, ◌+◌, ◌<◌, min, Bool, List, [], ◌++◌, length, take, refl, sym, ap, ◌∙◌, subst, arith, Option, Some, None, Result, Ok, Err}
+use Rattle.std.proofs.Common.{◌≡◌, ℕ, ◌+◌, ◌<◌, min, Bool, List, [], ◌++◌, length, take, refl, sym, ap, ◌∙◌, subst, arith, Option, Some, None, Result, Ok, Err, IfOk}
 use Rattle.std.specs.List.{Contains}
 use Rattle.diagnostics.specs.declared.fault.Fault.{Fault}
 use Rattle.diagnostics.specs.declared.stop.Stop.{Stop}
@@ -9,8 +9,12 @@ use Rattle.session.specs.Takes.{CanBeTaken, IsReason}
 use Rattle.pml_program.specs.declared.program.Program.{Program}
 use Rattle.pml_store.specs.Store.{Frame, Contents}
 use Rattle.pml_start.specs.Bound.{most_cells}
-use Rattle.pml_start.specs.Start.{IsDeclared}
+use Rattle.pml_start.specs.Begin.{Begun, shown}
+use Rattle.pml_start.specs.declared.started.Started.{Started}
+use Rattle.pml_start.specs.Start.{IsDeclared, Starts, first_state as begin}
+use Rattle.pml_check.specs.Judged.{HasGoodStart}
 use Rattle.pml_lines.specs.declared.change.Wanted.{Wanted}
+use Rattle.pml_lines.specs.Changed.{changes as changed, step_changes}
 use Rattle.pml_lines.specs.Changes.{AreDeclared, step_lines, value_lines}
 use Rattle.pml_moves.specs.declared.moves.Move.{Move}
 use Rattle.pml_moves.specs.declared.moves.Move.TheVariants.{Death, Alone, Pair}
@@ -24,11 +28,11 @@ use Rattle.pml_steps.specs.Taking.{CanDie, PastBy}
 use Rattle.pml_texts.specs.Texts.{IsWithin, move_text}
 use Rattle.pml_texts.proofs.Staying.{text_stays}
 use Rattle.pml_sim.specs.declared.halt.Halt.{Halt}
-use Rattle.pml_sim.specs.World.{Running, rules, unless_stopped, stopped, changed_lines, led_to}
+use Rattle.pml_sim.specs.World.{IsFirst, Running, rules, unless_stopped, stopped, changed_lines, led_to}
 use Rattle.pml_sim.specs.World as world
 use Rattle.pml_sim.proofs.Living.{moves_within}
 use Rattle.pml_sim.proofs.Leading.{past_by, went, failed}
-use Rattle.pml_sim.proofs.Values.{first_declared, lines_of_first, taken_min}
+use Rattle.pml_sim.proofs.Values.{changes_of_first, first_declared, frames_declared, lines_of_first, taken_min}
 
 -- ---- the moves
 
@@ -99,3 +103,40 @@ are_declared live p ks store n pr k st h =
     subst (λ (c : Contents). AreDeclared p (take n ks) c.frames) (sym st)
     (subst (λ (l : List ℕ). AreDeclared p (take n l) live.state.frames) (sym k)
     (subst (λ (q : Program). AreDeclared q (take n (kinds live.state)) live.state.frames) (sym pr) (first_declared live.state.program (there live.state) n h)))
+
+-- ---- its changes
+
+pub changes_are : (w : Running) (live : Live) (ks : List ℕ) (store : Contents) (older n : ℕ) → w.state ≡ live.state → w.past ≡ take (older + 1) (past_of live) →
+    ks ≡ kinds live.state → store ≡ record { frames = live.state.frames; written = live.written; most = most_cells live.state.program } → n ≡ min older (length ks) → IsDeclared live.state.program (there live.state) →
+    step_changes (take n ks) store ≡ world.changes w
+changes_are w live ks store older n s past k st ni h =
+    let now : Contents = record { frames = live.state.frames; written = live.written; most = most_cells live.state.program } in
+    ap (λ (i : ℕ). step_changes (take i ks) store) ni ∙ ap (λ (l : List ℕ). step_changes (take (min older (length l)) l) store) k
+    ∙ ap (λ (c : Contents). step_changes (take (min older (length (kinds live.state))) (kinds live.state)) c) st
+    ∙ changes_of_first older (kinds live.state) now (frames_declared live.state.program (there live.state) h)
+    ∙ ap (λ (fs : List Frame). changed fs live.state.frames) (sym past)
+    ∙ ap (λ (t : State). changed w.past t.frames) (sym s)
+
+-- ---- the first state
+
+no_fault_of : (b : Begun) (d : Result Begun Fault) (e : Stop) (f : Fault) → d ≡ Ok b → e ≡ stop.Fault f → Starts d (Err e) → ⊥
+no_fault_of b d e f is of h = subst (λ (k : Stop). Starts (Ok b) (Err k)) of (subst (λ (x : Result Begun Fault). Starts x (Err e)) is h)
+
+-- no initialiser of a checked model has a fault
+pub no_start_fault : (p : Program) (e : Stop) (f : Fault) → HasGoodStart p → e ≡ stop.Fault f → Starts (begin p) (Err e) → ⊥
+no_start_fault p e f good of h = no_fault_of good.0 (begin p) e f good.1 of h
+
+begun_is : (d : Result Begun Fault) (s : Started) → Starts d (Ok s) → d ≡ Ok (shown s)
+begun_is (Ok b) s h = ap Ok (sym h)
+begun_is (Err f) s h = absurd h
+
+is_first : (p q : Program) (lossy : Bool) (s : Started) (w : Running) → q ≡ p → Starts (begin q) (Ok s) → w ≡ world.first q (shown s) lossy → IsFirst p lossy w
+is_first p q lossy s w same starts is = record {
+  begun = shown s;
+  starts = sym (ap begin same) ∙ begun_is (begin q) s starts;
+  is = is ∙ ap (λ (r : Program). world.first r (shown s) lossy) same;
+}
+
+pub first_of : {E : Type 0} (p q : Program) (lossy : Bool) (s : Started) (r : Result Running E) → q ≡ p → Starts (begin q) (Ok s) → IfOk r (λ w. w ≡ world.first q (shown s) lossy) → IfOk r (IsFirst p lossy)
+first_of p q lossy s (Ok w) same starts is = is_first p q lossy s w same starts is
+first_of p q lossy s (Err e) same starts is = tt

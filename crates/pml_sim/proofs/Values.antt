@@ -1,16 +1,20 @@
 -- Lines of the processes that were there before the step.
 use Rattle.std.proofs.Common.{◌≡◌, ◌⊎◌, inl, inr, ℕ, zero, suc, ◌+◌, ◌<◌, ◌≤◌, min, arith, Bool, true, Option, Some, None, List, [], ◌∷◌, ◌++◌, length, map, take, refl, sym, ap, ◌∙◌}
 use Rattle.std.specs.Prelude.{slice_get}
-use Rattle.std.proofs.lemmas.List.{take_all}
+use Rattle.std.proofs.lemmas.List.{take_all, length-map, length-take-le}
 use Rattle.std.proofs.lemmas.Bool.{cases_lt}
 use Rattle.pml_program.specs.declared.program.Program.{Program}
 use Rattle.pml_program.specs.declared.program.Proctype.{Proctype}
 use Rattle.pml_program.specs.declared.program.Slot.{Slot}
 use Rattle.pml_store.specs.Store.{Frame, Contents, before}
+use Rattle.pml_store.proofs.Back.{before_shape}
 use Rattle.pml_cells.specs.Cells.{size}
 use Rattle.pml_start.specs.Begin.{Begun, shape}
 use Rattle.pml_start.specs.Start.{IsDeclared, variables_of, variables_at}
 use Rattle.pml_lines.specs.declared.change.Wanted.{Wanted}
+use Rattle.pml_lines.specs.declared.changed.Change.{Change}
+use Rattle.pml_lines.specs.Changed.{change, changes, frame_changes, step_changes, variable_changes}
+use Rattle.pml_lines.proofs.Undoing.{lines-same}
 use Rattle.pml_lines.specs.Changes.{Owner, AreFrames, AreDeclared, process_owners, process_owner, owners, global_owner, owner_lines, variable_lines, line, slots_of, value_lines, step_lines}
 
 head_is : {A : Type 0} {x y : A} {xs ys : List A} → x ∷ xs ≡ y ∷ ys → x ≡ y
@@ -70,3 +74,35 @@ taken_min n kinds = by (cases_lt n (length kinds))
     by : (n < length kinds) ⊎ (length kinds ≤ n) → take (min n (length kinds)) kinds ≡ take n kinds
     by (inl h) = ap (λ (i : ℕ). take i kinds) (let e : min n (length kinds) ≡ n = omega (arith, h) in e)
     by (inr h) = take_all (min n (length kinds)) kinds (omega (arith, h)) ∙ sym (take_all n kinds h)
+
+-- ---- the changes of a step
+
+-- there are as many frames before it as after it
+frames_before : (store : Contents) → length (before store) ≡ length store.frames
+frames_before store = sym (length-map (before store) (map length)) ∙ ap length (before_shape store) ∙ length-map store.frames (map length)
+
+-- those of the globals and of each process
+pub frames_declared : (p : Program) (b : Begun) → IsDeclared p b → length b.frames ≡ suc (length b.kinds)
+frames_declared p b h = sym (length-map b.frames (map length)) ∙ ap length h.sizes ∙ ap suc (length-map b.kinds (λ (k : ℕ). map size (variables_at p k)))
+
+-- the numbers before of the first n processes, and so many processes
+pub changes_of_first : (n : ℕ) (kinds : List ℕ) (store : Contents) → length store.frames ≡ suc (length kinds) → step_changes (take (min n (length kinds)) kinds) store ≡ changes (take (n + 1) (before store)) store.frames
+changes_of_first n kinds store l =
+    ap (λ (i : ℕ). changes (take (i + 1) (before store)) store.frames) (length-take-le (min n (length kinds)) kinds (omega arith))
+    ∙ ap (λ (fs : List Frame). changes fs store.frames) (by (cases_lt n (length kinds)))
+  where
+    by : (n < length kinds) ⊎ (length kinds ≤ n) → take (min n (length kinds) + 1) (before store) ≡ take (n + 1) (before store)
+    by (inl h) = ap (λ (i : ℕ). take i (before store)) (let e : min n (length kinds) + 1 ≡ n + 1 = omega (arith, h) in e)
+    by (inr h) =
+        let m = frames_before store in
+        take_all (min n (length kinds) + 1) (before store) (omega (arith, h, l, m)) ∙ sym (take_all (n + 1) (before store) (omega (arith, h, l, m)))
+
+variables_same : (f n : ℕ) (x : Frame) → variable_changes f n x x ≡ []
+variables_same f n [] = refl
+variables_same f n (c ∷ cs) =
+    ap (λ (l : List Change). l ++ variable_changes f (n + 1) cs cs) (lines-same (λ k v. change f n k v ∷ []) 0 c) ∙ variables_same f (n + 1) cs
+
+-- nothing has changed where nothing differs
+pub frames_same : (f : ℕ) (fs : List Frame) → frame_changes f fs fs ≡ []
+frames_same f [] = refl
+frames_same f (x ∷ xs) = ap (λ (l : List Change). l ++ frame_changes (f + 1) xs xs) (variables_same f 0 x) ∙ frames_same (f + 1) xs

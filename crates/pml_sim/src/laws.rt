@@ -1,10 +1,14 @@
 //! Laws of states.
 
-ghost use Rattle.std.specs.Prelude.{◌≡◌, List, ℕ, length, take};
+ghost use Rattle.std.specs.Prelude.{◌≡◌, Bool, List, [], ℕ, length, take};
+ghost use Rattle.std.specs.List.{flat_map};
 ghost use Rattle.session.specs.Machine.{Goes};
+ghost use Rattle.pml_program.specs.declared.program.Program.{Program};
+ghost use Rattle.pml_start.specs.Begin.{Begun};
+ghost use Rattle.pml_lines.specs.Changed.{wanted_changes};
 ghost use Rattle.pml_moves.specs.declared.moves.Move.{Move};
 ghost use Rattle.pml_sim.specs.Origins.{TextsNameOrigins};
-ghost use Rattle.pml_sim.specs.World.{Running, step};
+ghost use Rattle.pml_sim.specs.World.{Running, changed_lines, changes, first, step, value_line};
 
 /// The numbers before the last step are those of the state before it, as far as its variables are still there.
 pub fn steps_lead_back()
@@ -14,4 +18,14 @@ pub fn steps_lead_back()
 /// The text of a move names the process and the line that the move comes from, where its statement is there.
 pub fn texts_name_origins()
     ensures { TextsNameOrigins }
+{}
+
+/// Before the first step nothing has changed.
+pub fn nothing_has_changed_at_first()
+    ensures { (p : Program) (b : Begun) (lossy : Bool) → changes (first p b lossy) ≡ [] }
+{}
+
+/// The value lines of a step are those of its changes, as far as they are wanted.
+pub fn lines_are_of_changes()
+    ensures { (w : Running) (globals locals : Bool) → changed_lines w globals locals ≡ flat_map (value_line w) (wanted_changes globals locals (changes w)) }
 {}

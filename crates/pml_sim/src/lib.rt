@@ -2,6 +2,7 @@
 //! and 7).
 #![tactic(auto)]
 
+pub mod ending;
 pub mod halt;
 pub mod laws;
 pub mod world;

@@ -1,29 +1,37 @@
 //! A checked model as a machine.
 
-ghost use Rattle.std.specs.Prelude.{◌≡◌, ◌≤◌, ◌++◌, [], IfOk, OnOk, OnErr, length};
+ghost use Rattle.std.specs.Prelude.{◌≡◌, ◌≤◌, ◌++◌, [], IfOk, OnOk, OnErr, length, option_map};
 ghost use Rattle.std.specs.Io.{StartsWith};
+ghost use Rattle.std.specs.List.{Contains};
 ghost use Rattle.profile.specs.declared.TheConstants.{MOST_CHANNELS, MOST_PROCESSES};
+ghost use Rattle.session.specs.Takes.{CanBeTaken, StaysStopped, TakesStep};
 ghost use Rattle.pml_flow.specs.Flow.{AreGraphs};
 ghost use Rattle.pml_start.specs.Begin.{shown};
 ghost use Rattle.pml_start.specs.Bound.{bound, IsBounded};
 ghost use Rattle.pml_start.specs.Start.{IsDeclared};
 ghost use Rattle.pml_steps.specs.Footprint.{held};
+ghost use Rattle.pml_texts.specs.Charts.{told};
 ghost use Rattle.pml_texts.specs.Ends as ends;
 ghost use Rattle.pml_texts.specs.Texts as texts;
 ghost use Rattle.pml_sim.specs.World as world;
+ghost use Rattle.pml_sim.specs.World.{IsFirst};
 
+use crate::ending::Ending;
 use crate::halt::Halt;
 use diagnostics::Stop;
+use pml_check::Checked;
 use pml_flow::graph::Graph;
 use pml_lines::change::{Wanted, logged_lines};
+use pml_lines::changed::{Change, logged_changes, value_line};
 use pml_lines::tables::Tables;
 use pml_moves::moves::Move;
 use pml_moves::search::add_moves;
 use pml_program::program::Program;
+use pml_start::start::start;
 use pml_start::started::Started;
 use pml_steps::live::Live;
 use pml_steps::take::take;
-use pml_texts::ends::{add_stuck, is_valid};
+use pml_texts::ends::{add_stuck, is_valid, stuck};
 use pml_texts::texts::{add_move, origin};
 use session::{Machine, Report};
 use std::alloc::{AllocError, Global};
@@ -82,6 +90,111 @@ impl<'p, 'a> World<'p, 'a> {
             older,
             halt: None,
         })
+    }
+
+    /// The first state of a checked model, in which what is sent to a full channel may be lost.
+    pub fn start(
+        alloc: Global,
+        checked: &'p Checked<'a>,
+        lossy: bool,
+    ) -> Result<World<'p, 'a>, AllocError>
+        ensures { IfOk result (IsFirst checked.now lossy) }
+    {
+        let program = checked.program();
+        match start(alloc, program) {
+            Ok(started) => World::first(alloc, program, checked.graphs(), started, lossy),
+            Err(Stop::Fault(_)) => unreachable!(),
+            Err(Stop::Memory) => Err(AllocError),
+        }
+    }
+
+    // What its vectors take memory from.
+    fn allocator(&self) -> Global {
+        *self.live.variables().cells().allocator()
+    }
+
+    /// All moves of the present state, in order; none, where it has stopped.
+    pub fn moves(&self) -> Result<Vec<Move>, AllocError>
+        ensures { IfOk result (λ moves. moves.items ≡ world.moves self.now) }
+    {
+        let mut moves = Vec::new(self.allocator());
+        Machine::moves(self, &mut moves)?;
+        Ok(moves)
+    }
+
+    /// Takes a move of the present list, and appends what it prints. After a fault or want of memory it has stopped: each later call
+    /// answers the same, and changes nothing. Whatever it answers, the model is the one that it was.
+    pub fn take(&mut self, m: &Move, text: &mut Vec<u8>) -> Result<(), Stop>
+        requires present { CanBeTaken world.rules self.old m.now }
+        ensures step { Contains (world.moves self.old) m.now → TakesStep world.rules self.old m.now self.new text.old.items text.new.items result }
+        ensures stopped { StaysStopped world.rules self.old self.new result }
+        ensures model { self.new.state.program ≡ self.old.state.program }
+        ensures kept { OnErr result (StartsWith text.new.items text.old.items) }
+    {
+        if let Some(halt) = self.halt {
+            return Err(halt.why);
+        }
+        let before = self.live.process_count();
+        self.live.forget();
+        match take(&mut self.live, m, text) {
+            Ok(()) => {
+                self.older = before.min(self.live.process_count());
+                Ok(())
+            }
+            Err(why) => {
+                self.halt = Some(Halt { at: *m, why });
+                Err(why)
+            }
+        }
+    }
+
+    /// Appends the text of a move of the present state, or of the one at which it has stopped.
+    pub fn show(&self, m: &Move, text: &mut Vec<u8>) -> Result<(), AllocError>
+        ensures added { OnOk result (text.new.items ≡ text.old.items ++ texts.move_text self.now.state m.now) }
+        ensures kept { OnErr result (StartsWith text.new.items text.old.items) }
+    {
+        add_move(&self.live.scene(), *m, text)
+    }
+
+    /// The places whose numbers the last step changed, in the order of their value lines: the globals as they are declared, and then
+    /// the variables of each process that was there before; an array by its index, a typedef by its fields.
+    pub fn changes(&self) -> Result<Vec<Change>, AllocError>
+        ensures { IfOk result (λ found. found.items ≡ world.changes self.now) }
+    {
+        let kinds = self.live.kinds();
+        let count = self.older.min(kinds.len());
+        logged_changes(
+            self.allocator(),
+            &self.tables,
+            &kinds[..count],
+            self.live.variables(),
+        )
+    }
+
+    /// Appends the value line of a change of the last step.
+    pub fn value_line(&self, change: &Change, text: &mut Vec<u8>) -> Result<(), AllocError>
+        ensures added { OnOk result (text.new.items ≡ text.old.items ++ world.value_line self.now change.now) }
+        ensures kept { OnErr result (StartsWith text.new.items text.old.items) }
+    {
+        value_line(&self.tables, self.live.kinds(), *change, text)
+    }
+
+    /// Whether a run that ends here ends well.
+    pub fn ending(&self) -> Ending
+        ensures { result ≡ world.ending self.now }
+    {
+        if is_valid(&self.live.scene()) {
+            Ending::Valid
+        } else {
+            Ending::Invalid
+        }
+    }
+
+    /// The name of a process and the line of what stands first in it, where it lives and may not end there.
+    pub fn stuck(&self, process: usize) -> Option<(&'p [u8], u32)>
+        ensures { option_map told result ≡ texts.stuck_of self.now.state process }
+    {
+        stuck(&self.live.scene(), process)
     }
 
     /// How much it keeps of a run: the numbers in variables and messages, two for each process and two for each channel; at any time, also
@@ -147,21 +260,7 @@ impl Machine for World<'_, '_> {
     }
 
     fn take(&mut self, m: &Move, text: &mut Vec<u8>) -> Result<(), Stop> {
-        if let Some(halt) = self.halt {
-            return Err(halt.why);
-        }
-        let before = self.live.process_count();
-        self.live.forget();
-        match take(&mut self.live, m, text) {
-            Ok(()) => {
-                self.older = before.min(self.live.process_count());
-                Ok(())
-            }
-            Err(why) => {
-                self.halt = Some(Halt { at: *m, why });
-                Err(why)
-            }
-        }
+        World::take(self, m, text)
     }
 
     fn report(&self, what: Report, text: &mut Vec<u8>) -> Result<bool, AllocError> {

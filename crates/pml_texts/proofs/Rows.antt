@@ -1,5 +1,5 @@
 -- Worked examples, computed.
-use Rattle.std.proofs.Common.{◌≡◌, ℕ, List, [], ◌∷◌, refl, true, false, pos, codes}
+use Rattle.std.proofs.Common.{◌≡◌, ℕ, List, [], ◌∷◌, refl, true, false, Some, None, pos, codes}
 use denote.Hole.Carrier.{roll, hidden}
 use Rattle.std.specs.Fmt.{digits}
 use Rattle.pml_tree.specs.declared.tree.Search.TheVariants.{First}
@@ -12,7 +12,7 @@ use Rattle.pml_moves.specs.State.{Stand, State}
 use Rattle.pml_moves.specs.Search.{pick}
 use Rattle.pml_moves.proofs.Samples.{yes, timeout, otherwise, sends, receives}
 use Rattle.pml_texts.specs.Ends.{is_valid}
-use Rattle.pml_texts.specs.Texts.{move_text, origin_of, stuck}
+use Rattle.pml_texts.specs.Texts.{move_text, origin_of, stuck, stuck_of}
 use Rattle.pml_texts.proofs.Samples.{word, labelled, said, body, proctype, init, before, closed, state}
 
 -- ---- moves
@@ -171,6 +171,23 @@ none_stuck : stuck (some (done ∷ done ∷ [])) ≡ []
 unfolding settle roll-Seq roll hidden shape-the_row-Stmt-1 hidden-the_row-Stmt-1 shape-the_row-Seq-0 hidden-the_row-Seq-0 digits
 none_stuck = refl
 
+-- the same by a process's number: the name and the line, of one that is there
+stuck_one : stuck_of (some (done ∷ ready ∷ [])) 1 ≡ Some (codes "A", 2)
+unfolding settle roll-Seq roll hidden shape-the_row-Stmt-1 hidden-the_row-Stmt-1 shape-the_row-Seq-0 hidden-the_row-Seq-0 digits
+stuck_one = refl
+
+stuck_init : stuck_of (state (init 1 assigns ∷ []) (ready ∷ [])) 0 ≡ Some (codes ":init:", 2)
+unfolding settle roll-Seq roll hidden shape-the_row-Stmt-1 hidden-the_row-Stmt-1 shape-the_row-Seq-0 hidden-the_row-Seq-0 digits
+stuck_init = refl
+
+stuck_done : stuck_of (some (done ∷ ready ∷ [])) 0 ≡ None
+unfolding settle roll-Seq roll hidden shape-the_row-Stmt-1 hidden-the_row-Stmt-1 shape-the_row-Seq-0 hidden-the_row-Seq-0 digits
+stuck_done = refl
+
+stuck_nobody : stuck_of (some (done ∷ ready ∷ [])) 2 ≡ None
+unfolding settle roll-Seq roll hidden shape-the_row-Stmt-1 hidden-the_row-Stmt-1 shape-the_row-Seq-0 hidden-the_row-Seq-0 digits
+stuck_nobody = refl
+
 -- a label, and do :: q?x od
 abbrev waits : List ℕ → Seq
 waits l = body (labelled (l ∷ []) 1 (codes "do" ∷ []) (Do (takes ∷ [])) ∷ [])
@@ -189,6 +206,10 @@ longer_label = refl
 end_label_not_stuck : stuck (waiting (codes "end")) ≡ []
 unfolding settle roll-Seq roll hidden shape-the_row-Stmt-1 hidden-the_row-Stmt-1 shape-the_row-Seq-0 hidden-the_row-Seq-0 digits
 end_label_not_stuck = refl
+
+end_label_not_stuck_by_number : stuck_of (waiting (codes "end")) 0 ≡ None
+unfolding settle roll-Seq roll hidden shape-the_row-Stmt-1 hidden-the_row-Stmt-1 shape-the_row-Seq-0 hidden-the_row-Seq-0 digits
+end_label_not_stuck_by_number = refl
 
 later_in_its_name : is_valid (waiting (codes "the_end")) ≡ false
 unfolding settle roll-Seq roll hidden shape-the_row-Stmt-1 hidden-the_row-Stmt-1 shape-the_row-Seq-0 hidden-the_row-Seq-0 digits

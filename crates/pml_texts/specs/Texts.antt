@@ -90,6 +90,19 @@ stuck_by pr p y = stuck_at p (slice_get pr.proctypes y.kind) y.control
 abbrev pub stuck : State → List ℕ
 stuck s = each (stuck_by s.program) 0 s.stands
 
+-- where a process may not end: the name of its proctype, and the line of what stands first
+abbrev pub stuck_in : Option Proctype → Control → Option (List ℕ × ℕ)
+stuck_in None c = None
+stuck_in (Some q) c = if may_end q.body c then None else Some (proctype_name q.name, line_at q.body q.end.line c)
+
+abbrev pub stuck_place : Program → Option Stand → Option (List ℕ × ℕ)
+stuck_place pr None = None
+stuck_place pr (Some y) = stuck_in (slice_get pr.proctypes y.kind) y.control
+
+-- process p, where it lives and may not end where it stands
+abbrev pub stuck_of : State → ℕ → Option (List ℕ × ℕ)
+stuck_of s p = stuck_place s.program (slice_get s.stands p)
+
 -- ---- which processes a move names
 
 -- only some of the first n

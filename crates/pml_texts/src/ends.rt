@@ -1,16 +1,16 @@
 //! The ends of runs.
 
-ghost use Rattle.std.specs.Prelude.{◌≡◌, ◌++◌, false, OnOk, OnErr, IfSome, option_map, slice_get};
+ghost use Rattle.std.specs.Prelude.{◌≡◌, ◌++◌, false, Some, OnOk, OnErr, IfSome, option_map, slice_get};
 ghost use Rattle.std.specs.Io.{StartsWith};
 ghost use Rattle.std.specs.Option.{option_copied};
 ghost use Rattle.pml_flow.specs.Points.{point_at};
 ghost use Rattle.pml_flow.specs.Marks.{line_at};
 ghost use Rattle.pml_moves.specs.Scene.{state_of, stand_of, Fits};
 ghost use Rattle.pml_texts.specs.Ends.{may_end as may_end_at, is_done as done_at, is_valid as ends_well};
-ghost use Rattle.pml_texts.specs.Texts.{stuck_line, stuck_at, stuck_by, stuck};
-ghost use Rattle.pml_texts.specs.Charts.{HasGraph};
+ghost use Rattle.pml_texts.specs.Texts.{stuck_line, stuck_at, stuck_by, stuck, stuck_in, stuck_place, stuck_of};
+ghost use Rattle.pml_texts.specs.Charts.{HasGraph, told};
 
-use crate::place::{add_heading, add_line, proctype_at};
+use crate::place::{add_heading, add_line, name_of, proctype_at, seat_at};
 use pml_flow::graph::Graph;
 use pml_moves::scene::{Scene, Seat};
 use pml_program::program::Proctype;
@@ -86,6 +86,17 @@ impl<'p, 'a> Chart<'p, 'a> {
         }
         add_stuck_line(process, self.proctype, self.line(node), text)
     }
+
+    /// The name of the proctype, and the line of what stands first at a node where a process may not end.
+    fn stuck(&self, node: usize) -> Option<(&'p [u8], u32)>
+        requires { HasGraph self.now }
+        ensures { option_map told result ≡ stuck_in (Some self.now.proctype.now) (point_at self.now.proctype.now.body node) }
+    {
+        if !self.may_end(node) {
+            return Some((name_of(&self.proctype.name), self.line(node)));
+        }
+        None
+    }
 }
 
 /// Whether a process may end where it stands.
@@ -140,4 +151,26 @@ pub fn add_stuck(scene: &Scene<'_, '_, '_>, text: &mut Vec<u8>) -> Result<(), Al
         add_stuck_at(scene, process, seats[process], text)?;
     }
     Ok(())
+}
+
+/// The name and the line of a process that may not end where it stands.
+fn stuck_at_seat<'p>(scene: &Scene<'_, 'p, '_>, seat: Seat) -> Option<(&'p [u8], u32)>
+    requires { Fits scene.now }
+    ensures { option_map told result ≡ stuck_place scene.now.program.now (Some (stand_of scene.now.program.now seat)) }
+{
+    match chart_at(scene, seat.kind) {
+        Some(chart) => chart.stuck(seat.node),
+        None => None,
+    }
+}
+
+/// The name and the line of the process with this number, where it lives and may not end where it stands. It takes no memory.
+pub fn stuck<'p>(scene: &Scene<'_, 'p, '_>, process: usize) -> Option<(&'p [u8], u32)>
+    requires { Fits scene.now }
+    ensures { option_map told result ≡ stuck_of (state_of scene.now) process }
+{
+    match seat_at(scene.seats, process) {
+        Some(seat) => stuck_at_seat(scene, *seat),
+        None => None,
+    }
 }

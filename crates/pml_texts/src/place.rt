@@ -3,10 +3,13 @@
 ghost use Rattle.std.specs.Prelude.{◌≡◌, ◌++◌, OnOk, OnErr, slice_get};
 ghost use Rattle.std.specs.Io.{StartsWith};
 ghost use Rattle.std.specs.Option.{option_copied};
+ghost use Rattle.pml_lines.specs.Changes.{proctype_name};
 ghost use Rattle.pml_texts.specs.Texts.{heading as heading_of, line};
 
 use itoa::Buffer;
+use pml_lex::token::{Kind, Token, same_kind};
 use pml_lines::change::proctype_name;
+use pml_moves::scene::Seat;
 use pml_program::program::{Proctype, Program};
 use std::alloc::AllocError;
 
@@ -28,6 +31,16 @@ pub fn add_heading(
     text.extend_from_slice(b") ")
 }
 
+/// The name of a proctype, or `:init:`.
+pub fn name_of<'a>(name: &Token<'a>) -> &'a [u8]
+    ensures { result.now ≡ proctype_name name.now }
+{
+    if same_kind(name.kind(), Kind::Init) {
+        return b":init:";
+    }
+    name.text()
+}
+
 /// Appends `line L`.
 pub fn add_line(number: u32, text: &mut Vec<u8>) -> Result<(), AllocError>
     ensures added { OnOk result (text.new.items ≡ text.old.items ++ line number) }
@@ -43,4 +56,11 @@ pub fn proctype_at<'p, 'a>(program: &'p Program<'a>, kind: usize) -> Option<&'p 
     ensures { option_copied result ≡ slice_get program.now.proctypes kind }
 {
     program.proctypes.as_slice().get(kind)
+}
+
+/// The process with this number.
+pub fn seat_at(seats: &[Seat], process: usize) -> Option<&Seat>
+    ensures { option_copied result ≡ slice_get seats.now process }
+{
+    seats.get(process)
 }

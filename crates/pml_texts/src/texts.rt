@@ -1,24 +1,18 @@
 //! The texts of moves, and where moves come from.
 
-ghost use Rattle.std.specs.Prelude.{◌≡◌, ◌++◌, OnOk, OnErr, length, slice_get};
+ghost use Rattle.std.specs.Prelude.{◌≡◌, ◌++◌, OnOk, OnErr, length};
 ghost use Rattle.std.specs.Io.{StartsWith};
 ghost use Rattle.std.specs.Option.{option_copied};
 ghost use Rattle.pml_moves.specs.Scene.{state_of, Fits};
 ghost use Rattle.pml_moves.specs.Picked.{picked as picks};
 ghost use Rattle.pml_texts.specs.Texts.{proctype_of as proctype_in, pick_text, death_text, move_text, line_in, brace_of, origin_of, IsWithin};
 
-use crate::place::{add_heading, add_line, proctype_at};
+use crate::place::{add_heading, add_line, proctype_at, seat_at};
 use pml_moves::moves::{Move, Pick};
 use pml_moves::picked::picked;
-use pml_moves::scene::{Scene, Seat};
+use pml_moves::scene::Scene;
 use pml_program::program::Proctype;
 use std::alloc::AllocError;
-
-fn seat_at(seats: &[Seat], process: usize) -> Option<&Seat>
-    ensures { option_copied result ≡ slice_get seats.now process }
-{
-    seats.get(process)
-}
 
 /// The proctype of a process.
 fn proctype_of<'p, 'a>(scene: &Scene<'_, 'p, 'a>, process: usize) -> Option<&'p Proctype<'a>>

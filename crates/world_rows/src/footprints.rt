@@ -1,5 +1,5 @@
 //! How much a world keeps: the numbers in variables and messages, two for each process and two for each channel.
-use crate::models::{checked_of, world_of};
+use crate::models::checked_of;
 use pml_check::Checked;
 use pml_inline::expand;
 use pml_lex::cut;
@@ -53,9 +53,7 @@ fn kept_of_checked(
     checked: &Checked<'_>,
     choices: &[usize],
 ) -> Result<Vec<usize>, Fail> {
-    let Some(mut world) = world_of(alloc, checked) else {
-        return Err(Fail::from("there is no first state"));
-    };
+    let mut world = World::start(alloc, checked, false)?;
     Ok(kept(alloc, &mut world, choices, 300)?)
 }
 

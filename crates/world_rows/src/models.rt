@@ -1,8 +1,6 @@
 //! Models from their texts, and their worlds.
 use pml_check::{Checked, check};
 use pml_lex::token::Token;
-use pml_sim::world::World;
-use pml_start::start::start;
 use pml_syntax::parse;
 use pml_tree::tree::Tree;
 use std::alloc::Global;
@@ -18,18 +16,6 @@ fn model_of<'a>(alloc: Global, tree: Tree<'a>) -> Option<Checked<'a>> {
 pub fn checked_of<'a>(alloc: Global, tokens: &'a [Token<'a>]) -> Option<Checked<'a>> {
     match parse(alloc, tokens) {
         Ok(tree) => model_of(alloc, tree),
-        Err(_) => None,
-    }
-}
-
-/// The world of a model in its first state, unless memory is refused.
-pub fn world_of<'p, 'a>(alloc: Global, checked: &'p Checked<'a>) -> Option<World<'p, 'a>> {
-    let program = checked.program();
-    match start(alloc, program) {
-        Ok(started) => match World::first(alloc, program, checked.graphs(), started, false) {
-            Ok(world) => Some(world),
-            Err(_) => None,
-        },
         Err(_) => None,
     }
 }

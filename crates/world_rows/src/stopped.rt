@@ -1,10 +1,11 @@
 //! What a world answers once a growth was refused. Each test passes with memory enough, and where any one growth of it is refused.
-use crate::models::{checked_of, world_of};
+use crate::models::checked_of;
 use diagnostics::Stop;
 use pml_check::Checked;
 use pml_inline::expand;
 use pml_lex::cut;
 use pml_lex::token::Token;
+use pml_sim::world::World;
 use session::Machine;
 use std::alloc::Global;
 use std::process::Abort;
@@ -47,7 +48,7 @@ fn goes_on<R: Abort, M: Machine>(
 
 /// Plays a model from its first state, as far as memory goes.
 fn plays<R: Abort>(rt: &R, alloc: Global, checked: &Checked<'_>) {
-    let Some(mut world) = world_of(alloc, checked) else {
+    let Ok(mut world) = World::start(alloc, checked, false) else {
         return;
     };
     let mut text = Vec::new(alloc);

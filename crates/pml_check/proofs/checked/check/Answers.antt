@@ -4,10 +4,11 @@ use Rattle.pml_marks.specs.Marks.{of_tree}
 use Rattle.pml_resolve.specs.Model.{numbered_model}
 use Rattle.pml_flow.specs.Flow.{AreGraphs}
 use Rattle.pml_start.specs.Bound.{IsWithin}
-use Rattle.pml_check.specs.Judged.{SettleEverywhere}
+use Rattle.pml_check.specs.Judged.{SettleEverywhere, HasGoodStart}
 use Rattle.pml_check.specs.Decided.{all_judged}
 use Rattle.pml_check.proofs.Least.{fit_by, first_is_least}
 use Rattle.pml_check.proofs.Standing.{stands_by}
+use Rattle.pml_check.proofs.Starting.{fit_start}
 use Rattle.pml_check.proofs.Within.{fit_within}
 use Rattle.pml_check.proofs.Subjects.{found_of, settles_of}
 use Rattle.pml_check.proofs.checked.check.Goals as goal
@@ -23,6 +24,8 @@ invariant_of-result c = record {
   stands = stands_by c.args.tree _ c.in_ok-subject.ensures.program;
   within = subst IsWithin (sym c.in_ok-subject.ensures.program)
       (fit_within c.args.tree (found_of all_judged c.args.tree c.in_ok-refusal.field-0 None c.in_default.is (c.in_ok-refusal.ensures c.args.tree c.in_ok-subject.ensures)));
+  start = subst HasGoodStart (sym c.in_ok-subject.ensures.program)
+      (fit_start (of_tree c.args.tree) (numbered_model c.args.tree) (found_of all_judged c.args.tree c.in_ok-refusal.field-0 None c.in_default.is (c.in_ok-refusal.ensures c.args.tree c.in_ok-subject.ensures)));
   graphs = subst (λ ps. AreGraphs ps c.in_ok-graphs.graphs.items) (c.as_slice.ensures ∙ ap (λ (p : Program). p.proctypes) c.get.ensures) c.in_ok-graphs.ensures;
 }
 

@@ -1,7 +1,7 @@
 use Rattle.std.proofs.Common.{rules, to_z, of_z, FitsSigned, w32, ◌++◌, ◌∙◌, ap, sym, append_assoc, append-nil, List, ℕ, ℤ, pos, arith, ◌+◌, drop, get_or, if◌then◌else◌, []}
 use Rattle.std.proofs.lemmas.Int.{to_z-of_z}
 use Rattle.std.specs.Ordering.{int_eq}
-use Rattle.pml_lines.specs.Changes.{owners, cell_lines, line_at}
+use Rattle.pml_lines.specs.Changes.{owners, each_change, line_at}
 use Rattle.pml_lines.proofs.Keeping.{front, behind}
 use Rattle.pml_lines.proofs.Seeking.{cells-more, cells-end}
 use Rattle.pml_lines.proofs.change.lines_of_cells.Goals as goal
@@ -11,7 +11,7 @@ loop-at-preserved c =
     let f = line_at c.args.tables.now (owners c.args.tables.now c.args.wanted.globals c.args.wanted.locals c.args.kinds.now) in
     let k = c.loop-at.at in
     let more = cells-more f c.args.before.now c.args.after.now k (omega arith) (omega arith) in
-    let rest = cell_lines f (k + 1) (drop (k + 1) c.args.before.now) (drop (k + 1) c.args.after.now) in
+    let rest = each_change f (k + 1) (drop (k + 1) c.args.before.now) (drop (k + 1) c.args.after.now) in
     let one : ℤ → ℤ → List ℕ = λ x y. (if int_eq x y then [] else f k y) in
     let before = get_or c.args.before.now k (pos 0) in
     let after = get_or c.args.after.now k (pos 0) in

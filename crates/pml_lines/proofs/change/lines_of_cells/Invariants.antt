@@ -1,11 +1,11 @@
 use Rattle.std.proofs.Common.{◌≡◌, ◌++◌, drop}
 use Rattle.std.specs.Io.{StartsWith}
-use Rattle.pml_lines.specs.Changes.{owners, line_at, cell_lines}
+use Rattle.pml_lines.specs.Changes.{owners, line_at, each_change}
 use Rattle.pml_lines.proofs.change.lines_of_cells.Given as goal
 
 -- the text so far, and the lines of the cells that are left
 abbrev pub invariant-loop-at : goal.invariant-loop-at
 invariant-loop-at l = record {
-  same : l.text.items ++ cell_lines (line_at l.tables (owners l.tables l.wanted.globals l.wanted.locals l.kinds)) l.at (drop l.at l.before) (drop l.at l.after) ≡ l.initial.text.items ++ cell_lines (line_at l.tables (owners l.tables l.wanted.globals l.wanted.locals l.kinds)) 0 l.before l.after;
+  same : l.text.items ++ each_change (line_at l.tables (owners l.tables l.wanted.globals l.wanted.locals l.kinds)) l.at (drop l.at l.before) (drop l.at l.after) ≡ l.initial.text.items ++ each_change (line_at l.tables (owners l.tables l.wanted.globals l.wanted.locals l.kinds)) 0 l.before l.after;
   kept : StartsWith l.text.items l.initial.text.items;
 }

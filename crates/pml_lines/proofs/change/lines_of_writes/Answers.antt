@@ -2,7 +2,7 @@ use Rattle.std.proofs.Common.{rules, ◌≡◌, ◌∷◌, ◌++◌, ◌∙◌, 
 use Rattle.std.proofs.lemmas.Int.{to_z-of_z}
 use Rattle.std.proofs.lemmas.Map.Iter.{rest_more}
 use Rattle.std.specs.Map.Iter.{deref_pair}
-use Rattle.pml_lines.specs.Changes.{owners, line_at, write_line, write_lines}
+use Rattle.pml_lines.specs.Changes.{owners, line_at, if_changed, each_write}
 use Rattle.pml_lines.proofs.Keeping.{front, behind}
 use Rattle.pml_lines.proofs.change.lines_of_writes.Goals as goal
 
@@ -15,10 +15,10 @@ loop-at-preserved c =
     let more : c.loop-at.at-iterator ≡ w ∷ rest = rest_more deref_pair c.loop-at.at-iterator rest c.next.result (c.in-Some.at, c.in-Some.before) c.in-Some.is c.next.ensures.steps in
     let fits : FitsSigned w32 w.1 = search rules in
     record {
-      same = ap (λ (l : List ℕ). l ++ write_lines f cells rest) c.in_ok-line_of_write.ensures.added
-          ∙ ap (λ (v : ℤ). (c.loop-at.text.items ++ write_line f (w.0, v) (slice_get cells w.0)) ++ write_lines f cells rest) (to_z-of_z w32 w.1 fits)
-          ∙ append_assoc c.loop-at.text.items (write_line f w (slice_get cells w.0)) (write_lines f cells rest)
-          ∙ ap (λ (es : List (ℕ × ℤ)). c.loop-at.text.items ++ write_lines f cells es) (sym more)
+      same = ap (λ (l : List ℕ). l ++ each_write f cells rest) c.in_ok-line_of_write.ensures.added
+          ∙ ap (λ (v : ℤ). (c.loop-at.text.items ++ if_changed f (w.0, v) (slice_get cells w.0)) ++ each_write f cells rest) (to_z-of_z w32 w.1 fits)
+          ∙ append_assoc c.loop-at.text.items (if_changed f w (slice_get cells w.0)) (each_write f cells rest)
+          ∙ ap (λ (es : List (ℕ × ℤ)). c.loop-at.text.items ++ each_write f cells es) (sym more)
           ∙ c.loop-at.invariant.same;
       kept = behind c.line_of_write.new.text.items c.loop-at.text.items c.args.text.now.items (simp (c.in_ok-line_of_write.ensures.added, front)) c.loop-at.invariant.kept;
     }

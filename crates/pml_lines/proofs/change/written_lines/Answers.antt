@@ -1,6 +1,6 @@
 use Rattle.std.proofs.Common.{◌≡◌, ◌++◌, ◌∙◌, ap, subst, List, ℕ, ℤ, OnOk}
 use Rattle.pml_store.specs.Store.{joined}
-use Rattle.pml_lines.specs.Changes.{owners, line_at, oldest, write_lines}
+use Rattle.pml_lines.specs.Changes.{owners, line_at, oldest, each_write}
 use Rattle.pml_lines.proofs.Undoing.{writes_flat}
 use Rattle.pml_lines.proofs.change.written_lines.Goals as goal
 
@@ -11,6 +11,6 @@ returns-clause-added c = λ a.
     let cells : c.as_slice.result.now ≡ joined now.frames = c.as_slice.ensures.value ∙ c.cells.ensures.value in
     let writes : c.in_ok-writes.writes.entries ≡ oldest now.written = c.in_ok-writes.ensures ∙ ap oldest c.written.ensures in
     subst (λ (l : List ℕ). OnOk c.lines_of_writes.result (c.lines_of_writes.new.text.items ≡ c.args.text.now.items ++ l))
-    (ap (λ (xs : List ℤ). write_lines f xs c.in_ok-writes.writes.entries) cells ∙ ap (λ (ws : List (ℕ × ℤ)). write_lines f (joined now.frames) ws) writes
+    (ap (λ (xs : List ℤ). each_write f xs c.in_ok-writes.writes.entries) cells ∙ ap (λ (ws : List (ℕ × ℤ)). each_write f (joined now.frames) ws) writes
     ∙ writes_flat c.args.tables.now c.args.kinds.now now c.args.wanted.globals c.args.wanted.locals a)
     c.lines_of_writes.ensures.added

@@ -7,7 +7,7 @@ use Rattle.pml_steps.specs.Taking.{CanDie, PastBy}
 use Rattle.pml_sim.specs.World.{Running}
 use Rattle.pml_sim.proofs.Living.{moves_within}
 use Rattle.pml_sim.proofs.Stepping.{present, can_die, taken_goes, taken_stops}
-use Rattle.pml_sim.proofs.world.WorldMachine.take.Goals as goal
+use Rattle.pml_sim.proofs.world.World.take.Goals as goal
 
 pub take-requires : goal.take-requires
 take-requires c =
@@ -36,3 +36,11 @@ returns-in-Err-clause-step c there =
     let joins = subst (λ (l : Live). Joins l.state c.take.new.live.state) c.forget.ensures c.in-Err.ensures.joins in
     let x = taken_stops c.args.self.now c.self.inside.live c.take.new.live c.args.m.now same c.in-Err.why c.args.text.now.items c.take.new.text.items none does joins there in
     (x.0, refl, x.1)
+
+pub returns-in-Ok-clause-model : goal.returns-in-Ok-clause-model
+returns-in-Ok-clause-model c =
+    c.take.ensures.program ∙ ap (λ (l : Live). l.state.program) c.forget.ensures ∙ ap (λ (w : Running). w.state.program) c.self.view_is
+
+pub returns-in-Err-clause-model : goal.returns-in-Err-clause-model
+returns-in-Err-clause-model c =
+    c.take.ensures.program ∙ ap (λ (l : Live). l.state.program) c.forget.ensures ∙ ap (λ (w : Running). w.state.program) c.self.view_is

@@ -1,0 +1,253 @@
+//! The places that a step changed.
+
+ghost use Rattle.std.specs.Prelude.{◌≡◌, ◌++◌, [], true, None, Some, slice_get, OnOk, OnErr, IfOk};
+ghost use Rattle.std.specs.Io.{StartsWith};
+ghost use Rattle.std.specs.Option.{option_copied};
+ghost use Rattle.pml_lines.specs.Changes.{process_owners, owners, if_changed, each_write, AreDeclared};
+ghost use Rattle.pml_lines.specs.Changed.{process_in, owner_line, kind_line, value_line, step_changes, LinesOfChanges};
+ghost use Rattle.pml_lines.specs.Placed.{place_at, changed_at, changed_number};
+
+use crate::change::{global_line, local_line, oldest};
+use crate::tables::Tables;
+use pml_program::program::{Proctype, Program, Slot};
+use pml_store::place::Place;
+use pml_store::store::Store;
+use std::alloc::{AllocError, Global};
+use std::collections::BTreeMap;
+
+/// A place whose number a step changed, and the number that it has now.
+#[derive(Clone, Copy, PartialEq, Eq, Debug)]
+pub struct Change {
+    pub place: Place,
+    pub number: i32,
+}
+
+impl Change {
+    /// The process whose variable it is; a global is no process's.
+    pub fn process(&self) -> Option<usize>
+        ensures { result ≡ process_in self.now.place.frame }
+    {
+        if self.place.frame == 0 {
+            None
+        } else {
+            Some(self.place.frame - 1)
+        }
+    }
+}
+
+// The place of the cell with this index among those of the processes.
+fn process_place_at(tables: &Tables<'_, '_>, kinds: &[usize], at: usize) -> Option<Place>
+    ensures { result ≡ place_at 1 (process_owners tables.now true 0 kinds.now) at }
+{
+    let mut at = at;
+    for (i, kind) in kinds.iter().enumerate() {
+        let (found, rest) = tables.number_local(*kind, at);
+        match found {
+            Some(variable) => {
+                return Some(Place {
+                    frame: i + 1,
+                    variable,
+                    cell: rest,
+                });
+            }
+            None => at = rest,
+        }
+    }
+    None
+}
+
+// The place of the cell with this index among all.
+fn place_at(tables: &Tables<'_, '_>, kinds: &[usize], at: usize) -> Option<Place>
+    ensures { result ≡ place_at 0 (owners tables.now true true kinds.now) at }
+{
+    let (found, rest) = tables.number_global(at);
+    match found {
+        Some(variable) => Some(Place {
+            frame: 0,
+            variable,
+            cell: rest,
+        }),
+        None => process_place_at(tables, kinds, rest),
+    }
+}
+
+// Adds the change of the cell with this index, to this number.
+fn add_place(
+    tables: &Tables<'_, '_>,
+    kinds: &[usize],
+    at: usize,
+    number: i32,
+    changes: &mut Vec<Change>,
+) -> Result<(), AllocError>
+    ensures { OnOk result (changes.new.items ≡ changes.old.items ++ changed_at tables.now kinds.now at number) }
+{
+    if let Some(place) = place_at(tables, kinds, at) {
+        changes.push(Change { place, number })?;
+    }
+    Ok(())
+}
+
+// Adds the change of the cell with this index, where its numbers differ.
+fn add_number(
+    tables: &Tables<'_, '_>,
+    kinds: &[usize],
+    at: usize,
+    numbers: (i32, i32),
+    changes: &mut Vec<Change>,
+) -> Result<(), AllocError>
+    ensures { OnOk result (changes.new.items ≡ changes.old.items ++ changed_number tables.now kinds.now at numbers) }
+{
+    let (before, after) = numbers;
+    if before == after {
+        Ok(())
+    } else {
+        add_place(tables, kinds, at, after, changes)
+    }
+}
+
+fn number_at(cells: &[i32], at: usize) -> Option<i32>
+    ensures { result ≡ slice_get cells.now at }
+{
+    match cells.get(at) {
+        Some(number) => Some(*number),
+        None => None,
+    }
+}
+
+// Adds the change of a cell that was written, from its index and its number before.
+fn add_change(
+    tables: &Tables<'_, '_>,
+    kinds: &[usize],
+    write: (usize, i32),
+    cells: &[i32],
+    changes: &mut Vec<Change>,
+) -> Result<(), AllocError>
+    ensures { OnOk result (changes.new.items ≡ changes.old.items ++ if_changed (changed_at tables.now kinds.now) write (slice_get cells.now write.0)) }
+{
+    let (at, before) = write;
+    match number_at(cells, at) {
+        Some(after) => add_number(tables, kinds, at, (before, after), changes),
+        None => Ok(()),
+    }
+}
+
+// The changes of cells that were written.
+fn changes_of_writes(
+    alloc: Global,
+    tables: &Tables<'_, '_>,
+    kinds: &[usize],
+    writes: &BTreeMap<usize, i32>,
+    cells: &[i32],
+) -> Result<Vec<Change>, AllocError>
+    ensures { IfOk result (λ changes. changes.items ≡ each_write (changed_at tables.now kinds.now) cells.now writes.now.entries) }
+{
+    let mut changes = Vec::new(alloc);
+    for (at, before) in writes {
+        add_change(tables, kinds, (*at, *before), cells, &mut changes)?;
+    }
+    Ok(changes)
+}
+
+/// The places whose numbers differ from those before the writes of a store's log, in the order of their value lines. The processes
+/// are known by the numbers of their proctypes in the model; the youngest may be left out, and have no changes then. Only cells that
+/// were written are looked at.
+pub fn logged_changes(
+    alloc: Global,
+    tables: &Tables<'_, '_>,
+    kinds: &[usize],
+    store: &Store,
+) -> Result<Vec<Change>, AllocError>
+    ensures { AreDeclared tables.now kinds.now store.now.frames → IfOk result (λ changes. changes.items ≡ step_changes kinds.now store.now) }
+{
+    let writes = oldest(alloc, store.written())?;
+    changes_of_writes(alloc, tables, kinds, &writes, store.cells().as_slice())
+}
+
+fn slot_at<'p, 'a>(slots: &'p [Slot<'a>], variable: usize) -> Option<&'p Slot<'a>>
+    ensures { option_copied result ≡ slice_get slots.now variable }
+{
+    slots.get(variable)
+}
+
+fn proctype_at<'p, 'a>(program: &'p Program<'a>, kind: usize) -> Option<&'p Proctype<'a>>
+    ensures { option_copied result ≡ slice_get program.now.proctypes kind }
+{
+    program.proctypes.as_slice().get(kind)
+}
+
+fn kind_at(kinds: &[usize], process: usize) -> Option<usize>
+    ensures { result ≡ slice_get kinds.now process }
+{
+    match kinds.get(process) {
+        Some(kind) => Some(*kind),
+        None => None,
+    }
+}
+
+// Appends the line of a change of a global variable.
+fn global_change(
+    tables: &Tables<'_, '_>,
+    change: Change,
+    text: &mut Vec<u8>,
+) -> Result<(), AllocError>
+    ensures added { OnOk result (text.new.items ≡ text.old.items ++ owner_line tables.now [] None change) }
+    ensures kept { OnErr result (StartsWith text.new.items text.old.items) }
+{
+    match slot_at(tables.program().globals.as_slice(), change.place.variable) {
+        Some(slot) => global_line(tables, slot, change.place.cell, change.number, text),
+        None => Ok(()),
+    }
+}
+
+// Appends the line of a change of a variable of the process with this number, of a proctype by its number in the model.
+fn local_change(
+    tables: &Tables<'_, '_>,
+    process: usize,
+    kind: usize,
+    change: Change,
+    text: &mut Vec<u8>,
+) -> Result<(), AllocError>
+    ensures added { OnOk result (text.new.items ≡ text.old.items ++ kind_line tables.now process (Some kind) change) }
+    ensures kept { OnErr result (StartsWith text.new.items text.old.items) }
+{
+    let Some(proctype) = proctype_at(tables.program(), kind) else {
+        return Ok(());
+    };
+    match slot_at(proctype.variables.as_slice(), change.place.variable) {
+        Some(slot) => local_line(
+            tables,
+            process,
+            kind,
+            slot,
+            change.place.cell,
+            change.number,
+            text,
+        ),
+        None => Ok(()),
+    }
+}
+
+/// Appends the value line of a change: `global PATH = VALUE`, or `local I (NAME) PATH = VALUE`. The processes are known by the
+/// numbers of their proctypes in the model.
+pub fn value_line(
+    tables: &Tables<'_, '_>,
+    kinds: &[usize],
+    change: Change,
+    text: &mut Vec<u8>,
+) -> Result<(), AllocError>
+    ensures added { OnOk result (text.new.items ≡ text.old.items ++ value_line tables.now kinds.now change) }
+    ensures kept { OnErr result (StartsWith text.new.items text.old.items) }
+{
+    let Some(process) = change.process() else {
+        return global_change(tables, change, text);
+    };
+    match kind_at(kinds, process) {
+        Some(kind) => local_change(tables, process, kind, change, text),
+        None => Ok(()),
+    }
+}
+
+/// The value lines of a step are those of its changes, as far as they are wanted.
+pub fn lines_are_of_changes()
+    ensures { LinesOfChanges }
+{}

@@ -1,0 +1,15 @@
+use Rattle.std.proofs.Common.{rules, ◌≡◌, ap, sym, subst, List, IfOk}
+use Rattle.pml_lines.specs.declared.changed.Change.{Change}
+use Rattle.pml_sim.specs.World.{Running}
+use Rattle.pml_sim.proofs.Stepping.{are_declared, changes_are}
+use Rattle.pml_sim.proofs.world.World.changes.Goals as goal
+
+pub returns : goal.returns
+returns c =
+    let live = c.self.inside.live in
+    let found =
+    changes_are c.args.self.now live c.kinds-kinds.result.now c.variables.result.now c.self.inside.older c.min-count.result (ap (λ (w : Running). w.state) (sym c.self.view_is))
+    (ap (λ (w : Running). w.past) (sym c.self.view_is)) c.kinds-kinds.ensures.value c.variables.ensures (search rules) c.kinds-kinds.ensures.declared in
+    let declared =
+    are_declared live c.self.inside.tables c.kinds-kinds.result.now c.variables.result.now c.min-count.result c.self.invariant c.kinds-kinds.ensures.value c.variables.ensures c.kinds-kinds.ensures.declared in
+    subst (λ (l : List Change). IfOk c.logged_changes.result (λ found. found.items ≡ l)) found (c.logged_changes.ensures declared)
