@@ -1,0 +1,11 @@
+pub mod Turning
+pub mod Strings
+pub mod Lining
+pub mod Lines
+pub mod Plain
+pub mod Blocks
+pub mod Tokens
+pub mod Needs
+pub mod Stays
+pub mod Again
+mod Rows

@@ -1,0 +1,134 @@
+-- How many line feeds what is written has.
+use Rattle.std.proofs.Common.{◌≡◌, ℕ, zero, suc, ◌+◌, ◌-◌, max, Bool, true, false, cond, ◌||◌, List, [], ◌∷◌, ◌++◌, Option, Some, None, map, replicate, drop, sym, refl, ◌∙◌, arith}
+use Rattle.std.specs.Prelude.{count_by}
+use Rattle.std.specs.List.{filter}
+use Rattle.std.proofs.lemmas.List.Sums.{sum_by-append}
+use Rattle.std.proofs.lemmas.List.Folds.{sum_by-replicate}
+use Rattle.profile.specs.Characters.{line_feed}
+use Rattle.pml_lex.specs.Division.{is_line_feed}
+use Rattle.prepare.specs.declared.place.Supply.{Supply}
+use Rattle.prepare.specs.declared.place.Supply.TheVariants as supply
+use Rattle.prepare.specs.declared.turn.Form.{Form}
+use Rattle.prepare.specs.declared.turn.Form.TheVariants as form
+use Rattle.prepare.specs.Standing.{Standing}
+use Rattle.prepare.specs.Mark.{Mark}
+use Rattle.prepare.specs.Marks.{mark}
+use Rattle.prepare.specs.Places.{written}
+use Rattle.prepare.specs.Written.{Written}
+use Rattle.prepare.specs.Spelling.{blank, unless_break, unbroken, shown, spelled_turn, spelled}
+use Rattle.prepare.specs.Numbering.{is_own_file, included, placed, line_after, stand_after, standing_behind, first_line, line_length, numbered_by, asked_by}
+use Rattle.prepare.specs.Laws.{source, sources}
+
+abbrev feeds : List ℕ → ℕ
+feeds xs = count_by is_line_feed xs
+
+feeds-append : (xs ys : List ℕ) → feeds (xs ++ ys) ≡ feeds xs + feeds ys
+feeds-append xs ys = sum_by-append (λ b. cond (is_line_feed b) 1 0) xs ys
+
+feeds-cons : (b : ℕ) (q : List ℕ) → feeds (b ∷ q) ≡ cond (is_line_feed b) 1 0 + feeds q
+feeds-cons b q = feeds-append (b ∷ []) q ∙ omega arith
+
+-- a byte of an included line is no line feed
+included_by : (t : Bool) (b n : ℕ) → is_line_feed b ≡ t → n ≡ 0 → cond (is_line_feed (cond t 12 b)) 1 0 + n ≡ 0
+included_by true b n e h = omega arith
+included_by false b n e h = rw e (omega arith)
+
+none_included : (xs : List ℕ) → feeds (map included xs) ≡ 0
+none_included [] = refl
+none_included (b ∷ q) = feeds-cons (included b) (map included q) ∙ included_by (is_line_feed b) b (feeds (map included q)) refl (none_included q)
+
+feeds-replicate : (n : ℕ) → feeds (replicate n line_feed) ≡ n
+feeds-replicate n = sum_by-replicate (λ b. cond (is_line_feed b) 1 0) n line_feed ∙ omega arith
+
+own_line : (t : Bool) (n : ℕ) (line : List ℕ) → n + feeds (cond t line (map included line)) ≡ cond t (n + feeds line) n
+own_line true n line = refl
+own_line false n line = let e = none_included line in omega arith
+
+own_mark : (t : Bool) (n m : ℕ) → n + feeds (cond t (replicate (m - n) line_feed) []) ≡ cond t (max n m) n
+own_mark true n m = let e = feeds-replicate (m - n) in omega arith
+own_mark false n m = omega arith
+
+placed_feeds : (s : Standing) (m : Option Mark) (line : List ℕ) → s.line + feeds (placed s m line) ≡ line_after s m line
+placed_feeds s None line = own_line s.is_own s.line line
+placed_feeds s (Some m) line = own_mark (is_own_file s m.file) s.line m.line
+
+stands_on : (s : Standing) (m : Option Mark) (n : ℕ) → (stand_after s m n).line ≡ n
+stands_on s None n = refl
+stands_on s (Some m) n = refl
+
+-- the line that is written to is the one that the marks ask for
+pub asked_is : (fuel : ℕ) (s : Standing) (text : List ℕ) → s.line + feeds (numbered_by fuel s text) ≡ asked_by fuel s text
+unfolding numbered_by asked_by
+asked_is zero s text = omega arith
+asked_is (suc fuel) s [] = omega arith
+asked_is (suc fuel) s (b ∷ q) =
+    let text = b ∷ q in
+    let line = first_line text in
+    let next = standing_behind s (mark line) line in
+    let front = placed s (mark line) line in
+    let back = numbered_by fuel next (drop (line_length text) text) in
+    let both : feeds (front ++ back) ≡ feeds front + feeds back = feeds-append front back in
+    let here : s.line + feeds front ≡ line_after s (mark line) line = placed_feeds s (mark line) line in
+    let there : next.line ≡ line_after s (mark line) line = stands_on s (mark line) (line_after s (mark line) line) in
+    let rest : next.line + feeds back ≡ asked_by fuel next (drop (line_length text) text) = asked_is fuel next (drop (line_length text) text) in
+    omega arith ∙ rest
+
+-- what is written between turns has no line feed
+nothing_fed : (s : Supply) → feeds (written s) ≡ 0
+nothing_fed supply.Nothing = refl
+nothing_fed supply.Separator = refl
+nothing_fed supply.Skip = refl
+
+blank_by : (t : Bool) (b n m : ℕ) → is_line_feed b ≡ t → n ≡ m → cond (is_line_feed (cond t b 32)) 1 0 + n ≡ cond t 1 0 + m
+blank_by true b n m e h = rw e (omega arith)
+blank_by false b n m e h = omega arith
+
+blanks_feeds : (xs : List ℕ) → feeds (map blank xs) ≡ feeds xs
+blanks_feeds [] = refl
+blanks_feeds (b ∷ q) = feeds-cons (blank b) (map blank q) ∙ blank_by (is_line_feed b) b (feeds (map blank q)) (feeds q) refl (blanks_feeds q) ∙ sym (feeds-cons b q)
+
+filter_by : (t : Bool) (b : ℕ) (xs : List ℕ) (m : ℕ) → is_line_feed b ≡ t → feeds xs ≡ m → feeds (cond t (b ∷ xs) xs) ≡ cond t 1 0 + m
+filter_by true b xs m e h = feeds-cons b xs ∙ rw e (omega arith)
+filter_by false b xs m e h = omega arith
+
+filter_feeds : (xs : List ℕ) → feeds (filter is_line_feed xs) ≡ feeds xs
+filter_feeds [] = refl
+filter_feeds (b ∷ q) = filter_by (is_line_feed b) b (filter is_line_feed q) (feeds q) refl (filter_feeds q) ∙ sym (feeds-cons b q)
+
+unbroken_by : (t : Bool) (b : ℕ) (other : Bool) (rest : List ℕ) → is_line_feed b ≡ t → feeds rest ≡ 0 → feeds (unless_break (t || other) b rest) ≡ 0
+unbroken_by true b other rest e h = h
+unbroken_by false b true rest e h = h
+unbroken_by false b false rest e h = feeds-cons b rest ∙ rw e (omega arith)
+
+unbroken_feeds : (xs : List ℕ) → feeds (unbroken xs) ≡ 0
+unfolding unbroken
+unbroken_feeds [] = refl
+unbroken_feeds (b ∷ q) = unbroken_by (is_line_feed b) b _ (unbroken q) refl (unbroken_feeds q)
+
+shown_feeds : (f : Form) (t : List ℕ) → feeds (shown f t) ≡ feeds t
+shown_feeds form.Kept t = refl
+shown_feeds form.Joined t =
+    let a = feeds-append (unbroken t) (filter is_line_feed t) in
+    let b = unbroken_feeds t in
+    let c = filter_feeds t in
+    omega arith
+shown_feeds form.Blanked t = blanks_feeds t
+
+turn_feeds : (t : Written) → feeds (spelled_turn t) ≡ feeds (source t)
+turn_feeds t =
+    let a = feeds-append (written t.supply) (t.gap ++ shown t.form t.token) in
+    let b = feeds-append t.gap (shown t.form t.token) in
+    let c = feeds-append t.gap t.token in
+    let d = nothing_fed t.supply in
+    let e = shown_feeds t.form t.token in
+    omega arith
+
+-- turns are written on as many lines as they have
+pub spelled_feeds : (ts : List Written) → feeds (spelled ts) ≡ feeds (sources ts)
+spelled_feeds [] = refl
+spelled_feeds (t ∷ ts) =
+    let a = feeds-append (spelled_turn t) (spelled ts) in
+    let b = feeds-append (source t) (sources ts) in
+    let c = turn_feeds t in
+    let d = spelled_feeds ts in
+    omega arith

@@ -1,0 +1,110 @@
+-- Words for laws over the definitions.
+use Rattle.std.specs.Prelude.{◌≡◌, ℕ, Bool, true, false, not, ◌&&◌, ◌||◌, List, [], ◌∷◌, ◌++◌, map}
+use Rattle.std.specs.List.{list_all, list_any, flat_map}
+use lib.Chars.{codes}
+use Rattle.pml_lex.specs.Word.{Word}
+use Rattle.pml_lex.specs.Division.{is_line_feed, IsCut}
+use Rattle.pml_lex.specs.Limits.{has_left_out}
+use Rattle.prepare.specs.declared.place.Supply.{Supply}
+use Rattle.prepare.specs.declared.place.Supply.TheVariants as as_supply
+use Rattle.prepare.specs.declared.turn.Form.{Form}
+use Rattle.prepare.specs.declared.turn.Form.TheVariants as form
+use Rattle.prepare.specs.declared.turn.Remark.{Remark}
+use Rattle.prepare.specs.declared.turn.Remark.TheVariants as remark
+use Rattle.prepare.specs.Roles.{is_block_word}
+use Rattle.prepare.specs.Written.{Written}
+use Rattle.prepare.specs.Turns.{turns}
+use Rattle.prepare.specs.Spelling.{spelled}
+use Rattle.prepare.specs.Numbering.{bare, numbered}
+
+-- what is made of a text
+abbrev pub prepared : List ℕ → List ℕ
+prepared text = spelled (turns (numbered (bare text)))
+
+-- what a turn has of the text: all but what is written
+abbrev pub source : Written → List ℕ
+source t = t.gap ++ t.token
+
+abbrev pub sources : List Written → List ℕ
+sources ts = flat_map source ts
+
+abbrev pub is_nothing : Supply → Bool
+is_nothing as_supply.Nothing = true
+is_nothing _ = false
+
+-- whether nothing is written between turns
+abbrev pub is_unsupplied : List Written → Bool
+is_unsupplied ts = list_all (λ t. is_nothing t.supply) ts
+
+-- whether a token comes out as it is: no block, and no string over several lines
+abbrev pub stays : Form → List ℕ → Bool
+stays form.Kept t = true
+stays form.Joined t = not (list_any is_line_feed t)
+stays form.Blanked t = false
+
+-- whether nothing is mended at a turn
+abbrev pub is_plain : Written → Bool
+is_plain t = is_nothing t.supply && stays t.form t.token
+
+-- whether a text has no block, no line end that stands for a separator, no label before `}` and no string over several lines
+abbrev pub is_mended : List ℕ → Bool
+is_mended text = list_all is_plain (turns text)
+
+abbrev pub is_blank_form : Form → Bool
+is_blank_form form.Blanked = true
+is_blank_form _ = false
+
+abbrev pub is_block_end : Remark → Bool
+is_block_end remark.BlockEnds = true
+is_block_end _ = false
+
+-- whether a block goes on behind a turn
+abbrev pub goes_on : Written → Bool
+goes_on t = is_blank_form t.form && not (is_block_end t.remark)
+
+-- A token that is blanked is the word of a block, or stands behind another one of it: `inside` says whether one stands before the turns.
+abbrev pub BlanksAreBlocks : Bool → List Written → Type 0
+BlanksAreBlocks inside [] = Unit {0}
+BlanksAreBlocks inside (t ∷ ts) = (is_blank_form t.form ≡ true → (inside || is_block_word t.token) ≡ true) × BlanksAreBlocks (goes_on t) ts
+
+-- the tokens of turns, as bytes
+abbrev pub tokens : List Written → List (List ℕ)
+tokens ts = map (λ t. t.token) ts
+
+abbrev pub is_no_skip : Supply → Bool
+is_no_skip as_supply.Skip = false
+is_no_skip _ = true
+
+-- whether separators alone are written between turns
+abbrev pub has_no_skip : List Written → Bool
+has_no_skip ts = list_all (λ t. is_no_skip t.supply) ts
+
+-- the tokens that are written: what is supplied, and what is not blanked
+abbrev pub supplied : Supply → List (List ℕ)
+supplied as_supply.Nothing = []
+supplied as_supply.Separator = codes ";" ∷ []
+supplied as_supply.Skip = codes "skip" ∷ []
+
+abbrev pub kept : Form → List ℕ → List (List ℕ)
+kept form.Blanked t = []
+kept _ t = t ∷ []
+
+-- without the last turn, which has no token
+abbrev pub written_tokens : List Written → List (List ℕ)
+written_tokens [] = []
+written_tokens (t ∷ []) = supplied t.supply
+written_tokens (t ∷ u ∷ us) = supplied t.supply ++ (kept t.form t.token ++ written_tokens (u ∷ us))
+
+abbrev pub texts : List Word → List (List ℕ)
+texts ts = map (λ w. w.text) ts
+
+-- a text's tokens, of which none is left out
+pub record AreKept (text : List ℕ) (ts : List Word) : Type 0 where
+  pub are_cut : IsCut text ts
+  pub all_kept : has_left_out ts ≡ false
+
+-- what is written of a text has the tokens that are written
+pub record IsCutAgain (text : List ℕ) : Type 0 where
+  pub cut : List Word
+  pub are_cut : IsCut (spelled (turns text)) cut
+  pub as_written : texts cut ≡ written_tokens (turns text)

@@ -1,0 +1,10 @@
+pub mod Roles
+pub mod Places
+pub mod Written
+pub mod Turns
+pub mod Spelling
+pub mod Mark
+pub mod Standing
+pub mod Marks
+pub mod Numbering
+pub mod Laws

@@ -1,0 +1,12 @@
+-- A turn as contracts see it: without where its bytes lie in memory.
+use Rattle.std.specs.Prelude.{ℕ, List}
+use Rattle.prepare.specs.declared.place.Supply.{Supply}
+use Rattle.prepare.specs.declared.turn.Form.{Form}
+use Rattle.prepare.specs.declared.turn.Remark.{Remark}
+
+pub record Written : Type 0 where
+  pub supply : Supply
+  pub gap : List ℕ
+  pub token : List ℕ
+  pub form : Form
+  pub remark : Remark

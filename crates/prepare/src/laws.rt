@@ -1,0 +1,52 @@
+//! What holds of the definitions alone.
+
+ghost use Rattle.std.specs.Prelude.{◌≡◌, ◌++◌, ◌∷◌, [], List, ℕ, true, false};
+ghost use Rattle.pml_lex.specs.Word.{Word};
+ghost use Rattle.pml_lex.specs.Division.{line_behind, IsCut};
+ghost use Rattle.prepare.specs.Written.{Written};
+ghost use Rattle.prepare.specs.Turns.{turns};
+ghost use Rattle.prepare.specs.Spelling.{spelled};
+ghost use Rattle.prepare.specs.Numbering.{bare, numbered, lines_asked, has_mark};
+ghost use Rattle.prepare.specs.Laws.{prepared, sources, tokens, texts, is_unsupplied, has_no_skip, is_mended, BlanksAreBlocks, AreKept, IsCutAgain};
+
+/// What is prepared has as many lines as the marks of the text ask for.
+pub fn lines_are_those_asked()
+    ensures { (text : List ℕ) → line_behind (prepared text) ≡ lines_asked (bare text) }
+{}
+
+/// A text without marks, in which nothing is to be mended, comes out byte for byte.
+pub fn nothing_mended_is_unchanged()
+    ensures { (text : List ℕ) → bare text ≡ text → has_mark text ≡ false → is_mended text ≡ true → prepared text ≡ text }
+{}
+
+/// The gaps and tokens of the turns, one behind the other, are the text: without what is written nothing is there but the text.
+pub fn turns_are_the_text()
+    ensures { (text : List ℕ) → sources (turns text) ≡ text }
+{}
+
+/// What stands behind some turns is on the same line in the text and in what is written.
+pub fn lines_stay()
+    ensures { (front : List Written) → line_behind (spelled front) ≡ line_behind (sources front) }
+{}
+
+/// Where a text is cut into tokens, its turns have these, in order, and at the end one without bytes.
+pub fn tokens_are_those_cut()
+    ensures { (text : List ℕ) (ts : List Word) → IsCut text ts → tokens (turns text) ≡ texts ts ++ [] ∷ [] }
+{}
+
+/// What is blanked are blocks: each begins with `never`, `ltl`, `trace` or `notrace`, and goes on to its last brace.
+pub fn blanks_are_blocks()
+    ensures { (text : List ℕ) → BlanksAreBlocks false (turns text) }
+{}
+
+/// Where a text is cut into tokens of which none is left out, it has no block and no string over several lines: unless something is
+/// written between its turns, nothing is to be mended.
+pub fn what_is_cut_wants_separators_alone()
+    ensures { (text : List ℕ) (ts : List Word) → AreKept text ts → is_unsupplied (turns text) ≡ true → is_mended text ≡ true }
+{}
+
+/// What is written of a text that is cut into tokens of which none is left out is cut again, into these tokens and the separators: each
+/// separator is a token of its own, and changes no other. This is of texts in which no label stands directly before a brace.
+pub fn what_is_written_is_cut_again()
+    ensures { (text : List ℕ) (ts : List Word) → AreKept text ts → has_no_skip (turns text) ≡ true → IsCutAgain text }
+{}

@@ -1,0 +1,18 @@
+//! Prepares the text of a model: its lines where its marks say, the separators that the ends of lines stand for, and blanks in place of
+//! blocks that only verification needs.
+#![tactic(auto)]
+
+pub mod laws;
+pub mod marks;
+pub mod numbering;
+pub mod place;
+pub mod roles;
+pub mod spelling;
+pub mod turn;
+pub mod turns;
+
+/// What a line of an included file ends with: a blank, behind which the line goes on.
+pub const FORM_FEED: u8 = 12;
+
+/// The most bytes that a text may have: what a preprocessor makes of small models.
+pub const MOST_BYTES: usize = 8_388_608;

@@ -1,0 +1,182 @@
+//! What a token is to the end of a line, and to the block that it stands in.
+
+ghost use Rattle.std.specs.Prelude.{◌≡◌};
+ghost use Rattle.prepare.specs.Roles as roles;
+
+use pml_lex::token::Kind;
+
+/// What a token is to preparing.
+#[derive(Clone, Copy)]
+pub enum Role {
+    /// `{`.
+    Opens,
+    /// `}`.
+    Closes,
+    /// `(`.
+    Enters,
+    /// `[`.
+    Indexes,
+    /// `)` or `]`.
+    Leaves,
+    /// `:`.
+    Labels,
+    /// `=`.
+    Assigns,
+    Typedef,
+    For,
+    Mtype,
+    /// A string.
+    Quotes,
+    /// A name, which may begin a statement and end one.
+    Names,
+    /// Another token that may begin a statement and end one, as a number.
+    Both,
+    /// Another token that may begin a statement alone, as `!` and `if`.
+    Begins,
+    /// Another token that may end a statement alone, as `++`.
+    Ends,
+    /// `never`, `ltl`, `trace` or `notrace`.
+    Heads,
+    /// What is left out otherwise, and what is no token.
+    LeftOut,
+    /// Another token, which does neither.
+    Other,
+}
+
+fn is_block_word(token: &[u8]) -> bool
+    ensures { result ≡ roles.is_block_word token.now }
+{
+    token == b"never".as_slice()
+        || (token == b"ltl".as_slice()
+            || (token == b"trace".as_slice() || token == b"notrace".as_slice()))
+}
+
+/// What a token of this kind is that opens, closes or divides.
+fn bracket_of(kind: Kind) -> Role
+    ensures { result ≡ roles.bracket kind }
+{
+    match kind {
+        Kind::OpenBrace => Role::Opens,
+        Kind::CloseBrace => Role::Closes,
+        Kind::OpenParen => Role::Enters,
+        Kind::OpenBracket => Role::Indexes,
+        Kind::CloseParen | Kind::CloseBracket => Role::Leaves,
+        Kind::Colon => Role::Labels,
+        Kind::Assign => Role::Assigns,
+        Kind::Typedef => Role::Typedef,
+        Kind::For => Role::For,
+        Kind::Mtype => Role::Mtype,
+        Kind::Quoted => Role::Quotes,
+        Kind::Name => Role::Names,
+        Kind::LeftOut => Role::LeftOut,
+        _ => Role::Other,
+    }
+}
+
+fn is_both(kind: Kind) -> bool
+    ensures { result ≡ roles.is_both kind }
+{
+    matches!(
+        kind,
+        Kind::Number | Kind::Skip | Kind::True | Kind::False | Kind::Timeout | Kind::Break
+    )
+}
+
+fn is_ending(kind: Kind) -> bool
+    ensures { result ≡ roles.is_ending kind }
+{
+    matches!(kind, Kind::Increment | Kind::Decrement)
+}
+
+/// Whether a token begins a declaration.
+fn declares(kind: Kind) -> bool
+    ensures { result ≡ roles.declares kind }
+{
+    matches!(
+        kind,
+        Kind::Bit
+            | Kind::Bool
+            | Kind::Byte
+            | Kind::Chan
+            | Kind::Hidden
+            | Kind::Int
+            | Kind::Local
+            | Kind::Pid
+            | Kind::Short
+            | Kind::Show
+            | Kind::Unsigned
+            | Kind::Xr
+            | Kind::Xs
+    )
+}
+
+/// Whether a word begins a statement, and no expression.
+fn acts(kind: Kind) -> bool
+    ensures { result ≡ roles.acts kind }
+{
+    matches!(
+        kind,
+        Kind::Assert
+            | Kind::Atomic
+            | Kind::DStep
+            | Kind::Do
+            | Kind::Goto
+            | Kind::If
+            | Kind::Printf
+            | Kind::Printm
+            | Kind::Select
+    )
+}
+
+/// Whether a word or a sign begins an expression, and ends none.
+fn asks(kind: Kind) -> bool
+    ensures { result ≡ roles.asks kind }
+{
+    matches!(
+        kind,
+        Kind::Empty
+            | Kind::Full
+            | Kind::Len
+            | Kind::Nempty
+            | Kind::Nfull
+            | Kind::Run
+            | Kind::Minus
+            | Kind::Tilde
+            | Kind::Bang
+    )
+}
+
+/// What a token is, by its kind and its bytes.
+pub fn role_of(kind: Kind, token: &[u8]) -> Role
+    ensures { result ≡ roles.role kind token.now }
+{
+    if is_block_word(token) {
+        return Role::Heads;
+    }
+    if is_both(kind) {
+        return Role::Both;
+    }
+    if is_ending(kind) {
+        return Role::Ends;
+    }
+    if declares(kind) || (acts(kind) || asks(kind)) {
+        return Role::Begins;
+    }
+    bracket_of(kind)
+}
+
+/// Whether a token may begin a statement.
+pub fn begins(role: Role) -> bool
+    ensures { result ≡ roles.begins role }
+{
+    matches!(
+        role,
+        Role::Opens
+            | Role::Enters
+            | Role::For
+            | Role::Mtype
+            | Role::Names
+            | Role::Both
+            | Role::Begins
+    )
+}

@@ -1,0 +1,99 @@
+//! Writes turns.
+
+ghost use Rattle.std.specs.Prelude.{◌≡◌, ◌++◌, map, IfOk, OnOk};
+ghost use Rattle.std.specs.List.{filter};
+ghost use Rattle.pml_lex.specs.Division.{is_line_feed};
+ghost use Rattle.prepare.specs.Places.{written};
+ghost use Rattle.prepare.specs.Spelling as spelling;
+
+use crate::place::Supply;
+use crate::turn::{Form, Turn};
+use std::alloc::{AllocError, Global};
+
+fn blank(b: u8) -> u8
+    ensures { result ≡ spelling.blank b }
+{
+    if b == b'\n' { b } else { b' ' }
+}
+
+fn add_blanks(out: &mut Vec<u8>, token: &[u8]) -> Result<(), AllocError>
+    ensures { OnOk result (out.new.items ≡ out.old.items ++ map spelling.blank token.now) }
+{
+    for b in token {
+        out.push(blank(*b))?;
+    }
+    Ok(())
+}
+
+fn is_break(b: u8, rest: &[u8]) -> bool
+    ensures { result ≡ spelling.is_break b rest.now }
+{
+    b == b'\n' || (b == b'\\' && matches!(rest, [b'\n', ..]))
+}
+
+fn add_unbroken(out: &mut Vec<u8>, token: &[u8]) -> Result<(), AllocError>
+    ensures { OnOk result (out.new.items ≡ out.old.items ++ spelling.unbroken token.now) }
+{
+    let mut at = 0;
+    while at < token.len() {
+        let b = token[at];
+        at += 1;
+        if !is_break(b, &token[at..]) {
+            out.push(b)?;
+        }
+    }
+    Ok(())
+}
+
+fn add_feeds(out: &mut Vec<u8>, token: &[u8]) -> Result<(), AllocError>
+    ensures { OnOk result (out.new.items ≡ out.old.items ++ filter is_line_feed token.now) }
+{
+    for b in token {
+        if *b == b'\n' {
+            out.push(*b)?;
+        }
+    }
+    Ok(())
+}
+
+fn add_token(out: &mut Vec<u8>, form: Form, token: &[u8]) -> Result<(), AllocError>
+    ensures { OnOk result (out.new.items ≡ out.old.items ++ spelling.shown form token.now) }
+{
+    match form {
+        Form::Kept => out.extend_from_slice(token),
+        Form::Joined => {
+            add_unbroken(out, token)?;
+            add_feeds(out, token)
+        }
+        Form::Blanked => add_blanks(out, token),
+    }
+}
+
+fn add_supply(out: &mut Vec<u8>, supply: Supply) -> Result<(), AllocError>
+    ensures { OnOk result (out.new.items ≡ out.old.items ++ written supply) }
+{
+    match supply {
+        Supply::Nothing => Ok(()),
+        Supply::Separator => out.extend_from_slice(b";"),
+        Supply::Skip => out.extend_from_slice(b" skip"),
+    }
+}
+
+fn add_turn(out: &mut Vec<u8>, turn: &Turn<'_>) -> Result<(), AllocError>
+    ensures { OnOk result (out.new.items ≡ out.old.items ++ spelling.spelled_turn turn.now) }
+{
+    add_supply(out, turn.supply())?;
+    out.extend_from_slice(turn.gap())?;
+    add_token(out, turn.form(), turn.token())
+}
+
+/// What is written of turns: the text that they are of, with what is supplied, and blanks in place of blocks.
+pub fn spelled(alloc: Global, turns: &[Turn<'_>]) -> Result<Vec<u8>, AllocError>
+    ensures { IfOk result (λ v. v.items ≡ spelling.spelled turns.now) }
+{
+    let mut out = Vec::new(alloc);
+    for turn in turns {
+        add_turn(&mut out, turn)?;
+    }
+    Ok(out)
+}

@@ -1,0 +1,172 @@
+// Reads the words and the text, writes what is prepared, says what was blanked and what is left, and ends with a status.
+#![tactic(auto)]
+
+mod report;
+
+use prepare::MOST_BYTES;
+use prepare::numbering::numbered;
+use prepare::spelling::spelled;
+use prepare::turns::turns;
+use report::Report;
+use std::alloc::{AllocError, Global};
+use std::fs::File;
+use std::io::{Read, Write};
+use std::process::ExitCode;
+use std::{env, fs, io};
+
+// At most so many bytes of a text are read: one more than it may have.
+const MOST_READ: u64 = MOST_BYTES as u64 + 1;
+
+const HELP: &str = "Prepares the text of a Promela model, as cpp leaves it, for spinplay.
+
+usage: spinprep-text [--strict] FILE
+
+Writes a text with the same lines as the model's own file: blanks in place of ltl, never, trace and notrace, and the separators
+that the ends of lines stand for. What is blanked and what is left as it is stands on standard error, with its lines.
+
+  --strict   ends with status 1 where something is left that spinplay does not play
+  --help     says this
+
+Exit statuses: 0 prepared; 1 something is left (--strict); 3 the text has more than 8388608 bytes; 4 wrong words, or a file that
+cannot be opened or read; 6 a device or memory failed.
+";
+
+// Why nothing is prepared.
+#[derive(Drop)]
+enum Stop {
+    Help,
+    Words,
+    CannotOpen(String),
+    CannotRead(String),
+    TooLong,
+    Device,
+    Memory,
+}
+
+impl From<AllocError> for Stop {
+    fn from(_error: AllocError) -> Stop {
+        Stop::Memory
+    }
+}
+
+// What is asked for.
+#[derive(Drop)]
+struct Asked {
+    is_strict: bool,
+    file: String,
+}
+
+fn asked_by(alloc: Global, words: &[String]) -> Result<Asked, Stop> {
+    let mut is_strict = false;
+    let mut file = None;
+    for word in words {
+        match word.as_str() {
+            "--help" => return Err(Stop::Help),
+            "--strict" => is_strict = true,
+            name => {
+                if file.is_some() || (name.starts_with("-") && name.len() > 1) {
+                    return Err(Stop::Words);
+                }
+                file = Some(String::from_str(alloc, name)?);
+            }
+        }
+    }
+    match file {
+        Some(file) => Ok(Asked { is_strict, file }),
+        None => Err(Stop::Words),
+    }
+}
+
+fn asked_of(rt: &HostRuntime) -> Result<Asked, Stop> {
+    match env::args(rt) {
+        Ok(words) => {
+            let words: Vec<String> = words.skip(1).collect(rt.alloc())?;
+            asked_by(rt.alloc(), words.as_slice())
+        }
+        Err(error) if error.kind() == io::ErrorKind::OutOfMemory => Err(Stop::Memory),
+        Err(_) => Err(Stop::Words),
+    }
+}
+
+fn opened(rt: &HostRuntime, name: &str) -> Result<File, Stop> {
+    match fs::open(rt, name) {
+        Ok(file) => Ok(file),
+        Err(error) if error.kind() == io::ErrorKind::OutOfMemory => Err(Stop::Memory),
+        Err(_) => Err(Stop::CannotOpen(String::from_str(rt.alloc(), name)?)),
+    }
+}
+
+fn text_of(rt: &HostRuntime, name: &str) -> Result<Vec<u8>, Stop> {
+    let file = opened(rt, name)?;
+    let mut text = Vec::new(rt.alloc());
+    match file.take(MOST_READ).read_to_end(&mut text) {
+        Ok(_) => Ok(text),
+        Err(error) if error.kind() == io::ErrorKind::OutOfMemory => Err(Stop::Memory),
+        Err(_) => Err(Stop::CannotRead(String::from_str(rt.alloc(), name)?)),
+    }
+}
+
+// Writes what is prepared, and answers whether something is left.
+fn prepared(rt: &HostRuntime, text: &[u8]) -> Result<bool, Stop> {
+    if text.len() > MOST_BYTES {
+        return Err(Stop::TooLong);
+    }
+    let lines = numbered(rt.alloc(), text)?;
+    let turns = turns(rt.alloc(), &lines)?;
+    let output = spelled(rt.alloc(), &turns)?;
+    let mut out = rt.stdout();
+    if out.write_all(&output).is_err() || out.flush().is_err() {
+        return Err(Stop::Device);
+    }
+    let mut report = Report::new();
+    for turn in &turns {
+        report.turn(rt, turn);
+    }
+    Ok(report.end(rt))
+}
+
+fn run(rt: &HostRuntime) -> Result<u8, Stop> {
+    let asked = asked_of(rt)?;
+    let text = text_of(rt, asked.file.as_str())?;
+    let is_left = prepared(rt, &text)?;
+    Ok(u8::from(asked.is_strict && is_left))
+}
+
+// Shows why nothing is prepared, and answers the status. A message that cannot be shown is left out.
+fn tell_stop(rt: &HostRuntime, stop: Stop) -> u8 {
+    match stop {
+        Stop::Help => { if print!(rt; "{HELP}").is_ok() { 0 } else { 6 } }
+        Stop::Words => {
+            let _ = eprintln!(rt; "usage: spinprep-text [--strict] FILE");
+            4
+        }
+        Stop::CannotOpen(name) => {
+            let _ = eprintln!(rt; "spinprep: cannot open {name}");
+            4
+        }
+        Stop::CannotRead(name) => {
+            let _ = eprintln!(rt; "spinprep: cannot read {name}");
+            4
+        }
+        Stop::TooLong => {
+            let _ = eprintln!(rt; "spinprep: the text has more than {MOST_BYTES} bytes");
+            3
+        }
+        Stop::Device => {
+            let _ = eprintln!(rt; "spinprep: device failed");
+            6
+        }
+        Stop::Memory => {
+            let _ = eprintln!(rt; "spinprep: out of memory");
+            6
+        }
+    }
+}
+
+fn main(rt: HostRuntime) -> ExitCode {
+    let status = match run(&rt) {
+        Ok(status) => status,
+        Err(stop) => tell_stop(&rt, stop),
+    };
+    ExitCode::from(status)
+}
