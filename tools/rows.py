@@ -12,6 +12,7 @@ LAYERS = {
     "conditions": ["condition", "control"],
     "names": ["model", "statements"],
     "graphs": ["graph", "levels", "texts", "marks"],
+    "values": ["first-state", "created", "results", "printed", "state-behind"],
     "value lines": ["values", "local-values", "logged-values"],
     "command lines": ["words"],
 }

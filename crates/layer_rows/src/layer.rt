@@ -9,17 +9,19 @@ pub enum Layer {
     Conditions,
     Names,
     Graphs,
+    Values,
     Lines,
     Words,
 }
 
 /// The layers.
-pub const LAYERS: [Layer; 7] = [
+pub const LAYERS: [Layer; 8] = [
     Layer::Tokens,
     Layer::Grammar,
     Layer::Conditions,
     Layer::Names,
     Layer::Graphs,
+    Layer::Values,
     Layer::Lines,
     Layer::Words,
 ];
@@ -33,6 +35,7 @@ impl Layer {
             Layer::Conditions => "conditions",
             Layer::Names => "names",
             Layer::Graphs => "graphs",
+            Layer::Values => "values",
             Layer::Lines => "value lines",
             Layer::Words => "command lines",
         }
@@ -68,6 +71,16 @@ pub enum View {
     Texts,
     /// The lines, ends and atomics of the nodes.
     Marks,
+    /// What it begins with.
+    FirstState,
+    /// What there is once a process is created beside a global.
+    Created,
+    /// What the statements of its first proctype come to.
+    Results,
+    /// What they print.
+    Printed,
+    /// What variables and channels hold behind them.
+    StateBehind,
     /// The lines of the places that changed from the cells before to those after.
     Values,
     /// Those of locals alone.
@@ -79,7 +92,7 @@ pub enum View {
 }
 
 /// All that is asked.
-pub const VIEWS: [View; 17] = [
+pub const VIEWS: [View; 22] = [
     View::Tokens,
     View::Count,
     View::Tree,
@@ -93,6 +106,11 @@ pub const VIEWS: [View; 17] = [
     View::Levels,
     View::Texts,
     View::Marks,
+    View::FirstState,
+    View::Created,
+    View::Results,
+    View::Printed,
+    View::StateBehind,
     View::Values,
     View::LocalValues,
     View::LoggedValues,
@@ -116,6 +134,11 @@ impl View {
             View::Levels => "levels",
             View::Texts => "texts",
             View::Marks => "marks",
+            View::FirstState => "first-state",
+            View::Created => "created",
+            View::Results => "results",
+            View::Printed => "printed",
+            View::StateBehind => "state-behind",
             View::Values => "values",
             View::LocalValues => "local-values",
             View::LoggedValues => "logged-values",
@@ -131,6 +154,8 @@ impl View {
             View::Condition | View::Control => Layer::Conditions,
             View::Model | View::Statements => Layer::Names,
             View::Graph | View::Levels | View::Texts | View::Marks => Layer::Graphs,
+            View::FirstState | View::Created | View::Results | View::Printed | View::StateBehind =>
+                Layer::Values,
             View::Values | View::LocalValues | View::LoggedValues => Layer::Lines,
             View::Words => Layer::Words,
         }

@@ -32,8 +32,12 @@ fn indices(alloc: Global, text: &str) -> Result<Vec<usize>, Refused> {
     Ok(indices)
 }
 
-fn cells(alloc: Global, text: &str) -> Result<Vec<i32>, Refused> {
+/// The numbers that a part has, with a blank between them.
+pub fn cells(alloc: Global, text: Option<&str>) -> Result<Vec<i32>, Refused> {
     let mut cells = Vec::new(alloc);
+    let Some(text) = text else {
+        return Ok(cells);
+    };
     for word in text.split(' ') {
         if cells.push(word.parse::<i32>()?).is_err() {
             return Err(Refused::from("out of memory"));
@@ -50,8 +54,8 @@ fn add_changes(
     lines: &mut Vec<u8>,
 ) -> Result<(), Refused> {
     let kinds = indices(alloc, block.behind("processes").unwrap_or(""))?;
-    let before = cells(alloc, block.behind("before").unwrap_or(""))?;
-    let after = cells(alloc, block.behind("after").unwrap_or(""))?;
+    let before = cells(alloc, block.behind("before"))?;
+    let after = cells(alloc, block.behind("after"))?;
     Ok(value_lines(tables, &kinds, wanted, &before, &after, lines)?)
 }
 
@@ -64,7 +68,8 @@ fn first_store(alloc: Global) -> Result<Store, AllocError> {
     Ok(store)
 }
 
-fn write(alloc: Global, store: &mut Store, line: &str) -> Result<(), Refused> {
+/// Stores the number of a line `FRAME VARIABLE CELL => NUMBER` at its place.
+pub fn write(alloc: Global, store: &mut Store, line: &str) -> Result<(), Refused> {
     let (place, number) = line.split_once(" => ").ok_or("a write has an arrow")?;
     let place = indices(alloc, place)?;
     let [frame, variable, cell] = place.as_slice() else {

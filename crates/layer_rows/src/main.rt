@@ -6,6 +6,7 @@ mod answer;
 mod beginnings;
 mod bytes;
 mod condition;
+mod doing;
 mod files;
 mod graph;
 mod layer;
@@ -20,6 +21,7 @@ mod statements;
 mod tally;
 mod tokens;
 mod tree;
+mod values;
 mod words;
 
 use crate::files::compare_files;

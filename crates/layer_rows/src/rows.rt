@@ -10,7 +10,7 @@ use row_files::{Block, Refused};
 use std::alloc::Global;
 
 /// The words that begin a part.
-pub const WORDS: [&str; 28] = [
+pub const WORDS: [&str; 36] = [
     "each",
     "text",
     "parts",
@@ -31,6 +31,14 @@ pub const WORDS: [&str; 28] = [
     "levels",
     "texts",
     "marks",
+    "first-state",
+    "created",
+    "proctype",
+    "arguments",
+    "results",
+    "printed",
+    "state-behind",
+    "process",
     "values",
     "local-values",
     "logged-values",

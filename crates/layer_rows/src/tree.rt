@@ -4,6 +4,7 @@ use crate::layer::{Asked, Layer, View};
 use crate::lines::lines_of;
 use crate::program::of_program;
 use crate::shape::expressions_of;
+use crate::values::values_of;
 use pml_lex::token::Token;
 use pml_marks::model::marks;
 use pml_names::names::all_names;
@@ -48,13 +49,11 @@ pub fn of_tokens<'a>(
     tokens: &'a [Token<'a>],
 ) -> Result<String, Refused> {
     match parse(alloc, tokens) {
-        Ok(tree) => {
-            if asked.view.layer() == Layer::Lines {
-                lines_of(alloc, asked, tree)
-            } else {
-                of_owned(alloc, asked.view, tree)
-            }
-        }
+        Ok(tree) => match asked.view.layer() {
+            Layer::Values => values_of(alloc, asked, tree),
+            Layer::Lines => lines_of(alloc, asked, tree),
+            _ => of_owned(alloc, asked.view, tree),
+        },
         Err(SyntaxFault::Syntax(line)) => Ok(format!(in alloc; "fault at line {line}")?),
         Err(SyntaxFault::Memory) => Err(Refused::from("out of memory")),
     }

@@ -1,4 +1,4 @@
-//! What is read of a command line: a letter for each flag, or a dash, the limit and the files, with a dash for what is not there.
+//! What is read of a command line: a letter for each flag, or a dash, the limit and the files, with a dash for what is not there, and a word for `--explain`.
 use command_line::{Arguments, arguments};
 use row_files::Refused;
 use std::alloc::Global;
@@ -24,7 +24,8 @@ fn shown(alloc: Global, read: &Arguments) -> Result<String, Refused> {
     let choices = file(&read.choices);
     let rec = file(&read.rec);
     let convert = mark(read.convert, "convert");
-    Ok(format!(in alloc; "{p}{g}{l}{m} {limit} {model} {choices} {rec} {convert}")?)
+    let explain = if read.explain { " explain" } else { "" };
+    Ok(format!(in alloc; "{p}{g}{l}{m} {limit} {model} {choices} {rec} {convert}{explain}")?)
 }
 
 /// What is read of words with spaces between them, or why they are refused.

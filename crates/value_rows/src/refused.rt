@@ -2,10 +2,7 @@
 ghost use Rattle.std.specs.Prelude.{◌≡◌};
 
 use crate::beginnings::{first_state, program};
-use crate::channels::of_three;
-use crate::created::{created, variables};
-use crate::messages::{TAKER, globals, only, variable};
-use crate::printed::constants;
+use crate::sample::{TAKER, constants, created, globals, of_three, only, variable, variables};
 use diagnostics::Stop;
 use pml_channel::channel::Channel;
 use pml_printed::string::printed;

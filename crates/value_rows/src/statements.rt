@@ -1,15 +1,12 @@
-//! What statements store.
+//! What statements do to variables that no text declares.
 use diagnostics::{Fault, Stop};
-use pml_channel::channel::Channel;
-use pml_eval::eval::eval;
-use pml_program::expr::{Expr, Target, Turn, Want};
+use pml_program::expr::{Expr, Target, Turn};
 use pml_program::form::Form;
 use pml_program::program::Action;
 use pml_store::store::Store;
-use pml_tree::tree::{Infix, Scalar, Search};
-use pml_value::live_channel::LiveChannel;
+use pml_tree::tree::{Infix, Scalar};
 use pml_value::statement::{can_be_taken, take};
-use pml_value::view::{View, named};
+use pml_value::view::View;
 use sqlite_items::{Boxed, Items};
 use std::alloc::{AllocError, Global};
 use std::test::Fail;
@@ -91,58 +88,5 @@ fn assignments(rt: HostRuntime) -> Result<(), Fail> {
     assert_eq!(rt; store.cells().as_slice(), [0, 0, 0, 0, 44].as_slice());
     assert_eq!(rt; take(&mut store, &[], 1, 2, false, &counted), Ok(()));
     assert_eq!(rt; store.cells().as_slice(), [0, 0, 0, 0, 43].as_slice());
-    Ok(())
-}
-
-/// A channel of bytes with one message, 7.
-fn seven(alloc: Global) -> Result<Channel, AllocError> {
-    let mut types = Items::new(alloc);
-    types.push(Form::Plain(Scalar::Byte))?;
-    let mut channel = Channel::new(alloc, 2, types);
-    channel.send(&[7])?;
-    Ok(channel)
-}
-
-/// A poll of the channel whose number the global holds.
-fn poll(alloc: Global, field: i32) -> Result<Expr, AllocError> {
-    let mut wants = Items::new(alloc);
-    wants.push(Want::Exactly(field))?;
-    Ok(Expr::Poll(element(alloc, false, 0, 0)?, Search::First, wants))
-}
-
-/// What a value is worth where there is one channel.
-fn worth(value: &Expr, store: &Store, channel: Channel) -> Result<i32, Fault> {
-    let owned = [LiveChannel { frame: 0, channel }];
-    let view = View {
-        store,
-        channels: &owned,
-        pid: 0,
-        process_count: 1,
-        timeout: false,
-    };
-    eval(value, &view)
-}
-
-/// The global holds the number of the channel.
-#[test]
-fn polls(rt: HostRuntime) -> Result<(), Fail> {
-    let alloc = rt.alloc();
-    let mut store = Store::new(alloc, 1);
-    store.push_frame(&[1])?;
-    let first = Action::Increment(element(alloc, false, 0, 0)?);
-    assert_eq!(rt; take(&mut store, &[], 0, 1, false, &first), Ok(()));
-    assert_eq!(rt; worth(&poll(alloc, 7)?, &store, seven(alloc)?), Ok(1));
-    assert_eq!(rt; worth(&poll(alloc, 8)?, &store, seven(alloc)?), Ok(0));
-    Ok(())
-}
-
-/// Channels are numbered from 1.
-#[test]
-fn numbers(rt: HostRuntime) -> Result<(), Fail> {
-    let channel = seven(rt.alloc())?;
-    let owned = [LiveChannel { frame: 0, channel }];
-    assert_eq!(rt; named(&owned, 0).is_some(), false);
-    assert_eq!(rt; named(&owned, 1).is_some(), true);
-    assert_eq!(rt; named(&owned, 2).is_some(), false);
     Ok(())
 }

@@ -1,0 +1,204 @@
+//! What variables and channels hold: in the first state of a model, or beside one global where a process of its proctype with the number
+//! `proctype` is created with these `arguments`.
+//!
+//! A state is its numbers, its channels and its processes, with ` / ` between them, or a dash for none. Ten numbers and more that are the same
+//! are `NUMBERxCOUNT`. A channel is its frame and its capacity, a process the number of its proctype.
+ghost use Rattle.std.specs.Prelude.{◌≡◌, IfSome};
+ghost use Rattle.pml_start.specs.Bound.{cells_of};
+
+use crate::doing::done;
+use crate::layer::{Asked, View};
+use crate::lines::cells;
+use diagnostics::Stop;
+use pml_cells::cells::size;
+use pml_check::{CheckFault, Checked, check};
+use pml_program::program::{Program, Slot};
+use pml_start::Beginnings;
+use pml_start::create::create;
+use pml_start::start::start;
+use pml_start::started::Started;
+use pml_store::store::Store;
+use pml_tree::tree::Tree;
+use pml_value::live_channel::LiveChannel;
+use row_files::{Block, Refused};
+use std::alloc::Global;
+
+/// So many numbers in a row are written with their count.
+const MANY: usize = 10;
+
+/// Adds a word, with a blank before it where there is one.
+pub fn add_word(out: &mut String, word: &str) -> Result<(), Refused> {
+    if !out.is_empty() && !out.ends_with(" / ") {
+        out.push(' ')?;
+    }
+    Ok(out.push_str(word)?)
+}
+
+/// Adds a number so many times.
+fn add_run(alloc: Global, out: &mut String, number: i32, count: usize) -> Result<(), Refused> {
+    if count >= MANY {
+        let word = format!(in alloc; "{number}x{count}")?;
+        return add_word(out, word.as_str());
+    }
+    let word = format!(in alloc; "{number}")?;
+    for _ in 0..count {
+        add_word(out, word.as_str())?;
+    }
+    Ok(())
+}
+
+/// Adds numbers, or a dash.
+pub fn add_numbers(alloc: Global, out: &mut String, numbers: &[i32]) -> Result<(), Refused> {
+    if numbers.is_empty() {
+        return add_word(out, "-");
+    }
+    let mut last = 0;
+    let mut count = 0usize;
+    for number in numbers {
+        if *number != last {
+            add_run(alloc, out, last, count)?;
+            count = 0;
+        }
+        last = *number;
+        count = count.saturating_add(1);
+    }
+    add_run(alloc, out, last, count)
+}
+
+fn add_channels(alloc: Global, out: &mut String, channels: &[LiveChannel]) -> Result<(), Refused> {
+    if channels.is_empty() {
+        return add_word(out, "-");
+    }
+    for live in channels {
+        let (frame, capacity) = (live.frame, live.channel.capacity());
+        add_word(out, format!(in alloc; "{frame}:{capacity}")?.as_str())?;
+    }
+    Ok(())
+}
+
+fn add_processes(alloc: Global, out: &mut String, kinds: &[usize]) -> Result<(), Refused> {
+    if kinds.is_empty() {
+        return add_word(out, "-");
+    }
+    for kind in kinds {
+        add_word(out, format!(in alloc; "{kind}")?.as_str())?;
+    }
+    Ok(())
+}
+
+/// How many cells variables have, as far as a `u32` counts them.
+fn cells_of(slots: &[Slot<'_>]) -> Option<u32>
+    ensures { IfSome result (λ n. n ≡ cells_of slots.now) }
+{
+    let mut cells: u32 = 0;
+    for slot in slots {
+        let more = u32::try_from(size(slot)).ok()?;
+        cells = cells.checked_add(more)?;
+    }
+    Some(cells)
+}
+
+/// Adds a state.
+fn add_state(alloc: Global, out: &mut String, started: &Started) -> Result<(), Refused> {
+    add_numbers(alloc, out, started.store.cells().as_slice())?;
+    out.push_str(" / ")?;
+    add_channels(alloc, out, started.channels.as_slice())?;
+    out.push_str(" / ")?;
+    add_processes(alloc, out, started.kinds.as_slice())
+}
+
+/// `ok`, or the fault.
+pub fn outcome(alloc: Global, ended: Result<(), Stop>) -> Result<String, Refused> {
+    match ended {
+        Ok(()) => Ok(format!(in alloc; "ok")?),
+        Err(stop) => fault_of(alloc, stop),
+    }
+}
+
+/// The fault that a stop is, as `F2`.
+pub fn fault_of(alloc: Global, stop: Stop) -> Result<String, Refused> {
+    match stop {
+        Stop::Fault(fault) => Ok(format!(in alloc; "F{}", fault.number())?),
+        Stop::Memory => Err(Refused::from("out of memory")),
+    }
+}
+
+/// What there is once a process of the proctype with this number is created beside a global, and how that went.
+fn created(
+    alloc: Global,
+    program: &Program<'_>,
+    kind: usize,
+    arguments: &[i32],
+) -> Result<(Started, Result<(), Stop>), Refused> {
+    let proctype = program.proctypes.as_slice().get(kind);
+    let slots = proctype.ok_or("no such proctype")?.variables.as_slice();
+    let beginnings = Beginnings::new(alloc, program.typedefs.as_slice())?;
+    let cells = cells_of(slots).ok_or("too many cells")?;
+    let mut store = Store::new(alloc, cells.checked_add(1).ok_or("too many cells")?);
+    store.push_frame(&[1])?;
+    let mut channels = Vec::new(alloc);
+    let mut kinds = Vec::new(alloc);
+    let ended = create(
+        &beginnings,
+        kind,
+        slots,
+        arguments,
+        &mut store,
+        &mut channels,
+        &mut kinds,
+    );
+    let started = Started {
+        store,
+        channels,
+        kinds,
+    };
+    Ok((started, ended))
+}
+
+fn created_written(
+    alloc: Global,
+    block: Block<'_>,
+    program: &Program<'_>,
+) -> Result<String, Refused> {
+    let kind: usize = block.behind("proctype").unwrap_or("0").parse()?;
+    let arguments = cells(alloc, block.behind("arguments"))?;
+    let (started, ended) = created(alloc, program, kind, arguments.as_slice())?;
+    let mut out = outcome(alloc, ended)?;
+    out.push_str(" / ")?;
+    add_state(alloc, &mut out, &started)?;
+    Ok(out)
+}
+
+fn of_started(
+    alloc: Global,
+    asked: Asked<'_>,
+    program: &Program<'_>,
+    started: Started,
+) -> Result<String, Refused> {
+    if asked.view == View::FirstState {
+        let mut out = String::new(alloc);
+        add_state(alloc, &mut out, &started)?;
+        return Ok(out);
+    }
+    done(alloc, asked, program, started)
+}
+
+fn of_checked(alloc: Global, asked: Asked<'_>, checked: &Checked<'_>) -> Result<String, Refused> {
+    let program = checked.program();
+    if asked.view == View::Created {
+        return created_written(alloc, asked.block, program);
+    }
+    match start(alloc, program) {
+        Ok(started) => of_started(alloc, asked, program, started),
+        Err(stop) => fault_of(alloc, stop),
+    }
+}
+
+/// The values of the model that a tree is.
+pub fn values_of<'a>(alloc: Global, asked: Asked<'_>, tree: Tree<'a>) -> Result<String, Refused> {
+    match check(alloc, tree) {
+        Ok(checked) => of_checked(alloc, asked, &checked),
+        Err(CheckFault::Refused(refusal)) => Ok(format!(in alloc; "M{}", refusal.number())?),
+        Err(CheckFault::Memory) => Err(Refused::from("out of memory")),
+    }
+}

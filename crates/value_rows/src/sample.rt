@@ -1,0 +1,121 @@
+//! What the tests of refused growths share: a channel, names, variables, and a process that is created.
+ghost use Rattle.std.specs.Prelude.{◌≡◌, [], ◌∷◌, IfOk};
+ghost use Rattle.pml_program.specs.declared.form.Form.TheVariants.{Plain};
+ghost use Rattle.pml_tree.specs.declared.tree.Scalar.TheVariants.{Byte, Short};
+
+use crate::beginnings::slot;
+use crate::limits::cells_of;
+use diagnostics::Stop;
+use pml_channel::channel::Channel;
+use pml_lex::token::{Kind, Token};
+use pml_program::expr::{Expr, Target};
+use pml_program::form::Form;
+use pml_program::program::{Fields, Initial, Slot};
+use pml_start::Beginnings;
+use pml_start::create::create;
+use pml_start::started::Started;
+use pml_store::place::Place;
+use pml_store::store::Store;
+use pml_tree::tree::Scalar;
+use pml_value::live_channel::LiveChannel;
+use pml_value::message::Taker;
+use sqlite_items::Items;
+use std::alloc::{AllocError, Global};
+
+/// A channel of three messages, each a byte and a short.
+pub fn of_three(alloc: Global) -> Result<Channel, AllocError>
+    ensures { IfOk result (λ c. c ≡ record { capacity = 3; types = Plain Byte ∷ Plain Short ∷ []; messages = [] }) }
+{
+    let mut types = Items::new(alloc);
+    types.push(Form::Plain(Scalar::Byte))?;
+    types.push(Form::Plain(Scalar::Short))?;
+    Ok(Channel::new(alloc, 3, types))
+}
+
+/// `mtype = { ack, nak }`: the last name has the number 1.
+pub fn constants() -> [Token<'static>; 2] {
+    [
+        Token::new(Kind::Name, b"nak", 1),
+        Token::new(Kind::Name, b"ack", 1),
+    ]
+}
+
+/// The only process.
+pub const TAKER: Taker = Taker {
+    pid: 0,
+    process_count: 1,
+    timeout: false,
+};
+
+/// A global variable.
+pub fn variable(alloc: Global, variable: usize, word: Scalar) -> Target {
+    Target {
+        local: false,
+        variable,
+        form: Form::Plain(word),
+        turns: Items::new(alloc),
+    }
+}
+
+/// The global `q` holds 1, the number of the only channel; behind it are `x`, `i` and `a[2]`.
+pub fn globals(alloc: Global) -> Result<Store, AllocError> {
+    let mut store = Store::new(alloc, 5);
+    store.push_frame(&[1, 1, 1, 2])?;
+    let number = Place {
+        frame: 0,
+        variable: 0,
+        cell: 0,
+    };
+    if store.size(0, 0) == 1 {
+        store.set(number, 1)?;
+    }
+    store.forget();
+    Ok(store)
+}
+
+/// The only channel.
+pub fn only(channels: &[LiveChannel; 1]) -> &Channel {
+    &channels[0].channel
+}
+
+/// What there is once a process of the proctype with the number 5 is created beside a global, and how that went.
+pub fn created(
+    alloc: Global,
+    typedefs: &[Fields<'_>],
+    variables: &[Slot<'_>],
+    arguments: &[i32],
+) -> Result<(Started, Result<(), Stop>), AllocError> {
+    let beginnings = Beginnings::new(alloc, typedefs)?;
+    let cells = cells_of(variables).ok_or(AllocError)?;
+    let mut store = Store::new(alloc, cells.checked_add(1).ok_or(AllocError)?);
+    store.push_frame(&[1])?;
+    let mut channels = Vec::new(alloc);
+    let mut kinds = Vec::new(alloc);
+    let ended = create(
+        &beginnings,
+        5,
+        variables,
+        arguments,
+        &mut store,
+        &mut channels,
+        &mut kinds,
+    );
+    let started = Started {
+        store,
+        channels,
+        kinds,
+    };
+    Ok((started, ended))
+}
+
+/// Two parameters, two elements of that typedef, its number, and how many processes live.
+pub fn variables(alloc: Global) -> Result<Items<Slot<'static>>, AllocError> {
+    let byte = Form::Plain(Scalar::Byte);
+    let mut slots = Items::new(alloc);
+    slots.push(slot(byte, 0, 1, 1, Initial::Zero))?;
+    slots.push(slot(Form::Plain(Scalar::Short), 1, 1, 1, Initial::Zero))?;
+    slots.push(slot(Form::Struct(9), 2, 2, 2, Initial::Zero))?;
+    slots.push(slot(byte, 6, 1, 1, Initial::Value(Expr::Pid)))?;
+    slots.push(slot(byte, 7, 1, 1, Initial::Value(Expr::ProcessCount)))?;
+    Ok(slots)
+}
