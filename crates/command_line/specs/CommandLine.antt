@@ -51,7 +51,7 @@ pub record IsNamed (c : Command) : Type 0 where
   pub local : (fields_of c).has_globals ≡ false
   pub negates : (fields_of c).subcommand_negates_reqs ≡ false
 
--- `spinplay [-i] [-p] [-g] [-l] [-m] [-T] [-uN] [--choices FILE] [--record FILE] [--convert] MODEL`
+-- `spinplay [-i] [-p] [-g] [-l] [-m] [-T] [-uN] [--choices FILE] [--record FILE] [--convert] [--explain] MODEL`
 unfoldable pub command_line : App
 command_line = with_all named (
     counted_letter (codes "i") 105
@@ -64,6 +64,7 @@ command_line = with_all named (
     ∷ file_rule (codes "choices")
     ∷ file_rule (codes "record")
     ∷ counted_word (codes "convert")
+    ∷ counted_word (codes "explain")
     ∷ model_rule
     ∷ [])
 
@@ -71,7 +72,7 @@ command_line = with_all named (
 abbrev pub ids : List Text
 ids =
     codes "i" ∷ codes "p" ∷ codes "g" ∷ codes "l" ∷ codes "m" ∷ codes "T" ∷ codes "u"
-    ∷ codes "choices" ∷ codes "record" ∷ codes "convert" ∷ codes "MODEL" ∷ []
+    ∷ codes "choices" ∷ codes "record" ∷ codes "convert" ∷ codes "explain" ∷ codes "MODEL" ∷ []
 
 -- the argument excludes no other, belongs to this command alone and has this id
 abbrev pub IsArgument : Text → Arg → Type 0
@@ -88,4 +89,4 @@ pub record IsCommandLine (c : Command) : Type 0 where
   pub in_turn : AddsInTurn AddsArg start added c
   pub plain : All (λ a. IsPlainArg a × (a.global ≡ false)) added
   pub ids : map (λ a. a.id.now) added ≡ ids
-  pub model : (d : Arg) → TakesValue (slice_index_or added 10 d)
+  pub model : (d : Arg) → TakesValue (slice_index_or added 11 d)

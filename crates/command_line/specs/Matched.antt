@@ -24,3 +24,4 @@ pub record IsReadFrom (rows : List Row) (a : Arguments) : Type 0 where
   pub choices : first_of (codes "choices") rows ≡ option_map string_bytes a.choices
   pub rec : first_of (codes "record") rows ≡ option_map string_bytes a.rec
   pub convert : IsTrue a.convert ↔ (0 < count_of (codes "convert") rows)
+  pub explain : IsTrue a.explain ↔ (0 < count_of (codes "explain") rows)

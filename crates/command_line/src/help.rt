@@ -20,6 +20,7 @@ Options:
   --choices <FILE>  Read the choices from FILE, in place of standard input
   --record <FILE>   Write the accepted choices to FILE, which is emptied first
   --convert         Print the accepted choices with their lines, and no run
+  --explain         Say why and where a model is refused, on standard error
   -i, -T            Accepted as Spin has them, and change nothing
   -h, --help        Print help
   -V, --version     Print version

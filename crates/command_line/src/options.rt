@@ -13,4 +13,6 @@ pub struct Arguments {
     pub rec: Option<String>,
     /// The choices are converted, and no run is shown.
     pub convert: bool,
+    /// Where the model is refused, it is told why, and where.
+    pub explain: bool,
 }

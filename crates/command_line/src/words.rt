@@ -118,6 +118,7 @@ fn command<'a>(alloc: Global) -> Result<Command<'a>, AllocError>
             "convert",
             "Write the accepted choices with their lines, and show nothing",
         ))?
+        .arg(long_flag(alloc, "explain", "Say why a model is refused, and where"))?
         .arg(model(alloc))
 }
 
@@ -153,5 +154,6 @@ pub fn arguments<'a>(alloc: Global, words: &'a [&'a str]) -> Result<Arguments, E
         choices,
         rec,
         convert: matches.get_count("convert") > 0,
+        explain: matches.get_count("explain") > 0,
     })
 }

@@ -1,12 +1,30 @@
 // An interactive simulator of Promela models: plays the text of a model over a source of choices and two sinks, and reads
-// its command line.
+// its command line. For other front ends it offers the machine that it plays: the text's tokens, their tree, the checked model and
+// its world, whose moves are taken one by one.
 #![tactic(auto)]
+
+pub mod values;
 
 pub use command_line::{Arguments, arguments};
 pub use devices::{
     ByteReader, Devices, Either, Failed, Failures, Next, Nowhere, PieceWriter, Sink, Source,
     ThreeDevices,
 };
-pub use diagnostics::{Fault, Refusal};
+pub use diagnostics::{Fault, Refusal, Stop};
+pub use explain::explain;
+pub use pml_check::{CheckFault, Checked, check};
+pub use pml_inline::expand;
+pub use pml_inline::fault::InlineFault;
+pub use pml_lex::cut;
+pub use pml_lex::fault::LexFault;
+pub use pml_lex::token::{Kind, Token};
+pub use pml_lines::changed::Change;
+pub use pml_moves::moves::{Move, Pick};
 pub use pml_play::{convert, play};
-pub use session::{Cause, Conversion, End, Options};
+pub use pml_sim::ending::Ending;
+pub use pml_sim::halt::Halt;
+pub use pml_sim::world::World;
+pub use pml_store::place::Place;
+pub use pml_syntax::{SyntaxFault, parse};
+pub use pml_tree::tree::Tree;
+pub use session::{Cause, Conversion, End, Machine, Options, Report};

@@ -73,4 +73,5 @@ returns-clause-ok c =
       choices = sym (first (codes "choices")) ∙ sym c.in_ok-choices.ensures;
       rec = sym (first (codes "record")) ∙ sym c.in_ok-rec.ensures;
       convert = set_where _ _ (c.get_count-5.ensures.value ∙ counted (codes "convert"));
+      explain = set_where _ _ (c.get_count-6.ensures.value ∙ counted (codes "explain"));
     }

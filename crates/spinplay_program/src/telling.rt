@@ -1,0 +1,148 @@
+// What standard error says. A message that cannot be shown is left out.
+use crate::stop::NoRun;
+use clap::error::ErrorKind;
+use spinplay::{Cause, End, Refusal, explain};
+use std::alloc::{AllocError, Global};
+use std::io;
+
+// The options of Spin that have no meaning here.
+const OPTIONS_OF_SPIN: [char; 8] = ['c', 'j', 'k', 'n', 'r', 's', 't', 'v'];
+
+// Says why a model is refused whose choices are converted: the line that a run would have in its output.
+pub fn tell_refusal(rt: &HostRuntime, end: &End) {
+    if let Cause::Refused(refusal, _) = end.cause {
+        if let Ok(words) = str::from_utf8(refusal.words()) {
+            let _ = eprintln!(rt; "refused M{} ({words})", refusal.number());
+        }
+    }
+}
+
+// What is said of an end, beside the output.
+pub fn tell_end(rt: &HostRuntime, end: &End) {
+    let _ = match end.cause {
+        Cause::Refused(refusal, line) if line > 0 => {
+            eprintln!(rt; "spinplay: line {line}: M{}", refusal.number())
+        }
+        Cause::SourceFailed | Cause::OutFailed | Cause::RecordFailed => {
+            eprintln!(rt; "spinplay: device failed")
+        }
+        Cause::Memory => eprintln!(rt; "spinplay: out of memory"),
+        _ => Ok(()),
+    };
+}
+
+// Says why the model of this name and text is refused, and where.
+fn explain_refusal(rt: &HostRuntime, name: &str, text: &[u8], refusal: Refusal) {
+    if let Ok(words) = explain(rt.alloc(), name, text, refusal) {
+        let _ = eprint!(rt; "{words}");
+    }
+}
+
+// Says which device failed, and why, where an error said so.
+fn explain_device(rt: &HostRuntime, device: &str, why: Option<&io::Error>) {
+    let _ = match why {
+        Some(error) => eprintln!(rt; "spinplay: device failed: {device}: {error}"),
+        None => eprintln!(rt; "spinplay: device failed: {device}"),
+    };
+}
+
+// Why the devices of a run failed last, where an error said so.
+#[derive(Clone, Copy)]
+pub struct Errors<'e> {
+    pub source: Option<&'e io::Error>,
+    pub out: Option<&'e io::Error>,
+    pub rec: Option<&'e io::Error>,
+}
+
+// Explains an end that is no run's own: a refusal, or a device that failed.
+pub fn explain_end(rt: &HostRuntime, name: &str, text: &[u8], end: &End, errors: Errors) {
+    match end.cause {
+        Cause::Refused(refusal, _) => explain_refusal(rt, name, text, refusal),
+        Cause::SourceFailed => explain_device(rt, "choices", errors.source),
+        Cause::OutFailed => explain_device(rt, "output", errors.out),
+        Cause::RecordFailed => explain_device(rt, "record", errors.rec),
+        _ => {}
+    }
+}
+
+// Says why a file was not opened or read, where that is asked for.
+fn explain_file(rt: &HostRuntime, is_asked: bool, name: &str, error: &io::Error) {
+    if is_asked {
+        let _ = eprintln!(rt; "spinplay: {name}: {error}");
+    }
+}
+
+// Says why there was no run, and more of it where that is asked for, and answers the status.
+pub fn tell_stop(rt: &HostRuntime, stop: &NoRun, explains: bool) -> u8 {
+    match stop {
+        NoRun::Words(error) => return tell_words(rt, error),
+        NoRun::NotText => {
+            let _ = eprintln!(rt; "error: invalid UTF-8 was detected in one or more arguments");
+        }
+        NoRun::ConvertWithRecord => {
+            let _ = eprintln!(rt; "spinplay: --convert with --record");
+        }
+        NoRun::CannotOpen(name, error) => {
+            let _ = eprintln!(rt; "spinplay: cannot open {name}");
+            explain_file(rt, explains, name.as_str(), error);
+        }
+        NoRun::CannotRead(name, error) => {
+            let _ = eprintln!(rt; "spinplay: cannot read {name}");
+            explain_file(rt, explains, name.as_str(), error);
+        }
+        NoRun::WouldEmpty(name, what) => {
+            let _ = eprintln!(rt; "spinplay: cannot open {name}");
+            let _ = eprintln!(rt;
+                "spinplay: it is the file of the {what}, which a record would empty"
+            );
+        }
+        NoRun::Memory => {
+            let _ = eprintln!(rt; "spinplay: out of memory");
+            return 6;
+        }
+    }
+    4
+}
+
+// What is shown of an unexpected word: an option of Spin that has no meaning here is to be left out, not to be handed on as a value.
+fn without_options_of_spin(alloc: Global, error: &clap::Error) -> Result<String, AllocError> {
+    let text = format!(in alloc; "{error}")?;
+    for letter in OPTIONS_OF_SPIN {
+        let tip = format!(in alloc; "to pass '-{letter}' as a value, use '-- -{letter}'")?;
+        if text.contains(tip.as_str()) {
+            let own = format!(in alloc;
+                "leave '-{letter}' out: it is an option of Spin, and spinplay has none like it"
+            )?;
+            return text.replace(alloc, tip.as_str(), own.as_str());
+        }
+    }
+    Ok(text)
+}
+
+// Shows a mistake in the words, or help.
+fn shown_words(rt: &HostRuntime, error: &clap::Error) -> io::Result<()> {
+    if error.kind() != ErrorKind::UnknownArgument {
+        return error.print(rt);
+    }
+    match without_options_of_spin(rt.alloc(), error) {
+        Ok(text) => eprint!(rt; "{text}"),
+        Err(_) => error.print(rt),
+    }
+}
+
+// Help goes to standard output, and a mistake in the words to standard error.
+fn tell_words(rt: &HostRuntime, error: &clap::Error) -> u8 {
+    if error.kind() == ErrorKind::OutOfMemory {
+        let _ = eprintln!(rt; "spinplay: out of memory");
+        return 6;
+    }
+    let shown = shown_words(rt, error).is_ok();
+    if error.use_stderr() {
+        4
+    } else if shown {
+        0
+    } else {
+        let _ = eprintln!(rt; "spinplay: device failed");
+        6
+    }
+}
