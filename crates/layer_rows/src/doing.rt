@@ -5,7 +5,8 @@
 //! each channel, with ` / ` between the two, and a dash for none.
 use crate::layer::{Asked, View};
 use crate::lines::write;
-use crate::values::{add_numbers, add_word, fault_of, outcome};
+use crate::values::{add_dash, add_numbers, fault_of, outcome};
+use crate::writer::Writer;
 use diagnostics::{Fault, Stop};
 use pml_channel::channel::Channel;
 use pml_eval::eval::eval;
@@ -180,60 +181,54 @@ fn results(
 ) -> Result<String, Refused> {
     let proctype = program.proctypes.as_slice().first().ok_or("no proctype")?;
     let constants = program.constants.as_slice();
-    let mut out = String::new(alloc);
+    let mut out = Writer::new(alloc);
     for stmt in proctype.body.steps.as_slice() {
         let Basic::Plain(action) = &stmt.basic else {
             return Err(Refused::from("a statement that gives structure"));
         };
         let result = result_of(alloc, constants, started, taker, action, text)?;
-        add_word(&mut out, result.as_str())?;
+        out.space();
+        out.word(result.as_str());
     }
-    Ok(out)
+    Ok(out.finish()?)
 }
 
-fn add_message(alloc: Global, out: &mut String, message: &[i32]) -> Result<(), Refused> {
-    let mut numbers = String::new(alloc);
-    add_numbers(alloc, &mut numbers, message)?;
-    Ok(out.push_str(format!(in alloc; "({numbers})")?.as_str())?)
-}
-
-/// The messages of a channel.
-fn messages(alloc: Global, channel: &Channel) -> Result<String, Refused> {
-    let mut out = String::new(alloc);
+/// Writes the messages of a channel.
+fn add_messages(out: &mut Writer, channel: &Channel) {
+    out.space();
     for place in 0..channel.len() {
-        add_message(alloc, &mut out, channel.message(place))?;
+        out.word("(");
+        add_numbers(out, channel.message(place));
+        out.word(")");
     }
-    if out.is_empty() {
-        out.push('-')?;
+    if channel.len() == 0 {
+        out.word("-");
     }
-    Ok(out)
 }
 
 /// The numbers, and the messages of each channel.
 fn state(alloc: Global, started: &Started) -> Result<String, Refused> {
-    let mut out = String::new(alloc);
-    add_numbers(alloc, &mut out, started.store.cells().as_slice())?;
-    out.push_str(" / ")?;
-    if started.channels.is_empty() {
-        add_word(&mut out, "-")?;
-    }
+    let mut out = Writer::new(alloc);
+    add_numbers(&mut out, started.store.cells().as_slice());
+    out.word(" / ");
     for live in &started.channels {
-        add_word(&mut out, messages(alloc, &live.channel)?.as_str())?;
+        add_messages(&mut out, &live.channel);
     }
-    Ok(out)
+    add_dash(&mut out, started.channels.is_empty());
+    Ok(out.finish()?)
 }
 
 /// Bytes as rows write them: a grave accent and two hexadecimal digits for one that is no printable sign.
 fn bytes_written(alloc: Global, bytes: &[u8]) -> Result<String, Refused> {
-    let mut out = String::new(alloc);
+    let mut out = Writer::new(alloc);
     for byte in bytes {
         if *byte < b' ' || *byte > b'~' || *byte == b'`' {
-            out.push_str(format!(in alloc; "`{byte:02x}")?.as_str())?;
+            out.digits(*byte);
         } else {
-            out.push(char::from(*byte))?;
+            out.byte(*byte);
         }
     }
-    Ok(out)
+    Ok(out.finish()?)
 }
 
 /// What the statements of the first proctype come to, what they print, or the state behind them.

@@ -10,6 +10,7 @@
 //! What is known of nodes besides is a line for each: its line in the text, `end` where it is a valid end point, and `atomic N`
 //! where it lies in an atomic, N being the first node with the same outermost one.
 use crate::layer::View;
+use crate::writer::Writer;
 use pml_flow::edge::Edge;
 use pml_flow::graph::Graph;
 use pml_flow::statements::{Statements, all_statements};
@@ -18,166 +19,124 @@ use pml_program::program::{Basic, Seq, Stmt};
 use row_files::Refused;
 use std::alloc::{AllocError, Global};
 
-fn add_number(alloc: Global, out: &mut String, number: usize) -> Result<(), AllocError> {
-    out.push_str(format!(in alloc; "{number}")?.as_str())
-}
-
-fn add_bytes(out: &mut String, bytes: &[u8]) -> Result<(), AllocError> {
-    for byte in bytes {
-        out.push(char::from(*byte))?;
-    }
-    Ok(())
-}
-
-fn add_tokens(out: &mut String, tokens: &[Token<'_>]) -> Result<(), AllocError> {
+fn add_tokens(out: &mut Writer, tokens: &[Token<'_>]) {
     for (number, token) in tokens.iter().enumerate() {
         if number > 0 {
-            out.push(' ')?;
+            out.word(" ");
         }
-        add_bytes(out, token.text())?;
+        out.bytes(token.text());
     }
-    Ok(())
 }
 
-fn add_statement(out: &mut String, stmt: &Stmt<'_>) -> Result<(), AllocError> {
+fn add_statement(out: &mut Writer, stmt: &Stmt<'_>) {
     match &stmt.basic {
-        Basic::DStep(_) => out.push_str("d_step"),
+        Basic::DStep(_) => out.word("d_step"),
         _ => add_tokens(out, stmt.tokens.as_slice()),
     }
 }
 
-fn add_edge(
-    alloc: Global,
-    out: &mut String,
-    statements: &Statements<'_, '_>,
-    level: usize,
-    edge: Edge,
-) -> Result<(), AllocError> {
-    out.push(' ')?;
-    add_number(alloc, out, level)?;
-    out.push_str(" [")?;
+fn add_edge(out: &mut Writer, statements: &Statements<'_, '_>, level: usize, edge: Edge) {
+    out.word(" ");
+    out.number(level);
+    out.word(" [");
     if let Some(stmt) = statements.get(edge.statement) {
-        add_statement(out, stmt)?;
+        add_statement(out, stmt);
     }
-    out.push_str("] ")?;
-    add_number(alloc, out, edge.target)?;
+    out.word("] ");
+    out.number(edge.target);
     if edge.keeps {
-        out.push_str(" keeps")?;
+        out.word(" keeps");
     }
     if edge.stays {
-        out.push_str(" stays")?;
+        out.word(" stays");
     }
     if let Some(entry) = edge.entry {
-        out.push_str(" in ")?;
-        add_number(alloc, out, entry)?;
+        out.word(" in ");
+        out.number(entry);
     }
-    out.push(';')
+    out.word(";");
 }
 
-fn add_level(
-    alloc: Global,
-    out: &mut String,
-    statements: &Statements<'_, '_>,
-    level: usize,
-    edges: &[Edge],
-) -> Result<(), AllocError> {
+fn add_level(out: &mut Writer, statements: &Statements<'_, '_>, level: usize, edges: &[Edge]) {
     for edge in edges {
-        add_edge(alloc, out, statements, level, *edge)?;
+        add_edge(out, statements, level, *edge);
     }
-    Ok(())
 }
 
-fn add_node(
-    alloc: Global,
-    out: &mut String,
-    statements: &Statements<'_, '_>,
-    graph: &Graph,
-    node: usize,
-) -> Result<(), AllocError> {
+fn add_node(out: &mut Writer, statements: &Statements<'_, '_>, graph: &Graph, node: usize) {
     if node >= graph.node_count() {
-        return Ok(());
+        return;
     }
-    add_number(alloc, out, node)?;
-    out.push(':')?;
+    out.number(node);
+    out.word(":");
     for level in 0..graph.level_count(node) {
-        add_level(alloc, out, statements, level, graph.level(node, level))?;
+        add_level(out, statements, level, graph.level(node, level));
     }
-    out.push('\n')
+    out.word("\n");
 }
 
 fn shown_edges(alloc: Global, body: &Seq<'_>, graph: &Graph) -> Result<String, AllocError> {
-    let mut out = String::new(alloc);
+    let mut out = Writer::new(alloc);
     let statements = all_statements(alloc, body)?;
-    out.push_str("start ")?;
-    add_number(alloc, &mut out, graph.start())?;
-    out.push('\n')?;
+    out.word("start ");
+    out.number(graph.start());
+    out.word("\n");
     for node in 0..graph.node_count() {
-        add_node(alloc, &mut out, &statements, graph, node)?;
+        add_node(&mut out, &statements, graph, node);
     }
-    Ok(out)
+    out.finish()
 }
 
-fn add_levels(
-    alloc: Global,
-    out: &mut String,
-    graph: &Graph,
-    node: usize,
-) -> Result<(), AllocError> {
+fn add_levels(out: &mut Writer, graph: &Graph, node: usize) {
     if node >= graph.node_count() {
-        return Ok(());
+        return;
     }
-    add_number(alloc, out, node)?;
-    out.push(':')?;
+    out.number(node);
+    out.word(":");
     for level in 0..graph.level_count(node) {
-        out.push(' ')?;
-        add_number(alloc, out, graph.level(node, level).len())?;
+        out.word(" ");
+        out.number(graph.level(node, level).len());
     }
     if graph.only_level(node).is_some() != (graph.level_count(node) == 1) {
-        out.push_str(" one level is told where there are more, or is not told")?;
+        out.word(" one level is told where there are more, or is not told");
     }
-    out.push('\n')
+    out.word("\n");
 }
 
 fn shown_levels(alloc: Global, graph: &Graph) -> Result<String, AllocError> {
-    let mut out = String::new(alloc);
+    let mut out = Writer::new(alloc);
     for node in 0..graph.node_count() {
-        add_levels(alloc, &mut out, graph, node)?;
+        add_levels(&mut out, graph, node);
     }
-    Ok(out)
+    out.finish()
 }
 
-fn add_texts(out: &mut String, graph: &Graph, edges: &[Edge]) -> Result<(), AllocError> {
+fn add_texts(out: &mut Writer, graph: &Graph, edges: &[Edge]) {
     for edge in edges {
-        out.push(' ')?;
-        add_bytes(out, graph.text(edge.statement))?;
-        out.push(';')?;
+        out.word(" ");
+        out.bytes(graph.text(edge.statement));
+        out.word(";");
     }
-    Ok(())
 }
 
-fn add_node_texts(
-    alloc: Global,
-    out: &mut String,
-    graph: &Graph,
-    node: usize,
-) -> Result<(), AllocError> {
+fn add_node_texts(out: &mut Writer, graph: &Graph, node: usize) {
     if node >= graph.node_count() {
-        return Ok(());
+        return;
     }
-    add_number(alloc, out, node)?;
-    out.push(':')?;
+    out.number(node);
+    out.word(":");
     for level in 0..graph.level_count(node) {
-        add_texts(out, graph, graph.level(node, level))?;
+        add_texts(out, graph, graph.level(node, level));
     }
-    out.push('\n')
+    out.word("\n");
 }
 
 fn shown_texts(alloc: Global, graph: &Graph) -> Result<String, AllocError> {
-    let mut out = String::new(alloc);
+    let mut out = Writer::new(alloc);
     for node in 0..graph.node_count() {
-        add_node_texts(alloc, &mut out, graph, node)?;
+        add_node_texts(&mut out, graph, node);
     }
-    Ok(out)
+    out.finish()
 }
 
 fn first_alike(graph: &Graph, atomic: Option<usize>) -> usize {
@@ -190,21 +149,21 @@ fn first_alike(graph: &Graph, atomic: Option<usize>) -> usize {
 }
 
 fn shown_marks(alloc: Global, graph: &Graph) -> Result<String, AllocError> {
-    let mut out = String::new(alloc);
+    let mut out = Writer::new(alloc);
     for node in 0..graph.node_count() {
-        add_number(alloc, &mut out, node)?;
-        out.push_str(": line ")?;
-        out.push_str(format!(in alloc; "{}", graph.line(node))?.as_str())?;
+        out.number(node);
+        out.word(": line ");
+        out.count(graph.line(node));
         if graph.is_valid_end(node) {
-            out.push_str(" end")?;
+            out.word(" end");
         }
         if graph.atomic(node).is_some() {
-            out.push_str(" atomic ")?;
-            add_number(alloc, &mut out, first_alike(graph, graph.atomic(node)))?;
+            out.word(" atomic ");
+            out.number(first_alike(graph, graph.atomic(node)));
         }
-        out.push('\n')?;
+        out.word("\n");
     }
-    Ok(out)
+    out.finish()
 }
 
 /// What is asked of the graph of a body.

@@ -17,12 +17,14 @@ mod place;
 mod program;
 mod rows;
 mod shape;
+mod signs;
 mod statements;
 mod tally;
 mod tokens;
 mod tree;
 mod values;
 mod words;
+mod writer;
 
 use crate::files::compare_files;
 use std::process::ExitCode;

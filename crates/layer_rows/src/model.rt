@@ -3,34 +3,17 @@
 //! A place is the type of what is reached, `G` or `L` (global or local) and the variable's number, then for each turn
 //! `+offset:length*stride[index]`. A variable is its type, its name, `[]` where it is an array, `+offset:length*stride`, and what it
 //! begins with. Each statement stands on a line of its own, behind its labels.
+use crate::signs::{infix, prefix};
+use crate::writer::Writer;
 use pml_lex::token::Token;
 use pml_program::expr::{Expr, Target, Turn, Want};
 use pml_program::form::Form;
 use pml_program::program::{
     Action, Basic, Fields, Initial, Proctype, Program, Run, Seq, Slot, Stmt,
 };
-use pml_tree::tree::{Fill, Infix, Prefix, Removal, Scalar, Search, SendOrder};
+use pml_tree::tree::{Fill, Removal, Scalar, Search, SendOrder};
 use sqlite_items::Items;
 use std::alloc::{AllocError, Global};
-
-fn word(out: &mut String, text: &str) -> Result<(), AllocError> {
-    out.push_str(text)
-}
-
-fn number(alloc: Global, out: &mut String, n: usize) -> Result<(), AllocError> {
-    out.push_str(format!(in alloc; "{n}")?.as_str())
-}
-
-fn signed(alloc: Global, out: &mut String, n: i32) -> Result<(), AllocError> {
-    out.push_str(format!(in alloc; "{n}")?.as_str())
-}
-
-fn token(out: &mut String, t: &Token<'_>) -> Result<(), AllocError> {
-    for byte in t.text() {
-        out.push(char::from(*byte))?;
-    }
-    Ok(())
-}
 
 fn scalar(scalar: Scalar) -> &'static str {
     match scalar {
@@ -45,18 +28,18 @@ fn scalar(scalar: Scalar) -> &'static str {
     }
 }
 
-fn form(alloc: Global, out: &mut String, form: Form) -> Result<(), AllocError> {
+fn form(out: &mut Writer, form: Form) {
     match form {
-        Form::Plain(plain) => word(out, scalar(plain)),
+        Form::Plain(plain) => out.word(scalar(plain)),
         Form::Unsigned(width) => {
-            word(out, "unsigned ")?;
-            number(alloc, out, width as usize)
+            out.word("unsigned ");
+            out.number(width as usize);
         }
         Form::Struct(owner) => {
-            word(out, "typedef ")?;
-            number(alloc, out, owner)
+            out.word("typedef ");
+            out.number(owner);
         }
-        Form::Unknown => word(out, "unknown"),
+        Form::Unknown => out.word("unknown"),
     }
 }
 
@@ -84,146 +67,111 @@ fn polled(search: Search) -> &'static str {
     }
 }
 
-fn prefix(op: Prefix) -> &'static str {
-    match op {
-        Prefix::Not => "(! ",
-        Prefix::Complement => "(~ ",
-        Prefix::Minus => "(- ",
-    }
-}
-
-fn infix(op: Infix) -> &'static str {
-    match op {
-        Infix::Times => " * ",
-        Infix::Divide => " / ",
-        Infix::Remainder => " % ",
-        Infix::Plus => " + ",
-        Infix::Minus => " - ",
-        Infix::ShiftLeft => " << ",
-        Infix::ShiftRight => " >> ",
-        Infix::Below => " < ",
-        Infix::AtMost => " <= ",
-        Infix::Above => " > ",
-        Infix::AtLeast => " >= ",
-        Infix::Equal => " == ",
-        Infix::Unequal => " != ",
-        Infix::BitAnd => " & ",
-        Infix::BitXor => " ^ ",
-        Infix::BitOr => " | ",
-        Infix::And => " && ",
-        Infix::Or => " || ",
-    }
-}
-
 #[cycle(value)]
-fn value(alloc: Global, out: &mut String, v: &Expr) -> Result<(), AllocError> {
+fn value(out: &mut Writer, v: &Expr) {
     match v {
-        Expr::Number(n) => signed(alloc, out, *n),
-        Expr::Pid => word(out, "_pid"),
-        Expr::ProcessCount => word(out, "_nr_pr"),
-        Expr::Timeout => word(out, "timeout"),
-        Expr::Read(t) => target(alloc, out, t),
-        Expr::Ask(fill, t) => named(alloc, out, asked(*fill), t),
+        Expr::Number(n) => out.signed(*n),
+        Expr::Pid => out.word("_pid"),
+        Expr::ProcessCount => out.word("_nr_pr"),
+        Expr::Timeout => out.word("timeout"),
+        Expr::Read(t) => target(out, t),
+        Expr::Ask(fill, t) => named(out, asked(*fill), t),
         Expr::Poll(t, search, ws) => {
-            named(alloc, out, polled(*search), t)?;
-            wants(alloc, out, ws)
+            named(out, polled(*search), t);
+            wants(out, ws);
         }
-        Expr::Unary(op, a) => between(alloc, out, prefix(*op), a.get(), ")"),
+        Expr::Unary(op, a) => {
+            out.word("(");
+            out.word(prefix(*op));
+            between(out, " ", a.get(), ")");
+        }
         Expr::Binary(op, a, b) => {
-            between(alloc, out, "(", a.get(), infix(*op))?;
-            between(alloc, out, "", b.get(), ")")
+            between(out, "(", a.get(), " ");
+            out.word(infix(*op));
+            between(out, " ", b.get(), ")");
         }
         Expr::Choice(a, b, c) => {
-            between(alloc, out, "(", a.get(), " -> ")?;
-            between(alloc, out, "", b.get(), " : ")?;
-            between(alloc, out, "", c.get(), ")")
+            between(out, "(", a.get(), " -> ");
+            between(out, "", b.get(), " : ");
+            between(out, "", c.get(), ")");
         }
     }
 }
 
 /// An expression between two words.
 #[cycle(value)]
-fn between(
-    alloc: Global,
-    out: &mut String,
-    before: &str,
-    v: &Expr,
-    behind: &str,
-) -> Result<(), AllocError> {
-    word(out, before)?;
-    value(alloc, out, v)?;
-    word(out, behind)
+fn between(out: &mut Writer, before: &str, v: &Expr, behind: &str) {
+    out.word(before);
+    value(out, v);
+    out.word(behind);
 }
 
 /// A place behind a word.
 #[cycle(value)]
-fn named(alloc: Global, out: &mut String, before: &str, t: &Target) -> Result<(), AllocError> {
-    word(out, before)?;
-    target(alloc, out, t)
+fn named(out: &mut Writer, before: &str, t: &Target) {
+    out.word(before);
+    target(out, t);
 }
 
 #[cycle(value)]
-fn wants(alloc: Global, out: &mut String, ws: &Items<Want>) -> Result<(), AllocError> {
+fn wants(out: &mut Writer, ws: &Items<Want>) {
     for w in ws.as_slice() {
-        word(out, " ")?;
-        want(alloc, out, w)?;
+        out.word(" ");
+        want(out, w);
     }
-    Ok(())
 }
 
 #[cycle(value)]
-fn want(alloc: Global, out: &mut String, w: &Want) -> Result<(), AllocError> {
+fn want(out: &mut Writer, w: &Want) {
     match w {
         Want::Exactly(n) => {
-            word(out, "=")?;
-            signed(alloc, out, *n)
+            out.word("=");
+            out.signed(*n);
         }
-        Want::Equal(a) => between(alloc, out, "==", a.get(), ""),
-        Want::Into(t) => target(alloc, out, t),
-        Want::Anything => word(out, "_"),
+        Want::Equal(a) => between(out, "==", a.get(), ""),
+        Want::Into(t) => target(out, t),
+        Want::Anything => out.word("_"),
     }
 }
 
 #[cycle(value)]
-fn target(alloc: Global, out: &mut String, t: &Target) -> Result<(), AllocError> {
-    form(alloc, out, t.form)?;
-    word(out, if t.local { " L" } else { " G" })?;
-    number(alloc, out, t.variable)?;
+fn target(out: &mut Writer, t: &Target) {
+    form(out, t.form);
+    out.word(if t.local { " L" } else { " G" });
+    out.number(t.variable);
     for one in t.turns.as_slice() {
-        turn(alloc, out, one)?;
+        turn(out, one);
     }
-    Ok(())
 }
 
 #[cycle(value)]
-fn turn(alloc: Global, out: &mut String, t: &Turn) -> Result<(), AllocError> {
-    cells(alloc, out, t.offset, t.length, t.stride)?;
+fn turn(out: &mut Writer, t: &Turn) {
+    cells(out, t.offset, t.length, t.stride);
     match &t.index {
-        None => Ok(()),
-        Some(a) => between(alloc, out, "[", a.get(), "]"),
+        None => {}
+        Some(a) => between(out, "[", a.get(), "]"),
     }
 }
 
-fn values(alloc: Global, out: &mut String, vs: &Items<Expr>) -> Result<(), AllocError> {
+fn values(out: &mut Writer, vs: &Items<Expr>) {
     for v in vs.as_slice() {
-        word(out, " ")?;
-        value(alloc, out, v)?;
+        out.word(" ");
+        value(out, v);
     }
-    Ok(())
 }
 
-fn run(alloc: Global, out: &mut String, r: &Run) -> Result<(), AllocError> {
-    word(out, "run ")?;
-    number(alloc, out, r.proctype)?;
-    values(alloc, out, &r.arguments)
+fn run(out: &mut Writer, r: &Run) {
+    out.word("run ");
+    out.number(r.proctype);
+    values(out, &r.arguments);
 }
 
-fn store(alloc: Global, out: &mut String, to: &Option<Target>) -> Result<(), AllocError> {
+fn store(out: &mut Writer, to: &Option<Target>) {
     match to {
-        None => word(out, "_ = "),
+        None => out.word("_ = "),
         Some(t) => {
-            target(alloc, out, t)?;
-            word(out, " = ")
+            target(out, t);
+            out.word(" = ");
         }
     }
 }
@@ -243,193 +191,184 @@ fn left(removal: Removal) -> &'static str {
 }
 
 /// A channel, and how it is sent to or received from.
-fn channel(
-    alloc: Global,
-    out: &mut String,
-    t: &Target,
-    how: &str,
-    left: &str,
-) -> Result<(), AllocError> {
-    target(alloc, out, t)?;
-    word(out, how)?;
-    word(out, left)
+fn channel(out: &mut Writer, t: &Target, how: &str, left: &str) {
+    target(out, t);
+    out.word(how);
+    out.word(left);
 }
 
 /// A token behind a word.
-fn named_by(out: &mut String, before: &str, t: &Token<'_>) -> Result<(), AllocError> {
-    word(out, before)?;
-    token(out, t)
+fn named_by(out: &mut Writer, before: &str, t: &Token<'_>) {
+    out.word(before);
+    out.bytes(t.text());
 }
 
-fn action(alloc: Global, out: &mut String, a: &Action<'_>) -> Result<(), AllocError> {
+fn action(out: &mut Writer, a: &Action<'_>) {
     match a {
-        Action::Else => word(out, "else"),
+        Action::Else => out.word("else"),
         Action::Assign(t, v) => {
-            store(alloc, out, t)?;
-            value(alloc, out, v)
+            store(out, t);
+            value(out, v);
         }
         Action::AssignRun(t, r) => {
-            store(alloc, out, t)?;
-            run(alloc, out, r)
+            store(out, t);
+            run(out, r);
         }
-        Action::Increment(t) => named(alloc, out, "++", t),
-        Action::Decrement(t) => named(alloc, out, "--", t),
-        Action::Run(r) => run(alloc, out, r),
+        Action::Increment(t) => named(out, "++", t),
+        Action::Decrement(t) => named(out, "--", t),
+        Action::Run(r) => run(out, r),
         Action::Send(t, order, vs) => {
-            channel(alloc, out, t, sent(*order), "")?;
-            values(alloc, out, vs)
+            channel(out, t, sent(*order), "");
+            values(out, vs);
         }
         Action::Receive(t, search, removal, ws) => {
-            channel(alloc, out, t, looked_for(*search), left(*removal))?;
-            wants(alloc, out, ws)
+            channel(out, t, looked_for(*search), left(*removal));
+            wants(out, ws);
         }
         Action::Printf(text, vs) => {
-            named_by(out, "printf ", text)?;
-            values(alloc, out, vs)
+            named_by(out, "printf ", text);
+            values(out, vs);
         }
-        Action::Printm(v) => between(alloc, out, "printm ", v, ""),
-        Action::Assert(v) => between(alloc, out, "assert ", v, ""),
-        Action::Holds(v) => value(alloc, out, v),
+        Action::Printm(v) => between(out, "printm ", v, ""),
+        Action::Assert(v) => between(out, "assert ", v, ""),
+        Action::Holds(v) => value(out, v),
     }
 }
 
 #[cycle(statement)]
-fn basic(alloc: Global, out: &mut String, b: &Basic<'_>) -> Result<(), AllocError> {
+fn basic(out: &mut Writer, b: &Basic<'_>) {
     match b {
-        Basic::Plain(a) => action(alloc, out, a),
+        Basic::Plain(a) => action(out, a),
         Basic::Goto(l) => named_by(out, "goto ", l),
-        Basic::Break => word(out, "break"),
-        Basic::If(options) => seqs(alloc, out, "if", options),
-        Basic::Do(options) => seqs(alloc, out, "do", options),
-        Basic::Block(s) => seq(alloc, out, "", s),
-        Basic::Atomic(s) => seq(alloc, out, "atomic ", s),
-        Basic::DStep(s) => seq(alloc, out, "d_step ", s),
+        Basic::Break => out.word("break"),
+        Basic::If(options) => seqs(out, "if", options),
+        Basic::Do(options) => seqs(out, "do", options),
+        Basic::Block(s) => seq(out, "", s),
+        Basic::Atomic(s) => seq(out, "atomic ", s),
+        Basic::DStep(s) => seq(out, "d_step ", s),
         Basic::Unless(main, escape) => {
-            seq(alloc, out, "", main)?;
-            seq(alloc, out, " unless ", escape)
+            seq(out, "", main);
+            seq(out, " unless ", escape);
         }
     }
 }
 
 #[cycle(statement)]
-fn seqs(
-    alloc: Global,
-    out: &mut String,
-    before: &str,
-    ss: &Items<Seq<'_>>,
-) -> Result<(), AllocError> {
-    word(out, before)?;
+fn seqs(out: &mut Writer, before: &str, ss: &Items<Seq<'_>>) {
+    out.word(before);
     for s in ss.as_slice() {
-        seq(alloc, out, " ::", s)?;
+        seq(out, " ::", s);
     }
-    Ok(())
 }
 
 #[cycle(statement)]
-fn seq(alloc: Global, out: &mut String, before: &str, s: &Seq<'_>) -> Result<(), AllocError> {
-    word(out, before)?;
-    word(out, "{\n")?;
+fn seq(out: &mut Writer, before: &str, s: &Seq<'_>) {
+    out.word(before);
+    out.word("{\n");
     for one in s.steps.as_slice() {
-        stmt(alloc, out, one)?;
+        stmt(out, one);
     }
-    word(out, "}")
+    out.word("}");
 }
 
-fn labels(out: &mut String, all: &Items<Token<'_>>) -> Result<(), AllocError> {
+fn labels(out: &mut Writer, all: &Items<Token<'_>>) {
     for label in all.as_slice() {
-        token(out, label)?;
-        word(out, ": ")?;
+        out.bytes(label.text());
+        out.word(": ");
     }
-    Ok(())
 }
 
 #[cycle(statement)]
-fn stmt(alloc: Global, out: &mut String, s: &Stmt<'_>) -> Result<(), AllocError> {
-    labels(out, &s.labels)?;
-    basic(alloc, out, &s.basic)?;
-    word(out, ";\n")
+fn stmt(out: &mut Writer, s: &Stmt<'_>) {
+    labels(out, &s.labels);
+    basic(out, &s.basic);
+    out.word(";\n");
 }
 
-fn fields_of_messages(alloc: Global, out: &mut String, forms: &[Form]) -> Result<(), AllocError> {
+fn fields_of_messages(out: &mut Writer, forms: &[Form]) {
     for one in forms {
-        word(out, " ")?;
-        form(alloc, out, *one)?;
+        out.word(" ");
+        form(out, *one);
     }
-    Ok(())
 }
 
 /// A cell, and how far on the others of its array lie.
-fn cells(
-    alloc: Global,
-    out: &mut String,
-    offset: u32,
-    length: u32,
-    stride: u32,
-) -> Result<(), AllocError> {
-    out.push_str(format!(in alloc; "+{offset}:{length}*{stride}")?.as_str())
+fn cells(out: &mut Writer, offset: u32, length: u32, stride: u32) {
+    out.word("+");
+    out.count(offset);
+    out.word(":");
+    out.count(length);
+    out.word("*");
+    out.count(stride);
 }
 
-fn initial(alloc: Global, out: &mut String, i: &Initial) -> Result<(), AllocError> {
+fn initial(out: &mut Writer, i: &Initial) {
     match i {
-        Initial::Zero => Ok(()),
-        Initial::Value(v) => between(alloc, out, " = ", v, ""),
+        Initial::Zero => {}
+        Initial::Value(v) => between(out, " = ", v, ""),
         Initial::Channel(n, fields) => {
-            let n = *n;
-            out.push_str(format!(in alloc; " = [{n}] of")?.as_str())?;
-            fields_of_messages(alloc, out, fields.as_slice())
+            out.word(" = [");
+            out.count(*n);
+            out.word("] of");
+            fields_of_messages(out, fields.as_slice());
         }
     }
 }
 
-fn slot(alloc: Global, out: &mut String, s: &Slot<'_>) -> Result<(), AllocError> {
-    form(alloc, out, s.form)?;
-    named_by(out, " ", &s.name)?;
-    word(out, if s.array { "[]" } else { "" })?;
-    cells(alloc, out, s.offset, s.length, s.stride)?;
-    initial(alloc, out, &s.initial)?;
-    word(out, "; ")
+fn slot(out: &mut Writer, s: &Slot<'_>) {
+    form(out, s.form);
+    named_by(out, " ", &s.name);
+    out.word(if s.array { "[]" } else { "" });
+    cells(out, s.offset, s.length, s.stride);
+    initial(out, &s.initial);
+    out.word("; ");
 }
 
-fn slots(alloc: Global, out: &mut String, all: &Items<Slot<'_>>) -> Result<(), AllocError> {
+fn slots(out: &mut Writer, all: &Items<Slot<'_>>) {
     for one in all.as_slice() {
-        slot(alloc, out, one)?;
+        slot(out, one);
     }
-    Ok(())
 }
 
-fn fields(alloc: Global, out: &mut String, f: &Fields<'_>) -> Result<(), AllocError> {
-    word(out, "typedef ")?;
-    number(alloc, out, f.owner)?;
-    word(out, " ")?;
-    slots(alloc, out, &f.fields)?;
-    word(out, "\n")
+fn fields(out: &mut Writer, f: &Fields<'_>) {
+    out.word("typedef ");
+    out.number(f.owner);
+    out.word(" ");
+    slots(out, &f.fields);
+    out.word("\n");
 }
 
-fn process(alloc: Global, out: &mut String, p: &Proctype<'_>) -> Result<(), AllocError> {
-    let (owner, starts, parameters) = (p.owner, p.starts, p.parameters);
-    token(out, &p.name)?;
-    out.push_str(format!(in alloc; " {owner} starts {starts} parameters {parameters} ")?.as_str())?;
-    slots(alloc, out, &p.variables)?;
-    seq(alloc, out, "", &p.body)?;
-    let line = p.end.line();
-    out.push_str(format!(in alloc; " to line {line}\n")?.as_str())
+fn process(out: &mut Writer, p: &Proctype<'_>) {
+    out.bytes(p.name.text());
+    out.word(" ");
+    out.number(p.owner);
+    out.word(" starts ");
+    out.count(p.starts);
+    out.word(" parameters ");
+    out.number(p.parameters);
+    out.word(" ");
+    slots(out, &p.variables);
+    seq(out, "", &p.body);
+    out.word(" to line ");
+    out.count(p.end.line());
+    out.word("\n");
 }
 
 /// A checked model as a row writes it, a line for the globals, one for the mtype names, and one for each typedef and proctype.
 pub fn written(alloc: Global, program: &Program<'_>) -> Result<String, AllocError> {
-    let mut out = String::new(alloc);
-    slots(alloc, &mut out, &program.globals)?;
-    word(&mut out, "\n")?;
+    let mut out = Writer::new(alloc);
+    slots(&mut out, &program.globals);
+    out.word("\n");
     for name in program.constants.as_slice() {
-        token(&mut out, name)?;
-        word(&mut out, " ")?;
+        out.bytes(name.text());
+        out.word(" ");
     }
-    word(&mut out, "\n")?;
+    out.word("\n");
     for one in program.typedefs.as_slice() {
-        fields(alloc, &mut out, one)?;
+        fields(&mut out, one);
     }
     for one in program.proctypes.as_slice() {
-        process(alloc, &mut out, one)?;
+        process(&mut out, one);
     }
-    Ok(out)
+    out.finish()
 }

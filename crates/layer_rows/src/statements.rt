@@ -2,17 +2,11 @@
 //!
 //! A statement that is a step by itself has a line with the line of its first token, and its tokens in brackets. An `if`, a `do` and a
 //! `d_step` have the same with their word, and behind them the statements in them; braces, `atomic` and `unless` have those alone.
+use crate::writer::Writer;
 use pml_lex::token::Token;
 use pml_program::program::{Basic, Program, Seq, Stmt};
 use sqlite_items::Items;
 use std::alloc::{AllocError, Global};
-
-fn token(out: &mut String, t: &Token<'_>) -> Result<(), AllocError> {
-    for byte in t.text() {
-        out.push(char::from(*byte))?;
-    }
-    Ok(())
-}
 
 fn line_of(tokens: &[Token<'_>]) -> u32 {
     match tokens {
@@ -22,65 +16,58 @@ fn line_of(tokens: &[Token<'_>]) -> u32 {
 }
 
 /// The line of the first token and, in brackets, so many tokens with a space between them.
-fn text(
-    alloc: Global,
-    out: &mut String,
-    tokens: &[Token<'_>],
-    most: usize,
-) -> Result<(), AllocError> {
-    let line = line_of(tokens);
-    out.push_str(format!(in alloc; "{line} [")?.as_str())?;
+fn text(out: &mut Writer, tokens: &[Token<'_>], most: usize) {
+    out.count(line_of(tokens));
+    out.word(" [");
     for (at, one) in tokens.iter().take(most).enumerate() {
         if at > 0 {
-            out.push(' ')?;
+            out.word(" ");
         }
-        token(out, one)?;
+        out.bytes(one.text());
     }
-    out.push_str("]\n")
+    out.word("]\n");
 }
 
 #[cycle(statement)]
-fn stmt(alloc: Global, out: &mut String, s: &Stmt<'_>) -> Result<(), AllocError> {
+fn stmt(out: &mut Writer, s: &Stmt<'_>) {
     let tokens = s.tokens.as_slice();
     match &s.basic {
-        Basic::Plain(_) | Basic::Goto(_) | Basic::Break => text(alloc, out, tokens, tokens.len()),
+        Basic::Plain(_) | Basic::Goto(_) | Basic::Break => text(out, tokens, tokens.len()),
         Basic::If(options) | Basic::Do(options) => {
-            text(alloc, out, tokens, 1)?;
-            seqs(alloc, out, options)
+            text(out, tokens, 1);
+            seqs(out, options);
         }
         Basic::DStep(inside) => {
-            text(alloc, out, tokens, 1)?;
-            seq(alloc, out, inside)
+            text(out, tokens, 1);
+            seq(out, inside);
         }
-        Basic::Block(inside) | Basic::Atomic(inside) => seq(alloc, out, inside),
+        Basic::Block(inside) | Basic::Atomic(inside) => seq(out, inside),
         Basic::Unless(main, escape) => {
-            seq(alloc, out, main)?;
-            seq(alloc, out, escape)
+            seq(out, main);
+            seq(out, escape);
         }
     }
 }
 
 #[cycle(statement)]
-fn seqs(alloc: Global, out: &mut String, ss: &Items<Seq<'_>>) -> Result<(), AllocError> {
+fn seqs(out: &mut Writer, ss: &Items<Seq<'_>>) {
     for s in ss.as_slice() {
-        seq(alloc, out, s)?;
+        seq(out, s);
     }
-    Ok(())
 }
 
 #[cycle(statement)]
-fn seq(alloc: Global, out: &mut String, s: &Seq<'_>) -> Result<(), AllocError> {
+fn seq(out: &mut Writer, s: &Seq<'_>) {
     for one in s.steps.as_slice() {
-        stmt(alloc, out, one)?;
+        stmt(out, one);
     }
-    Ok(())
 }
 
 /// The texts of the statements of a checked model, in the order in which they stand.
 pub fn texts(alloc: Global, program: &Program<'_>) -> Result<String, AllocError> {
-    let mut out = String::new(alloc);
+    let mut out = Writer::new(alloc);
     for one in program.proctypes.as_slice() {
-        seq(alloc, &mut out, &one.body)?;
+        seq(&mut out, &one.body);
     }
-    Ok(out)
+    out.finish()
 }

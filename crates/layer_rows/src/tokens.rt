@@ -1,20 +1,21 @@
 //! How rows write tokens: `Kind@LINE=TEXT` for each, with blanks between them, or `none`. In a text every byte but the visible ones of
 //! ASCII is written by a grave accent and its digits.
+use crate::writer::Writer;
 use pml_lex::fault::LexFault;
 use pml_lex::limits::first_too_deep;
 use pml_lex::token::Token;
 use row_files::Refused;
 use std::alloc::{AllocError, Global};
 
-fn push_token(alloc: Global, answer: &mut String, token: &Token<'_>) -> Result<(), AllocError> {
+fn add_token(alloc: Global, out: &mut Writer, token: &Token<'_>) -> Result<(), AllocError> {
     let kind = token.kind();
     let line = token.line();
-    answer.push_str(format!(in alloc; "{kind:?}@{line}=")?.as_str())?;
+    out.word(format!(in alloc; "{kind:?}@{line}=")?.as_str());
     for byte in token.text() {
         if b'!' <= *byte && *byte <= b'~' {
-            answer.push(char::from(*byte))?;
+            out.byte(*byte);
         } else {
-            answer.push_str(format!(in alloc; "`{byte:02x}")?.as_str())?;
+            out.digits(*byte);
         }
     }
     Ok(())
@@ -22,17 +23,17 @@ fn push_token(alloc: Global, answer: &mut String, token: &Token<'_>) -> Result<(
 
 /// Tokens as a row writes them.
 pub fn tokens_written(alloc: Global, tokens: &[Token<'_>]) -> Result<String, Refused> {
-    let mut answer = String::new(alloc);
-    for token in tokens {
-        if !answer.is_empty() {
-            answer.push(' ')?;
+    if tokens.is_empty() {
+        return Ok(format!(in alloc; "none")?);
+    }
+    let mut out = Writer::new(alloc);
+    for (at, token) in tokens.iter().enumerate() {
+        if at > 0 {
+            out.word(" ");
         }
-        push_token(alloc, &mut answer, token)?;
+        add_token(alloc, &mut out, token)?;
     }
-    if answer.is_empty() {
-        answer.push_str("none")?;
-    }
-    Ok(answer)
+    Ok(out.finish()?)
 }
 
 /// How many tokens there are, or the line of the first one at which they go too deep.

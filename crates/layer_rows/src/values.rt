@@ -9,6 +9,7 @@ ghost use Rattle.pml_start.specs.Bound.{cells_of};
 use crate::doing::done;
 use crate::layer::{Asked, View};
 use crate::lines::cells;
+use crate::writer::Writer;
 use diagnostics::Stop;
 use pml_cells::cells::size;
 use pml_check::{CheckFault, Checked, check};
@@ -26,64 +27,61 @@ use std::alloc::Global;
 /// So many numbers in a row are written with their count.
 const MANY: usize = 10;
 
-/// Adds a word, with a blank before it where there is one.
-pub fn add_word(out: &mut String, word: &str) -> Result<(), Refused> {
-    if !out.is_empty() && !out.ends_with(" / ") {
-        out.push(' ')?;
-    }
-    Ok(out.push_str(word)?)
-}
-
-/// Adds a number so many times.
-fn add_run(alloc: Global, out: &mut String, number: i32, count: usize) -> Result<(), Refused> {
+/// Writes a number so many times.
+fn add_run(out: &mut Writer, number: i32, count: usize) {
     if count >= MANY {
-        let word = format!(in alloc; "{number}x{count}")?;
-        return add_word(out, word.as_str());
+        out.space();
+        out.signed(number);
+        out.word("x");
+        out.number(count);
+        return;
     }
-    let word = format!(in alloc; "{number}")?;
     for _ in 0..count {
-        add_word(out, word.as_str())?;
+        out.space();
+        out.signed(number);
     }
-    Ok(())
 }
 
-/// Adds numbers, or a dash.
-pub fn add_numbers(alloc: Global, out: &mut String, numbers: &[i32]) -> Result<(), Refused> {
-    if numbers.is_empty() {
-        return add_word(out, "-");
-    }
+/// Writes numbers, or a dash.
+pub fn add_numbers(out: &mut Writer, numbers: &[i32]) {
     let mut last = 0;
     let mut count = 0usize;
     for number in numbers {
         if *number != last {
-            add_run(alloc, out, last, count)?;
+            add_run(out, last, count);
             count = 0;
         }
         last = *number;
         count = count.saturating_add(1);
     }
-    add_run(alloc, out, last, count)
+    add_run(out, last, count);
+    add_dash(out, numbers.is_empty());
 }
 
-fn add_channels(alloc: Global, out: &mut String, channels: &[LiveChannel]) -> Result<(), Refused> {
-    if channels.is_empty() {
-        return add_word(out, "-");
+/// Writes a dash where there is nothing else.
+pub fn add_dash(out: &mut Writer, is_empty: bool) {
+    if is_empty {
+        out.space();
+        out.word("-");
     }
+}
+
+fn add_channels(out: &mut Writer, channels: &[LiveChannel]) {
     for live in channels {
-        let (frame, capacity) = (live.frame, live.channel.capacity());
-        add_word(out, format!(in alloc; "{frame}:{capacity}")?.as_str())?;
+        out.space();
+        out.number(live.frame);
+        out.word(":");
+        out.count(u32::from(live.channel.capacity()));
     }
-    Ok(())
+    add_dash(out, channels.is_empty());
 }
 
-fn add_processes(alloc: Global, out: &mut String, kinds: &[usize]) -> Result<(), Refused> {
-    if kinds.is_empty() {
-        return add_word(out, "-");
-    }
+fn add_processes(out: &mut Writer, kinds: &[usize]) {
     for kind in kinds {
-        add_word(out, format!(in alloc; "{kind}")?.as_str())?;
+        out.space();
+        out.number(*kind);
     }
-    Ok(())
+    add_dash(out, kinds.is_empty());
 }
 
 /// How many cells variables have, as far as a `u32` counts them.
@@ -98,13 +96,13 @@ fn cells_of(slots: &[Slot<'_>]) -> Option<u32>
     Some(cells)
 }
 
-/// Adds a state.
-fn add_state(alloc: Global, out: &mut String, started: &Started) -> Result<(), Refused> {
-    add_numbers(alloc, out, started.store.cells().as_slice())?;
-    out.push_str(" / ")?;
-    add_channels(alloc, out, started.channels.as_slice())?;
-    out.push_str(" / ")?;
-    add_processes(alloc, out, started.kinds.as_slice())
+/// Writes a state.
+fn add_state(out: &mut Writer, started: &Started) {
+    add_numbers(out, started.store.cells().as_slice());
+    out.word(" / ");
+    add_channels(out, started.channels.as_slice());
+    out.word(" / ");
+    add_processes(out, started.kinds.as_slice());
 }
 
 /// `ok`, or the fault.
@@ -163,10 +161,11 @@ fn created_written(
     let kind: usize = block.behind("proctype").unwrap_or("0").parse()?;
     let arguments = cells(alloc, block.behind("arguments"))?;
     let (started, ended) = created(alloc, program, kind, arguments.as_slice())?;
-    let mut out = outcome(alloc, ended)?;
-    out.push_str(" / ")?;
-    add_state(alloc, &mut out, &started)?;
-    Ok(out)
+    let mut out = Writer::new(alloc);
+    out.word(outcome(alloc, ended)?.as_str());
+    out.word(" / ");
+    add_state(&mut out, &started);
+    Ok(out.finish()?)
 }
 
 fn of_started(
@@ -176,9 +175,9 @@ fn of_started(
     started: Started,
 ) -> Result<String, Refused> {
     if asked.view == View::FirstState {
-        let mut out = String::new(alloc);
-        add_state(alloc, &mut out, &started)?;
-        return Ok(out);
+        let mut out = Writer::new(alloc);
+        add_state(&mut out, &started);
+        return Ok(out.finish()?);
     }
     done(alloc, asked, program, started)
 }
