@@ -38,10 +38,14 @@ fn first<'a>(alloc: Global, all: &Table<'a>, marks: &[Mark<'a>]) -> Result<Optio
     Ok(None)
 }
 
+fn least<'a>(alloc: Global, marks: &[Mark<'a>]) -> Result<Option<u8>, AllocError> {
+    let names = all_names(alloc, marks)?;
+    first(alloc, &names.table, marks)
+}
+
 /// The least condition that refuses the model with these marks, as `M7`, or `none`.
 pub fn condition_of<'a>(alloc: Global, marks: &[Mark<'a>]) -> Result<String, Refused> {
-    let names = all_names(alloc, marks)?;
-    match first(alloc, &names.table, marks)? {
+    match least(alloc, marks)? {
         Some(number) => Ok(format!(in alloc; "M{number}")?),
         None => Ok(format!(in alloc; "none")?),
     }

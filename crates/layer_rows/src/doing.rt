@@ -6,7 +6,6 @@
 use crate::layer::{Asked, View};
 use crate::lines::write;
 use crate::values::{add_dash, add_numbers, fault_of, outcome};
-use crate::writer::Writer;
 use diagnostics::{Fault, Stop};
 use pml_channel::channel::Channel;
 use pml_eval::eval::eval;
@@ -16,12 +15,13 @@ use pml_printed::string::printed;
 use pml_program::expr::Expr;
 use pml_program::program::{Action, Basic, Program};
 use pml_start::started::Started;
+use pml_store::store::Store;
 use pml_value::live_channel::LiveChannel;
 use pml_value::message::{Taker, assert, receive, send, values};
 use pml_value::statement::take;
 use pml_value::view::View as Seen;
 use profile::MOST_FIELDS;
-use row_files::{Block, Refused};
+use row_files::{Block, Refused, Writer};
 use std::alloc::Global;
 
 const ALONE: Taker = Taker {
@@ -231,24 +231,53 @@ fn bytes_written(alloc: Global, bytes: &[u8]) -> Result<String, Refused> {
     Ok(out.finish()?)
 }
 
+/// Stores the numbers of the part `writes`.
+fn write_all(alloc: Global, block: Block<'_>, store: &mut Store) -> Result<(), Refused> {
+    let writes = block.text(alloc, "writes")?;
+    for line in writes.lines() {
+        write(alloc, store, line)?;
+    }
+    Ok(())
+}
+
+/// What the statements print, once they were taken.
+fn printing(
+    alloc: Global,
+    program: &Program<'_>,
+    started: &mut Started,
+    taker: Taker,
+) -> Result<String, Refused> {
+    let mut text = Vec::new(alloc);
+    results(alloc, program, started, taker, &mut text)?;
+    bytes_written(alloc, text.as_slice())
+}
+
+/// What the statements come to.
+fn coming(
+    alloc: Global,
+    program: &Program<'_>,
+    started: &mut Started,
+    taker: Taker,
+) -> Result<String, Refused> {
+    let mut text = Vec::new(alloc);
+    results(alloc, program, started, taker, &mut text)
+}
+
 /// What the statements of the first proctype come to, what they print, or the state behind them.
 pub fn done(
     alloc: Global,
     asked: Asked<'_>,
     program: &Program<'_>,
-    started: Started,
+    started: &mut Started,
 ) -> Result<String, Refused> {
-    let mut started = started;
     let taker = taker_of(asked.block)?;
-    let writes = asked.block.text(alloc, "writes")?;
-    for line in writes.lines() {
-        write(alloc, &mut started.store, line)?;
-    }
-    let mut text = Vec::new(alloc);
-    let results = results(alloc, program, &mut started, taker, &mut text)?;
+    write_all(alloc, asked.block, &mut started.store)?;
     match asked.view {
-        View::Results => Ok(results),
-        View::Printed => bytes_written(alloc, text.as_slice()),
-        _ => state(alloc, &started),
+        View::Results => coming(alloc, program, started, taker),
+        View::Printed => printing(alloc, program, started, taker),
+        _ => {
+            coming(alloc, program, started, taker)?;
+            state(alloc, started)
+        }
     }
 }

@@ -10,13 +10,12 @@
 //! What is known of nodes besides is a line for each: its line in the text, `end` where it is a valid end point, and `atomic N`
 //! where it lies in an atomic, N being the first node with the same outermost one.
 use crate::layer::View;
-use crate::writer::Writer;
 use pml_flow::edge::Edge;
 use pml_flow::graph::Graph;
 use pml_flow::statements::{Statements, all_statements};
 use pml_lex::token::Token;
 use pml_program::program::{Basic, Seq, Stmt};
-use row_files::Refused;
+use row_files::{Refused, Writer};
 use std::alloc::{AllocError, Global};
 
 fn add_tokens(out: &mut Writer, tokens: &[Token<'_>]) {

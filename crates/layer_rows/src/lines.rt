@@ -2,12 +2,11 @@
 //! log of a store with these `writes`, each a line `FRAME VARIABLE CELL => NUMBER`. The `processes` are known by the numbers of their
 //! proctypes.
 use crate::layer::{Asked, View};
-use pml_check::{CheckFault, Checked, check};
 use pml_lines::change::{Wanted, logged_lines, value_lines};
 use pml_lines::tables::Tables;
+use pml_program::program::Program;
 use pml_store::place::Place;
 use pml_store::store::Store;
-use pml_tree::tree::Tree;
 use row_files::{Block, Refused};
 use std::alloc::{AllocError, Global};
 
@@ -106,34 +105,31 @@ fn add_logged(
     Ok(logged_lines(alloc, tables, &kinds, ALL, &store, lines)?)
 }
 
+/// The lines that are asked for.
 fn add_lines(
     alloc: Global,
     asked: Asked<'_>,
-    checked: &Checked<'_>,
+    tables: &Tables<'_, '_>,
     lines: &mut Vec<u8>,
 ) -> Result<(), Refused> {
-    let tables = Tables::new(alloc, checked.program())?;
     match asked.view {
-        View::LoggedValues => add_logged(alloc, &tables, asked.block, lines),
-        View::LocalValues => add_changes(alloc, &tables, asked.block, LOCALS, lines),
-        _ => add_changes(alloc, &tables, asked.block, ALL, lines),
+        View::LoggedValues => add_logged(alloc, tables, asked.block, lines),
+        View::LocalValues => add_changes(alloc, tables, asked.block, LOCALS, lines),
+        _ => add_changes(alloc, tables, asked.block, ALL, lines),
     }
 }
 
-fn of_checked(alloc: Global, asked: Asked<'_>, checked: &Checked<'_>) -> Result<String, Refused> {
-    let mut lines = Vec::new(alloc);
-    add_lines(alloc, asked, checked, &mut lines)?;
-    match str::from_utf8(lines.as_slice()) {
+fn text_of_lines(alloc: Global, lines: &[u8]) -> Result<String, Refused> {
+    match str::from_utf8(lines) {
         Ok(text) => Ok(format!(in alloc; "{text}")?),
         Err(_) => Err(Refused::from("lines that are no text")),
     }
 }
 
-/// The lines of the model that a tree is.
-pub fn lines_of<'a>(alloc: Global, asked: Asked<'_>, tree: Tree<'a>) -> Result<String, Refused> {
-    match check(alloc, tree) {
-        Ok(checked) => of_checked(alloc, asked, &checked),
-        Err(CheckFault::Refused(_)) => Ok(format!(in alloc; "no model")?),
-        Err(CheckFault::Memory) => Err(Refused::from("out of memory")),
-    }
+/// The lines of a model.
+pub fn lines_of(alloc: Global, asked: Asked<'_>, program: &Program<'_>) -> Result<String, Refused> {
+    let tables = Tables::new(alloc, program)?;
+    let mut lines = Vec::new(alloc);
+    add_lines(alloc, asked, &tables, &mut lines)?;
+    text_of_lines(alloc, lines.as_slice())
 }

@@ -24,7 +24,6 @@ mod tokens;
 mod tree;
 mod values;
 mod words;
-mod writer;
 
 use crate::files::compare_files;
 use std::process::ExitCode;

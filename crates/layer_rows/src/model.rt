@@ -4,7 +4,6 @@
 //! `+offset:length*stride[index]`. A variable is its type, its name, `[]` where it is an array, `+offset:length*stride`, and what it
 //! begins with. Each statement stands on a line of its own, behind its labels.
 use crate::signs::{infix, prefix};
-use crate::writer::Writer;
 use pml_lex::token::Token;
 use pml_program::expr::{Expr, Target, Turn, Want};
 use pml_program::form::Form;
@@ -12,6 +11,7 @@ use pml_program::program::{
     Action, Basic, Fields, Initial, Proctype, Program, Run, Seq, Slot, Stmt,
 };
 use pml_tree::tree::{Fill, Removal, Scalar, Search, SendOrder};
+use row_files::Writer;
 use sqlite_items::Items;
 use std::alloc::{AllocError, Global};
 

@@ -31,7 +31,7 @@ impl<'t> Place<'t> {
         tally: &mut Tally,
     ) -> Result<(), Refused> {
         let mut told = Told::new(rt.alloc());
-        told.bytes(found.what, found.wanted.as_bytes(), found.came.as_bytes())?;
+        told.bytes(found.what, found.wanted.as_bytes(), found.came.as_bytes());
         if told.is_empty() {
             return tally.pass(found.layer);
         }

@@ -1,8 +1,7 @@
 //! The expressions that are statements of a tree, written with all of their parentheses.
 use crate::signs::{infix, prefix};
-use crate::writer::Writer;
 use pml_tree::tree::{Action, Basic, Expr, Item, Tree, Unit};
-use row_files::Refused;
+use row_files::{Refused, Writer};
 use std::alloc::Global;
 
 /// An expression with its parentheses.

@@ -1,10 +1,9 @@
 //! How rows write tokens: `Kind@LINE=TEXT` for each, with blanks between them, or `none`. In a text every byte but the visible ones of
 //! ASCII is written by a grave accent and its digits.
-use crate::writer::Writer;
 use pml_lex::fault::LexFault;
 use pml_lex::limits::first_too_deep;
 use pml_lex::token::Token;
-use row_files::Refused;
+use row_files::{Refused, Writer};
 use std::alloc::{AllocError, Global};
 
 fn add_token(alloc: Global, out: &mut Writer, token: &Token<'_>) -> Result<(), AllocError> {

@@ -5,6 +5,7 @@ use crate::lines::lines_of;
 use crate::program::of_program;
 use crate::shape::expressions_of;
 use crate::values::values_of;
+use pml_check::{CheckFault, Checked, check};
 use pml_lex::token::Token;
 use pml_marks::model::marks;
 use pml_names::names::all_names;
@@ -42,6 +43,22 @@ fn of_owned<'a>(alloc: Global, view: View, tree: Tree<'a>) -> Result<String, Ref
     }
 }
 
+fn of_checked(alloc: Global, asked: Asked<'_>, checked: &Checked<'_>) -> Result<String, Refused> {
+    match asked.view.layer() {
+        Layer::Lines => lines_of(alloc, asked, checked.program()),
+        _ => values_of(alloc, asked, checked),
+    }
+}
+
+/// What the layers make of the model that a tree is.
+fn of_model<'a>(alloc: Global, asked: Asked<'_>, tree: Tree<'a>) -> Result<String, Refused> {
+    match check(alloc, tree) {
+        Ok(checked) => of_checked(alloc, asked, &checked),
+        Err(CheckFault::Refused(refusal)) => Ok(format!(in alloc; "M{}", refusal.number())?),
+        Err(CheckFault::Memory) => Err(Refused::from("out of memory")),
+    }
+}
+
 /// What the layers make of the tree that tokens have, or the line that no rule reads.
 pub fn of_tokens<'a>(
     alloc: Global,
@@ -50,8 +67,7 @@ pub fn of_tokens<'a>(
 ) -> Result<String, Refused> {
     match parse(alloc, tokens) {
         Ok(tree) => match asked.view.layer() {
-            Layer::Values => values_of(alloc, asked, tree),
-            Layer::Lines => lines_of(alloc, asked, tree),
+            Layer::Values | Layer::Lines => of_model(alloc, asked, tree),
             _ => of_owned(alloc, asked.view, tree),
         },
         Err(SyntaxFault::Syntax(line)) => Ok(format!(in alloc; "fault at line {line}")?),

@@ -9,19 +9,17 @@ ghost use Rattle.pml_start.specs.Bound.{cells_of};
 use crate::doing::done;
 use crate::layer::{Asked, View};
 use crate::lines::cells;
-use crate::writer::Writer;
 use diagnostics::Stop;
 use pml_cells::cells::size;
-use pml_check::{CheckFault, Checked, check};
+use pml_check::Checked;
 use pml_program::program::{Program, Slot};
 use pml_start::Beginnings;
 use pml_start::create::create;
 use pml_start::start::start;
 use pml_start::started::Started;
 use pml_store::store::Store;
-use pml_tree::tree::Tree;
 use pml_value::live_channel::LiveChannel;
-use row_files::{Block, Refused};
+use row_files::{Block, Refused, Writer};
 use std::alloc::Global;
 
 /// So many numbers in a row are written with their count.
@@ -121,6 +119,14 @@ pub fn fault_of(alloc: Global, stop: Stop) -> Result<String, Refused> {
     }
 }
 
+/// The variables of the proctype with this number.
+fn variables<'p, 'a>(program: &'p Program<'a>, kind: usize) -> Result<&'p [Slot<'a>], Refused> {
+    match program.proctypes.as_slice().get(kind) {
+        Some(proctype) => Ok(proctype.variables.as_slice()),
+        None => Err(Refused::from("no such proctype")),
+    }
+}
+
 /// What there is once a process of the proctype with this number is created beside a global, and how that went.
 fn created(
     alloc: Global,
@@ -128,10 +134,9 @@ fn created(
     kind: usize,
     arguments: &[i32],
 ) -> Result<(Started, Result<(), Stop>), Refused> {
-    let proctype = program.proctypes.as_slice().get(kind);
-    let slots = proctype.ok_or("no such proctype")?.variables.as_slice();
-    let beginnings = Beginnings::new(alloc, program.typedefs.as_slice())?;
+    let slots = variables(program, kind)?;
     let cells = cells_of(slots).ok_or("too many cells")?;
+    let beginnings = Beginnings::new(alloc, program.typedefs.as_slice())?;
     let mut store = Store::new(alloc, cells.checked_add(1).ok_or("too many cells")?);
     store.push_frame(&[1])?;
     let mut channels = Vec::new(alloc);
@@ -153,6 +158,20 @@ fn created(
     Ok((started, ended))
 }
 
+fn creation(
+    alloc: Global,
+    program: &Program<'_>,
+    kind: usize,
+    arguments: &[i32],
+) -> Result<String, Refused> {
+    let (started, ended) = created(alloc, program, kind, arguments)?;
+    let mut out = Writer::new(alloc);
+    out.word(outcome(alloc, ended)?.as_str());
+    out.word(" / ");
+    add_state(&mut out, &started);
+    Ok(out.finish()?)
+}
+
 fn created_written(
     alloc: Global,
     block: Block<'_>,
@@ -160,11 +179,12 @@ fn created_written(
 ) -> Result<String, Refused> {
     let kind: usize = block.behind("proctype").unwrap_or("0").parse()?;
     let arguments = cells(alloc, block.behind("arguments"))?;
-    let (started, ended) = created(alloc, program, kind, arguments.as_slice())?;
+    creation(alloc, program, kind, arguments.as_slice())
+}
+
+fn state_written(alloc: Global, started: &Started) -> Result<String, Refused> {
     let mut out = Writer::new(alloc);
-    out.word(outcome(alloc, ended)?.as_str());
-    out.word(" / ");
-    add_state(&mut out, &started);
+    add_state(&mut out, started);
     Ok(out.finish()?)
 }
 
@@ -174,30 +194,33 @@ fn of_started(
     program: &Program<'_>,
     started: Started,
 ) -> Result<String, Refused> {
-    if asked.view == View::FirstState {
-        let mut out = Writer::new(alloc);
-        add_state(&mut out, &started);
-        return Ok(out.finish()?);
+    let mut started = started;
+    match asked.view {
+        View::FirstState => state_written(alloc, &started),
+        _ => done(alloc, asked, program, &mut started),
     }
-    done(alloc, asked, program, started)
 }
 
-fn of_checked(alloc: Global, asked: Asked<'_>, checked: &Checked<'_>) -> Result<String, Refused> {
+fn behind_the_start(
+    alloc: Global,
+    asked: Asked<'_>,
+    checked: &Checked<'_>,
+) -> Result<String, Refused> {
     let program = checked.program();
-    if asked.view == View::Created {
-        return created_written(alloc, asked.block, program);
-    }
     match start(alloc, program) {
         Ok(started) => of_started(alloc, asked, program, started),
         Err(stop) => fault_of(alloc, stop),
     }
 }
 
-/// The values of the model that a tree is.
-pub fn values_of<'a>(alloc: Global, asked: Asked<'_>, tree: Tree<'a>) -> Result<String, Refused> {
-    match check(alloc, tree) {
-        Ok(checked) => of_checked(alloc, asked, &checked),
-        Err(CheckFault::Refused(refusal)) => Ok(format!(in alloc; "M{}", refusal.number())?),
-        Err(CheckFault::Memory) => Err(Refused::from("out of memory")),
+/// The values of a model.
+pub fn values_of(
+    alloc: Global,
+    asked: Asked<'_>,
+    checked: &Checked<'_>,
+) -> Result<String, Refused> {
+    match asked.view {
+        View::Created => created_written(alloc, asked.block, checked.program()),
+        _ => behind_the_start(alloc, asked, checked),
     }
 }

@@ -5,8 +5,10 @@ mod block;
 mod file;
 mod refused;
 mod told;
+mod writer;
 
 pub use block::{Block, blocks};
 pub use file::{MOST_READ, names, text_of};
 pub use refused::Refused;
 pub use told::Told;
+pub use writer::Writer;

@@ -1,12 +1,11 @@
 //! What is told of a row that differs: what was wanted, and what came.
-use crate::refused::Refused;
+use crate::writer::Writer;
 use std::alloc::Global;
 
 /// What is told of a row, in words; nothing, where nothing differs.
 #[derive(Drop)]
 pub struct Told {
-    alloc: Global,
-    words: String,
+    words: Writer,
 }
 
 /// A text of bytes, to be read.
@@ -21,48 +20,50 @@ impl Told {
     /// Nothing is told yet.
     pub fn new(alloc: Global) -> Told {
         Told {
-            alloc,
-            words: String::new(alloc),
+            words: Writer::new(alloc),
         }
     }
 
     /// What is told.
     pub fn words(&self) -> &str {
-        &self.words
+        self.words.text()
     }
 
     /// Whether nothing is told.
     pub fn is_empty(&self) -> bool {
-        self.words.is_empty()
+        self.words().is_empty()
     }
 
     /// Tells these words.
-    pub fn add(&mut self, words: &str) -> Result<(), Refused> {
-        Ok(self.words.push_str(words)?)
+    pub fn add(&mut self, words: &str) {
+        self.words.word(words);
     }
 
-    fn add_both(&mut self, what: &str, wanted: &str, came: &str) -> Result<(), Refused> {
-        let words = format!(in self.alloc;
-            "another {what}, wanted:\n{wanted}\nbut there came:\n{came}\n"
-        )?;
-        self.add(&words)
+    fn add_wanted(&mut self, what: &str) {
+        self.add("another ");
+        self.add(what);
+        self.add(", wanted:\n");
     }
 
     /// Tells both texts, where they differ.
-    pub fn bytes(&mut self, what: &str, wanted: &[u8], came: &[u8]) -> Result<(), Refused> {
-        if wanted == came {
-            return Ok(());
+    pub fn bytes(&mut self, what: &str, wanted: &[u8], came: &[u8]) {
+        if wanted != came {
+            self.add_wanted(what);
+            self.add(readable(wanted));
+            self.add("\nbut there came:\n");
+            self.add(readable(came));
+            self.add("\n");
         }
-        self.add_both(what, readable(wanted), readable(came))
     }
 
     /// Tells both numbers, where they differ.
-    pub fn number(&mut self, what: &str, wanted: usize, came: usize) -> Result<(), Refused> {
-        if wanted == came {
-            return Ok(());
+    pub fn number(&mut self, what: &str, wanted: usize, came: usize) {
+        if wanted != came {
+            self.add_wanted(what);
+            self.words.number(wanted);
+            self.add("\nbut there came:\n");
+            self.words.number(came);
+            self.add("\n");
         }
-        let wanted = format!(in self.alloc; "{wanted}")?;
-        let came = format!(in self.alloc; "{came}")?;
-        self.add_both(what, &wanted, &came)
     }
 }

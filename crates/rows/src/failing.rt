@@ -9,33 +9,26 @@ const MOST_CALLS: u64 = 10_000;
 
 /// Tells what is wrong with a session in which a device fails: it ends so, and what stands behind it begins what stands behind the
 /// whole one.
-fn tell_broken(
-    told: &mut Told,
-    device: Device,
-    whole: &Behind,
-    behind: &Behind,
-) -> Result<(), Refused> {
-    told.number("status", 6, usize::from(behind.end.status))?;
+fn tell_broken(told: &mut Told, device: Device, whole: &Behind, behind: &Behind) {
+    told.number("status", 6, usize::from(behind.end.status));
     if behind.end.cause != device.cause() {
-        told.add("another cause\n")?;
+        told.add("another cause\n");
     }
     if !whole.out.starts_with(&behind.out) || !whole.rec.starts_with(&behind.rec) {
-        told.add("an output or a record that is no beginning\n")?;
+        told.add("an output or a record that is no beginning\n");
     }
     if behind.unread < whole.unread {
-        told.add("more choices are read\n")?;
+        told.add("more choices are read\n");
     }
-    Ok(())
 }
 
 /// Tells what is otherwise in a session with a failing device that did not fail.
-fn tell_whole(told: &mut Told, whole: &Behind, behind: &Behind) -> Result<(), Refused> {
-    told.bytes("output without a failure", &whole.out, &behind.out)?;
-    told.bytes("record without a failure", &whole.rec, &behind.rec)?;
+fn tell_whole(told: &mut Told, whole: &Behind, behind: &Behind) {
+    told.bytes("output without a failure", &whole.out, &behind.out);
+    told.bytes("record without a failure", &whole.rec, &behind.rec);
     if behind.end != whole.end {
-        told.add("another end without a failure\n")?;
+        told.add("another end without a failure\n");
     }
-    Ok(())
 }
 
 /// Tells what is wrong where each call of a device fails in turn, until a session has no failure.
@@ -51,9 +44,11 @@ pub fn tell_each(
         let failing = Failing::of(device, call);
         let behind = played(alloc, model, &row.options, &row.choices, failing)?;
         if !behind.failed {
-            return tell_whole(told, whole, &behind);
+            tell_whole(told, whole, &behind);
+            return Ok(());
         }
-        tell_broken(told, device, whole, &behind)?;
+        tell_broken(told, device, whole, &behind);
     }
-    told.add("no session without a failure\n")
+    told.add("no session without a failure\n");
+    Ok(())
 }

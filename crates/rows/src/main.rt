@@ -57,7 +57,7 @@ struct Place<'f, 't> {
 
 // Plays a row, shows what is told of it, and answers whether nothing is.
 fn passes(rt: &HostRuntime, place: Place<'_, '_>, this: &str, that: &str) -> Result<bool, Refused> {
-    let told = told_of(rt.alloc(), place.block, this, that)?;
+    let told = told_of(rt.alloc(), place.block, this, that);
     if told.is_empty() {
         return Ok(true);
     }

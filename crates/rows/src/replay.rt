@@ -42,16 +42,18 @@ fn tell_end(
     let (then, now) = (&before.end, &again.end);
     if is_cut_short(&then.cause) {
         let ended = now.cause == Cause::ChoicesEnded;
-        told.number("end of the replay's choices", 1, usize::from(ended))?;
-        return told.number("status of the replay", 5, usize::from(now.status));
+        told.number("end of the replay's choices", 1, usize::from(ended));
+        told.number("status of the replay", 5, usize::from(now.status));
+        return Ok(());
     }
     told.number(
         "status of the replay",
         usize::from(then.status),
         usize::from(now.status),
-    )?;
+    );
     let wanted = without_bad_lines(alloc, before.out.as_slice())?;
-    told.bytes("output of the replay", &wanted, &again.out)
+    told.bytes("output of the replay", &wanted, &again.out);
+    Ok(())
 }
 
 /// Tells what a session on the record of another has otherwise.
@@ -62,28 +64,28 @@ fn tell_replay(
     again: &Behind,
 ) -> Result<(), Refused> {
     let (then, now) = (before.end.steps, again.end.steps);
-    told.bytes("record of the replay", &before.rec, &again.rec)?;
-    told.number("rest that the replay leaves unread", 0, again.unread)?;
-    told.number("number of steps of the replay", then as usize, now as usize)?;
+    told.bytes("record of the replay", &before.rec, &again.rec);
+    told.number("rest that the replay leaves unread", 0, again.unread);
+    told.number("number of steps of the replay", then as usize, now as usize);
     tell_end(alloc, told, before, again)
 }
 
 /// Tells what a session on converted choices has otherwise than the one on the record.
-fn tell_second(told: &mut Told, first: &Behind, second: &Behind) -> Result<(), Refused> {
+fn tell_second(told: &mut Told, first: &Behind, second: &Behind) {
     let (then, now) = (&first.end, &second.end);
-    told.bytes("output on the converted choices", &first.out, &second.out)?;
-    told.bytes("record of the converted choices", &first.rec, &second.rec)?;
+    told.bytes("output on the converted choices", &first.out, &second.out);
+    told.bytes("record of the converted choices", &first.rec, &second.rec);
     told.number(
         "status on the converted choices",
         usize::from(then.status),
         usize::from(now.status),
-    )?;
+    );
     told.number(
         "number of steps on the converted choices",
         then.steps as usize,
         now.steps as usize,
-    )?;
-    told.number("rest of the converted choices", 0, second.unread)
+    );
+    told.number("rest of the converted choices", 0, second.unread);
 }
 
 /// A session of a row's model on these choices.
@@ -106,6 +108,8 @@ pub fn tell_again(
         "status of the conversion",
         usize::from(row.status),
         usize::from(second.end.status),
-    )?;
-    tell_second(told, &first, &again(alloc, row, &second.out)?)
+    );
+    let third = again(alloc, row, &second.out)?;
+    tell_second(told, &first, &third);
+    Ok(())
 }

@@ -47,35 +47,37 @@ fn line_of(end: &End) -> u32 {
 /// Tells where a session ends for another cause than its row says: in its output, or by the device that fails.
 fn tell_end(alloc: Global, told: &mut Told, row: &Row, end: &End) -> Result<(), Refused> {
     let said = said(alloc, end)?;
-    if let (Some(device), Some(_)) = (row.device, row.call) {
-        if end.cause == device.cause() {
-            return Ok(());
+    match (row.device, row.call) {
+        (Some(device), Some(_)) => {
+            if end.cause != device.cause() {
+                told.bytes("end", b"the device fails", said.as_bytes());
+            }
         }
-        return told.bytes("end", b"the device fails", said.as_bytes());
+        _ => {
+            if !row.output.contains(said.as_str()) {
+                told.bytes("end", row.output.as_bytes(), said.as_bytes());
+            }
+        }
     }
-    if row.output.contains(said.as_str()) {
-        return Ok(());
-    }
-    told.bytes("end", row.output.as_bytes(), said.as_bytes())
+    Ok(())
 }
 
 /// Tells what a session has otherwise than its row.
-fn tell_behind(alloc: Global, told: &mut Told, row: &Row, behind: &Behind) -> Result<(), Refused> {
+fn tell_behind(told: &mut Told, row: &Row, behind: &Behind) {
     let end = &behind.end;
     let read = row.choices.len().saturating_sub(behind.unread);
-    told.bytes("output", row.output.as_bytes(), &behind.out)?;
-    told.bytes("record", &row.record, &behind.rec)?;
-    told.number("status", usize::from(row.status), usize::from(end.status))?;
-    told.number("bytes that are read", row.read, read)?;
+    told.bytes("output", row.output.as_bytes(), &behind.out);
+    told.bytes("record", &row.record, &behind.rec);
+    told.number("status", usize::from(row.status), usize::from(end.status));
+    told.number("bytes that are read", row.read, read);
     told.number(
         "line of the refusal",
         row.line as usize,
         line_of(end) as usize,
-    )?;
+    );
     if let Some(steps) = row.steps {
-        told.number("number of steps", steps as usize, end.steps as usize)?;
+        told.number("number of steps", steps as usize, end.steps as usize);
     }
-    tell_end(alloc, told, row, end)
 }
 
 /// What is otherwise than a row says.
@@ -83,7 +85,8 @@ fn told_of_row(alloc: Global, row: &Row) -> Result<Told, Refused> {
     let mut told = Told::new(alloc);
     let model = row.model.as_bytes();
     let behind = played(alloc, model, &row.options, &row.choices, row.failing())?;
-    tell_behind(alloc, &mut told, row, &behind)?;
+    tell_behind(&mut told, row, &behind);
+    tell_end(alloc, &mut told, row, &behind.end)?;
     match (row.device, row.call) {
         (Some(_), Some(_)) => {}
         (Some(device), None) => tell_each(alloc, &mut told, row, device, &behind)?,
@@ -101,10 +104,10 @@ fn told_of_file(alloc: Global, block: Block<'_>, wanted: &str) -> Result<Told, R
         return Err(Refused::from("a file that is no text"));
     };
     match blocks(alloc, text, &WORDS) {
-        Ok(_) => told.add("it is not refused\n")?,
+        Ok(_) => told.add("it is not refused\n"),
         Err(Refused { line, why }) => {
             let came = format!(in alloc; "line {line}: {why}")?;
-            told.bytes("refusal", wanted.as_bytes(), came.as_bytes())?;
+            told.bytes("refusal", wanted.as_bytes(), came.as_bytes());
         }
     }
     Ok(told)
@@ -119,30 +122,30 @@ fn told_of_block(alloc: Global, block: Block<'_>, this: &str, that: &str) -> Res
 }
 
 /// Only these words are told.
-fn telling(alloc: Global, words: &str) -> Result<Told, Refused> {
+fn telling(alloc: Global, words: &str) -> Told {
     let mut told = Told::new(alloc);
-    told.add(words)?;
-    Ok(told)
+    told.add(words);
+    told
 }
 
 /// What is told of a block that has to differ: nothing, where what is told of it begins with these words.
-fn told_of_differing(alloc: Global, told: Told, words: &str) -> Result<Told, Refused> {
+fn told_of_differing(alloc: Global, told: Told, words: &str) -> Told {
     if told.words().starts_with(words) {
-        return Ok(Told::new(alloc));
+        return Told::new(alloc);
     }
-    let mut wrong = telling(alloc, "it does not differ as it should\n")?;
-    wrong.add(told.words())?;
-    Ok(wrong)
+    let mut wrong = telling(alloc, "it does not differ as it should\n");
+    wrong.add(told.words());
+    wrong
 }
 
 /// What is otherwise than a block says, in which `@this` and `@that` stand for these. One that is no row is told of too.
-pub fn told_of(alloc: Global, block: Block<'_>, this: &str, that: &str) -> Result<Told, Refused> {
+pub fn told_of(alloc: Global, block: Block<'_>, this: &str, that: &str) -> Told {
     let told = match told_of_block(alloc, block, this, that) {
         Ok(told) => told,
-        Err(refused) => telling(alloc, refused.why)?,
+        Err(refused) => telling(alloc, refused.why),
     };
     match block.behind("differs") {
         Some(words) => told_of_differing(alloc, told, words),
-        None => Ok(told),
+        None => told,
     }
 }

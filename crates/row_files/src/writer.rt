@@ -76,6 +76,15 @@ impl Writer {
         }
     }
 
+    /// What is written; other words where something is missing.
+    pub fn text(&self) -> &str {
+        if self.lacks {
+            "out of memory"
+        } else {
+            self.text.as_str()
+        }
+    }
+
     /// What is written, where nothing is missing.
     pub fn finish(self) -> Result<String, AllocError> {
         let Writer { text, lacks } = self;
