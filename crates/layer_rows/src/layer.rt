@@ -2,7 +2,7 @@
 use row_files::Block;
 
 /// A layer.
-#[derive(Clone, Copy, Debug, PartialEq, Eq)]
+#[derive(Clone, Copy, PartialEq, Eq)]
 pub enum Layer {
     Tokens,
     Grammar,
@@ -43,7 +43,7 @@ impl Layer {
 }
 
 /// What is asked of a text.
-#[derive(Clone, Copy, Debug, PartialEq, Eq)]
+#[derive(Clone, Copy, PartialEq, Eq)]
 pub enum View {
     /// Its tokens.
     Tokens,

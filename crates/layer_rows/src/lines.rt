@@ -45,13 +45,21 @@ pub fn cells(alloc: Global, text: Option<&str>) -> Result<Vec<i32>, Refused> {
     Ok(cells)
 }
 
+fn wanted_of(view: View) -> Wanted {
+    match view {
+        View::LocalValues => LOCALS,
+        _ => ALL,
+    }
+}
+
 fn add_changes(
     alloc: Global,
     tables: &Tables<'_, '_>,
-    block: Block<'_>,
-    wanted: Wanted,
+    asked: Asked<'_>,
     lines: &mut Vec<u8>,
 ) -> Result<(), Refused> {
+    let block = asked.block;
+    let wanted = wanted_of(asked.view);
     let kinds = indices(alloc, block.behind("processes").unwrap_or(""))?;
     let before = cells(alloc, block.behind("before"))?;
     let after = cells(alloc, block.behind("after"))?;
@@ -105,20 +113,6 @@ fn add_logged(
     Ok(logged_lines(alloc, tables, &kinds, ALL, &store, lines)?)
 }
 
-/// The lines that are asked for.
-fn add_lines(
-    alloc: Global,
-    asked: Asked<'_>,
-    tables: &Tables<'_, '_>,
-    lines: &mut Vec<u8>,
-) -> Result<(), Refused> {
-    match asked.view {
-        View::LoggedValues => add_logged(alloc, tables, asked.block, lines),
-        View::LocalValues => add_changes(alloc, tables, asked.block, LOCALS, lines),
-        _ => add_changes(alloc, tables, asked.block, ALL, lines),
-    }
-}
-
 fn text_of_lines(alloc: Global, lines: &[u8]) -> Result<String, Refused> {
     match str::from_utf8(lines) {
         Ok(text) => Ok(format!(in alloc; "{text}")?),
@@ -130,6 +124,9 @@ fn text_of_lines(alloc: Global, lines: &[u8]) -> Result<String, Refused> {
 pub fn lines_of(alloc: Global, asked: Asked<'_>, program: &Program<'_>) -> Result<String, Refused> {
     let tables = Tables::new(alloc, program)?;
     let mut lines = Vec::new(alloc);
-    add_lines(alloc, asked, &tables, &mut lines)?;
+    match asked.view {
+        View::LoggedValues => add_logged(alloc, &tables, asked.block, &mut lines)?,
+        _ => add_changes(alloc, &tables, asked, &mut lines)?,
+    }
     text_of_lines(alloc, lines.as_slice())
 }

@@ -4,12 +4,13 @@ use crate::layer::{Asked, Layer, View};
 use crate::lines::lines_of;
 use crate::program::of_program;
 use crate::shape::expressions_of;
-use crate::values::values_of;
+use crate::values::{creation_of, fault_of, values_of};
 use pml_check::{CheckFault, Checked, check};
 use pml_lex::token::Token;
 use pml_marks::model::marks;
 use pml_names::names::all_names;
 use pml_resolve::model::number;
+use pml_start::start::start;
 use pml_syntax::{SyntaxFault, parse};
 use pml_tree::tree::Tree;
 use row_files::Refused;
@@ -29,24 +30,29 @@ fn marked(alloc: Global, tree: &Tree<'_>) -> Result<String, Refused> {
 
 fn of_tree(alloc: Global, view: View, tree: &Tree<'_>) -> Result<String, Refused> {
     match view {
+        View::Tree | View::BareTree => Ok(format!(in alloc; "tree")?),
         View::Expressions => expressions_of(alloc, tree),
         View::Condition => marked(alloc, tree),
         _ => numbered(alloc, view, tree),
     }
 }
 
-// The tree as a parameter: where it is a local, the check of its loan does not end.
+/// What the layers make of a tree. It is let go by a check: a program that drops one itself proves anew how each of its parts is dropped.
 fn of_owned<'a>(alloc: Global, view: View, tree: Tree<'a>) -> Result<String, Refused> {
-    match view {
-        View::Tree | View::BareTree => Ok(format!(in alloc; "tree")?),
-        _ => of_tree(alloc, view, &tree),
-    }
+    let answer = of_tree(alloc, view, &tree);
+    let _ = check(alloc, tree);
+    answer
 }
 
 fn of_checked(alloc: Global, asked: Asked<'_>, checked: &Checked<'_>) -> Result<String, Refused> {
-    match asked.view.layer() {
-        Layer::Lines => lines_of(alloc, asked, checked.program()),
-        _ => values_of(alloc, asked, checked),
+    let program = checked.program();
+    match asked.view {
+        View::Created => creation_of(alloc, asked.block, program),
+        View::Values | View::LocalValues | View::LoggedValues => lines_of(alloc, asked, program),
+        _ => match start(alloc, program) {
+            Ok(started) => values_of(alloc, asked, program, started),
+            Err(stop) => fault_of(alloc, stop),
+        },
     }
 }
 

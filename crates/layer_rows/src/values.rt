@@ -11,11 +11,9 @@ use crate::layer::{Asked, View};
 use crate::lines::cells;
 use diagnostics::Stop;
 use pml_cells::cells::size;
-use pml_check::Checked;
 use pml_program::program::{Program, Slot};
 use pml_start::Beginnings;
 use pml_start::create::create;
-use pml_start::start::start;
 use pml_start::started::Started;
 use pml_store::store::Store;
 use pml_value::live_channel::LiveChannel;
@@ -172,7 +170,8 @@ fn creation(
     Ok(out.finish()?)
 }
 
-fn created_written(
+/// What there is once a process is created beside a global, as a block asks it, and how that went.
+pub fn creation_of(
     alloc: Global,
     block: Block<'_>,
     program: &Program<'_>,
@@ -188,7 +187,8 @@ fn state_written(alloc: Global, started: &Started) -> Result<String, Refused> {
     Ok(out.finish()?)
 }
 
-fn of_started(
+/// The values of a model, from its first state on.
+pub fn values_of(
     alloc: Global,
     asked: Asked<'_>,
     program: &Program<'_>,
@@ -198,29 +198,5 @@ fn of_started(
     match asked.view {
         View::FirstState => state_written(alloc, &started),
         _ => done(alloc, asked, program, &mut started),
-    }
-}
-
-fn behind_the_start(
-    alloc: Global,
-    asked: Asked<'_>,
-    checked: &Checked<'_>,
-) -> Result<String, Refused> {
-    let program = checked.program();
-    match start(alloc, program) {
-        Ok(started) => of_started(alloc, asked, program, started),
-        Err(stop) => fault_of(alloc, stop),
-    }
-}
-
-/// The values of a model.
-pub fn values_of(
-    alloc: Global,
-    asked: Asked<'_>,
-    checked: &Checked<'_>,
-) -> Result<String, Refused> {
-    match asked.view {
-        View::Created => created_written(alloc, asked.block, checked.program()),
-        _ => behind_the_start(alloc, asked, checked),
     }
 }
