@@ -10,7 +10,7 @@ use pml_lex::token::Token;
 use row_files::Refused;
 use std::alloc::Global;
 
-fn of_cut(alloc: Global, asked: Asked<'_>, tokens: &[Token<'_>]) -> Result<String, Refused> {
+fn of_cut(alloc: Global, asked: Asked, tokens: &[Token<'_>]) -> Result<String, Refused> {
     match expand(alloc, tokens) {
         Ok(expanded) => of_tokens(alloc, asked, expanded.as_slice()),
         Err(InlineFault::Memory) => Err(Refused::from("out of memory")),
@@ -19,7 +19,7 @@ fn of_cut(alloc: Global, asked: Asked<'_>, tokens: &[Token<'_>]) -> Result<Strin
 }
 
 /// What a layer makes of a text, or the refusal of a layer below it.
-pub fn answer(alloc: Global, asked: Asked<'_>, text: &[u8]) -> Result<String, Refused> {
+pub fn answer(alloc: Global, asked: Asked, text: &[u8]) -> Result<String, Refused> {
     if asked.view == View::Words {
         return words_read(alloc, text);
     }

@@ -10,7 +10,7 @@ use row_files::Refused;
 use std::alloc::Global;
 
 /// The first tokens of a list.
-fn first_tokens(alloc: Global, list: &str, count: usize) -> Result<String, Refused> {
+fn first_tokens(alloc: Global, list: &'static str, count: usize) -> Result<String, Refused> {
     let mut tokens = String::new(alloc);
     for token in list.lines().take(count) {
         if !tokens.is_empty() {
@@ -22,7 +22,11 @@ fn first_tokens(alloc: Global, list: &str, count: usize) -> Result<String, Refus
 }
 
 /// The answer that a line wants: the first tokens of the list and its own.
-fn wanted_tokens(alloc: Global, list: &str, wanted: &str) -> Result<String, Refused> {
+fn wanted_tokens(
+    alloc: Global,
+    list: &'static str,
+    wanted: &'static str,
+) -> Result<String, Refused> {
     let (number, own) = wanted.split_once(" ").unwrap_or((wanted, ""));
     let Ok(count) = number.parse::<usize>() else {
         return Ok(format!(in alloc; "{wanted}")?);
@@ -39,10 +43,10 @@ fn wanted_tokens(alloc: Global, list: &str, wanted: &str) -> Result<String, Refu
 
 fn compare_beginning(
     rt: &HostRuntime,
-    place: Place<'_>,
+    place: Place,
     beginning: &[u8],
-    list: &str,
-    line: &str,
+    list: &'static str,
+    line: &'static str,
     tally: &mut Tally,
 ) -> Result<(), Refused> {
     let (length, wanted) = line.split_once(" => ").ok_or("a row has an arrow")?;
@@ -68,18 +72,15 @@ fn compare_beginning(
 /// Compares the beginnings of a block's text.
 pub fn compare_beginnings(
     rt: &HostRuntime,
-    place: Place<'_>,
+    place: Place,
     tally: &mut Tally,
 ) -> Result<(), Refused> {
-    let alloc = rt.alloc();
-    let text = place.block.text(alloc, "text")?;
-    let bytes = bytes_of(alloc, text.as_str())?;
-    let list = place.block.text(alloc, "list")?;
-    let lines = place.block.text(alloc, "beginnings")?;
+    let bytes = bytes_of(rt.alloc(), place.block.part("text"))?;
+    let list = place.block.part("list");
     let mut length = 0usize;
-    for line in lines.lines() {
+    for line in place.block.part("beginnings").lines() {
         let beginning = bytes.get(..length).ok_or("more lengths than the text has")?;
-        compare_beginning(rt, place, beginning, list.as_str(), line, tally)?;
+        compare_beginning(rt, place, beginning, list, line, tally)?;
         length = length.saturating_add(1);
     }
     if length != bytes.len().saturating_add(1) {

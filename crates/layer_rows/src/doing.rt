@@ -31,7 +31,7 @@ const ALONE: Taker = Taker {
 };
 
 /// Who takes the statements.
-fn taker_of(block: Block<'_>) -> Result<Taker, Refused> {
+fn taker_of(block: Block) -> Result<Taker, Refused> {
     let Some(text) = block.behind("process") else {
         return Ok(ALONE);
     };
@@ -232,9 +232,8 @@ fn bytes_written(alloc: Global, bytes: &[u8]) -> Result<String, Refused> {
 }
 
 /// Stores the numbers of the part `writes`.
-fn write_all(alloc: Global, block: Block<'_>, store: &mut Store) -> Result<(), Refused> {
-    let writes = block.text(alloc, "writes")?;
-    for line in writes.lines() {
+fn write_all(alloc: Global, block: Block, store: &mut Store) -> Result<(), Refused> {
+    for line in block.part("writes").lines() {
         write(alloc, store, line)?;
     }
     Ok(())
@@ -266,7 +265,7 @@ fn coming(
 /// What the statements of the first proctype come to, what they print, or the state behind them.
 pub fn done(
     alloc: Global,
-    asked: Asked<'_>,
+    asked: Asked,
     program: &Program<'_>,
     started: &mut Started,
 ) -> Result<String, Refused> {

@@ -6,7 +6,7 @@ use crate::rows::{WORDS, compare_rows};
 use crate::tally::Tally;
 use row_files::{Refused, blocks, names, text_of};
 
-fn compare_block(rt: &HostRuntime, place: Place<'_>, tally: &mut Tally) -> Result<(), Refused> {
+fn compare_block(rt: &HostRuntime, place: Place, tally: &mut Tally) -> Result<(), Refused> {
     if place.block.has("signs") {
         return compare_signs(rt, place, tally);
     }
@@ -18,8 +18,8 @@ fn compare_block(rt: &HostRuntime, place: Place<'_>, tally: &mut Tally) -> Resul
 
 fn compare_text(
     rt: &HostRuntime,
-    file: &str,
-    text: &str,
+    file: &'static str,
+    text: &'static str,
     tally: &mut Tally,
 ) -> Result<(), Refused> {
     for block in &blocks(rt.alloc(), text, &WORDS)? {
@@ -34,9 +34,9 @@ fn compare_text(
     Ok(())
 }
 
-fn compare_file(rt: &HostRuntime, file: &str, tally: &mut Tally) -> Result<(), Refused> {
+fn compare_file(rt: &HostRuntime, file: &'static str, tally: &mut Tally) -> Result<(), Refused> {
     let text = text_of(rt, file)?;
-    if let Err(refused) = compare_text(rt, file, text.as_str(), tally) {
+    if let Err(refused) = compare_text(rt, file, text, tally) {
         tally.fail();
         eprintln!(rt; "{file}:{}: {}", refused.line, refused.why)?;
     }
@@ -47,7 +47,7 @@ fn compare_file(rt: &HostRuntime, file: &str, tally: &mut Tally) -> Result<(), R
 pub fn compare_files(rt: &HostRuntime) -> Result<bool, Refused> {
     let mut tally = Tally::new(rt.alloc());
     for name in &names(rt)? {
-        compare_file(rt, name.as_str(), &mut tally)?;
+        compare_file(rt, *name, &mut tally)?;
     }
     tally.print(rt)
 }

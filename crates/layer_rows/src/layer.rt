@@ -164,7 +164,7 @@ impl View {
 
 /// What is asked of a text, and the block that asks.
 #[derive(Clone, Copy)]
-pub struct Asked<'r> {
+pub struct Asked {
     pub view: View,
-    pub block: Block<'r>,
+    pub block: Block,
 }

@@ -55,7 +55,7 @@ fn wanted_of(view: View) -> Wanted {
 fn add_changes(
     alloc: Global,
     tables: &Tables<'_, '_>,
-    asked: Asked<'_>,
+    asked: Asked,
     lines: &mut Vec<u8>,
 ) -> Result<(), Refused> {
     let block = asked.block;
@@ -93,10 +93,9 @@ pub fn write(alloc: Global, store: &mut Store, line: &str) -> Result<(), Refused
     Ok(store.set(place, number.parse::<i32>()?)?)
 }
 
-fn written(alloc: Global, block: Block<'_>) -> Result<Store, Refused> {
+fn written(alloc: Global, block: Block) -> Result<Store, Refused> {
     let mut store = first_store(alloc)?;
-    let writes = block.text(alloc, "writes")?;
-    for line in writes.lines() {
+    for line in block.part("writes").lines() {
         write(alloc, &mut store, line)?;
     }
     Ok(store)
@@ -105,7 +104,7 @@ fn written(alloc: Global, block: Block<'_>) -> Result<Store, Refused> {
 fn add_logged(
     alloc: Global,
     tables: &Tables<'_, '_>,
-    block: Block<'_>,
+    block: Block,
     lines: &mut Vec<u8>,
 ) -> Result<(), Refused> {
     let kinds = indices(alloc, block.behind("processes").unwrap_or(""))?;
@@ -121,7 +120,7 @@ fn text_of_lines(alloc: Global, lines: &[u8]) -> Result<String, Refused> {
 }
 
 /// The lines of a model.
-pub fn lines_of(alloc: Global, asked: Asked<'_>, program: &Program<'_>) -> Result<String, Refused> {
+pub fn lines_of(alloc: Global, asked: Asked, program: &Program<'_>) -> Result<String, Refused> {
     let tables = Tables::new(alloc, program)?;
     let mut lines = Vec::new(alloc);
     match asked.view {

@@ -10,18 +10,18 @@ use std::alloc::Global;
 
 /// A sign, and its tokens.
 #[derive(Clone, Copy)]
-struct Sign<'r> {
-    sign: &'r str,
-    tokens: &'r str,
+struct Sign {
+    sign: &'static str,
+    tokens: &'static str,
 }
 
-fn sign_of<'r>(line: &'r str) -> Result<Sign<'r>, Refused> {
+fn sign_of(line: &'static str) -> Result<Sign, Refused> {
     let (sign, tokens) = line.split_once(" => ").ok_or("a row has an arrow")?;
     Ok(Sign { sign, tokens })
 }
 
 /// What two signs give with a blank between them. The first refusal is the answer.
-fn apart(alloc: Global, first: Sign<'_>, second: Sign<'_>) -> Result<String, Refused> {
+fn apart(alloc: Global, first: Sign, second: Sign) -> Result<String, Refused> {
     let refusal = "LeftOut(1)";
     if first.tokens == refusal || second.tokens == refusal {
         return Ok(format!(in alloc; "{refusal}")?);
@@ -30,7 +30,7 @@ fn apart(alloc: Global, first: Sign<'_>, second: Sign<'_>) -> Result<String, Ref
 }
 
 /// What these lines say of two signs.
-fn when_joined<'r>(joined: &'r str, first: Sign<'_>, second: Sign<'_>) -> Option<&'r str> {
+fn when_joined(joined: &'static str, first: Sign, second: Sign) -> Option<&'static str> {
     for line in joined.lines() {
         if let Some((signs, tokens)) = line.split_once(" => ") {
             if signs.split_once(" ") == Some((first.sign, second.sign)) {
@@ -43,7 +43,7 @@ fn when_joined<'r>(joined: &'r str, first: Sign<'_>, second: Sign<'_>) -> Option
 
 fn compare(
     rt: &HostRuntime,
-    place: Place<'_>,
+    place: Place,
     written: &str,
     wanted: &str,
     tally: &mut Tally,
@@ -66,10 +66,10 @@ fn compare(
 
 fn compare_pair(
     rt: &HostRuntime,
-    place: Place<'_>,
-    first: Sign<'_>,
-    second: Sign<'_>,
-    joined: &str,
+    place: Place,
+    first: Sign,
+    second: Sign,
+    joined: &'static str,
     tally: &mut Tally,
 ) -> Result<(), Refused> {
     let alloc = rt.alloc();
@@ -86,10 +86,10 @@ fn compare_pair(
 /// Compares a sign alone, and before each sign.
 fn compare_sign(
     rt: &HostRuntime,
-    place: Place<'_>,
-    first: Sign<'_>,
-    signs: &str,
-    joined: &str,
+    place: Place,
+    first: Sign,
+    signs: &'static str,
+    joined: &'static str,
     tally: &mut Tally,
 ) -> Result<(), Refused> {
     compare(rt, place, first.sign, first.tokens, tally)?;
@@ -99,7 +99,7 @@ fn compare_sign(
     Ok(())
 }
 
-fn is_sign(signs: &str, text: &str) -> bool {
+fn is_sign(signs: &'static str, text: &str) -> bool {
     for line in signs.lines() {
         if let Some((sign, _)) = line.split_once(" => ") {
             if sign == text {
@@ -111,7 +111,7 @@ fn is_sign(signs: &str, text: &str) -> bool {
 }
 
 /// Whether each of these lines is one of two of the signs.
-fn are_of_signs(joined: &str, signs: &str) -> bool {
+fn are_of_signs(joined: &'static str, signs: &'static str) -> bool {
     for line in joined.lines() {
         let (pair, _) = line.split_once(" => ").unwrap_or((line, ""));
         let (first, second) = pair.split_once(" ").unwrap_or((pair, ""));
@@ -123,21 +123,14 @@ fn are_of_signs(joined: &str, signs: &str) -> bool {
 }
 
 /// Compares the signs of a block.
-pub fn compare_signs(rt: &HostRuntime, place: Place<'_>, tally: &mut Tally) -> Result<(), Refused> {
-    let signs = place.block.text(rt.alloc(), "signs")?;
-    let joined = place.block.text(rt.alloc(), "joined")?;
-    if !are_of_signs(joined.as_str(), signs.as_str()) {
+pub fn compare_signs(rt: &HostRuntime, place: Place, tally: &mut Tally) -> Result<(), Refused> {
+    let signs = place.block.part("signs");
+    let joined = place.block.part("joined");
+    if !are_of_signs(joined, signs) {
         return Err(Refused::from("two that are no signs of the block"));
     }
     for line in signs.lines() {
-        compare_sign(
-            rt,
-            place,
-            sign_of(line)?,
-            signs.as_str(),
-            joined.as_str(),
-            tally,
-        )?;
+        compare_sign(rt, place, sign_of(line)?, signs, joined, tally)?;
     }
     Ok(())
 }

@@ -5,9 +5,9 @@ use row_files::{Block, Refused, Told};
 
 /// A block of a file.
 #[derive(Clone, Copy)]
-pub struct Place<'t> {
-    pub file: &'t str,
-    pub block: Block<'t>,
+pub struct Place {
+    pub file: &'static str,
+    pub block: Block,
 }
 
 /// What a row wants of a text, and what came.
@@ -22,7 +22,7 @@ pub struct Found<'r> {
     pub came: &'r str,
 }
 
-impl<'t> Place<'t> {
+impl Place {
     /// Counts a row, and tells it where it differs.
     pub fn judge(
         self,

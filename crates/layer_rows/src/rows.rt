@@ -51,12 +51,12 @@ pub const WORDS: [&str; 36] = [
 
 /// What stands for `@this` and `@that`.
 #[derive(Clone, Copy)]
-struct Filling<'r> {
-    this: &'r str,
-    that: &'r str,
+struct Filling {
+    this: &'static str,
+    that: &'static str,
 }
 
-fn filling_of<'r>(line: &'r str) -> Filling<'r> {
+fn filling_of(line: &'static str) -> Filling {
     match line.split_once(" => ") {
         Some((this, that)) => Filling { this, that },
         None => Filling {
@@ -67,18 +67,13 @@ fn filling_of<'r>(line: &'r str) -> Filling<'r> {
 }
 
 /// What stands in a part, with its blanks filled.
-fn filled(
-    alloc: Global,
-    block: Block<'_>,
-    word: &str,
-    filling: Filling<'_>,
-) -> Result<String, Refused> {
+fn filled(alloc: Global, block: Block, word: &str, filling: Filling) -> Result<String, Refused> {
     let text = block.text(alloc, word)?;
     let text = text.replace(alloc, "@that", filling.that)?;
     Ok(text.replace(alloc, "@this", filling.this)?)
 }
 
-fn text_of(alloc: Global, block: Block<'_>, filling: Filling<'_>) -> Result<Vec<u8>, Refused> {
+fn text_of(alloc: Global, block: Block, filling: Filling) -> Result<Vec<u8>, Refused> {
     if block.has("parts") {
         let parts = filled(alloc, block, "parts", filling)?;
         return joined_parts(alloc, parts.as_str());
@@ -92,8 +87,8 @@ fn text_of(alloc: Global, block: Block<'_>, filling: Filling<'_>) -> Result<Vec<
 
 fn compare_view(
     rt: &HostRuntime,
-    place: Place<'_>,
-    filling: Filling<'_>,
+    place: Place,
+    filling: Filling,
     view: View,
     text: &[u8],
     tally: &mut Tally,
@@ -116,8 +111,8 @@ fn compare_view(
 
 fn compare_row(
     rt: &HostRuntime,
-    place: Place<'_>,
-    filling: Filling<'_>,
+    place: Place,
+    filling: Filling,
     tally: &mut Tally,
 ) -> Result<(), Refused> {
     let text = text_of(rt.alloc(), place.block, filling)?;
@@ -129,7 +124,7 @@ fn compare_row(
     Ok(())
 }
 
-fn wants_nothing(block: Block<'_>) -> bool {
+fn wants_nothing(block: Block) -> bool {
     for view in &VIEWS {
         if block.has(view.word()) {
             return false;
@@ -139,14 +134,14 @@ fn wants_nothing(block: Block<'_>) -> bool {
 }
 
 /// Compares the rows of a block.
-pub fn compare_rows(rt: &HostRuntime, place: Place<'_>, tally: &mut Tally) -> Result<(), Refused> {
+pub fn compare_rows(rt: &HostRuntime, place: Place, tally: &mut Tally) -> Result<(), Refused> {
     if wants_nothing(place.block) {
         return Err(Refused::from("a row that wants nothing"));
     }
     if !place.block.has("each") {
         return compare_row(rt, place, filling_of(""), tally);
     }
-    let each = place.block.text(rt.alloc(), "each")?;
+    let each = place.block.part("each");
     if each.is_empty() {
         return Err(Refused::from("a block without a row"));
     }

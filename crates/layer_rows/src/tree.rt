@@ -44,7 +44,7 @@ fn of_owned<'a>(alloc: Global, view: View, tree: Tree<'a>) -> Result<String, Ref
     answer
 }
 
-fn of_checked(alloc: Global, asked: Asked<'_>, checked: &Checked<'_>) -> Result<String, Refused> {
+fn of_checked(alloc: Global, asked: Asked, checked: &Checked<'_>) -> Result<String, Refused> {
     let program = checked.program();
     match asked.view {
         View::Created => creation_of(alloc, asked.block, program),
@@ -57,7 +57,7 @@ fn of_checked(alloc: Global, asked: Asked<'_>, checked: &Checked<'_>) -> Result<
 }
 
 /// What the layers make of the model that a tree is.
-fn of_model<'a>(alloc: Global, asked: Asked<'_>, tree: Tree<'a>) -> Result<String, Refused> {
+fn of_model<'a>(alloc: Global, asked: Asked, tree: Tree<'a>) -> Result<String, Refused> {
     match check(alloc, tree) {
         Ok(checked) => of_checked(alloc, asked, &checked),
         Err(CheckFault::Refused(refusal)) => Ok(format!(in alloc; "M{}", refusal.number())?),
@@ -68,7 +68,7 @@ fn of_model<'a>(alloc: Global, asked: Asked<'_>, tree: Tree<'a>) -> Result<Strin
 /// What the layers make of the tree that tokens have, or the line that no rule reads.
 pub fn of_tokens<'a>(
     alloc: Global,
-    asked: Asked<'_>,
+    asked: Asked,
     tokens: &'a [Token<'a>],
 ) -> Result<String, Refused> {
     match parse(alloc, tokens) {

@@ -171,11 +171,7 @@ fn creation(
 }
 
 /// What there is once a process is created beside a global, as a block asks it, and how that went.
-pub fn creation_of(
-    alloc: Global,
-    block: Block<'_>,
-    program: &Program<'_>,
-) -> Result<String, Refused> {
+pub fn creation_of(alloc: Global, block: Block, program: &Program<'_>) -> Result<String, Refused> {
     let kind: usize = block.behind("proctype").unwrap_or("0").parse()?;
     let arguments = cells(alloc, block.behind("arguments"))?;
     creation(alloc, program, kind, arguments.as_slice())
@@ -190,7 +186,7 @@ fn state_written(alloc: Global, started: &Started) -> Result<String, Refused> {
 /// The values of a model, from its first state on.
 pub fn values_of(
     alloc: Global,
-    asked: Asked<'_>,
+    asked: Asked,
     program: &Program<'_>,
     started: Started,
 ) -> Result<String, Refused> {

@@ -3,24 +3,24 @@
 use crate::refused::{Refused, refuse};
 use std::alloc::{AllocError, Global};
 
-/// A block of a file.
+/// A block of a file, whose text stays as long as the program runs.
 #[derive(Clone, Copy)]
-pub struct Block<'t> {
+pub struct Block {
     /// The line of the file that it begins in, counted from 1.
     pub line: u32,
     /// What stands behind its mark, to the mark of the next one.
-    body: &'t str,
+    body: &'static str,
 }
 
 /// A part of a block.
 #[derive(Clone, Copy)]
-struct Part<'t> {
-    word: &'t str,
-    behind: Option<&'t str>,
-    below: Option<&'t str>,
+struct Part {
+    word: &'static str,
+    behind: Option<&'static str>,
+    below: Option<&'static str>,
 }
 
-fn part_of<'t>(text: &'t str) -> Part<'t> {
+fn part_of(text: &'static str) -> Part {
     let (head, below) = match text.split_once('\n') {
         Some((head, below)) => (head, Some(below)),
         None => (text, None),
@@ -36,9 +36,9 @@ fn part_of<'t>(text: &'t str) -> Part<'t> {
     }
 }
 
-impl<'t> Block<'t> {
+impl Block {
     /// What stands before its parts: its name, and nothing else where it is well-formed.
-    fn head(self) -> &'t str {
+    fn head(self) -> &'static str {
         match self.body.split_once("\n-- ") {
             Some((head, _)) => head,
             None => self.body,
@@ -46,14 +46,14 @@ impl<'t> Block<'t> {
     }
 
     /// Its name.
-    pub fn name(self) -> &'t str {
+    pub fn name(self) -> &'static str {
         match self.body.split_once('\n') {
             Some((name, _)) => name,
             None => self.body,
         }
     }
 
-    fn find(self, word: &str) -> Option<Part<'t>> {
+    fn find(self, word: &str) -> Option<Part> {
         for text in self.body.split("\n-- ").skip(1) {
             let part = part_of(text);
             if part.word == word {
@@ -69,8 +69,16 @@ impl<'t> Block<'t> {
     }
 
     /// What stands behind the word of a part, on the same line.
-    pub fn behind(self, word: &str) -> Option<&'t str> {
+    pub fn behind(self, word: &str) -> Option<&'static str> {
         self.find(word)?.behind
+    }
+
+    /// What stands in a part, without its last line feed: behind its word, or in the lines below it. Nothing, where there is no such part.
+    pub fn part(self, word: &str) -> &'static str {
+        match self.find(word) {
+            Some(part) => part.below.or(part.behind).unwrap_or(""),
+            None => "",
+        }
     }
 
     /// What stands in a part: behind its word, or in the lines below it. Nothing, where there is no such part.
@@ -117,7 +125,7 @@ impl<'t> Block<'t> {
         Ok(())
     }
 
-    fn check_part(self, part: Part<'_>, line: u32, words: &[&str]) -> Result<(), Refused> {
+    fn check_part(self, part: Part, line: u32, words: &[&str]) -> Result<(), Refused> {
         if !words.contains(&part.word) {
             return refuse(line, "an unknown word of a part");
         }
@@ -153,7 +161,7 @@ fn lines_of(text: &str) -> u32 {
     lines
 }
 
-fn is_named(blocks: &[Block<'_>], name: &str) -> bool {
+fn is_named(blocks: &[Block], name: &str) -> bool {
     for block in blocks {
         if block.name() == name {
             return true;
@@ -163,7 +171,7 @@ fn is_named(blocks: &[Block<'_>], name: &str) -> bool {
 }
 
 /// The text of a file without its first mark and its last line feed.
-fn bare(text: &str) -> Result<&str, Refused> {
+fn bare(text: &'static str) -> Result<&'static str, Refused> {
     let Some(behind) = text.strip_prefix("== ") else {
         return refuse(1, "no block begins here");
     };
@@ -174,7 +182,7 @@ fn bare(text: &str) -> Result<&str, Refused> {
 }
 
 /// Reads the blocks of a file. Each has another name, and each part of one another word, which is one of these.
-pub fn blocks<'t>(alloc: Global, text: &'t str, words: &[&str]) -> Result<Vec<Block<'t>>, Refused> {
+pub fn blocks(alloc: Global, text: &'static str, words: &[&str]) -> Result<Vec<Block>, Refused> {
     let mut blocks = Vec::new(alloc);
     let mut line = 1u32;
     for body in bare(text)?.split("\n== ") {

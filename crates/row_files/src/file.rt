@@ -6,18 +6,33 @@ use std::{env, fs};
 /// A file has fewer bytes than this.
 pub const MOST_READ: u64 = 1_048_576;
 
+/// A text that stays as long as the program runs, as the files of rows do: each is read once.
+pub fn lasting(bytes: Vec<u8>) -> Result<&'static str, Refused> {
+    let bytes: &'static [u8] = bytes.leak();
+    match str::from_utf8(bytes) {
+        Ok(text) => Ok(text),
+        Err(_) => Err(Refused::from("a file that is no text")),
+    }
+}
+
 /// The names of the files that the words of the command line name.
-pub fn names(rt: &HostRuntime) -> Result<Vec<String>, Refused> {
-    Ok(env::args(rt)?.skip(1).collect(rt.alloc())?)
+pub fn names(rt: &HostRuntime) -> Result<Vec<&'static str>, Refused> {
+    let mut names = Vec::new(rt.alloc());
+    for name in env::args(rt)?.skip(1) {
+        if names.push(lasting(name.into_bytes())?).is_err() {
+            return Err(Refused::from("out of memory"));
+        }
+    }
+    Ok(names)
 }
 
 /// The text of a file, whole.
-pub fn text_of(rt: &HostRuntime, name: &str) -> Result<String, Refused> {
+pub fn text_of(rt: &HostRuntime, name: &str) -> Result<&'static str, Refused> {
     let mut text = String::new(rt.alloc());
     let file = fs::open(rt, name)?;
     file.take(MOST_READ).read_to_string(&mut text)?;
     if text.len() as u64 == MOST_READ {
         return Err(Refused::from("a file is too long"));
     }
-    Ok(text)
+    lasting(text.into_bytes())
 }

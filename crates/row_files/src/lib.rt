@@ -8,7 +8,7 @@ mod told;
 mod writer;
 
 pub use block::{Block, blocks};
-pub use file::{MOST_READ, names, text_of};
+pub use file::{MOST_READ, lasting, names, text_of};
 pub use refused::Refused;
 pub use told::Told;
 pub use writer::Writer;

@@ -50,13 +50,18 @@ impl Tally {
 
 // A block, and the name of its file.
 #[derive(Clone, Copy)]
-struct Place<'f, 't> {
-    file: &'f str,
-    block: Block<'t>,
+struct Place {
+    file: &'static str,
+    block: Block,
 }
 
 // Plays a row, shows what is told of it, and answers whether nothing is.
-fn passes(rt: &HostRuntime, place: Place<'_, '_>, this: &str, that: &str) -> Result<bool, Refused> {
+fn passes(
+    rt: &HostRuntime,
+    place: Place,
+    this: &'static str,
+    that: &'static str,
+) -> Result<bool, Refused> {
     let told = told_of(rt.alloc(), place.block, this, that);
     if told.is_empty() {
         return Ok(true);
@@ -69,7 +74,7 @@ fn passes(rt: &HostRuntime, place: Place<'_, '_>, this: &str, that: &str) -> Res
 }
 
 // Plays a row for each line of a part. A part without a line is refused, since no row would be played.
-fn each_played(rt: &HostRuntime, place: Place<'_, '_>, lines: &str) -> Result<Tally, Refused> {
+fn each_played(rt: &HostRuntime, place: Place, lines: &'static str) -> Result<Tally, Refused> {
     let refused = Refused {
         line: place.block.line,
         why: "a part 'each' is lines with an arrow",
@@ -85,18 +90,17 @@ fn each_played(rt: &HostRuntime, place: Place<'_, '_>, lines: &str) -> Result<Ta
     Ok(tally)
 }
 
-fn block_played(rt: &HostRuntime, place: Place<'_, '_>) -> Result<Tally, Refused> {
+fn block_played(rt: &HostRuntime, place: Place) -> Result<Tally, Refused> {
     if place.block.has("each") {
-        let lines = place.block.lines(rt.alloc(), "each")?;
-        return each_played(rt, place, &lines);
+        return each_played(rt, place, place.block.part("each"));
     }
     Ok(NO_ROWS.counted(passes(rt, place, "", "")?))
 }
 
-fn file_played(rt: &HostRuntime, file: &str) -> Result<Tally, Refused> {
+fn file_played(rt: &HostRuntime, file: &'static str) -> Result<Tally, Refused> {
     let text = text_of(rt, file)?;
     let mut tally = NO_ROWS;
-    for block in blocks(rt.alloc(), &text, &WORDS)?.as_slice() {
+    for block in blocks(rt.alloc(), text, &WORDS)?.as_slice() {
         let place = Place {
             file,
             block: *block,
@@ -108,7 +112,7 @@ fn file_played(rt: &HostRuntime, file: &str) -> Result<Tally, Refused> {
 }
 
 // Plays the rows of a file. One that is refused counts as a row that fails.
-fn file_tried(rt: &HostRuntime, file: &str) -> Result<Tally, Refused> {
+fn file_tried(rt: &HostRuntime, file: &'static str) -> Result<Tally, Refused> {
     match file_played(rt, file) {
         Ok(tally) => Ok(tally),
         Err(Refused { line, why }) => {
@@ -121,7 +125,7 @@ fn file_tried(rt: &HostRuntime, file: &str) -> Result<Tally, Refused> {
 fn all_played(rt: &HostRuntime) -> Result<Tally, Refused> {
     let mut tally = NO_ROWS;
     for file in names(rt)?.as_slice() {
-        tally = tally.and(file_tried(rt, file.as_str())?);
+        tally = tally.and(file_tried(rt, *file)?);
     }
     Ok(tally)
 }

@@ -107,7 +107,7 @@ fn options(flags: Option<&str>) -> Result<Options, Refused> {
 }
 
 /// The device that a part names, and the call of it.
-fn failing(block: Block<'_>) -> Result<(Option<Device>, Option<u64>), Refused> {
+fn failing(block: Block) -> Result<(Option<Device>, Option<u64>), Refused> {
     let Some(words) = block.behind("failing") else {
         return Ok((None, None));
     };
@@ -120,23 +120,28 @@ fn failing(block: Block<'_>) -> Result<(Option<Device>, Option<u64>), Refused> {
 /// The text of a part, in which `@this` and `@that` stand for these.
 fn text(
     alloc: Global,
-    block: Block<'_>,
+    block: Block,
     word: &str,
-    this: &str,
-    that: &str,
+    this: &'static str,
+    that: &'static str,
 ) -> Result<String, Refused> {
     let text = block.text(alloc, word)?;
     filled(alloc, &text, this, that)
 }
 
 /// The bytes that a part writes, in which `@this` stands for this.
-fn part_bytes(alloc: Global, block: Block<'_>, word: &str, this: &str) -> Result<Vec<u8>, Refused> {
+fn part_bytes(
+    alloc: Global,
+    block: Block,
+    word: &str,
+    this: &'static str,
+) -> Result<Vec<u8>, Refused> {
     let text = filled(alloc, block.behind(word).unwrap_or(""), this, "")?;
     bytes(alloc, &text)
 }
 
 /// The choices of a block, in which `@this` stands for this, and how many bytes of them are read.
-fn choices(alloc: Global, block: Block<'_>, this: &str) -> Result<(Vec<u8>, usize), Refused> {
+fn choices(alloc: Global, block: Block, this: &'static str) -> Result<(Vec<u8>, usize), Refused> {
     let mut choices = part_bytes(alloc, block, "choices", this)?;
     let read = choices.len();
     let unread = part_bytes(alloc, block, "unread", this)?;
@@ -148,14 +153,14 @@ fn choices(alloc: Global, block: Block<'_>, this: &str) -> Result<(Vec<u8>, usiz
 }
 
 /// The exit status and the line of a refusal that a block says.
-fn numbers(block: Block<'_>) -> Result<(u8, u32), Refused> {
+fn numbers(block: Block) -> Result<(u8, u32), Refused> {
     let status = block.behind("status").ok_or("a row has a status")?;
     let line = block.behind("line").unwrap_or("0");
     Ok((status.parse::<u8>()?, line.parse::<u32>()?))
 }
 
 /// How many steps are taken, where a block says so.
-fn steps(block: Block<'_>) -> Result<Option<u32>, Refused> {
+fn steps(block: Block) -> Result<Option<u32>, Refused> {
     match block.behind("steps") {
         Some(digits) => Ok(Some(digits.parse::<u32>()?)),
         None => Ok(None),
@@ -163,7 +168,12 @@ fn steps(block: Block<'_>) -> Result<Option<u32>, Refused> {
 }
 
 /// The row of a block, in which `@this` and `@that` stand for these.
-pub fn row_of(alloc: Global, block: Block<'_>, this: &str, that: &str) -> Result<Row, Refused> {
+pub fn row_of(
+    alloc: Global,
+    block: Block,
+    this: &'static str,
+    that: &'static str,
+) -> Result<Row, Refused> {
     if !block.has("model") || !block.has("output") {
         return Err(Refused::from("a row has a model and an output"));
     }

@@ -4,7 +4,7 @@ use crate::player::{Behind, played};
 use crate::replay::tell_again;
 use crate::row::{Row, WORDS, row_of};
 use crate::texts::bytes;
-use row_files::{Block, Refused, Told, blocks};
+use row_files::{Block, Refused, Told, blocks, lasting};
 use session::{Cause, End};
 use std::alloc::Global;
 
@@ -97,12 +97,9 @@ fn told_of_row(alloc: Global, row: &Row) -> Result<Told, Refused> {
 }
 
 /// What is told of a text of rows that has to be refused with these words.
-fn told_of_file(alloc: Global, block: Block<'_>, wanted: &str) -> Result<Told, Refused> {
+fn told_of_file(alloc: Global, block: Block, wanted: &str) -> Result<Told, Refused> {
     let mut told = Told::new(alloc);
-    let file = bytes(alloc, block.behind("file").unwrap_or(""))?;
-    let Ok(text) = str::from_utf8(&file) else {
-        return Err(Refused::from("a file that is no text"));
-    };
+    let text = lasting(bytes(alloc, block.behind("file").unwrap_or(""))?)?;
     match blocks(alloc, text, &WORDS) {
         Ok(_) => told.add("it is not refused\n"),
         Err(Refused { line, why }) => {
@@ -113,7 +110,12 @@ fn told_of_file(alloc: Global, block: Block<'_>, wanted: &str) -> Result<Told, R
     Ok(told)
 }
 
-fn told_of_block(alloc: Global, block: Block<'_>, this: &str, that: &str) -> Result<Told, Refused> {
+fn told_of_block(
+    alloc: Global,
+    block: Block,
+    this: &'static str,
+    that: &'static str,
+) -> Result<Told, Refused> {
     if let Some(wanted) = block.behind("refused") {
         return told_of_file(alloc, block, wanted);
     }
@@ -139,7 +141,7 @@ fn told_of_differing(alloc: Global, told: Told, words: &str) -> Told {
 }
 
 /// What is otherwise than a block says, in which `@this` and `@that` stand for these. One that is no row is told of too.
-pub fn told_of(alloc: Global, block: Block<'_>, this: &str, that: &str) -> Told {
+pub fn told_of(alloc: Global, block: Block, this: &'static str, that: &'static str) -> Told {
     let told = match told_of_block(alloc, block, this, that) {
         Ok(told) => told,
         Err(refused) => telling(alloc, refused.why),
