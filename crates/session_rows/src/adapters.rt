@@ -1,12 +1,12 @@
 //! The adapters over readers and writers that fail.
 ghost use Rattle.std.specs.Prelude.{◌≡◌};
 
+use crate::compare::same;
 use devices::{ByteReader, Failed, Failures, Next, PieceWriter, Sink, Source};
 use std::io::{Error, ErrorKind, Read, Result as IoResult, Write};
 use std::marker::Brand;
 use std::process::Abort;
 use std::sync::ledger::{Blank, Ledger};
-use std::test::Fail;
 
 // Gives `a`, is interrupted, gives `b`, and ends. It counts its calls.
 #[derive(Drop)]
@@ -17,19 +17,13 @@ struct Interrupted<'a> {
 impl Read for Interrupted<'_> {
     fn read(&mut self, buf: &mut [u8]) -> IoResult<usize> {
         *self.calls = self.calls.saturating_add(1);
-        let byte = match *self.calls {
-            1 => b'a',
+        let mut bytes: &[u8] = match *self.calls {
+            1 => b"a",
             2 => return Err(Error::from(ErrorKind::Interrupted)),
-            3 => b'b',
-            _ => return Ok(0),
+            3 => b"b",
+            _ => b"",
         };
-        match buf.first_mut() {
-            Some(place) => {
-                *place = byte;
-                Ok(1)
-            }
-            None => Ok(0),
-        }
+        bytes.read(buf)
     }
 }
 
@@ -54,6 +48,16 @@ impl Write for Reluctant {
     }
 }
 
+// What the reader answers, call for call.
+static NEXTS: [Next; 6] = [
+    Next::Byte(b'a'),
+    Next::Failed,
+    Next::Byte(b'b'),
+    Next::End,
+    Next::End,
+    Next::End,
+];
+
 fn reads<L: Ledger, R: Abort>(rt: &R, blank: Blank)
     requires name { blank.name ≡ L.name }
     requires parts { blank.parts ≡ L.parts }
@@ -61,15 +65,20 @@ fn reads<L: Ledger, R: Abort>(rt: &R, blank: Blank)
 {
     let mut calls = 0;
     let mut source = ByteReader::new(Interrupted { calls: &mut calls }, Failures::<L>::new(blank));
-    assert_eq!(rt; source.next(), Next::Byte(b'a'));
-    assert_eq!(rt; source.next(), Next::Failed);
-    assert_eq!(rt; source.next(), Next::Byte(b'b'));
-    for _ in 0..3u8 {
-        assert_eq!(rt; source.next(), Next::End);
+    for wanted in &NEXTS {
+        same(rt, "a reader", "what it gives", source.next(), *wanted);
     }
     drop(source);
-    assert_eq!(rt; calls, 4);
+    same(rt, "a reader", "calls", calls, 4);
 }
+
+// Pieces, and what the writer answers.
+static PUTS: [(&[u8], Result<usize, Failed>); 4] = [
+    (b"abc", Err(Failed)),
+    (b"abc", Err(Failed)),
+    (b"abc", Ok(1)),
+    (b"", Ok(0)),
+];
 
 fn writes<L: Ledger, R: Abort>(rt: &R, blank: Blank)
     requires name { blank.name ≡ L.name }
@@ -77,20 +86,17 @@ fn writes<L: Ledger, R: Abort>(rt: &R, blank: Blank)
     requires one { blank.parts ≡ 1 }
 {
     let mut sink = PieceWriter::new(Reluctant { calls: 0 }, Failures::<L>::new(blank));
-    assert_eq!(rt; sink.put(b"abc"), Err(Failed));
-    assert_eq!(rt; sink.put(b"abc"), Err(Failed));
-    assert_eq!(rt; sink.put(b"abc"), Ok(1));
-    assert_eq!(rt; sink.put(b""), Ok(0));
+    for (piece, wanted) in &PUTS {
+        same(rt, "a writer", "what it takes", sink.put(piece), *wanted);
+    }
 }
 
 #[test]
-fn a_reader_is_not_asked_after_its_end(rt: HostRuntime) -> Result<(), Fail> {
+fn a_reader_is_not_asked_after_its_end(rt: HostRuntime) {
     reads::<Brand, HostRuntime>(&rt, Blank::new(1));
-    Ok(())
 }
 
 #[test]
-fn a_write_of_no_byte_is_a_failure(rt: HostRuntime) -> Result<(), Fail> {
+fn a_write_of_no_byte_is_a_failure(rt: HostRuntime) {
     writes::<Brand, HostRuntime>(&rt, Blank::new(1));
-    Ok(())
 }
