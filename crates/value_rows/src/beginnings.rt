@@ -1,5 +1,7 @@
 //! First states of models that are refused, and one whose growths may be.
+use crate::compare::same;
 use crate::limits::within;
+use crate::sample::{all, quotient};
 use diagnostics::{Fault, Stop};
 use pml_lex::token::{Kind, Token};
 use pml_program::expr::Expr;
@@ -7,10 +9,10 @@ use pml_program::form::Form;
 use pml_program::program::{Fields, Initial, Proctype, Program, Seq, Slot};
 use pml_start::start::start;
 use pml_start::started::Started;
-use pml_tree::tree::{Infix, Scalar};
-use sqlite_items::{Boxed, Items};
+use pml_tree::tree::Scalar;
+use sqlite_items::Items;
 use std::alloc::{AllocError, Global};
-use std::test::Fail;
+use std::process::Abort;
 
 /// A variable or a field of so many elements.
 pub fn slot(form: Form, offset: u32, length: u32, stride: u32, initial: Initial) -> Slot<'static> {
@@ -27,16 +29,8 @@ pub fn slot(form: Form, offset: u32, length: u32, stride: u32, initial: Initial)
 
 /// Channels with one field, a byte.
 pub fn channels(alloc: Global, capacity: u32) -> Result<Initial, AllocError> {
-    let mut types = Items::new(alloc);
-    types.push(Form::Plain(Scalar::Byte))?;
+    let types = all(alloc, [Form::Plain(Scalar::Byte)])?;
     Ok(Initial::Channel(capacity, types))
-}
-
-/// `1 / 0`.
-pub fn quotient(alloc: Global) -> Result<Expr, AllocError> {
-    let left = Boxed::new(alloc, Expr::Number(1))?;
-    let right = Boxed::new(alloc, Expr::Number(0))?;
-    Ok(Expr::Binary(Infix::Divide, left, right))
 }
 
 /// The first state of a model with these typedefs and these globals, and without a process.
@@ -62,81 +56,99 @@ pub fn first_state(alloc: Global, program: &Program<'_>) -> Result<Started, Stop
     }
 }
 
-/// A field's fault is told where the first cell of it begins: behind 255 channels, and not behind 256.
-#[test]
-fn a_fault_of_a_field(rt: HostRuntime) -> Result<(), Fail> {
-    let alloc = rt.alloc();
-    let channel = Form::Plain(Scalar::Chan);
-    for made in 255..257u32 {
-        let mut fields = Items::new(alloc);
-        let bad = Initial::Value(quotient(alloc)?);
-        fields.push(slot(channel, 0, made, 1, channels(alloc, 0)?))?;
-        fields.push(slot(Form::Plain(Scalar::Byte), made, 1, 1, bad))?;
-        let mut typedefs = Items::new(alloc);
-        typedefs.push(Fields { owner: 9, fields })?;
-        let mut slots = Items::new(alloc);
-        slots.push(slot(Form::Struct(9), 0, 1, made + 1, Initial::Zero))?;
-        let fault = if made == 255 {
-            Fault::ZeroDivisor
-        } else {
-            Fault::TooManyChannels
-        };
-        match begun(alloc, typedefs, slots) {
-            Ok(_) => return Err(Fail::from("a first state")),
-            Err(stop) => assert_eq!(rt; stop, Stop::Fault(fault)),
-        }
+/// The first state of such a model is this fault.
+fn is_fault<R: Abort>(
+    rt: &R,
+    alloc: Global,
+    typedefs: Items<Fields<'static>>,
+    globals: Items<Slot<'static>>,
+    fault: Fault,
+) {
+    match begun(alloc, typedefs, globals) {
+        Ok(_) => panic!(rt; "a first state"),
+        Err(stop) => same(rt, "a first state", "its fault", stop, Stop::Fault(fault)),
     }
-    Ok(())
+}
+
+/// So many channels, and a byte whose initialiser is a fault.
+fn fields<R: Abort>(rt: &R, alloc: Global, made: u32) -> Items<Slot<'static>> {
+    let channel = channels(alloc, 0).expect(rt, "channels");
+    let bad = quotient(alloc).expect(rt, "a quotient");
+    let byte = Form::Plain(Scalar::Byte);
+    let channel = slot(Form::Plain(Scalar::Chan), 0, made, 1, channel);
+    let byte = slot(byte, made, 1, 1, Initial::Value(bad));
+    all(alloc, [channel, byte]).expect(rt, "the fields")
+}
+
+/// A variable of a typedef with these fields.
+fn is_fault_of_a_field<R: Abort>(rt: &R, alloc: Global, made: u32, fault: Fault) {
+    let fields = fields(rt, alloc, made);
+    let typedefs = all(alloc, [Fields { owner: 9, fields }]).expect(rt, "the typedefs");
+    let cells = made.saturating_add(1);
+    let slots = all(alloc, [slot(Form::Struct(9), 0, 1, cells, Initial::Zero)]);
+    is_fault(rt, alloc, typedefs, slots.expect(rt, "the globals"), fault);
+}
+
+/// A field's fault is told where the first cell of it begins: behind 255 channels, and not behind 256.
+static FIELDS: [(u32, Fault); 2] = [(255, Fault::ZeroDivisor), (256, Fault::TooManyChannels)];
+
+#[test]
+fn a_fault_of_a_field(rt: HostRuntime) {
+    for (made, fault) in &FIELDS {
+        is_fault_of_a_field(&rt, rt.alloc(), *made, *fault);
+    }
+}
+
+/// Behind these variables 256 channels, of which one is too many.
+fn is_fault_of_variables<R: Abort>(
+    rt: &R,
+    alloc: Global,
+    mut slots: Items<Slot<'static>>,
+    fault: Fault,
+) {
+    let channel = channels(alloc, 0).expect(rt, "channels");
+    slots
+        .push(slot(Form::Plain(Scalar::Chan), 1, 256, 1, channel))
+        .expect(rt, "channels");
+    is_fault(rt, alloc, Items::new(alloc), slots, fault);
 }
 
 /// The first fault ends it.
 #[test]
-fn a_fault(rt: HostRuntime) -> Result<(), Fail> {
+fn a_fault(rt: HostRuntime) {
     let alloc = rt.alloc();
+    let bad = quotient(alloc).expect(&rt, "a quotient");
     let int = Form::Plain(Scalar::Int);
-    let mut slots = Items::new(alloc);
-    slots.push(slot(int, 0, 1, 1, Initial::Value(quotient(alloc)?)))?;
-    slots.push(slot(Form::Plain(Scalar::Chan), 1, 256, 1, channels(alloc, 0)?))?;
-    match begun(alloc, Items::new(alloc), slots) {
-        Ok(_) => Err(Fail::from("a first state")),
-        Err(stop) => {
-            assert_eq!(rt; stop, Stop::Fault(Fault::ZeroDivisor));
-            Ok(())
-        }
-    }
+    let slots = all(alloc, [slot(int, 0, 1, 1, Initial::Value(bad))]);
+    let slots = slots.expect(&rt, "the globals");
+    is_fault_of_variables(&rt, alloc, slots, Fault::ZeroDivisor);
 }
 
 /// The 256th channel is a fault.
 #[test]
-fn a_channel_too_many(rt: HostRuntime) -> Result<(), Fail> {
+fn a_channel_too_many(rt: HostRuntime) {
     let alloc = rt.alloc();
-    let mut slots = Items::new(alloc);
-    slots.push(slot(Form::Plain(Scalar::Chan), 0, 256, 1, channels(alloc, 0)?))?;
-    match begun(alloc, Items::new(alloc), slots) {
-        Ok(_) => Err(Fail::from("a first state")),
-        Err(stop) => {
-            assert_eq!(rt; stop, Stop::Fault(Fault::TooManyChannels));
-            Ok(())
-        }
-    }
+    is_fault_of_variables(&rt, alloc, Items::new(alloc), Fault::TooManyChannels);
 }
 
-/// A typedef with a byte of 7 and a channel; two globals of its type; and a proctype that starts twice, each process with its
-/// number and how many live by then.
-pub fn program(alloc: Global) -> Result<Program<'static>, AllocError> {
+/// A typedef with a byte of 7 and a channel.
+fn typedefs(alloc: Global) -> Result<Items<Fields<'static>>, AllocError> {
     let byte = Form::Plain(Scalar::Byte);
-    let mut fields = Items::new(alloc);
-    fields.push(slot(byte, 0, 1, 1, Initial::Value(Expr::Number(7))))?;
-    fields.push(slot(Form::Plain(Scalar::Chan), 1, 1, 1, channels(alloc, 0)?))?;
-    let mut typedefs = Items::new(alloc);
-    typedefs.push(Fields { owner: 9, fields })?;
-    let mut globals = Items::new(alloc);
-    globals.push(slot(Form::Struct(9), 0, 2, 2, Initial::Zero))?;
-    let mut variables = Items::new(alloc);
-    variables.push(slot(byte, 0, 1, 1, Initial::Value(Expr::Pid)))?;
-    variables.push(slot(byte, 1, 1, 1, Initial::Value(Expr::ProcessCount)))?;
-    let mut proctypes = Items::new(alloc);
-    proctypes.push(Proctype {
+    let seven = Initial::Value(Expr::Number(7));
+    let channel = channels(alloc, 0)?;
+    let byte = slot(byte, 0, 1, 1, seven);
+    let channel = slot(Form::Plain(Scalar::Chan), 1, 1, 1, channel);
+    let fields = all(alloc, [byte, channel])?;
+    all(alloc, [Fields { owner: 9, fields }])
+}
+
+/// A proctype that starts twice, each process with its number and how many live by then.
+fn proctypes(alloc: Global) -> Result<Items<Proctype<'static>>, AllocError> {
+    let byte = Form::Plain(Scalar::Byte);
+    let pid = slot(byte, 0, 1, 1, Initial::Value(Expr::Pid));
+    let count = slot(byte, 1, 1, 1, Initial::Value(Expr::ProcessCount));
+    let variables = all(alloc, [pid, count])?;
+    let proctype = Proctype {
         name: Token::new(Kind::Name, b"p", 2),
         owner: 1,
         starts: 2,
@@ -146,7 +158,15 @@ pub fn program(alloc: Global) -> Result<Program<'static>, AllocError> {
             steps: Items::new(alloc),
         },
         end: Token::new(Kind::Name, b"p", 3),
-    })?;
+    };
+    all(alloc, [proctype])
+}
+
+/// That typedef, two globals of its type, and that proctype.
+pub fn program(alloc: Global) -> Result<Program<'static>, AllocError> {
+    let typedefs = typedefs(alloc)?;
+    let proctypes = proctypes(alloc)?;
+    let globals = all(alloc, [slot(Form::Struct(9), 0, 2, 2, Initial::Zero)])?;
     Ok(Program {
         globals,
         constants: Items::new(alloc),

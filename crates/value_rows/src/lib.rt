@@ -1,9 +1,11 @@
-//! What no text gives: places, types and variables that no model has, first states of refused models, a store by itself, and growths that may be
+//! What no text gives: tokens, places, types and variables that no model has, first states of refused models, a store by itself, and growths that may be
 //! refused.
 #![tactic(auto)]
 
 #[cfg(test)]
 mod beginnings;
+#[cfg(test)]
+mod compare;
 #[cfg(test)]
 mod expressions;
 #[cfg(test)]
@@ -16,3 +18,5 @@ mod sample;
 mod statements;
 #[cfg(test)]
 mod stores;
+#[cfg(test)]
+mod tokens;

@@ -1,14 +1,17 @@
 //! Growths that may be refused: each test passes with memory enough, and where any one growth of it is refused.
-ghost use Rattle.std.specs.Prelude.{◌≡◌};
+ghost use Rattle.std.specs.Prelude.{◌≡◌, [], ◌∷◌};
+ghost use Rattle.pml_program.specs.declared.form.Form.TheVariants.{Plain};
+ghost use Rattle.pml_tree.specs.declared.tree.Scalar.TheVariants.{Byte, Short};
 
 use crate::beginnings::{first_state, program};
-use crate::sample::{TAKER, constants, created, globals, of_three, only, variable, variables};
+use crate::compare::same;
+use crate::sample::{TAKER, all, constants, created, globals, of_three, only, variable, variables};
 use diagnostics::Stop;
 use pml_channel::channel::Channel;
 use pml_printed::string::printed;
 use pml_program::expr::{Expr, Target, Want};
-use pml_program::form::Form;
-use pml_program::program::Action;
+use pml_program::program::{Action, Program};
+use pml_start::started::Started;
 use pml_store::place::Place;
 use pml_store::store::Store;
 use pml_tree::tree::{Removal, Scalar, Search, SendOrder};
@@ -16,9 +19,8 @@ use pml_value::live_channel::LiveChannel;
 use pml_value::message::{receive, send};
 use pml_value::statement::take;
 use sqlite_items::Items;
-use std::alloc::Global;
+use std::alloc::{AllocError, Global};
 use std::process::Abort;
-use std::test::Fail;
 
 const NUMBER: Place = Place {
     frame: 0,
@@ -36,15 +38,10 @@ fn adds_a_frame<R: Abort>(rt: &R, store: &mut Store)
         return;
     }
     let added = store.push_frame(&[2, 1]).is_ok();
-    assert_eq!(rt;
-        store.cells().len(),
-        if added {
-            before.wrapping_add(3)
-        } else {
-            before
-        }
-    );
-    assert_eq!(rt; store.written().len(), 0);
+    let more = if added { 3 } else { 0 };
+    let cells = store.cells().len();
+    same(rt, "a frame", "its cells", cells, before.wrapping_add(more));
+    same(rt, "a frame", "written", store.written().len(), 0);
 }
 
 #[test]
@@ -63,11 +60,16 @@ fn stores<R: Abort>(rt: &R, store: &mut Store, number: i32, held: i32) -> i32 {
     let noted = store.written().len();
     let stored = store.set(NUMBER, number).is_ok();
     let held = if stored { number } else { held };
-    assert_eq!(rt; store.cells().as_slice(), [held].as_slice());
-    assert_eq!(rt;
-        store.written().len(),
-        if stored { noted.wrapping_add(1) } else { noted }
+    same(
+        rt,
+        "a number",
+        "the cells",
+        store.cells().as_slice(),
+        &[held],
     );
+    let more = usize::from(stored);
+    let written = store.written().len();
+    same(rt, "a number", "noted", written, noted.wrapping_add(more));
     held
 }
 
@@ -84,43 +86,63 @@ fn numbers(rt: HostRuntime) {
 
 fn left_as_it_was<R: Abort>(rt: &R, channel: &Channel, first: &[i32], second: &[i32]) {
     if channel.len() == 2 {
-        assert_eq!(rt; channel.message(0), first);
-        assert_eq!(rt; channel.message(1), second);
+        same(
+            rt,
+            "a channel",
+            "its first message",
+            channel.message(0),
+            first,
+        );
+        same(
+            rt,
+            "a channel",
+            "its second one",
+            channel.message(1),
+            second,
+        );
     } else {
-        assert_eq!(rt; channel.len(), 0);
+        same(rt, "a channel", "its messages", channel.len(), 0);
     }
 }
 
 /// A message is sent, or the channel is left as it was.
-#[test]
-fn messages(rt: HostRuntime) {
-    let Ok(mut channel) = of_three(rt.alloc()) else {
-        return;
-    };
+fn sends<R: Abort>(rt: &R, channel: &mut Channel)
+    requires { channel.old ≡ record { capacity = 3; types = Plain Byte ∷ Plain Short ∷ []; messages = [] } }
+{
     if channel.send(&[257, 40_000]).is_err() {
-        left_as_it_was(&rt, &channel, &[], &[]);
+        left_as_it_was(rt, channel, &[], &[]);
         return;
     }
     if channel.send(&[3, 7]).is_err() {
-        assert_eq!(rt; channel.len(), 1);
+        same(rt, "a channel", "its messages", channel.len(), 1);
         return;
     }
     if channel.send_sorted(&[2, 0]).is_err() {
-        left_as_it_was(&rt, &channel, &[1, -25_536], &[3, 7]);
+        left_as_it_was(rt, channel, &[1, -25_536], &[3, 7]);
         return;
     }
-    assert_eq!(rt; channel.len(), 3);
-    assert_eq!(rt; channel.message(1), [2, 0].as_slice());
+    same(rt, "a channel", "its messages", channel.len(), 3);
+    let second: &[i32] = &[2, 0];
+    same(
+        rt,
+        "a channel",
+        "its second one",
+        channel.message(1),
+        second,
+    );
+}
+
+#[test]
+fn messages(rt: HostRuntime) {
+    if let Ok(mut channel) = of_three(rt.alloc()) {
+        sends(&rt, &mut channel);
+    }
 }
 
 /// `x++`.
-fn counted(alloc: Global) -> Action<'static> {
-    Action::Increment(Target {
-        local: false,
-        variable: 0,
-        form: Form::Plain(Scalar::Byte),
-        turns: Items::new(alloc),
-    })
+fn counted(alloc: Global) -> Result<Items<Action<'static>>, AllocError> {
+    let target = variable(alloc, 0, Scalar::Byte);
+    all(alloc, [Action::Increment(target)])
 }
 
 /// A statement is taken, or it stores nothing.
@@ -128,14 +150,28 @@ fn takes<R: Abort>(rt: &R, store: &mut Store, action: &Action<'_>, held: i32) ->
     let next = held.wrapping_add(1);
     match take(store, &[], 0, 1, false, action) {
         Ok(()) => {
-            assert_eq!(rt; store.cells().as_slice(), [next].as_slice());
+            same(rt, "x++", "counts", store.cells().as_slice(), &[next]);
             next
         }
         Err(stop) => {
-            assert_eq!(rt; stop, Stop::Memory);
-            assert_eq!(rt; store.cells().as_slice(), [held].as_slice());
+            same(rt, "x++", "is refused", stop, Stop::Memory);
+            same(
+                rt,
+                "x++",
+                "stores nothing",
+                store.cells().as_slice(),
+                &[held],
+            );
             held
         }
+    }
+}
+
+/// The same, often.
+fn counts<R: Abort>(rt: &R, store: &mut Store, action: &Action<'_>) {
+    let mut held = 0;
+    for _step in 0..20u8 {
+        held = takes(rt, store, action, held);
     }
 }
 
@@ -143,23 +179,30 @@ fn takes<R: Abort>(rt: &R, store: &mut Store, action: &Action<'_>, held: i32) ->
 fn statements(rt: HostRuntime) {
     let mut store = Store::new(rt.alloc(), 1);
     if store.push_frame(&[1]).is_ok() {
-        let action = counted(rt.alloc());
-        let mut held = 0;
-        for _step in 0..20u8 {
-            held = takes(&rt, &mut store, &action, held);
+        if let Ok(actions) = counted(rt.alloc()) {
+            counts(&rt, &mut store, actions.get(0).expect(&rt, "x++"));
         }
     }
 }
 
 /// There is a first state, or memory was refused.
+fn begins<R: Abort>(rt: &R, alloc: Global, program: &Program<'_>) {
+    match first_state(alloc, program) {
+        Ok(started) => same(
+            rt,
+            "a first state",
+            "its cells",
+            started.store.cells().len(),
+            8,
+        ),
+        Err(stop) => same(rt, "a first state", "is refused", stop, Stop::Memory),
+    }
+}
+
 #[test]
 fn first_states(rt: HostRuntime) {
-    let Ok(program) = program(rt.alloc()) else {
-        return;
-    };
-    match first_state(rt.alloc(), &program) {
-        Ok(started) => assert_eq!(rt; started.store.cells().len(), 8),
-        Err(stop) => assert_eq!(rt; stop, Stop::Memory),
+    if let Ok(program) = program(rt.alloc()) {
+        begins(&rt, rt.alloc(), &program);
     }
 }
 
@@ -185,45 +228,72 @@ fn goes_through<R: Abort>(
         wants,
     );
     if let Err(stop) = received {
-        assert_eq!(rt; stop, Stop::Memory);
-        assert_eq!(rt; store.cells().as_slice(), [1, 0, 0, 0, 0].as_slice());
+        same(rt, "a message", "is refused", stop, Stop::Memory);
+        let cells: &[i32] = &[1, 0, 0, 0, 0];
+        same(
+            rt,
+            "a message",
+            "the cells",
+            store.cells().as_slice(),
+            cells,
+        );
     }
+}
+
+/// The same through the only channel, into `x`.
+fn exchanges<R: Abort>(rt: &R, alloc: Global, channels: &mut [LiveChannel]) {
+    let Ok(mut store) = globals(alloc) else {
+        return;
+    };
+    let q = variable(alloc, 0, Scalar::Chan);
+    let wants = [Want::Into(variable(alloc, 1, Scalar::Byte)), Want::Anything];
+    goes_through(rt, &mut store, channels, &q, &wants);
 }
 
 #[test]
 fn sent_and_received(rt: HostRuntime) {
-    let (Ok(mut store), Ok(channel)) = (globals(rt.alloc()), of_three(rt.alloc())) else {
+    let Ok(channel) = of_three(rt.alloc()) else {
         return;
     };
     let mut channels = [LiveChannel { frame: 0, channel }];
-    let q = variable(rt.alloc(), 0, Scalar::Chan);
-    let wants = [
-        Want::Into(variable(rt.alloc(), 1, Scalar::Byte)),
-        Want::Anything,
-    ];
-    goes_through(&rt, &mut store, &mut channels, &q, &wants);
-    assert_eq!(rt; only(&channels).capacity(), 3);
+    exchanges(&rt, rt.alloc(), &mut channels);
+    same(
+        &rt,
+        "a message",
+        "its channel",
+        only(&channels).capacity(),
+        3,
+    );
 }
 
 /// A process is created, or what there was stays.
+fn stands<R: Abort>(rt: &R, started: &Started, ended: Result<(), Stop>) {
+    match ended {
+        Ok(()) => {
+            same(rt, "a process", "its cells", started.store.cells().len(), 9);
+            same(rt, "a process", "lives", started.kinds.len(), 1);
+        }
+        Err(stop) => {
+            same(rt, "no process", "is refused", stop, Stop::Memory);
+            same(
+                rt,
+                "no process",
+                "the cells",
+                started.store.cells().as_slice(),
+                &[0],
+            );
+            same(rt, "no process", "lives", started.kinds.len(), 0);
+        }
+    }
+}
+
 #[test]
 fn processes(rt: HostRuntime) {
     let Ok(variables) = variables(rt.alloc()) else {
         return;
     };
-    let Ok((started, ended)) = created(rt.alloc(), &[], variables.as_slice(), &[3]) else {
-        return;
-    };
-    match ended {
-        Ok(()) => {
-            assert_eq!(rt; started.store.cells().len(), 9);
-            assert_eq!(rt; started.kinds.len(), 1);
-        }
-        Err(stop) => {
-            assert_eq!(rt; stop, Stop::Memory);
-            assert_eq!(rt; started.store.cells().as_slice(), [0].as_slice());
-            assert_eq!(rt; started.kinds.len(), 0);
-        }
+    if let Ok((started, ended)) = created(rt.alloc(), &[], variables.as_slice(), &[3]) {
+        stands(&rt, &started, ended);
     }
 }
 
@@ -237,8 +307,12 @@ fn strings(rt: HostRuntime) {
     let string = b"\"%e %x\\n%%%c %d\"";
     match printed(names.as_slice(), string, &[1, -1, 65, 7], &mut text) {
         Ok(()) => {
-            assert_eq!(rt; text.as_slice(), b"old nak ffffffff\n%A 7".as_slice());
+            let whole: &[u8] = b"old nak ffffffff\n%A 7";
+            same(&rt, "a string", "behind the text", text.as_slice(), whole);
         }
-        Err(_) => assert_eq!(rt; text.as_slice().starts_with(b"old "), true),
+        Err(_) => {
+            let begins = text.as_slice().starts_with(b"old ");
+            same(&rt, "a string", "begins as before", begins, true);
+        }
     }
 }

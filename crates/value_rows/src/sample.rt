@@ -16,20 +16,35 @@ use pml_start::create::create;
 use pml_start::started::Started;
 use pml_store::place::Place;
 use pml_store::store::Store;
-use pml_tree::tree::Scalar;
+use pml_tree::tree::{Infix, Scalar};
 use pml_value::live_channel::LiveChannel;
 use pml_value::message::Taker;
-use sqlite_items::Items;
+use sqlite_items::{Boxed, Items};
 use std::alloc::{AllocError, Global};
+
+/// These items.
+pub fn all<T: Drop, const N: usize>(alloc: Global, items: [T; N]) -> Result<Items<T>, AllocError>
+    ensures { IfOk result (λ it. it ≡ items) }
+{
+    match Vec::from_array(alloc, items) {
+        Ok(items) => Ok(Items::from_vec(items)),
+        Err(_) => Err(AllocError),
+    }
+}
 
 /// A channel of three messages, each a byte and a short.
 pub fn of_three(alloc: Global) -> Result<Channel, AllocError>
     ensures { IfOk result (λ c. c ≡ record { capacity = 3; types = Plain Byte ∷ Plain Short ∷ []; messages = [] }) }
 {
-    let mut types = Items::new(alloc);
-    types.push(Form::Plain(Scalar::Byte))?;
-    types.push(Form::Plain(Scalar::Short))?;
-    Ok(Channel::new(alloc, 3, types))
+    let types = [Form::Plain(Scalar::Byte), Form::Plain(Scalar::Short)];
+    Ok(Channel::new(alloc, 3, all(alloc, types)?))
+}
+
+/// `1 / 0`.
+pub fn quotient(alloc: Global) -> Result<Expr, AllocError> {
+    let left = Boxed::new(alloc, Expr::Number(1))?;
+    let right = Boxed::new(alloc, Expr::Number(0))?;
+    Ok(Expr::Binary(Infix::Divide, left, right))
 }
 
 /// `mtype = { ack, nak }`: the last name has the number 1.
@@ -111,11 +126,14 @@ pub fn created(
 /// Two parameters, two elements of that typedef, its number, and how many processes live.
 pub fn variables(alloc: Global) -> Result<Items<Slot<'static>>, AllocError> {
     let byte = Form::Plain(Scalar::Byte);
-    let mut slots = Items::new(alloc);
-    slots.push(slot(byte, 0, 1, 1, Initial::Zero))?;
-    slots.push(slot(Form::Plain(Scalar::Short), 1, 1, 1, Initial::Zero))?;
-    slots.push(slot(Form::Struct(9), 2, 2, 2, Initial::Zero))?;
-    slots.push(slot(byte, 6, 1, 1, Initial::Value(Expr::Pid)))?;
-    slots.push(slot(byte, 7, 1, 1, Initial::Value(Expr::ProcessCount)))?;
-    Ok(slots)
+    let number = Initial::Value(Expr::Pid);
+    let count = Initial::Value(Expr::ProcessCount);
+    let slots = [
+        slot(byte, 0, 1, 1, Initial::Zero),
+        slot(Form::Plain(Scalar::Short), 1, 1, 1, Initial::Zero),
+        slot(Form::Struct(9), 2, 2, 2, Initial::Zero),
+        slot(byte, 6, 1, 1, number),
+        slot(byte, 7, 1, 1, count),
+    ];
+    all(alloc, slots)
 }
