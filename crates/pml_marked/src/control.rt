@@ -1,51 +1,78 @@
 //! Breaks and d_steps.
 
-use crate::subject::{Subject, breaks_before, label, nth};
+use crate::sign::{Matter, Sign, Sought, first_name, front, place_of_name, sign_at, sign_of};
+use crate::spans::nth_place;
 use pml_causes::brackets::closing;
-use pml_causes::cause::{Cause, ControlCause, Finding};
-use pml_causes::place::{at_token, named, untold};
+use pml_causes::cause::{Cause, ControlCause, Finding, Named, Place};
+use pml_causes::place::{place_of, untold};
 use pml_lex::token::{Kind, Token, same_kind};
-use pml_marks::mark::{Mark, Structure, What};
+use pml_marks::mark::{Mark, What};
 use std::alloc::{AllocError, Global};
 
-fn of_token<'t>(token: Option<&Token<'_>>, cause: ControlCause<'t>) -> Finding<'t> {
-    match token {
-        Some(token) => at_token(token, Cause::Control(cause)),
-        None => Finding {
-            place: None,
-            cause: Cause::Control(cause),
-        },
+/// How many breaks these marks are.
+fn breaks_in(marks: &[Mark<'_>]) -> usize {
+    let mut count = 0usize;
+    for mark in marks {
+        if let What::Break = &mark.what {
+            count = count.saturating_add(1);
+        }
+    }
+    count
+}
+
+/// The place of the `break` that a mark is.
+fn break_place(tokens: &[Token<'_>], marks: &[Mark<'_>], at: usize) -> Option<Place> {
+    nth_place(tokens, Kind::Break, breaks_in(front(marks, at)))
+}
+
+/// What is told of control, and where.
+#[derive(Clone, Copy)]
+struct Controlled<'t> {
+    place: Option<Place>,
+    cause: ControlCause<'t>,
+}
+
+fn told(controlled: Controlled<'_>) -> Finding<'_> {
+    Finding {
+        place: controlled.place,
+        cause: Cause::Control(controlled.cause),
     }
 }
 
-/// The `break` that a mark is.
-fn break_token<'s, 't>(subject: Subject<'s, 't, '_>) -> Option<&'s Token<'t>> {
-    nth(subject.tokens, Kind::Break, breaks_before(subject.before()))
+/// Of a `break` that no `do` is round, which the mark at `at` is.
+pub fn of_break<'t>(tokens: &[Token<'_>], marks: &[Mark<'_>], at: usize) -> Finding<'t> {
+    told(Controlled {
+        place: break_place(tokens, marks, at),
+        cause: ControlCause::LooseBreak,
+    })
 }
 
-/// Of a `break` that no `do` is round.
-pub fn of_break<'t>(subject: Subject<'_, 't, '_>) -> Finding<'t> {
-    of_token(break_token(subject), ControlCause::LooseBreak)
+/// Whether a mark is a label or a goto whose name stands behind so many bytes of the text.
+fn is_at(sign: Sign<'_>, offset: usize) -> bool {
+    matches!(sign.matter, Matter::Label | Matter::Goto) && sign.name.offset == offset
 }
 
-/// How many marks stand before the innermost d_step round a mark.
+/// How many marks stand before the innermost d_step round the label or goto whose name is there.
 fn step_of(
     alloc: Global,
+    text: &[u8],
     marks: &[Mark<'_>],
-    wanted: &Token<'_>,
+    offset: usize,
 ) -> Result<Option<usize>, AllocError> {
     let mut open: Vec<Option<usize>> = Vec::new(alloc);
     let mut step = None;
     for (i, mark) in marks.iter().enumerate() {
-        match &mark.what {
-            What::Enter(Structure::DStep) => {
+        let sign = sign_of(text, mark);
+        if is_at(sign, offset) {
+            return Ok(step);
+        }
+        match sign.matter {
+            Matter::Step => {
                 open.push(step)?;
                 step = Some(i);
             }
-            What::Enter(_) => open.push(step)?,
-            What::Leave => step = open.pop().unwrap_or(None),
-            What::Label(token) if token.line() == wanted.line() => return Ok(step),
-            What::Goto(token) if token.line() == wanted.line() => return Ok(step),
+            Matter::Loop => open.push(step)?,
+            Matter::Leave => step = open.pop().unwrap_or(None),
             _ => {}
         }
     }
@@ -61,49 +88,95 @@ fn leaves(from: Option<usize>, to: Option<usize>) -> bool {
     }
 }
 
-fn of_goto<'t>(
-    alloc: Global,
-    subject: Subject<'_, 't, '_>,
-    owner: usize,
-    token: &Token<'_>,
-) -> Result<Finding<'t>, AllocError> {
-    let Some(target) = label(subject.marks, owner, token.text()) else {
-        return Ok(untold());
-    };
-    let from = step_of(alloc, subject.marks, token)?;
-    let to = step_of(alloc, subject.marks, target)?;
-    let name = named(subject.text, target);
-    let cause = if leaves(from, to) {
-        ControlCause::GotoLeaves(name)
+fn crossing<'t>(target: Named<'t>, from: Option<usize>, to: Option<usize>) -> ControlCause<'t> {
+    if leaves(from, to) {
+        ControlCause::GotoLeaves(target)
     } else {
-        ControlCause::GotoEnters(name)
-    };
-    Ok(at_token(token, Cause::Control(cause)))
+        ControlCause::GotoEnters(target)
+    }
 }
 
-/// The first `unless` in a d_step.
-fn unless_token<'s, 't>(tokens: &'s [Token<'t>]) -> Option<&'s Token<'t>> {
+/// Of a goto of the name to the target.
+fn of_target<'t>(
+    alloc: Global,
+    text: &'t [u8],
+    marks: &[Mark<'_>],
+    name: Named<'t>,
+    target: Named<'t>,
+) -> Result<Option<Controlled<'t>>, AllocError> {
+    let from = step_of(alloc, text, marks, name.offset)?;
+    let to = step_of(alloc, text, marks, target.offset)?;
+    let place = Some(place_of_name(name));
+    let cause = crossing(target, from, to);
+    Ok(Some(Controlled { place, cause }))
+}
+
+fn of_goto<'t>(
+    alloc: Global,
+    text: &'t [u8],
+    marks: &[Mark<'_>],
+    owner: usize,
+    name: Named<'t>,
+) -> Result<Option<Controlled<'t>>, AllocError> {
+    match first_name(text, marks, Sought::Label(owner), name.name) {
+        Some(target) => of_target(alloc, text, marks, name, target),
+        None => Ok(None),
+    }
+}
+
+/// The place of the first `unless` in a d_step.
+fn unless_place(tokens: &[Token<'_>]) -> Option<Place> {
     let mut end = 0usize;
     for (i, token) in tokens.iter().enumerate() {
         if end <= i && same_kind(token.kind(), Kind::DStep) {
             end = closing(tokens, i.saturating_add(1)).unwrap_or(end);
         }
         if i < end && same_kind(token.kind(), Kind::Unless) {
-            return Some(token);
+            return Some(place_of(token));
         }
     }
     None
 }
 
-/// Of what enters or leaves a d_step, or an unless in one.
-pub fn of_step<'t>(alloc: Global, subject: Subject<'_, 't, '_>) -> Result<Finding<'t>, AllocError> {
-    let Some(mark) = subject.mark() else {
-        return Ok(untold());
-    };
-    match &mark.what {
-        What::Break => Ok(of_token(break_token(subject), ControlCause::BreakOfStep)),
-        What::Unless => Ok(of_token(unless_token(subject.tokens), ControlCause::Unless)),
-        What::Goto(token) => of_goto(alloc, subject, mark.owner, token),
-        _ => Ok(untold()),
+fn step_at<'t>(
+    alloc: Global,
+    text: &'t [u8],
+    tokens: &[Token<'_>],
+    marks: &[Mark<'_>],
+    at: usize,
+) -> Result<Option<Controlled<'t>>, AllocError> {
+    let sign = sign_at(text, marks, at);
+    match sign.matter {
+        Matter::Break => Ok(Some(Controlled {
+            place: break_place(tokens, marks, at),
+            cause: ControlCause::BreakOfStep,
+        })),
+        Matter::Unless => Ok(Some(Controlled {
+            place: unless_place(tokens),
+            cause: ControlCause::Unless,
+        })),
+        Matter::Goto => of_goto(alloc, text, marks, sign.owner, sign.name),
+        _ => Ok(None),
+    }
+}
+
+fn told_step(controlled: Option<Controlled<'_>>) -> Finding<'_> {
+    match controlled {
+        Some(controlled) => told(controlled),
+        None => untold(),
+    }
+}
+
+/// Of what enters or leaves a d_step, or an unless in one, in the mark at `at`.
+pub fn of_step<'t>(
+    alloc: Global,
+    text: &'t [u8],
+    tokens: &[Token<'_>],
+    marks: &[Mark<'_>],
+    at: usize,
+) -> Result<Finding<'t>, AllocError> {
+    match step_at(alloc, text, tokens, marks, at) {
+        Ok(controlled) => Ok(told_step(controlled)),
+        Err(AllocError) => Err(AllocError),
     }
 }

@@ -1,34 +1,42 @@
 //! Wrong numbers of arguments, and labels.
 
 use crate::near::{Wish, nearest};
-use crate::subject::{Subject, declaration, label};
+use crate::sign::{Matter, Sign, Sought, first, first_name, front, place_of_name, sign_at};
 use pml_causes::cause::{Cause, CountCause, Finding, LabelCause, Named, Place, Sort};
-use pml_causes::place::{at_place, at_token, bytes_of, named, place_of, untold};
-use pml_lex::token::Token;
-use pml_marks::mark::{Declared, Mark, What};
+use pml_causes::place::{at_place, untold};
+use pml_marks::mark::Mark;
 use std::alloc::{AllocError, Global};
 
-/// How many parameters a proctype has.
-fn parameters(marks: &[Mark<'_>], name: &[u8]) -> Option<usize> {
-    for mark in marks {
-        if let What::Declares(token, Declared::Proctype(_, count)) = &mark.what {
-            if token.text() == name {
-                return Some(*count);
-            }
-        }
-    }
-    None
+/// A wrong number, and where it shows.
+#[derive(Clone, Copy)]
+struct Counted<'t> {
+    place: Place,
+    cause: CountCause<'t>,
 }
 
-fn of_run<'t>(subject: Subject<'_, 't, '_>, token: &Token<'_>, given: usize) -> Finding<'t> {
-    let Some(wanted) = parameters(subject.marks, token.text()) else {
-        return untold();
-    };
-    let Some(first) = declaration(subject.marks, 0, token.text()) else {
-        return untold();
-    };
-    let name = named(subject.text, first);
-    at_token(token, Cause::Count(CountCause::Run(name, given, wanted)))
+/// How many parameters a proctype has.
+fn parameters(text: &[u8], marks: &[Mark<'_>], name: &[u8]) -> Option<usize> {
+    match first(text, marks, Sought::Proctype, name) {
+        Some(sign) => match sign.matter {
+            Matter::Proctype(count) => Some(count),
+            _ => None,
+        },
+        None => None,
+    }
+}
+
+fn of_run<'t>(
+    text: &'t [u8],
+    marks: &[Mark<'_>],
+    name: Named<'t>,
+    given: usize,
+) -> Option<Counted<'t>> {
+    let wanted = parameters(text, marks, name.name)?;
+    let first = first_name(text, marks, Sought::Declared(0), name.name)?;
+    Some(Counted {
+        place: place_of_name(name),
+        cause: CountCause::Run(first, given, wanted),
+    })
 }
 
 /// Whether a letter behind `%` takes a value.
@@ -89,91 +97,136 @@ fn without_quote(text: &[u8]) -> &[u8] {
     }
 }
 
-fn of_printf<'t>(token: &Token<'_>, given: usize) -> Finding<'t> {
-    let text = without_quote(token.text());
-    let place = place_of(token);
+/// Of a `%` in a text with no conversion behind it, before which so many bytes of the text stand.
+fn of_percent<'t>(text: &[u8], start: usize, percent: usize) -> Counted<'t> {
+    let offset = start.saturating_add(percent);
+    match text.get(percent.saturating_add(1)) {
+        Some(letter) => Counted {
+            place: Place { offset, length: 2 },
+            cause: CountCause::Conversion(*letter),
+        },
+        None => Counted {
+            place: Place { offset, length: 1 },
+            cause: CountCause::OpenConversion,
+        },
+    }
+}
+
+fn of_printf<'t>(printed: Named<'t>, given: usize) -> Counted<'t> {
+    let text = without_quote(printed.name);
     match read_conversions(text) {
-        Conversions::Values(wanted) => {
-            at_token(token, Cause::Count(CountCause::Printf(given, wanted)))
-        }
-        Conversions::Bad(percent) => {
-            let offset = place.offset.saturating_add(percent);
-            match text.get(percent.saturating_add(1)) {
-                Some(letter) => at_place(
-                    Place { offset, length: 2 },
-                    Cause::Count(CountCause::Conversion(*letter)),
-                ),
-                None => at_place(
-                    Place { offset, length: 1 },
-                    Cause::Count(CountCause::OpenConversion),
-                ),
-            }
-        }
+        Conversions::Values(wanted) => Counted {
+            place: place_of_name(printed),
+            cause: CountCause::Printf(given, wanted),
+        },
+        Conversions::Bad(percent) => of_percent(text, printed.offset, percent),
     }
 }
 
-/// Of a run or a printf with another number of arguments.
-pub fn of_count<'t>(subject: Subject<'_, 't, '_>) -> Finding<'t> {
-    let Some(mark) = subject.mark() else {
-        return untold();
-    };
-    match &mark.what {
-        What::Runs(token, given) => of_run(subject, token, *given),
-        What::Prints(token, given) => of_printf(token, *given),
-        _ => untold(),
+fn of_sign<'t>(text: &'t [u8], marks: &[Mark<'_>], sign: Sign<'t>) -> Option<Counted<'t>> {
+    match sign.matter {
+        Matter::Run(given) => of_run(text, marks, sign.name, given),
+        Matter::Print(given) => Some(of_printf(sign.name, given)),
+        _ => None,
     }
 }
 
-/// The label of this name in another proctype.
-fn label_elsewhere<'t>(text: &'t [u8], marks: &[Mark<'_>], name: &[u8]) -> Option<Named<'t>> {
-    for mark in marks {
-        if let What::Label(token) = &mark.what {
-            if token.text() == name {
-                return Some(named(text, token));
-            }
-        }
+fn told(counted: Option<Counted<'_>>) -> Finding<'_> {
+    match counted {
+        Some(counted) => at_place(counted.place, Cause::Count(counted.cause)),
+        None => untold(),
     }
-    None
 }
 
+/// Of a run or a printf with another number of arguments, in the mark at `at`.
+pub fn of_count<'t>(text: &'t [u8], marks: &[Mark<'_>], at: usize) -> Finding<'t> {
+    told(of_sign(text, marks, sign_at(text, marks, at)))
+}
+
+/// A label, and what is told of it.
+#[derive(Clone, Copy)]
+struct Labelled<'t> {
+    name: Named<'t>,
+    cause: LabelCause<'t>,
+}
+
+/// The nearest label of one that is missing.
+fn of_missing<'t>(
+    alloc: Global,
+    text: &'t [u8],
+    marks: &[Mark<'_>],
+    owner: usize,
+    name: Named<'t>,
+) -> Result<Option<Labelled<'t>>, AllocError> {
+    let sort = Sort::Label;
+    let near = nearest(alloc, text, marks, Wish { sort, owner }, name.name)?;
+    let cause = LabelCause::Missing(name.name, near);
+    Ok(Some(Labelled { name, cause }))
+}
+
+/// Of a label that is missing, or stands in another proctype.
 fn of_goto<'t>(
     alloc: Global,
-    subject: Subject<'_, 't, '_>,
+    text: &'t [u8],
+    marks: &[Mark<'_>],
     owner: usize,
-    token: &Token<'_>,
-) -> Result<Finding<'t>, AllocError> {
-    let text = subject.text;
-    let cause = match label_elsewhere(text, subject.marks, token.text()) {
-        Some(other) => LabelCause::Elsewhere(other),
-        None => {
-            let wish = Wish {
-                sort: Sort::Label,
-                owner,
-            };
-            let near = nearest(alloc, text, subject.marks, wish, token.text())?;
-            LabelCause::Missing(bytes_of(text, token), near)
+    name: Named<'t>,
+) -> Result<Option<Labelled<'t>>, AllocError> {
+    match first_name(text, marks, Sought::AnyLabel, name.name) {
+        Some(other) => {
+            let cause = LabelCause::Elsewhere(other);
+            Ok(Some(Labelled { name, cause }))
         }
-    };
-    Ok(at_token(token, Cause::Label(cause)))
+        None => of_missing(alloc, text, marks, owner, name),
+    }
 }
 
-/// Of a label that stands twice, or is missing.
+/// Of a label that stands among these marks already.
+fn of_second<'t>(
+    text: &'t [u8],
+    before: &[Mark<'_>],
+    owner: usize,
+    name: Named<'t>,
+) -> Option<Labelled<'t>> {
+    match first_name(text, before, Sought::Label(owner), name.name) {
+        Some(first) => {
+            let cause = LabelCause::Twice(first);
+            Some(Labelled { name, cause })
+        }
+        None => None,
+    }
+}
+
+fn label_at<'t>(
+    alloc: Global,
+    text: &'t [u8],
+    marks: &[Mark<'_>],
+    at: usize,
+) -> Result<Option<Labelled<'t>>, AllocError> {
+    let sign = sign_at(text, marks, at);
+    match sign.matter {
+        Matter::Label => Ok(of_second(text, front(marks, at), sign.owner, sign.name)),
+        Matter::Goto => of_goto(alloc, text, marks, sign.owner, sign.name),
+        _ => Ok(None),
+    }
+}
+
+fn told_label(labelled: Option<Labelled<'_>>) -> Finding<'_> {
+    match labelled {
+        Some(found) => at_place(place_of_name(found.name), Cause::Label(found.cause)),
+        None => untold(),
+    }
+}
+
+/// Of a label that stands twice, or is missing, in the mark at `at`.
 pub fn of_label<'t>(
     alloc: Global,
-    subject: Subject<'_, 't, '_>,
+    text: &'t [u8],
+    marks: &[Mark<'_>],
+    at: usize,
 ) -> Result<Finding<'t>, AllocError> {
-    let Some(mark) = subject.mark() else {
-        return Ok(untold());
-    };
-    match &mark.what {
-        What::Label(token) => {
-            let Some(first) = label(subject.before(), mark.owner, token.text()) else {
-                return Ok(untold());
-            };
-            let cause = LabelCause::Twice(named(subject.text, first));
-            Ok(at_token(token, Cause::Label(cause)))
-        }
-        What::Goto(token) => of_goto(alloc, subject, mark.owner, token),
-        _ => Ok(untold()),
+    match label_at(alloc, text, marks, at) {
+        Ok(labelled) => Ok(told_label(labelled)),
+        Err(AllocError) => Err(AllocError),
     }
 }

@@ -1,250 +1,268 @@
 //! Names that stand twice, and names that are not declared.
 
 use crate::near::{Wish, nearest};
-use crate::subject::{Subject, declaration, declared_name, front, label, meaning_behind, typedef};
-use pml_causes::cause::{Cause, Finding, Sort, TwiceCause, UnknownCause};
-use pml_causes::place::{at_token, bytes_of, named, untold};
-use pml_lex::token::{Kind, Token, same_kind};
-use pml_marks::mark::{Declared, Mark, Role, Shape, What};
-use pml_names::meaning::{field, is_special};
-use pml_names::names::all_names;
-use pml_names::table::Table;
-use pml_names::thing::Thing;
-use pml_program::form::Form;
+use crate::sign::{
+    Matter, Sign, Sought, behind, first_name, front, is_declared, meaning, place_of_name, sign_at,
+    steps_at,
+};
+use crate::walk::{End, name_at, walk_behind};
+use pml_causes::cause::{Cause, Finding, Named, Sort, TwiceCause, UnknownCause};
+use pml_causes::place::{at_place, untold};
+use pml_marks::mark::{Mark, Shape};
+use pml_names::meaning::is_special;
 use std::alloc::{AllocError, Global};
 
-/// Of a name that is declared twice.
-pub fn of_twice<'t>(subject: Subject<'_, 't, '_>) -> Finding<'t> {
-    let Some(mark) = subject.mark() else {
-        return untold();
-    };
-    let Some(token) = declared_name(mark) else {
-        return untold();
-    };
-    let text = subject.text;
-    let name = named(text, token);
-    if is_special(token.text()) {
-        return at_token(token, Cause::Twice(TwiceCause::Special(name.name)));
-    }
-    let Some(first) = declaration(subject.before(), mark.owner, token.text()) else {
-        return untold();
-    };
-    let first = named(text, first);
-    let cause = if same_kind(token.kind(), Kind::Init) {
+/// Of a name that is declared before already.
+fn again<'t>(name: Named<'t>, first: Named<'t>) -> TwiceCause<'t> {
+    if name.name == b"init".as_slice() {
         TwiceCause::Init(first)
     } else {
         TwiceCause::Again(name, first)
+    }
+}
+
+/// Of a name that is declared behind these marks.
+fn twice<'t>(text: &'t [u8], before: &[Mark<'_>], sign: Sign<'t>) -> Option<TwiceCause<'t>> {
+    let name = sign.name;
+    if is_special(name.name) {
+        return Some(TwiceCause::Special(name.name));
+    }
+    match first_name(text, before, Sought::Declared(sign.owner), name.name) {
+        Some(first) => Some(again(name, first)),
+        None => None,
+    }
+}
+
+fn told_twice<'t>(name: Named<'t>, cause: Option<TwiceCause<'t>>) -> Finding<'t> {
+    match cause {
+        Some(cause) => at_place(place_of_name(name), Cause::Twice(cause)),
+        None => untold(),
+    }
+}
+
+/// Of a name that is declared twice, the second time by the mark at `at`.
+pub fn of_twice<'t>(text: &'t [u8], marks: &[Mark<'_>], at: usize) -> Finding<'t> {
+    let sign = sign_at(text, marks, at);
+    let cause = if is_declared(sign.matter) {
+        twice(text, front(marks, at), sign)
+    } else {
+        None
     };
-    at_token(token, Cause::Twice(cause))
+    told_twice(sign.name, cause)
 }
 
-/// A name that the whole text does not give where it is used.
+/// A name that is not declared, and what is told of it.
 #[derive(Clone, Copy)]
-struct Missing<'m, 'a> {
-    token: &'m Token<'a>,
+struct Unknown<'t> {
+    name: Named<'t>,
+    cause: UnknownCause<'t>,
+}
+
+/// Where a name that is no variable stands otherwise.
+fn no_variable<'t>(
+    text: &'t [u8],
+    marks: &[Mark<'_>],
     owner: usize,
-    sort: Sort,
-}
-
-/// Whether a mark declares a variable of a proctype.
-fn is_local(mark: &Mark<'_>, name: &[u8]) -> bool {
-    match &mark.what {
-        What::Declares(token, Declared::Variable(Role::Variable, _, _, _)) => {
-            0 < mark.owner && token.text() == name
-        }
-        _ => false,
+    name: &[u8],
+) -> Option<UnknownCause<'t>> {
+    match first_name(text, marks, Sought::Label(owner), name) {
+        Some(label) => Some(UnknownCause::Instead(label, Sort::Label)),
+        None => match first_name(text, marks, Sought::Local, name) {
+            Some(local) => Some(UnknownCause::Elsewhere(local)),
+            None => None,
+        },
     }
 }
 
-/// A variable of this name in some proctype.
-fn local_of<'m, 'a>(marks: &'m [Mark<'a>], name: &[u8]) -> Option<&'m Token<'a>> {
-    for mark in marks {
-        if is_local(mark, name) {
-            return declared_name(mark);
-        }
+/// The declaration of a name behind its use.
+fn later<'t>(text: &'t [u8], behind: &[Mark<'_>], owner: usize, name: &[u8]) -> Option<Named<'t>> {
+    match first_name(text, behind, Sought::Declared(owner), name) {
+        Some(own) => Some(own),
+        None => first_name(text, behind, Sought::Declared(0), name),
     }
-    None
 }
 
 /// Where a name that is not declared in front of its use is declared all the same.
 fn declared_otherwise<'t>(
-    subject: Subject<'_, 't, '_>,
-    missing: &Missing<'_, '_>,
+    text: &'t [u8],
+    marks: &[Mark<'_>],
+    at: usize,
+    name: &[u8],
+    wish: Wish,
 ) -> Option<UnknownCause<'t>> {
-    let name = missing.token.text();
-    let text = subject.text;
-    let behind = subject.behind();
-    if let Some(token) = declaration(behind, missing.owner, name) {
-        return Some(UnknownCause::Later(named(text, token)));
+    match later(text, behind(marks, at), wish.owner, name) {
+        Some(first) => Some(UnknownCause::Later(first)),
+        None => {
+            if matches!(wish.sort, Sort::Variable) {
+                no_variable(text, marks, wish.owner, name)
+            } else {
+                None
+            }
+        }
     }
-    if let Some(token) = declaration(behind, 0, name) {
-        return Some(UnknownCause::Later(named(text, token)));
-    }
-    if !matches!(missing.sort, Sort::Variable) {
-        return None;
-    }
-    if let Some(token) = label(subject.marks, missing.owner, name) {
-        return Some(UnknownCause::Instead(named(text, token), Sort::Label));
-    }
-    let token = local_of(subject.marks, name)?;
-    Some(UnknownCause::Elsewhere(named(text, token)))
 }
 
 /// How many marks may declare what is wanted: a proctype may be declared behind its use.
-fn declaring(subject: Subject<'_, '_, '_>, sort: Sort) -> usize {
+fn declaring(all: usize, at: usize, sort: Sort) -> usize {
     match sort {
-        Sort::Proctype => subject.marks.len(),
-        _ => subject.at,
+        Sort::Proctype => all,
+        _ => at,
     }
+}
+
+/// Of a name that is declared nowhere.
+fn nowhere<'t>(
+    alloc: Global,
+    text: &'t [u8],
+    seen: &[Mark<'_>],
+    name: Named<'t>,
+    wish: Wish,
+) -> Result<Option<Unknown<'t>>, AllocError> {
+    let near = nearest(alloc, text, seen, wish, name.name)?;
+    let cause = UnknownCause::Nowhere(wish.sort, name.name, near);
+    Ok(Some(Unknown { name, cause }))
 }
 
 /// Of a name that is not declared in front of its use.
 fn of_missing<'t>(
     alloc: Global,
-    subject: Subject<'_, 't, '_>,
-    missing: &Missing<'_, '_>,
-) -> Result<Finding<'t>, AllocError> {
-    let token = missing.token;
-    if let Some(cause) = declared_otherwise(subject, missing) {
-        return Ok(at_token(token, Cause::Unknown(cause)));
-    }
-    let wish = Wish {
-        sort: missing.sort,
-        owner: missing.owner,
-    };
-    let marks = front(subject.marks, declaring(subject, missing.sort));
-    let near = nearest(alloc, subject.text, marks, wish, token.text())?;
-    let name = bytes_of(subject.text, token);
-    let cause = UnknownCause::Nowhere(missing.sort, name, near);
-    Ok(at_token(token, Cause::Unknown(cause)))
-}
-
-/// A field that is lacking, and the owner of the fields of its typedef.
-#[derive(Clone, Copy)]
-struct Lacking<'m, 'a> {
-    field: &'m Token<'a>,
-    owner: usize,
-}
-
-/// The first field that is lacking.
-fn first_lacking<'m, 'a>(
-    table: &Table<'_>,
-    form: Form,
-    steps: &'m [Shape<'a>],
-) -> Option<Lacking<'m, 'a>> {
-    let mut here = form;
-    for step in steps {
-        match field(table, here, step.name.text()) {
-            Some(None) => {
-                return match here {
-                    Form::Struct(owner) => Some(Lacking {
-                        field: &step.name,
-                        owner,
-                    }),
-                    _ => None,
-                };
-            }
-            Some(Some(Thing::Variable(v))) => here = v.form,
-            _ => return None,
+    text: &'t [u8],
+    marks: &[Mark<'_>],
+    at: usize,
+    name: Named<'t>,
+    wish: Wish,
+) -> Result<Option<Unknown<'t>>, AllocError> {
+    match declared_otherwise(text, marks, at, name.name, wish) {
+        Some(cause) => Ok(Some(Unknown { name, cause })),
+        None => {
+            let seen = front(marks, declaring(marks.len(), at, wish.sort));
+            nowhere(alloc, text, seen, name, wish)
         }
     }
-    None
 }
 
-/// The first field that is lacking behind these marks.
-fn lacking_behind<'m, 'a>(
+/// Of a field that is lacking in a typedef.
+fn no_field<'t>(
     alloc: Global,
-    before: &[Mark<'_>],
-    form: Form,
-    steps: &'m [Shape<'a>],
-) -> Result<Option<Lacking<'m, 'a>>, AllocError> {
-    let names = all_names(alloc, before)?;
-    Ok(first_lacking(&names.table, form, steps))
+    text: &'t [u8],
+    marks: &[Mark<'_>],
+    name: Named<'t>,
+    holder: Named<'t>,
+    owner: usize,
+) -> Result<Option<Unknown<'t>>, AllocError> {
+    let sort = Sort::Field;
+    let near = nearest(alloc, text, marks, Wish { sort, owner }, name.name)?;
+    let cause = UnknownCause::Field(name.name, holder, near);
+    Ok(Some(Unknown { name, cause }))
 }
 
-/// Of a field that is lacking.
+/// Of a field that is lacking among these.
 fn of_lacking<'t>(
     alloc: Global,
     text: &'t [u8],
     marks: &[Mark<'_>],
-    lacking: Lacking<'_, '_>,
-) -> Result<Finding<'t>, AllocError> {
-    let Some(holder) = typedef(marks, lacking.owner) else {
-        return Ok(untold());
-    };
-    let wish = Wish {
-        sort: Sort::Field,
-        owner: lacking.owner,
-    };
-    let token = lacking.field;
-    let near = nearest(alloc, text, marks, wish, token.text())?;
-    let cause = UnknownCause::Field(bytes_of(text, token), named(text, holder), near);
-    Ok(at_token(token, Cause::Unknown(cause)))
+    name: Named<'t>,
+    owner: usize,
+) -> Result<Option<Unknown<'t>>, AllocError> {
+    match first_name(text, marks, Sought::Fields(owner), b"") {
+        Some(holder) => no_field(alloc, text, marks, name, holder, owner),
+        None => Ok(None),
+    }
 }
 
 /// Of a variable of which a field is named that is lacking.
 fn of_field<'t>(
     alloc: Global,
-    subject: Subject<'_, 't, '_>,
-    form: Form,
+    text: &'t [u8],
+    marks: &[Mark<'_>],
+    at: usize,
+    owner: usize,
     steps: &[Shape<'_>],
-) -> Result<Finding<'t>, AllocError> {
-    match lacking_behind(alloc, subject.before(), form, steps)? {
-        Some(lacking) => of_lacking(alloc, subject.text, subject.marks, lacking),
-        None => Ok(untold()),
+) -> Result<Option<Unknown<'t>>, AllocError> {
+    match walk_behind(alloc, front(marks, at), owner, steps)?.end {
+        End::Lacking(number, fields) => {
+            of_lacking(alloc, text, marks, name_at(text, steps, number), fields)
+        }
+        _ => Ok(None),
     }
 }
 
-/// The first mark of a proctype or a typedef of this name, as something that is no variable.
-fn instead<'t>(subject: Subject<'_, 't, '_>, token: &Token<'_>, sort: Sort) -> Finding<'t> {
-    let Some(first) = declaration(subject.marks, 0, token.text()) else {
-        return untold();
-    };
-    let cause = UnknownCause::Instead(named(subject.text, first), sort);
-    at_token(token, Cause::Unknown(cause))
+/// Of a proctype or a typedef, where a variable is wanted.
+fn instead<'t>(
+    text: &'t [u8],
+    marks: &[Mark<'_>],
+    name: Named<'t>,
+    sort: Sort,
+) -> Option<Unknown<'t>> {
+    match first_name(text, marks, Sought::Declared(0), name.name) {
+        Some(first) => {
+            let cause = UnknownCause::Instead(first, sort);
+            Some(Unknown { name, cause })
+        }
+        None => None,
+    }
 }
 
 /// Of a reference whose name or field is not declared.
 fn of_use<'t>(
     alloc: Global,
-    subject: Subject<'_, 't, '_>,
+    text: &'t [u8],
+    marks: &[Mark<'_>],
+    at: usize,
     owner: usize,
     steps: &[Shape<'_>],
-) -> Result<Finding<'t>, AllocError> {
-    let [first, rest @ ..] = steps else {
-        return Ok(untold());
-    };
-    let token = &first.name;
-    match meaning_behind(alloc, subject.before(), subject.marks, owner, token.text())? {
-        Some(Thing::Variable(v)) => of_field(alloc, subject, v.form, rest),
-        Some(Thing::Proctype(_, _)) => Ok(instead(subject, token, Sort::Proctype)),
-        Some(Thing::Typedef(_, _)) => Ok(instead(subject, token, Sort::Typedef)),
+) -> Result<Option<Unknown<'t>>, AllocError> {
+    let name = name_at(text, steps, 0);
+    match meaning(text, marks, at, owner, name.name) {
+        Matter::Variable => of_field(alloc, text, marks, at, owner, steps),
+        Matter::Field => of_field(alloc, text, marks, at, owner, steps),
+        Matter::Proctype(_) => Ok(instead(text, marks, name, Sort::Proctype)),
+        Matter::Typedef(_) => Ok(instead(text, marks, name, Sort::Typedef)),
         _ => {
             let sort = Sort::Variable;
-            of_missing(alloc, subject, &Missing { token, owner, sort })
+            of_missing(alloc, text, marks, at, name, Wish { sort, owner })
         }
     }
 }
 
-/// Of a name that is not declared.
+fn unknown_at<'t>(
+    alloc: Global,
+    text: &'t [u8],
+    marks: &[Mark<'_>],
+    at: usize,
+) -> Result<Option<Unknown<'t>>, AllocError> {
+    let sign = sign_at(text, marks, at);
+    let owner = sign.owner;
+    match sign.matter {
+        Matter::Reference(_) => of_use(alloc, text, marks, at, owner, steps_at(marks, at)),
+        Matter::Wanted => {
+            let sort = Sort::Typedef;
+            of_missing(alloc, text, marks, at, sign.name, Wish { sort, owner })
+        }
+        Matter::Run(_) => {
+            let sort = Sort::Proctype;
+            of_missing(alloc, text, marks, at, sign.name, Wish { sort, owner })
+        }
+        _ => Ok(None),
+    }
+}
+
+fn told(unknown: Option<Unknown<'_>>) -> Finding<'_> {
+    match unknown {
+        Some(found) => at_place(place_of_name(found.name), Cause::Unknown(found.cause)),
+        None => untold(),
+    }
+}
+
+/// Of a name that is not declared, in the mark at `at`.
 pub fn of_unknown<'t>(
     alloc: Global,
-    subject: Subject<'_, 't, '_>,
+    text: &'t [u8],
+    marks: &[Mark<'_>],
+    at: usize,
 ) -> Result<Finding<'t>, AllocError> {
-    let Some(mark) = subject.mark() else {
-        return Ok(untold());
-    };
-    let owner = mark.owner;
-    match &mark.what {
-        What::Uses(_, steps) => of_use(alloc, subject, owner, steps.as_slice()),
-        What::Typedef(token) => {
-            let sort = Sort::Typedef;
-            of_missing(alloc, subject, &Missing { token, owner, sort })
-        }
-        What::Runs(token, _) => {
-            let sort = Sort::Proctype;
-            of_missing(alloc, subject, &Missing { token, owner, sort })
-        }
-        _ => Ok(untold()),
+    match unknown_at(alloc, text, marks, at) {
+        Ok(unknown) => Ok(told(unknown)),
+        Err(AllocError) => Err(AllocError),
     }
 }

@@ -1,9 +1,8 @@
 //! The nearest name.
 
+use crate::sign::{Matter, Sign, sign_of};
 use pml_causes::cause::{Named, Sort};
-use pml_causes::place::named;
-use pml_lex::token::Token;
-use pml_marks::mark::{Declared, Mark, Role, What};
+use pml_marks::mark::Mark;
 use std::alloc::{AllocError, Global};
 use std::str;
 use strsim::osa_distance;
@@ -19,38 +18,27 @@ pub struct Wish {
     pub owner: usize,
 }
 
-/// Whether something that is declared is of a sort. A constant may stand where a variable may.
-fn is_of(declared: &Declared<'_>, sort: Sort) -> bool {
-    match declared {
-        Declared::Variable(Role::Variable, _, _, _) => matches!(sort, Sort::Variable),
-        Declared::Variable(Role::Field, _, _, _) => matches!(sort, Sort::Field),
-        Declared::Constant => matches!(sort, Sort::Variable | Sort::Constant),
-        Declared::Typedef(_) => matches!(sort, Sort::Typedef),
-        Declared::Proctype(_, _) => matches!(sort, Sort::Proctype),
+/// Whether what a mark says gives a name of a sort. A constant may stand where a variable may.
+fn is_of(matter: Matter, sort: Sort) -> bool {
+    match matter {
+        Matter::Variable => matches!(sort, Sort::Variable),
+        Matter::Field => matches!(sort, Sort::Field),
+        Matter::Constant => matches!(sort, Sort::Variable | Sort::Constant),
+        Matter::Typedef(_) => matches!(sort, Sort::Typedef),
+        Matter::Proctype(_) => matches!(sort, Sort::Proctype),
+        Matter::Label => matches!(sort, Sort::Label),
+        _ => false,
     }
 }
 
-/// The name that a mark declares, if it may stand there.
-fn candidate<'m, 'a>(mark: &'m Mark<'a>, wish: Wish) -> Option<&'m Token<'a>> {
-    match &mark.what {
-        What::Declares(name, declared) => {
-            let seen = mark.owner == wish.owner
-                || (mark.owner == 0 && !matches!(wish.sort, Sort::Field));
-            if seen && is_of(declared, wish.sort) {
-                Some(name)
-            } else {
-                None
-            }
-        }
-        What::Label(name) => {
-            if mark.owner == wish.owner && matches!(wish.sort, Sort::Label) {
-                Some(name)
-            } else {
-                None
-            }
-        }
-        _ => None,
-    }
+/// Whether names of a sort are seen where an owner's are used.
+fn is_seen(owner: usize, wish: Wish) -> bool {
+    owner == wish.owner || (owner == 0 && !matches!(wish.sort, Sort::Field | Sort::Label))
+}
+
+/// Whether the name that a mark gives may stand there.
+fn may_stand(sign: Sign<'_>, wish: Wish) -> bool {
+    is_seen(sign.owner, wish) && is_of(sign.matter, wish.sort)
 }
 
 /// How many letters differ, are put in, left out or swapped, at most a third of them.
@@ -81,11 +69,12 @@ pub fn nearest<'t>(
     let mut least = usize::MAX;
     let mut found = None;
     for mark in marks {
-        if let Some(other) = candidate(mark, wish) {
-            if let Some(count) = distance(alloc, name, other.text())? {
+        let sign = sign_of(text, mark);
+        if may_stand(sign, wish) {
+            if let Some(count) = distance(alloc, name, sign.name.name)? {
                 if count < least {
                     least = count;
-                    found = Some(named(text, other));
+                    found = Some(sign.name);
                 }
             }
         }

@@ -1,14 +1,21 @@
 //! Numbers out of range, and too many cells.
 
-use crate::subject::{
-    Subject, capacity_place, count_place, initialiser_place, last_proctype, next_declared,
-    size_place,
+use crate::sign::{
+    Matter, Sign, behind, front, is_declared, last_proctype, next_name, place_of_name, sign_at,
 };
-use pml_causes::cause::{Cause, Finding, Place, RangeCause};
-use pml_causes::place::{at_place, at_token, bytes_of, place_of, untold};
+use crate::spans::{Part, place_in};
+use pml_causes::cause::{Cause, Finding, Named, Place, RangeCause};
+use pml_causes::place::{at_place, untold};
 use pml_lex::token::Token;
-use pml_marks::mark::{Constant, Declared, What};
+use pml_marks::mark::{Constant, Mark};
 use profile::MOST_FIELDS;
+
+/// A number that is out of range, and where it shows.
+#[derive(Clone, Copy)]
+struct Ranged<'t> {
+    place: Place,
+    cause: RangeCause<'t>,
+}
 
 /// A cause, by what a constant expression gives.
 fn of_constant<'t>(name: &'t [u8], constant: Constant, outside: RangeCause<'t>) -> RangeCause<'t> {
@@ -25,97 +32,123 @@ fn number_of(constant: Constant) -> i32 {
     }
 }
 
-/// A place, or that of the name where there is none.
-fn at_or<'t>(place: Option<Place>, name: &Token<'_>, cause: RangeCause<'t>) -> Finding<'t> {
-    at_place(place.unwrap_or(place_of(name)), Cause::Range(cause))
+fn of_name<'t>(name: Named<'t>, cause: RangeCause<'t>) -> Ranged<'t> {
+    let place = place_of_name(name);
+    Ranged { place, cause }
 }
 
-fn of_starts<'t>(subject: Subject<'_, 't, '_>, constant: Constant) -> Option<Finding<'t>> {
-    let name = last_proctype(subject.before())?;
-    let bytes = bytes_of(subject.text, name);
-    let outside = RangeCause::Count(bytes, number_of(constant));
-    let cause = of_constant(bytes, constant, outside);
-    Some(at_or(count_place(subject.tokens, name), name, cause))
+fn of_starts<'t>(tokens: &[Token<'_>], name: Named<'t>, constant: Constant) -> Ranged<'t> {
+    let outside = RangeCause::Count(name.name, number_of(constant));
+    Ranged {
+        place: place_in(tokens, name, Part::Count),
+        cause: of_constant(name.name, constant, outside),
+    }
 }
 
 fn of_channel<'t>(
-    subject: Subject<'_, 't, '_>,
+    tokens: &[Token<'_>],
+    name: Named<'t>,
     constant: Constant,
     fields: usize,
-) -> Option<Finding<'t>> {
-    let name = next_declared(subject.behind())?;
-    let bytes = bytes_of(subject.text, name);
+) -> Ranged<'t> {
     if fields > MOST_FIELDS && matches!(constant, Constant::Is(0..=65535)) {
-        return Some(at_or(None, name, RangeCause::Fields(bytes, fields)));
+        return of_name(name, RangeCause::Fields(name.name, fields));
     }
-    let outside = RangeCause::Capacity(bytes, number_of(constant));
-    let cause = of_constant(bytes, constant, outside);
-    Some(at_or(capacity_place(subject.tokens, name), name, cause))
-}
-
-/// Of a size or an initialiser of a field.
-fn of_declared<'t>(subject: Subject<'_, 't, '_>, what: &What<'_>) -> Option<Finding<'t>> {
-    let name = next_declared(subject.behind())?;
-    let bytes = bytes_of(subject.text, name);
-    let tokens = subject.tokens;
-    match what {
-        What::Size(constant) => {
-            let outside = RangeCause::Size(bytes, number_of(*constant));
-            let cause = of_constant(bytes, *constant, outside);
-            Some(at_or(size_place(tokens, name), name, cause))
-        }
-        _ => Some(at_or(
-            initialiser_place(tokens, name),
-            name,
-            RangeCause::Divides(bytes),
-        )),
+    let outside = RangeCause::Capacity(name.name, number_of(constant));
+    Ranged {
+        place: place_in(tokens, name, Part::Capacity),
+        cause: of_constant(name.name, constant, outside),
     }
 }
 
-/// Of a number out of range.
-pub fn of_range<'t>(subject: Subject<'_, 't, '_>) -> Finding<'t> {
-    let Some(mark) = subject.mark() else {
-        return untold();
-    };
-    let text = subject.text;
-    let found = match &mark.what {
-        What::Number(token) => Some(at_token(
-            token,
-            Cause::Range(RangeCause::Number(bytes_of(text, token))),
-        )),
-        What::Width(token) => Some(at_token(
-            token,
-            Cause::Range(RangeCause::Width(bytes_of(text, token))),
-        )),
-        What::Declares(token, Declared::Constant) => Some(at_token(
-            token,
-            Cause::Range(RangeCause::Constants(bytes_of(text, token))),
-        )),
-        What::Starts(constant) => of_starts(subject, *constant),
-        What::Channel(_, constant, fields) => of_channel(subject, *constant, *fields),
-        what => of_declared(subject, what),
-    };
-    found.unwrap_or(untold())
+fn of_size<'t>(tokens: &[Token<'_>], name: Named<'t>, constant: Constant) -> Ranged<'t> {
+    let outside = RangeCause::Size(name.name, number_of(constant));
+    Ranged {
+        place: place_in(tokens, name, Part::Size),
+        cause: of_constant(name.name, constant, outside),
+    }
 }
 
-/// Of too many cells.
-pub fn of_cells<'t>(subject: Subject<'_, 't, '_>) -> Finding<'t> {
-    let Some(mark) = subject.mark() else {
-        return untold();
-    };
-    let text = subject.text;
-    match &mark.what {
-        What::Declares(token, _) => at_token(
-            token,
-            Cause::Range(RangeCause::Cells(bytes_of(text, token))),
-        ),
-        What::Channel(_, _, _) => match next_declared(subject.behind()) {
-            Some(name) => at_token(
-                name,
-                Cause::Range(RangeCause::ChannelCells(bytes_of(text, name))),
-            ),
-            None => untold(),
+/// Of a size, a channel or an initialiser in the declaration of this name.
+fn of_declared<'t>(tokens: &[Token<'_>], name: Named<'t>, matter: Matter) -> Ranged<'t> {
+    match matter {
+        Matter::Channel(constant, fields) => of_channel(tokens, name, constant, fields),
+        Matter::Misplaced(constant, fields) => of_channel(tokens, name, constant, fields),
+        Matter::Size(constant) => of_size(tokens, name, constant),
+        _ => Ranged {
+            place: place_in(tokens, name, Part::Initialiser),
+            cause: RangeCause::Divides(name.name),
         },
-        _ => untold(),
     }
+}
+
+/// Of a count, or of what stands in the next declaration.
+fn of_value<'t>(
+    text: &'t [u8],
+    tokens: &[Token<'_>],
+    marks: &[Mark<'_>],
+    at: usize,
+    matter: Matter,
+) -> Option<Ranged<'t>> {
+    if let Matter::Starts(constant) = matter {
+        let name = last_proctype(text, front(marks, at))?;
+        return Some(of_starts(tokens, name, constant));
+    }
+    let name = next_name(text, behind(marks, at))?;
+    Some(of_declared(tokens, name, matter))
+}
+
+fn range_at<'t>(
+    text: &'t [u8],
+    tokens: &[Token<'_>],
+    marks: &[Mark<'_>],
+    at: usize,
+) -> Option<Ranged<'t>> {
+    let sign = sign_at(text, marks, at);
+    let name = sign.name;
+    match sign.matter {
+        Matter::Number => Some(of_name(name, RangeCause::Number(name.name))),
+        Matter::Width => Some(of_name(name, RangeCause::Width(name.name))),
+        Matter::Constant => Some(of_name(name, RangeCause::Constants(name.name))),
+        matter => of_value(text, tokens, marks, at, matter),
+    }
+}
+
+fn told(ranged: Option<Ranged<'_>>) -> Finding<'_> {
+    match ranged {
+        Some(ranged) => at_place(ranged.place, Cause::Range(ranged.cause)),
+        None => untold(),
+    }
+}
+
+/// Of a number out of range, in the mark at `at`.
+pub fn of_range<'t>(
+    text: &'t [u8],
+    tokens: &[Token<'_>],
+    marks: &[Mark<'_>],
+    at: usize,
+) -> Finding<'t> {
+    told(range_at(text, tokens, marks, at))
+}
+
+/// Of what has too many cells, and the marks from it on.
+fn of_sign<'t>(text: &'t [u8], rest: &[Mark<'_>], sign: Sign<'t>) -> Option<Ranged<'t>> {
+    match sign.matter {
+        Matter::Channel(_, _) | Matter::Misplaced(_, _) => {
+            let name = next_name(text, rest)?;
+            Some(of_name(name, RangeCause::ChannelCells(name.name)))
+        }
+        matter => {
+            if is_declared(matter) {
+                Some(of_name(sign.name, RangeCause::Cells(sign.name.name)))
+            } else {
+                None
+            }
+        }
+    }
+}
+
+/// Of too many cells, in the mark at `at`.
+pub fn of_cells<'t>(text: &'t [u8], marks: &[Mark<'_>], at: usize) -> Finding<'t> {
+    told(of_sign(text, behind(marks, at), sign_at(text, marks, at)))
 }

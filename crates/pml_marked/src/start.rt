@@ -1,25 +1,30 @@
 //! The first state.
 
-use crate::subject::{declared_name, front, last_proctype};
-use pml_causes::cause::{Cause, Finding, StartCause};
-use pml_causes::place::{at_place, at_token, bytes_of, end_of, named, untold};
+ghost use Rattle.std.specs.Prelude.{◌≡◌};
+ghost use Rattle.pml_names.specs.Env.{env};
+
+use crate::sign::{behind, front, last_proctype, next_name, place_of_name};
+use pml_causes::cause::{Cause, Finding, Named, StartCause};
+use pml_causes::place::{at_place, end_of, untold};
 use pml_conditions::condition::Condition;
 use pml_conditions::decide::applies;
 use pml_conditions::find::find;
 use pml_marks::mark::{Constant, Mark, What};
 use pml_names::names::all_names;
+use pml_names::table::Table;
 use profile::MOST_PROCESSES;
 use std::alloc::{AllocError, Global};
 
 /// Of a text in which no process begins.
 pub fn of_none<'t>(text: &'t [u8], marks: &[Mark<'_>]) -> Finding<'t> {
-    let proctype = last_proctype(marks).map(|token| named(text, token));
+    let proctype = last_proctype(text, marks);
     at_place(end_of(text), Cause::Start(StartCause::NoProcess(proctype)))
 }
 
-fn started(constant: Constant) -> usize {
-    match constant {
-        Constant::Is(n) => usize::try_from(n).unwrap_or(0),
+/// How many processes a mark lets begin.
+fn count_of(mark: &Mark<'_>) -> usize {
+    match &mark.what {
+        What::Starts(Constant::Is(n)) => usize::try_from(*n).unwrap_or(0),
         _ => 0,
     }
 }
@@ -28,22 +33,30 @@ fn started(constant: Constant) -> usize {
 fn full_at(marks: &[Mark<'_>]) -> Option<usize> {
     let mut total = 0usize;
     for (i, mark) in marks.iter().enumerate() {
-        if let What::Starts(constant) = &mark.what {
-            total = total.saturating_add(started(*constant));
-            if total > MOST_PROCESSES {
-                return Some(i);
-            }
+        total = total.saturating_add(count_of(mark));
+        if total > MOST_PROCESSES {
+            return Some(i);
         }
     }
     None
 }
 
-/// Whether so many marks make too many channels, or start too many processes.
-fn is_full(alloc: Global, marks: &[Mark<'_>], count: usize) -> Result<bool, AllocError> {
-    let marks = front(marks, count);
+/// Whether marks whose names these are make too many channels, or start too many processes.
+fn makes_too_many<'a>(
+    alloc: Global,
+    all: &Table<'a>,
+    marks: &[Mark<'a>],
+) -> Result<bool, AllocError>
+    requires { all.now ≡ env marks.now }
+{
+    let found = find(alloc, all, marks)?;
+    applies(alloc, Condition::Start, found, all, marks)
+}
+
+/// Whether these marks make too many channels, or start too many processes.
+fn is_full(alloc: Global, marks: &[Mark<'_>]) -> Result<bool, AllocError> {
     let all = all_names(alloc, marks)?;
-    let found = find(alloc, &all.table, marks)?;
-    applies(alloc, Condition::Start, found, &all.table, marks)
+    makes_too_many(alloc, &all.table, marks)
 }
 
 /// The fewest marks that are too many, between so many that are not and so many that are.
@@ -56,7 +69,7 @@ fn fewest(alloc: Global, marks: &[Mark<'_>]) -> Result<usize, AllocError> {
             return Ok(most);
         }
         let middle = least.saturating_add(most.saturating_sub(least) / 2);
-        if is_full(alloc, marks, middle)? {
+        if is_full(alloc, front(marks, middle))? {
             most = middle;
         } else {
             least = middle;
@@ -65,34 +78,68 @@ fn fewest(alloc: Global, marks: &[Mark<'_>]) -> Result<usize, AllocError> {
     Ok(most)
 }
 
+/// What is declared by the last of these marks, or else the last proctype among them.
+fn last_name<'t>(text: &'t [u8], marks: &[Mark<'_>]) -> Option<Named<'t>> {
+    let last = behind(marks, marks.len().saturating_sub(1));
+    match next_name(text, last) {
+        Some(name) => Some(name),
+        None => last_proctype(text, marks),
+    }
+}
+
+/// A name that is declared where too much begins.
+#[derive(Clone, Copy)]
+struct Started<'t> {
+    name: Named<'t>,
+    cause: StartCause<'t>,
+}
+
+/// What is begun too often.
+#[derive(Clone, Copy)]
+enum Full {
+    /// Processes, with those of the proctype that the mark of this number lets begin.
+    Processes(usize),
+    /// Channels, with the last of so many marks.
+    Channels(usize),
+}
+
+fn full_of(alloc: Global, marks: &[Mark<'_>]) -> Result<Full, AllocError> {
+    match full_at(marks) {
+        Some(at) => Ok(Full::Processes(at)),
+        None => Ok(Full::Channels(fewest(alloc, marks)?)),
+    }
+}
+
+fn of_full<'t>(text: &'t [u8], marks: &[Mark<'_>], full: Full) -> Option<Started<'t>> {
+    match full {
+        Full::Processes(at) => {
+            let name = last_proctype(text, front(marks, at))?;
+            let cause = StartCause::Processes(name.name);
+            Some(Started { name, cause })
+        }
+        Full::Channels(count) => {
+            let name = last_name(text, front(marks, count))?;
+            let cause = StartCause::Channels(name.name);
+            Some(Started { name, cause })
+        }
+    }
+}
+
+fn told(started: Option<Started<'_>>) -> Finding<'_> {
+    match started {
+        Some(found) => at_place(place_of_name(found.name), Cause::Start(found.cause)),
+        None => untold(),
+    }
+}
+
 /// Of too many processes or channels.
 pub fn of_start<'t>(
     alloc: Global,
     text: &'t [u8],
     marks: &[Mark<'_>],
 ) -> Result<Finding<'t>, AllocError> {
-    if let Some(at) = full_at(marks) {
-        return Ok(match last_proctype(front(marks, at)) {
-            Some(token) => at_token(
-                token,
-                Cause::Start(StartCause::Processes(bytes_of(text, token))),
-            ),
-            None => untold(),
-        });
+    match full_of(alloc, marks) {
+        Ok(full) => Ok(told(of_full(text, marks, full))),
+        Err(AllocError) => Err(AllocError),
     }
-    let count = fewest(alloc, marks)?;
-    let found = match front(marks, count) {
-        [.., last] => match declared_name(last) {
-            Some(token) => Some(token),
-            None => last_proctype(front(marks, count)),
-        },
-        [] => None,
-    };
-    Ok(match found {
-        Some(token) => at_token(
-            token,
-            Cause::Start(StartCause::Channels(bytes_of(text, token))),
-        ),
-        None => untold(),
-    })
 }

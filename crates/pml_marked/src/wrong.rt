@@ -1,288 +1,307 @@
 //! Names and values of the wrong kind.
 
-use crate::subject::{
-    Subject, capacity_place, count_place, declaration, initialiser_place, last_proctype,
-    meaning_behind, next_declared, size_place,
+use crate::sign::{
+    Matter, Sought, behind, first_name, front, last_proctype, meaning, next_name, place_of_name,
+    sign_at, steps_at,
 };
+use crate::spans::{Part, place_in};
+use crate::walk::{End, Index, Walk, name_at, walk_behind};
 use pml_causes::cause::{Cause, Finding, Named, Place, Sort, WrongCause};
-use pml_causes::place::{at_place, at_token, bytes_of, named, place_of, untold};
+use pml_causes::place::{at_place, untold};
 use pml_lex::token::Token;
-use pml_marks::mark::{Constant, Holder, Mark, Shape, Use, What};
-use pml_names::meaning::{field, is_any, is_pid, is_special};
-use pml_names::names::all_names;
-use pml_names::table::Table;
-use pml_names::thing::{Thing, Variable};
+use pml_marks::mark::{Constant, Mark, Shape, Use};
+use pml_names::meaning::{is_any, is_pid, is_special};
 use pml_program::form::Form;
 use pml_tree::tree::Scalar;
 use std::alloc::{AllocError, Global};
 
-/// A use of a reference, and the text that it stands in.
+/// What is wrong, and where.
 #[derive(Clone, Copy)]
-struct Used<'m, 't, 'a> {
-    text: &'t [u8],
-    table: &'m Table<'a>,
+struct Wrong<'t> {
+    place: Place,
+    cause: WrongCause<'t>,
+}
+
+/// A use of a reference, and whose names it uses.
+#[derive(Clone, Copy)]
+struct Used {
+    owner: usize,
     how: Use,
 }
 
-fn at<'t>(token: &Token<'_>, cause: WrongCause<'t>) -> Option<Finding<'t>> {
-    Some(at_token(token, Cause::Wrong(cause)))
+fn of_name<'t>(name: Named<'t>, cause: WrongCause<'t>) -> Option<Wrong<'t>> {
+    let place = place_of_name(name);
+    Some(Wrong { place, cause })
 }
 
-/// An index that is missing, or one too many.
-fn of_index<'t>(text: &'t [u8], step: &Shape<'_>, variable: Variable) -> Option<Finding<'t>> {
-    if step.indexed == variable.array {
-        return None;
+/// Whether a reference is a name alone.
+fn is_plain(steps: &[Shape<'_>]) -> bool {
+    match steps {
+        [first] => !first.indexed,
+        _ => false,
     }
-    let name = bytes_of(text, &step.name);
-    if variable.array {
-        at(&step.name, WrongCause::ArrayWithoutIndex(name))
-    } else {
-        at(&step.name, WrongCause::IndexWithoutArray(name))
-    }
-}
-
-/// What is found at a name.
-fn at_name<'t>(name: Named<'t>, cause: WrongCause<'t>) -> Option<Finding<'t>> {
-    let place = Place {
-        offset: name.offset,
-        length: name.name.len(),
-    };
-    Some(at_place(place, Cause::Wrong(cause)))
 }
 
 /// What the last name of a reference stands for, where that does not fit its use.
-fn of_last<'t>(how: Use, last: Named<'t>, form: Form) -> Option<Finding<'t>> {
+fn of_last<'t>(how: Use, last: Named<'t>, form: Form) -> Option<Wrong<'t>> {
     match form {
-        Form::Struct(_) => at_name(last, WrongCause::WholeTypedef(last.name)),
+        Form::Struct(_) => of_name(last, WrongCause::WholeTypedef(last.name)),
         Form::Unknown => None,
         Form::Plain(Scalar::Chan) => None,
         _ => match how {
-            Use::Channel => at_name(last, WrongCause::NoChannel(last.name)),
+            Use::Channel => of_name(last, WrongCause::NoChannel(last.name)),
             _ => None,
         },
     }
 }
 
-/// The fields behind a variable.
-fn of_steps<'t>(
-    used: Used<'_, 't, '_>,
-    first: Named<'t>,
-    form: Form,
-    steps: &[Shape<'_>],
-) -> Option<Finding<'t>> {
-    let mut here = form;
-    let mut last = first;
-    for step in steps {
-        let name = named(used.text, &step.name);
-        match field(used.table, here, step.name.text()) {
-            None => return at_name(name, WrongCause::FieldOfNone(last.name, name.name)),
-            Some(Some(Thing::Variable(v))) => {
-                if let Some(finding) = of_index(used.text, step, v) {
-                    return Some(finding);
-                }
-                here = v.form;
-            }
-            _ => return None,
+/// A field behind a name that has none.
+fn of_no_field<'t>(last: Named<'t>, name: Named<'t>) -> Option<Wrong<'t>> {
+    of_name(name, WrongCause::FieldOfNone(last.name, name.name))
+}
+
+/// Where a reference ends, if that does not fit its use.
+fn of_end<'t>(text: &'t [u8], how: Use, steps: &[Shape<'_>], end: End) -> Option<Wrong<'t>> {
+    match end {
+        End::Form(form) => {
+            let last = name_at(text, steps, steps.len().saturating_sub(1));
+            of_last(how, last, form)
         }
-        last = name;
-    }
-    of_last(used.how, last, here)
-}
-
-fn of_variable<'t>(
-    used: Used<'_, 't, '_>,
-    variable: Variable,
-    first: &Shape<'_>,
-    rest: &[Shape<'_>],
-) -> Option<Finding<'t>> {
-    if let Use::Preset = used.how {
-        return at(
-            &first.name,
-            WrongCause::Preset(bytes_of(used.text, &first.name)),
-        );
-    }
-    if let Some(finding) = of_index(used.text, first, variable) {
-        return Some(finding);
-    }
-    of_steps(used, named(used.text, &first.name), variable.form, rest)
-}
-
-/// A name alone.
-fn is_plain(first: &Shape<'_>, rest: &[Shape<'_>]) -> bool {
-    !first.indexed && rest.is_empty()
-}
-
-fn of_constant<'t>(
-    used: Used<'_, 't, '_>,
-    first: &Shape<'_>,
-    rest: &[Shape<'_>],
-) -> Option<Finding<'t>> {
-    let name = bytes_of(used.text, &first.name);
-    if !is_plain(first, rest) {
-        return at(&first.name, WrongCause::NotPlain(name));
-    }
-    match used.how {
-        Use::Channel => at(&first.name, WrongCause::NoChannel(name)),
-        _ => at(&first.name, WrongCause::StoredConstant(name)),
-    }
-}
-
-/// `_`, `_pid` and `_nr_pr`.
-fn of_special<'t>(
-    text: &'t [u8],
-    how: Use,
-    owner: usize,
-    first: &Shape<'_>,
-    rest: &[Shape<'_>],
-) -> Option<Finding<'t>> {
-    let name = bytes_of(text, &first.name);
-    if !is_plain(first, rest) {
-        return at(&first.name, WrongCause::NotPlain(name));
-    }
-    if let Use::Channel = how {
-        return at(&first.name, WrongCause::NoChannel(name));
-    }
-    if is_any(name) {
-        return at(&first.name, WrongCause::ReadUnderscore);
-    }
-    let is_read = matches!(how, Use::Read);
-    if is_read && is_pid(name) && owner == 0 {
-        return at(&first.name, WrongCause::PidOutside);
-    }
-    at(&first.name, WrongCause::StoredSpecial(name))
-}
-
-fn of_thing<'t>(
-    used: Used<'_, 't, '_>,
-    thing: Option<Thing>,
-    first: &Shape<'_>,
-    rest: &[Shape<'_>],
-) -> Option<Finding<'t>> {
-    match thing {
-        Some(Thing::Variable(v)) => of_variable(used, v, first, rest),
-        Some(Thing::Constant(_)) => of_constant(used, first, rest),
+        End::NoFields(number) => {
+            let last = name_at(text, steps, number.saturating_sub(1));
+            of_no_field(last, name_at(text, steps, number))
+        }
         _ => None,
     }
 }
 
-/// Of a reference whose name stands for a thing, behind these marks.
-fn of_named<'t>(
+/// Of a variable and its fields.
+fn of_walk<'t>(text: &'t [u8], how: Use, steps: &[Shape<'_>], walk: Walk) -> Option<Wrong<'t>> {
+    match walk.index {
+        Index::Missing(number) => {
+            let name = name_at(text, steps, number);
+            of_name(name, WrongCause::ArrayWithoutIndex(name.name))
+        }
+        Index::Extra(number) => {
+            let name = name_at(text, steps, number);
+            of_name(name, WrongCause::IndexWithoutArray(name.name))
+        }
+        Index::Right => of_end(text, how, steps, walk.end),
+    }
+}
+
+/// Of a variable behind these marks that does not fit its use.
+fn of_variable<'t>(
     alloc: Global,
     text: &'t [u8],
     before: &[Mark<'_>],
-    how: Use,
-    thing: Option<Thing>,
+    used: Used,
     steps: &[Shape<'_>],
-) -> Result<Finding<'t>, AllocError> {
-    let [first, rest @ ..] = steps else {
-        return Ok(untold());
-    };
-    let names = all_names(alloc, before)?;
-    let used = Used {
-        text,
-        table: &names.table,
-        how,
-    };
-    Ok(of_thing(used, thing, first, rest).unwrap_or(untold()))
+) -> Result<Option<Wrong<'t>>, AllocError> {
+    let walk = walk_behind(alloc, before, used.owner, steps)?;
+    Ok(of_walk(text, used.how, steps, walk))
+}
+
+fn of_constant<'t>(how: Use, name: Named<'t>, plain: bool) -> Option<Wrong<'t>> {
+    if !plain {
+        return of_name(name, WrongCause::NotPlain(name.name));
+    }
+    match how {
+        Use::Channel => of_name(name, WrongCause::NoChannel(name.name)),
+        _ => of_name(name, WrongCause::StoredConstant(name.name)),
+    }
+}
+
+/// `_`, `_pid` and `_nr_pr`.
+fn of_special<'t>(used: Used, name: Named<'t>, plain: bool) -> Option<Wrong<'t>> {
+    of_name(name, special(used, name, plain))
+}
+
+fn special<'t>(used: Used, name: Named<'t>, plain: bool) -> WrongCause<'t> {
+    let is_read = matches!(used.how, Use::Read);
+    if !plain {
+        WrongCause::NotPlain(name.name)
+    } else if matches!(used.how, Use::Channel) {
+        WrongCause::NoChannel(name.name)
+    } else if is_any(name.name) {
+        WrongCause::ReadUnderscore
+    } else if is_read && is_pid(name.name) && used.owner == 0 {
+        WrongCause::PidOutside
+    } else {
+        WrongCause::StoredSpecial(name.name)
+    }
+}
+
+/// Of a reference whose first name is declared as this, where that does not fit its use.
+fn of_meaning<'t>(
+    alloc: Global,
+    text: &'t [u8],
+    before: &[Mark<'_>],
+    used: Used,
+    steps: &[Shape<'_>],
+    meaning: Matter,
+) -> Result<Option<Wrong<'t>>, AllocError> {
+    let name = name_at(text, steps, 0);
+    match meaning {
+        Matter::Variable | Matter::Field => {
+            if let Use::Preset = used.how {
+                Ok(of_name(name, WrongCause::Preset(name.name)))
+            } else {
+                of_variable(alloc, text, before, used, steps)
+            }
+        }
+        Matter::Constant => Ok(of_constant(used.how, name, is_plain(steps))),
+        _ => Ok(None),
+    }
 }
 
 /// Of a reference that does not fit its use.
 fn of_use<'t>(
     alloc: Global,
-    subject: Subject<'_, 't, '_>,
-    owner: usize,
-    how: Use,
+    text: &'t [u8],
+    marks: &[Mark<'_>],
+    at: usize,
+    used: Used,
     steps: &[Shape<'_>],
-) -> Result<Finding<'t>, AllocError> {
-    let [first, rest @ ..] = steps else {
-        return Ok(untold());
-    };
-    let text = subject.text;
-    let name = first.name.text();
-    if is_special(name) {
-        return Ok(of_special(text, how, owner, first, rest).unwrap_or(untold()));
+) -> Result<Option<Wrong<'t>>, AllocError> {
+    let name = name_at(text, steps, 0);
+    if is_special(name.name) {
+        return Ok(of_special(used, name, is_plain(steps)));
     }
-    let thing = meaning_behind(alloc, subject.before(), subject.marks, owner, name)?;
-    of_named(alloc, text, subject.before(), how, thing, steps)
+    let meaning = meaning(text, marks, at, used.owner, name.name);
+    of_meaning(alloc, text, front(marks, at), used, steps, meaning)
 }
 
-fn sort_of(thing: Option<Thing>) -> Option<Sort> {
-    match thing {
-        None => None,
-        Some(Thing::Variable(_)) => Some(Sort::Variable),
-        Some(Thing::Constant(_)) => Some(Sort::Constant),
-        Some(Thing::Typedef(_, _)) => Some(Sort::Typedef),
-        Some(Thing::Proctype(_, _)) => Some(Sort::Proctype),
+fn sort_of(meaning: Matter) -> Sort {
+    match meaning {
+        Matter::Constant => Sort::Constant,
+        Matter::Typedef(_) => Sort::Typedef,
+        Matter::Proctype(_) => Sort::Proctype,
+        _ => Sort::Variable,
     }
 }
 
-/// Of a name that is no typedef, or no proctype.
-fn of_sort<'t>(
-    alloc: Global,
-    subject: Subject<'_, 't, '_>,
+/// The first declaration of a name in front of its use, or else among the global names of the text, or else the use.
+fn declaration_of<'t>(
+    text: &'t [u8],
+    marks: &[Mark<'_>],
+    at: usize,
     owner: usize,
-    token: &Token<'_>,
-    is_run: bool,
-) -> Result<Finding<'t>, AllocError> {
-    let found = meaning_behind(alloc, subject.before(), subject.marks, owner, token.text())?;
-    let sort = sort_of(found).unwrap_or(Sort::Variable);
-    let first = match declaration(subject.before(), owner, token.text()) {
-        Some(first) => Some(first),
-        None => declaration(subject.marks, 0, token.text()),
-    };
-    let name = named(subject.text, first.unwrap_or(token));
-    let cause = if is_run {
-        WrongCause::NoProctype(name, sort)
-    } else {
-        WrongCause::NoTypedef(name, sort)
-    };
-    Ok(at_token(token, Cause::Wrong(cause)))
-}
-
-/// A place, or that of the name where there is none.
-fn or_name(place: Option<Place>, name: &Token<'_>) -> Place {
-    place.unwrap_or(place_of(name))
-}
-
-/// Of a size, a count, an initialiser or a channel that is wrong.
-fn of_value<'t>(subject: Subject<'_, 't, '_>, what: &What<'_>) -> Option<Finding<'t>> {
-    let text = subject.text;
-    let tokens = subject.tokens;
-    if let What::Starts(_) = what {
-        let name = last_proctype(subject.before())?;
-        let place = or_name(count_place(tokens, name), name);
-        let cause = WrongCause::OpenCount(bytes_of(text, name));
-        return Some(at_place(place, Cause::Wrong(cause)));
+    name: Named<'t>,
+) -> Named<'t> {
+    match first_name(text, front(marks, at), Sought::Declared(owner), name.name) {
+        Some(own) => own,
+        None => match first_name(text, marks, Sought::Declared(0), name.name) {
+            Some(global) => global,
+            None => name,
+        },
     }
-    let name = next_declared(subject.behind())?;
-    let bytes = bytes_of(text, name);
-    let (place, cause) = match what {
-        What::Size(_) => (size_place(tokens, name), WrongCause::OpenSize(bytes)),
-        What::Preset(_) => (
-            initialiser_place(tokens, name),
-            WrongCause::OpenPreset(bytes),
-        ),
-        What::Channel(Holder::Chan, Constant::Open, _) => (
-            capacity_place(tokens, name),
-            WrongCause::OpenCapacity(bytes),
-        ),
-        _ => (None, WrongCause::Holder(bytes)),
-    };
-    Some(at_place(or_name(place, name), Cause::Wrong(cause)))
 }
 
-/// Of something that is of the wrong kind.
+/// Of a size, a capacity or an initialiser that is wrong, or a channel behind another type, of this name.
+fn of_declared<'t>(tokens: &[Token<'_>], name: Named<'t>, matter: Matter) -> Wrong<'t> {
+    match matter {
+        Matter::Size(_) => Wrong {
+            place: place_in(tokens, name, Part::Size),
+            cause: WrongCause::OpenSize(name.name),
+        },
+        Matter::Preset => Wrong {
+            place: place_in(tokens, name, Part::Initialiser),
+            cause: WrongCause::OpenPreset(name.name),
+        },
+        Matter::Channel(Constant::Open, _) => Wrong {
+            place: place_in(tokens, name, Part::Capacity),
+            cause: WrongCause::OpenCapacity(name.name),
+        },
+        _ => Wrong {
+            place: place_of_name(name),
+            cause: WrongCause::Holder(name.name),
+        },
+    }
+}
+
+/// Of a count, a size, a capacity or an initialiser that is wrong.
+fn of_value<'t>(
+    text: &'t [u8],
+    tokens: &[Token<'_>],
+    marks: &[Mark<'_>],
+    at: usize,
+    matter: Matter,
+) -> Option<Wrong<'t>> {
+    if let Matter::Starts(_) = matter {
+        let name = last_proctype(text, front(marks, at))?;
+        let place = place_in(tokens, name, Part::Count);
+        let cause = WrongCause::OpenCount(name.name);
+        return Some(Wrong { place, cause });
+    }
+    let name = next_name(text, behind(marks, at))?;
+    Some(of_declared(tokens, name, matter))
+}
+
+/// What a name is where a typedef or a proctype is wanted.
+#[derive(Clone, Copy)]
+struct Otherwise<'t> {
+    first: Named<'t>,
+    sort: Sort,
+}
+
+fn mistaken<'t>(
+    text: &'t [u8],
+    marks: &[Mark<'_>],
+    at: usize,
+    owner: usize,
+    name: Named<'t>,
+) -> Otherwise<'t> {
+    Otherwise {
+        first: declaration_of(text, marks, at, owner, name),
+        sort: sort_of(meaning(text, marks, at, owner, name.name)),
+    }
+}
+
+fn wrong_at<'t>(
+    alloc: Global,
+    text: &'t [u8],
+    tokens: &[Token<'_>],
+    marks: &[Mark<'_>],
+    at: usize,
+) -> Result<Option<Wrong<'t>>, AllocError> {
+    let sign = sign_at(text, marks, at);
+    let owner = sign.owner;
+    let name = sign.name;
+    match sign.matter {
+        Matter::Reference(how) => {
+            let steps = steps_at(marks, at);
+            of_use(alloc, text, marks, at, Used { owner, how }, steps)
+        }
+        Matter::Wanted => {
+            let is = mistaken(text, marks, at, owner, name);
+            Ok(of_name(name, WrongCause::NoTypedef(is.first, is.sort)))
+        }
+        Matter::Run(_) => {
+            let is = mistaken(text, marks, at, owner, name);
+            Ok(of_name(name, WrongCause::NoProctype(is.first, is.sort)))
+        }
+        matter => Ok(of_value(text, tokens, marks, at, matter)),
+    }
+}
+
+fn told(wrong: Option<Wrong<'_>>) -> Finding<'_> {
+    match wrong {
+        Some(wrong) => at_place(wrong.place, Cause::Wrong(wrong.cause)),
+        None => untold(),
+    }
+}
+
+/// Of something that is of the wrong kind, in the mark at `at`.
 pub fn of_wrong<'t>(
     alloc: Global,
-    subject: Subject<'_, 't, '_>,
+    text: &'t [u8],
+    tokens: &[Token<'_>],
+    marks: &[Mark<'_>],
+    at: usize,
 ) -> Result<Finding<'t>, AllocError> {
-    let Some(mark) = subject.mark() else {
-        return Ok(untold());
-    };
-    match &mark.what {
-        What::Uses(how, steps) => of_use(alloc, subject, mark.owner, *how, steps.as_slice()),
-        What::Typedef(token) => of_sort(alloc, subject, mark.owner, token, false),
-        What::Runs(token, _) => of_sort(alloc, subject, mark.owner, token, true),
-        what => Ok(of_value(subject, what).unwrap_or(untold())),
+    match wrong_at(alloc, text, tokens, marks, at) {
+        Ok(wrong) => Ok(told(wrong)),
+        Err(AllocError) => Err(AllocError),
     }
 }

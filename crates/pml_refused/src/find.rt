@@ -21,7 +21,6 @@ use pml_marked::counts::{of_count, of_label};
 use pml_marked::names::{of_twice, of_unknown};
 use pml_marked::range::{of_cells, of_range};
 use pml_marked::start::{of_none, of_start};
-use pml_marked::subject::Subject;
 use pml_marked::wrong::of_wrong;
 use pml_marks::mark::Mark;
 use pml_names::names::all_names;
@@ -44,45 +43,90 @@ fn condition_of(refusal: Refusal) -> Option<Condition> {
     }
 }
 
-/// What is found at the mark that breaks a condition.
-fn of_mark<'t>(
+/// A condition, and the mark that breaks it first.
+#[derive(Clone, Copy)]
+struct Broken {
+    condition: Condition,
+    at: usize,
+}
+
+/// The first mark that breaks a condition.
+fn first_of(
     alloc: Global,
     condition: Condition,
-    subject: Subject<'_, 't, '_>,
-) -> Result<Finding<'t>, AllocError> {
-    match condition {
-        Condition::Twice => Ok(of_twice(subject)),
-        Condition::Unknown => of_unknown(alloc, subject),
-        Condition::Wrong => of_wrong(alloc, subject),
-        Condition::Arguments => Ok(of_count(subject)),
-        Condition::Label => of_label(alloc, subject),
-        Condition::Break => Ok(of_break(subject)),
-        Condition::Step => of_step(alloc, subject),
-        Condition::Range => Ok(of_range(subject)),
-        Condition::Cells => Ok(of_cells(subject)),
-        Condition::NoProcess | Condition::Start => Ok(untold()),
+    marks: &[Mark<'_>],
+) -> Result<Option<usize>, AllocError> {
+    let all = all_names(alloc, marks)?;
+    first_broken(alloc, condition, &all.table, marks)
+}
+
+/// What a refusal is about, if that is a condition on the marks, and one of them breaks it.
+fn first_broken_by(
+    alloc: Global,
+    refusal: Refusal,
+    marks: &[Mark<'_>],
+) -> Result<Option<Broken>, AllocError> {
+    let Some(condition) = condition_of(refusal) else {
+        return Ok(None);
+    };
+    match first_of(alloc, condition, marks)? {
+        Some(at) => Ok(Some(Broken { condition, at })),
+        None => Ok(None),
     }
 }
 
-/// Of a condition on the marks: what is found at the first that breaks it.
-fn of_condition<'t>(
+/// What is found at the mark that breaks a condition.
+fn of_mark<'t>(
     alloc: Global,
+    broken: Broken,
+    text: &'t [u8],
+    tokens: &[Token<'_>],
+    marks: &[Mark<'_>],
+) -> Result<Finding<'t>, AllocError> {
+    let at = broken.at;
+    match broken.condition {
+        Condition::Unknown => of_unknown(alloc, text, marks, at),
+        Condition::Wrong => of_wrong(alloc, text, tokens, marks, at),
+        Condition::Label => of_label(alloc, text, marks, at),
+        Condition::Step => of_step(alloc, text, tokens, marks, at),
+        condition => Ok(of_plain(condition, text, tokens, marks, at)),
+    }
+}
+
+/// What is found there without memory.
+fn of_plain<'t>(
     condition: Condition,
+    text: &'t [u8],
+    tokens: &[Token<'_>],
+    marks: &[Mark<'_>],
+    at: usize,
+) -> Finding<'t> {
+    match condition {
+        Condition::Twice => of_twice(text, marks, at),
+        Condition::Arguments => of_count(text, marks, at),
+        Condition::Break => of_break(tokens, marks, at),
+        Condition::Range => of_range(text, tokens, marks, at),
+        Condition::Cells => of_cells(text, marks, at),
+        _ => untold(),
+    }
+}
+
+/// Of a text with these marks, none of which breaks a condition.
+fn of_whole<'t>(
+    alloc: Global,
+    refusal: Refusal,
     text: &'t [u8],
     tokens: &[Token<'t>],
     marks: &[Mark<'_>],
-) -> Result<Option<Finding<'t>>, AllocError> {
-    let all = all_names(alloc, marks)?;
-    let Some(at) = first_broken(alloc, condition, &all.table, marks)? else {
-        return Ok(None);
-    };
-    let subject = Subject {
-        text,
-        tokens,
-        marks,
-        at,
-    };
-    Ok(Some(of_mark(alloc, condition, subject)?))
+) -> Result<Finding<'t>, AllocError> {
+    match refusal {
+        Refusal::DStep => Ok(of_first_point(text, tokens)),
+        Refusal::CircleOfGotos => of_circle(alloc, tokens),
+        Refusal::NoProcess => Ok(of_none(text, marks)),
+        Refusal::TooManyAtStart => of_start(alloc, text, marks),
+        Refusal::Initialiser => of_initialiser(alloc, text, tokens, marks),
+        _ => Ok(untold()),
+    }
 }
 
 /// Of a text that has marks.
@@ -93,18 +137,10 @@ fn of_marks<'t>(
     tokens: &[Token<'t>],
     marks: &[Mark<'_>],
 ) -> Result<Finding<'t>, AllocError> {
-    if let Some(condition) = condition_of(refusal) {
-        if let Some(finding) = of_condition(alloc, condition, text, tokens, marks)? {
-            return Ok(finding);
-        }
-    }
-    match refusal {
-        Refusal::DStep => Ok(of_first_point(text, tokens)),
-        Refusal::CircleOfGotos => of_circle(alloc, tokens),
-        Refusal::NoProcess => Ok(of_none(text, marks)),
-        Refusal::TooManyAtStart => of_start(alloc, text, marks),
-        Refusal::Initialiser => of_initialiser(alloc, text, tokens, marks),
-        _ => Ok(untold()),
+    match first_broken_by(alloc, refusal, marks) {
+        Ok(Some(broken)) => of_mark(alloc, broken, text, tokens, marks),
+        Ok(None) => of_whole(alloc, refusal, text, tokens, marks),
+        Err(AllocError) => Err(AllocError),
     }
 }
 
@@ -117,6 +153,22 @@ fn copied<'t>(alloc: Global, tokens: &[Token<'t>]) -> Result<Vec<Token<'t>>, All
     Ok(list)
 }
 
+/// Of tokens that the tree may borrow; `originals` are those of the text.
+fn of_list<'t, 'a>(
+    alloc: Global,
+    refusal: Refusal,
+    text: &'t [u8],
+    originals: &[Token<'t>],
+    tokens: &[Token<'t>],
+    list: &'a [Token<'a>],
+) -> Result<Finding<'t>, AllocError> {
+    match marks_of(alloc, list) {
+        Ok(Some(marks)) => of_marks(alloc, refusal, text, tokens, marks.as_slice()),
+        Ok(None) => of_syntax(alloc, text, originals, tokens),
+        Err(AllocError) => Err(AllocError),
+    }
+}
+
 /// Of tokens in which the calls of inlines are replaced; `originals` are those of the text.
 fn of_expanded<'t>(
     alloc: Global,
@@ -125,10 +177,36 @@ fn of_expanded<'t>(
     originals: &[Token<'t>],
     tokens: &[Token<'t>],
 ) -> Result<Finding<'t>, AllocError> {
-    let list = copied(alloc, tokens)?;
-    match marks_of(alloc, &list)? {
-        Some(marks) => of_marks(alloc, refusal, text, tokens, marks.as_slice()),
-        None => of_syntax(alloc, text, originals, tokens),
+    match copied(alloc, tokens) {
+        Ok(list) => of_list(alloc, refusal, text, originals, tokens, &list),
+        Err(AllocError) => Err(AllocError),
+    }
+}
+
+/// Of tokens that have no expansion.
+fn of_fault<'t>(
+    alloc: Global,
+    text: &'t [u8],
+    tokens: &[Token<'t>],
+    fault: InlineFault,
+) -> Result<Finding<'t>, AllocError> {
+    match fault {
+        InlineFault::Inline => of_inline(alloc, text, tokens),
+        InlineFault::TooDeep(offset) => Ok(too_deep(tokens, offset)),
+        InlineFault::Memory => Err(AllocError),
+    }
+}
+
+/// Of tokens that are all of the language.
+fn of_words<'t>(
+    alloc: Global,
+    refusal: Refusal,
+    text: &'t [u8],
+    tokens: &[Token<'t>],
+) -> Result<Finding<'t>, AllocError> {
+    match expand(alloc, tokens) {
+        Ok(expanded) => of_expanded(alloc, refusal, text, tokens, &expanded),
+        Err(fault) => of_fault(alloc, text, tokens, fault),
     }
 }
 
@@ -139,14 +217,19 @@ fn of_tokens<'t>(
     text: &'t [u8],
     tokens: &[Token<'t>],
 ) -> Result<Finding<'t>, AllocError> {
-    if let Some(finding) = left_out(tokens) {
-        return Ok(finding);
+    match left_out(tokens) {
+        Some(finding) => Ok(finding),
+        None => of_words(alloc, refusal, text, tokens),
     }
-    match expand(alloc, tokens) {
-        Ok(expanded) => of_expanded(alloc, refusal, text, tokens, &expanded),
-        Err(InlineFault::Inline) => of_inline(alloc, text, tokens),
-        Err(InlineFault::TooDeep(offset)) => Ok(too_deep(tokens, offset)),
-        Err(InlineFault::Memory) => Err(AllocError),
+}
+
+/// Of a text that has no tokens.
+fn of_text<'t>(text: &'t [u8], fault: LexFault) -> Result<Finding<'t>, AllocError> {
+    match fault {
+        LexFault::TooLong => Ok(too_long(text)),
+        LexFault::Lexical(offset) => Ok(uncut(text, offset as usize)),
+        LexFault::LeftOut(_) => Ok(untold()),
+        LexFault::Memory => Err(AllocError),
     }
 }
 
@@ -158,9 +241,6 @@ pub fn cause_of<'t>(
 ) -> Result<Finding<'t>, AllocError> {
     match placed(alloc, text) {
         Ok(tokens) => of_tokens(alloc, refusal, text, &tokens),
-        Err(LexFault::TooLong) => Ok(too_long(text)),
-        Err(LexFault::Lexical(offset)) => Ok(uncut(text, offset as usize)),
-        Err(LexFault::LeftOut(_)) => Ok(untold()),
-        Err(LexFault::Memory) => Err(AllocError),
+        Err(fault) => of_text(text, fault),
     }
 }

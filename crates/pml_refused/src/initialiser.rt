@@ -1,10 +1,10 @@
 //! Initialisers that come to a fault.
 
 use crate::tree::is_refused_at_start;
-use pml_causes::cause::{Cause, Fault, Finding, StartCause};
+use pml_causes::cause::{Cause, Fault, Finding, Place, StartCause};
 use pml_causes::place::{at_place, between, bytes_of, from, is_at, kind_at, place_of, untold};
 use pml_lex::token::{Kind, Token};
-use pml_marked::subject::{assign_of, end_of_initialiser, initialiser_place};
+use pml_marked::spans::{assign_of, end_of_initialiser, initialiser_place};
 use pml_marks::mark::{Declared, Mark, Role, What};
 use std::alloc::{AllocError, Global};
 
@@ -17,19 +17,39 @@ struct Initialiser {
 }
 
 /// The token of this place at or behind `first`.
-fn index_from(tokens: &[Token<'_>], first: usize, wanted: &Token<'_>) -> Option<usize> {
+fn index_from(tokens: &[Token<'_>], first: usize, wanted: u32) -> Option<usize> {
     for (i, token) in from(tokens, first).iter().enumerate() {
-        if token.line() == wanted.line() {
+        if token.line() == wanted {
             return Some(first.saturating_add(i));
         }
     }
     None
 }
 
-fn variable_name<'m, 'a>(mark: &'m Mark<'a>) -> Option<&'m Token<'a>> {
+/// The place of the variable that a mark declares.
+fn variable_place(mark: &Mark<'_>) -> Option<u32> {
     match &mark.what {
-        What::Declares(name, Declared::Variable(Role::Variable, _, _, _)) => Some(name),
+        What::Declares(name, Declared::Variable(Role::Variable, _, _, _)) => Some(name.line()),
         _ => None,
+    }
+}
+
+/// The name of the variable that a mark declares, at or behind `first`.
+fn variable_from(tokens: &[Token<'_>], first: usize, mark: &Mark<'_>) -> Option<usize> {
+    match variable_place(mark) {
+        Some(place) => index_from(tokens, first, place),
+        None => None,
+    }
+}
+
+/// The initialiser of the variable whose name is the token at `name`.
+fn initialiser_of(tokens: &[Token<'_>], name: usize) -> Option<Initialiser> {
+    match assign_of(tokens, name) {
+        Some(from) => {
+            let end = end_of_initialiser(tokens, from);
+            Some(Initialiser { name, from, end })
+        }
+        None => None,
     }
 }
 
@@ -42,20 +62,28 @@ fn initialisers(
     let mut list = Vec::new(alloc);
     let mut at = 0usize;
     for mark in marks {
-        if let Some(token) = variable_name(mark) {
-            if let Some(name) = index_from(tokens, at, token) {
-                at = name.saturating_add(1);
-                if let Some(assign) = assign_of(tokens, name) {
-                    list.push(Initialiser {
-                        name,
-                        from: assign,
-                        end: end_of_initialiser(tokens, assign),
-                    })?;
-                }
+        if let Some(name) = variable_from(tokens, at, mark) {
+            at = name.saturating_add(1);
+            if let Some(one) = initialiser_of(tokens, name) {
+                list.push(one)?;
             }
         }
     }
     Ok(list)
+}
+
+fn is_begun(list: &[Initialiser], number: usize, at: usize) -> bool {
+    match list.get(number) {
+        Some(one) => one.from <= at,
+        None => false,
+    }
+}
+
+fn is_ended(list: &[Initialiser], number: usize, behind: usize) -> bool {
+    match list.get(number) {
+        Some(one) => one.end <= behind,
+        None => false,
+    }
 }
 
 /// The tokens without these initialisers, which stand in their order.
@@ -67,16 +95,21 @@ fn without<'t>(
     let mut kept = Vec::with_capacity(alloc, tokens.len())?;
     let mut next = 0usize;
     for (i, token) in tokens.iter().enumerate() {
-        match dropped.get(next) {
-            Some(one) if one.from <= i => {
-                if one.end <= i.saturating_add(1) {
-                    next = next.saturating_add(1);
-                }
-            }
-            _ => kept.push(token.copied())?,
+        if !is_begun(dropped, next, i) {
+            kept.push(token.copied())?;
+        } else if is_ended(dropped, next, i.saturating_add(1)) {
+            next = next.saturating_add(1);
         }
     }
     Ok(kept)
+}
+
+fn behind(list: &[Initialiser], count: usize) -> &[Initialiser] {
+    if count <= list.len() {
+        &list[count..]
+    } else {
+        &list[..0]
+    }
 }
 
 /// Whether one of the first so many initialisers comes to a fault.
@@ -86,12 +119,7 @@ fn has_fault(
     list: &[Initialiser],
     count: usize,
 ) -> Result<bool, AllocError> {
-    let dropped = if count <= list.len() {
-        &list[count..]
-    } else {
-        &list[..0]
-    };
-    let kept = without(alloc, tokens, dropped)?;
+    let kept = without(alloc, tokens, behind(list, count))?;
     is_refused_at_start(alloc, &kept)
 }
 
@@ -156,26 +184,53 @@ fn is_poll(tokens: &[Token<'_>], at: usize) -> bool {
     }
 }
 
+/// The last of so many.
+fn last_of(list: &[Initialiser], count: usize) -> Option<Initialiser> {
+    match list.get(count.checked_sub(1)?) {
+        Some(one) => Some(*one),
+        None => None,
+    }
+}
+
+/// The first initialiser that comes to a fault.
+fn faulty(
+    alloc: Global,
+    tokens: &[Token<'_>],
+    marks: &[Mark<'_>],
+) -> Result<Option<Initialiser>, AllocError> {
+    let list = initialisers(alloc, tokens, marks)?;
+    let count = fewest_faulty(alloc, tokens, &list)?;
+    Ok(last_of(&list, count))
+}
+
+fn place_at(tokens: &[Token<'_>], one: Initialiser, name: &Token<'_>) -> Place {
+    match initialiser_place(tokens, one.name) {
+        Some(place) => place,
+        None => place_of(name),
+    }
+}
+
+fn told<'t>(text: &'t [u8], tokens: &[Token<'_>], one: Initialiser) -> Finding<'t> {
+    match tokens.get(one.name) {
+        Some(name) => {
+            let fault = fault_of(tokens, one);
+            let cause = StartCause::Initialiser(bytes_of(text, name), fault);
+            at_place(place_at(tokens, one, name), Cause::Start(cause))
+        }
+        None => untold(),
+    }
+}
+
 /// Of an initialiser that comes to a fault.
 pub fn of_initialiser<'t>(
     alloc: Global,
     text: &'t [u8],
-    tokens: &[Token<'t>],
+    tokens: &[Token<'_>],
     marks: &[Mark<'_>],
 ) -> Result<Finding<'t>, AllocError> {
-    let list = initialisers(alloc, tokens, marks)?;
-    let count = fewest_faulty(alloc, tokens, &list)?;
-    let Some(last) = count.checked_sub(1) else {
-        return Ok(untold());
-    };
-    let Some(one) = list.get(last) else {
-        return Ok(untold());
-    };
-    let Some(name) = tokens.get(one.name) else {
-        return Ok(untold());
-    };
-    let fault = fault_of(tokens, *one);
-    let cause = StartCause::Initialiser(bytes_of(text, name), fault);
-    let place = initialiser_place(tokens, name).unwrap_or(place_of(name));
-    Ok(at_place(place, Cause::Start(cause)))
+    match faulty(alloc, tokens, marks) {
+        Ok(Some(one)) => Ok(told(text, tokens, one)),
+        Ok(None) => Ok(untold()),
+        Err(AllocError) => Err(AllocError),
+    }
 }

@@ -1,9 +1,12 @@
 //! Why a refused text is refused, and where.
 #![tactic(auto)]
 
+mod calls;
 mod find;
 mod initialiser;
 mod inlines;
+mod inner;
+mod stopped;
 mod syntax;
 mod tree;
 mod trial;

@@ -1,70 +1,17 @@
 //! Where no rule reads the tokens, and what was wanted there.
 
-use crate::trial::{Change, reads_on, stop};
-use pml_causes::brackets::{fits, innermost, open_before};
-use pml_causes::cause::{Cause, Finding, Named, SyntaxCause, Wanted};
-use pml_causes::place::{
-    at_place, at_token, closes, end_of, is_at, kind_at, named, place_of, untold,
+use crate::stopped::{
+    Neighbours, begins_line, is_before, name_at, name_before, neighbours_of, opener_before,
 };
-use pml_lex::token::{Kind, Token};
+use crate::trial::{Change, reads_on, stop};
+use pml_causes::brackets::fits;
+use pml_causes::cause::{Cause, Finding, Named, Place, SyntaxCause, Wanted};
+use pml_causes::place::{at_place, closes, end_of, is_at, kind_at, named, untold};
+use pml_lex::token::{Kind, Token, same_kind};
 use std::alloc::{AllocError, Global};
 
-/// The tokens of a text, and the one that no rule reads.
-#[derive(Clone, Copy)]
-pub struct Stopped<'a, 't> {
-    pub text: &'t [u8],
-    pub tokens: &'a [Token<'t>],
-    pub at: usize,
-}
-
-/// Whether only blanks stand before a place on its line.
-fn begins_line(text: &[u8], offset: usize) -> bool {
-    let mut fresh = true;
-    for (i, byte) in text.iter().enumerate() {
-        if i >= offset {
-            return fresh;
-        }
-        if *byte == b'\n' {
-            fresh = true;
-        } else if *byte != b' ' && *byte != b'\t' && *byte != b'\r' {
-            fresh = false;
-        }
-    }
-    fresh
-}
-
-/// The token in front of the one at `at`, so many before it.
-fn before(at: usize, count: usize) -> Option<usize> {
-    at.checked_sub(count)
-}
-
-fn is_before(stopped: Stopped<'_, '_>, count: usize, kind: Kind) -> bool {
-    match before(stopped.at, count) {
-        Some(at) => is_at(stopped.tokens, at, kind),
-        None => false,
-    }
-}
-
-fn name_before<'t>(stopped: Stopped<'_, 't>, count: usize) -> Option<Named<'t>> {
-    let at = before(stopped.at, count)?;
-    let token = stopped.tokens.get(at)?;
-    Some(named(stopped.text, token))
-}
-
-/// What a name with `(` behind it seems to call, though no inline of its name is defined before it.
-fn called<'t>(stopped: Stopped<'_, 't>, originals: &[Token<'t>]) -> Option<Wanted<'t>> {
-    if !is_at(stopped.tokens, stopped.at, Kind::OpenParen) {
-        return None;
-    }
-    if !is_before(stopped, 1, Kind::Name) {
-        return None;
-    }
-    let name = name_before(stopped, 1)?;
-    Some(Wanted::Inline(name.name, definition_of(stopped.text, originals, name.name)))
-}
-
 /// Where an inline of this name is defined.
-fn definition_of<'t>(text: &'t [u8], originals: &[Token<'t>], name: &[u8]) -> Option<Named<'t>> {
+fn definition_of<'t>(text: &'t [u8], originals: &[Token<'_>], name: &[u8]) -> Option<Named<'t>> {
     let mut defines = false;
     for token in originals {
         if defines && token.text() == name {
@@ -75,133 +22,64 @@ fn definition_of<'t>(text: &'t [u8], originals: &[Token<'t>], name: &[u8]) -> Op
     None
 }
 
+/// Whether a name with `(` behind it seems to call something.
+fn is_call(tokens: &[Token<'_>], at: usize) -> bool {
+    is_at(tokens, at, Kind::OpenParen) && is_before(tokens, at, 1, Kind::Name)
+}
+
 /// What is told by the token and those in front of it alone.
-fn by_neighbours<'t>(stopped: Stopped<'_, 't>) -> Option<Wanted<'t>> {
-    let kind = kind_at(stopped.tokens, stopped.at);
-    match kind {
-        Kind::OpenBrace if is_before(stopped, 1, Kind::Assign) => Some(Wanted::NoList),
-        Kind::Colon if is_before(stopped, 1, Kind::Mtype) => Some(Wanted::NoSubtype),
-        Kind::Assign if is_operator_before(stopped) => Some(Wanted::PlainAssignment),
-        Kind::DoubleColon => None,
-        _ if is_before(stopped, 1, Kind::Name) && is_before(stopped, 2, Kind::Run) => {
-            Some(Wanted::Arguments(name_before(stopped, 1)?.name))
-        }
-        _ if is_operator_before(stopped) && ends_operand(kind) => {
-            Some(Wanted::Operand(name_before(stopped, 1)?.name))
-        }
-        _ if is_before(stopped, 1, Kind::If) || is_before(stopped, 1, Kind::Do) => {
-            let opener = name_before(stopped, 1)?;
-            Some(Wanted::Options(opener.name))
-        }
-        _ => None,
+fn by_neighbours<'t>(text: &'t [u8], tokens: &[Token<'_>], at: usize) -> Option<Wanted<'t>> {
+    let name = name_before(text, tokens, at, 1).name;
+    match neighbours_of(tokens, at) {
+        Neighbours::List => Some(Wanted::NoList),
+        Neighbours::Subtype => Some(Wanted::NoSubtype),
+        Neighbours::Assignment => Some(Wanted::PlainAssignment),
+        Neighbours::Process => Some(Wanted::Arguments(name)),
+        Neighbours::Operand => Some(Wanted::Operand(name)),
+        Neighbours::Options => Some(Wanted::Options(name)),
+        Neighbours::Other => None,
     }
 }
 
-/// Whether a token stands where an operand ends.
-fn ends_operand(kind: Kind) -> bool {
-    closes(kind)
-        || matches!(
-            kind,
-            Kind::Semicolon | Kind::Arrow | Kind::DoubleColon | Kind::Comma
-        )
+/// What is told without reading the tokens once more: a call of an inline that is not defined before it, or what the neighbours tell.
+fn by_tokens<'t>(
+    text: &'t [u8],
+    originals: &[Token<'_>],
+    tokens: &[Token<'_>],
+    at: usize,
+) -> Option<Wanted<'t>> {
+    if is_call(tokens, at) {
+        let name = name_before(text, tokens, at, 1).name;
+        return Some(Wanted::Inline(name, definition_of(text, originals, name)));
+    }
+    by_neighbours(text, tokens, at)
+}
+
+fn is_opener(tokens: &[Token<'_>], opener: Option<usize>) -> bool {
+    match opener {
+        Some(at) => is_at(tokens, at, Kind::If) || is_at(tokens, at, Kind::Do),
+        None => false,
+    }
 }
 
 /// Whether `::` is wanted in front of an `else`: it stands in a selection or a loop, and not behind `::`.
-fn by_else<'t>(alloc: Global, stopped: Stopped<'_, 't>) -> Result<Option<Wanted<'t>>, AllocError> {
-    if !is_at(stopped.tokens, stopped.at, Kind::Else) {
-        return Ok(None);
+fn wants_option(alloc: Global, tokens: &[Token<'_>], at: usize) -> Result<bool, AllocError> {
+    if !is_at(tokens, at, Kind::Else) {
+        return Ok(false);
     }
-    let open = open_before(alloc, stopped.tokens, stopped.at)?;
-    Ok(match innermost(&open) {
-        Some(opener)
-            if is_at(stopped.tokens, opener, Kind::If) || is_at(stopped.tokens, opener, Kind::Do) =>
-            { Some(Wanted::OptionSign) }
-        _ => None,
-    })
+    let opener = opener_before(alloc, tokens, at)?;
+    Ok(is_opener(tokens, opener))
 }
 
-fn is_operator_before(stopped: Stopped<'_, '_>) -> bool {
-    let Some(at) = before(stopped.at, 1) else {
-        return false;
-    };
-    matches!(
-        kind_at(stopped.tokens, at),
-        Kind::Plus
-            | Kind::Minus
-            | Kind::Star
-            | Kind::Slash
-            | Kind::Percent
-            | Kind::Ampersand
-            | Kind::Bar
-            | Kind::Caret
-            | Kind::ShiftLeft
-            | Kind::ShiftRight
-    )
-}
-
-/// Whether a `;` in front of the token is what is wanted, and where.
-fn by_semicolon<'t>(
-    alloc: Global,
-    stopped: Stopped<'_, 't>,
-) -> Result<Option<Wanted<'t>>, AllocError> {
-    if !reads_on(
-        alloc,
-        stopped.tokens,
-        stopped.at,
-        Change::Insert(Kind::Semicolon, b";"),
-    )? {
-        return Ok(None);
-    }
-    let Some(last) = name_before(stopped, 1) else {
-        return Ok(Some(Wanted::Semicolon));
-    };
-    let Some(token) = stopped.tokens.get(stopped.at) else {
-        return Ok(Some(Wanted::Semicolon));
-    };
-    if begins_line(stopped.text, place_of(token).offset) {
-        Ok(Some(Wanted::SemicolonAtLineEnd(last)))
-    } else {
-        Ok(Some(Wanted::Semicolon))
-    }
-}
-
-/// Whether a statement behind a label is what is wanted.
-fn by_label<'t>(alloc: Global, stopped: Stopped<'_, 't>) -> Result<Option<Wanted<'t>>, AllocError> {
-    if !is_before(stopped, 1, Kind::Colon) || !is_before(stopped, 2, Kind::Name) {
-        return Ok(None);
-    }
-    let Some(label) = name_before(stopped, 2) else {
-        return Ok(None);
-    };
-    let change = Change::Insert(Kind::Skip, b"skip");
-    if reads_on(alloc, stopped.tokens, stopped.at, change)? {
-        Ok(Some(Wanted::Statement(label.name)))
-    } else {
-        Ok(None)
-    }
-}
-
-/// What closes, where something else is open.
-fn by_brackets<'t>(
-    alloc: Global,
-    stopped: Stopped<'_, 't>,
-) -> Result<Option<Wanted<'t>>, AllocError> {
-    if !closes(kind_at(stopped.tokens, stopped.at)) {
-        return Ok(None);
-    }
-    let open = open_before(alloc, stopped.tokens, stopped.at)?;
-    let Some(opener) = innermost(&open) else {
-        return Ok(Some(Wanted::NothingOpen));
-    };
-    if fits(stopped.tokens, opener, stopped.at) {
-        return Ok(None);
-    }
-    Ok(
-        stopped
-            .tokens
-            .get(opener)
-            .map(|token| Wanted::Closer(named(stopped.text, token))),
-    )
+/// What is told by reading the tokens with a change of one of them.
+#[derive(Clone, Copy)]
+enum Trial {
+    Semicolon,
+    Statement,
+    Run,
+    Name,
+    Nothing,
+    Untold,
 }
 
 fn is_word(bytes: &[u8]) -> bool {
@@ -211,110 +89,225 @@ fn is_word(bytes: &[u8]) -> bool {
     }
 }
 
+fn is_word_at(tokens: &[Token<'_>], at: usize) -> bool {
+    match tokens.get(at) {
+        Some(token) => is_word(token.text()),
+        None => false,
+    }
+}
+
+fn is_sign(kind: Kind) -> bool {
+    matches!(kind, Kind::Semicolon | Kind::Comma | Kind::Arrow)
+}
+
 /// What is told by reading the tokens with another one in the place of one of them.
-fn by_change<'t>(
-    alloc: Global,
-    stopped: Stopped<'_, 't>,
-) -> Result<Option<Wanted<'t>>, AllocError> {
-    let tokens = stopped.tokens;
-    let Some(token) = tokens.get(stopped.at) else {
-        return Ok(None);
-    };
-    if matches!(token.kind(), Kind::Run) {
-        return Ok(Some(Wanted::NoRun));
+fn by_change(alloc: Global, tokens: &[Token<'_>], at: usize) -> Result<Trial, AllocError> {
+    let kind = kind_at(tokens, at);
+    if same_kind(kind, Kind::Run) {
+        return Ok(Trial::Run);
     }
-    if is_word(token.text())
-        && reads_on(alloc, tokens, stopped.at, Change::Replace(Kind::Name, b"x"))?
-    {
-        return Ok(Some(Wanted::Name));
+    if is_word_at(tokens, at) && reads_on(alloc, tokens, at, Change::Replace(Kind::Name, b"x"))? {
+        return Ok(Trial::Name);
     }
-    let is_sign = matches!(token.kind(), Kind::Semicolon | Kind::Comma | Kind::Arrow);
-    if is_sign && reads_on(alloc, tokens, stopped.at, Change::Remove)? {
-        return Ok(Some(Wanted::Nothing));
+    if is_sign(kind) && reads_on(alloc, tokens, at, Change::Remove)? {
+        return Ok(Trial::Nothing);
     }
-    Ok(None)
+    Ok(Trial::Untold)
+}
+
+/// Whether a label stands in front of a token.
+fn is_labelled(tokens: &[Token<'_>], at: usize) -> bool {
+    is_before(tokens, at, 1, Kind::Colon) && is_before(tokens, at, 2, Kind::Name)
+}
+
+fn tried(alloc: Global, tokens: &[Token<'_>], at: usize) -> Result<Trial, AllocError> {
+    let semicolon = Change::Insert(Kind::Semicolon, b";");
+    if reads_on(alloc, tokens, at, semicolon)? {
+        return Ok(Trial::Semicolon);
+    }
+    let skip = Change::Insert(Kind::Skip, b"skip");
+    if is_labelled(tokens, at) && reads_on(alloc, tokens, at, skip)? {
+        return Ok(Trial::Statement);
+    }
+    by_change(alloc, tokens, at)
+}
+
+/// A `;` in front of a token, and where.
+fn semicolon<'t>(text: &'t [u8], tokens: &[Token<'_>], at: usize) -> Wanted<'t> {
+    let last = name_before(text, tokens, at, 1);
+    if 0 < at && begins_line(text, name_at(text, tokens, at).offset) {
+        Wanted::SemicolonAtLineEnd(last)
+    } else {
+        Wanted::Semicolon
+    }
 }
 
 /// What is wanted in place of the token, or in front of it.
-fn wanted_by_trial<'t>(alloc: Global, stopped: Stopped<'_, 't>) -> Result<Wanted<'t>, AllocError> {
-    if let Some(wanted) = by_semicolon(alloc, stopped)? {
-        return Ok(wanted);
+fn by_trial<'t>(text: &'t [u8], tokens: &[Token<'_>], at: usize, trial: Trial) -> Wanted<'t> {
+    match trial {
+        Trial::Semicolon => semicolon(text, tokens, at),
+        Trial::Statement => Wanted::Statement(name_before(text, tokens, at, 2).name),
+        Trial::Run => Wanted::NoRun,
+        Trial::Name => Wanted::Name,
+        Trial::Nothing => Wanted::Nothing,
+        Trial::Untold => Wanted::Untold,
     }
-    if let Some(wanted) = by_label(alloc, stopped)? {
-        return Ok(wanted);
+}
+
+fn wanted_by_trial<'t>(
+    alloc: Global,
+    text: &'t [u8],
+    tokens: &[Token<'_>],
+    at: usize,
+) -> Result<Wanted<'t>, AllocError> {
+    if wants_option(alloc, tokens, at)? {
+        return Ok(Wanted::OptionSign);
     }
-    Ok(by_change(alloc, stopped)?.unwrap_or(Wanted::Untold))
+    let trial = tried(alloc, tokens, at)?;
+    Ok(by_trial(text, tokens, at, trial))
 }
 
 fn wanted_of<'t>(
     alloc: Global,
-    stopped: Stopped<'_, 't>,
-    originals: &[Token<'t>],
+    text: &'t [u8],
+    originals: &[Token<'_>],
+    tokens: &[Token<'_>],
+    at: usize,
 ) -> Result<Wanted<'t>, AllocError> {
-    if let Some(wanted) = called(stopped, originals) {
-        return Ok(wanted);
+    match by_tokens(text, originals, tokens, at) {
+        Some(wanted) => Ok(wanted),
+        None => wanted_by_trial(alloc, text, tokens, at),
     }
-    if let Some(wanted) = by_neighbours(stopped) {
-        return Ok(wanted);
-    }
-    if let Some(wanted) = by_else(alloc, stopped)? {
-        return Ok(wanted);
-    }
-    wanted_by_trial(alloc, stopped)
 }
 
-/// What stands at the end of the text, where all tokens were read and something is still open.
-fn at_end<'t>(
+/// What is told of brackets that do not fit.
+#[derive(Clone, Copy)]
+enum Brackets {
+    /// What this opens is closed by another token.
+    Other(usize),
+    /// Nothing is open.
+    Nothing,
+    /// All tokens were read, and what this opens is not closed.
+    Open(usize),
+    /// They fit.
+    Right,
+}
+
+/// Of a token that closes what this opens, or else nothing.
+fn closed_by(tokens: &[Token<'_>], opener: Option<usize>, at: usize) -> Brackets {
+    match opener {
+        Some(opener) => {
+            if fits(tokens, opener, at) {
+                Brackets::Right
+            } else {
+                Brackets::Other(opener)
+            }
+        }
+        None => Brackets::Nothing,
+    }
+}
+
+/// Of the last token, where this is open in front of its end.
+fn open_at_end(opener: Option<usize>) -> Brackets {
+    match opener {
+        Some(opener) => Brackets::Open(opener),
+        None => Brackets::Right,
+    }
+}
+
+/// What is open at the end of the text, where its last token is the one at `at`.
+fn at_end(alloc: Global, tokens: &[Token<'_>], at: usize) -> Result<Brackets, AllocError> {
+    if at.saturating_add(1) < tokens.len() {
+        return Ok(Brackets::Right);
+    }
+    let opener = opener_before(alloc, tokens, tokens.len())?;
+    Ok(open_at_end(opener))
+}
+
+/// What closes, where something else is open.
+fn at_closer(alloc: Global, tokens: &[Token<'_>], at: usize) -> Result<Brackets, AllocError> {
+    if !closes(kind_at(tokens, at)) {
+        return Ok(Brackets::Right);
+    }
+    let opener = opener_before(alloc, tokens, at)?;
+    Ok(closed_by(tokens, opener, at))
+}
+
+fn brackets_of(alloc: Global, tokens: &[Token<'_>], at: usize) -> Result<Brackets, AllocError> {
+    match at_closer(alloc, tokens, at)? {
+        Brackets::Right => at_end(alloc, tokens, at),
+        wrong => Ok(wrong),
+    }
+}
+
+fn wanted_at<'t>(
     alloc: Global,
     text: &'t [u8],
-    tokens: &[Token<'t>],
-) -> Result<Option<Finding<'t>>, AllocError> {
-    let open = open_before(alloc, tokens, tokens.len())?;
-    let Some(opener) = innermost(&open) else {
-        return Ok(None);
+    originals: &[Token<'_>],
+    tokens: &[Token<'_>],
+    at: usize,
+) -> Result<Wanted<'t>, AllocError> {
+    match brackets_of(alloc, tokens, at)? {
+        Brackets::Other(opener) => Ok(Wanted::Closer(name_at(text, tokens, opener))),
+        Brackets::Nothing => Ok(Wanted::NothingOpen),
+        Brackets::Open(opener) => Ok(Wanted::EndOf(name_at(text, tokens, opener))),
+        Brackets::Right => wanted_of(alloc, text, originals, tokens, at),
+    }
+}
+
+/// What is found at a place.
+fn found_at<'t>(place: Place, found: &'t [u8], wanted: Wanted<'t>) -> Finding<'t> {
+    at_place(place, Cause::Syntax(SyntaxCause { found, wanted }))
+}
+
+/// What is told of the token at `at`, or of the end where that is what is wanted.
+fn told<'t>(text: &'t [u8], tokens: &[Token<'_>], at: usize, wanted: Wanted<'t>) -> Finding<'t> {
+    let token = name_at(text, tokens, at);
+    if matches!(wanted, Wanted::EndOf(_)) {
+        return found_at(end_of(text), &text[..0], wanted);
+    }
+    let place = Place {
+        offset: token.offset,
+        length: token.name.len(),
     };
-    let Some(token) = tokens.get(opener) else {
-        return Ok(None);
-    };
-    let cause = SyntaxCause {
-        found: &text[..0],
-        wanted: Wanted::EndOf(named(text, token)),
-    };
-    Ok(Some(at_place(end_of(text), Cause::Syntax(cause))))
+    found_at(place, token.name, wanted)
+}
+
+/// Of the token that no rule reads.
+fn of_stop<'t>(
+    alloc: Global,
+    text: &'t [u8],
+    originals: &[Token<'_>],
+    tokens: &[Token<'_>],
+    at: usize,
+) -> Result<Finding<'t>, AllocError> {
+    match wanted_at(alloc, text, originals, tokens, at) {
+        Ok(wanted) => Ok(told(text, tokens, at, wanted)),
+        Err(AllocError) => Err(AllocError),
+    }
 }
 
 /// A text without a token.
 fn empty(text: &[u8]) -> Finding<'_> {
-    let cause = SyntaxCause {
-        found: &text[..0],
-        wanted: Wanted::Untold,
-    };
-    at_place(end_of(text), Cause::Syntax(cause))
+    found_at(end_of(text), &text[..0], Wanted::Untold)
 }
 
 /// Of tokens that no tree spells; `originals` are those of the text.
 pub fn of_syntax<'t>(
     alloc: Global,
     text: &'t [u8],
-    originals: &[Token<'t>],
-    tokens: &[Token<'t>],
+    originals: &[Token<'_>],
+    tokens: &[Token<'_>],
 ) -> Result<Finding<'t>, AllocError> {
-    let Some(at) = stop(alloc, tokens)? else {
-        return Ok(untold());
-    };
-    let Some(token) = tokens.get(at) else {
-        return Ok(empty(text));
-    };
-    let stopped = Stopped { text, tokens, at };
-    let found = token.text();
-    if let Some(wanted) = by_brackets(alloc, stopped)? {
-        return Ok(at_token(token, Cause::Syntax(SyntaxCause { found, wanted })));
-    }
-    if at.saturating_add(1) >= tokens.len() {
-        if let Some(finding) = at_end(alloc, text, tokens)? {
-            return Ok(finding);
+    match stop(alloc, tokens) {
+        Ok(Some(at)) => {
+            if at < tokens.len() {
+                of_stop(alloc, text, originals, tokens, at)
+            } else {
+                Ok(empty(text))
+            }
         }
+        Ok(None) => Ok(untold()),
+        Err(AllocError) => Err(AllocError),
     }
-    let wanted = wanted_of(alloc, stopped, originals)?;
-    Ok(at_token(token, Cause::Syntax(SyntaxCause { found, wanted })))
 }

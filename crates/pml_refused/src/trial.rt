@@ -47,6 +47,20 @@ fn add_changed<'t>(
     }
 }
 
+/// Adds a token, or what stands in its place.
+fn add_either<'t>(
+    token: &Token<'t>,
+    is_changed: bool,
+    change: Change,
+    list: &mut Vec<Token<'t>>,
+) -> Result<(), AllocError> {
+    if is_changed {
+        add_changed(token, change, list)
+    } else {
+        add(token.kind(), token.text(), list)
+    }
+}
+
 /// The tokens with a change of the one at `at`.
 fn changed<'t>(
     alloc: Global,
@@ -56,11 +70,7 @@ fn changed<'t>(
 ) -> Result<Vec<Token<'t>>, AllocError> {
     let mut list = Vec::with_capacity(alloc, tokens.len().saturating_add(1))?;
     for (i, token) in tokens.iter().enumerate() {
-        if i == at {
-            add_changed(token, change, &mut list)?;
-        } else {
-            add(token.kind(), token.text(), &mut list)?;
-        }
+        add_either(token, i == at, change, &mut list)?;
     }
     Ok(list)
 }
@@ -88,6 +98,14 @@ fn aim(at: usize, change: Change) -> usize {
     }
 }
 
+/// Whether the tokens are read past a place, where this is the one that no rule reads.
+fn is_behind(stop: Option<usize>, aim: usize) -> bool {
+    match stop {
+        None => true,
+        Some(place) => place > aim,
+    }
+}
+
 /// Whether the tokens are read on, past the one at `at`, with a change of it.
 pub fn reads_on(
     alloc: Global,
@@ -96,8 +114,6 @@ pub fn reads_on(
     change: Change,
 ) -> Result<bool, AllocError> {
     let list = changed(alloc, tokens, at, change)?;
-    match stop_of(alloc, &list)? {
-        None => Ok(true),
-        Some(place) => Ok(place > aim(at, change)),
-    }
+    let place = stop_of(alloc, &list)?;
+    Ok(is_behind(place, aim(at, change)))
 }
