@@ -1,10 +1,9 @@
 //! What is told of arguments, labels, control, numbers, the first state and inlines.
 
 use crate::message::Message;
-use crate::message::Part::{Count, Line, Name, Number, Signed, Words};
 use crate::names::did_you_mean;
 use pml_causes::cause::{
-    Circle, ControlCause, CountCause, Fault, InlineCause, LabelCause, RangeCause, StartCause,
+    Circle, ControlCause, CountCause, Fault, InlineCause, LabelCause, Named, RangeCause, StartCause,
 };
 use profile::{
     MOST_BITS, MOST_CALLS, MOST_CELLS, MOST_CHANNELS, MOST_CONSTANTS, MOST_FIELDS, MOST_MESSAGES,
@@ -12,32 +11,37 @@ use profile::{
 };
 use std::alloc::AllocError;
 
+/// Of another number of arguments than there are parameters.
+fn arguments(
+    message: &mut Message<'_>,
+    name: Named<'_>,
+    given: usize,
+    wanted: usize,
+) -> Result<(), AllocError> {
+    message.placed("", name, " (", ") has ")?;
+    message.count(wanted, " parameter, and ", " parameters, and ")?;
+    message.count(given, " argument is given", " arguments are given")
+}
+
+/// Of another number of values than a text has conversions.
+fn values(message: &mut Message<'_>, given: usize, wanted: usize) -> Result<(), AllocError> {
+    message.push("the text has ")?;
+    message.count(wanted, " conversion, and ", " conversions, and ")?;
+    message.count(given, " value is given", " values are given")
+}
+
 /// Of a wrong number of arguments.
 pub fn of_count(message: &mut Message<'_>, cause: CountCause<'_>) -> Result<(), AllocError> {
     match cause {
-        CountCause::Run(name, given, wanted) => message.say(&[
-            Name(name.name),
-            Words(" ("),
-            Line(name.offset),
-            Words(") has "),
-            Count(wanted, " parameter", " parameters"),
-            Words(", and "),
-            Count(given, " argument is given", " arguments are given"),
-        ]),
-        CountCause::Printf(given, wanted) => message.say(&[
-            Words("the text has "),
-            Count(wanted, " conversion", " conversions"),
-            Words(", and "),
-            Count(given, " value is given", " values are given"),
-        ]),
-        CountCause::Conversion(letter) => message.say(&[
-            Name(&[b'%', letter]),
-            Words(
-                " is no conversion: there are %d, %u, %o, %x, %c and %e, and %% for the sign itself",
-            ),
-        ]),
+        CountCause::Run(name, given, wanted) => arguments(message, name, given, wanted),
+        CountCause::Printf(given, wanted) => values(message, given, wanted),
+        CountCause::Conversion(letter) => message.around(
+            "",
+            &[b'%', letter],
+            " is no conversion: there are %d, %u, %o, %x, %c and %e, and %% for the sign itself",
+        ),
         CountCause::OpenConversion => {
-            message.say(&[Words("nothing stands behind `%`: write `%%` for the sign itself")])
+            message.push("nothing stands behind `%`: write `%%` for the sign itself")
         }
     }
 }
@@ -45,80 +49,67 @@ pub fn of_count(message: &mut Message<'_>, cause: CountCause<'_>) -> Result<(), 
 /// Of a label.
 pub fn of_label(message: &mut Message<'_>, cause: LabelCause<'_>) -> Result<(), AllocError> {
     match cause {
-        LabelCause::Twice(first) => message.say(&[
-            Words("the label "),
-            Name(first.name),
-            Words(" stands already on "),
-            Line(first.offset),
-        ]),
+        LabelCause::Twice(first) => message.placed("the label ", first, " stands already on ", ""),
         LabelCause::Missing(name, near) => {
-            message.say(&[Words("this proctype has no label "), Name(name)])?;
+            message.around("this proctype has no label ", name, "")?;
             did_you_mean(message, near)
         }
-        LabelCause::Elsewhere(other) => message.say(&[
-            Words("the label "),
-            Name(other.name),
-            Words(" stands in another proctype ("),
-            Line(other.offset),
-            Words(")"),
-        ]),
+        LabelCause::Elsewhere(other) => {
+            message.placed("the label ", other, " stands in another proctype (", ")")
+        }
+    }
+}
+
+/// The labels of a circle between its first one and the first one again.
+fn way(message: &mut Message<'_>, circle: Circle<'_>) -> Result<(), AllocError> {
+    message.around(" leads to ", circle.second, "")?;
+    match circle.count {
+        0..=2 => Ok(()),
+        3 => message.around(", to ", circle.third, ""),
+        _ => message.around(", to ", circle.third, ", further on"),
     }
 }
 
 fn of_circle(message: &mut Message<'_>, circle: Circle<'_>) -> Result<(), AllocError> {
-    message.say(&[Name(circle.first), Words(" leads ")])?;
-    match circle.count {
-        0 | 1 => return message.say(&[Words("to itself, and no statement is on the way")]),
-        2 => message.say(&[Words("to "), Name(circle.second)])?,
-        3 => message.say(&[
-            Words("to "),
-            Name(circle.second),
-            Words(", to "),
-            Name(circle.third),
-        ])?,
-        _ => message.say(&[
-            Words("to "),
-            Name(circle.second),
-            Words(", to "),
-            Name(circle.third),
-            Words(", further on"),
-        ])?,
+    message.name(circle.first)?;
+    if circle.count <= 1 {
+        return message.push(" leads to itself, and no statement is on the way");
     }
-    message.say(&[
-        Words(" and back to "),
-        Name(circle.first),
-        Words(", and no statement is on the way"),
-    ])
+    way(message, circle)?;
+    message.around(
+        " and back to ",
+        circle.first,
+        ", and no statement is on the way",
+    )
+}
+
+/// What a d_step begins with.
+fn of_first(message: &mut Message<'_>, found: &[u8]) -> Result<(), AllocError> {
+    if found.is_empty() {
+        message.push("its first statement leaves it")
+    } else {
+        message.around("a `d_step` cannot begin with ", found, "")
+    }
 }
 
 /// Of breaks, d_steps and circles.
 pub fn of_control(message: &mut Message<'_>, cause: ControlCause<'_>) -> Result<(), AllocError> {
     match cause {
-        ControlCause::LooseBreak => message.say(&[Words("no `do` is round it")]),
+        ControlCause::LooseBreak => message.push("no `do` is round it"),
         ControlCause::BreakOfStep => {
-            message.say(&[Words("it would end a `do` that is round the `d_step`")])
+            message.push("it would end a `do` that is round the `d_step`")
         }
-        ControlCause::Unless => message.say(&[Words("no `unless` may stand in a `d_step`")]),
-        ControlCause::GotoLeaves(label) => message.say(&[
-            Words("it leaves its `d_step`, in which "),
-            Name(label.name),
-            Words(" ("),
-            Line(label.offset),
-            Words(") does not stand"),
-        ]),
-        ControlCause::GotoEnters(label) => message.say(&[
-            Words("it enters the `d_step` in which "),
-            Name(label.name),
-            Words(" ("),
-            Line(label.offset),
-            Words(") stands"),
-        ]),
-        ControlCause::FirstPoint(found) => {
-            if found.is_empty() {
-                return message.say(&[Words("its first statement leaves it")]);
-            }
-            message.say(&[Words("a `d_step` cannot begin with "), Name(found)])
+        ControlCause::Unless => message.push("no `unless` may stand in a `d_step`"),
+        ControlCause::GotoLeaves(label) => message.placed(
+            "it leaves its `d_step`, in which ",
+            label,
+            " (",
+            ") does not stand",
+        ),
+        ControlCause::GotoEnters(label) => {
+            message.placed("it enters the `d_step` in which ", label, " (", ") stands")
         }
+        ControlCause::FirstPoint(found) => of_first(message, found),
         ControlCause::Circle(circle) => of_circle(message, circle),
     }
 }
@@ -130,38 +121,65 @@ fn outside(
     least: usize,
     most: usize,
 ) -> Result<(), AllocError> {
-    message.say(&[
-        Words(" is "),
-        Signed(number),
-        Words(", and may be from "),
-        Number(least),
-        Words(" to "),
-        Number(most),
-    ])
+    message.push(" is ")?;
+    message.signed(number)?;
+    message.figure(", and may be from ", least, " to ")?;
+    message.number(most)
+}
+
+/// A number of the declaration of a name that is outside of what it may be.
+fn number_of(
+    message: &mut Message<'_>,
+    what: &str,
+    name: &[u8],
+    number: i32,
+    least: usize,
+    most: usize,
+) -> Result<(), AllocError> {
+    message.around(what, name, "")?;
+    outside(message, number, least, most)
+}
+
+fn of_fields(message: &mut Message<'_>, name: &[u8], number: usize) -> Result<(), AllocError> {
+    message.both(
+        "the messages of ",
+        name,
+        " have ",
+        number,
+        " fields, and may have ",
+    )?;
+    message.number(MOST_FIELDS)
 }
 
 fn of_declared(message: &mut Message<'_>, cause: RangeCause<'_>) -> Result<(), AllocError> {
     match cause {
         RangeCause::Size(name, number) => {
-            message.say(&[Words("the size of "), Name(name)])?;
-            outside(message, number, 1, MOST_CELLS as usize)
+            number_of(
+                message,
+                "the size of ",
+                name,
+                number,
+                1,
+                MOST_CELLS as usize,
+            )
         }
-        RangeCause::Count(name, number) => {
-            message.say(&[Words("the number of processes "), Name(name)])?;
-            outside(message, number, 1, MOST_PROCESSES)
-        }
-        RangeCause::Capacity(name, number) => {
-            message.say(&[Words("the capacity of "), Name(name)])?;
-            outside(message, number, 0, MOST_MESSAGES as usize)
-        }
-        RangeCause::Fields(name, number) => message.say(&[
-            Words("the messages of "),
-            Name(name),
-            Words(" have "),
-            Number(number),
-            Words(" fields, and may have "),
-            Number(MOST_FIELDS),
-        ]),
+        RangeCause::Count(name, number) => number_of(
+            message,
+            "the number of processes ",
+            name,
+            number,
+            1,
+            MOST_PROCESSES,
+        ),
+        RangeCause::Capacity(name, number) => number_of(
+            message,
+            "the capacity of ",
+            name,
+            number,
+            0,
+            MOST_MESSAGES as usize,
+        ),
+        RangeCause::Fields(name, number) => of_fields(message, name, number),
         _ => Ok(()),
     }
 }
@@ -169,36 +187,38 @@ fn of_declared(message: &mut Message<'_>, cause: RangeCause<'_>) -> Result<(), A
 /// Of numbers and cells.
 pub fn of_range(message: &mut Message<'_>, cause: RangeCause<'_>) -> Result<(), AllocError> {
     match cause {
-        RangeCause::Number(digits) => { message.say(&[Name(digits), Words(" is over 4294967295")]) }
-        RangeCause::Width(digits) => message.say(&[
-            Words("the width is "),
-            Name(digits),
-            Words(", and may be from 1 to "),
-            Number(MOST_BITS as usize),
-        ]),
-        RangeCause::Constants(name) => message.say(&[
-            Name(name),
-            Words(" is one more name of `mtype` than "),
-            Number(MOST_CONSTANTS),
-        ]),
-        RangeCause::Divides(name) => message.say(&[
-            Words("the constant expression of "),
-            Name(name),
-            Words(" divides by 0"),
-        ]),
-        RangeCause::Cells(name) => message.say(&[
-            Words("with "),
-            Name(name),
-            Words(" there are more than "),
-            Number(MOST_CELLS as usize),
-            Words(" numbers to hold"),
-        ]),
-        RangeCause::ChannelCells(name) => message.say(&[
-            Name(name),
-            Words(" may have to hold more than "),
-            Number(MOST_CELLS as usize),
-            Words(" numbers"),
-        ]),
+        RangeCause::Number(digits) => message.around("", digits, " is over 4294967295"),
+        RangeCause::Width(digits) => message.both(
+            "the width is ",
+            digits,
+            ", and may be from 1 to ",
+            MOST_BITS as usize,
+            "",
+        ),
+        RangeCause::Constants(name) => message.both(
+            "",
+            name,
+            " is one more name of `mtype` than ",
+            MOST_CONSTANTS,
+            "",
+        ),
+        RangeCause::Divides(name) => {
+            message.around("the constant expression of ", name, " divides by 0")
+        }
+        RangeCause::Cells(name) => message.both(
+            "with ",
+            name,
+            " there are more than ",
+            MOST_CELLS as usize,
+            " numbers to hold",
+        ),
+        RangeCause::ChannelCells(name) => message.both(
+            "",
+            name,
+            " may have to hold more than ",
+            MOST_CELLS as usize,
+            " numbers",
+        ),
         cause => of_declared(message, cause),
     }
 }
@@ -213,74 +233,71 @@ fn deed(fault: Fault) -> &'static str {
     }
 }
 
+/// Of a text in which no process begins.
+fn of_none(message: &mut Message<'_>, proctype: Option<Named<'_>>) -> Result<(), AllocError> {
+    match proctype {
+        Some(proctype) => message.placed(
+            "write `active` before the proctype ",
+            proctype,
+            " (",
+            "), or an `init` that runs it",
+        ),
+        None => message.push("write an `init { .. }`"),
+    }
+}
+
 /// Of the first state.
 pub fn of_start(message: &mut Message<'_>, cause: StartCause<'_>) -> Result<(), AllocError> {
     match cause {
-        StartCause::NoProcess(None) => message.say(&[Words("write an `init { .. }`")]),
-        StartCause::NoProcess(Some(proctype)) => message.say(&[
-            Words("write `active` before the proctype "),
-            Name(proctype.name),
-            Words(" ("),
-            Line(proctype.offset),
-            Words("), or an `init` that runs it"),
-        ]),
-        StartCause::Processes(name) => message.say(&[
-            Words("with "),
-            Name(name),
-            Words(" more than "),
-            Number(MOST_PROCESSES),
-            Words(" processes begin"),
-        ]),
-        StartCause::Channels(name) => message.say(&[
-            Words("with "),
-            Name(name),
-            Words(" more than "),
-            Number(MOST_CHANNELS),
-            Words(" channels are made"),
-        ]),
-        StartCause::Initialiser(name, fault) => message.say(&[
-            Words("the initialiser of "),
-            Name(name),
-            Words(deed(fault)),
-        ]),
+        StartCause::NoProcess(proctype) => of_none(message, proctype),
+        StartCause::Processes(name) => {
+            message.both(
+                "with ",
+                name,
+                " more than ",
+                MOST_PROCESSES,
+                " processes begin",
+            )
+        }
+        StartCause::Channels(name) => {
+            message.both(
+                "with ",
+                name,
+                " more than ",
+                MOST_CHANNELS,
+                " channels are made",
+            )
+        }
+        StartCause::Initialiser(name, fault) => {
+            message.around("the initialiser of ", name, deed(fault))
+        }
     }
 }
 
 /// Of a call of an inline.
 fn of_call(message: &mut Message<'_>, cause: InlineCause<'_>) -> Result<(), AllocError> {
     match cause {
-        InlineCause::OpenCall(name) => {
-            message.say(&[Words("the call of "), Name(name), Words(" has no `)`")])
+        InlineCause::OpenCall(name) => message.around("the call of ", name, " has no `)`"),
+        InlineCause::Arguments(name, given, wanted) => arguments(message, name, given, wanted),
+        InlineCause::EmptyArgument(name) => message.around("an argument of ", name, " is empty"),
+        InlineCause::CallsItself(name) => {
+            message.around("", name, " is called by what comes out of its own call")
         }
-        InlineCause::Arguments(name, given, wanted) => message.say(&[
-            Name(name.name),
-            Words(" ("),
-            Line(name.offset),
-            Words(") has "),
-            Count(wanted, " parameter", " parameters"),
-            Words(", and "),
-            Count(given, " argument is given", " arguments are given"),
-        ]),
-        InlineCause::EmptyArgument(name) => {
-            message.say(&[Words("an argument of "), Name(name), Words(" is empty")])
+        InlineCause::TooDeep(name) => {
+            message.figure(
+                "more than ",
+                MOST_CALLS as usize,
+                " calls stand within one another in what comes out of ",
+            )?;
+            message.name(name)
         }
-        InlineCause::CallsItself(name) => message.say(&[
-            Name(name),
-            Words(" is called by what comes out of its own call"),
-        ]),
-        InlineCause::TooDeep(name) => message.say(&[
-            Words("more than "),
-            Number(MOST_CALLS as usize),
-            Words(" calls stand within one another in what comes out of "),
-            Name(name),
-        ]),
-        InlineCause::TooLong(name) => message.say(&[
-            Words("with the call of "),
-            Name(name),
-            Words(" more than "),
-            Number(MOST_REPLACED),
-            Words(" tokens come out of calls"),
-        ]),
+        InlineCause::TooLong(name) => message.both(
+            "with the call of ",
+            name,
+            " more than ",
+            MOST_REPLACED,
+            " tokens come out of calls",
+        ),
         _ => Ok(()),
     }
 }
@@ -288,27 +305,18 @@ fn of_call(message: &mut Message<'_>, cause: InlineCause<'_>) -> Result<(), Allo
 /// Of inlines.
 pub fn of_inline(message: &mut Message<'_>, cause: InlineCause<'_>) -> Result<(), AllocError> {
     match cause {
-        InlineCause::Within => {
-            message.say(&[Words("an inline may be defined only outside of all braces")])
-        }
-        InlineCause::Form => message.say(&[Words(
+        InlineCause::Within => message.push("an inline may be defined only outside of all braces"),
+        InlineCause::Form => message.push(
             "a definition is `inline NAME(PARAMETERS) { .. }`, with names and commas for PARAMETERS",
-        )]),
+        ),
         InlineCause::OpenBody(name) => {
-            message.say(&[
-                Words("the body of "),
-                Name(name),
-                Words(" has no `}` at its end"),
-            ])
+            message.around("the body of ", name, " has no `}` at its end")
         }
-        InlineCause::Twice(first) => message.say(&[
-            Words("an inline "),
-            Name(first.name),
-            Words(" is defined already on "),
-            Line(first.offset),
-        ]),
+        InlineCause::Twice(first) => {
+            message.placed("an inline ", first, " is defined already on ", "")
+        }
         InlineCause::ParameterTwice(name) => {
-            message.say(&[Words("two parameters have the name "), Name(name)])
+            message.around("two parameters have the name ", name, "")
         }
         cause => of_call(message, cause),
     }

@@ -10,7 +10,7 @@ mod texts;
 
 use counts::{of_control, of_count, of_inline, of_label, of_range, of_start};
 use diagnostics::Refusal;
-use message::{Message, Part};
+use message::Message;
 use names::{of_twice, of_unknown, of_wrong};
 use pml_causes::cause::{Cause, Finding, Place};
 use pml_refused::cause_of;
@@ -40,11 +40,7 @@ fn tell(message: &mut Message<'_>, cause: Cause<'_>) -> Result<(), AllocError> {
 
 /// Adds the number and the words of a refusal.
 fn tell_refusal(message: &mut Message<'_>, refusal: Refusal) -> Result<(), AllocError> {
-    message.say(&[
-        Part::Words(": M"),
-        Part::Number(usize::from(refusal.number())),
-        Part::Words(" "),
-    ])?;
+    message.figure(": M", usize::from(refusal.number()), " ")?;
     match str::from_utf8(refusal.words()) {
         Ok(words) => message.push(words),
         Err(_) => Ok(()),
@@ -75,12 +71,8 @@ fn tell_place(
 ) -> Result<(), AllocError> {
     let offset = shown_offset(message.text(), place.offset);
     let line = line_of(message.text(), offset);
-    message.say(&[
-        Part::Words(":"),
-        Part::Number(line.number),
-        Part::Words(":"),
-        Part::Number(column(line, offset)),
-    ])?;
+    message.figure(":", line.number, ":")?;
+    message.number(column(line, offset))?;
     tell_head(message, refusal, cause)?;
     let mark = offset.saturating_sub(line.start);
     show_line(message, line, window_round(line.bytes, mark, place.length))

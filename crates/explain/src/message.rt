@@ -1,26 +1,12 @@
-//! Texts that are put together of parts.
+//! Texts that are put together of words, names and numbers.
 
-use crate::position::line_number;
+use crate::position::{between, line_number};
 use itoa::Buffer;
+use pml_causes::cause::Named;
 use std::alloc::{AllocError, Global};
 
 /// So many bytes of a name are shown at most.
 const MOST_SHOWN: usize = 60;
-
-/// A part of a message.
-#[derive(Clone, Copy)]
-pub enum Part<'p> {
-    Words(&'static str),
-    /// A name or another piece of the model, in backticks.
-    Name(&'p [u8]),
-    Number(usize),
-    /// A number that may be less than 0.
-    Signed(i32),
-    /// So many things that these words name, where there is one, and where there are more.
-    Count(usize, &'static str, &'static str),
-    /// The line of the place behind so many bytes.
-    Line(usize),
-}
 
 /// A message about a text.
 #[derive(Drop)]
@@ -59,51 +45,93 @@ impl<'t> Message<'t> {
         self.out.push(c)
     }
 
-    fn number(&mut self, number: usize) -> Result<(), AllocError> {
+    /// Adds a number.
+    pub fn number(&mut self, number: usize) -> Result<(), AllocError> {
         let mut buffer = Buffer::new();
         self.out.push_str(buffer.format(number))
     }
 
-    fn signed(&mut self, number: i32) -> Result<(), AllocError> {
+    /// Adds a number that may be less than 0.
+    pub fn signed(&mut self, number: i32) -> Result<(), AllocError> {
         let mut buffer = Buffer::new();
         self.out.push_str(buffer.format(number))
     }
 
-    fn name(&mut self, name: &[u8]) -> Result<(), AllocError> {
-        self.out.push('`')?;
-        for (i, byte) in name.iter().enumerate() {
-            if i >= MOST_SHOWN {
-                return self.out.push_str("..`");
-            }
+    fn letters(&mut self, name: &[u8]) -> Result<(), AllocError> {
+        for byte in name {
             self.out.push(printable(*byte))?;
-        }
-        self.out.push('`')
-    }
-
-    fn part(&mut self, part: Part<'_>) -> Result<(), AllocError> {
-        match part {
-            Part::Words(words) => self.push(words),
-            Part::Name(name) => self.name(name),
-            Part::Number(number) => self.number(number),
-            Part::Signed(number) => self.signed(number),
-            Part::Count(number, one, more) => {
-                self.number(number)?;
-                self.push(if number == 1 { one } else { more })
-            }
-            Part::Line(offset) => {
-                self.push("line ")?;
-                self.number(line_number(self.text, offset))
-            }
-        }
-    }
-
-    /// Adds parts.
-    pub fn say(&mut self, parts: &[Part<'_>]) -> Result<(), AllocError> {
-        for part in parts {
-            self.part(*part)?;
         }
         Ok(())
     }
+
+    /// Adds a name or another piece of the model, in backticks.
+    pub fn name(&mut self, name: &[u8]) -> Result<(), AllocError> {
+        self.push("`")?;
+        self.letters(shown_part(name))?;
+        self.push(end_of_name(name))
+    }
+
+    /// Adds a name between words.
+    pub fn around(&mut self, before: &str, name: &[u8], behind: &str) -> Result<(), AllocError> {
+        self.push(before)?;
+        self.name(name)?;
+        self.push(behind)
+    }
+
+    /// Adds a number between words.
+    pub fn figure(&mut self, before: &str, number: usize, behind: &str) -> Result<(), AllocError> {
+        self.push(before)?;
+        self.number(number)?;
+        self.push(behind)
+    }
+
+    /// Adds a name and a number between words.
+    pub fn both(
+        &mut self,
+        before: &str,
+        name: &[u8],
+        between: &str,
+        number: usize,
+        behind: &str,
+    ) -> Result<(), AllocError> {
+        self.around(before, name, "")?;
+        self.figure(between, number, behind)
+    }
+
+    /// Adds the line of the place behind so many bytes, between words.
+    pub fn line(&mut self, before: &str, offset: usize, behind: &str) -> Result<(), AllocError> {
+        let number = line_number(self.text, offset);
+        self.push(before)?;
+        self.figure("line ", number, behind)
+    }
+
+    /// Adds a name and its line between words.
+    pub fn placed(
+        &mut self,
+        before: &str,
+        name: Named<'_>,
+        between: &str,
+        behind: &str,
+    ) -> Result<(), AllocError> {
+        self.around(before, name.name, "")?;
+        self.line(between, name.offset, behind)
+    }
+
+    /// Adds so many things that these words name, where there is one, and where there are more.
+    pub fn count(&mut self, number: usize, one: &str, more: &str) -> Result<(), AllocError> {
+        self.number(number)?;
+        self.push(if number == 1 { one } else { more })
+    }
+}
+
+/// What is shown of a name.
+fn shown_part(name: &[u8]) -> &[u8] {
+    between(name, 0, name.len().min(MOST_SHOWN))
+}
+
+/// What stands behind what is shown of a name.
+fn end_of_name(name: &[u8]) -> &'static str {
+    if name.len() <= MOST_SHOWN { "`" } else { "..`" }
 }
 
 /// A byte as it is shown: `?` in place of what no terminal prints.

@@ -1,39 +1,33 @@
 //! What is told of names.
 
 use crate::message::Message;
-use crate::message::Part::{Line, Name, Words};
 use pml_causes::cause::{Named, Sort, TwiceCause, UnknownCause, WrongCause};
 use std::alloc::AllocError;
 
 /// Of a name that is declared twice.
 pub fn of_twice(message: &mut Message<'_>, cause: TwiceCause<'_>) -> Result<(), AllocError> {
     match cause {
-        TwiceCause::Again(name, first) => message.say(&[
-            Name(name.name),
-            Words(" is declared already on "),
-            Line(first.offset),
-        ]),
-        TwiceCause::Init(first) => message.say(&[
-            Words("there is an `init` already on "),
-            Line(first.offset),
-        ]),
-        TwiceCause::Special(name) => message.say(&[
-            Name(name),
-            Words(" is a name of the language, and no model declares it"),
-        ]),
+        TwiceCause::Again(name, first) => {
+            message.around("", name.name, "")?;
+            message.line(" is declared already on ", first.offset, "")
+        }
+        TwiceCause::Init(first) => {
+            message.line("there is an `init` already on ", first.offset, "")
+        }
+        TwiceCause::Special(name) => {
+            message.around(
+                "",
+                name,
+                " is a name of the language, and no model declares it",
+            )
+        }
     }
 }
 
 /// The nearest name, if there is one.
 pub fn did_you_mean(message: &mut Message<'_>, near: Option<Named<'_>>) -> Result<(), AllocError> {
     match near {
-        Some(near) => message.say(&[
-            Words("; did you mean "),
-            Name(near.name),
-            Words(" ("),
-            Line(near.offset),
-            Words(")?"),
-        ]),
+        Some(near) => message.placed("; did you mean ", near, " (", ")?"),
         None => Ok(()),
     }
 }
@@ -59,143 +53,142 @@ fn nowhere(sort: Sort) -> &'static str {
     }
 }
 
+/// Of a field that a typedef lacks.
+fn no_field(
+    message: &mut Message<'_>,
+    field: &[u8],
+    holder: Named<'_>,
+    near: Option<Named<'_>>,
+) -> Result<(), AllocError> {
+    message.placed("the typedef ", holder, " (", ") has no field ")?;
+    message.name(field)?;
+    did_you_mean(message, near)
+}
+
+/// Of a name that is something else than what is wanted.
+fn is_instead(
+    message: &mut Message<'_>,
+    first: Named<'_>,
+    sort: Sort,
+    behind: &str,
+) -> Result<(), AllocError> {
+    message.around("", first.name, " is ")?;
+    message.push(a_sort(sort))?;
+    message.line(" (", first.offset, behind)
+}
+
+/// Of a name that is declared nowhere, with the one nearest to it.
+fn of_nowhere(
+    message: &mut Message<'_>,
+    sort: Sort,
+    name: &[u8],
+    near: Option<Named<'_>>,
+) -> Result<(), AllocError> {
+    message.name(name)?;
+    match near {
+        Some(_) => did_you_mean(message, near),
+        None => message.push(nowhere(sort)),
+    }
+}
+
 /// Of a name that is not declared.
 pub fn of_unknown(message: &mut Message<'_>, cause: UnknownCause<'_>) -> Result<(), AllocError> {
     match cause {
-        UnknownCause::Nowhere(sort, name, None) => message.say(&[Name(name), Words(nowhere(sort))]),
-        UnknownCause::Nowhere(_, name, near) => {
-            message.say(&[Name(name)])?;
-            did_you_mean(message, near)
+        UnknownCause::Nowhere(sort, name, near) => of_nowhere(message, sort, name, near),
+        UnknownCause::Later(first) => {
+            message.placed("", first, " is declared only on ", ", behind its use")
         }
-        UnknownCause::Later(first) => message.say(&[
-            Name(first.name),
-            Words(" is declared only on "),
-            Line(first.offset),
-            Words(", behind its use"),
-        ]),
-        UnknownCause::Elsewhere(first) => message.say(&[
-            Name(first.name),
-            Words(" is a variable of another proctype ("),
-            Line(first.offset),
-            Words("), and is seen only there"),
-        ]),
-        UnknownCause::Instead(first, sort) => message.say(&[
-            Name(first.name),
-            Words(" is "),
-            Words(a_sort(sort)),
-            Words(" ("),
-            Line(first.offset),
-            Words("), where a variable is wanted"),
-        ]),
-        UnknownCause::Field(field, holder, near) => {
-            message.say(&[
-                Words("the typedef "),
-                Name(holder.name),
-                Words(" ("),
-                Line(holder.offset),
-                Words(") has no field "),
-                Name(field),
-            ])?;
-            did_you_mean(message, near)
+        UnknownCause::Elsewhere(first) => message.placed(
+            "",
+            first,
+            " is a variable of another proctype (",
+            "), and is seen only there",
+        ),
+        UnknownCause::Instead(first, sort) => {
+            is_instead(message, first, sort, "), where a variable is wanted")
         }
+        UnknownCause::Field(field, holder, near) => no_field(message, field, holder, near),
     }
 }
 
-/// Of a reference that does not fit its use.
-fn of_use(message: &mut Message<'_>, cause: WrongCause<'_>) -> Result<(), AllocError> {
+/// What is told of a name that does not fit its use, behind the name.
+fn of_use(cause: WrongCause<'_>) -> &'static str {
     match cause {
-        WrongCause::ArrayWithoutIndex(name) => {
-            message.say(&[Name(name), Words(" is an array, and wants an index")])
-        }
-        WrongCause::IndexWithoutArray(name) => {
-            message.say(&[Name(name), Words(" is no array, and takes no index")])
-        }
-        WrongCause::FieldOfNone(name, field) => message.say(&[
-            Name(name),
-            Words(" is of no typedef, and has no field "),
-            Name(field),
-        ]),
-        WrongCause::WholeTypedef(name) => message.say(&[
-            Name(name),
-            Words(" is of a typedef, and one of its fields is wanted"),
-        ]),
-        WrongCause::NoChannel(name) => {
-            message.say(&[
-                Name(name),
-                Words(" is no `chan`, where a channel is wanted"),
-            ])
-        }
-        WrongCause::StoredConstant(name) => message.say(&[
-            Name(name),
-            Words(" is a name of `mtype`, and nothing can be stored in it"),
-        ]),
-        WrongCause::StoredSpecial(name) => {
-            message.say(&[Name(name), Words(" can only be read")])
-        }
-        WrongCause::ReadUnderscore => {
-            message.say(&[Words("`_` can only be stored in, and has no value")])
-        }
-        WrongCause::PidOutside => message.say(&[Words("`_pid` has a value only in a process")]),
-        WrongCause::NotPlain(name) => {
-            message.say(&[Name(name), Words(" takes no index and no field")])
-        }
-        WrongCause::Preset(name) => message.say(&[
-            Name(name),
-            Words(" is a variable, and a field begins with a constant expression"),
-        ]),
-        cause => of_sort(message, cause),
+        WrongCause::ArrayWithoutIndex(_) => " is an array, and wants an index",
+        WrongCause::IndexWithoutArray(_) => " is no array, and takes no index",
+        WrongCause::WholeTypedef(_) => " is of a typedef, and one of its fields is wanted",
+        WrongCause::NoChannel(_) => " is no `chan`, where a channel is wanted",
+        WrongCause::StoredConstant(_) => " is a name of `mtype`, and nothing can be stored in it",
+        WrongCause::StoredSpecial(_) => " can only be read",
+        WrongCause::NotPlain(_) => " takes no index and no field",
+        WrongCause::Preset(_) => " is a variable, and a field begins with a constant expression",
+        WrongCause::Holder(_) => " is no `chan`, and only a `chan` begins with a channel",
+        _ => "",
     }
 }
 
-fn of_sort(message: &mut Message<'_>, cause: WrongCause<'_>) -> Result<(), AllocError> {
+/// The name that it is told of.
+fn used(cause: WrongCause<'_>) -> &[u8] {
     match cause {
-        WrongCause::NoTypedef(first, sort) => message.say(&[
-            Name(first.name),
-            Words(" is "),
-            Words(a_sort(sort)),
-            Words(" ("),
-            Line(first.offset),
-            Words("), where a typedef is wanted"),
-        ]),
-        WrongCause::NoProctype(first, sort) => message.say(&[
-            Name(first.name),
-            Words(" is "),
-            Words(a_sort(sort)),
-            Words(" ("),
-            Line(first.offset),
-            Words("), where a proctype is wanted"),
-        ]),
-        _ => Ok(()),
+        WrongCause::ArrayWithoutIndex(name) => name,
+        WrongCause::IndexWithoutArray(name) => name,
+        WrongCause::WholeTypedef(name) => name,
+        WrongCause::NoChannel(name) => name,
+        WrongCause::StoredConstant(name) => name,
+        WrongCause::StoredSpecial(name) => name,
+        WrongCause::NotPlain(name) => name,
+        WrongCause::Preset(name) => name,
+        WrongCause::Holder(name) => name,
+        _ => b"",
+    }
+}
+
+/// Of a field behind a name that has none.
+fn of_field(message: &mut Message<'_>, name: &[u8], field: &[u8]) -> Result<(), AllocError> {
+    message.around("", name, " is of no typedef, and has no field ")?;
+    message.name(field)
+}
+
+fn of_value(message: &mut Message<'_>, cause: WrongCause<'_>) -> Result<(), AllocError> {
+    match cause {
+        WrongCause::OpenSize(name) => message.around(
+            "the size of ",
+            name,
+            " is no constant expression: write a number",
+        ),
+        WrongCause::OpenCount(name) => message.around(
+            "how many ",
+            name,
+            " begin is no constant expression: write a number",
+        ),
+        WrongCause::OpenPreset(name) => message.around(
+            "the field ",
+            name,
+            " begins with no constant expression: write a number",
+        ),
+        WrongCause::OpenCapacity(name) => message.around(
+            "the capacity of ",
+            name,
+            " is no constant expression: write a number",
+        ),
+        cause => message.around("", used(cause), of_use(cause)),
     }
 }
 
 /// Of a name or a value of the wrong kind.
 pub fn of_wrong(message: &mut Message<'_>, cause: WrongCause<'_>) -> Result<(), AllocError> {
     match cause {
-        WrongCause::OpenSize(name) => message.say(&[
-            Words("the size of "),
-            Name(name),
-            Words(" is no constant expression: write a number"),
-        ]),
-        WrongCause::OpenCount(name) => message.say(&[
-            Words("how many "),
-            Name(name),
-            Words(" begin is no constant expression: write a number"),
-        ]),
-        WrongCause::OpenPreset(name) => message.say(&[
-            Words("the field "),
-            Name(name),
-            Words(" begins with no constant expression: write a number"),
-        ]),
-        WrongCause::OpenCapacity(name) => message.say(&[
-            Words("the capacity of "),
-            Name(name),
-            Words(" is no constant expression: write a number"),
-        ]),
-        WrongCause::Holder(name) => message.say(&[
-            Name(name),
-            Words(" is no `chan`, and only a `chan` begins with a channel"),
-        ]),
-        cause => of_use(message, cause),
+        WrongCause::FieldOfNone(name, field) => of_field(message, name, field),
+        WrongCause::ReadUnderscore => {
+            message.push("`_` can only be stored in, and has no value")
+        }
+        WrongCause::PidOutside => message.push("`_pid` has a value only in a process"),
+        WrongCause::NoTypedef(first, sort) => {
+            is_instead(message, first, sort, "), where a typedef is wanted")
+        }
+        WrongCause::NoProctype(first, sort) => {
+            is_instead(message, first, sort, "), where a proctype is wanted")
+        }
+        cause => of_value(message, cause),
     }
 }

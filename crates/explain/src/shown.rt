@@ -1,7 +1,7 @@
 //! The line of a place, and the carets below it.
 
-use crate::message::{Message, Part, printable};
-use crate::position::{Line, between};
+use crate::message::{Message, printable};
+use crate::position::{Line, between, width};
 use std::alloc::AllocError;
 use std::str;
 
@@ -56,51 +56,58 @@ fn shown_char(c: char) -> char {
     if c == '\t' || !c.is_control() { c } else { '?' }
 }
 
+fn show_chars(message: &mut Message<'_>, text: &str) -> Result<(), AllocError> {
+    for c in text.chars() {
+        message.push_char(shown_char(c))?;
+    }
+    Ok(())
+}
+
+fn shown_byte(byte: u8) -> char {
+    if byte == b'\t' { '\t' } else { printable(byte) }
+}
+
+fn show_bytes(message: &mut Message<'_>, bytes: &[u8]) -> Result<(), AllocError> {
+    for byte in bytes {
+        message.push_char(shown_byte(*byte))?;
+    }
+    Ok(())
+}
+
 /// Adds bytes of a line: its characters, or its bytes where they are no UTF-8.
 fn show(message: &mut Message<'_>, bytes: &[u8]) -> Result<(), AllocError> {
     match str::from_utf8(bytes) {
-        Ok(text) => {
-            for c in text.chars() {
-                message.push_char(shown_char(c))?;
-            }
-            Ok(())
-        }
-        Err(_) => {
-            for byte in bytes {
-                let c = if *byte == b'\t' {
-                    '\t'
-                } else {
-                    printable(*byte)
-                };
-                message.push_char(c)?;
-            }
-            Ok(())
-        }
+        Ok(text) => show_chars(message, text),
+        Err(_) => show_bytes(message, bytes),
     }
+}
+
+fn blank_chars(message: &mut Message<'_>, text: &str) -> Result<(), AllocError> {
+    for c in text.chars() {
+        message.push_char(if c == '\t' { '\t' } else { ' ' })?;
+    }
+    Ok(())
+}
+
+fn blank_bytes(message: &mut Message<'_>, bytes: &[u8]) -> Result<(), AllocError> {
+    for byte in bytes {
+        message.push_char(if *byte == b'\t' { '\t' } else { ' ' })?;
+    }
+    Ok(())
 }
 
 /// Adds as many blanks as characters are shown of these bytes; a tab stays one.
 fn blank(message: &mut Message<'_>, bytes: &[u8]) -> Result<(), AllocError> {
     match str::from_utf8(bytes) {
-        Ok(text) => {
-            for c in text.chars() {
-                message.push_char(if c == '\t' { '\t' } else { ' ' })?;
-            }
-            Ok(())
-        }
-        Err(_) => {
-            for byte in bytes {
-                message.push_char(if *byte == b'\t' { '\t' } else { ' ' })?;
-            }
-            Ok(())
-        }
+        Ok(text) => blank_chars(message, text),
+        Err(_) => blank_bytes(message, bytes),
     }
 }
 
-/// Adds a caret for each character of these bytes, and one at least.
-fn carets(message: &mut Message<'_>, bytes: &[u8]) -> Result<(), AllocError> {
-    for _ in 0..crate::position::width(bytes).max(1) {
-        message.push_char('^')?;
+/// Adds so many of a character.
+fn repeat(message: &mut Message<'_>, c: char, count: usize) -> Result<(), AllocError> {
+    for _ in 0..count {
+        message.push_char(c)?;
     }
     Ok(())
 }
@@ -111,18 +118,14 @@ fn margin(
     number: Option<usize>,
     digits: usize,
 ) -> Result<(), AllocError> {
-    for _ in digits..5 {
-        message.push_char(' ')?;
-    }
+    repeat(message, ' ', 5usize.saturating_sub(digits))?;
     match number {
-        Some(number) => message.say(&[Part::Number(number)])?,
+        Some(number) => message.figure("", number, " | "),
         None => {
-            for _ in 0..digits {
-                message.push_char(' ')?;
-            }
+            repeat(message, ' ', digits)?;
+            message.push(" | ")
         }
     }
-    message.push(" | ")
 }
 
 /// How many digits a number has.
@@ -139,6 +142,28 @@ fn digits_of(number: usize) -> usize {
     digits
 }
 
+/// Adds words where something is left out.
+fn cut(message: &mut Message<'_>, is_cut: bool, words: &str) -> Result<(), AllocError> {
+    if is_cut { message.push(words) } else { Ok(()) }
+}
+
+/// Adds what is shown of a line.
+fn upper(message: &mut Message<'_>, line: &[u8], window: Window) -> Result<(), AllocError> {
+    cut(message, 0 < window.from, "..")?;
+    show(message, between(line, window.from, window.to))?;
+    cut(message, window.to < line.len(), "..")?;
+    message.push("\n")
+}
+
+/// Adds a caret for each character that is marked, and one at least.
+fn lower(message: &mut Message<'_>, line: &[u8], window: Window) -> Result<(), AllocError> {
+    cut(message, 0 < window.from, "  ")?;
+    blank(message, between(line, window.from, window.mark))?;
+    let marked = between(line, window.mark, window.mark_end);
+    repeat(message, '^', width(marked).max(1))?;
+    message.push("\n")
+}
+
 /// Adds the line and the carets below it.
 pub fn show_line(
     message: &mut Message<'_>,
@@ -146,21 +171,8 @@ pub fn show_line(
     window: Window,
 ) -> Result<(), AllocError> {
     let digits = digits_of(line.number);
-    let is_cut_before = 0 < window.from;
     margin(message, Some(line.number), digits)?;
-    if is_cut_before {
-        message.push("..")?;
-    }
-    show(message, between(line.bytes, window.from, window.to))?;
-    if window.to < line.bytes.len() {
-        message.push("..")?;
-    }
-    message.push("\n")?;
+    upper(message, line.bytes, window)?;
     margin(message, None, digits)?;
-    if is_cut_before {
-        message.push("  ")?;
-    }
-    blank(message, between(line.bytes, window.from, window.mark))?;
-    carets(message, between(line.bytes, window.mark, window.mark_end))?;
-    message.push("\n")
+    lower(message, line.bytes, window)
 }

@@ -1,28 +1,93 @@
 //! What is told of texts, words that are left out, and tokens that no rule reads.
 
 use crate::message::Message;
-use crate::message::Part::{Line, Name, Number, Words};
 use pml_causes::cause::{Named, SyntaxCause, TextCause, Wanted};
 use profile::{MOST_IN_A_ROW, MOST_OPEN, MOST_TEXT_BYTES};
 use std::alloc::AllocError;
 
+fn is_among(word: &[u8], words: &[&[u8]]) -> bool {
+    for one in words {
+        if *one == word {
+            return true;
+        }
+    }
+    false
+}
+
+fn begins_claim(word: &[u8]) -> bool {
+    is_among(
+        word,
+        &[
+            b"ltl".as_slice(),
+            b"never".as_slice(),
+            b"trace".as_slice(),
+            b"notrace".as_slice(),
+        ],
+    )
+}
+
+fn is_of_claims(word: &[u8]) -> bool {
+    is_among(
+        word,
+        &[
+            b"np_".as_slice(),
+            b"_last".as_slice(),
+            b"enabled".as_slice(),
+            b"pc_value".as_slice(),
+            b"@".as_slice(),
+        ],
+    )
+}
+
+fn is_embedded(word: &[u8]) -> bool {
+    is_among(
+        word,
+        &[
+            b"c_code".as_slice(),
+            b"c_decl".as_slice(),
+            b"c_expr".as_slice(),
+            b"c_state".as_slice(),
+            b"c_track".as_slice(),
+        ],
+    )
+}
+
+fn is_of_priorities(word: &[u8]) -> bool {
+    is_among(
+        word,
+        &[
+            b"priority".as_slice(),
+            b"get_priority".as_slice(),
+            b"set_priority".as_slice(),
+        ],
+    )
+}
+
+/// What a single word is that is left out, and what to do.
+fn about_word(word: &[u8]) -> &'static str {
+    if word == b"provided".as_slice() {
+        " is left out: ask the condition in front of the statements"
+    } else if word == b"D_proctype".as_slice() {
+        " is left out: write `proctype`"
+    } else if word == b"'".as_slice() {
+        ": a character in quotes is left out; write its number"
+    } else {
+        " is left out"
+    }
+}
+
 /// What a word or a sign is that is left out, and what to do.
 fn about(word: &[u8]) -> &'static str {
-    match word {
-        b"ltl" | b"never" | b"trace" | b"notrace" => {
-            " is for a verification, and a simulation does not need it: take it out"
-        }
-        b"np_" | b"_last" | b"enabled" | b"pc_value" | b"@" => {
-            " is for claims of a verification, and is left out"
-        }
-        b"c_code" | b"c_decl" | b"c_expr" | b"c_state" | b"c_track" => {
-            ": embedded C is left out; say it in Promela"
-        }
-        b"provided" => " is left out: ask the condition in front of the statements",
-        b"priority" | b"get_priority" | b"set_priority" => ": priorities are left out",
-        b"D_proctype" => " is left out: write `proctype`",
-        b"'" => ": a character in quotes is left out; write its number",
-        _ => " is left out",
+    if begins_claim(word) {
+        " is for a verification, and a simulation does not need it: take it out"
+    } else if is_of_claims(word) {
+        " is for claims of a verification, and is left out"
+    } else if is_embedded(word) {
+        ": embedded C is left out; say it in Promela"
+    } else if is_of_priorities(word) {
+        ": priorities are left out"
+    } else {
+        about_word(word)
     }
 }
 
@@ -48,58 +113,50 @@ fn directive(line: &[u8]) -> &[u8] {
 
 fn left_out(message: &mut Message<'_>, word: &[u8]) -> Result<(), AllocError> {
     if begins(word, b'#') {
-        return message.say(&[
-            Name(directive(word)),
-            Words(" is for a preprocessor: hand the text to `cpp` first"),
-        ]);
+        let words = " is for a preprocessor: hand the text to `cpp` first";
+        return message.around("", directive(word), words);
     }
-    message.say(&[Name(word), Words(about(word))])
+    message.around("", word, about(word))
 }
 
 fn stray(message: &mut Message<'_>, byte: u8) -> Result<(), AllocError> {
     if byte == b'#' {
-        return message.say(&[Words("`#` stands only at the beginning of a line")]);
+        return message.push("`#` stands only at the beginning of a line");
     }
     if b'!' <= byte && byte <= b'~' {
-        return message.say(&[Name(&[byte]), Words(" begins no token")]);
+        return message.around("", &[byte], " begins no token");
     }
     if byte >= 128 {
-        return message.say(&[Words(
+        return message.push(
             "letters and signs outside of ASCII stand only in strings and comments",
-        )]);
+        );
     }
-    message.say(&[
-        Words("the byte "),
-        Number(usize::from(byte)),
-        Words(" begins no token"),
-    ])
+    message.figure("the byte ", usize::from(byte), " begins no token")
+}
+
+fn too_long(message: &mut Message<'_>, bytes: usize) -> Result<(), AllocError> {
+    message.figure("it has ", bytes, " bytes or more, and may have ")?;
+    message.number(MOST_TEXT_BYTES)
 }
 
 /// Of a text that has no tokens, that has words that are left out, or that is too deep.
 pub fn of_text(message: &mut Message<'_>, cause: TextCause<'_>) -> Result<(), AllocError> {
     match cause {
-        TextCause::TooLong(bytes) => message.say(&[
-            Words("it has "),
-            Number(bytes),
-            Words(" bytes or more, and may have "),
-            Number(MOST_TEXT_BYTES),
-        ]),
+        TextCause::TooLong(bytes) => too_long(message, bytes),
         TextCause::Stray(byte) => stray(message, byte),
-        TextCause::OpenString => {
-            message.say(&[Words("the string has no `\"` at its end on this line")])
-        }
-        TextCause::OpenComment => message.say(&[Words("the comment has no `*/` at its end")]),
+        TextCause::OpenString => message.push("the string has no `\"` at its end on this line"),
+        TextCause::OpenComment => message.push("the comment has no `*/` at its end"),
         TextCause::LeftOut(word) => left_out(message, word),
-        TextCause::Nested => message.say(&[
-            Words("more than "),
-            Number(MOST_OPEN as usize),
-            Words(" of `( [ { if do` are open here"),
-        ]),
-        TextCause::Row => message.say(&[
-            Words("more than "),
-            Number(MOST_IN_A_ROW as usize),
-            Words(" tokens stand in a row without `;`, `::`, a brace, `if`, `fi`, `do` or `od`"),
-        ]),
+        TextCause::Nested => message.figure(
+            "more than ",
+            MOST_OPEN as usize,
+            " of `( [ { if do` are open here",
+        ),
+        TextCause::Row => message.figure(
+            "more than ",
+            MOST_IN_A_ROW as usize,
+            " tokens stand in a row without `;`, `::`, a brace, `if`, `fi`, `do` or `od`",
+        ),
     }
 }
 
@@ -115,13 +172,8 @@ fn closer(opener: &[u8]) -> &'static str {
 }
 
 fn wants_closer(message: &mut Message<'_>, opener: Named<'_>) -> Result<(), AllocError> {
-    message.say(&[
-        Words(closer(opener.name)),
-        Words(" is wanted, for the "),
-        Name(opener.name),
-        Words(" of "),
-        Line(opener.offset),
-    ])
+    message.push(closer(opener.name))?;
+    message.placed(" is wanted, for the ", opener, " of ", "")
 }
 
 fn wants_inline(
@@ -130,66 +182,60 @@ fn wants_inline(
     later: Option<Named<'_>>,
 ) -> Result<(), AllocError> {
     match later {
-        Some(inline) => message.say(&[
-            Words("the inline "),
-            Name(name),
-            Words(" is defined only on "),
-            Line(inline.offset),
-            Words(", behind its call"),
-        ]),
-        None => message.say(&[
-            Words("no inline "),
-            Name(name),
-            Words(" is defined; a process is begun by `run`"),
-        ]),
+        Some(inline) => {
+            message.around("the inline ", name, "")?;
+            message.line(" is defined only on ", inline.offset, ", behind its call")
+        }
+        None => message.around(
+            "no inline ",
+            name,
+            " is defined; a process is begun by `run`",
+        ),
     }
 }
 
 /// What is wanted for a separator.
 fn wants_sign(message: &mut Message<'_>, wanted: Wanted<'_>) -> Result<(), AllocError> {
     match wanted {
-        Wanted::SemicolonAtLineEnd(last) => message.say(&[
-            Words("a `;` is wanted at the end of "),
-            Line(last.offset),
-            Words(" (models for Spin 6.3 and later leave it out)"),
-        ]),
-        Wanted::Semicolon => message.say(&[Words("a `;` is wanted before it")]),
-        Wanted::OptionSign => message.say(&[Words("`::` is wanted before it")]),
+        Wanted::SemicolonAtLineEnd(last) => message.line(
+            "a `;` is wanted at the end of ",
+            last.offset,
+            " (models for Spin 6.3 and later leave it out)",
+        ),
+        Wanted::Semicolon => message.push("a `;` is wanted before it"),
+        Wanted::OptionSign => message.push("`::` is wanted before it"),
         Wanted::Operand(operator) => {
-            message.say(&[Words("an operand is wanted behind "), Name(operator)])
+            message.around("an operand is wanted behind ", operator, "")
         }
-        Wanted::Arguments(name) => message.say(&[
-            Words("`(` and the arguments are wanted behind "),
-            Name(name),
-        ]),
-        Wanted::Options(word) => message.say(&[Words("`::` is wanted behind "), Name(word)]),
-        Wanted::Nothing => message.say(&[Words("it is one too many")]),
-        _ => message.say(&[Words("it cannot stand here")]),
+        Wanted::Arguments(name) => {
+            message.around("`(` and the arguments are wanted behind ", name, "")
+        }
+        Wanted::Options(word) => message.around("`::` is wanted behind ", word, ""),
+        Wanted::Nothing => message.push("it is one too many"),
+        _ => message.push("it cannot stand here"),
     }
 }
 
 fn wants(message: &mut Message<'_>, wanted: Wanted<'_>) -> Result<(), AllocError> {
     match wanted {
-        Wanted::Statement(label) => message.say(&[
-            Words("a statement is wanted behind the label "),
-            Name(label),
-            Words(", for example `skip`"),
-        ]),
-        Wanted::NoList => message.say(&[Words(
+        Wanted::Statement(label) => message.around(
+            "a statement is wanted behind the label ",
+            label,
+            ", for example `skip`",
+        ),
+        Wanted::NoList => message.push(
             "a list in braces is no initialiser here: give each element its value by an assignment",
-        )]),
-        Wanted::NoSubtype => {
-            message.say(&[Words("sub-typed mtypes are left out: write `mtype` alone")])
-        }
-        Wanted::NoRun => message.say(&[Words(
+        ),
+        Wanted::NoSubtype => message.push("sub-typed mtypes are left out: write `mtype` alone"),
+        Wanted::NoRun => message.push(
             "`run` stands by itself or behind `x =`, and in no other expression",
-        )]),
+        ),
         Wanted::Closer(opener) => wants_closer(message, opener),
-        Wanted::NothingOpen => message.say(&[Words("nothing is open that it closes")]),
-        Wanted::Name => message.say(&[Words("a name is wanted, and it is a word of the language")]),
-        Wanted::PlainAssignment => message.say(&[Words(
+        Wanted::NothingOpen => message.push("nothing is open that it closes"),
+        Wanted::Name => message.push("a name is wanted, and it is a word of the language"),
+        Wanted::PlainAssignment => message.push(
             "an assignment with an operator is left out: write `x = x + 1` for `x += 1`",
-        )]),
+        ),
         Wanted::Inline(name, later) => wants_inline(message, name, later),
         wanted => wants_sign(message, wanted),
     }
@@ -198,12 +244,12 @@ fn wants(message: &mut Message<'_>, wanted: Wanted<'_>) -> Result<(), AllocError
 /// Of tokens that no tree spells.
 pub fn of_syntax(message: &mut Message<'_>, cause: SyntaxCause<'_>) -> Result<(), AllocError> {
     if let Wanted::EndOf(opener) = cause.wanted {
-        message.say(&[Words("the text ends: ")])?;
+        message.push("the text ends: ")?;
         return wants_closer(message, opener);
     }
     if cause.found.is_empty() {
-        return message.say(&[Words("nothing is declared")]);
+        return message.push("nothing is declared");
     }
-    message.say(&[Name(cause.found), Words(" found: ")])?;
+    message.around("", cause.found, " found: ")?;
     wants(message, cause.wanted)
 }
