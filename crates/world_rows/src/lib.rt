@@ -2,8 +2,12 @@
 #![tactic(auto)]
 
 #[cfg(test)]
+mod compare;
+#[cfg(test)]
 mod footprints;
 #[cfg(test)]
 mod models;
+#[cfg(test)]
+mod run;
 #[cfg(test)]
 mod stopped;
