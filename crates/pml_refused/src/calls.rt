@@ -1,6 +1,5 @@
 //! Calls of inlines that are not right.
 
-use crate::inner::of_inner;
 use pml_causes::cause::Finding;
 use pml_causes::definitions::{Call, Definition, read_call};
 use pml_causes::place::untold;
@@ -218,7 +217,7 @@ fn fewest(
 
 /// The first call that is not right.
 #[derive(Clone, Copy)]
-enum Broken {
+pub enum Broken {
     /// By itself.
     Outside(Faulty),
     /// In what comes out of it.
@@ -234,7 +233,8 @@ fn last_of(calls: &[Call], count: usize) -> Broken {
     }
 }
 
-fn broken_call<'t>(
+/// The first call that is not right.
+pub fn broken_call<'t>(
     alloc: Global,
     text: &'t [u8],
     tokens: &[Token<'t>],
@@ -248,21 +248,5 @@ fn broken_call<'t>(
             let count = fewest(alloc, tokens, definitions, &calls)?;
             Ok(last_of(&calls, count))
         }
-    }
-}
-
-/// Of a call that is not right.
-pub fn of_calls<'t>(
-    alloc: Global,
-    text: &'t [u8],
-    tokens: &[Token<'t>],
-    definitions: &[Definition],
-    callees: &[Option<usize>],
-) -> Result<Finding<'t>, AllocError> {
-    match broken_call(alloc, text, tokens, definitions, callees) {
-        Ok(Broken::Outside(faulty)) => Ok(of_faulty(text, tokens, definitions, faulty)),
-        Ok(Broken::Inside(call)) => of_inner(alloc, text, tokens, definitions, callees, call),
-        Ok(Broken::Nothing) => Ok(untold()),
-        Err(AllocError) => Err(AllocError),
     }
 }

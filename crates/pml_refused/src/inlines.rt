@@ -1,6 +1,6 @@
 //! Definitions of inlines that are not right.
 
-use crate::calls::of_calls;
+use crate::inner::of_calls;
 use pml_causes::cause::{Cause, Finding, InlineCause};
 use pml_causes::definitions::{Definition, definitions, is_called};
 use pml_causes::place::{at_token, named, untold};

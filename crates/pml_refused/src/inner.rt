@@ -1,6 +1,6 @@
-//! What is wrong with what comes out of a call.
+//! What is wrong with a call, or with what comes out of it.
 
-use crate::calls::{Faulty, call_at, number_at, of_faulty, owner_of};
+use crate::calls::{Broken, Faulty, broken_call, call_at, number_at, of_faulty, owner_of};
 use pml_causes::cause::{Cause, Finding, InlineCause};
 use pml_causes::definitions::{Call, Definition};
 use pml_causes::place::{at_token, bytes_of, untold};
@@ -162,18 +162,19 @@ fn own_call(
     Ok(None)
 }
 
-/// What is wrong with what comes out of a call.
+/// What is wrong with a call.
 #[derive(Clone, Copy)]
-enum Inner {
-    /// A call that is not right by itself.
+enum Wrong {
+    /// This one is not right by itself.
     Faulty(Faulty),
-    /// The call with this name leads to itself.
+    /// What comes out of the one with this name calls it again.
     Own(usize),
-    TooDeep,
-    TooLong,
+    TooDeep(usize),
+    TooLong(usize),
+    Nothing,
 }
 
-fn by_count(reached: &[bool]) -> Inner {
+fn by_count(reached: &[bool], name: usize) -> Wrong {
     let mut count = 0usize;
     for one in reached {
         if *one {
@@ -181,55 +182,87 @@ fn by_count(reached: &[bool]) -> Inner {
         }
     }
     if count > MOST_CALLS as usize {
-        Inner::TooDeep
+        Wrong::TooDeep(name)
     } else {
-        Inner::TooLong
+        Wrong::TooLong(name)
     }
 }
 
-/// What is wrong where each call is right by itself.
+/// What is wrong with a call, where each one that comes out of it is right by itself.
 fn by_reach(
     alloc: Global,
     definitions: &[Definition],
     callees: &[Option<usize>],
     reached: &[bool],
-) -> Result<Inner, AllocError> {
+    name: usize,
+) -> Result<Wrong, AllocError> {
     match own_call(alloc, definitions, callees, reached)? {
-        Some(name) => Ok(Inner::Own(name)),
-        None => Ok(by_count(reached)),
+        Some(own) => Ok(Wrong::Own(own)),
+        None => Ok(by_count(reached, name)),
     }
 }
 
-fn inner_of<'t>(
+/// What is wrong with what comes out of a call.
+fn inside<'t>(
     alloc: Global,
     text: &'t [u8],
     tokens: &[Token<'t>],
     definitions: &[Definition],
     callees: &[Option<usize>],
-    callee: usize,
-) -> Result<Inner, AllocError> {
-    let reached = reached_from(alloc, definitions, callees, callee)?;
+    outer: Call,
+) -> Result<Wrong, AllocError> {
+    let reached = reached_from(alloc, definitions, callees, outer.callee)?;
     match faulty_within(text, tokens, definitions, callees, reached.as_slice()) {
-        Some(faulty) => Ok(Inner::Faulty(faulty)),
-        None => by_reach(alloc, definitions, callees, reached.as_slice()),
+        Some(faulty) => Ok(Wrong::Faulty(faulty)),
+        None => by_reach(alloc, definitions, callees, reached.as_slice(), outer.name),
     }
 }
 
-fn cause_by<'t>(inner: Inner, name: &'t [u8]) -> InlineCause<'t> {
-    match inner {
-        Inner::Own(_) => InlineCause::CallsItself(name),
-        Inner::TooDeep => InlineCause::TooDeep(name),
+fn wrong_call<'t>(
+    alloc: Global,
+    text: &'t [u8],
+    tokens: &[Token<'t>],
+    definitions: &[Definition],
+    callees: &[Option<usize>],
+) -> Result<Wrong, AllocError> {
+    match broken_call(alloc, text, tokens, definitions, callees)? {
+        Broken::Outside(faulty) => Ok(Wrong::Faulty(faulty)),
+        Broken::Inside(outer) => inside(alloc, text, tokens, definitions, callees, outer),
+        Broken::Nothing => Ok(Wrong::Nothing),
+    }
+}
+
+fn cause_by<'t>(wrong: Wrong, name: &'t [u8]) -> InlineCause<'t> {
+    match wrong {
+        Wrong::Own(_) => InlineCause::CallsItself(name),
+        Wrong::TooDeep(_) => InlineCause::TooDeep(name),
         _ => InlineCause::TooLong(name),
     }
 }
 
+/// The name of a call that is right by itself, among the tokens.
+fn name_of(wrong: Wrong) -> Option<usize> {
+    match wrong {
+        Wrong::Own(name) => Some(name),
+        Wrong::TooDeep(name) => Some(name),
+        Wrong::TooLong(name) => Some(name),
+        _ => None,
+    }
+}
+
+fn told_at<'t>(text: &'t [u8], token: &Token<'_>, wrong: Wrong) -> Finding<'t> {
+    at_token(token, Cause::Inline(cause_by(wrong, bytes_of(text, token))))
+}
+
 /// What is told at the name of a call.
-fn told_at<'t>(text: &'t [u8], tokens: &[Token<'_>], name: usize, inner: Inner) -> Finding<'t> {
-    match tokens.get(name) {
-        Some(token) => {
-            let cause = cause_by(inner, bytes_of(text, token));
-            at_token(token, Cause::Inline(cause))
-        }
+fn told_name<'t>(
+    text: &'t [u8],
+    tokens: &[Token<'_>],
+    name: Option<usize>,
+    wrong: Wrong,
+) -> Finding<'t> {
+    match tokens.get(name.unwrap_or(tokens.len())) {
+        Some(token) => told_at(text, token, wrong),
         None => untold(),
     }
 }
@@ -238,27 +271,24 @@ fn told<'t>(
     text: &'t [u8],
     tokens: &[Token<'t>],
     definitions: &[Definition],
-    outer: usize,
-    inner: Inner,
+    wrong: Wrong,
 ) -> Finding<'t> {
-    match inner {
-        Inner::Faulty(faulty) => of_faulty(text, tokens, definitions, faulty),
-        Inner::Own(name) => told_at(text, tokens, name, inner),
-        _ => told_at(text, tokens, outer, inner),
+    match wrong {
+        Wrong::Faulty(faulty) => of_faulty(text, tokens, definitions, faulty),
+        _ => told_name(text, tokens, name_of(wrong), wrong),
     }
 }
 
-/// What is wrong with what comes out of a call.
-pub fn of_inner<'t>(
+/// Of a call that is not right, or of what comes out of it.
+pub fn of_calls<'t>(
     alloc: Global,
     text: &'t [u8],
     tokens: &[Token<'t>],
     definitions: &[Definition],
     callees: &[Option<usize>],
-    outer: Call,
 ) -> Result<Finding<'t>, AllocError> {
-    match inner_of(alloc, text, tokens, definitions, callees, outer.callee) {
-        Ok(inner) => Ok(told(text, tokens, definitions, outer.name, inner)),
+    match wrong_call(alloc, text, tokens, definitions, callees) {
+        Ok(wrong) => Ok(told(text, tokens, definitions, wrong)),
         Err(AllocError) => Err(AllocError),
     }
 }
