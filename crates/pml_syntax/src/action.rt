@@ -258,7 +258,7 @@ fn printm<'a>(
 }
 
 /// The reference at the front, in a box.
-fn boxed_reference<'a>(
+pub fn boxed_reference<'a>(
     alloc: Global,
     depth: usize,
     tokens: &mut Cursor<'a>,

@@ -1,18 +1,20 @@
-//! Statements of their parts, in boxes. Each has beside it whether it ends with `}`, `fi`, `od` or `else`.
+//! Statements of their parts, in boxes. One that is read has beside it whether it ends with `}`, `fi`, `od` or `else`.
 
 ghost use Rattle.pml_tree.specs.declared.tree.Action.TheVariants as a;
 ghost use Rattle.pml_tree.specs.declared.tree.Basic.TheVariants as b;
 ghost use Rattle.pml_syntax.specs.Grammar as grammar;
-ghost use Rattle.pml_syntax.specs.Answer.{Makes};
-ghost use Rattle.std.specs.Prelude.{true, false};
+ghost use Rattle.pml_syntax.specs.Answer.{Makes, Beside, ItemOf, of_options, of_braces};
+ghost use Rattle.std.specs.Prelude.{◌≡◌, IfOk, [], true, false};
 
+use crate::starts::Opening;
 use pml_expression::fault::ReadFault;
 use pml_lex::token::Token;
+use pml_tree::tokens::Tokens;
 use pml_tree::tree::{
-    Action, Argument, Basic, Expr, Item, Reference, Removal, Run, Search, SendOrder, Seq,
+    Action, Argument, Basic, Expr, Item, Reference, Removal, Run, Search, SendOrder, Seq, Variable,
 };
 use sqlite_items::{Boxed, Items};
-use std::alloc::Global;
+use std::alloc::{AllocError, Global};
 
 fn action<'a>(
     alloc: Global,
@@ -136,81 +138,120 @@ pub fn assert<'a>(alloc: Global, x: Boxed<Expr<'a>>) -> Result<(Boxed<Action<'a>
     action(alloc, Action::Assert(x), false)
 }
 
-fn basic<'a>(
-    alloc: Global,
-    x: Basic<'a>,
+/// A statement in a box, with what stands beside it.
+pub fn with<'a>(
+    made: Result<Boxed<Basic<'a>>, AllocError>,
     closed: bool,
 ) -> Result<(Boxed<Basic<'a>>, bool), ReadFault>
-    ensures { Makes (x.entry, closed) result }
+    ensures { Beside made.entry closed result }
 {
-    Ok((Boxed::new(alloc, x)?, closed))
+    Ok((made?, closed))
 }
 
-pub fn plain<'a>(
+pub fn declare<'a>(
     alloc: Global,
-    x: Boxed<Action<'a>>,
+    variables: Items<Variable<'a>>,
+) -> Result<Boxed<Basic<'a>>, AllocError>
+    ensures { IfOk result (λ r. r ≡ b.Declare variables.entry) }
+{
+    Boxed::new(alloc, Basic::Declare(variables))
+}
+
+pub fn exclusive<'a>(
+    alloc: Global,
+    channels: Items<Reference<'a>>,
+) -> Result<Boxed<Basic<'a>>, AllocError>
+    ensures { IfOk result (λ r. r ≡ b.Exclusive channels.entry) }
+{
+    Boxed::new(alloc, Basic::Exclusive(channels))
+}
+
+pub fn plain<'a>(alloc: Global, x: Boxed<Action<'a>>) -> Result<Boxed<Basic<'a>>, AllocError>
+    ensures { IfOk result (λ r. r ≡ b.Plain x.entry) }
+{
+    Boxed::new(alloc, Basic::Plain(x))
+}
+
+pub fn goto<'a>(alloc: Global, name: Token<'a>) -> Result<Boxed<Basic<'a>>, AllocError>
+    ensures { IfOk result (λ r. r ≡ b.Goto name.entry) }
+{
+    Boxed::new(alloc, Basic::Goto(name))
+}
+
+pub fn leave<'a>(alloc: Global) -> Result<Boxed<Basic<'a>>, AllocError>
+    ensures { IfOk result (λ r. r ≡ b.Break) }
+{
+    Boxed::new(alloc, Basic::Break)
+}
+
+/// A `do` of these options, or an `if`.
+pub fn of_options<'a>(
+    alloc: Global,
+    turns: bool,
+    options: Items<Seq<'a>>,
+) -> Result<Boxed<Basic<'a>>, AllocError>
+    ensures { IfOk result (λ r. r ≡ of_options turns options.entry) }
+{
+    let basic = if turns {
+        Basic::Do(options)
+    } else {
+        Basic::If(options)
+    };
+    Boxed::new(alloc, basic)
+}
+
+/// A body in braces.
+pub fn of_braces<'a>(
+    alloc: Global,
+    opening: Opening,
+    items: Items<Item<'a>>,
+) -> Result<Boxed<Basic<'a>>, AllocError>
+    ensures { IfOk result (λ r. r ≡ of_braces opening (grammar.seq_of items.entry)) }
+{
+    let body = Seq { items };
+    let basic = match opening {
+        Opening::Atomic => Basic::Atomic(body),
+        Opening::DStep => Basic::DStep(body),
+        _ => Basic::Block(body),
+    };
+    Boxed::new(alloc, basic)
+}
+
+/// A statement that gives way to another.
+pub fn unless<'a>(
+    alloc: Global,
+    main: Items<Item<'a>>,
+    escape: Items<Item<'a>>,
+) -> Result<Boxed<Basic<'a>>, AllocError>
+    ensures { IfOk result (λ r. r ≡ b.Unless (grammar.seq_of main.entry) (grammar.seq_of escape.entry)) }
+{
+    Boxed::new(
+        alloc,
+        Basic::Unless(Seq { items: main }, Seq { items: escape }),
+    )
+}
+
+/// An item without labels.
+pub fn unlabelled<'a>(alloc: Global, basic: Boxed<Basic<'a>>, tokens: Tokens<'a>) -> Item<'a>
+    ensures { result ≡ grammar.item_of [] basic.entry tokens.entry }
+{
+    Item {
+        labels: Items::new(alloc),
+        basic,
+        tokens,
+    }
+}
+
+/// An item without labels, with whether it is a statement, and whether it is closed.
+pub fn item<'a>(
+    alloc: Global,
+    made: Result<Boxed<Basic<'a>>, AllocError>,
+    tokens: Tokens<'a>,
+    step: bool,
     closed: bool,
-) -> Result<(Boxed<Basic<'a>>, bool), ReadFault>
-    ensures { Makes (b.Plain x.entry, closed) result }
+) -> Result<(Item<'a>, bool, bool), ReadFault>
+    ensures { ItemOf made.entry tokens.entry step closed result }
 {
-    basic(alloc, Basic::Plain(x), closed)
-}
-
-pub fn goto<'a>(alloc: Global, name: Token<'a>) -> Result<(Boxed<Basic<'a>>, bool), ReadFault>
-    ensures { Makes (b.Goto name.entry, false) result }
-{
-    basic(alloc, Basic::Goto(name), false)
-}
-
-pub fn leave<'a>(alloc: Global) -> Result<(Boxed<Basic<'a>>, bool), ReadFault>
-    ensures { Makes (b.Break, false) result }
-{
-    basic(alloc, Basic::Break, false)
-}
-
-/// An `if` of these options.
-pub fn choice<'a>(
-    alloc: Global,
-    options: Items<Seq<'a>>,
-) -> Result<(Boxed<Basic<'a>>, bool), ReadFault>
-    ensures { Makes (b.If options.entry, true) result }
-{
-    basic(alloc, Basic::If(options), true)
-}
-
-/// A `do` of these options.
-pub fn turns<'a>(
-    alloc: Global,
-    options: Items<Seq<'a>>,
-) -> Result<(Boxed<Basic<'a>>, bool), ReadFault>
-    ensures { Makes (b.Do options.entry, true) result }
-{
-    basic(alloc, Basic::Do(options), true)
-}
-
-pub fn block<'a>(
-    alloc: Global,
-    items: Items<Item<'a>>,
-) -> Result<(Boxed<Basic<'a>>, bool), ReadFault>
-    ensures { Makes (b.Block (grammar.seq_of items.entry), true) result }
-{
-    basic(alloc, Basic::Block(Seq { items }), true)
-}
-
-pub fn atomic<'a>(
-    alloc: Global,
-    items: Items<Item<'a>>,
-) -> Result<(Boxed<Basic<'a>>, bool), ReadFault>
-    ensures { Makes (b.Atomic (grammar.seq_of items.entry), true) result }
-{
-    basic(alloc, Basic::Atomic(Seq { items }), true)
-}
-
-pub fn d_step<'a>(
-    alloc: Global,
-    items: Items<Item<'a>>,
-) -> Result<(Boxed<Basic<'a>>, bool), ReadFault>
-    ensures { Makes (b.DStep (grammar.seq_of items.entry), true) result }
-{
-    basic(alloc, Basic::DStep(Seq { items }), true)
+    let basic = made?;
+    Ok((unlabelled(alloc, basic, tokens), step, closed))
 }
