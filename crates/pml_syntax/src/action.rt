@@ -1,12 +1,12 @@
 //! Statements without structure. Each is read with whether it ends with `else`.
 
-ghost use Rattle.std.specs.Prelude.{◌≡◌, length, [], IfOk};
-ghost use Rattle.pml_tree.specs.declared.tree.Action.TheVariants as action;
+ghost use Rattle.std.specs.Prelude.{length, []};
 ghost use Rattle.pml_expression.specs.Reading as expressions;
 ghost use Rattle.pml_expression.specs.Reading.{Reads};
 ghost use Rattle.pml_syntax.specs.ReadingStatements as reading;
 
 use crate::ahead::leads_to_run;
+use crate::boxes;
 use crate::starts::{Change, Deed, change_of, deed_of};
 use pml_expression::cursor::Cursor;
 use pml_expression::expr::{
@@ -17,7 +17,7 @@ use pml_expression::list::{expr_list, values};
 use pml_lex::token::{Kind, Token};
 use pml_tree::tree::{Action, Argument, Expr, Reference, Removal, Run, Search, SendOrder};
 use sqlite_items::{Boxed, Items};
-use std::alloc::{AllocError, Global};
+use std::alloc::Global;
 
 #[tactic(auto, unfolding(crate::specs::ReadingStatements::run_values, pml_expression::specs::Reading::pick))]
 fn run_values<'a>(
@@ -74,7 +74,7 @@ fn run_first<'a>(
     ensures { Reads (reading.run_first depth tokens.old) result tokens.new }
 {
     let x = run_within(alloc, depth, tokens.left(), tokens)?;
-    Ok((Boxed::new(alloc, Action::Run(x))?, false))
+    boxes::run(alloc, x)
 }
 
 #[tactic(auto, unfolding(crate::specs::ReadingStatements::holds, pml_expression::specs::Reading::and_then))]
@@ -86,14 +86,7 @@ fn holds<'a>(
     ensures { Reads (reading.holds depth tokens.old) result tokens.new }
 {
     let x = boxed_expr(alloc, depth, 1, tokens)?;
-    Ok((Boxed::new(alloc, Action::Holds(x))?, false))
-}
-
-fn held<'a>(alloc: Global, x: Expr<'a>) -> Result<Boxed<Action<'a>>, AllocError>
-    ensures { IfOk result (λ a. a ≡ action.Holds x.entry) }
-{
-    let x = Boxed::new(alloc, x)?;
-    Ok(Boxed::new(alloc, Action::Holds(x))?)
+    boxes::holds(alloc, x)
 }
 
 /// The expression that begins with a reference, behind that.
@@ -101,31 +94,31 @@ fn held<'a>(alloc: Global, x: Expr<'a>) -> Result<Boxed<Action<'a>>, AllocError>
 fn continued<'a>(
     alloc: Global,
     depth: usize,
-    r: Reference<'a>,
+    r: Boxed<Reference<'a>>,
     tokens: &mut Cursor<'a>,
 ) -> Result<(Boxed<Action<'a>>, bool), ReadFault>
     ensures { Reads (reading.continued depth r.entry tokens.old) result tokens.new }
 {
-    let first = behind(alloc, depth, r, tokens)?;
+    let first = behind(alloc, depth, r.into_inner(), tokens)?;
     let x = climb(alloc, depth, 1, first, tokens)?;
-    Ok((held(alloc, x)?, false))
+    boxes::held(alloc, x)
 }
 
 #[tactic(auto, unfolding(crate::specs::ReadingStatements::assigned, pml_expression::specs::Reading::and_then, pml_expression::specs::Reading::pick))]
 fn assigned<'a>(
     alloc: Global,
     depth: usize,
-    r: Reference<'a>,
+    r: Boxed<Reference<'a>>,
     tokens: &mut Cursor<'a>,
 ) -> Result<(Boxed<Action<'a>>, bool), ReadFault>
     ensures { Reads (reading.assigned depth r.entry tokens.old) result tokens.new }
 {
     if leads_to_run(tokens) {
         let x = run_within(alloc, depth, tokens.left(), tokens)?;
-        return Ok((Boxed::new(alloc, Action::AssignRun(r, x))?, false));
+        return boxes::assign_run(alloc, r, x);
     }
     let x = boxed_expr(alloc, depth, 1, tokens)?;
-    Ok((Boxed::new(alloc, Action::Assign(r, x))?, false))
+    boxes::assign(alloc, r, x)
 }
 
 #[tactic(auto, unfolding(crate::specs::ReadingStatements::sent, pml_expression::specs::Reading::and_then))]
@@ -133,13 +126,13 @@ fn sent<'a>(
     alloc: Global,
     depth: usize,
     order: SendOrder,
-    r: Reference<'a>,
+    r: Boxed<Reference<'a>>,
     tokens: &mut Cursor<'a>,
 ) -> Result<(Boxed<Action<'a>>, bool), ReadFault>
     ensures { Reads (reading.sent depth order r.entry tokens.old) result tokens.new }
 {
     let xs = values(alloc, depth, tokens)?;
-    Ok((Boxed::new(alloc, Action::Send(r, order, xs))?, false))
+    boxes::send(alloc, order, r, xs)
 }
 
 /// The arguments of a receive that leaves its message in the channel.
@@ -161,23 +154,17 @@ fn received<'a>(
     alloc: Global,
     depth: usize,
     search: Search,
-    r: Reference<'a>,
+    r: Boxed<Reference<'a>>,
     tokens: &mut Cursor<'a>,
 ) -> Result<(Boxed<Action<'a>>, bool), ReadFault>
     ensures { Reads (reading.received depth search r.entry tokens.old) result tokens.new }
 {
     if tokens.sees(Kind::Less) {
         let xs = copied(alloc, depth, tokens)?;
-        return Ok((
-            Boxed::new(alloc, Action::Receive(r, search, Removal::Keep, xs))?,
-            false,
-        ));
+        return boxes::receive(alloc, search, Removal::Keep, r, xs);
     }
     let xs = arguments(alloc, depth, tokens)?;
-    Ok((
-        Boxed::new(alloc, Action::Receive(r, search, Removal::Remove, xs))?,
-        false,
-    ))
+    boxes::receive(alloc, search, Removal::Remove, r, xs)
 }
 
 /// What a statement that begins with a reference does with it.
@@ -185,7 +172,7 @@ fn received<'a>(
 fn changed<'a>(
     alloc: Global,
     depth: usize,
-    r: Reference<'a>,
+    r: Boxed<Reference<'a>>,
     tokens: &mut Cursor<'a>,
 ) -> Result<(Boxed<Action<'a>>, bool), ReadFault>
     ensures { Reads (reading.changed depth r.entry tokens.old) result tokens.new }
@@ -197,11 +184,11 @@ fn changed<'a>(
         }
         Change::Increment => {
             tokens.skip();
-            Ok((Boxed::new(alloc, Action::Increment(r))?, false))
+            boxes::increment(alloc, r)
         }
         Change::Decrement => {
             tokens.skip();
-            Ok((Boxed::new(alloc, Action::Decrement(r))?, false))
+            boxes::decrement(alloc, r)
         }
         Change::Send(order) => {
             tokens.skip();
@@ -243,7 +230,7 @@ fn format<'a>(tokens: &mut Cursor<'a>) -> Result<Token<'a>, ReadFault>
     tokens.expect(Kind::Quoted)
 }
 
-#[tactic(auto, unfolding(crate::specs::ReadingStatements::printf, pml_expression::specs::Reading::closing, pml_expression::specs::Reading::and_then))]
+#[tactic(auto, unfolding(crate::specs::ReadingStatements::printf, pml_expression::specs::Reading::and_then))]
 fn printf<'a>(
     alloc: Global,
     depth: usize,
@@ -253,8 +240,8 @@ fn printf<'a>(
 {
     let string = format(tokens)?;
     let xs = printed(alloc, depth, tokens)?;
-    let x = Boxed::new(alloc, Action::Printf(string, xs))?;
-    tokens.closing(Kind::CloseParen, (x, false))
+    tokens.expect(Kind::CloseParen)?;
+    boxes::printf(alloc, string, xs)
 }
 
 #[tactic(auto, unfolding(crate::specs::ReadingStatements::printm, pml_expression::specs::Reading::and_then))]
@@ -267,11 +254,47 @@ fn printm<'a>(
 {
     tokens.expect(Kind::Printm)?;
     let x = expr_between(alloc, depth, Kind::OpenParen, Kind::CloseParen, tokens)?;
-    Ok((Boxed::new(alloc, Action::Printm(x))?, false))
+    boxes::printm(alloc, x)
+}
+
+/// The reference at the front, in a box.
+pub fn boxed_reference<'a>(
+    alloc: Global,
+    depth: usize,
+    tokens: &mut Cursor<'a>,
+) -> Result<Boxed<Reference<'a>>, ReadFault>
+    ensures { Reads (expressions.reference (expressions.expr depth) tokens.old) result tokens.new }
+{
+    let r = reference(alloc, depth, tokens)?;
+    Ok(Boxed::new(alloc, r)?)
+}
+
+#[tactic(auto, unfolding(crate::specs::ReadingStatements::reference_first, pml_expression::specs::Reading::and_then))]
+fn reference_first<'a>(
+    alloc: Global,
+    depth: usize,
+    tokens: &mut Cursor<'a>,
+) -> Result<(Boxed<Action<'a>>, bool), ReadFault>
+    ensures { Reads (reading.reference_first depth tokens.old) result tokens.new }
+{
+    let r = boxed_reference(alloc, depth, tokens)?;
+    changed(alloc, depth, r, tokens)
+}
+
+#[tactic(auto, unfolding(crate::specs::ReadingStatements::assert, pml_expression::specs::Reading::and_then))]
+fn assert<'a>(
+    alloc: Global,
+    depth: usize,
+    tokens: &mut Cursor<'a>,
+) -> Result<(Boxed<Action<'a>>, bool), ReadFault>
+    ensures { Reads (reading.assert depth tokens.old) result tokens.new }
+{
+    let x = expr_behind(alloc, depth, Kind::Assert, tokens)?;
+    boxes::assert(alloc, x)
 }
 
 /// A statement without structure.
-#[tactic(auto, unfolding(crate::specs::ReadingStatements::action, crate::specs::ReadingStatements::reference_first, crate::specs::ReadingStatements::assert, pml_expression::specs::Reading::and_then, pml_expression::specs::Reading::pick))]
+#[tactic(auto, unfolding(crate::specs::ReadingStatements::action, pml_expression::specs::Reading::pick))]
 pub fn action<'a>(
     alloc: Global,
     depth: usize,
@@ -282,12 +305,9 @@ pub fn action<'a>(
     match deed_of(tokens.peek()) {
         Deed::Else => {
             tokens.skip();
-            Ok((Boxed::new(alloc, Action::Else)?, true))
+            boxes::otherwise(alloc)
         }
-        Deed::Name => {
-            let r = reference(alloc, depth, tokens)?;
-            changed(alloc, depth, r, tokens)
-        }
+        Deed::Name => reference_first(alloc, depth, tokens),
         Deed::Run => run_first(alloc, depth, tokens),
         Deed::Group => {
             if leads_to_run(tokens) {
@@ -297,10 +317,7 @@ pub fn action<'a>(
         }
         Deed::Printf => printf(alloc, depth, tokens),
         Deed::Printm => printm(alloc, depth, tokens),
-        Deed::Assert => {
-            let x = expr_behind(alloc, depth, Kind::Assert, tokens)?;
-            Ok((Boxed::new(alloc, Action::Assert(x))?, false))
-        }
+        Deed::Assert => assert(alloc, depth, tokens),
         Deed::Other => holds(alloc, depth, tokens),
     }
 }

@@ -1,25 +1,23 @@
 //! Bodies: items one after another. An item is read with whether it is a statement, and whether it ends with `}`, `fi`, `od`
 //! or `else`.
 
-ghost use Rattle.std.specs.Prelude.{◌≡◌, ◌||◌, IfOk, length, [], ◌∷◌, false};
-ghost use Rattle.pml_tree.specs.declared.tree.Basic.TheVariants as b;
-ghost use Rattle.pml_syntax.specs.Grammar as grammar;
+ghost use Rattle.std.specs.Prelude.{◌≡◌, ◌||◌, length, [], false};
 ghost use Rattle.pml_expression.specs.Reading.{Reads};
 ghost use Rattle.pml_syntax.specs.ReadingStatements as reading;
 
 use crate::action::action;
 use crate::ahead::{is_declaration, is_label, skip_separators};
-use crate::counting::{alone, for_of, select_of, unlabelled};
+use crate::boxes;
+use crate::counting::{alone, for_of, option_behind, select_of};
 use crate::declaration::{declaration, references};
-use crate::range::loop_range;
+use crate::range::boxed_range;
 use crate::starts::{Opening, is_end, is_exclusive, is_separator, opening_of};
 use pml_expression::cursor::Cursor;
 use pml_expression::fault::ReadFault;
 use pml_lex::token::{Kind, Token};
-use pml_tree::tokens::Tokens;
 use pml_tree::tree::{Basic, Item, Seq};
 use sqlite_items::{Boxed, Items};
-use std::alloc::{AllocError, Global};
+use std::alloc::Global;
 
 #[tactic(auto, unfolding(crate::specs::ReadingStatements::labels_from, pml_expression::specs::Reading::and_then, pml_expression::specs::Reading::pick))]
 fn labels<'a>(alloc: Global, tokens: &mut Cursor<'a>) -> Result<Items<Token<'a>>, ReadFault>
@@ -43,19 +41,6 @@ fn either(a: bool, b: bool) -> bool
     a || b
 }
 
-/// A statement that gives way to another.
-fn unless<'a>(
-    alloc: Global,
-    main: Items<Item<'a>>,
-    escape: Items<Item<'a>>,
-    tokens: Tokens<'a>,
-) -> Result<Item<'a>, AllocError>
-    ensures { IfOk result (λ r. r ≡ grammar.item_of [] (b.Unless (grammar.seq_of main.entry) (grammar.seq_of escape.entry)) tokens.entry) }
-{
-    let basic = Basic::Unless(Seq { items: main }, Seq { items: escape });
-    unlabelled(alloc, basic, tokens)
-}
-
 #[tactic(auto, unfolding(crate::specs::ReadingStatements::declared, pml_expression::specs::Reading::and_then))]
 fn declared<'a>(
     alloc: Global,
@@ -66,8 +51,8 @@ fn declared<'a>(
 {
     let start = tokens.ahead();
     let (variables, closed) = declaration(alloc, depth, Items::new(alloc), tokens)?;
-    let item = unlabelled(alloc, Basic::Declare(variables), tokens.since(start))?;
-    Ok((item, false, closed))
+    let made = boxes::declare(alloc, variables);
+    boxes::item(alloc, made, tokens.since(start), false, closed)
 }
 
 #[tactic(auto, unfolding(crate::specs::ReadingStatements::exclusive, pml_expression::specs::Reading::and_then))]
@@ -81,8 +66,8 @@ fn exclusive<'a>(
     let start = tokens.ahead();
     tokens.skip();
     let channels = references(alloc, depth, tokens)?;
-    let item = unlabelled(alloc, Basic::Exclusive(channels), tokens.since(start))?;
-    Ok((item, false, false))
+    let made = boxes::exclusive(alloc, channels);
+    boxes::item(alloc, made, tokens.since(start), false, false)
 }
 
 #[tactic(auto, unfolding(crate::specs::ReadingStatements::plainly, pml_expression::specs::Reading::and_then))]
@@ -94,7 +79,7 @@ fn plainly<'a>(
     ensures { Reads (reading.plainly depth tokens.old) result tokens.new }
 {
     let (x, closed) = action(alloc, depth, tokens)?;
-    Ok((Boxed::new(alloc, Basic::Plain(x))?, closed))
+    boxes::with(boxes::plain(alloc, x), closed)
 }
 
 /// The label that a `goto` names.
@@ -103,7 +88,7 @@ fn goto<'a>(alloc: Global, tokens: &mut Cursor<'a>) -> Result<(Boxed<Basic<'a>>,
     ensures { Reads (reading.goto tokens.old) result tokens.new }
 {
     let name = tokens.expect(Kind::Name)?;
-    Ok((Boxed::new(alloc, Basic::Goto(name))?, false))
+    boxes::with(boxes::goto(alloc, name), false)
 }
 
 /// A `select`, with its word.
@@ -115,8 +100,8 @@ fn select<'a>(
 ) -> Result<(Boxed<Basic<'a>>, bool), ReadFault>
     ensures { Reads (reading.select depth tokens.old) result tokens.new }
 {
-    let range = loop_range(alloc, depth, Kind::Select, tokens)?;
-    Ok((select_of(alloc, range)?, false))
+    let range = boxed_range(alloc, depth, Kind::Select, tokens)?;
+    boxes::with(select_of(alloc, range), false)
 }
 
 /// The items of a body with a statement.
@@ -149,7 +134,7 @@ fn option_list<'a>(
     for _turn in 0..tokens.left() {
         tokens.expect(Kind::DoubleColon)?;
         let items = seq(alloc, depth, tokens)?;
-        found.push(Seq { items })?;
+        found = option_behind(found, items)?;
         if !tokens.sees(Kind::DoubleColon) {
             return Ok(found);
         }
@@ -187,23 +172,32 @@ fn braces<'a>(
     tokens.closing(Kind::CloseBrace, items)
 }
 
-/// An `if` or a `do`, behind the word.
+/// An `if`, behind the word.
 #[cycle(body)]
-#[tactic(auto, unfolding(crate::specs::ReadingStatements::if_fi, crate::specs::ReadingStatements::do_od, pml_expression::specs::Reading::and_then))]
-fn branching<'a>(
+#[tactic(auto, unfolding(crate::specs::ReadingStatements::if_fi, pml_expression::specs::Reading::and_then))]
+fn choice<'a>(
     alloc: Global,
     depth: usize,
-    opening: Opening,
     tokens: &mut Cursor<'a>,
 ) -> Result<(Boxed<Basic<'a>>, bool), ReadFault>
-    ensures { Reads (reading.branching depth (reading.items depth) opening tokens.old) result tokens.new }
+    ensures { Reads (reading.if_fi depth (reading.items depth) tokens.old) result tokens.new }
 {
-    if let Opening::Do = opening {
-        let found = options(alloc, depth, Kind::Od, tokens)?;
-        return Ok((Boxed::new(alloc, Basic::Do(found))?, true));
-    }
     let found = options(alloc, depth, Kind::Fi, tokens)?;
-    Ok((Boxed::new(alloc, Basic::If(found))?, true))
+    boxes::with(boxes::of_options(alloc, false, found), true)
+}
+
+/// A `do`, behind the word.
+#[cycle(body)]
+#[tactic(auto, unfolding(crate::specs::ReadingStatements::do_od, pml_expression::specs::Reading::and_then))]
+fn turns<'a>(
+    alloc: Global,
+    depth: usize,
+    tokens: &mut Cursor<'a>,
+) -> Result<(Boxed<Basic<'a>>, bool), ReadFault>
+    ensures { Reads (reading.do_od depth (reading.items depth) tokens.old) result tokens.new }
+{
+    let found = options(alloc, depth, Kind::Od, tokens)?;
+    boxes::with(boxes::of_options(alloc, true, found), true)
 }
 
 /// A body in braces, behind the word that makes it one step, if there is one.
@@ -218,13 +212,11 @@ fn embraced<'a>(
     ensures { Reads (reading.embraced depth (reading.items depth) opening tokens.old) result tokens.new }
 {
     let items = braces(alloc, depth, tokens)?;
-    let body = Seq { items };
-    let basic = match opening {
-        Opening::Atomic => Basic::Atomic(body),
-        Opening::DStep => Basic::DStep(body),
-        _ => Basic::Block(body),
-    };
-    Ok((Boxed::new(alloc, basic)?, true))
+    match opening {
+        Opening::Atomic => boxes::with(boxes::of_braces(alloc, Opening::Atomic, items), true),
+        Opening::DStep => boxes::with(boxes::of_braces(alloc, Opening::DStep, items), true),
+        _ => boxes::with(boxes::of_braces(alloc, Opening::Block, items), true),
+    }
 }
 
 /// A `for`, with its word.
@@ -237,13 +229,13 @@ fn for_loop<'a>(
 ) -> Result<(Boxed<Basic<'a>>, bool), ReadFault>
     ensures { Reads (reading.for_loop depth (reading.items depth) tokens.old) result tokens.new }
 {
-    let range = loop_range(alloc, depth, Kind::For, tokens)?;
+    let range = boxed_range(alloc, depth, Kind::For, tokens)?;
     let items = braces(alloc, depth, tokens)?;
-    Ok((for_of(alloc, range, items)?, true))
+    boxes::with(for_of(alloc, range, items), true)
 }
 
 #[cycle(body)]
-#[tactic(auto, unfolding(crate::specs::ReadingStatements::basic, pml_expression::specs::Reading::and_then))]
+#[tactic(auto, unfolding(crate::specs::ReadingStatements::basic))]
 fn basic<'a>(
     alloc: Global,
     depth: usize,
@@ -254,11 +246,11 @@ fn basic<'a>(
     match opening_of(tokens.peek()) {
         Opening::If => {
             tokens.skip();
-            branching(alloc, depth, Opening::If, tokens)
+            choice(alloc, depth, tokens)
         }
         Opening::Do => {
             tokens.skip();
-            branching(alloc, depth, Opening::Do, tokens)
+            turns(alloc, depth, tokens)
         }
         Opening::Block => embraced(alloc, depth, Opening::Block, tokens),
         Opening::Atomic => {
@@ -277,7 +269,7 @@ fn basic<'a>(
         }
         Opening::Break => {
             tokens.skip();
-            Ok((Boxed::new(alloc, Basic::Break)?, false))
+            boxes::with(boxes::leave(alloc), false)
         }
         Opening::Other => plainly(alloc, depth, tokens),
     }
@@ -335,8 +327,8 @@ fn stepped<'a>(
     }
     let main = alone(alloc, main)?;
     let (escape, closed) = escape(alloc, depth, tokens)?;
-    let item = unless(alloc, main, escape, tokens.since(start))?;
-    Ok((item, true, closed))
+    let made = boxes::unless(alloc, main, escape);
+    boxes::item(alloc, made, tokens.since(start), true, closed)
 }
 
 #[cycle(body)]

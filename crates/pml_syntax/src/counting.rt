@@ -6,7 +6,9 @@ ghost use Rattle.pml_tree.specs.declared.tree.Expr.TheVariants as e;
 ghost use Rattle.pml_tree.specs.declared.tree.Basic.TheVariants as b;
 ghost use Rattle.pml_syntax.specs.Grammar as grammar;
 
+use crate::boxes;
 use crate::range::{Bound, Counter, Range};
+use crate::starts::Opening;
 use pml_lex::token::{Kind, Token};
 use pml_tree::tokens::Tokens;
 use pml_tree::tree::{Action, Basic, Expr, Infix, Item, Reference, Seq};
@@ -39,36 +41,6 @@ fn around<'a>(
     Tokens::made(alloc, found)
 }
 
-/// A statement, in a box.
-fn boxed<'a>(alloc: Global, basic: Basic<'a>) -> Result<Boxed<Basic<'a>>, AllocError>
-    ensures { IfOk result (λ r. r ≡ basic.entry) }
-{
-    Boxed::new(alloc, basic)
-}
-
-/// An item of these parts.
-fn item_of<'a>(labels: Items<Token<'a>>, basic: Boxed<Basic<'a>>, tokens: Tokens<'a>) -> Item<'a>
-    ensures { result ≡ grammar.item_of labels.entry basic.entry tokens.entry }
-{
-    Item {
-        labels,
-        basic,
-        tokens,
-    }
-}
-
-/// An item without labels.
-pub fn unlabelled<'a>(
-    alloc: Global,
-    basic: Basic<'a>,
-    tokens: Tokens<'a>,
-) -> Result<Item<'a>, AllocError>
-    ensures { IfOk result (λ r. r ≡ grammar.item_of [] basic.entry tokens.entry) }
-{
-    let basic = boxed(alloc, basic)?;
-    Ok(item_of(Items::new(alloc), basic, tokens))
-}
-
 /// One item, as items.
 pub fn alone<'a>(alloc: Global, item: Item<'a>) -> Result<Items<Item<'a>>, AllocError>
     ensures { IfOk result (λ r. r ≡ item.entry ∷ []) }
@@ -78,63 +50,96 @@ pub fn alone<'a>(alloc: Global, item: Item<'a>) -> Result<Items<Item<'a>>, Alloc
     Ok(items)
 }
 
-/// Two items.
-fn two<'a>(alloc: Global, x: Item<'a>, y: Item<'a>) -> Result<Items<Item<'a>>, AllocError>
-    ensures { IfOk result (λ r. r ≡ x.entry ∷ y.entry ∷ []) }
+/// These items, and then those.
+fn joined<'a>(
+    mut items: Items<Item<'a>>,
+    more: Items<Item<'a>>,
+) -> Result<Items<Item<'a>>, AllocError>
+    ensures { IfOk result (λ r. r ≡ items.entry ++ more.entry) }
 {
-    let mut items = alone(alloc, x)?;
-    items.push(y)?;
+    items.append(more)?;
     Ok(items)
 }
 
-/// Two options.
-fn two_options<'a>(alloc: Global, x: Seq<'a>, y: Seq<'a>) -> Result<Items<Seq<'a>>, AllocError>
-    ensures { IfOk result (λ r. r ≡ x.entry ∷ y.entry ∷ []) }
+/// These options, and then the one of these items.
+pub fn option_behind<'a>(
+    mut options: Items<Seq<'a>>,
+    items: Items<Item<'a>>,
+) -> Result<Items<Seq<'a>>, AllocError>
+    ensures { IfOk result (λ r. r ≡ options.entry ++ grammar.seq_of items.entry ∷ []) }
 {
-    let mut options = Items::new(alloc);
-    options.push(x)?;
-    options.push(y)?;
+    options.push(Seq { items })?;
     Ok(options)
 }
 
-/// A statement without structure, without labels.
+/// Two options.
+fn two_options<'a>(
+    alloc: Global,
+    x: Items<Item<'a>>,
+    y: Items<Item<'a>>,
+) -> Result<Items<Seq<'a>>, AllocError>
+    ensures { IfOk result (λ r. r ≡ grammar.seq_of x.entry ∷ grammar.seq_of y.entry ∷ []) }
+{
+    let first = option_behind(Items::new(alloc), x)?;
+    option_behind(first, y)
+}
+
+/// A statement without labels, as items.
+fn single<'a>(
+    alloc: Global,
+    basic: Boxed<Basic<'a>>,
+    tokens: Tokens<'a>,
+) -> Result<Items<Item<'a>>, AllocError>
+    ensures { IfOk result (λ r. r ≡ grammar.item_of [] basic.entry tokens.entry ∷ []) }
+{
+    alone(alloc, boxes::unlabelled(alloc, basic, tokens))
+}
+
+/// A statement without structure, without labels, as items.
 fn plain<'a>(
     alloc: Global,
     action: Boxed<Action<'a>>,
     tokens: Tokens<'a>,
-) -> Result<Item<'a>, AllocError>
-    ensures { IfOk result (λ r. r ≡ grammar.item_of [] (b.Plain action.entry) tokens.entry) }
+) -> Result<Items<Item<'a>>, AllocError>
+    ensures { IfOk result (λ r. r ≡ grammar.item_of [] (b.Plain action.entry) tokens.entry ∷ []) }
 {
-    unlabelled(alloc, Basic::Plain(action), tokens)
+    let basic = boxes::plain(alloc, action)?;
+    single(alloc, basic, tokens)
 }
 
 /// The variable gets its first value.
 fn setting<'a>(
     alloc: Global,
     line: u32,
-    variable: Reference<'a>,
+    variable: Boxed<Reference<'a>>,
     named: &[Token<'a>],
     first: Bound<'a>,
-) -> Result<Item<'a>, AllocError>
-    ensures { IfOk result (λ r. r ≡ grammar.setting line variable.entry named.now first.entry) }
+) -> Result<Items<Item<'a>>, AllocError>
+    ensures { IfOk result (λ r. r ≡ grammar.setting line variable.entry named.now first.entry ∷ []) }
 {
     let Bound { value, tokens } = first;
-    let action = Boxed::new(alloc, Action::Assign(variable, value))?;
+    let action = Boxed::new(alloc, Action::Assign(variable.into_inner(), value))?;
     let word = Token::new(Kind::Assign, b"=", line);
     let tokens = around(alloc, named, word, tokens.as_slice())?;
     plain(alloc, action, tokens)
 }
 
+fn boxed<'a>(alloc: Global, x: Expr<'a>) -> Result<Boxed<Expr<'a>>, AllocError>
+    ensures { IfOk result (λ r. r ≡ x.entry) }
+{
+    Boxed::new(alloc, x)
+}
+
 fn compared<'a>(
     alloc: Global,
     operator: Infix,
-    variable: Reference<'a>,
+    variable: Boxed<Reference<'a>>,
     last: Boxed<Expr<'a>>,
 ) -> Result<Boxed<Action<'a>>, AllocError>
     ensures { IfOk result (λ r. r ≡ a.Holds (e.Binary operator (e.Read variable.entry) last.entry)) }
 {
-    let left = Boxed::new(alloc, Expr::Read(variable))?;
-    let x = Boxed::new(alloc, Expr::Binary(operator, left, last))?;
+    let left = boxed(alloc, Expr::Read(variable.into_inner()))?;
+    let x = boxed(alloc, Expr::Binary(operator, left, last))?;
     Ok(Boxed::new(alloc, Action::Holds(x))?)
 }
 
@@ -143,11 +148,11 @@ fn comparing<'a>(
     alloc: Global,
     operator: Infix,
     word: Token<'a>,
-    variable: Reference<'a>,
+    variable: Boxed<Reference<'a>>,
     named: &[Token<'a>],
     last: Bound<'a>,
-) -> Result<Item<'a>, AllocError>
-    ensures { IfOk result (λ r. r ≡ grammar.comparing operator word.entry variable.entry named.now last.entry) }
+) -> Result<Items<Item<'a>>, AllocError>
+    ensures { IfOk result (λ r. r ≡ grammar.comparing operator word.entry variable.entry named.now last.entry ∷ []) }
 {
     let Bound { value, tokens } = last;
     let action = compared(alloc, operator, variable, value)?;
@@ -159,151 +164,124 @@ fn comparing<'a>(
 fn raising<'a>(
     alloc: Global,
     line: u32,
-    variable: Reference<'a>,
+    variable: Boxed<Reference<'a>>,
     named: &[Token<'a>],
-) -> Result<Item<'a>, AllocError>
-    ensures { IfOk result (λ r. r ≡ grammar.raising line variable.entry named.now) }
+) -> Result<Items<Item<'a>>, AllocError>
+    ensures { IfOk result (λ r. r ≡ grammar.raising line variable.entry named.now ∷ []) }
 {
-    let action = Boxed::new(alloc, Action::Increment(variable))?;
+    let action = Boxed::new(alloc, Action::Increment(variable.into_inner()))?;
     let word = Token::new(Kind::Increment, b"++", line);
     let tokens = around(alloc, named, word, &[])?;
     plain(alloc, action, tokens)
 }
 
 /// The `else` of a `for`.
-fn otherwise<'a>(alloc: Global, line: u32) -> Result<Item<'a>, AllocError>
-    ensures { IfOk result (λ r. r ≡ grammar.otherwise_item line) }
+fn otherwise<'a>(alloc: Global, line: u32) -> Result<Items<Item<'a>>, AllocError>
+    ensures { IfOk result (λ r. r ≡ grammar.otherwise_item line ∷ []) }
 {
     let action = Boxed::new(alloc, Action::Else)?;
     let tokens = around(alloc, &[], Token::new(Kind::Else, b"else", line), &[])?;
     plain(alloc, action, tokens)
 }
 
-fn breaking<'a>(alloc: Global, line: u32) -> Result<Item<'a>, AllocError>
-    ensures { IfOk result (λ r. r ≡ grammar.breaking line) }
+fn breaking<'a>(alloc: Global, line: u32) -> Result<Items<Item<'a>>, AllocError>
+    ensures { IfOk result (λ r. r ≡ grammar.breaking line ∷ []) }
 {
     let tokens = around(alloc, &[], Token::new(Kind::Break, b"break", line), &[])?;
-    unlabelled(alloc, Basic::Break, tokens)
+    let basic = boxes::leave(alloc)?;
+    single(alloc, basic, tokens)
 }
 
 /// The `do` over two options.
-fn turning<'a>(alloc: Global, line: u32, on: Seq<'a>, out: Seq<'a>) -> Result<Item<'a>, AllocError>
-    ensures { IfOk result (λ r. r ≡ grammar.turning line (on.entry ∷ out.entry ∷ [])) }
+fn turning<'a>(
+    alloc: Global,
+    line: u32,
+    on: Items<Item<'a>>,
+    out: Items<Item<'a>>,
+) -> Result<Items<Item<'a>>, AllocError>
+    ensures { IfOk result (λ r. r ≡ grammar.turning line (grammar.seq_of on.entry ∷ grammar.seq_of out.entry ∷ []) ∷ []) }
 {
     let options = two_options(alloc, on, out)?;
     let tokens = around(alloc, &[], Token::new(Kind::Do, b"do", line), &[])?;
-    unlabelled(alloc, Basic::Do(options), tokens)
-}
-
-/// What comes first, then the `do`, in braces.
-fn block<'a>(alloc: Global, x: Item<'a>, y: Item<'a>) -> Result<Boxed<Basic<'a>>, AllocError>
-    ensures { IfOk result (λ r. r ≡ b.Block (grammar.seq_of (x.entry ∷ y.entry ∷ []))) }
-{
-    let items = two(alloc, x, y)?;
-    Ok(Boxed::new(alloc, Basic::Block(Seq { items }))?)
+    let basic = boxes::of_options(alloc, true, options)?;
+    single(alloc, basic, tokens)
 }
 
 /// What is done in each turn of a `for`: its items, and then the variable is raised.
 fn raised_behind<'a>(
     alloc: Global,
     line: u32,
-    variable: Reference<'a>,
+    variable: Boxed<Reference<'a>>,
     named: &[Token<'a>],
-    mut items: Items<Item<'a>>,
+    items: Items<Item<'a>>,
 ) -> Result<Items<Item<'a>>, AllocError>
     ensures { IfOk result (λ r. r ≡ items.entry ++ grammar.raising line variable.entry named.now ∷ []) }
 {
     let raise = raising(alloc, line, variable, named)?;
-    items.push(raise)?;
-    Ok(items)
+    joined(items, raise)
 }
 
 /// The option that goes on with a `for`: these items, behind the comparison.
 fn for_on<'a>(
     alloc: Global,
     line: u32,
-    variable: Reference<'a>,
+    variable: Boxed<Reference<'a>>,
     named: &[Token<'a>],
     last: Bound<'a>,
     items: Items<Item<'a>>,
-) -> Result<Seq<'a>, AllocError>
-    ensures { IfOk result (λ r. r ≡ grammar.seq_of (grammar.at_most line variable.entry named.now last.entry ∷ items.entry)) }
+) -> Result<Items<Item<'a>>, AllocError>
+    ensures { IfOk result (λ r. r ≡ grammar.at_most line variable.entry named.now last.entry ∷ items.entry) }
 {
     let word = Token::new(Kind::AtMost, b"<=", line);
     let test = comparing(alloc, Infix::AtMost, word, variable, named, last)?;
-    let mut all = alone(alloc, test)?;
-    all.append(items)?;
-    Ok(Seq { items: all })
+    joined(test, items)
 }
 
 /// The option that ends a `for`.
-fn for_out<'a>(alloc: Global, line: u32) -> Result<Seq<'a>, AllocError>
-    ensures { IfOk result (λ r. r ≡ grammar.for_out line) }
+fn for_out<'a>(alloc: Global, line: u32) -> Result<Items<Item<'a>>, AllocError>
+    ensures { IfOk result (λ r. grammar.seq_of r ≡ grammar.for_out line) }
 {
     let first = otherwise(alloc, line)?;
     let second = breaking(alloc, line)?;
-    let items = two(alloc, first, second)?;
-    Ok(Seq { items })
+    joined(first, second)
 }
 
 /// The option that goes on with a `select`.
 fn select_on<'a>(
     alloc: Global,
     line: u32,
-    compared: Reference<'a>,
-    raised: Reference<'a>,
+    compared: Boxed<Reference<'a>>,
+    raised: Boxed<Reference<'a>>,
     named: &[Token<'a>],
     last: Bound<'a>,
-) -> Result<Seq<'a>, AllocError>
-    ensures { IfOk result (λ r. r ≡ grammar.select_on line compared.entry raised.entry named.now last.entry) }
+) -> Result<Items<Item<'a>>, AllocError>
+    ensures { IfOk result (λ r. grammar.seq_of r ≡ grammar.select_on line compared.entry raised.entry named.now last.entry) }
 {
     let word = Token::new(Kind::Less, b"<", line);
     let test = comparing(alloc, Infix::Below, word, compared, named, last)?;
     let raise = raising(alloc, line, raised, named)?;
-    let items = two(alloc, test, raise)?;
-    Ok(Seq { items })
+    joined(test, raise)
 }
 
-/// The option that ends a `select`.
-fn select_out<'a>(alloc: Global, line: u32) -> Result<Seq<'a>, AllocError>
-    ensures { IfOk result (λ r. r ≡ grammar.select_out line) }
-{
-    let item = breaking(alloc, line)?;
-    let items = alone(alloc, item)?;
-    Ok(Seq { items })
-}
-
-/// The variable gets its first value, and then the `do` goes over two options.
+/// The first value, and then the `do` over two options, in braces.
 fn counted<'a>(
     alloc: Global,
     line: u32,
-    set: Item<'a>,
-    on: Seq<'a>,
-    out: Seq<'a>,
+    set: Items<Item<'a>>,
+    on: Items<Item<'a>>,
+    out: Items<Item<'a>>,
 ) -> Result<Boxed<Basic<'a>>, AllocError>
-    ensures { IfOk result (λ r. r ≡ b.Block (grammar.seq_of (set.entry ∷ grammar.turning line (on.entry ∷ out.entry ∷ []) ∷ []))) }
+    ensures { IfOk result (λ r. r ≡ b.Block (grammar.seq_of (set.entry ++ grammar.turning line (grammar.seq_of on.entry ∷ grammar.seq_of out.entry ∷ []) ∷ []))) }
 {
     let turns = turning(alloc, line, on, out)?;
-    block(alloc, set, turns)
-}
-
-/// The option that goes on with a `for`, beside the one that ends it.
-fn for_counted<'a>(
-    alloc: Global,
-    line: u32,
-    set: Item<'a>,
-    on: Seq<'a>,
-) -> Result<Boxed<Basic<'a>>, AllocError>
-    ensures { IfOk result (λ r. r ≡ b.Block (grammar.seq_of (set.entry ∷ grammar.turning line (on.entry ∷ grammar.for_out line ∷ []) ∷ []))) }
-{
-    let out = for_out(alloc, line)?;
-    counted(alloc, line, set, on, out)
+    let items = joined(set, turns)?;
+    boxes::of_braces(alloc, Opening::Block, items)
 }
 
 /// What a `for` over these items stands for.
 pub fn for_of<'a>(
     alloc: Global,
-    range: Range<'a>,
+    range: Boxed<Range<'a>>,
     items: Items<Item<'a>>,
 ) -> Result<Boxed<Basic<'a>>, AllocError>
     ensures { IfOk result (λ r. r ≡ grammar.for_of range.entry items.entry) }
@@ -312,7 +290,7 @@ pub fn for_of<'a>(
         counter,
         first,
         last,
-    } = range;
+    } = range.into_inner();
     let Counter {
         line,
         set,
@@ -324,18 +302,19 @@ pub fn for_of<'a>(
     let set = setting(alloc, line, set, named, first)?;
     let items = raised_behind(alloc, line, raised, named, items)?;
     let on = for_on(alloc, line, compared, named, last, items)?;
-    for_counted(alloc, line, set, on)
+    let out = for_out(alloc, line)?;
+    counted(alloc, line, set, on, out)
 }
 
 /// What a `select` stands for.
-pub fn select_of<'a>(alloc: Global, range: Range<'a>) -> Result<Boxed<Basic<'a>>, AllocError>
+pub fn select_of<'a>(alloc: Global, range: Boxed<Range<'a>>) -> Result<Boxed<Basic<'a>>, AllocError>
     ensures { IfOk result (λ r. r ≡ grammar.select_of range.entry) }
 {
     let Range {
         counter,
         first,
         last,
-    } = range;
+    } = range.into_inner();
     let Counter {
         line,
         set,
@@ -346,6 +325,6 @@ pub fn select_of<'a>(alloc: Global, range: Range<'a>) -> Result<Boxed<Basic<'a>>
     let named = tokens.as_slice();
     let set = setting(alloc, line, set, named, first)?;
     let on = select_on(alloc, line, compared, raised, named, last)?;
-    let out = select_out(alloc, line)?;
+    let out = breaking(alloc, line)?;
     counted(alloc, line, set, on, out)
 }

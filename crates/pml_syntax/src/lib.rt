@@ -4,6 +4,7 @@
 mod action;
 mod ahead;
 mod body;
+mod boxes;
 mod counting;
 mod declaration;
 pub mod laws;

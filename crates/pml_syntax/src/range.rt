@@ -6,8 +6,9 @@ ghost use Rattle.pml_expression.specs.Reading.{Reads};
 ghost use Rattle.pml_syntax.specs.Answer.{Gives};
 ghost use Rattle.pml_syntax.specs.ReadingStatements as reading;
 
+use crate::action::boxed_reference;
 use pml_expression::cursor::Cursor;
-use pml_expression::expr::{boxed_expr, reference};
+use pml_expression::expr::boxed_expr;
 use pml_expression::fault::ReadFault;
 use pml_lex::token::{Kind, Token};
 use pml_tree::tokens::Tokens;
@@ -21,11 +22,11 @@ pub struct Counter<'a> {
     /// The line of the word before it.
     pub line: u32,
     /// Where it is set.
-    pub set: Reference<'a>,
+    pub set: Boxed<Reference<'a>>,
     /// Where it is compared.
-    pub compared: Reference<'a>,
+    pub compared: Boxed<Reference<'a>>,
     /// Where it is raised.
-    pub raised: Reference<'a>,
+    pub raised: Boxed<Reference<'a>>,
     pub tokens: Tokens<'a>,
 }
 
@@ -59,11 +60,11 @@ fn peeked<'a>(
     alloc: Global,
     depth: usize,
     tokens: &'a [Token<'a>],
-) -> Result<Reference<'a>, ReadFault>
+) -> Result<Boxed<Reference<'a>>, ReadFault>
     ensures { Gives (expressions.reference (expressions.expr depth) tokens.now) result }
 {
     let mut ahead = Cursor::new(tokens);
-    reference(alloc, depth, &mut ahead)
+    boxed_reference(alloc, depth, &mut ahead)
 }
 
 /// The variable, read once for each place that it has.
@@ -79,7 +80,7 @@ fn loop_variable<'a>(
     let start = tokens.ahead();
     let set = peeked(alloc, depth, start)?;
     let compared = peeked(alloc, depth, start)?;
-    let raised = reference(alloc, depth, tokens)?;
+    let raised = boxed_reference(alloc, depth, tokens)?;
     Ok(Counter {
         line,
         set,
@@ -124,7 +125,7 @@ fn loop_bounds<'a>(
 
 /// What is counted over, with the word, which is to be of this kind.
 #[tactic(auto, unfolding(crate::specs::ReadingStatements::loop_range, pml_expression::specs::Reading::and_then))]
-pub fn loop_range<'a>(
+fn loop_range<'a>(
     alloc: Global,
     depth: usize,
     word: Kind,
@@ -140,4 +141,17 @@ pub fn loop_range<'a>(
         first,
         last,
     })
+}
+
+/// What is counted over, in a box.
+pub fn boxed_range<'a>(
+    alloc: Global,
+    depth: usize,
+    word: Kind,
+    tokens: &mut Cursor<'a>,
+) -> Result<Boxed<Range<'a>>, ReadFault>
+    ensures { Reads (reading.loop_range depth word tokens.old) result tokens.new }
+{
+    let range = loop_range(alloc, depth, word, tokens)?;
+    Ok(Boxed::new(alloc, range)?)
 }

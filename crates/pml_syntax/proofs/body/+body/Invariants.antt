@@ -11,8 +11,11 @@ decreases-body l = 11 * l.depth
 abbrev pub decreases-braces : goal.decreases-braces
 decreases-braces l = 11 * l.depth + 2
 
-abbrev pub decreases-branching : goal.decreases-branching
-decreases-branching l = 11 * l.depth + 4
+abbrev pub decreases-choice : goal.decreases-choice
+decreases-choice l = 11 * l.depth + 4
+
+abbrev pub decreases-turns : goal.decreases-turns
+decreases-turns l = 11 * l.depth + 4
 
 abbrev pub decreases-embraced : goal.decreases-embraced
 decreases-embraced l = 11 * l.depth + 3
