@@ -1,0 +1,57 @@
+//! Models from their texts, which are played as far as memory goes. What they hold is not let go: its place is the test's own.
+use crate::run::{Choices, plays_checked};
+use pml_check::check;
+use pml_inline::expand;
+use pml_lex::cut;
+use pml_lex::token::Token;
+use pml_syntax::parse;
+use pml_tree::tree::Tree;
+use std::alloc::Global;
+use std::mem::forget;
+use std::process::Abort;
+
+fn plays_tree<R: Abort>(
+    rt: &R,
+    alloc: Global,
+    tree: Tree<'_>,
+    choices: &Choices<'_>,
+    kept: &mut Vec<usize>,
+) {
+    if let Ok(checked) = check(alloc, tree) {
+        plays_checked(rt, alloc, &checked, choices, kept);
+        forget(checked);
+    }
+}
+
+fn plays_tokens<'a, R: Abort>(
+    rt: &R,
+    alloc: Global,
+    tokens: &'a [Token<'a>],
+    choices: &Choices<'_>,
+    kept: &mut Vec<usize>,
+) {
+    if let Ok(tree) = parse(alloc, tokens) {
+        plays_tree(rt, alloc, tree, choices, kept);
+    }
+}
+
+fn plays_cut<R: Abort>(
+    rt: &R,
+    alloc: Global,
+    tokens: &[Token<'_>],
+    choices: &Choices<'_>,
+    kept: &mut Vec<usize>,
+) {
+    if let Ok(expanded) = expand(alloc, tokens) {
+        plays_tokens(rt, alloc, expanded.as_slice(), choices, kept);
+    }
+}
+
+/// How much the world of a model keeps at the start and after each step: nothing, where the text is no model.
+pub fn kept_of<R: Abort>(rt: &R, alloc: Global, model: &str, choices: &Choices<'_>) -> Vec<usize> {
+    let mut kept = Vec::new(alloc);
+    if let Ok(tokens) = cut(alloc, model.as_bytes()) {
+        plays_cut(rt, alloc, tokens.as_slice(), choices, &mut kept);
+    }
+    kept
+}

@@ -1,0 +1,166 @@
+//! Plays a sample over devices of which one call may fail, all sinks taking one byte a call.
+ghost use Rattle.std.specs.Prelude.{◌≡◌};
+
+use crate::row::{Failing, Row, Way};
+use devices::{
+    FailsOnce, Failures, Next, OneByte, Sink, SliceSource, Source, ThreeDevices, VecSink,
+};
+use session::{Conversion, End, convert, play};
+use std::alloc::Global;
+use std::marker::Brand;
+use std::process::Abort;
+use std::sync::ledger::{Blank, Ledger};
+
+// No call fails.
+const NEVER: u64 = u64::MAX;
+
+impl Failing {
+    fn of_source(self) -> u64 {
+        match self {
+            Failing::Source(at) => at,
+            _ => NEVER,
+        }
+    }
+
+    fn of_out(self) -> u64 {
+        match self {
+            Failing::Out(at) => at,
+            _ => NEVER,
+        }
+    }
+
+    fn of_record(self) -> u64 {
+        match self {
+            Failing::Record(at) => at,
+            _ => NEVER,
+        }
+    }
+}
+
+/// What stands behind a session.
+#[derive(Drop)]
+pub struct Behind {
+    pub out: Vec<u8>,
+    pub rec: Vec<u8>,
+    pub read: usize,
+    pub calls: u64,
+    pub asked_after_end: bool,
+    pub failed: bool,
+    pub end: End,
+}
+
+/// A source that counts its calls, and those after its end.
+#[derive(Drop)]
+pub struct Counting<S> {
+    source: S,
+    calls: u64,
+    ended: bool,
+    asked_after_end: bool,
+}
+
+impl<S: Source> Source for Counting<S> {
+    ghost may_give = { λ s. S.may_give s.source };
+
+    ghost some_left = { λ s. S.some_left s.source };
+
+    ghost failures = { λ s. S.failures s.source };
+
+    fn next(&mut self) -> Next {
+        self.calls = self.calls.saturating_add(1);
+        self.asked_after_end = self.asked_after_end || self.ended;
+        let next = self.source.next();
+        self.ended = matches!(next, Next::End);
+        next
+    }
+}
+
+type Choices<'a> = Counting<FailsOnce<SliceSource<'a>>>;
+
+type Taking<L> = FailsOnce<OneByte<VecSink<L>>>;
+
+fn choices(row: &Row) -> Choices<'static> {
+    Counting {
+        source: FailsOnce::new(SliceSource::new(row.choices), row.failing.of_source()),
+        calls: 0,
+        ended: false,
+        asked_after_end: false,
+    }
+}
+
+fn taking<L: Ledger>(alloc: Global, blank: Blank, failing: u64) -> Taking<L>
+    requires name { blank.name ≡ L.name }
+    requires parts { blank.parts ≡ L.parts }
+    requires one { blank.parts ≡ 1 }
+{
+    let sink = VecSink::new(Vec::new(alloc), Failures::<L>::new(blank));
+    FailsOnce::new(OneByte { sink }, failing)
+}
+
+// Plays a row over these devices, or converts its choices: then nothing is recorded.
+fn ended<S: Source, O: Sink, P: Sink>(
+    alloc: Global,
+    row: &Row,
+    source: &mut S,
+    out: &mut O,
+    rec: &mut P,
+) -> End {
+    let mut machine = row.sample;
+    match row.way {
+        Way::Session => {
+            let mut devices = ThreeDevices { source, out, rec };
+            play(alloc, &mut machine, &row.options, &mut devices)
+        }
+        Way::Conversion => {
+            let mut devices = Conversion { source, out };
+            convert(alloc, &mut machine, &row.options, &mut devices)
+        }
+    }
+}
+
+// What these devices hold once a session has ended so.
+fn left_behind<K: Ledger, L: Ledger, R: Abort>(
+    rt: &R,
+    alloc: Global,
+    row: &Row,
+    source: &Choices<'_>,
+    out: &Taking<K>,
+    rec: &Taking<L>,
+    end: End,
+) -> Behind {
+    let left = source.source.device().left().len();
+    Behind {
+        out: Vec::from_slice(alloc, out.device().sink.bytes()).expect(rt, row.name),
+        rec: Vec::from_slice(alloc, rec.device().sink.bytes()).expect(rt, row.name),
+        read: row.choices.len().saturating_sub(left),
+        calls: source.calls,
+        asked_after_end: source.asked_after_end,
+        failed: source.source.has_failed() || out.has_failed() || rec.has_failed(),
+        end,
+    }
+}
+
+fn played_with<K: Ledger, L: Ledger, R: Abort>(
+    rt: &R,
+    alloc: Global,
+    first: Blank,
+    second: Blank,
+    row: &Row,
+) -> Behind
+    requires first_name { first.name ≡ K.name }
+    requires first_parts { first.parts ≡ K.parts }
+    requires first_one { first.parts ≡ 1 }
+    requires second_name { second.name ≡ L.name }
+    requires second_parts { second.parts ≡ L.parts }
+    requires second_one { second.parts ≡ 1 }
+{
+    let mut source = choices(row);
+    let mut out = taking::<K>(alloc, first, row.failing.of_out());
+    let mut rec = taking::<L>(alloc, second, row.failing.of_record());
+    let end = ended(alloc, row, &mut source, &mut out, &mut rec);
+    left_behind(rt, alloc, row, &source, &out, &rec, end)
+}
+
+/// Plays a row, or converts its choices.
+pub fn played<R: Abort>(rt: &R, alloc: Global, row: &Row) -> Behind {
+    played_with::<Brand, Brand, R>(rt, alloc, Blank::new(1), Blank::new(1), row)
+}
