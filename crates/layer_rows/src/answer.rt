@@ -1,36 +1,45 @@
 //! What a layer makes of a text, in words.
-use crate::layer::{Asked, View};
-use crate::tokens::{depth_or_count, fault_written, tokens_written};
+use crate::layer::View;
+use crate::tokens::{add_count, add_tokens};
 use crate::tree::of_tokens;
-use crate::words::words_read;
+use crate::words::add_words;
 use pml_inline::expand;
 use pml_inline::fault::InlineFault;
 use pml_lex::cut;
+use pml_lex::fault::LexFault;
 use pml_lex::token::Token;
-use row_files::Refused;
+use row_files::{Block, Writer};
 use std::alloc::Global;
 
-fn of_cut(alloc: Global, asked: Asked, tokens: &[Token<'_>]) -> Result<String, Refused> {
+fn of_inlines(alloc: Global, view: View, block: Block, tokens: &[Token<'_>], out: &mut Writer) {
     match expand(alloc, tokens) {
-        Ok(expanded) => of_tokens(alloc, asked, expanded.as_slice()),
-        Err(InlineFault::Memory) => Err(Refused::from("out of memory")),
-        Err(fault) => Ok(format!(in alloc; "{fault:?}")?),
+        Ok(expanded) => of_tokens(alloc, view, block, expanded.as_slice(), out),
+        Err(InlineFault::Memory) => out.no_memory(),
+        Err(fault) => out.kind(&fault),
     }
 }
 
-/// What a layer makes of a text, or the refusal of a layer below it.
-pub fn answer(alloc: Global, asked: Asked, text: &[u8]) -> Result<String, Refused> {
-    if asked.view == View::Words {
-        return words_read(alloc, text);
+fn of_cut<'a>(alloc: Global, view: View, block: Block, tokens: &'a [Token<'a>], out: &mut Writer) {
+    match view {
+        View::Tokens => add_tokens(tokens, out),
+        View::Count => add_count(tokens, out),
+        View::BareTree => of_tokens(alloc, view, block, tokens, out),
+        _ => of_inlines(alloc, view, block, tokens, out),
     }
-    let tokens = match cut(alloc, text) {
-        Ok(tokens) => tokens,
-        Err(fault) => return fault_written(alloc, fault),
-    };
-    match asked.view {
-        View::Tokens => tokens_written(alloc, tokens.as_slice()),
-        View::Count => depth_or_count(alloc, tokens.as_slice()),
-        View::BareTree => of_tokens(alloc, asked, tokens.as_slice()),
-        _ => of_cut(alloc, asked, tokens.as_slice()),
+}
+
+fn of_text(alloc: Global, view: View, block: Block, text: &[u8], out: &mut Writer) {
+    match cut(alloc, text) {
+        Ok(tokens) => of_cut(alloc, view, block, tokens.as_slice(), out),
+        Err(LexFault::Memory) => out.no_memory(),
+        Err(fault) => out.kind(&fault),
+    }
+}
+
+/// Writes what a layer makes of a text, or the refusal of a layer below it. The block says what is asked besides.
+pub fn answer(alloc: Global, view: View, block: Block, text: &[u8], out: &mut Writer) {
+    match view {
+        View::Words => add_words(alloc, text, out),
+        _ => of_text(alloc, view, block, text, out),
     }
 }

@@ -1,90 +1,99 @@
 //! A text, and what each of its beginnings gives. A block has the tokens of the text in its part `list`, one a line. In the part
 //! `beginnings` it has a line `LENGTH => WANTED` for each length, in order: a refusal, or how many of the tokens of the list the beginning has and
 //! the tokens behind them.
-use crate::answer::answer;
 use crate::bytes::bytes_of;
-use crate::layer::{Asked, Layer, View};
-use crate::place::{Found, Place};
+use crate::layer::TOKENS_WISH;
+use crate::place::Place;
 use crate::tally::Tally;
-use row_files::Refused;
-use std::alloc::Global;
+use row_files::{Pair, Writer, pairs};
+use std::alloc::{AllocError, Global};
 
-/// The first tokens of a list.
-fn first_tokens(alloc: Global, list: &'static str, count: usize) -> Result<String, Refused> {
-    let mut tokens = String::new(alloc);
-    for token in list.lines().take(count) {
-        if !tokens.is_empty() {
-            tokens.push(' ')?;
-        }
-        tokens.push_str(token)?;
+/// Writes a token behind others.
+fn add(out: &mut Writer, token: &str) {
+    if !out.is("") && !token.is_empty() {
+        out.word(" ");
     }
-    Ok(tokens)
+    out.word(token);
+}
+
+/// Writes the first tokens of a list.
+fn add_first(out: &mut Writer, list: &[Pair], count: usize) {
+    for token in list.iter().take(count) {
+        add(out, token.this);
+    }
 }
 
 /// The answer that a line wants: the first tokens of the list and its own.
-fn wanted_tokens(
-    alloc: Global,
-    list: &'static str,
-    wanted: &'static str,
-) -> Result<String, Refused> {
+fn wanted_tokens(alloc: Global, list: &[Pair], wanted: &str) -> Writer {
+    let mut out = Writer::new(alloc);
     let (number, own) = wanted.split_once(" ").unwrap_or((wanted, ""));
-    let Ok(count) = number.parse::<usize>() else {
-        return Ok(format!(in alloc; "{wanted}")?);
-    };
-    let first = first_tokens(alloc, list, count)?;
-    if first.is_empty() && own.is_empty() {
-        return Ok(format!(in alloc; "none")?);
+    match number.parse::<usize>() {
+        Ok(count) => {
+            add_first(&mut out, list, count);
+            add(&mut out, own);
+        }
+        Err(_) => out.word(wanted),
     }
-    if first.is_empty() || own.is_empty() {
-        return Ok(format!(in alloc; "{first}{own}")?);
+    if out.is("") {
+        out.word("none");
     }
-    Ok(format!(in alloc; "{first} {own}")?)
+    out
 }
 
 fn compare_beginning(
-    rt: &HostRuntime,
+    alloc: Global,
     place: Place,
     beginning: &[u8],
-    list: &'static str,
-    line: &'static str,
+    list: &[Pair],
+    line: Pair,
     tally: &mut Tally,
-) -> Result<(), Refused> {
-    let (length, wanted) = line.split_once(" => ").ok_or("a row has an arrow")?;
-    if length.parse::<usize>()? != beginning.len() {
-        return Err(Refused::from("a length that does not follow"));
+) {
+    if line.this.parse::<usize>().ok() != Some(beginning.len()) {
+        tally.refuse(place, "a length that does not follow");
     }
-    let wanted = wanted_tokens(rt.alloc(), list, wanted)?;
-    let asked = Asked {
-        view: View::Tokens,
-        block: place.block,
-    };
-    let came = answer(rt.alloc(), asked, beginning)?;
-    let found = Found {
-        layer: Layer::Tokens,
-        what: "tokens",
-        this: length,
-        wanted: wanted.as_str(),
-        came: came.as_str(),
-    };
-    place.judge(rt, found, tally)
+    let wanted = wanted_tokens(alloc, list, line.that);
+    place.compare(
+        alloc,
+        TOKENS_WISH,
+        line.this,
+        beginning,
+        wanted.text(),
+        tally,
+    );
+}
+
+/// Compares the beginnings of this text, one in each line.
+fn compare_lines(
+    alloc: Global,
+    place: Place,
+    text: &[u8],
+    list: &[Pair],
+    lines: &[Pair],
+    tally: &mut Tally,
+) {
+    if lines.len() != text.len().saturating_add(1) {
+        tally.refuse(place, "not a row for each beginning");
+    }
+    for (length, line) in lines.iter().enumerate() {
+        if let Some(beginning) = text.get(..length) {
+            compare_beginning(alloc, place, beginning, list, *line, tally);
+        }
+    }
 }
 
 /// Compares the beginnings of a block's text.
-pub fn compare_beginnings(
-    rt: &HostRuntime,
-    place: Place,
-    tally: &mut Tally,
-) -> Result<(), Refused> {
-    let bytes = bytes_of(rt.alloc(), place.block.part("text"))?;
-    let list = place.block.part("list");
-    let mut length = 0usize;
-    for line in place.block.part("beginnings").lines() {
-        let beginning = bytes.get(..length).ok_or("more lengths than the text has")?;
-        compare_beginning(rt, place, beginning, list, line, tally)?;
-        length = length.saturating_add(1);
+pub fn compare_beginnings(alloc: Global, place: Place, tally: &mut Tally) {
+    let list = pairs(alloc, place.block.part("list"));
+    let lines = pairs(alloc, place.block.part("beginnings"));
+    match (bytes_of(alloc, place.block.part("text")), list, lines) {
+        (Ok(text), Ok(list), Ok(lines)) => compare_lines(
+            alloc,
+            place,
+            text.as_slice(),
+            list,
+            lines,
+            tally,
+        ),
+        _ => tally.refuse(place, "a text that cannot be read"),
     }
-    if length != bytes.len().saturating_add(1) {
-        return Err(Refused::from("a beginning without a row"));
-    }
-    Ok(())
 }

@@ -1,58 +1,71 @@
 //! The bytes that a row writes: a grave accent and two hexadecimal digits are one byte.
-use row_files::Refused;
+use row_files::{Refused, Writer};
 use std::alloc::Global;
 
-const MARK: char = '`';
-
-fn digit_value(digit: u8) -> Result<u8, Refused> {
+fn digit_value(digit: u8) -> Option<u8> {
     match digit {
-        b'0'..=b'9' => Ok(digit.wrapping_sub(b'0')),
-        b'a'..=b'f' => Ok(digit.wrapping_sub(b'a').wrapping_add(10)),
-        _ => Err(Refused::from("a digit that is none")),
+        b'0'..=b'9' => Some(digit.wrapping_sub(b'0')),
+        b'a'..=b'f' => Some(digit.wrapping_sub(b'a').wrapping_add(10)),
+        _ => None,
     }
 }
 
-fn add_marked(part: &str, bytes: &mut Vec<u8>) -> Result<(), Refused> {
-    let [high, low, plain @ ..] = part.as_bytes() else {
-        return Err(Refused::from("a byte has two digits"));
-    };
-    let byte = digit_value(*high)?
-        .wrapping_mul(16)
-        .wrapping_add(digit_value(*low)?);
-    bytes.push(byte)?;
-    bytes.extend_from_slice(plain)?;
-    Ok(())
+/// What is read of a byte.
+#[derive(Clone, Copy)]
+enum Read {
+    /// All of it.
+    Whole(u8),
+    /// The grave accent.
+    Mark,
+    /// The value of its first digit.
+    First(u8),
+    /// A digit that is none.
+    Wrong,
+}
+
+impl Read {
+    /// What is read with a sign more.
+    fn with(self, sign: u8) -> Read {
+        match (self, digit_value(sign)) {
+            (Read::Whole(_), _) if sign == b'`' => Read::Mark,
+            (Read::Whole(_), _) => Read::Whole(sign),
+            (Read::Mark, Some(digit)) => Read::First(digit),
+            (Read::First(first), Some(digit)) => Read::Whole(
+                first.wrapping_mul(16).wrapping_add(digit),
+            ),
+            _ => Read::Wrong,
+        }
+    }
 }
 
 /// The bytes that are written so.
 pub fn bytes_of(alloc: Global, written: &str) -> Result<Vec<u8>, Refused> {
     let mut bytes = Vec::new(alloc);
-    let mut parts = written.split(MARK);
-    if let Some(plain) = parts.next() {
-        bytes.extend_from_slice(plain.as_bytes())?;
+    let mut read = Read::Whole(0);
+    for sign in written.as_bytes() {
+        read = read.with(*sign);
+        if let Read::Whole(byte) = read {
+            bytes.push(byte)?;
+        }
     }
-    for part in parts {
-        add_marked(part, &mut bytes)?;
+    match read {
+        Read::Whole(_) => Ok(bytes),
+        _ => Err(Refused::from("a byte has two digits")),
     }
-    Ok(bytes)
 }
 
-/// Adds a number of times what stands behind that number.
-fn add_repeated(alloc: Global, part: &str, text: &mut Vec<u8>) -> Result<(), Refused> {
-    let (count, written) = part.split_once(" ").ok_or("a part has a number")?;
-    let count: usize = count.parse()?;
-    let bytes = bytes_of(alloc, written)?;
-    for _ in 0..count {
-        text.extend_from_slice(bytes.as_slice())?;
+/// Writes a number of times what stands behind that number.
+fn add_repeated(part: &str, out: &mut Writer) {
+    let (count, piece) = part.split_once(" ").unwrap_or((part, ""));
+    match count.parse::<usize>() {
+        Ok(count) => out.repeated(piece, count),
+        Err(_) => out.refuse("a part has a number"),
     }
-    Ok(())
 }
 
-/// The bytes that are written as parts with `|` between them, each a number and what stands there that many times.
-pub fn joined_parts(alloc: Global, parts: &str) -> Result<Vec<u8>, Refused> {
-    let mut text = Vec::new(alloc);
+/// Writes the parts with `|` between them, each a number and what stands there that many times.
+pub fn add_parts(parts: &str, out: &mut Writer) {
     for part in parts.split("|") {
-        add_repeated(alloc, part, &mut text)?;
+        add_repeated(part, out);
     }
-    Ok(text)
 }

@@ -3,51 +3,41 @@
 //!
 //! A condition comes to its value, another statement to `ok`, or either to a fault. The state behind them is its numbers and the messages of
 //! each channel, with ` / ` between the two, and a dash for none.
-use crate::layer::{Asked, View};
-use crate::lines::write;
-use crate::values::{add_dash, add_numbers, fault_of, outcome};
-use diagnostics::{Fault, Stop};
+use crate::layer::ModelView;
+use crate::lines::write_all;
+use crate::numbers::number;
+use crate::values::{add_dash, add_numbers, add_outcome, add_stop};
+use diagnostics::Stop;
 use pml_channel::channel::Channel;
 use pml_eval::eval::eval;
 use pml_lex::token::Token;
 use pml_printed::named;
 use pml_printed::string::printed;
 use pml_program::expr::Expr;
-use pml_program::program::{Action, Basic, Program};
+use pml_program::program::{Action, Basic, Program, Stmt};
 use pml_start::started::Started;
-use pml_store::store::Store;
 use pml_value::live_channel::LiveChannel;
 use pml_value::message::{Taker, assert, receive, send, values};
 use pml_value::statement::take;
 use pml_value::view::View as Seen;
 use profile::MOST_FIELDS;
-use row_files::{Block, Refused, Writer};
+use row_files::{Block, Writer};
 use std::alloc::Global;
 
-const ALONE: Taker = Taker {
-    pid: 0,
-    process_count: 1,
-    timeout: false,
-};
+/// A number of processes.
+fn count(text: &str, out: &mut Writer) -> u8 {
+    u8::try_from(number(text, out)).unwrap_or(u8::MAX)
+}
 
-/// Who takes the statements.
-fn taker_of(block: Block) -> Result<Taker, Refused> {
-    let Some(text) = block.behind("process") else {
-        return Ok(ALONE);
-    };
-    let (pid, rest) = text
-        .split_once(" of ")
-        .ok_or("a process is one of so many")?;
-    let (count, timeout) = match rest.split_once(" ") {
-        Some((count, "timeout")) => (count, true),
-        Some(_) => return Err(Refused::from("a word that is none of a process")),
-        None => (rest, false),
-    };
-    Ok(Taker {
-        pid: pid.parse()?,
-        process_count: count.parse()?,
-        timeout,
-    })
+/// Who takes the statements, as these words say.
+fn taker_of(words: &str, out: &mut Writer) -> Taker {
+    let (pid, rest) = words.split_once(" of ").unwrap_or((words, ""));
+    let (process_count, timeout) = rest.split_once(" ").unwrap_or((rest, ""));
+    Taker {
+        pid: count(pid, out),
+        process_count: count(process_count, out),
+        timeout: timeout == "timeout",
+    }
 }
 
 /// What a process reads.
@@ -61,37 +51,19 @@ fn seen<'w>(started: &'w Started, taker: Taker) -> Seen<'w> {
     }
 }
 
-/// The values of expressions, of no more than a message may have fields.
-fn numbers_of(
-    alloc: Global,
-    expressions: &[Expr],
-    view: &Seen<'_>,
-) -> Result<Result<Vec<i32>, Fault>, Refused> {
-    if expressions.len() > MOST_FIELDS {
-        return Err(Refused::from("too many values"));
-    }
-    match values(expressions, view) {
-        Ok(fields) => Ok(Ok(Vec::from_slice(alloc, fields.as_slice())?)),
-        Err(fault) => Ok(Err(fault)),
-    }
-}
-
-/// Prints a string with its values.
+/// Prints a string with its values, of no more than a message may have fields.
 fn print(
-    alloc: Global,
     constants: &[Token<'_>],
     string: &Token<'_>,
     arguments: &[Expr],
     view: &Seen<'_>,
     text: &mut Vec<u8>,
-) -> Result<Result<(), Stop>, Refused> {
-    match numbers_of(alloc, arguments, view)? {
-        Ok(numbers) => {
-            printed(constants, string.text(), numbers.as_slice(), text)?;
-            Ok(Ok(()))
-        }
-        Err(fault) => Ok(Err(Stop::Fault(fault))),
+) -> Result<(), Stop> {
+    if arguments.len() > MOST_FIELDS {
+        return Err(Stop::Memory);
     }
+    let numbers = values(arguments, view).map_err(Stop::Fault)?;
+    printed(constants, string.text(), numbers.as_slice(), text).map_err(|_| Stop::Memory)
 }
 
 /// Prints a number by its name.
@@ -100,14 +72,9 @@ fn print_name(
     value: &Expr,
     view: &Seen<'_>,
     text: &mut Vec<u8>,
-) -> Result<Result<(), Stop>, Refused> {
-    match eval(value, view) {
-        Ok(number) => {
-            named(constants, number, text)?;
-            Ok(Ok(()))
-        }
-        Err(fault) => Ok(Err(Stop::Fault(fault))),
-    }
+) -> Result<(), Stop> {
+    let number = eval(value, view).map_err(Stop::Fault)?;
+    named(constants, number, text).map_err(|_| Stop::Memory)
 }
 
 /// Takes a statement that stores or sends.
@@ -138,59 +105,55 @@ fn stored(started: &mut Started, taker: Taker, action: &Action<'_>) -> Result<()
     }
 }
 
-/// What a condition is worth.
-fn worth(alloc: Global, value: &Expr, view: &Seen<'_>) -> Result<String, Refused> {
+/// Writes what a condition is worth.
+fn add_worth(value: &Expr, view: &Seen<'_>, out: &mut Writer) {
     match eval(value, view) {
-        Ok(number) => Ok(format!(in alloc; "{number}")?),
-        Err(fault) => fault_of(alloc, Stop::Fault(fault)),
+        Ok(number) => out.signed(number),
+        Err(fault) => add_stop(Stop::Fault(fault), out),
     }
 }
 
-/// What a statement comes to; what it prints is added to the text.
-fn result_of(
-    alloc: Global,
+/// Writes what a statement comes to. What it prints is added to the text.
+fn add_result(
     constants: &[Token<'_>],
     started: &mut Started,
     taker: Taker,
     action: &Action<'_>,
     text: &mut Vec<u8>,
-) -> Result<String, Refused> {
+    out: &mut Writer,
+) {
     let ended = match action {
-        Action::Holds(value) => return worth(alloc, value, &seen(started, taker)),
+        Action::Holds(value) => return add_worth(value, &seen(started, taker), out),
         Action::Assert(value) => assert(value, &seen(started, taker)).map_err(Stop::Fault),
         Action::Printf(string, arguments) => {
             let view = seen(started, taker);
-            print(alloc, constants, string, arguments.as_slice(), &view, text)?
+            print(constants, string, arguments.as_slice(), &view, text)
         }
-        Action::Printm(value) => print_name(constants, value, &seen(started, taker), text)?,
+        Action::Printm(value) => print_name(constants, value, &seen(started, taker), text),
         Action::Else | Action::Run(_) | Action::AssignRun(_, _) => {
-            return Err(Refused::from("a statement that needs more than values"));
+            return out.refuse("a statement that needs more than values");
         }
         _ => stored(started, taker, action),
     };
-    outcome(alloc, ended)
+    add_outcome(ended, out);
 }
 
-/// What the statements come to.
-fn results(
-    alloc: Global,
-    program: &Program<'_>,
+/// Writes what statements come to.
+fn add_results(
+    constants: &[Token<'_>],
+    steps: &[Stmt<'_>],
     started: &mut Started,
     taker: Taker,
     text: &mut Vec<u8>,
-) -> Result<String, Refused> {
-    let proctype = program.proctypes.as_slice().first().ok_or("no proctype")?;
-    let constants = program.constants.as_slice();
-    let mut out = Writer::new(alloc);
-    for stmt in proctype.body.steps.as_slice() {
-        let Basic::Plain(action) = &stmt.basic else {
-            return Err(Refused::from("a statement that gives structure"));
-        };
-        let result = result_of(alloc, constants, started, taker, action, text)?;
+    out: &mut Writer,
+) {
+    for stmt in steps {
         out.space();
-        out.word(result.as_str());
+        match &stmt.basic {
+            Basic::Plain(action) => add_result(constants, started, taker, action, text, out),
+            _ => out.refuse("a statement that gives structure"),
+        }
     }
-    Ok(out.finish()?)
 }
 
 /// Writes the messages of a channel.
@@ -206,21 +169,18 @@ fn add_messages(out: &mut Writer, channel: &Channel) {
     }
 }
 
-/// The numbers, and the messages of each channel.
-fn state(alloc: Global, started: &Started) -> Result<String, Refused> {
-    let mut out = Writer::new(alloc);
-    add_numbers(&mut out, started.store.cells().as_slice());
+/// Writes the numbers, and the messages of each channel.
+fn add_state(out: &mut Writer, cells: &[i32], channels: &[LiveChannel]) {
+    add_numbers(out, cells);
     out.word(" / ");
-    for live in &started.channels {
-        add_messages(&mut out, &live.channel);
+    for live in channels {
+        add_messages(out, &live.channel);
     }
-    add_dash(&mut out, started.channels.is_empty());
-    Ok(out.finish()?)
+    add_dash(out, channels.is_empty());
 }
 
-/// Bytes as rows write them: a grave accent and two hexadecimal digits for one that is no printable sign.
-fn bytes_written(alloc: Global, bytes: &[u8]) -> Result<String, Refused> {
-    let mut out = Writer::new(alloc);
+/// Writes bytes as rows do: a grave accent and two hexadecimal digits for one that is no printable sign.
+fn add_bytes(bytes: &[u8], out: &mut Writer) {
     for byte in bytes {
         if *byte < b' ' || *byte > b'~' || *byte == b'`' {
             out.digits(*byte);
@@ -228,55 +188,52 @@ fn bytes_written(alloc: Global, bytes: &[u8]) -> Result<String, Refused> {
             out.byte(*byte);
         }
     }
-    Ok(out.finish()?)
 }
 
-/// Stores the numbers of the part `writes`.
-fn write_all(alloc: Global, block: Block, store: &mut Store) -> Result<(), Refused> {
-    for line in block.part("writes").lines() {
-        write(alloc, store, line)?;
+/// Takes the statements of the first proctype, writes what they come to, and answers what they print.
+fn take_all(
+    alloc: Global,
+    program: &Program<'_>,
+    started: &mut Started,
+    taker: Taker,
+    out: &mut Writer,
+) -> Vec<u8> {
+    let mut text = Vec::new(alloc);
+    match program.proctypes.as_slice() {
+        [] => out.refuse("no proctype"),
+        [first, ..] => add_results(
+            program.constants.as_slice(),
+            first.body.steps.as_slice(),
+            started,
+            taker,
+            &mut text,
+            out,
+        ),
     }
-    Ok(())
+    text
 }
 
-/// What the statements print, once they were taken.
-fn printing(
+/// Writes what the statements of the first proctype come to, what they print, or the state behind them.
+pub fn add_done(
     alloc: Global,
+    view: ModelView,
+    block: Block,
     program: &Program<'_>,
     started: &mut Started,
-    taker: Taker,
-) -> Result<String, Refused> {
-    let mut text = Vec::new(alloc);
-    results(alloc, program, started, taker, &mut text)?;
-    bytes_written(alloc, text.as_slice())
-}
-
-/// What the statements come to.
-fn coming(
-    alloc: Global,
-    program: &Program<'_>,
-    started: &mut Started,
-    taker: Taker,
-) -> Result<String, Refused> {
-    let mut text = Vec::new(alloc);
-    results(alloc, program, started, taker, &mut text)
-}
-
-/// What the statements of the first proctype come to, what they print, or the state behind them.
-pub fn done(
-    alloc: Global,
-    asked: Asked,
-    program: &Program<'_>,
-    started: &mut Started,
-) -> Result<String, Refused> {
-    let taker = taker_of(asked.block)?;
-    write_all(alloc, asked.block, &mut started.store)?;
-    match asked.view {
-        View::Results => coming(alloc, program, started, taker),
-        View::Printed => printing(alloc, program, started, taker),
-        _ => {
-            coming(alloc, program, started, taker)?;
-            state(alloc, started)
-        }
+    out: &mut Writer,
+) {
+    let taker = taker_of(block.behind("process").unwrap_or("0 of 1"), out);
+    write_all(alloc, block, &mut started.store, out);
+    let mut results = Writer::new(alloc);
+    let text = take_all(alloc, program, started, taker, &mut results);
+    match (view, results.refused()) {
+        (_, Some(why)) => out.refuse(why),
+        (ModelView::Results, None) => out.word(results.text()),
+        (ModelView::Printed, None) => add_bytes(text.as_slice(), out),
+        _ => add_state(
+            out,
+            started.store.cells().as_slice(),
+            started.channels.as_slice(),
+        ),
     }
 }

@@ -4,50 +4,43 @@ use crate::pairs::compare_signs;
 use crate::place::Place;
 use crate::rows::{WORDS, compare_rows};
 use crate::tally::Tally;
-use row_files::{Refused, blocks, names, text_of};
+use row_files::{Block, blocks, text_of};
+use std::alloc::Global;
 
-fn compare_block(rt: &HostRuntime, place: Place, tally: &mut Tally) -> Result<(), Refused> {
+fn compare_block(alloc: Global, place: Place, tally: &mut Tally) {
     if place.block.has("signs") {
-        return compare_signs(rt, place, tally);
+        compare_signs(alloc, place, tally);
+    } else if place.block.has("beginnings") {
+        compare_beginnings(alloc, place, tally);
+    } else {
+        compare_rows(alloc, place, tally);
     }
-    if place.block.has("beginnings") {
-        return compare_beginnings(rt, place, tally);
-    }
-    compare_rows(rt, place, tally)
 }
 
-fn compare_text(
-    rt: &HostRuntime,
-    file: &'static str,
-    text: &'static str,
-    tally: &mut Tally,
-) -> Result<(), Refused> {
-    for block in &blocks(rt.alloc(), text, &WORDS)? {
-        let place = Place {
-            file,
-            block: *block,
-        };
-        if let Err(refused) = compare_block(rt, place, tally) {
-            place.refuse(rt, refused.why, tally)?;
-        }
+fn compare_blocks(alloc: Global, file: &'static str, blocks: &[Block], tally: &mut Tally) {
+    for block in blocks {
+        let block = *block;
+        compare_block(alloc, Place { file, block }, tally);
     }
-    Ok(())
 }
 
-fn compare_file(rt: &HostRuntime, file: &'static str, tally: &mut Tally) -> Result<(), Refused> {
-    let text = text_of(rt, file)?;
-    if let Err(refused) = compare_text(rt, file, text, tally) {
-        tally.fail();
-        eprintln!(rt; "{file}:{}: {}", refused.line, refused.why)?;
+fn compare_text(alloc: Global, file: &'static str, text: &'static str, tally: &mut Tally) {
+    match blocks(alloc, text, &WORDS) {
+        Ok(blocks) => compare_blocks(alloc, file, blocks.as_slice(), tally),
+        Err(refused) => tally.refuse_file(file, refused.line, refused.why),
     }
-    Ok(())
 }
 
-/// Compares the rows of all files that the words name, and prints how many passed. Answers whether all did.
-pub fn compare_files(rt: &HostRuntime) -> Result<bool, Refused> {
-    let mut tally = Tally::new(rt.alloc());
-    for name in &names(rt)? {
-        compare_file(rt, *name, &mut tally)?;
+fn compare_file(rt: &HostRuntime, file: &'static str, tally: &mut Tally) {
+    match text_of(rt, file) {
+        Ok(text) => compare_text(rt.alloc(), file, text, tally),
+        Err(refused) => tally.refuse_file(file, refused.line, refused.why),
     }
-    tally.print(rt)
+}
+
+/// Compares the rows of these files.
+pub fn compare_files(rt: &HostRuntime, files: &[&'static str], tally: &mut Tally) {
+    for file in files {
+        compare_file(rt, file, tally);
+    }
 }

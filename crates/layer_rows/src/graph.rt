@@ -9,13 +9,13 @@
 //!
 //! What is known of nodes besides is a line for each: its line in the text, `end` where it is a valid end point, and `atomic N`
 //! where it lies in an atomic, N being the first node with the same outermost one.
-use crate::layer::View;
+use crate::layer::GraphView;
 use pml_flow::edge::Edge;
 use pml_flow::graph::Graph;
 use pml_flow::statements::{Statements, all_statements};
 use pml_lex::token::Token;
 use pml_program::program::{Basic, Seq, Stmt};
-use row_files::{Refused, Writer};
+use row_files::Writer;
 use std::alloc::{AllocError, Global};
 
 fn add_tokens(out: &mut Writer, tokens: &[Token<'_>]) {
@@ -34,13 +34,8 @@ fn add_statement(out: &mut Writer, stmt: &Stmt<'_>) {
     }
 }
 
-fn add_edge(out: &mut Writer, statements: &Statements<'_, '_>, level: usize, edge: Edge) {
-    out.word(" ");
-    out.number(level);
-    out.word(" [");
-    if let Some(stmt) = statements.get(edge.statement) {
-        add_statement(out, stmt);
-    }
+/// Writes where an edge leads.
+fn add_target(out: &mut Writer, edge: Edge) {
     out.word("] ");
     out.number(edge.target);
     if edge.keeps {
@@ -54,6 +49,16 @@ fn add_edge(out: &mut Writer, statements: &Statements<'_, '_>, level: usize, edg
         out.number(entry);
     }
     out.word(";");
+}
+
+fn add_edge(out: &mut Writer, statements: &Statements<'_, '_>, level: usize, edge: Edge) {
+    out.word(" ");
+    out.number(level);
+    out.word(" [");
+    if let Some(stmt) = statements.get(edge.statement) {
+        add_statement(out, stmt);
+    }
+    add_target(out, edge);
 }
 
 fn add_level(out: &mut Writer, statements: &Statements<'_, '_>, level: usize, edges: &[Edge]) {
@@ -74,16 +79,20 @@ fn add_node(out: &mut Writer, statements: &Statements<'_, '_>, graph: &Graph, no
     out.word("\n");
 }
 
-fn shown_edges(alloc: Global, body: &Seq<'_>, graph: &Graph) -> Result<String, AllocError> {
-    let mut out = Writer::new(alloc);
-    let statements = all_statements(alloc, body)?;
+fn add_nodes(out: &mut Writer, statements: &Statements<'_, '_>, graph: &Graph) {
     out.word("start ");
     out.number(graph.start());
     out.word("\n");
     for node in 0..graph.node_count() {
-        add_node(&mut out, &statements, graph, node);
+        add_node(out, statements, graph, node);
     }
-    out.finish()
+}
+
+fn add_edges(alloc: Global, out: &mut Writer, body: &Seq<'_>, graph: &Graph) {
+    match all_statements(alloc, body) {
+        Ok(statements) => add_nodes(out, &statements, graph),
+        Err(AllocError) => out.no_memory(),
+    }
 }
 
 fn add_levels(out: &mut Writer, graph: &Graph, node: usize) {
@@ -102,12 +111,10 @@ fn add_levels(out: &mut Writer, graph: &Graph, node: usize) {
     out.word("\n");
 }
 
-fn shown_levels(alloc: Global, graph: &Graph) -> Result<String, AllocError> {
-    let mut out = Writer::new(alloc);
+fn add_all_levels(out: &mut Writer, graph: &Graph) {
     for node in 0..graph.node_count() {
-        add_levels(&mut out, graph, node);
+        add_levels(out, graph, node);
     }
-    out.finish()
 }
 
 fn add_texts(out: &mut Writer, graph: &Graph, edges: &[Edge]) {
@@ -130,12 +137,10 @@ fn add_node_texts(out: &mut Writer, graph: &Graph, node: usize) {
     out.word("\n");
 }
 
-fn shown_texts(alloc: Global, graph: &Graph) -> Result<String, AllocError> {
-    let mut out = Writer::new(alloc);
+fn add_all_texts(out: &mut Writer, graph: &Graph) {
     for node in 0..graph.node_count() {
-        add_node_texts(&mut out, graph, node);
+        add_node_texts(out, graph, node);
     }
-    out.finish()
 }
 
 fn first_alike(graph: &Graph, atomic: Option<usize>) -> usize {
@@ -147,30 +152,35 @@ fn first_alike(graph: &Graph, atomic: Option<usize>) -> usize {
     0
 }
 
-fn shown_marks(alloc: Global, graph: &Graph) -> Result<String, AllocError> {
-    let mut out = Writer::new(alloc);
-    for node in 0..graph.node_count() {
-        out.number(node);
-        out.word(": line ");
-        out.count(graph.line(node));
-        if graph.is_valid_end(node) {
-            out.word(" end");
-        }
-        if graph.atomic(node).is_some() {
-            out.word(" atomic ");
-            out.number(first_alike(graph, graph.atomic(node)));
-        }
-        out.word("\n");
+fn add_marks(out: &mut Writer, graph: &Graph, node: usize) {
+    if node >= graph.node_count() {
+        return;
     }
-    out.finish()
+    out.number(node);
+    out.word(": line ");
+    out.count(graph.line(node));
+    if graph.is_valid_end(node) {
+        out.word(" end");
+    }
+    if graph.atomic(node).is_some() {
+        out.word(" atomic ");
+        out.number(first_alike(graph, graph.atomic(node)));
+    }
+    out.word("\n");
 }
 
-/// What is asked of the graph of a body.
-pub fn shown(alloc: Global, view: View, body: &Seq<'_>, graph: &Graph) -> Result<String, Refused> {
+fn add_all_marks(out: &mut Writer, graph: &Graph) {
+    for node in 0..graph.node_count() {
+        add_marks(out, graph, node);
+    }
+}
+
+/// Writes what is asked of the graph of a body.
+pub fn add_graph(alloc: Global, view: GraphView, body: &Seq<'_>, graph: &Graph, out: &mut Writer) {
     match view {
-        View::Levels => Ok(shown_levels(alloc, graph)?),
-        View::Texts => Ok(shown_texts(alloc, graph)?),
-        View::Marks => Ok(shown_marks(alloc, graph)?),
-        _ => Ok(shown_edges(alloc, body, graph)?),
+        GraphView::Levels => add_all_levels(out, graph),
+        GraphView::Texts => add_all_texts(out, graph),
+        GraphView::Marks => add_all_marks(out, graph),
+        _ => add_edges(alloc, out, body, graph),
     }
 }

@@ -1,76 +1,72 @@
 //! The layers, and what rows ask of them.
-use row_files::Block;
 
-/// A layer.
-#[derive(Clone, Copy, PartialEq, Eq)]
-pub enum Layer {
-    Tokens,
-    Grammar,
-    Conditions,
-    Names,
-    Graphs,
-    Values,
-    Lines,
-    Words,
-}
+const TOKENS: &str = "tokens";
+
+const GRAMMAR: &str = "grammar";
+
+const CONDITIONS: &str = "conditions";
+
+const NAMES: &str = "names";
+
+const GRAPHS: &str = "graphs";
+
+const VALUES: &str = "values";
+
+const VALUE_LINES: &str = "value lines";
+
+const COMMAND_LINES: &str = "command lines";
 
 /// The layers.
-pub const LAYERS: [Layer; 8] = [
-    Layer::Tokens,
-    Layer::Grammar,
-    Layer::Conditions,
-    Layer::Names,
-    Layer::Graphs,
-    Layer::Values,
-    Layer::Lines,
-    Layer::Words,
+pub static LAYERS: [&str; 8] = [
+    TOKENS,
+    GRAMMAR,
+    CONDITIONS,
+    NAMES,
+    GRAPHS,
+    VALUES,
+    VALUE_LINES,
+    COMMAND_LINES,
 ];
 
-impl Layer {
-    /// What a layer is called.
-    pub fn name(self) -> &'static str {
-        match self {
-            Layer::Tokens => "tokens",
-            Layer::Grammar => "grammar",
-            Layer::Conditions => "conditions",
-            Layer::Names => "names",
-            Layer::Graphs => "graphs",
-            Layer::Values => "values",
-            Layer::Lines => "value lines",
-            Layer::Words => "command lines",
-        }
-    }
-}
-
 /// What is asked of a text.
-#[derive(Clone, Copy, PartialEq, Eq)]
+#[derive(Clone, Copy)]
 pub enum View {
     /// Its tokens.
     Tokens,
     /// How many tokens it has.
     Count,
-    /// Whether it has a tree.
-    Tree,
     /// Whether its tokens have a tree before inlines are replaced in them.
     BareTree,
+    /// Whether it has a tree.
+    Tree,
     /// The expressions that are statements of its tree.
     Expressions,
-    /// The least condition on names and places that refuses its tree.
-    Condition,
+    /// Something of its tree with the names replaced.
+    Names(NamesView),
+    /// Something of the checked model that it is.
+    Model(ModelView),
+    /// What is read of it as a command line.
+    Words,
+}
+
+/// What is asked of a tree with its names replaced.
+#[derive(Clone, Copy)]
+pub enum NamesView {
     /// What is found in the control of its first proctype.
     Control,
-    /// The model with its names replaced.
+    /// All of it.
     Model,
-    /// The texts of the statements of that model.
+    /// The texts of its statements.
     Statements,
-    /// The control graph of its first proctype.
-    Graph,
-    /// How many offers each level of a node has.
-    Levels,
-    /// The texts of the offers of each node.
-    Texts,
-    /// The lines, ends and atomics of the nodes.
-    Marks,
+}
+
+/// What is asked of a checked model.
+#[derive(Clone, Copy)]
+pub enum ModelView {
+    /// The least condition that refuses it, if one does.
+    Condition,
+    /// Something of the control graph of its first proctype.
+    Graph(GraphView),
     /// What it begins with.
     FirstState,
     /// What there is once a process is created beside a global.
@@ -81,90 +77,156 @@ pub enum View {
     Printed,
     /// What variables and channels hold behind them.
     StateBehind,
-    /// The lines of the places that changed from the cells before to those after.
-    Values,
-    /// Those of locals alone.
-    LocalValues,
-    /// The lines of the places that writes changed.
-    LoggedValues,
-    /// What is read of it as a command line.
-    Words,
+    /// The lines of the places that changed.
+    Lines(LinesView),
 }
 
-/// All that is asked.
-pub const VIEWS: [View; 22] = [
-    View::Tokens,
-    View::Count,
-    View::Tree,
-    View::BareTree,
-    View::Expressions,
-    View::Condition,
-    View::Control,
-    View::Model,
-    View::Statements,
-    View::Graph,
-    View::Levels,
-    View::Texts,
-    View::Marks,
-    View::FirstState,
-    View::Created,
-    View::Results,
-    View::Printed,
-    View::StateBehind,
-    View::Values,
-    View::LocalValues,
-    View::LoggedValues,
-    View::Words,
-];
-
-impl View {
-    /// The word of the part of a row that wants it.
-    pub fn word(self) -> &'static str {
-        match self {
-            View::Tokens => "tokens",
-            View::Count => "count",
-            View::Tree => "parsed",
-            View::BareTree => "parsed-as-cut",
-            View::Expressions => "expressions",
-            View::Condition => "condition",
-            View::Control => "control",
-            View::Model => "model",
-            View::Statements => "statements",
-            View::Graph => "graph",
-            View::Levels => "levels",
-            View::Texts => "texts",
-            View::Marks => "marks",
-            View::FirstState => "first-state",
-            View::Created => "created",
-            View::Results => "results",
-            View::Printed => "printed",
-            View::StateBehind => "state-behind",
-            View::Values => "values",
-            View::LocalValues => "local-values",
-            View::LoggedValues => "logged-values",
-            View::Words => "words",
-        }
-    }
-
-    /// The layer that is asked.
-    pub fn layer(self) -> Layer {
-        match self {
-            View::Tokens | View::Count => Layer::Tokens,
-            View::Tree | View::BareTree | View::Expressions => Layer::Grammar,
-            View::Condition | View::Control => Layer::Conditions,
-            View::Model | View::Statements => Layer::Names,
-            View::Graph | View::Levels | View::Texts | View::Marks => Layer::Graphs,
-            View::FirstState | View::Created | View::Results | View::Printed | View::StateBehind =>
-                Layer::Values,
-            View::Values | View::LocalValues | View::LoggedValues => Layer::Lines,
-            View::Words => Layer::Words,
-        }
-    }
-}
-
-/// What is asked of a text, and the block that asks.
+/// What is asked of a control graph.
 #[derive(Clone, Copy)]
-pub struct Asked {
-    pub view: View,
-    pub block: Block,
+pub enum GraphView {
+    /// Its edges.
+    Edges,
+    /// How many offers each level of a node has.
+    Levels,
+    /// The texts of the offers of each node.
+    Texts,
+    /// The lines, ends and atomics of the nodes.
+    Marks,
 }
+
+/// Of what the lines are asked.
+#[derive(Clone, Copy)]
+pub enum LinesView {
+    /// From the cells before to those after.
+    Cells,
+    /// Of those the locals alone.
+    Locals,
+    /// Of what writes changed.
+    Writes,
+}
+
+/// A word of a part that says what is wanted.
+#[derive(Clone, Copy)]
+pub struct Wish {
+    pub word: &'static str,
+    /// The layer that is asked.
+    pub layer: &'static str,
+    pub view: View,
+}
+
+/// What signs and beginnings of texts want.
+pub const TOKENS_WISH: Wish = Wish {
+    word: "tokens",
+    layer: TOKENS,
+    view: View::Tokens,
+};
+
+/// All words that say what is wanted.
+pub static WISHES: [Wish; 22] = [
+    TOKENS_WISH,
+    Wish {
+        word: "count",
+        layer: TOKENS,
+        view: View::Count,
+    },
+    Wish {
+        word: "parsed",
+        layer: GRAMMAR,
+        view: View::Tree,
+    },
+    Wish {
+        word: "parsed-as-cut",
+        layer: GRAMMAR,
+        view: View::BareTree,
+    },
+    Wish {
+        word: "expressions",
+        layer: GRAMMAR,
+        view: View::Expressions,
+    },
+    Wish {
+        word: "condition",
+        layer: CONDITIONS,
+        view: View::Model(ModelView::Condition),
+    },
+    Wish {
+        word: "control",
+        layer: CONDITIONS,
+        view: View::Names(NamesView::Control),
+    },
+    Wish {
+        word: "model",
+        layer: NAMES,
+        view: View::Names(NamesView::Model),
+    },
+    Wish {
+        word: "statements",
+        layer: NAMES,
+        view: View::Names(NamesView::Statements),
+    },
+    Wish {
+        word: "graph",
+        layer: GRAPHS,
+        view: View::Model(ModelView::Graph(GraphView::Edges)),
+    },
+    Wish {
+        word: "levels",
+        layer: GRAPHS,
+        view: View::Model(ModelView::Graph(GraphView::Levels)),
+    },
+    Wish {
+        word: "texts",
+        layer: GRAPHS,
+        view: View::Model(ModelView::Graph(GraphView::Texts)),
+    },
+    Wish {
+        word: "marks",
+        layer: GRAPHS,
+        view: View::Model(ModelView::Graph(GraphView::Marks)),
+    },
+    Wish {
+        word: "first-state",
+        layer: VALUES,
+        view: View::Model(ModelView::FirstState),
+    },
+    Wish {
+        word: "created",
+        layer: VALUES,
+        view: View::Model(ModelView::Created),
+    },
+    Wish {
+        word: "results",
+        layer: VALUES,
+        view: View::Model(ModelView::Results),
+    },
+    Wish {
+        word: "printed",
+        layer: VALUES,
+        view: View::Model(ModelView::Printed),
+    },
+    Wish {
+        word: "state-behind",
+        layer: VALUES,
+        view: View::Model(ModelView::StateBehind),
+    },
+    Wish {
+        word: "values",
+        layer: VALUE_LINES,
+        view: View::Model(ModelView::Lines(LinesView::Cells)),
+    },
+    Wish {
+        word: "local-values",
+        layer: VALUE_LINES,
+        view: View::Model(ModelView::Lines(LinesView::Locals)),
+    },
+    Wish {
+        word: "logged-values",
+        layer: VALUE_LINES,
+        view: View::Model(ModelView::Lines(LinesView::Writes)),
+    },
+    Wish {
+        word: "words",
+        layer: COMMAND_LINES,
+        view: View::Words,
+    },
+];

@@ -1,13 +1,14 @@
 //! The lines of the places whose numbers changed: from the cells `before` to those `after`, each in the order of their places, or in the
 //! log of a store with these `writes`, each a line `FRAME VARIABLE CELL => NUMBER`. The `processes` are known by the numbers of their
 //! proctypes.
-use crate::layer::{Asked, View};
+use crate::layer::LinesView;
+use crate::numbers::{cells, indices, number};
 use pml_lines::change::{Wanted, logged_lines, value_lines};
 use pml_lines::tables::Tables;
 use pml_program::program::Program;
 use pml_store::place::Place;
 use pml_store::store::Store;
-use row_files::{Block, Refused};
+use row_files::{Block, Pair, Writer, pairs};
 use std::alloc::{AllocError, Global};
 
 const ALL: Wanted = Wanted {
@@ -20,50 +21,22 @@ const LOCALS: Wanted = Wanted {
     locals: true,
 };
 
-/// The numbers that a text has, with a blank between them.
-fn indices(alloc: Global, text: &str) -> Result<Vec<usize>, Refused> {
-    let mut indices = Vec::new(alloc);
-    for word in text.split(' ') {
-        if indices.push(word.parse::<usize>()?).is_err() {
-            return Err(Refused::from("out of memory"));
-        }
-    }
-    Ok(indices)
-}
-
-/// The numbers that a part has, with a blank between them.
-pub fn cells(alloc: Global, text: Option<&str>) -> Result<Vec<i32>, Refused> {
-    let mut cells = Vec::new(alloc);
-    let Some(text) = text else {
-        return Ok(cells);
-    };
-    for word in text.split(' ') {
-        if cells.push(word.parse::<i32>()?).is_err() {
-            return Err(Refused::from("out of memory"));
-        }
-    }
-    Ok(cells)
-}
-
-fn wanted_of(view: View) -> Wanted {
-    match view {
-        View::LocalValues => LOCALS,
-        _ => ALL,
-    }
-}
-
-fn add_changes(
+/// The lines of the places whose numbers differ.
+fn changes(
     alloc: Global,
     tables: &Tables<'_, '_>,
-    asked: Asked,
-    lines: &mut Vec<u8>,
-) -> Result<(), Refused> {
-    let block = asked.block;
-    let wanted = wanted_of(asked.view);
-    let kinds = indices(alloc, block.behind("processes").unwrap_or(""))?;
-    let before = cells(alloc, block.behind("before"))?;
-    let after = cells(alloc, block.behind("after"))?;
-    Ok(value_lines(tables, &kinds, wanted, &before, &after, lines)?)
+    kinds: &[usize],
+    wanted: Wanted,
+    block: Block,
+    out: &mut Writer,
+) -> Vec<u8> {
+    let before = cells(alloc, block.part("before"), out);
+    let after = cells(alloc, block.part("after"), out);
+    let mut lines = Vec::new(alloc);
+    if value_lines(tables, kinds, wanted, before, after, &mut lines).is_err() {
+        out.no_memory();
+    }
+    lines
 }
 
 /// The store that writes go to: of the globals and of two processes, each with so many cells for each of its variables.
@@ -75,57 +48,108 @@ fn first_store(alloc: Global) -> Result<Store, AllocError> {
     Ok(store)
 }
 
+/// The place with these numbers, of its frame, its variable and its cell.
+fn place_of(numbers: &[usize]) -> Option<Place> {
+    match numbers {
+        [frame, variable, cell] => Some(Place {
+            frame: *frame,
+            variable: *variable,
+            cell: *cell,
+        }),
+        _ => None,
+    }
+}
+
 /// Stores the number of a line `FRAME VARIABLE CELL => NUMBER` at its place.
-pub fn write(alloc: Global, store: &mut Store, line: &str) -> Result<(), Refused> {
-    let (place, number) = line.split_once(" => ").ok_or("a write has an arrow")?;
-    let place = indices(alloc, place)?;
-    let [frame, variable, cell] = place.as_slice() else {
-        return Err(Refused::from("a place has three numbers"));
-    };
-    let place = Place {
-        frame: *frame,
-        variable: *variable,
-        cell: *cell,
-    };
-    if place.cell >= store.size(place.frame, place.variable) {
-        return Err(Refused::from("a place that is not there"));
+fn write(alloc: Global, store: &mut Store, line: Pair, out: &mut Writer) {
+    let number = number(line.that, out);
+    match place_of(indices(alloc, line.this, out)) {
+        Some(place) if place.cell < store.size(place.frame, place.variable) => if store
+            .set(place, number)
+            .is_err()
+        {
+            out.no_memory();
+        },
+        _ => out.refuse("a place that is not there"),
     }
-    Ok(store.set(place, number.parse::<i32>()?)?)
 }
 
-fn written(alloc: Global, block: Block) -> Result<Store, Refused> {
-    let mut store = first_store(alloc)?;
-    for line in block.part("writes").lines() {
-        write(alloc, &mut store, line)?;
+/// Stores the numbers of these lines.
+fn write_lines(alloc: Global, store: &mut Store, lines: &[Pair], out: &mut Writer) {
+    for line in lines {
+        write(alloc, store, *line, out);
     }
-    Ok(store)
 }
 
-fn add_logged(
+/// Stores the numbers of the part `writes`.
+pub fn write_all(alloc: Global, block: Block, store: &mut Store, out: &mut Writer) {
+    match pairs(alloc, block.part("writes")) {
+        Ok(lines) => write_lines(alloc, store, lines, out),
+        Err(AllocError) => out.no_memory(),
+    }
+}
+
+/// The lines of the places that are written in a store.
+fn logged(
     alloc: Global,
     tables: &Tables<'_, '_>,
-    block: Block,
-    lines: &mut Vec<u8>,
-) -> Result<(), Refused> {
-    let kinds = indices(alloc, block.behind("processes").unwrap_or(""))?;
-    let store = written(alloc, block)?;
-    Ok(logged_lines(alloc, tables, &kinds, ALL, &store, lines)?)
-}
-
-fn text_of_lines(alloc: Global, lines: &[u8]) -> Result<String, Refused> {
-    match str::from_utf8(lines) {
-        Ok(text) => Ok(format!(in alloc; "{text}")?),
-        Err(_) => Err(Refused::from("lines that are no text")),
-    }
-}
-
-/// The lines of a model.
-pub fn lines_of(alloc: Global, asked: Asked, program: &Program<'_>) -> Result<String, Refused> {
-    let tables = Tables::new(alloc, program)?;
+    kinds: &[usize],
+    store: &Store,
+    out: &mut Writer,
+) -> Vec<u8> {
     let mut lines = Vec::new(alloc);
-    match asked.view {
-        View::LoggedValues => add_logged(alloc, &tables, asked.block, &mut lines)?,
-        _ => add_changes(alloc, &tables, asked, &mut lines)?,
+    if logged_lines(alloc, tables, kinds, ALL, store, &mut lines).is_err() {
+        out.no_memory();
     }
-    text_of_lines(alloc, lines.as_slice())
+    lines
+}
+
+/// The lines of the places that writes changed.
+fn writes(
+    alloc: Global,
+    tables: &Tables<'_, '_>,
+    kinds: &[usize],
+    block: Block,
+    out: &mut Writer,
+) -> Vec<u8> {
+    match first_store(alloc) {
+        Ok(mut store) => {
+            write_all(alloc, block, &mut store, out);
+            logged(alloc, tables, kinds, &store, out)
+        }
+        Err(AllocError) => {
+            out.no_memory();
+            Vec::new(alloc)
+        }
+    }
+}
+
+fn add_known(
+    alloc: Global,
+    tables: &Tables<'_, '_>,
+    view: LinesView,
+    block: Block,
+    out: &mut Writer,
+) {
+    let kinds = indices(alloc, block.part("processes"), out);
+    let lines = match view {
+        LinesView::Cells => changes(alloc, tables, kinds, ALL, block, out),
+        LinesView::Locals => changes(alloc, tables, kinds, LOCALS, block, out),
+        LinesView::Writes => writes(alloc, tables, kinds, block, out),
+    };
+    out.bytes(lines.as_slice());
+}
+
+/// Writes the lines of a model.
+pub fn add_lines(
+    alloc: Global,
+    view: LinesView,
+    block: Block,
+    program: &Program<'_>,
+    out: &mut Writer,
+) {
+    match Tables::new(alloc, program) {
+        Ok(tables) => add_known(alloc, &tables, view, block, out),
+        Err(AllocError) => out.no_memory(),
+    }
 }

@@ -5,13 +5,13 @@
 mod answer;
 mod beginnings;
 mod bytes;
-mod condition;
 mod doing;
 mod files;
 mod graph;
 mod layer;
 mod lines;
 mod model;
+mod numbers;
 mod pairs;
 mod place;
 mod program;
@@ -26,10 +26,20 @@ mod values;
 mod words;
 
 use crate::files::compare_files;
+use crate::tally::Tally;
+use row_files::{Refused, names};
 use std::process::ExitCode;
 
+/// Compares the rows of all files that the words name, and prints how many passed. Answers whether all did.
+fn compare_all(rt: &HostRuntime) -> Result<bool, Refused> {
+    let files = names(rt)?;
+    let mut tally = Tally::new(rt.alloc());
+    compare_files(rt, files.as_slice(), &mut tally);
+    Ok(tally.print(rt)?)
+}
+
 fn main(rt: HostRuntime) -> ExitCode {
-    match compare_files(&rt) {
+    match compare_all(&rt) {
         Ok(true) => ExitCode::from(0),
         Ok(false) => ExitCode::from(1),
         Err(refused) => {

@@ -13,7 +13,6 @@ use pml_program::program::{
 use pml_tree::tree::{Fill, Removal, Scalar, Search, SendOrder};
 use row_files::Writer;
 use sqlite_items::Items;
-use std::alloc::{AllocError, Global};
 
 fn scalar(scalar: Scalar) -> &'static str {
     match scalar {
@@ -354,21 +353,31 @@ fn process(out: &mut Writer, p: &Proctype<'_>) {
     out.word("\n");
 }
 
-/// A checked model as a row writes it, a line for the globals, one for the mtype names, and one for each typedef and proctype.
-pub fn written(alloc: Global, program: &Program<'_>) -> Result<String, AllocError> {
-    let mut out = Writer::new(alloc);
-    slots(&mut out, &program.globals);
-    out.word("\n");
-    for name in program.constants.as_slice() {
+fn constants(out: &mut Writer, names: &[Token<'_>]) {
+    for name in names {
         out.bytes(name.text());
         out.word(" ");
     }
     out.word("\n");
-    for one in program.typedefs.as_slice() {
-        fields(&mut out, one);
+}
+
+fn typedefs(out: &mut Writer, all: &[Fields<'_>]) {
+    for one in all {
+        fields(out, one);
     }
-    for one in program.proctypes.as_slice() {
-        process(&mut out, one);
+}
+
+fn processes(out: &mut Writer, all: &[Proctype<'_>]) {
+    for one in all {
+        process(out, one);
     }
-    out.finish()
+}
+
+/// Writes a checked model, a line for the globals, one for the mtype names, and one for each typedef and proctype.
+pub fn add_model(program: &Program<'_>, out: &mut Writer) {
+    slots(out, &program.globals);
+    out.word("\n");
+    constants(out, program.constants.as_slice());
+    typedefs(out, program.typedefs.as_slice());
+    processes(out, program.proctypes.as_slice());
 }

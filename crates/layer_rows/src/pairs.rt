@@ -1,120 +1,93 @@
 //! Signs, each alone and next to each. A block has them in its part `signs`, a line `SIGN => TOKENS` for each. In the part `joined` it has those
 //! pairs that give other tokens without a blank between them, each as `SIGN SIGN => TOKENS`.
-use crate::answer::answer;
 use crate::bytes::bytes_of;
-use crate::layer::{Asked, Layer, View};
-use crate::place::{Found, Place};
+use crate::layer::TOKENS_WISH;
+use crate::place::Place;
 use crate::tally::Tally;
-use row_files::Refused;
-use std::alloc::Global;
+use row_files::{Pair, Writer, pairs};
+use std::alloc::{AllocError, Global};
 
-/// A sign, and its tokens.
-#[derive(Clone, Copy)]
-struct Sign {
-    sign: &'static str,
-    tokens: &'static str,
+const LEFT_OUT: &str = "LeftOut(1)";
+
+/// Compares the tokens of a text that is written so.
+fn compare(alloc: Global, place: Place, written: &str, wanted: &str, tally: &mut Tally) {
+    match bytes_of(alloc, written) {
+        Ok(text) => place.compare(alloc, TOKENS_WISH, written, text.as_slice(), wanted, tally),
+        Err(refused) => tally.refuse(place, refused.why),
+    }
 }
 
-fn sign_of(line: &'static str) -> Result<Sign, Refused> {
-    let (sign, tokens) = line.split_once(" => ").ok_or("a row has an arrow")?;
-    Ok(Sign { sign, tokens })
+/// Two signs with this between them.
+fn both(alloc: Global, first: &str, between: &str, second: &str) -> Writer {
+    let mut out = Writer::new(alloc);
+    out.word(first);
+    out.word(between);
+    out.word(second);
+    out
 }
 
 /// What two signs give with a blank between them. The first refusal is the answer.
-fn apart(alloc: Global, first: Sign, second: Sign) -> Result<String, Refused> {
-    let refusal = "LeftOut(1)";
-    if first.tokens == refusal || second.tokens == refusal {
-        return Ok(format!(in alloc; "{refusal}")?);
+fn apart(alloc: Global, first: Pair, second: Pair) -> Writer {
+    if first.that == LEFT_OUT || second.that == LEFT_OUT {
+        return both(alloc, LEFT_OUT, "", "");
     }
-    Ok(format!(in alloc; "{} {}", first.tokens, second.tokens)?)
+    both(alloc, first.that, " ", second.that)
 }
 
-/// What these lines say of two signs.
-fn when_joined(joined: &'static str, first: Sign, second: Sign) -> Option<&'static str> {
-    for line in joined.lines() {
-        if let Some((signs, tokens)) = line.split_once(" => ") {
-            if signs.split_once(" ") == Some((first.sign, second.sign)) {
-                return Some(tokens);
-            }
+/// What lines say of a text; these words, where none does.
+fn said<'s>(lines: &[Pair], text: &str, words: &'s str) -> &'s str {
+    for line in lines {
+        if line.this == text {
+            return line.that;
         }
     }
-    None
-}
-
-fn compare(
-    rt: &HostRuntime,
-    place: Place,
-    written: &str,
-    wanted: &str,
-    tally: &mut Tally,
-) -> Result<(), Refused> {
-    let text = bytes_of(rt.alloc(), written)?;
-    let asked = Asked {
-        view: View::Tokens,
-        block: place.block,
-    };
-    let came = answer(rt.alloc(), asked, text.as_slice())?;
-    let found = Found {
-        layer: Layer::Tokens,
-        what: "tokens",
-        this: written,
-        wanted,
-        came: came.as_str(),
-    };
-    place.judge(rt, found, tally)
+    words
 }
 
 fn compare_pair(
-    rt: &HostRuntime,
+    alloc: Global,
     place: Place,
-    first: Sign,
-    second: Sign,
-    joined: &'static str,
+    first: Pair,
+    second: Pair,
+    joined: &[Pair],
     tally: &mut Tally,
-) -> Result<(), Refused> {
-    let alloc = rt.alloc();
-    let wanted = apart(alloc, first, second)?;
-    let text = format!(in alloc; "{} {}", first.sign, second.sign)?;
-    compare(rt, place, text.as_str(), wanted.as_str(), tally)?;
-    let text = format!(in alloc; "{}{}", first.sign, second.sign)?;
-    match when_joined(joined, first, second) {
-        Some(wanted) => compare(rt, place, text.as_str(), wanted, tally),
-        None => compare(rt, place, text.as_str(), wanted.as_str(), tally),
-    }
+) {
+    let wanted = apart(alloc, first, second);
+    let text = both(alloc, first.this, " ", second.this);
+    compare(alloc, place, text.text(), wanted.text(), tally);
+    let wanted = said(joined, text.text(), wanted.text());
+    let text = both(alloc, first.this, "", second.this);
+    compare(alloc, place, text.text(), wanted, tally);
 }
 
 /// Compares a sign alone, and before each sign.
 fn compare_sign(
-    rt: &HostRuntime,
+    alloc: Global,
     place: Place,
-    first: Sign,
-    signs: &'static str,
-    joined: &'static str,
+    first: Pair,
+    signs: &[Pair],
+    joined: &[Pair],
     tally: &mut Tally,
-) -> Result<(), Refused> {
-    compare(rt, place, first.sign, first.tokens, tally)?;
-    for line in signs.lines() {
-        compare_pair(rt, place, first, sign_of(line)?, joined, tally)?;
+) {
+    compare(alloc, place, first.this, first.that, tally);
+    for second in signs {
+        compare_pair(alloc, place, first, *second, joined, tally);
     }
-    Ok(())
 }
 
-fn is_sign(signs: &'static str, text: &str) -> bool {
-    for line in signs.lines() {
-        if let Some((sign, _)) = line.split_once(" => ") {
-            if sign == text {
-                return true;
-            }
+fn is_sign(signs: &[Pair], text: &str) -> bool {
+    for sign in signs {
+        if sign.this == text && !sign.that.is_empty() {
+            return true;
         }
     }
     false
 }
 
 /// Whether each of these lines is one of two of the signs.
-fn are_of_signs(joined: &'static str, signs: &'static str) -> bool {
-    for line in joined.lines() {
-        let (pair, _) = line.split_once(" => ").unwrap_or((line, ""));
-        let (first, second) = pair.split_once(" ").unwrap_or((pair, ""));
+fn are_of_signs(joined: &[Pair], signs: &[Pair]) -> bool {
+    for line in joined {
+        let (first, second) = line.this.split_once(" ").unwrap_or((line.this, ""));
         if !is_sign(signs, first) || !is_sign(signs, second) {
             return false;
         }
@@ -122,15 +95,34 @@ fn are_of_signs(joined: &'static str, signs: &'static str) -> bool {
     true
 }
 
-/// Compares the signs of a block.
-pub fn compare_signs(rt: &HostRuntime, place: Place, tally: &mut Tally) -> Result<(), Refused> {
-    let signs = place.block.part("signs");
-    let joined = place.block.part("joined");
+/// Whether each of these signs has tokens.
+fn have_tokens(signs: &[Pair]) -> bool {
+    for sign in signs {
+        if sign.that.is_empty() {
+            return false;
+        }
+    }
+    true
+}
+
+fn compare_all(alloc: Global, place: Place, signs: &[Pair], joined: &[Pair], tally: &mut Tally) {
+    if !have_tokens(signs) {
+        tally.refuse(place, "a sign without tokens");
+    }
     if !are_of_signs(joined, signs) {
-        return Err(Refused::from("two that are no signs of the block"));
+        tally.refuse(place, "two that are no signs of the block");
     }
-    for line in signs.lines() {
-        compare_sign(rt, place, sign_of(line)?, signs, joined, tally)?;
+    for sign in signs {
+        compare_sign(alloc, place, *sign, signs, joined, tally);
     }
-    Ok(())
+}
+
+/// Compares the signs of a block.
+pub fn compare_signs(alloc: Global, place: Place, tally: &mut Tally) {
+    let signs = pairs(alloc, place.block.part("signs"));
+    let joined = pairs(alloc, place.block.part("joined"));
+    match (signs, joined) {
+        (Ok(signs), Ok(joined)) => compare_all(alloc, place, signs, joined, tally),
+        _ => tally.refuse(place, "out of memory"),
+    }
 }

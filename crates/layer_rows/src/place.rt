@@ -1,7 +1,9 @@
-//! Where a row stands, and what is told of one that differs.
-use crate::layer::Layer;
+//! Where a row stands, and what is asked there.
+use crate::answer::answer;
+use crate::layer::Wish;
 use crate::tally::Tally;
-use row_files::{Block, Refused, Told};
+use row_files::{Block, Writer};
+use std::alloc::Global;
 
 /// A block of a file.
 #[derive(Clone, Copy)]
@@ -10,43 +12,23 @@ pub struct Place {
     pub block: Block,
 }
 
-/// What a row wants of a text, and what came.
-#[derive(Clone, Copy)]
-pub struct Found<'r> {
-    pub layer: Layer,
-    /// What was asked.
-    pub what: &'r str,
-    /// What stands for `@this` in the row.
-    pub this: &'r str,
-    pub wanted: &'r str,
-    pub came: &'r str,
-}
-
 impl Place {
-    /// Counts a row, and tells it where it differs.
-    pub fn judge(
+    /// Compares what a row wants of a text, with this for `@this`, and what comes.
+    pub fn compare(
         self,
-        rt: &HostRuntime,
-        found: Found<'_>,
+        alloc: Global,
+        wish: Wish,
+        this: &str,
+        text: &[u8],
+        wanted: &str,
         tally: &mut Tally,
-    ) -> Result<(), Refused> {
-        let mut told = Told::new(rt.alloc());
-        told.bytes(found.what, found.wanted.as_bytes(), found.came.as_bytes());
-        if told.is_empty() {
-            return tally.pass(found.layer);
+    ) {
+        let mut came = Writer::new(alloc);
+        answer(alloc, wish.view, self.block, text, &mut came);
+        if came.is(wanted) {
+            tally.pass(wish.layer);
+        } else {
+            tally.differ(self, this, wish.word, wanted, came.text());
         }
-        tally.fail();
-        let (file, line, name) = (self.file, self.block.line, self.block.name());
-        let (this, words) = (found.this, told.words());
-        eprintln!(rt; "{file}:{line}: row '{name}' {this}: {words}")?;
-        Ok(())
-    }
-
-    /// Counts a block that is not read, and tells why.
-    pub fn refuse(self, rt: &HostRuntime, why: &str, tally: &mut Tally) -> Result<(), Refused> {
-        tally.fail();
-        let (file, line, name) = (self.file, self.block.line, self.block.name());
-        eprintln!(rt; "{file}:{line}: row '{name}': {why}")?;
-        Ok(())
     }
 }

@@ -1,13 +1,11 @@
 //! What the layers make of a model with its names replaced.
-use crate::graph::shown;
-use crate::layer::View;
-use crate::model::written;
-use crate::statements::texts;
+use crate::layer::NamesView;
+use crate::model::add_model;
+use crate::statements::add_texts;
 use pml_control::findings::{Findings, examine};
-use pml_flow::graph::Graph;
 use pml_program::program::{Proctype, Program};
-use row_files::Refused;
-use std::alloc::Global;
+use row_files::Writer;
+use std::alloc::{AllocError, Global};
 
 /// What is found in the control of a body.
 fn found(findings: Findings) -> &'static str {
@@ -19,28 +17,21 @@ fn found(findings: Findings) -> &'static str {
     }
 }
 
-fn of_proctype(alloc: Global, view: View, proctype: &Proctype<'_>) -> Result<String, Refused> {
-    let plan = examine(alloc, &proctype.body)?;
-    let findings = plan.findings();
-    if view == View::Control || findings.circle {
-        return Ok(format!(in alloc; "{}", found(findings))?);
-    }
-    let graph = Graph::build(alloc, proctype, &plan)?;
-    shown(alloc, view, &proctype.body, &graph)
-}
-
-fn of_first(alloc: Global, view: View, program: &Program<'_>) -> Result<String, Refused> {
-    match program.proctypes.as_slice().first() {
-        Some(proctype) => of_proctype(alloc, view, proctype),
-        None => Ok(format!(in alloc; "no proctype")?),
+fn of_first(alloc: Global, proctypes: &[Proctype<'_>], out: &mut Writer) {
+    match proctypes {
+        [] => out.word("no proctype"),
+        [first, ..] => match examine(alloc, &first.body) {
+            Ok(plan) => out.word(found(plan.findings())),
+            Err(AllocError) => out.no_memory(),
+        },
     }
 }
 
-/// What is asked of a model with its names replaced, or of its first proctype.
-pub fn of_program(alloc: Global, view: View, program: &Program<'_>) -> Result<String, Refused> {
+/// Writes what is asked of a model with its names replaced, or of its first proctype.
+pub fn add_program(alloc: Global, view: NamesView, program: &Program<'_>, out: &mut Writer) {
     match view {
-        View::Model => Ok(written(alloc, program)?),
-        View::Statements => Ok(texts(alloc, program)?),
-        _ => of_first(alloc, view, program),
+        NamesView::Model => add_model(program, out),
+        NamesView::Statements => add_texts(program, out),
+        NamesView::Control => of_first(alloc, program.proctypes.as_slice(), out),
     }
 }

@@ -1,16 +1,15 @@
 //! The rows of a block: the text is what its part `text` writes, or its part `parts`, and what is wanted stands in the parts with the
 //! words of what is asked. Where the block has a part `each`, it is a row for each line `THIS => THAT` there, or `THIS`, for which `@this` and
 //! `@that` stand in the other parts.
-use crate::answer::answer;
-use crate::bytes::{bytes_of, joined_parts};
-use crate::layer::{Asked, VIEWS, View};
-use crate::place::{Found, Place};
+use crate::bytes::{add_parts, bytes_of};
+use crate::layer::{WISHES, Wish};
+use crate::place::Place;
 use crate::tally::Tally;
-use row_files::{Block, Refused};
-use std::alloc::Global;
+use row_files::{Block, Pair, Refused, Writer, pairs};
+use std::alloc::{AllocError, Global};
 
 /// The words that begin a part.
-pub const WORDS: [&str; 36] = [
+pub static WORDS: [&str; 36] = [
     "each",
     "text",
     "parts",
@@ -49,34 +48,26 @@ pub const WORDS: [&str; 36] = [
     "words",
 ];
 
-/// What stands for `@this` and `@that`.
-#[derive(Clone, Copy)]
-struct Filling {
-    this: &'static str,
-    that: &'static str,
+/// What stands in a part, with `@this` and `@that` filled.
+fn filled(alloc: Global, block: Block, word: &str, filling: Pair) -> Result<String, AllocError> {
+    let text = block.text(alloc, word)?;
+    let text = text.replace(alloc, "@that", filling.that)?;
+    text.replace(alloc, "@this", filling.this)
 }
 
-fn filling_of(line: &'static str) -> Filling {
-    match line.split_once(" => ") {
-        Some((this, that)) => Filling { this, that },
-        None => Filling {
-            this: line,
-            that: "",
-        },
+fn joined(alloc: Global, parts: &str) -> Result<Vec<u8>, Refused> {
+    let mut out = Writer::new(alloc);
+    add_parts(parts, &mut out);
+    match out.refused() {
+        Some(why) => Err(Refused::from(why)),
+        None => bytes_of(alloc, out.text()),
     }
 }
 
-/// What stands in a part, with its blanks filled.
-fn filled(alloc: Global, block: Block, word: &str, filling: Filling) -> Result<String, Refused> {
-    let text = block.text(alloc, word)?;
-    let text = text.replace(alloc, "@that", filling.that)?;
-    Ok(text.replace(alloc, "@this", filling.this)?)
-}
-
-fn text_of(alloc: Global, block: Block, filling: Filling) -> Result<Vec<u8>, Refused> {
+fn text_of(alloc: Global, block: Block, filling: Pair) -> Result<Vec<u8>, Refused> {
     if block.has("parts") {
         let parts = filled(alloc, block, "parts", filling)?;
-        return joined_parts(alloc, parts.as_str());
+        return joined(alloc, parts.as_str());
     }
     if !block.has("text") {
         return Err(Refused::from("a row without a text"));
@@ -85,68 +76,66 @@ fn text_of(alloc: Global, block: Block, filling: Filling) -> Result<Vec<u8>, Ref
     bytes_of(alloc, text.as_str())
 }
 
-fn compare_view(
-    rt: &HostRuntime,
+fn compare_wish(
+    alloc: Global,
     place: Place,
-    filling: Filling,
-    view: View,
+    filling: Pair,
+    wish: Wish,
     text: &[u8],
     tally: &mut Tally,
-) -> Result<(), Refused> {
-    let wanted = filled(rt.alloc(), place.block, view.word(), filling)?;
-    let asked = Asked {
-        view,
-        block: place.block,
-    };
-    let came = answer(rt.alloc(), asked, text)?;
-    let found = Found {
-        layer: view.layer(),
-        what: view.word(),
-        this: filling.this,
-        wanted: wanted.as_str(),
-        came: came.as_str(),
-    };
-    place.judge(rt, found, tally)
+) {
+    match filled(alloc, place.block, wish.word, filling) {
+        Ok(wanted) => place.compare(alloc, wish, filling.this, text, wanted.as_str(), tally),
+        Err(AllocError) => tally.refuse(place, "out of memory"),
+    }
 }
 
-fn compare_row(
-    rt: &HostRuntime,
-    place: Place,
-    filling: Filling,
-    tally: &mut Tally,
-) -> Result<(), Refused> {
-    let text = text_of(rt.alloc(), place.block, filling)?;
-    for view in &VIEWS {
-        if place.block.has(view.word()) {
-            compare_view(rt, place, filling, *view, text.as_slice(), tally)?;
+fn compare_wishes(alloc: Global, place: Place, filling: Pair, text: &[u8], tally: &mut Tally) {
+    for wish in &WISHES {
+        if place.block.has(wish.word) {
+            compare_wish(alloc, place, filling, *wish, text, tally);
         }
     }
-    Ok(())
+}
+
+fn compare_row(alloc: Global, place: Place, filling: Pair, tally: &mut Tally) {
+    match text_of(alloc, place.block, filling) {
+        Ok(text) => compare_wishes(alloc, place, filling, text.as_slice(), tally),
+        Err(refused) => tally.refuse(place, refused.why),
+    }
 }
 
 fn wants_nothing(block: Block) -> bool {
-    for view in &VIEWS {
-        if block.has(view.word()) {
+    for wish in &WISHES {
+        if block.has(wish.word) {
             return false;
         }
     }
     true
 }
 
+/// Compares a row for each line of a part `each`.
+fn compare_each(alloc: Global, place: Place, tally: &mut Tally) {
+    match pairs(alloc, place.block.part("each")) {
+        Ok([]) => tally.refuse(place, "a block without a row"),
+        Ok(lines) => compare_lines(alloc, place, lines, tally),
+        Err(AllocError) => tally.refuse(place, "out of memory"),
+    }
+}
+
+fn compare_lines(alloc: Global, place: Place, lines: &[Pair], tally: &mut Tally) {
+    for line in lines {
+        compare_row(alloc, place, *line, tally);
+    }
+}
+
 /// Compares the rows of a block.
-pub fn compare_rows(rt: &HostRuntime, place: Place, tally: &mut Tally) -> Result<(), Refused> {
+pub fn compare_rows(alloc: Global, place: Place, tally: &mut Tally) {
     if wants_nothing(place.block) {
-        return Err(Refused::from("a row that wants nothing"));
+        tally.refuse(place, "a row that wants nothing");
+    } else if place.block.has("each") {
+        compare_each(alloc, place, tally);
+    } else {
+        compare_row(alloc, place, Pair::of(""), tally);
     }
-    if !place.block.has("each") {
-        return compare_row(rt, place, filling_of(""), tally);
-    }
-    let each = place.block.part("each");
-    if each.is_empty() {
-        return Err(Refused::from("a block without a row"));
-    }
-    for line in each.lines() {
-        compare_row(rt, place, filling_of(line), tally)?;
-    }
-    Ok(())
 }

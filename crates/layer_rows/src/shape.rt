@@ -1,8 +1,7 @@
 //! The expressions that are statements of a tree, written with all of their parentheses.
 use crate::signs::{infix, prefix};
 use pml_tree::tree::{Action, Basic, Expr, Item, Tree, Unit};
-use row_files::{Refused, Writer};
-use std::alloc::Global;
+use row_files::Writer;
 
 /// An expression with its parentheses.
 fn write_expr(x: &Expr<'_>, out: &mut Writer) {
@@ -63,12 +62,10 @@ fn write_unit(unit: &Unit<'_>, out: &mut Writer) {
     }
 }
 
-/// The expressions that are statements. Each operator with its operands stands in brackets, and references are written as their first
-/// name.
-pub fn expressions_of(alloc: Global, tree: &Tree<'_>) -> Result<String, Refused> {
-    let mut out = Writer::new(alloc);
+/// Writes the expressions that are statements. Each operator with its operands stands in brackets, and references are written as their
+/// first name.
+pub fn add_expressions(tree: &Tree<'_>, out: &mut Writer) {
     for unit in tree.units.as_slice() {
-        write_unit(unit, &mut out);
+        write_unit(unit, out);
     }
-    Ok(out.finish()?)
 }

@@ -6,7 +6,6 @@ use pml_lex::token::Token;
 use pml_program::program::{Basic, Program, Seq, Stmt};
 use row_files::Writer;
 use sqlite_items::Items;
-use std::alloc::{AllocError, Global};
 
 fn line_of(tokens: &[Token<'_>]) -> u32 {
     match tokens {
@@ -63,11 +62,9 @@ fn seq(out: &mut Writer, s: &Seq<'_>) {
     }
 }
 
-/// The texts of the statements of a checked model, in the order in which they stand.
-pub fn texts(alloc: Global, program: &Program<'_>) -> Result<String, AllocError> {
-    let mut out = Writer::new(alloc);
+/// Writes the texts of the statements of a checked model, in the order in which they stand.
+pub fn add_texts(program: &Program<'_>, out: &mut Writer) {
     for one in program.proctypes.as_slice() {
-        seq(&mut out, &one.body);
+        seq(out, &one.body);
     }
-    out.finish()
 }

@@ -6,9 +6,9 @@
 ghost use Rattle.std.specs.Prelude.{◌≡◌, IfSome};
 ghost use Rattle.pml_start.specs.Bound.{cells_of};
 
-use crate::doing::done;
-use crate::layer::{Asked, View};
-use crate::lines::cells;
+use crate::doing::add_done;
+use crate::layer::ModelView;
+use crate::numbers::{cells, number};
 use diagnostics::Stop;
 use pml_cells::cells::size;
 use pml_program::program::{Program, Slot};
@@ -17,8 +17,8 @@ use pml_start::create::create;
 use pml_start::started::Started;
 use pml_store::store::Store;
 use pml_value::live_channel::LiveChannel;
-use row_files::{Block, Refused, Writer};
-use std::alloc::Global;
+use row_files::{Block, Writer};
+use std::alloc::{AllocError, Global};
 
 /// So many numbers in a row are written with their count.
 const MANY: usize = 10;
@@ -93,54 +93,53 @@ fn cells_of(slots: &[Slot<'_>]) -> Option<u32>
 }
 
 /// Writes a state.
-fn add_state(out: &mut Writer, started: &Started) {
-    add_numbers(out, started.store.cells().as_slice());
+fn add_state(out: &mut Writer, store: &Store, channels: &[LiveChannel], kinds: &[usize]) {
+    add_numbers(out, store.cells().as_slice());
     out.word(" / ");
-    add_channels(out, started.channels.as_slice());
+    add_channels(out, channels);
     out.word(" / ");
-    add_processes(out, started.kinds.as_slice());
+    add_processes(out, kinds);
 }
 
-/// `ok`, or the fault.
-pub fn outcome(alloc: Global, ended: Result<(), Stop>) -> Result<String, Refused> {
+/// Writes `ok`, or the fault.
+pub fn add_outcome(ended: Result<(), Stop>, out: &mut Writer) {
     match ended {
-        Ok(()) => Ok(format!(in alloc; "ok")?),
-        Err(stop) => fault_of(alloc, stop),
+        Ok(()) => out.word("ok"),
+        Err(stop) => add_stop(stop, out),
     }
 }
 
-/// The fault that a stop is, as `F2`.
-pub fn fault_of(alloc: Global, stop: Stop) -> Result<String, Refused> {
+/// Writes the fault that a stop is, as `F2`.
+pub fn add_stop(stop: Stop, out: &mut Writer) {
     match stop {
-        Stop::Fault(fault) => Ok(format!(in alloc; "F{}", fault.number())?),
-        Stop::Memory => Err(Refused::from("out of memory")),
+        Stop::Fault(fault) => {
+            out.word("F");
+            out.count(u32::from(fault.number()));
+        }
+        Stop::Memory => out.no_memory(),
     }
 }
 
-/// The variables of the proctype with this number.
-fn variables<'p, 'a>(program: &'p Program<'a>, kind: usize) -> Result<&'p [Slot<'a>], Refused> {
-    match program.proctypes.as_slice().get(kind) {
-        Some(proctype) => Ok(proctype.variables.as_slice()),
-        None => Err(Refused::from("no such proctype")),
-    }
-}
-
-/// What there is once a process of the proctype with this number is created beside a global, and how that went.
-fn created(
+/// Writes what there is once a process with these variables is created beside a global, and how that went.
+fn add_created(
     alloc: Global,
-    program: &Program<'_>,
+    beginnings: &Beginnings<'_, '_>,
     kind: usize,
+    slots: &[Slot<'_>],
     arguments: &[i32],
-) -> Result<(Started, Result<(), Stop>), Refused> {
-    let slots = variables(program, kind)?;
-    let cells = cells_of(slots).ok_or("too many cells")?;
-    let beginnings = Beginnings::new(alloc, program.typedefs.as_slice())?;
-    let mut store = Store::new(alloc, cells.checked_add(1).ok_or("too many cells")?);
-    store.push_frame(&[1])?;
+    out: &mut Writer,
+) {
+    let Some(most) = cells_of(slots).and_then(|cells| cells.checked_add(1)) else {
+        return out.refuse("too many cells");
+    };
+    let mut store = Store::new(alloc, most);
+    if store.push_frame(&[1]).is_err() {
+        return out.no_memory();
+    }
     let mut channels = Vec::new(alloc);
     let mut kinds = Vec::new(alloc);
     let ended = create(
-        &beginnings,
+        beginnings,
         kind,
         slots,
         arguments,
@@ -148,51 +147,66 @@ fn created(
         &mut channels,
         &mut kinds,
     );
-    let started = Started {
-        store,
-        channels,
-        kinds,
-    };
-    Ok((started, ended))
+    add_outcome(ended, out);
+    out.word(" / ");
+    add_state(out, &store, channels.as_slice(), kinds.as_slice());
 }
 
-fn creation(
+fn add_process(
     alloc: Global,
     program: &Program<'_>,
     kind: usize,
+    slots: &[Slot<'_>],
     arguments: &[i32],
-) -> Result<String, Refused> {
-    let (started, ended) = created(alloc, program, kind, arguments)?;
-    let mut out = Writer::new(alloc);
-    out.word(outcome(alloc, ended)?.as_str());
-    out.word(" / ");
-    add_state(&mut out, &started);
-    Ok(out.finish()?)
+    out: &mut Writer,
+) {
+    match Beginnings::new(alloc, program.typedefs.as_slice()) {
+        Ok(beginnings) => add_created(alloc, &beginnings, kind, slots, arguments, out),
+        Err(AllocError) => out.no_memory(),
+    }
 }
 
-/// What there is once a process is created beside a global, as a block asks it, and how that went.
-pub fn creation_of(alloc: Global, block: Block, program: &Program<'_>) -> Result<String, Refused> {
-    let kind: usize = block.behind("proctype").unwrap_or("0").parse()?;
-    let arguments = cells(alloc, block.behind("arguments"))?;
-    creation(alloc, program, kind, arguments.as_slice())
+/// The variables of the proctype with this number.
+fn variables<'p, 'a>(program: &'p Program<'a>, kind: usize) -> Option<&'p [Slot<'a>]> {
+    match program.proctypes.as_slice().get(kind) {
+        Some(proctype) => Some(proctype.variables.as_slice()),
+        None => None,
+    }
 }
 
-fn state_written(alloc: Global, started: &Started) -> Result<String, Refused> {
-    let mut out = Writer::new(alloc);
-    add_state(&mut out, started);
-    Ok(out.finish()?)
+/// Writes what there is once a process is created beside a global, as a block asks it, and how that went.
+pub fn add_creation(alloc: Global, block: Block, program: &Program<'_>, out: &mut Writer) {
+    let kind = block
+        .behind("proctype")
+        .unwrap_or("0")
+        .parse()
+        .unwrap_or(usize::MAX);
+    let arguments = cells(alloc, block.part("arguments"), out);
+    match variables(program, kind) {
+        Some(slots) => add_process(alloc, program, kind, slots, arguments, out),
+        None => out.refuse("no such proctype"),
+    }
 }
 
-/// The values of a model, from its first state on.
-pub fn values_of(
+/// Writes the values of a model, from its first state on.
+pub fn add_values(
     alloc: Global,
-    asked: Asked,
+    view: ModelView,
+    block: Block,
     program: &Program<'_>,
     started: Started,
-) -> Result<String, Refused> {
+    out: &mut Writer,
+) {
     let mut started = started;
-    match asked.view {
-        View::FirstState => state_written(alloc, &started),
-        _ => done(alloc, asked, program, &mut started),
+    match view {
+        ModelView::FirstState => {
+            let Started {
+                store,
+                channels,
+                kinds,
+            } = &started;
+            add_state(out, store, channels.as_slice(), kinds.as_slice());
+        }
+        _ => add_done(alloc, view, block, program, &mut started, out),
     }
 }

@@ -1,45 +1,54 @@
 //! What is read of a command line: a letter for each flag, or a dash, the limit and the files, with a dash for what is not there, and a word for `--explain`.
 use command_line::{Arguments, arguments};
-use row_files::Refused;
-use std::alloc::Global;
+use row_files::Writer;
+use std::alloc::{AllocError, Global};
 
-fn mark(set: bool, letter: &'static str) -> &'static str {
-    if set { letter } else { "-" }
+fn add_flag(set: bool, letter: &str, out: &mut Writer) {
+    out.word(if set { letter } else { "-" });
 }
 
-fn file(name: &Option<String>) -> &str {
+fn add_file(name: &Option<String>, out: &mut Writer) {
+    out.word(" ");
     match name {
-        Some(name) => name.as_str(),
-        None => "-",
+        Some(name) => out.word(name.as_str()),
+        None => out.word("-"),
     }
 }
 
-fn shown(alloc: Global, read: &Arguments) -> Result<String, Refused> {
-    let p = mark(read.options.steps, "p");
-    let g = mark(read.options.globals, "g");
-    let l = mark(read.options.locals, "l");
-    let m = mark(read.options.lossy, "m");
-    let limit = read.options.limit;
-    let model = read.model.as_str();
-    let choices = file(&read.choices);
-    let rec = file(&read.rec);
-    let convert = mark(read.convert, "convert");
-    let explain = if read.explain { " explain" } else { "" };
-    Ok(format!(in alloc; "{p}{g}{l}{m} {limit} {model} {choices} {rec} {convert}{explain}")?)
+fn add_read(read: &Arguments, out: &mut Writer) {
+    add_flag(read.options.steps, "p", out);
+    add_flag(read.options.globals, "g", out);
+    add_flag(read.options.locals, "l", out);
+    add_flag(read.options.lossy, "m", out);
+    out.word(" ");
+    out.count(read.options.limit);
+    out.word(" ");
+    out.word(read.model.as_str());
+    add_file(&read.choices, out);
+    add_file(&read.rec, out);
+    out.word(" ");
+    add_flag(read.convert, "convert", out);
+    out.word(if read.explain { " explain" } else { "" });
 }
 
-/// What is read of words with spaces between them, or why they are refused.
-pub fn words_read(alloc: Global, text: &[u8]) -> Result<String, Refused> {
-    let text = match str::from_utf8(text) {
-        Ok(text) => text,
-        Err(_) => return Err(Refused::from("words that are no text")),
-    };
-    let words: Vec<&str> = text.split(' ').collect(alloc)?;
-    match arguments(alloc, words.as_slice()) {
-        Ok(read) => shown(alloc, &read),
-        Err(error) => {
-            let kind = error.kind();
-            Ok(format!(in alloc; "{kind:?}")?)
-        }
+fn words_of(alloc: Global, text: &[u8]) -> Result<Vec<&str>, AllocError> {
+    str::from_utf8(text)
+        .unwrap_or("(bytes that are no text)")
+        .split(' ')
+        .collect(alloc)
+}
+
+fn add_arguments(alloc: Global, words: &[&str], out: &mut Writer) {
+    match arguments(alloc, words) {
+        Ok(read) => add_read(&read, out),
+        Err(error) => out.kind(&error.kind()),
+    }
+}
+
+/// Writes what is read of words with spaces between them, or why they are refused.
+pub fn add_words(alloc: Global, text: &[u8], out: &mut Writer) {
+    match words_of(alloc, text) {
+        Ok(words) => add_arguments(alloc, words.as_slice(), out),
+        Err(AllocError) => out.no_memory(),
     }
 }

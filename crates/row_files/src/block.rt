@@ -8,8 +8,10 @@ use std::alloc::{AllocError, Global};
 pub struct Block {
     /// The line of the file that it begins in, counted from 1.
     pub line: u32,
-    /// What stands behind its mark, to the mark of the next one.
-    body: &'static str,
+    /// What stands before its parts: its name, and nothing else where it is well-formed.
+    head: &'static str,
+    /// What stands behind the mark of its first part, where it has one.
+    parts: Option<&'static str>,
 }
 
 /// A part of a block.
@@ -36,31 +38,35 @@ fn part_of(text: &'static str) -> Part {
     }
 }
 
-impl Block {
-    /// What stands before its parts: its name, and nothing else where it is well-formed.
-    fn head(self) -> &'static str {
-        match self.body.split_once("\n-- ") {
-            Some((head, _)) => head,
-            None => self.body,
-        }
-    }
+/// What is found of a word.
+#[derive(Clone, Copy)]
+struct Found {
+    first: Option<Part>,
+    /// How many parts it begins.
+    count: u32,
+}
 
+impl Block {
     /// Its name.
     pub fn name(self) -> &'static str {
-        match self.body.split_once('\n') {
-            Some((name, _)) => name,
-            None => self.body,
+        self.head
+    }
+
+    fn found(self, word: &str) -> Found {
+        let mut first = None;
+        let mut count = 0u32;
+        for text in self.parts.unwrap_or("").split("\n-- ") {
+            let part = part_of(text);
+            if part.word == word {
+                first = first.or(Some(part));
+                count = count.saturating_add(1);
+            }
         }
+        Found { first, count }
     }
 
     fn find(self, word: &str) -> Option<Part> {
-        for text in self.body.split("\n-- ").skip(1) {
-            let part = part_of(text);
-            if part.word == word {
-                return Some(part);
-            }
-        }
-        None
+        self.found(word).first
     }
 
     /// Whether it has a part with this word.
@@ -108,46 +114,72 @@ impl Block {
         Ok(text)
     }
 
-    /// Refuses a block with a part that is malformed, or stands twice, or whose word is none of these.
-    fn check(self, words: &[&str]) -> Result<(), Refused> {
-        let head = self.head();
-        if head.is_empty() || head.starts_with('\n') {
-            return refuse(self.line, "a block without a name");
+    /// What is wrong with a block that has a part that is malformed, or stands twice, or whose word is none of these.
+    fn fault(self, words: &[&str]) -> Option<Refused> {
+        if self.head.is_empty() || self.head.starts_with('\n') {
+            return wrong(self.line, "a block without a name");
         }
-        let mut line = self.line.saturating_add(lines_of(head));
-        if lines_of(head) > 1 {
-            return refuse(self.line, "a text that stands in no part");
+        if lines_of(self.head) > 1 {
+            return wrong(self.line, "a text that stands in no part");
         }
-        for text in self.body.split("\n-- ").skip(1) {
-            self.check_part(part_of(text), line, words)?;
+        self.fault_of_parts(self.parts?, words)
+    }
+
+    /// What is wrong with its parts, which stand behind the line of its name.
+    fn fault_of_parts(self, parts: &'static str, words: &[&str]) -> Option<Refused> {
+        let mut line = self.line.saturating_add(1);
+        for text in parts.split("\n-- ") {
+            if let Some(why) = self.fault_of_part(part_of(text), words) {
+                return wrong(line, why);
+            }
             line = line.saturating_add(lines_of(text));
         }
-        Ok(())
+        None
     }
 
-    fn check_part(self, part: Part, line: u32, words: &[&str]) -> Result<(), Refused> {
+    fn fault_of_part(self, part: Part, words: &[&str]) -> Option<&'static str> {
         if !words.contains(&part.word) {
-            return refuse(line, "an unknown word of a part");
+            return Some("an unknown word of a part");
         }
         if part.behind.is_some() && part.below.is_some() {
-            return refuse(line, "a part with words behind it and lines below");
+            return Some("a part with words behind it and lines below");
         }
-        if self.count(part.word) > 1 {
-            return refuse(line, "a part that stands twice");
+        if self.found(part.word).count > 1 {
+            return Some("a part that stands twice");
         }
-        Ok(())
+        None
     }
+}
 
-    /// How often a word begins a part.
-    fn count(self, word: &str) -> u32 {
-        let mut count = 0u32;
-        for text in self.body.split("\n-- ").skip(1) {
-            if part_of(text).word == word {
-                count = count.saturating_add(1);
-            }
-        }
-        count
+fn wrong(line: u32, why: &'static str) -> Option<Refused> {
+    Some(Refused { line, why })
+}
+
+/// The block with this text, which begins in this line.
+fn block_of(line: u32, body: &'static str) -> Block {
+    match body.split_once("\n-- ") {
+        Some((head, parts)) => Block {
+            line,
+            head,
+            parts: Some(parts),
+        },
+        None => Block {
+            line,
+            head: body,
+            parts: None,
+        },
     }
+}
+
+/// What is wrong with a block behind these.
+fn fault_behind(blocks: &[Block], block: Block, words: &[&str]) -> Option<Refused> {
+    if let Some(refused) = block.fault(words) {
+        return Some(refused);
+    }
+    if is_named(blocks, block.head) {
+        return wrong(block.line, "a name that another block has");
+    }
+    None
 }
 
 /// How many lines a text has, which ends without a line feed.
@@ -163,7 +195,7 @@ fn lines_of(text: &str) -> u32 {
 
 fn is_named(blocks: &[Block], name: &str) -> bool {
     for block in blocks {
-        if block.name() == name {
+        if block.head == name {
             return true;
         }
     }
@@ -186,10 +218,9 @@ pub fn blocks(alloc: Global, text: &'static str, words: &[&str]) -> Result<Vec<B
     let mut blocks = Vec::new(alloc);
     let mut line = 1u32;
     for body in bare(text)?.split("\n== ") {
-        let block = Block { line, body };
-        block.check(words)?;
-        if is_named(&blocks, block.name()) {
-            return refuse(line, "a name that another block has");
+        let block = block_of(line, body);
+        if let Some(refused) = fault_behind(&blocks, block, words) {
+            return Err(refused);
         }
         if blocks.push(block).is_err() {
             return refuse(line, "out of memory");

@@ -17,13 +17,15 @@ pub fn lasting(bytes: Vec<u8>) -> Result<&'static str, Refused> {
 
 /// The names of the files that the words of the command line name.
 pub fn names(rt: &HostRuntime) -> Result<Vec<&'static str>, Refused> {
-    let mut names = Vec::new(rt.alloc());
-    for name in env::args(rt)?.skip(1) {
-        if names.push(lasting(name.into_bytes())?).is_err() {
-            return Err(Refused::from("out of memory"));
-        }
-    }
-    Ok(names)
+    let words: Vec<String> = env::args(rt)?.collect(rt.alloc())?;
+    let words: &'static [String] = words.leak();
+    Ok(
+        words
+            .iter()
+            .skip(1)
+            .map(String::as_str)
+            .collect(rt.alloc())?,
+    )
 }
 
 /// The text of a file, whole.

@@ -39,6 +39,12 @@ impl Told {
         self.words.word(words);
     }
 
+    /// Tells a number behind words.
+    pub fn count(&mut self, words: &str, number: u32) {
+        self.words.word(words);
+        self.words.count(number);
+    }
+
     fn add_wanted(&mut self, what: &str) {
         self.add("another ");
         self.add(what);

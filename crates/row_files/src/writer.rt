@@ -1,13 +1,13 @@
 //! Texts that are written piece by piece. Want of memory is told once, at the end.
 use std::alloc::{AllocError, Global};
-use std::fmt::Write;
+use std::fmt::{Debug, Write};
 
 /// A text that grows.
 #[derive(Drop)]
 pub struct Writer {
     text: String,
-    /// Whether a piece is missing, since there was no memory for it.
-    lacks: bool,
+    /// Why it cannot be written, where that is so.
+    refused: Option<&'static str>,
 }
 
 impl Writer {
@@ -15,42 +15,70 @@ impl Writer {
     pub fn new(alloc: Global) -> Writer {
         Writer {
             text: String::new(alloc),
-            lacks: false,
+            refused: None,
         }
+    }
+
+    /// It cannot be written.
+    pub fn refuse(&mut self, why: &'static str) {
+        self.refused = Some(why);
+    }
+
+    /// It cannot be written, for want of memory.
+    pub fn no_memory(&mut self) {
+        self.refuse("out of memory");
+    }
+
+    /// Why it cannot be written, where that is so.
+    pub fn refused(&self) -> Option<&'static str> {
+        self.refused
     }
 
     /// Writes words.
     pub fn word(&mut self, words: &str) {
         if self.text.push_str(words).is_err() {
-            self.lacks = true;
+            self.no_memory();
+        }
+    }
+
+    /// Writes words so many times.
+    pub fn repeated(&mut self, words: &str, count: usize) {
+        for _ in 0..count {
+            self.word(words);
         }
     }
 
     /// Writes a number.
     pub fn number(&mut self, number: usize) {
         if write!(self.text, "{number}").is_err() {
-            self.lacks = true;
+            self.no_memory();
         }
     }
 
     /// Writes a number that may be less than 0.
     pub fn signed(&mut self, number: i32) {
-        if write!(self.text, "{number}").is_err() {
-            self.lacks = true;
+        if number < 0 {
+            self.word("-");
         }
+        self.count(number.unsigned_abs());
     }
 
     /// Writes how many there are, or at which line.
     pub fn count(&mut self, count: u32) {
-        if write!(self.text, "{count}").is_err() {
-            self.lacks = true;
+        self.number(count as usize);
+    }
+
+    /// Writes a value by the names of its variants.
+    pub fn kind<T: Debug>(&mut self, value: &T) {
+        if write!(self.text, "{value:?}").is_err() {
+            self.no_memory();
         }
     }
 
     /// Writes a byte as the sign that it stands for.
     pub fn byte(&mut self, byte: u8) {
         if self.text.push(char::from(byte)).is_err() {
-            self.lacks = true;
+            self.no_memory();
         }
     }
 
@@ -64,7 +92,7 @@ impl Writer {
     /// Writes a byte by a grave accent and its two hexadecimal digits.
     pub fn digits(&mut self, byte: u8) {
         if write!(self.text, "`{byte:02x}").is_err() {
-            self.lacks = true;
+            self.no_memory();
         }
     }
 
@@ -76,18 +104,25 @@ impl Writer {
         }
     }
 
-    /// What is written; other words where something is missing.
+    /// What is written; why not, where it cannot be written.
     pub fn text(&self) -> &str {
-        if self.lacks {
-            "out of memory"
-        } else {
-            self.text.as_str()
+        match self.refused {
+            Some(why) => why,
+            None => self.text.as_str(),
         }
     }
 
-    /// What is written, where nothing is missing.
+    /// Whether this is written, and no other words.
+    pub fn is(&self, words: &str) -> bool {
+        self.refused.is_none() && self.text.as_str() == words
+    }
+
+    /// What is written, where it can be.
     pub fn finish(self) -> Result<String, AllocError> {
-        let Writer { text, lacks } = self;
-        if lacks { Err(AllocError) } else { Ok(text) }
+        let Writer { text, refused } = self;
+        match refused {
+            Some(_) => Err(AllocError),
+            None => Ok(text),
+        }
     }
 }
