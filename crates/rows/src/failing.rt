@@ -1,6 +1,5 @@
 //! Plays a row with each call of a device failing in turn.
-use crate::player::{Behind, Device, Failing, played};
-use crate::row::Row;
+use crate::player::{Behind, Device, Session, played};
 use row_files::{Refused, Told};
 use std::alloc::Global;
 
@@ -14,7 +13,7 @@ fn tell_broken(told: &mut Told, device: Device, whole: &Behind, behind: &Behind)
     if behind.end.cause != device.cause() {
         told.add("another cause\n");
     }
-    if !whole.out.starts_with(&behind.out) || !whole.rec.starts_with(&behind.rec) {
+    if !whole.out.starts_with(behind.out) || !whole.rec.starts_with(behind.rec) {
         told.add("an output or a record that is no beginning\n");
     }
     if behind.unread < whole.unread {
@@ -24,8 +23,8 @@ fn tell_broken(told: &mut Told, device: Device, whole: &Behind, behind: &Behind)
 
 /// Tells what is otherwise in a session with a failing device that did not fail.
 fn tell_whole(told: &mut Told, whole: &Behind, behind: &Behind) {
-    told.bytes("output without a failure", &whole.out, &behind.out);
-    told.bytes("record without a failure", &whole.rec, &behind.rec);
+    told.bytes("output without a failure", whole.out, behind.out);
+    told.bytes("record without a failure", whole.rec, behind.rec);
     if behind.end != whole.end {
         told.add("another end without a failure\n");
     }
@@ -35,14 +34,19 @@ fn tell_whole(told: &mut Told, whole: &Behind, behind: &Behind) {
 pub fn tell_each(
     alloc: Global,
     told: &mut Told,
-    row: &Row,
+    session: &Session,
     device: Device,
     whole: &Behind,
 ) -> Result<(), Refused> {
-    let model = row.model.as_bytes();
     for call in 0..MOST_CALLS {
-        let failing = Failing::of(device, call);
-        let behind = played(alloc, model, &row.options, &row.choices, failing)?;
+        let failing = device.failing(call);
+        let behind = played(
+            alloc,
+            &Session {
+                failing,
+                ..*session
+            },
+        )?;
         if !behind.failed {
             tell_whole(told, whole, &behind);
             return Ok(());

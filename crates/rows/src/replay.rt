@@ -1,27 +1,31 @@
 //! Plays a session again on its record, and on its choices as they are converted.
-use crate::player::{Behind, NONE_FAILS, converted, played};
+use crate::player::{Behind, Session, Way, played};
 use crate::row::Row;
-use row_files::{Refused, Told};
-use session::{Cause, Options};
+use row_files::{Refused, Told, Writer};
+use session::Cause;
 use std::alloc::Global;
 
-/// The output without the lines `bad choice` and the prompts behind them.
-fn without_bad_lines(alloc: Global, out: &[u8]) -> Result<Vec<u8>, Refused> {
-    let mut kept = Vec::new(alloc);
-    let mut begun = false;
-    let mut behind_a_bad_line = false;
-    for line in out.split(|b| *b == b'\n') {
-        let bad = line == b"bad choice".as_slice();
-        if !bad && !behind_a_bad_line {
-            if begun {
-                kept.push(b'\n')?;
-            }
-            kept.extend_from_slice(line)?;
-            begun = true;
-        }
-        behind_a_bad_line = bad;
+/// What the output has behind a line `bad choice`: the first line of it is the prompt, and is left out.
+fn add_behind(kept: &mut Writer, text: &str) {
+    if let Some((_, lines)) = text.split_once('\n') {
+        kept.word("\n");
+        kept.word(lines);
     }
-    Ok(kept)
+}
+
+/// The output without the lines `bad choice` and the prompts behind them.
+fn without_bad_lines(alloc: Global, out: &str) -> Writer {
+    let mut kept = Writer::new(alloc);
+    let mut begun = false;
+    for text in out.split("\nbad choice\n") {
+        if begun {
+            add_behind(&mut kept, text);
+        } else {
+            kept.word(text);
+        }
+        begun = true;
+    }
+    kept
 }
 
 /// Whether a run was ended by its choices: a replay of its record then ends where they do.
@@ -32,49 +36,48 @@ fn is_cut_short(cause: &Cause) -> bool {
     )
 }
 
+/// Tells where the output of a replay is another one than that of the session, without its bad lines.
+fn tell_output(alloc: Global, told: &mut Told, before: &Behind, again: &Behind) {
+    match str::from_utf8(before.out) {
+        Ok(out) => {
+            let wanted = without_bad_lines(alloc, out);
+            told.bytes("output of the replay", wanted.text().as_bytes(), again.out);
+        }
+        Err(_) => told.add("an output that is no text\n"),
+    }
+}
+
 /// Tells where the end of a replay is another one than it should be.
-fn tell_end(
-    alloc: Global,
-    told: &mut Told,
-    before: &Behind,
-    again: &Behind,
-) -> Result<(), Refused> {
+fn tell_end(alloc: Global, told: &mut Told, before: &Behind, again: &Behind) {
     let (then, now) = (&before.end, &again.end);
     if is_cut_short(&then.cause) {
         let ended = now.cause == Cause::ChoicesEnded;
         told.number("end of the replay's choices", 1, usize::from(ended));
         told.number("status of the replay", 5, usize::from(now.status));
-        return Ok(());
+        return;
     }
     told.number(
         "status of the replay",
         usize::from(then.status),
         usize::from(now.status),
     );
-    let wanted = without_bad_lines(alloc, before.out.as_slice())?;
-    told.bytes("output of the replay", &wanted, &again.out);
-    Ok(())
+    tell_output(alloc, told, before, again);
 }
 
 /// Tells what a session on the record of another has otherwise.
-fn tell_replay(
-    alloc: Global,
-    told: &mut Told,
-    before: &Behind,
-    again: &Behind,
-) -> Result<(), Refused> {
+fn tell_replay(alloc: Global, told: &mut Told, before: &Behind, again: &Behind) {
     let (then, now) = (before.end.steps, again.end.steps);
-    told.bytes("record of the replay", &before.rec, &again.rec);
+    told.bytes("record of the replay", before.rec, again.rec);
     told.number("rest that the replay leaves unread", 0, again.unread);
     told.number("number of steps of the replay", then as usize, now as usize);
-    tell_end(alloc, told, before, again)
+    tell_end(alloc, told, before, again);
 }
 
 /// Tells what a session on converted choices has otherwise than the one on the record.
 fn tell_second(told: &mut Told, first: &Behind, second: &Behind) {
     let (then, now) = (&first.end, &second.end);
-    told.bytes("output on the converted choices", &first.out, &second.out);
-    told.bytes("record of the converted choices", &first.rec, &second.rec);
+    told.bytes("output on the converted choices", first.out, second.out);
+    told.bytes("record of the converted choices", first.rec, second.rec);
     told.number(
         "status on the converted choices",
         usize::from(then.status),
@@ -88,10 +91,26 @@ fn tell_second(told: &mut Told, first: &Behind, second: &Behind) {
     told.number("rest of the converted choices", 0, second.unread);
 }
 
-/// A session of a row's model on these choices.
-fn again(alloc: Global, row: &Row, choices: &[u8]) -> Result<Behind, Refused> {
-    let model = row.model.as_bytes();
-    played(alloc, model, &row.options, choices, NONE_FAILS)
+/// The session of a row on these choices.
+fn again(alloc: Global, row: &Row, choices: &'static [u8]) -> Result<Behind, Refused> {
+    played(
+        alloc,
+        &Session {
+            choices,
+            ..row.session
+        },
+    )
+}
+
+/// The conversion of the choices of a row.
+fn converted(alloc: Global, row: &Row) -> Result<Behind, Refused> {
+    played(
+        alloc,
+        &Session {
+            way: Way::Converted,
+            ..row.session
+        },
+    )
 }
 
 /// Tells what is otherwise where a row is played again on its record, and on its choices as they are converted to the second version.
@@ -101,15 +120,15 @@ pub fn tell_again(
     row: &Row,
     before: &Behind,
 ) -> Result<(), Refused> {
-    let first = again(alloc, row, &row.record)?;
-    tell_replay(alloc, told, before, &first)?;
-    let second = converted(alloc, row.model.as_bytes(), &row.options, &row.choices)?;
+    let first = again(alloc, row, row.record)?;
+    tell_replay(alloc, told, before, &first);
+    let second = converted(alloc, row)?;
     told.number(
         "status of the conversion",
         usize::from(row.status),
         usize::from(second.end.status),
     );
-    let third = again(alloc, row, &second.out)?;
+    let third = again(alloc, row, second.out)?;
     tell_second(told, &first, &third);
     Ok(())
 }

@@ -1,7 +1,7 @@
 //! What a row says: a session, and what stands behind it.
-use crate::player::{Device, Failing, NONE_FAILS};
+use crate::player::{Device, Failing, Session, Way};
 use crate::texts::{bytes, filled};
-use row_files::{Block, Refused};
+use row_files::{Block, Refused, lasting};
 use session::Options;
 use std::alloc::Global;
 
@@ -11,34 +11,30 @@ pub const WORDS: [&str; 14] = [
     "failing", "differs", "file", "refused",
 ];
 
-/// A session of a model, and what stands behind it.
-#[derive(Drop)]
-pub struct Row {
-    pub options: Options,
-    pub model: String,
-    /// The choices, of which so many bytes are read.
-    pub choices: Vec<u8>,
-    pub read: usize,
-    pub output: String,
-    pub status: u8,
-    pub line: u32,
-    pub record: Vec<u8>,
-    /// How many steps are taken, where it says so.
-    pub steps: Option<u32>,
-    /// The device of which calls fail.
-    pub device: Option<Device>,
-    /// Which call of it fails; none, where each one does in turn.
-    pub call: Option<u64>,
+/// Which calls of the devices fail.
+#[derive(Clone, Copy)]
+pub enum Fails {
+    /// None.
+    Nothing,
+    /// This call of a device.
+    Once(Device, u64),
+    /// Once the session is played, each call of a device, in turn.
+    InTurn(Device),
 }
 
-impl Row {
-    /// Which calls fail when the row is played.
-    pub fn failing(&self) -> Failing {
-        match (self.device, self.call) {
-            (Some(device), Some(call)) => Failing::of(device, call),
-            _ => NONE_FAILS,
-        }
-    }
+/// A session, and what stands behind it. Its texts stay as long as the program runs.
+#[derive(Clone, Copy)]
+pub struct Row {
+    pub session: Session,
+    pub fails: Fails,
+    /// How many bytes of the choices are read.
+    pub read: usize,
+    pub output: &'static str,
+    pub status: u8,
+    pub line: u32,
+    pub record: &'static [u8],
+    /// How many steps are taken, where it says so.
+    pub steps: Option<u32>,
 }
 
 /// Nothing is shown of a step.
@@ -50,47 +46,35 @@ const NONE: Options = Options {
     limit: 1_000_000,
 };
 
-/// The options with a letter more.
-fn lettered(options: Options, letter: u8) -> Result<Options, Refused> {
+/// Adds what a letter asks for.
+fn add_letter(options: &mut Options, letter: u8) -> Result<(), Refused> {
     match letter {
-        b'p' => Ok(Options {
-            steps: true,
-            ..options
-        }),
-        b'g' => Ok(Options {
-            globals: true,
-            ..options
-        }),
-        b'l' => Ok(Options {
-            locals: true,
-            ..options
-        }),
-        b'm' => Ok(Options {
-            lossy: true,
-            ..options
-        }),
-        b'i' | b'T' => Ok(options),
-        _ => Err(Refused::from("an unknown flag")),
+        b'p' => options.steps = true,
+        b'g' => options.globals = true,
+        b'l' => options.locals = true,
+        b'm' => options.lossy = true,
+        b'i' | b'T' => {}
+        _ => return Err(Refused::from("an unknown flag")),
     }
+    Ok(())
 }
 
-fn flagged(options: Options, letters: &str) -> Result<Options, Refused> {
-    let mut options = options;
+fn add_letters(options: &mut Options, letters: &str) -> Result<(), Refused> {
     for letter in letters.bytes() {
-        options = lettered(options, letter)?;
+        add_letter(options, letter)?;
     }
-    Ok(options)
+    Ok(())
 }
 
-/// The options with a word more, as `-pg` or `-u7`.
-fn with_word(options: Options, word: &str) -> Result<Options, Refused> {
+/// Adds what a word asks for, as `-pg` or `-u7`.
+fn add_word(options: &mut Options, word: &str) -> Result<(), Refused> {
     let letters = word.strip_prefix('-').ok_or("a flag begins with -")?;
     match letters.split_once('u') {
-        None => flagged(options, letters),
-        Some((letters, digits)) => Ok(Options {
-            limit: digits.parse::<u32>()?,
-            ..flagged(options, letters)?
-        }),
+        None => add_letters(options, letters),
+        Some((letters, digits)) => {
+            options.limit = digits.parse::<u32>()?;
+            add_letters(options, letters)
+        }
     }
 }
 
@@ -101,32 +85,40 @@ fn options(flags: Option<&str>) -> Result<Options, Refused> {
         return Ok(options);
     };
     for word in flags.split(' ') {
-        options = with_word(options, word)?;
+        add_word(&mut options, word)?;
     }
     Ok(options)
 }
 
-/// The device that a part names, and the call of it.
-fn failing(block: Block) -> Result<(Option<Device>, Option<u64>), Refused> {
+/// Which calls fail: a part names the device, and perhaps the call of it.
+fn failures(block: Block) -> Result<Fails, Refused> {
     let Some(words) = block.behind("failing") else {
-        return Ok((None, None));
+        return Ok(Fails::Nothing);
     };
     match words.split_once(' ') {
-        None => Ok((Some(Device::named(words)?), None)),
-        Some((device, call)) => Ok((Some(Device::named(device)?), Some(call.parse::<u64>()?))),
+        None => Ok(Fails::InTurn(Device::named(words)?)),
+        Some((device, call)) => Ok(Fails::Once(Device::named(device)?, call.parse::<u64>()?)),
     }
 }
 
-/// The text of a part, in which `@this` and `@that` stand for these.
+impl Fails {
+    /// Which call fails when the row is played.
+    fn failing(self) -> Failing {
+        match self {
+            Fails::Once(device, call) => device.failing(call),
+            _ => Failing::Never,
+        }
+    }
+}
+
+/// A text, in which `@this` and `@that` stand for these.
 fn text(
     alloc: Global,
-    block: Block,
-    word: &str,
+    text: &str,
     this: &'static str,
     that: &'static str,
-) -> Result<String, Refused> {
-    let text = block.text(alloc, word)?;
-    filled(alloc, &text, this, that)
+) -> Result<&'static str, Refused> {
+    lasting(filled(alloc, text, this, that)?.into_bytes())
 }
 
 /// The bytes that a part writes, in which `@this` stands for this.
@@ -140,23 +132,24 @@ fn part_bytes(
     bytes(alloc, &text)
 }
 
-/// The choices of a block, in which `@this` stands for this, and how many bytes of them are read.
-fn choices(alloc: Global, block: Block, this: &'static str) -> Result<(Vec<u8>, usize), Refused> {
-    let mut choices = part_bytes(alloc, block, "choices", this)?;
-    let read = choices.len();
-    let unread = part_bytes(alloc, block, "unread", this)?;
-    choices.extend_from_slice(unread.as_slice())?;
-    if !block.has("choices") && !block.has("unread") {
-        choices.extend_from_slice(b"7\n")?;
+/// The choices of a block that are not read.
+fn unread(alloc: Global, block: Block, this: &'static str) -> Result<Vec<u8>, Refused> {
+    if block.has("choices") || block.has("unread") {
+        return part_bytes(alloc, block, "unread", this);
     }
-    Ok((choices, read))
+    Ok(Vec::from_slice(alloc, b"7\n")?)
 }
 
-/// The exit status and the line of a refusal that a block says.
-fn numbers(block: Block) -> Result<(u8, u32), Refused> {
-    let status = block.behind("status").ok_or("a row has a status")?;
-    let line = block.behind("line").unwrap_or("0");
-    Ok((status.parse::<u8>()?, line.parse::<u32>()?))
+/// The choices of a block, in which `@this` stands for this, and how many bytes of them are read.
+fn choices(
+    alloc: Global,
+    block: Block,
+    this: &'static str,
+) -> Result<(&'static [u8], usize), Refused> {
+    let mut choices = part_bytes(alloc, block, "choices", this)?;
+    let read = choices.len();
+    choices.extend_from_slice(&unread(alloc, block, this)?)?;
+    Ok((choices.leak(), read))
 }
 
 /// How many steps are taken, where a block says so.
@@ -165,6 +158,58 @@ fn steps(block: Block) -> Result<Option<u32>, Refused> {
         Some(digits) => Ok(Some(digits.parse::<u32>()?)),
         None => Ok(None),
     }
+}
+
+/// The exit status, the line of a refusal and the number of steps that a block says.
+fn numbers(block: Block) -> Result<(u8, u32, Option<u32>), Refused> {
+    let status = block.behind("status").ok_or("a row has a status")?;
+    let line = block.behind("line").unwrap_or("0");
+    Ok((status.parse::<u8>()?, line.parse::<u32>()?, steps(block)?))
+}
+
+/// The model of a block, in which `@this` and `@that` stand for these.
+fn model(
+    alloc: Global,
+    block: Block,
+    this: &'static str,
+    that: &'static str,
+) -> Result<&'static str, Refused> {
+    text(alloc, &block.text(alloc, "model")?, this, that)
+}
+
+/// The output that a block wants, in which `@this` and `@that` stand for these.
+fn output(
+    alloc: Global,
+    block: Block,
+    this: &'static str,
+    that: &'static str,
+) -> Result<&'static str, Refused> {
+    text(alloc, &block.lines(alloc, "output")?, this, that)
+}
+
+/// The session of a block, in which `@this` and `@that` stand for these, and how many bytes of its choices are read.
+fn session_of(
+    alloc: Global,
+    block: Block,
+    this: &'static str,
+    that: &'static str,
+    failing: Failing,
+) -> Result<(Session, usize), Refused> {
+    let options = options(block.behind("flags"))?;
+    let (choices, read) = choices(alloc, block, this)?;
+    let session = Session {
+        way: Way::Played,
+        options,
+        model: model(alloc, block, this, that)?,
+        choices,
+        failing,
+    };
+    Ok((session, read))
+}
+
+/// The record of a block, in which `@this` stands for this.
+fn record(alloc: Global, block: Block, this: &'static str) -> Result<&'static [u8], Refused> {
+    Ok(part_bytes(alloc, block, "record", this)?.leak())
 }
 
 /// The row of a block, in which `@this` and `@that` stand for these.
@@ -177,22 +222,17 @@ pub fn row_of(
     if !block.has("model") || !block.has("output") {
         return Err(Refused::from("a row has a model and an output"));
     }
-    let options = options(block.behind("flags"))?;
-    let (status, line) = numbers(block)?;
-    let (device, call) = failing(block)?;
-    let (choices, read) = choices(alloc, block, this)?;
-    let output = block.lines(alloc, "output")?;
+    let (status, line, steps) = numbers(block)?;
+    let fails = failures(block)?;
+    let (session, read) = session_of(alloc, block, this, that, fails.failing())?;
     Ok(Row {
-        options,
-        model: text(alloc, block, "model", this, that)?,
-        choices,
+        session,
+        fails,
         read,
-        output: filled(alloc, &output, this, that)?,
+        output: output(alloc, block, this, that)?,
         status,
         line,
-        record: part_bytes(alloc, block, "record", this)?,
-        steps: steps(block)?,
-        device,
-        call,
+        record: record(alloc, block, this)?,
+        steps,
     })
 }

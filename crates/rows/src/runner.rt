@@ -2,7 +2,7 @@
 use crate::failing::tell_each;
 use crate::player::{Behind, played};
 use crate::replay::tell_again;
-use crate::row::{Row, WORDS, row_of};
+use crate::row::{Fails, Row, WORDS, row_of};
 use crate::texts::bytes;
 use row_files::{Block, Refused, Told, blocks, lasting};
 use session::{Cause, End};
@@ -47,17 +47,12 @@ fn line_of(end: &End) -> u32 {
 /// Tells where a session ends for another cause than its row says: in its output, or by the device that fails.
 fn tell_end(alloc: Global, told: &mut Told, row: &Row, end: &End) -> Result<(), Refused> {
     let said = said(alloc, end)?;
-    match (row.device, row.call) {
-        (Some(device), Some(_)) => {
-            if end.cause != device.cause() {
-                told.bytes("end", b"the device fails", said.as_bytes());
-            }
+    if let Fails::Once(device, _) = row.fails {
+        if end.cause != device.cause() {
+            told.bytes("end", b"the device fails", said.as_bytes());
         }
-        _ => {
-            if !row.output.contains(said.as_str()) {
-                told.bytes("end", row.output.as_bytes(), said.as_bytes());
-            }
-        }
+    } else if !row.output.contains(said.as_str()) {
+        told.bytes("end", row.output.as_bytes(), said.as_bytes());
     }
     Ok(())
 }
@@ -65,9 +60,9 @@ fn tell_end(alloc: Global, told: &mut Told, row: &Row, end: &End) -> Result<(), 
 /// Tells what a session has otherwise than its row.
 fn tell_behind(told: &mut Told, row: &Row, behind: &Behind) {
     let end = &behind.end;
-    let read = row.choices.len().saturating_sub(behind.unread);
-    told.bytes("output", row.output.as_bytes(), &behind.out);
-    told.bytes("record", &row.record, &behind.rec);
+    let read = row.session.choices.len().saturating_sub(behind.unread);
+    told.bytes("output", row.output.as_bytes(), behind.out);
+    told.bytes("record", row.record, behind.rec);
     told.number("status", usize::from(row.status), usize::from(end.status));
     told.number("bytes that are read", row.read, read);
     told.number(
@@ -80,19 +75,23 @@ fn tell_behind(told: &mut Told, row: &Row, behind: &Behind) {
     }
 }
 
+/// Tells what is otherwise where a row is played again: with failing devices, or from its record.
+fn tell_rest(alloc: Global, told: &mut Told, row: &Row, behind: &Behind) -> Result<(), Refused> {
+    match row.fails {
+        Fails::Once(_, _) => Ok(()),
+        Fails::InTurn(device) => tell_each(alloc, told, &row.session, device, behind),
+        Fails::Nothing if row.record.is_empty() => Ok(()),
+        Fails::Nothing => tell_again(alloc, told, row, behind),
+    }
+}
+
 /// What is otherwise than a row says.
 fn told_of_row(alloc: Global, row: &Row) -> Result<Told, Refused> {
     let mut told = Told::new(alloc);
-    let model = row.model.as_bytes();
-    let behind = played(alloc, model, &row.options, &row.choices, row.failing())?;
+    let behind = played(alloc, &row.session)?;
     tell_behind(&mut told, row, &behind);
     tell_end(alloc, &mut told, row, &behind.end)?;
-    match (row.device, row.call) {
-        (Some(_), Some(_)) => {}
-        (Some(device), None) => tell_each(alloc, &mut told, row, device, &behind)?,
-        (None, _) if row.record.is_empty() => {}
-        (None, _) => tell_again(alloc, &mut told, row, &behind)?,
-    }
+    tell_rest(alloc, &mut told, row, &behind)?;
     Ok(told)
 }
 
