@@ -408,10 +408,6 @@ module _ (depth : ℕ) (body : List Word → Read (List Item × Bool)) where
     xs ← braces r.1
     Ok ((for_of r.0 xs.0, true), xs.1)
 
-  abbrev pub branching : Opening → List Word → Read (Basic × Bool)
-  branching o.Do ts = do_od ts
-  branching _ ts = if_fi ts
-
   abbrev pub embraced : Opening → List Word → Read (Basic × Bool)
   embraced o.Atomic ts = atomic ts
   embraced o.DStep ts = d_step ts
