@@ -1,4 +1,4 @@
-//! Models from their texts, which are played as far as memory goes. What they hold is not let go: its place is the test's own.
+//! Models from their texts, which are played as far as memory goes.
 use crate::run::{Choices, plays_checked};
 use pml_check::check;
 use pml_inline::expand;
@@ -7,7 +7,6 @@ use pml_lex::token::Token;
 use pml_syntax::parse;
 use pml_tree::tree::Tree;
 use std::alloc::Global;
-use std::mem::forget;
 use std::process::Abort;
 
 fn plays_tree<R: Abort>(
@@ -19,7 +18,6 @@ fn plays_tree<R: Abort>(
 ) {
     if let Ok(checked) = check(alloc, tree) {
         plays_checked(rt, alloc, &checked, choices, kept);
-        forget(checked);
     }
 }
 
