@@ -6,6 +6,7 @@ mod Models
 mod Choices
 mod Values
 mod Control
+mod Found
 mod Atomic
 mod DSteps
 mod Rendezvous
