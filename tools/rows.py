@@ -9,7 +9,7 @@ TOP = os.path.dirname(os.path.dirname(os.path.abspath(__file__)))
 LAYERS = {
     "tokens": ["tokens", "count"],
     "grammar": ["parsed", "parsed-as-cut", "expressions"],
-    "conditions": ["condition", "control"],
+    "conditions": ["condition"],
     "names": ["model", "statements"],
     "graphs": ["graph", "levels", "texts", "marks"],
     "values": ["first-state", "created", "results", "printed", "state-behind"],

@@ -5,8 +5,8 @@ use crate::bytes::bytes_of;
 use crate::layer::TOKENS_WISH;
 use crate::place::Place;
 use crate::tally::Tally;
-use row_files::{Pair, Writer, pairs};
-use std::alloc::{AllocError, Global};
+use row_files::{Pair, Writer};
+use std::alloc::Global;
 
 /// Writes a token behind others.
 fn add(out: &mut Writer, token: &str) {
@@ -83,17 +83,10 @@ fn compare_lines(
 
 /// Compares the beginnings of a block's text.
 pub fn compare_beginnings(alloc: Global, place: Place, tally: &mut Tally) {
-    let list = pairs(alloc, place.block.part("list"));
-    let lines = pairs(alloc, place.block.part("beginnings"));
-    match (bytes_of(alloc, place.block.part("text")), list, lines) {
-        (Ok(text), Ok(list), Ok(lines)) => compare_lines(
-            alloc,
-            place,
-            text.as_slice(),
-            list,
-            lines,
-            tally,
-        ),
-        _ => tally.refuse(place, "a text that cannot be read"),
+    let list = place.lines(alloc, "list", tally);
+    let lines = place.lines(alloc, "beginnings", tally);
+    match bytes_of(alloc, place.block.part("text")) {
+        Ok(text) => compare_lines(alloc, place, text.as_slice(), list, lines, tally),
+        Err(refused) => tally.refuse(place, refused.why),
     }
 }

@@ -10,27 +10,18 @@
 //! What is known of nodes besides is a line for each: its line in the text, `end` where it is a valid end point, and `atomic N`
 //! where it lies in an atomic, N being the first node with the same outermost one.
 use crate::layer::GraphView;
+use crate::statements::add_spaced;
 use pml_flow::edge::Edge;
 use pml_flow::graph::Graph;
 use pml_flow::statements::{Statements, all_statements};
-use pml_lex::token::Token;
 use pml_program::program::{Basic, Seq, Stmt};
 use row_files::Writer;
 use std::alloc::{AllocError, Global};
 
-fn add_tokens(out: &mut Writer, tokens: &[Token<'_>]) {
-    for (number, token) in tokens.iter().enumerate() {
-        if number > 0 {
-            out.word(" ");
-        }
-        out.bytes(token.text());
-    }
-}
-
 fn add_statement(out: &mut Writer, stmt: &Stmt<'_>) {
     match &stmt.basic {
         Basic::DStep(_) => out.word("d_step"),
-        _ => add_tokens(out, stmt.tokens.as_slice()),
+        _ => add_spaced(out, stmt.tokens.as_slice()),
     }
 }
 

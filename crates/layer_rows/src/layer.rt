@@ -39,25 +39,10 @@ pub enum View {
     BareTree,
     /// Whether it has a tree.
     Tree,
-    /// The expressions that are statements of its tree.
-    Expressions,
-    /// Something of its tree with the names replaced.
-    Names(NamesView),
     /// Something of the checked model that it is.
     Model(ModelView),
     /// What is read of it as a command line.
     Words,
-}
-
-/// What is asked of a tree with its names replaced.
-#[derive(Clone, Copy)]
-pub enum NamesView {
-    /// What is found in the control of its first proctype.
-    Control,
-    /// All of it.
-    Model,
-    /// The texts of its statements.
-    Statements,
 }
 
 /// What is asked of a checked model.
@@ -65,6 +50,12 @@ pub enum NamesView {
 pub enum ModelView {
     /// The least condition that refuses it, if one does.
     Condition,
+    /// All of it: declarations and statements with the names replaced.
+    Whole,
+    /// The texts of its statements.
+    Statements,
+    /// The expressions that are statements.
+    Expressions,
     /// Something of the control graph of its first proctype.
     Graph(GraphView),
     /// What it begins with.
@@ -122,7 +113,7 @@ pub const TOKENS_WISH: Wish = Wish {
 };
 
 /// All words that say what is wanted.
-pub static WISHES: [Wish; 22] = [
+pub static WISHES: [Wish; 21] = [
     TOKENS_WISH,
     Wish {
         word: "count",
@@ -142,7 +133,7 @@ pub static WISHES: [Wish; 22] = [
     Wish {
         word: "expressions",
         layer: GRAMMAR,
-        view: View::Expressions,
+        view: View::Model(ModelView::Expressions),
     },
     Wish {
         word: "condition",
@@ -150,19 +141,14 @@ pub static WISHES: [Wish; 22] = [
         view: View::Model(ModelView::Condition),
     },
     Wish {
-        word: "control",
-        layer: CONDITIONS,
-        view: View::Names(NamesView::Control),
-    },
-    Wish {
         word: "model",
         layer: NAMES,
-        view: View::Names(NamesView::Model),
+        view: View::Model(ModelView::Whole),
     },
     Wish {
         word: "statements",
         layer: NAMES,
-        view: View::Names(NamesView::Statements),
+        view: View::Model(ModelView::Statements),
     },
     Wish {
         word: "graph",

@@ -14,7 +14,6 @@ mod model;
 mod numbers;
 mod pairs;
 mod place;
-mod program;
 mod rows;
 mod shape;
 mod signs;

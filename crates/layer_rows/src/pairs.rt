@@ -4,8 +4,8 @@ use crate::bytes::bytes_of;
 use crate::layer::TOKENS_WISH;
 use crate::place::Place;
 use crate::tally::Tally;
-use row_files::{Pair, Writer, pairs};
-use std::alloc::{AllocError, Global};
+use row_files::{Pair, Writer};
+use std::alloc::Global;
 
 const LEFT_OUT: &str = "LeftOut(1)";
 
@@ -69,60 +69,34 @@ fn compare_sign(
     joined: &[Pair],
     tally: &mut Tally,
 ) {
+    if first.that.is_empty() {
+        tally.refuse(place, "a sign without tokens");
+    }
     compare(alloc, place, first.this, first.that, tally);
     for second in signs {
         compare_pair(alloc, place, first, *second, joined, tally);
     }
 }
 
-fn is_sign(signs: &[Pair], text: &str) -> bool {
-    for sign in signs {
-        if sign.this == text && !sign.that.is_empty() {
-            return true;
-        }
-    }
-    false
-}
-
 /// Whether each of these lines is one of two of the signs.
 fn are_of_signs(joined: &[Pair], signs: &[Pair]) -> bool {
     for line in joined {
         let (first, second) = line.this.split_once(" ").unwrap_or((line.this, ""));
-        if !is_sign(signs, first) || !is_sign(signs, second) {
+        if said(signs, first, "").is_empty() || said(signs, second, "").is_empty() {
             return false;
         }
     }
     true
 }
 
-/// Whether each of these signs has tokens.
-fn have_tokens(signs: &[Pair]) -> bool {
-    for sign in signs {
-        if sign.that.is_empty() {
-            return false;
-        }
-    }
-    true
-}
-
-fn compare_all(alloc: Global, place: Place, signs: &[Pair], joined: &[Pair], tally: &mut Tally) {
-    if !have_tokens(signs) {
-        tally.refuse(place, "a sign without tokens");
-    }
+/// Compares the signs of a block.
+pub fn compare_signs(alloc: Global, place: Place, tally: &mut Tally) {
+    let signs = place.lines(alloc, "signs", tally);
+    let joined = place.lines(alloc, "joined", tally);
     if !are_of_signs(joined, signs) {
         tally.refuse(place, "two that are no signs of the block");
     }
     for sign in signs {
         compare_sign(alloc, place, *sign, signs, joined, tally);
-    }
-}
-
-/// Compares the signs of a block.
-pub fn compare_signs(alloc: Global, place: Place, tally: &mut Tally) {
-    let signs = pairs(alloc, place.block.part("signs"));
-    let joined = pairs(alloc, place.block.part("joined"));
-    match (signs, joined) {
-        (Ok(signs), Ok(joined)) => compare_all(alloc, place, signs, joined, tally),
-        _ => tally.refuse(place, "out of memory"),
     }
 }

@@ -2,8 +2,8 @@
 use crate::answer::answer;
 use crate::layer::Wish;
 use crate::tally::Tally;
-use row_files::{Block, Writer};
-use std::alloc::Global;
+use row_files::{Block, Pair, Writer, pairs};
+use std::alloc::{AllocError, Global};
 
 /// A block of a file.
 #[derive(Clone, Copy)]
@@ -13,6 +13,17 @@ pub struct Place {
 }
 
 impl Place {
+    /// The lines of a part; none, where memory is wanting, which is told.
+    pub fn lines(self, alloc: Global, word: &str, tally: &mut Tally) -> &'static [Pair] {
+        match pairs(alloc, self.block.part(word)) {
+            Ok(lines) => lines,
+            Err(AllocError) => {
+                tally.refuse(self, "out of memory");
+                &[]
+            }
+        }
+    }
+
     /// Compares what a row wants of a text, with this for `@this`, and what comes.
     pub fn compare(
         self,

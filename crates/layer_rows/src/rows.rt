@@ -9,7 +9,7 @@ use row_files::{Block, Pair, Refused, Writer, pairs};
 use std::alloc::{AllocError, Global};
 
 /// The words that begin a part.
-pub static WORDS: [&str; 36] = [
+pub static WORDS: [&str; 35] = [
     "each",
     "text",
     "parts",
@@ -23,7 +23,6 @@ pub static WORDS: [&str; 36] = [
     "parsed-as-cut",
     "expressions",
     "condition",
-    "control",
     "model",
     "statements",
     "graph",

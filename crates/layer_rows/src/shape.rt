@@ -1,71 +1,74 @@
-//! The expressions that are statements of a tree, written with all of their parentheses.
+//! The expressions that are statements of a checked model, written with all of their parentheses.
 use crate::signs::{infix, prefix};
-use pml_tree::tree::{Action, Basic, Expr, Item, Tree, Unit};
+use pml_program::expr::{Expr, Target};
+use pml_program::program::{Action, Basic, Proctype, Program, Slot, Stmt};
 use row_files::Writer;
 
+/// The name of a global variable.
+fn add_name(globals: &[Slot<'_>], target: &Target, out: &mut Writer) {
+    match globals.get(target.variable) {
+        Some(slot) => out.bytes(slot.name.text()),
+        None => out.refuse("no such global"),
+    }
+}
+
 /// An expression with its parentheses.
-fn write_expr(x: &Expr<'_>, out: &mut Writer) {
+fn add_expr(globals: &[Slot<'_>], x: &Expr, out: &mut Writer) {
     match x {
-        Expr::Number(n) => out.bytes(n.text()),
-        Expr::Truth(true) => out.word("1"),
-        Expr::Truth(false) => out.word("0"),
+        Expr::Number(n) => out.signed(*n),
+        Expr::Pid => out.word("_pid"),
+        Expr::ProcessCount => out.word("_nr_pr"),
         Expr::Timeout => out.word("timeout"),
-        Expr::Read(r) => out.bytes(r.first.name.text()),
-        Expr::Ask(_, r) => {
+        Expr::Read(target) => add_name(globals, target, out),
+        Expr::Ask(_, target) => {
             out.word("ask ");
-            out.bytes(r.first.name.text());
+            add_name(globals, target, out);
         }
-        Expr::Poll(r, _, _) => {
+        Expr::Poll(target, _, _) => {
             out.word("poll ");
-            out.bytes(r.first.name.text());
+            add_name(globals, target, out);
         }
         Expr::Unary(op, x) => {
             out.word("[");
             out.word(prefix(*op));
-            write_expr(x.get(), out);
+            add_expr(globals, x.get(), out);
             out.word("]");
         }
         Expr::Binary(op, x, y) => {
             out.word("[");
-            write_expr(x.get(), out);
+            add_expr(globals, x.get(), out);
             out.word(infix(*op));
-            write_expr(y.get(), out);
+            add_expr(globals, y.get(), out);
             out.word("]");
         }
         Expr::Choice(x, y, z) => {
             out.word("[");
-            write_expr(x.get(), out);
+            add_expr(globals, x.get(), out);
             out.word("->");
-            write_expr(y.get(), out);
+            add_expr(globals, y.get(), out);
             out.word(":");
-            write_expr(z.get(), out);
+            add_expr(globals, z.get(), out);
             out.word("]");
         }
     }
 }
 
-fn write_item(item: &Item<'_>, out: &mut Writer) {
-    let Basic::Plain(action) = item.basic.get() else {
-        return;
-    };
-    match action.get() {
-        Action::Holds(x) => write_expr(x.get(), out),
-        _ => {}
+fn add_statement(globals: &[Slot<'_>], stmt: &Stmt<'_>, out: &mut Writer) {
+    if let Basic::Plain(Action::Holds(x)) = &stmt.basic {
+        add_expr(globals, x, out);
     }
 }
 
-fn write_unit(unit: &Unit<'_>, out: &mut Writer) {
-    if let Unit::Proctype(process) = unit {
-        for item in process.body.items.as_slice() {
-            write_item(item, out);
-        }
+fn add_process(globals: &[Slot<'_>], process: &Proctype<'_>, out: &mut Writer) {
+    for stmt in process.body.steps.as_slice() {
+        add_statement(globals, stmt, out);
     }
 }
 
-/// Writes the expressions that are statements. Each operator with its operands stands in brackets, and references are written as their
-/// first name.
-pub fn add_expressions(tree: &Tree<'_>, out: &mut Writer) {
-    for unit in tree.units.as_slice() {
-        write_unit(unit, out);
+/// Writes the expressions that are statements of the bodies of proctypes. Each operator with its operands stands in brackets, and references are
+/// written as the names of global variables.
+pub fn add_expressions(program: &Program<'_>, out: &mut Writer) {
+    for process in program.proctypes.as_slice() {
+        add_process(program.globals.as_slice(), process, out);
     }
 }

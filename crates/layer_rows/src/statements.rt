@@ -7,23 +7,28 @@ use pml_program::program::{Basic, Program, Seq, Stmt};
 use row_files::Writer;
 use sqlite_items::Items;
 
-fn line_of(tokens: &[Token<'_>]) -> u32 {
-    match tokens {
-        [] => 0,
-        [first, ..] => first.line(),
+/// Writes the texts of tokens with a space between them.
+pub fn add_spaced(out: &mut Writer, tokens: &[Token<'_>]) {
+    for (number, token) in tokens.iter().enumerate() {
+        if number > 0 {
+            out.word(" ");
+        }
+        out.bytes(token.text());
     }
 }
 
-/// The line of the first token and, in brackets, so many tokens with a space between them.
-fn text(out: &mut Writer, tokens: &[Token<'_>], most: usize) {
-    out.count(line_of(tokens));
-    out.word(" [");
-    for (at, one) in tokens.iter().take(most).enumerate() {
-        if at > 0 {
-            out.word(" ");
-        }
-        out.bytes(one.text());
+/// The first of these tokens, which is the word that a statement of many begins with.
+fn first_of<'t, 'a>(tokens: &'t [Token<'a>]) -> &'t [Token<'a>] {
+    &tokens[..tokens.len().min(1)]
+}
+
+/// Writes the line of the first token and, in brackets, all of them.
+fn add_text(out: &mut Writer, tokens: &[Token<'_>]) {
+    if let [first, ..] = tokens {
+        out.count(first.line());
     }
+    out.word(" [");
+    add_spaced(out, tokens);
     out.word("]\n");
 }
 
@@ -31,13 +36,13 @@ fn text(out: &mut Writer, tokens: &[Token<'_>], most: usize) {
 fn stmt(out: &mut Writer, s: &Stmt<'_>) {
     let tokens = s.tokens.as_slice();
     match &s.basic {
-        Basic::Plain(_) | Basic::Goto(_) | Basic::Break => text(out, tokens, tokens.len()),
+        Basic::Plain(_) | Basic::Goto(_) | Basic::Break => add_text(out, tokens),
         Basic::If(options) | Basic::Do(options) => {
-            text(out, tokens, 1);
+            add_text(out, first_of(tokens));
             seqs(out, options);
         }
         Basic::DStep(inside) => {
-            text(out, tokens, 1);
+            add_text(out, first_of(tokens));
             seq(out, inside);
         }
         Basic::Block(inside) | Basic::Atomic(inside) => seq(out, inside),

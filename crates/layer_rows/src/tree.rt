@@ -1,74 +1,40 @@
 //! What the layers make of a tree.
-ghost use Rattle.std.specs.Prelude.{◌≡◌};
-ghost use Rattle.pml_marks.specs.Marks.{of_tree};
-ghost use Rattle.pml_names.specs.Env.{env};
+ghost use Rattle.pml_start.specs.Bound.{IsWithin};
 
 use crate::graph::add_graph;
-use crate::layer::{GraphView, ModelView, NamesView, View};
+use crate::layer::{GraphView, ModelView, View};
 use crate::lines::add_lines;
-use crate::program::add_program;
+use crate::model::add_model;
 use crate::shape::add_expressions;
+use crate::statements::add_texts;
 use crate::values::{add_creation, add_stop, add_values};
 use pml_check::{CheckFault, Checked, check};
 use pml_flow::graph::Graph;
 use pml_lex::token::Token;
-use pml_marks::mark::Mark;
-use pml_marks::model::marks;
-use pml_names::names::all_names;
-use pml_names::table::Table;
 use pml_program::program::Program;
-use pml_resolve::model::number;
 use pml_start::start::start;
 use pml_syntax::{SyntaxFault, parse};
 use pml_tree::tree::Tree;
 use row_files::{Block, Writer};
 use std::alloc::{AllocError, Global};
 
-fn of_table(alloc: Global, view: NamesView, tree: &Tree<'_>, names: &Table<'_>, out: &mut Writer)
-    requires { names.now ≡ env (of_tree tree.now) }
-{
-    match number(alloc, tree, names) {
-        Ok(program) => add_program(alloc, view, &program, out),
-        Err(AllocError) => out.no_memory(),
-    }
-}
-
-fn of_marks<'a>(
+/// What is asked of a model within its limits, which has these graphs.
+fn of_program(
     alloc: Global,
-    view: NamesView,
-    tree: &Tree<'a>,
-    marks: &[Mark<'a>],
+    view: ModelView,
+    block: Block,
+    program: &Program<'_>,
+    graphs: &[Graph],
     out: &mut Writer,
 )
-    requires { marks.now ≡ of_tree tree.now }
+    requires { IsWithin program.now }
 {
-    match all_names(alloc, marks) {
-        Ok(names) => of_table(alloc, view, tree, &names.table, out),
-        Err(AllocError) => out.no_memory(),
-    }
-}
-
-/// What is asked of a tree with its names replaced.
-fn of_names(alloc: Global, view: NamesView, tree: &Tree<'_>, out: &mut Writer) {
-    match marks(alloc, tree) {
-        Ok(marks) => of_marks(alloc, view, tree, marks.as_slice(), out),
-        Err(AllocError) => out.no_memory(),
-    }
-}
-
-fn add_tree(alloc: Global, view: View, tree: &Tree<'_>, out: &mut Writer) {
-    match view {
-        View::Expressions => add_expressions(tree, out),
-        View::Names(view) => of_names(alloc, view, tree, out),
-        _ => out.word("tree"),
-    }
-}
-
-fn of_model(alloc: Global, view: ModelView, block: Block, checked: &Checked<'_>, out: &mut Writer) {
-    let program = checked.program();
     match view {
         ModelView::Condition => out.word("none"),
-        ModelView::Graph(view) => of_graphs(alloc, view, program, checked.graphs(), out),
+        ModelView::Whole => add_model(program, out),
+        ModelView::Statements => add_texts(program, out),
+        ModelView::Expressions => add_expressions(program, out),
+        ModelView::Graph(view) => of_graphs(alloc, view, program, graphs, out),
         ModelView::Created => add_creation(alloc, block, program, out),
         ModelView::Lines(view) => add_lines(alloc, view, block, program, out),
         _ => match start(alloc, program) {
@@ -76,6 +42,10 @@ fn of_model(alloc: Global, view: ModelView, block: Block, checked: &Checked<'_>,
             Err(stop) => add_stop(stop, out),
         },
     }
+}
+
+fn of_model(alloc: Global, view: ModelView, block: Block, checked: &Checked<'_>, out: &mut Writer) {
+    of_program(alloc, view, block, checked.program(), checked.graphs(), out)
 }
 
 /// What is asked of the first of these graphs.
@@ -110,33 +80,17 @@ fn of_checked<'a>(alloc: Global, view: ModelView, block: Block, tree: Tree<'a>, 
     }
 }
 
-fn written(alloc: Global, view: View, tree: &Tree<'_>) -> Writer {
-    let mut out = Writer::new(alloc);
-    add_tree(alloc, view, tree, &mut out);
-    out
-}
-
-/// What the layers make of a tree. It is let go by a check: a program that drops one itself proves anew how each of its parts is dropped.
-/// What is written is answered, since the check of a loan of the tree beside one of a writer does not end.
-fn of_owned<'a>(alloc: Global, view: View, tree: Tree<'a>) -> Writer {
-    let answer = written(alloc, view, &tree);
+/// A tree is there. It is let go by a check: a program that drops one itself proves anew how each of its parts is dropped.
+fn of_tree<'a>(alloc: Global, tree: Tree<'a>, out: &mut Writer) {
     let _ = check(alloc, tree);
-    answer
-}
-
-fn of_lent<'a>(alloc: Global, view: View, tree: Tree<'a>, out: &mut Writer) {
-    let answer = of_owned(alloc, view, tree);
-    match answer.refused() {
-        Some(why) => out.refuse(why),
-        None => out.word(answer.text()),
-    }
+    out.word("tree");
 }
 
 /// What the layers make of a tree, or of the model that it is.
 fn of_parsed<'a>(alloc: Global, view: View, block: Block, tree: Tree<'a>, out: &mut Writer) {
     match view {
         View::Model(view) => of_checked(alloc, view, block, tree, out),
-        _ => of_lent(alloc, view, tree, out),
+        _ => of_tree(alloc, tree, out),
     }
 }
 
