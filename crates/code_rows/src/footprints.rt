@@ -25,20 +25,20 @@ enum Kept {
 struct Row {
     name: &'static str,
     model: &'static str,
-    choices: Choices<'static>,
+    choices: Choices,
     kept: Kept,
 }
 
 /// The first move is taken each time.
-const FIRST: Choices<'static> = Choices {
-    first: &[],
+const FIRST: Choices = Choices {
+    first: 0,
     then: 0,
     most: 300,
 };
 
 /// The second move is taken, or the only one there is, and then the first one each time.
-const SECOND: Choices<'static> = Choices {
-    first: &[1],
+const SECOND: Choices = Choices {
+    first: 1,
     then: 0,
     most: 300,
 };
@@ -280,7 +280,7 @@ fn rises<R: Abort>(rt: &R, name: &str, rising: Rising, found: &[usize]) {
 }
 
 fn keeps<R: Abort>(rt: &R, alloc: Global, row: &Row) {
-    let found = kept_of(rt, alloc, row.model, &row.choices);
+    let found = kept_of(rt, alloc, row.model, row.choices);
     match row.kept {
         Kept::Listed(kept) => same(rt, row.name, "kept", found.as_slice(), kept),
         Kept::Rising(rising) => rises(rt, row.name, rising, found.as_slice()),

@@ -6,7 +6,7 @@ ghost use Rattle.pml_tree.specs.declared.tree.Scalar.TheVariants.{Byte, Short};
 
 use crate::beginnings::begun_whole;
 use crate::compare::same;
-use crate::limits::cells_of;
+use crate::limits::sizes_of;
 use crate::parts::{TAKER, all, constants, globals, of_three, only, variable, variables};
 use diagnostics::Stop;
 use pml_channel::channel::Channel;
@@ -278,7 +278,7 @@ fn stands<R: Abort>(rt: &R, store: &Store, live: usize, ended: Result<(), Stop>)
 fn most_cells(variables: &[Slot<'_>]) -> Option<u32>
     ensures { IfSome result (λ n. n ≡ cells_of variables.now + 1) }
 {
-    cells_of(variables)?.checked_add(1)
+    sizes_of(variables)?.cells.checked_add(1)
 }
 
 /// A process of the proctype with the number 5 is created beside a global.

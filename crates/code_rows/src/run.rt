@@ -2,27 +2,23 @@
 use diagnostics::Stop;
 use pml_check::Checked;
 use pml_sim::world::World;
-use session::Machine;
 use std::alloc::Global;
 use std::process::Abort;
 
 /// Which moves are taken.
 #[derive(Clone, Copy)]
-pub struct Choices<'a> {
-    /// The numbers of the first moves.
-    pub first: &'a [usize],
-    /// The number of each one behind them.
+pub struct Choices {
+    /// The number of the first move.
+    pub first: usize,
+    /// The number of each one behind it.
     pub then: usize,
     /// So many moves are taken at most.
     pub most: u32,
 }
 
-impl Choices<'_> {
-    fn at(&self, step: usize) -> usize {
-        match self.first.get(step) {
-            Some(choice) => *choice,
-            None => self.then,
-        }
+impl Choices {
+    fn at(self, step: u32) -> usize {
+        if step == 0 { self.first } else { self.then }
     }
 }
 
@@ -37,26 +33,20 @@ fn is_same(first: Stop, second: Result<(), Stop>) -> bool {
 
 /// Takes the move with this number, or the only one there is, and says whether it was taken to its end. A world that stops
 /// answers the same when that move is taken again, and has no move.
-fn goes_on<R: Abort, M: Machine>(
-    rt: &R,
-    machine: &mut M,
-    choice: usize,
-    text: &mut Vec<u8>,
-) -> bool {
-    let mut moves = Vec::new(*text.allocator());
-    if machine.moves(&mut moves).is_err() {
+fn goes_on<R: Abort>(world: &mut World<'_, '_>, rt: &R, choice: usize, text: &mut Vec<u8>) -> bool {
+    let Ok(moves) = world.moves() else {
         return false;
-    }
+    };
     let at = if moves.len() < 2 { 0 } else { choice };
     if at >= moves.len() {
         return false;
     }
-    let Err(stop) = machine.take(&moves[at], text) else {
+    let Err(stop) = world.take(&moves[at], text) else {
         return true;
     };
-    let again = machine.take(&moves[at], text);
+    let again = world.take(&moves[at], text);
     assert!(rt; is_same(stop, again));
-    if machine.moves(&mut moves).is_ok() {
+    if let Ok(moves) = world.moves() {
         assert!(rt; moves.is_empty());
     }
     false
@@ -69,10 +59,10 @@ fn notes(world: &World<'_, '_>, kept: &mut Vec<usize>) -> bool {
 
 /// Plays a model from its first state, and notes how much is kept there and after each step.
 fn plays<R: Abort>(
+    world: &mut World<'_, '_>,
     rt: &R,
     alloc: Global,
-    world: &mut World<'_, '_>,
-    choices: &Choices<'_>,
+    choices: Choices,
     kept: &mut Vec<usize>,
 ) {
     if !notes(world, kept) {
@@ -80,8 +70,8 @@ fn plays<R: Abort>(
     }
     let mut text = Vec::new(alloc);
     for step in 0..choices.most {
-        let choice = choices.at(step as usize);
-        if !goes_on(rt, world, choice, &mut text) || !notes(world, kept) {
+        let choice = choices.at(step);
+        if !goes_on(world, rt, choice, &mut text) || !notes(world, kept) {
             return;
         }
     }
@@ -89,13 +79,13 @@ fn plays<R: Abort>(
 
 /// The same of a checked model.
 pub fn plays_checked<R: Abort>(
+    checked: &Checked<'_>,
     rt: &R,
     alloc: Global,
-    checked: &Checked<'_>,
-    choices: &Choices<'_>,
+    choices: Choices,
     kept: &mut Vec<usize>,
 ) {
     if let Ok(mut world) = World::start(alloc, checked, false) {
-        plays(rt, alloc, &mut world, choices, kept);
+        plays(&mut world, rt, alloc, choices, kept);
     }
 }

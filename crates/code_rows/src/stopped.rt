@@ -5,15 +5,15 @@ use std::alloc::Global;
 use std::process::Abort;
 
 /// The second move, or the only one there is.
-static SECOND: Choices<'static> = Choices {
-    first: &[],
+const SECOND: Choices = Choices {
+    first: 1,
     then: 1,
     most: 50,
 };
 
 /// Plays a model from its first state, as far as memory goes.
 fn stops_for_good<R: Abort>(rt: &R, alloc: Global, model: &str) {
-    let _kept = kept_of(rt, alloc, model, &SECOND);
+    let _kept = kept_of(rt, alloc, model, SECOND);
 }
 
 /// Messages, processes with channels of their own, printed texts and a step of many statements, and a fault at the end.
