@@ -4,7 +4,7 @@ use std::num::ParseIntError;
 use std::{fmt, io};
 
 /// Why a file or a row is not read.
-#[derive(Clone, Copy, Debug, PartialEq, Eq)]
+#[derive(Clone, Copy)]
 pub struct Refused {
     /// The line of the file, counted from 1; 0 where it is not known.
     pub line: u32,
