@@ -29,16 +29,16 @@ fn play(alloc: Global, block: Block, filling: Pair, tally: &mut Tally) {
         filling,
     };
     tell(entry, &mut told);
+    judge(block, filling.this, told.words(), tally);
+}
+
+// Counts a row of which these words are told.
+fn judge(block: Block, this: &str, words: &str, tally: &mut Tally) {
     match block.behind("differs") {
-        Some(words) if told.words().starts_with(words) => tally.pass(),
-        Some(_) => tally.fail(
-            block,
-            filling.this,
-            "it does not differ as it should\n",
-            told.words(),
-        ),
-        None if told.is_empty() => tally.pass(),
-        None => tally.fail(block, filling.this, "", told.words()),
+        Some(wanted) if words.starts_with(wanted) => tally.pass(),
+        Some(_) => tally.fail(block, this, "it does not differ as it should\n", words),
+        None if words.is_empty() => tally.pass(),
+        None => tally.fail(block, this, "", words),
     }
 }
 

@@ -1,6 +1,6 @@
 //! What a row says: a session, and what stands behind it.
 use crate::player::{Device, Failing, NEVER, Session, Way};
-use crate::texts::{MOST, filled, kept, number, write_unescaped};
+use crate::texts::{MOST, filled, kept, number, unescaped};
 use row_files::{Block, Pair, Told, Writer};
 use session::Options;
 use std::alloc::{AllocError, Global};
@@ -151,39 +151,33 @@ impl Entry {
         }
     }
 
-    /// Writes the bytes that a part writes, in which nothing stands for `@that`.
-    fn write(self, word: &str, out: &mut Writer, told: &mut Told) {
+    /// What a part writes, in which nothing stands for `@that`.
+    fn written(self, word: &str, told: &mut Told) -> &'static str {
         let text = self.block.behind(word).unwrap_or("");
         let filling = Pair {
             that: "",
             ..self.filling
         };
-        write_unescaped(filled(self.alloc, text, filling, told), out, told);
+        unescaped(self.alloc, filled(self.alloc, text, filling, told), told)
     }
 
-    /// Writes the choices that are not read.
-    fn write_unread(self, out: &mut Writer, told: &mut Told) {
+    /// The choices that are not read.
+    fn unread(self, told: &mut Told) -> &'static str {
         if self.block.has("choices") || self.block.has("unread") {
-            self.write("unread", out, told);
+            self.written("unread", told)
         } else {
-            out.word("7\n");
+            "7\n"
         }
     }
 
     /// The choices, and how many bytes of them are read.
     fn choices(self, told: &mut Told) -> (&'static [u8], usize) {
-        let mut out = Writer::new(self.alloc);
-        self.write("choices", &mut out, told);
-        let read = out.text().len();
-        self.write_unread(&mut out, told);
-        (kept(out, told).as_bytes(), read)
-    }
-
-    /// The record.
-    fn record(self, told: &mut Told) -> &'static [u8] {
-        let mut out = Writer::new(self.alloc);
-        self.write("record", &mut out, told);
-        kept(out, told).as_bytes()
+        let read = self.written("choices", told);
+        let unread = self.unread(told);
+        let mut choices = Writer::new(self.alloc);
+        choices.word(read);
+        choices.word(unread);
+        (kept(choices, told).as_bytes(), read.len())
     }
 
     /// The session, and how many bytes of its choices are read.
@@ -218,7 +212,7 @@ impl Entry {
             output: self.text(block.lines(self.alloc, "output"), told),
             status,
             line,
-            record: self.record(told),
+            record: self.written("record", told).as_bytes(),
             steps,
         }
     }

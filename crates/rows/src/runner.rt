@@ -3,7 +3,7 @@ use crate::failing::tell_each;
 use crate::player::{Behind, played};
 use crate::replay::tell_again;
 use crate::row::{Entry, Fails, Row, WORDS};
-use crate::texts::{kept, write_unescaped};
+use crate::texts::{kept, unescaped};
 use row_files::{Refused, Told, Writer, blocks};
 use session::{Cause, End};
 use std::alloc::Global;
@@ -24,7 +24,7 @@ fn words_of(cause: &Cause) -> Option<&'static str> {
 }
 
 /// What the output of a session with this end says of it.
-fn said(alloc: Global, end: &End) -> Writer {
+fn said(alloc: Global, told: &mut Told, end: &End) -> &'static str {
     let mut out = Writer::new(alloc);
     match words_of(&end.cause) {
         Some(words) => {
@@ -35,7 +35,7 @@ fn said(alloc: Global, end: &End) -> Writer {
         }
         None => say_other(&mut out, end),
     }
-    out
+    kept(out, told)
 }
 
 /// Writes what the output says of an end where it does not say the number of steps behind it.
@@ -64,13 +64,13 @@ fn line_of(end: &End) -> u32 {
 
 /// Tells where a session ends for another cause than its row says: in its output, or by the device that fails.
 fn tell_end(alloc: Global, told: &mut Told, row: &Row, end: &End) {
-    let said = said(alloc, end);
+    let said = said(alloc, told, end);
     if let Fails::Once(device, _) = row.fails {
         if end.cause != device.cause() {
-            told.bytes("end", b"the device fails", said.text().as_bytes());
+            told.bytes("end", b"the device fails", said.as_bytes());
         }
-    } else if !row.output.contains(said.text()) {
-        told.bytes("end", row.output.as_bytes(), said.text().as_bytes());
+    } else if !row.output.contains(said) {
+        told.bytes("end", row.output.as_bytes(), said.as_bytes());
     }
 }
 
@@ -124,17 +124,11 @@ fn tell_refusal(alloc: Global, told: &mut Told, refused: Refused, wanted: &str) 
     told.bytes("refusal", wanted.as_bytes(), came.text().as_bytes());
 }
 
-/// The text of rows that a block has.
-fn file_of(entry: Entry, told: &mut Told) -> &'static str {
-    let mut out = Writer::new(entry.alloc);
-    write_unescaped(entry.block.behind("file").unwrap_or(""), &mut out, told);
-    kept(out, told)
-}
-
 /// Tells what is otherwise than a block says. One that is no row is told of too.
 pub fn tell(entry: Entry, told: &mut Told) {
     if let Some(wanted) = entry.block.behind("refused") {
-        let text = file_of(entry, told);
+        let text = entry.block.behind("file").unwrap_or("");
+        let text = unescaped(entry.alloc, text, told);
         return tell_file(entry.alloc, told, text, wanted);
     }
     let row = entry.row(told);

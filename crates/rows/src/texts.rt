@@ -39,17 +39,19 @@ fn write_escaped(letter: char, out: &mut Writer, told: &mut Told) {
     }
 }
 
-/// Writes what a text with escapes writes.
-pub fn write_unescaped(text: &str, out: &mut Writer, told: &mut Told) {
+/// What a text with escapes writes, as long as the program runs.
+pub fn unescaped(alloc: Global, text: &str, told: &mut Told) -> &'static str {
+    let mut out = Writer::new(alloc);
     let mut behind = false;
     for letter in text.chars() {
         if behind {
-            write_escaped(letter, out, told);
+            write_escaped(letter, &mut out, told);
         } else if letter != '\\' {
             out.sign(letter);
         }
         behind = !behind && letter == '\\';
     }
+    kept(out, told)
 }
 
 /// A text in which the first of each pair stands for the second, the first pair before the second one.
