@@ -1,7 +1,6 @@
 //! Why a file or a row is not read.
 use std::alloc::{AllocError, AllocFailed};
-use std::num::ParseIntError;
-use std::{fmt, io};
+use std::io;
 
 /// Why a file or a row is not read.
 #[derive(Clone, Copy)]
@@ -35,20 +34,8 @@ impl From<AllocFailed<u8>> for Refused {
     }
 }
 
-impl From<fmt::Error> for Refused {
-    fn from(_error: fmt::Error) -> Refused {
-        Refused::from("a text cannot be written")
-    }
-}
-
 impl From<io::Error> for Refused {
     fn from(_error: io::Error) -> Refused {
         Refused::from("a file cannot be read or written")
-    }
-}
-
-impl From<ParseIntError> for Refused {
-    fn from(_error: ParseIntError) -> Refused {
-        Refused::from("no number")
     }
 }
