@@ -91,19 +91,11 @@ fn tell_second(told: &mut Told, first: &Behind, second: &Behind) {
     told.number("rest of the converted choices", 0, second.unread);
 }
 
-/// The session of a row on these choices.
-fn again(alloc: Global, told: &mut Told, row: &Row, choices: &'static [u8]) -> Behind {
+/// The session of a row on these choices, played or converted.
+fn again(alloc: Global, told: &mut Told, row: &Row, way: Way, choices: &'static [u8]) -> Behind {
     let session = Session {
+        way,
         choices,
-        ..row.session
-    };
-    played(alloc, &session, told)
-}
-
-/// The conversion of the choices of a row.
-fn converted(alloc: Global, told: &mut Told, row: &Row) -> Behind {
-    let session = Session {
-        way: Way::Converted,
         ..row.session
     };
     played(alloc, &session, told)
@@ -111,14 +103,14 @@ fn converted(alloc: Global, told: &mut Told, row: &Row) -> Behind {
 
 /// Tells what is otherwise where a row is played again on its record, and on its choices as they are converted to the second version.
 pub fn tell_again(alloc: Global, told: &mut Told, row: &Row, before: &Behind) {
-    let first = again(alloc, told, row, row.record);
+    let first = again(alloc, told, row, Way::Played, row.record);
     tell_replay(alloc, told, before, &first);
-    let second = converted(alloc, told, row);
+    let second = again(alloc, told, row, Way::Converted, row.session.choices);
     told.number(
         "status of the conversion",
         row.status,
         usize::from(second.end.status),
     );
-    let third = again(alloc, told, row, second.out);
+    let third = again(alloc, told, row, Way::Played, second.out);
     tell_second(told, &first, &third);
 }
