@@ -2,15 +2,18 @@
 #![tactic(auto)]
 
 mod block;
+mod cut;
 mod file;
 mod pair;
+mod reader;
 mod refused;
 mod told;
 mod writer;
 
-pub use block::{Block, blocks};
-pub use file::{MOST_READ, lasting, names, text_of};
+pub use block::Block;
+pub use file::{lasting, names, text_of};
 pub use pair::{Pair, pairs};
+pub use reader::blocks;
 pub use refused::Refused;
 pub use told::Told;
 pub use writer::Writer;

@@ -1,4 +1,5 @@
 //! Lines of two texts.
+use crate::cut::cut;
 use std::alloc::{AllocError, Global};
 
 /// A line `THIS => THAT`, or `THIS`, which has nothing for THAT.
@@ -11,8 +12,11 @@ pub struct Pair {
 impl Pair {
     /// What a line says.
     pub fn of(line: &'static str) -> Pair {
-        let (this, that) = line.split_once(" => ").unwrap_or((line, ""));
-        Pair { this, that }
+        let (this, that) = cut(line, " => ");
+        Pair {
+            this,
+            that: that.unwrap_or(""),
+        }
     }
 }
 

@@ -1,10 +1,9 @@
 //! Why a file or a row is not read.
 use std::alloc::{AllocError, AllocFailed};
-use std::num::ParseIntError;
-use std::{fmt, io};
+use std::io;
 
 /// Why a file or a row is not read.
-#[derive(Clone, Copy, Debug, PartialEq, Eq)]
+#[derive(Clone, Copy)]
 pub struct Refused {
     /// The line of the file, counted from 1; 0 where it is not known.
     pub line: u32,
@@ -35,20 +34,8 @@ impl From<AllocFailed<u8>> for Refused {
     }
 }
 
-impl From<fmt::Error> for Refused {
-    fn from(_error: fmt::Error) -> Refused {
-        Refused::from("a text cannot be written")
-    }
-}
-
 impl From<io::Error> for Refused {
     fn from(_error: io::Error) -> Refused {
         Refused::from("a file cannot be read or written")
-    }
-}
-
-impl From<ParseIntError> for Refused {
-    fn from(_error: ParseIntError) -> Refused {
-        Refused::from("no number")
     }
 }

@@ -39,6 +39,13 @@ impl Told {
         self.words.word(words);
     }
 
+    /// Tells why a row is not played, where nothing is told of it yet.
+    pub fn refuse(&mut self, why: &str) {
+        if self.is_empty() {
+            self.add(why);
+        }
+    }
+
     /// Tells a number behind words.
     pub fn count(&mut self, words: &str, number: u32) {
         self.words.word(words);

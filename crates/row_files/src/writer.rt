@@ -1,6 +1,11 @@
 //! Texts that are written piece by piece. Want of memory is told once, at the end.
-use std::alloc::{AllocError, Global};
+use crate::file::lasting;
+use crate::refused::{Refused, refuse};
+use std::alloc::Global;
 use std::fmt::{Debug, Write};
+
+/// The hexadecimal digits.
+const DIGITS: [u8; 16] = *b"0123456789abcdef";
 
 /// A text that grows.
 #[derive(Drop)]
@@ -75,11 +80,16 @@ impl Writer {
         }
     }
 
-    /// Writes a byte as the sign that it stands for.
-    pub fn byte(&mut self, byte: u8) {
-        if self.text.push(char::from(byte)).is_err() {
+    /// Writes a sign.
+    pub fn sign(&mut self, sign: char) {
+        if self.text.push(sign).is_err() {
             self.no_memory();
         }
+    }
+
+    /// Writes a byte as the sign that it stands for.
+    pub fn byte(&mut self, byte: u8) {
+        self.sign(char::from(byte));
     }
 
     /// Writes bytes as the signs that they stand for.
@@ -91,9 +101,9 @@ impl Writer {
 
     /// Writes a byte by a grave accent and its two hexadecimal digits.
     pub fn digits(&mut self, byte: u8) {
-        if write!(self.text, "`{byte:02x}").is_err() {
-            self.no_memory();
-        }
+        self.byte(b'`');
+        self.byte(DIGITS[usize::from(byte / 16)]);
+        self.byte(DIGITS[usize::from(byte % 16)]);
     }
 
     /// Writes the blank between two words. There is none before the first, behind a stroke, and behind an opening parenthesis.
@@ -117,12 +127,12 @@ impl Writer {
         self.refused.is_none() && self.text.as_str() == words
     }
 
-    /// What is written, where it can be.
-    pub fn finish(self) -> Result<String, AllocError> {
+    /// What is written, which stays as long as the program runs; why not, where it cannot be written.
+    pub fn finish(self) -> Result<&'static str, Refused> {
         let Writer { text, refused } = self;
         match refused {
-            Some(_) => Err(AllocError),
-            None => Ok(text),
+            Some(why) => refuse(0, why),
+            None => lasting(text.into_bytes()),
         }
     }
 }

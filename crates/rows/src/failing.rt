@@ -1,6 +1,6 @@
 //! Plays a row with each call of a device failing in turn.
 use crate::player::{Behind, Device, Session, played};
-use row_files::{Refused, Told};
+use row_files::Told;
 use std::alloc::Global;
 
 /// At most so many calls fail.
@@ -37,22 +37,18 @@ pub fn tell_each(
     session: &Session,
     device: Device,
     whole: &Behind,
-) -> Result<(), Refused> {
+) {
     for call in 0..MOST_CALLS {
         let failing = device.failing(call);
-        let behind = played(
-            alloc,
-            &Session {
-                failing,
-                ..*session
-            },
-        )?;
+        let session = Session {
+            failing,
+            ..*session
+        };
+        let behind = played(alloc, &session, told);
         if !behind.failed {
-            tell_whole(told, whole, &behind);
-            return Ok(());
+            return tell_whole(told, whole, &behind);
         }
         tell_broken(told, device, whole, &behind);
     }
     told.add("no session without a failure\n");
-    Ok(())
 }

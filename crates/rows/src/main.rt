@@ -6,134 +6,101 @@ mod player;
 mod replay;
 mod row;
 mod runner;
+mod tally;
 mod texts;
 
-use crate::row::WORDS;
-use crate::runner::told_of;
-use row_files::{Block, Refused, blocks, names, text_of};
+use crate::row::{Entry, WORDS};
+use crate::runner::tell;
+use crate::tally::Tally;
+use row_files::{Block, Pair, Refused, Told, blocks, names, text_of};
+use std::alloc::Global;
+use std::io;
 use std::process::ExitCode;
 
-// How many rows pass, and how many do not.
-#[derive(Clone, Copy)]
-struct Tally {
-    passed: u32,
-    failed: u32,
+// Plays a row, unless the file is refused, and tells where it does not pass.
+fn play(alloc: Global, block: Block, filling: Pair, tally: &mut Tally) {
+    if tally.is_refused() {
+        return;
+    }
+    let mut told = Told::new(alloc);
+    let entry = Entry {
+        alloc,
+        block,
+        filling,
+    };
+    tell(entry, &mut told);
+    judge(block, filling.this, told.words(), tally);
 }
 
-const NO_ROWS: Tally = Tally {
-    passed: 0,
-    failed: 0,
-};
-
-impl Tally {
-    fn counted(self, passes: bool) -> Tally {
-        if passes {
-            Tally {
-                passed: self.passed.saturating_add(1),
-                ..self
-            }
-        } else {
-            Tally {
-                failed: self.failed.saturating_add(1),
-                ..self
-            }
-        }
+// Counts a row of which these words are told.
+fn judge(block: Block, this: &str, words: &str, tally: &mut Tally) {
+    match block.behind("differs") {
+        Some(wanted) if words.starts_with(wanted) => tally.pass(),
+        Some(_) => tally.fail(block, this, "it does not differ as it should\n", words),
+        None if words.is_empty() => tally.pass(),
+        None => tally.fail(block, this, "", words),
     }
-
-    fn and(self, other: Tally) -> Tally {
-        Tally {
-            passed: self.passed.saturating_add(other.passed),
-            failed: self.failed.saturating_add(other.failed),
-        }
-    }
-}
-
-// A block, and the name of its file.
-#[derive(Clone, Copy)]
-struct Place {
-    file: &'static str,
-    block: Block,
-}
-
-// Plays a row, shows what is told of it, and answers whether nothing is.
-fn passes(
-    rt: &HostRuntime,
-    place: Place,
-    this: &'static str,
-    that: &'static str,
-) -> Result<bool, Refused> {
-    let told = told_of(rt.alloc(), place.block, this, that);
-    if told.is_empty() {
-        return Ok(true);
-    }
-    let Place { file, block } = place;
-    let (line, name, words) = (block.line, block.name(), told.words());
-    let gap = if this.is_empty() { "" } else { " " };
-    eprintln!(rt; "{file}:{line}: row '{name}'{gap}{this}: {words}")?;
-    Ok(false)
 }
 
 // Plays a row for each line of a part. A part without a line is refused, since no row would be played.
-fn each_played(rt: &HostRuntime, place: Place, lines: &'static str) -> Result<Tally, Refused> {
-    let refused = Refused {
-        line: place.block.line,
-        why: "a part 'each' is lines with an arrow",
-    };
+fn play_each(alloc: Global, block: Block, lines: &'static str, tally: &mut Tally) {
+    const WHY: &str = "a part 'each' is lines with an arrow";
     if lines.is_empty() {
-        return Err(refused);
+        tally.refuse(block.line, WHY);
     }
-    let mut tally = NO_ROWS;
     for line in lines.lines() {
-        let (this, that) = line.split_once(" => ").ok_or(refused)?;
-        tally = tally.counted(passes(rt, place, this, that)?);
-    }
-    Ok(tally)
-}
-
-fn block_played(rt: &HostRuntime, place: Place) -> Result<Tally, Refused> {
-    if place.block.has("each") {
-        return each_played(rt, place, place.block.part("each"));
-    }
-    Ok(NO_ROWS.counted(passes(rt, place, "", "")?))
-}
-
-fn file_played(rt: &HostRuntime, file: &'static str) -> Result<Tally, Refused> {
-    let text = text_of(rt, file)?;
-    let mut tally = NO_ROWS;
-    for block in blocks(rt.alloc(), text, &WORDS)?.as_slice() {
-        let place = Place {
-            file,
-            block: *block,
-        };
-        tally = tally.and(block_played(rt, place)?);
-    }
-    println!(rt; "{file}: {} rows passed", tally.passed)?;
-    Ok(tally)
-}
-
-// Plays the rows of a file. One that is refused counts as a row that fails.
-fn file_tried(rt: &HostRuntime, file: &'static str) -> Result<Tally, Refused> {
-    match file_played(rt, file) {
-        Ok(tally) => Ok(tally),
-        Err(Refused { line, why }) => {
-            eprintln!(rt; "{file}:{line}: {why}")?;
-            Ok(NO_ROWS.counted(false))
+        match line.split_once(" => ") {
+            Some((this, that)) => play(alloc, block, Pair { this, that }, tally),
+            None => tally.refuse(block.line, WHY),
         }
     }
 }
 
-fn all_played(rt: &HostRuntime) -> Result<Tally, Refused> {
-    let mut tally = NO_ROWS;
-    for file in names(rt)?.as_slice() {
-        tally = tally.and(file_tried(rt, *file)?);
+fn play_block(alloc: Global, block: Block, tally: &mut Tally) {
+    if block.has("each") {
+        play_each(alloc, block, block.part("each"), tally);
+    } else {
+        play(alloc, block, Pair::of(""), tally);
     }
-    Ok(tally)
+}
+
+fn play_blocks(alloc: Global, blocks: &[Block], tally: &mut Tally) {
+    for block in blocks {
+        play_block(alloc, *block, tally);
+    }
+}
+
+fn play_text(alloc: Global, text: &'static str, tally: &mut Tally) {
+    match blocks(alloc, text, &WORDS) {
+        Ok(blocks) => play_blocks(alloc, blocks.as_slice(), tally),
+        Err(refused) => tally.refuse(refused.line, refused.why),
+    }
+}
+
+// Plays the rows of a file, and prints how many pass. Answers whether all do: a file that is refused counts as a row that fails.
+fn file_passes(rt: &HostRuntime, file: &'static str) -> io::Result<bool> {
+    let mut tally = Tally::new(rt.alloc(), file);
+    match text_of(rt, file) {
+        Ok(text) => play_text(rt.alloc(), text, &mut tally),
+        Err(refused) => tally.refuse(refused.line, refused.why),
+    }
+    tally.print(rt)
+}
+
+// Whether there are files, and the rows of each pass.
+fn all_pass(rt: &HostRuntime) -> Result<bool, Refused> {
+    let files = names(rt)?.leak();
+    let mut all = !files.is_empty();
+    for file in files {
+        all = file_passes(rt, *file)? && all;
+    }
+    Ok(all)
 }
 
 fn main(rt: HostRuntime) -> ExitCode {
-    match all_played(&rt) {
-        Ok(Tally { passed, failed: 0 }) if passed > 0 => ExitCode::from(0),
-        Ok(_) => ExitCode::from(1),
+    match all_pass(&rt) {
+        Ok(true) => ExitCode::from(0),
+        Ok(false) => ExitCode::from(1),
         Err(refused) => {
             let _ = eprintln!(rt; "rows: {}", refused.why);
             ExitCode::from(1)

@@ -3,14 +3,11 @@ ghost use Rattle.std.specs.Prelude.{◌≡◌};
 
 use devices::{FailsOnce, Failures, OneByte, Sink, SliceSource, Source, ThreeDevices, VecSink};
 use pml_play::{convert, play};
-use row_files::Refused;
+use row_files::Told;
 use session::{Cause, Conversion, End, Options};
-use std::alloc::Global;
+use std::alloc::{AllocError, Global};
 use std::marker::Brand;
 use std::sync::ledger::{Blank, Ledger};
-
-/// No call fails.
-const NEVER: u64 = u64::MAX;
 
 /// A device of a session.
 #[derive(Clone, Copy)]
@@ -20,23 +17,32 @@ pub enum Device {
     Record,
 }
 
-/// Which call of which device fails, counted from 0.
+/// Which call of each device fails, counted from 0.
 #[derive(Clone, Copy)]
-pub enum Failing {
-    Never,
-    Source(u64),
-    Out(u64),
-    Record(u64),
+pub struct Failing {
+    source: u64,
+    out: u64,
+    rec: u64,
 }
+
+/// No call fails.
+pub const NEVER: Failing = Failing {
+    source: u64::MAX,
+    out: u64::MAX,
+    rec: u64::MAX,
+};
 
 impl Device {
     /// The device of this name.
-    pub fn named(name: &str) -> Result<Device, Refused> {
+    pub fn named(name: &str, told: &mut Told) -> Device {
         match name {
-            "source" => Ok(Device::Source),
-            "output" => Ok(Device::Out),
-            "record" => Ok(Device::Record),
-            _ => Err(Refused::from("an unknown device")),
+            "source" => Device::Source,
+            "output" => Device::Out,
+            "record" => Device::Record,
+            _ => {
+                told.refuse("an unknown device");
+                Device::Source
+            }
         }
     }
 
@@ -52,32 +58,12 @@ impl Device {
     /// This call of it fails.
     pub fn failing(self, call: u64) -> Failing {
         match self {
-            Device::Source => Failing::Source(call),
-            Device::Out => Failing::Out(call),
-            Device::Record => Failing::Record(call),
-        }
-    }
-}
-
-impl Failing {
-    fn of_source(self) -> u64 {
-        match self {
-            Failing::Source(call) => call,
-            _ => NEVER,
-        }
-    }
-
-    fn of_out(self) -> u64 {
-        match self {
-            Failing::Out(call) => call,
-            _ => NEVER,
-        }
-    }
-
-    fn of_record(self) -> u64 {
-        match self {
-            Failing::Record(call) => call,
-            _ => NEVER,
+            Device::Source => Failing {
+                source: call,
+                ..NEVER
+            },
+            Device::Out => Failing { out: call, ..NEVER },
+            Device::Record => Failing { rec: call, ..NEVER },
         }
     }
 }
@@ -169,8 +155,14 @@ fn ended<S: Source, O: Sink, P: Sink>(
 }
 
 /// These bytes, as long as the program runs.
-fn lasting(alloc: Global, bytes: &[u8]) -> Result<&'static [u8], Refused> {
-    Ok(Vec::from_slice(alloc, bytes)?.leak())
+fn lasting(alloc: Global, bytes: &[u8], told: &mut Told) -> &'static [u8] {
+    match Vec::from_slice(alloc, bytes) {
+        Ok(bytes) => bytes.leak(),
+        Err(AllocError) => {
+            told.refuse("out of memory");
+            b""
+        }
+    }
 }
 
 /// What stands behind a session that ended so.
@@ -180,14 +172,15 @@ fn read_back<K: Ledger, L: Ledger>(
     out: &Out<K>,
     rec: &Rec<L>,
     end: End,
-) -> Result<Behind, Refused> {
-    Ok(Behind {
-        out: lasting(alloc, out.device().sink.bytes())?,
-        rec: lasting(alloc, rec.device().bytes())?,
+    told: &mut Told,
+) -> Behind {
+    Behind {
+        out: lasting(alloc, out.device().sink.bytes(), told),
+        rec: lasting(alloc, rec.device().bytes(), told),
         unread: source.device().left().len(),
         failed: source.has_failed() || out.has_failed() || rec.has_failed(),
         end,
-    })
+    }
 }
 
 fn played_with<K: Ledger, L: Ledger>(
@@ -195,7 +188,8 @@ fn played_with<K: Ledger, L: Ledger>(
     first: Blank,
     second: Blank,
     session: &Session,
-) -> Result<Behind, Refused>
+    told: &mut Told,
+) -> Behind
     requires first_name { first.name ≡ K.name }
     requires first_parts { first.parts ≡ K.parts }
     requires first_one { first.parts ≡ 1 }
@@ -211,14 +205,14 @@ fn played_with<K: Ledger, L: Ledger>(
     let taking = OneByte {
         sink: sink::<K>(alloc, first),
     };
-    let mut source = FailsOnce::new(SliceSource::new(choices), failing.of_source());
-    let mut out = FailsOnce::new(taking, failing.of_out());
-    let mut rec = FailsOnce::new(sink::<L>(alloc, second), failing.of_record());
+    let mut source = FailsOnce::new(SliceSource::new(choices), failing.source);
+    let mut out = FailsOnce::new(taking, failing.out);
+    let mut rec = FailsOnce::new(sink::<L>(alloc, second), failing.rec);
     let end = ended(alloc, session, &mut source, &mut out, &mut rec);
-    read_back(alloc, &source, &out, &rec, end)
+    read_back(alloc, &source, &out, &rec, end, told)
 }
 
-/// Plays a session, or converts its choices.
-pub fn played(alloc: Global, session: &Session) -> Result<Behind, Refused> {
-    played_with::<Brand, Brand>(alloc, Blank::new(1), Blank::new(1), session)
+/// Plays a session, or converts its choices. Want of memory for what stands behind it is told.
+pub fn played(alloc: Global, session: &Session, told: &mut Told) -> Behind {
+    played_with::<Brand, Brand>(alloc, Blank::new(1), Blank::new(1), session, told)
 }

@@ -1,7 +1,7 @@
 //! Plays a session again on its record, and on its choices as they are converted.
 use crate::player::{Behind, Session, Way, played};
 use crate::row::Row;
-use row_files::{Refused, Told, Writer};
+use row_files::{Told, Writer};
 use session::Cause;
 use std::alloc::Global;
 
@@ -91,44 +91,26 @@ fn tell_second(told: &mut Told, first: &Behind, second: &Behind) {
     told.number("rest of the converted choices", 0, second.unread);
 }
 
-/// The session of a row on these choices.
-fn again(alloc: Global, row: &Row, choices: &'static [u8]) -> Result<Behind, Refused> {
-    played(
-        alloc,
-        &Session {
-            choices,
-            ..row.session
-        },
-    )
-}
-
-/// The conversion of the choices of a row.
-fn converted(alloc: Global, row: &Row) -> Result<Behind, Refused> {
-    played(
-        alloc,
-        &Session {
-            way: Way::Converted,
-            ..row.session
-        },
-    )
+/// The session of a row on these choices, played or converted.
+fn again(alloc: Global, told: &mut Told, row: &Row, way: Way, choices: &'static [u8]) -> Behind {
+    let session = Session {
+        way,
+        choices,
+        ..row.session
+    };
+    played(alloc, &session, told)
 }
 
 /// Tells what is otherwise where a row is played again on its record, and on its choices as they are converted to the second version.
-pub fn tell_again(
-    alloc: Global,
-    told: &mut Told,
-    row: &Row,
-    before: &Behind,
-) -> Result<(), Refused> {
-    let first = again(alloc, row, row.record)?;
+pub fn tell_again(alloc: Global, told: &mut Told, row: &Row, before: &Behind) {
+    let first = again(alloc, told, row, Way::Played, row.record);
     tell_replay(alloc, told, before, &first);
-    let second = converted(alloc, row)?;
+    let second = again(alloc, told, row, Way::Converted, row.session.choices);
     told.number(
         "status of the conversion",
-        usize::from(row.status),
+        row.status,
         usize::from(second.end.status),
     );
-    let third = again(alloc, row, second.out)?;
+    let third = again(alloc, told, row, Way::Played, second.out);
     tell_second(told, &first, &third);
-    Ok(())
 }

@@ -1,9 +1,9 @@
 //! What a row says: a session, and what stands behind it.
-use crate::player::{Device, Failing, Session, Way};
-use crate::texts::{bytes, filled};
-use row_files::{Block, Refused, lasting};
+use crate::player::{Device, Failing, NEVER, Session, Way};
+use crate::texts::{MOST, filled, kept, number, unescaped};
+use row_files::{Block, Pair, Told, Writer};
 use session::Options;
-use std::alloc::Global;
+use std::alloc::{AllocError, Global};
 
 /// The words of the parts of a row.
 pub const WORDS: [&str; 14] = [
@@ -30,11 +30,19 @@ pub struct Row {
     /// How many bytes of the choices are read.
     pub read: usize,
     pub output: &'static str,
-    pub status: u8,
-    pub line: u32,
+    pub status: usize,
+    pub line: usize,
     pub record: &'static [u8],
     /// How many steps are taken, where it says so.
-    pub steps: Option<u32>,
+    pub steps: Option<usize>,
+}
+
+/// What a row is read from: a block, in which `@this` and `@that` stand for these.
+#[derive(Clone, Copy)]
+pub struct Entry {
+    pub alloc: Global,
+    pub block: Block,
+    pub filling: Pair,
 }
 
 /// Nothing is shown of a step.
@@ -46,58 +54,59 @@ const NONE: Options = Options {
     limit: 1_000_000,
 };
 
-/// Adds what a letter asks for.
-fn add_letter(options: &mut Options, letter: u8) -> Result<(), Refused> {
-    match letter {
-        b'p' => options.steps = true,
-        b'g' => options.globals = true,
-        b'l' => options.locals = true,
-        b'm' => options.lossy = true,
-        b'i' | b'T' => {}
-        _ => return Err(Refused::from("an unknown flag")),
-    }
-    Ok(())
-}
-
-fn add_letters(options: &mut Options, letters: &str) -> Result<(), Refused> {
+/// Adds what letters ask for.
+fn add_letters(options: &mut Options, letters: &str, told: &mut Told) {
     for letter in letters.bytes() {
-        add_letter(options, letter)?;
-    }
-    Ok(())
-}
-
-/// Adds what a word asks for, as `-pg` or `-u7`.
-fn add_word(options: &mut Options, word: &str) -> Result<(), Refused> {
-    let letters = word.strip_prefix('-').ok_or("a flag begins with -")?;
-    match letters.split_once('u') {
-        None => add_letters(options, letters),
-        Some((letters, digits)) => {
-            options.limit = digits.parse::<u32>()?;
-            add_letters(options, letters)
+        match letter {
+            b'p' => options.steps = true,
+            b'g' => options.globals = true,
+            b'l' => options.locals = true,
+            b'm' => options.lossy = true,
+            b'i' | b'T' => {}
+            _ => told.refuse("an unknown flag"),
         }
     }
 }
 
-/// The options that flags ask for.
-fn options(flags: Option<&str>) -> Result<Options, Refused> {
-    let mut options = NONE;
-    let Some(flags) = flags else {
-        return Ok(options);
-    };
-    for word in flags.split(' ') {
-        add_word(&mut options, word)?;
-    }
-    Ok(options)
+/// Adds a limit, and what the letters before it ask for.
+fn add_limit(options: &mut Options, letters: &str, digits: &str, told: &mut Told) {
+    options.limit = u32::try_from(number(digits, MOST, told)).unwrap_or(0);
+    add_letters(options, letters, told);
 }
 
-/// Which calls fail: a part names the device, and perhaps the call of it.
-fn failures(block: Block) -> Result<Fails, Refused> {
-    let Some(words) = block.behind("failing") else {
-        return Ok(Fails::Nothing);
+/// Adds what a word asks for, as `-pg` or `-u7`.
+fn add_word(options: &mut Options, word: &str, told: &mut Told) {
+    let Some(letters) = word.strip_prefix('-') else {
+        return told.refuse("a flag begins with -");
+    };
+    match letters.split_once('u') {
+        None => add_letters(options, letters, told),
+        Some((letters, digits)) => add_limit(options, letters, digits, told),
+    }
+}
+
+/// The options that flags ask for.
+fn options(flags: Option<&str>, told: &mut Told) -> Options {
+    let mut options = NONE;
+    if let Some(flags) = flags {
+        for word in flags.split(' ') {
+            add_word(&mut options, word, told);
+        }
+    }
+    options
+}
+
+/// Which calls fail: words name the device, and perhaps the call of it.
+fn failures(words: Option<&str>, told: &mut Told) -> Fails {
+    let Some(words) = words else {
+        return Fails::Nothing;
     };
     match words.split_once(' ') {
-        None => Ok(Fails::InTurn(Device::named(words)?)),
-        Some((device, call)) => Ok(Fails::Once(Device::named(device)?, call.parse::<u64>()?)),
+        None => Fails::InTurn(Device::named(words, told)),
+        Some((device, call)) => Fails::Once(
+            Device::named(device, told),
+            number(call, usize::MAX, told) as u64,
+        ),
     }
 }
 
@@ -106,133 +115,105 @@ impl Fails {
     fn failing(self) -> Failing {
         match self {
             Fails::Once(device, call) => device.failing(call),
-            _ => Failing::Never,
+            _ => NEVER,
         }
     }
 }
 
-/// A text, in which `@this` and `@that` stand for these.
-fn text(
-    alloc: Global,
-    text: &str,
-    this: &'static str,
-    that: &'static str,
-) -> Result<&'static str, Refused> {
-    lasting(filled(alloc, text, this, that)?.into_bytes())
-}
-
-/// The bytes that a part writes, in which `@this` stands for this.
-fn part_bytes(
-    alloc: Global,
-    block: Block,
-    word: &str,
-    this: &'static str,
-) -> Result<Vec<u8>, Refused> {
-    let text = filled(alloc, block.behind(word).unwrap_or(""), this, "")?;
-    bytes(alloc, &text)
-}
-
-/// The choices of a block that are not read.
-fn unread(alloc: Global, block: Block, this: &'static str) -> Result<Vec<u8>, Refused> {
-    if block.has("choices") || block.has("unread") {
-        return part_bytes(alloc, block, "unread", this);
-    }
-    Ok(Vec::from_slice(alloc, b"7\n")?)
-}
-
-/// The choices of a block, in which `@this` stands for this, and how many bytes of them are read.
-fn choices(
-    alloc: Global,
-    block: Block,
-    this: &'static str,
-) -> Result<(&'static [u8], usize), Refused> {
-    let mut choices = part_bytes(alloc, block, "choices", this)?;
-    let read = choices.len();
-    choices.extend_from_slice(&unread(alloc, block, this)?)?;
-    Ok((choices.leak(), read))
-}
-
-/// How many steps are taken, where a block says so.
-fn steps(block: Block) -> Result<Option<u32>, Refused> {
-    match block.behind("steps") {
-        Some(digits) => Ok(Some(digits.parse::<u32>()?)),
-        None => Ok(None),
+/// The exit status that is wanted.
+fn status(digits: Option<&str>, told: &mut Told) -> usize {
+    match digits {
+        Some(digits) => number(digits, 255, told),
+        None => {
+            told.refuse("a row has a status");
+            0
+        }
     }
 }
 
-/// The exit status, the line of a refusal and the number of steps that a block says.
-fn numbers(block: Block) -> Result<(u8, u32, Option<u32>), Refused> {
-    let status = block.behind("status").ok_or("a row has a status")?;
-    let line = block.behind("line").unwrap_or("0");
-    Ok((status.parse::<u8>()?, line.parse::<u32>()?, steps(block)?))
-}
-
-/// The model of a block, in which `@this` and `@that` stand for these.
-fn model(
-    alloc: Global,
-    block: Block,
-    this: &'static str,
-    that: &'static str,
-) -> Result<&'static str, Refused> {
-    text(alloc, &block.text(alloc, "model")?, this, that)
-}
-
-/// The output that a block wants, in which `@this` and `@that` stand for these.
-fn output(
-    alloc: Global,
-    block: Block,
-    this: &'static str,
-    that: &'static str,
-) -> Result<&'static str, Refused> {
-    text(alloc, &block.lines(alloc, "output")?, this, that)
-}
-
-/// The session of a block, in which `@this` and `@that` stand for these, and how many bytes of its choices are read.
-fn session_of(
-    alloc: Global,
-    block: Block,
-    this: &'static str,
-    that: &'static str,
-    failing: Failing,
-) -> Result<(Session, usize), Refused> {
-    let options = options(block.behind("flags"))?;
-    let (choices, read) = choices(alloc, block, this)?;
-    let session = Session {
-        way: Way::Played,
-        options,
-        model: model(alloc, block, this, that)?,
-        choices,
-        failing,
-    };
-    Ok((session, read))
-}
-
-/// The record of a block, in which `@this` stands for this.
-fn record(alloc: Global, block: Block, this: &'static str) -> Result<&'static [u8], Refused> {
-    Ok(part_bytes(alloc, block, "record", this)?.leak())
-}
-
-/// The row of a block, in which `@this` and `@that` stand for these.
-pub fn row_of(
-    alloc: Global,
-    block: Block,
-    this: &'static str,
-    that: &'static str,
-) -> Result<Row, Refused> {
-    if !block.has("model") || !block.has("output") {
-        return Err(Refused::from("a row has a model and an output"));
+/// How many steps are taken, where that is said.
+fn steps(digits: Option<&str>, told: &mut Told) -> Option<usize> {
+    match digits {
+        Some(digits) => Some(number(digits, MOST, told)),
+        None => None,
     }
-    let (status, line, steps) = numbers(block)?;
-    let fails = failures(block)?;
-    let (session, read) = session_of(alloc, block, this, that, fails.failing())?;
-    Ok(Row {
-        session,
-        fails,
-        read,
-        output: output(alloc, block, this, that)?,
-        status,
-        line,
-        record: record(alloc, block, this)?,
-        steps,
-    })
+}
+
+impl Entry {
+    /// What a text says that the block shows.
+    fn text(self, shown: Result<String, AllocError>, told: &mut Told) -> &'static str {
+        match shown {
+            Ok(text) => filled(self.alloc, &text, self.filling, told),
+            Err(AllocError) => {
+                told.refuse("out of memory");
+                ""
+            }
+        }
+    }
+
+    /// What a part writes, in which nothing stands for `@that`.
+    fn written(self, word: &str, told: &mut Told) -> &'static str {
+        let text = self.block.behind(word).unwrap_or("");
+        let filling = Pair {
+            that: "",
+            ..self.filling
+        };
+        unescaped(self.alloc, filled(self.alloc, text, filling, told), told)
+    }
+
+    /// The choices that are not read.
+    fn unread(self, told: &mut Told) -> &'static str {
+        if self.block.has("choices") || self.block.has("unread") {
+            self.written("unread", told)
+        } else {
+            "7\n"
+        }
+    }
+
+    /// The choices, and how many bytes of them are read.
+    fn choices(self, told: &mut Told) -> (&'static [u8], usize) {
+        let read = self.written("choices", told);
+        let unread = self.unread(told);
+        let mut choices = Writer::new(self.alloc);
+        choices.word(read);
+        choices.word(unread);
+        (kept(choices, told).as_bytes(), read.len())
+    }
+
+    /// The session, and how many bytes of its choices are read.
+    fn session(self, failing: Failing, told: &mut Told) -> (Session, usize) {
+        let options = options(self.block.behind("flags"), told);
+        let (choices, read) = self.choices(told);
+        let session = Session {
+            way: Way::Played,
+            options,
+            model: self.text(self.block.text(self.alloc, "model"), told),
+            choices,
+            failing,
+        };
+        (session, read)
+    }
+
+    /// The row. Why it is none is told.
+    pub fn row(self, told: &mut Told) -> Row {
+        let block = self.block;
+        if !block.has("model") || !block.has("output") {
+            told.refuse("a row has a model and an output");
+        }
+        let status = status(block.behind("status"), told);
+        let line = number(block.behind("line").unwrap_or("0"), MOST, told);
+        let steps = steps(block.behind("steps"), told);
+        let fails = failures(block.behind("failing"), told);
+        let (session, read) = self.session(fails.failing(), told);
+        Row {
+            session,
+            fails,
+            read,
+            output: self.text(block.lines(self.alloc, "output"), told),
+            status,
+            line,
+            record: self.written("record", told).as_bytes(),
+            steps,
+        }
+    }
 }

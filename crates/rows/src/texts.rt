@@ -1,34 +1,57 @@
-//! What is written in a part for other text.
-use row_files::Refused;
+//! What is written in a part for other text. What is wrong with it is told.
+use row_files::{Pair, Told, Writer};
 use std::alloc::{AllocError, Global};
 
-/// The byte that is written as a backslash and this one.
-fn escaped(letter: u8) -> Result<u8, Refused> {
-    match letter {
-        b'n' => Ok(b'\n'),
-        b't' => Ok(b'\t'),
-        b'r' => Ok(b'\r'),
-        b'f' => Ok(b'\x0c'),
-        b'\\' => Ok(b'\\'),
-        _ => Err(Refused::from("an unknown escape")),
+/// The greatest number of 32 bits.
+pub const MOST: usize = 4_294_967_295;
+
+/// What is written, as long as the program runs.
+pub fn kept(out: Writer, told: &mut Told) -> &'static str {
+    match out.finish() {
+        Ok(text) => text,
+        Err(refused) => {
+            told.refuse(refused.why);
+            ""
+        }
     }
 }
 
-/// The bytes that a text with escapes writes.
-pub fn bytes(alloc: Global, text: &str) -> Result<Vec<u8>, Refused> {
-    let mut bytes = Vec::new(alloc);
-    let mut behind = false;
-    for byte in text.bytes() {
-        if behind {
-            bytes.push(escaped(byte)?)?;
-            behind = false;
-        } else if byte == b'\\' {
-            behind = true;
-        } else {
-            bytes.push(byte)?;
+/// The number that digits write, which is at most this.
+pub fn number(digits: &str, most: usize, told: &mut Told) -> usize {
+    match digits.parse::<usize>() {
+        Ok(number) if number <= most => number,
+        _ => {
+            told.refuse("no number");
+            0
         }
     }
-    Ok(bytes)
+}
+
+/// Writes the sign that is written as a backslash and this one.
+fn write_escaped(letter: char, out: &mut Writer, told: &mut Told) {
+    match letter {
+        'n' => out.sign('\n'),
+        't' => out.sign('\t'),
+        'r' => out.sign('\r'),
+        'f' => out.sign('\x0c'),
+        '\\' => out.sign('\\'),
+        _ => told.refuse("an unknown escape"),
+    }
+}
+
+/// What a text with escapes writes, as long as the program runs.
+pub fn unescaped(alloc: Global, text: &str, told: &mut Told) -> &'static str {
+    let mut out = Writer::new(alloc);
+    let mut behind = false;
+    for letter in text.chars() {
+        if behind {
+            write_escaped(letter, &mut out, told);
+        } else if letter != '\\' {
+            out.sign(letter);
+        }
+        behind = !behind && letter == '\\';
+    }
+    kept(out, told)
 }
 
 /// A text in which the first of each pair stands for the second, the first pair before the second one.
@@ -42,46 +65,59 @@ fn replaced(
     text.replace(alloc, second.0, second.1)
 }
 
-/// A text in which `@this` and `@that` stand for these, with all its pieces.
-pub fn filled(alloc: Global, text: &str, this: &str, that: &str) -> Result<String, Refused> {
-    let text = replaced(alloc, text, ("@that", that), ("@this", this))?;
-    repeated(alloc, &text)
+/// A text in which `@this` and `@that` stand for these, with all its pieces, as long as the program runs.
+pub fn filled(alloc: Global, text: &str, filling: Pair, told: &mut Told) -> &'static str {
+    let mut out = Writer::new(alloc);
+    match replaced(
+        alloc,
+        text,
+        ("@that", filling.that),
+        ("@this", filling.this),
+    ) {
+        Ok(text) => write_repeated(alloc, &text, &mut out, told),
+        Err(AllocError) => out.no_memory(),
+    }
+    kept(out, told)
 }
 
-/// A text in which `@(COUNT PIECE@)` stands for the piece, so many times.
-fn repeated(alloc: Global, text: &str) -> Result<String, Refused> {
-    let mut out = String::new(alloc);
+/// Writes a text in which `@(COUNT PIECE@)` stands for the piece, so many times.
+fn write_repeated(alloc: Global, text: &str, out: &mut Writer, told: &mut Told) {
     let mut begun = false;
     for part in text.split("@(") {
         if begun {
-            push_repeated(alloc, &mut out, part)?;
+            write_pieces(alloc, part, out, told);
         } else {
-            out.push_str(part)?;
+            out.word(part);
         }
         begun = true;
     }
-    Ok(out)
 }
 
-/// Adds a piece as often as the number before it says, and what stands behind its end.
-fn push_repeated(alloc: Global, out: &mut String, part: &str) -> Result<(), Refused> {
-    let (count, rest) = part
-        .split_once(' ')
-        .ok_or("a number stands before a piece")?;
-    let (piece, behind) = rest.split_once("@)").ok_or("a piece has no end")?;
-    for number in 0..count.parse::<u32>()? {
-        push_piece(alloc, out, piece, number)?;
+/// Writes a piece as often as the number before it says, and what stands behind its end.
+fn write_pieces(alloc: Global, part: &str, out: &mut Writer, told: &mut Told) {
+    let Some((count, rest)) = part.split_once(' ') else {
+        return told.refuse("a number stands before a piece");
+    };
+    let Some((piece, behind)) = rest.split_once("@)") else {
+        return told.refuse("a piece has no end");
+    };
+    for number in 0..number(count, MOST, told) {
+        write_piece(alloc, piece, number, out);
     }
-    Ok(out.push_str(behind)?)
+    out.word(behind);
 }
 
-/// Adds a piece, in which `#` stands for its number, counted from 0, and `##` for the next one.
-fn push_piece(alloc: Global, out: &mut String, piece: &str, number: u32) -> Result<(), Refused> {
+/// Writes a piece, in which `#` stands for its number, counted from 0, and `##` for the next one.
+fn write_piece(alloc: Global, piece: &str, number: usize, out: &mut Writer) {
     if !piece.contains('#') {
-        return Ok(out.push_str(piece)?);
+        return out.word(piece);
     }
-    let own = format!(in alloc; "{number}")?;
-    let next = format!(in alloc; "{}", number.saturating_add(1))?;
-    let piece = replaced(alloc, piece, ("##", &next), ("#", &own))?;
-    Ok(out.push_str(&piece)?)
+    let mut own = Writer::new(alloc);
+    own.number(number);
+    let mut next = Writer::new(alloc);
+    next.number(number.saturating_add(1));
+    match replaced(alloc, piece, ("##", next.text()), ("#", own.text())) {
+        Ok(text) => out.word(&text),
+        Err(AllocError) => out.no_memory(),
+    }
 }
