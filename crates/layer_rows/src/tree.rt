@@ -1,6 +1,4 @@
 //! What the layers make of a tree.
-ghost use Rattle.pml_start.specs.Bound.{IsWithin};
-
 use crate::graph::add_graph;
 use crate::layer::{GraphView, ModelView, View};
 use crate::lines::add_lines;
@@ -18,23 +16,15 @@ use pml_tree::tree::Tree;
 use row_files::{Block, Writer};
 use std::alloc::{AllocError, Global};
 
-/// What is asked of a model within its limits, which has these graphs.
-fn of_program(
-    alloc: Global,
-    view: ModelView,
-    block: Block,
-    program: &Program<'_>,
-    graphs: &[Graph],
-    out: &mut Writer,
-)
-    requires { IsWithin program.now }
-{
+/// What is asked of a checked model.
+fn of_model(alloc: Global, view: ModelView, block: Block, checked: &Checked<'_>, out: &mut Writer) {
+    let program = checked.program();
     match view {
         ModelView::Condition => out.word("none"),
         ModelView::Whole => add_model(program, out),
         ModelView::Statements => add_texts(program, out),
         ModelView::Expressions => add_expressions(program, out),
-        ModelView::Graph(view) => of_graphs(alloc, view, program, graphs, out),
+        ModelView::Graph(view) => of_graphs(alloc, view, program, checked.graphs(), out),
         ModelView::Created => add_creation(alloc, block, program, out),
         ModelView::Lines(view) => add_lines(alloc, view, block, program, out),
         _ => match start(alloc, program) {
@@ -42,10 +32,6 @@ fn of_program(
             Err(stop) => add_stop(stop, out),
         },
     }
-}
-
-fn of_model(alloc: Global, view: ModelView, block: Block, checked: &Checked<'_>, out: &mut Writer) {
-    of_program(alloc, view, block, checked.program(), checked.graphs(), out)
 }
 
 /// What is asked of the first of these graphs.
