@@ -3,7 +3,7 @@ use crate::compare::same;
 use crate::limits::within;
 use crate::parts::{all, quotient};
 use diagnostics::{Fault, Stop};
-use pml_lex::token::{Kind, Token};
+use pml_token::token::{Kind, Token};
 use pml_program::expr::Expr;
 use pml_program::form::Form;
 use pml_program::program::{Fields, Initial, Proctype, Program, Seq, Slot};

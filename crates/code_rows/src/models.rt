@@ -3,7 +3,7 @@ use crate::run::{Choices, plays_checked};
 use pml_check::check;
 use pml_inline::expand;
 use pml_lex::cut;
-use pml_lex::token::Token;
+use pml_token::token::Token;
 use pml_syntax::parse;
 use pml_tree::tree::Tree;
 use std::alloc::Global;

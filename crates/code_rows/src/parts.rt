@@ -5,7 +5,7 @@ ghost use Rattle.pml_tree.specs.declared.tree.Scalar.TheVariants.{Byte, Short};
 
 use crate::beginnings::slot;
 use pml_channel::channel::Channel;
-use pml_lex::token::{Kind, Token};
+use pml_token::token::{Kind, Token};
 use pml_program::expr::{Expr, Target, Turn};
 use pml_program::form::Form;
 use pml_program::program::{Initial, Slot};

@@ -2,7 +2,7 @@
 use crate::compare::same;
 use pml_lex::fault::LexFault;
 use pml_lex::limits::{first_left_out, first_too_deep};
-use pml_lex::token::{Kind, Token, same_kind};
+use pml_token::token::{Kind, Token, same_kind};
 use std::process::Abort;
 
 static FAULTS: [(LexFault, &str); 4] = [

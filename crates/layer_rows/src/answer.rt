@@ -7,7 +7,7 @@ use pml_inline::expand;
 use pml_inline::fault::InlineFault;
 use pml_lex::cut;
 use pml_lex::fault::LexFault;
-use pml_lex::token::Token;
+use pml_token::token::Token;
 use row_files::{Block, Writer};
 use std::alloc::Global;
 

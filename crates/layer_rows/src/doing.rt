@@ -10,7 +10,7 @@ use crate::values::{add_dash, add_numbers, add_outcome, add_stop};
 use diagnostics::Stop;
 use pml_channel::channel::Channel;
 use pml_eval::eval::eval;
-use pml_lex::token::Token;
+use pml_token::token::Token;
 use pml_printed::named;
 use pml_printed::string::printed;
 use pml_program::expr::Expr;

@@ -4,7 +4,7 @@
 //! `+offset:length*stride[index]`. A variable is its type, its name, `[]` where it is an array, `+offset:length*stride`, and what it
 //! begins with. Each statement stands on a line of its own, behind its labels.
 use crate::signs::{infix, prefix};
-use pml_lex::token::Token;
+use pml_token::token::Token;
 use pml_program::expr::{Expr, Target, Turn, Want};
 use pml_program::form::Form;
 use pml_program::program::{

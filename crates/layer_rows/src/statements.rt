@@ -2,7 +2,7 @@
 //!
 //! A statement that is a step by itself has a line with the line of its first token, and its tokens in brackets. An `if`, a `do` and a
 //! `d_step` have the same with their word, and behind them the statements in them; braces, `atomic` and `unless` have those alone.
-use pml_lex::token::Token;
+use pml_token::token::Token;
 use pml_program::program::{Basic, Program, Seq, Stmt};
 use row_files::Writer;
 use sqlite_items::Items;

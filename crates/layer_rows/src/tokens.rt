@@ -1,7 +1,7 @@
 //! How rows write tokens: `Kind@LINE=TEXT` for each, with blanks between them, or `none`. In a text every byte but the visible ones of
 //! ASCII is written by a grave accent and its digits.
 use pml_lex::limits::first_too_deep;
-use pml_lex::token::Token;
+use pml_token::token::Token;
 use row_files::Writer;
 
 fn add_text(text: &[u8], out: &mut Writer) {

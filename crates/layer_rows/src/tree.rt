@@ -8,7 +8,7 @@ use crate::statements::add_texts;
 use crate::values::{add_creation, add_stop, add_values};
 use pml_check::{CheckFault, Checked, check};
 use pml_flow::graph::Graph;
-use pml_lex::token::Token;
+use pml_token::token::Token;
 use pml_program::program::Program;
 use pml_start::start::start;
 use pml_syntax::{SyntaxFault, parse};

@@ -3,7 +3,7 @@
 use crate::brackets::closing;
 use crate::cause::{Cause, ControlCause, Finding};
 use crate::place::{at_token, between, bytes_of, is_at, kind_at, untold};
-use pml_lex::token::{Kind, Token};
+use pml_token::token::{Kind, Token};
 
 /// The first token of the statement that a sequence begins with: behind `{`, `atomic`, `d_step` and labels.
 pub fn first_statement(tokens: &[Token<'_>], from: usize) -> usize {

@@ -1,7 +1,7 @@
 //! What is open at a token.
 
 use crate::place::{closer_of, closes, from, kind_at, opens};
-use pml_lex::token::{Token, same_kind};
+use pml_token::token::{Token, same_kind};
 use std::alloc::{AllocError, Global};
 
 /// The tokens that open what is open in front of the token at `end`, the outermost first.

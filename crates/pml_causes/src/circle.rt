@@ -4,7 +4,7 @@ use crate::begin::first_statement;
 use crate::brackets::{closing, open_before};
 use crate::cause::{Cause, Circle, ControlCause, Finding};
 use crate::place::{at_token, between, is_at, kind_at, untold};
-use pml_lex::token::{Kind, Token};
+use pml_token::token::{Kind, Token};
 use std::alloc::{AllocError, Global};
 
 /// The body in which a token stands: from its `{` to its `}`.

@@ -2,7 +2,7 @@
 
 use crate::cause::{Cause, Finding, InlineCause};
 use crate::place::{at_token, between, bytes_of, from, is_at, kind_at, named, untold};
-use pml_lex::token::{Kind, Token, same_kind};
+use pml_token::token::{Kind, Token, same_kind};
 use std::alloc::{AllocError, Global};
 
 /// A definition: its word `inline`, its `{` and its `}`, and how many parameters it has.

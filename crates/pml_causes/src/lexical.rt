@@ -2,7 +2,7 @@
 
 use crate::cause::{Cause, Finding, Place, TextCause};
 use crate::place::{at_place, at_token, closes, opens};
-use pml_lex::token::{Kind, Token, same_kind};
+use pml_token::token::{Kind, Token, same_kind};
 use profile::MOST_OPEN;
 use std::str;
 

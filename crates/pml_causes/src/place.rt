@@ -3,7 +3,7 @@
 ghost use Rattle.std.specs.Prelude.{◌≡◌, ◌≤◌, ◌+◌, length, take, drop};
 
 use crate::cause::{Cause, Finding, Named, Place};
-use pml_lex::token::{Kind, Token, same_kind};
+use pml_token::token::{Kind, Token, same_kind};
 
 /// The place of a token.
 pub fn place_of(token: &Token<'_>) -> Place

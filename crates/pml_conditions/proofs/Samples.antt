@@ -1,7 +1,7 @@
 -- Worked examples of breaks, gotos and unlesses beside dos and d_steps, computed.
 use Rattle.std.proofs.Common.{◌≡◌, ℕ, Bool, true, false, List, [], ◌∷◌, take, get_or, refl}
-use Rattle.pml_lex.specs.Word.{Word}
-use Rattle.pml_lex.specs.declared.token.Kind.TheVariants as kind
+use Rattle.pml_token.specs.Word.{Word}
+use Rattle.pml_token.specs.declared.token.Kind.TheVariants as kind
 use Rattle.pml_marks.specs.Marks.{mark}
 use Rattle.pml_marks.specs.declared.mark.Structure.TheVariants.{Do, DStep}
 use Rattle.pml_marks.specs.declared.mark.What.{What}

@@ -1,6 +1,6 @@
 -- The places of a body, numbered from its end, and where settling goes on from each.
 use Rattle.std.specs.Prelude.{◌≡◌, ◌<◌, MatchBool, ℕ, ◌+◌, ◌-◌, List, [], ◌∷◌, ◌++◌, length, map, Bool, true, false, Option, Some, None, if◌then◌else◌, ◌||◌, nat_lt, slice_index_or}
-use Rattle.pml_lex.specs.Word.{Word}
+use Rattle.pml_token.specs.Word.{Word}
 use Rattle.pml_program.specs.declared.program.Action.{Action}
 use Rattle.pml_program.specs.declared.program.Action.TheVariants as action
 use Rattle.pml_program.specs.declared.program.Stmt.{Stmt}

@@ -4,7 +4,7 @@ ghost use Rattle.std.specs.Prelude.{◌≡◌, ℕ, ◌<◌, ◌++◌, ◌∷◌
 ghost use Rattle.pml_control.specs.Graph.{nodes_closed, last_of, nodes_in, nodes_part, nodes_list, nodes_parts, nodes_of};
 
 use crate::node::Node;
-use pml_lex::token::Token;
+use pml_token::token::Token;
 use pml_program::program::{Action, Basic, Seq, Stmt};
 use std::alloc::{AllocError, Global};
 

@@ -1,9 +1,9 @@
 -- A run of kinds that are expected, one after another.
 use Rattle.std.proofs.Common.{◌≡◌, ℕ, ◌+◌, ◌<◌, ◌≤◌, List, ◌∷◌, length, drop, Ok, slice_index_or, refl, ◌∙◌}
 use Rattle.std.proofs.lemmas.List.{at_drop_more, drop_all}
-use Rattle.pml_lex.specs.Word.{Word}
-use Rattle.pml_lex.specs.declared.token.Kind.{Kind}
-use Rattle.pml_lex.specs.declared.token.Kind.TheVariants as k
+use Rattle.pml_token.specs.Word.{Word}
+use Rattle.pml_token.specs.declared.token.Kind.{Kind}
+use Rattle.pml_token.specs.declared.token.Kind.TheVariants as k
 use Rattle.pml_expression.specs.Reading.{Read, and_then, expect, expect_all}
 
 pub one_taken : (kinds : List Kind) (i : ℕ) (ts : List Word) (x : Word × List Word) (r : Read (Unit {0})) → i < length kinds → r ≡ expect_all (drop i kinds) ts → expect (slice_index_or kinds i k.Name) ts ≡ Ok x → r ≡ expect_all (drop (i + 1) kinds) x.1

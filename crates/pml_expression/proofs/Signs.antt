@@ -1,6 +1,6 @@
 -- An operator before its operand: no operator between two operands takes the whole as its left side.
 use Rattle.std.proofs.Common.{◌≡◌, ℕ, zero, suc, true, nat_lt, List, length, drop, Option, Some, None, Ok, refl}
-use Rattle.pml_lex.specs.Word.{Word}
+use Rattle.pml_token.specs.Word.{Word}
 use Rattle.pml_tree.specs.declared.tree.Infix.{Infix}
 use Rattle.pml_tree.specs.declared.tree.Infix.TheVariants as op
 use Rattle.pml_tree.specs.declared.tree.Prefix.{Prefix}

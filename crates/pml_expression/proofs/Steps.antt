@@ -1,11 +1,11 @@
 -- The steps of reading: what a step that did not fail read, and what a step reads.
 use Rattle.std.proofs.Common.{◌≡◌, ℕ, ◌<◌, ◌≤◌, Bool, true, false, List, [], ◌∷◌, length, Option, Some, None, Result, Ok, Err, ◌⊎◌, inl, inr, refl, sym, ap, subst, ◌∙◌, arith}
 use denote.Enum.Bare.{same_true, true_same}
-use Rattle.pml_lex.specs.contracts.token.Kind.{the_type}
-use Rattle.pml_lex.specs.declared.token.Kind.{Kind}
-use Rattle.pml_lex.specs.declared.token.Kind.TheVariants as k
-use Rattle.pml_lex.specs.Kinds.{same_kind}
-use Rattle.pml_lex.specs.Word.{Word}
+use Rattle.pml_token.specs.contracts.token.Kind.{the_type}
+use Rattle.pml_token.specs.declared.token.Kind.{Kind}
+use Rattle.pml_token.specs.declared.token.Kind.TheVariants as k
+use Rattle.pml_token.specs.Kinds.{same_kind}
+use Rattle.pml_token.specs.Word.{Word}
 use Rattle.pml_tree.specs.declared.tree.Infix.{Infix}
 use Rattle.pml_tree.specs.declared.tree.Infix.TheVariants as op
 use Rattle.pml_expression.specs.Grammar as grammar

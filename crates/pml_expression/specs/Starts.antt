@@ -1,7 +1,7 @@
 -- What a token begins, for readers that are to choose.
 use Rattle.std.specs.Prelude.{true, false}
-use Rattle.pml_lex.specs.declared.token.Kind.{Kind}
-use Rattle.pml_lex.specs.declared.token.Kind.TheVariants as k
+use Rattle.pml_token.specs.declared.token.Kind.{Kind}
+use Rattle.pml_token.specs.declared.token.Kind.TheVariants as k
 use Rattle.pml_tree.specs.declared.tree.Prefix.TheVariants as prefixes
 use Rattle.pml_tree.specs.declared.tree.Fill.TheVariants as fills
 use Rattle.pml_expression.specs.declared.operators.Start.{Start}

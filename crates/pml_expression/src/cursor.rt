@@ -6,7 +6,7 @@ ghost use Rattle.pml_expression.specs.Reading as reading;
 ghost use Rattle.pml_expression.specs.Reading.{Reads};
 
 use crate::fault::ReadFault;
-use pml_lex::token::{Kind, Token, same_kind};
+use pml_token::token::{Kind, Token, same_kind};
 use pml_tree::tokens::Tokens;
 use std::marker::Model;
 
@@ -18,7 +18,7 @@ pub struct Cursor<'a> {
 
 impl<'a> Model for Cursor<'a> {
     ghost use Rattle.std.specs.Prelude.{List};
-    ghost use Rattle.pml_lex.specs.Word.{Word};
+    ghost use Rattle.pml_token.specs.Word.{Word};
 
     ghost Value = { List Word };
 

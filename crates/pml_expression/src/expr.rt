@@ -9,7 +9,7 @@ ghost use Rattle.pml_expression.specs.Reading.{Reads};
 use crate::cursor::Cursor;
 use crate::fault::ReadFault;
 use crate::operators::{PREFIX_LEVEL, Start, level, operator, query, start_of};
-use pml_lex::token::Kind;
+use pml_token::token::Kind;
 use pml_tree::tree::{Argument, Expr, Fill, Infix, Prefix, Reference, Sign, Step};
 use sqlite_items::{Boxed, Items};
 use std::alloc::{AllocError, Global};

@@ -7,7 +7,7 @@ ghost use Rattle.pml_expression.specs.Reading.{Reads};
 use crate::cursor::Cursor;
 use crate::expr::expr;
 use crate::fault::ReadFault;
-use pml_lex::token::Kind;
+use pml_token::token::Kind;
 use pml_tree::tree::Expr;
 use sqlite_items::Items;
 use std::alloc::Global;

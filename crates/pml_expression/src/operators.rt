@@ -4,7 +4,7 @@ ghost use Rattle.std.specs.Prelude.{◌≡◌, ◌≤◌};
 ghost use Rattle.pml_expression.specs.Grammar as grammar;
 ghost use Rattle.pml_expression.specs.Starts as starts;
 
-use pml_lex::token::Kind;
+use pml_token::token::Kind;
 use pml_tree::tree::{Fill, Infix, Prefix, Search};
 
 /// What a token begins, where an operand or an argument is to stand.

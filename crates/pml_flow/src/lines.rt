@@ -5,7 +5,7 @@ ghost use Rattle.std.specs.Option.{option_copied};
 ghost use Rattle.pml_flow.specs.Marks.{first_line, line_of, lines_from};
 
 use crate::statements::Statements;
-use pml_lex::token::Token;
+use pml_token::token::Token;
 use pml_program::program::Stmt;
 use std::alloc::{AllocError, Global};
 

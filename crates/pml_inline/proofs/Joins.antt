@@ -1,7 +1,7 @@
 -- What comes out, one after the other, and its count.
 use Rattle.std.proofs.Common.{◌≡◌, ℕ, ◌+◌, ◌<◌, ◌≤◌, Bool, cond, List, [], ◌∷◌, ◌++◌, Option, Some, None, refl, ap, sym, subst, ◌∙◌, arith, append_assoc, append-nil}
 use Rattle.std.proofs.lemmas.Bool.{lt-leb, le-leb}
-use Rattle.pml_lex.specs.Word.{Word}
+use Rattle.pml_token.specs.Word.{Word}
 use Rattle.profile.specs.declared.TheConstants.{MOST_REPLACED}
 use Rattle.pml_inline.specs.Calls.{Given, join, nothing, itself}
 use Rattle.pml_inline.specs.Expansion.{limited}

@@ -2,12 +2,12 @@
 use Rattle.std.proofs.Common.{◌≡◌, ℕ, zero, suc, ◌+◌, ◌-◌, ◌<◌, ◌≤◌, Bool, true, false, ◌&&◌, ◌||◌, cond, nat_eq, List, [], ◌∷◌, ◌++◌, length, get_or, take, drop, map, Option, Some, None, refl, ap, sym, subst, ◌∙◌, ⊎_elim, rules, arith, add-one, append_assoc, append-nil}
 use Rattle.std.proofs.lemmas.Bool.{cases_lt, false≢true}
 use Rattle.std.proofs.lemmas.List.{drop_more, drop_all, get_or_past, get_or-drop, length-drop, drop-drop, take_more, take_rest, take-append-drop, length-append}
-use Rattle.pml_lex.specs.declared.token.Kind.{Kind}
+use Rattle.pml_token.specs.declared.token.Kind.{Kind}
 use denote.Enum.Bare.{same_true}
-use Rattle.pml_lex.specs.contracts.token.Kind.{the_type}
-use Rattle.pml_lex.specs.declared.token.Kind.TheVariants.{Name, Inline as InlineWord, OpenParen, CloseParen, Comma, End}
-use Rattle.pml_lex.specs.Kinds.{same_kind}
-use Rattle.pml_lex.specs.Word.{Word}
+use Rattle.pml_token.specs.contracts.token.Kind.{the_type}
+use Rattle.pml_token.specs.declared.token.Kind.TheVariants.{Name, Inline as InlineWord, OpenParen, CloseParen, Comma, End}
+use Rattle.pml_token.specs.Kinds.{same_kind}
+use Rattle.pml_token.specs.Word.{Word}
 use Rattle.pml_inline.specs.Brackets.{is_inline, has_inline, is_name, begins, one_more, to_closing, closing, level_behind, put, part_turn, parts}
 use Rattle.pml_inline.specs.Inlines.{Inline, and_name, names, parameters, with_parameters, definition, and_inline, define, definition_turn, definitions}
 use Rattle.pml_inline.specs.Places.{no_word, word_at, words_of, places_from}

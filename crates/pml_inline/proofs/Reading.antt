@@ -3,8 +3,8 @@ use Rattle.std.proofs.Common.{◌≡◌, ℕ, zero, suc, ◌+◌, ◌<◌, ◌�
 use Rattle.std.specs.Prelude.{find}
 use Rattle.std.specs.Str.{bytes_eq}
 use Rattle.std.proofs.lemmas.List.{drop_more, drop_all, drop-map, take-map, drop-drop, take-take, length-take}
-use Rattle.pml_lex.specs.declared.token.Kind.TheVariants.{OpenParen, CloseParen}
-use Rattle.pml_lex.specs.Word.{Word}
+use Rattle.pml_token.specs.declared.token.Kind.TheVariants.{OpenParen, CloseParen}
+use Rattle.pml_token.specs.Word.{Word}
 use Rattle.profile.specs.declared.TheConstants.{MOST_CALLS}
 use Rattle.pml_inline.specs.Brackets.{is_inline, has_inline, is_name, closing}
 use Rattle.pml_inline.specs.Inlines.{Inline}

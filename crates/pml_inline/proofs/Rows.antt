@@ -1,10 +1,10 @@
 -- Worked rows of the definition. Each character is a token: a letter a name, but `I` the word `inline`, a digit a number, any other a sign.
 use Rattle.std.specs.Prelude.{◌≡◌, ℕ, zero, suc, ◌+◌, ◌++◌, Bool, true, false, nat_eq, nat_le, if◌then◌else◌, List, [], ◌∷◌, Option, Some, None, refl, map}
 use lib.Chars.{codes}
-use Rattle.pml_lex.specs.declared.token.Kind.{Kind}
-use Rattle.pml_lex.specs.declared.token.Kind.TheVariants.{Name, Number, Inline, Semicolon}
+use Rattle.pml_token.specs.declared.token.Kind.{Kind}
+use Rattle.pml_token.specs.declared.token.Kind.TheVariants.{Name, Number, Inline, Semicolon}
 use Rattle.pml_lex.specs.Tables.{sign_of_one}
-use Rattle.pml_lex.specs.Word.{Word}
+use Rattle.pml_token.specs.Word.{Word}
 use Rattle.std.specs.Prelude.{unwrap_or}
 use Rattle.pml_inline.specs.Brackets.{is_inline}
 use Rattle.pml_inline.specs.Inlines.{definition}

@@ -5,8 +5,8 @@ use Rattle.std.specs.Bool.{OnTrue}
 use Rattle.std.specs.List.{slice_get}
 use Rattle.std.proofs.lemmas.Option.{slice_get-get_or}
 use Rattle.std.proofs.lemmas.List.{drop-map, drop-drop, drop_more, take_more, take-map, take_rest, length-map, get_or-map, length_push, take_at}
-use Rattle.pml_lex.specs.declared.token.Kind.TheVariants.{OpenParen, CloseParen}
-use Rattle.pml_lex.specs.Word.{Word}
+use Rattle.pml_token.specs.declared.token.Kind.TheVariants.{OpenParen, CloseParen}
+use Rattle.pml_token.specs.Word.{Word}
 use Rattle.profile.specs.declared.TheConstants.{MOST_CALLS, MOST_REPLACED}
 use Rattle.pml_inline.specs.Brackets.{is_inline, has_inline, closing}
 use Rattle.pml_inline.specs.Inlines.{Inline, definitions}

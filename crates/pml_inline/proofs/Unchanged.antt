@@ -3,8 +3,8 @@ use Rattle.std.proofs.Common.{◌≡◌, ℕ, Bool, true, false, ◌&&◌, ◌||
 use Rattle.std.specs.Prelude.{find}
 use Rattle.std.specs.Str.{bytes_eq}
 use Rattle.std.proofs.lemmas.Bool.{false≢true}
-use Rattle.pml_lex.specs.declared.token.Kind.TheVariants.{OpenParen}
-use Rattle.pml_lex.specs.Word.{Word}
+use Rattle.pml_token.specs.declared.token.Kind.TheVariants.{OpenParen}
+use Rattle.pml_token.specs.Word.{Word}
 use Rattle.pml_inline.specs.Brackets.{is_inline, has_inline, is_name, begins}
 use Rattle.pml_inline.specs.Inlines.{Inline, definition, definition_turn, definitions}
 use Rattle.pml_inline.specs.Calls.{join, itself, callee}

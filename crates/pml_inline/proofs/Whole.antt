@@ -1,6 +1,6 @@
 -- The expansion, from its parts.
 use Rattle.std.proofs.Common.{◌≡◌, ℕ, Bool, true, false, cond, List, [], map, Option, Some, None, refl, ap, sym, subst, ◌∙◌}
-use Rattle.pml_lex.specs.Word.{Word}
+use Rattle.pml_token.specs.Word.{Word}
 use Rattle.pml_lex.specs.Limits.{IsTooDeep}
 use Rattle.pml_inline.specs.declared.fault.InlineFault.{InlineFault}
 use Rattle.pml_inline.specs.declared.fault.InlineFault.TheVariants.{Memory, Inline as Misused, TooDeep}

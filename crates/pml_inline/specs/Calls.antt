@@ -2,8 +2,8 @@
 use Rattle.std.specs.Prelude.{ℕ, zero, suc, ◌+◌, Bool, true, false, not, ◌&&◌, nat_eq, if◌then◌else◌, List, [], ◌∷◌, ◌++◌, length, take, drop, Option, Some, None, find}
 use Rattle.std.specs.List.{list_any, flat_map, slice_get}
 use Rattle.std.specs.Str.{bytes_eq}
-use Rattle.pml_lex.specs.declared.token.Kind.TheVariants.{OpenParen, CloseParen}
-use Rattle.pml_lex.specs.Word.{Word}
+use Rattle.pml_token.specs.declared.token.Kind.TheVariants.{OpenParen, CloseParen}
+use Rattle.pml_token.specs.Word.{Word}
 use Rattle.pml_inline.specs.Brackets.{is_name, begins, one_more, closing, arguments}
 use Rattle.pml_inline.specs.Inlines.{Inline, is_among}
 

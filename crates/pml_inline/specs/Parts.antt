@@ -5,7 +5,7 @@ use Rattle.std.specs.Borrow.{Bor}
 use Rattle.std.specs.Ordering.{nat_cmp}
 use Rattle.std.specs.Cmp.Lexicographic.{slice_cmp}
 use Rattle.std.specs.BTreeMap.{BTreeMap, get_by}
-use Rattle.pml_lex.specs.Word.{Word}
+use Rattle.pml_token.specs.Word.{Word}
 use Rattle.pml_inline.specs.declared.definitions.Part.{Part}
 use Rattle.pml_inline.specs.declared.definitions.Definition.{Definition}
 use Rattle.pml_inline.specs.Places.{word_at, words_of}

@@ -1,7 +1,7 @@
 -- Tokens by their places in a text. No clause of a public function cites this.
 use Rattle.std.specs.Prelude.{ℕ, zero, suc, List, [], ◌∷◌, map, slice_index_or}
-use Rattle.pml_lex.specs.declared.token.Kind.TheVariants.{End}
-use Rattle.pml_lex.specs.Word.{Word}
+use Rattle.pml_token.specs.declared.token.Kind.TheVariants.{End}
+use Rattle.pml_token.specs.Word.{Word}
 
 abbrev pub no_word : Word
 no_word = record { kind = End; text = []; line = 0 }

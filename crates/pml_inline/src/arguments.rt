@@ -8,7 +8,7 @@ ghost use Rattle.pml_inline.specs.Parts.{places_replaced, places_instead, is_bar
 
 use crate::definitions::Part;
 use crate::places::kind_at;
-use pml_lex::token::{Kind, Token, same_kind};
+use pml_token::token::{Kind, Token, same_kind};
 use std::alloc::{AllocError, Global};
 
 fn opens(kind: Kind) -> bool

@@ -12,7 +12,7 @@ ghost use Rattle.pml_inline.specs.Texts.{IsText, inlines, option_inline, below, 
 use crate::arguments::{arguments, has_empty, replaced};
 use crate::definitions::Definition;
 use crate::places::{closing, kind_at, token_at};
-use pml_lex::token::{Kind, Token, same_kind};
+use pml_token::token::{Kind, Token, same_kind};
 use profile::{MOST_CALLS, MOST_REPLACED};
 use std::alloc::{AllocError, Global};
 

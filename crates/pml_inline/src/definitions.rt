@@ -1,7 +1,7 @@
 //! The definitions of inlines.
 
 ghost use Rattle.std.specs.Prelude.{◌≡◌, ◌==◌, ◌*◌, if◌then◌else◌, ◌<◌, ◌≤◌, ◌+◌, ◌^◌, ℕ, List, None, Some, false, true, drop, length, map, IfOk, IfErr, IfSome, MatchOption, MatchResult, All};
-ghost use Rattle.pml_lex.specs.Word.{Word};
+ghost use Rattle.pml_token.specs.Word.{Word};
 ghost use Rattle.pml_inline.specs.Places.{words_of, word_at};
 ghost use Rattle.pml_inline.specs.Inlines as inlines;
 ghost use Rattle.pml_inline.specs.Calls as calls;
@@ -10,7 +10,7 @@ ghost use Rattle.pml_inline.specs.Parts.{AreNumbered, texts_of, places_of, AreMa
 use crate::fault::InlineFault;
 use crate::names::{Names, numbered};
 use crate::places::{closing, has_inline, is_inline, kind_at, text_at};
-use pml_lex::token::{Kind, Token, same_kind};
+use pml_token::token::{Kind, Token, same_kind};
 use std::alloc::{AllocError, Global};
 
 /// A token of a body: where it stands in the text, and the parameter that it names.

@@ -12,12 +12,12 @@ mod texts;
 
 ghost use Rattle.std.specs.Prelude.{◌≡◌, ℕ, List, IfOk, IfErr, MatchResult};
 ghost use Rattle.pml_lex.specs.Limits.{AreOnLines};
-ghost use Rattle.pml_lex.specs.Word.{Word};
+ghost use Rattle.pml_token.specs.Word.{Word};
 ghost use Rattle.pml_inline.specs.Expansion.{IsExpanded, IsLeast, IsFaultOnLine};
 
 use fault::InlineFault;
 use pml_lex::limits::first_too_deep;
-use pml_lex::token::Token;
+use pml_token::token::Token;
 use std::alloc::Global;
 
 /// The tokens of a text, with its definitions of inlines taken out and each call of one replaced.

@@ -4,7 +4,7 @@ ghost use Rattle.std.specs.Prelude.{◌≡◌, ◌<◌, IfOk, IfSome, length};
 ghost use Rattle.pml_inline.specs.Places.{word_at, words_of, places_from};
 ghost use Rattle.pml_inline.specs.Brackets as brackets;
 
-use pml_lex::token::{Kind, Token, same_kind};
+use pml_token::token::{Kind, Token, same_kind};
 use std::alloc::{AllocError, Global};
 
 /// The places of a text, in order.

@@ -1,7 +1,7 @@
 //! What comes out of a text.
 
 ghost use Rattle.std.specs.Prelude.{◌≡◌, ◌<◌, ◌≤◌, ◌+◌, ◌^◌, ◌-◌, [], Some, IfOk, IfErr, MatchOption};
-ghost use Rattle.pml_lex.specs.Word.{Word};
+ghost use Rattle.pml_token.specs.Word.{Word};
 ghost use Rattle.pml_inline.specs.Inlines.{definitions};
 ghost use Rattle.pml_inline.specs.Expansion as expansion;
 ghost use Rattle.pml_inline.specs.Texts.{IsText, inlines, given_of, IsCall, IsWrongCall, IsReadCall, IsMisread};
@@ -9,7 +9,7 @@ ghost use Rattle.pml_inline.specs.Texts.{IsText, inlines, given_of, IsCall, IsWr
 use crate::calls::{Given, Text, callee, read};
 use crate::fault::InlineFault;
 use crate::places::{closing, has_inline, is_inline};
-use pml_lex::token::{Kind, Token, same_kind};
+use pml_token::token::{Kind, Token, same_kind};
 use profile::MOST_REPLACED;
 use std::alloc::{AllocError, Global};
 

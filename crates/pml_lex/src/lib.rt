@@ -5,11 +5,10 @@ pub mod fault;
 pub mod laws;
 pub mod limits;
 pub mod piece;
-pub mod token;
 mod words;
 
 ghost use Rattle.std.specs.Prelude.{◌≡◌, ◌≤◌, ◌<◌, ◌+◌, ◌^◌, ℕ, List, length, count_by, MatchResult, IfOk, IfErr, IfSome};
-ghost use Rattle.pml_lex.specs.Word.{Word};
+ghost use Rattle.pml_token.specs.Word.{Word};
 ghost use Rattle.pml_lex.specs.Division.{is_line_feed, fresh_from};
 ghost use Rattle.pml_lex.specs.Cut.{AreTokens, IsLeast, IsUncut, IsDivided};
 ghost use Rattle.profile.specs.declared.TheConstants.{MOST_TEXT_BYTES};
@@ -19,7 +18,7 @@ use limits::first_left_out;
 use piece::{Piece, is_blank, next};
 use profile::MOST_TEXT_BYTES;
 use std::alloc::Global;
-use token::Token;
+use pml_token::token::Token;
 
 /// What a text that is skipped leads to.
 #[derive(Clone, Copy)]

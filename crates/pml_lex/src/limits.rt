@@ -3,9 +3,9 @@
 ghost use Rattle.std.specs.Prelude.{◌≡◌, ◌≤◌, ◌<◌, ◌+◌, ◌^◌, ◌-◌, ℕ, true, false, All, MatchOption, length, take, ⊤};
 ghost use Rattle.pml_lex.specs.Limits as limits;
 ghost use Rattle.pml_lex.specs.Limits.{IsOnLine, AreOnLines};
-ghost use Rattle.pml_lex.specs.Word.{Word};
+ghost use Rattle.pml_token.specs.Word.{Word};
 
-use crate::token::{Kind, Token, same_kind};
+use pml_token::token::{Kind, Token, same_kind};
 use profile::{MOST_IN_A_ROW, MOST_OPEN};
 
 /// The line of the first token that stands for something that is left out.

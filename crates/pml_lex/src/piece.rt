@@ -5,7 +5,7 @@ ghost use Rattle.std.specs.List.{prefix_len};
 ghost use Rattle.pml_lex.specs.Pieces as pieces;
 ghost use Rattle.pml_lex.specs.Scanning as scanning;
 
-use crate::token::Kind;
+use pml_token::token::Kind;
 use crate::words::{sign_of_one, sign_of_two, word_kind};
 
 /// What a byte begins.

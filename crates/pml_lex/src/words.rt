@@ -3,7 +3,7 @@
 ghost use Rattle.std.specs.Prelude.{◌≡◌, map, None, unwrap_or};
 ghost use Rattle.pml_lex.specs.Tables as tables;
 
-use crate::token::Kind;
+use pml_token::token::Kind;
 
 const OF_2: [(&[u8], Kind); 7] = [
     (b"do", Kind::Do),

@@ -3,9 +3,9 @@ use Rattle.std.specs.Prelude.{◌≡◌, ℕ, length, ◌+◌, Bool, true, if◌
 use Rattle.std.specs.Ordering.{int_eq, nat_cmp}
 use Rattle.std.specs.BTreeMap.{insert_entry}
 use Rattle.std.specs.Fmt.{decimal}
-use Rattle.pml_lex.specs.Word.{Word}
-use Rattle.pml_lex.specs.Kinds.{same_kind}
-use Rattle.pml_lex.specs.declared.token.Kind.TheVariants.{Init}
+use Rattle.pml_token.specs.Word.{Word}
+use Rattle.pml_token.specs.Kinds.{same_kind}
+use Rattle.pml_token.specs.declared.token.Kind.TheVariants.{Init}
 use Rattle.pml_program.specs.declared.program.Slot.{Slot}
 use Rattle.pml_program.specs.declared.program.Proctype.{Proctype}
 use Rattle.pml_program.specs.declared.program.Program.{Program}

@@ -1,7 +1,7 @@
 -- The texts of places and of their numbers.
 use Rattle.std.specs.Prelude.{ℕ, zero, suc, length, ◌/◌, ◌%◌, Bool, true, false, List, [], ◌++◌, slice_get, Option, Some, None, ℤ, pos, negsuc, codes}
 use Rattle.std.specs.Fmt.{decimal, signed_decimal}
-use Rattle.pml_lex.specs.Word.{Word}
+use Rattle.pml_token.specs.Word.{Word}
 use Rattle.pml_tree.specs.declared.tree.Scalar.TheVariants as scalar
 use Rattle.pml_program.specs.declared.form.Form.{Form}
 use Rattle.pml_program.specs.declared.form.Form.TheVariants as kind

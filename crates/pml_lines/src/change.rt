@@ -9,7 +9,7 @@ ghost use Rattle.pml_lines.specs.Changes.{proctype_name, local_heading, heading_
 use crate::place::place_line;
 use crate::tables::Tables;
 use itoa::Buffer;
-use pml_lex::token::{Kind, Token, same_kind};
+use pml_token::token::{Kind, Token, same_kind};
 use pml_program::program::{Proctype, Slot};
 use pml_store::store::Store;
 use std::alloc::{AllocError, Global};

@@ -5,7 +5,7 @@ use crate::spans::nth_place;
 use pml_causes::brackets::closing;
 use pml_causes::cause::{Cause, ControlCause, Finding, Named, Place};
 use pml_causes::place::{place_of, untold};
-use pml_lex::token::{Kind, Token, same_kind};
+use pml_token::token::{Kind, Token, same_kind};
 use pml_marks::mark::{Mark, What};
 use std::alloc::{AllocError, Global};
 

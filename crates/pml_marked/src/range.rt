@@ -6,7 +6,7 @@ use crate::sign::{
 use crate::spans::{Part, place_in};
 use pml_causes::cause::{Cause, Finding, Named, Place, RangeCause};
 use pml_causes::place::{at_place, untold};
-use pml_lex::token::Token;
+use pml_token::token::Token;
 use pml_marks::mark::{Constant, Mark};
 use profile::MOST_FIELDS;
 

@@ -4,7 +4,7 @@ use crate::sign::place_of_name;
 use pml_causes::brackets::closing;
 use pml_causes::cause::{Named, Place};
 use pml_causes::place::{closes, from, is_at, opens, place_of};
-use pml_lex::token::{Kind, Token, same_kind};
+use pml_token::token::{Kind, Token, same_kind};
 
 /// A part of a declaration.
 #[derive(Clone, Copy)]

@@ -1,6 +1,6 @@
 -- The marks of a model, in the order of the text.
 use Rattle.std.specs.Prelude.{ℕ, pos, ◌+◌, Bool, true, false, List, [], ◌∷◌, ◌++◌, length, map, reverse, Option, Some, None}
-use Rattle.pml_lex.specs.Word.{Word}
+use Rattle.pml_token.specs.Word.{Word}
 use Rattle.pml_tree.specs.declared.tree.Scalar.TheVariants.{Chan}
 use Rattle.pml_tree.specs.declared.tree.Expr.{Expr, Expr-F, fold-Expr, out-Expr}
 use Rattle.pml_tree.specs.declared.tree.Argument.{Argument, Argument-F, fold-Argument}

@@ -1,6 +1,6 @@
 //! Marks: what a model declares, uses and wants, in the order of the text.
 
-use pml_lex::token::Token;
+use pml_token::token::Token;
 use pml_tree::tree::Sort;
 use sqlite_items::Items;
 

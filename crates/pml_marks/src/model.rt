@@ -8,7 +8,7 @@ use crate::declare::variables;
 use crate::expr::{add, expr};
 use crate::mark::{Constant, Declared, Mark, Role, What};
 use crate::statement::seq;
-use pml_lex::token::Token;
+use pml_token::token::Token;
 use pml_tree::tree::{Proctype, Starts, Tree, Unit};
 use sqlite_items::Items;
 use std::alloc::{AllocError, Global};

@@ -6,7 +6,7 @@ ghost use Rattle.pml_marks.specs.Marks.{of_run, of_action, of_references, of_bas
 use crate::declare::variables;
 use crate::expr::{add, arguments, expr, exprs, reference};
 use crate::mark::{Mark, Role, Structure, Use, What};
-use pml_lex::token::Token;
+use pml_token::token::Token;
 use pml_tree::tree::{Action, Basic, Item, Reference, Run, Seq};
 use sqlite_items::Items;
 use std::alloc::{AllocError, Global};

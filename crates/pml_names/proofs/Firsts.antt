@@ -9,7 +9,7 @@ use Rattle.pml_marks.specs.declared.mark.Declared.{Declared}
 use Rattle.pml_marks.specs.declared.mark.What.{What}
 use Rattle.pml_marks.specs.declared.mark.What.TheVariants as what
 use Rattle.pml_marks.specs.declared.mark.Mark.{Mark}
-use Rattle.pml_lex.specs.Word.{Word}
+use Rattle.pml_token.specs.Word.{Word}
 use Rattle.pml_names.specs.declared.thing.Thing.{Thing}
 use Rattle.pml_names.specs.Entry.{Entry, entry, is_named, found}
 use Rattle.pml_names.specs.Env as table

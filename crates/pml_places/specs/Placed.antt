@@ -4,8 +4,8 @@ use Rattle.std.specs.List.{concat}
 use Rattle.profile.specs.declared.TheConstants.{MOST_TEXT_BYTES}
 use Rattle.pml_lex.specs.declared.fault.LexFault.{LexFault}
 use Rattle.pml_lex.specs.declared.fault.LexFault.TheVariants.{Memory, TooLong, Lexical, LeftOut}
-use Rattle.pml_lex.specs.declared.token.Kind.{Kind}
-use Rattle.pml_lex.specs.Word.{Word}
+use Rattle.pml_token.specs.declared.token.Kind.{Kind}
+use Rattle.pml_token.specs.Word.{Word}
 use Rattle.pml_lex.specs.Pieces.{piece}
 use Rattle.pml_lex.specs.Division.{CanStand, IsDivision, IsCut, is_fresh, word}
 

@@ -1,7 +1,7 @@
 //! What holds of the definitions alone.
 
 ghost use Rattle.std.specs.Prelude.{ℕ, List, All};
-ghost use Rattle.pml_lex.specs.Word.{Word};
+ghost use Rattle.pml_token.specs.Word.{Word};
 ghost use Rattle.pml_lex.specs.Division.{IsCut};
 ghost use Rattle.pml_places.specs.Placed.{ArePlaced, AreSame, StandsThere};
 

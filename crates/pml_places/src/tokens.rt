@@ -6,7 +6,7 @@ ghost use Rattle.pml_places.specs.Placed.{ArePlaced, IsUnplaced};
 
 use pml_lex::fault::LexFault;
 use pml_lex::piece::{Piece, is_blank, next};
-use pml_lex::token::Token;
+use pml_token::token::Token;
 use profile::MOST_TEXT_BYTES;
 use std::alloc::Global;
 

@@ -8,7 +8,7 @@ use Rattle.session.specs.declared.Options.{Options}
 use Rattle.session.specs.declared.End.{End}
 use Rattle.session.specs.Part.{Part}
 use Rattle.session.specs.Session.{refused, transcript}
-use Rattle.pml_lex.specs.Word.{Word}
+use Rattle.pml_token.specs.Word.{Word}
 use Rattle.pml_lex.specs.Scanning.{Found, next}
 use Rattle.pml_lex.specs.Division.{IsCut}
 use Rattle.pml_lex.specs.Limits.{has_left_out, depth_behind, row_behind, IsPast, IsTooDeep}

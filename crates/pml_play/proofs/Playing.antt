@@ -13,7 +13,7 @@ use Rattle.session.specs.Texts.{refusal_line}
 use Rattle.session.specs.Writes.{Runs}
 use Rattle.session.proofs.Parts.{Leads-does, puts, memory_breaks, only_does}
 use Rattle.session.proofs.Turns.{write_breaks}
-use Rattle.pml_lex.specs.Word.{Word}
+use Rattle.pml_token.specs.Word.{Word}
 use Rattle.pml_lex.specs.Division.{line_behind}
 use Rattle.pml_lex.specs.Limits.{IsOnLine, AreOnLines}
 use Rattle.pml_lex.specs.Cut.{AreTokens, IsLeast}

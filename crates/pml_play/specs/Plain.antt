@@ -1,6 +1,6 @@
 -- What is said of a text by its own tokens, where none of them is the word `inline`.
 use Rattle.std.specs.Prelude.{◌≡◌, ℕ, false, List}
-use Rattle.pml_lex.specs.Word.{Word}
+use Rattle.pml_token.specs.Word.{Word}
 use Rattle.pml_lex.specs.Cut.{AreTokens}
 use Rattle.pml_lex.specs.Limits.{IsTooDeep}
 use Rattle.pml_inline.specs.Brackets.{has_inline}

@@ -6,7 +6,7 @@ use Rattle.session.specs.declared.Options.{Options}
 use Rattle.session.specs.declared.End.{End}
 use Rattle.session.specs.Part.{Part}
 use Rattle.session.specs.Session.{refused, transcript}
-use Rattle.pml_lex.specs.Word.{Word}
+use Rattle.pml_token.specs.Word.{Word}
 use Rattle.profile.specs.declared.TheConstants.{MOST_TEXT_BYTES}
 use Rattle.pml_lex.specs.Cut.{IsLine, AreTokens, CannotBeCut, HoldsLeftOut}
 use Rattle.pml_inline.specs.Expansion.{Expands, IsExpanded, GoesTooDeep}

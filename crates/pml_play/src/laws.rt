@@ -5,7 +5,7 @@ ghost use Rattle.diagnostics.specs.declared.refusal.Refusal.{Refusal};
 ghost use Rattle.diagnostics.specs.declared.refusal.Refusal.TheVariants as r;
 ghost use Rattle.pml_lex.specs.Cut.{IsLine};
 ghost use Rattle.pml_lex.specs.Limits.{IsTooDeep};
-ghost use Rattle.pml_lex.specs.Word.{Word};
+ghost use Rattle.pml_token.specs.Word.{Word};
 ghost use Rattle.pml_sim.specs.World.{Running, rules};
 ghost use Rattle.pml_tree.specs.declared.tree.Tree.{Tree};
 ghost use Rattle.session.specs.declared.End.{End};

@@ -21,7 +21,7 @@ use pml_inline::expand;
 use pml_inline::fault::InlineFault;
 use pml_lex::cut;
 use pml_lex::fault::LexFault;
-use pml_lex::token::Token;
+use pml_token::token::Token;
 use pml_sim::world::World;
 use pml_syntax::{SyntaxFault, parse};
 use pml_tree::tree::Tree;

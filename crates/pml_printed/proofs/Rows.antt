@@ -3,8 +3,8 @@ use Rattle.std.proofs.Common.{◌≡◌, ℕ, List, [], ◌∷◌, ◌++◌, ℤ
 use Rattle.std.specs.Prelude.{codes}
 use Rattle.std.specs.Fmt.{digits}
 use Rattle.profile.specs.Characters.{quote, tab, line_feed, backslash}
-use Rattle.pml_lex.specs.Word.{Word}
-use Rattle.pml_lex.specs.declared.token.Kind.TheVariants.{Name}
+use Rattle.pml_token.specs.Word.{Word}
+use Rattle.pml_token.specs.declared.token.Kind.TheVariants.{Name}
 use Rattle.pml_printed.specs.Printed.{printed}
 use Rattle.pml_lines.specs.Places.{named}
 

@@ -2,7 +2,7 @@
 use Rattle.std.specs.Prelude.{ℕ, ◌-◌, Bool, true, false, ◌||◌, if◌then◌else◌, nat_eq, length, take, drop, List, [], ◌∷◌, ◌++◌, ℤ, pos}
 use Rattle.std.specs.Fmt.{decimal, signed_decimal, radix_digits}
 use Rattle.profile.specs.Characters.{tab, line_feed, percent, backslash, letter_c, letter_d, letter_e, letter_o, letter_u, letter_x}
-use Rattle.pml_lex.specs.Word.{Word}
+use Rattle.pml_token.specs.Word.{Word}
 use Rattle.pml_eval.specs.Clip.{residue}
 use Rattle.pml_lines.specs.Places.{named}
 use Rattle.pml_printed.specs.declared.string.Before.{Before}

@@ -7,7 +7,7 @@ ghost use Rattle.pml_printed.specs.Printed.{converted, escaped, printed_byte, be
 
 use crate::digits::add_digits;
 use itoa::Buffer;
-use pml_lex::token::Token;
+use pml_token::token::Token;
 use pml_lines::place::named;
 use std::alloc::AllocError;
 

@@ -2,7 +2,7 @@
 
 use crate::expr::{Expr, Target, Want};
 use crate::form::Form;
-use pml_lex::token::Token;
+use pml_token::token::Token;
 use pml_tree::tokens::Tokens;
 use pml_tree::tree::{Removal, Search, SendOrder};
 use sqlite_items::Items;

@@ -5,7 +5,7 @@ use pml_causes::definitions::{Call, Definition, read_call};
 use pml_causes::place::untold;
 use pml_inline::expand;
 use pml_inline::fault::InlineFault;
-use pml_lex::token::Token;
+use pml_token::token::Token;
 use std::alloc::{AllocError, Global};
 
 /// A call that is not right by itself: its name among the tokens, and the definition that it calls.

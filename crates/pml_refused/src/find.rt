@@ -15,7 +15,7 @@ use pml_conditions::first::first_broken;
 use pml_inline::expand;
 use pml_inline::fault::InlineFault;
 use pml_lex::fault::LexFault;
-use pml_lex::token::Token;
+use pml_token::token::Token;
 use pml_marked::control::{of_break, of_step};
 use pml_marked::counts::{of_count, of_label};
 use pml_marked::names::{of_twice, of_unknown};

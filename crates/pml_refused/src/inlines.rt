@@ -4,7 +4,7 @@ use crate::inner::of_calls;
 use pml_causes::cause::{Cause, Finding, InlineCause};
 use pml_causes::definitions::{Definition, definitions, is_called};
 use pml_causes::place::{at_token, named, untold};
-use pml_lex::token::Token;
+use pml_token::token::Token;
 use pml_names::places::Places;
 use std::alloc::{AllocError, Global};
 

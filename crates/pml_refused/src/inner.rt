@@ -4,7 +4,7 @@ use crate::calls::{Broken, Faulty, broken_call, call_at, number_at, of_faulty, o
 use pml_causes::cause::{Cause, Finding, InlineCause};
 use pml_causes::definitions::{Call, Definition};
 use pml_causes::place::{at_token, bytes_of, untold};
-use pml_lex::token::Token;
+use pml_token::token::Token;
 use profile::MOST_CALLS;
 use std::alloc::{AllocError, Global};
 

@@ -3,7 +3,7 @@
 use pml_causes::brackets::{innermost, open_before};
 use pml_causes::cause::Named;
 use pml_causes::place::{closes, is_at, kind_at, named};
-use pml_lex::token::{Kind, Token, same_kind};
+use pml_token::token::{Kind, Token, same_kind};
 use std::alloc::{AllocError, Global};
 
 /// Whether only blanks stand before a place on its line.

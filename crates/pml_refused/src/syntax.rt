@@ -7,7 +7,7 @@ use crate::trial::{Change, reads_on, stop};
 use pml_causes::brackets::fits;
 use pml_causes::cause::{Cause, Finding, Named, Place, SyntaxCause, Wanted};
 use pml_causes::place::{at_place, closes, end_of, is_at, kind_at, named, untold};
-use pml_lex::token::{Kind, Token, same_kind};
+use pml_token::token::{Kind, Token, same_kind};
 use std::alloc::{AllocError, Global};
 
 /// Where an inline of this name is defined.

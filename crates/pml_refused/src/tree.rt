@@ -3,7 +3,7 @@
 use diagnostics::Refusal;
 use pml_check::parsed::Parsed;
 use pml_check::{CheckFault, check};
-use pml_lex::token::Token;
+use pml_token::token::Token;
 use pml_marks::mark::Mark;
 use pml_marks::model::marks;
 use pml_syntax::{SyntaxFault, parse};

@@ -1,6 +1,6 @@
 //! How far tokens are read, as they stand or with a change.
 
-use pml_lex::token::{Kind, Token};
+use pml_token::token::{Kind, Token};
 use pml_syntax::{SyntaxFault, parse};
 use std::alloc::{AllocError, Global};
 

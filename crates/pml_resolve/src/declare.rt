@@ -9,7 +9,7 @@ ghost use Rattle.pml_resolve.specs.Declarations.{known, natural, plain, initial,
 
 use crate::expression::expr;
 use crate::room::room_for;
-use pml_lex::token::Token;
+use pml_token::token::Token;
 use pml_marks::constant::constant;
 use pml_marks::mark::{Constant, Declared, Makes, Role, What};
 use pml_names::names::Names;

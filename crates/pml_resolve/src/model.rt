@@ -9,7 +9,7 @@ ghost use Rattle.pml_resolve.specs.Model.{count, made, with_process, with_unit, 
 
 use crate::declare::{declare, natural, variables};
 use crate::statement::seq;
-use pml_lex::token::Token;
+use pml_token::token::Token;
 use pml_marks::constant::constant;
 use pml_marks::mark::{Declared, Role, What};
 use pml_names::names::Names;

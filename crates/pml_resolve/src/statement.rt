@@ -8,7 +8,7 @@ ghost use Rattle.pml_resolve.specs.Statements.{each, two, stmts, numbered_basic,
 use crate::action::action;
 use crate::declare::variables;
 use crate::room::room_for;
-use pml_lex::token::Token;
+use pml_token::token::Token;
 use pml_marks::mark::Role;
 use pml_names::names::Names;
 use pml_names::table::Table;

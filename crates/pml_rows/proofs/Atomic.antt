@@ -1,7 +1,7 @@
 -- Runs: atomic, and levels of escapes. `tools/model-data` made the data of their models.
 use Rattle.std.proofs.Common.{◌≡◌, ℕ, List, [], ◌∷◌, true, false, refl, Some}
 use Rattle.std.specs.Prelude.{codes}
-use Rattle.pml_lex.specs.Word.{Word}
+use Rattle.pml_token.specs.Word.{Word}
 use Rattle.pml_tree.specs.declared.tree.Search.TheVariants.{First}
 use Rattle.pml_tree.specs.declared.tree.Removal.TheVariants.{Remove}
 use Rattle.pml_tree.specs.declared.tree.SendOrder.TheVariants.{Fifo}
@@ -10,7 +10,7 @@ use Rattle.pml_program.specs.declared.program.Basic.{Goto, Break}
 use Rattle.pml_rows.specs.Seen.{seen}
 use Rattle.pml_rows.proofs.Models.{on, token_at, tokens_between, byte, chan, slot, global, number, read, assign, holds, stmt, plain, labelled, block, atomic, do_od, unless, process, options, text, whole}
 use Rattle.pml_rows.proofs.Same.{computes, sees}
-use Rattle.pml_lex.specs.declared.token.Kind.TheVariants as kind
+use Rattle.pml_token.specs.declared.token.Kind.TheVariants as kind
 use Rattle.pml_tree.specs.declared.tree.Infix.TheVariants as op
 use Rattle.pml_program.specs.declared.expr.Expr.TheVariants as expr
 use Rattle.pml_program.specs.declared.expr.Want.TheVariants as want

@@ -1,7 +1,7 @@
 -- What is found in the control of bodies: circles of gotos, and bad first points of d_steps.
 use Rattle.std.proofs.Common.{inl, inr, [], ◌∷◌, refl}
-use Rattle.pml_lex.specs.Word.{Word}
-use Rattle.pml_lex.specs.declared.token.Kind.TheVariants as kind
+use Rattle.pml_token.specs.Word.{Word}
+use Rattle.pml_token.specs.declared.token.Kind.TheVariants as kind
 use Rattle.pml_program.specs.declared.program.Seq.{Seq}
 use Rattle.pml_program.specs.declared.program.Basic.{Goto}
 use Rattle.pml_program.specs.declared.program.Action.TheVariants as action

@@ -1,13 +1,13 @@
 -- Runs: limits. `tools/model-data` made the data of their models.
 use Rattle.std.proofs.Common.{◌≡◌, ℕ, List, [], ◌∷◌, true, false, refl, Some}
 use Rattle.std.specs.Prelude.{codes}
-use Rattle.pml_lex.specs.Word.{Word}
+use Rattle.pml_token.specs.Word.{Word}
 use Rattle.pml_program.specs.declared.program.Program.{Program}
 use Rattle.pml_program.specs.declared.program.Basic.{Break}
 use Rattle.pml_rows.specs.Seen.{seen}
 use Rattle.pml_rows.proofs.Models.{on, token_at, tokens_between, byte, chan, int, slot, global, number, read, run, assign, holds, stmt, plain, labelled, d_step, do_od, process, options, text, whole}
 use Rattle.pml_rows.proofs.Same.{computes, sees}
-use Rattle.pml_lex.specs.declared.token.Kind.TheVariants as kind
+use Rattle.pml_token.specs.declared.token.Kind.TheVariants as kind
 use Rattle.pml_tree.specs.declared.tree.Infix.TheVariants as op
 use Rattle.pml_program.specs.declared.expr.Expr.TheVariants as expr
 use Rattle.pml_program.specs.declared.program.Initial.TheVariants as initial

@@ -3,9 +3,9 @@ use Rattle.std.proofs.Common.{ℕ, ◌-◌, Bool, true, false, List, [], ◌∷�
 use Rattle.std.specs.Prelude.{codes, drop, pos, slice_index_or}
 use Prim.Native.String.{String}
 use Rattle.session.specs.declared.Options.{Options}
-use Rattle.pml_lex.specs.Word.{Word}
-use Rattle.pml_lex.specs.declared.token.Kind.{Kind}
-use Rattle.pml_lex.specs.declared.token.Kind.TheVariants as kind
+use Rattle.pml_token.specs.Word.{Word}
+use Rattle.pml_token.specs.declared.token.Kind.{Kind}
+use Rattle.pml_token.specs.declared.token.Kind.TheVariants as kind
 use Rattle.pml_tree.specs.declared.tree.Scalar.TheVariants as scalar
 use Rattle.pml_program.specs.declared.form.Form.{Form}
 use Rattle.pml_program.specs.declared.form.Form.TheVariants.{Plain}

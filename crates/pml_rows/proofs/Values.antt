@@ -1,7 +1,7 @@
 -- Runs: values, initialisers, faults and printing. `tools/model-data` made the data of their models.
 use Rattle.std.proofs.Common.{◌≡◌, ℕ, List, [], ◌∷◌, true, false, refl, Some, None}
 use Rattle.std.specs.Prelude.{codes}
-use Rattle.pml_lex.specs.Word.{Word}
+use Rattle.pml_token.specs.Word.{Word}
 use Rattle.pml_tree.specs.declared.tree.Search.TheVariants.{First}
 use Rattle.pml_tree.specs.declared.tree.Removal.TheVariants.{Remove}
 use Rattle.pml_tree.specs.declared.tree.SendOrder.TheVariants.{Fifo}
@@ -9,7 +9,7 @@ use Rattle.pml_program.specs.declared.program.Program.{Program}
 use Rattle.pml_rows.specs.Seen.{seen}
 use Rattle.pml_rows.proofs.Models.{on, token_at, tokens_between, byte, chan, mtype, short, int, slot, fields, turn, in_global, local, global, number, read, run, assign, holds, plain, if_fi, process, options, text, whole}
 use Rattle.pml_rows.proofs.Same.{computes, sees}
-use Rattle.pml_lex.specs.declared.token.Kind.TheVariants as kind
+use Rattle.pml_token.specs.declared.token.Kind.TheVariants as kind
 use Rattle.pml_tree.specs.declared.tree.Infix.TheVariants as op
 use Rattle.pml_tree.specs.declared.tree.Prefix.TheVariants as before
 use Rattle.pml_program.specs.declared.form.Form.TheVariants as form

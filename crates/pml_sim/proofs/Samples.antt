@@ -1,7 +1,7 @@
 -- Worked examples of what a model allows and what a state keeps, computed.
 use Rattle.std.proofs.Common.{◌≡◌, ℕ, List, [], ◌∷◌, None, ℤ, pos, false, refl}
-use Rattle.pml_lex.specs.declared.token.Kind.TheVariants as kind
-use Rattle.pml_lex.specs.Word.{Word}
+use Rattle.pml_token.specs.declared.token.Kind.TheVariants as kind
+use Rattle.pml_token.specs.Word.{Word}
 use Rattle.pml_tree.specs.declared.tree.Scalar.TheVariants as scalar
 use Rattle.pml_program.specs.declared.form.Form.{Form}
 use Rattle.pml_program.specs.declared.form.Form.TheVariants as form

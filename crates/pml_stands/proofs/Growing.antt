@@ -5,7 +5,7 @@ use Rattle.std.specs.Option.{is_some}
 use Rattle.std.specs.Str.{bytes_eq}
 use Rattle.std.proofs.lemmas.Bool.Decides.{eqb_tells}
 use Rattle.std.proofs.lemmas.Slice.Eq.{bytes_eq-Decides}
-use Rattle.pml_lex.specs.Word.{Word}
+use Rattle.pml_token.specs.Word.{Word}
 use Rattle.pml_marks.specs.declared.mark.Declared.{Declared}
 use Rattle.pml_marks.specs.declared.mark.What.TheVariants as what
 use Rattle.pml_names.specs.declared.thing.Thing.{Thing}

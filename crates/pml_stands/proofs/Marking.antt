@@ -1,7 +1,7 @@
 -- The names of the whole text: what its marks declare globally is what its units do.
 use Rattle.std.proofs.Common.{◌≡◌, ℕ, ◌+◌, ◌<◌, Bool, cond, List, [], ◌∷◌, ◌++◌, map, length, reverse, Option, Some, None, refl, ap, sym, subst, ◌∙◌, arith}
 use Rattle.std.specs.Str.{bytes_eq}
-use Rattle.pml_lex.specs.Word.{Word}
+use Rattle.pml_token.specs.Word.{Word}
 use Rattle.pml_tree.specs.declared.tree.Variable.{Variable}
 use Rattle.pml_tree.specs.declared.tree.Basic.{Basic, Basic-F, map-Basic, roll-Basic, fold-roll-Basic}
 use Rattle.pml_tree.specs.declared.tree.Item.{Item, roll-Item, fold-roll-Item}

@@ -5,7 +5,7 @@ use Rattle.std.specs.Option.{is_some}
 use Rattle.std.specs.Str.{bytes_eq}
 use Rattle.std.proofs.lemmas.List.{length-append}
 use Rattle.std.proofs.lemmas.Bool.Decides.{eqb_tells}
-use Rattle.pml_lex.specs.Word.{Word}
+use Rattle.pml_token.specs.Word.{Word}
 use Rattle.pml_names.specs.declared.thing.Thing.{Thing}
 use Rattle.pml_names.specs.declared.thing.Thing.TheVariants as thing
 use Rattle.pml_names.specs.Entry.{Entry, entry, found}

@@ -1,6 +1,6 @@
 -- Marks that declare nothing: those of all but declarations.
 use Rattle.std.proofs.Common.{◌≡◌, ℕ, List, [], ◌∷◌, ◌++◌, map, Option, Some, None, refl, ap, sym, subst, ◌∙◌}
-use Rattle.pml_lex.specs.Word.{Word}
+use Rattle.pml_token.specs.Word.{Word}
 use Rattle.pml_tree.specs.declared.tree.Argument.{Argument, Argument-F, map-Argument, roll-Argument, fold-roll-Argument, ind-Argument}
 use Rattle.pml_tree.specs.declared.tree.Expr.{Expr, Expr-F, out-Expr, map-Expr, roll-Expr, fold-roll-Expr, ind-Expr}
 use Rattle.pml_tree.specs.declared.tree.Reference.{Reference, Reference-F, map-Reference, roll-Reference, fold-roll-Reference, ind-Reference}

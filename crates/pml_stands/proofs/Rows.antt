@@ -2,8 +2,8 @@
 -- typedef R { byte e; byte f[2] }; byte x; R r[2]; chan q = [1] of { byte }`, and in the proctype A `byte x; byte y`.
 use Rattle.std.proofs.Common.{◌≡◌, ℕ, true, false, List, [], ◌∷◌, Option, Some, None, pos, negsuc, refl}
 use Rattle.std.specs.Prelude.{codes, reverse}
-use Rattle.pml_lex.specs.Word.{Word}
-use Rattle.pml_lex.specs.declared.token.Kind.TheVariants as word
+use Rattle.pml_token.specs.Word.{Word}
+use Rattle.pml_token.specs.declared.token.Kind.TheVariants as word
 use Rattle.pml_tree.specs.declared.tree.Scalar.TheVariants as scalar
 use Rattle.pml_tree.specs.declared.tree.Sign.TheVariants as sign
 use Rattle.pml_tree.specs.declared.tree.Fill.TheVariants as fill

@@ -1,6 +1,6 @@
 -- Each expression stands for what it is numbered as.
 use Rattle.std.proofs.Common.{◌≡◌, ℕ, List, [], ◌∷◌, map, Option, Some, None, refl, ap, sym, subst, ◌∙◌}
-use Rattle.pml_lex.specs.Word.{Word}
+use Rattle.pml_token.specs.Word.{Word}
 use Rattle.pml_tree.specs.declared.tree.Argument.{Argument, Argument-F, map-Argument, roll-Argument, ind-Argument}
 use Rattle.pml_tree.specs.declared.tree.Argument.TheVariants as g
 use Rattle.pml_tree.specs.declared.tree.Expr.{Expr as TreeExpr, Expr-F, map-Expr, roll-Expr, ind-Expr}

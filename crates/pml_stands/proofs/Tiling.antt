@@ -5,7 +5,7 @@ use Rattle.std.specs.Str.{bytes_eq}
 use Rattle.std.proofs.lemmas.Bool.Decides.{eqb_tells}
 use Rattle.std.proofs.lemmas.List.{append_assoc}
 use Rattle.profile.specs.declared.TheConstants.{MOST_CELLS}
-use Rattle.pml_lex.specs.Word.{Word}
+use Rattle.pml_token.specs.Word.{Word}
 use Rattle.pml_tree.specs.declared.tree.Sort.{Sort}
 use Rattle.pml_tree.specs.declared.tree.Expr.{Expr as TreeExpr}
 use Rattle.pml_tree.specs.declared.tree.Basic.{Basic as TreeBasic}

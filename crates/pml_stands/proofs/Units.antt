@@ -2,7 +2,7 @@
 use Rattle.std.proofs.Common.{◌≡◌, ℕ, ◌+◌, ◌<◌, Bool, true, false, cond, List, [], ◌∷◌, ◌++◌, map, length, reverse, Option, Some, None, refl, ap, sym, subst, ◌∙◌, inl, arith}
 use Rattle.std.specs.Option.{is_some}
 use Rattle.std.proofs.lemmas.List.{append_assoc, append-nil, length-append}
-use Rattle.pml_lex.specs.Word.{Word}
+use Rattle.pml_token.specs.Word.{Word}
 use Rattle.pml_tree.specs.declared.tree.Variable.{Variable as TreeVariable}
 use Rattle.pml_tree.specs.declared.tree.Starts.{Starts}
 use Rattle.pml_tree.specs.declared.tree.Starts.TheVariants as starts

@@ -3,7 +3,7 @@
 use Rattle.std.specs.Prelude.{◌≡◌, ℕ, nat_lt, Bool, true, false, if◌then◌else◌, List, [], ◌∷◌, Option, Some, None, ℤ, pos, codes}
 use Rattle.std.specs.Str.{bytes_eq}
 use Rattle.profile.specs.declared.TheConstants.{MOST_CONSTANTS}
-use Rattle.pml_lex.specs.Word.{Word}
+use Rattle.pml_token.specs.Word.{Word}
 use Rattle.pml_tree.specs.declared.tree.Sign.{Sign}
 use Rattle.pml_tree.specs.declared.tree.Sign.TheVariants.{Plus, Minus}
 use Rattle.pml_tree.specs.declared.tree.Fill.{Fill}

@@ -1,6 +1,6 @@
 -- Worked examples, computed.
 use Rattle.std.proofs.Common.{◌≡◌, ℕ, [], ◌∷◌, pos, negsuc, refl, true, Ok, Err, replicate}
-use Rattle.pml_lex.specs.declared.token.Kind.TheVariants as kind
+use Rattle.pml_token.specs.declared.token.Kind.TheVariants as kind
 use Rattle.pml_tree.specs.declared.tree.Scalar.TheVariants as scalar
 use Rattle.pml_program.specs.declared.form.Form.{Form}
 use Rattle.pml_program.specs.declared.form.Form.TheVariants as form

@@ -14,7 +14,7 @@ use crate::arguments::{goes_to, values_of};
 use crate::live::Live;
 use diagnostics::{Fault, Stop};
 use pml_eval::eval::eval;
-use pml_lex::token::Token;
+use pml_token::token::Token;
 use pml_printed::named;
 use pml_printed::string::printed;
 use pml_program::expr::{Expr, Target};

@@ -1,9 +1,9 @@
 -- What statements begin with, and what may come behind one.
 use Rattle.std.proofs.Common.{◌≡◌, ℕ, ◌<◌, Bool, true, false, ◌&&◌, List, ◌∷◌, length, drop, Option, Some, refl, arith}
-use Rattle.pml_lex.specs.Word.{Word}
-use Rattle.pml_lex.specs.Kinds.{same_kind}
-use Rattle.pml_lex.specs.declared.token.Kind.{Kind}
-use Rattle.pml_lex.specs.declared.token.Kind.TheVariants as k
+use Rattle.pml_token.specs.Word.{Word}
+use Rattle.pml_token.specs.Kinds.{same_kind}
+use Rattle.pml_token.specs.declared.token.Kind.{Kind}
+use Rattle.pml_token.specs.declared.token.Kind.TheVariants as k
 use Rattle.pml_tree.specs.declared.tree.Search.{Search}
 use Rattle.pml_tree.specs.declared.tree.SendOrder.{SendOrder}
 use Rattle.pml_tree.specs.declared.tree.Infix.{Infix}

@@ -1,6 +1,6 @@
 -- What a statement keeps as its tokens is what stands there.
 use Rattle.std.proofs.Common.{◌≡◌, Bool, List, ◌++◌}
-use Rattle.pml_lex.specs.Word.{Word}
+use Rattle.pml_token.specs.Word.{Word}
 use Rattle.pml_tree.specs.declared.tree.Basic.{Basic}
 use Rattle.pml_tree.specs.declared.tree.Item.{Item}
 use Rattle.pml_expression.specs.Grammar.{between, SpellsExpr, SpellsList}

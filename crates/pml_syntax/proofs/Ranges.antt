@@ -1,8 +1,8 @@
 -- What a `for` or a `select` counts over: what is read is spelled so, and what is spelled is read, as that very range.
 use Rattle.std.proofs.Common.{◌≡◌, ℕ, ◌<◌, ◌≤◌, List, ◌∷◌, length, Ok, refl, sym, ap, subst, ◌∙◌, arith}
-use Rattle.pml_lex.specs.Word.{Word}
-use Rattle.pml_lex.specs.declared.token.Kind.{Kind}
-use Rattle.pml_lex.specs.declared.token.Kind.TheVariants as k
+use Rattle.pml_token.specs.Word.{Word}
+use Rattle.pml_token.specs.declared.token.Kind.{Kind}
+use Rattle.pml_token.specs.declared.token.Kind.TheVariants as k
 use Rattle.pml_tree.specs.declared.tree.Expr.{Expr}
 use Rattle.pml_tree.specs.declared.tree.Reference.{Reference}
 use Rattle.pml_expression.specs.Grammar.{between, SpellsReference, SpellsExpr}

@@ -1,9 +1,9 @@
 -- A small `for` and a small `select`: their tokens, and their trees written out.
 use Rattle.std.proofs.Common.{◌≡◌, ℕ, Bool, true, false, List, [], ◌∷◌, Option, Some, None, Ok, refl}
 use lib.Chars.{codes}
-use Rattle.pml_lex.specs.Word.{Word}
-use Rattle.pml_lex.specs.declared.token.Kind.{Kind}
-use Rattle.pml_lex.specs.declared.token.Kind.TheVariants as k
+use Rattle.pml_token.specs.Word.{Word}
+use Rattle.pml_token.specs.declared.token.Kind.{Kind}
+use Rattle.pml_token.specs.declared.token.Kind.TheVariants as k
 use Rattle.pml_tree.specs.declared.tree.Infix.TheVariants as op
 use Rattle.pml_tree.specs.declared.tree.Expr.{Expr}
 use Rattle.pml_tree.specs.declared.tree.Expr.TheVariants as e

@@ -1,7 +1,7 @@
 -- What is left out between two items, a token at a time.
 use Rattle.std.proofs.Common.{◌≡◌, ◌+◌, ◌≤◌, true, false, List, [], ◌∷◌, length, drop, refl, arith}
-use Rattle.pml_lex.specs.Word.{Word}
-use Rattle.pml_lex.specs.declared.token.Kind.TheVariants as k
+use Rattle.pml_token.specs.Word.{Word}
+use Rattle.pml_token.specs.declared.token.Kind.TheVariants as k
 use Rattle.pml_expression.specs.Reading.{next, pick, sees}
 use Rattle.pml_syntax.specs.Grammar.{is_separator}
 use Rattle.pml_syntax.specs.ReadingStatements.{skip_separators, leads_to_run}

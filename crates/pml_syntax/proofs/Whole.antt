@@ -1,6 +1,6 @@
 -- All of the tokens: what was read is the only tree, and where nothing was read there is none.
 use Rattle.std.proofs.Common.{◌≡◌, ℕ, ◌≤◌, List, length, Ok, Err, sym, ap, ◌∙◌, arith}
-use Rattle.pml_lex.specs.Word.{Word}
+use Rattle.pml_token.specs.Word.{Word}
 use Rattle.pml_tree.specs.declared.tree.Tree.{Tree}
 use Rattle.pml_syntax.specs.Grammar.{Spells}
 use Rattle.pml_syntax.specs.ReadingUnits as reading

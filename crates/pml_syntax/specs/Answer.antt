@@ -1,6 +1,6 @@
 -- What is answered for a tree.
 use Rattle.std.specs.Prelude.{◌≡◌, ℕ, ◌≤◌, Bool, true, false, List, [], Result, Ok, Err}
-use Rattle.pml_lex.specs.Word.{Word}
+use Rattle.pml_token.specs.Word.{Word}
 use Rattle.pml_expression.specs.declared.fault.ReadFault.{ReadFault}
 use Rattle.pml_expression.specs.declared.fault.ReadFault.TheVariants as reads
 use Rattle.pml_expression.specs.Reading.{Read, Fails}

@@ -2,9 +2,9 @@
 -- production. `from` is the list of the tokens from a place on, and `to` the list of those that are left behind it.
 use Rattle.std.specs.Prelude.{◌≡◌, ℕ, Bool, true, false, ◌||◌, List, [], ◌∷◌, ◌++◌, Option, Some, None}
 use lib.Chars.{codes}
-use Rattle.pml_lex.specs.Word.{Word}
-use Rattle.pml_lex.specs.declared.token.Kind.{Kind}
-use Rattle.pml_lex.specs.declared.token.Kind.TheVariants as k
+use Rattle.pml_token.specs.Word.{Word}
+use Rattle.pml_token.specs.declared.token.Kind.{Kind}
+use Rattle.pml_token.specs.declared.token.Kind.TheVariants as k
 use Rattle.pml_tree.specs.declared.tree.Scalar.{Scalar}
 use Rattle.pml_tree.specs.declared.tree.Scalar.TheVariants as scalars
 use Rattle.pml_tree.specs.declared.tree.Infix.{Infix}

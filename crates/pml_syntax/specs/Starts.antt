@@ -1,7 +1,7 @@
 -- What tokens begin, for readers that are to choose.
 use Rattle.std.specs.Prelude.{Bool, true, false}
-use Rattle.pml_lex.specs.declared.token.Kind.{Kind}
-use Rattle.pml_lex.specs.declared.token.Kind.TheVariants as k
+use Rattle.pml_token.specs.declared.token.Kind.{Kind}
+use Rattle.pml_token.specs.declared.token.Kind.TheVariants as k
 use Rattle.pml_tree.specs.declared.tree.Search.TheVariants as looks
 use Rattle.pml_tree.specs.declared.tree.SendOrder.TheVariants as orders
 use Rattle.pml_syntax.specs.declared.starts.Opening.{Opening}

@@ -14,7 +14,7 @@ use pml_expression::expr::{
 };
 use pml_expression::fault::ReadFault;
 use pml_expression::list::{expr_list, values};
-use pml_lex::token::{Kind, Token};
+use pml_token::token::{Kind, Token};
 use pml_tree::tree::{Action, Argument, Expr, Reference, Removal, Run, Search, SendOrder};
 use sqlite_items::{Boxed, Items};
 use std::alloc::Global;

@@ -6,7 +6,7 @@ ghost use Rattle.pml_syntax.specs.ReadingUnits as units;
 
 use crate::starts::{declares, is_separator, is_visibility};
 use pml_expression::cursor::Cursor;
-use pml_lex::token::Kind;
+use pml_token::token::Kind;
 
 /// Whether a label comes next.
 #[tactic(auto, unfolding(crate::specs::ReadingStatements::is_label, pml_expression::specs::Reading::sees))]

@@ -14,7 +14,7 @@ use crate::range::boxed_range;
 use crate::starts::{Opening, is_end, is_exclusive, is_separator, opening_of};
 use pml_expression::cursor::Cursor;
 use pml_expression::fault::ReadFault;
-use pml_lex::token::{Kind, Token};
+use pml_token::token::{Kind, Token};
 use pml_tree::tree::{Basic, Item, Seq};
 use sqlite_items::{Boxed, Items};
 use std::alloc::Global;

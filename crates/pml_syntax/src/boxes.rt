@@ -8,7 +8,7 @@ ghost use Rattle.std.specs.Prelude.{◌≡◌, IfOk, [], true, false};
 
 use crate::starts::Opening;
 use pml_expression::fault::ReadFault;
-use pml_lex::token::Token;
+use pml_token::token::Token;
 use pml_tree::tokens::Tokens;
 use pml_tree::tree::{
     Action, Argument, Basic, Expr, Item, Reference, Removal, Run, Search, SendOrder, Seq, Variable,

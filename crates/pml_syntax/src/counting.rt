@@ -9,7 +9,7 @@ ghost use Rattle.pml_syntax.specs.Grammar as grammar;
 use crate::boxes;
 use crate::range::{Bound, Counter, Range};
 use crate::starts::Opening;
-use pml_lex::token::{Kind, Token};
+use pml_token::token::{Kind, Token};
 use pml_tree::tokens::Tokens;
 use pml_tree::tree::{Action, Basic, Expr, Infix, Item, Reference, Seq};
 use sqlite_items::{Boxed, Items};

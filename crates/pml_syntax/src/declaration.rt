@@ -11,7 +11,7 @@ use crate::starts::scalar;
 use pml_expression::cursor::Cursor;
 use pml_expression::expr::{boxed_expr, expr_behind, index, reference};
 use pml_expression::fault::ReadFault;
-use pml_lex::token::{Kind, Token};
+use pml_token::token::{Kind, Token};
 use pml_tree::tree::{Expr, Initial, Reference, Scalar, Sort, Variable};
 use sqlite_items::{Boxed, Items};
 use std::alloc::Global;

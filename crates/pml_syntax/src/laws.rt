@@ -1,7 +1,7 @@
 //! What holds of the grammar alone.
 
 ghost use Rattle.std.specs.Prelude.{◌≡◌, ◌++◌, List, Bool};
-ghost use Rattle.pml_lex.specs.Word.{Word};
+ghost use Rattle.pml_token.specs.Word.{Word};
 ghost use Rattle.pml_tree.specs.declared.tree.Basic.{Basic};
 ghost use Rattle.pml_tree.specs.declared.tree.Tree.{Tree};
 ghost use Rattle.pml_expression.specs.Grammar.{between};

@@ -1,4 +1,4 @@
-use pml_lex::token::Token;
+use pml_token::token::Token;
 use pml_tree::tree::Scalar;
 
 /// What a declaration begins with, before the names that it declares.

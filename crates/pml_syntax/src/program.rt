@@ -8,7 +8,7 @@ ghost use Rattle.pml_syntax.specs.Answer.{Answers, IsOnLine};
 use crate::unit::model;
 use pml_expression::cursor::Cursor;
 use pml_expression::fault::ReadFault;
-use pml_lex::token::Token;
+use pml_token::token::Token;
 use pml_tree::tree::Tree;
 use std::alloc::Global;
 use thiserror::Error;

@@ -10,7 +10,7 @@ use crate::action::boxed_reference;
 use pml_expression::cursor::Cursor;
 use pml_expression::expr::boxed_expr;
 use pml_expression::fault::ReadFault;
-use pml_lex::token::{Kind, Token};
+use pml_token::token::{Kind, Token};
 use pml_tree::tokens::Tokens;
 use pml_tree::tree::{Expr, Reference};
 use sqlite_items::Boxed;

@@ -5,7 +5,7 @@ ghost use Rattle.pml_syntax.specs.Grammar as grammar;
 ghost use Rattle.pml_syntax.specs.Starts as starts;
 ghost use Rattle.pml_syntax.specs.ReadingUnits as units;
 
-use pml_lex::token::Kind;
+use pml_token::token::Kind;
 use pml_tree::tree::{Scalar, Search, SendOrder};
 
 /// A statement by its structure. `Other` has none.

@@ -14,7 +14,7 @@ use crate::starts::{Head, declares, head_of, parts_parameters};
 use pml_expression::cursor::Cursor;
 use pml_expression::expr::index;
 use pml_expression::fault::ReadFault;
-use pml_lex::token::{Kind, Token};
+use pml_token::token::{Kind, Token};
 use pml_tree::tree::{Item, Proctype, Scalar, Seq, Sort, Starts, Tree, Unit, Variable};
 use sqlite_items::{Boxed, Items};
 use std::alloc::Global;

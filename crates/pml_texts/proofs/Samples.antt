@@ -1,7 +1,7 @@
 -- Small models and states.
 use Rattle.std.proofs.Common.{ℕ, List, [], false, map, None, codes}
-use Rattle.pml_lex.specs.Word.{Word}
-use Rattle.pml_lex.specs.declared.token.Kind.TheVariants as kind
+use Rattle.pml_token.specs.Word.{Word}
+use Rattle.pml_token.specs.declared.token.Kind.TheVariants as kind
 use Rattle.pml_program.specs.declared.program.Stmt.{Stmt}
 use Rattle.pml_program.specs.declared.program.Seq.{Seq, roll-Seq}
 use Rattle.pml_program.specs.declared.program.Basic.{Basic}

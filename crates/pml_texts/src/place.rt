@@ -7,7 +7,7 @@ ghost use Rattle.pml_lines.specs.Changes.{proctype_name};
 ghost use Rattle.pml_texts.specs.Texts.{heading as heading_of, line};
 
 use itoa::Buffer;
-use pml_lex::token::{Kind, Token, same_kind};
+use pml_token::token::{Kind, Token, same_kind};
 use pml_lines::change::proctype_name;
 use pml_moves::scene::Seat;
 use pml_program::program::{Proctype, Program};

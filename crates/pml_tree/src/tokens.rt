@@ -2,7 +2,7 @@
 
 ghost use Rattle.std.specs.Prelude.{◌≡◌, IfOk};
 
-use pml_lex::token::Token;
+use pml_token::token::Token;
 use sqlite_items::{Boxed, Items};
 use std::alloc::{AllocError, Global};
 use std::marker::Model;
@@ -17,7 +17,7 @@ pub struct Tokens<'a> {
 
 impl<'a> Model for Tokens<'a> {
     ghost use Rattle.std.specs.Prelude.{List, unwrap_or};
-    ghost use Rattle.pml_lex.specs.Word.{Word};
+    ghost use Rattle.pml_token.specs.Word.{Word};
 
     ghost Value = { List Word };
 

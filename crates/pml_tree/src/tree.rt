@@ -2,7 +2,7 @@
 //! and the trees borrow these: the list of tokens outlives them. Parentheses leave no trace.
 
 use crate::tokens::Tokens;
-use pml_lex::token::Token;
+use pml_token::token::Token;
 use sqlite_items::{Boxed, Items};
 
 /// A type that a word names.

@@ -7,10 +7,10 @@ use Rattle.std.proofs.lemmas.Bool.{false≢true}
 use Rattle.std.proofs.Math.Seq.{take-append_seam, drop-append_seam}
 use Rattle.pml_lex.specs.declared.piece.Piece.{Piece}
 use Rattle.pml_lex.specs.declared.piece.Piece.TheVariants.{Skipped, Token}
-use Rattle.pml_lex.specs.declared.token.Kind.{Kind}
-use Rattle.pml_lex.specs.declared.token.Kind.TheVariants as kind
-use Rattle.pml_lex.specs.Kinds.{same_kind}
-use Rattle.pml_lex.specs.Word.{Word}
+use Rattle.pml_token.specs.declared.token.Kind.{Kind}
+use Rattle.pml_token.specs.declared.token.Kind.TheVariants as kind
+use Rattle.pml_token.specs.Kinds.{same_kind}
+use Rattle.pml_token.specs.Word.{Word}
 use Rattle.pml_lex.specs.Pieces.{piece}
 use Rattle.pml_lex.specs.Scanning.{next}
 use Rattle.pml_lex.specs.Division.{IsLongest, IsCut, fresh_from, is_fresh, line_behind, word, words}

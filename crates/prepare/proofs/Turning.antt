@@ -4,7 +4,7 @@ use Rattle.std.proofs.Math.Seq.{take-append-add, drop-append-add}
 use Rattle.std.proofs.lemmas.List.{drop_all}
 use Rattle.pml_lex.specs.declared.piece.Piece.{Piece}
 use Rattle.pml_lex.specs.declared.piece.Piece.TheVariants.{Skipped, Token}
-use Rattle.pml_lex.specs.declared.token.Kind.{Kind}
+use Rattle.pml_token.specs.declared.token.Kind.{Kind}
 use Rattle.pml_lex.specs.Division.{fresh_from}
 use Rattle.prepare.specs.declared.place.Place.{Place}
 use Rattle.prepare.specs.Written.{Written}

@@ -2,7 +2,7 @@
 use Rattle.std.specs.Prelude.{◌≡◌, ℕ, Bool, true, false, not, ◌&&◌, ◌||◌, List, [], ◌∷◌, ◌++◌, map}
 use Rattle.std.specs.List.{list_all, list_any, flat_map}
 use lib.Chars.{codes}
-use Rattle.pml_lex.specs.Word.{Word}
+use Rattle.pml_token.specs.Word.{Word}
 use Rattle.pml_lex.specs.Division.{is_line_feed, IsCut}
 use Rattle.pml_lex.specs.Limits.{has_left_out}
 use Rattle.prepare.specs.declared.place.Supply.{Supply}

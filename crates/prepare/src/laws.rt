@@ -1,7 +1,7 @@
 //! What holds of the definitions alone.
 
 ghost use Rattle.std.specs.Prelude.{◌≡◌, ◌++◌, ◌∷◌, [], List, ℕ, true, false};
-ghost use Rattle.pml_lex.specs.Word.{Word};
+ghost use Rattle.pml_token.specs.Word.{Word};
 ghost use Rattle.pml_lex.specs.Division.{line_behind, IsCut};
 ghost use Rattle.prepare.specs.Written.{Written};
 ghost use Rattle.prepare.specs.Turns.{turns};

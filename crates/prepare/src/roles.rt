@@ -3,7 +3,7 @@
 ghost use Rattle.std.specs.Prelude.{◌≡◌};
 ghost use Rattle.prepare.specs.Roles as roles;
 
-use pml_lex::token::Kind;
+use pml_token::token::Kind;
 
 /// What a token is to preparing.
 #[derive(Clone, Copy)]

@@ -7,7 +7,7 @@ ghost use Rattle.prepare.specs.Turns as turns;
 use crate::FORM_FEED;
 use crate::place::{Block, Last, Place, Supply, is_blanked, supply_at};
 use crate::roles::{Role, role_of};
-use pml_lex::token::Kind;
+use pml_token::token::Kind;
 use std::marker::Model;
 
 /// How a token is written.

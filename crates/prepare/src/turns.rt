@@ -8,7 +8,7 @@ use crate::place::Place;
 use crate::roles::role_of;
 use crate::turn::Turn;
 use pml_lex::piece::{Piece, is_blank, next};
-use pml_lex::token::Kind;
+use pml_token::token::Kind;
 use std::alloc::{AllocError, Global};
 
 fn fresh_behind(fresh: bool, text: &[u8]) -> bool

@@ -17,7 +17,7 @@ pub use pml_inline::expand;
 pub use pml_inline::fault::InlineFault;
 pub use pml_lex::cut;
 pub use pml_lex::fault::LexFault;
-pub use pml_lex::token::{Kind, Token};
+pub use pml_token::token::{Kind, Token};
 pub use pml_lines::changed::Change;
 pub use pml_moves::moves::{Move, Pick};
 pub use pml_play::{convert, play};

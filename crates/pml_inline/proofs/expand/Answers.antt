@@ -2,7 +2,7 @@ use Rattle.std.proofs.Common.{[], ◌≡◌, ◌≤◌, ◌∙◌, true, List, S
 use Rattle.std.proofs.lemmas.Result.{err_from_is_err_and}
 use Rattle.std.proofs.lemmas.List.Elements.{All-same}
 use Rattle.pml_lex.specs.Limits.{IsTooDeep, IsOnLine, AreOnLines}
-use Rattle.pml_lex.specs.Word.{Word}
+use Rattle.pml_token.specs.Word.{Word}
 use Rattle.pml_inline.specs.Inlines.{all_differ, definitions}
 use Rattle.pml_inline.specs.Expansion.{IsLeast, IsFaultOnLine, texts}
 use Rattle.pml_inline.specs.Places.{words_of}

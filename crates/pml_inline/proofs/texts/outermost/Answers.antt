@@ -1,5 +1,5 @@
 use Rattle.std.proofs.Common.{rules, ◌≡◌, ◌∙◌, ◌+◌, ◌-◌, ◌<◌, [], true, false, Some, refl, ap, sym, take, drop, length, arith}
-use Rattle.pml_lex.specs.declared.token.Kind.TheVariants.{OpenParen, CloseParen}
+use Rattle.pml_token.specs.declared.token.Kind.TheVariants.{OpenParen, CloseParen}
 use Rattle.profile.specs.declared.TheConstants.{MOST_CALLS}
 use Rattle.pml_inline.specs.Brackets.{has_inline, closing}
 use Rattle.pml_inline.specs.Calls.{join, calling, reading}

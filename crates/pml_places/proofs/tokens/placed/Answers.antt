@@ -1,7 +1,7 @@
 use Rattle.std.proofs.Common.{◌<◌, List, length, take, is_ok, true, arith, sym, ap, ◌∙◌, subst}
 use Rattle.std.proofs.ResultArms.{chosen}
 use Rattle.std.proofs.lemmas.Bool.Decides.{nat_tests}
-use Rattle.pml_lex.specs.Word.{Word}
+use Rattle.pml_token.specs.Word.{Word}
 use Rattle.pml_lex.proofs.Longest.{IsNext, IsNextAt}
 use Rattle.pml_lex.proofs.Steps.{same_word}
 use Rattle.pml_lex.proofs.Scan.{next_is}

@@ -1,5 +1,5 @@
 use Rattle.std.proofs.Common.{List, reverse, ◌≡◌, ◌≤◌, length, ◌++◌, ◌∷◌, [], ◌-◌, drop, ap, sym, ◌∙◌, append_assoc, arith}
-use Rattle.pml_lex.specs.Word.{Word}
+use Rattle.pml_token.specs.Word.{Word}
 use Rattle.pml_marks.specs.Marks.{of_constants}
 use Rattle.pml_marks.specs.declared.mark.Declared.TheVariants as declared_as
 use Rattle.pml_marks.specs.declared.mark.What.TheVariants as what

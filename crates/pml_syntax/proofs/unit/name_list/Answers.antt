@@ -1,7 +1,7 @@
 use Rattle.std.proofs.Common.{rules, arith}
 use Rattle.std.proofs.lemmas.Grind.{common_steps}
 use Rattle.pml_expression.specs.Reading as expressions
-use Rattle.pml_lex.specs.declared.token.Kind.TheVariants as k
+use Rattle.pml_token.specs.declared.token.Kind.TheVariants as k
 use Rattle.pml_expression.specs.Reading.{and_then, pick}
 use Rattle.pml_expression.proofs.Turns.{one_more}
 use Rattle.pml_syntax.proofs.unit.name_list.Goals as goal

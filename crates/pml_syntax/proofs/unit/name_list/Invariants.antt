@@ -1,6 +1,6 @@
 use Rattle.std.proofs.Common.{◌≡◌, length, ◌-◌, []}
 use Rattle.pml_expression.specs.Reading as expressions
-use Rattle.pml_lex.specs.declared.token.Kind.TheVariants as k
+use Rattle.pml_token.specs.declared.token.Kind.TheVariants as k
 use Rattle.pml_syntax.proofs.unit.name_list.Given as goal
 
 abbrev pub invariant-loop-turn : goal.invariant-loop-turn

@@ -1,0 +1,4 @@
+//! Tokens of a text, and their kinds.
+#![tactic(auto)]
+
+pub mod token;
