@@ -15,6 +15,7 @@ use pml_program::expr::{Expr, Target, Want};
 use pml_program::program::{Action, Slot};
 use pml_start::Beginnings;
 use pml_start::create::create;
+use pml_start::started::Started;
 use pml_store::place::Place;
 use pml_store::store::Store;
 use pml_tree::tree::{Removal, Scalar, Search, SendOrder};
@@ -291,22 +292,16 @@ fn creates<R: Abort>(
     let Some(most) = most_cells(variables) else {
         return;
     };
-    let mut store = Store::new(alloc, most);
-    if store.push_frame(&[1]).is_err() {
+    let mut started = Started {
+        store: Store::new(alloc, most),
+        channels: Vec::new(alloc),
+        kinds: Vec::new(alloc),
+    };
+    if started.store.push_frame(&[1]).is_err() {
         return;
     }
-    let mut channels = Vec::new(alloc);
-    let mut kinds = Vec::new(alloc);
-    let ended = create(
-        beginnings,
-        5,
-        variables,
-        &[3],
-        &mut store,
-        &mut channels,
-        &mut kinds,
-    );
-    stands(rt, &store, kinds.len(), ended);
+    let ended = create(beginnings, 5, variables, &[3], &mut started);
+    stands(rt, &started.store, started.kinds.len(), ended);
 }
 
 /// The same, as far as there is memory for what typedefs begin with.

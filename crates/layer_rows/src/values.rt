@@ -132,24 +132,23 @@ fn add_created(
     let Some(most) = cells_of(slots).and_then(|cells| cells.checked_add(1)) else {
         return out.refuse("too many cells");
     };
-    let mut store = Store::new(alloc, most);
-    if store.push_frame(&[1]).is_err() {
+    let mut started = Started {
+        store: Store::new(alloc, most),
+        channels: Vec::new(alloc),
+        kinds: Vec::new(alloc),
+    };
+    if started.store.push_frame(&[1]).is_err() {
         return out.no_memory();
     }
-    let mut channels = Vec::new(alloc);
-    let mut kinds = Vec::new(alloc);
-    let ended = create(
-        beginnings,
-        kind,
-        slots,
-        arguments,
-        &mut store,
-        &mut channels,
-        &mut kinds,
-    );
+    let ended = create(beginnings, kind, slots, arguments, &mut started);
     add_outcome(ended, out);
     out.word(" / ");
-    add_state(out, &store, channels.as_slice(), kinds.as_slice());
+    add_state(
+        out,
+        &started.store,
+        started.channels.as_slice(),
+        started.kinds.as_slice(),
+    );
 }
 
 fn add_process(

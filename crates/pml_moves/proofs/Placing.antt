@@ -1,11 +1,12 @@
 -- What a process's node stands for.
 use Rattle.std.proofs.Common.{◌≡◌, ◌⊎◌, inl, inr, ℕ, ◌+◌, ◌<◌, ◌≤◌, Bool, false, nat_eq, if◌then◌else◌, List, [], ◌∷◌, length, map, refl, sym, ap, ◌∙◌, arith, Option, Some, None}
-use Rattle.std.specs.Prelude.{slice_get, slice_index_or, option_map}
+use Rattle.std.specs.Prelude.{slice_get, slice_index_or, option_map, IfSome}
 use Rattle.std.proofs.lemmas.Option.{slice_get-map}
 use Rattle.std.proofs.lemmas.Bool.{cases_lt}
 use Rattle.std.proofs.lemmas.List.{length-map}
 use Rattle.pml_program.specs.declared.program.Stmt.{Stmt}
 use Rattle.pml_program.specs.declared.program.Seq.{Seq}
+use Rattle.pml_program.specs.declared.program.Fields.{Fields}
 use Rattle.pml_program.specs.declared.program.Proctype.{Proctype}
 use Rattle.pml_program.specs.declared.program.Program.{Program}
 use Rattle.pml_control.specs.Control.{Control, basic_of}
@@ -13,17 +14,16 @@ use Rattle.pml_control.specs.Told.{told_of}
 use Rattle.pml_flow.specs.declared.edge.Edge.{Edge}
 use Rattle.pml_flow.specs.Points.{points_of, point_at}
 use Rattle.pml_flow.specs.Statements.{stated}
-use Rattle.pml_flow.specs.Flow.{Offer, Node, levels_of}
+use Rattle.pml_flow.specs.Flow.{Offer, Node, Graph, AreGraphs, levels_of}
 use Rattle.pml_flow.proofs.Differing.{one_node}
 use Rattle.pml_moves.specs.declared.moves.Move.TheVariants.{Death}
 use Rattle.pml_moves.specs.declared.moves.Pick.{Pick}
 use Rattle.pml_moves.specs.declared.scene.Seat.{Seat}
 use Rattle.pml_moves.specs.declared.scene.Body.{Body}
-use Rattle.pml_moves.specs.declared.scene.Scene.{Scene}
-use Rattle.pml_moves.specs.State.{State, Stand, body_of, levels, levels_in}
+use Rattle.pml_moves.specs.State.{State, Stand, body_of, levels, levels_in, first_control}
 use Rattle.pml_moves.specs.Search.{Message, last, only_if, pairs_on, pairs_with, moves_on, moves_of, moves_at, moves_if, moves_held}
 use Rattle.pml_moves.specs.Picked.{offer_on, offer_at, picked}
-use Rattle.pml_moves.specs.Scene.{control_at, stand_of, state_of, statements_of, Fits, IsBody, StandsIn, shows, edges_at}
+use Rattle.pml_moves.specs.Scene.{control_at, stand_of, statements_of, begins_by, begins_at, IsPlayed, IsBody, StandsIn, shows, edges_at}
 use Rattle.pml_moves.proofs.Searching.{index_map, index_total, got, got_none, there, past, within, at_end}
 
 -- the edges of a node are the offers of what it stands for
@@ -55,41 +55,51 @@ statement_shown k e h =
 
 -- ---- a proctype's graph and statements
 
--- a proctype that is there has a graph
-pub has_graph : (c : Scene) (k : ℕ) (q : Proctype) → Fits c → slice_get c.program.now.proctypes k ≡ Some q → slice_get c.graphs.now k ≡ None → ⊥
-has_graph c k q fits h g =
-    let l = within c.program.now.proctypes k q h in
-    let m = at_end c.graphs.now k g in
-    omega (arith, l, m, fits.graphs.many)
+module _ (p : Program) (gs : List Graph) (ss : List (List (Option Stmt))) (ts : List Fields) (is : IsPlayed p gs ss ts) where
+  -- a proctype that is there has a graph
+  pub has_graph : (k : ℕ) (q : Proctype) → slice_get p.proctypes k ≡ Some q → slice_get gs k ≡ None → ⊥
+  has_graph k q h g =
+      let l = within p.proctypes k q h in
+      let m = at_end gs k g in
+      omega (arith, l, m, is.graphs.many)
 
-pub statements_at : (c : Scene) (k : ℕ) (q : Proctype) → Fits c → slice_get c.program.now.proctypes k ≡ Some q → slice_get c.statements.now k ≡ Some (statements_of q.body)
-statements_at c k q fits h =
-    ap (λ (ts : List (List (Option Stmt))). slice_get ts k) fits.statements
-    ∙ slice_get-map (λ (p : Proctype). statements_of p.body) c.program.now.proctypes k
-    ∙ ap (λ (o : Option Proctype). option_map (λ (p : Proctype). statements_of p.body) o) h
+  pub statements_at : (k : ℕ) (q : Proctype) → slice_get p.proctypes k ≡ Some q → slice_get ss k ≡ Some (statements_of q.body)
+  statements_at k q h =
+      ap (λ (ts : List (List (Option Stmt))). slice_get ts k) is.statements
+      ∙ slice_get-map (λ (p : Proctype). statements_of p.body) p.proctypes k
+      ∙ ap (λ (o : Option Proctype). option_map (λ (p : Proctype). statements_of p.body) o) h
 
-pub has_statements : (c : Scene) (k : ℕ) (q : Proctype) → Fits c → slice_get c.program.now.proctypes k ≡ Some q → slice_get c.statements.now k ≡ None → ⊥
-has_statements c k q fits h g = let e = statements_at c k q fits h in let z : None ≡ Some (statements_of q.body) = sym g ∙ e in cc
+  pub body_is : (n : ℕ) (k : Body) → slice_get p.proctypes n ≡ Some k.proctype.now → slice_get gs n ≡ Some k.graph.now → slice_get ss n ≡ Some k.statements.now → IsBody k
+  body_is n k h g t = record {
+    graph = is.graphs.each n k.proctype.now k.graph.now h g;
+    statements = let e = statements_at n k.proctype.now h in let z : Some k.statements.now ≡ Some (statements_of k.proctype.now.body) = sym t ∙ e in cc;
+  }
 
-pub body_is : (c : Scene) (n : ℕ) (k : Body) → Fits c → slice_get c.program.now.proctypes n ≡ Some k.proctype.now → slice_get c.graphs.now n ≡ Some k.graph.now → slice_get c.statements.now n ≡ Some k.statements.now → IsBody k
-body_is c n k fits h g t = record {
-  graph = fits.graphs.each n k.proctype.now k.graph.now h g;
-  statements = let e = statements_at c n k.proctype.now fits h in let z : Some k.statements.now ≡ Some (statements_of k.proctype.now.body) = sym t ∙ e in cc;
-}
+-- the first node of a proctype's graph is where its processes begin
+pub started : (p : Program) (gs : List Graph) (k n : ℕ) → AreGraphs p.proctypes gs → IfSome (slice_get gs k) (λ g. n ≡ g.start) → stand_of p (record { kind = k; node = n }) ≡ begins_at p k
+started p gs k n h start = by (slice_get p.proctypes k) (slice_get gs k) refl refl start
+  where
+    by : (o : Option Proctype) (g : Option Graph) → slice_get p.proctypes k ≡ o → slice_get gs k ≡ g → IfSome g (λ g. n ≡ g.start) → stand_of p (record { kind = k; node = n }) ≡ begins_at p k
+    by None g e f s = let b : body_of p k ≡ None = ap (option_map (λ (q : Proctype). q.body)) e in ap (λ (o : Option Seq). record { kind = k; control = control_at o n }) b ∙ sym (ap (begins_by k) b)
+    by (Some q) (Some g) e f s =
+        let b : body_of p k ≡ Some q.body = ap (option_map (λ (q : Proctype). q.body)) e in
+        let c : point_at q.body n ≡ first_control q.body = ap (point_at q.body) s ∙ got (points_of q.body) g.start (first_control q.body) [] (h.each k q g e f).start in
+        ap (λ (o : Option Seq). record { kind = k; control = control_at o n }) b ∙ ap (λ (c : Control). record { kind = k; control = c }) c ∙ sym (ap (begins_by k) b)
+    by (Some q) None e f s = let l = within p.proctypes k q e in let m = at_end gs k f in absurd (omega (arith, l, m, h.many))
 
 -- ---- where something is left to do
 
 -- at node 0 and past the last node nothing is left
-pub nothing_left : (c : Scene) (x : Seat) (k : Body) → IsBody k → body_of c.program.now x.kind ≡ Some k.proctype.now.body → (x.node ≡ 0) ⊎ (length k.graph.now.nodes ≤ x.node) → (stand_of c.program.now x).control ≡ []
-nothing_left c x k h e (inl z) =
+pub nothing_left : (p : Program) (x : Seat) (k : Body) → IsBody k → body_of p x.kind ≡ Some k.proctype.now.body → (x.node ≡ 0) ⊎ (length k.graph.now.nodes ≤ x.node) → (stand_of p x).control ≡ []
+nothing_left p x k h e (inl z) =
     ap (λ (o : Option Seq). control_at o x.node) e ∙ ap (point_at k.proctype.now.body) z
-nothing_left c x k h e (inr l) =
+nothing_left p x k h e (inr l) =
     let m : length (points_of k.proctype.now.body) ≤ x.node = omega (arith, l, h.graph.nodes) in
     ap (λ (o : Option Seq). control_at o x.node) e ∙ got_none (points_of k.proctype.now.body) x.node [] m
 
 -- no body, nothing left
-pub no_body : (c : Scene) (x : Seat) → body_of c.program.now x.kind ≡ None → (stand_of c.program.now x).control ≡ []
-no_body c x e = ap (λ (o : Option Seq). control_at o x.node) e
+pub no_body : (p : Program) (x : Seat) → body_of p x.kind ≡ None → (stand_of p x).control ≡ []
+no_body p x e = ap (λ (o : Option Seq). control_at o x.node) e
 
 -- at each other node something is
 pub something_left : (k : Body) (n : ℕ) → IsBody k → (n ≡ 0 → ⊥) → n < length k.graph.now.nodes → point_at k.proctype.now.body n ≡ [] → ⊥
@@ -107,11 +117,10 @@ moves_left s p t b [] h = absurd (h refl)
 moves_left s p t b (f ∷ c) h = refl
 
 -- those of the edges of its node
-pub moves_in : (c : Scene) (x : Seat) (k : Body) (s : State) (p : ℕ) (t : Bool) → s.program ≡ c.program.now → StandsIn c x k → moves_at s p t (stand_of c.program.now x) ≡ last (moves_on s p t k.proctype.now.body) 0 (map (map (shows k)) (edges_at k x.node))
-moves_in c x k s p t e h =
+pub moves_in : (x : Seat) (k : Body) (s : State) (p : ℕ) (t : Bool) → StandsIn s x k → moves_at s p t (stand_of s.program x) ≡ last (moves_on s p t k.proctype.now.body) 0 (map (map (shows k)) (edges_at k x.node))
+moves_in x k s p t h =
     let b : Seq = k.proctype.now.body in
-    ap (λ (pr : Program). moves_of s p t (body_of pr x.kind) (control_at (body_of c.program.now x.kind) x.node)) e
-    ∙ ap (λ (o : Option Seq). moves_of s p t o (control_at o x.node)) h.body
+    ap (λ (o : Option Seq). moves_of s p t o (control_at o x.node)) h.body
     ∙ moves_left s p t b (point_at b x.node) h.left
     ∙ ap (λ (ls : List (List Offer)). last (moves_on s p t b) 0 ls) (sym (at_node k x.node h.is))
 
@@ -130,13 +139,11 @@ no_levels : (o : Option Seq) → levels_in o [] ≡ []
 no_levels None = refl
 no_levels (Some b) = refl
 
-pub pairs_in : (c : Scene) (x : Seat) (k : Body) (s : State) (t : Bool) (q : Pick) (m : Message) (j : ℕ) → s.program ≡ c.program.now → nat_eq j q.process ≡ false → StandsIn c x k → pairs_with s t q m j (stand_of c.program.now x) ≡ last (pairs_on s t q m j) 0 (map (map (shows k)) (edges_at k x.node))
-pairs_in c x k s t q m j e n h =
+pub pairs_in : (x : Seat) (k : Body) (s : State) (t : Bool) (q : Pick) (m : Message) (j : ℕ) → nat_eq j q.process ≡ false → StandsIn s x k → pairs_with s t q m j (stand_of s.program x) ≡ last (pairs_on s t q m j) 0 (map (map (shows k)) (edges_at k x.node))
+pairs_in x k s t q m j n h =
     let b : Seq = k.proctype.now.body in
-    another s t q m j (stand_of c.program.now x) (map (map (shows k)) (edges_at k x.node)) n
-    (ap (λ (pr : Program). levels_in (body_of pr x.kind) (control_at (body_of c.program.now x.kind) x.node)) e
-    ∙ ap (λ (o : Option Seq). levels_in o (control_at o x.node)) h.body
-    ∙ sym (at_node k x.node h.is))
+    another s t q m j (stand_of s.program x) (map (map (shows k)) (edges_at k x.node)) n
+    (ap (λ (o : Option Seq). levels_in o (control_at o x.node)) h.body ∙ sym (at_node k x.node h.is))
 
 -- none at its closing brace
 pub pairs_closed : (s : State) (t : Bool) (q : Pick) (m : Message) (j : ℕ) (y : Stand) → nat_eq j q.process ≡ false → y.control ≡ [] → pairs_with s t q m j y ≡ []
@@ -144,18 +151,19 @@ pairs_closed s t q m j y n e =
     another s t q m j y [] n (ap (λ (c : Control). levels_in (body_of s.program y.kind) c) e ∙ no_levels (body_of s.program y.kind))
 
 -- a holder that is not there has no moves
-pub none_held : (c : Scene) (p : ℕ) → length c.seats.now ≤ p → moves_held (state_of c) (Some p) ≡ []
-none_held c p h =
-    ap (λ (o : Option Stand). moves_if (state_of c) p o) (slice_get-map (stand_of c.program.now) c.seats.now p ∙ ap (λ (o : Option Seat). option_map (stand_of c.program.now) o) (past c.seats.now p h))
+pub none_held : (s : State) (p : ℕ) → length s.stands ≤ p → moves_held s (Some p) ≡ []
+none_held s p h = ap (λ (o : Option Stand). moves_if s p o) (past s.stands p h)
 
 -- ---- the offer that a pick names
 
 -- that of the edge at its place
-pub picked_in : (c : Scene) (p : Pick) (x : Seat) (k : Body) → slice_get c.seats.now p.process ≡ Some x → StandsIn c x k → offer_on (slice_get (map (map (shows k)) (edges_at k x.node)) p.level) p.place ≡ picked (state_of c) p
-picked_in c p x k at h =
-    let b : Seq = k.proctype.now.body in
-    let stand : slice_get (map (stand_of c.program.now) c.seats.now) p.process ≡ Some (stand_of c.program.now x) =
-    slice_get-map (stand_of c.program.now) c.seats.now p.process ∙ ap (λ (o : Option Seat). option_map (stand_of c.program.now) o) at in
-    let levels : levels_in (body_of c.program.now x.kind) (control_at (body_of c.program.now x.kind) x.node) ≡ map (map (shows k)) (edges_at k x.node) =
+pub picked_in : (s : State) (p : Pick) (x : Seat) (k : Body) → slice_get s.stands p.process ≡ Some (stand_of s.program x) → StandsIn s x k → offer_on (slice_get (map (map (shows k)) (edges_at k x.node)) p.level) p.place ≡ picked s p
+picked_in s p x k at h =
+    let levels : levels_in (body_of s.program x.kind) (control_at (body_of s.program x.kind) x.node) ≡ map (map (shows k)) (edges_at k x.node) =
     ap (λ (o : Option Seq). levels_in o (control_at o x.node)) h.body ∙ sym (at_node k x.node h.is) in
-    sym (ap (λ (o : Option Stand). offer_at (state_of c) p o) stand ∙ ap (λ (ls : List (List Offer)). offer_on (slice_get ls p.level) p.place) levels)
+    sym (ap (λ (o : Option Stand). offer_at s p o) at ∙ ap (λ (ls : List (List Offer)). offer_on (slice_get ls p.level) p.place) levels)
+
+-- a process by its place, as it is lent and as it stands
+pub seat_stands : (p : Program) (xs : List Seat) (ys : List Stand) (n : ℕ) (x : Seat) → map (stand_of p) xs ≡ ys → slice_get xs n ≡ Some x → slice_get ys n ≡ Some (stand_of p x)
+seat_stands p xs ys n x e h =
+    ap (λ (zs : List Stand). slice_get zs n) (sym e) ∙ slice_get-map (stand_of p) xs n ∙ ap (λ (o : Option Seat). option_map (stand_of p) o) h

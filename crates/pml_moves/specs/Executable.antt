@@ -13,7 +13,8 @@ use Rattle.pml_eval.specs.Operators.{is_zero}
 use Rattle.pml_eval.specs.Value.{Reading, val, place, asked_by, is_match, ◌>>=◌}
 use Rattle.pml_channel.specs.State.{ChannelState}
 use Rattle.pml_value.specs.declared.live_channel.LiveChannel.{LiveChannel}
-use Rattle.pml_value.specs.Reads.{channel_at}
+use Rattle.pml_value.specs.declared.view.View.{View}
+use Rattle.pml_value.specs.Reads.{channel_at, seen}
 
 -- the values of expressions, from left to right, or the first fault
 abbrev pub values : List Expr → Reading → Result (List ℤ) Fault
@@ -77,3 +78,7 @@ or_fault (Err f) = true
 
 abbrev pub can : Bool → List LiveChannel → Reading → Bool → Action → Bool
 can lossy cs r in_d_step x = or_fault (ready lossy cs r in_d_step x)
+
+-- by what a view has
+abbrev pub can_by : Bool → Bool → View → Action → Bool
+can_by lossy in_d_step v x = can lossy v.channels.now (seen v) in_d_step x

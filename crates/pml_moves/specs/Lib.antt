@@ -2,6 +2,7 @@ pub mod State
 pub mod Executable
 pub mod Fields
 pub mod Search
+pub mod Paired
 pub mod Scene
 pub mod Kept
 pub mod Picked

@@ -1,8 +1,8 @@
 -- What a search looks at, as a state.
-use Rattle.std.specs.Prelude.{◌≡◌, ℕ, ◌<◌, ◌≤◌, length, map, List, [], Option, Some, None, slice_get}
-use Rattle.profile.specs.declared.TheConstants.{MOST_PROCESSES}
+use Rattle.std.specs.Prelude.{◌≡◌, ℕ, ◌<◌, length, map, List, [], Option, Some, None, slice_get}
 use Rattle.pml_program.specs.declared.program.Stmt.{Stmt}
 use Rattle.pml_program.specs.declared.program.Seq.{Seq}
+use Rattle.pml_program.specs.declared.program.Fields.{Fields}
 use Rattle.pml_program.specs.declared.program.Proctype.{Proctype}
 use Rattle.pml_program.specs.declared.program.Program.{Program}
 use Rattle.pml_control.specs.Control.{Control}
@@ -10,12 +10,12 @@ use Rattle.pml_control.specs.Told.{told_of}
 use Rattle.pml_flow.specs.declared.edge.Edge.{Edge}
 use Rattle.pml_flow.specs.Points.{point_at}
 use Rattle.pml_flow.specs.Statements.{stated}
-use Rattle.pml_flow.specs.Flow.{Offer, levels_of, shown, IsGraph, AreGraphs}
+use Rattle.pml_flow.specs.Flow.{Graph, Offer, levels_of, shown, IsGraph, AreGraphs}
 use Rattle.pml_moves.specs.declared.scene.Seat.{Seat}
 use Rattle.pml_moves.specs.declared.scene.Body.{Body}
-use Rattle.pml_moves.specs.declared.scene.Scene.{Scene}
+use Rattle.pml_moves.specs.declared.state.State.{State as Kept}
 use Rattle.pml_moves.specs.declared.moves.Pick.{Pick}
-use Rattle.pml_moves.specs.State.{Stand, State, body_of}
+use Rattle.pml_moves.specs.State.{Stand, State, body_of, first_control}
 
 -- what is to do at a node; nothing, where there is none
 abbrev pub control_at : Option Seq → ℕ → Control
@@ -25,12 +25,13 @@ control_at (Some b) n = point_at b n
 abbrev pub stand_of : Program → Seat → Stand
 stand_of pr x = record { kind = x.kind; control = control_at (body_of pr x.kind) x.node }
 
-abbrev pub state_of : Scene → State
-state_of c = record {
-  program = c.program.now;
-  frames = c.store.now.frames;
-  stands = map (stand_of c.program.now) c.seats.now;
-  channels = c.channels.now;
+-- the state that a model and what is kept of a run stand for
+abbrev pub state_of : Program → Kept → State
+state_of pr c = record {
+  program = pr;
+  frames = c.started.store.frames;
+  stands = map (stand_of pr) c.seats.items;
+  channels = c.started.channels.items;
   holder = c.holder;
   lossy = c.lossy;
 }
@@ -39,11 +40,21 @@ state_of c = record {
 abbrev pub statements_of : Seq → List (Option Stmt)
 statements_of b = map (stated b) (told_of b)
 
--- at most 255 processes, and graphs and statements are those of the proctypes, in their order
-pub record Fits (c : Scene) : Type 0 where
-  pub few : length c.seats.now ≤ MOST_PROCESSES
-  pub graphs : AreGraphs c.program.now.proctypes c.graphs.now
-  pub statements : c.statements.now ≡ map (λ (q : Proctype). statements_of q.body) c.program.now.proctypes
+-- graphs and statements are those of the proctypes, in their order, and the typedefs are those of the program
+pub record IsPlayed (p : Program) (gs : List Graph) (ss : List (List (Option Stmt))) (ts : List Fields) : Type 0 where
+  pub graphs : AreGraphs p.proctypes gs
+  pub statements : ss ≡ map (λ (q : Proctype). statements_of q.body) p.proctypes
+  pub typedefs : ts ≡ p.typedefs
+
+-- ---- before the first statement
+
+-- a process of this proctype before its first statement
+abbrev pub begins_by : ℕ → Option Seq → Stand
+begins_by k None = record { kind = k; control = [] }
+begins_by k (Some b) = record { kind = k; control = first_control b }
+
+abbrev pub begins_at : Program → ℕ → Stand
+begins_at p k = begins_by k (body_of p k)
 
 -- ---- a body, its graph and its statements
 
@@ -59,15 +70,22 @@ shows k e = shown k.proctype.now.body k.graph.now.texts e
 abbrev pub edges_at : Body → ℕ → List (List Edge)
 edges_at k n = levels_of k.graph.now (slice_get k.graph.now.nodes n)
 
+-- the offers of a node, level by level
+abbrev pub offers_at : Body → ℕ → List (List Offer)
+offers_at k n = map (map (shows k)) (edges_at k n)
+
+abbrev pub seq_of : Body → Seq
+seq_of k = k.proctype.now.body
+
 -- A process stands in this body, and something is left to do.
-pub record StandsIn (c : Scene) (x : Seat) (k : Body) : Type 0 where
-  pub body : body_of c.program.now x.kind ≡ Some k.proctype.now.body
+pub record StandsIn (s : State) (x : Seat) (k : Body) : Type 0 where
+  pub body : body_of s.program x.kind ≡ Some k.proctype.now.body
   pub is : IsBody k
   pub node : x.node < length k.graph.now.nodes
   pub left : point_at k.proctype.now.body x.node ≡ [] → ⊥
 
 -- The process of a pick stands in this body.
-pub record IsPicked (c : Scene) (p : Pick) (k : Body) : Type 0 where
+pub record IsPicked (s : State) (p : Pick) (k : Body) : Type 0 where
   pub seat : Seat
-  pub at : slice_get c.seats.now p.process ≡ Some seat
-  pub stands : StandsIn c seat k
+  pub at : slice_get s.stands p.process ≡ Some (stand_of s.program seat)
+  pub stands : StandsIn s seat k

@@ -1,5 +1,5 @@
 -- The search for moves.
-use Rattle.std.specs.Prelude.{ℕ, ◌+◌, Bool, true, false, not, ◌&&◌, if◌then◌else◌, nat_eq, length, List, [], ◌∷◌, ◌++◌, ℤ, Option, Some, None, Result, Ok, Err, slice_get}
+use Rattle.std.specs.Prelude.{◌≡◌, ℕ, ◌+◌, Bool, true, false, not, ◌&&◌, if◌then◌else◌, nat_eq, length, List, [], ◌∷◌, ◌++◌, ℤ, Option, Some, None, Result, Ok, Err, slice_get}
 use Rattle.std.specs.List.{filter}
 use Rattle.std.specs.Ordering.{int_eq}
 use Rattle.diagnostics.specs.declared.fault.Fault.{Fault}
@@ -92,6 +92,10 @@ can_alone lossy cs r b o (Some (Block s)) = true
 can_alone lossy cs r b o (Some (Atomic s)) = true
 can_alone lossy cs r b o (Some (Unless s e)) = true
 can_alone lossy cs r b o None = true
+
+-- a statement that can be taken whatever the state is
+abbrev pub NeedsNothing : Option Basic → Type 0
+NeedsNothing x = (lossy : Bool) (cs : List LiveChannel) (r : Reading) (b : Seq) (o : Offer) → can_alone lossy cs r b o x ≡ true
 
 -- ---- the rendezvous
 
@@ -195,6 +199,10 @@ abbrev pub moves_by : State → ℕ → Bool → Seq → ℕ → ℕ → Offer �
 moves_by s p t b l i o =
     if can_alone s.lossy s.channels (reads s p t) b o o.basic then Alone (pick p l i) t ∷ []
     else pairs s t (pick p l i) (message s.channels (reads s p t) o.basic)
+
+-- of the offer that is picked
+abbrev pub moves_for : State → Bool → Seq → Pick → Offer → List Move
+moves_for s t b k o = moves_by s k.process t b k.level k.place o
 
 abbrev pub plain_moves : State → ℕ → Bool → Seq → ℕ → List Offer → List Move
 plain_moves s p t b l os = each (λ i o. if is_else o.basic then [] else moves_by s p t b l i o) 0 os

@@ -2,7 +2,7 @@
 use Rattle.std.specs.Prelude.{ℕ, Bool, List, [], length, map, Option, Some, None, option_map, slice_get}
 use Rattle.pml_program.specs.declared.program.Seq.{Seq}
 use Rattle.pml_program.specs.declared.program.Program.{Program}
-use Rattle.pml_control.specs.Control.{Control}
+use Rattle.pml_control.specs.Control.{Control, settle, at, steps}
 use Rattle.pml_control.specs.Offers.{offers}
 use Rattle.pml_flow.specs.Flow.{Offer, offer_of}
 use Rattle.pml_eval.specs.Value.{Reading}
@@ -46,3 +46,7 @@ levels_in (Some b) c = levels b c
 abbrev pub levels_from : Seq → Option Control → List (List Offer)
 levels_from b None = []
 levels_from b (Some c) = levels b c
+
+-- what a process of this body has to do before its first statement
+abbrev pub first_control : Seq → Control
+first_control b = settle b (at (steps b) ([], 0))

@@ -7,7 +7,7 @@ ghost use Rattle.pml_program.specs.declared.program.Action.TheVariants.{Send, Re
 ghost use Rattle.pml_eval.specs.Value.{val, asked_by};
 ghost use Rattle.pml_value.specs.Reads.{seen, channel_at as numbered_at};
 ghost use Rattle.pml_moves.specs.Fields.{evaluated};
-ghost use Rattle.pml_moves.specs.Executable.{named as names, values, nonzero, or_fault, can, can_send as sends, can_receive as receives};
+ghost use Rattle.pml_moves.specs.Executable.{named as names, values, nonzero, or_fault, can_by, can_send as sends, can_receive as receives};
 
 use diagnostics::Fault;
 use pml_channel::channel::Channel;
@@ -108,7 +108,7 @@ fn can_send_to(
     target: &Target,
     fields: &[Expr],
 ) -> bool
-    ensures { (order : SendOrder) → result ≡ can lossy view.now.channels.now (seen view.now) in_d_step (Send target.now order fields.now) }
+    ensures { (order : SendOrder) → result ≡ can_by lossy in_d_step view.now (Send target.now order fields.now) }
 {
     match named(view, target, fields.len()) {
         Ok((_, channel)) => can_send(view, lossy, in_d_step, channel, fields),
@@ -120,7 +120,7 @@ fn can_send_to(
 #[inline(never)]
 #[tactic(auto, using(crate::proofs::Naming::named_at))]
 fn can_receive_from(view: &View<'_>, search: Search, target: &Target, arguments: &[Want]) -> bool
-    ensures { (lossy in_d_step : Bool) (removal : Removal) → result ≡ can lossy view.now.channels.now (seen view.now) in_d_step (Receive target.now search removal arguments.now) }
+    ensures { (lossy in_d_step : Bool) (removal : Removal) → result ≡ can_by lossy in_d_step view.now (Receive target.now search removal arguments.now) }
 {
     match named(view, target, arguments.len()) {
         Ok((number, channel)) => can_receive(view, search, number, channel, arguments),
@@ -128,9 +128,10 @@ fn can_receive_from(view: &View<'_>, search: Search, target: &Target, arguments:
     }
 }
 
-/// Whether a statement can be taken by itself, where messages to full channels are lost or not, inside a d_step or not. What has no value can: to take it is the fault.
+/// Whether a statement can be taken by itself, where messages to full channels are lost or not, inside a d_step or not. What has no value
+/// can: to take it is the fault.
 pub fn can_be_taken(view: &View<'_>, lossy: bool, in_d_step: bool, action: &Action<'_>) -> bool
-    ensures { result ≡ can lossy view.now.channels.now (seen view.now) in_d_step action.now }
+    ensures { result ≡ can_by lossy in_d_step view.now action.now }
 {
     match action {
         Action::Holds(value) => holds(view, value),

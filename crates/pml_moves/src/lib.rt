@@ -6,5 +6,7 @@ pub mod laws;
 pub mod message;
 pub mod moves;
 pub mod picked;
+pub mod played;
 pub mod scene;
 pub mod search;
+pub mod state;

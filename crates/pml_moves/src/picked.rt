@@ -2,11 +2,11 @@
 
 ghost use Rattle.std.specs.Prelude.{◌≡◌, ◌<◌, IfSome, length, map, option_map, slice_get};
 ghost use Rattle.std.specs.Option.{option_copied};
-ghost use Rattle.pml_moves.specs.Scene.{state_of, Fits, IsBody, shows, edges_at, IsPicked};
+ghost use Rattle.pml_moves.specs.Scene.{IsBody, shows, offers_at, IsPicked};
 ghost use Rattle.pml_moves.specs.Picked.{offer_on, picked as picks};
 
 use crate::moves::Pick;
-use crate::scene::{Body, Scene, Seat, standing};
+use crate::scene::{Body, Scene, Seat};
 use pml_flow::edge::Edge;
 
 /// An offer: the body in which its process stands, and its edge.
@@ -32,7 +32,7 @@ fn edge_at(edges: &[Edge], place: usize) -> Option<&Edge>
 #[inline(never)]
 fn edge_on<'p>(body: &Body<'_, 'p, '_>, node: usize, pick: Pick) -> Option<&'p Edge>
     requires { node < length body.now.graph.now.nodes }
-    ensures { option_map (shows body.now) (option_copied result) ≡ offer_on (slice_get (map (map (shows body.now)) (edges_at body.now node)) pick.level) pick.place }
+    ensures { option_map (shows body.now) (option_copied result) ≡ offer_on (slice_get (offers_at body.now node) pick.level) pick.place }
 {
     if pick.level >= body.graph.level_count(node) {
         return None;
@@ -44,7 +44,7 @@ fn edge_on<'p>(body: &Body<'_, 'p, '_>, node: usize, pick: Pick) -> Option<&'p E
 #[inline(always)]
 fn edge_of<'p>(body: &Body<'_, 'p, '_>, node: usize, pick: Pick) -> Option<&'p Edge>
     requires { node < length body.now.graph.now.nodes }
-    ensures { option_map (shows body.now) (option_copied result) ≡ offer_on (slice_get (map (map (shows body.now)) (edges_at body.now node)) pick.level) pick.place }
+    ensures { option_map (shows body.now) (option_copied result) ≡ offer_on (slice_get (offers_at body.now node) pick.level) pick.place }
 {
     if pick.level == 0 {
         if let Some(edges) = body.graph.only_level(node) {
@@ -57,12 +57,11 @@ fn edge_of<'p>(body: &Body<'_, 'p, '_>, node: usize, pick: Pick) -> Option<&'p E
 /// The offer that a pick names, if its process stands where it has such an offer.
 #[inline(always)]
 pub fn picked<'w, 'p, 'a>(scene: &Scene<'w, 'p, 'a>, pick: Pick) -> Option<Offered<'w, 'p, 'a>>
-    requires { Fits scene.now }
-    ensures offer { option_map (λ k. shows k.body k.edge.now) result ≡ picks (state_of scene.now) pick }
+    ensures offer { option_map (λ k. shows k.body k.edge.now) result ≡ picks scene.now pick }
     ensures is { IfSome result (λ k. IsPicked scene.now pick k.body) }
 {
-    let seat = *seat_at(scene.seats, pick.process)?;
-    let body = standing(scene, seat)?;
+    let seat = *seat_at(scene.seats(), pick.process)?;
+    let body = scene.standing(seat)?;
     let edge = edge_of(&body, seat.node, pick)?;
     Some(Offered { body, edge })
 }

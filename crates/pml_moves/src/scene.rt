@@ -1,20 +1,20 @@
 //! What a search looks at.
 
-ghost use Rattle.std.specs.Prelude.{◌≡◌, ◌<◌, ◌≤◌, true, false, [], None, IfSome, length, option_map, slice_get, slice_index_or};
+ghost use Rattle.std.specs.Prelude.{◌≡◌, ◌<◌, ◌≤◌, true, false, [], None, IfSome, length, map, option_map, slice_get};
 ghost use Rattle.std.specs.Option.{option_copied};
-ghost use Rattle.pml_control.specs.Control.{basic_of};
-ghost use Rattle.pml_flow.specs.Points.{point_at};
+ghost use Rattle.profile.specs.declared.TheConstants.{MOST_PROCESSES};
 ghost use Rattle.pml_value.specs.Reads.{seen};
 ghost use Rattle.pml_moves.specs.State.{reads, body_of};
-ghost use Rattle.pml_moves.specs.Scene.{state_of, stand_of, Fits, IsBody, StandsIn, shows, edges_at};
+ghost use Rattle.pml_moves.specs.Scene.{state_of, stand_of, IsBody, StandsIn, shows};
 
+use crate::played::Played;
+use crate::state::State;
 use pml_flow::edge::Edge;
 use pml_flow::graph::Graph;
 use pml_flow::statements::Statements;
 use pml_program::program::{Basic, Proctype, Program};
-use pml_store::store::Store;
-use pml_value::live_channel::LiveChannel;
 use pml_value::view::View;
+use std::marker::Model;
 
 /// A process: the number of its proctype in the model, and the node of its graph where it stands.
 #[derive(Clone, Copy, Debug, PartialEq, Eq)]
@@ -23,18 +23,31 @@ pub struct Seat {
     pub node: usize,
 }
 
-/// A state, lent: the graphs and the statements are those of the proctypes, in their order.
+/// A state of a model, lent. Contracts see the state.
 #[derive(Drop)]
 pub struct Scene<'w, 'p, 'a> {
-    pub program: &'p Program<'a>,
-    pub graphs: &'p [Graph],
-    pub statements: &'w [Statements<'p, 'a>],
-    pub store: &'w Store,
-    pub seats: &'w [Seat],
-    pub channels: &'w [LiveChannel],
-    pub holder: Option<usize>,
-    /// Whether what is sent to a full channel is lost.
-    pub lossy: bool,
+    played: &'w Played<'p, 'a>,
+    state: &'w State,
+}
+
+impl<'w, 'p, 'a> Model for Scene<'w, 'p, 'a> {
+    ghost use Rattle.std.specs.Prelude.{◌≤◌, [], length};
+    ghost use Rattle.std.specs.Coded.{codes};
+    ghost use mir.Syntax.{named};
+    ghost use Rattle.profile.specs.declared.TheConstants.{MOST_PROCESSES};
+    ghost use Rattle.pml_program.specs.contracts.expr.Expr as worth;
+    ghost use Rattle.pml_program.specs.contracts.program.Seq as seq;
+    ghost use Rattle.pml_program.specs.contracts.program.Basic as basic;
+    ghost use Rattle.pml_moves.specs.State.{State};
+    ghost use Rattle.pml_moves.specs.Scene.{state_of};
+
+    ghost Value = { State };
+
+    ghost coded = { Prim.hlevel (codes, worth.the_row.coded, (seq.the_row (record { mir = named 0; lft = [] })).coded, (basic.the_row (record { mir = named 0; lft = [] })).coded) };
+
+    ghost view = { λ c. state_of c.played.now c.state.now };
+
+    ghost invariant = { λ c. length c.state.now.seats.items ≤ MOST_PROCESSES };
 }
 
 /// A proctype, its graph, and its statements by number.
@@ -45,56 +58,89 @@ pub struct Body<'w, 'p, 'a> {
     pub statements: &'w Statements<'p, 'a>,
 }
 
-/// What an expression of a process reads.
-pub fn view<'w>(scene: &Scene<'w, '_, '_>, process: usize, timeout: bool) -> View<'w>
-    requires fits { Fits scene.now }
-    requires there { process < length scene.now.seats.now }
-    ensures reads { seen result ≡ reads (state_of scene.now) process timeout }
-    ensures channels { result.channels.now ≡ scene.now.channels.now }
-{
-    View {
-        store: scene.store,
-        channels: scene.channels,
-        pid: process as u8,
-        process_count: scene.seats.len() as u8,
-        timeout,
+impl<'w, 'p, 'a> Scene<'w, 'p, 'a> {
+    /// A state of a model.
+    pub fn new(played: &'w Played<'p, 'a>, state: &'w State) -> Scene<'w, 'p, 'a>
+        requires { length state.now.seats.items ≤ MOST_PROCESSES }
+        ensures { result ≡ state_of played.now state.now }
+    {
+        Scene { played, state }
     }
-}
 
-fn proctype_at<'p, 'a>(program: &'p Program<'a>, kind: usize) -> Option<&'p Proctype<'a>>
-    ensures { option_copied result ≡ slice_get program.now.proctypes kind }
-{
-    program.proctypes.as_slice().get(kind)
-}
-
-/// The body of the proctype with this number.
-pub fn body_at<'w, 'p, 'a>(scene: &Scene<'w, 'p, 'a>, kind: usize) -> Option<Body<'w, 'p, 'a>>
-    requires { Fits scene.now }
-    ensures body { option_map (λ k. k.proctype.now.body) result ≡ body_of scene.now.program.now kind }
-    ensures is { IfSome result IsBody }
-{
-    let proctype = proctype_at(scene.program, kind)?;
-    Some(Body {
-        proctype,
-        graph: &scene.graphs[kind],
-        statements: &scene.statements[kind],
-    })
-}
-
-/// The body in which a process stands, where something is left to do.
-pub fn standing<'w, 'p, 'a>(scene: &Scene<'w, 'p, 'a>, seat: Seat) -> Option<Body<'w, 'p, 'a>>
-    requires { Fits scene.now }
-    ensures left { IfSome result (λ k. StandsIn scene.now seat k) }
-    ensures closed { result ≡ None → (stand_of scene.now.program.now seat).control ≡ [] }
-{
-    let body = body_at(scene, seat.kind)?;
-    if seat.node == 0 {
-        return None;
+    /// The model.
+    pub fn program(&self) -> &'p Program<'a>
+        ensures { result.now ≡ self.now.program }
+    {
+        self.played.program()
     }
-    if body.has_node(seat.node) {
-        Some(body)
-    } else {
-        None
+
+    /// The processes, the oldest first.
+    pub fn seats(&self) -> &'w [Seat]
+        ensures { map (stand_of self.now.program) result.now ≡ self.now.stands }
+    {
+        self.state.seats.as_slice()
+    }
+
+    /// How many processes live.
+    pub fn process_count(&self) -> usize
+        ensures value { result ≡ length self.now.stands }
+        ensures few { result ≤ MOST_PROCESSES }
+    {
+        self.state.seats.len()
+    }
+
+    /// The process that holds exclusive control.
+    pub fn holder(&self) -> Option<usize>
+        ensures { result ≡ self.now.holder }
+    {
+        self.state.holder
+    }
+
+    /// Whether what is sent to a full channel is lost.
+    pub fn is_lossy(&self) -> bool
+        ensures { result ≡ self.now.lossy }
+    {
+        self.state.lossy
+    }
+
+    /// What an expression of a process reads.
+    pub fn view(&self, process: usize, timeout: bool) -> View<'w>
+        requires there { process < length self.now.stands }
+        ensures reads { seen result ≡ reads self.now process timeout }
+        ensures channels { result.channels.now ≡ self.now.channels }
+    {
+        View {
+            store: &self.state.started.store,
+            channels: self.state.started.channels.as_slice(),
+            pid: process as u8,
+            process_count: self.state.seats.len() as u8,
+            timeout,
+        }
+    }
+
+    /// The body of the proctype with this number.
+    pub fn body(&self, kind: usize) -> Option<Body<'w, 'p, 'a>>
+        ensures proctype { option_map (λ k. k.proctype.now) result ≡ slice_get self.now.program.proctypes kind }
+        ensures body { option_map (λ k. k.proctype.now.body) result ≡ body_of self.now.program kind }
+        ensures is { IfSome result IsBody }
+    {
+        self.played.body(kind)
+    }
+
+    /// The body in which a process stands, where something is left to do.
+    pub fn standing(&self, seat: Seat) -> Option<Body<'w, 'p, 'a>>
+        ensures left { IfSome result (λ k. StandsIn self.now seat k) }
+        ensures closed { result ≡ None → (stand_of self.now.program seat).control ≡ [] }
+    {
+        let body = self.body(seat.kind)?;
+        if seat.node == 0 {
+            return None;
+        }
+        if body.has_node(seat.node) {
+            Some(body)
+        } else {
+            None
+        }
     }
 }
 

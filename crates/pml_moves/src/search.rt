@@ -3,25 +3,25 @@
 
 #![tactic(auto, using(crate::proofs::Keeping::kept_on, crate::proofs::Keeping::kept_same, crate::proofs::Keeping::kept_push))]
 
-ghost use Rattle.std.specs.Prelude.{◌≡◌, ◌++◌, ◌<◌, Bool, true, false, List, [], if◌then◌else◌, OnOk, Some, length, map, option_map, slice_get, slice_index_or};
+ghost use Rattle.std.specs.Prelude.{◌≡◌, ◌++◌, ◌<◌, true, false, List, [], if◌then◌else◌, OnOk, length, map, option_map, slice_get, slice_index_or};
 ghost use Rattle.std.specs.List.{filter};
 ghost use Rattle.std.specs.Option.{option_copied};
-ghost use Rattle.pml_program.specs.declared.program.Seq.{Seq as Sequence};
-ghost use Rattle.pml_flow.specs.Flow.{Offer, maybe};
+ghost use Rattle.pml_flow.specs.Flow.{maybe};
 ghost use Rattle.pml_flow.specs.Points.{point_at};
 ghost use Rattle.pml_eval.specs.Value.{Reading};
 ghost use Rattle.pml_value.specs.declared.live_channel.LiveChannel.{LiveChannel};
 ghost use Rattle.pml_value.specs.Reads.{seen};
-ghost use Rattle.pml_moves.specs.State.{levels_from, reads};
+ghost use Rattle.pml_moves.specs.State.{levels_from};
 ghost use Rattle.pml_moves.specs.Kept.{Extends};
-ghost use Rattle.pml_moves.specs.Scene.{state_of, stand_of, Fits, IsBody, shows, edges_at};
-ghost use Rattle.pml_moves.specs.Search.{Message as Sent, message, is_else as else_of, can_inside, is_choice, is_other, choices, first, is_some, can_alone, pairs_on, pairs_with, pairs, moves_by, plain_moves, else_moves, moves_on, moves_at, moves_under, moves_held, moves as all_moves, last, only_if, accepts};
-ghost use Rattle.pml_moves.specs.declared.moves.Move.TheVariants.{Alone, Pair};
+ghost use Rattle.pml_moves.specs.Scene.{stand_of, IsBody, shows, edges_at, offers_at, seq_of};
+ghost use Rattle.pml_moves.specs.Paired.{pair_by, paired_on, paired_with, paired_by};
+ghost use Rattle.pml_moves.specs.Search.{Message as Sent, message, is_else as else_of, can_inside, is_choice, is_other, choices, first, is_some, can_alone, pairs, pick, NeedsNothing, moves_for, plain_moves, else_moves, moves_on, moves_at, moves_under, moves_held, moves as all_moves, last, only_if, accepts};
+ghost use Rattle.pml_moves.specs.declared.moves.Move.TheVariants.{Alone};
 
 use crate::executable::can_be_taken;
 use crate::message::{Message, is_received, offered};
 use crate::moves::{Move, Pick};
-use crate::scene::{Body, Scene, Seat, body_at, standing, view};
+use crate::scene::{Body, Scene, Seat};
 use pml_flow::edge::Edge;
 use pml_program::program::{Action, Basic};
 use pml_value::view::View;
@@ -95,7 +95,7 @@ fn first_level<'p>(body: &Body<'_, 'p, '_>, node: usize) -> &'p [Edge]
 /// The offer that is taken at a node inside a d_step, if one can be.
 pub fn choice(view: &View<'_>, lossy: bool, body: &Body<'_, '_, '_>, node: usize) -> Option<Edge>
     requires { IsBody body.now }
-    ensures { option_map (shows body.now) result ≡ first (choices lossy view.now.channels.now (seen view.now) (map (map (shows body.now)) (edges_at body.now node))) }
+    ensures { option_map (shows body.now) result ≡ first (choices lossy view.now.channels.now (seen view.now) (offers_at body.now node)) }
 {
     if !body.has_node(node) {
         return None;
@@ -112,7 +112,7 @@ pub fn choice(view: &View<'_>, lossy: bool, body: &Body<'_, '_, '_>, node: usize
 /// Whether something can be taken at a node inside a d_step.
 fn has_choice(view: &View<'_>, lossy: bool, body: &Body<'_, '_, '_>, node: usize) -> bool
     requires { IsBody body.now }
-    ensures { result ≡ is_some (choices lossy view.now.channels.now (seen view.now) (map (map (shows body.now)) (edges_at body.now node))) }
+    ensures { result ≡ is_some (choices lossy view.now.channels.now (seen view.now) (offers_at body.now node)) }
 {
     choice(view, lossy, body, node).is_some()
 }
@@ -120,7 +120,8 @@ fn has_choice(view: &View<'_>, lossy: bool, body: &Body<'_, '_, '_>, node: usize
 /// Whether something can be taken at the first node inside a d_step.
 fn can_begin(view: &View<'_>, lossy: bool, body: &Body<'_, '_, '_>, entry: Option<usize>) -> bool
     requires { IsBody body.now }
-    ensures { result ≡ is_some (choices lossy view.now.channels.now (seen view.now) (levels_from body.now.proctype.now.body (maybe (point_at body.now.proctype.now.body) entry))) }
+    ensures { let b = seq_of body.now in
+        result ≡ is_some (choices lossy view.now.channels.now (seen view.now) (levels_from b (maybe (point_at b) entry))) }
 {
     match entry {
         Some(node) => has_choice(view, lossy, body, node),
@@ -138,12 +139,33 @@ fn can_be_alone(
 ) -> bool
     requires body { IsBody body.now }
     requires basic { option_copied basic ≡ (shows body.now edge).basic }
-    ensures { result ≡ can_alone lossy view.now.channels.now (seen view.now) body.now.proctype.now.body (shows body.now edge) (shows body.now edge).basic }
+    ensures { result ≡ can_alone lossy view.now.channels.now (seen view.now) (seq_of body.now) (shows body.now edge) (shows body.now edge).basic }
 {
     match basic {
         Some(Basic::Plain(action)) => can_be_taken(view, lossy, false, action),
         Some(Basic::DStep(_)) => can_begin(view, lossy, body, edge.entry),
         _ => true,
+    }
+}
+
+/// A level of what a process is offered.
+#[derive(Clone, Copy)]
+struct Tier {
+    process: usize,
+    level: usize,
+}
+
+impl Tier {
+    /// An offer of it.
+    #[inline(always)]
+    fn pick(self, place: usize) -> Pick
+        ensures { result ≡ pick self.process self.level place }
+    {
+        Pick {
+            process: self.process,
+            level: self.level,
+            place,
+        }
     }
 }
 
@@ -175,12 +197,11 @@ fn add_received(
     basic: Option<&Basic<'_>>,
     moves: &mut Vec<Move>,
 ) -> Result<(), AllocError>
-    requires fits { Fits scene.now }
-    requires there { receiver.process < length scene.now.seats.now }
-    ensures added { OnOk result (moves.new.items ≡ moves.old.items ++ only_if (accepts scene.now.channels.now (reads (state_of scene.now) receiver.process sending.now.timeout) sending.now.message (option_copied basic.entry)) (Pair sending.now.sender receiver sending.now.timeout)) }
+    requires there { receiver.process < length scene.now.stands }
+    ensures added { OnOk result (moves.new.items ≡ moves.old.items ++ pair_by scene.now sending.now receiver (option_copied basic.entry)) }
     ensures kept { Extends moves.new.items moves.old.items }
 {
-    let view = view(scene, receiver.process, sending.timeout);
+    let view = scene.view(receiver.process, sending.timeout);
     if !is_received(&view, &sending.message, basic) {
         return Ok(());
     }
@@ -197,10 +218,9 @@ fn add_pair(
     edge: Edge,
     moves: &mut Vec<Move>,
 ) -> Result<(), AllocError>
-    requires fits { Fits scene.now }
-    requires there { receiver.process < length scene.now.seats.now }
+    requires there { receiver.process < length scene.now.stands }
     requires body { IsBody body.now }
-    ensures added { OnOk result (moves.new.items ≡ moves.old.items ++ only_if (accepts scene.now.channels.now (reads (state_of scene.now) receiver.process sending.now.timeout) sending.now.message (shows body.now edge).basic) (Pair sending.now.sender receiver sending.now.timeout)) }
+    ensures added { OnOk result (moves.new.items ≡ moves.old.items ++ pair_by scene.now sending.now receiver (shows body.now edge).basic) }
     ensures kept { Extends moves.new.items moves.old.items }
 {
     let basic = body.basic(edge);
@@ -216,24 +236,18 @@ fn add_pairs_on(
     scene: &Scene<'_, '_, '_>,
     body: &Body<'_, '_, '_>,
     sending: &Sending<'_, '_>,
-    j: usize,
-    level: usize,
+    tier: Tier,
     edges: &[Edge],
     moves: &mut Vec<Move>,
 ) -> Result<(), AllocError>
-    requires fits { Fits scene.now }
-    requires there { j < length scene.now.seats.now }
+    requires there { tier.process < length scene.now.stands }
     requires body { IsBody body.now }
-    ensures added { OnOk result (moves.new.items ≡ moves.old.items ++ pairs_on (state_of scene.now) sending.now.timeout sending.now.sender sending.now.message j level (map (shows body.now) edges.now)) }
+    ensures added { let os = map (shows body.now) edges.now in
+        OnOk result (moves.new.items ≡ moves.old.items ++ paired_on scene.now sending.now tier.process tier.level os) }
     ensures kept { Extends moves.new.items moves.old.items }
 {
     for place in 0..edges.len() {
-        let receiver = Pick {
-            process: j,
-            level,
-            place,
-        };
-        add_pair(scene, body, sending, receiver, edges[place], moves)?;
+        add_pair(scene, body, sending, tier.pick(place), edges[place], moves)?;
     }
     Ok(())
 }
@@ -248,11 +262,10 @@ fn add_pairs_down(
     node: usize,
     moves: &mut Vec<Move>,
 ) -> Result<(), AllocError>
-    requires fits { Fits scene.now }
-    requires there { j < length scene.now.seats.now }
+    requires there { j < length scene.now.stands }
     requires body { IsBody body.now }
     requires node { node < length body.now.graph.now.nodes }
-    ensures added { OnOk result (moves.new.items ≡ moves.old.items ++ last (pairs_on (state_of scene.now) sending.now.timeout sending.now.sender sending.now.message j) 0 (map (map (shows body.now)) (edges_at body.now node))) }
+    ensures added { OnOk result (moves.new.items ≡ moves.old.items ++ last (paired_on scene.now sending.now j) 0 (offers_at body.now node)) }
     ensures kept { Extends moves.new.items moves.old.items }
 {
     let before = moves.len();
@@ -260,7 +273,8 @@ fn add_pairs_down(
     while 0 < level {
         level -= 1;
         let edges = body.graph.level(node, level);
-        add_pairs_on(scene, body, sending, j, level, edges, moves)?;
+        let tier = Tier { process: j, level };
+        add_pairs_on(scene, body, sending, tier, edges, moves)?;
         if moves.len() != before {
             return Ok(());
         }
@@ -277,15 +291,20 @@ fn add_pairs_in(
     node: usize,
     moves: &mut Vec<Move>,
 ) -> Result<(), AllocError>
-    requires fits { Fits scene.now }
-    requires there { j < length scene.now.seats.now }
+    requires there { j < length scene.now.stands }
     requires body { IsBody body.now }
     requires node { node < length body.now.graph.now.nodes }
-    ensures added { OnOk result (moves.new.items ≡ moves.old.items ++ last (pairs_on (state_of scene.now) sending.now.timeout sending.now.sender sending.now.message j) 0 (map (map (shows body.now)) (edges_at body.now node))) }
+    ensures added { OnOk result (moves.new.items ≡ moves.old.items ++ last (paired_on scene.now sending.now j) 0 (offers_at body.now node)) }
     ensures kept { Extends moves.new.items moves.old.items }
 {
     match body.graph.only_level(node) {
-        Some(edges) => add_pairs_on(scene, body, sending, j, 0, edges, moves),
+        Some(edges) => {
+            let tier = Tier {
+                process: j,
+                level: 0,
+            };
+            add_pairs_on(scene, body, sending, tier, edges, moves)
+        }
         None => add_pairs_down(scene, body, sending, j, node, moves),
     }
 }
@@ -298,15 +317,14 @@ fn add_pairs_with(
     seat: Seat,
     moves: &mut Vec<Move>,
 ) -> Result<(), AllocError>
-    requires fits { Fits scene.now }
-    requires there { j < length scene.now.seats.now }
-    ensures added { OnOk result (moves.new.items ≡ moves.old.items ++ pairs_with (state_of scene.now) sending.now.timeout sending.now.sender sending.now.message j (stand_of scene.now.program.now seat)) }
+    requires there { j < length scene.now.stands }
+    ensures added { OnOk result (moves.new.items ≡ moves.old.items ++ paired_with scene.now sending.now j (stand_of scene.now.program seat)) }
     ensures kept { Extends moves.new.items moves.old.items }
 {
     if j == sending.sender.process {
         return Ok(());
     }
-    match standing(scene, seat) {
+    match scene.standing(seat) {
         None => Ok(()),
         Some(body) => add_pairs_in(scene, &body, sending, j, seat.node, moves),
     }
@@ -318,11 +336,10 @@ fn add_pairs(
     sending: &Sending<'_, '_>,
     moves: &mut Vec<Move>,
 ) -> Result<(), AllocError>
-    requires { Fits scene.now }
-    ensures added { OnOk result (moves.new.items ≡ moves.old.items ++ pairs (state_of scene.now) sending.now.timeout sending.now.sender (Some sending.now.message)) }
+    ensures added { OnOk result (moves.new.items ≡ moves.old.items ++ paired_by scene.now sending.now) }
     ensures kept { Extends moves.new.items moves.old.items }
 {
-    let seats = scene.seats;
+    let seats = scene.seats();
     for j in 0..seats.len() {
         add_pairs_with(scene, sending, j, seats[j], moves)?;
     }
@@ -334,7 +351,7 @@ fn add_pairs(
 /// Whether a statement can be taken whatever the state, by itself: it is no `else`, and asks for nothing.
 fn needs_nothing(basic: Option<&Basic<'_>>) -> bool
     ensures plain { result ≡ true → else_of (option_copied basic.entry) ≡ false }
-    ensures alone { (lossy : Bool) (cs : List LiveChannel) (r : Reading) (b : Sequence) (o : Offer) → result ≡ true → can_alone lossy cs r b o (option_copied basic.entry) ≡ true }
+    ensures alone { result ≡ true → NeedsNothing (option_copied basic.entry) }
 {
     match basic {
         Some(Basic::Plain(action)) => match action {
@@ -359,8 +376,8 @@ fn add_sent(
     basic: Option<&Basic<'_>>,
     moves: &mut Vec<Move>,
 ) -> Result<(), AllocError>
-    requires { Fits scene.now }
-    ensures added { OnOk result (moves.new.items ≡ moves.old.items ++ pairs (state_of scene.now) timeout offer (message view.entry.channels.now (seen view.entry) (option_copied basic.entry))) }
+    ensures added { let m = message view.entry.channels.now (seen view.entry) (option_copied basic.entry) in
+        OnOk result (moves.new.items ≡ moves.old.items ++ pairs scene.now timeout offer m) }
     ensures kept { Extends moves.new.items moves.old.items }
 {
     match offered(view, basic) {
@@ -384,18 +401,16 @@ fn add_asked(
     timeout: bool,
     offer: Pick,
     edge: Edge,
-    basic: Option<&Basic<'_>>,
     moves: &mut Vec<Move>,
 ) -> Result<(), AllocError>
-    requires fits { Fits scene.now }
-    requires there { offer.process < length scene.now.seats.now }
+    requires there { offer.process < length scene.now.stands }
     requires body { IsBody body.now }
-    requires basic { option_copied basic ≡ (shows body.now edge).basic }
-    ensures added { OnOk result (moves.new.items ≡ moves.old.items ++ moves_by (state_of scene.now) offer.process timeout body.now.proctype.now.body offer.level offer.place (shows body.now edge)) }
+    ensures added { OnOk result (moves.new.items ≡ moves.old.items ++ moves_for scene.now timeout (seq_of body.now) offer (shows body.now edge)) }
     ensures kept { Extends moves.new.items moves.old.items }
 {
-    let view = view(scene, offer.process, timeout);
-    if can_be_alone(&view, scene.lossy, body, edge, basic) {
+    let basic = body.basic(edge);
+    let view = scene.view(offer.process, timeout);
+    if can_be_alone(&view, scene.is_lossy(), body, edge, basic) {
         moves.push(Move::Alone(offer, timeout))?;
         return Ok(());
     }
@@ -407,26 +422,19 @@ fn add_asked(
 fn add_plain_by(
     scene: &Scene<'_, '_, '_>,
     body: &Body<'_, '_, '_>,
-    process: usize,
     timeout: bool,
-    level: usize,
-    place: usize,
+    offer: Pick,
     edge: &Edge,
     moves: &mut Vec<Move>,
 ) -> Result<(), AllocError>
-    requires fits { Fits scene.now }
-    requires there { process < length scene.now.seats.now }
+    requires there { offer.process < length scene.now.stands }
     requires body { IsBody body.now }
-    ensures added { OnOk result (moves.new.items ≡ moves.old.items ++ (if else_of (shows body.now edge.now).basic then [] else moves_by (state_of scene.now) process timeout body.now.proctype.now.body level place (shows body.now edge.now))) }
+    ensures added { let o = shows body.now edge.now in
+        OnOk result (moves.new.items ≡ moves.old.items ++ (if else_of o.basic then [] else moves_for scene.now timeout (seq_of body.now) offer o)) }
     ensures kept { Extends moves.new.items moves.old.items }
 {
     let basic = body.basic(*edge);
     if needs_nothing(basic) {
-        let offer = Pick {
-            process,
-            level,
-            place,
-        };
         moves.reserve(1)?;
         moves.push_reserved(Move::Alone(offer, timeout));
         return Ok(());
@@ -434,12 +442,7 @@ fn add_plain_by(
     if is_else(basic) {
         return Ok(());
     }
-    let offer = Pick {
-        process,
-        level,
-        place,
-    };
-    add_asked(scene, body, timeout, offer, *edge, basic, moves)
+    add_asked(scene, body, timeout, offer, *edge, moves)
 }
 
 /// Adds the moves of a level's offers that are no `else`.
@@ -447,21 +450,19 @@ fn add_plain_by(
 fn add_plain(
     scene: &Scene<'_, '_, '_>,
     body: &Body<'_, '_, '_>,
-    process: usize,
+    tier: Tier,
     timeout: bool,
-    level: usize,
     edges: &[Edge],
     moves: &mut Vec<Move>,
 ) -> Result<(), AllocError>
-    requires fits { Fits scene.now }
-    requires there { process < length scene.now.seats.now }
+    requires there { tier.process < length scene.now.stands }
     requires body { IsBody body.now }
-    ensures added { OnOk result (moves.new.items ≡ moves.old.items ++ plain_moves (state_of scene.now) process timeout body.now.proctype.now.body level (map (shows body.now) edges.now)) }
+    ensures added { let os = map (shows body.now) edges.now in
+        OnOk result (moves.new.items ≡ moves.old.items ++ plain_moves scene.now tier.process timeout (seq_of body.now) tier.level os) }
     ensures kept { Extends moves.new.items moves.old.items }
 {
     for place in 0..edges.len() {
-        let edge = &edges[place];
-        add_plain_by(scene, body, process, timeout, level, place, edge, moves)?;
+        add_plain_by(scene, body, timeout, tier.pick(place), &edges[place], moves)?;
     }
     Ok(())
 }
@@ -489,23 +490,17 @@ fn add_else_by(
 #[inline(never)]
 fn add_else(
     body: &Body<'_, '_, '_>,
-    process: usize,
+    tier: Tier,
     timeout: bool,
-    level: usize,
     edges: &[Edge],
     moves: &mut Vec<Move>,
 ) -> Result<(), AllocError>
     requires { IsBody body.now }
-    ensures added { OnOk result (moves.new.items ≡ moves.old.items ++ else_moves process timeout level (map (shows body.now) edges.now)) }
+    ensures added { OnOk result (moves.new.items ≡ moves.old.items ++ else_moves tier.process timeout tier.level (map (shows body.now) edges.now)) }
     ensures kept { Extends moves.new.items moves.old.items }
 {
     for place in 0..edges.len() {
-        let offer = Pick {
-            process,
-            level,
-            place,
-        };
-        add_else_by(body, timeout, offer, edges[place], moves)?;
+        add_else_by(body, timeout, tier.pick(place), edges[place], moves)?;
     }
     Ok(())
 }
@@ -515,24 +510,23 @@ fn add_else(
 fn add_moves_on(
     scene: &Scene<'_, '_, '_>,
     body: &Body<'_, '_, '_>,
-    process: usize,
+    tier: Tier,
     timeout: bool,
-    level: usize,
     edges: &[Edge],
     moves: &mut Vec<Move>,
 ) -> Result<(), AllocError>
-    requires fits { Fits scene.now }
-    requires there { process < length scene.now.seats.now }
+    requires there { tier.process < length scene.now.stands }
     requires body { IsBody body.now }
-    ensures added { OnOk result (moves.new.items ≡ moves.old.items ++ moves_on (state_of scene.now) process timeout body.now.proctype.now.body level (map (shows body.now) edges.now)) }
+    ensures added { let os = map (shows body.now) edges.now in
+        OnOk result (moves.new.items ≡ moves.old.items ++ moves_on scene.now tier.process timeout (seq_of body.now) tier.level os) }
     ensures kept { Extends moves.new.items moves.old.items }
 {
     let before = moves.len();
-    add_plain(scene, body, process, timeout, level, edges, moves)?;
+    add_plain(scene, body, tier, timeout, edges, moves)?;
     if moves.len() != before {
         return Ok(());
     }
-    add_else(body, process, timeout, level, edges, moves)
+    add_else(body, tier, timeout, edges, moves)
 }
 
 /// Adds the moves of the highest level of a node that has any.
@@ -545,11 +539,10 @@ fn add_moves_down(
     node: usize,
     moves: &mut Vec<Move>,
 ) -> Result<(), AllocError>
-    requires fits { Fits scene.now }
-    requires there { process < length scene.now.seats.now }
+    requires there { process < length scene.now.stands }
     requires body { IsBody body.now }
     requires node { node < length body.now.graph.now.nodes }
-    ensures added { OnOk result (moves.new.items ≡ moves.old.items ++ last (moves_on (state_of scene.now) process timeout body.now.proctype.now.body) 0 (map (map (shows body.now)) (edges_at body.now node))) }
+    ensures added { OnOk result (moves.new.items ≡ moves.old.items ++ last (moves_on scene.now process timeout (seq_of body.now)) 0 (offers_at body.now node)) }
     ensures kept { Extends moves.new.items moves.old.items }
 {
     let before = moves.len();
@@ -557,7 +550,8 @@ fn add_moves_down(
     while 0 < level {
         level -= 1;
         let edges = body.graph.level(node, level);
-        add_moves_on(scene, body, process, timeout, level, edges, moves)?;
+        let tier = Tier { process, level };
+        add_moves_on(scene, body, tier, timeout, edges, moves)?;
         if moves.len() != before {
             return Ok(());
         }
@@ -574,15 +568,17 @@ fn add_moves_in(
     node: usize,
     moves: &mut Vec<Move>,
 ) -> Result<(), AllocError>
-    requires fits { Fits scene.now }
-    requires there { process < length scene.now.seats.now }
+    requires there { process < length scene.now.stands }
     requires body { IsBody body.now }
     requires node { node < length body.now.graph.now.nodes }
-    ensures added { OnOk result (moves.new.items ≡ moves.old.items ++ last (moves_on (state_of scene.now) process timeout body.now.proctype.now.body) 0 (map (map (shows body.now)) (edges_at body.now node))) }
+    ensures added { OnOk result (moves.new.items ≡ moves.old.items ++ last (moves_on scene.now process timeout (seq_of body.now)) 0 (offers_at body.now node)) }
     ensures kept { Extends moves.new.items moves.old.items }
 {
     match body.graph.only_level(node) {
-        Some(edges) => add_moves_on(scene, body, process, timeout, 0, edges, moves),
+        Some(edges) => {
+            let tier = Tier { process, level: 0 };
+            add_moves_on(scene, body, tier, timeout, edges, moves)
+        }
         None => add_moves_down(scene, body, process, timeout, node, moves),
     }
 }
@@ -595,15 +591,14 @@ fn add_moves_at(
     seat: Seat,
     moves: &mut Vec<Move>,
 ) -> Result<(), AllocError>
-    requires fits { Fits scene.now }
-    requires there { process < length scene.now.seats.now }
-    ensures added { OnOk result (moves.new.items ≡ moves.old.items ++ moves_at (state_of scene.now) process timeout (stand_of scene.now.program.now seat)) }
+    requires there { process < length scene.now.stands }
+    ensures added { OnOk result (moves.new.items ≡ moves.old.items ++ moves_at scene.now process timeout (stand_of scene.now.program seat)) }
     ensures kept { Extends moves.new.items moves.old.items }
 {
-    if let Some(body) = standing(scene, seat) {
+    if let Some(body) = scene.standing(seat) {
         return add_moves_in(scene, &body, process, timeout, seat.node, moves);
     }
-    if process + 1 == scene.seats.len() {
+    if scene.process_count() == process + 1 {
         moves.push(Move::Death(process))?;
     }
     Ok(())
@@ -615,11 +610,10 @@ fn add_moves_under(
     timeout: bool,
     moves: &mut Vec<Move>,
 ) -> Result<(), AllocError>
-    requires { Fits scene.now }
-    ensures added { OnOk result (moves.new.items ≡ moves.old.items ++ moves_under (state_of scene.now) timeout) }
+    ensures added { OnOk result (moves.new.items ≡ moves.old.items ++ moves_under scene.now timeout) }
     ensures kept { Extends moves.new.items moves.old.items }
 {
-    let seats = scene.seats;
+    let seats = scene.seats();
     for process in 0..seats.len() {
         add_moves_at(scene, process, timeout, seats[process], moves)?;
     }
@@ -628,23 +622,22 @@ fn add_moves_under(
 
 /// Adds the moves of the holder of exclusive control, if there is one.
 fn add_moves_held(scene: &Scene<'_, '_, '_>, moves: &mut Vec<Move>) -> Result<(), AllocError>
-    requires { Fits scene.now }
-    ensures added { OnOk result (moves.new.items ≡ moves.old.items ++ moves_held (state_of scene.now) scene.now.holder) }
+    ensures added { OnOk result (moves.new.items ≡ moves.old.items ++ moves_held scene.now scene.now.holder) }
     ensures kept { Extends moves.new.items moves.old.items }
 {
-    let Some(process) = scene.holder else {
+    let Some(process) = scene.holder() else {
         return Ok(());
     };
-    if process < scene.seats.len() {
-        return add_moves_at(scene, process, false, scene.seats[process], moves);
+    let seats = scene.seats();
+    if process < seats.len() {
+        return add_moves_at(scene, process, false, seats[process], moves);
     }
     Ok(())
 }
 
 /// Adds the moves of a state.
 pub fn add_moves(scene: &Scene<'_, '_, '_>, moves: &mut Vec<Move>) -> Result<(), AllocError>
-    requires { Fits scene.now }
-    ensures added { OnOk result (moves.new.items ≡ moves.old.items ++ all_moves (state_of scene.now)) }
+    ensures added { OnOk result (moves.new.items ≡ moves.old.items ++ all_moves scene.now) }
     ensures kept { Extends moves.new.items moves.old.items }
 {
     let before = moves.len();

@@ -28,11 +28,11 @@ use Rattle.pml_start.proofs.Chaining.{chain, chain_any}
 use Rattle.pml_moves.specs.declared.moves.Pick.{Pick}
 use Rattle.pml_moves.specs.declared.moves.Move.{Move}
 use Rattle.pml_moves.specs.declared.moves.Move.TheVariants.{Death, Alone, Pair}
-use Rattle.pml_moves.specs.State.{Stand, State, reads, body_of, levels, levels_in}
+use Rattle.pml_moves.specs.State.{Stand, State, reads, body_of, levels, levels_in, first_control}
 use Rattle.pml_moves.specs.Search.{or_else, choices, is_choice, is_other, message}
 use Rattle.pml_moves.specs.Picked.{offer_on, offer_at, picked}
 use Rattle.pml_steps.specs.Change.{put, put_if, put_by, put_all, with_sent, with_received, moved_to, go_to, went, without_youngest}
-use Rattle.pml_steps.specs.Created.{first_control, with_new, joined_by, ran, run_number}
+use Rattle.pml_steps.specs.Created.{with_new, joined_by, ran, run_number}
 use Rattle.pml_steps.specs.Outcome.{Done, quiet, run_into, does, effect, behind, first_of, onward, within, within_from, taken, body_by, moved, alone, both_on, paired, passed, step}
 use Rattle.pml_sim.proofs.Weight.{weight_part, AreLight, IsLight, light_steps, light_sequence, light_at}
 use Rattle.pml_sim.proofs.Settling.{GoOn, AreFew, few_offers, light_settled}

@@ -27,7 +27,7 @@ use Rattle.pml_moves.specs.State.{Stand, State, body_of}
 use Rattle.pml_moves.specs.Picked.{picked}
 use Rattle.pml_moves.specs.Search as search
 use Rattle.profile.specs.declared.TheConstants.{MOST_DSTEP_STATEMENTS}
-use Rattle.pml_steps.specs.Held.{begins_by, begins_at}
+use Rattle.pml_moves.specs.Scene.{begins_by, begins_at}
 use Rattle.pml_steps.specs.Outcome.{Done}
 use Rattle.pml_steps.specs.Outcome as outcome
 use Rattle.pml_texts.specs.Texts.{kind_of, line_in, brace_of, origin_of, IsWithin}

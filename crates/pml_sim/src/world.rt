@@ -5,7 +5,6 @@ ghost use Rattle.std.specs.Io.{StartsWith};
 ghost use Rattle.std.specs.List.{Contains};
 ghost use Rattle.profile.specs.declared.TheConstants.{MOST_CHANNELS, MOST_PROCESSES};
 ghost use Rattle.session.specs.Takes.{CanBeTaken, StaysStopped, TakesStep};
-ghost use Rattle.pml_flow.specs.Flow.{AreGraphs};
 ghost use Rattle.pml_start.specs.Begin.{shown};
 ghost use Rattle.pml_start.specs.Bound.{bound, IsBounded};
 ghost use Rattle.pml_start.specs.Start.{IsDeclared};
@@ -20,14 +19,13 @@ use crate::ending::Ending;
 use crate::halt::Halt;
 use diagnostics::Stop;
 use pml_check::Checked;
-use pml_flow::graph::Graph;
 use pml_lines::change::{Wanted, logged_lines};
 use pml_lines::changed::{Change, logged_changes, value_line};
 use pml_lines::tables::Tables;
 use pml_moves::moves::Move;
+use pml_moves::played::Played;
 use pml_moves::search::add_moves;
-use pml_program::program::Program;
-use pml_start::start::start;
+use pml_start::start::start_by;
 use pml_start::started::Started;
 use pml_steps::live::Live;
 use pml_steps::take::take;
@@ -70,19 +68,17 @@ impl<'p, 'a> World<'p, 'a> {
     /// The first state.
     pub fn first(
         alloc: Global,
-        program: &'p Program<'a>,
-        graphs: &'p [Graph],
+        played: Played<'p, 'a>,
         started: Started,
         lossy: bool,
     ) -> Result<World<'p, 'a>, AllocError>
-        requires declared { IsDeclared program.now (shown started) }
-        requires graphs { AreGraphs program.now.proctypes graphs.now }
+        requires declared { IsDeclared played (shown started) }
         requires fresh { started.store.written ≡ [] }
-        requires bounded { IsBounded program.now started.store started.channels.items }
-        ensures { IfOk result (λ w. w ≡ world.first program.now (shown started) lossy) }
+        requires bounded { IsBounded played started.store started.channels.items }
+        ensures { IfOk result (λ w. w ≡ world.first played.entry (shown started) lossy) }
     {
-        let tables = Tables::new(alloc, program)?;
-        let live = Live::first(alloc, program, graphs, started, lossy)?;
+        let tables = Tables::new(alloc, played.program())?;
+        let live = Live::first(alloc, played, started, lossy)?;
         let older = live.process_count();
         Ok(World {
             tables,
@@ -101,8 +97,9 @@ impl<'p, 'a> World<'p, 'a> {
         ensures { IfOk result (IsFirst checked.now lossy) }
     {
         let program = checked.program();
-        match start(alloc, program) {
-            Ok(started) => World::first(alloc, program, checked.graphs(), started, lossy),
+        let played = Played::new(alloc, program, checked.graphs())?;
+        match start_by(alloc, program, played.beginnings()) {
+            Ok(started) => World::first(alloc, played, started, lossy),
             Err(Stop::Fault(_)) => unreachable!(),
             Err(Stop::Memory) => Err(AllocError),
         }

@@ -4,7 +4,7 @@ ghost use Rattle.std.specs.Prelude.{◌≡◌, ◌+◌, ◌-◌, ◌<◌, ◌≤
 ghost use Rattle.profile.specs.declared.TheConstants.{MOST_PROCESSES};
 ghost use Rattle.pml_store.specs.Store.{Frame, before, but_last, frame_at, joined};
 ghost use Rattle.pml_cells.specs.Cells.{size};
-ghost use Rattle.pml_start.specs.Begin.{Begins, shown, held, shape, with_value};
+ghost use Rattle.pml_start.specs.Begin.{Begins, shown, shape, with_value};
 ghost use Rattle.pml_start.specs.Bound.{cells_of};
 ghost use Rattle.pml_start.specs.Created.{with_arguments, begun_with, with_process, created};
 ghost use Rattle.pml_start.specs.Known.{Keeps};
@@ -16,10 +16,7 @@ use crate::started::Started;
 use diagnostics::{Fault, Stop};
 use pml_eval::clip::clip;
 use pml_program::program::Slot;
-use pml_store::store::Store;
-use pml_value::live_channel::LiveChannel;
 use std::alloc::Global;
-use std::mem;
 
 /// Stores an argument in the first cell of a variable, if it has one.
 fn set_argument(started: &mut Started, variable: usize, number: i32) -> Result<(), Stop>
@@ -96,14 +93,15 @@ fn drop_youngest(started: &mut Started, channels: usize)
     started.store.pop_frame();
 }
 
-/// Creates a process, or leaves what was there.
-fn create_process(
-    alloc: Global,
+/// Creates a process of the proctype with this number and these variables. Its arguments are stored first, cut to the types of its
+/// parameters, and then its variables begin in the order of the text. Where it cannot be created, what is held stays as it was, but the
+/// log may have grown.
+pub fn create(
     beginnings: &Beginnings<'_, '_>,
-    started: &mut Started,
     kind: usize,
     slots: &[Slot<'_>],
     arguments: &[i32],
+    started: &mut Started,
 ) -> Result<(), Stop>
     requires few { length started.old.kinds.items < MOST_PROCESSES }
     requires next { length started.old.store.frames ≡ length started.old.kinds.items + 1 }
@@ -115,6 +113,7 @@ fn create_process(
     ensures kinds { OnOk result (started.new.kinds.items ≡ started.old.kinds.items ++ kind ∷ []) }
     ensures most { started.new.store.most ≡ started.old.store.most }
 {
+    let alloc = *started.channels.allocator();
     let channels = started.channels.len();
     if are_too_many(alloc, beginnings, slots, channels).map_err(|_| Stop::Memory)? {
         return Err(Stop::Fault(Fault::TooManyChannels));
@@ -125,42 +124,4 @@ fn create_process(
         drop_youngest(started, channels);
     }
     begun
-}
-
-/// Creates a process of the proctype with this number and these variables. Its arguments are stored first, cut to the types of its
-/// parameters, and then its variables begin in the order of the text. Where it cannot be created, what is held stays as it was, but the
-/// log may have grown.
-pub fn create(
-    beginnings: &Beginnings<'_, '_>,
-    kind: usize,
-    slots: &[Slot<'_>],
-    arguments: &[i32],
-    store: &mut Store,
-    channels: &mut Vec<LiveChannel>,
-    kinds: &mut Vec<usize>,
-) -> Result<(), Stop>
-    requires few { length kinds.old.items < MOST_PROCESSES }
-    requires next { length store.old.frames ≡ length kinds.old.items + 1 }
-    requires room { length (joined store.old.frames) + cells_of slots.now ≤ store.old.most }
-    ensures value { Begins (created beginnings.now kind slots.now arguments.now (held store.old channels.old.items kinds.old.items)) result (held store.new channels.new.items kinds.new.items) }
-    ensures kept { OnErr result (held store.new channels.new.items kinds.new.items ≡ held store.old channels.old.items kinds.old.items) }
-    ensures past { OnOk result ((rest : List Frame) × (before store.new ≡ before store.old ++ rest)) }
-    ensures shape { OnOk result (shape store.new.frames ≡ shape store.old.frames ++ map size slots.now ∷ []) }
-    ensures kinds { OnOk result (kinds.new.items ≡ kinds.old.items ++ kind ∷ []) }
-    ensures most { store.new.most ≡ store.old.most }
-{
-    let alloc = *channels.allocator();
-    let mut started = Started {
-        store: Store::new(alloc, 0),
-        channels: Vec::new(alloc),
-        kinds: Vec::new(alloc),
-    };
-    mem::swap(&mut started.store, store);
-    mem::swap(&mut started.channels, channels);
-    mem::swap(&mut started.kinds, kinds);
-    let created = create_process(alloc, beginnings, &mut started, kind, slots, arguments);
-    mem::swap(&mut started.store, store);
-    mem::swap(&mut started.channels, channels);
-    mem::swap(&mut started.kinds, kinds);
-    created
 }

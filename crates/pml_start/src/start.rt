@@ -62,6 +62,34 @@ fn begin_processes(
     Ok(())
 }
 
+/// The first state of a checked model, by what its typedefs begin with.
+pub fn start_by(
+    alloc: Global,
+    program: &Program<'_>,
+    beginnings: &Beginnings<'_, '_>,
+) -> Result<Started, Stop>
+    requires within { IsWithin program.now }
+    requires known { beginnings.now ≡ program.now.typedefs }
+    ensures value { Starts (first_state program.now) result }
+    ensures forgotten { IfOk result (λ s. s.store.written ≡ []) }
+    ensures declared { IfOk result (λ s. IsDeclared program.now (shown s)) }
+    ensures bounded { IfOk result (λ s. IsBounded program.now s.store s.channels.items) }
+{
+    let mut started = Started {
+        store: Store::new(alloc, most_cells(program)),
+        channels: Vec::new(alloc),
+        kinds: Vec::new(alloc),
+    };
+    begin_frame(alloc, beginnings, &mut started, program.globals.as_slice())?;
+    let processes = program.proctypes.as_slice();
+    for kind in 0..processes.len() {
+        let starts = processes[kind].starts;
+        begin_processes(alloc, program, beginnings, kind, starts, &mut started)?;
+    }
+    started.store.forget();
+    Ok(started)
+}
+
 /// The first state of a checked model.
 pub fn start(alloc: Global, program: &Program<'_>) -> Result<Started, Stop>
     requires within { IsWithin program.now }
@@ -70,19 +98,8 @@ pub fn start(alloc: Global, program: &Program<'_>) -> Result<Started, Stop>
     ensures declared { IfOk result (λ s. IsDeclared program.now (shown s)) }
     ensures bounded { IfOk result (λ s. IsBounded program.now s.store s.channels.items) }
 {
-    let typedefs = program.typedefs.as_slice();
-    let beginnings = Beginnings::new(alloc, typedefs).map_err(|_| Stop::Memory)?;
-    let mut started = Started {
-        store: Store::new(alloc, most_cells(program)),
-        channels: Vec::new(alloc),
-        kinds: Vec::new(alloc),
-    };
-    begin_frame(alloc, &beginnings, &mut started, program.globals.as_slice())?;
-    let processes = program.proctypes.as_slice();
-    for kind in 0..processes.len() {
-        let starts = processes[kind].starts;
-        begin_processes(alloc, program, &beginnings, kind, starts, &mut started)?;
+    match Beginnings::new(alloc, program.typedefs.as_slice()) {
+        Ok(beginnings) => start_by(alloc, program, &beginnings),
+        Err(_) => Err(Stop::Memory),
     }
-    started.store.forget();
-    Ok(started)
 }

@@ -1,4 +1,4 @@
-//! A state at whose points nothing has been done yet.
+//! What has been started.
 
 use pml_store::store::Store;
 use pml_value::live_channel::LiveChannel;

@@ -7,12 +7,10 @@ use Rattle.std.proofs.Math.Seq.{take-append_seam}
 use Rattle.diagnostics.specs.declared.fault.Fault.{Fault}
 use Rattle.diagnostics.specs.declared.stop.Stop.{Stop}
 use Rattle.diagnostics.specs.declared.stop.Stop.TheVariants as stop
-use Rattle.pml_program.specs.declared.program.Stmt.{Stmt}
 use Rattle.pml_program.specs.declared.program.Fields.{Fields}
 use Rattle.pml_program.specs.declared.program.Slot.{Slot}
 use Rattle.pml_program.specs.declared.program.Proctype.{Proctype}
 use Rattle.pml_program.specs.declared.program.Program.{Program}
-use Rattle.pml_flow.specs.Flow.{Graph}
 use Rattle.pml_eval.specs.Value.{◌>>=◌}
 use Rattle.pml_store.specs.Store.{Contents, joined as cells}
 use Rattle.pml_value.specs.declared.live_channel.LiveChannel.{LiveChannel}
@@ -24,41 +22,38 @@ use Rattle.pml_start.specs.Start.{IsDeclared, variables_of, variables_at}
 use Rattle.pml_start.proofs.Bounding.{room_for, created_bounded}
 use Rattle.pml_start.proofs.Declaring.{declared_next}
 use Rattle.pml_moves.specs.declared.scene.Seat.{Seat}
-use Rattle.pml_moves.specs.State.{Stand, State, body_of}
-use Rattle.pml_moves.specs.Scene.{stand_of}
+use Rattle.pml_moves.specs.State.{Stand, State, body_of, first_control}
+use Rattle.pml_moves.specs.Scene.{stand_of, begins_by, begins_at}
 use Rattle.pml_moves.proofs.Searching.{within}
-use Rattle.pml_steps.specs.Created.{first_control, there, joined_by, with_new}
+use Rattle.pml_steps.specs.Created.{there, joined_by, with_new}
 use Rattle.pml_steps.specs.Live.{Leads}
-use Rattle.pml_steps.specs.Held.{IsHeld, kinds_of, begins_by, begins_at, live_of}
+use Rattle.pml_steps.specs.Held.{IsHeld, kinds_of, live_of}
 
 -- one process more
-pub held_more : (p : Program) (gs : List Graph) (ss : List (List (Option Stmt))) (ts : List Fields) (old new : Contents) (cs ds : List LiveChannel) (ks ls : List ℕ) (xs ys : List Seat) (kind n : ℕ) (q : Proctype) →
-    IsHeld p gs ss ts old cs ks xs → length ks < 255 → slice_get p.proctypes kind ≡ Some q → shape new.frames ≡ shape old.frames ++ map size q.variables ∷ [] → ls ≡ ks ++ kind ∷ [] →
-    ys ≡ xs ++ record { kind = kind; node = n } ∷ [] → new.most ≡ old.most → AreBounded p ds → IsHeld p gs ss ts new ds ls ys
-held_more p gs ss ts old new cs ds ks ls xs ys kind n q h few e s k y m b =
-    let variables : variables_at p kind ≡ q.variables = ap variables_of e in
-    let more : shape new.frames ≡ shape old.frames ++ map size (variables_at p kind) ∷ [] = s ∙ sym (ap (λ (l : List _). shape old.frames ++ map size l ∷ []) variables) in
+pub held_more : (p : Program) (old new : Contents) (cs ds : List LiveChannel) (ks ls : List ℕ) (xs ys : List Seat) (x : Seat) (q : Proctype) →
+    IsHeld p old cs ks xs → length ks < 255 → slice_get p.proctypes x.kind ≡ Some q → shape new.frames ≡ shape old.frames ++ map size q.variables ∷ [] → ls ≡ ks ++ x.kind ∷ [] →
+    ys ≡ xs ++ x ∷ [] → new.most ≡ old.most → AreBounded p ds → IsHeld p new ds ls ys
+held_more p old new cs ds ks ls xs ys x q h few e s k y m b =
+    let variables : variables_at p x.kind ≡ q.variables = ap variables_of e in
+    let more : shape new.frames ≡ shape old.frames ++ map size (variables_at p x.kind) ∷ [] = s ∙ sym (ap (λ (l : List _). shape old.frames ++ map size l ∷ []) variables) in
     record {
-      declared = declared_next p (held old cs ks) (held new ds ls) kind h.declared few (within p.proctypes kind q e) more k;
-      seated = k ∙ ap (λ (l : List ℕ). l ++ kind ∷ []) h.seated ∙ sym (ap kinds_of y ∙ map_push (λ (x : Seat). x.kind) xs (record { kind = kind; node = n }));
-      graphs = h.graphs;
-      statements = h.statements;
-      typedefs = h.typedefs;
+      declared = declared_next p (held old cs ks) (held new ds ls) x.kind h.declared few (within p.proctypes x.kind q e) more k;
+      seated = k ∙ ap (λ (l : List ℕ). l ++ x.kind ∷ []) h.seated ∙ sym (ap kinds_of y ∙ map_push (λ (x : Seat). x.kind) xs x);
       bounded = record { counted = h.bounded.counted; most = m ∙ h.bounded.most; live = b };
     }
 
 -- there is room for its variables
-pub room_more : (p : Program) (gs : List Graph) (ss : List (List (Option Stmt))) (ts : List Fields) (store : Contents) (cs : List LiveChannel) (ks : List ℕ) (xs : List Seat) (kind : ℕ) (q : Proctype) →
-    IsHeld p gs ss ts store cs ks xs → length ks < 255 → slice_get p.proctypes kind ≡ Some q → length (cells store.frames) + cells_of q.variables ≤ store.most
-room_more p gs ss ts store cs ks xs kind q h few e =
+pub room_more : (p : Program) (store : Contents) (cs : List LiveChannel) (ks : List ℕ) (xs : List Seat) (kind : ℕ) (q : Proctype) →
+    IsHeld p store cs ks xs → length ks < 255 → slice_get p.proctypes kind ≡ Some q → length (cells store.frames) + cells_of q.variables ≤ store.most
+room_more p store cs ks xs kind q h few e =
     subst (λ (l : List Slot). length (cells store.frames) + cells_of l ≤ store.most) (ap variables_of e) (room_for p (held store cs ks) kind store.most h.declared few h.bounded.most)
 
 -- and no channel of it has more room than the model says
-pub bounded_more : (p : Program) (gs : List Graph) (ss : List (List (Option Stmt))) (ts : List Fields) (store new : Contents) (cs ds : List LiveChannel) (ks ls : List ℕ) (xs : List Seat) (kind : ℕ) (q : Proctype) (vs : List ℤ) (r : Result (Unit {0}) Stop) →
-    IsHeld p gs ss ts store cs ks xs → slice_get p.proctypes kind ≡ Some q → Begins (created ts kind q.variables vs (held store cs ks)) r (held new ds ls) → is_err r ≡ false → AreBounded p ds
-bounded_more p gs ss ts store new cs ds ks ls xs kind q vs r h e b ok =
+pub bounded_more : (p : Program) (store new : Contents) (cs ds : List LiveChannel) (ks ls : List ℕ) (xs : List Seat) (kind : ℕ) (q : Proctype) (ts : List Fields) (vs : List ℤ) (r : Result (Unit {0}) Stop) →
+    IsHeld p store cs ks xs → ts ≡ p.typedefs → slice_get p.proctypes kind ≡ Some q → Begins (created ts kind q.variables vs (held store cs ks)) r (held new ds ls) → is_err r ≡ false → AreBounded p ds
+bounded_more p store new cs ds ks ls xs kind q ts vs r h t e b ok =
     let one : Begins (created p.typedefs kind q.variables vs (held store cs ks)) r (held new ds ls) =
-    subst (λ (l : List Fields). Begins (created l kind q.variables vs (held store cs ks)) r (held new ds ls)) h.typedefs b in
+    subst (λ (l : List Fields). Begins (created l kind q.variables vs (held store cs ks)) r (held new ds ls)) t b in
     by r ok (created_bounded p kind kind q vs (held store cs ks) (held new ds ls) r e h.bounded.live one)
   where
     by : (r : Result (Unit {0}) Stop) → is_err r ≡ false → OnOk r (AreBounded p ds) → AreBounded p ds
@@ -72,14 +67,11 @@ popped xs ys zs x n z l y =
     y ∙ ap (λ (i : ℕ). take i zs) m ∙ ap (take (length xs)) z ∙ take-append_seam xs (x ∷ [])
 
 -- where it was not created, no more is kept than before
-pub held_yet : (p : Program) (gs : List Graph) (ss : List (List (Option Stmt))) (ts : List Fields) (old new : Contents) (cs ds : List LiveChannel) (ks ls : List ℕ) (xs ys : List Seat) →
-    IsHeld p gs ss ts old cs ks xs → held new ds ls ≡ held old cs ks → ys ≡ xs → new.most ≡ old.most → IsHeld p gs ss ts new ds ls ys
-held_yet p gs ss ts old new cs ds ks ls xs ys h e y m = record {
+pub held_yet : (p : Program) (old new : Contents) (cs ds : List LiveChannel) (ks ls : List ℕ) (xs ys : List Seat) →
+    IsHeld p old cs ks xs → held new ds ls ≡ held old cs ks → ys ≡ xs → new.most ≡ old.most → IsHeld p new ds ls ys
+held_yet p old new cs ds ks ls xs ys h e y m = record {
   declared = subst (IsDeclared p) (sym e) h.declared;
   seated = ap (λ (b : Begun). b.kinds) e ∙ h.seated ∙ sym (ap kinds_of y);
-  graphs = h.graphs;
-  statements = h.statements;
-  typedefs = h.typedefs;
   bounded = record { counted = h.bounded.counted; most = m ∙ h.bounded.most; live = subst (AreBounded p) (sym (ap (λ (b : Begun). b.channels) e)) h.bounded.live };
 }
 
@@ -87,22 +79,25 @@ pub kinds_are : (p : Program) (xs : List Seat) → map (λ (y : Stand). y.kind) 
 kinds_are p [] = refl
 kinds_are p (x ∷ xs) = ap (λ (l : List ℕ). x.kind ∷ l) (kinds_are p xs)
 
-module _ (p : Program) (store new : Contents) (cs ds : List LiveChannel) (ks ls : List ℕ) (xs ys : List Seat) (holder : Option ℕ) (lossy : Bool) (kind n : ℕ) (q : Proctype) where
+module _ (p : Program) (store new : Contents) (cs ds : List LiveChannel) (ks ls : List ℕ) (xs ys : List Seat) (holder : Option ℕ) (lossy : Bool) (x : Seat) (q : Proctype) where
   abbrev was : State
   was = (live_of p store cs xs holder lossy).state
 
   abbrev is_now : State
   is_now = (live_of p new ds ys holder lossy).state
 
-  joined : (b : Begun) → held new ds ls ≡ b → stand_of p (record { kind = kind; node = n }) ≡ record { kind = kind; control = first_control q.body } → ys ≡ xs ++ record { kind = kind; node = n } ∷ [] →
-      is_now ≡ record was { frames = b.frames; channels = b.channels; stands = was.stands ++ record { kind = kind; control = first_control q.body } ∷ [] }
+  abbrev first_stand : Stand
+  first_stand = record { kind = x.kind; control = first_control q.body }
+
+  joined : (b : Begun) → held new ds ls ≡ b → stand_of p x ≡ first_stand → ys ≡ xs ++ x ∷ [] →
+      is_now ≡ record was { frames = b.frames; channels = b.channels; stands = was.stands ++ first_stand ∷ [] }
   joined b h s y =
       ap (λ (zs : List Seat). (live_of p new ds zs holder lossy).state) y
-      ∙ ap (λ (zs : List Stand). record was { frames = new.frames; channels = ds; stands = zs }) (map_push (stand_of p) xs (record { kind = kind; node = n }) ∙ ap (λ (z : Stand). was.stands ++ z ∷ []) s)
-      ∙ ap (λ (c : Begun). record was { frames = c.frames; channels = c.channels; stands = was.stands ++ record { kind = kind; control = first_control q.body } ∷ [] }) h
+      ∙ ap (λ (zs : List Stand). record was { frames = new.frames; channels = ds; stands = zs }) (map_push (stand_of p) xs x ∙ ap (λ (z : Stand). was.stands ++ z ∷ []) s)
+      ∙ ap (λ (c : Begun). record was { frames = c.frames; channels = c.channels; stands = was.stands ++ first_stand ∷ [] }) h
 
-  by_begun : (x : Result Begun Fault) (r : Result (Unit {0}) Stop) → Begins x r (held new ds ls) → stand_of p (record { kind = kind; node = n }) ≡ record { kind = kind; control = first_control q.body } →
-      OnOk r (ys ≡ xs ++ record { kind = kind; node = n } ∷ []) → Leads (x >>= joined_by was kind q.body) r is_now
+  by_begun : (b : Result Begun Fault) (r : Result (Unit {0}) Stop) → Begins b r (held new ds ls) → stand_of p x ≡ first_stand →
+      OnOk r (ys ≡ xs ++ x ∷ []) → Leads (b >>= joined_by was x.kind q.body) r is_now
   by_begun (Ok b) (Ok u) h s y = joined b h s y
   by_begun (Ok b) (Err stop.Memory) h s y = tt
   by_begun (Ok b) (Err (stop.Fault f)) h s y = absurd h
@@ -111,14 +106,23 @@ module _ (p : Program) (store new : Contents) (cs ds : List LiveChannel) (ks ls 
   by_begun (Err f) (Ok u) h s y = absurd h
 
   -- what lives afterwards is what the definition says
-  pub created_leads : (ts : List Fields) (vs : List ℤ) (r : Result (Unit {0}) Stop) → ts ≡ p.typedefs → ks ≡ kinds_of xs → slice_get p.proctypes kind ≡ Some q →
-      stand_of p (record { kind = kind; node = n }) ≡ begins_at p kind → Begins (created ts kind q.variables vs (held store cs ks)) r (held new ds ls) → OnOk r (ys ≡ xs ++ record { kind = kind; node = n } ∷ []) →
-      Leads (with_new was kind (slice_get was.program.proctypes kind) vs) r is_now
+  pub created_leads : (ts : List Fields) (vs : List ℤ) (r : Result (Unit {0}) Stop) → ts ≡ p.typedefs → ks ≡ kinds_of xs → slice_get p.proctypes x.kind ≡ Some q →
+      stand_of p x ≡ begins_at p x.kind → Begins (created ts x.kind q.variables vs (held store cs ks)) r (held new ds ls) → OnOk r (ys ≡ xs ++ x ∷ []) →
+      Leads (with_new was x.kind (slice_get was.program.proctypes x.kind) vs) r is_now
   created_leads ts vs r t k e s h y =
-      let body : body_of p kind ≡ Some q.body = ap (option_map (λ (q : Proctype). q.body)) e in
+      let body : body_of p x.kind ≡ Some q.body = ap (option_map (λ (q : Proctype). q.body)) e in
       let same : held store cs ks ≡ there was = ap (λ (l : List ℕ). held store cs l) (k ∙ sym (kinds_are p xs)) in
-      let one : Begins (created p.typedefs kind q.variables vs (there was)) r (held new ds ls) =
-      subst (λ (b : Begun). Begins (created p.typedefs kind q.variables vs b) r (held new ds ls)) same
-      (subst (λ (l : List Fields). Begins (created l kind q.variables vs (held store cs ks)) r (held new ds ls)) t h) in
-      subst (λ (o : Option Proctype). Leads (with_new was kind o vs) r is_now) (sym e)
-      (by_begun (created p.typedefs kind q.variables vs (there was)) r one (s ∙ ap (begins_by kind) body) y)
+      let one : Begins (created p.typedefs x.kind q.variables vs (there was)) r (held new ds ls) =
+      subst (λ (b : Begun). Begins (created p.typedefs x.kind q.variables vs b) r (held new ds ls)) same
+      (subst (λ (l : List Fields). Begins (created l x.kind q.variables vs (held store cs ks)) r (held new ds ls)) t h) in
+      subst (λ (o : Option Proctype). Leads (with_new was x.kind o vs) r is_now) (sym e)
+      (by_begun (created p.typedefs x.kind q.variables vs (there was)) r one (s ∙ ap (begins_by x.kind) body) y)
+
+  -- the same by the number of the proctype that was asked for
+  pub created_at : (kind : ℕ) → x.kind ≡ kind → (ts : List Fields) (vs : List ℤ) (r : Result (Unit {0}) Stop) → ts ≡ p.typedefs → ks ≡ kinds_of xs → slice_get p.proctypes kind ≡ Some q →
+      stand_of p x ≡ begins_at p kind → Begins (created ts kind q.variables vs (held store cs ks)) r (held new ds ls) → OnOk r (ys ≡ xs ++ x ∷ []) →
+      Leads (with_new was kind (slice_get was.program.proctypes kind) vs) r is_now
+  created_at kind e ts vs r t k f s h y =
+      subst (λ (n : ℕ). Leads (with_new was n (slice_get was.program.proctypes n) vs) r is_now) e
+      (created_leads ts vs r t k (ap (slice_get p.proctypes) e ∙ f) (s ∙ ap (begins_at p) (sym e))
+      (subst (λ (n : ℕ). Begins (created ts n q.variables vs (held store cs ks)) r (held new ds ls)) (sym e) h) y)

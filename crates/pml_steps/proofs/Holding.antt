@@ -1,15 +1,12 @@
 -- What is always so stays so, and what a call does to the parts it does to the state.
-use Rattle.std.proofs.Common.{◌≡◌, ℕ, zero, suc, ◌*◌, ◌≤◌, nat_lt, if◌then◌else◌, true, false, OnOk, OnErr, arith, Bool, ℤ, take, drop, List, [], ◌∷◌, ◌++◌, map, length, refl, sym, ap, ◌∙◌, subst, Option, Some, None, Result, Ok, Err}
+use Rattle.std.proofs.Common.{◌≡◌, ℕ, zero, suc, ◌*◌, ◌<◌, ◌≤◌, nat_lt, if◌then◌else◌, true, false, OnOk, OnErr, arith, Bool, ℤ, take, drop, List, [], ◌∷◌, ◌++◌, map, length, refl, sym, ap, ◌∙◌, subst, Option, Some, None, Result, Ok, Err}
 use Rattle.std.specs.List.{AllByRecursion}
 use Rattle.std.proofs.lemmas.List.{append-nil, length-map}
 use Rattle.std.proofs.Math.Seq.{take-append_seam}
 use Rattle.diagnostics.specs.declared.fault.Fault.{Fault}
 use Rattle.diagnostics.specs.declared.stop.Stop.{Stop}
 use Rattle.diagnostics.specs.declared.stop.Stop.TheVariants as stop
-use Rattle.pml_program.specs.declared.program.Stmt.{Stmt}
-use Rattle.pml_program.specs.declared.program.Fields.{Fields}
 use Rattle.pml_program.specs.declared.program.Program.{Program}
-use Rattle.pml_flow.specs.Flow.{Graph}
 use Rattle.pml_eval.specs.declared.pattern.Sought.{Sought}
 use Rattle.pml_eval.specs.Value.{Reading, ◌>>=◌}
 use Rattle.pml_channel.specs.State.{ChannelState, cut}
@@ -22,7 +19,7 @@ use Rattle.pml_program.specs.declared.expr.Target.{Target}
 use Rattle.pml_program.specs.declared.expr.Want.{Want}
 use Rattle.pml_value.specs.Reads.{reading_of}
 use Rattle.pml_store.specs.declared.place.Place.{Place}
-use Rattle.pml_store.specs.Store.{Contents, Frame, stored}
+use Rattle.pml_store.specs.Store.{Contents, Frame, size_at, stored}
 use Rattle.pml_value.specs.declared.statement.Goes.{Goes}
 use Rattle.pml_value.specs.declared.live_channel.LiveChannel.{LiveChannel}
 use Rattle.pml_value.specs.Statement.{TakesStatement}
@@ -35,6 +32,7 @@ use Rattle.pml_moves.specs.State.{State, reads}
 use Rattle.pml_steps.specs.Change.{put, put_all, put_by, put_any, with_sent, with_received}
 use Rattle.pml_steps.specs.Outcome.{quiet}
 use Rattle.pml_steps.specs.Live.{Leads, Does, StoresAll}
+use Rattle.pml_steps.specs.Passing.{AreIn, Refuses}
 use Rattle.pml_steps.specs.Held.{IsHeld, live_of}
 
 -- the variables have as many cells, and there may be as many
@@ -43,14 +41,11 @@ pub record Stays (old new : Contents) : Type 0 where
   pub most : new.most ≡ old.most
 
 -- other numbers in the same variables
-pub held_still : (p : Program) (gs : List Graph) (ss : List (List (Option Stmt))) (ts : List Fields) (old new : Contents) (cs ds : List LiveChannel) (ks : List ℕ) (xs : List Seat) →
-    IsHeld p gs ss ts old cs ks xs → Stays old new → AreBounded p ds → IsHeld p gs ss ts new ds ks xs
-held_still p gs ss ts old new cs ds ks xs h e b = record {
+pub held_still : (p : Program) (old new : Contents) (cs ds : List LiveChannel) (ks : List ℕ) (xs : List Seat) →
+    IsHeld p old cs ks xs → Stays old new → AreBounded p ds → IsHeld p new ds ks xs
+held_still p old new cs ds ks xs h e b = record {
   declared = record { few = h.declared.few; kinds = h.declared.kinds; sizes = e.shape ∙ h.declared.sizes };
   seated = h.seated;
-  graphs = h.graphs;
-  statements = h.statements;
-  typedefs = h.typedefs;
   bounded = record { counted = h.bounded.counted; most = e.most ∙ h.bounded.most; live = b };
 }
 
@@ -101,6 +96,10 @@ all_stored_stays (Err f) (Err (stop.Fault g)) old new h = same_stays old new h.1
 all_stored_stays (Err f) (Err stop.Memory) old new h = absurd h
 all_stored_stays (Err f) (Ok u) old new h = absurd h
 
+-- what lies in variables lies in those that are as large
+pub in_same : (fs hs : List Frame) (gs : List Goes) → size_at fs ≡ size_at hs → AreIn fs gs → AreIn hs gs
+in_same fs hs gs e h = subst (λ (f : ℕ → ℕ → ℕ). AllByRecursion (λ (g : Goes). g.place.cell < f g.place.frame g.place.variable) gs) e h
+
 -- ---- the state
 
 all_put : (p : Program) (c : Contents) (cs ds : List LiveChannel) (xs : List Seat) (holder : Option ℕ) (lossy : Bool) (gs : List Goes) →
@@ -148,6 +147,12 @@ module _ (p : Program) (cs ds : List LiveChannel) (xs : List Seat) (holder : Opt
   all_lead (Err f) (Err (stop.Fault g)) h = h.0
   all_lead (Err f) (Err stop.Memory) h = absurd h
   all_lead (Err f) (Ok u) h = absurd h
+
+pub refused_leads : (s : State) (d : Result (List Goes) Fault) (x : Stop) (new : State) → Refuses d x → Leads (put_any s d) (Err x) new
+refused_leads s (Ok gs) (stop.Fault f) new h = absurd cc
+refused_leads s (Ok gs) stop.Memory new h = tt
+refused_leads s (Err f) (stop.Fault g) new h = cc
+refused_leads s (Err f) stop.Memory new h = tt
 
 pub sent_leads : (s : State) (d : Result (List LiveChannel) Fault) (r : Result (Unit {0}) Stop) (ds : List LiveChannel) → SendsMessage d r s.channels ds → Leads (with_sent s d) r (record s { channels = ds })
 sent_leads s (Ok cs) (Ok u) ds h = ap (λ (es : List LiveChannel). record s { channels = es }) h

@@ -5,16 +5,11 @@ use Rattle.diagnostics.specs.declared.fault.Fault.{Fault}
 use Rattle.pml_program.specs.declared.program.Seq.{Seq}
 use Rattle.pml_program.specs.declared.program.Proctype.{Proctype}
 use Rattle.pml_program.specs.declared.program.Run.{Run}
-use Rattle.pml_control.specs.Control.{Control, settle, at, steps}
 use Rattle.pml_eval.specs.Value.{Reading, ◌>>=◌}
 use Rattle.pml_value.specs.Messages.{values}
 use Rattle.pml_start.specs.Begin.{Begun}
 use Rattle.pml_start.specs.Created.{created}
-use Rattle.pml_moves.specs.State.{Stand, State}
-
--- what a process of this body has to do
-abbrev pub first_control : Seq → Control
-first_control b = settle b (at (steps b) ([], 0))
+use Rattle.pml_moves.specs.State.{Stand, State, first_control}
 
 abbrev pub kinds : State → List ℕ
 kinds s = map (λ (y : Stand). y.kind) s.stands

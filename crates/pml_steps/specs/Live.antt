@@ -1,5 +1,5 @@
 -- A state and the log of its step, and what calls make of them.
-use Rattle.std.specs.Prelude.{◌≡◌, ℕ, List, ◌++◌, ℤ, Result, Ok, Err}
+use Rattle.std.specs.Prelude.{◌≡◌, ℕ, Bool, List, ◌++◌, ℤ, if◌then◌else◌, Option, Some, None, Result, Ok, Err}
 use Rattle.diagnostics.specs.declared.fault.Fault.{Fault}
 use Rattle.diagnostics.specs.declared.stop.Stop.{Stop}
 use Rattle.diagnostics.specs.declared.stop.Stop.TheVariants as stop
@@ -7,7 +7,12 @@ use Rattle.pml_store.specs.Store.{Frame, Contents, undone}
 use Rattle.pml_value.specs.declared.statement.Goes.{Goes}
 use Rattle.pml_value.specs.Messages.{StoresSome, stored_all}
 use Rattle.pml_moves.specs.State.{Stand, State}
-use Rattle.pml_steps.specs.Outcome.{Done}
+use Rattle.pml_flow.specs.declared.edge.Edge.{Edge}
+use Rattle.pml_value.specs.declared.live_channel.LiveChannel.{LiveChannel}
+use Rattle.pml_value.specs.declared.message.Taker.{Taker}
+use Rattle.pml_value.specs.Reads.{reading_of}
+use Rattle.pml_steps.specs.Change.{go_to}
+use Rattle.pml_steps.specs.Outcome.{Done, control_of}
 
 -- a state, and what was written since its step began
 pub record Live : Type 0 where
@@ -33,6 +38,18 @@ pub record Joins (old new : State) : Type 0 where
 -- the log leads back to what it led back to, and to what is new
 abbrev pub PastGrows : Live → Live → Type 0
 PastGrows old new = (rest : List Frame) × (past new ≡ past old ++ rest)
+
+-- a process stands at a node of its graph
+abbrev pub at_node : Live → ℕ → ℕ → Live
+at_node l p n = record l { state = go_to l.state p (control_of l.state p n) }
+
+-- and where an edge leads, and holds exclusive control where the edge stays in one atomic; else nobody does
+abbrev pub along : Live → ℕ → Edge → Live
+along l p e = record l { state = record (go_to l.state p (control_of l.state p e.target)) { holder = if e.keeps then Some p else None } }
+
+-- it reads what the process with this number reads, where so many live
+abbrev pub ReadsAs : Taker → ℕ → ℕ → Bool → Type 0
+ReadsAs k p n t = (fs : List Frame) (cs : List LiveChannel) → reading_of fs cs k.pid k.process_count k.timeout ≡ reading_of fs cs p n t
 
 -- it leads to this state; or its fault is answered, or memory is refused
 abbrev pub Leads : Result State Fault → Result (Unit {0}) Stop → State → Type 0

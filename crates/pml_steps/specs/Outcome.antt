@@ -2,6 +2,11 @@
 use Rattle.std.specs.Prelude.{ℕ, zero, suc, Bool, true, false, length, List, [], ◌∷◌, ◌++◌, ℤ, Option, Some, None, Result, Ok, Err, slice_get}
 use Rattle.diagnostics.specs.declared.fault.Fault.{Fault}
 use Rattle.diagnostics.specs.declared.fault.Fault.TheVariants.{DStepBlocks, DStepTooLong}
+use Rattle.pml_tree.specs.declared.tree.SendOrder.{SendOrder}
+use Rattle.pml_tree.specs.declared.tree.Search.{Search}
+use Rattle.pml_tree.specs.declared.tree.Removal.{Removal}
+use Rattle.pml_program.specs.declared.expr.Expr.{Expr}
+use Rattle.pml_program.specs.declared.expr.Want.{Want}
 use Rattle.pml_program.specs.declared.expr.Target.{Target}
 use Rattle.pml_program.specs.declared.program.Run.{Run}
 use Rattle.pml_program.specs.declared.program.Action.{Action}
@@ -22,7 +27,8 @@ use Rattle.pml_moves.specs.declared.moves.Move.TheVariants.{Death, Alone, Pair}
 use Rattle.pml_moves.specs.State.{Stand, State, reads, body_of, levels}
 use Rattle.pml_moves.specs.Search.{Message, message, choices}
 use Rattle.pml_moves.specs.Picked.{picked}
-use Rattle.pml_steps.specs.Change.{put_by, put_all, with_sent, with_received, go_to, went, without_youngest}
+use Rattle.pml_moves.specs.Scene.{control_at}
+use Rattle.pml_steps.specs.Change.{put_by, put_any, put_all, with_sent, with_received, go_to, went, without_youngest}
 use Rattle.pml_steps.specs.Created.{ran, run_number}
 
 -- a state, and the bytes that were printed on the way
@@ -52,11 +58,18 @@ prints_name s r = r >>= λ v. prints s (named s.program.constants v)
 abbrev pub run_into : State → ℕ → Bool → Option Target → Run → Result State Fault
 run_into s p t x q = ran s (reads s p t) q >>= λ now. put_by now (goes_to x (run_number s) (reads now p t))
 
+-- a message that it sends or receives by itself
+abbrev pub sends : State → ℕ → Bool → Target → SendOrder → List Expr → Result State Fault
+sends s p t q order es = with_sent s (sent s.channels (reads s p t) q order es)
+
+abbrev pub receives : State → ℕ → Bool → Target → Search → Removal → List Want → Result State Fault
+receives s p t q search how ws = with_received s (received s.channels (reads s p t) q search how ws)
+
 abbrev pub does : State → ℕ → Bool → Action → Result Done Fault
 does s p t (a.Run q) = ran s (reads s p t) q >>= quiet
 does s p t (a.AssignRun x q) = run_into s p t x q >>= quiet
-does s p t (a.Send q order es) = with_sent s (sent s.channels (reads s p t) q order es) >>= quiet
-does s p t (a.Receive q search how ws) = with_received s (received s.channels (reads s p t) q search how ws) >>= quiet
+does s p t (a.Send q order es) = sends s p t q order es >>= quiet
+does s p t (a.Receive q search how ws) = receives s p t q search how ws >>= quiet
 does s p t (a.Printf text es) = prints_string s text.text (values es (reads s p t))
 does s p t (a.Printm e) = prints_name s (val e (reads s p t))
 does s p t (a.Assert e) = asserted e (reads s p t) >>= λ u. quiet s
@@ -118,6 +131,10 @@ abbrev pub body_by : State → Option Stand → Option Seq
 body_by s None = None
 body_by s (Some y) = body_of s.program y.kind
 
+-- what is to do at a node of the body in which a process stands
+abbrev pub control_of : State → ℕ → ℕ → Control
+control_of s p n = control_at (body_by s (slice_get s.stands p)) n
+
 -- and then its process goes on
 abbrev pub moved : ℕ → Offer → Done → Result Done Fault
 moved p o d = Ok (record d { state = went d.state p o })
@@ -130,6 +147,10 @@ alone most s k t (Some o) = taken most s k.process t (body_by s (slice_get s.sta
 abbrev pub passed : Reading → Option Message → Option Basic → Result (List Goes) Fault
 passed r (Some m) (Some (Plain (a.Receive q search how ws))) = asked_by ws r >>= λ ss. Ok (stores ss m.fields)
 passed r m x = Ok []
+
+-- it stores that
+abbrev pub passes : State → ℕ → ℕ → Bool → Option Basic → Option Basic → Result State Fault
+passes s i j t x y = put_any s (passed (reads s j t) (message s.channels (reads s i t) x) y)
 
 -- it stores, and both go on; the receiver may hold
 abbrev pub both_on : State → ℕ → ℕ → Offer → Offer → List Goes → Result Done Fault

@@ -91,7 +91,8 @@ fn print(
     text: &mut Vec<u8>,
 ) -> Result<(), Stop>
     requires { process < length live.now.state.stands }
-    ensures value { Does (prints_string live.now.state string.now.text (values arguments.now (reads live.now.state process timeout))) result live.now.state text.old.items text.new.items }
+    ensures value { let s = live.now.state in
+        Does (prints_string s string.now.text (values arguments.now (reads s process timeout))) result s text.old.items text.new.items }
     ensures kept { OnErr result (StartsWith text.new.items text.old.items) }
 {
     let alloc = *text.allocator();
@@ -109,7 +110,8 @@ fn print_name(
     text: &mut Vec<u8>,
 ) -> Result<(), Stop>
     requires { process < length live.now.state.stands }
-    ensures value { Does (prints_name live.now.state (val value.now (reads live.now.state process timeout))) result live.now.state text.old.items text.new.items }
+    ensures value { let s = live.now.state in
+        Does (prints_name s (val value.now (reads s process timeout))) result s text.old.items text.new.items }
     ensures kept { OnErr result (StartsWith text.new.items text.old.items) }
 {
     let number = eval(value, &live.view(process, timeout)).map_err(Stop::Fault)?;

@@ -1,37 +1,33 @@
 //! What lives in a run.
 
-ghost use Rattle.std.specs.Prelude.{◌≡◌, ◌+◌, ◌<◌, ◌≤◌, List, [], Some, None, Ok, IfOk, IfSome, OnOk, if◌then◌else◌, nat_eq, not, length, map, slice_get};
+ghost use Rattle.std.specs.Prelude.{◌≡◌, ◌+◌, ◌<◌, ◌≤◌, [], Ok, IfOk, IfSome, OnOk, nat_eq, not, length, map, slice_get};
 ghost use Rattle.std.specs.List.{filter};
 ghost use Rattle.pml_value.specs.declared.live_channel.LiveChannel.{LiveChannel};
 ghost use Rattle.std.specs.Option.{option_copied};
 ghost use Rattle.profile.specs.declared.TheConstants.{MOST_CHANNELS, MOST_PROCESSES};
-ghost use Rattle.pml_flow.specs.Flow.{AreGraphs};
 ghost use Rattle.pml_start.specs.Begin.{shown};
 ghost use Rattle.pml_start.specs.Bound.{bound, most_cells, IsBounded};
 ghost use Rattle.pml_start.specs.Start.{IsDeclared};
-ghost use Rattle.pml_moves.specs.Scene.{control_at, stand_of, state_of, statements_of, Fits};
-ghost use Rattle.pml_store.specs.Store.{Frame, size_at};
-ghost use Rattle.pml_value.specs.Messages.{sent, received};
-ghost use Rattle.pml_value.specs.Reads.{reading_of, seen};
+ghost use Rattle.pml_moves.specs.Scene.{begins_at, stand_of};
+ghost use Rattle.pml_store.specs.Store.{size_at};
+ghost use Rattle.pml_value.specs.Reads.{seen};
 ghost use Rattle.pml_value.specs.Statement.{outcome};
-ghost use Rattle.pml_moves.specs.Search.{message};
 ghost use Rattle.pml_moves.specs.State.{reads};
-ghost use Rattle.pml_steps.specs.Change.{put_if, put_by, put_any, with_sent, with_received, go_to, without_youngest};
+ghost use Rattle.pml_steps.specs.Change.{put_if, put_by, without_youngest};
 ghost use Rattle.pml_steps.specs.Created.{kinds, there, with_new};
 ghost use Rattle.pml_steps.specs.Footprint.{all_room, held, message_numbers};
-ghost use Rattle.pml_steps.specs.Held.{kinds_of, begins_at, first_state};
-ghost use Rattle.pml_steps.specs.Live.{Leads, Keeps, Joins, PastGrows};
-ghost use Rattle.pml_steps.specs.Outcome.{body_by, passed};
+ghost use Rattle.pml_steps.specs.Held.{kinds_of, first_state};
+ghost use Rattle.pml_steps.specs.Live.{Leads, Keeps, Joins, PastGrows, ReadsAs, along, at_node};
+ghost use Rattle.pml_steps.specs.Outcome.{sends, receives, passes};
 
-use crate::pair::pass;
+use crate::pair::{numbers_passed, store_passed};
 use diagnostics::Stop;
 use pml_flow::edge::Edge;
-use pml_flow::graph::Graph;
-use pml_flow::statements::{Statements, all_statements};
-use pml_moves::scene::{Scene, Seat, view};
+use pml_moves::played::Played;
+use pml_moves::scene::{Scene, Seat};
+use pml_moves::state::State;
 use pml_program::expr::{Expr, Target, Want};
-use pml_program::program::{Action, Basic, Proctype, Program};
-use pml_start::Beginnings;
+use pml_program::program::{Action, Basic, Program};
 use pml_start::create::create;
 use pml_start::started::Started;
 use pml_store::store::Store;
@@ -43,20 +39,11 @@ use pml_value::view::View;
 use std::alloc::{AllocError, Global};
 use std::marker::Model;
 
-/// A model that is played, with its graphs and tables; and what lives: variables, channels, processes, and which of them holds
-/// exclusive control.
+/// A model that is played, and a state of it: what lives. Contracts see the state, and what was written since its step began.
 #[derive(Drop)]
 pub struct Live<'p, 'a> {
-    program: &'p Program<'a>,
-    graphs: &'p [Graph],
-    statements: Vec<Statements<'p, 'a>>,
-    beginnings: Beginnings<'p, 'a>,
-    store: Store,
-    channels: Vec<LiveChannel>,
-    kinds: Vec<usize>,
-    seats: Vec<Seat>,
-    holder: Option<usize>,
-    lossy: bool,
+    played: Played<'p, 'a>,
+    state: State,
 }
 
 impl<'p, 'a> Model for Live<'p, 'a> {
@@ -74,62 +61,23 @@ impl<'p, 'a> Model for Live<'p, 'a> {
 
     ghost coded = { Prim.hlevel (codes, worth.the_row.coded, (seq.the_row (record { mir = named 0; lft = [] })).coded, (basic.the_row (record { mir = named 0; lft = [] })).coded) };
 
-    ghost view = { λ l. live_of l.program.now l.store l.channels.items l.seats.items l.holder l.lossy };
+    ghost view = { λ l. live_of l.played l.state.started.store l.state.started.channels.items l.state.seats.items l.state.holder l.state.lossy };
 
-    ghost invariant = { λ l. IsHeld l.program.now l.graphs.now l.statements.items l.beginnings l.store l.channels.items l.kinds.items l.seats.items };
-}
-
-/// The statements of each proctype.
-fn statements_of_all<'p, 'a>(
-    alloc: Global,
-    proctypes: &'p [Proctype<'a>],
-) -> Result<Vec<Statements<'p, 'a>>, AllocError>
-    ensures { IfOk result (λ v. v.items ≡ map (λ q. statements_of q.body) proctypes.now) }
-{
-    let mut all = Vec::with_capacity(alloc, proctypes.len())?;
-    for proctype in proctypes {
-        all.push(all_statements(alloc, &proctype.body)?)?;
-    }
-    Ok(all)
-}
-
-fn proctype_at<'p, 'a>(program: &'p Program<'a>, kind: usize) -> Option<&'p Proctype<'a>>
-    ensures { option_copied result ≡ slice_get program.now.proctypes kind }
-{
-    program.proctypes.as_slice().get(kind)
-}
-
-fn graph_at(graphs: &[Graph], kind: usize) -> Option<&Graph>
-    ensures { option_copied result ≡ slice_get graphs.now kind }
-{
-    graphs.get(kind)
-}
-
-/// The first node of a proctype, by its number.
-fn start_of(graphs: &[Graph], kind: usize) -> usize
-    ensures { IfSome (slice_get graphs.now kind) (λ g. result ≡ g.start) }
-{
-    match graph_at(graphs, kind) {
-        Some(graph) => graph.start(),
-        None => 0,
-    }
+    ghost invariant = { λ l. IsHeld l.played l.state.started.store l.state.started.channels.items l.state.started.kinds.items l.state.seats.items };
 }
 
 /// Processes before their first statements.
 fn seats_of(
     alloc: Global,
-    program: &Program<'_>,
-    graphs: &[Graph],
+    played: &Played<'_, '_>,
     kinds: &[usize],
 ) -> Result<Vec<Seat>, AllocError>
-    requires graphs { AreGraphs program.now.proctypes graphs.now }
-    ensures stands { IfOk result (λ v. map (stand_of program.now) v.items ≡ map (begins_at program.now) kinds.now) }
+    ensures stands { IfOk result (λ v. map (stand_of played.now) v.items ≡ map (begins_at played.now) kinds.now) }
     ensures kinds { IfOk result (λ v. kinds.now ≡ kinds_of v.items) }
 {
     let mut seats = Vec::with_capacity(alloc, kinds.len())?;
     for kind in kinds {
-        let node = start_of(graphs, *kind);
-        seats.push(Seat { kind: *kind, node })?;
+        seats.push(played.begins(*kind))?;
     }
     Ok(seats)
 }
@@ -158,85 +106,61 @@ impl<'p, 'a> Live<'p, 'a> {
     /// The first state.
     pub fn first(
         alloc: Global,
-        program: &'p Program<'a>,
-        graphs: &'p [Graph],
+        played: Played<'p, 'a>,
         started: Started,
         lossy: bool,
     ) -> Result<Live<'p, 'a>, AllocError>
-        requires declared { IsDeclared program.now (shown started) }
-        requires graphs { AreGraphs program.now.proctypes graphs.now }
+        requires declared { IsDeclared played (shown started) }
         requires fresh { started.store.written ≡ [] }
-        requires bounded { IsBounded program.now started.store started.channels.items }
-        ensures { IfOk result (λ l. l ≡ record { state = first_state program.now (shown started) lossy; written = [] }) }
+        requires bounded { IsBounded played started.store started.channels.items }
+        ensures { IfOk result (λ l. l ≡ record { state = first_state played.entry (shown started) lossy; written = [] }) }
     {
-        let Started {
-            store,
-            channels,
-            kinds,
-        } = started;
-        let seats = seats_of(alloc, program, graphs, kinds.as_slice())?;
-        let statements = statements_of_all(alloc, program.proctypes.as_slice())?;
-        let beginnings = Beginnings::new(alloc, program.typedefs.as_slice())?;
-        Ok(Live {
-            program,
-            graphs,
-            statements,
-            beginnings,
-            store,
-            channels,
-            kinds,
+        let seats = seats_of(alloc, &played, started.kinds.as_slice())?;
+        let state = State {
+            started,
             seats,
             holder: None,
             lossy,
-        })
+        };
+        Ok(Live { played, state })
     }
 
     /// Whether what is sent to a full channel is lost.
     pub fn is_lossy(&self) -> bool
         ensures { result ≡ self.now.state.lossy }
     {
-        self.lossy
+        self.state.lossy
     }
 
     /// The state, as a search looks at it.
     pub fn scene(&self) -> Scene<'_, 'p, 'a>
-        ensures state { state_of result ≡ self.now.state }
-        ensures fits { Fits result }
+        ensures { result ≡ self.now.state }
     {
-        Scene {
-            program: self.program,
-            graphs: self.graphs,
-            statements: self.statements.as_slice(),
-            store: &self.store,
-            seats: self.seats.as_slice(),
-            channels: self.channels.as_slice(),
-            holder: self.holder,
-            lossy: self.lossy,
-        }
+        Scene::new(&self.played, &self.state)
     }
 
     /// Forgets what was written.
     pub fn forget(&mut self)
         ensures { self.new ≡ record self.old { written = [] } }
     {
-        self.store.forget();
+        self.state.started.store.forget();
     }
 
     /// A process goes on to a node of its graph.
     pub fn go_to(&mut self, process: usize, node: usize)
-        ensures { self.new ≡ record self.old { state = go_to self.old.state process (control_at (body_by self.old.state (slice_get self.old.state.stands process)) node) } }
+        ensures { self.new ≡ at_node self.old process node }
     {
-        if process < self.seats.len() {
-            self.seats[process].node = node;
+        if process < self.state.seats.len() {
+            self.state.seats[process].node = node;
         }
     }
 
     /// A process goes where an edge leads, and holds exclusive control where the edge stays in one atomic; else nobody does.
     pub fn follow(&mut self, process: usize, edge: Edge)
-        ensures { self.new ≡ record self.old { state = record (go_to self.old.state process (control_at (body_by self.old.state (slice_get self.old.state.stands process)) edge.target)) { holder = if edge.keeps then Some process else None } } }
+        ensures { self.new ≡ along self.old process edge }
     {
         self.go_to(process, edge.target);
-        self.holder = if edge.keeps { Some(process) } else { None };
+        self.state.holder = if edge.keeps { Some(process) } else { None };
     }
 
     /// The youngest process dies.
@@ -244,12 +168,12 @@ impl<'p, 'a> Live<'p, 'a> {
         requires { 0 < length self.old.state.stands }
         ensures { self.new ≡ record self.old { state = without_youngest self.old.state } }
     {
-        let youngest = self.seats.len() - 1;
-        keep_others(&mut self.channels, youngest + 1);
-        self.store.pop_frame();
-        self.kinds.truncate(youngest);
-        self.seats.truncate(youngest);
-        self.holder = None;
+        let youngest = self.state.seats.len() - 1;
+        keep_others(&mut self.state.started.channels, youngest + 1);
+        self.state.started.store.pop_frame();
+        self.state.started.kinds.truncate(youngest);
+        self.state.seats.truncate(youngest);
+        self.state.holder = None;
     }
 }
 
@@ -258,14 +182,14 @@ impl<'p, 'a> Live<'p, 'a> {
     pub fn program(&self) -> &'p Program<'a>
         ensures { result.now ≡ self.now.state.program }
     {
-        self.program
+        self.played.program()
     }
 
     /// What the variables hold, and the log of what was written.
     pub fn variables(&self) -> &Store
         ensures { result.now ≡ record { frames = self.now.state.frames; written = self.now.written; most = most_cells self.now.state.program } }
     {
-        &self.store
+        &self.state.started.store
     }
 
     /// The proctypes of the processes, by their numbers.
@@ -273,7 +197,7 @@ impl<'p, 'a> Live<'p, 'a> {
         ensures value { result.now ≡ kinds self.now.state }
         ensures declared { IsDeclared self.now.state.program (there self.now.state) }
     {
-        self.kinds.as_slice()
+        self.state.started.kinds.as_slice()
     }
 
     /// How many processes live.
@@ -282,7 +206,7 @@ impl<'p, 'a> Live<'p, 'a> {
         ensures few { result ≤ MOST_PROCESSES }
         ensures frames { length self.now.state.frames ≡ result + 1 }
     {
-        self.seats.len()
+        self.state.seats.len()
     }
 
     /// How much it keeps: the numbers in variables and messages, two for each process and two for each channel.
@@ -292,9 +216,9 @@ impl<'p, 'a> Live<'p, 'a> {
         ensures processes { length self.now.state.stands ≤ MOST_PROCESSES }
         ensures channels { length self.now.state.channels ≤ MOST_CHANNELS }
     {
-        let cells = self.store.cells().len();
-        let numbers = message_numbers(self.channels.as_slice());
-        cells + numbers + 2 * self.seats.len() + 2 * self.channels.len()
+        let cells = self.state.started.store.cells().len();
+        let numbers = message_numbers(self.state.started.channels.as_slice());
+        cells + numbers + 2 * self.state.seats.len() + 2 * self.state.started.channels.len()
     }
 
     /// What an expression of a process reads.
@@ -303,15 +227,15 @@ impl<'p, 'a> Live<'p, 'a> {
         ensures reads { seen result ≡ reads self.now.state process timeout }
         ensures channels { result.channels.now ≡ self.now.state.channels }
     {
-        view(&self.scene(), process, timeout)
+        self.scene().view(process, timeout)
     }
 
     /// A process that takes a statement.
     fn taker(&self, process: usize, timeout: bool) -> Taker
         requires { process < length self.now.state.stands }
-        ensures { (fs : List Frame) (cs : List LiveChannel) → reading_of fs cs result.pid result.process_count result.timeout ≡ reading_of fs cs process (length self.now.state.stands) timeout }
+        ensures { ReadsAs result process (length self.now.state.stands) timeout }
     {
-        let process_count = self.seats.len() as u8;
+        let process_count = self.state.seats.len() as u8;
         Taker {
             pid: process as u8,
             process_count,
@@ -331,9 +255,9 @@ impl<'p, 'a> Live<'p, 'a> {
             process_count,
             timeout,
         } = self.taker(process, timeout);
-        let channels = self.channels.as_slice();
+        let channels = self.state.started.channels.as_slice();
         take(
-            &mut self.store,
+            &mut self.state.started.store,
             channels,
             pid,
             process_count,
@@ -353,12 +277,19 @@ impl<'p, 'a> Live<'p, 'a> {
         fields: &[Expr],
     ) -> Result<(), Stop>
         requires { process < length self.old.state.stands }
-        ensures value { Leads (with_sent self.old.state (sent self.old.state.channels (reads self.old.state process timeout) target.now order fields.now)) result self.new.state }
+        ensures value { Leads (sends self.old.state process timeout target.now order fields.now) result self.new.state }
         ensures keeps { Keeps self.old self.new }
     {
         let taker = self.taker(process, timeout);
-        let channels = self.channels.as_mut_slice();
-        send(&self.store, channels, taker, target, order, fields)
+        let channels = self.state.started.channels.as_mut_slice();
+        send(
+            &self.state.started.store,
+            channels,
+            taker,
+            target,
+            order,
+            fields,
+        )
     }
 
     /// A process receives a message by itself.
@@ -373,13 +304,13 @@ impl<'p, 'a> Live<'p, 'a> {
         wants: &[Want],
     ) -> Result<(), Stop>
         requires { process < length self.old.state.stands }
-        ensures value { Leads (with_received self.old.state (received self.old.state.channels (reads self.old.state process timeout) target.now search removal wants.now)) result self.new.state }
+        ensures value { Leads (receives self.old.state process timeout target.now search removal wants.now) result self.new.state }
         ensures keeps { Keeps self.old self.new }
     {
         let taker = self.taker(process, timeout);
-        let channels = self.channels.as_mut_slice();
+        let channels = self.state.started.channels.as_mut_slice();
         receive(
-            &mut self.store,
+            &mut self.state.started.store,
             channels,
             taker,
             target,
@@ -401,22 +332,17 @@ impl<'p, 'a> Live<'p, 'a> {
     ) -> Result<(), Stop>
         requires sends { sender < length self.old.state.stands }
         requires receives { receiver < length self.old.state.stands }
-        ensures value { Leads (put_any self.old.state (passed (reads self.old.state receiver timeout) (message self.old.state.channels (reads self.old.state sender timeout) (option_copied sent.entry)) (option_copied received.entry))) result self.new.state }
+        ensures value { let s = self.old.state in
+            Leads (passes s sender receiver timeout (option_copied sent.entry) (option_copied received.entry)) result self.new.state }
         ensures keeps { Keeps self.old self.new }
     {
-        let sender = self.taker(sender, timeout);
-        let receiver = self.taker(receiver, timeout);
-        let alloc = *self.channels.allocator();
-        let channels = self.channels.as_slice();
-        pass(
-            alloc,
-            &mut self.store,
-            channels,
-            sender,
-            sent,
-            receiver,
-            received,
-        )
+        let alloc = *self.state.started.channels.allocator();
+        let sends = self.view(sender, timeout);
+        let receives = self.view(receiver, timeout);
+        match numbers_passed(alloc, sends, sent, &receives, received) {
+            Err(stop) => Err(stop),
+            Ok(numbers) => store_passed(&mut self.state.started.store, numbers.as_slice()),
+        }
     }
 }
 
@@ -429,7 +355,7 @@ impl<'p, 'a> Live<'p, 'a> {
     {
         match goes {
             None => Ok(()),
-            Some(goes) => match self.store.set(goes.place, goes.number) {
+            Some(goes) => match self.state.started.store.set(goes.place, goes.number) {
                 Ok(()) => Ok(()),
                 Err(_) => Err(Stop::Memory),
             },
@@ -443,24 +369,22 @@ impl<'p, 'a> Live<'p, 'a> {
         ensures joins { Joins self.old.state self.new.state }
         ensures past { OnOk result (PastGrows self.old self.new) }
     {
-        let Some(proctype) = proctype_at(self.program, kind) else {
+        let Some(proctype) = self.played.proctype(kind) else {
             return Ok(());
         };
-        let node = start_of(self.graphs, kind);
-        if self.seats.push(Seat { kind, node }).is_err() {
+        let seat = self.played.begins(kind);
+        if self.state.seats.push(seat).is_err() {
             return Err(Stop::Memory);
         }
         let created = create(
-            &self.beginnings,
+            self.played.beginnings(),
             kind,
             proctype.variables.as_slice(),
             arguments,
-            &mut self.store,
-            &mut self.channels,
-            &mut self.kinds,
+            &mut self.state.started,
         );
         if created.is_err() {
-            self.seats.pop();
+            self.state.seats.pop();
         }
         created
     }

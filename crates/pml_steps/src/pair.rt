@@ -6,7 +6,7 @@ ghost use Rattle.pml_store.specs.Store.{size_at, before};
 ghost use Rattle.pml_eval.specs.Pattern.{IsThere};
 ghost use Rattle.pml_eval.specs.Value.{asked_by};
 ghost use Rattle.pml_value.specs.Messages.{goes_of, stores, stored_all, StoresSome};
-ghost use Rattle.pml_value.specs.Reads.{reading_of, seen};
+ghost use Rattle.pml_value.specs.Reads.{seen};
 ghost use Rattle.pml_moves.specs.Search.{message};
 ghost use Rattle.pml_steps.specs.Arguments.{Stops};
 ghost use Rattle.pml_steps.specs.Live.{StoresAll};
@@ -21,26 +21,9 @@ use pml_moves::message::{Message, offered};
 use pml_program::expr::Want;
 use pml_program::program::{Action, Basic};
 use pml_store::store::Store;
-use pml_value::live_channel::LiveChannel;
-use pml_value::message::Taker;
 use pml_value::statement::Goes;
 use pml_value::view::View;
 use std::alloc::{AllocError, Global};
-
-/// What expressions of a process read.
-fn view_of<'w>(store: &'w Store, channels: &'w [LiveChannel], taker: Taker) -> View<'w>
-    ensures reads { seen result ≡ reading_of store.now.frames channels.now taker.pid taker.process_count taker.timeout }
-    ensures store { result.store.now ≡ store.now }
-    ensures channels { result.channels.now ≡ channels.now }
-{
-    View {
-        store,
-        channels,
-        pid: taker.pid,
-        process_count: taker.process_count,
-        timeout: taker.timeout,
-    }
-}
 
 /// Adds where a field goes, if it has a place.
 fn add_field(
@@ -99,16 +82,19 @@ fn taken_of(
     Ok(numbers)
 }
 
-/// What the receiver of a rendezvous stores, or its fault, before anything is stored.
-fn numbers_passed(
+/// What the receiver of a rendezvous stores, or its fault, of a message as it is before anything is stored. Where the sender offers no
+/// message, or the other receives none, nothing is stored.
+pub fn numbers_passed(
     alloc: Global,
     sender: View<'_>,
     sent: Option<&Basic<'_>>,
     receiver: &View<'_>,
     received: Option<&Basic<'_>>,
 ) -> Result<Vec<Goes>, Stop>
-    ensures ok { IfOk result (λ v. passed (seen receiver.now) (message sender.entry.channels.now (seen sender.entry) (option_copied sent.entry)) (option_copied received.entry) ≡ Ok v.items) }
-    ensures err { IfErr result (Refuses (passed (seen receiver.now) (message sender.entry.channels.now (seen sender.entry) (option_copied sent.entry)) (option_copied received.entry))) }
+    ensures ok { let m = message sender.entry.channels.now (seen sender.entry) (option_copied sent.entry) in
+        IfOk result (λ v. passed (seen receiver.now) m (option_copied received.entry) ≡ Ok v.items) }
+    ensures err { let m = message sender.entry.channels.now (seen sender.entry) (option_copied sent.entry) in
+        IfErr result (Refuses (passed (seen receiver.now) m (option_copied received.entry))) }
     ensures there { IfOk result (λ v. AreIn receiver.now.store.now.frames v.items) }
 {
     let Some(message) = offered(sender, sent) else {
@@ -134,32 +120,14 @@ fn store_all(store: &mut Store, numbers: &[Goes]) -> Result<(), AllocError>
     Ok(())
 }
 
-/// Stores what the receiver of a rendezvous asks for, of a message as it is before anything is stored. Where the sender offers no
-/// message, or the other receives none, nothing is stored.
-pub fn pass(
-    alloc: Global,
-    store: &mut Store,
-    channels: &[LiveChannel],
-    sender: Taker,
-    sent: Option<&Basic<'_>>,
-    receiver: Taker,
-    received: Option<&Basic<'_>>,
-) -> Result<(), Stop>
-    ensures value { StoresAll
-        (passed
-        (reading_of store.old.frames channels.now receiver.pid receiver.process_count receiver.timeout)
-        (message channels.now (reading_of store.old.frames channels.now sender.pid sender.process_count sender.timeout) (option_copied sent.entry))
-        (option_copied received.entry))
-        result store.old store.new }
+/// Stores what was passed on.
+pub fn store_passed(store: &mut Store, numbers: &[Goes]) -> Result<(), Stop>
+    requires { AreIn store.old.frames numbers.now }
+    ensures value { StoresAll (Ok numbers.now) result store.old store.new }
     ensures past { before store.new ≡ before store.old }
 {
-    let sends = view_of(&*store, channels, sender);
-    let receives = view_of(&*store, channels, receiver);
-    match numbers_passed(alloc, sends, sent, &receives, received) {
-        Err(stop) => Err(stop),
-        Ok(numbers) => match store_all(store, numbers.as_slice()) {
-            Ok(()) => Ok(()),
-            Err(_) => Err(Stop::Memory),
-        },
+    match store_all(store, numbers) {
+        Ok(()) => Ok(()),
+        Err(_) => Err(Stop::Memory),
     }
 }

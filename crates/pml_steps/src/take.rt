@@ -50,7 +50,10 @@ fn inside(
     text: &mut Vec<u8>,
 ) -> Result<(), Stop>
     requires { pick.process < length live.old.state.stands }
-    ensures value { (b : Seq) → body_by live.old.state (slice_get live.old.state.stands pick.process) ≡ Some b → Does (within_from MOST_DSTEP_STATEMENTS live.old.state pick.process timeout (Some b) (maybe (point_at b) entry)) result live.new.state text.old.items text.new.items }
+    ensures value { let s = live.old.state in
+        (b : Seq) → body_by s (slice_get s.stands pick.process) ≡ Some b →
+        Does (within_from MOST_DSTEP_STATEMENTS s pick.process timeout (Some b) (maybe (point_at b) entry)) result
+        live.new.state text.old.items text.new.items }
     ensures kept { OnErr result (StartsWith text.new.items text.old.items) }
     ensures joins { Joins live.old.state live.new.state }
     ensures past { OnOk result (PastGrows live.old live.new) }
@@ -70,7 +73,10 @@ fn take_offer(
     text: &mut Vec<u8>,
 ) -> Result<(), Stop>
     requires { IsOffer live.old.state pick offer.now }
-    ensures value { (o : Offered) → picks live.old.state pick ≡ Some o → Does (taken MOST_DSTEP_STATEMENTS live.old.state pick.process timeout (body_by live.old.state (slice_get live.old.state.stands pick.process)) o o.basic) result live.new.state text.old.items text.new.items }
+    ensures value { let s = live.old.state in
+        (o : Offered) → picks s pick ≡ Some o →
+        Does (taken MOST_DSTEP_STATEMENTS s pick.process timeout (body_by s (slice_get s.stands pick.process)) o o.basic) result
+        live.new.state text.old.items text.new.items }
     ensures kept { OnErr result (StartsWith text.new.items text.old.items) }
     ensures joins { Joins live.old.state live.new.state }
     ensures past { OnOk result (PastGrows live.old live.new) }
@@ -83,7 +89,8 @@ fn take_offer(
 
 /// A process takes an offer by itself.
 fn alone(live: &mut Live<'_, '_>, pick: Pick, timeout: bool, text: &mut Vec<u8>) -> Result<(), Stop>
-    ensures value { Does (alone_by MOST_DSTEP_STATEMENTS live.old.state pick timeout (picks live.old.state pick)) result live.new.state text.old.items text.new.items }
+    ensures value { let s = live.old.state in
+        Does (alone_by MOST_DSTEP_STATEMENTS s pick timeout (picks s pick)) result live.new.state text.old.items text.new.items }
     ensures kept { OnErr result (StartsWith text.new.items text.old.items) }
     ensures joins { OnErr result (Joins live.old.state live.new.state) }
     ensures program { live.new.state.program ≡ live.old.state.program }
@@ -108,7 +115,8 @@ fn pass_on(
 ) -> Result<(), Stop>
     requires sends { IsOffer live.old.state sender sent.now }
     requires receives { IsOffer live.old.state receiver received.now }
-    ensures value { (text : List ℕ) → Does (paired_by live.old.state sender receiver timeout (picks live.old.state sender) (picks live.old.state receiver)) result live.new.state text text }
+    ensures value { let s = live.old.state in
+        (text : List ℕ) → Does (paired_by s sender receiver timeout (picks s sender) (picks s receiver)) result live.new.state text text }
     ensures joins { OnErr result (Joins live.old.state live.new.state) }
     ensures program { live.new.state.program ≡ live.old.state.program }
     ensures past { OnOk result (PastGrows live.old live.new) }
@@ -128,7 +136,8 @@ fn pass_on(
 /// Two processes meet.
 #[inline(never)]
 fn pair(live: &mut Live<'_, '_>, sender: Pick, receiver: Pick, timeout: bool) -> Result<(), Stop>
-    ensures value { (text : List ℕ) → Does (paired_by live.old.state sender receiver timeout (picks live.old.state sender) (picks live.old.state receiver)) result live.new.state text text }
+    ensures value { let s = live.old.state in
+        (text : List ℕ) → Does (paired_by s sender receiver timeout (picks s sender) (picks s receiver)) result live.new.state text text }
     ensures joins { OnErr result (Joins live.old.state live.new.state) }
     ensures program { live.new.state.program ≡ live.old.state.program }
     ensures past { OnOk result (PastGrows live.old live.new) }

@@ -6,7 +6,7 @@ ghost use Rattle.std.specs.Option.{option_copied};
 ghost use Rattle.pml_program.specs.declared.program.Seq.{Seq};
 ghost use Rattle.pml_flow.specs.Points.{point_at};
 ghost use Rattle.pml_moves.specs.State.{reads, levels};
-ghost use Rattle.pml_moves.specs.Scene.{state_of, Fits, IsBody};
+ghost use Rattle.pml_moves.specs.Scene.{IsBody};
 ghost use Rattle.pml_moves.specs.Search.{choices, first};
 ghost use Rattle.profile.specs.declared.TheConstants.{MOST_DSTEP_STATEMENTS};
 ghost use Rattle.pml_steps.specs.Live.{Does, Joins, PastGrows};
@@ -16,7 +16,7 @@ ghost use Rattle.pml_steps.specs.Inside.{Chooses, Advances, advanced};
 use crate::effect::effect;
 use crate::live::Live;
 use diagnostics::{Fault, Stop};
-use pml_moves::scene::{Body, Scene, body_at};
+use pml_moves::scene::{Body, Scene, Seat};
 use pml_moves::search::choice;
 use pml_program::program::Basic;
 use profile::MOST_DSTEP_STATEMENTS;
@@ -38,14 +38,19 @@ struct Choice<'p, 'a> {
     stays: bool,
 }
 
+fn seat_at(seats: &[Seat], process: usize) -> Option<&Seat>
+    ensures { option_copied result ≡ slice_get seats.now process }
+{
+    seats.get(process)
+}
+
 /// The body in which a process stands.
 fn body_in<'w, 'p, 'a>(scene: &Scene<'w, 'p, 'a>, process: usize) -> Option<Body<'w, 'p, 'a>>
-    requires fits { Fits scene.now }
-    requires there { process < length scene.now.seats.now }
-    ensures body { option_map (λ k. k.proctype.now.body) result ≡ body_by (state_of scene.now) (slice_get (state_of scene.now).stands process) }
+    ensures body { option_map (λ k. k.proctype.now.body) result ≡ body_by scene.now (slice_get scene.now.stands process) }
     ensures is { IfSome result IsBody }
 {
-    body_at(scene, scene.seats[process].kind)
+    let seat = *seat_at(scene.seats(), process)?;
+    scene.body(seat.kind)
 }
 
 /// What is taken at a node inside a d_step.
@@ -56,7 +61,9 @@ fn chosen<'p, 'a>(
     node: usize,
 ) -> Option<Choice<'p, 'a>>
     requires { process < length live.now.state.stands }
-    ensures { (b : Seq) → body_by live.now.state (slice_get live.now.state.stands process) ≡ Some b → Chooses b (first (choices live.now.state.lossy live.now.state.channels (reads live.now.state process timeout) (levels b (point_at b node)))) result }
+    ensures { let s = live.now.state in
+        (b : Seq) → body_by s (slice_get s.stands process) ≡ Some b →
+        Chooses b (first (choices s.lossy s.channels (reads s process timeout) (levels b (point_at b node)))) result }
 {
     let body = body_in(&live.scene(), process)?;
     let edge = choice(&live.view(process, timeout), live.is_lossy(), &body, node)?;
@@ -76,7 +83,9 @@ fn advance(
     text: &mut Vec<u8>,
 ) -> Result<Inner, Stop>
     requires { process < length live.old.state.stands }
-    ensures value { (b : Seq) → body_by live.old.state (slice_get live.old.state.stands process) ≡ Some b → Advances b (advanced live.old.state process timeout b (point_at b node)) result live.new.state text.old.items text.new.items }
+    ensures value { let s = live.old.state in
+        (b : Seq) → body_by s (slice_get s.stands process) ≡ Some b →
+        Advances b (advanced s process timeout b (point_at b node)) result live.new.state text.old.items text.new.items }
     ensures joins { Joins live.old.state live.new.state }
     ensures past { OnOk result (PastGrows live.old live.new) }
     ensures kept { StartsWith text.new.items text.old.items }
@@ -101,7 +110,9 @@ fn within_at_most(
     text: &mut Vec<u8>,
 ) -> Result<(), Stop>
     requires { process < length live.old.state.stands }
-    ensures value { (b : Seq) → body_by live.old.state (slice_get live.old.state.stands process) ≡ Some b → Does (within most live.old.state process timeout b (point_at b entry)) result live.new.state text.old.items text.new.items }
+    ensures value { let s = live.old.state in
+        (b : Seq) → body_by s (slice_get s.stands process) ≡ Some b →
+        Does (within most s process timeout b (point_at b entry)) result live.new.state text.old.items text.new.items }
     ensures joins { Joins live.old.state live.new.state }
     ensures past { OnOk result (PastGrows live.old live.new) }
     ensures kept { OnErr result (StartsWith text.new.items text.old.items) }
@@ -127,7 +138,9 @@ pub fn within(
     text: &mut Vec<u8>,
 ) -> Result<(), Stop>
     requires { process < length live.old.state.stands }
-    ensures value { (b : Seq) → body_by live.old.state (slice_get live.old.state.stands process) ≡ Some b → Does (within MOST_DSTEP_STATEMENTS live.old.state process timeout b (point_at b entry)) result live.new.state text.old.items text.new.items }
+    ensures value { let s = live.old.state in
+        (b : Seq) → body_by s (slice_get s.stands process) ≡ Some b →
+        Does (within MOST_DSTEP_STATEMENTS s process timeout b (point_at b entry)) result live.new.state text.old.items text.new.items }
     ensures joins { Joins live.old.state live.new.state }
     ensures past { OnOk result (PastGrows live.old live.new) }
     ensures kept { OnErr result (StartsWith text.new.items text.old.items) }

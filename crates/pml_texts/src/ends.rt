@@ -2,15 +2,14 @@
 
 ghost use Rattle.std.specs.Prelude.{◌≡◌, ◌++◌, false, Some, OnOk, OnErr, IfSome, option_map, slice_get};
 ghost use Rattle.std.specs.Io.{StartsWith};
-ghost use Rattle.std.specs.Option.{option_copied};
 ghost use Rattle.pml_flow.specs.Points.{point_at};
 ghost use Rattle.pml_flow.specs.Marks.{line_at};
-ghost use Rattle.pml_moves.specs.Scene.{state_of, stand_of, Fits};
+ghost use Rattle.pml_moves.specs.Scene.{stand_of};
 ghost use Rattle.pml_texts.specs.Ends.{may_end as may_end_at, is_done as done_at, is_valid as ends_well};
 ghost use Rattle.pml_texts.specs.Texts.{stuck_line, stuck_at, stuck_by, stuck, stuck_in, stuck_place, stuck_of};
 ghost use Rattle.pml_texts.specs.Charts.{HasGraph, told};
 
-use crate::place::{add_heading, add_line, name_of, proctype_at, seat_at};
+use crate::place::{add_heading, add_line, name_of, seat_at};
 use pml_flow::graph::Graph;
 use pml_moves::scene::{Scene, Seat};
 use pml_program::program::Proctype;
@@ -23,21 +22,16 @@ struct Chart<'p, 'a> {
     graph: &'p Graph,
 }
 
-fn graph_at(graphs: &[Graph], kind: usize) -> Option<&Graph>
-    ensures { option_copied result ≡ slice_get graphs.now kind }
-{
-    graphs.get(kind)
-}
-
 /// The proctype with this number, and its graph.
 fn chart_at<'p, 'a>(scene: &Scene<'_, 'p, 'a>, kind: usize) -> Option<Chart<'p, 'a>>
-    requires { Fits scene.now }
-    ensures proctype { option_map (λ k. k.proctype.now) result ≡ slice_get scene.now.program.now.proctypes kind }
+    ensures proctype { option_map (λ k. k.proctype.now) result ≡ slice_get scene.now.program.proctypes kind }
     ensures graph { IfSome result HasGraph }
 {
-    let proctype = proctype_at(scene.program, kind)?;
-    let graph = graph_at(scene.graphs, kind)?;
-    Some(Chart { proctype, graph })
+    let body = scene.body(kind)?;
+    Some(Chart {
+        proctype: body.proctype,
+        graph: body.graph,
+    })
 }
 
 /// Appends `at: proc P (NAME) line L`.
@@ -78,7 +72,8 @@ impl<'p, 'a> Chart<'p, 'a> {
     /// Appends where a process stands, if it may not end there.
     fn add_stuck(&self, process: usize, node: usize, text: &mut Vec<u8>) -> Result<(), AllocError>
         requires { HasGraph self.now }
-        ensures added { OnOk result (text.new.items ≡ text.old.items ++ stuck_at process (Some self.now.proctype.now) (point_at self.now.proctype.now.body node)) }
+        ensures added { let q = self.now.proctype.now in
+            OnOk result (text.new.items ≡ text.old.items ++ stuck_at process (Some q) (point_at q.body node)) }
         ensures kept { OnErr result (StartsWith text.new.items text.old.items) }
     {
         if self.may_end(node) {
@@ -101,8 +96,7 @@ impl<'p, 'a> Chart<'p, 'a> {
 
 /// Whether a process may end where it stands.
 fn is_done(scene: &Scene<'_, '_, '_>, seat: Seat) -> bool
-    requires { Fits scene.now }
-    ensures { result ≡ done_at scene.now.program.now (stand_of scene.now.program.now seat) }
+    ensures { result ≡ done_at scene.now.program (stand_of scene.now.program seat) }
 {
     match chart_at(scene, seat.kind) {
         Some(chart) => chart.may_end(seat.node),
@@ -112,10 +106,10 @@ fn is_done(scene: &Scene<'_, '_, '_>, seat: Seat) -> bool
 
 /// Whether a run that ends here ends well.
 pub fn is_valid(scene: &Scene<'_, '_, '_>) -> bool
-    requires { Fits scene.now }
-    ensures { result ≡ ends_well (state_of scene.now) }
+    ensures { result ≡ ends_well scene.now }
 {
-    for seat in scene.seats {
+    let seats = scene.seats();
+    for seat in seats {
         if !is_done(scene, *seat) {
             return false;
         }
@@ -130,8 +124,7 @@ fn add_stuck_at(
     seat: Seat,
     text: &mut Vec<u8>,
 ) -> Result<(), AllocError>
-    requires { Fits scene.now }
-    ensures added { OnOk result (text.new.items ≡ text.old.items ++ stuck_by scene.now.program.now process (stand_of scene.now.program.now seat)) }
+    ensures added { OnOk result (text.new.items ≡ text.old.items ++ stuck_by scene.now.program process (stand_of scene.now.program seat)) }
     ensures kept { OnErr result (StartsWith text.new.items text.old.items) }
 {
     match chart_at(scene, seat.kind) {
@@ -142,11 +135,10 @@ fn add_stuck_at(
 
 /// Appends, for each process that may not end where it stands, a line that says where: `at: proc P (NAME) line L`.
 pub fn add_stuck(scene: &Scene<'_, '_, '_>, text: &mut Vec<u8>) -> Result<(), AllocError>
-    requires { Fits scene.now }
-    ensures added { OnOk result (text.new.items ≡ text.old.items ++ stuck (state_of scene.now)) }
+    ensures added { OnOk result (text.new.items ≡ text.old.items ++ stuck scene.now) }
     ensures kept { OnErr result (StartsWith text.new.items text.old.items) }
 {
-    let seats = scene.seats;
+    let seats = scene.seats();
     for process in 0..seats.len() {
         add_stuck_at(scene, process, seats[process], text)?;
     }
@@ -155,8 +147,7 @@ pub fn add_stuck(scene: &Scene<'_, '_, '_>, text: &mut Vec<u8>) -> Result<(), Al
 
 /// The name and the line of a process that may not end where it stands.
 fn stuck_at_seat<'p>(scene: &Scene<'_, 'p, '_>, seat: Seat) -> Option<(&'p [u8], u32)>
-    requires { Fits scene.now }
-    ensures { option_map told result ≡ stuck_place scene.now.program.now (Some (stand_of scene.now.program.now seat)) }
+    ensures { option_map told result ≡ stuck_place scene.now.program (Some (stand_of scene.now.program seat)) }
 {
     match chart_at(scene, seat.kind) {
         Some(chart) => chart.stuck(seat.node),
@@ -166,10 +157,9 @@ fn stuck_at_seat<'p>(scene: &Scene<'_, 'p, '_>, seat: Seat) -> Option<(&'p [u8],
 
 /// The name and the line of the process with this number, where it lives and may not end where it stands. It takes no memory.
 pub fn stuck<'p>(scene: &Scene<'_, 'p, '_>, process: usize) -> Option<(&'p [u8], u32)>
-    requires { Fits scene.now }
-    ensures { option_map told result ≡ stuck_of (state_of scene.now) process }
+    ensures { option_map told result ≡ stuck_of scene.now process }
 {
-    match seat_at(scene.seats, process) {
+    match seat_at(scene.seats(), process) {
         Some(seat) => stuck_at_seat(scene, *seat),
         None => None,
     }

@@ -17,5 +17,6 @@ pub fn ends_are_valid()
 
 /// The text of a move stays while no process but younger ones come.
 pub fn texts_stay()
-    ensures { (s t : State) (more : List Stand) (m : Move) → t.program ≡ s.program → t.stands ≡ s.stands ++ more → IsWithin (length s.stands) m → move_text t m ≡ move_text s m }
+    ensures { (s t : State) (more : List Stand) (m : Move) → t.program ≡ s.program → t.stands ≡ s.stands ++ more →
+        IsWithin (length s.stands) m → move_text t m ≡ move_text s m }
 {}

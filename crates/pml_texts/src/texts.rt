@@ -1,9 +1,8 @@
 //! The texts of moves, and where moves come from.
 
-ghost use Rattle.std.specs.Prelude.{◌≡◌, ◌++◌, OnOk, OnErr, length};
+ghost use Rattle.std.specs.Prelude.{◌≡◌, ◌<◌, ◌++◌, OnOk, OnErr, length};
 ghost use Rattle.std.specs.Io.{StartsWith};
 ghost use Rattle.std.specs.Option.{option_copied};
-ghost use Rattle.pml_moves.specs.Scene.{state_of, Fits};
 ghost use Rattle.pml_moves.specs.Picked.{picked as picks};
 ghost use Rattle.pml_texts.specs.Texts.{proctype_of as proctype_in, pick_text, death_text, move_text, line_in, brace_of, origin_of, IsWithin};
 
@@ -16,9 +15,9 @@ use std::alloc::AllocError;
 
 /// The proctype of a process.
 fn proctype_of<'p, 'a>(scene: &Scene<'_, 'p, 'a>, process: usize) -> Option<&'p Proctype<'a>>
-    ensures { option_copied result ≡ proctype_in (state_of scene.now) process }
+    ensures { option_copied result ≡ proctype_in scene.now process }
 {
-    proctype_at(scene.program, seat_at(scene.seats, process)?.kind)
+    proctype_at(scene.program(), seat_at(scene.seats(), process)?.kind)
 }
 
 /// Appends `proc P (NAME) line L [-end-]`, where L is the line of the closing brace.
@@ -40,8 +39,7 @@ fn add_death(
 
 /// Appends the text of the offer that a pick names.
 fn add_pick(scene: &Scene<'_, '_, '_>, pick: Pick, text: &mut Vec<u8>) -> Result<(), AllocError>
-    requires { Fits scene.now }
-    ensures added { OnOk result (text.new.items ≡ text.old.items ++ pick_text (state_of scene.now) pick) }
+    ensures added { OnOk result (text.new.items ≡ text.old.items ++ pick_text scene.now pick) }
     ensures kept { OnErr result (StartsWith text.new.items text.old.items) }
 {
     let Some(proctype) = proctype_of(scene, pick.process) else {
@@ -57,8 +55,7 @@ fn add_pick(scene: &Scene<'_, '_, '_>, pick: Pick, text: &mut Vec<u8>) -> Result
 /// Appends the text of a move.
 #[tactic(auto, using(crate::proofs::Keeping::kept_behind))]
 pub fn add_move(scene: &Scene<'_, '_, '_>, m: Move, text: &mut Vec<u8>) -> Result<(), AllocError>
-    requires { Fits scene.now }
-    ensures added { OnOk result (text.new.items ≡ text.old.items ++ move_text (state_of scene.now) m) }
+    ensures added { OnOk result (text.new.items ≡ text.old.items ++ move_text scene.now m) }
     ensures kept { OnErr result (StartsWith text.new.items text.old.items) }
 {
     match m {
@@ -74,8 +71,7 @@ pub fn add_move(scene: &Scene<'_, '_, '_>, m: Move, text: &mut Vec<u8>) -> Resul
 
 /// The line in the text of the offer that a pick names.
 fn pick_line(scene: &Scene<'_, '_, '_>, pick: Pick) -> u32
-    requires { Fits scene.now }
-    ensures { result ≡ line_in (picks (state_of scene.now) pick) }
+    ensures { result ≡ line_in (picks scene.now pick) }
 {
     match picked(scene, pick) {
         Some(offer) => offer.body.graph.offer_line(offer.edge.statement),
@@ -93,15 +89,25 @@ fn brace_of(proctype: Option<&Proctype<'_>>) -> u32
     }
 }
 
+/// The number of a process that lives: there are few.
+fn number_of(scene: &Scene<'_, '_, '_>, process: usize) -> u32
+    requires { process < length scene.now.stands }
+    ensures { result ≡ process }
+{
+    process.min(scene.process_count()) as u32
+}
+
 /// The process and the line of a move, as its text has them: of a rendezvous the sender's, of a death the line of the closing brace.
 pub fn origin(scene: &Scene<'_, '_, '_>, m: Move) -> (u32, u32)
-    requires fits { Fits scene.now }
-    requires lives { IsWithin (length (state_of scene.now).stands) m }
-    ensures { result ≡ origin_of (state_of scene.now) m }
+    requires lives { IsWithin (length scene.now.stands) m }
+    ensures { result ≡ origin_of scene.now m }
 {
     match m {
-        Move::Death(process) => (process as u32, brace_of(proctype_of(scene, process))),
-        Move::Alone(pick, _) => (pick.process as u32, pick_line(scene, pick)),
-        Move::Pair(sender, _, _) => (sender.process as u32, pick_line(scene, sender)),
+        Move::Death(process) => (
+            number_of(scene, process),
+            brace_of(proctype_of(scene, process)),
+        ),
+        Move::Alone(pick, _) => (number_of(scene, pick.process), pick_line(scene, pick)),
+        Move::Pair(sender, _, _) => (number_of(scene, sender.process), pick_line(scene, sender)),
     }
 }

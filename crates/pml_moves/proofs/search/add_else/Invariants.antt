@@ -10,7 +10,7 @@ use Rattle.pml_moves.proofs.search.add_else.Given as goal
 -- what is added and the rest's are all
 abbrev pub invariant-loop-place : goal.invariant-loop-place
 invariant-loop-place l =
-    let f : ℕ → Offer → List Move = λ i o. only_if (is_else o.basic) (Alone (pick l.process l.level i) l.timeout) in
+    let f : ℕ → Offer → List Move = λ i o. only_if (is_else o.basic) (Alone (pick l.tier.process l.tier.level i) l.timeout) in
     record {
       same : l.moves.items ++ each f l.place (map (shows l.body) (drop l.place l.edges)) ≡ l.initial.moves.items ++ each f 0 (map (shows l.body) l.edges);
       kept : Extends l.moves.items l.initial.moves.items;

@@ -1,11 +1,10 @@
-use Rattle.std.proofs.Common.{◌≡◌, ◌++◌, List, refl, sym, ap, subst, OnOk}
+use Rattle.std.proofs.Common.{◌≡◌, ◌++◌, List, sym, ap, subst, OnOk}
 use Rattle.pml_moves.specs.declared.moves.Move.{Move}
-use Rattle.pml_moves.specs.Scene.{state_of}
 use Rattle.pml_moves.proofs.Placing.{moves_in}
 use Rattle.pml_moves.proofs.search.add_moves_at.Goals as goal
 
 pub returns-in-Some-clause-added : goal.returns-in-Some-clause-added
 returns-in-Some-clause-added c =
     subst (λ (l : List Move). OnOk c.add_moves_in.result (c.add_moves_in.new.moves.items ≡ l))
-    (ap (λ (z : List Move). c.args.moves.now.items ++ z) (sym (moves_in c.args.scene.now c.args.seat c.in-Some.body (state_of c.args.scene.now) c.args.process c.args.timeout refl c.in-Some.ensures.left)))
+    (ap (λ (z : List Move). c.args.moves.now.items ++ z) (sym (moves_in c.args.seat c.in-Some.body c.args.scene.now c.args.process c.args.timeout c.in-Some.ensures.left)))
     c.add_moves_in.ensures.added

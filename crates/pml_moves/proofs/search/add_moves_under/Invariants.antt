@@ -1,7 +1,7 @@
 use Rattle.std.proofs.Common.{◌≡◌, ◌++◌, drop, map, List, ℕ}
 use Rattle.pml_moves.specs.declared.moves.Move.{Move}
 use Rattle.pml_moves.specs.State.{Stand}
-use Rattle.pml_moves.specs.Scene.{state_of, stand_of}
+use Rattle.pml_moves.specs.Scene.{stand_of}
 use Rattle.pml_moves.specs.Kept.{Extends}
 use Rattle.pml_moves.specs.Search.{each, moves_at}
 use Rattle.pml_moves.proofs.search.add_moves_under.Given as goal
@@ -9,8 +9,8 @@ use Rattle.pml_moves.proofs.search.add_moves_under.Given as goal
 -- what is added and the rest's are all
 abbrev pub invariant-loop-process : goal.invariant-loop-process
 invariant-loop-process l =
-    let f : ℕ → Stand → List Move = λ p y. moves_at (state_of l.scene) p l.timeout y in
+    let f : ℕ → Stand → List Move = λ p y. moves_at l.scene p l.timeout y in
     record {
-      same : l.moves.items ++ each f l.process (map (stand_of l.scene.program.now) (drop l.process l.seats)) ≡ l.initial.moves.items ++ each f 0 (map (stand_of l.scene.program.now) l.seats);
+      same : l.moves.items ++ each f l.process (map (stand_of l.scene.program) (drop l.process l.seats)) ≡ l.initial.moves.items ++ each f 0 (map (stand_of l.scene.program) l.seats);
       kept : Extends l.moves.items l.initial.moves.items;
     }

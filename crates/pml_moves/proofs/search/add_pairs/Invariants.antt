@@ -1,7 +1,7 @@
 use Rattle.std.proofs.Common.{◌≡◌, ◌++◌, drop, map, List, ℕ}
 use Rattle.pml_moves.specs.declared.moves.Move.{Move}
 use Rattle.pml_moves.specs.State.{Stand}
-use Rattle.pml_moves.specs.Scene.{state_of, stand_of}
+use Rattle.pml_moves.specs.Scene.{stand_of}
 use Rattle.pml_moves.specs.Kept.{Extends}
 use Rattle.pml_moves.specs.Search.{each, pairs_with}
 use Rattle.pml_moves.proofs.search.add_pairs.Given as goal
@@ -9,8 +9,8 @@ use Rattle.pml_moves.proofs.search.add_pairs.Given as goal
 -- what is added and the rest's are all
 abbrev pub invariant-loop-j : goal.invariant-loop-j
 invariant-loop-j l =
-    let f : ℕ → Stand → List Move = pairs_with (state_of l.scene) l.sending.timeout l.sending.sender l.sending.message in
+    let f : ℕ → Stand → List Move = pairs_with l.scene l.sending.timeout l.sending.sender l.sending.message in
     record {
-      same : l.moves.items ++ each f l.j (map (stand_of l.scene.program.now) (drop l.j l.seats)) ≡ l.initial.moves.items ++ each f 0 (map (stand_of l.scene.program.now) l.seats);
+      same : l.moves.items ++ each f l.j (map (stand_of l.scene.program) (drop l.j l.seats)) ≡ l.initial.moves.items ++ each f 0 (map (stand_of l.scene.program) l.seats);
       kept : Extends l.moves.items l.initial.moves.items;
     }

@@ -1,5 +1,5 @@
 use Rattle.std.proofs.Common.{◌≡◌, ◌≤◌, length, drop, map, []}
-use Rattle.pml_moves.specs.Scene.{state_of, shows, edges_at}
+use Rattle.pml_moves.specs.Scene.{shows, edges_at}
 use Rattle.pml_moves.specs.Search.{last, pairs_on}
 use Rattle.pml_moves.proofs.search.add_pairs_down.Given as goal
 
@@ -11,5 +11,5 @@ abbrev pub invariant-loop-level : goal.invariant-loop-level
 invariant-loop-level l = record {
   same : l.moves.items ≡ l.initial.moves.items;
   within : l.level ≤ length (edges_at l.body l.node);
-  above : last (pairs_on (state_of l.scene) l.sending.timeout l.sending.sender l.sending.message l.j) l.level (drop l.level (map (map (shows l.body)) (edges_at l.body l.node))) ≡ [];
+  above : last (pairs_on l.scene l.sending.timeout l.sending.sender l.sending.message l.j) l.level (drop l.level (map (map (shows l.body)) (edges_at l.body l.node))) ≡ [];
 }

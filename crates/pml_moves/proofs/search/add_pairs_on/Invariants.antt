@@ -3,7 +3,7 @@ use Rattle.pml_flow.specs.Flow.{Offer}
 use Rattle.pml_moves.specs.declared.moves.Move.{Move}
 use Rattle.pml_moves.specs.declared.moves.Move.TheVariants.{Pair}
 use Rattle.pml_moves.specs.State.{reads}
-use Rattle.pml_moves.specs.Scene.{state_of, shows}
+use Rattle.pml_moves.specs.Scene.{shows}
 use Rattle.pml_moves.specs.Kept.{Extends}
 use Rattle.pml_moves.specs.Search.{each, accepts, only_if, pick}
 use Rattle.pml_moves.proofs.search.add_pairs_on.Given as goal
@@ -11,7 +11,7 @@ use Rattle.pml_moves.proofs.search.add_pairs_on.Given as goal
 -- what is added and the rest's are all
 abbrev pub invariant-loop-place : goal.invariant-loop-place
 invariant-loop-place l =
-    let f : ℕ → Offer → List Move = λ i o. only_if (accepts l.scene.channels.now (reads (state_of l.scene) l.j l.sending.timeout) l.sending.message o.basic) (Pair l.sending.sender (pick l.j l.level i) l.sending.timeout) in
+    let f : ℕ → Offer → List Move = λ i o. only_if (accepts l.scene.channels (reads l.scene l.tier.process l.sending.timeout) l.sending.message o.basic) (Pair l.sending.sender (pick l.tier.process l.tier.level i) l.sending.timeout) in
     record {
       same : l.moves.items ++ each f l.place (map (shows l.body) (drop l.place l.edges)) ≡ l.initial.moves.items ++ each f 0 (map (shows l.body) l.edges);
       kept : Extends l.moves.items l.initial.moves.items;

@@ -1,7 +1,7 @@
 use Rattle.std.proofs.Common.{◌≡◌, ◌++◌, drop, map, List, [], ℕ, if◌then◌else◌}
 use Rattle.pml_flow.specs.Flow.{Offer}
 use Rattle.pml_moves.specs.declared.moves.Move.{Move}
-use Rattle.pml_moves.specs.Scene.{state_of, shows}
+use Rattle.pml_moves.specs.Scene.{shows}
 use Rattle.pml_moves.specs.Kept.{Extends}
 use Rattle.pml_moves.specs.Search.{each, is_else, moves_by}
 use Rattle.pml_moves.proofs.search.add_plain.Given as goal
@@ -9,7 +9,7 @@ use Rattle.pml_moves.proofs.search.add_plain.Given as goal
 -- what is added and the rest's are all
 abbrev pub invariant-loop-place : goal.invariant-loop-place
 invariant-loop-place l =
-    let f : ℕ → Offer → List Move = λ i o. if is_else o.basic then [] else moves_by (state_of l.scene) l.process l.timeout l.body.proctype.now.body l.level i o in
+    let f : ℕ → Offer → List Move = λ i o. if is_else o.basic then [] else moves_by l.scene l.tier.process l.timeout l.body.proctype.now.body l.tier.level i o in
     record {
       same : l.moves.items ++ each f l.place (map (shows l.body) (drop l.place l.edges)) ≡ l.initial.moves.items ++ each f 0 (map (shows l.body) l.edges);
       kept : Extends l.moves.items l.initial.moves.items;

@@ -5,7 +5,7 @@ use Rattle.pml_flow.specs.Points.{point_at}
 use Rattle.pml_value.specs.Reads.{seen}
 use Rattle.pml_moves.specs.declared.scene.Body.{Body}
 use Rattle.pml_moves.specs.State.{State, reads}
-use Rattle.pml_moves.specs.Scene.{state_of, shows}
+use Rattle.pml_moves.specs.Scene.{shows}
 use Rattle.pml_steps.specs.Outcome.{body_by}
 use Rattle.pml_steps.specs.Inside.{Chooses}
 use Rattle.pml_steps.proofs.Inward.{first_shown, body_same}
@@ -14,11 +14,11 @@ use Rattle.pml_steps.proofs.within.chosen.Goals as goal
 pub returns-in_err-edge : goal.returns-in_err-edge
 returns-in_err-edge c b h =
     let k : Body = c.in_ok-body.body in
-    let x : State = state_of c.scene.result in
+    let x : State = c.scene.result in
     let s : State = c.args.live.now.state in
     let p = c.args.process in
     let at : Some k.proctype.now.body ≡ body_by x (slice_get x.stands p) = search rules in
-    let same = body_same x s p k b c.scene.ensures.state at h in
+    let same = body_same x s p k b c.scene.ensures at h in
     let channels : c.view.result.channels.now ≡ s.channels = search rules in
     let reading : seen c.view.result ≡ reads s p c.args.timeout = search rules in
     let one = first_shown k c.args.node b _ s.lossy _ s.channels _ (reads s p c.args.timeout) c.choice.result (search rules) same c.is_lossy.ensures channels reading c.choice.ensures in
@@ -30,11 +30,11 @@ pub returns : goal.returns
 returns c b h =
     let k : Body = c.in_ok-body.body in
     let e : Edge = c.in_ok-edge.edge in
-    let x : State = state_of c.scene.result in
+    let x : State = c.scene.result in
     let s : State = c.args.live.now.state in
     let p = c.args.process in
     let at : Some k.proctype.now.body ≡ body_by x (slice_get x.stands p) = search rules in
-    let same = body_same x s p k b c.scene.ensures.state at h in
+    let same = body_same x s p k b c.scene.ensures at h in
     let channels : c.view.result.channels.now ≡ s.channels = search rules in
     let reading : seen c.view.result ≡ reads s p c.args.timeout = search rules in
     let one = first_shown k c.args.node b _ s.lossy _ s.channels _ (reads s p c.args.timeout) c.choice.result (search rules) same c.is_lossy.ensures channels reading c.choice.ensures in

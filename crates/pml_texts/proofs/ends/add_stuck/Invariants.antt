@@ -9,8 +9,8 @@ use Rattle.pml_texts.proofs.ends.add_stuck.Given as goal
 -- what is added and the rest's are all
 abbrev pub invariant-loop-process : goal.invariant-loop-process
 invariant-loop-process l =
-    let f : ℕ → Stand → List ℕ = stuck_by l.scene.program.now in
+    let f : ℕ → Stand → List ℕ = stuck_by l.scene.program in
     record {
-      same : l.text.items ++ each f l.process (map (stand_of l.scene.program.now) (drop l.process l.seats)) ≡ l.initial.text.items ++ each f 0 (map (stand_of l.scene.program.now) l.seats);
+      same : l.text.items ++ each f l.process (map (stand_of l.scene.program) (drop l.process l.seats)) ≡ l.initial.text.items ++ each f 0 (map (stand_of l.scene.program) l.seats);
       kept : StartsWith l.text.items l.initial.text.items;
     }

@@ -1,10 +1,10 @@
 use Rattle.std.proofs.Common.{◌≡◌, drop, map}
 use Rattle.std.specs.List.{list_all}
-use Rattle.pml_moves.specs.Scene.{state_of, stand_of}
+use Rattle.pml_moves.specs.Scene.{stand_of}
 use Rattle.pml_texts.specs.Ends.{is_done, is_valid}
 use Rattle.pml_texts.proofs.ends.is_valid.Given as goal
 
 -- whether all end well is whether the rest do
 abbrev pub invariant-loop-seat : goal.invariant-loop-seat
 invariant-loop-seat l =
-    list_all (is_done l.scene.program.now) (map (stand_of l.scene.program.now) (drop l.seat-index l.scene.seats.now)) ≡ is_valid (state_of l.scene)
+    list_all (is_done l.scene.program) (map (stand_of l.scene.program) (drop l.seat-index l.seats)) ≡ is_valid l.scene

@@ -1,12 +1,11 @@
 use Rattle.std.proofs.Common.{◌≡◌, ◌∙◌, ap, sym, subst, length}
 use Rattle.pml_moves.specs.State.{State}
-use Rattle.pml_moves.specs.Scene.{state_of}
 use Rattle.pml_texts.specs.Texts.{IsWithin}
 use Rattle.pml_sim.specs.World.{Running}
 use Rattle.pml_sim.proofs.Stepping.{listed_within}
 use Rattle.pml_sim.proofs.world.WorldMachine.origin.Goals as goal
 
-pub origin-requires-clause-lives : goal.origin-requires-clause-lives
-origin-requires-clause-lives c =
-    let state : c.args.self.now.state ≡ state_of c.scene.result = ap (λ (w : Running). w.state) (sym c.self.view_is) ∙ sym c.scene.ensures.state in
-    subst (λ (s : State). IsWithin (length s.stands) c.args.m.now) state (listed_within c.args.self.now c.args.m.now c.requires.present)
+pub origin-requires : goal.origin-requires
+origin-requires c =
+    let state : c.args.self.now.state ≡ c.scene.result = ap (λ (w : Running). w.state) (sym c.self.view_is) ∙ sym c.scene.ensures in
+    record { lives = subst (λ (s : State). IsWithin (length s.stands) c.args.m.now) state (listed_within c.args.self.now c.args.m.now c.requires.present) }

@@ -10,7 +10,7 @@ use Rattle.pml_steps.proofs.live.Live.die.Goals as goal
 
 pub pop_frame-requires : goal.pop_frame-requires
 pop_frame-requires c =
-    let m = frames_of_kinds c.self.inside.program.now (held c.self.inside.store c.self.inside.channels.items c.self.inside.kinds.items) c.self.invariant.declared in
+    let m = frames_of_kinds c.self.inside.played (held c.self.inside.state.started.store c.self.inside.state.started.channels.items c.self.inside.state.started.kinds.items) c.self.invariant.declared in
     omega (arith, m)
 
 one_more : (m n : ℕ) → 0 < m → n ≡ m → m ≡ n - 1 + 1
@@ -18,39 +18,36 @@ one_more m n h e = omega (arith, h, e)
 
 pub invariant_of-self : goal.invariant_of-self
 invariant_of-self c =
-    let seats = c.self.inside.seats.items in
-    let some : 0 < length (map (stand_of c.self.inside.program.now) seats) = rw (← c.self.view_is) at c.requires in
+    let seats = c.self.inside.state.seats.items in
+    let some : 0 < length (map (stand_of c.self.inside.played) seats) = rw (← c.self.view_is) at c.requires in
     let n : ℕ = c.len-youngest.result - 1 in
     let whole : c.len-youngest.result ≡ length seats = search rules in
-    let count : length seats ≡ n + 1 = one_more (length seats) c.len-youngest.result (rw (length-map seats (stand_of c.self.inside.program.now)) at some) whole in
-    let kinds : length c.self.inside.kinds.items ≡ n + 1 = ap length c.self.invariant.seated ∙ length-map seats (λ (x : Seat). x.kind) ∙ count in
+    let count : length seats ≡ n + 1 = one_more (length seats) c.len-youngest.result (rw (length-map seats (stand_of c.self.inside.played)) at some) whole in
+    let kinds : length c.self.inside.state.started.kinds.items ≡ n + 1 = ap length c.self.invariant.seated ∙ length-map seats (λ (x : Seat). x.kind) ∙ count in
     record {
       declared =
           rw c.truncate.ensures.items
           (rw c.pop_frame.ensures
-          (declared_less c.self.inside.program.now c.self.inside.store.frames c.self.inside.channels.items c.keep_others.new.channels.items c.self.inside.kinds.items n c.self.invariant.declared kinds));
+          (declared_less c.self.inside.played c.self.inside.state.started.store.frames c.self.inside.state.started.channels.items c.keep_others.new.channels.items c.self.inside.state.started.kinds.items n c.self.invariant.declared kinds));
       seated =
           c.truncate.ensures.items ∙ ap (take n) c.self.invariant.seated ∙ sym (map-take (λ (x : Seat). x.kind) n seats)
           ∙ sym (ap (map (λ (x : Seat). x.kind)) c.truncate-2.ensures.items);
-      graphs = c.self.invariant.graphs;
-      statements = c.self.invariant.statements;
-      typedefs = c.self.invariant.typedefs;
       bounded = record {
         counted = c.self.invariant.bounded.counted;
         most = ap (λ (s : Contents). s.most) c.pop_frame.ensures ∙ c.self.invariant.bounded.most;
-        live = bounded_left c.self.inside.program.now _ c.self.inside.channels.items c.keep_others.new.channels.items c.self.invariant.bounded.live c.keep_others.ensures;
+        live = bounded_left c.self.inside.played _ c.self.inside.state.started.channels.items c.keep_others.new.channels.items c.self.invariant.bounded.live c.keep_others.ensures;
       };
     }
 
 pub returns : goal.returns
 returns c =
-    let seats = c.self.inside.seats.items in
-    let some : 0 < length (map (stand_of c.self.inside.program.now) seats) = rw (← c.self.view_is) at c.requires in
+    let seats = c.self.inside.state.seats.items in
+    let some : 0 < length (map (stand_of c.self.inside.played) seats) = rw (← c.self.view_is) at c.requires in
     let n : ℕ = c.len-youngest.result - 1 in
     let whole : c.len-youngest.result ≡ length seats = search rules in
-    let count : length seats ≡ n + 1 = one_more (length seats) c.len-youngest.result (rw (length-map seats (stand_of c.self.inside.program.now)) at some) whole in
-    let frames = frames_of_kinds c.self.inside.program.now (held c.self.inside.store c.self.inside.channels.items c.self.inside.kinds.items) c.self.invariant.declared in
-    let kinds : length c.self.inside.kinds.items ≡ length seats = ap length c.self.invariant.seated ∙ length-map seats (λ (x : Seat). x.kind) in
+    let count : length seats ≡ n + 1 = one_more (length seats) c.len-youngest.result (rw (length-map seats (stand_of c.self.inside.played)) at some) whole in
+    let frames = frames_of_kinds c.self.inside.played (held c.self.inside.state.started.store c.self.inside.state.started.channels.items c.self.inside.state.started.kinds.items) c.self.invariant.declared in
+    let kinds : length c.self.inside.state.started.kinds.items ≡ length seats = ap length c.self.invariant.seated ∙ length-map seats (λ (x : Seat). x.kind) in
     rw (← c.self.view_is)
-    (live_died c.self.inside.program.now c.self.inside.store c.pop_frame.new.self c.self.inside.channels.items c.keep_others.new.channels.items seats c.truncate-2.new.self.items c.self.inside.holder c.self.inside.lossy n count
+    (live_died c.self.inside.played c.self.inside.state.started.store c.pop_frame.new.self c.self.inside.state.started.channels.items c.keep_others.new.channels.items seats c.truncate-2.new.self.items c.self.inside.state.holder c.self.inside.state.lossy n count
     (frames ∙ ap (λ (m : ℕ). m + 1) kinds) c.pop_frame.ensures (search rules) c.truncate-2.ensures.items)

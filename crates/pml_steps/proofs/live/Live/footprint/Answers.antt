@@ -7,49 +7,49 @@ use Rattle.pml_steps.proofs.live.Live.footprint.Goals as goal
 
 pub message_numbers-numbers-requires : goal.message_numbers-numbers-requires
 message_numbers-numbers-requires c =
-    rw c.as_slice.ensures.value (room_counted c.self.inside.program.now c.self.inside.channels.items c.self.invariant.bounded.counted c.self.invariant.bounded.live)
+    rw c.as_slice.ensures.value (room_counted c.self.inside.played c.self.inside.state.started.channels.items c.self.invariant.bounded.counted c.self.invariant.bounded.live)
 
 pub returns-clause-bound : goal.returns-clause-bound
 returns-clause-bound c =
-    let p = c.self.inside.program.now in
+    let p = c.self.inside.played in
     let b = c.self.invariant.bounded in
-    let cells : c.len-cells.result ≤ c.self.inside.store.most = omega (arith, c.len-cells.ensures, c.cells.result.now.ok.0, ap length c.cells.ensures.value, c.cells.ensures.few) in
-    let numbers : c.message_numbers-numbers.result ≤ all_room c.self.inside.channels.items = rw c.as_slice.ensures.value at c.message_numbers-numbers.ensures.few in
-    let seats : c.len.result ≡ length c.self.inside.seats.items = search rules in
-    let kinds : length c.self.inside.kinds.items ≡ length c.self.inside.seats.items = ap length c.self.invariant.seated ∙ length-map c.self.inside.seats.items (λ (x : Seat). x.kind) in
-    let channels : c.len-2.result ≡ length c.self.inside.channels.items = search rules in
+    let cells : c.len-cells.result ≤ c.self.inside.state.started.store.most = omega (arith, c.len-cells.ensures, c.cells.result.now.ok.0, ap length c.cells.ensures.value, c.cells.ensures.few) in
+    let numbers : c.message_numbers-numbers.result ≤ all_room c.self.inside.state.started.channels.items = rw c.as_slice.ensures.value at c.message_numbers-numbers.ensures.few in
+    let seats : c.len.result ≡ length c.self.inside.state.seats.items = search rules in
+    let kinds : length c.self.inside.state.started.kinds.items ≡ length c.self.inside.state.seats.items = ap length c.self.invariant.seated ∙ length-map c.self.inside.state.seats.items (λ (x : Seat). x.kind) in
+    let channels : c.len-2.result ≡ length c.self.inside.state.started.channels.items = search rules in
     rw (← c.self.view_is)
-    (all_within p c.len-cells.result c.self.inside.store.most c.message_numbers-numbers.result (all_room c.self.inside.channels.items) c.len.result c.len-2.result cells b.most numbers
-    (room_within p c.self.inside.channels.items b.live) (omega (arith, seats, kinds, c.self.invariant.declared.few)) (omega (arith, channels, b.live.few)))
+    (all_within p c.len-cells.result c.self.inside.state.started.store.most c.message_numbers-numbers.result (all_room c.self.inside.state.started.channels.items) c.len.result c.len-2.result cells b.most numbers
+    (room_within p c.self.inside.state.started.channels.items b.live) (omega (arith, seats, kinds, c.self.invariant.declared.few)) (omega (arith, channels, b.live.few)))
 
 pub overflow_add-result : goal.overflow_add-result
 overflow_add-result c =
     let b = c.self.invariant.bounded in
-    let cells : c.len-cells.result ≤ c.self.inside.store.most = omega (arith, c.len-cells.ensures, c.cells.result.now.ok.0, ap length c.cells.ensures.value, c.cells.ensures.few) in
-    let numbers : c.message_numbers-numbers.result ≤ all_room c.self.inside.channels.items = rw c.as_slice.ensures.value at c.message_numbers-numbers.ensures.few in
-    let all = all_within c.self.inside.program.now c.len-cells.result c.self.inside.store.most c.message_numbers-numbers.result (all_room c.self.inside.channels.items) 0 0 cells b.most numbers
-    (room_within c.self.inside.program.now c.self.inside.channels.items b.live) (omega arith) (omega arith) in
+    let cells : c.len-cells.result ≤ c.self.inside.state.started.store.most = omega (arith, c.len-cells.ensures, c.cells.result.now.ok.0, ap length c.cells.ensures.value, c.cells.ensures.few) in
+    let numbers : c.message_numbers-numbers.result ≤ all_room c.self.inside.state.started.channels.items = rw c.as_slice.ensures.value at c.message_numbers-numbers.ensures.few in
+    let all = all_within c.self.inside.played c.len-cells.result c.self.inside.state.started.store.most c.message_numbers-numbers.result (all_room c.self.inside.state.started.channels.items) 0 0 cells b.most numbers
+    (room_within c.self.inside.played c.self.inside.state.started.channels.items b.live) (omega arith) (omega arith) in
     omega (arith, all, b.counted)
 
 pub overflow_add-result-2 : goal.overflow_add-result-2
 overflow_add-result-2 c =
     let b = c.self.invariant.bounded in
-    let cells : c.len-cells.result ≤ c.self.inside.store.most = omega (arith, c.len-cells.ensures, c.cells.result.now.ok.0, ap length c.cells.ensures.value, c.cells.ensures.few) in
-    let numbers : c.message_numbers-numbers.result ≤ all_room c.self.inside.channels.items = rw c.as_slice.ensures.value at c.message_numbers-numbers.ensures.few in
-    let seats : c.len.result ≡ length c.self.inside.seats.items = search rules in
-    let kinds : length c.self.inside.kinds.items ≡ length c.self.inside.seats.items = ap length c.self.invariant.seated ∙ length-map c.self.inside.seats.items (λ (x : Seat). x.kind) in
-    let all = all_within c.self.inside.program.now c.len-cells.result c.self.inside.store.most c.message_numbers-numbers.result (all_room c.self.inside.channels.items) c.len.result 0 cells b.most numbers
-    (room_within c.self.inside.program.now c.self.inside.channels.items b.live) (omega (arith, seats, kinds, c.self.invariant.declared.few)) (omega arith) in
+    let cells : c.len-cells.result ≤ c.self.inside.state.started.store.most = omega (arith, c.len-cells.ensures, c.cells.result.now.ok.0, ap length c.cells.ensures.value, c.cells.ensures.few) in
+    let numbers : c.message_numbers-numbers.result ≤ all_room c.self.inside.state.started.channels.items = rw c.as_slice.ensures.value at c.message_numbers-numbers.ensures.few in
+    let seats : c.len.result ≡ length c.self.inside.state.seats.items = search rules in
+    let kinds : length c.self.inside.state.started.kinds.items ≡ length c.self.inside.state.seats.items = ap length c.self.invariant.seated ∙ length-map c.self.inside.state.seats.items (λ (x : Seat). x.kind) in
+    let all = all_within c.self.inside.played c.len-cells.result c.self.inside.state.started.store.most c.message_numbers-numbers.result (all_room c.self.inside.state.started.channels.items) c.len.result 0 cells b.most numbers
+    (room_within c.self.inside.played c.self.inside.state.started.channels.items b.live) (omega (arith, seats, kinds, c.self.invariant.declared.few)) (omega arith) in
     omega (arith, all, b.counted)
 
 pub overflow_add-result-3 : goal.overflow_add-result-3
 overflow_add-result-3 c =
     let b = c.self.invariant.bounded in
-    let cells : c.len-cells.result ≤ c.self.inside.store.most = omega (arith, c.len-cells.ensures, c.cells.result.now.ok.0, ap length c.cells.ensures.value, c.cells.ensures.few) in
-    let numbers : c.message_numbers-numbers.result ≤ all_room c.self.inside.channels.items = rw c.as_slice.ensures.value at c.message_numbers-numbers.ensures.few in
-    let seats : c.len.result ≡ length c.self.inside.seats.items = search rules in
-    let kinds : length c.self.inside.kinds.items ≡ length c.self.inside.seats.items = ap length c.self.invariant.seated ∙ length-map c.self.inside.seats.items (λ (x : Seat). x.kind) in
-    let channels : c.len-2.result ≡ length c.self.inside.channels.items = search rules in
-    let all = all_within c.self.inside.program.now c.len-cells.result c.self.inside.store.most c.message_numbers-numbers.result (all_room c.self.inside.channels.items) c.len.result c.len-2.result cells b.most numbers
-    (room_within c.self.inside.program.now c.self.inside.channels.items b.live) (omega (arith, seats, kinds, c.self.invariant.declared.few)) (omega (arith, channels, b.live.few)) in
+    let cells : c.len-cells.result ≤ c.self.inside.state.started.store.most = omega (arith, c.len-cells.ensures, c.cells.result.now.ok.0, ap length c.cells.ensures.value, c.cells.ensures.few) in
+    let numbers : c.message_numbers-numbers.result ≤ all_room c.self.inside.state.started.channels.items = rw c.as_slice.ensures.value at c.message_numbers-numbers.ensures.few in
+    let seats : c.len.result ≡ length c.self.inside.state.seats.items = search rules in
+    let kinds : length c.self.inside.state.started.kinds.items ≡ length c.self.inside.state.seats.items = ap length c.self.invariant.seated ∙ length-map c.self.inside.state.seats.items (λ (x : Seat). x.kind) in
+    let channels : c.len-2.result ≡ length c.self.inside.state.started.channels.items = search rules in
+    let all = all_within c.self.inside.played c.len-cells.result c.self.inside.state.started.store.most c.message_numbers-numbers.result (all_room c.self.inside.state.started.channels.items) c.len.result c.len-2.result cells b.most numbers
+    (room_within c.self.inside.played c.self.inside.state.started.channels.items b.live) (omega (arith, seats, kinds, c.self.invariant.declared.few)) (omega (arith, channels, b.live.few)) in
     omega (arith, all, b.counted)

@@ -6,11 +6,11 @@ use Rattle.pml_steps.proofs.live.Live.kinds.Goals as goal
 
 pub returns-clause-value : goal.returns-clause-value
 returns-clause-value c =
-    let same : c.as_slice.result.now ≡ c.self.inside.kinds.items = search rules in
-    rw (← c.self.view_is) (same ∙ c.self.invariant.seated ∙ sym (kinds_are c.self.inside.program.now c.self.inside.seats.items))
+    let same : c.as_slice.result.now ≡ c.self.inside.state.started.kinds.items = search rules in
+    rw (← c.self.view_is) (same ∙ c.self.invariant.seated ∙ sym (kinds_are c.self.inside.played c.self.inside.state.seats.items))
 
 pub returns-clause-declared : goal.returns-clause-declared
 returns-clause-declared c =
     rw (← c.self.view_is)
-    (subst (λ (ks : List ℕ). IsDeclared c.self.inside.program.now (held c.self.inside.store c.self.inside.channels.items ks))
-    (c.self.invariant.seated ∙ sym (kinds_are c.self.inside.program.now c.self.inside.seats.items)) c.self.invariant.declared)
+    (subst (λ (ks : List ℕ). IsDeclared c.self.inside.played (held c.self.inside.state.started.store c.self.inside.state.started.channels.items ks))
+    (c.self.invariant.seated ∙ sym (kinds_are c.self.inside.played c.self.inside.state.seats.items)) c.self.invariant.declared)

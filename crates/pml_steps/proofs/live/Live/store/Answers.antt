@@ -4,13 +4,13 @@ use Rattle.pml_steps.proofs.live.Live.store.Goals as goal
 
 pub invariant_of-self : goal.invariant_of-self
 invariant_of-self c =
-    held_still c.self.inside.program.now c.self.inside.graphs.now c.self.inside.statements.items c.self.inside.beginnings c.self.inside.store c.take.new.store c.self.inside.channels.items c.self.inside.channels.items
-    c.self.inside.kinds.items c.self.inside.seats.items c.self.invariant (taken_stays _ c.take.result c.self.inside.store c.take.new.store c.take.ensures.value) c.self.invariant.bounded.live
+    held_still c.self.inside.played c.self.inside.state.started.store c.take.new.store c.self.inside.state.started.channels.items c.self.inside.state.started.channels.items
+    c.self.inside.state.started.kinds.items c.self.inside.state.seats.items c.self.invariant (taken_stays _ c.take.result c.self.inside.state.started.store c.take.new.store c.take.ensures.value) c.self.invariant.bounded.live
 
 pub returns-clause-value : goal.returns-clause-value
 returns-clause-value c =
-    let reads = rw (← c.self.view_is) at (c.taker-pid.ensures c.self.inside.store.frames c.self.inside.channels.items) in
-    let same : c.as_slice-channels.result.now ≡ c.self.inside.channels.items = search rules in
+    let reads = rw (← c.self.view_is) at (c.taker-pid.ensures c.self.inside.state.started.store.frames c.self.inside.state.started.channels.items) in
+    let same : c.as_slice-channels.result.now ≡ c.self.inside.state.started.channels.items = search rules in
     let does = rw (same, reads) at c.take.ensures.value in
     rw (← c.self.view_is)
-    (taken_leads c.self.inside.program.now c.self.inside.channels.items c.self.inside.channels.items c.self.inside.seats.items c.self.inside.holder c.self.inside.lossy c.self.inside.store c.take.new.store _ c.take.result does)
+    (taken_leads c.self.inside.played c.self.inside.state.started.channels.items c.self.inside.state.started.channels.items c.self.inside.state.seats.items c.self.inside.state.holder c.self.inside.state.lossy c.self.inside.state.started.store c.take.new.store _ c.take.result does)

@@ -6,8 +6,8 @@ use Rattle.pml_steps.proofs.live.Live.taker.Goals as goal
 
 pub overflow_cast-result : goal.overflow_cast-result
 overflow_cast-result c =
-    let seats = c.self.inside.seats.items in
-    let some : c.args.process < length (map (stand_of c.self.inside.program.now) seats) = rw (← c.self.view_is) at c.requires in
-    let count : length c.self.inside.kinds.items ≡ length seats = ap length c.self.invariant.seated ∙ length-map seats (λ (x : Seat). x.kind) in
-    let stands = length-map seats (stand_of c.self.inside.program.now) in
+    let seats = c.self.inside.state.seats.items in
+    let some : c.args.process < length (map (stand_of c.self.inside.played) seats) = rw (← c.self.view_is) at c.requires in
+    let count : length c.self.inside.state.started.kinds.items ≡ length seats = ap length c.self.invariant.seated ∙ length-map seats (λ (x : Seat). x.kind) in
+    let stands = length-map seats (stand_of c.self.inside.played) in
     omega (arith, some, count, stands, c.self.invariant.declared.few)

@@ -2,7 +2,7 @@ use Rattle.std.proofs.Common.{◌≡◌, ◌∙◌, ap, length, rules}
 use Rattle.pml_start.specs.Begin.{Begun, shown}
 use Rattle.pml_start.proofs.Shapes.{OnOk-always, OnErr-always}
 use Rattle.pml_start.proofs.Creating.{process_sizes, process_shape, past, dropped}
-use Rattle.pml_start.proofs.create.create_process.Goals as goal
+use Rattle.pml_start.proofs.create.create.Goals as goal
 
 pub begin_youngest-begun-requires-clause-there : goal.begin_youngest-begun-requires-clause-there
 begin_youngest-begun-requires-clause-there c =

@@ -2,7 +2,7 @@ use Rattle.std.proofs.Common.{◌≡◌, drop}
 use Rattle.pml_start.specs.Begin.{shown}
 use Rattle.pml_start.specs.Bound.{most_cells}
 use Rattle.pml_start.specs.Start.{IsDeclared, first_state, kinds_begun}
-use Rattle.pml_start.proofs.start.start.Given as goal
+use Rattle.pml_start.proofs.start.start_by.Given as goal
 
 -- what is begun by now, and then the processes of the other proctypes, is the first state
 abbrev pub invariant-loop-kind : goal.invariant-loop-kind

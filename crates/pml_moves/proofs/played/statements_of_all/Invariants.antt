@@ -1,7 +1,7 @@
 use Rattle.std.proofs.Common.{◌≡◌, take, map}
 use Rattle.pml_program.specs.declared.program.Proctype.{Proctype}
 use Rattle.pml_moves.specs.Scene.{statements_of}
-use Rattle.pml_steps.proofs.live.statements_of_all.Given as goal
+use Rattle.pml_moves.proofs.played.statements_of_all.Given as goal
 
 -- those of the proctypes so far
 abbrev pub invariant-loop-proctype : goal.invariant-loop-proctype

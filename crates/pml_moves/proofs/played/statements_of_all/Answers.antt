@@ -2,7 +2,7 @@ use Rattle.std.proofs.Common.{◌≡◌, ◌∙◌, ◌++◌, ◌∷◌, [], ap,
 use Rattle.std.proofs.lemmas.List.{take_all, map_more}
 use Rattle.pml_program.specs.declared.program.Proctype.{Proctype}
 use Rattle.pml_moves.specs.Scene.{statements_of}
-use Rattle.pml_steps.proofs.live.statements_of_all.Goals as goal
+use Rattle.pml_moves.proofs.played.statements_of_all.Goals as goal
 
 pub loop-proctype-preserved : goal.loop-proctype-preserved
 loop-proctype-preserved c =

@@ -3,7 +3,7 @@ use Rattle.pml_moves.specs.declared.scene.Body.{Body}
 use Rattle.pml_moves.specs.State.{body_of}
 use Rattle.pml_moves.specs.Scene.{IsBody}
 use Rattle.pml_moves.proofs.Placing.{something_left, nothing_left}
-use Rattle.pml_moves.proofs.scene.standing.Goals as goal
+use Rattle.pml_moves.proofs.scene.Scene.standing.Goals as goal
 
 pub returns-then-has_node-clause-left : goal.returns-then-has_node-clause-left
 returns-then-has_node-clause-left c =
@@ -21,13 +21,13 @@ pub returns-then-seat-eq0-clause-closed : goal.returns-then-seat-eq0-clause-clos
 returns-then-seat-eq0-clause-closed c none =
     let k : Body = c.in_ok-body.body in
     let h : IsBody k = search rules in
-    let e : body_of c.args.scene.now.program.now c.args.seat.kind ≡ Some k.proctype.now.body = search rules in
-    nothing_left c.args.scene.now c.args.seat k h e (inl c.if-seat-eq0.true)
+    let e : body_of c.args.self.now.program c.args.seat.kind ≡ Some k.proctype.now.body = search rules in
+    nothing_left c.args.self.now.program c.args.seat k h e (inl c.if-seat-eq0.true)
 
 pub returns-else-has_node-clause-closed : goal.returns-else-has_node-clause-closed
 returns-else-has_node-clause-closed c none =
     let k : Body = c.in_ok-body.body in
     let h : IsBody k = search rules in
-    let e : body_of c.args.scene.now.program.now c.args.seat.kind ≡ Some k.proctype.now.body = search rules in
+    let e : body_of c.args.self.now.program c.args.seat.kind ≡ Some k.proctype.now.body = search rules in
     let l : length k.graph.now.nodes ≤ c.args.seat.node = search rules in
-    nothing_left c.args.scene.now c.args.seat k h e (inr l)
+    nothing_left c.args.self.now.program c.args.seat k h e (inr l)

@@ -5,7 +5,7 @@ use Rattle.pml_start.specs.Begin.{shown}
 use Rattle.pml_start.specs.Bound.{bound}
 use Rattle.pml_start.specs.Start.{kinds_begun}
 use Rattle.pml_start.proofs.Bounding.{first_bounded}
-use Rattle.pml_start.proofs.start.start.Goals as goal
+use Rattle.pml_start.proofs.start.start_by.Goals as goal
 
 pub returns-clause-bounded : goal.returns-clause-bounded
 returns-clause-bounded c =
