@@ -5,12 +5,12 @@ ghost use Rattle.pml_tree.specs.declared.tree.Scalar.TheVariants.{Byte, Short};
 
 use crate::beginnings::slot;
 use pml_channel::channel::Channel;
-use pml_token::token::{Kind, Token};
 use pml_program::expr::{Expr, Target, Turn};
 use pml_program::form::Form;
 use pml_program::program::{Initial, Slot};
 use pml_store::place::Place;
 use pml_store::store::Store;
+use pml_token::token::{Kind, Token};
 use pml_tree::tree::{Infix, Scalar};
 use pml_value::live_channel::LiveChannel;
 use pml_value::message::Taker;

@@ -4,12 +4,12 @@
 //! `+offset:length*stride[index]`. A variable is its type, its name, `[]` where it is an array, `+offset:length*stride`, and what it
 //! begins with. Each statement stands on a line of its own, behind its labels.
 use crate::signs::{infix, prefix};
-use pml_token::token::Token;
 use pml_program::expr::{Expr, Target, Turn, Want};
 use pml_program::form::Form;
 use pml_program::program::{
     Action, Basic, Fields, Initial, Proctype, Program, Run, Seq, Slot, Stmt,
 };
+use pml_token::token::Token;
 use pml_tree::tree::{Fill, Removal, Scalar, Search, SendOrder};
 use row_files::Writer;
 use sqlite_items::Items;

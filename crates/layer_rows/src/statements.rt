@@ -2,8 +2,8 @@
 //!
 //! A statement that is a step by itself has a line with the line of its first token, and its tokens in brackets. An `if`, a `do` and a
 //! `d_step` have the same with their word, and behind them the statements in them; braces, `atomic` and `unless` have those alone.
-use pml_token::token::Token;
 use pml_program::program::{Basic, Program, Seq, Stmt};
+use pml_token::token::Token;
 use row_files::Writer;
 use sqlite_items::Items;
 

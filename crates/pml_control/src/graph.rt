@@ -4,8 +4,8 @@ ghost use Rattle.std.specs.Prelude.{◌≡◌, ℕ, ◌<◌, ◌++◌, ◌∷◌
 ghost use Rattle.pml_control.specs.Graph.{nodes_closed, last_of, nodes_in, nodes_part, nodes_list, nodes_parts, nodes_of};
 
 use crate::node::Node;
-use pml_token::token::Token;
 use pml_program::program::{Action, Basic, Seq, Stmt};
+use pml_token::token::Token;
 use std::alloc::{AllocError, Global};
 
 /// The nodes of a body. What follows a statement has a number below the statement's, and a label's node is the last that has it.

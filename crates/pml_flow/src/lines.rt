@@ -5,8 +5,8 @@ ghost use Rattle.std.specs.Option.{option_copied};
 ghost use Rattle.pml_flow.specs.Marks.{first_line, line_of, lines_from};
 
 use crate::statements::Statements;
-use pml_token::token::Token;
 use pml_program::program::Stmt;
+use pml_token::token::Token;
 use std::alloc::{AllocError, Global};
 
 /// The line of the first token, or of the closing brace.

@@ -5,8 +5,8 @@ ghost use Rattle.std.specs.Option.{option_copied};
 ghost use Rattle.pml_flow.specs.Marks.{is_end, any_end, has_end, mark, mark_if, marked};
 
 use crate::statements::Statements;
-use pml_token::token::Token;
 use pml_program::program::Stmt;
+use pml_token::token::Token;
 use std::alloc::{AllocError, Global};
 
 /// Whether a label begins with `end`.

@@ -10,8 +10,8 @@ use crate::lines::first_line;
 use crate::parts::part;
 use crate::statements::Statements;
 use itoa::Buffer;
-use pml_token::token::Token;
 use pml_program::program::{Basic, Stmt};
+use pml_token::token::Token;
 use std::alloc::{AllocError, Global};
 use std::marker::Model;
 

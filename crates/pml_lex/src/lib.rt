@@ -16,9 +16,9 @@ ghost use Rattle.profile.specs.declared.TheConstants.{MOST_TEXT_BYTES};
 use fault::LexFault;
 use limits::first_left_out;
 use piece::{Piece, is_blank, next};
+use pml_token::token::Token;
 use profile::MOST_TEXT_BYTES;
 use std::alloc::Global;
-use pml_token::token::Token;
 
 /// What a text that is skipped leads to.
 #[derive(Clone, Copy)]

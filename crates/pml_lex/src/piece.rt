@@ -5,8 +5,8 @@ ghost use Rattle.std.specs.List.{prefix_len};
 ghost use Rattle.pml_lex.specs.Pieces as pieces;
 ghost use Rattle.pml_lex.specs.Scanning as scanning;
 
-use pml_token::token::Kind;
 use crate::words::{sign_of_one, sign_of_two, word_kind};
+use pml_token::token::Kind;
 
 /// What a byte begins.
 #[derive(Clone, Copy, Debug, PartialEq, Eq)]

@@ -9,9 +9,9 @@ ghost use Rattle.pml_lines.specs.Changes.{proctype_name, local_heading, heading_
 use crate::place::place_line;
 use crate::tables::Tables;
 use itoa::Buffer;
-use pml_token::token::{Kind, Token, same_kind};
 use pml_program::program::{Proctype, Slot};
 use pml_store::store::Store;
+use pml_token::token::{Kind, Token, same_kind};
 use std::alloc::{AllocError, Global};
 use std::collections::BTreeMap;
 

@@ -9,9 +9,9 @@ use crate::tables::Tables;
 use itoa::Buffer;
 use pml_cells::cells::remainder;
 use pml_cells::typedefs::Typedefs;
-use pml_token::token::Token;
 use pml_program::form::Form;
 use pml_program::program::Slot;
+use pml_token::token::Token;
 use pml_tree::tree::Scalar;
 use std::alloc::AllocError;
 

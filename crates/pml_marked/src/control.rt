@@ -5,8 +5,8 @@ use crate::spans::nth_place;
 use pml_causes::brackets::closing;
 use pml_causes::cause::{Cause, ControlCause, Finding, Named, Place};
 use pml_causes::place::{place_of, untold};
-use pml_token::token::{Kind, Token, same_kind};
 use pml_marks::mark::{Mark, What};
+use pml_token::token::{Kind, Token, same_kind};
 use std::alloc::{AllocError, Global};
 
 /// How many breaks these marks are.

@@ -7,8 +7,8 @@ ghost use Rattle.pml_printed.specs.Printed.{converted, escaped, printed_byte, be
 
 use crate::digits::add_digits;
 use itoa::Buffer;
-use pml_token::token::Token;
 use pml_lines::place::named;
+use pml_token::token::Token;
 use std::alloc::AllocError;
 
 /// What stands before a byte of a string and says how it is read.

@@ -15,7 +15,6 @@ use pml_conditions::first::first_broken;
 use pml_inline::expand;
 use pml_inline::fault::InlineFault;
 use pml_lex::fault::LexFault;
-use pml_token::token::Token;
 use pml_marked::control::{of_break, of_step};
 use pml_marked::counts::{of_count, of_label};
 use pml_marked::names::{of_twice, of_unknown};
@@ -25,6 +24,7 @@ use pml_marked::wrong::of_wrong;
 use pml_marks::mark::Mark;
 use pml_names::names::all_names;
 use pml_places::placed;
+use pml_token::token::Token;
 use std::alloc::{AllocError, Global};
 
 /// The condition on the marks that a refusal is about.

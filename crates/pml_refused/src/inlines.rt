@@ -4,8 +4,8 @@ use crate::inner::of_calls;
 use pml_causes::cause::{Cause, Finding, InlineCause};
 use pml_causes::definitions::{Definition, definitions, is_called};
 use pml_causes::place::{at_token, named, untold};
-use pml_token::token::Token;
 use pml_names::places::Places;
+use pml_token::token::Token;
 use std::alloc::{AllocError, Global};
 
 /// The names of two definitions that are the same, as they stand among the tokens.

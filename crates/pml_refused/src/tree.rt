@@ -3,10 +3,10 @@
 use diagnostics::Refusal;
 use pml_check::parsed::Parsed;
 use pml_check::{CheckFault, check};
-use pml_token::token::Token;
 use pml_marks::mark::Mark;
 use pml_marks::model::marks;
 use pml_syntax::{SyntaxFault, parse};
+use pml_token::token::Token;
 use pml_tree::tree::Tree;
 use sqlite_items::Items;
 use std::alloc::{AllocError, Global};

@@ -1,7 +1,7 @@
 //! How far tokens are read, as they stand or with a change.
 
-use pml_token::token::{Kind, Token};
 use pml_syntax::{SyntaxFault, parse};
+use pml_token::token::{Kind, Token};
 use std::alloc::{AllocError, Global};
 
 /// A change of one token.

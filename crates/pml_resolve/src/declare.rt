@@ -9,7 +9,6 @@ ghost use Rattle.pml_resolve.specs.Declarations.{known, natural, plain, initial,
 
 use crate::expression::expr;
 use crate::room::room_for;
-use pml_token::token::Token;
 use pml_marks::constant::constant;
 use pml_marks::mark::{Constant, Declared, Makes, Role, What};
 use pml_names::names::Names;
@@ -17,6 +16,7 @@ use pml_names::table::Table;
 use pml_names::thing::Thing;
 use pml_program::form::Form;
 use pml_program::program::{Initial, Slot};
+use pml_token::token::Token;
 use pml_tree::tree::{Expr as TreeExpr, Initial as TreeInitial, Scalar, Sort, Variable};
 use sqlite_items::{Boxed, Items};
 use std::alloc::{AllocError, Global};

@@ -9,12 +9,12 @@ ghost use Rattle.pml_resolve.specs.Model.{count, made, with_process, with_unit, 
 
 use crate::declare::{declare, natural, variables};
 use crate::statement::seq;
-use pml_token::token::Token;
 use pml_marks::constant::constant;
 use pml_marks::mark::{Declared, Role, What};
 use pml_names::names::Names;
 use pml_names::table::Table;
 use pml_program::program::{Fields, Proctype, Program};
+use pml_token::token::Token;
 use pml_tree::tree::{Proctype as TreeProctype, Starts, Tree, Unit, Variable};
 use sqlite_items::Items;
 use std::alloc::{AllocError, Global};

@@ -8,11 +8,11 @@ ghost use Rattle.pml_resolve.specs.Statements.{each, two, stmts, numbered_basic,
 use crate::action::action;
 use crate::declare::variables;
 use crate::room::room_for;
-use pml_token::token::Token;
 use pml_marks::mark::Role;
 use pml_names::names::Names;
 use pml_names::table::Table;
 use pml_program::program::{Basic, Seq, Slot, Stmt};
+use pml_token::token::Token;
 use pml_tree::tree::{Basic as TreeBasic, Item, Seq as TreeSeq};
 use sqlite_items::Items;
 use std::alloc::{AllocError, Global};

@@ -7,10 +7,10 @@ ghost use Rattle.pml_lines.specs.Changes.{proctype_name};
 ghost use Rattle.pml_texts.specs.Texts.{heading as heading_of, line};
 
 use itoa::Buffer;
-use pml_token::token::{Kind, Token, same_kind};
 use pml_lines::change::proctype_name;
 use pml_moves::scene::Seat;
 use pml_program::program::{Proctype, Program};
+use pml_token::token::{Kind, Token, same_kind};
 use std::alloc::AllocError;
 
 /// Appends `proc P (NAME) `.
