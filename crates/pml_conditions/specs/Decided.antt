@@ -74,17 +74,3 @@ pub record AreFound (ms : List Mark) (found : Found) : Type 0 where
   pub label : Finds found.label (broken condition.Label ms) ms
   pub range : Finds found.range (broken condition.Range ms) ms
   pub cells : Finds found.cells (broken condition.Cells ms) ms
-
--- the numbers of the conditions, in the order in which they are asked
-abbrev pub number : Condition → ℕ
-number condition.Twice = 6
-number condition.Unknown = 7
-number condition.Wrong = 8
-number condition.Arguments = 9
-number condition.Label = 10
-number condition.Break = 11
-number condition.Step = 12
-number condition.Range = 14
-number condition.Cells = 15
-number condition.NoProcess = 16
-number condition.Start = 17

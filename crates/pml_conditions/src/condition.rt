@@ -1,9 +1,6 @@
 //! The conditions, by number. Holzmann, The SPIN Model Checker, chapters 3 and 7 and its reference pages, has the language; the bounds are
 //! this simulator's own.
 
-ghost use Rattle.std.specs.Prelude.{◌≡◌};
-ghost use Rattle.pml_conditions.specs.Decided.{number};
-
 /// A condition that a model may break. Each refuses it by itself; the one with the least number is answered.
 #[derive(Clone, Copy, Debug, PartialEq, Eq)]
 pub enum Condition {
@@ -29,23 +26,4 @@ pub enum Condition {
     NoProcess,
     /// Too many processes or channels in the first state.
     Start,
-}
-
-/// The number by which a condition is answered.
-pub fn number(condition: Condition) -> u8
-    ensures { result ≡ number condition }
-{
-    match condition {
-        Condition::Twice => 6,
-        Condition::Unknown => 7,
-        Condition::Wrong => 8,
-        Condition::Arguments => 9,
-        Condition::Label => 10,
-        Condition::Break => 11,
-        Condition::Step => 12,
-        Condition::Range => 14,
-        Condition::Cells => 15,
-        Condition::NoProcess => 16,
-        Condition::Start => 17,
-    }
 }

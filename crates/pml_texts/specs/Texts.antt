@@ -2,6 +2,7 @@
 -- no text.
 use Rattle.std.specs.Prelude.{ℕ, ◌<◌, List, [], ◌∷◌, ◌++◌, Option, Some, None, if◌then◌else◌, slice_get, codes}
 use Rattle.std.specs.Fmt.{decimal}
+use Rattle.profile.specs.Characters.{line_feed}
 use Rattle.pml_program.specs.declared.program.Proctype.{Proctype}
 use Rattle.pml_program.specs.declared.program.Program.{Program}
 use Rattle.pml_control.specs.Control.{Control}
@@ -76,7 +77,7 @@ origin_of s (Pair k j t) = (k.process, line_in (picked s k))
 
 -- `at: proc P (NAME) line L`
 abbrev pub stuck_line : ℕ → Proctype → ℕ → List ℕ
-stuck_line p q n = codes "at: " ++ (heading p q ++ (line n ++ 10 ∷ []))
+stuck_line p q n = codes "at: " ++ (heading p q ++ (line n ++ line_feed ∷ []))
 
 -- where process p may not end, with the line of what stands first
 abbrev pub stuck_at : ℕ → Option Proctype → Control → List ℕ
