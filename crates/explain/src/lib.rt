@@ -2,6 +2,7 @@
 #![tactic(auto)]
 
 mod counts;
+mod foreign;
 mod message;
 mod names;
 mod position;

@@ -1,5 +1,6 @@
 //! What is told of names.
 
+use crate::foreign::advice;
 use crate::message::Message;
 use pml_causes::cause::{Named, Sort, TwiceCause, UnknownCause, WrongCause};
 use std::alloc::AllocError;
@@ -106,6 +107,14 @@ pub fn of_unknown(message: &mut Message<'_>, cause: UnknownCause<'_>) -> Result<
         ),
         UnknownCause::Instead(first, sort) => {
             is_instead(message, first, sort, "), where a variable is wanted")
+        }
+        UnknownCause::Foreign(name, foreign) => {
+            message.around("", name, " is declared nowhere: ")?;
+            message.push(advice(foreign))
+        }
+        UnknownCause::Word(name, word) => {
+            message.name(name)?;
+            message.around("; did you mean ", word, "?")
         }
         UnknownCause::Field(field, holder, near) => no_field(message, field, holder, near),
     }

@@ -1,5 +1,6 @@
 //! What is told of texts, words that are left out, and tokens that no rule reads.
 
+use crate::foreign::{tell_classes, tell_foreign};
 use crate::message::Message;
 use pml_causes::cause::{Named, SyntaxCause, TextCause, Wanted};
 use profile::{MOST_IN_A_ROW, MOST_OPEN, MOST_TEXT_BYTES};
@@ -194,6 +195,44 @@ fn wants_inline(
     }
 }
 
+/// `::` and a condition are wanted.
+fn wants_options(message: &mut Message<'_>, word: &[u8]) -> Result<(), AllocError> {
+    message.around("`::` is wanted behind ", word, "")?;
+    message.push(match word {
+        b"if" => ", as in `if :: x == 1 -> .. :: else -> .. fi`",
+        _ => ", as in `do :: x < 3 -> .. :: else -> break od`",
+    })
+}
+
+/// What closes is wanted in front of the token.
+fn wants_closer_before(message: &mut Message<'_>, opener: Named<'_>) -> Result<(), AllocError> {
+    message.push(closer(opener.name))?;
+    message.placed(" is wanted before it, for the ", opener, " of ", "")
+}
+
+/// What is told of names, where something of theirs is wanted.
+fn wants_of_name(message: &mut Message<'_>, wanted: Wanted<'_>) -> Result<(), AllocError> {
+    match wanted {
+        Wanted::Parameters(name) => {
+            message.around(
+                "`()` or parameters in parentheses are wanted behind ",
+                name,
+                "",
+            )
+        }
+        Wanted::RunOf(proctype) => {
+            message.placed("", proctype, " is a proctype (", "): ")?;
+            message.around("write `run` in front of ", proctype.name, "")
+        }
+        Wanted::Word(name, word) => {
+            message.around("", name, " is no word here")?;
+            message.around("; did you mean ", word, "?")
+        }
+        Wanted::CloserBefore(opener) => wants_closer_before(message, opener),
+        wanted => wants_sign(message, wanted),
+    }
+}
+
 /// What is wanted for a separator.
 fn wants_sign(message: &mut Message<'_>, wanted: Wanted<'_>) -> Result<(), AllocError> {
     match wanted {
@@ -210,8 +249,9 @@ fn wants_sign(message: &mut Message<'_>, wanted: Wanted<'_>) -> Result<(), Alloc
         Wanted::Arguments(name) => {
             message.around("`(` and the arguments are wanted behind ", name, "")
         }
-        Wanted::Options(word) => message.around("`::` is wanted behind ", word, ""),
+        Wanted::Options(word) => wants_options(message, word),
         Wanted::Nothing => message.push("it is one too many"),
+        Wanted::Comma => message.push("a `,` is wanted before it"),
         _ => message.push("it cannot stand here"),
     }
 }
@@ -237,7 +277,8 @@ fn wants(message: &mut Message<'_>, wanted: Wanted<'_>) -> Result<(), AllocError
             "an assignment with an operator is left out: write `x = x + 1` for `x += 1`",
         ),
         Wanted::Inline(name, later) => wants_inline(message, name, later),
-        wanted => wants_sign(message, wanted),
+        Wanted::OneOf(classes) => tell_classes(message, classes),
+        wanted => wants_of_name(message, wanted),
     }
 }
 
@@ -251,5 +292,8 @@ pub fn of_syntax(message: &mut Message<'_>, cause: SyntaxCause<'_>) -> Result<()
         return message.push("nothing is declared");
     }
     message.around("", cause.found, " found: ")?;
-    wants(message, cause.wanted)
+    match cause.wanted {
+        Wanted::Foreign(foreign, word) => tell_foreign(message, cause.found, foreign, word),
+        wanted => wants(message, wanted),
+    }
 }

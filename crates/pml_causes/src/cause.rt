@@ -1,5 +1,7 @@
 //! Why a model is refused: what is told of it, and where it lies.
 
+use crate::foreign::Foreign;
+
 /// A part of a text: how many bytes stand before it, and how many it has.
 #[derive(Clone, Copy)]
 pub struct Place {
@@ -68,8 +70,42 @@ pub enum Wanted<'t> {
     Arguments(&'t [u8]),
     /// Nothing: without the token it is read.
     Nothing,
+    /// A word or a form of another language; of a word the word itself.
+    Foreign(Foreign, &'t [u8]),
+    /// `()` and the parameters of a proctype of this name.
+    Parameters(&'t [u8]),
+    /// `run` in front of this proctype, which is called as a function.
+    RunOf(Named<'t>),
+    /// A word of the language that this name is near to.
+    Word(&'t [u8], &'static [u8]),
+    /// What closes this, in front of the token.
+    CloserBefore(Named<'t>),
+    /// A `,` in front of the token.
+    Comma,
+    /// One of these.
+    OneOf(Classes),
     /// More than one thing may stand there.
     Untold,
+}
+
+/// What may stand at a place.
+#[derive(Clone, Copy, PartialEq, Eq)]
+pub enum Class {
+    Statement,
+    Expression,
+    Name,
+    Type,
+    Unit,
+    String,
+    /// A sign or a word that stands for itself.
+    Sign(&'static str),
+    Operator,
+}
+
+/// At most four of what may stand at a place.
+#[derive(Clone, Copy)]
+pub struct Classes {
+    pub list: [Option<Class>; 4],
 }
 
 /// Of tokens that no tree spells: the token where it shows, and what was wanted there.
@@ -112,6 +148,10 @@ pub enum UnknownCause<'t> {
     Elsewhere(Named<'t>),
     /// It is something else.
     Instead(Named<'t>, Sort),
+    /// It is a word of another language.
+    Foreign(&'t [u8], Foreign),
+    /// It is near to a word of the language.
+    Word(&'t [u8], &'static [u8]),
     /// A field that this typedef lacks, and the nearest field.
     Field(&'t [u8], Named<'t>, Option<Named<'t>>),
 }

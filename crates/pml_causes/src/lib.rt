@@ -6,5 +6,6 @@ pub mod brackets;
 pub mod cause;
 pub mod circle;
 pub mod definitions;
+pub mod foreign;
 pub mod lexical;
 pub mod place;

@@ -4,7 +4,7 @@
 pub mod control;
 pub mod counts;
 pub mod names;
-mod near;
+pub mod near;
 pub mod range;
 mod sign;
 pub mod spans;

@@ -1,12 +1,13 @@
 //! Names that stand twice, and names that are not declared.
 
-use crate::near::{Wish, nearest};
+use crate::near::{Wish, nearest, nearest_word};
 use crate::sign::{
     Matter, Sign, Sought, behind, first_name, front, is_declared, meaning, place_of_name, sign_at,
     steps_at,
 };
 use crate::walk::{End, name_at, walk_behind};
 use pml_causes::cause::{Cause, Finding, Named, Sort, TwiceCause, UnknownCause};
+use pml_causes::foreign::foreign_word;
 use pml_causes::place::{at_place, untold};
 use pml_marks::mark::{Mark, Shape};
 use pml_names::meaning::is_special;
@@ -110,6 +111,17 @@ fn declaring(all: usize, at: usize, sort: Sort) -> usize {
     }
 }
 
+/// Of a name that is declared nowhere and has none near it: a word of another language, or one that is near to a word of this one.
+fn no_name<'t>(alloc: Global, name: &'t [u8], sort: Sort) -> Result<UnknownCause<'t>, AllocError> {
+    if let Some(foreign) = foreign_word(name) {
+        return Ok(UnknownCause::Foreign(name, foreign));
+    }
+    match nearest_word(alloc, name)? {
+        Some(word) => Ok(UnknownCause::Word(name, word)),
+        None => Ok(UnknownCause::Nowhere(sort, name, None)),
+    }
+}
+
 /// Of a name that is declared nowhere.
 fn nowhere<'t>(
     alloc: Global,
@@ -118,8 +130,10 @@ fn nowhere<'t>(
     name: Named<'t>,
     wish: Wish,
 ) -> Result<Option<Unknown<'t>>, AllocError> {
-    let near = nearest(alloc, text, seen, wish, name.name)?;
-    let cause = UnknownCause::Nowhere(wish.sort, name.name, near);
+    let cause = match nearest(alloc, text, seen, wish, name.name)? {
+        Some(near) => UnknownCause::Nowhere(wish.sort, name.name, Some(near)),
+        None => no_name(alloc, name.name, wish.sort)?,
+    };
     Ok(Some(Unknown { name, cause }))
 }
 

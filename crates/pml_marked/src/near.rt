@@ -58,6 +58,74 @@ fn distance(alloc: Global, name: &[u8], other: &[u8]) -> Result<Option<usize>, A
     }
 }
 
+/// The words that begin something, or stand for a value.
+const WORDS: [&[u8]; 43] = [
+    b"active",
+    b"assert",
+    b"atomic",
+    b"bool",
+    b"break",
+    b"byte",
+    b"chan",
+    b"d_step",
+    b"else",
+    b"empty",
+    b"eval",
+    b"false",
+    b"full",
+    b"goto",
+    b"hidden",
+    b"init",
+    b"inline",
+    b"int",
+    b"local",
+    b"mtype",
+    b"nempty",
+    b"nfull",
+    b"printf",
+    b"printm",
+    b"proctype",
+    b"run",
+    b"select",
+    b"short",
+    b"show",
+    b"skip",
+    b"timeout",
+    b"true",
+    b"typedef",
+    b"unless",
+    b"unsigned",
+    b"for",
+    b"bit",
+    b"pid",
+    b"len",
+    b"of",
+    b"do",
+    b"if",
+    b"od",
+];
+
+/// Shorter names are near to no word.
+const LEAST_NEAR: usize = 3;
+
+/// The nearest word of the language.
+pub fn nearest_word(alloc: Global, name: &[u8]) -> Result<Option<&'static [u8]>, AllocError> {
+    let mut least = usize::MAX;
+    let mut found = None;
+    if name.len() < LEAST_NEAR {
+        return Ok(None);
+    }
+    for word in &WORDS {
+        if let Some(count) = distance(alloc, name, *word)? {
+            if count < least {
+                least = count;
+                found = Some(*word);
+            }
+        }
+    }
+    Ok(found)
+}
+
 /// The nearest name among those of the marks that may stand there.
 pub fn nearest<'t>(
     alloc: Global,

@@ -2,7 +2,9 @@
 #![tactic(auto)]
 
 mod calls;
+mod classes;
 mod find;
+mod forms;
 mod initialiser;
 mod inlines;
 mod inner;
@@ -10,5 +12,7 @@ mod stopped;
 mod syntax;
 mod tree;
 mod trial;
+mod unclosed;
+mod words;
 
 pub use find::cause_of;

@@ -1,12 +1,16 @@
 //! Where no rule reads the tokens, and what was wanted there.
 
+use crate::classes::classes_at;
+use crate::forms::{form_at, form_within, is_left_open, is_statement};
 use crate::stopped::{
     Neighbours, begins_line, is_before, name_at, name_before, neighbours_of, opener_before,
 };
 use crate::trial::{Change, reads_on, stop};
-use pml_causes::brackets::fits;
+use crate::unclosed::{Brackets, brackets_of};
+use crate::words::{foreign_beside, near_beside, proctype_beside};
 use pml_causes::cause::{Cause, Finding, Named, Place, SyntaxCause, Wanted};
-use pml_causes::place::{at_place, closes, end_of, is_at, kind_at, named, untold};
+use pml_causes::foreign::Foreign;
+use pml_causes::place::{at_place, end_of, is_at, kind_at, named, untold};
 use pml_token::token::{Kind, Token, same_kind};
 use std::alloc::{AllocError, Global};
 
@@ -41,8 +45,27 @@ fn by_neighbours<'t>(text: &'t [u8], tokens: &[Token<'_>], at: usize) -> Option<
     }
 }
 
-/// What is told without reading the tokens once more: a call of an inline that is not defined before it, or what the neighbours tell.
-fn by_tokens<'t>(
+/// What is told by a word or a form of another language, or by the name of a proctype.
+fn by_forms<'t>(text: &'t [u8], tokens: &[Token<'_>], at: usize) -> Option<Wanted<'t>> {
+    if let Some(wanted) = foreign_beside(text, tokens, at) {
+        return Some(wanted);
+    }
+    match form_at(tokens, at) {
+        Some(form) => Some(Wanted::Foreign(form, &text[..0])),
+        None => proctype_beside(text, tokens, at),
+    }
+}
+
+/// What is told by the token and those in front of it, where it is no word that is only mistyped.
+fn by_tokens<'t>(text: &'t [u8], tokens: &[Token<'_>], at: usize) -> Option<Wanted<'t>> {
+    match by_neighbours(text, tokens, at) {
+        Some(wanted) => Some(wanted),
+        None => by_forms(text, tokens, at),
+    }
+}
+
+/// Of a call of an inline that is not defined before it.
+fn by_call<'t>(
     text: &'t [u8],
     originals: &[Token<'_>],
     tokens: &[Token<'_>],
@@ -50,9 +73,46 @@ fn by_tokens<'t>(
 ) -> Option<Wanted<'t>> {
     if is_call(tokens, at) {
         let name = name_before(text, tokens, at, 1).name;
-        return Some(Wanted::Inline(name, definition_of(text, originals, name)));
+        Some(Wanted::Inline(name, definition_of(text, originals, name)))
+    } else {
+        None
     }
-    by_neighbours(text, tokens, at)
+}
+
+/// What is told by what is open at the token, where it is open there.
+fn within<'t>(
+    text: &'t [u8],
+    tokens: &[Token<'_>],
+    opener: usize,
+    at: usize,
+) -> Option<Wanted<'t>> {
+    if let Some(form) = form_within(tokens, opener, at) {
+        return Some(Wanted::Foreign(form, &text[..0]));
+    }
+    if is_left_open(tokens, opener, kind_at(tokens, at)) {
+        Some(Wanted::CloserBefore(name_at(text, tokens, opener)))
+    } else {
+        None
+    }
+}
+
+/// What is told by what is open at the token.
+fn by_opener<'t>(
+    text: &'t [u8],
+    tokens: &[Token<'_>],
+    opener: Option<usize>,
+    at: usize,
+) -> Option<Wanted<'t>> {
+    match opener {
+        Some(opener) => within(text, tokens, opener, at),
+        None => {
+            if is_statement(kind_at(tokens, at)) {
+                Some(Wanted::Foreign(Foreign::Outside, &text[..0]))
+            } else {
+                None
+            }
+        }
+    }
 }
 
 fn is_opener(tokens: &[Token<'_>], opener: Option<usize>) -> bool {
@@ -79,6 +139,7 @@ enum Trial {
     Run,
     Name,
     Nothing,
+    Comma,
     Untold,
 }
 
@@ -111,6 +172,9 @@ fn by_change(alloc: Global, tokens: &[Token<'_>], at: usize) -> Result<Trial, Al
     }
     if is_sign(kind) && reads_on(alloc, tokens, at, Change::Remove)? {
         return Ok(Trial::Nothing);
+    }
+    if reads_on(alloc, tokens, at, Change::Insert(Kind::Comma, b","))? {
+        return Ok(Trial::Comma);
     }
     Ok(Trial::Untold)
 }
@@ -150,6 +214,7 @@ fn by_trial<'t>(text: &'t [u8], tokens: &[Token<'_>], at: usize, trial: Trial) -
         Trial::Run => Wanted::NoRun,
         Trial::Name => Wanted::Name,
         Trial::Nothing => Wanted::Nothing,
+        Trial::Comma => Wanted::Comma,
         Trial::Untold => Wanted::Untold,
     }
 }
@@ -164,7 +229,35 @@ fn wanted_by_trial<'t>(
         return Ok(Wanted::OptionSign);
     }
     let trial = tried(alloc, tokens, at)?;
+    if let Trial::Untold = trial {
+        return one_of(alloc, tokens, at);
+    }
     Ok(by_trial(text, tokens, at, trial))
+}
+
+/// What may stand there, by class.
+fn one_of<'t>(alloc: Global, tokens: &[Token<'_>], at: usize) -> Result<Wanted<'t>, AllocError> {
+    match classes_at(alloc, tokens, at)? {
+        Some(classes) => Ok(Wanted::OneOf(classes)),
+        None => Ok(Wanted::Untold),
+    }
+}
+
+/// What is told of a name that is mistyped, of a call, or by reading the tokens once more.
+fn wanted_by_name<'t>(
+    alloc: Global,
+    text: &'t [u8],
+    originals: &[Token<'_>],
+    tokens: &[Token<'_>],
+    at: usize,
+) -> Result<Wanted<'t>, AllocError> {
+    if let Some(wanted) = near_beside(alloc, text, tokens, at)? {
+        return Ok(wanted);
+    }
+    match by_call(text, originals, tokens, at) {
+        Some(wanted) => Ok(wanted),
+        None => wanted_by_trial(alloc, text, tokens, at),
+    }
 }
 
 fn wanted_of<'t>(
@@ -174,69 +267,13 @@ fn wanted_of<'t>(
     tokens: &[Token<'_>],
     at: usize,
 ) -> Result<Wanted<'t>, AllocError> {
-    match by_tokens(text, originals, tokens, at) {
-        Some(wanted) => Ok(wanted),
-        None => wanted_by_trial(alloc, text, tokens, at),
-    }
-}
-
-/// What is told of brackets that do not fit.
-#[derive(Clone, Copy)]
-enum Brackets {
-    /// What this opens is closed by another token.
-    Other(usize),
-    /// Nothing is open.
-    Nothing,
-    /// All tokens were read, and what this opens is not closed.
-    Open(usize),
-    /// They fit.
-    Right,
-}
-
-/// Of a token that closes what this opens, or else nothing.
-fn closed_by(tokens: &[Token<'_>], opener: Option<usize>, at: usize) -> Brackets {
-    match opener {
-        Some(opener) => {
-            if fits(tokens, opener, at) {
-                Brackets::Right
-            } else {
-                Brackets::Other(opener)
-            }
-        }
-        None => Brackets::Nothing,
-    }
-}
-
-/// Of the last token, where this is open in front of its end.
-fn open_at_end(opener: Option<usize>) -> Brackets {
-    match opener {
-        Some(opener) => Brackets::Open(opener),
-        None => Brackets::Right,
-    }
-}
-
-/// What is open at the end of the text, where its last token is the one at `at`.
-fn at_end(alloc: Global, tokens: &[Token<'_>], at: usize) -> Result<Brackets, AllocError> {
-    if at.saturating_add(1) < tokens.len() {
-        return Ok(Brackets::Right);
-    }
-    let opener = opener_before(alloc, tokens, tokens.len())?;
-    Ok(open_at_end(opener))
-}
-
-/// What closes, where something else is open.
-fn at_closer(alloc: Global, tokens: &[Token<'_>], at: usize) -> Result<Brackets, AllocError> {
-    if !closes(kind_at(tokens, at)) {
-        return Ok(Brackets::Right);
-    }
     let opener = opener_before(alloc, tokens, at)?;
-    Ok(closed_by(tokens, opener, at))
-}
-
-fn brackets_of(alloc: Global, tokens: &[Token<'_>], at: usize) -> Result<Brackets, AllocError> {
-    match at_closer(alloc, tokens, at)? {
-        Brackets::Right => at_end(alloc, tokens, at),
-        wrong => Ok(wrong),
+    if let Some(wanted) = by_opener(text, tokens, opener, at) {
+        return Ok(wanted);
+    }
+    match by_tokens(text, tokens, at) {
+        Some(wanted) => Ok(wanted),
+        None => wanted_by_name(alloc, text, originals, tokens, at),
     }
 }
 

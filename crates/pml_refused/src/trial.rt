@@ -1,5 +1,6 @@
 //! How far tokens are read, as they stand or with a change.
 
+use pml_causes::place::between;
 use pml_syntax::{SyntaxFault, parse};
 use pml_token::token::{Kind, Token};
 use std::alloc::{AllocError, Global};
@@ -88,6 +89,25 @@ fn stop_of<'a>(alloc: Global, numbered: &'a [Token<'a>]) -> Result<Option<usize>
 pub fn stop(alloc: Global, tokens: &[Token<'_>]) -> Result<Option<usize>, AllocError> {
     let list = numbered(alloc, tokens)?;
     stop_of(alloc, &list)
+}
+
+/// Whether a token of this kind may stand in place of the one at `at`: the tokens in front of it are read with it behind them, and what
+/// is behind it is no token of that place, so reading stops at it or there.
+pub fn may_stand(
+    alloc: Global,
+    tokens: &[Token<'_>],
+    at: usize,
+    kind: Kind,
+    text: &'static [u8],
+) -> Result<bool, AllocError> {
+    let mut list = Vec::with_capacity(alloc, at.saturating_add(2))?;
+    for token in between(tokens, 0, at) {
+        add(token.kind(), token.text(), &mut list)?;
+    }
+    add(kind, text, &mut list)?;
+    add(Kind::Xs, b"xs", &mut list)?;
+    let place = stop_of(alloc, &list)?;
+    Ok(is_behind(place, at))
 }
 
 /// The first token that has to be read behind a change, so that it was of use.

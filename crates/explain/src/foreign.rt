@@ -1,0 +1,156 @@
+//! What is to be written in place of words and forms of other languages.
+
+use crate::message::Message;
+use pml_causes::cause::{Class, Classes};
+use pml_causes::foreign::Foreign;
+use std::alloc::AllocError;
+
+/// Of words of statements.
+fn of_statement(foreign: Foreign) -> &'static str {
+    match foreign {
+        Foreign::Loop => "a loop is `do :: x < 3 -> .. :: else -> break od`",
+        Foreign::Cases =>
+            "a choice of cases is `if :: x == 1 -> .. :: x == 2 -> .. :: else -> .. fi`",
+        Foreign::ElseIf =>
+            "a further case is another option, as in `if :: x == 1 -> .. :: x == 2 -> .. :: else -> .. fi`",
+        Foreign::Then => "an option is written `:: x == 1 -> ..`",
+        Foreign::EndIf => "`fi` ends an `if`",
+        Foreign::EndLoop => "`od` ends a `do`",
+        Foreign::Body => "a body stands between `{` and `}`",
+        Foreign::Print => "write `printf(\"..\\n\")`",
+        Foreign::Read =>
+            "nothing is read in a run: where an `if` has an option for each value you choose it",
+        Foreign::Sleep =>
+            "there is no time: a condition as a statement, as `x == 1`, waits until it holds",
+        Foreign::Wait => "a condition as a statement, as `x == 1`, waits until it holds",
+        Foreign::Continue =>
+            "a `do` begins again by itself behind its option; `goto` and a label leave the rest of one out",
+        Foreign::Exit =>
+            "a process ends at its closing brace: `goto` a label there, as `done: skip`",
+        Foreign::Lock =>
+            "a lock is a variable that is asked and set in one: `atomic { !locked -> locked = true }`",
+        Foreign::Try => "write `{ .. } unless { .. }`",
+        Foreign::Spawn => "a process is begun by `run P()`",
+        Foreign::Random => "write `select (x : 1 .. 6)`, and choose the number",
+        Foreign::Message => "a message is sent by `c ! 1` and received by `c ? x`",
+        _ => "",
+    }
+}
+
+/// Of words of declarations and values.
+fn of_declaration(foreign: Foreign) -> &'static str {
+    match foreign {
+        Foreign::Function =>
+            "there are no functions: an `inline f(a, b) { .. }` stands in place of its calls, and a `proctype` is run",
+        Foreign::Process => "write `proctype P() { .. }`",
+        Foreign::Constant =>
+            "a constant is a macro, `#define N 3`, which `spinprep` replaces, or a name of `mtype`",
+        Foreign::Variable => "a declaration begins with a type, as `byte x` or `int x`",
+        Foreign::Record => "write `typedef T { byte a; byte b }`",
+        Foreign::Enumeration => "write `mtype = { a, b }`",
+        Foreign::Number =>
+            "the types of numbers are `bit`, `byte`, `short`, `int` and `unsigned x : 8`",
+        Foreign::Truth => "write `bool`",
+        Foreign::Byte => "write `byte`",
+        Foreign::Text => "there are no strings but in `printf`: name things by `mtype`",
+        Foreign::Fraction =>
+            "there are no fractions: the types of numbers are `bit`, `byte`, `short`, `int` and `unsigned x : 8`",
+        Foreign::True => "write `true`",
+        Foreign::False => "write `false`",
+        Foreign::Nothing => "there is no such value: write 0, or a name of `mtype`",
+        Foreign::Include => "write `#include \"FILE\"`, which `spinprep` replaces",
+        Foreign::Main => "write `init { .. }`",
+        Foreign::To => "a range is written `1 .. 3`",
+        Foreign::In => "write `for (i : 0 .. 2)`, with the numbers of the elements",
+        foreign => of_statement(foreign),
+    }
+}
+
+/// Of signs and of words for them.
+fn of_sign(foreign: Foreign) -> &'static str {
+    match foreign {
+        Foreign::And => "write `&&`",
+        Foreign::Or => "write `||`",
+        Foreign::Not => "write `!`",
+        Foreign::Xor => "write `^`",
+        Foreign::Remainder => "write `%`",
+        Foreign::Quotient => "write `/`",
+        Foreign::Power => "there is no `**`: multiply, or shift by `<<`",
+        Foreign::Unequal => "write `!=` for `<>`",
+        Foreign::FatArrow => "write `->` for `=>`",
+        Foreign::ColonEquals => "write `=` for `:=`",
+        Foreign::ThreeEquals => "write `==` for `===`",
+        Foreign::Conditional => "a value by a condition is `(x == 1 -> 2 : 3)`, in parentheses",
+        Foreign::Prefix => "write `x++` or `x--`, with the sign behind",
+        Foreign::Postfix => "`x++` and `x--` are statements of their own, and have no value",
+        Foreign::Comparison =>
+            "`==` compares; an assignment is a statement of its own, and has no value",
+        Foreign::Counting => "write `for (i : 0 .. 9) { .. }`",
+        foreign => of_declaration(foreign),
+    }
+}
+
+/// What is to be written.
+pub fn advice(foreign: Foreign) -> &'static str {
+    match foreign {
+        Foreign::AssertText => "`assert` has one expression, and no text",
+        Foreign::InitParameters => "write `init { .. }`, without parentheses",
+        Foreign::Channel => "a channel is declared as `chan c = [2] of { byte }`",
+        Foreign::Size => "a size stands behind the name, as in `int a[5]`",
+        Foreign::ParameterType => "a parameter has a type, as in `proctype P(byte x; byte y)`",
+        Foreign::Width => "`unsigned` wants the number of its bits, as in `unsigned x : 8`",
+        Foreign::EmptyOption => "a statement is wanted behind `::`, for example `skip`",
+        Foreign::EmptyBody => "a statement is wanted between the braces, for example `skip`",
+        Foreign::Outside => "statements stand between the braces of a `proctype` or of `init`",
+        foreign => of_sign(foreign),
+    }
+}
+
+/// Adds what is told of a word or a form; the word is empty of a form.
+pub fn tell_foreign(
+    message: &mut Message<'_>,
+    found: &[u8],
+    foreign: Foreign,
+    word: &[u8],
+) -> Result<(), AllocError> {
+    if !word.is_empty() && word != found {
+        message.around("", word, " is no word here: ")?;
+    }
+    message.push(advice(foreign))
+}
+
+/// What a class is called.
+fn words_of(class: Class) -> &'static str {
+    match class {
+        Class::Statement => "a statement",
+        Class::Expression => "an expression",
+        Class::Name => "a name",
+        Class::Type => "a type",
+        Class::Unit => "a declaration or a proctype",
+        Class::String => "a string",
+        Class::Sign(sign) => sign,
+        Class::Operator => "an operator",
+    }
+}
+
+/// What stands between two classes of a list.
+fn joint(classes: Classes, at: usize) -> &'static str {
+    match at {
+        0 => "",
+        _ => match classes.list.get(at.saturating_add(1)) {
+            Some(Some(_)) => ", ",
+            _ => " or ",
+        },
+    }
+}
+
+/// Adds what may stand there.
+pub fn tell_classes(message: &mut Message<'_>, classes: Classes) -> Result<(), AllocError> {
+    for (at, class) in classes.list.iter().enumerate() {
+        if let Some(class) = class {
+            message.push(joint(classes, at))?;
+            message.push(words_of(*class))?;
+        }
+    }
+    message.push(" may stand here")
+}
