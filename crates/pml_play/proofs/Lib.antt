@@ -8,3 +8,4 @@ pub mod Light
 pub mod Changing
 pub mod Plain
 pub mod Run
+pub mod EachPath

@@ -117,16 +117,16 @@ module _ {S M : Type 0} (rules : Rules S M) where
 -- ---- each session runs through a path
 
 -- from a state after so many steps
-record IsRunFrom {S M : Type 0} (rules : Rules S M) (limit : ℕ) (s : S) (steps : ℕ) (path : List (Turn S M)) (part : Part End) : Type 0 where
-  numbers : List ℕ
-  last : List ℕ
-  is_path : IsPath rules s path numbers
-  counted : part.value.steps ≡ steps + length path
-  kept : recorded part.events ≡ flat_map record_line (numbers ++ last)
-  ends : IsLast rules limit (last_state s path) (steps + length path) last part.value.cause
+pub record IsRunFrom {S M : Type 0} (rules : Rules S M) (limit : ℕ) (s : S) (steps : ℕ) (path : List (Turn S M)) (part : Part End) : Type 0 where
+  pub numbers : List ℕ
+  pub last : List ℕ
+  pub is_path : IsPath rules s path numbers
+  pub counted : part.value.steps ≡ steps + length path
+  pub kept : recorded part.events ≡ flat_map record_line (numbers ++ last)
+  pub ends : IsLast rules limit (last_state s path) (steps + length path) last part.value.cause
 
 module _ {S M : Type 0} (rules : Rules S M) (options : Options) where
-  abbrev RunsFrom : S → ℕ → Part End → Type 0
+  abbrev pub RunsFrom : S → ℕ → Part End → Type 0
   RunsFrom s steps part = (path : List (Turn S M)) × IsRunFrom rules options.limit s steps path part
 
   -- no step is taken
@@ -144,22 +144,23 @@ module _ {S M : Type 0} (rules : Rules S M) (options : Options) where
   )
 
   -- a step is taken, and then comes the rest
+  pub goes_through : (s : S) (steps : ℕ) (ns : List ℕ) (turn : Turn S M) (path : List (Turn S M)) (part later : Part End) → IsStep rules s ns turn → part.value ≡ later.value
+      → recorded part.events ≡ flat_map record_line ns ++ recorded later.events → IsRunFrom rules options.limit turn.next (steps + 1) path later → IsRunFrom rules options.limit s steps (turn ∷ path) part
+  goes_through s steps ns turn path part later step same kept r =
+      let long : (steps + 1) + length path ≡ steps + length (turn ∷ path) = omega arith in
+      record {
+        numbers = ns ++ r.numbers;
+        last = r.last;
+        is_path = (ns, r.numbers, refl, step, r.is_path);
+        counted = ap (λ (e : End). e.steps) same ∙ r.counted ∙ long;
+        kept = kept ∙ ap (λ (l : List ℕ). flat_map record_line ns ++ l) r.kept ∙ sym (flat_map-append record_line ns (r.numbers ++ r.last)) ∙ ap (flat_map record_line) (sym (append_assoc ns r.numbers r.last));
+        ends = subst (λ (c : Cause). IsLast rules options.limit (last_state turn.next path) (steps + length (turn ∷ path)) r.last c) (sym (ap (λ (e : End). e.cause) same))
+            (subst (λ (n : ℕ). IsLast rules options.limit (last_state turn.next path) n r.last later.value.cause) long r.ends);
+      }
+
   goes_on : (s : S) (steps : ℕ) (ns : List ℕ) (turn : Turn S M) (part later : Part End) → IsStep rules s ns turn → part.value ≡ later.value → recorded part.events ≡ flat_map record_line ns ++ recorded later.events
       → RunsFrom turn.next (steps + 1) later → RunsFrom s steps part
-  goes_on s steps ns turn part later step same kept run =
-      let r = run.1 in
-      let long : (steps + 1) + length run.0 ≡ steps + length (turn ∷ run.0) = omega arith in (
-        turn ∷ run.0,
-        record {
-          numbers = ns ++ r.numbers;
-          last = r.last;
-          is_path = (ns, r.numbers, refl, step, r.is_path);
-          counted = ap (λ (e : End). e.steps) same ∙ r.counted ∙ long;
-          kept = kept ∙ ap (λ (l : List ℕ). flat_map record_line ns ++ l) r.kept ∙ sym (flat_map-append record_line ns (r.numbers ++ r.last)) ∙ ap (flat_map record_line) (sym (append_assoc ns r.numbers r.last));
-          ends = subst (λ (c : Cause). IsLast rules options.limit (last_state turn.next run.0) (steps + length (turn ∷ run.0)) r.last c) (sym (ap (λ (e : End). e.cause) same))
-              (subst (λ (n : ℕ). IsLast rules options.limit (last_state turn.next run.0) n r.last later.value.cause) long r.ends);
-        },
-      )
+  goes_on s steps ns turn part later step same kept run = (turn ∷ run.0, goes_through s steps ns turn run.0 part later step same kept run.1)
 
   -- what a state's moves lead to runs through a path
   abbrev RunsOn : ℕ → (S → Stream → List ℕ → Part End) → Type 0
@@ -228,7 +229,7 @@ module _ {S M : Type 0} (rules : Rules S M) (options : Options) where
   move_runs fuel s steps below on [] is stream rest = rw (story_none First rules options s steps stream (suc fuel) is rest) (finish_runs s steps (omega (arith, below)) is (rules.is_valid s) refl stream rest)
   move_runs fuel s steps below on (m ∷ ms) is stream rest = rw (story_some First rules options s steps stream fuel m ms is rest) (select_runs fuel s steps below on m ms is stream rest)
 
-  story_runs : (fuel : ℕ) (s : S) (steps : ℕ) → steps + fuel ≡ options.limit → (stream : Stream) (rest : List ℕ) → RunsFrom s steps (story First rules options fuel s steps stream rest)
+  pub story_runs : (fuel : ℕ) (s : S) (steps : ℕ) → steps + fuel ≡ options.limit → (stream : Stream) (rest : List ℕ) → RunsFrom s steps (story First rules options fuel s steps stream rest)
   story_runs zero s steps at stream rest = limit_runs s steps (omega (arith, at)) (rules.moves s) refl stream rest
   story_runs (suc fuel) s steps at stream rest = move_runs fuel s steps (omega (arith, at)) (λ t o q. story_runs fuel t (steps + 1) (omega (arith, at)) o q) (rules.moves s) refl stream rest
 

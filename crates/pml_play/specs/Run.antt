@@ -70,3 +70,13 @@ HasRun {S} {M} rules limit s part = (path : List (Turn S M)) × IsRun rules limi
 abbrev pub RecordGivesRun : {S M : Type 0} → Rules S M → S → Type 0
 RecordGivesRun {S} {M} rules s = (limit other : ℕ) (path again : List (Turn S M)) (a b : Part End) → IsRun rules limit s path a → IsRun rules other s again b
     → recorded a.events ≡ recorded b.events → a.value.steps ≡ b.value.steps → path ≡ again
+
+-- The session on the record of each path that is no longer than the limit, with whatever behind it, runs through that path first.
+abbrev pub PlaysEachPath : {S M : Type 0} → Rules S M → ℕ → S → (List ℕ → Part End) → Type 0
+PlaysEachPath {S} {M} rules limit s session = (path : List (Turn S M)) (numbers more : List ℕ) → IsPath rules s path numbers → length path ≤ limit
+    → (later : List (Turn S M)) × IsRun rules limit s (path ++ later) (session (flat_map record_line numbers ++ more))
+
+-- Where the limit is as many steps as a path has, its record gives the run through it and no further.
+abbrev pub PlaysJustThePath : {S M : Type 0} → Rules S M → ℕ → S → (List ℕ → Part End) → Type 0
+PlaysJustThePath {S} {M} rules limit s session = (path : List (Turn S M)) (numbers more : List ℕ) → IsPath rules s path numbers → length path ≡ limit
+    → IsRun rules limit s path (session (flat_map record_line numbers ++ more))

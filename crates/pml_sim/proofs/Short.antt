@@ -43,7 +43,7 @@ use Rattle.pml_sim.proofs.Fitting.{session_fits}
 abbrev pub most : ℕ
 most = 1000000000000000000
 
-abbrev IsLightHere : Running → Type 0
+abbrev pub IsLightHere : Running → Type 0
 IsLightHere w = IsLightState most w.state
 
 -- ---- the first state and those behind it
@@ -57,7 +57,7 @@ led_light frames (Ok d) t printed h e =
     goes_is x y p q f = cc
 led_light frames (Err f) t printed h e = cc
 
-goes_light : (s t : Running) (m : Move) (printed : List ℕ) → IsLightHere s → step s m ≡ Goes t printed → IsLightHere t
+pub goes_light : (s t : Running) (m : Move) (printed : List ℕ) → IsLightHere s → step s m ≡ Goes t printed → IsLightHere t
 goes_light s t m printed h e = led_light s.state.frames (outcome.step MOST_DSTEP_STATEMENTS s.state m) t printed (step_light most MOST_DSTEP_STATEMENTS s.state m h) e
 
 begins_light : (k : ℕ) (o : Option Seq) → IfSome o (λ b. weight_part b ≤ most) → IsLightStand most (begins_by k o)
@@ -103,6 +103,13 @@ short_line n p l few_n few_p few_l =
 listed_few : (s : State) (h : Option Halt) → IsLightState most s → length (unless_stopped h (search.moves s)) ≤ 255 * (most * (255 * most + 1) + most + 1)
 listed_few s None l = moves_few most s l
 listed_few s (Some h) l = omega arith
+
+-- the number of a move fits a line of the choices
+pub number_fits : (w : Running) → IsLightHere w → (n : ℕ) → n ≤ length (moves w) → length (all_digits n) ≤ most_line_bytes
+number_fits w h n within =
+    let few = listed_few w.state w.halt h in
+    let digits = few_digits 42 n (omega (arith, few, within)) in
+    omega (arith, digits)
 
 short : (w : Running) (m : Move) (ms : List Move) → IsLightHere w → moves w ≡ ms → (n : ℕ) → 0 < n → n ≤ length ms → length (placed_line n (place_of rules w m ms n)) ≤ most_line_bytes + 1
 short w m ms h e n some within =
