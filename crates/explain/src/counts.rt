@@ -83,15 +83,6 @@ fn of_circle(message: &mut Message<'_>, circle: Circle<'_>) -> Result<(), AllocE
     )
 }
 
-/// What a d_step begins with.
-fn of_first(message: &mut Message<'_>, found: &[u8]) -> Result<(), AllocError> {
-    if found.is_empty() {
-        message.push("its first statement leaves it")
-    } else {
-        message.around("a `d_step` cannot begin with ", found, "")
-    }
-}
-
 /// Of breaks, d_steps and circles.
 pub fn of_control(message: &mut Message<'_>, cause: ControlCause<'_>) -> Result<(), AllocError> {
     match cause {
@@ -109,7 +100,12 @@ pub fn of_control(message: &mut Message<'_>, cause: ControlCause<'_>) -> Result<
         ControlCause::GotoEnters(label) => {
             message.placed("it enters the `d_step` in which ", label, " (", ") stands")
         }
-        ControlCause::FirstPoint(found) => of_first(message, found),
+        ControlCause::FirstElse(step) => {
+            message.placed("the ", step, " (", ") cannot begin with `else`")
+        }
+        ControlCause::FirstLeaves(step) => {
+            message.placed("it leads out of the ", step, " (", "), which begins with it")
+        }
         ControlCause::Circle(circle) => of_circle(message, circle),
     }
 }

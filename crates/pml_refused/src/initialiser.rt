@@ -1,6 +1,7 @@
 //! Initialisers that come to a fault.
 
 use crate::tree::is_refused_at_start;
+use pml_causes::brackets::closing;
 use pml_causes::cause::{Cause, Fault, Finding, Place, StartCause};
 use pml_causes::place::{at_place, between, bytes_of, from, is_at, kind_at, place_of, untold};
 use pml_marked::spans::{assign_of, end_of_initialiser, initialiser_place};
@@ -53,11 +54,30 @@ fn initialiser_of(tokens: &[Token<'_>], name: usize) -> Option<Initialiser> {
     }
 }
 
+/// Whose initialisers are meant.
+#[derive(Clone, Copy)]
+enum Owners {
+    /// Those of global variables.
+    Globals,
+    /// Those of the variables of proctypes.
+    Proctypes,
+    All,
+}
+
+fn is_of(owners: Owners, mark: &Mark<'_>) -> bool {
+    match owners {
+        Owners::Globals => mark.owner == 0,
+        Owners::Proctypes => mark.owner > 0,
+        Owners::All => true,
+    }
+}
+
 /// The initialisers of a text, in order.
 fn initialisers(
     alloc: Global,
     tokens: &[Token<'_>],
     marks: &[Mark<'_>],
+    owners: Owners,
 ) -> Result<Vec<Initialiser>, AllocError> {
     let mut list = Vec::new(alloc);
     let mut at = 0usize;
@@ -65,7 +85,9 @@ fn initialisers(
         if let Some(name) = variable_from(tokens, at, mark) {
             at = name.saturating_add(1);
             if let Some(one) = initialiser_of(tokens, name) {
-                list.push(one)?;
+                if is_of(owners, mark) {
+                    list.push(one)?;
+                }
             }
         }
     }
@@ -192,15 +214,85 @@ fn last_of(list: &[Initialiser], count: usize) -> Option<Initialiser> {
     }
 }
 
-/// The first initialiser that comes to a fault.
-fn faulty(
+/// How many processes begin of an `active` proctype.
+#[derive(Clone, Copy)]
+enum Begun {
+    None,
+    One,
+}
+
+/// The first token behind an `active` and its number.
+fn behind_active(tokens: &[Token<'_>], active: usize) -> usize {
+    let open = active.saturating_add(1);
+    if !is_at(tokens, open, Kind::OpenBracket) {
+        return open;
+    }
+    match closing(tokens, open) {
+        Some(end) => end.saturating_add(1),
+        None => open,
+    }
+}
+
+/// Adds the tokens, with other numbers of processes.
+fn add_begun<'t>(
+    tokens: &[Token<'t>],
+    begun: Begun,
+    list: &mut Vec<Token<'t>>,
+) -> Result<(), AllocError> {
+    let mut free = 0usize;
+    for (i, token) in tokens.iter().enumerate() {
+        let is_active = matches!(token.kind(), Kind::Active);
+        if is_active {
+            free = behind_active(tokens, i);
+        }
+        if free <= i || (is_active && matches!(begun, Begun::One)) {
+            list.push(token.copied())?;
+        }
+    }
+    Ok(())
+}
+
+fn has_init(tokens: &[Token<'_>]) -> bool {
+    for token in tokens {
+        if matches!(token.kind(), Kind::Init) {
+            return true;
+        }
+    }
+    false
+}
+
+/// Adds an `init` that does nothing.
+fn add_init(list: &mut Vec<Token<'_>>) -> Result<(), AllocError> {
+    list.push(Token::new(Kind::Init, b"init", 0))?;
+    list.push(Token::new(Kind::OpenBrace, b"{", 0))?;
+    list.push(Token::new(Kind::Skip, b"skip", 0))?;
+    list.push(Token::new(Kind::CloseBrace, b"}", 0))?;
+    Ok(())
+}
+
+/// The tokens with one process of each `active` proctype, or with none but that of an `init`.
+fn with_begun<'t>(
     alloc: Global,
-    tokens: &[Token<'_>],
+    tokens: &[Token<'t>],
+    begun: Begun,
+) -> Result<Vec<Token<'t>>, AllocError> {
+    let mut list = Vec::with_capacity(alloc, tokens.len().saturating_add(4))?;
+    add_begun(tokens, begun, &mut list)?;
+    if matches!(begun, Begun::None) && !has_init(tokens) {
+        add_init(&mut list)?;
+    }
+    Ok(list)
+}
+
+/// The tokens with no process of an `active` proctype, and without the initialisers of proctypes.
+fn with_globals<'t>(
+    alloc: Global,
+    tokens: &[Token<'t>],
     marks: &[Mark<'_>],
-) -> Result<Option<Initialiser>, AllocError> {
-    let list = initialisers(alloc, tokens, marks)?;
-    let count = fewest_faulty(alloc, tokens, &list)?;
-    Ok(last_of(&list, count))
+) -> Result<Vec<Token<'t>>, AllocError> {
+    let list = with_begun(alloc, tokens, Begun::None)?;
+    let others = initialisers(alloc, &list, marks, Owners::Proctypes)?;
+    without(alloc, &list, &others)
 }
 
 fn place_at(tokens: &[Token<'_>], one: Initialiser, name: &Token<'_>) -> Place {
@@ -221,16 +313,48 @@ fn told<'t>(text: &'t [u8], tokens: &[Token<'_>], one: Initialiser) -> Finding<'
     }
 }
 
-/// Of an initialiser that comes to a fault.
+/// Of the first of these initialisers that comes to a fault.
+fn of_owners<'t>(
+    alloc: Global,
+    text: &'t [u8],
+    tokens: &[Token<'_>],
+    marks: &[Mark<'_>],
+    owners: Owners,
+) -> Result<Finding<'t>, AllocError> {
+    let list = initialisers(alloc, tokens, marks, owners)?;
+    let count = fewest_faulty(alloc, tokens, &list)?;
+    match last_of(&list, count) {
+        Some(one) => Ok(told(text, tokens, one)),
+        None => Ok(untold()),
+    }
+}
+
+/// Of an initialiser of a proctype. It is sought where one process of each begins, if one of these comes to a fault.
+fn of_proctypes<'t>(
+    alloc: Global,
+    text: &'t [u8],
+    tokens: &[Token<'_>],
+    marks: &[Mark<'_>],
+) -> Result<Finding<'t>, AllocError> {
+    let single = with_begun(alloc, tokens, Begun::One)?;
+    if is_refused_at_start(alloc, &single)? {
+        of_owners(alloc, text, &single, marks, Owners::Proctypes)
+    } else {
+        of_owners(alloc, text, tokens, marks, Owners::All)
+    }
+}
+
+/// Of an initialiser that comes to a fault. Global variables begin first.
 pub fn of_initialiser<'t>(
     alloc: Global,
     text: &'t [u8],
     tokens: &[Token<'_>],
     marks: &[Mark<'_>],
 ) -> Result<Finding<'t>, AllocError> {
-    match faulty(alloc, tokens, marks) {
-        Ok(Some(one)) => Ok(told(text, tokens, one)),
-        Ok(None) => Ok(untold()),
-        Err(AllocError) => Err(AllocError),
+    let globals = with_globals(alloc, tokens, marks)?;
+    if is_refused_at_start(alloc, &globals)? {
+        of_owners(alloc, text, &globals, marks, Owners::Globals)
+    } else {
+        of_proctypes(alloc, text, tokens, marks)
     }
 }

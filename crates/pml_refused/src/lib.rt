@@ -2,6 +2,7 @@
 #![tactic(auto)]
 
 mod calls;
+mod control;
 mod find;
 mod initialiser;
 mod inlines;
