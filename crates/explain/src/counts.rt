@@ -279,14 +279,13 @@ fn of_call(message: &mut Message<'_>, cause: InlineCause<'_>) -> Result<(), Allo
         InlineCause::CallsItself(name) => {
             message.around("", name, " is called by what comes out of its own call")
         }
-        InlineCause::TooDeep(name) => {
-            message.figure(
-                "more than ",
-                MOST_CALLS as usize,
-                " calls stand within one another in what comes out of ",
-            )?;
-            message.name(name)
-        }
+        InlineCause::TooDeep(name) => message.both(
+            "with the call of ",
+            name,
+            " more than ",
+            MOST_CALLS as usize,
+            " calls stand within one another",
+        ),
         InlineCause::TooLong(name) => message.both(
             "with the call of ",
             name,

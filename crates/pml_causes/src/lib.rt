@@ -3,6 +3,5 @@
 
 pub mod brackets;
 pub mod cause;
-pub mod definitions;
 pub mod lexical;
 pub mod place;

@@ -2,17 +2,18 @@
 
 use crate::control::{breaks_of, of_circle, of_first_point};
 use crate::initialiser::of_initialiser;
-use crate::inlines::of_inline;
+use crate::misused::of_misuse;
 use crate::syntax::of_syntax;
 use crate::tree::marks_of;
 use diagnostics::Refusal;
-use pml_causes::cause::Finding;
+use pml_causes::cause::{Finding, TextCause};
 use pml_causes::lexical::{left_out, too_deep, too_long, uncut};
 use pml_causes::place::untold;
 use pml_conditions::condition::Condition;
 use pml_conditions::first::first_broken;
 use pml_inline::expand;
 use pml_inline::fault::InlineFault;
+use pml_inline::misuse::Limit;
 use pml_lex::fault::LexFault;
 use pml_marked::control::{of_break, of_step};
 use pml_marked::counts::{of_count, of_label};
@@ -195,16 +196,23 @@ fn of_expanded<'t>(
     }
 }
 
+/// What is told of a limit that is passed.
+fn limit_of<'t>(limit: Limit) -> TextCause<'t> {
+    match limit {
+        Limit::Open => TextCause::Nested,
+        Limit::Row => TextCause::Row,
+    }
+}
+
 /// Of tokens that have no expansion.
 fn of_fault<'t>(
-    alloc: Global,
     text: &'t [u8],
     tokens: &[Token<'t>],
     fault: InlineFault,
 ) -> Result<Finding<'t>, AllocError> {
     match fault {
-        InlineFault::Inline => of_inline(alloc, text, tokens),
-        InlineFault::TooDeep(offset) => Ok(too_deep(tokens, offset)),
+        InlineFault::Inline(misuse) => Ok(of_misuse(text, tokens, misuse)),
+        InlineFault::TooDeep(offset, limit) => Ok(too_deep(tokens, offset, limit_of(limit))),
         InlineFault::Memory => Err(AllocError),
     }
 }
@@ -218,7 +226,7 @@ fn of_words<'t>(
 ) -> Result<Finding<'t>, AllocError> {
     match expand(alloc, tokens) {
         Ok(expanded) => of_expanded(alloc, refusal, text, tokens, &expanded),
-        Err(fault) => of_fault(alloc, text, tokens, fault),
+        Err(fault) => of_fault(text, tokens, fault),
     }
 }
 

@@ -1,12 +1,10 @@
 //! Why a refused text is refused, and where.
 #![tactic(auto)]
 
-mod calls;
 mod control;
 mod find;
 mod initialiser;
-mod inlines;
-mod inner;
+mod misused;
 mod stopped;
 mod syntax;
 mod tree;
