@@ -104,7 +104,12 @@ pub fn of_control(message: &mut Message<'_>, cause: ControlCause<'_>) -> Result<
             message.placed("the ", step, " (", ") cannot begin with `else`")
         }
         ControlCause::FirstLeaves(step) => {
-            message.placed("it leads out of the ", step, " (", "), which begins with it")
+            message.placed(
+                "it leads out of the ",
+                step,
+                " (",
+                "), which begins with it",
+            )
         }
         ControlCause::Circle(circle) => of_circle(message, circle),
     }

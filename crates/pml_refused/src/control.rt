@@ -62,10 +62,7 @@ fn circle_in(
     }
 }
 
-fn blamed_circle<'a>(
-    alloc: Global,
-    tokens: &'a [Token<'a>],
-) -> Result<Option<Blamed>, AllocError> {
+fn blamed_circle<'a>(alloc: Global, tokens: &'a [Token<'a>]) -> Result<Option<Blamed>, AllocError> {
     match program_of(alloc, tokens) {
         Ok(program) => circle_in(alloc, program),
         Err(AllocError) => Err(AllocError),

@@ -1,7 +1,7 @@
 //! Initialisers that come to a fault.
 
+use crate::begun::{Begun, with_begun};
 use crate::tree::is_refused_at_start;
-use pml_causes::brackets::closing;
 use pml_causes::cause::{Cause, Fault, Finding, Place, StartCause};
 use pml_causes::place::{at_place, between, bytes_of, from, is_at, kind_at, place_of, untold};
 use pml_marked::spans::{assign_of, end_of_initialiser, initialiser_place};
@@ -72,7 +72,7 @@ fn is_of(owners: Owners, mark: &Mark<'_>) -> bool {
     }
 }
 
-/// The initialisers of a text, in order.
+/// The initialisers of a text that may come to a fault, in order.
 fn initialisers(
     alloc: Global,
     tokens: &[Token<'_>],
@@ -85,7 +85,7 @@ fn initialisers(
         if let Some(name) = variable_from(tokens, at, mark) {
             at = name.saturating_add(1);
             if let Some(one) = initialiser_of(tokens, name) {
-                if is_of(owners, mark) {
+                if is_of(owners, mark) && can_fault(tokens, one) {
                     list.push(one)?;
                 }
             }
@@ -145,17 +145,25 @@ fn has_fault(
     is_refused_at_start(alloc, &kept)
 }
 
-/// The fewest initialisers of which one comes to a fault.
+/// So many tokens are checked at most for a fault, besides those of two texts as long as this one.
+const MOST_CHECKED: usize = 40_000;
+
+/// How often tokens are checked at most: the fewer times, the more they are.
+fn most_checks(tokens: &[Token<'_>]) -> usize {
+    MOST_CHECKED / tokens.len().max(1) + 2
+}
+
+/// The fewest initialisers of which one comes to a fault, if that is found by so many checks.
 fn fewest_faulty(
     alloc: Global,
     tokens: &[Token<'_>],
     list: &[Initialiser],
-) -> Result<usize, AllocError> {
+) -> Result<Option<usize>, AllocError> {
     let mut least = 0usize;
     let mut most = list.len();
-    for _ in 0..40 {
+    for _ in 0..most_checks(tokens) {
         if most.saturating_sub(least) <= 1 {
-            return Ok(most);
+            return Ok(Some(most));
         }
         let middle = least.saturating_add(most.saturating_sub(least) / 2);
         if has_fault(alloc, tokens, list, middle)? {
@@ -164,7 +172,11 @@ fn fewest_faulty(
             least = middle;
         }
     }
-    Ok(most)
+    if most.saturating_sub(least) <= 1 {
+        Ok(Some(most))
+    } else {
+        Ok(None)
+    }
 }
 
 /// What a token of an initialiser may let come to a fault.
@@ -185,6 +197,16 @@ fn either(a: Option<Fault>, b: Option<Fault>) -> Option<Fault> {
         (fault, None) => fault,
         (Some(a), Some(b)) => Some(if a == b { a } else { Fault::Any }),
     }
+}
+
+/// Whether the tokens of an initialiser let something come to a fault.
+fn can_fault(tokens: &[Token<'_>], one: Initialiser) -> bool {
+    for (i, _) in between(tokens, one.from, one.end).iter().enumerate() {
+        if fault_at(tokens, one.from.saturating_add(i)).is_some() {
+            return true;
+        }
+    }
+    false
 }
 
 /// What the tokens of an initialiser let come to a fault, if that is one thing.
@@ -212,76 +234,6 @@ fn last_of(list: &[Initialiser], count: usize) -> Option<Initialiser> {
         Some(one) => Some(*one),
         None => None,
     }
-}
-
-/// How many processes begin of an `active` proctype.
-#[derive(Clone, Copy)]
-enum Begun {
-    None,
-    One,
-}
-
-/// The first token behind an `active` and its number.
-fn behind_active(tokens: &[Token<'_>], active: usize) -> usize {
-    let open = active.saturating_add(1);
-    if !is_at(tokens, open, Kind::OpenBracket) {
-        return open;
-    }
-    match closing(tokens, open) {
-        Some(end) => end.saturating_add(1),
-        None => open,
-    }
-}
-
-/// Adds the tokens, with other numbers of processes.
-fn add_begun<'t>(
-    tokens: &[Token<'t>],
-    begun: Begun,
-    list: &mut Vec<Token<'t>>,
-) -> Result<(), AllocError> {
-    let mut free = 0usize;
-    for (i, token) in tokens.iter().enumerate() {
-        let is_active = matches!(token.kind(), Kind::Active);
-        if is_active {
-            free = behind_active(tokens, i);
-        }
-        if free <= i || (is_active && matches!(begun, Begun::One)) {
-            list.push(token.copied())?;
-        }
-    }
-    Ok(())
-}
-
-fn has_init(tokens: &[Token<'_>]) -> bool {
-    for token in tokens {
-        if matches!(token.kind(), Kind::Init) {
-            return true;
-        }
-    }
-    false
-}
-
-/// Adds an `init` that does nothing.
-fn add_init(list: &mut Vec<Token<'_>>) -> Result<(), AllocError> {
-    list.push(Token::new(Kind::Init, b"init", 0))?;
-    list.push(Token::new(Kind::OpenBrace, b"{", 0))?;
-    list.push(Token::new(Kind::Skip, b"skip", 0))?;
-    list.push(Token::new(Kind::CloseBrace, b"}", 0))?;
-    Ok(())
-}
-
-/// The tokens with one process of each `active` proctype, or with none but that of an `init`.
-fn with_begun<'t>(
-    alloc: Global,
-    tokens: &[Token<'t>],
-    begun: Begun,
-) -> Result<Vec<Token<'t>>, AllocError> {
-    let mut list = Vec::with_capacity(alloc, tokens.len().saturating_add(4))?;
-    add_begun(tokens, begun, &mut list)?;
-    if matches!(begun, Begun::None) && !has_init(tokens) {
-        add_init(&mut list)?;
-    }
-    Ok(list)
 }
 
 /// The tokens with no process of an `active` proctype, and without the initialisers of proctypes.
@@ -322,7 +274,9 @@ fn of_owners<'t>(
     owners: Owners,
 ) -> Result<Finding<'t>, AllocError> {
     let list = initialisers(alloc, tokens, marks, owners)?;
-    let count = fewest_faulty(alloc, tokens, &list)?;
+    let Some(count) = fewest_faulty(alloc, tokens, &list)? else {
+        return Ok(untold());
+    };
     match last_of(&list, count) {
         Some(one) => Ok(told(text, tokens, one)),
         None => Ok(untold()),

@@ -1,6 +1,7 @@
 //! Why a refused text is refused, and where.
 #![tactic(auto)]
 
+mod begun;
 mod control;
 mod find;
 mod initialiser;
