@@ -18,7 +18,7 @@ use Rattle.pml_blamed.specs.declared.site.Site.{Site}
 use Rattle.pml_blamed.specs.declared.body.BadFirstPoint.{BadFirstPoint}
 use Rattle.pml_blamed.specs.declared.body.Circle.{Circle}
 use Rattle.pml_blamed.specs.Sites.{site, bare, first_line, matter_of, sites_in, sites_part, sites_row, sites_options, sites_list, sites_of}
-use Rattle.pml_blamed.specs.Blamed.{is_else, site_at, bad_point, bad_matter, is_bad, is_bad_step, stays_at, NoneIsBad, IsFirstBad, NoStepIsBad, IsBlamedStep, Returns, IsBlamedCircle}
+use Rattle.pml_blamed.specs.Blamed.{is_else, site_at, bad_point, bad_matter, is_bad, is_bad_step, stays_at, NoneIsBad, IsFirstBad, IsStep, NoStepIsBad, IsBlamedStep, Returns, IsBlamedCircle}
 
 abbrev step_of : Matter → Option (ℕ × ℕ)
 step_of (matter.DStep least first) = Some (least, first)
@@ -137,6 +137,11 @@ matter_same b es (matter.DStep least first) = end_same b least first (ending_of 
 pub bad_same : (b : Seq) (es : List Ending) (k : ℕ) → is_bad_step b es k ≡ is_bad (sites_of b) es k
 bad_same b es k = ap (λ (p : Asked). bad_step (nodes_of b) es p.1) (at_node b k) ∙ matter_same b es (site_at (sites_of b) k).matter
 
+stays_is : (e : Ending) (k : ℕ) → stays_at e ≡ Some k → e ≡ ending.Stays k
+stays_is (ending.Stays end) k h = ap ending.Stays cc
+stays_is ending.Circles k h = absurd cc
+stays_is ending.Unseen k h = absurd cc
+
 -- ---- what the code finds on sites, of nodes
 module _ (b : Seq) (ss : List Site) (es : List Ending) (is : ss ≡ sites_of b) (are : AreEnds (nexts (nodes_of b)) es) where
   pub none_bad : NoneIsBad ss es → NoStepIsBad b
@@ -146,8 +151,8 @@ module _ (b : Seq) (ss : List Site) (es : List Ending) (is : ss ≡ sites_of b) 
     none = λ j l. bad_same b es j ∙ ap (λ xs. is_bad xs es j) (sym is) ∙ h j (omega (arith, l, as_long b, ap length is));
   }
 
-  pub blamed : (k : ℕ) (x : BadFirstPoint) → IsFirstBad ss es k → x.step ≡ (site_at ss k).offset → IsBlamedStep b x
-  blamed k x h e = record {
+  pub blamed : (k : ℕ) (x : BadFirstPoint) → IsFirstBad ss es k → x.step ≡ (site_at ss k).offset → (start point : ℕ) → IsStep ss es k start point → x.is_else ≡ is_else (site_at ss point).matter → (is_else (site_at ss point).matter ≡ true → x.point ≡ (site_at ss point).offset) → IsBlamedStep b x
+  blamed k x h e start point s says marked = record {
     ends = es;
     are = are;
     node = k;
@@ -155,6 +160,13 @@ module _ (b : Seq) (ss : List Site) (es : List Ending) (is : ss ≡ sites_of b) 
     bad = bad_same b es k ∙ ap (λ xs. is_bad xs es k) (sym is) ∙ h.bad;
     first = λ j m l. bad_same b es j ∙ ap (λ xs. is_bad xs es j) (sym is) ∙ h.first j m (omega (arith, l, as_long b, ap length is));
     step = e ∙ ap (λ xs. (site_at xs k).offset) is;
+    least = s.least;
+    start = start;
+    point = point;
+    is_step = ap (λ (p : Asked). p.1) (at_node b k) ∙ ap (λ xs. step_of (site_at xs k).matter) (sym is) ∙ ap step_of s.is;
+    stays = stays_is (ending_of es start) point s.stays;
+    says = says ∙ ap (λ xs. is_else (site_at xs point).matter) is ∙ sym (ap (λ (p : Asked). p.0) (at_node b point));
+    marked = λ t. marked (sym says ∙ t) ∙ ap (λ xs. (site_at xs point).offset) is;
   }
 
 pub circled : (b : Seq) (ss : List Site) (ns : List (Option ℕ)) (k : ℕ) (x : Circle) → ss ≡ sites_of b → ns ≡ nexts (nodes_of b) → Returns ns k → x.goto ≡ (site_at ss k).offset → IsBlamedCircle b x

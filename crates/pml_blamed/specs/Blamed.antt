@@ -57,6 +57,12 @@ pub record IsFirstBad (ss : List Site) (es : List Ending) (k : ℕ) : Type 0 whe
   pub bad : is_bad ss es k ≡ true
   pub first : (j : ℕ) → k < j → j < length ss → is_bad ss es j ≡ false
 
+-- a d_step, with the nodes of its first statement and of where settling ends from there
+pub record IsStep (ss : List Site) (es : List Ending) (step first point : ℕ) : Type 0 where
+  pub least : ℕ
+  pub is : (site_at ss step).matter ≡ matter.DStep least first
+  pub stays : end_of es first ≡ Some point
+
 abbrev pub NoneIsBad : List Site → List Ending → Type 0
 NoneIsBad ss es = (j : ℕ) → j < length ss → is_bad ss es j ≡ false
 
@@ -85,7 +91,8 @@ pub record NoStepIsBad (b : Seq) : Type 0 where
   pub are : AreEnds (nexts (nodes_of b)) ends
   pub none : (j : ℕ) → j < length (nodes_of b) → is_bad_step b ends j ≡ false
 
--- the d_step is the first one in the text with a bad first point: nodes with greater numbers stand before it
+-- the d_step is the first one in the text with a bad first point, where nodes with greater numbers stand before it; and what is said of the
+-- point, where settling ends from the first statement of the d_step
 pub record IsBlamedStep (b : Seq) (x : BadFirstPoint) : Type 0 where
   pub ends : List Ending
   pub are : AreEnds (nexts (nodes_of b)) ends
@@ -94,6 +101,13 @@ pub record IsBlamedStep (b : Seq) (x : BadFirstPoint) : Type 0 where
   pub bad : is_bad_step b ends node ≡ true
   pub first : (j : ℕ) → node < j → j < length (nodes_of b) → is_bad_step b ends j ≡ false
   pub step : x.step ≡ (site_at (sites_of b) node).offset
+  pub least : ℕ
+  pub start : ℕ
+  pub point : ℕ
+  pub is_step : (spot_of (nodes_of b) node).d_step ≡ Some (least, start)
+  pub stays : ending_of ends start ≡ ending.Stays point
+  pub says : x.is_else ≡ (spot_of (nodes_of b) point).is_else
+  pub marked : x.is_else ≡ true → x.point ≡ (site_at (sites_of b) point).offset
 
 -- the goto stands in a circle
 pub record IsBlamedCircle (b : Seq) (x : Circle) : Type 0 where

@@ -1,8 +1,8 @@
 //! What is told of a body.
 
-ghost use Rattle.std.specs.Prelude.{◌≡◌, ◌++◌, IfOk, OnOk, MatchOption, IfSome};
+ghost use Rattle.std.specs.Prelude.{true, ◌≡◌, ◌++◌, IfOk, OnOk, MatchOption, IfSome};
 ghost use Rattle.pml_blamed.specs.Sites.{sites_of};
-ghost use Rattle.pml_blamed.specs.Blamed.{site_at, breaks_in, NoStepIsBad, IsBlamedStep, IsBlamedCircle};
+ghost use Rattle.pml_blamed.specs.Blamed.{site_at, is_else, breaks_in, NoStepIsBad, IsBlamedStep, IsBlamedCircle};
 
 use crate::circle::{first_circling, labels_of};
 use crate::first_point::{BadStep, first_bad, first_leap, is_else};
@@ -69,7 +69,9 @@ fn add_breaks(sites: &[Site], breaks: &mut Vec<Option<u32>>) -> Result<(), Alloc
 }
 
 /// The `else`, or the goto or `break` that leads out.
-fn offender(sites: &[Site], next: &[Option<usize>], bad: BadStep) -> Option<u32> {
+fn offender(sites: &[Site], next: &[Option<usize>], bad: BadStep) -> Option<u32>
+    ensures { is_else (site_at sites.now bad.point).matter ≡ true → result ≡ (site_at sites.now bad.point).offset }
+{
     if is_else(sites, bad.point) {
         return offset_at(sites, bad.point);
     }
