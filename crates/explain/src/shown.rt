@@ -42,7 +42,7 @@ fn rounded(line: &[u8], at: usize) -> usize {
 /// What is shown of a line round the bytes from `mark` on, of which there are `length`.
 pub fn window_round(line: &[u8], mark: usize, length: usize) -> Window {
     let mark = mark.min(line.len());
-    let mark_end = mark.saturating_add(length).min(line.len());
+    let mark_end = rounded(line, mark.saturating_add(length)).min(line.len());
     let from = rounded(line, mark.saturating_sub(SHOWN_BEFORE)).min(mark);
     let to = rounded(line, mark.saturating_add(SHOWN_BEHIND)).min(line.len());
     Window {
