@@ -83,15 +83,6 @@ fn of_circle(message: &mut Message<'_>, circle: Circle<'_>) -> Result<(), AllocE
     )
 }
 
-/// What a d_step begins with.
-fn of_first(message: &mut Message<'_>, found: &[u8]) -> Result<(), AllocError> {
-    if found.is_empty() {
-        message.push("its first statement leaves it")
-    } else {
-        message.around("a `d_step` cannot begin with ", found, "")
-    }
-}
-
 /// Of breaks, d_steps and circles.
 pub fn of_control(message: &mut Message<'_>, cause: ControlCause<'_>) -> Result<(), AllocError> {
     match cause {
@@ -109,7 +100,17 @@ pub fn of_control(message: &mut Message<'_>, cause: ControlCause<'_>) -> Result<
         ControlCause::GotoEnters(label) => {
             message.placed("it enters the `d_step` in which ", label, " (", ") stands")
         }
-        ControlCause::FirstPoint(found) => of_first(message, found),
+        ControlCause::FirstElse(step) => {
+            message.placed("the ", step, " (", ") cannot begin with `else`")
+        }
+        ControlCause::FirstLeaves(step) => {
+            message.placed(
+                "it leads out of the ",
+                step,
+                " (",
+                "), which begins with it",
+            )
+        }
         ControlCause::Circle(circle) => of_circle(message, circle),
     }
 }
@@ -283,14 +284,13 @@ fn of_call(message: &mut Message<'_>, cause: InlineCause<'_>) -> Result<(), Allo
         InlineCause::CallsItself(name) => {
             message.around("", name, " is called by what comes out of its own call")
         }
-        InlineCause::TooDeep(name) => {
-            message.figure(
-                "more than ",
-                MOST_CALLS as usize,
-                " calls stand within one another in what comes out of ",
-            )?;
-            message.name(name)
-        }
+        InlineCause::TooDeep(name) => message.both(
+            "with the call of ",
+            name,
+            " more than ",
+            MOST_CALLS as usize,
+            " calls stand within one another",
+        ),
         InlineCause::TooLong(name) => message.both(
             "with the call of ",
             name,

@@ -7,6 +7,7 @@ mod message;
 mod names;
 mod position;
 mod shown;
+mod signs;
 mod texts;
 
 use counts::{of_control, of_count, of_inline, of_label, of_range, of_start};
@@ -91,10 +92,17 @@ pub fn explain(
 ) -> Result<String, AllocError> {
     let Finding { place, cause } = cause_of(alloc, text, refusal)?;
     let mut message = Message::new(alloc, text);
-    message.push(name)?;
+    message.file(name)?;
     match place {
         Some(place) => tell_place(&mut message, refusal, cause, place)?,
         None => tell_head(&mut message, refusal, cause)?,
     }
+    Ok(message.into_text())
+}
+
+/// The name of a file as it is shown.
+pub fn shown_file(alloc: Global, name: &str) -> Result<String, AllocError> {
+    let mut message = Message::new(alloc, b"");
+    message.file(name)?;
     Ok(message.into_text())
 }

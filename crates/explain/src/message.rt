@@ -1,9 +1,11 @@
 //! Texts that are put together of words, names and numbers.
 
 use crate::position::{between, line_number};
+use crate::signs::{is_unseen, push_number, push_shown};
 use itoa::Buffer;
 use pml_causes::cause::Named;
 use std::alloc::{AllocError, Global};
+use std::str;
 
 /// So many bytes of a name are shown at most.
 const MOST_SHOWN: usize = 60;
@@ -45,6 +47,19 @@ impl<'t> Message<'t> {
         self.out.push(c)
     }
 
+    /// Adds a character as it is shown.
+    pub fn push_shown(&mut self, c: char) -> Result<(), AllocError> {
+        push_shown(&mut self.out, c)
+    }
+
+    /// Adds the name of a file as it is shown.
+    pub fn file(&mut self, name: &str) -> Result<(), AllocError> {
+        for c in name.chars() {
+            self.push_shown(c)?;
+        }
+        Ok(())
+    }
+
     /// Adds a number.
     pub fn number(&mut self, number: usize) -> Result<(), AllocError> {
         let mut buffer = Buffer::new();
@@ -57,11 +72,38 @@ impl<'t> Message<'t> {
         self.out.push_str(buffer.format(number))
     }
 
-    fn letters(&mut self, name: &[u8]) -> Result<(), AllocError> {
+    fn bytes(&mut self, name: &[u8]) -> Result<(), AllocError> {
         for byte in name {
             self.out.push(printable(*byte))?;
         }
         Ok(())
+    }
+
+    fn character(&mut self, c: char) -> Result<(), AllocError> {
+        if is_unseen(c) {
+            return push_number(&mut self.out, c);
+        }
+        if c.is_ascii() {
+            return self.out.push(if c.is_control() { '?' } else { c });
+        }
+        for _ in 0..c.len_utf8() {
+            self.out.push('?')?;
+        }
+        Ok(())
+    }
+
+    fn characters(&mut self, name: &str) -> Result<(), AllocError> {
+        for c in name.chars() {
+            self.character(c)?;
+        }
+        Ok(())
+    }
+
+    fn letters(&mut self, name: &[u8]) -> Result<(), AllocError> {
+        match str::from_utf8(name) {
+            Ok(name) => self.characters(name),
+            Err(_) => self.bytes(name),
+        }
     }
 
     /// Adds a name or another piece of the model, in backticks.

@@ -1,7 +1,8 @@
 //! The line of a place, and the carets below it.
 
 use crate::message::{Message, printable};
-use crate::position::{Line, between, width};
+use crate::position::{Line, between};
+use crate::signs::{shown_width, text_width};
 use std::alloc::AllocError;
 use std::str;
 
@@ -41,7 +42,7 @@ fn rounded(line: &[u8], at: usize) -> usize {
 /// What is shown of a line round the bytes from `mark` on, of which there are `length`.
 pub fn window_round(line: &[u8], mark: usize, length: usize) -> Window {
     let mark = mark.min(line.len());
-    let mark_end = mark.saturating_add(length).min(line.len());
+    let mark_end = rounded(line, mark.saturating_add(length)).min(line.len());
     let from = rounded(line, mark.saturating_sub(SHOWN_BEFORE)).min(mark);
     let to = rounded(line, mark.saturating_add(SHOWN_BEHIND)).min(line.len());
     Window {
@@ -52,13 +53,9 @@ pub fn window_round(line: &[u8], mark: usize, length: usize) -> Window {
     }
 }
 
-fn shown_char(c: char) -> char {
-    if c == '\t' || !c.is_control() { c } else { '?' }
-}
-
 fn show_chars(message: &mut Message<'_>, text: &str) -> Result<(), AllocError> {
     for c in text.chars() {
-        message.push_char(shown_char(c))?;
+        message.push_shown(c)?;
     }
     Ok(())
 }
@@ -84,7 +81,11 @@ fn show(message: &mut Message<'_>, bytes: &[u8]) -> Result<(), AllocError> {
 
 fn blank_chars(message: &mut Message<'_>, text: &str) -> Result<(), AllocError> {
     for c in text.chars() {
-        message.push_char(if c == '\t' { '\t' } else { ' ' })?;
+        if c == '\t' {
+            message.push_char(c)?;
+        } else {
+            repeat(message, ' ', shown_width(c))?;
+        }
     }
     Ok(())
 }
@@ -96,7 +97,7 @@ fn blank_bytes(message: &mut Message<'_>, bytes: &[u8]) -> Result<(), AllocError
     Ok(())
 }
 
-/// Adds as many blanks as characters are shown of these bytes; a tab stays one.
+/// Adds as many blanks as characters show these bytes; a tab stays one.
 fn blank(message: &mut Message<'_>, bytes: &[u8]) -> Result<(), AllocError> {
     match str::from_utf8(bytes) {
         Ok(text) => blank_chars(message, text),
@@ -155,12 +156,20 @@ fn upper(message: &mut Message<'_>, line: &[u8], window: Window) -> Result<(), A
     message.push("\n")
 }
 
-/// Adds a caret for each character that is marked, and one at least.
+/// How many characters show bytes of a line.
+fn width_of(bytes: &[u8]) -> usize {
+    match str::from_utf8(bytes) {
+        Ok(text) => text_width(text),
+        Err(_) => bytes.len(),
+    }
+}
+
+/// Adds a caret for each character that shows what is marked, and one at least.
 fn lower(message: &mut Message<'_>, line: &[u8], window: Window) -> Result<(), AllocError> {
     cut(message, 0 < window.from, "  ")?;
     blank(message, between(line, window.from, window.mark))?;
     let marked = between(line, window.mark, window.mark_end);
-    repeat(message, '^', width(marked).max(1))?;
+    repeat(message, '^', width_of(marked).max(1))?;
     message.push("\n")
 }
 

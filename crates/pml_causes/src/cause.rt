@@ -223,8 +223,10 @@ pub enum ControlCause<'t> {
     Unless,
     GotoLeaves(Named<'t>),
     GotoEnters(Named<'t>),
-    /// What a d_step begins with.
-    FirstPoint(&'t [u8]),
+    /// The d_step begins with an `else`.
+    FirstElse(Named<'t>),
+    /// What the d_step begins with leads out of it.
+    FirstLeaves(Named<'t>),
     Circle(Circle<'t>),
 }
 

@@ -1,9 +1,8 @@
 //! Texts without tokens, words that are left out, and texts that are too deep.
 
 use crate::cause::{Cause, Finding, Place, TextCause};
-use crate::place::{at_place, at_token, closes, opens};
+use crate::place::{at_place, at_token};
 use pml_token::token::{Kind, Token, same_kind};
-use profile::MOST_OPEN;
 use std::str;
 
 /// Of a text that is too long.
@@ -64,36 +63,15 @@ pub fn left_out<'t>(tokens: &[Token<'t>]) -> Option<Finding<'t>> {
     None
 }
 
-/// How many brackets are open behind the token at a place, where that is more than there may be.
-fn is_nested(tokens: &[Token<'_>], offset: u32) -> bool {
-    let mut depth = 0u32;
-    for token in tokens {
-        if opens(token.kind()) {
-            depth = depth.saturating_add(1);
-        } else if closes(token.kind()) {
-            depth = depth.saturating_sub(1);
-        }
-        if token.line() == offset {
-            return depth > MOST_OPEN;
-        }
-    }
-    false
-}
-
-/// Of tokens that are too deep at the token with so many bytes before it.
-pub fn too_deep<'t>(tokens: &[Token<'t>], offset: u32) -> Finding<'t> {
-    let cause = if is_nested(tokens, offset) {
-        TextCause::Nested
-    } else {
-        TextCause::Row
-    };
+/// Of tokens that pass this limit at the token with so many bytes before it.
+pub fn too_deep<'t>(tokens: &[Token<'t>], offset: u32, limit: TextCause<'t>) -> Finding<'t> {
     for token in tokens {
         if token.line() == offset {
-            return at_token(token, Cause::Text(cause));
+            return at_token(token, Cause::Text(limit));
         }
     }
     Finding {
         place: None,
-        cause: Cause::Text(cause),
+        cause: Cause::Text(limit),
     }
 }

@@ -1,11 +1,8 @@
 //! Why a model is refused, as values, and what is found of that in a text and in its tokens.
 #![tactic(auto)]
 
-pub mod begin;
 pub mod brackets;
 pub mod cause;
-pub mod circle;
-pub mod definitions;
 pub mod foreign;
 pub mod lexical;
 pub mod place;

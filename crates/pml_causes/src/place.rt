@@ -108,16 +108,6 @@ pub fn is_at(tokens: &[Token<'_>], at: usize, kind: Kind) -> bool {
     same_kind(kind_at(tokens, at), kind)
 }
 
-/// Where a token of the text stands in a list, the first time.
-pub fn index_of(tokens: &[Token<'_>], wanted: &Token<'_>) -> Option<usize> {
-    for (i, token) in tokens.iter().enumerate() {
-        if token.line() == wanted.line() {
-            return Some(i);
-        }
-    }
-    None
-}
-
 /// Whether a token opens something: `( [ { if do`.
 pub fn opens(kind: Kind) -> bool {
     matches!(

@@ -36,39 +36,39 @@ one_result ts us vs e f = some (sym e ∙ f)
 
 pub least_undefined : (ts : List Word) (f : InlineFault) → IsUndefined ts f → IsLeast ts f
 least_undefined ts Memory h = tt
-least_undefined ts Misused h = λ us e. no_result ts (expansion_undefined ts h) us e
-least_undefined ts (TooDeep line) h = absurd h
+least_undefined ts (Misused misuse) h = λ us e. no_result ts (expansion_undefined ts h) us e
+least_undefined ts (TooDeep line limit) h = absurd h
 
 pub least_repeated : (ts : List Word) (ds : List Inline) (f : InlineFault) → definitions ts 0 ≡ Some ds → IsRepeated ds f → IsLeast ts f
 least_repeated ts ds Memory e h = tt
-least_repeated ts ds Misused e h = λ us g. no_result ts (expansion_repeated ts ds e h) us g
-least_repeated ts ds (TooDeep line) e h = absurd h
+least_repeated ts ds (Misused misuse) e h = λ us g. no_result ts (expansion_repeated ts ds e h) us g
+least_repeated ts ds (TooDeep line limit) e h = absurd h
 
 pub least_misread : (ts : List Word) (ds : List Inline) (f : InlineFault) → definitions ts 0 ≡ Some ds → all_differ (map (λ d. d.name) ds) ≡ true → IsMisread (texts ts [] ds 0 0) f → IsLeast ts f
 least_misread ts ds Memory e d h = tt
-least_misread ts ds Misused e d h = λ us g. no_result ts (expansion_is ts ds e d ∙ h) us g
-least_misread ts ds (TooDeep line) e d h = absurd h
+least_misread ts ds (Misused misuse) e d h = λ us g. no_result ts (expansion_is ts ds e d ∙ h) us g
+least_misread ts ds (TooDeep line limit) e d h = absurd h
 
 -- where something is answered, no other fault stands
 pub only_memory : (ts us : List Word) (f : InlineFault) → IsExpanded ts us → IsLeast ts f → f ≡ Memory
 only_memory ts us Memory x h = refl
-only_memory ts us Misused x h = absurd (h us x.expands)
-only_memory ts us (TooDeep line) x h = absurd (x.shallow (deep_same h.deep (one_result ts h.given us h.expands x.expands)))
+only_memory ts us (Misused misuse) x h = absurd (h us x.expands)
+only_memory ts us (TooDeep line limit) x h = absurd (x.shallow (deep_same h.deep (one_result ts h.given us h.expands x.expands)))
   where
     deep_same : {vs ws : List Word} → IsTooDeep vs → vs ≡ ws → IsTooDeep ws
     deep_same {vs} {ws} h e = subst (λ (x : List Word). IsTooDeep x) e h
 
 pub line_undefined : (most : ℕ) (ts : List Word) (f : InlineFault) → IsUndefined ts f → IsFaultOnLine most f
 line_undefined most ts Memory h = tt
-line_undefined most ts Misused h = tt
-line_undefined most ts (TooDeep line) h = absurd h
+line_undefined most ts (Misused misuse) h = tt
+line_undefined most ts (TooDeep line limit) h = absurd h
 
 pub line_repeated : (most : ℕ) (ds : List Inline) (f : InlineFault) → IsRepeated ds f → IsFaultOnLine most f
 line_repeated most ds Memory h = tt
-line_repeated most ds Misused h = tt
-line_repeated most ds (TooDeep line) h = absurd h
+line_repeated most ds (Misused misuse) h = tt
+line_repeated most ds (TooDeep line limit) h = absurd h
 
 pub line_misread : (most : ℕ) (r : Option Given) (f : InlineFault) → IsMisread r f → IsFaultOnLine most f
 line_misread most r Memory h = tt
-line_misread most r Misused h = tt
-line_misread most r (TooDeep line) h = absurd h
+line_misread most r (Misused misuse) h = tt
+line_misread most r (TooDeep line limit) h = absurd h

@@ -53,7 +53,7 @@ abbrev pub is_empty : List Word → Bool
 is_empty [] = true
 is_empty (w ∷ ws) = false
 
--- args many arguments args parameters, and none of them empty
+-- as many arguments as parameters, and none of them empty
 abbrev pub fits : Inline → List (List Word) → Bool
 fits d args = nat_eq (length args) (length d.parameters) && not (list_any is_empty args)
 

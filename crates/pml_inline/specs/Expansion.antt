@@ -74,11 +74,11 @@ pub record GoesTooDeep (ts : List Word) : Type 0 where
 -- the fault is the least that applies
 abbrev pub IsLeast : List Word → InlineFault → Type 0
 IsLeast ts Memory = Unit {0}
-IsLeast ts Misused = (us : List Word) → Expands ts us → ⊥
-IsLeast ts (TooDeep line) = GoesTooDeep ts
+IsLeast ts (Misused misuse) = (us : List Word) → Expands ts us → ⊥
+IsLeast ts (TooDeep line limit) = GoesTooDeep ts
 
 -- the line of what goes too deep is from 1 to `most`
 abbrev pub IsFaultOnLine : ℕ → InlineFault → Type 0
 IsFaultOnLine most Memory = Unit {0}
-IsFaultOnLine most Misused = Unit {0}
-IsFaultOnLine most (TooDeep line) = IsOnLine most line
+IsFaultOnLine most (Misused misuse) = Unit {0}
+IsFaultOnLine most (TooDeep line limit) = IsOnLine most line

@@ -84,10 +84,10 @@ pub record IsDefinition (ts : List Word) (d : Definition) (from : ℕ) : Type 0 
 -- the definitions are not right
 abbrev pub IsUndefined : List Word → InlineFault → Type 0
 IsUndefined ts Memory = Unit {0}
-IsUndefined ts Misused = definitions ts 0 ≡ None
-IsUndefined ts (TooDeep line) = ⊥
+IsUndefined ts (Misused misuse) = definitions ts 0 ≡ None
+IsUndefined ts (TooDeep line limit) = ⊥
 
 abbrev pub IsRepeated : List Inline → InlineFault → Type 0
 IsRepeated ds Memory = Unit {0}
-IsRepeated ds Misused = all_differ (map (λ d. d.name) ds) ≡ false
-IsRepeated ds (TooDeep line) = ⊥
+IsRepeated ds (Misused misuse) = all_differ (map (λ d. d.name) ds) ≡ false
+IsRepeated ds (TooDeep line limit) = ⊥

@@ -98,5 +98,5 @@ pub record IsReadCall (t : Text) (known at : ℕ) (before after : Given) (end : 
 
 abbrev pub IsMisread : Option Given → InlineFault → Type 0
 IsMisread r Memory = Unit {0}
-IsMisread r Misused = limited r ≡ None
-IsMisread r (TooDeep line) = ⊥
+IsMisread r (Misused misuse) = limited r ≡ None
+IsMisread r (TooDeep line limit) = ⊥

@@ -11,6 +11,7 @@ ghost use Rattle.pml_inline.specs.Texts.{IsText, inlines, option_inline, below, 
 
 use crate::arguments::{arguments, has_empty, replaced};
 use crate::definitions::Definition;
+use crate::misuse::{Call, Misuse, of_call, of_open};
 use crate::places::{closing, kind_at, token_at};
 use pml_token::token::{Kind, Token, same_kind};
 use profile::{MOST_CALLS, MOST_REPLACED};
@@ -32,6 +33,8 @@ pub(crate) struct Text<'a, 't> {
 pub(crate) struct Given<'t> {
     pub(crate) tokens: Vec<Token<'t>>,
     pub(crate) count: usize,
+    /// What is wrong with the call at which reading ended, if it did.
+    pub(crate) misuse: Option<Misuse>,
 }
 
 /// The definition at a place, if it is one of the first `known`.
@@ -140,6 +143,7 @@ pub(crate) fn read<'t>(
                     Kind::OpenParen,
                     Kind::CloseParen,
                 ) else {
+                    given.misuse = Some(of_open(text.tokens, places[at]));
                     return Ok(false);
                 };
                 let Some(replaced) = replacement(
@@ -151,6 +155,12 @@ pub(crate) fn read<'t>(
                     MOST_REPLACED - given.count,
                 )?
                 else {
+                    let call = Call {
+                        at: places[at],
+                        number,
+                        inside: &places[at + 2..at + 2 + length],
+                    };
+                    given.misuse = Some(of_call(alloc, text, active, call)?);
                     return Ok(false);
                 };
                 given.count += replaced.len();

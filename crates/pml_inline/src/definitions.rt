@@ -8,6 +8,7 @@ ghost use Rattle.pml_inline.specs.Calls as calls;
 ghost use Rattle.pml_inline.specs.Parts.{AreNumbered, texts_of, places_of, AreMarked, IsDefinition, inlines_of, AreAllMarked, AreShort, number_of, IsUndefined, IsRepeated};
 
 use crate::fault::InlineFault;
+use crate::misuse::{of_definition, of_names};
 use crate::names::{Names, numbered};
 use crate::places::{closing, has_inline, is_inline, kind_at, text_at};
 use pml_token::token::{Kind, Token, same_kind};
@@ -175,7 +176,8 @@ pub(crate) fn definitions<'t>(
     while at < tokens.len() {
         if is_inline(&tokens[at]) {
             let Some(definition) = one_definition(alloc, tokens, places, at + 1)? else {
-                return Err(InlineFault::Inline);
+                let misuse = of_definition(alloc, tokens, places, at + 1)?;
+                return Err(InlineFault::Inline(misuse));
             };
             let size = definition.size;
             definitions.push(definition)?;
@@ -202,7 +204,7 @@ pub(crate) fn callees(
         called.push(definition.name)?;
     }
     let Some(numbers) = numbered(alloc, &called)? else {
-        return Err(InlineFault::Inline);
+        return Err(InlineFault::Inline(of_names(alloc, tokens, &called)?));
     };
     let mut callees = Vec::with_capacity(alloc, tokens.len())?;
     for token in tokens {

@@ -1,5 +1,6 @@
 //! Why tokens have no expansion.
 
+use crate::misuse::{Limit, Misuse};
 use std::alloc::{AllocError, AllocFailed};
 use thiserror::Error;
 
@@ -11,10 +12,10 @@ pub enum InlineFault {
     Memory,
     /// A definition or a call of an inline is not right.
     #[error("inline")]
-    Inline,
+    Inline(Misuse),
     /// What comes out is too deep, or has too long a row. The line is that of the token that passes the limit.
     #[error("line {0}: too deep")]
-    TooDeep(u32),
+    TooDeep(u32, Limit),
 }
 
 impl From<AllocError> for InlineFault {

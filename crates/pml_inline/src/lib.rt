@@ -6,6 +6,7 @@ mod calls;
 mod definitions;
 pub mod fault;
 pub mod laws;
+pub mod misuse;
 mod names;
 mod places;
 mod texts;
@@ -16,6 +17,7 @@ ghost use Rattle.pml_token.specs.Word.{Word};
 ghost use Rattle.pml_inline.specs.Expansion.{IsExpanded, IsLeast, IsFaultOnLine};
 
 use fault::InlineFault;
+use misuse::passed;
 use pml_lex::limits::first_too_deep;
 use pml_token::token::Token;
 use std::alloc::Global;
@@ -45,7 +47,7 @@ pub fn expand<'t>(alloc: Global, tokens: &[Token<'t>]) -> Result<Vec<Token<'t>>,
     };
     let expanded = texts::expanded(alloc, &text)?;
     if let Some(line) = first_too_deep(&expanded) {
-        return Err(InlineFault::TooDeep(line));
+        return Err(InlineFault::TooDeep(line, passed(&expanded)));
     }
     Ok(expanded)
 }

@@ -8,6 +8,7 @@ ghost use Rattle.pml_inline.specs.Texts.{IsText, inlines, given_of, IsCall, IsWr
 
 use crate::calls::{Given, Text, callee, read};
 use crate::fault::InlineFault;
+use crate::misuse::{Misuse, of_inner, of_open};
 use crate::places::{closing, has_inline, is_inline};
 use pml_token::token::{Kind, Token, same_kind};
 use profile::MOST_REPLACED;
@@ -47,9 +48,11 @@ fn outermost<'t>(
         Kind::OpenParen,
         Kind::CloseParen,
     ) else {
+        given.misuse = Some(of_open(text.tokens, at));
         return Ok(None);
     };
     if has_inline(&text.tokens[at + 2..at + 2 + length]) {
+        given.misuse = Some(of_inner(text.tokens, at));
         return Ok(None);
     }
     let end = at + 3 + length;
@@ -67,6 +70,14 @@ fn outermost<'t>(
     Ok(Some(end))
 }
 
+/// What is wrong with the call at a place.
+fn misuse_in(given: &Given<'_>, tokens: &[Token<'_>], at: usize) -> Misuse {
+    match given.misuse {
+        Some(misuse) => misuse,
+        None => of_open(tokens, at),
+    }
+}
+
 /// What comes out of a text.
 pub(crate) fn expanded<'t>(
     alloc: Global,
@@ -80,6 +91,7 @@ pub(crate) fn expanded<'t>(
     let mut given = Given {
         tokens: Vec::new(alloc),
         count: 0,
+        misuse: None,
     };
     let mut known = 0;
     let mut braces = 0;
@@ -88,10 +100,10 @@ pub(crate) fn expanded<'t>(
         let token = &text.tokens[at];
         if is_inline(token) {
             if braces > 0 {
-                return Err(InlineFault::Inline);
+                return Err(InlineFault::Inline(of_inner(text.tokens, at)));
             }
             if known >= text.definitions.len() {
-                return Err(InlineFault::Inline);
+                return Err(InlineFault::Inline(of_inner(text.tokens, at)));
             }
             at += 1 + text.definitions[known].size;
             known += 1;
@@ -104,7 +116,7 @@ pub(crate) fn expanded<'t>(
                 }
                 Some(_number) => {
                     let Some(end) = outermost(alloc, text, known, at, &mut given)? else {
-                        return Err(InlineFault::Inline);
+                        return Err(InlineFault::Inline(misuse_in(&given, text.tokens, at)));
                     };
                     at = end;
                 }

@@ -1,7 +1,6 @@
 //! Breaks and d_steps.
 
 use crate::sign::{Matter, Sign, Sought, first_name, front, place_of_name, sign_at, sign_of};
-use crate::spans::nth_place;
 use pml_causes::brackets::closing;
 use pml_causes::cause::{Cause, ControlCause, Finding, Named, Place};
 use pml_causes::place::{place_of, untold};
@@ -20,9 +19,15 @@ fn breaks_in(marks: &[Mark<'_>]) -> usize {
     count
 }
 
-/// The place of the `break` that a mark is.
-fn break_place(tokens: &[Token<'_>], marks: &[Mark<'_>], at: usize) -> Option<Place> {
-    nth_place(tokens, Kind::Break, breaks_in(front(marks, at)))
+/// The place of the `break` that a mark is, where `breaks` are how many bytes stand before each of the text.
+fn break_place(breaks: &[Option<u32>], marks: &[Mark<'_>], at: usize) -> Option<Place> {
+    match breaks.get(breaks_in(front(marks, at))) {
+        Some(Some(offset)) => Some(Place {
+            offset: *offset as usize,
+            length: b"break".len(),
+        }),
+        _ => None,
+    }
 }
 
 /// What is told of control, and where.
@@ -39,10 +44,10 @@ fn told(controlled: Controlled<'_>) -> Finding<'_> {
     }
 }
 
-/// Of a `break` that no `do` is round, which the mark at `at` is.
-pub fn of_break<'t>(tokens: &[Token<'_>], marks: &[Mark<'_>], at: usize) -> Finding<'t> {
+/// Of a `break` that no `do` is round, which the mark at `at` is; `breaks` are how many bytes stand before each of the text.
+pub fn of_break<'t>(breaks: &[Option<u32>], marks: &[Mark<'_>], at: usize) -> Finding<'t> {
     told(Controlled {
-        place: break_place(tokens, marks, at),
+        place: break_place(breaks, marks, at),
         cause: ControlCause::LooseBreak,
     })
 }
@@ -142,13 +147,14 @@ fn step_at<'t>(
     alloc: Global,
     text: &'t [u8],
     tokens: &[Token<'_>],
+    breaks: &[Option<u32>],
     marks: &[Mark<'_>],
     at: usize,
 ) -> Result<Option<Controlled<'t>>, AllocError> {
     let sign = sign_at(text, marks, at);
     match sign.matter {
         Matter::Break => Ok(Some(Controlled {
-            place: break_place(tokens, marks, at),
+            place: break_place(breaks, marks, at),
             cause: ControlCause::BreakOfStep,
         })),
         Matter::Unless => Ok(Some(Controlled {
@@ -167,15 +173,16 @@ fn told_step(controlled: Option<Controlled<'_>>) -> Finding<'_> {
     }
 }
 
-/// Of what enters or leaves a d_step, or an unless in one, in the mark at `at`.
+/// Of what enters or leaves a d_step, or an unless in one, in the mark at `at`; `breaks` are how many bytes stand before each `break`.
 pub fn of_step<'t>(
     alloc: Global,
     text: &'t [u8],
     tokens: &[Token<'_>],
+    breaks: &[Option<u32>],
     marks: &[Mark<'_>],
     at: usize,
 ) -> Result<Finding<'t>, AllocError> {
-    match step_at(alloc, text, tokens, marks, at) {
+    match step_at(alloc, text, tokens, breaks, marks, at) {
         Ok(controlled) => Ok(told_step(controlled)),
         Err(AllocError) => Err(AllocError),
     }

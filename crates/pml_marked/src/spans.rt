@@ -133,20 +133,6 @@ fn count_place(tokens: &[Token<'_>], name: usize) -> Option<Place> {
     span(tokens, start, end)
 }
 
-/// So many tokens of a kind stand before the one whose place is answered.
-pub fn nth_place(tokens: &[Token<'_>], kind: Kind, number: usize) -> Option<Place> {
-    let mut left = number;
-    for token in tokens {
-        if same_kind(token.kind(), kind) {
-            if left == 0 {
-                return Some(place_of(token));
-            }
-            left = left.saturating_sub(1);
-        }
-    }
-    None
-}
-
 fn part_place(tokens: &[Token<'_>], name: usize, part: Part) -> Option<Place> {
     match part {
         Part::Size => size_place(tokens, name),

@@ -58,8 +58,8 @@ expanded_lines text us a = kept (λ w. IsOnLine (line_behind text) w.line) a.tok
 pub rejected_inline : (text : List ℕ) (ts : List Word) (fault : InlineFault) → AreTokens text ts → inline_least ts fault
     → ((most : ℕ) → AreOnLines most ts → IsFaultOnLine most fault) → IsRejected text (of_inline fault)
 rejected_inline text ts inlines.Memory are least line = tt
-rejected_inline text ts inlines.Inline are least line = inline (record { tokens = ts; are_tokens = are; none = least })
-rejected_inline text ts (inlines.TooDeep at) are least line = too_deep (record { tokens = ts; are_tokens = are; deep = least; on_line = line (line_behind text) (token_lines text ts are.are_cut) })
+rejected_inline text ts (inlines.Inline misuse) are least line = inline (record { tokens = ts; are_tokens = are; none = least })
+rejected_inline text ts (inlines.TooDeep at limit) are least line = too_deep (record { tokens = ts; are_tokens = are; deep = least; on_line = line (line_behind text) (token_lines text ts are.are_cut) })
 
 pub rejected_syntax : (text : List ℕ) (us : List Word) (fault : SyntaxFault) → AreExpanded text us → ((t : Tree) → Spells t us → Answers t (Err fault))
     → ((most : ℕ) → 1 ≤ most → All (λ w. IsOnLine most w.line) us → (at : ℕ) → ◌≡◌ {A = Result Tree SyntaxFault} (Err fault) (Err (syntax.Syntax at)) → IsOnLine most at) → IsRejected text (of_syntax fault)

@@ -42,8 +42,8 @@ of_lexical (lex.LeftOut line) = Refused refusal.LeftOut line
 
 abbrev pub of_inline : InlineFault → Rejection
 of_inline inlines.Memory = Memory
-of_inline inlines.Inline = Refused refusal.Inline 0
-of_inline (inlines.TooDeep line) = Refused refusal.TooDeep line
+of_inline (inlines.Inline misuse) = Refused refusal.Inline 0
+of_inline (inlines.TooDeep line limit) = Refused refusal.TooDeep line
 
 abbrev pub of_syntax : SyntaxFault → Rejection
 of_syntax syntax.Memory = Memory

@@ -63,8 +63,8 @@ fn of_inline(fault: InlineFault) -> Rejection
 {
     match fault {
         InlineFault::Memory => Rejection::Memory,
-        InlineFault::Inline => Rejection::Refused(Refusal::Inline, 0),
-        InlineFault::TooDeep(line) => Rejection::Refused(Refusal::TooDeep, line),
+        InlineFault::Inline(_) => Rejection::Refused(Refusal::Inline, 0),
+        InlineFault::TooDeep(line, _) => Rejection::Refused(Refusal::TooDeep, line),
     }
 }
 

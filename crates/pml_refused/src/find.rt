@@ -1,19 +1,19 @@
 //! Why a text is refused, and where.
 
+use crate::control::{breaks_of, of_circle, of_first_point};
 use crate::initialiser::of_initialiser;
-use crate::inlines::of_inline;
+use crate::misused::of_misuse;
 use crate::syntax::of_syntax;
 use crate::tree::marks_of;
 use diagnostics::Refusal;
-use pml_causes::begin::of_first_point;
-use pml_causes::cause::Finding;
-use pml_causes::circle::of_circle;
+use pml_causes::cause::{Finding, TextCause};
 use pml_causes::lexical::{left_out, too_deep, too_long, uncut};
 use pml_causes::place::untold;
 use pml_conditions::condition::Condition;
 use pml_conditions::first::first_broken;
 use pml_inline::expand;
 use pml_inline::fault::InlineFault;
+use pml_inline::misuse::Limit;
 use pml_lex::fault::LexFault;
 use pml_marked::control::{of_break, of_step};
 use pml_marked::counts::{of_count, of_label};
@@ -75,12 +75,27 @@ fn first_broken_by(
     }
 }
 
-/// What is found at the mark that breaks a condition.
-fn of_mark<'t>(
+/// What is found at a mark that breaks a condition on control.
+fn of_controlled<'t, 'a>(
     alloc: Global,
     broken: Broken,
     text: &'t [u8],
-    tokens: &[Token<'_>],
+    tokens: &'a [Token<'a>],
+    marks: &[Mark<'_>],
+) -> Result<Finding<'t>, AllocError> {
+    let breaks = breaks_of(alloc, tokens)?;
+    match broken.condition {
+        Condition::Step => of_step(alloc, text, tokens, &breaks, marks, broken.at),
+        _ => Ok(of_break(&breaks, marks, broken.at)),
+    }
+}
+
+/// What is found at the mark that breaks a condition.
+fn of_mark<'t, 'a>(
+    alloc: Global,
+    broken: Broken,
+    text: &'t [u8],
+    tokens: &'a [Token<'a>],
     marks: &[Mark<'_>],
 ) -> Result<Finding<'t>, AllocError> {
     let at = broken.at;
@@ -88,7 +103,7 @@ fn of_mark<'t>(
         Condition::Unknown => of_unknown(alloc, text, marks, at),
         Condition::Wrong => of_wrong(alloc, text, tokens, marks, at),
         Condition::Label => of_label(alloc, text, marks, at),
-        Condition::Step => of_step(alloc, text, tokens, marks, at),
+        Condition::Break | Condition::Step => of_controlled(alloc, broken, text, tokens, marks),
         condition => Ok(of_plain(condition, text, tokens, marks, at)),
     }
 }
@@ -104,7 +119,6 @@ fn of_plain<'t>(
     match condition {
         Condition::Twice => of_twice(text, marks, at),
         Condition::Arguments => of_count(text, marks, at),
-        Condition::Break => of_break(tokens, marks, at),
         Condition::Range => of_range(text, tokens, marks, at),
         Condition::Cells => of_cells(text, marks, at),
         _ => untold(),
@@ -112,16 +126,16 @@ fn of_plain<'t>(
 }
 
 /// Of a text with these marks, none of which breaks a condition.
-fn of_whole<'t>(
+fn of_whole<'t, 'a>(
     alloc: Global,
     refusal: Refusal,
     text: &'t [u8],
-    tokens: &[Token<'t>],
+    tokens: &'a [Token<'a>],
     marks: &[Mark<'_>],
 ) -> Result<Finding<'t>, AllocError> {
     match refusal {
-        Refusal::DStep => Ok(of_first_point(text, tokens)),
-        Refusal::CircleOfGotos => of_circle(alloc, tokens),
+        Refusal::DStep => of_first_point(alloc, text, tokens),
+        Refusal::CircleOfGotos => of_circle(alloc, text, tokens),
         Refusal::NoProcess => Ok(of_none(text, marks)),
         Refusal::TooManyAtStart => of_start(alloc, text, marks),
         Refusal::Initialiser => of_initialiser(alloc, text, tokens, marks),
@@ -130,11 +144,11 @@ fn of_whole<'t>(
 }
 
 /// Of a text that has marks.
-fn of_marks<'t>(
+fn of_marks<'t, 'a>(
     alloc: Global,
     refusal: Refusal,
     text: &'t [u8],
-    tokens: &[Token<'t>],
+    tokens: &'a [Token<'a>],
     marks: &[Mark<'_>],
 ) -> Result<Finding<'t>, AllocError> {
     match first_broken_by(alloc, refusal, marks) {
@@ -159,12 +173,11 @@ fn of_list<'t, 'a>(
     refusal: Refusal,
     text: &'t [u8],
     originals: &[Token<'t>],
-    tokens: &[Token<'t>],
     list: &'a [Token<'a>],
 ) -> Result<Finding<'t>, AllocError> {
     match marks_of(alloc, list) {
-        Ok(Some(marks)) => of_marks(alloc, refusal, text, tokens, marks.as_slice()),
-        Ok(None) => of_syntax(alloc, text, originals, tokens),
+        Ok(Some(marks)) => of_marks(alloc, refusal, text, list, marks.as_slice()),
+        Ok(None) => of_syntax(alloc, text, originals, list),
         Err(AllocError) => Err(AllocError),
     }
 }
@@ -178,21 +191,28 @@ fn of_expanded<'t>(
     tokens: &[Token<'t>],
 ) -> Result<Finding<'t>, AllocError> {
     match copied(alloc, tokens) {
-        Ok(list) => of_list(alloc, refusal, text, originals, tokens, &list),
+        Ok(list) => of_list(alloc, refusal, text, originals, &list),
         Err(AllocError) => Err(AllocError),
+    }
+}
+
+/// What is told of a limit that is passed.
+fn limit_of<'t>(limit: Limit) -> TextCause<'t> {
+    match limit {
+        Limit::Open => TextCause::Nested,
+        Limit::Row => TextCause::Row,
     }
 }
 
 /// Of tokens that have no expansion.
 fn of_fault<'t>(
-    alloc: Global,
     text: &'t [u8],
     tokens: &[Token<'t>],
     fault: InlineFault,
 ) -> Result<Finding<'t>, AllocError> {
     match fault {
-        InlineFault::Inline => of_inline(alloc, text, tokens),
-        InlineFault::TooDeep(offset) => Ok(too_deep(tokens, offset)),
+        InlineFault::Inline(misuse) => Ok(of_misuse(text, tokens, misuse)),
+        InlineFault::TooDeep(offset, limit) => Ok(too_deep(tokens, offset, limit_of(limit))),
         InlineFault::Memory => Err(AllocError),
     }
 }
@@ -206,7 +226,7 @@ fn of_words<'t>(
 ) -> Result<Finding<'t>, AllocError> {
     match expand(alloc, tokens) {
         Ok(expanded) => of_expanded(alloc, refusal, text, tokens, &expanded),
-        Err(fault) => of_fault(alloc, text, tokens, fault),
+        Err(fault) => of_fault(text, tokens, fault),
     }
 }
 

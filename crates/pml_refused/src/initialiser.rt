@@ -1,5 +1,6 @@
 //! Initialisers that come to a fault.
 
+use crate::begun::{Begun, with_begun};
 use crate::tree::is_refused_at_start;
 use pml_causes::cause::{Cause, Fault, Finding, Place, StartCause};
 use pml_causes::place::{at_place, between, bytes_of, from, is_at, kind_at, place_of, untold};
@@ -53,11 +54,30 @@ fn initialiser_of(tokens: &[Token<'_>], name: usize) -> Option<Initialiser> {
     }
 }
 
-/// The initialisers of a text, in order.
+/// Whose initialisers are meant.
+#[derive(Clone, Copy)]
+enum Owners {
+    /// Those of global variables.
+    Globals,
+    /// Those of the variables of proctypes.
+    Proctypes,
+    All,
+}
+
+fn is_of(owners: Owners, mark: &Mark<'_>) -> bool {
+    match owners {
+        Owners::Globals => mark.owner == 0,
+        Owners::Proctypes => mark.owner > 0,
+        Owners::All => true,
+    }
+}
+
+/// The initialisers of a text that may come to a fault, in order.
 fn initialisers(
     alloc: Global,
     tokens: &[Token<'_>],
     marks: &[Mark<'_>],
+    owners: Owners,
 ) -> Result<Vec<Initialiser>, AllocError> {
     let mut list = Vec::new(alloc);
     let mut at = 0usize;
@@ -65,7 +85,9 @@ fn initialisers(
         if let Some(name) = variable_from(tokens, at, mark) {
             at = name.saturating_add(1);
             if let Some(one) = initialiser_of(tokens, name) {
-                list.push(one)?;
+                if is_of(owners, mark) && can_fault(tokens, one) {
+                    list.push(one)?;
+                }
             }
         }
     }
@@ -123,17 +145,25 @@ fn has_fault(
     is_refused_at_start(alloc, &kept)
 }
 
-/// The fewest initialisers of which one comes to a fault.
+/// So many tokens are checked at most for a fault, besides those of two texts as long as this one.
+const MOST_CHECKED: usize = 40_000;
+
+/// How often tokens are checked at most: the fewer times, the more they are.
+fn most_checks(tokens: &[Token<'_>]) -> usize {
+    MOST_CHECKED / tokens.len().max(1) + 2
+}
+
+/// The fewest initialisers of which one comes to a fault, if that is found by so many checks.
 fn fewest_faulty(
     alloc: Global,
     tokens: &[Token<'_>],
     list: &[Initialiser],
-) -> Result<usize, AllocError> {
+) -> Result<Option<usize>, AllocError> {
     let mut least = 0usize;
     let mut most = list.len();
-    for _ in 0..40 {
+    for _ in 0..most_checks(tokens) {
         if most.saturating_sub(least) <= 1 {
-            return Ok(most);
+            return Ok(Some(most));
         }
         let middle = least.saturating_add(most.saturating_sub(least) / 2);
         if has_fault(alloc, tokens, list, middle)? {
@@ -142,7 +172,11 @@ fn fewest_faulty(
             least = middle;
         }
     }
-    Ok(most)
+    if most.saturating_sub(least) <= 1 {
+        Ok(Some(most))
+    } else {
+        Ok(None)
+    }
 }
 
 /// What a token of an initialiser may let come to a fault.
@@ -163,6 +197,16 @@ fn either(a: Option<Fault>, b: Option<Fault>) -> Option<Fault> {
         (fault, None) => fault,
         (Some(a), Some(b)) => Some(if a == b { a } else { Fault::Any }),
     }
+}
+
+/// Whether the tokens of an initialiser let something come to a fault.
+fn can_fault(tokens: &[Token<'_>], one: Initialiser) -> bool {
+    for (i, _) in between(tokens, one.from, one.end).iter().enumerate() {
+        if fault_at(tokens, one.from.saturating_add(i)).is_some() {
+            return true;
+        }
+    }
+    false
 }
 
 /// What the tokens of an initialiser let come to a fault, if that is one thing.
@@ -192,15 +236,15 @@ fn last_of(list: &[Initialiser], count: usize) -> Option<Initialiser> {
     }
 }
 
-/// The first initialiser that comes to a fault.
-fn faulty(
+/// The tokens with no process of an `active` proctype, and without the initialisers of proctypes.
+fn with_globals<'t>(
     alloc: Global,
-    tokens: &[Token<'_>],
+    tokens: &[Token<'t>],
     marks: &[Mark<'_>],
-) -> Result<Option<Initialiser>, AllocError> {
-    let list = initialisers(alloc, tokens, marks)?;
-    let count = fewest_faulty(alloc, tokens, &list)?;
-    Ok(last_of(&list, count))
+) -> Result<Vec<Token<'t>>, AllocError> {
+    let list = with_begun(alloc, tokens, Begun::None)?;
+    let others = initialisers(alloc, &list, marks, Owners::Proctypes)?;
+    without(alloc, &list, &others)
 }
 
 fn place_at(tokens: &[Token<'_>], one: Initialiser, name: &Token<'_>) -> Place {
@@ -221,16 +265,50 @@ fn told<'t>(text: &'t [u8], tokens: &[Token<'_>], one: Initialiser) -> Finding<'
     }
 }
 
-/// Of an initialiser that comes to a fault.
+/// Of the first of these initialisers that comes to a fault.
+fn of_owners<'t>(
+    alloc: Global,
+    text: &'t [u8],
+    tokens: &[Token<'_>],
+    marks: &[Mark<'_>],
+    owners: Owners,
+) -> Result<Finding<'t>, AllocError> {
+    let list = initialisers(alloc, tokens, marks, owners)?;
+    let Some(count) = fewest_faulty(alloc, tokens, &list)? else {
+        return Ok(untold());
+    };
+    match last_of(&list, count) {
+        Some(one) => Ok(told(text, tokens, one)),
+        None => Ok(untold()),
+    }
+}
+
+/// Of an initialiser of a proctype. It is sought where one process of each begins, if one of these comes to a fault.
+fn of_proctypes<'t>(
+    alloc: Global,
+    text: &'t [u8],
+    tokens: &[Token<'_>],
+    marks: &[Mark<'_>],
+) -> Result<Finding<'t>, AllocError> {
+    let single = with_begun(alloc, tokens, Begun::One)?;
+    if is_refused_at_start(alloc, &single)? {
+        of_owners(alloc, text, &single, marks, Owners::Proctypes)
+    } else {
+        of_owners(alloc, text, tokens, marks, Owners::All)
+    }
+}
+
+/// Of an initialiser that comes to a fault. Global variables begin first.
 pub fn of_initialiser<'t>(
     alloc: Global,
     text: &'t [u8],
     tokens: &[Token<'_>],
     marks: &[Mark<'_>],
 ) -> Result<Finding<'t>, AllocError> {
-    match faulty(alloc, tokens, marks) {
-        Ok(Some(one)) => Ok(told(text, tokens, one)),
-        Ok(None) => Ok(untold()),
-        Err(AllocError) => Err(AllocError),
+    let globals = with_globals(alloc, tokens, marks)?;
+    if is_refused_at_start(alloc, &globals)? {
+        of_owners(alloc, text, &globals, marks, Owners::Globals)
+    } else {
+        of_proctypes(alloc, text, tokens, marks)
     }
 }

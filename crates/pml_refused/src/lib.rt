@@ -1,13 +1,13 @@
 //! Why a refused text is refused, and where.
 #![tactic(auto)]
 
-mod calls;
+mod begun;
 mod classes;
+mod control;
 mod find;
 mod forms;
 mod initialiser;
-mod inlines;
-mod inner;
+mod misused;
 mod stopped;
 mod syntax;
 mod tree;

@@ -5,10 +5,13 @@ use pml_check::parsed::Parsed;
 use pml_check::{CheckFault, check};
 use pml_marks::mark::Mark;
 use pml_marks::model::marks;
+use pml_names::names::all_names;
+use pml_program::program::Program;
+use pml_resolve::model::number;
 use pml_syntax::{SyntaxFault, parse};
 use pml_token::token::Token;
 use pml_tree::tree::Tree;
-use sqlite_items::Items;
+use sqlite_items::{Boxed, Items};
 use std::alloc::{AllocError, Global};
 
 fn marks_in<'a>(alloc: Global, parsed: &Parsed<'a>) -> Result<Items<Mark<'a>>, AllocError> {
@@ -31,6 +34,46 @@ pub fn marks_of<'a>(
 ) -> Result<Option<Items<Mark<'a>>>, AllocError> {
     match parse(alloc, tokens) {
         Ok(tree) => Ok(Some(marks_of_tree(alloc, tree)?)),
+        Err(SyntaxFault::Syntax(_)) => Ok(None),
+        Err(SyntaxFault::Memory) => Err(AllocError),
+    }
+}
+
+/// The model that a tree stands for, with its names replaced.
+fn program_in<'a>(alloc: Global, parsed: &Parsed<'a>) -> Result<Program<'a>, AllocError> {
+    let tree = parsed.tree();
+    let marks = marks(alloc, tree)?;
+    let all = all_names(alloc, marks.as_slice())?;
+    number(alloc, tree, &all.table)
+}
+
+fn boxed<'a>(alloc: Global, program: Program<'a>) -> Result<Boxed<Program<'a>>, AllocError> {
+    Boxed::new(alloc, program)
+}
+
+/// The same in a place of its own.
+fn boxed_in<'a>(alloc: Global, parsed: &Parsed<'a>) -> Result<Boxed<Program<'a>>, AllocError> {
+    match program_in(alloc, parsed) {
+        Ok(program) => boxed(alloc, program),
+        Err(AllocError) => Err(AllocError),
+    }
+}
+
+/// The same of a tree, which is let go.
+fn program_of_tree<'a>(alloc: Global, tree: Tree<'a>) -> Result<Boxed<Program<'a>>, AllocError> {
+    match Parsed::new(alloc, tree) {
+        Ok(parsed) => boxed_in(alloc, &parsed),
+        Err(AllocError) => Err(AllocError),
+    }
+}
+
+/// The model that the tree stands for that tokens spell, if they spell one.
+pub fn program_of<'a>(
+    alloc: Global,
+    tokens: &'a [Token<'a>],
+) -> Result<Option<Boxed<Program<'a>>>, AllocError> {
+    match parse(alloc, tokens) {
+        Ok(tree) => Ok(Some(program_of_tree(alloc, tree)?)),
         Err(SyntaxFault::Syntax(_)) => Ok(None),
         Err(SyntaxFault::Memory) => Err(AllocError),
     }

@@ -11,10 +11,11 @@ pub use devices::{
     ThreeDevices,
 };
 pub use diagnostics::{Fault, Refusal, Stop};
-pub use explain::explain;
+pub use explain::{explain, shown_file};
 pub use pml_check::{CheckFault, Checked, check};
 pub use pml_inline::expand;
 pub use pml_inline::fault::InlineFault;
+pub use pml_inline::misuse::{Limit, Misuse, Rule};
 pub use pml_lex::cut;
 pub use pml_lex::fault::LexFault;
 pub use pml_lines::changed::Change;

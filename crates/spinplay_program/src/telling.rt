@@ -1,7 +1,7 @@
 // What standard error says. A message that cannot be shown is left out.
 use crate::stop::NoRun;
 use clap::error::ErrorKind;
-use spinplay::{Cause, End, Refusal, explain};
+use spinplay::{Cause, End, Refusal, explain, shown_file};
 use std::alloc::{AllocError, Global};
 use std::io;
 
@@ -68,7 +68,9 @@ pub fn explain_end(rt: &HostRuntime, name: &str, text: &[u8], end: &End, errors:
 // Says why a file was not opened or read, where that is asked for.
 fn explain_file(rt: &HostRuntime, is_asked: bool, name: &str, error: &io::Error) {
     if is_asked {
-        let _ = eprintln!(rt; "spinplay: {name}: {error}");
+        if let Ok(name) = shown_file(rt.alloc(), name) {
+            let _ = eprintln!(rt; "spinplay: {name}: {error}");
+        }
     }
 }
 

@@ -1,0 +1,164 @@
+//! Breaks, d_steps and circles of gotos, by the plans of bodies.
+
+use crate::tree::program_of;
+use pml_blamed::body::{BadFirstPoint, Circle as Blamed};
+use pml_blamed::proctypes::{breaks, first_bad_point, first_circle};
+use pml_blamed::site::Label;
+use pml_causes::cause::{Cause, Circle, ControlCause, Finding, Named, Place};
+use pml_causes::place::{at_place, bytes_at, untold};
+use pml_program::program::Program;
+use pml_token::token::Token;
+use sqlite_items::Boxed;
+use std::alloc::{AllocError, Global};
+
+fn breaks_in(
+    alloc: Global,
+    program: Option<Boxed<Program<'_>>>,
+) -> Result<Vec<Option<u32>>, AllocError> {
+    match program {
+        Some(program) => breaks(alloc, program.get().proctypes.as_slice()),
+        None => Ok(Vec::new(alloc)),
+    }
+}
+
+/// How many bytes of the text stand before each `break`, in the order of their marks.
+pub fn breaks_of<'a>(
+    alloc: Global,
+    tokens: &'a [Token<'a>],
+) -> Result<Vec<Option<u32>>, AllocError> {
+    match program_of(alloc, tokens) {
+        Ok(program) => breaks_in(alloc, program),
+        Err(AllocError) => Err(AllocError),
+    }
+}
+
+fn bad_point_in(
+    alloc: Global,
+    program: Option<Boxed<Program<'_>>>,
+) -> Result<Option<BadFirstPoint>, AllocError> {
+    match program {
+        Some(program) => first_bad_point(alloc, program.get().proctypes.as_slice()),
+        None => Ok(None),
+    }
+}
+
+fn bad_point_of<'a>(
+    alloc: Global,
+    tokens: &'a [Token<'a>],
+) -> Result<Option<BadFirstPoint>, AllocError> {
+    match program_of(alloc, tokens) {
+        Ok(program) => bad_point_in(alloc, program),
+        Err(AllocError) => Err(AllocError),
+    }
+}
+
+fn circle_in(
+    alloc: Global,
+    program: Option<Boxed<Program<'_>>>,
+) -> Result<Option<Blamed>, AllocError> {
+    match program {
+        Some(program) => first_circle(alloc, program.get().proctypes.as_slice()),
+        None => Ok(None),
+    }
+}
+
+fn blamed_circle<'a>(alloc: Global, tokens: &'a [Token<'a>]) -> Result<Option<Blamed>, AllocError> {
+    match program_of(alloc, tokens) {
+        Ok(program) => circle_in(alloc, program),
+        Err(AllocError) => Err(AllocError),
+    }
+}
+
+/// The word at a place of the text.
+fn word_at<'t>(text: &'t [u8], offset: u32, word: &[u8]) -> Named<'t> {
+    let place = Place {
+        offset: offset as usize,
+        length: word.len(),
+    };
+    Named {
+        name: bytes_at(text, place),
+        offset: place.offset,
+    }
+}
+
+/// The `goto` or the `break` at a place of the text.
+fn leap_at<'t>(text: &'t [u8], offset: u32) -> Named<'t> {
+    let word = word_at(text, offset, b"break");
+    if word.name == b"break".as_slice() {
+        word
+    } else {
+        word_at(text, offset, b"goto")
+    }
+}
+
+/// What is found at a word of the text.
+fn at_word<'t>(word: Named<'t>, cause: ControlCause<'t>) -> Finding<'t> {
+    let place = Place {
+        offset: word.offset,
+        length: word.name.len(),
+    };
+    at_place(place, Cause::Control(cause))
+}
+
+fn told_point<'t>(text: &'t [u8], step: u32, point: u32, is_else: bool) -> Finding<'t> {
+    let step = word_at(text, step, b"d_step");
+    if is_else {
+        at_word(word_at(text, point, b"else"), ControlCause::FirstElse(step))
+    } else {
+        at_word(leap_at(text, point), ControlCause::FirstLeaves(step))
+    }
+}
+
+/// Of a d_step whose first point is outside of it, or an `else` by itself.
+pub fn of_first_point<'t, 'a>(
+    alloc: Global,
+    text: &'t [u8],
+    tokens: &'a [Token<'a>],
+) -> Result<Finding<'t>, AllocError> {
+    let Some(bad) = bad_point_of(alloc, tokens)? else {
+        return Ok(untold());
+    };
+    match (bad.step, bad.point) {
+        (Some(step), Some(point)) => Ok(told_point(text, step, point, bad.is_else)),
+        _ => Ok(untold()),
+    }
+}
+
+/// The name of a label of a circle, or an empty one where there are fewer.
+fn label_at<'t>(text: &'t [u8], labels: &[Label], at: usize) -> &'t [u8] {
+    match labels.get(at) {
+        Some(label) => bytes_at(
+            text,
+            Place {
+                offset: label.offset as usize,
+                length: label.length,
+            },
+        ),
+        None => &text[..0],
+    }
+}
+
+fn told_circle<'t>(text: &'t [u8], goto: u32, labels: &[Label]) -> Finding<'t> {
+    let circle = Circle {
+        count: labels.len(),
+        first: label_at(text, labels, 0),
+        second: label_at(text, labels, 1),
+        third: label_at(text, labels, 2),
+    };
+    at_word(word_at(text, goto, b"goto"), ControlCause::Circle(circle))
+}
+
+/// Of a circle of gotos.
+pub fn of_circle<'t, 'a>(
+    alloc: Global,
+    text: &'t [u8],
+    tokens: &'a [Token<'a>],
+) -> Result<Finding<'t>, AllocError> {
+    let Some(circle) = blamed_circle(alloc, tokens)? else {
+        return Ok(untold());
+    };
+    match circle.goto {
+        Some(goto) => Ok(told_circle(text, goto, &circle.labels)),
+        None => Ok(untold()),
+    }
+}
