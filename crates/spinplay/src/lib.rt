@@ -11,7 +11,7 @@ pub use devices::{
     ThreeDevices,
 };
 pub use diagnostics::{Fault, Refusal, Stop};
-pub use explain::explain;
+pub use explain::{explain, explain_beside};
 pub use pml_check::{CheckFault, Checked, check};
 pub use pml_inline::expand;
 pub use pml_inline::fault::InlineFault;
