@@ -45,6 +45,18 @@ left c = record c { brackets = c.brackets - 1; last = if c.is_head && nat_lt c.b
 abbrev pub assigned : Code → Code
 assigned c = record c { last = if is_typed c.last then last.Open else last.Assigned }
 
+-- behind a colon: that of a subtype belongs to its `mtype`
+abbrev pub labelled : Code → Code
+labelled c = record c { last = if is_typed c.last then last.Subtyped else last.Labelled }
+
+abbrev pub is_subtyped : Last → Bool
+is_subtyped last.Subtyped = true
+is_subtyped _ = false
+
+-- behind a name: that of a subtype is a type, as `mtype` is
+abbrev pub named : Code → Code
+named c = record c { last = if is_subtyped c.last then last.Typed else last.Ended }
+
 -- behind a token of the code
 abbrev pub code_behind : Code → Role → Code
 code_behind c role.Opens = opened c
@@ -53,11 +65,10 @@ code_behind c role.Enters = entered c
 code_behind c role.Indexes = entered c
 code_behind c role.Leaves = left c
 code_behind c role.Assigns = assigned c
-code_behind c role.Labels = record c { last = last.Labelled }
-code_behind c role.Typedef = record c { is_list = true; last = last.Open }
+code_behind c role.Labels = labelled c
 code_behind c role.For = record c { is_head = true; last = last.Open }
 code_behind c role.Mtype = record c { last = last.Typed }
-code_behind c role.Names = record c { last = last.Ended }
+code_behind c role.Names = named c
 code_behind c role.Both = record c { last = last.Ended }
 code_behind c role.Ends = record c { last = last.Ended }
 code_behind c _ = record c { last = last.Open }
@@ -111,6 +122,7 @@ has_statements c = nat_lt 0 c.braces && (c.brackets == 0 && not c.is_list)
 
 abbrev pub skip_before : Role → Supply
 skip_before role.Closes = as_supply.Skip
+skip_before role.Parts = as_supply.Skip
 skip_before _ = as_supply.Nothing
 
 abbrev pub supply_behind : Last → Bool → Role → Supply
@@ -119,7 +131,7 @@ supply_behind last.Ended b r = if b then as_supply.Separator else as_supply.Noth
 supply_behind _ b r = as_supply.Nothing
 
 -- what is written behind the last token and before one of role r: `;` where a line ends between them, the last one ends a statement and r
--- begins one; `skip` between a label and `}`
+-- begins one; `skip` between a label and `}`, `fi`, `od` or `::`
 abbrev pub supply : Code → Bool → Role → Supply
 supply c is_over r = supply_behind c.last (is_over && (begins r && has_statements c)) r
 

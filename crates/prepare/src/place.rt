@@ -17,8 +17,10 @@ pub enum Last {
     Labelled,
     /// `=`.
     Assigned,
-    /// `mtype`.
+    /// `mtype`, or the name of a subtype of it.
     Typed,
+    /// The colon of such a subtype.
+    Subtyped,
     /// Another one, or none.
     Open,
 }
@@ -30,7 +32,7 @@ pub struct Code {
     pub braces: u32,
     /// How many other brackets are open.
     pub brackets: u32,
-    /// Whether the braces are those of a type or of a list, and hold no statements.
+    /// Whether the braces are those of a list, and hold no statements.
     pub is_list: bool,
     /// Whether a `for` waits for its body.
     pub is_head: bool,
@@ -130,6 +132,28 @@ fn assigned(code: Code) -> Code
     Code { last, ..code }
 }
 
+fn labelled(code: Code) -> Code
+    ensures { result ≡ places.labelled code }
+{
+    let last = if code.last == Last::Typed {
+        Last::Subtyped
+    } else {
+        Last::Labelled
+    };
+    Code { last, ..code }
+}
+
+fn named(code: Code) -> Code
+    ensures { result ≡ places.named code }
+{
+    let last = if code.last == Last::Subtyped {
+        Last::Typed
+    } else {
+        Last::Ended
+    };
+    Code { last, ..code }
+}
+
 /// What is known of the code behind a token.
 fn code_behind(code: Code, role: Role) -> Code
     ensures { result ≡ places.code_behind code role }
@@ -140,15 +164,7 @@ fn code_behind(code: Code, role: Role) -> Code
         Role::Enters | Role::Indexes => entered(code),
         Role::Leaves => left(code),
         Role::Assigns => assigned(code),
-        Role::Labels => Code {
-            last: Last::Labelled,
-            ..code
-        },
-        Role::Typedef => Code {
-            is_list: true,
-            last: Last::Open,
-            ..code
-        },
+        Role::Labels => labelled(code),
         Role::For => Code {
             is_head: true,
             last: Last::Open,
@@ -158,7 +174,8 @@ fn code_behind(code: Code, role: Role) -> Code
             last: Last::Typed,
             ..code
         },
-        Role::Names | Role::Both | Role::Ends => Code {
+        Role::Names => named(code),
+        Role::Both | Role::Ends => Code {
             last: Last::Ended,
             ..code
         },
@@ -255,7 +272,7 @@ pub fn supply_at(code: Code, is_over: bool, role: Role) -> Supply
 {
     match code.last {
         Last::Labelled => match role {
-            Role::Closes => Supply::Skip,
+            Role::Closes | Role::Parts => Supply::Skip,
             _ => Supply::Nothing,
         },
         Last::Ended => {

@@ -22,7 +22,6 @@ pub enum Role {
     Labels,
     /// `=`.
     Assigns,
-    Typedef,
     For,
     Mtype,
     /// A string.
@@ -37,6 +36,8 @@ pub enum Role {
     Ends,
     /// `never`, `ltl`, `trace` or `notrace`.
     Heads,
+    /// `::`, `fi` or `od`, behind which another part of a body stands.
+    Parts,
     /// What is left out otherwise, and what is no token.
     LeftOut,
     /// Another token, which does neither.
@@ -63,7 +64,7 @@ fn bracket_of(kind: Kind) -> Role
         Kind::CloseParen | Kind::CloseBracket => Role::Leaves,
         Kind::Colon => Role::Labels,
         Kind::Assign => Role::Assigns,
-        Kind::Typedef => Role::Typedef,
+        Kind::DoubleColon | Kind::Fi | Kind::Od => Role::Parts,
         Kind::For => Role::For,
         Kind::Mtype => Role::Mtype,
         Kind::Quoted => Role::Quotes,
