@@ -7,7 +7,7 @@ use std::alloc::{AllocError, Global};
 use std::io;
 
 // The letters of Spin's options that have no meaning here.
-const OPTIONS_OF_SPIN: &str = "aAbBcCdeEfFhIJjkLMnNoOPqrsStUvwWxXyzZ";
+const OPTIONS_OF_SPIN: &str = "aAbBcCdeEfFjJkLMnNoOPqrsStvwWxXyYzZ";
 
 // Those of them that spinprep has.
 const OPTIONS_OF_CPP: &str = "DUI";

@@ -123,13 +123,17 @@ fn key(what: What, word: &[u8]) -> &[u8] {
     }
 }
 
+// Whether a byte is of `#` and the word behind it.
+fn is_of_directive(byte: u8) -> bool {
+    byte == b'#' || byte.is_ascii_alphabetic()
+}
+
 // `#` and the word behind it.
 fn directive(line: &[u8]) -> &[u8] {
-    let mut end = 1;
-    while end < line.len() && line[end].is_ascii_alphabetic() {
-        end += 1;
+    match line.split(|byte| !is_of_directive(*byte)).next() {
+        Some(front) => front,
+        None => line,
     }
-    &line[..end.min(line.len())]
 }
 
 // All kinds, in the order in which they came, and how many places have none.
