@@ -81,7 +81,7 @@ fn line_at(text: &[u8], number: usize) -> Option<&[u8]> {
 }
 
 /// What is shown of a line with a place of so many bytes: where the author's line of its number is another, that one.
-pub fn seen<'t>(source: &'t [u8], line: Line<'t>, mark: usize, length: usize) -> Seen<'t> {
+pub fn seen_in<'t>(source: &'t [u8], line: Line<'t>, mark: usize, length: usize) -> Seen<'t> {
     match line_at(source, line.number) {
         Some(own) if own != line.bytes => {
             let mark = mark.min(line.bytes.len());

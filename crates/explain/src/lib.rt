@@ -9,7 +9,7 @@ mod position;
 mod shown;
 mod texts;
 
-use author::seen;
+use author::seen_in;
 use counts::{of_control, of_count, of_inline, of_label, of_range, of_start};
 use diagnostics::Refusal;
 use message::Message;
@@ -74,7 +74,7 @@ fn tell_place(
 ) -> Result<(), AllocError> {
     let offset = shown_offset(message.text(), place.offset);
     let line = line_of(message.text(), offset);
-    let seen = seen(
+    let seen = seen_in(
         source,
         line,
         offset.saturating_sub(line.start),

@@ -37,6 +37,7 @@ no_head kind.Assign = refl
 no_head kind.DoubleColon = refl
 no_head kind.Fi = refl
 no_head kind.Od = refl
+no_head kind.Typedef = refl
 no_head kind.For = refl
 no_head kind.Mtype = refl
 no_head kind.Quoted = refl

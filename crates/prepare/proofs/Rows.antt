@@ -83,7 +83,7 @@ unfolding reserved word_kind next comment_end quote_end piece_at string_end turn
 row_14 = refl
 
 -- fields of a typedef at the ends of lines
-row_15 : prepared (lines (codes "typedef R {" ∷ codes "byte p" ∷ codes "byte q" ∷ codes "}" ∷ [])) ≡ lines (codes "typedef R {" ∷ codes "byte p;" ∷ codes "byte q" ∷ codes "}" ∷ [])
+row_15 : prepared (lines (codes "typedef R {" ∷ codes "byte p" ∷ codes "chan c = [1] of { byte }" ∷ codes "byte q" ∷ codes "}" ∷ [])) ≡ lines (codes "typedef R {" ∷ codes "byte p;" ∷ codes "chan c = [1] of { byte };" ∷ codes "byte q" ∷ codes "}" ∷ [])
 unfolding reserved word_kind next comment_end quote_end piece_at string_end turn turns_by unbroken numbered_by
 row_15 = refl
 

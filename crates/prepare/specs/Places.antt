@@ -27,11 +27,20 @@ is_typed _ = false
 
 -- behind `{`: what stands in braces behind `=` is a list
 abbrev pub opened : Code → Code
-opened c = record { braces = deeper c.braces; brackets = c.brackets; is_list = c.is_list || is_assigned c.last; is_head = false; last = last.Open }
+opened c = record { braces = deeper c.braces; brackets = c.brackets; is_list = c.is_list || is_assigned c.last; is_fields = c.is_fields; is_head = false; last = last.Open }
 
--- behind `}`
+-- behind `}`, which ends a field where it stands within a typedef: one of a channel
 abbrev pub closed : Code → Code
-closed c = record { braces = c.braces - 1; brackets = c.brackets; is_list = c.is_list && nat_lt 1 c.braces; is_head = c.is_head; last = last.Open }
+closed c =
+    let within = nat_lt 1 c.braces in
+    record {
+      braces = c.braces - 1;
+      brackets = c.brackets;
+      is_list = c.is_list && within;
+      is_fields = c.is_fields && within;
+      is_head = c.is_head;
+      last = if c.is_fields && within then last.Ended else last.Open;
+    }
 
 -- behind `(` or `[`
 abbrev pub entered : Code → Code
@@ -66,6 +75,7 @@ code_behind c role.Indexes = entered c
 code_behind c role.Leaves = left c
 code_behind c role.Assigns = assigned c
 code_behind c role.Labels = labelled c
+code_behind c role.Typedef = record c { is_fields = true; last = last.Open }
 code_behind c role.For = record c { is_head = true; last = last.Open }
 code_behind c role.Mtype = record c { last = last.Typed }
 code_behind c role.Names = named c
@@ -110,7 +120,7 @@ block_behind block.Ahead r = behind_word r
 block_behind (block.Within n) r = behind_within n r
 
 abbrev pub start : Place
-start = record { code = record { braces = 0; brackets = 0; is_list = false; is_head = false; last = last.Open }; block = block.Outside }
+start = record { code = record { braces = 0; brackets = 0; is_list = false; is_fields = false; is_head = false; last = last.Open }; block = block.Outside }
 
 -- behind a token
 abbrev pub behind : Place → Role → Place

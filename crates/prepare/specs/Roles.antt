@@ -25,6 +25,7 @@ bracket kind.Assign = as_role.Assigns
 bracket kind.DoubleColon = as_role.Parts
 bracket kind.Fi = as_role.Parts
 bracket kind.Od = as_role.Parts
+bracket kind.Typedef = as_role.Typedef
 bracket kind.For = as_role.For
 bracket kind.Mtype = as_role.Mtype
 bracket kind.Quoted = as_role.Quotes

@@ -34,6 +34,8 @@ pub struct Code {
     pub brackets: u32,
     /// Whether the braces are those of a list, and hold no statements.
     pub is_list: bool,
+    /// Whether the braces are those of a typedef, and hold its fields.
+    pub is_fields: bool,
     /// Whether a `for` waits for its body.
     pub is_head: bool,
     pub last: Last,
@@ -79,6 +81,7 @@ fn opened(code: Code) -> Code
         braces: deeper(code.braces),
         brackets: code.brackets,
         is_list: code.is_list || code.last == Last::Assigned,
+        is_fields: code.is_fields,
         is_head: false,
         last: Last::Open,
     }
@@ -87,12 +90,18 @@ fn opened(code: Code) -> Code
 fn closed(code: Code) -> Code
     ensures { result ≡ places.closed code }
 {
+    let is_within = code.braces > 1;
     Code {
         braces: code.braces.saturating_sub(1),
         brackets: code.brackets,
-        is_list: code.is_list && code.braces > 1,
+        is_list: code.is_list && is_within,
+        is_fields: code.is_fields && is_within,
         is_head: code.is_head,
-        last: Last::Open,
+        last: if code.is_fields && is_within {
+            Last::Ended
+        } else {
+            Last::Open
+        },
     }
 }
 
@@ -165,6 +174,11 @@ fn code_behind(code: Code, role: Role) -> Code
         Role::Leaves => left(code),
         Role::Assigns => assigned(code),
         Role::Labels => labelled(code),
+        Role::Typedef => Code {
+            is_fields: true,
+            last: Last::Open,
+            ..code
+        },
         Role::For => Code {
             is_head: true,
             last: Last::Open,
@@ -234,6 +248,7 @@ impl Place {
             braces: 0,
             brackets: 0,
             is_list: false,
+            is_fields: false,
             is_head: false,
             last: Last::Open,
         };

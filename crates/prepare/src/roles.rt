@@ -22,6 +22,7 @@ pub enum Role {
     Labels,
     /// `=`.
     Assigns,
+    Typedef,
     For,
     Mtype,
     /// A string.
@@ -65,6 +66,7 @@ fn bracket_of(kind: Kind) -> Role
         Kind::Colon => Role::Labels,
         Kind::Assign => Role::Assigns,
         Kind::DoubleColon | Kind::Fi | Kind::Od => Role::Parts,
+        Kind::Typedef => Role::Typedef,
         Kind::For => Role::For,
         Kind::Mtype => Role::Mtype,
         Kind::Quoted => Role::Quotes,
