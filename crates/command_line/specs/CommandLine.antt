@@ -27,7 +27,7 @@ limit_rule = record (new_rule (codes "u")) {
   parser = Some (vp.Signed (pos 0) (pos 4294967295));
 }
 
--- `--choices FILE` and `--record FILE`
+-- `--choices FILE`, `--record FILE`, `--name NAME` and `--source FILE`
 abbrev pub file_rule : Text → Rule
 file_rule id = record (new_rule id) { long = Some id; action = Some Set; value_names = 1 }
 
@@ -51,7 +51,7 @@ pub record IsNamed (c : Command) : Type 0 where
   pub local : (fields_of c).has_globals ≡ false
   pub negates : (fields_of c).subcommand_negates_reqs ≡ false
 
--- `spinplay [-i] [-p] [-g] [-l] [-m] [-T] [-uN] [--choices FILE] [--record FILE] [--convert] [--explain] MODEL`
+-- `spinplay [-i] [-p] [-g] [-l] [-m] [-T] [-uN] [--choices FILE] [--record FILE] [--convert] [--explain] [--name NAME] [--source FILE] MODEL`
 unfoldable pub command_line : App
 command_line = with_all named (
     counted_letter (codes "i") 105
@@ -65,6 +65,8 @@ command_line = with_all named (
     ∷ file_rule (codes "record")
     ∷ counted_word (codes "convert")
     ∷ counted_word (codes "explain")
+    ∷ file_rule (codes "name")
+    ∷ file_rule (codes "source")
     ∷ model_rule
     ∷ [])
 
@@ -72,7 +74,8 @@ command_line = with_all named (
 abbrev pub ids : List Text
 ids =
     codes "i" ∷ codes "p" ∷ codes "g" ∷ codes "l" ∷ codes "m" ∷ codes "T" ∷ codes "u"
-    ∷ codes "choices" ∷ codes "record" ∷ codes "convert" ∷ codes "explain" ∷ codes "MODEL" ∷ []
+    ∷ codes "choices" ∷ codes "record" ∷ codes "convert" ∷ codes "explain"
+    ∷ codes "name" ∷ codes "source" ∷ codes "MODEL" ∷ []
 
 -- the argument excludes no other, belongs to this command alone and has this id
 abbrev pub IsArgument : Text → Arg → Type 0
@@ -89,4 +92,4 @@ pub record IsCommandLine (c : Command) : Type 0 where
   pub in_turn : AddsInTurn AddsArg start added c
   pub plain : All (λ a. IsPlainArg a × (a.global ≡ false)) added
   pub ids : map (λ a. a.id.now) added ≡ ids
-  pub model : (d : Arg) → TakesValue (slice_index_or added 11 d)
+  pub model : (d : Arg) → TakesValue (slice_index_or added 13 d)

@@ -25,3 +25,5 @@ pub record IsReadFrom (rows : List Row) (a : Arguments) : Type 0 where
   pub rec : first_of (codes "record") rows ≡ option_map string_bytes a.rec
   pub convert : IsTrue a.convert ↔ (0 < count_of (codes "convert") rows)
   pub explain : IsTrue a.explain ↔ (0 < count_of (codes "explain") rows)
+  pub name : first_of (codes "name") rows ≡ option_map string_bytes a.name
+  pub source : first_of (codes "source") rows ≡ option_map string_bytes a.source

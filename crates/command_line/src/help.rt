@@ -21,11 +21,17 @@ Options:
   --record <FILE>   Write the accepted choices to FILE, which is emptied first
   --convert         Print the accepted choices with their lines, and no run
   --explain         Say why and where a model is refused, on standard error
+  --name <NAME>     Call the model NAME there
+  --source <FILE>   Show lines of FILE there, of which MODEL was prepared
   -i, -T            Accepted as Spin has them, and change nothing
   -h, --help        Print help
   -V, --version     Print version
 
 Flags may be repeated and joined, as in -pgl.
+
+A model with #define, ltl or a never claim, or with ends of lines in place of
+';', is prepared and played by spinprep, which takes the same options:
+  spinprep --play -p model.pml
 
 Where more than one statement can be taken, they are listed, and a line is
 read: the number of one of them, or q to quit. Any other line is answered by

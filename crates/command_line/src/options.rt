@@ -15,4 +15,8 @@ pub struct Arguments {
     pub convert: bool,
     /// Where the model is refused, it is told why, and where.
     pub explain: bool,
+    /// What explanations call the model; without one it is called by its file.
+    pub name: Option<String>,
+    /// The file whose lines explanations show, where the model was prepared of it.
+    pub source: Option<String>,
 }

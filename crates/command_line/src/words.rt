@@ -51,7 +51,7 @@ fn limit<'a>(alloc: Global) -> Arg<'a>
         .help("Take at most N steps (1000000 where it is not given)")
 }
 
-// `--choices FILE` and `--record FILE`.
+// `--choices FILE`, `--record FILE` and `--source FILE`.
 fn file<'a>(alloc: Global, id: &'a str, help: &'a str) -> Arg<'a>
     ensures rule { rule_of result ≡ file_rule id.entry.now }
     ensures plain { IsArgument id.entry.now result }
@@ -61,6 +61,18 @@ fn file<'a>(alloc: Global, id: &'a str, help: &'a str) -> Arg<'a>
         .action(ArgAction::Set)
         .value_name("FILE")
         .help(help)
+}
+
+// `--name NAME`.
+fn name<'a>(alloc: Global) -> Arg<'a>
+    ensures rule { rule_of result ≡ file_rule (codes "name") }
+    ensures plain { IsArgument (codes "name") result }
+{
+    Arg::new(alloc, "name")
+        .long("name")
+        .action(ArgAction::Set)
+        .value_name("NAME")
+        .help("Call the model NAME in explanations")
 }
 
 // `MODEL`.
@@ -119,6 +131,8 @@ fn command<'a>(alloc: Global) -> Result<Command<'a>, AllocError>
             "Write the accepted choices with their lines, and show nothing",
         ))?
         .arg(long_flag(alloc, "explain", "Say why a model is refused, and where"))?
+        .arg(name(alloc))?
+        .arg(file(alloc, "source", "Show lines of FILE in explanations"))?
         .arg(model(alloc))
 }
 
@@ -148,6 +162,8 @@ pub fn arguments<'a>(alloc: Global, words: &'a [&'a str]) -> Result<Arguments, E
     };
     let choices = text_of(alloc, &matches, "choices")?;
     let rec = text_of(alloc, &matches, "record")?;
+    let name = text_of(alloc, &matches, "name")?;
+    let source = text_of(alloc, &matches, "source")?;
     Ok(Arguments {
         options,
         model,
@@ -155,5 +171,7 @@ pub fn arguments<'a>(alloc: Global, words: &'a [&'a str]) -> Result<Arguments, E
         rec,
         convert: matches.get_count("convert") > 0,
         explain: matches.get_count("explain") > 0,
+        name,
+        source,
     })
 }

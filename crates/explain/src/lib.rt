@@ -1,6 +1,7 @@
 //! What a user is told of a refused model: where the refusal lies, why, and what to write.
 #![tactic(auto)]
 
+mod author;
 mod counts;
 mod foreign;
 mod message;
@@ -10,6 +11,7 @@ mod shown;
 mod signs;
 mod texts;
 
+use author::seen_in;
 use counts::{of_control, of_count, of_inline, of_label, of_range, of_start};
 use diagnostics::Refusal;
 use message::Message;
@@ -17,7 +19,7 @@ use names::{of_twice, of_unknown, of_wrong};
 use pml_causes::cause::{Cause, Finding, Place};
 use pml_refused::cause_of;
 use position::{column, line_of, shown_offset};
-use shown::{show_line, window_round};
+use shown::{show_alone, show_line, window_round};
 use std::alloc::{AllocError, Global};
 use std::str;
 use texts::{of_syntax, of_text};
@@ -64,20 +66,39 @@ fn tell_head(
     message.push("\n")
 }
 
-/// Adds all that is told of a place.
+/// Adds all that is told of a place, whose line is shown as it stands in the source.
 fn tell_place(
     message: &mut Message<'_>,
+    source: &[u8],
     refusal: Refusal,
     cause: Cause<'_>,
     place: Place,
 ) -> Result<(), AllocError> {
     let offset = shown_offset(message.text(), place.offset);
     let line = line_of(message.text(), offset);
-    message.figure(":", line.number, ":")?;
-    message.number(column(line, offset))?;
-    tell_head(message, refusal, cause)?;
-    let mark = offset.saturating_sub(line.start);
-    show_line(message, line, window_round(line.bytes, mark, place.length))
+    let seen = seen_in(
+        source,
+        line,
+        offset.saturating_sub(line.start),
+        place.length,
+    );
+    message.figure(":", line.number, "")?;
+    match seen.mark {
+        Some(mark) => {
+            message.figure(
+                ":",
+                column(seen.line, seen.line.start.saturating_add(mark)),
+                "",
+            )?;
+            tell_head(message, refusal, cause)?;
+            let window = window_round(seen.line.bytes, mark, seen.length);
+            show_line(message, seen.line, window)
+        }
+        None => {
+            tell_head(message, refusal, cause)?;
+            show_alone(message, seen.line)
+        }
+    }
 }
 
 /// What a user is told of a refused model: its lines, each with its line feed, for standard error.
@@ -90,11 +111,23 @@ pub fn explain(
     text: &[u8],
     refusal: Refusal,
 ) -> Result<String, AllocError> {
+    explain_beside(alloc, name, text, text, refusal)
+}
+
+/// The same of a text that was prepared of another one with the same lines: where the two differ, the line of that source is shown, and the
+/// place on it where its token is found there.
+pub fn explain_beside(
+    alloc: Global,
+    name: &str,
+    text: &[u8],
+    source: &[u8],
+    refusal: Refusal,
+) -> Result<String, AllocError> {
     let Finding { place, cause } = cause_of(alloc, text, refusal)?;
     let mut message = Message::new(alloc, text);
     message.file(name)?;
     match place {
-        Some(place) => tell_place(&mut message, refusal, cause, place)?,
+        Some(place) => tell_place(&mut message, source, refusal, cause, place)?,
         None => tell_head(&mut message, refusal, cause)?,
     }
     Ok(message.into_text())

@@ -185,3 +185,9 @@ pub fn show_line(
     margin(message, None, digits)?;
     lower(message, line.bytes, window)
 }
+
+/// Adds the line alone.
+pub fn show_alone(message: &mut Message<'_>, line: Line<'_>) -> Result<(), AllocError> {
+    margin(message, Some(line.number), digits_of(line.number))?;
+    upper(message, line.bytes, window_round(line.bytes, 0, 0))
+}

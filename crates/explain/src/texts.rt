@@ -80,7 +80,7 @@ fn about_word(word: &[u8]) -> &'static str {
 /// What a word or a sign is that is left out, and what to do.
 fn about(word: &[u8]) -> &'static str {
     if begins_claim(word) {
-        " is for a verification, and a simulation does not need it: take it out"
+        " is for a verification, and a simulation does not need it: take it out, or play the model by `spinprep --play MODEL`"
     } else if is_of_claims(word) {
         " is for claims of a verification, and is left out"
     } else if is_embedded(word) {
@@ -114,7 +114,8 @@ fn directive(line: &[u8]) -> &[u8] {
 
 fn left_out(message: &mut Message<'_>, word: &[u8]) -> Result<(), AllocError> {
     if begins(word, b'#') {
-        let words = " is for a preprocessor: hand the text to `cpp` first";
+        let words =
+            " is for a preprocessor: play the model by `spinprep --play MODEL`, which runs `cpp` first";
         return message.around("", directive(word), words);
     }
     message.around("", word, about(word))
@@ -123,6 +124,11 @@ fn left_out(message: &mut Message<'_>, word: &[u8]) -> Result<(), AllocError> {
 fn stray(message: &mut Message<'_>, byte: u8) -> Result<(), AllocError> {
     if byte == b'#' {
         return message.push("`#` stands only at the beginning of a line");
+    }
+    if byte == b'\\' {
+        return message.push(
+            "`\\` begins no token: where it joins two lines, play the model by `spinprep --play MODEL`",
+        );
     }
     if b'!' <= byte && byte <= b'~' {
         return message.around("", &[byte], " begins no token");
@@ -239,7 +245,7 @@ fn wants_sign(message: &mut Message<'_>, wanted: Wanted<'_>) -> Result<(), Alloc
         Wanted::SemicolonAtLineEnd(last) => message.line(
             "a `;` is wanted at the end of ",
             last.offset,
-            " (models for Spin 6.3 and later leave it out)",
+            " (models for Spin 6.3 and later leave it out: `spinprep --play MODEL` writes it)",
         ),
         Wanted::Semicolon => message.push("a `;` is wanted before it"),
         Wanted::OptionSign => message.push("`::` is wanted before it"),

@@ -1,4 +1,4 @@
-//! What is read of a command line: a letter for each flag, or a dash, the limit and the files, with a dash for what is not there, and a word for `--explain`.
+//! What is read of a command line: a letter for each flag, or a dash, the limit and the files, with a dash for what is not there, and words for `--explain`, `--name` and `--source`.
 use command_line::{Arguments, arguments};
 use row_files::Writer;
 use std::alloc::{AllocError, Global};
@@ -12,6 +12,13 @@ fn add_file(name: &Option<String>, out: &mut Writer) {
     match name {
         Some(name) => out.word(name.as_str()),
         None => out.word("-"),
+    }
+}
+
+fn add_named(word: &str, name: &Option<String>, out: &mut Writer) {
+    if let Some(name) = name {
+        out.word(word);
+        out.word(name.as_str());
     }
 }
 
@@ -29,6 +36,8 @@ fn add_read(read: &Arguments, out: &mut Writer) {
     out.word(" ");
     add_flag(read.convert, "convert", out);
     out.word(if read.explain { " explain" } else { "" });
+    add_named(" name ", &read.name, out);
+    add_named(" source ", &read.source, out);
 }
 
 fn words_of(alloc: Global, text: &[u8]) -> Result<Vec<&str>, AllocError> {

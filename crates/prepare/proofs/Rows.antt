@@ -81,3 +81,18 @@ row_13 = refl
 row_14 : prepared (lines ((0 ∷ 200 ∷ codes "$ init { x") ∷ codes "y }" ∷ [])) ≡ lines ((0 ∷ 200 ∷ codes "$ init { x;") ∷ codes "y }" ∷ [])
 unfolding reserved word_kind next comment_end quote_end piece_at string_end turn turns_by unbroken numbered_by
 row_14 = refl
+
+-- fields of a typedef at the ends of lines
+row_15 : prepared (lines (codes "typedef R {" ∷ codes "byte p" ∷ codes "chan c = [1] of { byte }" ∷ codes "byte q" ∷ codes "}" ∷ [])) ≡ lines (codes "typedef R {" ∷ codes "byte p;" ∷ codes "chan c = [1] of { byte };" ∷ codes "byte q" ∷ codes "}" ∷ [])
+unfolding reserved word_kind next comment_end quote_end piece_at string_end turn turns_by unbroken numbered_by
+row_15 = refl
+
+-- a label directly before `::`, `fi` and `od`
+row_16 : prepared (codes "init { if :: a: :: b: fi; do :: c: od }") ≡ codes "init { if :: a: skip :: b: skip fi; do :: c: skip od }"
+unfolding reserved word_kind next comment_end quote_end piece_at string_end turn turns_by unbroken numbered_by
+row_16 = refl
+
+-- the values of a subtype are no list, so a separator is written behind it
+row_17 : prepared (lines (codes "mtype:s = { a }" ∷ codes "init { x" ∷ codes "y }" ∷ [])) ≡ lines (codes "mtype:s = { a }" ∷ codes "init { x;" ∷ codes "y }" ∷ [])
+unfolding reserved word_kind next comment_end quote_end piece_at string_end turn turns_by unbroken numbered_by
+row_17 = refl

@@ -46,7 +46,7 @@ stays form.Blanked t = false
 abbrev pub is_plain : Written → Bool
 is_plain t = is_nothing t.supply && stays t.form t.token
 
--- whether a text has no block, no line end that stands for a separator, no label before `}` and no string over several lines
+-- whether a text has no block, no line end that stands for a separator, no label without a statement and no string over several lines
 abbrev pub is_mended : List ℕ → Bool
 is_mended text = list_all is_plain (turns text)
 

@@ -27,11 +27,20 @@ is_typed _ = false
 
 -- behind `{`: what stands in braces behind `=` is a list
 abbrev pub opened : Code → Code
-opened c = record { braces = deeper c.braces; brackets = c.brackets; is_list = c.is_list || is_assigned c.last; is_head = false; last = last.Open }
+opened c = record { braces = deeper c.braces; brackets = c.brackets; is_list = c.is_list || is_assigned c.last; is_fields = c.is_fields; is_head = false; last = last.Open }
 
--- behind `}`
+-- behind `}`, which ends a field where it stands within a typedef: one of a channel
 abbrev pub closed : Code → Code
-closed c = record { braces = c.braces - 1; brackets = c.brackets; is_list = c.is_list && nat_lt 1 c.braces; is_head = c.is_head; last = last.Open }
+closed c =
+    let within = nat_lt 1 c.braces in
+    record {
+      braces = c.braces - 1;
+      brackets = c.brackets;
+      is_list = c.is_list && within;
+      is_fields = c.is_fields && within;
+      is_head = c.is_head;
+      last = if c.is_fields && within then last.Ended else last.Open;
+    }
 
 -- behind `(` or `[`
 abbrev pub entered : Code → Code
@@ -45,6 +54,18 @@ left c = record c { brackets = c.brackets - 1; last = if c.is_head && nat_lt c.b
 abbrev pub assigned : Code → Code
 assigned c = record c { last = if is_typed c.last then last.Open else last.Assigned }
 
+-- behind a colon: that of a subtype belongs to its `mtype`
+abbrev pub labelled : Code → Code
+labelled c = record c { last = if is_typed c.last then last.Subtyped else last.Labelled }
+
+abbrev pub is_subtyped : Last → Bool
+is_subtyped last.Subtyped = true
+is_subtyped _ = false
+
+-- behind a name: that of a subtype is a type, as `mtype` is
+abbrev pub named : Code → Code
+named c = record c { last = if is_subtyped c.last then last.Typed else last.Ended }
+
 -- behind a token of the code
 abbrev pub code_behind : Code → Role → Code
 code_behind c role.Opens = opened c
@@ -53,11 +74,11 @@ code_behind c role.Enters = entered c
 code_behind c role.Indexes = entered c
 code_behind c role.Leaves = left c
 code_behind c role.Assigns = assigned c
-code_behind c role.Labels = record c { last = last.Labelled }
-code_behind c role.Typedef = record c { is_list = true; last = last.Open }
+code_behind c role.Labels = labelled c
+code_behind c role.Typedef = record c { is_fields = true; last = last.Open }
 code_behind c role.For = record c { is_head = true; last = last.Open }
 code_behind c role.Mtype = record c { last = last.Typed }
-code_behind c role.Names = record c { last = last.Ended }
+code_behind c role.Names = named c
 code_behind c role.Both = record c { last = last.Ended }
 code_behind c role.Ends = record c { last = last.Ended }
 code_behind c _ = record c { last = last.Open }
@@ -99,7 +120,7 @@ block_behind block.Ahead r = behind_word r
 block_behind (block.Within n) r = behind_within n r
 
 abbrev pub start : Place
-start = record { code = record { braces = 0; brackets = 0; is_list = false; is_head = false; last = last.Open }; block = block.Outside }
+start = record { code = record { braces = 0; brackets = 0; is_list = false; is_fields = false; is_head = false; last = last.Open }; block = block.Outside }
 
 -- behind a token
 abbrev pub behind : Place → Role → Place
@@ -111,6 +132,7 @@ has_statements c = nat_lt 0 c.braces && (c.brackets == 0 && not c.is_list)
 
 abbrev pub skip_before : Role → Supply
 skip_before role.Closes = as_supply.Skip
+skip_before role.Parts = as_supply.Skip
 skip_before _ = as_supply.Nothing
 
 abbrev pub supply_behind : Last → Bool → Role → Supply
@@ -119,7 +141,7 @@ supply_behind last.Ended b r = if b then as_supply.Separator else as_supply.Noth
 supply_behind _ b r = as_supply.Nothing
 
 -- what is written behind the last token and before one of role r: `;` where a line ends between them, the last one ends a statement and r
--- begins one; `skip` between a label and `}`
+-- begins one; `skip` between a label and `}`, `fi`, `od` or `::`
 abbrev pub supply : Code → Bool → Role → Supply
 supply c is_over r = supply_behind c.last (is_over && (begins r && has_statements c)) r
 

@@ -46,7 +46,7 @@ pub fn what_is_cut_wants_separators_alone()
 {}
 
 /// What is written of a text that is cut into tokens of which none is left out is cut again, into these tokens and the separators: each
-/// separator is a token of its own, and changes no other. This is of texts in which no label stands directly before a brace.
+/// separator is a token of its own, and changes no other. This is of texts in which each label has a statement.
 pub fn what_is_written_is_cut_again()
     ensures { (text : List ℕ) (ts : List Word) → AreKept text ts → has_no_skip (turns text) ≡ true → IsCutAgain text }
 {}

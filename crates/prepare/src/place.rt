@@ -17,8 +17,10 @@ pub enum Last {
     Labelled,
     /// `=`.
     Assigned,
-    /// `mtype`.
+    /// `mtype`, or the name of a subtype of it.
     Typed,
+    /// The colon of such a subtype.
+    Subtyped,
     /// Another one, or none.
     Open,
 }
@@ -30,8 +32,10 @@ pub struct Code {
     pub braces: u32,
     /// How many other brackets are open.
     pub brackets: u32,
-    /// Whether the braces are those of a type or of a list, and hold no statements.
+    /// Whether the braces are those of a list, and hold no statements.
     pub is_list: bool,
+    /// Whether the braces are those of a typedef, and hold its fields.
+    pub is_fields: bool,
     /// Whether a `for` waits for its body.
     pub is_head: bool,
     pub last: Last,
@@ -77,6 +81,7 @@ fn opened(code: Code) -> Code
         braces: deeper(code.braces),
         brackets: code.brackets,
         is_list: code.is_list || code.last == Last::Assigned,
+        is_fields: code.is_fields,
         is_head: false,
         last: Last::Open,
     }
@@ -85,12 +90,18 @@ fn opened(code: Code) -> Code
 fn closed(code: Code) -> Code
     ensures { result ≡ places.closed code }
 {
+    let is_within = code.braces > 1;
     Code {
         braces: code.braces.saturating_sub(1),
         brackets: code.brackets,
-        is_list: code.is_list && code.braces > 1,
+        is_list: code.is_list && is_within,
+        is_fields: code.is_fields && is_within,
         is_head: code.is_head,
-        last: Last::Open,
+        last: if code.is_fields && is_within {
+            Last::Ended
+        } else {
+            Last::Open
+        },
     }
 }
 
@@ -130,6 +141,28 @@ fn assigned(code: Code) -> Code
     Code { last, ..code }
 }
 
+fn labelled(code: Code) -> Code
+    ensures { result ≡ places.labelled code }
+{
+    let last = if code.last == Last::Typed {
+        Last::Subtyped
+    } else {
+        Last::Labelled
+    };
+    Code { last, ..code }
+}
+
+fn named(code: Code) -> Code
+    ensures { result ≡ places.named code }
+{
+    let last = if code.last == Last::Subtyped {
+        Last::Typed
+    } else {
+        Last::Ended
+    };
+    Code { last, ..code }
+}
+
 /// What is known of the code behind a token.
 fn code_behind(code: Code, role: Role) -> Code
     ensures { result ≡ places.code_behind code role }
@@ -140,12 +173,9 @@ fn code_behind(code: Code, role: Role) -> Code
         Role::Enters | Role::Indexes => entered(code),
         Role::Leaves => left(code),
         Role::Assigns => assigned(code),
-        Role::Labels => Code {
-            last: Last::Labelled,
-            ..code
-        },
+        Role::Labels => labelled(code),
         Role::Typedef => Code {
-            is_list: true,
+            is_fields: true,
             last: Last::Open,
             ..code
         },
@@ -158,7 +188,8 @@ fn code_behind(code: Code, role: Role) -> Code
             last: Last::Typed,
             ..code
         },
-        Role::Names | Role::Both | Role::Ends => Code {
+        Role::Names => named(code),
+        Role::Both | Role::Ends => Code {
             last: Last::Ended,
             ..code
         },
@@ -217,6 +248,7 @@ impl Place {
             braces: 0,
             brackets: 0,
             is_list: false,
+            is_fields: false,
             is_head: false,
             last: Last::Open,
         };
@@ -255,7 +287,7 @@ pub fn supply_at(code: Code, is_over: bool, role: Role) -> Supply
 {
     match code.last {
         Last::Labelled => match role {
-            Role::Closes => Supply::Skip,
+            Role::Closes | Role::Parts => Supply::Skip,
             _ => Supply::Nothing,
         },
         Last::Ended => {

@@ -37,6 +37,8 @@ pub enum Role {
     Ends,
     /// `never`, `ltl`, `trace` or `notrace`.
     Heads,
+    /// `::`, `fi` or `od`, behind which another part of a body stands.
+    Parts,
     /// What is left out otherwise, and what is no token.
     LeftOut,
     /// Another token, which does neither.
@@ -63,6 +65,7 @@ fn bracket_of(kind: Kind) -> Role
         Kind::CloseParen | Kind::CloseBracket => Role::Leaves,
         Kind::Colon => Role::Labels,
         Kind::Assign => Role::Assigns,
+        Kind::DoubleColon | Kind::Fi | Kind::Od => Role::Parts,
         Kind::Typedef => Role::Typedef,
         Kind::For => Role::For,
         Kind::Mtype => Role::Mtype,

@@ -10,6 +10,9 @@ use std::{fs, io};
 // At most so many bytes of a model are read: one more than a model may have.
 const MOST_READ: u64 = MOST_TEXT_BYTES as u64 + 1;
 
+// At most so many bytes are read of the file that a model was prepared of.
+const MOST_SOURCE: u64 = 8_388_608;
+
 fn opened(rt: &HostRuntime, name: &str) -> Result<File, NoRun> {
     match fs::open(rt, name) {
         Ok(file) => Ok(file),
@@ -118,21 +121,53 @@ pub fn choices_of(rt: &HostRuntime, asked: &Arguments) -> Result<Choices, NoRun>
     })
 }
 
-// The files that are read, which a record may not be.
+// The files that a run has beside its record, each of which that may not be.
 #[derive(Clone, Copy)]
-pub struct Inputs {
+pub struct Others {
     pub model: Option<Identity>,
+    // the file that the model was prepared of
+    pub source: Option<Identity>,
     pub choices: Option<Identity>,
+    pub output: Option<Identity>,
 }
 
-// The file of the record, emptied, unless it is the model's or that of the choices.
-pub fn created(rt: &HostRuntime, name: &str, inputs: Inputs) -> Result<File, NoRun> {
+// The files beside the record, where the model and the choices are these.
+pub fn others_of(
+    rt: &HostRuntime,
+    asked: &Arguments,
+    model: Option<Identity>,
+    choices: Option<Identity>,
+) -> Result<Others, NoRun> {
+    let source = match &asked.source {
+        Some(name) => identity_at(rt, name.as_str())?,
+        None => None,
+    };
+    Ok(Others {
+        model,
+        source,
+        choices,
+        output: identity_at(rt, "/dev/stdout")?,
+    })
+}
+
+// Which of the others a file is.
+fn other_in(own: Identity, others: Others) -> Option<&'static str> {
+    if is_same(own, others.model) || is_same(own, others.source) {
+        Some("model")
+    } else if is_same(own, others.choices) {
+        Some("choices")
+    } else if is_same(own, others.output) {
+        Some("output")
+    } else {
+        None
+    }
+}
+
+// The file of the record, emptied, unless it is one of the others.
+pub fn created(rt: &HostRuntime, name: &str, others: Others) -> Result<File, NoRun> {
     if let Some(own) = identity_at(rt, name)? {
-        if is_same(own, inputs.model) {
-            return Err(NoRun::WouldEmpty(String::from_str(rt.alloc(), name)?, "model"));
-        }
-        if is_same(own, inputs.choices) {
-            return Err(NoRun::WouldEmpty(String::from_str(rt.alloc(), name)?, "choices"));
+        if let Some(other) = other_in(own, others) {
+            return Err(NoRun::WouldEmpty(String::from_str(rt.alloc(), name)?, other));
         }
     }
     match fs::create(rt, name) {
@@ -156,5 +191,16 @@ pub fn model_of(rt: &HostRuntime, name: &str) -> Result<Model, NoRun> {
         Ok(_) => Ok(Model { text, file }),
         Err(error) if error.kind() == io::ErrorKind::OutOfMemory => Err(NoRun::Memory),
         Err(error) => Err(NoRun::CannotRead(String::from_str(rt.alloc(), name)?, error)),
+    }
+}
+
+// The text that a model was prepared of, as much of it as is read, where it is a regular file: another may not be there twice.
+pub fn source_of(rt: &HostRuntime, name: &str) -> Option<Vec<u8>> {
+    identity_at(rt, name).ok()??;
+    let file = fs::open(rt, name).ok()?;
+    let mut text = Vec::new(rt.alloc());
+    match file.take(MOST_SOURCE).read_to_end(&mut text) {
+        Ok(_) => Some(text),
+        Err(_) => None,
     }
 }

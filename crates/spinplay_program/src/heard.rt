@@ -18,6 +18,11 @@ impl<D> Heard<D> {
         }
     }
 
+    // The device itself.
+    pub fn device(&self) -> &D {
+        &self.device
+    }
+
     // Why it last failed, where an error said so.
     pub fn error(&self) -> Option<&io::Error> {
         self.error.as_ref()

@@ -2,14 +2,18 @@
 #![tactic(auto)]
 
 mod files;
+mod followed;
 mod heard;
+mod misfits;
 mod stop;
 mod telling;
 
 ghost use Rattle.std.specs.Prelude.{◌≡◌};
 
-use files::{Input, Inputs, Model, choices_of, created, model_of};
+use files::{Input, Model, choices_of, created, model_of, others_of};
+use followed::Followed;
 use heard::Heard;
+use misfits::explain_choices;
 use spinplay::{
     Arguments, ByteReader, Conversion, Either, End, Failures, Nowhere, PieceWriter, ThreeDevices,
     arguments, convert, play,
@@ -46,7 +50,7 @@ fn asked_of(rt: &HostRuntime) -> Result<Arguments, NoRun> {
 #[derive(Drop)]
 struct Opened {
     model: Model,
-    source: Heard<Input>,
+    source: Heard<Followed<Input>>,
     out: Heard<Stdout>,
     rec: Option<Heard<File>>,
 }
@@ -55,17 +59,16 @@ struct Opened {
 fn open_all(rt: &HostRuntime, asked: &Arguments) -> Result<Opened, NoRun> {
     let model = model_of(rt, asked.model.as_str())?;
     let choices = choices_of(rt, asked)?;
-    let inputs = Inputs {
-        model: model.file,
-        choices: choices.file,
-    };
     let rec = match &asked.rec {
-        Some(name) => Some(Heard::new(created(rt, name.as_str(), inputs)?)),
+        Some(name) => {
+            let others = others_of(rt, asked, model.file, choices.file)?;
+            Some(Heard::new(created(rt, name.as_str(), others)?))
+        }
         None => None,
     };
     Ok(Opened {
         model,
-        source: Heard::new(choices.input),
+        source: Heard::new(Followed::new(rt.alloc(), choices.input)),
         out: Heard::new(rt.stdout()),
         rec,
     })
@@ -128,8 +131,8 @@ fn explained(rt: &HostRuntime, asked: &Arguments, opened: &Opened, end: &End) {
         out: opened.out.error(),
         rec,
     };
-    let text = opened.model.text.as_slice();
-    explain_end(rt, asked.model.as_str(), text, end, errors);
+    explain_end(rt, asked, opened.model.text.as_slice(), end, errors);
+    explain_choices(rt, &asked.choices, opened.source.device(), end);
 }
 
 // Plays the model that is asked for, and answers the status.

@@ -1,12 +1,19 @@
 // What standard error says. A message that cannot be shown is left out.
+use crate::files::source_of;
 use crate::stop::NoRun;
 use clap::error::ErrorKind;
-use spinplay::{Cause, End, Refusal, explain, shown_file};
+use spinplay::{Arguments, Cause, End, Refusal, explain, explain_beside, shown_file};
 use std::alloc::{AllocError, Global};
 use std::io;
 
-// The options of Spin that have no meaning here.
-const OPTIONS_OF_SPIN: [char; 8] = ['c', 'j', 'k', 'n', 'r', 's', 't', 'v'];
+// The letters of Spin's options that have no meaning here.
+const OPTIONS_OF_SPIN: &str = "aAbBcCdeEfFjJkLMnNoOPqrsStvwWxXyYzZ";
+
+// Those of them that spinprep has.
+const OPTIONS_OF_CPP: &str = "DUI";
+
+// How every command line is.
+const USAGE: &str = "Usage: spinplay [OPTIONS] <MODEL>";
 
 // Says why a model is refused whose choices are converted: the line that a run would have in its output.
 pub fn tell_refusal(rt: &HostRuntime, end: &End) {
@@ -31,9 +38,30 @@ pub fn tell_end(rt: &HostRuntime, end: &End) {
     };
 }
 
-// Says why the model of this name and text is refused, and where.
-fn explain_refusal(rt: &HostRuntime, name: &str, text: &[u8], refusal: Refusal) {
-    if let Ok(words) = explain(rt.alloc(), name, text, refusal) {
+// What explanations call a model.
+fn name_of(asked: &Arguments) -> &str {
+    match &asked.name {
+        Some(name) => name.as_str(),
+        None => asked.model.as_str(),
+    }
+}
+
+// The text whose lines explanations show, where it is another than the model's and can be read.
+fn shown_source(rt: &HostRuntime, asked: &Arguments) -> Option<Vec<u8>> {
+    match &asked.source {
+        Some(name) => source_of(rt, name.as_str()),
+        None => None,
+    }
+}
+
+// Says why the model of this text is refused, and where.
+fn explain_refusal(rt: &HostRuntime, asked: &Arguments, text: &[u8], refusal: Refusal) {
+    let name = name_of(asked);
+    let words = match shown_source(rt, asked) {
+        Some(source) => explain_beside(rt.alloc(), name, text, source.as_slice(), refusal),
+        None => explain(rt.alloc(), name, text, refusal),
+    };
+    if let Ok(words) = words {
         let _ = eprint!(rt; "{words}");
     }
 }
@@ -55,9 +83,9 @@ pub struct Errors<'e> {
 }
 
 // Explains an end that is no run's own: a refusal, or a device that failed.
-pub fn explain_end(rt: &HostRuntime, name: &str, text: &[u8], end: &End, errors: Errors) {
+pub fn explain_end(rt: &HostRuntime, asked: &Arguments, text: &[u8], end: &End, errors: Errors) {
     match end.cause {
-        Cause::Refused(refusal, _) => explain_refusal(rt, name, text, refusal),
+        Cause::Refused(refusal, _) => explain_refusal(rt, asked, text, refusal),
         Cause::SourceFailed => explain_device(rt, "choices", errors.source),
         Cause::OutFailed => explain_device(rt, "output", errors.out),
         Cause::RecordFailed => explain_device(rt, "record", errors.rec),
@@ -106,27 +134,56 @@ pub fn tell_stop(rt: &HostRuntime, stop: &NoRun, explains: bool) -> u8 {
     4
 }
 
+// What is told of a letter in place of the tip to hand it on as a value.
+fn tip_of(alloc: Global, letter: char) -> Result<String, AllocError> {
+    if OPTIONS_OF_CPP.contains(letter) {
+        format!(in alloc;
+            "'-{letter}' is for cpp, which spinprep runs: spinprep --play -{letter}.. MODEL"
+        )
+    } else {
+        format!(in alloc;
+            "leave '-{letter}' out: it is an option of Spin, and spinplay has none like it"
+        )
+    }
+}
+
 // What is shown of an unexpected word: an option of Spin that has no meaning here is to be left out, not to be handed on as a value.
-fn without_options_of_spin(alloc: Global, error: &clap::Error) -> Result<String, AllocError> {
-    let text = format!(in alloc; "{error}")?;
-    for letter in OPTIONS_OF_SPIN {
+fn without_options_of_spin(alloc: Global, text: String) -> Result<String, AllocError> {
+    for letter in OPTIONS_OF_SPIN.chars().chain(OPTIONS_OF_CPP.chars()) {
         let tip = format!(in alloc; "to pass '-{letter}' as a value, use '-- -{letter}'")?;
         if text.contains(tip.as_str()) {
-            let own = format!(in alloc;
-                "leave '-{letter}' out: it is an option of Spin, and spinplay has none like it"
-            )?;
-            return text.replace(alloc, tip.as_str(), own.as_str());
+            return text.replace(alloc, tip.as_str(), tip_of(alloc, letter)?.as_str());
         }
     }
     Ok(text)
 }
 
+// A mistake in the words, with the usage of every command line in place of one with the words that were read.
+fn with_usage(alloc: Global, error: &clap::Error) -> Result<String, AllocError> {
+    let told = format!(in alloc; "{error}")?;
+    let mut text = String::new(alloc);
+    for line in told.lines() {
+        text.push_str(if line.starts_with("Usage: spinplay ") {
+            USAGE
+        } else {
+            line
+        })?;
+        text.push('\n')?;
+    }
+    Ok(text)
+}
+
+// What is shown of a mistake in the words.
+fn mistake(alloc: Global, error: &clap::Error) -> Result<String, AllocError> {
+    without_options_of_spin(alloc, with_usage(alloc, error)?)
+}
+
 // Shows a mistake in the words, or help.
 fn shown_words(rt: &HostRuntime, error: &clap::Error) -> io::Result<()> {
-    if error.kind() != ErrorKind::UnknownArgument {
+    if !error.use_stderr() {
         return error.print(rt);
     }
-    match without_options_of_spin(rt.alloc(), error) {
+    match mistake(rt.alloc(), error) {
         Ok(text) => eprint!(rt; "{text}"),
         Err(_) => error.print(rt),
     }

@@ -1,13 +1,16 @@
 // Reads the words and the text, writes what is prepared, says what was blanked and what is left, and ends with a status.
 #![tactic(auto)]
 
+mod kinds;
 mod report;
+mod shown;
 
 use prepare::MOST_BYTES;
 use prepare::numbering::numbered;
 use prepare::spelling::spelled;
 use prepare::turns::turns;
 use report::Report;
+use shown::shown_name;
 use std::alloc::{AllocError, Global};
 use std::fs::File;
 use std::io::{Read, Write};
@@ -19,13 +22,15 @@ const MOST_READ: u64 = MOST_BYTES as u64 + 1;
 
 const HELP: &str = "Prepares the text of a Promela model, as cpp leaves it, for spinplay.
 
-usage: spinprep-text [--strict] FILE
+usage: spinprep-text [--strict] [--name=NAME] FILE
 
 Writes a text with the same lines as the model's own file: blanks in place of ltl, never, trace and notrace, and the separators
 that the ends of lines stand for. What is blanked and what is left as it is stands on standard error, with its lines.
+bin/spinprep runs cpp and then this, and with --play bin/spinplay on what comes out.
 
-  --strict   ends with status 1 where something is left that spinplay does not play
-  --help     says this
+  --strict      ends with status 1 where something is left that spinplay does not play
+  --name=NAME   calls the file NAME in what is said
+  --help        says this
 
 Exit statuses: 0 prepared; 1 something is left (--strict); 3 the text has more than 8388608 bytes; 4 wrong words, or a file that
 cannot be opened or read; 6 a device or memory failed.
@@ -54,25 +59,35 @@ impl From<AllocError> for Stop {
 struct Asked {
     is_strict: bool,
     file: String,
+    // what the file is called
+    name: Option<String>,
 }
 
 fn asked_by(alloc: Global, words: &[String]) -> Result<Asked, Stop> {
     let mut is_strict = false;
     let mut file = None;
+    let mut name = None;
     for word in words {
         match word.as_str() {
             "--help" => return Err(Stop::Help),
             "--strict" => is_strict = true,
-            name => {
-                if file.is_some() || (name.starts_with("-") && name.len() > 1) {
+            word => {
+                if let Some(own) = word.strip_prefix("--name=") {
+                    name = Some(String::from_str(alloc, own)?);
+                } else if file.is_some() || (word.starts_with("-") && word.len() > 1) {
                     return Err(Stop::Words);
+                } else {
+                    file = Some(String::from_str(alloc, word)?);
                 }
-                file = Some(String::from_str(alloc, name)?);
             }
         }
     }
     match file {
-        Some(file) => Ok(Asked { is_strict, file }),
+        Some(file) => Ok(Asked {
+            is_strict,
+            file,
+            name,
+        }),
         None => Err(Stop::Words),
     }
 }
@@ -106,8 +121,17 @@ fn text_of(rt: &HostRuntime, name: &str) -> Result<Vec<u8>, Stop> {
     }
 }
 
-// Writes what is prepared, and answers whether something is left.
-fn prepared(rt: &HostRuntime, text: &[u8]) -> Result<bool, Stop> {
+// What the file is called in what is said.
+fn name_of(rt: &HostRuntime, asked: &Asked) -> Result<String, AllocError> {
+    let name = match &asked.name {
+        Some(name) => name.as_str(),
+        None => asked.file.as_str(),
+    };
+    shown_name(rt.alloc(), name)
+}
+
+// Writes what is prepared of the text of this name, and answers whether something is left.
+fn prepared(rt: &HostRuntime, text: &[u8], name: &str) -> Result<bool, Stop> {
     if text.len() > MOST_BYTES {
         return Err(Stop::TooLong);
     }
@@ -118,17 +142,18 @@ fn prepared(rt: &HostRuntime, text: &[u8]) -> Result<bool, Stop> {
     if out.write_all(&output).is_err() || out.flush().is_err() {
         return Err(Stop::Device);
     }
-    let mut report = Report::new();
+    let mut report = Report::new(rt.alloc());
     for turn in &turns {
-        report.turn(rt, turn);
+        report.turn(turn);
     }
-    Ok(report.end(rt))
+    Ok(report.end(rt, name))
 }
 
 fn run(rt: &HostRuntime) -> Result<u8, Stop> {
     let asked = asked_of(rt)?;
     let text = text_of(rt, asked.file.as_str())?;
-    let is_left = prepared(rt, &text)?;
+    let name = name_of(rt, &asked)?;
+    let is_left = prepared(rt, &text, name.as_str())?;
     Ok(u8::from(asked.is_strict && is_left))
 }
 
@@ -137,7 +162,7 @@ fn tell_stop(rt: &HostRuntime, stop: Stop) -> u8 {
     match stop {
         Stop::Help => { if print!(rt; "{HELP}").is_ok() { 0 } else { 6 } }
         Stop::Words => {
-            let _ = eprintln!(rt; "usage: spinprep-text [--strict] FILE");
+            let _ = eprintln!(rt; "usage: spinprep-text [--strict] [--name=NAME] FILE");
             4
         }
         Stop::CannotOpen(name) => {

@@ -1,13 +1,8 @@
-// What is said on standard error: which blocks are blanked, and what is left as it is.
+// What is said on standard error: which blocks are blanked, and what is left as it is, a line for each kind with all its places.
 
+use crate::kinds::{Kinds, What};
 use prepare::turn::{Form, Remark, Turn};
-use std::alloc::{AllocError, Global};
-
-// At most so many lines are said, and at the end how many more there are.
-const MOST_LINES: u64 = 100;
-
-// Of a token at most so many bytes are shown.
-const MOST_SHOWN: usize = 40;
+use std::alloc::Global;
 
 // A block that is blanked: its word, its first line, and the line of the last token of it so far.
 #[derive(Drop)]
@@ -23,8 +18,7 @@ pub struct Report<'t> {
     // the line of the next byte
     line: u64,
     block: Option<Block<'t>>,
-    // how many lines were said, or would have been
-    said: u64,
+    kinds: Kinds<'t>,
     is_left: bool,
 }
 
@@ -38,76 +32,44 @@ fn feeds(text: &[u8]) -> u64 {
     count
 }
 
-// The beginning of a token, as far as it can be shown.
-fn shown(alloc: Global, token: &[u8]) -> Result<String, AllocError> {
-    let mut text = String::new(alloc);
-    for b in token.iter().take(MOST_SHOWN) {
-        if *b == b'\n' {
-            return Ok(text);
-        }
-        text.push(if *b >= b' ' && *b < 127 {
-            char::from(*b)
-        } else {
-            '?'
-        })?;
+// What kind of thing a token is that is left out.
+fn left_out(token: &[u8]) -> What {
+    match token {
+        [b'\'', ..] => What::Apostrophe,
+        [b, ..] if *b < b' ' || *b > b'~' => What::Bytes,
+        _ => What::LeftOut,
     }
-    Ok(text)
 }
 
 impl<'t> Report<'t> {
-    pub fn new() -> Report<'t> {
+    pub fn new(alloc: Global) -> Report<'t> {
         Report {
             line: 1,
             block: None,
-            said: 0,
+            kinds: Kinds::new(alloc),
             is_left: false,
         }
     }
 
-    // Whether another line may be said.
-    fn may_say(&mut self) -> bool {
-        self.said = self.said.saturating_add(1);
-        self.said <= MOST_LINES
-    }
-
-    // Says of the block that is at its end.
-    fn end_block(&mut self, rt: &HostRuntime) {
-        let block = self.block.take();
-        if let Some(block) = block {
-            if !block.is_closed {
+    // Keeps the block that is at its end.
+    fn end_block(&mut self) {
+        if let Some(block) = self.block.take() {
+            let what = if block.is_closed {
+                What::Blanked
+            } else {
                 self.is_left = true;
-            }
-            if !self.may_say() {
-                return;
-            }
-            if let Ok(word) = shown(rt.alloc(), block.word) {
-                let first = block.first;
-                let last = block.last;
-                let _ = if !block.is_closed {
-                    eprintln!(rt;
-                        "spinprep: line {first}: '{word}' has no block that ends; what is behind it is blanked"
-                    )
-                } else if first == last {
-                    eprintln!(rt; "spinprep: line {first}: '{word}' is blanked")
-                } else {
-                    eprintln!(rt; "spinprep: lines {first} to {last}: '{word}' is blanked")
-                };
-            }
+                What::Unclosed
+            };
+            self.kinds.add(what, block.word, block.first, block.last);
         }
     }
 
-    fn left(&mut self, rt: &HostRuntime, what: &str, token: &[u8]) {
+    fn left(&mut self, what: What, token: &'t [u8]) {
         self.is_left = true;
-        if !self.may_say() {
-            return;
-        }
-        if let Ok(shown) = shown(rt.alloc(), token) {
-            let line = self.line;
-            let _ = eprintln!(rt; "spinprep: line {line}: {what} '{shown}' is left as it is");
-        }
+        self.kinds.add(what, token, self.line, self.line);
     }
 
-    fn remark(&mut self, rt: &HostRuntime, turn: &Turn<'t>) {
+    fn remark(&mut self, turn: &Turn<'t>) {
         match turn.remark() {
             Remark::Nothing => {}
             Remark::BlockEnds => {
@@ -123,33 +85,30 @@ impl<'t> Report<'t> {
                     is_closed: false,
                 });
             }
-            Remark::LeftOut => self.left(rt, "what is left out", turn.token()),
-            Remark::List => self.left(rt, "a list of initialisers", turn.token()),
-            Remark::Subtype => self.left(rt, "a subtype of mtype", turn.token()),
+            Remark::LeftOut => self.left(left_out(turn.token()), turn.token()),
+            Remark::List => self.left(What::List, turn.token()),
+            Remark::Subtype => self.left(What::Subtype, turn.token()),
         }
     }
 
     // Reads one turn more.
-    pub fn turn(&mut self, rt: &HostRuntime, turn: &Turn<'t>) {
+    pub fn turn(&mut self, turn: &Turn<'t>) {
         self.line = self.line.saturating_add(feeds(turn.gap()));
         let is_blanked = matches!(turn.form(), Form::Blanked);
         if !is_blanked || matches!(turn.remark(), Remark::BlockBegins) {
-            self.end_block(rt);
+            self.end_block();
         }
-        self.remark(rt, turn);
+        self.remark(turn);
         if let Some(block) = &mut self.block {
             block.last = self.line;
         }
         self.line = self.line.saturating_add(feeds(turn.token()));
     }
 
-    // Says what is still to be said, and answers whether something is left.
-    pub fn end(mut self, rt: &HostRuntime) -> bool {
-        self.end_block(rt);
-        if self.said > MOST_LINES {
-            let more = self.said - MOST_LINES;
-            let _ = eprintln!(rt; "spinprep: and {more} more");
-        }
+    // Says all that is to be said of a file of this name, and answers whether something is left.
+    pub fn end(mut self, rt: &HostRuntime, name: &str) -> bool {
+        self.end_block();
+        self.kinds.tell(rt, name);
         self.is_left
     }
 }

@@ -74,4 +74,6 @@ returns-clause-ok c =
       rec = sym (first (codes "record")) ∙ sym c.in_ok-rec.ensures;
       convert = set_where _ _ (c.get_count-5.ensures.value ∙ counted (codes "convert"));
       explain = set_where _ _ (c.get_count-6.ensures.value ∙ counted (codes "explain"));
+      name = sym (first (codes "name")) ∙ sym c.in_ok-name.ensures;
+      source = sym (first (codes "source")) ∙ sym c.in_ok-source.ensures;
     }

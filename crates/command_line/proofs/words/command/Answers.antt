@@ -19,6 +19,8 @@ returns c =
     let nine = more (codes "record") _ _ _ _ _ _ _ _ eight c.in_ok-arg-9.ensures c.file-2.ensures.plain c.file-2.ensures.rule in
     let ten = more (codes "convert") _ _ _ _ _ _ _ _ nine c.in_ok-arg-10.ensures c.long_flag.ensures.plain c.long_flag.ensures.rule in
     let eleven = more (codes "explain") _ _ _ _ _ _ _ _ ten c.in_ok-arg-11.ensures c.long_flag-2.ensures.plain c.long_flag-2.ensures.rule in
-    IfOk-weaker c.arg-12.result _ _ (λ d last.
-    finished c.spinplay.result d _ (more (codes "MODEL") _ _ d _ _ _ _ _ eleven last c.model.ensures.plain c.model.ensures.rule)
-    (c.spinplay.ensures.empty.0, c.spinplay.ensures.empty.1) c.spinplay.ensures.local c.spinplay.ensures.negates (λ _. c.model.ensures.value)) c.arg-12.ensures
+    let twelve = more (codes "name") _ _ _ _ _ _ _ _ eleven c.in_ok-arg-12.ensures c.name.ensures.plain c.name.ensures.rule in
+    let thirteen = more (codes "source") _ _ _ _ _ _ _ _ twelve c.in_ok-arg-13.ensures c.file-3.ensures.plain c.file-3.ensures.rule in
+    IfOk-weaker c.arg-14.result _ _ (λ d last.
+    finished c.spinplay.result d _ (more (codes "MODEL") _ _ d _ _ _ _ _ thirteen last c.model.ensures.plain c.model.ensures.rule)
+    (c.spinplay.ensures.empty.0, c.spinplay.ensures.empty.1) c.spinplay.ensures.local c.spinplay.ensures.negates (λ _. c.model.ensures.value)) c.arg-14.ensures
