@@ -49,7 +49,7 @@ module _ {S M : Type 0} (rules : Rules S M) (options : Options) where
       → (t : S) (printed : List ℕ) → rules.step s (get_or (m ∷ k ∷ ms) (n - 1) m) ≡ Goes t printed → (stream : Stream) → IsPlain stream → (more : List ℕ)
       → story First rules options (suc fuel) s steps stream (record_line n ++ more)
       ≡ preceded (Put Told (list_from (rules.text s) 1 (m ∷ k ∷ ms)) ∷ Put Told (prompt (length (m ∷ k ∷ ms))) ∷ (asks (record_line n) false ++ Recorded (record_line n) (placed_line n (place_of rules s m (m ∷ k ∷ ms) n)) ∷ []))
-          (preceded (Stepped ∷ Put Told (text_of s (get_or (m ∷ k ∷ ms) (n - 1) m) steps t printed) ∷ []) (story First rules options fuel t (steps + 1) (Known First) more))
+      (preceded (Stepped ∷ Put Told (text_of s (get_or (m ∷ k ∷ ms) (n - 1) m) steps t printed) ∷ []) (story First rules options fuel t (steps + 1) (Known First) more))
   unfolding select answered stepped
   many_played fuel s steps m k ms is n some within short t printed goes stream plain more =
       let moves = m ∷ k ∷ ms in
@@ -97,6 +97,7 @@ module _ {S M : Type 0} (rules : Rules S M) (options : Options) where
         let part = ap (story First rules options (suc fuel) s steps stream) choices ∙ many_played fuel s steps m k ms is n (omega arith) (omega (arith, below)) few turn.next step.printed goes stream plain more in
         turn_first s steps ns turn path _ later step (ap (λ (q : Part End). q.value) part)
         (ap (λ (q : Part End). recorded q.events) part ∙ asked_recorded (list_from (rules.text s) 1 moves) (prompt (length moves)) n (placed_line n (place_of rules s m moves n)) (text_of s (get_or moves (n - 1) m) steps turn.next step.printed) later.events ∙ ap (λ (l : List ℕ). flat_map record_line l ++ recorded later.events) (sym numbered)) (rest (Known First) refl)
+
     path_first : (fuel : ℕ) (s : S) (steps : ℕ) → steps + fuel ≡ options.limit → P s → (path : List (Turn S M)) (numbers : List ℕ) → IsPath rules s path numbers → length path ≤ fuel → (stream : Stream) → IsPlain stream → (more : List ℕ)
         → PlaysFrom s steps path (story First rules options fuel s steps stream (flat_map record_line numbers ++ more))
     path_first fuel s steps at p [] numbers is within stream plain more = story_runs rules options fuel s steps at stream (flat_map record_line numbers ++ more)
