@@ -85,203 +85,323 @@ pub enum Foreign {
     Outside,
 }
 
-/// The words, those of one meaning together.
-const WORDS: [(&[u8], Foreign); 187] = [
-    (b"while", Foreign::Loop),
-    (b"until", Foreign::Loop),
-    (b"repeat", Foreign::Loop),
-    (b"loop", Foreign::Loop),
-    (b"forever", Foreign::Loop),
-    (b"foreach", Foreign::Loop),
-    (b"switch", Foreign::Cases),
-    (b"case", Foreign::Cases),
-    (b"match", Foreign::Cases),
-    (b"when", Foreign::Cases),
-    (b"elif", Foreign::ElseIf),
-    (b"elseif", Foreign::ElseIf),
-    (b"elsif", Foreign::ElseIf),
-    (b"then", Foreign::Then),
-    (b"endif", Foreign::EndIf),
-    (b"end_if", Foreign::EndIf),
-    (b"done", Foreign::EndLoop),
-    (b"endwhile", Foreign::EndLoop),
-    (b"enddo", Foreign::EndLoop),
-    (b"endfor", Foreign::EndLoop),
-    (b"wend", Foreign::EndLoop),
-    (b"next", Foreign::EndLoop),
-    (b"begin", Foreign::Body),
+/// A word that a table has.
+fn lookup(table: &[(&[u8], Foreign)], word: &[u8]) -> Option<Foreign> {
+    for entry in table {
+        if entry.0 == word {
+            return Some(entry.1);
+        }
+    }
+    None
+}
+
+const OF_2: [(&[u8], Foreign); 6] = [
+    (b"or", Foreign::Or),
+    (b"OR", Foreign::Or),
+    (b"Or", Foreign::Or),
+    (b"to", Foreign::To),
+    (b"in", Foreign::In),
+    (b"fn", Foreign::Function),
+];
+
+const OF_3_A: [(&[u8], Foreign); 14] = [
     (b"end", Foreign::Body),
     (b"and", Foreign::And),
     (b"AND", Foreign::And),
     (b"And", Foreign::And),
-    (b"or", Foreign::Or),
-    (b"OR", Foreign::Or),
-    (b"Or", Foreign::Or),
     (b"not", Foreign::Not),
     (b"NOT", Foreign::Not),
     (b"Not", Foreign::Not),
     (b"xor", Foreign::Xor),
-    (b"XOR", Foreign::Xor),
     (b"mod", Foreign::Remainder),
-    (b"MOD", Foreign::Remainder),
     (b"rem", Foreign::Remainder),
     (b"div", Foreign::Quotient),
-    (b"DIV", Foreign::Quotient),
-    (b"to", Foreign::To),
-    (b"upto", Foreign::To),
-    (b"downto", Foreign::To),
-    (b"in", Foreign::In),
-    (b"print", Foreign::Print),
-    (b"println", Foreign::Print),
-    (b"puts", Foreign::Print),
-    (b"echo", Foreign::Print),
-    (b"cout", Foreign::Print),
-    (b"write", Foreign::Print),
-    (b"writeln", Foreign::Print),
-    (b"printl", Foreign::Print),
-    (b"fprintf", Foreign::Print),
-    (b"display", Foreign::Print),
     (b"log", Foreign::Print),
-    (b"read", Foreign::Read),
-    (b"input", Foreign::Read),
-    (b"scanf", Foreign::Read),
-    (b"scan", Foreign::Read),
     (b"cin", Foreign::Read),
-    (b"readln", Foreign::Read),
-    (b"gets", Foreign::Read),
-    (b"sleep", Foreign::Sleep),
-    (b"delay", Foreign::Sleep),
-    (b"pause", Foreign::Sleep),
-    (b"wait", Foreign::Wait),
-    (b"await", Foreign::Wait),
-    (b"waituntil", Foreign::Wait),
-    (b"wait_until", Foreign::Wait),
-    (b"function", Foreign::Function),
-    (b"func", Foreign::Function),
     (b"def", Foreign::Function),
-    (b"fn", Foreign::Function),
+];
+
+const OF_3_B: [(&[u8], Foreign); 9] = [
     (b"fun", Foreign::Function),
-    (b"void", Foreign::Function),
-    (b"proc", Foreign::Function),
-    (b"procedure", Foreign::Function),
-    (b"subroutine", Foreign::Function),
-    (b"sub", Foreign::Function),
-    (b"method", Foreign::Function),
-    (b"macro", Foreign::Function),
-    (b"process", Foreign::Process),
-    (b"thread", Foreign::Process),
-    (b"task", Foreign::Process),
-    (b"actor", Foreign::Process),
-    (b"agent", Foreign::Process),
-    (b"PROCTYPE", Foreign::Process),
-    (b"Proctype", Foreign::Process),
-    (b"const", Foreign::Constant),
-    (b"constant", Foreign::Constant),
-    (b"final", Foreign::Constant),
-    (b"define", Foreign::Constant),
     (b"var", Foreign::Variable),
     (b"let", Foreign::Variable),
-    (b"auto", Foreign::Variable),
     (b"val", Foreign::Variable),
-    (b"dim", Foreign::Variable),
-    (b"struct", Foreign::Record),
-    (b"record", Foreign::Record),
-    (b"class", Foreign::Record),
-    (b"union", Foreign::Record),
-    (b"enum", Foreign::Enumeration),
-    (b"integer", Foreign::Number),
-    (b"Integer", Foreign::Number),
-    (b"long", Foreign::Number),
     (b"Int", Foreign::Number),
-    (b"INT", Foreign::Number),
+    (b"str", Foreign::Text),
+    (b"nil", Foreign::Nothing),
+    (b"try", Foreign::Try),
+    (b"new", Foreign::Spawn),
+];
+
+const OF_4_A: [(&[u8], Foreign); 14] = [
+    (b"loop", Foreign::Loop),
+    (b"case", Foreign::Cases),
+    (b"when", Foreign::Cases),
+    (b"elif", Foreign::ElseIf),
+    (b"then", Foreign::Then),
+    (b"done", Foreign::EndLoop),
+    (b"wend", Foreign::EndLoop),
+    (b"next", Foreign::EndLoop),
+    (b"echo", Foreign::Print),
+    (b"cout", Foreign::Print),
+    (b"read", Foreign::Read),
+    (b"scan", Foreign::Read),
+    (b"wait", Foreign::Wait),
+    (b"func", Foreign::Function),
+];
+
+const OF_4_B: [(&[u8], Foreign); 14] = [
+    (b"void", Foreign::Function),
+    (b"task", Foreign::Process),
+    (b"auto", Foreign::Variable),
+    (b"enum", Foreign::Enumeration),
+    (b"long", Foreign::Number),
     (b"uint", Foreign::Number),
-    (b"unsigned_int", Foreign::Number),
-    (b"uint8", Foreign::Number),
     (b"int8", Foreign::Number),
-    (b"uint16", Foreign::Number),
-    (b"int16", Foreign::Number),
-    (b"uint32", Foreign::Number),
-    (b"int32", Foreign::Number),
-    (b"size_t", Foreign::Number),
-    (b"number", Foreign::Number),
-    (b"nat", Foreign::Number),
-    (b"Short", Foreign::Number),
-    (b"boolean", Foreign::Truth),
-    (b"Boolean", Foreign::Truth),
     (b"Bool", Foreign::Truth),
-    (b"BOOL", Foreign::Truth),
     (b"char", Foreign::Byte),
     (b"Byte", Foreign::Byte),
     (b"BYTE", Foreign::Byte),
-    (b"uint8_t", Foreign::Byte),
-    (b"character", Foreign::Byte),
-    (b"string", Foreign::Text),
-    (b"String", Foreign::Text),
-    (b"str", Foreign::Text),
-    (b"float", Foreign::Fraction),
-    (b"double", Foreign::Fraction),
     (b"real", Foreign::Fraction),
-    (b"Float", Foreign::Fraction),
-    (b"Double", Foreign::Fraction),
     (b"True", Foreign::True),
     (b"TRUE", Foreign::True),
-    (b"yes", Foreign::True),
-    (b"False", Foreign::False),
-    (b"FALSE", Foreign::False),
-    (b"no", Foreign::False),
+];
+
+const OF_4_C: [(&[u8], Foreign); 13] = [
     (b"null", Foreign::Nothing),
     (b"NULL", Foreign::Nothing),
-    (b"nil", Foreign::Nothing),
     (b"None", Foreign::Nothing),
-    (b"undefined", Foreign::Nothing),
-    (b"continue", Foreign::Continue),
     (b"exit", Foreign::Exit),
     (b"halt", Foreign::Exit),
     (b"stop", Foreign::Exit),
-    (b"terminate", Foreign::Exit),
-    (b"abort", Foreign::Exit),
     (b"quit", Foreign::Exit),
     (b"lock", Foreign::Lock),
-    (b"mutex", Foreign::Lock),
-    (b"synchronized", Foreign::Lock),
-    (b"acquire", Foreign::Lock),
-    (b"critical", Foreign::Lock),
-    (b"import", Foreign::Include),
-    (b"include", Foreign::Include),
-    (b"using", Foreign::Include),
-    (b"package", Foreign::Include),
-    (b"module", Foreign::Include),
-    (b"require", Foreign::Include),
     (b"main", Foreign::Main),
-    (b"Main", Foreign::Main),
-    (b"try", Foreign::Try),
-    (b"catch", Foreign::Try),
-    (b"except", Foreign::Try),
-    (b"throw", Foreign::Try),
-    (b"raise", Foreign::Try),
-    (b"finally", Foreign::Try),
-    (b"new", Foreign::Spawn),
     (b"fork", Foreign::Spawn),
-    (b"spawn", Foreign::Spawn),
-    (b"start", Foreign::Spawn),
-    (b"create", Foreign::Spawn),
-    (b"go", Foreign::Spawn),
-    (b"launch", Foreign::Spawn),
     (b"rand", Foreign::Random),
-    (b"random", Foreign::Random),
-    (b"randint", Foreign::Random),
-    (b"choose", Foreign::Random),
     (b"send", Foreign::Message),
-    (b"receive", Foreign::Message),
     (b"recv", Foreign::Message),
 ];
 
-/// What a word of another language is meant for.
-pub fn foreign_word(word: &[u8]) -> Option<Foreign> {
-    for (one, foreign) in &WORDS {
-        if *one == word {
-            return Some(*foreign);
-        }
+const OF_5_A: [(&[u8], Foreign); 14] = [
+    (b"while", Foreign::Loop),
+    (b"until", Foreign::Loop),
+    (b"match", Foreign::Cases),
+    (b"endif", Foreign::EndIf),
+    (b"enddo", Foreign::EndLoop),
+    (b"begin", Foreign::Body),
+    (b"print", Foreign::Print),
+    (b"write", Foreign::Print),
+    (b"input", Foreign::Read),
+    (b"scanf", Foreign::Read),
+    (b"sleep", Foreign::Sleep),
+    (b"delay", Foreign::Sleep),
+    (b"pause", Foreign::Sleep),
+    (b"await", Foreign::Wait),
+];
+
+const OF_5_B: [(&[u8], Foreign); 14] = [
+    (b"macro", Foreign::Function),
+    (b"actor", Foreign::Process),
+    (b"const", Foreign::Constant),
+    (b"final", Foreign::Constant),
+    (b"class", Foreign::Record),
+    (b"uint8", Foreign::Number),
+    (b"Short", Foreign::Number),
+    (b"float", Foreign::Fraction),
+    (b"Float", Foreign::Fraction),
+    (b"False", Foreign::False),
+    (b"FALSE", Foreign::False),
+    (b"abort", Foreign::Exit),
+    (b"mutex", Foreign::Lock),
+    (b"using", Foreign::Include),
+];
+
+const OF_5_C: [(&[u8], Foreign); 4] = [
+    (b"catch", Foreign::Try),
+    (b"throw", Foreign::Try),
+    (b"spawn", Foreign::Spawn),
+    (b"start", Foreign::Spawn),
+];
+
+const OF_6_A: [(&[u8], Foreign); 14] = [
+    (b"repeat", Foreign::Loop),
+    (b"switch", Foreign::Cases),
+    (b"elseif", Foreign::ElseIf),
+    (b"endfor", Foreign::EndLoop),
+    (b"method", Foreign::Function),
+    (b"thread", Foreign::Process),
+    (b"define", Foreign::Constant),
+    (b"struct", Foreign::Record),
+    (b"record", Foreign::Record),
+    (b"number", Foreign::Number),
+    (b"string", Foreign::Text),
+    (b"String", Foreign::Text),
+    (b"double", Foreign::Fraction),
+    (b"import", Foreign::Include),
+];
+
+const OF_6_B: [(&[u8], Foreign); 4] = [
+    (b"except", Foreign::Try),
+    (b"create", Foreign::Spawn),
+    (b"random", Foreign::Random),
+    (b"choose", Foreign::Random),
+];
+
+const OF_7_A: [(&[u8], Foreign); 14] = [
+    (b"forever", Foreign::Loop),
+    (b"foreach", Foreign::Loop),
+    (b"println", Foreign::Print),
+    (b"writeln", Foreign::Print),
+    (b"fprintf", Foreign::Print),
+    (b"process", Foreign::Process),
+    (b"integer", Foreign::Number),
+    (b"Integer", Foreign::Number),
+    (b"boolean", Foreign::Truth),
+    (b"Boolean", Foreign::Truth),
+    (b"uint8_t", Foreign::Byte),
+    (b"acquire", Foreign::Lock),
+    (b"include", Foreign::Include),
+    (b"package", Foreign::Include),
+];
+
+const OF_7_B: [(&[u8], Foreign); 2] = [
+    (b"randint", Foreign::Random),
+    (b"receive", Foreign::Message),
+];
+
+const OF_8: [(&[u8], Foreign); 5] = [
+    (b"endwhile", Foreign::EndLoop),
+    (b"function", Foreign::Function),
+    (b"constant", Foreign::Constant),
+    (b"continue", Foreign::Continue),
+    (b"critical", Foreign::Lock),
+];
+
+const OF_9: [(&[u8], Foreign); 2] = [
+    (b"procedure", Foreign::Function),
+    (b"terminate", Foreign::Exit),
+];
+
+const OF_12: [(&[u8], Foreign); 1] = [(b"synchronized", Foreign::Lock)];
+
+fn of_2(word: &[u8]) -> Option<Foreign> {
+    lookup(&OF_2, word)
+}
+
+fn of_3_a(word: &[u8]) -> Option<Foreign> {
+    lookup(&OF_3_A, word)
+}
+
+fn of_3_b(word: &[u8]) -> Option<Foreign> {
+    lookup(&OF_3_B, word)
+}
+
+fn of_3(word: &[u8]) -> Option<Foreign> {
+    if let Some(foreign) = of_3_a(word) {
+        return Some(foreign);
     }
-    None
+    of_3_b(word)
+}
+
+fn of_4_a(word: &[u8]) -> Option<Foreign> {
+    lookup(&OF_4_A, word)
+}
+
+fn of_4_b(word: &[u8]) -> Option<Foreign> {
+    lookup(&OF_4_B, word)
+}
+
+fn of_4_c(word: &[u8]) -> Option<Foreign> {
+    lookup(&OF_4_C, word)
+}
+
+fn of_4(word: &[u8]) -> Option<Foreign> {
+    if let Some(foreign) = of_4_a(word) {
+        return Some(foreign);
+    }
+    if let Some(foreign) = of_4_b(word) {
+        return Some(foreign);
+    }
+    of_4_c(word)
+}
+
+fn of_5_a(word: &[u8]) -> Option<Foreign> {
+    lookup(&OF_5_A, word)
+}
+
+fn of_5_b(word: &[u8]) -> Option<Foreign> {
+    lookup(&OF_5_B, word)
+}
+
+fn of_5_c(word: &[u8]) -> Option<Foreign> {
+    lookup(&OF_5_C, word)
+}
+
+fn of_5(word: &[u8]) -> Option<Foreign> {
+    if let Some(foreign) = of_5_a(word) {
+        return Some(foreign);
+    }
+    if let Some(foreign) = of_5_b(word) {
+        return Some(foreign);
+    }
+    of_5_c(word)
+}
+
+fn of_6_a(word: &[u8]) -> Option<Foreign> {
+    lookup(&OF_6_A, word)
+}
+
+fn of_6_b(word: &[u8]) -> Option<Foreign> {
+    lookup(&OF_6_B, word)
+}
+
+fn of_6(word: &[u8]) -> Option<Foreign> {
+    if let Some(foreign) = of_6_a(word) {
+        return Some(foreign);
+    }
+    of_6_b(word)
+}
+
+fn of_7_a(word: &[u8]) -> Option<Foreign> {
+    lookup(&OF_7_A, word)
+}
+
+fn of_7_b(word: &[u8]) -> Option<Foreign> {
+    lookup(&OF_7_B, word)
+}
+
+fn of_7(word: &[u8]) -> Option<Foreign> {
+    if let Some(foreign) = of_7_a(word) {
+        return Some(foreign);
+    }
+    of_7_b(word)
+}
+
+fn of_8(word: &[u8]) -> Option<Foreign> {
+    lookup(&OF_8, word)
+}
+
+fn of_9(word: &[u8]) -> Option<Foreign> {
+    lookup(&OF_9, word)
+}
+
+fn of_12(word: &[u8]) -> Option<Foreign> {
+    lookup(&OF_12, word)
+}
+
+/// What a word of another language is meant for. The tables are by length, so few rows are compared.
+pub fn foreign_word(word: &[u8]) -> Option<Foreign> {
+    match word.len() {
+        2 => of_2(word),
+        3 => of_3(word),
+        4 => of_4(word),
+        5 => of_5(word),
+        6 => of_6(word),
+        7 => of_7(word),
+        8 => of_8(word),
+        9 => of_9(word),
+        12 => of_12(word),
+        _ => None,
+    }
 }
