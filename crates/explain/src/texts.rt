@@ -71,7 +71,7 @@ fn about_word(word: &[u8]) -> &'static str {
     } else if word == b"D_proctype".as_slice() {
         " is left out: write `proctype`"
     } else if word == b"'".as_slice() {
-        ": a character in quotes is left out; write its number"
+        ": a character in quotes is left out: write its number, or play the model by `spinprep --play MODEL`"
     } else {
         " is left out"
     }

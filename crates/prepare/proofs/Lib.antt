@@ -1,6 +1,7 @@
 pub mod Turning
 pub mod Strings
 pub mod Lining
+pub mod Fronts
 pub mod Lines
 pub mod Plain
 pub mod Blocks

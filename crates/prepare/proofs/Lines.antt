@@ -1,11 +1,13 @@
 -- How many line feeds what is written has.
-use Rattle.std.proofs.Common.{◌≡◌, ℕ, zero, suc, ◌+◌, ◌-◌, max, Bool, true, false, cond, ◌||◌, List, [], ◌∷◌, ◌++◌, Option, Some, None, map, replicate, drop, sym, refl, ◌∙◌, arith}
-use Rattle.std.specs.Prelude.{count_by}
+use Rattle.std.proofs.Common.{ap, take, take-append-drop, ◌≡◌, ℕ, zero, suc, ◌+◌, ◌-◌, ◌/◌, ◌%◌, max, Bool, true, false, cond, ◌||◌, List, [], ◌∷◌, ◌++◌, Option, Some, None, map, replicate, drop, sym, refl, ◌∙◌, arith}
+use Rattle.std.specs.Prelude.{count_by, nat_lt}
 use Rattle.std.specs.List.{filter}
+use Rattle.std.proofs.lemmas.Bool.Decides.{nat_tests}
 use Rattle.std.proofs.lemmas.List.Sums.{sum_by-append}
 use Rattle.std.proofs.lemmas.List.Folds.{sum_by-replicate}
-use Rattle.profile.specs.Characters.{line_feed}
-use Rattle.pml_lex.specs.Division.{is_line_feed}
+use lib.Chars.{codes}
+use Rattle.profile.specs.Characters.{line_feed, zero_digit}
+use Rattle.pml_lex.specs.Division.{is_line_feed, fresh_from}
 use Rattle.prepare.specs.declared.place.Supply.{Supply}
 use Rattle.prepare.specs.declared.place.Supply.TheVariants as supply
 use Rattle.prepare.specs.declared.turn.Form.{Form}
@@ -14,6 +16,9 @@ use Rattle.prepare.specs.Standing.{Standing}
 use Rattle.prepare.specs.Mark.{Mark}
 use Rattle.prepare.specs.Marks.{mark}
 use Rattle.prepare.specs.Places.{written}
+use Rattle.prepare.specs.Character.{value, digits, number}
+use Rattle.prepare.specs.Coding.{is_coded, front_length, coded_by}
+use Rattle.prepare.specs.Coding as coding
 use Rattle.prepare.specs.Written.{Written}
 use Rattle.prepare.specs.Spelling.{blank, unless_break, unbroken, shown, spelled_turn, spelled}
 use Rattle.prepare.specs.Numbering.{is_own_file, included, placed, line_after, stand_after, standing_behind, first_line, line_length, numbered_by, asked_by}
@@ -104,6 +109,59 @@ unbroken_feeds : (xs : List ℕ) → feeds (unbroken xs) ≡ 0
 unfolding unbroken
 unbroken_feeds [] = refl
 unbroken_feeds (b ∷ q) = unbroken_by (is_line_feed b) b _ (unbroken q) refl (unbroken_feeds q)
+
+no_feed_by : (t : Bool) (x : ℕ) → is_line_feed (zero_digit + x) ≡ t → x + cond t 1 0 ≡ x
+no_feed_by true x e = absurd (grind (arith, nat_tests))
+no_feed_by false x e = omega arith
+
+digit_feeds : (x : ℕ) → feeds ((zero_digit + x) ∷ []) ≡ 0
+digit_feeds x = feeds-cons (zero_digit + x) [] ∙ (let e = no_feed_by (is_line_feed (zero_digit + x)) x refl in omega arith)
+
+digit_or_none : (t : Bool) (x : ℕ) → feeds (cond t [] ((zero_digit + x) ∷ [])) ≡ 0
+digit_or_none true x = refl
+digit_or_none false x = digit_feeds x
+
+digits_feeds : (n : ℕ) → feeds (digits n) ≡ 0
+digits_feeds n =
+    let first : List ℕ = cond (nat_lt n 100) [] ((zero_digit + n / 100) ∷ []) in
+    let second : List ℕ = cond (nat_lt n 10) [] ((zero_digit + (n / 10) % 10) ∷ []) in
+    let a = feeds-append first (second ++ (zero_digit + n % 10) ∷ []) in
+    let b = feeds-append second ((zero_digit + n % 10) ∷ []) in
+    let c = digit_or_none (nat_lt n 100) (n / 100) in
+    let d = digit_or_none (nat_lt n 10) ((n / 10) % 10) in
+    let e = digit_feeds (n % 10) in
+    omega arith
+
+-- the number of a character has no line feed
+number_feeds : (t : List ℕ) → feeds (number t) ≡ 0
+number_feeds t =
+    let a = feeds-append (codes " ") (digits (value t) ++ codes " ") in
+    let b = feeds-append (digits (value t)) (codes " ") in
+    let c = digits_feeds (value t) in
+    omega arith
+
+character_feeds : (t : Bool) (front : List ℕ) → feeds (coding.written t front) ≡ feeds front
+character_feeds true front =
+    let a = feeds-append (number front) (filter is_line_feed front) in
+    let b = number_feeds front in
+    let c = filter_feeds front in
+    omega arith
+character_feeds false front = refl
+
+-- a text with numbers in place of characters has as many lines
+pub coded_feeds : (fuel : ℕ) (fresh : Bool) (text : List ℕ) → feeds (coded_by fuel fresh text) ≡ feeds text
+unfolding coded_by
+coded_feeds zero fresh text = refl
+coded_feeds (suc fuel) fresh [] = refl
+coded_feeds (suc fuel) fresh (b ∷ q) =
+    let text = b ∷ q in
+    let n = front_length fresh text in
+    let front = take n text in
+    let back = coded_by fuel (fresh_from fresh front) (drop n text) in
+    feeds-append (coding.written (is_coded text) front) back
+    ∙ ap (λ (m : ℕ). m + feeds back) (character_feeds (is_coded text) front)
+    ∙ ap (λ (m : ℕ). feeds front + m) (coded_feeds fuel (fresh_from fresh front) (drop n text))
+    ∙ sym (feeds-append front (drop n text)) ∙ ap feeds (take-append-drop n text)
 
 shown_feeds : (f : Form) (t : List ℕ) → feeds (shown f t) ≡ feeds t
 shown_feeds form.Kept t = refl

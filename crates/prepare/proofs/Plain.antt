@@ -21,6 +21,8 @@ use Rattle.prepare.specs.Written.{Written}
 use Rattle.prepare.specs.Turns.{Rest, piece_at, turn, on_piece, turns_by, turns}
 use Rattle.prepare.specs.Spelling.{begins_feed, is_break, unless_break, unbroken, shown, spelled_turn, spelled}
 use Rattle.prepare.specs.Numbering.{included, placed, stand_after, standing_behind, first_line, line_length, numbered_by, has_mark_by, first_standing, numbered, has_mark, bare}
+use Rattle.prepare.specs.Coding.{coded, has_character}
+use Rattle.prepare.proofs.Fronts.{uncoded}
 use Rattle.prepare.specs.Laws.{source, sources, is_nothing, stays, is_plain, is_mended, prepared}
 
 on_sources : (n : ℕ) (x : Piece) (fresh : Bool) (p : Place) (gap text : List ℕ) (go : Rest) → ((f : Bool) (q : Place) (g t : List ℕ) → sources (go f q g t) ≡ g ++ t) → sources (on_piece n x fresh p gap text go) ≡ gap ++ text
@@ -132,7 +134,7 @@ unmarked (suc fuel) s (b ∷ q) short own none =
     ∙ ap (λ (xs : List ℕ). line ++ xs) rest ∙ take-append-drop n text
 
 -- a text in which nothing is to be mended comes out as it is
-pub unchanged : (text : List ℕ) → bare text ≡ text → has_mark text ≡ false → is_mended text ≡ true → prepared text ≡ text
-unchanged text e none plain =
-    let lines : numbered (bare text) ≡ text = ap numbered e ∙ unmarked (length text) first_standing text (omega arith) refl none in
+pub unchanged : (text : List ℕ) → bare text ≡ text → has_mark text ≡ false → has_character text ≡ false → is_mended text ≡ true → prepared text ≡ text
+unchanged text e none uncharacter plain =
+    let lines : coded (numbered (bare text)) ≡ text = ap (λ (xs : List ℕ). coded (numbered xs)) e ∙ ap coded (unmarked (length text) first_standing text (omega arith) refl none) ∙ uncoded (length text) true text uncharacter in
     ap (λ (xs : List ℕ). spelled (turns xs)) lines ∙ all_stay (turns text) plain ∙ sources_are (length text) true start [] text

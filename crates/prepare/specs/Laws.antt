@@ -16,10 +16,11 @@ use Rattle.prepare.specs.Written.{Written}
 use Rattle.prepare.specs.Turns.{turns}
 use Rattle.prepare.specs.Spelling.{spelled}
 use Rattle.prepare.specs.Numbering.{bare, numbered}
+use Rattle.prepare.specs.Coding.{coded}
 
 -- what is made of a text
 abbrev pub prepared : List ℕ → List ℕ
-prepared text = spelled (turns (numbered (bare text)))
+prepared text = spelled (turns (coded (numbered (bare text))))
 
 -- what a turn has of the text: all but what is written
 abbrev pub source : Written → List ℕ

@@ -1,3 +1,5 @@
+pub mod Character
+pub mod Coding
 pub mod Roles
 pub mod Places
 pub mod Written

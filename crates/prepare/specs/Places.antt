@@ -27,7 +27,15 @@ is_typed _ = false
 
 -- behind `{`: what stands in braces behind `=` is a list
 abbrev pub opened : Code → Code
-opened c = record { braces = deeper c.braces; brackets = c.brackets; is_list = c.is_list || is_assigned c.last; is_fields = c.is_fields; is_head = false; last = last.Open }
+opened c =
+    record {
+      braces = deeper c.braces;
+      brackets = c.brackets;
+      is_list = c.is_list || is_assigned c.last;
+      is_fields = c.is_fields;
+      is_head = false;
+      last = last.Open;
+    }
 
 -- behind `}`, which ends a field where it stands within a typedef: one of a channel
 abbrev pub closed : Code → Code

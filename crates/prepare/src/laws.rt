@@ -7,6 +7,7 @@ ghost use Rattle.prepare.specs.Written.{Written};
 ghost use Rattle.prepare.specs.Turns.{turns};
 ghost use Rattle.prepare.specs.Spelling.{spelled};
 ghost use Rattle.prepare.specs.Numbering.{bare, numbered, lines_asked, has_mark};
+ghost use Rattle.prepare.specs.Coding.{has_character};
 ghost use Rattle.prepare.specs.Laws.{prepared, sources, tokens, texts, is_unsupplied, has_no_skip, is_mended, BlanksAreBlocks, AreKept, IsCutAgain};
 
 /// What is prepared has as many lines as the marks of the text ask for.
@@ -14,9 +15,9 @@ pub fn lines_are_those_asked()
     ensures { (text : List ℕ) → line_behind (prepared text) ≡ lines_asked (bare text) }
 {}
 
-/// A text without marks, in which nothing is to be mended, comes out byte for byte.
+/// A text without marks and character constants, in which nothing is to be mended, comes out byte for byte.
 pub fn nothing_mended_is_unchanged()
-    ensures { (text : List ℕ) → bare text ≡ text → has_mark text ≡ false → is_mended text ≡ true → prepared text ≡ text }
+    ensures { (text : List ℕ) → bare text ≡ text → has_mark text ≡ false → has_character text ≡ false → is_mended text ≡ true → prepared text ≡ text }
 {}
 
 /// The gaps and tokens of the turns, one behind the other, are the text: without what is written nothing is there but the text.

@@ -2,6 +2,8 @@
 //! blocks that only verification needs.
 #![tactic(auto)]
 
+mod character;
+pub mod coding;
 pub mod laws;
 pub mod marks;
 pub mod numbering;

@@ -45,7 +45,8 @@ fn add_unbroken(out: &mut Vec<u8>, token: &[u8]) -> Result<(), AllocError>
     Ok(())
 }
 
-fn add_feeds(out: &mut Vec<u8>, token: &[u8]) -> Result<(), AllocError>
+/// Writes the line feeds of a token.
+pub(crate) fn add_feeds(out: &mut Vec<u8>, token: &[u8]) -> Result<(), AllocError>
     ensures { OnOk result (out.new.items ≡ out.old.items ++ filter is_line_feed token.now) }
 {
     for b in token {

@@ -11,7 +11,8 @@ use pml_lex::piece::{Piece, is_blank, next};
 use pml_token::token::Kind;
 use std::alloc::{AllocError, Global};
 
-fn fresh_behind(fresh: bool, text: &[u8]) -> bool
+/// Whether only blanks stand on a line behind a text, where `fresh` says so of what is before it.
+pub(crate) fn fresh_behind(fresh: bool, text: &[u8]) -> bool
     ensures { result ≡ fresh_from fresh text.now }
 {
     let mut fresh = fresh;
@@ -61,8 +62,9 @@ fn broken(text: &[u8]) -> (usize, Piece)
     }
 }
 
+/// How long the piece at the front of a text is, and what it is. What stands where no piece does is one too.
 #[tactic(auto, unfolding(crate::specs::Turns::piece_at))]
-fn piece_at(fresh: bool, text: &[u8]) -> (usize, Piece)
+pub(crate) fn piece_at(fresh: bool, text: &[u8]) -> (usize, Piece)
     requires { 0 < length text.now }
     ensures value { result ≡ turns.piece_at fresh text.now }
     ensures some { 0 < result.0 }

@@ -59,7 +59,7 @@ impl<'t> Kind<'t> {
             ),
             What::LeftOut => format!(in alloc; "what is left out '{word}' is left as it is"),
             What::Apostrophe => format!(in alloc;
-                "a character between ' and ' is left as it is: write its number, 97 for an a"
+                "a ' that stands round no single character is left as it is"
             ),
             What::Bytes => format!(in alloc; "bytes that begin no word are left as they are"),
             What::List => format!(in alloc; "a list of initialisers '{word}' is left as it is"),

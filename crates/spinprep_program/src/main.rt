@@ -6,6 +6,7 @@ mod report;
 mod shown;
 
 use prepare::MOST_BYTES;
+use prepare::coding::coded;
 use prepare::numbering::numbered;
 use prepare::spelling::spelled;
 use prepare::turns::turns;
@@ -136,7 +137,8 @@ fn prepared(rt: &HostRuntime, text: &[u8], name: &str) -> Result<bool, Stop> {
         return Err(Stop::TooLong);
     }
     let lines = numbered(rt.alloc(), text)?;
-    let turns = turns(rt.alloc(), &lines)?;
+    let numbers = coded(rt.alloc(), &lines)?;
+    let turns = turns(rt.alloc(), &numbers)?;
     let output = spelled(rt.alloc(), &turns)?;
     let mut out = rt.stdout();
     if out.write_all(&output).is_err() || out.flush().is_err() {

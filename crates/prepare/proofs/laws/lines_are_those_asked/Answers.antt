@@ -4,11 +4,13 @@ use Rattle.pml_lex.specs.Division.{is_line_feed}
 use Rattle.prepare.specs.Places.{start}
 use Rattle.prepare.specs.Turns.{turns}
 use Rattle.prepare.specs.Numbering.{bare, numbered, first_standing}
-use Rattle.prepare.proofs.Lines.{asked_is, spelled_feeds}
+use Rattle.prepare.specs.Coding.{coded}
+use Rattle.prepare.proofs.Lines.{asked_is, coded_feeds, spelled_feeds}
 use Rattle.prepare.proofs.Plain.{sources_are}
 use Rattle.prepare.proofs.laws.lines_are_those_asked.Goals as goal
 
 pub returns : goal.returns
 returns c = λ text.
     let lines = numbered (bare text) in
-    ap (λ (n : ℕ). 1 + n) (spelled_feeds (turns lines) ∙ ap (count_by is_line_feed) (sources_are (length lines) true start [] lines)) ∙ asked_is (length (bare text)) first_standing (bare text)
+    let numbers = coded lines in
+    ap (λ (n : ℕ). 1 + n) (spelled_feeds (turns numbers) ∙ ap (count_by is_line_feed) (sources_are (length numbers) true start [] numbers) ∙ coded_feeds (length lines) true lines) ∙ asked_is (length (bare text)) first_standing (bare text)
