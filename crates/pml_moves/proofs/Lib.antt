@@ -2,6 +2,7 @@ pub mod Searching
 pub mod Naming
 pub mod Offering
 pub mod Placing
+pub mod Waiting
 pub mod Keeping
 pub mod Samples
 pub mod Rows

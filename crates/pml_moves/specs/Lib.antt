@@ -2,6 +2,8 @@ pub mod State
 pub mod Executable
 pub mod Fields
 pub mod Search
+pub mod Waits
+pub mod Round
 pub mod Paired
 pub mod Scene
 pub mod Kept
