@@ -14,7 +14,7 @@ use Rattle.pml_moves.specs.Scene.{stand_of, StandsIn, shows, edges_at}
 use Rattle.pml_moves.specs.Search.{Message, each, last, pairs_on, pairs_with}
 use Rattle.pml_moves.specs.Waits.{may_take, may_at, WaitsFor, AreWaits}
 use Rattle.pml_moves.proofs.Searching.{opens_at, held}
-use Rattle.pml_moves.proofs.Placing.{pairs_in, pairs_closed, seat_stands}
+use Rattle.pml_moves.proofs.Placing.{pairs_in, pairs_closed}
 
 -- ---- a process
 

@@ -104,7 +104,12 @@ fn has_choice(view: &View<'_>, lossy: bool, body: &Body<'_, '_, '_>, node: usize
 }
 
 /// Whether something can be taken at the first node inside a d_step.
-pub(crate) fn can_begin(view: &View<'_>, lossy: bool, body: &Body<'_, '_, '_>, entry: Option<usize>) -> bool
+pub(crate) fn can_begin(
+    view: &View<'_>,
+    lossy: bool,
+    body: &Body<'_, '_, '_>,
+    entry: Option<usize>,
+) -> bool
     requires { IsBody body.now }
     ensures { let b = seq_of body.now in
         result ≡ is_some (choices lossy view.now.channels.now (seen view.now) (levels_from b (maybe (point_at b) entry))) }

@@ -313,10 +313,7 @@ fn add_moves_at(
 }
 
 /// Adds the moves of all processes.
-fn add_moves_of_all(
-    round: &Round<'_, '_, '_, '_>,
-    moves: &mut Vec<Move>,
-) -> Result<(), AllocError>
+fn add_moves_of_all(round: &Round<'_, '_, '_, '_>, moves: &mut Vec<Move>) -> Result<(), AllocError>
     requires { IsKnown round.now }
     ensures added { OnOk result (moves.new.items ≡ moves.old.items ++ moves_under round.now.scene.now round.now.timeout) }
     ensures kept { Extends moves.new.items moves.old.items }

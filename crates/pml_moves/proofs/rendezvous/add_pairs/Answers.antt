@@ -1,4 +1,4 @@
-use Rattle.std.proofs.Common.{rules, ◌≡◌, ◌<◌, length}
+use Rattle.std.proofs.Common.{rules, ◌<◌, length}
 use Rattle.pml_moves.proofs.Searching.{held}
 use Rattle.pml_moves.proofs.Placing.{seat_stands}
 use Rattle.pml_moves.proofs.Waiting.{waits_at}

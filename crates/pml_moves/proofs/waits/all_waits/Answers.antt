@@ -1,5 +1,4 @@
-use Rattle.std.proofs.Common.{rules, ◌≡◌, ◌++◌, ◌<◌, ℕ, List, [], ◌∷◌, length, length-append, sym, ap, subst, arith}
-use Rattle.pml_moves.specs.declared.scene.Seat.{Seat}
+use Rattle.std.proofs.Common.{rules, ◌≡◌, ◌++◌, ◌<◌, List, [], ◌∷◌, length, length-append, sym, ap, subst, arith}
 use Rattle.pml_moves.specs.declared.waits.Wait.{Wait}
 use Rattle.pml_moves.specs.Waits.{AreWaits}
 use Rattle.pml_moves.proofs.Searching.{held}
