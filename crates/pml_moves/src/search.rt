@@ -19,7 +19,7 @@ use crate::moves::{Move, Pick};
 use crate::rendezvous::{Sending, add_pairs};
 use crate::scene::{Body, Scene, Seat};
 use crate::tier::Tier;
-use crate::waits::{Wait, known_waits};
+use crate::waits::{Wait, all_waits, are_worth_knowing};
 use pml_flow::edge::Edge;
 use pml_program::program::{Action, Basic};
 use pml_value::view::View;
@@ -325,6 +325,25 @@ fn add_moves_of_all(round: &Round<'_, '_, '_, '_>, moves: &mut Vec<Move>) -> Res
     Ok(())
 }
 
+/// Adds the moves of all processes, where it is worth to know first what each waits for.
+#[inline(never)]
+fn add_moves_knowing(
+    scene: &Scene<'_, '_, '_>,
+    timeout: bool,
+    moves: &mut Vec<Move>,
+) -> Result<(), AllocError>
+    ensures added { OnOk result (moves.new.items ≡ moves.old.items ++ moves_under scene.now timeout) }
+    ensures kept { Extends moves.new.items moves.old.items }
+{
+    let known = all_waits(*moves.allocator(), scene, timeout)?;
+    let round = Round {
+        scene,
+        timeout,
+        waits: known.as_slice(),
+    };
+    add_moves_of_all(&round, moves)
+}
+
 /// Adds the moves of all processes under a value of `timeout`.
 fn add_moves_under(
     scene: &Scene<'_, '_, '_>,
@@ -334,11 +353,13 @@ fn add_moves_under(
     ensures added { OnOk result (moves.new.items ≡ moves.old.items ++ moves_under scene.now timeout) }
     ensures kept { Extends moves.new.items moves.old.items }
 {
-    let known = known_waits(*moves.allocator(), scene, timeout)?;
+    if are_worth_knowing(scene) {
+        return add_moves_knowing(scene, timeout, moves);
+    }
     let round = Round {
         scene,
         timeout,
-        waits: known.as_slice(),
+        waits: &[],
     };
     add_moves_of_all(&round, moves)
 }

@@ -143,7 +143,7 @@ fn wait_of(scene: &Scene<'_, '_, '_>, j: usize, timeout: bool, seat: Seat) -> Wa
 }
 
 /// What each process may receive.
-fn all_waits(
+pub(crate) fn all_waits(
     alloc: Global,
     scene: &Scene<'_, '_, '_>,
     timeout: bool,
@@ -168,18 +168,9 @@ fn has_rendezvous(channels: &[LiveChannel]) -> bool {
     false
 }
 
-/// What each process may receive, or nothing of any, where few processes live or none can meet another.
-pub(crate) fn known_waits(
-    alloc: Global,
-    scene: &Scene<'_, '_, '_>,
-    timeout: bool,
-) -> Result<Vec<Wait>, AllocError>
-    ensures { IfOk result (λ v. AreWaits scene.now timeout v.items) }
-{
-    if scene.process_count() < ENOUGH_PROCESSES || !has_rendezvous(scene.channels()) {
-        return Ok(Vec::new(alloc));
-    }
-    all_waits(alloc, scene, timeout)
+/// Whether it is worth to look beforehand what processes wait for: many live, and some can meet.
+pub(crate) fn are_worth_knowing(scene: &Scene<'_, '_, '_>) -> bool {
+    scene.process_count() >= ENOUGH_PROCESSES && has_rendezvous(scene.channels())
 }
 
 fn wait_at(waits: &[Wait], j: usize) -> Option<&Wait>
