@@ -191,7 +191,8 @@ fn add_pairs_where(
     moves: &mut Vec<Move>,
 ) -> Result<(), AllocError>
     requires there { j < length scene.now.stands }
-    requires waits { may_at (slice_get waits.now j) sending.now.message ≡ false → paired_with scene.now sending.now j (stand_of scene.now.program seat) ≡ [] }
+    requires waits { let y = stand_of scene.now.program seat in
+        may_at (slice_get waits.now j) sending.now.message ≡ false → paired_with scene.now sending.now j y ≡ [] }
     ensures added { OnOk result (moves.new.items ≡ moves.old.items ++ paired_with scene.now sending.now j (stand_of scene.now.program seat)) }
     ensures kept { Extends moves.new.items moves.old.items }
 {

@@ -8,8 +8,8 @@ ghost use Rattle.std.specs.Option.{option_copied};
 ghost use Rattle.pml_value.specs.Reads.{seen};
 ghost use Rattle.pml_moves.specs.Kept.{Extends};
 ghost use Rattle.pml_moves.specs.Scene.{stand_of, IsBody, shows, offers_at, seq_of};
-ghost use Rattle.pml_moves.specs.Search.{message, is_else as else_of, can_alone, pairs, NeedsNothing, moves_for, plain_moves, else_moves, moves_on, moves_at, moves_under, moves_held, moves as all_moves, last, only_if};
-ghost use Rattle.pml_moves.specs.Round.{IsKnown};
+ghost use Rattle.pml_moves.specs.Search.{message, is_else as else_of, can_alone, pairs, NeedsNothing, else_moves, moves_under, moves_held, moves as all_moves, last, only_if};
+ghost use Rattle.pml_moves.specs.Round.{IsKnown, round_for, round_plain, round_on, round_at, round_under};
 ghost use Rattle.pml_moves.specs.declared.moves.Move.TheVariants.{Alone};
 
 use crate::d_step::{can_begin, is_else};
@@ -113,7 +113,7 @@ fn add_asked(
     requires known { IsKnown round.now }
     requires there { offer.process < length round.now.scene.now.stands }
     requires body { IsBody body.now }
-    ensures added { OnOk result (moves.new.items ≡ moves.old.items ++ moves_for round.now.scene.now round.now.timeout (seq_of body.now) offer (shows body.now edge)) }
+    ensures added { OnOk result (moves.new.items ≡ moves.old.items ++ round_for round.now (seq_of body.now) offer (shows body.now edge)) }
     ensures kept { Extends moves.new.items moves.old.items }
 {
     let basic = body.basic(edge);
@@ -138,7 +138,7 @@ fn add_plain_by(
     requires there { offer.process < length round.now.scene.now.stands }
     requires body { IsBody body.now }
     ensures added { let o = shows body.now edge.now in
-        OnOk result (moves.new.items ≡ moves.old.items ++ (if else_of o.basic then [] else moves_for round.now.scene.now round.now.timeout (seq_of body.now) offer o)) }
+        OnOk result (moves.new.items ≡ moves.old.items ++ (if else_of o.basic then [] else round_for round.now (seq_of body.now) offer o)) }
     ensures kept { Extends moves.new.items moves.old.items }
 {
     let basic = body.basic(*edge);
@@ -166,7 +166,7 @@ fn add_plain(
     requires there { tier.process < length round.now.scene.now.stands }
     requires body { IsBody body.now }
     ensures added { let os = map (shows body.now) edges.now in
-        OnOk result (moves.new.items ≡ moves.old.items ++ plain_moves round.now.scene.now tier.process round.now.timeout (seq_of body.now) tier.level os) }
+        OnOk result (moves.new.items ≡ moves.old.items ++ round_plain round.now tier.process (seq_of body.now) tier.level os) }
     ensures kept { Extends moves.new.items moves.old.items }
 {
     for place in 0..edges.len() {
@@ -226,7 +226,7 @@ fn add_moves_on(
     requires there { tier.process < length round.now.scene.now.stands }
     requires body { IsBody body.now }
     ensures added { let os = map (shows body.now) edges.now in
-        OnOk result (moves.new.items ≡ moves.old.items ++ moves_on round.now.scene.now tier.process round.now.timeout (seq_of body.now) tier.level os) }
+        OnOk result (moves.new.items ≡ moves.old.items ++ round_on round.now tier.process (seq_of body.now) tier.level os) }
     ensures kept { Extends moves.new.items moves.old.items }
 {
     let before = moves.len();
@@ -250,7 +250,7 @@ fn add_moves_down(
     requires there { process < length round.now.scene.now.stands }
     requires body { IsBody body.now }
     requires node { node < length body.now.graph.now.nodes }
-    ensures added { OnOk result (moves.new.items ≡ moves.old.items ++ last (moves_on round.now.scene.now process round.now.timeout (seq_of body.now)) 0 (offers_at body.now node)) }
+    ensures added { OnOk result (moves.new.items ≡ moves.old.items ++ last (round_on round.now process (seq_of body.now)) 0 (offers_at body.now node)) }
     ensures kept { Extends moves.new.items moves.old.items }
 {
     let before = moves.len();
@@ -279,7 +279,7 @@ fn add_moves_in(
     requires there { process < length round.now.scene.now.stands }
     requires body { IsBody body.now }
     requires node { node < length body.now.graph.now.nodes }
-    ensures added { OnOk result (moves.new.items ≡ moves.old.items ++ last (moves_on round.now.scene.now process round.now.timeout (seq_of body.now)) 0 (offers_at body.now node)) }
+    ensures added { OnOk result (moves.new.items ≡ moves.old.items ++ last (round_on round.now process (seq_of body.now)) 0 (offers_at body.now node)) }
     ensures kept { Extends moves.new.items moves.old.items }
 {
     match body.graph.only_level(node) {
@@ -300,7 +300,7 @@ fn add_moves_at(
 ) -> Result<(), AllocError>
     requires known { IsKnown round.now }
     requires there { process < length round.now.scene.now.stands }
-    ensures added { OnOk result (moves.new.items ≡ moves.old.items ++ moves_at round.now.scene.now process round.now.timeout (stand_of round.now.scene.now.program seat)) }
+    ensures added { OnOk result (moves.new.items ≡ moves.old.items ++ round_at round.now process (stand_of round.now.scene.now.program seat)) }
     ensures kept { Extends moves.new.items moves.old.items }
 {
     if let Some(body) = round.scene.standing(seat) {
@@ -315,7 +315,7 @@ fn add_moves_at(
 /// Adds the moves of all processes.
 fn add_moves_of_all(round: &Round<'_, '_, '_, '_>, moves: &mut Vec<Move>) -> Result<(), AllocError>
     requires { IsKnown round.now }
-    ensures added { OnOk result (moves.new.items ≡ moves.old.items ++ moves_under round.now.scene.now round.now.timeout) }
+    ensures added { OnOk result (moves.new.items ≡ moves.old.items ++ round_under round.now) }
     ensures kept { Extends moves.new.items moves.old.items }
 {
     let seats = round.scene.seats();

@@ -63,7 +63,8 @@ impl Wait {
     /// What may be received so, or by a receive from the channel with this number.
     fn or_from(self, number: i32, arguments: &[Want]) -> Wait
         ensures one { (m : Sent) → may_take result m ≡ false → may_take self m ≡ false }
-        ensures other { (m : Sent) (r : Reading) → may_take result m ≡ false → (int_eq number m.number && does_match (asked_by arguments.now r) m.fields) ≡ false }
+        ensures other { (m : Sent) (r : Reading) → may_take result m ≡ false →
+            (int_eq number m.number && does_match (asked_by arguments.now r) m.fields) ≡ false }
     {
         match arguments {
             [Want::Exactly(first)] => self.or_number(number, *first),
