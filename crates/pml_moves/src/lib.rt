@@ -1,6 +1,7 @@
 //! What may be done next in a state of many processes (Holzmann, *The SPIN Model Checker*, chapters 3 and 7).
 #![tactic(auto)]
 
+pub mod alone;
 pub mod d_step;
 pub mod executable;
 pub mod laws;

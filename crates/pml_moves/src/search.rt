@@ -3,17 +3,17 @@
 
 #![tactic(auto, using(crate::proofs::Keeping::kept_on, crate::proofs::Keeping::kept_same, crate::proofs::Keeping::kept_push))]
 
-ghost use Rattle.std.specs.Prelude.{◌≡◌, ◌++◌, ◌<◌, true, false, [], if◌then◌else◌, OnOk, length, map};
+ghost use Rattle.std.specs.Prelude.{◌≡◌, ◌++◌, ◌<◌, false, [], if◌then◌else◌, OnOk, length, map};
 ghost use Rattle.std.specs.Option.{option_copied};
 ghost use Rattle.pml_value.specs.Reads.{seen};
 ghost use Rattle.pml_moves.specs.Kept.{Extends};
 ghost use Rattle.pml_moves.specs.Scene.{stand_of, IsBody, shows, offers_at, seq_of};
-ghost use Rattle.pml_moves.specs.Search.{message, is_else as else_of, can_alone, pairs, NeedsNothing, else_moves, moves_under, moves_held, moves as all_moves, last, only_if};
+ghost use Rattle.pml_moves.specs.Search.{message, is_else as else_of, pairs, else_moves, moves_under, moves_held, moves as all_moves, last, only_if};
 ghost use Rattle.pml_moves.specs.Round.{IsKnown, round_for, round_plain, round_on, round_at, round_under};
 ghost use Rattle.pml_moves.specs.declared.moves.Move.TheVariants.{Alone};
 
-use crate::d_step::{can_begin, is_else};
-use crate::executable::can_be_taken;
+use crate::alone::{can_be_alone, needs_nothing};
+use crate::d_step::is_else;
 use crate::message::offered;
 use crate::moves::{Move, Pick};
 use crate::rendezvous::{Sending, add_pairs};
@@ -21,7 +21,7 @@ use crate::scene::{Body, Scene, Seat};
 use crate::tier::Tier;
 use crate::waits::{Wait, all_waits, are_worth_knowing};
 use pml_flow::edge::Edge;
-use pml_program::program::{Action, Basic};
+use pml_program::program::Basic;
 use pml_value::view::View;
 use std::alloc::AllocError;
 
@@ -33,47 +33,7 @@ struct Round<'r, 'w, 'p, 'a> {
     waits: &'r [Wait],
 }
 
-// ---- an offer by itself
-
-/// Whether an offer is a move by itself.
-fn can_be_alone(
-    view: &View<'_>,
-    lossy: bool,
-    body: &Body<'_, '_, '_>,
-    edge: Edge,
-    basic: Option<&Basic<'_>>,
-) -> bool
-    requires body { IsBody body.now }
-    requires basic { option_copied basic ≡ (shows body.now edge).basic }
-    ensures { result ≡ can_alone lossy view.now.channels.now (seen view.now) (seq_of body.now) (shows body.now edge) (shows body.now edge).basic }
-{
-    match basic {
-        Some(Basic::Plain(action)) => can_be_taken(view, lossy, false, action),
-        Some(Basic::DStep(_)) => can_begin(view, lossy, body, edge.entry),
-        _ => true,
-    }
-}
-
-// ---- the moves of a process
-
-/// Whether a statement can be taken whatever the state, by itself: it is no `else`, and asks for nothing.
-fn needs_nothing(basic: Option<&Basic<'_>>) -> bool
-    ensures plain { result ≡ true → else_of (option_copied basic.entry) ≡ false }
-    ensures alone { result ≡ true → NeedsNothing (option_copied basic.entry) }
-{
-    match basic {
-        Some(Basic::Plain(action)) => match action {
-            Action::Else
-            | Action::Run(_)
-            | Action::Send(_, _, _)
-            | Action::Receive(_, _, _, _)
-            | Action::Holds(_) => false,
-            _ => true,
-        },
-        Some(Basic::DStep(_)) => false,
-        _ => true,
-    }
-}
+// ---- a process
 
 /// Adds the pairs of what a statement offers to receivers.
 fn add_sent(
@@ -311,6 +271,8 @@ fn add_moves_at(
     }
     Ok(())
 }
+
+// ---- a state
 
 /// Adds the moves of all processes.
 fn add_moves_of_all(round: &Round<'_, '_, '_, '_>, moves: &mut Vec<Move>) -> Result<(), AllocError>
