@@ -3,6 +3,7 @@ pub mod Naming
 pub mod Offering
 pub mod Placing
 pub mod Waiting
+pub mod Listening
 pub mod Keeping
 pub mod Samples
 pub mod Rows

@@ -3,6 +3,7 @@ pub mod Executable
 pub mod Fields
 pub mod Search
 pub mod Waits
+pub mod Listeners
 pub mod Round
 pub mod Paired
 pub mod Scene

@@ -7,11 +7,11 @@ use Rattle.pml_moves.specs.declared.moves.Move.{Move}
 use Rattle.pml_moves.specs.declared.search.Round.{Round}
 use Rattle.pml_moves.specs.State.{Stand}
 use Rattle.pml_moves.specs.Search.{moves_for, plain_moves, moves_on, moves_at, moves_under}
-use Rattle.pml_moves.specs.Waits.{AreWaits}
+use Rattle.pml_moves.specs.Listeners.{AreKnown}
 
--- processes wait for what it says of them
+-- what it knows is so
 abbrev pub IsKnown : Round → Type 0
-IsKnown r = AreWaits r.scene.now r.timeout r.waits.now
+IsKnown r = AreKnown r.scene.now r.timeout r.known
 
 -- of the offer that is picked
 abbrev pub round_for : Round → Seq → Pick → Offer → List Move

@@ -5,6 +5,7 @@ pub mod alone;
 pub mod d_step;
 pub mod executable;
 pub mod laws;
+pub mod listeners;
 pub mod message;
 pub mod moves;
 pub mod picked;

@@ -11,8 +11,10 @@ ghost use Rattle.pml_moves.specs.Kept.{Extends};
 ghost use Rattle.pml_moves.specs.Scene.{stand_of, IsBody, shows, offers_at};
 ghost use Rattle.pml_moves.specs.Paired.{pair_by, paired_on, paired_with, paired_by};
 ghost use Rattle.pml_moves.specs.Search.{Message as Sent, last, accepts};
-ghost use Rattle.pml_moves.specs.Waits.{AreWaits, may_at};
+ghost use Rattle.pml_moves.specs.Waits.{may_at};
+ghost use Rattle.pml_moves.specs.Listeners.{AreKnown};
 
+use crate::listeners::Known;
 use crate::message::{Message, is_received};
 use crate::moves::{Move, Pick};
 use crate::scene::{Body, Scene, Seat};
@@ -202,20 +204,21 @@ fn add_pairs_where(
     add_pairs_with(scene, sending, j, seat, moves)
 }
 
-/// Adds the pairs of a message, where it is known what processes wait for.
+/// Adds the pairs of a message, where this is known of what processes wait for.
 pub(crate) fn add_pairs(
     scene: &Scene<'_, '_, '_>,
     sending: &Sending<'_, '_>,
-    waits: &[Wait],
+    known: Known<'_>,
     moves: &mut Vec<Move>,
 ) -> Result<(), AllocError>
-    requires { AreWaits scene.now sending.now.timeout waits.now }
+    requires { AreKnown scene.now sending.now.timeout known }
     ensures added { OnOk result (moves.new.items ≡ moves.old.items ++ paired_by scene.now sending.now) }
     ensures kept { Extends moves.new.items moves.old.items }
 {
     let seats = scene.seats();
-    for j in 0..seats.len() {
-        add_pairs_where(scene, sending, waits, j, seats[j], moves)?;
+    let (first, end) = known.heard(sending.message.number(), seats.len());
+    for j in first..end {
+        add_pairs_where(scene, sending, known.waits, j, seats[j], moves)?;
     }
     Ok(())
 }

@@ -14,23 +14,24 @@ ghost use Rattle.pml_moves.specs.declared.moves.Move.TheVariants.{Alone};
 
 use crate::alone::{can_be_alone, needs_nothing};
 use crate::d_step::is_else;
+use crate::listeners::{Known, NOBODY, all_listeners};
 use crate::message::offered;
 use crate::moves::{Move, Pick};
 use crate::rendezvous::{Sending, add_pairs};
 use crate::scene::{Body, Scene, Seat};
 use crate::tier::Tier;
-use crate::waits::{Wait, all_waits, are_worth_knowing};
+use crate::waits::{all_waits, are_worth_knowing};
 use pml_flow::edge::Edge;
 use pml_program::program::Basic;
 use pml_value::view::View;
 use std::alloc::AllocError;
 
-/// A round of the search: over which state, under which value of `timeout`, and what processes wait for, as far as is known.
+/// A round of the search: over which state, under which value of `timeout`, and what is known of what processes wait for.
 #[derive(Clone, Copy)]
 struct Round<'r, 'w, 'p, 'a> {
     scene: &'r Scene<'w, 'p, 'a>,
     timeout: bool,
-    waits: &'r [Wait],
+    known: Known<'r>,
 }
 
 // ---- a process
@@ -56,7 +57,7 @@ fn add_sent(
                 sender: offer,
                 timeout: round.timeout,
             };
-            add_pairs(round.scene, &sending, round.waits, moves)
+            add_pairs(round.scene, &sending, round.known, moves)
         }
     }
 }
@@ -297,11 +298,18 @@ fn add_moves_knowing(
     ensures added { OnOk result (moves.new.items ≡ moves.old.items ++ moves_under scene.now timeout) }
     ensures kept { Extends moves.new.items moves.old.items }
 {
-    let known = all_waits(*moves.allocator(), scene, timeout)?;
+    let alloc = *moves.allocator();
+    let waits = all_waits(alloc, scene, timeout)?;
+    let heard = all_listeners(alloc, waits.as_slice(), scene.channels().len())?;
+    let known = Known {
+        waits: waits.as_slice(),
+        spans: heard.spans.as_slice(),
+        any: heard.any,
+    };
     let round = Round {
         scene,
         timeout,
-        waits: known.as_slice(),
+        known,
     };
     add_moves_of_all(&round, moves)
 }
@@ -321,7 +329,11 @@ fn add_moves_under(
     let round = Round {
         scene,
         timeout,
-        waits: &[],
+        known: Known {
+            waits: &[],
+            spans: &[],
+            any: NOBODY,
+        },
     };
     add_moves_of_all(&round, moves)
 }
@@ -339,7 +351,11 @@ fn add_moves_held(scene: &Scene<'_, '_, '_>, moves: &mut Vec<Move>) -> Result<()
         let round = Round {
             scene,
             timeout: false,
-            waits: &[],
+            known: Known {
+                waits: &[],
+                spans: &[],
+                any: NOBODY,
+            },
         };
         return add_moves_at(&round, process, seats[process], moves);
     }

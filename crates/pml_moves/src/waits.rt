@@ -149,7 +149,8 @@ pub(crate) fn all_waits(
     scene: &Scene<'_, '_, '_>,
     timeout: bool,
 ) -> Result<Vec<Wait>, AllocError>
-    ensures { IfOk result (λ v. AreWaits scene.now timeout v.items) }
+    ensures waits { IfOk result (λ v. AreWaits scene.now timeout v.items) }
+    ensures many { IfOk result (λ v. length v.items ≡ length scene.now.stands) }
 {
     let seats = scene.seats();
     let mut waits = Vec::with_capacity(alloc, seats.len())?;
