@@ -1,5 +1,5 @@
 -- Between which processes those lie that may receive on a channel.
-use Rattle.std.proofs.Common.{◌≡◌, ◌⊎◌, inl, inr, ℕ, zero, suc, ◌+◌, ◌<◌, ◌≤◌, Bool, true, false, if◌then◌else◌, nat_eq, nat_lt, ◌&&◌, List, [], ◌∷◌, ◌++◌, ℤ, pos, length, map, drop, refl, sym, ap, ◌∙◌, subst, arith, Option, Some, None}
+use Rattle.std.proofs.Common.{◌≡◌, ◌⊎◌, inl, inr, ℕ, zero, suc, ◌+◌, ◌<◌, ◌≤◌, Bool, true, false, if◌then◌else◌, nat_lt, ◌&&◌, List, [], ◌∷◌, ◌++◌, ℤ, length, map, drop, refl, sym, ap, ◌∙◌, subst, arith, Option, Some, None}
 use Rattle.std.specs.Prelude.{slice_get, slice_set, slice_index_or}
 use Rattle.std.specs.Ordering.{int_eq}
 use Rattle.std.proofs.lemmas.Int.{ints}
@@ -69,6 +69,7 @@ still_heard xs any k j at i h = by (nat_lt k (length xs))
     on : Hears (Some (slice_index_or xs k (record { first = 0; last = 0 }))) any i → Hears (Some (with_one (slice_index_or xs k (record { first = 0; last = 0 })) j)) any i
     on (inl l) = inl (still_in (slice_index_or xs k (record { first = 0; last = 0 })) j i l)
     on (inr r) = inr r
+
     by : (b : Bool) → Hears (slice_get (if b then slice_set xs k (with_one (slice_index_or xs k (record { first = 0; last = 0 })) j) else xs) at) any i
     by true = put (λ o. Hears o any i) xs k at (with_one (slice_index_or xs k (record { first = 0; last = 0 })) j) (record { first = 0; last = 0 }) on h
     by false = h

@@ -11,7 +11,7 @@ use Rattle.pml_moves.specs.Listeners.{AreKnown}
 
 -- what it knows is so
 abbrev pub IsKnown : Round → Type 0
-IsKnown r = AreKnown r.scene.now r.timeout r.known
+IsKnown r = AreKnown r.scene.now r.timeout (record { waits = r.waits; spans = r.spans; any = r.any })
 
 -- of the offer that is picked
 abbrev pub round_for : Round → Seq → Pick → Offer → List Move

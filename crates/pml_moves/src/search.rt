@@ -14,13 +14,13 @@ ghost use Rattle.pml_moves.specs.declared.moves.Move.TheVariants.{Alone};
 
 use crate::alone::{can_be_alone, needs_nothing};
 use crate::d_step::is_else;
-use crate::listeners::{Known, NOBODY, all_listeners};
+use crate::listeners::{Known, NOBODY, Span, all_listeners};
 use crate::message::offered;
 use crate::moves::{Move, Pick};
 use crate::rendezvous::{Sending, add_pairs};
 use crate::scene::{Body, Scene, Seat};
 use crate::tier::Tier;
-use crate::waits::{all_waits, are_worth_knowing};
+use crate::waits::{Wait, all_waits, are_worth_knowing};
 use pml_flow::edge::Edge;
 use pml_program::program::Basic;
 use pml_value::view::View;
@@ -31,7 +31,9 @@ use std::alloc::AllocError;
 struct Round<'r, 'w, 'p, 'a> {
     scene: &'r Scene<'w, 'p, 'a>,
     timeout: bool,
-    known: Known<'r>,
+    waits: &'r [Wait],
+    spans: &'r [Span],
+    any: Span,
 }
 
 // ---- a process
@@ -57,7 +59,12 @@ fn add_sent(
                 sender: offer,
                 timeout: round.timeout,
             };
-            add_pairs(round.scene, &sending, round.known, moves)
+            let known = Known {
+                waits: round.waits,
+                spans: round.spans,
+                any: round.any,
+            };
+            add_pairs(round.scene, &sending, known, moves)
         }
     }
 }
@@ -301,15 +308,12 @@ fn add_moves_knowing(
     let alloc = *moves.allocator();
     let waits = all_waits(alloc, scene, timeout)?;
     let heard = all_listeners(alloc, waits.as_slice(), scene.channels().len())?;
-    let known = Known {
-        waits: waits.as_slice(),
-        spans: heard.spans.as_slice(),
-        any: heard.any,
-    };
     let round = Round {
         scene,
         timeout,
-        known,
+        waits: waits.as_slice(),
+        spans: heard.spans.as_slice(),
+        any: heard.any,
     };
     add_moves_of_all(&round, moves)
 }
@@ -329,11 +333,9 @@ fn add_moves_under(
     let round = Round {
         scene,
         timeout,
-        known: Known {
-            waits: &[],
-            spans: &[],
-            any: NOBODY,
-        },
+        waits: &[],
+        spans: &[],
+        any: NOBODY,
     };
     add_moves_of_all(&round, moves)
 }
@@ -351,11 +353,9 @@ fn add_moves_held(scene: &Scene<'_, '_, '_>, moves: &mut Vec<Move>) -> Result<()
         let round = Round {
             scene,
             timeout: false,
-            known: Known {
-                waits: &[],
-                spans: &[],
-                any: NOBODY,
-            },
+            waits: &[],
+            spans: &[],
+            any: NOBODY,
         };
         return add_moves_at(&round, process, seats[process], moves);
     }

@@ -1,4 +1,4 @@
-use Rattle.std.proofs.Common.{rules, ◌≡◌, ◌+◌, ◌<◌, List, get_or, length, sym, subst}
+use Rattle.std.proofs.Common.{rules, ◌+◌, ◌<◌, List, get_or, length, sym, subst}
 use Rattle.pml_moves.specs.declared.waits.Wait.{Wait}
 use Rattle.pml_moves.specs.declared.waits.Wait.TheVariants.{Nothing}
 use Rattle.pml_moves.specs.declared.listeners.Span.{Span}

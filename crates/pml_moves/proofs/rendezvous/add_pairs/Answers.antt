@@ -1,4 +1,4 @@
-use Rattle.std.proofs.Common.{rules, to_z, of_z, w32, ◌≡◌, ◌++◌, ◌<◌, ◌≤◌, ℕ, List, [], length, append-nil, refl, sym, ap, ◌∙◌, arith}
+use Rattle.std.proofs.Common.{rules, to_z, of_z, w32, ◌≡◌, ◌++◌, ◌<◌, ◌≤◌, ℕ, List, length, append-nil, refl, sym, ap, ◌∙◌, arith}
 use Rattle.pml_moves.specs.declared.moves.Move.{Move}
 use Rattle.pml_moves.specs.declared.scene.Seat.{Seat}
 use Rattle.pml_moves.specs.State.{Stand}
