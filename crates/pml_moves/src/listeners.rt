@@ -146,7 +146,8 @@ fn span_at(spans: &[Span], at: usize) -> Option<&Span>
 impl<'k> Known<'k> {
     /// From which process on those lie that may receive on a channel, and before which, where so many live.
     pub fn heard(self, number: i32, count: usize) -> (usize, usize)
-        ensures among { (i : ℕ) → i < count → Hears (slice_get self.entry.spans.now (place_of number)) self.entry.any i → (result.0 ≤ i) × (i < result.1) }
+        ensures among { let span = slice_get self.entry.spans.now (place_of number) in
+            (i : ℕ) → i < count → Hears span self.entry.any i → (result.0 ≤ i) × (i < result.1) }
         ensures within { result.1 ≤ count }
     {
         match span_at(self.spans, place_of(number)) {
