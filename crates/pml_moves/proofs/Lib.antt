@@ -2,6 +2,8 @@ pub mod Searching
 pub mod Naming
 pub mod Offering
 pub mod Placing
+pub mod Waiting
+pub mod Listening
 pub mod Keeping
 pub mod Samples
 pub mod Rows

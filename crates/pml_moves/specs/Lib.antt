@@ -2,6 +2,9 @@ pub mod State
 pub mod Executable
 pub mod Fields
 pub mod Search
+pub mod Waits
+pub mod Listeners
+pub mod Round
 pub mod Paired
 pub mod Scene
 pub mod Kept

@@ -5,7 +5,7 @@ use Rattle.pml_flow.specs.Flow.{Offer}
 use Rattle.pml_moves.specs.declared.moves.Pick.{Pick}
 use Rattle.pml_moves.specs.declared.moves.Move.{Move}
 use Rattle.pml_moves.specs.declared.moves.Move.TheVariants.{Pair}
-use Rattle.pml_moves.specs.declared.search.Sending.{Sending}
+use Rattle.pml_moves.specs.declared.rendezvous.Sending.{Sending}
 use Rattle.pml_moves.specs.State.{Stand, State, reads}
 use Rattle.pml_moves.specs.Search.{only_if, accepts, pairs_on, pairs_with, pairs}
 

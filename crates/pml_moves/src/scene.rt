@@ -13,6 +13,7 @@ use pml_flow::edge::Edge;
 use pml_flow::graph::Graph;
 use pml_flow::statements::Statements;
 use pml_program::program::{Basic, Proctype, Program};
+use pml_value::live_channel::LiveChannel;
 use pml_value::view::View;
 use std::marker::Model;
 
@@ -87,6 +88,13 @@ impl<'w, 'p, 'a> Scene<'w, 'p, 'a> {
         ensures few { result ≤ MOST_PROCESSES }
     {
         self.state.seats.len()
+    }
+
+    /// The channels, the oldest first.
+    pub fn channels(&self) -> &'w [LiveChannel]
+        ensures { result.now ≡ self.now.channels }
+    {
+        self.state.started.channels.as_slice()
     }
 
     /// The process that holds exclusive control.

@@ -17,7 +17,7 @@ use crate::effect::effect;
 use crate::live::Live;
 use diagnostics::{Fault, Stop};
 use pml_moves::scene::{Body, Scene, Seat};
-use pml_moves::search::choice;
+use pml_moves::d_step::choice;
 use pml_program::program::Basic;
 use profile::MOST_DSTEP_STATEMENTS;
 

@@ -1,5 +1,5 @@
-use Rattle.std.proofs.Common.{◌≡◌, ◌∙◌, ◌++◌, ◌∷◌, [], ap, sym, get_or, map}
-use Rattle.std.proofs.lemmas.List.{take_all, map_more}
+use Rattle.std.proofs.Common.{◌∙◌, ◌++◌, ◌∷◌, [], ap, sym, get_or}
+use Rattle.std.proofs.lemmas.List.{map_more}
 use Rattle.pml_program.specs.declared.program.Proctype.{Proctype}
 use Rattle.pml_moves.specs.Scene.{statements_of}
 use Rattle.pml_moves.proofs.played.statements_of_all.Goals as goal

@@ -10,7 +10,7 @@ use Rattle.pml_moves.proofs.search.add_moves_down.Goals as goal
 
 pub returns-then-len-before-clause-added : goal.returns-then-len-before-clause-added
 returns-then-len-before-clause-added c =
-    let f : ℕ → List Offer → List Move = moves_on c.args.scene.now c.args.process c.args.timeout c.args.body.now.proctype.now.body in
+    let f : ℕ → List Offer → List Move = moves_on c.args.round.now.scene.now c.args.process c.args.round.now.timeout c.args.body.now.proctype.now.body in
     let b : Body = c.args.body.now in
     let ls : List (List Offer) = map (map (shows b)) (edges_at b c.args.node) in
     let k = c.loop-level.level - 1 in
@@ -27,7 +27,7 @@ returns-then-len-before-clause-added c =
 
 pub loop-level-preserved : goal.loop-level-preserved
 loop-level-preserved c =
-    let f : ℕ → List Offer → List Move = moves_on c.args.scene.now c.args.process c.args.timeout c.args.body.now.proctype.now.body in
+    let f : ℕ → List Offer → List Move = moves_on c.args.round.now.scene.now c.args.process c.args.round.now.timeout c.args.body.now.proctype.now.body in
     let b : Body = c.args.body.now in
     let ls : List (List Offer) = map (map (shows b)) (edges_at b c.args.node) in
     let k = c.loop-level.level - 1 in

@@ -11,5 +11,5 @@ abbrev pub invariant-loop-level : goal.invariant-loop-level
 invariant-loop-level l = record {
   same : l.moves.items ≡ l.initial.moves.items;
   within : l.level ≤ length (edges_at l.body l.node);
-  above : last (moves_on l.scene l.process l.timeout l.body.proctype.now.body) l.level (drop l.level (map (map (shows l.body)) (edges_at l.body l.node))) ≡ [];
+  above : last (moves_on l.round.scene.now l.process l.round.timeout l.body.proctype.now.body) l.level (drop l.level (map (map (shows l.body)) (edges_at l.body l.node))) ≡ [];
 }

@@ -9,7 +9,7 @@ use Rattle.pml_moves.proofs.search.add_plain.Given as goal
 -- what is added and the rest's are all
 abbrev pub invariant-loop-place : goal.invariant-loop-place
 invariant-loop-place l =
-    let f : ℕ → Offer → List Move = λ i o. if is_else o.basic then [] else moves_by l.scene l.tier.process l.timeout l.body.proctype.now.body l.tier.level i o in
+    let f : ℕ → Offer → List Move = λ i o. if is_else o.basic then [] else moves_by l.round.scene.now l.tier.process l.round.timeout l.body.proctype.now.body l.tier.level i o in
     record {
       same : l.moves.items ++ each f l.place (map (shows l.body) (drop l.place l.edges)) ≡ l.initial.moves.items ++ each f 0 (map (shows l.body) l.edges);
       kept : Extends l.moves.items l.initial.moves.items;

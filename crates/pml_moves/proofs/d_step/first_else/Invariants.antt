@@ -2,7 +2,7 @@ use Rattle.std.proofs.Common.{◌≡◌, drop, map}
 use Rattle.std.specs.List.{filter}
 use Rattle.pml_moves.specs.Scene.{shows}
 use Rattle.pml_moves.specs.Search.{first, is_other}
-use Rattle.pml_moves.proofs.search.first_else.Given as goal
+use Rattle.pml_moves.proofs.d_step.first_else.Given as goal
 
 -- none is found so far
 abbrev pub invariant-loop-edge : goal.invariant-loop-edge

@@ -3,7 +3,7 @@ use Rattle.std.specs.List.{filter}
 use Rattle.pml_value.specs.Reads.{seen}
 use Rattle.pml_moves.specs.Scene.{shows}
 use Rattle.pml_moves.specs.Search.{first, is_choice}
-use Rattle.pml_moves.proofs.search.first_plain.Given as goal
+use Rattle.pml_moves.proofs.d_step.first_plain.Given as goal
 
 -- none is found so far
 abbrev pub invariant-loop-edge : goal.invariant-loop-edge

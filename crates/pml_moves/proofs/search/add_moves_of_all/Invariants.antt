@@ -4,13 +4,13 @@ use Rattle.pml_moves.specs.State.{Stand}
 use Rattle.pml_moves.specs.Scene.{stand_of}
 use Rattle.pml_moves.specs.Kept.{Extends}
 use Rattle.pml_moves.specs.Search.{each, moves_at}
-use Rattle.pml_moves.proofs.search.add_moves_under.Given as goal
+use Rattle.pml_moves.proofs.search.add_moves_of_all.Given as goal
 
 -- what is added and the rest's are all
 abbrev pub invariant-loop-process : goal.invariant-loop-process
 invariant-loop-process l =
-    let f : ℕ → Stand → List Move = λ p y. moves_at l.scene p l.timeout y in
+    let f : ℕ → Stand → List Move = λ p y. moves_at l.round.scene.now p l.round.timeout y in
     record {
-      same : l.moves.items ++ each f l.process (map (stand_of l.scene.program) (drop l.process l.seats)) ≡ l.initial.moves.items ++ each f 0 (map (stand_of l.scene.program) l.seats);
+      same : l.moves.items ++ each f l.process (map (stand_of l.round.scene.now.program) (drop l.process l.seats)) ≡ l.initial.moves.items ++ each f 0 (map (stand_of l.round.scene.now.program) l.seats);
       kept : Extends l.moves.items l.initial.moves.items;
     }

@@ -6,7 +6,7 @@ use Rattle.pml_moves.specs.Scene.{shows, edges_at}
 use Rattle.pml_moves.specs.Search.{last, pairs_on}
 use Rattle.pml_moves.proofs.Placing.{level_is}
 use Rattle.pml_moves.proofs.Searching.{ends, goes_on}
-use Rattle.pml_moves.proofs.search.add_pairs_down.Goals as goal
+use Rattle.pml_moves.proofs.rendezvous.add_pairs_down.Goals as goal
 
 pub returns-then-len-before-clause-added : goal.returns-then-len-before-clause-added
 returns-then-len-before-clause-added c =

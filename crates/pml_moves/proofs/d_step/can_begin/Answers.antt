@@ -5,7 +5,7 @@ use Rattle.pml_value.specs.Reads.{seen}
 use Rattle.pml_moves.specs.State.{levels_from}
 use Rattle.pml_moves.specs.Search.{choices, is_some}
 use Rattle.pml_moves.proofs.Placing.{at_node}
-use Rattle.pml_moves.proofs.search.can_begin.Goals as goal
+use Rattle.pml_moves.proofs.d_step.can_begin.Goals as goal
 
 pub returns-in-Some : goal.returns-in-Some
 returns-in-Some c =

@@ -4,7 +4,7 @@ use Rattle.pml_moves.specs.State.{Stand}
 use Rattle.pml_moves.specs.Scene.{stand_of}
 use Rattle.pml_moves.specs.Kept.{Extends}
 use Rattle.pml_moves.specs.Search.{each, pairs_with}
-use Rattle.pml_moves.proofs.search.add_pairs.Given as goal
+use Rattle.pml_moves.proofs.rendezvous.add_pairs.Given as goal
 
 -- what is added and the rest's are all
 abbrev pub invariant-loop-j : goal.invariant-loop-j

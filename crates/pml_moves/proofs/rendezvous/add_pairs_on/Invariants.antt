@@ -6,7 +6,7 @@ use Rattle.pml_moves.specs.State.{reads}
 use Rattle.pml_moves.specs.Scene.{shows}
 use Rattle.pml_moves.specs.Kept.{Extends}
 use Rattle.pml_moves.specs.Search.{each, accepts, only_if, pick}
-use Rattle.pml_moves.proofs.search.add_pairs_on.Given as goal
+use Rattle.pml_moves.proofs.rendezvous.add_pairs_on.Given as goal
 
 -- what is added and the rest's are all
 abbrev pub invariant-loop-place : goal.invariant-loop-place

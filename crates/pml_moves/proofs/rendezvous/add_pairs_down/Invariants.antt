@@ -1,7 +1,7 @@
 use Rattle.std.proofs.Common.{◌≡◌, ◌≤◌, length, drop, map, []}
 use Rattle.pml_moves.specs.Scene.{shows, edges_at}
 use Rattle.pml_moves.specs.Search.{last, pairs_on}
-use Rattle.pml_moves.proofs.search.add_pairs_down.Given as goal
+use Rattle.pml_moves.proofs.rendezvous.add_pairs_down.Given as goal
 
 abbrev pub decreases-loop-level : goal.decreases-loop-level
 decreases-loop-level l = l.level

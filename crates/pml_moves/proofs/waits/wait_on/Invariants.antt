@@ -1,0 +1,15 @@
+use Rattle.std.proofs.Common.{◌≡◌, false, drop, map, ℕ}
+use Rattle.pml_flow.specs.Flow.{Offer}
+use Rattle.pml_moves.specs.declared.moves.Pick.{Pick}
+use Rattle.pml_moves.specs.declared.moves.Move.TheVariants.{Pair}
+use Rattle.pml_moves.specs.State.{reads}
+use Rattle.pml_moves.specs.Scene.{shows}
+use Rattle.pml_moves.specs.Search.{Message, each, accepts, only_if, pick, pairs_on}
+use Rattle.pml_moves.specs.Waits.{may_take}
+use Rattle.pml_moves.proofs.waits.wait_on.Given as goal
+
+-- none so far receives anything else
+abbrev pub invariant-loop-edge : goal.invariant-loop-edge
+invariant-loop-edge l =
+    (k : Pick) (m : Message) (v : ℕ) → may_take l.wait m ≡ false →
+    each (λ i (o : Offer). only_if (accepts l.scene.channels (reads l.scene l.j l.timeout) m o.basic) (Pair k (pick l.j v i) l.timeout)) l.edge-index (map (shows l.body) (drop l.edge-index l.edges)) ≡ pairs_on l.scene l.timeout k m l.j v (map (shows l.body) l.edges)

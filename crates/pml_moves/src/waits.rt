@@ -1,0 +1,192 @@
+//! What processes wait for: a send then asks those alone that may receive its message.
+
+ghost use Rattle.std.specs.Prelude.{◌≡◌, ◌<◌, ◌&&◌, ℕ, false, [], IfOk, length, map, slice_get};
+ghost use Rattle.std.specs.Option.{option_copied};
+ghost use Rattle.std.specs.Ordering.{int_eq};
+ghost use Rattle.pml_eval.specs.Value.{Reading, asked_by};
+ghost use Rattle.pml_value.specs.Reads.{seen};
+ghost use Rattle.pml_moves.specs.declared.moves.Pick.{Pick};
+ghost use Rattle.pml_moves.specs.State.{reads};
+ghost use Rattle.pml_moves.specs.Scene.{stand_of, IsBody, shows};
+ghost use Rattle.pml_moves.specs.Search.{Message as Sent, accepts, does_match, pairs_on};
+ghost use Rattle.pml_moves.specs.Waits.{begins_with, may_take, may_at, WaitsFor, AreWaits};
+
+use crate::executable::named;
+use crate::message::Message;
+use crate::scene::{Body, Scene, Seat};
+use pml_flow::edge::Edge;
+use pml_program::expr::Want;
+use pml_program::program::{Action, Basic};
+use pml_value::live_channel::LiveChannel;
+use pml_value::view::View;
+use std::alloc::{AllocError, Global};
+
+/// As many processes are enough to look beforehand what each waits for.
+const ENOUGH_PROCESSES: usize = 8;
+
+/// What a process may receive, so far as it is said beforehand: nothing; what is sent on the channel with this number; of that only
+/// what begins with this number; or anything.
+#[derive(Clone, Copy)]
+pub enum Wait {
+    Nothing,
+    Channel(i32),
+    Number(i32, i32),
+    Anything,
+}
+
+impl Wait {
+    /// What may be received so, or on the channel with this number.
+    fn or_channel(self, number: i32) -> Wait
+        ensures one { (m : Sent) → may_take result m ≡ false → may_take self m ≡ false }
+        ensures other { (m : Sent) → may_take result m ≡ false → int_eq number m.number ≡ false }
+    {
+        match self {
+            Wait::Nothing => Wait::Channel(number),
+            Wait::Channel(own) if own == number => self,
+            Wait::Number(own, _) if own == number => Wait::Channel(number),
+            _ => Wait::Anything,
+        }
+    }
+
+    /// What may be received so, or begins with this number on the channel with that.
+    fn or_number(self, number: i32, first: i32) -> Wait
+        ensures one { (m : Sent) → may_take result m ≡ false → may_take self m ≡ false }
+        ensures other { (m : Sent) → may_take result m ≡ false → (int_eq number m.number && begins_with first m.fields) ≡ false }
+    {
+        match self {
+            Wait::Nothing => Wait::Number(number, first),
+            Wait::Number(own, one) if own == number && one == first => self,
+            _ => self.or_channel(number),
+        }
+    }
+
+    /// What may be received so, or by a receive from the channel with this number.
+    fn or_from(self, number: i32, arguments: &[Want]) -> Wait
+        ensures one { (m : Sent) → may_take result m ≡ false → may_take self m ≡ false }
+        ensures other { (m : Sent) (r : Reading) → may_take result m ≡ false →
+            (int_eq number m.number && does_match (asked_by arguments.now r) m.fields) ≡ false }
+    {
+        match arguments {
+            [Want::Exactly(first)] => self.or_number(number, *first),
+            _ => self.or_channel(number),
+        }
+    }
+
+    /// What may be received so, or by an offer.
+    fn or_by(self, view: &View<'_>, basic: Option<&Basic<'_>>) -> Wait
+        ensures one { (m : Sent) → may_take result m ≡ false → may_take self m ≡ false }
+        ensures other { (m : Sent) → may_take result m ≡ false → accepts view.now.channels.now (seen view.now) m (option_copied basic.entry) ≡ false }
+    {
+        let Some(Basic::Plain(Action::Receive(target, _, _, arguments))) = basic else {
+            return self;
+        };
+        match named(view, target, arguments.len()) {
+            Ok((number, _)) => self.or_from(number, arguments.as_slice()),
+            Err(_) => self,
+        }
+    }
+
+    /// Whether a message may be received so.
+    fn takes(self, message: &Message<'_, '_>) -> bool
+        ensures { result ≡ may_take self message.now }
+    {
+        match self {
+            Wait::Nothing => false,
+            Wait::Channel(number) => number == message.number(),
+            Wait::Number(number, first) => number == message.number() && begins(message, first),
+            Wait::Anything => true,
+        }
+    }
+}
+
+/// Whether a message begins with this number.
+fn begins(message: &Message<'_, '_>, number: i32) -> bool
+    ensures { result ≡ begins_with number message.now.fields }
+{
+    if message.len() == 0 {
+        return false;
+    }
+    number == message.field(0)
+}
+
+/// What may be received by the offers of a level.
+fn wait_on(
+    scene: &Scene<'_, '_, '_>,
+    body: &Body<'_, '_, '_>,
+    j: usize,
+    timeout: bool,
+    edges: &[Edge],
+) -> Wait
+    requires there { j < length scene.now.stands }
+    requires body { IsBody body.now }
+    ensures { (k : Pick) (m : Sent) (l : ℕ) → may_take result m ≡ false → pairs_on scene.now timeout k m j l (map (shows body.now) edges.now) ≡ [] }
+{
+    let view = scene.view(j, timeout);
+    let mut wait = Wait::Nothing;
+    for edge in edges {
+        wait = wait.or_by(&view, body.basic(*edge));
+    }
+    wait
+}
+
+/// What a process may receive: anything, where it has several levels.
+fn wait_of(scene: &Scene<'_, '_, '_>, j: usize, timeout: bool, seat: Seat) -> Wait
+    requires { j < length scene.now.stands }
+    ensures { WaitsFor scene.now timeout j (stand_of scene.now.program seat) result }
+{
+    let Some(body) = scene.standing(seat) else {
+        return Wait::Nothing;
+    };
+    match body.graph.only_level(seat.node) {
+        Some(edges) => wait_on(scene, &body, j, timeout, edges),
+        None => Wait::Anything,
+    }
+}
+
+/// What each process may receive.
+pub(crate) fn all_waits(
+    alloc: Global,
+    scene: &Scene<'_, '_, '_>,
+    timeout: bool,
+) -> Result<Vec<Wait>, AllocError>
+    ensures waits { IfOk result (λ v. AreWaits scene.now timeout v.items) }
+    ensures many { IfOk result (λ v. length v.items ≡ length scene.now.stands) }
+{
+    let seats = scene.seats();
+    let mut waits = Vec::with_capacity(alloc, seats.len())?;
+    for j in 0..seats.len() {
+        waits.push(wait_of(scene, j, timeout, seats[j]))?;
+    }
+    Ok(waits)
+}
+
+/// Whether one of these channels keeps no message.
+fn has_rendezvous(channels: &[LiveChannel]) -> bool {
+    for live in channels {
+        if live.channel.capacity() == 0 {
+            return true;
+        }
+    }
+    false
+}
+
+/// Whether it is worth to look beforehand what processes wait for: many live, and some can meet.
+pub(crate) fn are_worth_knowing(scene: &Scene<'_, '_, '_>) -> bool {
+    scene.process_count() >= ENOUGH_PROCESSES && has_rendezvous(scene.channels())
+}
+
+fn wait_at(waits: &[Wait], j: usize) -> Option<&Wait>
+    ensures { option_copied result ≡ slice_get waits.now j }
+{
+    waits.get(j)
+}
+
+/// Whether process j may receive a message, as far as is known.
+pub(crate) fn may_receive(waits: &[Wait], j: usize, message: &Message<'_, '_>) -> bool
+    ensures { result ≡ may_at (slice_get waits.now j) message.now }
+{
+    match wait_at(waits, j) {
+        Some(wait) => wait.takes(message),
+        None => true,
+    }
+}
