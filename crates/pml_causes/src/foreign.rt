@@ -270,20 +270,16 @@ const OF_7_B: [(&[u8], Foreign); 2] = [
     (b"receive", Foreign::Message),
 ];
 
-const OF_8: [(&[u8], Foreign); 5] = [
+const OF_MORE: [(&[u8], Foreign); 8] = [
     (b"endwhile", Foreign::EndLoop),
     (b"function", Foreign::Function),
     (b"constant", Foreign::Constant),
     (b"continue", Foreign::Continue),
     (b"critical", Foreign::Lock),
-];
-
-const OF_9: [(&[u8], Foreign); 2] = [
     (b"procedure", Foreign::Function),
     (b"terminate", Foreign::Exit),
+    (b"synchronized", Foreign::Lock),
 ];
-
-const OF_12: [(&[u8], Foreign); 1] = [(b"synchronized", Foreign::Lock)];
 
 fn of_2(word: &[u8]) -> Option<Foreign> {
     lookup(&OF_2, word)
@@ -378,18 +374,6 @@ fn of_7(word: &[u8]) -> Option<Foreign> {
     of_7_b(word)
 }
 
-fn of_8(word: &[u8]) -> Option<Foreign> {
-    lookup(&OF_8, word)
-}
-
-fn of_9(word: &[u8]) -> Option<Foreign> {
-    lookup(&OF_9, word)
-}
-
-fn of_12(word: &[u8]) -> Option<Foreign> {
-    lookup(&OF_12, word)
-}
-
 /// What a word of another language is meant for. The tables are by length, so few rows are compared.
 pub fn foreign_word(word: &[u8]) -> Option<Foreign> {
     match word.len() {
@@ -399,9 +383,7 @@ pub fn foreign_word(word: &[u8]) -> Option<Foreign> {
         5 => of_5(word),
         6 => of_6(word),
         7 => of_7(word),
-        8 => of_8(word),
-        9 => of_9(word),
-        12 => of_12(word),
+        8.. => lookup(&OF_MORE, word),
         _ => None,
     }
 }

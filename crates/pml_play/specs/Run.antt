@@ -11,6 +11,9 @@ use Rattle.session.specs.Part.{Part}
 use Rattle.session.specs.Replay.{is_cut_short}
 use Rattle.session.specs.Session.{final_cause}
 use Rattle.session.specs.Texts.{record_line}
+use Rattle.session.specs.declared.Options.{Options}
+use Rattle.pml_sim.specs.World.{Running}
+use Rattle.pml_play.specs.Transcript.{IsModel, IsTranscript}
 
 -- one step of a run: the move that is taken, and the state that it leads to
 pub record Turn (S M : Type 0) : Type 0 where
@@ -80,3 +83,7 @@ PlaysEachPath {S} {M} rules limit s session = (path : List (Turn S M)) (numbers 
 abbrev pub PlaysJustThePath : {S M : Type 0} → Rules S M → ℕ → S → (List ℕ → Part End) → Type 0
 PlaysJustThePath {S} {M} rules limit s session = (path : List (Turn S M)) (numbers more : List ℕ) → IsPath rules s path numbers → length path ≡ limit
     → IsRun rules limit s path (session (flat_map record_line numbers ++ more))
+
+-- the text stands for this model, and this is the session over it
+abbrev pub IsSessionOver : List ℕ → Options → Running → (List ℕ → Part End) → Type 0
+IsSessionOver text options model session = IsModel text options.lossy model × IsTranscript text options session

@@ -12,7 +12,7 @@ ghost use Rattle.session.specs.declared.End.{End};
 ghost use Rattle.session.specs.declared.Options.{Options};
 ghost use Rattle.session.specs.Part.{Part};
 ghost use Rattle.pml_play.specs.Plain.{ArePlain, SpellItself, SpellNothing, SayTheSame};
-ghost use Rattle.pml_play.specs.Run.{HasRun, PlaysEachPath, PlaysJustThePath, RecordGivesRun};
+ghost use Rattle.pml_play.specs.Run.{HasRun, IsSessionOver, PlaysEachPath, PlaysJustThePath, RecordGivesRun};
 ghost use Rattle.pml_play.specs.Transcript.{IsModel, IsSpelled, IsRefused, IsTranscript, HasLine};
 
 /// A text is refused in one way at most, or stands for one model at most, and not both.
@@ -55,8 +55,8 @@ pub fn a_session_runs_through_a_path()
 /// Each path of a model's states is played, so each run of a model, however it was found, can be shown: the session on the numbers of a path that is no
 /// longer than the limit, with whatever behind them, runs through that path first; where the limit is as many steps as it has, through it and no further.
 pub fn each_path_is_played()
-    ensures first { (text : List ℕ) (options : Options) (model : Running) (part : List ℕ → Part End) → IsModel text options.lossy model
-        → IsTranscript text options part → PlaysEachPath rules options.limit model part }
-    ensures just { (text : List ℕ) (options : Options) (model : Running) (part : List ℕ → Part End) → IsModel text options.lossy model
-        → IsTranscript text options part → PlaysJustThePath rules options.limit model part }
+    ensures first { (text : List ℕ) (options : Options) (model : Running) (part : List ℕ → Part End)
+        → IsSessionOver text options model part → PlaysEachPath rules options.limit model part }
+    ensures just { (text : List ℕ) (options : Options) (model : Running) (part : List ℕ → Part End)
+        → IsSessionOver text options model part → PlaysJustThePath rules options.limit model part }
 {}
