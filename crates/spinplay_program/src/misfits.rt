@@ -1,7 +1,7 @@
 // What is said of choices that do not fit, and of those that may be cut off.
 use crate::files::Input;
 use crate::followed::Followed;
-use spinplay::{Cause, End};
+use spinplay::{Cause, End, shown_file};
 use std::alloc::{AllocError, Global};
 
 // Bytes of a line as they are shown.
@@ -33,6 +33,7 @@ fn wanted(alloc: Global, line: &str) -> Result<String, AllocError> {
 
 // Says which line of the choices does not fit, and what it wants.
 fn tell_misfit(rt: &HostRuntime, name: &str, choices: &Followed<Input>) -> Result<(), AllocError> {
+    let name = shown_file(rt.alloc(), name)?;
     let line = shown(rt.alloc(), choices.text())?;
     let wanted = wanted(rt.alloc(), line.as_str())?;
     let number = choices.number();
@@ -42,6 +43,7 @@ fn tell_misfit(rt: &HostRuntime, name: &str, choices: &Followed<Input>) -> Resul
 
 // Says that the last line of a file of choices has no line feed.
 fn tell_cut(rt: &HostRuntime, name: &str, choices: &Followed<Input>) -> Result<(), AllocError> {
+    let name = shown_file(rt.alloc(), name)?;
     let line = shown(rt.alloc(), choices.text())?;
     let number = choices.number();
     let _ = eprintln!(rt;
