@@ -16,8 +16,8 @@ ghost use Rattle.pml_steps.specs.Inside.{Chooses, Advances, advanced};
 use crate::effect::effect;
 use crate::live::Live;
 use diagnostics::{Fault, Stop};
-use pml_moves::scene::{Body, Scene, Seat};
 use pml_moves::d_step::choice;
+use pml_moves::scene::{Body, Scene, Seat};
 use pml_program::program::Basic;
 use profile::MOST_DSTEP_STATEMENTS;
 
