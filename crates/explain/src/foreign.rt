@@ -90,6 +90,29 @@ fn of_sign(foreign: Foreign) -> &'static str {
     }
 }
 
+/// Of forms that stand for something else.
+fn of_form(foreign: Foreign) -> &'static str {
+    match foreign {
+        Foreign::TimeoutArgument =>
+            "`timeout` has no argument, and there is no time: it is 1 where nothing else can be done",
+        Foreign::LoopType =>
+            "the variable is declared before the loop, as in `int i; for (i : 1 .. 3) { .. }`",
+        Foreign::LoopParens => "write `for (i : 0 .. 3) { .. }`",
+        Foreign::SelectRange => "write `select (k : 1 .. 4)`",
+        Foreign::GotoColon => "behind `goto` a label has no `:`",
+        Foreign::TwoSizes =>
+            "an array has one size: an array of records has two, as in `typedef Row { byte c[3] }` and `Row a[3]`",
+        Foreign::ActiveCount =>
+            "how many begin stands in brackets, as in `active [2] proctype P()`",
+        Foreign::QuotedName => "names stand without quotation marks, as in `mtype = { a, b }`",
+        Foreign::ReceivedValue =>
+            "a message is received by a statement of its own, as `c ? v`, which stores it in `v`",
+        Foreign::ChannelTypes => "the types stand in braces, as in `chan c = [2] of { byte }`",
+        Foreign::BraceBody => "statements stand in braces, as in `atomic { .. }`",
+        foreign => of_sign(foreign),
+    }
+}
+
 /// What is to be written.
 pub fn advice(foreign: Foreign) -> &'static str {
     match foreign {
@@ -102,7 +125,7 @@ pub fn advice(foreign: Foreign) -> &'static str {
         Foreign::EmptyOption => "a statement is wanted behind `::`, for example `skip`",
         Foreign::EmptyBody => "a statement is wanted between the braces, for example `skip`",
         Foreign::Outside => "statements stand between the braces of a `proctype` or of `init`",
-        foreign => of_sign(foreign),
+        foreign => of_form(foreign),
     }
 }
 
@@ -119,6 +142,24 @@ pub fn tell_foreign(
     message.push(advice(foreign))
 }
 
+/// What a sign is called.
+fn words_of_sign(class: Class) -> &'static str {
+    match class {
+        Class::Semicolon => "`;`",
+        Class::Comma => "`,`",
+        Class::CloseParen => "`)`",
+        Class::CloseBracket => "`]`",
+        Class::CloseBrace => "`}`",
+        Class::OpenParen => "`(`",
+        Class::OpenBrace => "`{`",
+        Class::DoubleColon => "`::`",
+        Class::Assign => "`=`",
+        Class::Colon => "`:`",
+        Class::Of => "`of`",
+        _ => "an operator",
+    }
+}
+
 /// What a class is called.
 fn words_of(class: Class) -> &'static str {
     match class {
@@ -127,30 +168,33 @@ fn words_of(class: Class) -> &'static str {
         Class::Name => "a name",
         Class::Type => "a type",
         Class::Unit => "a declaration or a proctype",
-        Class::String => "a string",
-        Class::Sign(sign) => sign,
-        Class::Operator => "an operator",
+        Class::Text => "a string",
+        sign => words_of_sign(sign),
     }
 }
 
-/// What stands between two classes of a list.
-fn joint(classes: Classes, at: usize) -> &'static str {
-    match at {
-        0 => "",
-        _ => match classes.list.get(at.saturating_add(1)) {
-            Some(Some(_)) => ", ",
-            _ => " or ",
-        },
+/// Adds one more of a list, where there is one; `next` is what follows it.
+fn tell_class(
+    message: &mut Message<'_>,
+    class: Option<Class>,
+    next: Option<Class>,
+) -> Result<(), AllocError> {
+    match class {
+        Some(class) => {
+            message.push(if next.is_some() { ", " } else { " or " })?;
+            message.push(words_of(class))
+        }
+        None => Ok(()),
     }
 }
 
 /// Adds what may stand there.
 pub fn tell_classes(message: &mut Message<'_>, classes: Classes) -> Result<(), AllocError> {
-    for (at, class) in classes.list.iter().enumerate() {
-        if let Some(class) = class {
-            message.push(joint(classes, at))?;
-            message.push(words_of(*class))?;
-        }
+    if let Some(first) = classes.first {
+        message.push(words_of(first))?;
     }
+    tell_class(message, classes.second, classes.third)?;
+    tell_class(message, classes.third, classes.fourth)?;
+    tell_class(message, classes.fourth, None)?;
     message.push(" may stand here")
 }

@@ -70,6 +70,8 @@ fn about_word(word: &[u8]) -> &'static str {
         " is left out: ask the condition in front of the statements"
     } else if word == b"D_proctype".as_slice() {
         " is left out: write `proctype`"
+    } else if word == b"return".as_slice() {
+        " is left out: an inline gives a value by a parameter that it stores in, and a process ends at its closing brace, as by `goto done` and `done: skip` there"
     } else if word == b"'".as_slice() {
         ": a character in quotes is left out: write its number, or play the model by `spinprep --play MODEL`"
     } else {
@@ -112,8 +114,42 @@ fn directive(line: &[u8]) -> &[u8] {
     line
 }
 
+/// What stands behind `#` and blanks.
+fn word_behind(directive: &[u8]) -> &[u8] {
+    for (i, byte) in directive.iter().enumerate() {
+        if b'a' <= *byte && *byte <= b'z' {
+            return &directive[i..];
+        }
+    }
+    &directive[..0]
+}
+
+/// Whether this is a line for a preprocessor.
+fn is_directive(directive: &[u8]) -> bool {
+    is_among(
+        word_behind(directive),
+        &[
+            b"define".as_slice(),
+            b"include".as_slice(),
+            b"if".as_slice(),
+            b"ifdef".as_slice(),
+            b"ifndef".as_slice(),
+            b"elif".as_slice(),
+            b"else".as_slice(),
+            b"endif".as_slice(),
+            b"undef".as_slice(),
+            b"pragma".as_slice(),
+            b"error".as_slice(),
+            b"warning".as_slice(),
+        ],
+    )
+}
+
 fn left_out(message: &mut Message<'_>, word: &[u8]) -> Result<(), AllocError> {
     if begins(word, b'#') {
+        if !is_directive(directive(word)) {
+            return message.around("", word, ": a comment is written `/* .. */` or `// ..`");
+        }
         let words =
             " is for a preprocessor: play the model by `spinprep --play MODEL`, which runs `cpp` first";
         return message.around("", directive(word), words);

@@ -96,16 +96,28 @@ pub enum Class {
     Name,
     Type,
     Unit,
-    String,
-    /// A sign or a word that stands for itself.
-    Sign(&'static str),
+    Text,
+    Semicolon,
+    Comma,
+    CloseParen,
+    CloseBracket,
+    CloseBrace,
+    OpenParen,
+    OpenBrace,
+    DoubleColon,
+    Assign,
+    Colon,
+    Of,
     Operator,
 }
 
 /// At most four of what may stand at a place.
 #[derive(Clone, Copy)]
 pub struct Classes {
-    pub list: [Option<Class>; 4],
+    pub first: Option<Class>,
+    pub second: Option<Class>,
+    pub third: Option<Class>,
+    pub fourth: Option<Class>,
 }
 
 /// Of tokens that no tree spells: the token where it shows, and what was wanted there.

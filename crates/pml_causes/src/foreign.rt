@@ -83,6 +83,28 @@ pub enum Foreign {
     EmptyBody,
     /// A statement outside of all braces.
     Outside,
+    /// `timeout(10)`
+    TimeoutArgument,
+    /// `for (int i : 1 .. 3)`
+    LoopType,
+    /// `for i in ..`
+    LoopParens,
+    /// `select (k in 1 .. 4)`
+    SelectRange,
+    /// `goto again:`
+    GotoColon,
+    /// `byte a[3][3]`
+    TwoSizes,
+    /// `active 2 proctype`
+    ActiveCount,
+    /// `mtype = { "a", "b" }`
+    QuotedName,
+    /// `v = c ? x`
+    ReceivedValue,
+    /// `of (byte)`
+    ChannelTypes,
+    /// `atomic (..)`
+    BraceBody,
 }
 
 /// A word that a table has.
@@ -167,7 +189,7 @@ const OF_4_B: [(&[u8], Foreign); 14] = [
     (b"TRUE", Foreign::True),
 ];
 
-const OF_4_C: [(&[u8], Foreign); 13] = [
+const OF_4_C: [(&[u8], Foreign); 14] = [
     (b"null", Foreign::Nothing),
     (b"NULL", Foreign::Nothing),
     (b"None", Foreign::Nothing),
@@ -179,6 +201,7 @@ const OF_4_C: [(&[u8], Foreign); 13] = [
     (b"main", Foreign::Main),
     (b"fork", Foreign::Spawn),
     (b"rand", Foreign::Random),
+    (b"make", Foreign::Channel),
     (b"send", Foreign::Message),
     (b"recv", Foreign::Message),
 ];

@@ -117,7 +117,8 @@ pub fn nearest_word(alloc: Global, name: &[u8]) -> Result<Option<&'static [u8]>,
     }
     for word in &WORDS {
         if let Some(count) = distance(alloc, name, *word)? {
-            if count < least {
+            let most = (name.len() / 3).min(word.len() / 3).max(1);
+            if count < least && count <= most {
                 least = count;
                 found = Some(*word);
             }

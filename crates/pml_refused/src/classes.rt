@@ -15,76 +15,102 @@ const TRIALS: [(Class, Kind, &[u8]); 18] = [
     (Class::Expression, Kind::Number, b"1"),
     (Class::Type, Kind::Byte, b"byte"),
     (Class::Name, Kind::Name, b"x"),
-    (Class::String, Kind::Quoted, b"\"\""),
-    (Class::Sign("`;`"), Kind::Semicolon, b";"),
-    (Class::Sign("`,`"), Kind::Comma, b","),
-    (Class::Sign("`)`"), Kind::CloseParen, b")"),
-    (Class::Sign("`]`"), Kind::CloseBracket, b"]"),
-    (Class::Sign("`}`"), Kind::CloseBrace, b"}"),
-    (Class::Sign("`(`"), Kind::OpenParen, b"("),
-    (Class::Sign("`{`"), Kind::OpenBrace, b"{"),
-    (Class::Sign("`::`"), Kind::DoubleColon, b"::"),
-    (Class::Sign("`=`"), Kind::Assign, b"="),
-    (Class::Sign("`:`"), Kind::Colon, b":"),
-    (Class::Sign("`of`"), Kind::Of, b"of"),
+    (Class::Text, Kind::Quoted, b"\"\""),
+    (Class::Semicolon, Kind::Semicolon, b";"),
+    (Class::Comma, Kind::Comma, b","),
+    (Class::CloseParen, Kind::CloseParen, b")"),
+    (Class::CloseBracket, Kind::CloseBracket, b"]"),
+    (Class::CloseBrace, Kind::CloseBrace, b"}"),
+    (Class::OpenParen, Kind::OpenParen, b"("),
+    (Class::OpenBrace, Kind::OpenBrace, b"{"),
+    (Class::DoubleColon, Kind::DoubleColon, b"::"),
+    (Class::Assign, Kind::Assign, b"="),
+    (Class::Colon, Kind::Colon, b":"),
+    (Class::Of, Kind::Of, b"of"),
     (Class::Operator, Kind::Plus, b"+"),
 ];
 
-/// What has been found, and how many.
-#[derive(Clone, Copy)]
-struct Found {
-    classes: Classes,
-    count: usize,
+/// Nothing.
+fn none() -> Classes {
+    Classes {
+        first: None,
+        second: None,
+        third: None,
+        fourth: None,
+    }
 }
 
-impl Found {
-    /// Whether what a token of this kind stands for is said by what was found.
-    fn says(&self, kind: Kind) -> bool {
-        match kind {
-            Kind::Number | Kind::Byte | Kind::Name | Kind::OpenParen | Kind::OpenBrace => {
-                self.has_word()
-            }
-            _ => false,
-        }
-    }
+/// Whether what begins with a word or a number may stand there by what was found first.
+fn takes_words(found: Classes) -> bool {
+    matches!(
+        found.first,
+        Some(Class::Unit) | Some(Class::Statement) | Some(Class::Expression) | Some(Class::Type)
+    )
+}
 
-    /// Whether a statement, an expression or a type may stand there.
-    fn has_word(&self) -> bool {
-        matches!(
-            self.classes.list[0],
-            Some(Class::Unit | Class::Statement | Class::Expression | Class::Type)
-        )
-    }
+/// Whether what was found says of a class what it says.
+fn says(found: Classes, class: Class) -> bool {
+    let is_word = matches!(
+        class,
+        Class::Expression | Class::Type | Class::Name | Class::OpenParen | Class::OpenBrace
+    );
+    is_word && takes_words(found)
+}
 
-    fn add(&mut self, class: Class) {
-        if self.count < 4 {
-            self.classes.list[self.count] = Some(class);
-            self.count += 1;
-        }
+/// The same with one more, or as many as there may be.
+fn with(found: Classes, class: Class) -> Classes {
+    let Classes {
+        first,
+        second,
+        third,
+        fourth,
+    } = found;
+    let class = Some(class);
+    if first.is_none() {
+        return Classes {
+            first: class,
+            second,
+            third,
+            fourth,
+        };
     }
+    if second.is_none() {
+        return Classes {
+            first,
+            second: class,
+            third,
+            fourth,
+        };
+    }
+    if third.is_none() {
+        return Classes {
+            first,
+            second,
+            third: class,
+            fourth,
+        };
+    }
+    if fourth.is_none() {
+        return Classes {
+            first,
+            second,
+            third,
+            fourth: class,
+        };
+    }
+    found
 }
 
 /// At most four of what may stand in place of the token at `at`, or none.
-pub fn classes_at(
-    alloc: Global,
-    tokens: &[Token<'_>],
-    at: usize,
-) -> Result<Option<Classes>, AllocError> {
-    let mut found = Found {
-        classes: Classes { list: [None; 4] },
-        count: 0,
-    };
+pub fn classes_at(alloc: Global, tokens: &[Token<'_>], at: usize) -> Result<Classes, AllocError> {
+    let mut found = none();
     if at > MOST_READ {
-        return Ok(None);
+        return Ok(found);
     }
     for (class, kind, text) in &TRIALS {
-        if !found.says(*kind) && may_stand(alloc, tokens, at, *kind, *text)? {
-            found.add(*class);
+        if !says(found, *class) && may_stand(alloc, tokens, at, *kind, *text)? {
+            found = with(found, *class);
         }
     }
-    if found.count == 0 {
-        Ok(None)
-    } else {
-        Ok(Some(found.classes))
-    }
+    Ok(found)
 }

@@ -62,14 +62,37 @@ fn at_brace(tokens: &[Token<'_>], at: usize) -> Option<Foreign> {
     }
 }
 
+/// What a `(` behind a word is meant for.
+fn behind_word(before: Kind) -> Option<Foreign> {
+    match before {
+        Kind::Init => Some(Foreign::InitParameters),
+        Kind::Timeout => Some(Foreign::TimeoutArgument),
+        Kind::Active => Some(Foreign::ActiveCount),
+        Kind::Of => Some(Foreign::ChannelTypes),
+        Kind::Atomic | Kind::DStep => Some(Foreign::BraceBody),
+        _ => None,
+    }
+}
+
+/// What a `?` is meant for.
+fn at_query(tokens: &[Token<'_>], at: usize, before: Kind) -> Foreign {
+    let is_named = matches!(before, Kind::Name | Kind::CloseBracket);
+    if is_named && is_before(tokens, at, 2, Kind::Assign) {
+        Foreign::ReceivedValue
+    } else {
+        Foreign::Conditional
+    }
+}
+
 /// What a `(`, `[` or `?` is meant for.
 fn at_opener(tokens: &[Token<'_>], at: usize, kind: Kind) -> Option<Foreign> {
     let before = kind_before(tokens, at, 1);
     match kind {
-        Kind::OpenParen if same_kind(before, Kind::Init) => Some(Foreign::InitParameters),
+        Kind::OpenParen => behind_word(before),
         Kind::OpenBracket if is_type(before) => Some(Foreign::Size),
+        Kind::OpenBracket if same_kind(before, Kind::CloseBracket) => Some(Foreign::TwoSizes),
         Kind::OpenBrace => at_brace(tokens, at),
-        Kind::Query => Some(Foreign::Conditional),
+        Kind::Query => Some(at_query(tokens, at, before)),
         _ => None,
     }
 }
@@ -103,6 +126,31 @@ fn at_operator(tokens: &[Token<'_>], at: usize, kind: Kind) -> Option<Foreign> {
     }
 }
 
+/// What a name, a number, a type, a string or a `:` is meant for.
+fn at_word(tokens: &[Token<'_>], at: usize, kind: Kind) -> Option<Foreign> {
+    let before = kind_before(tokens, at, 1);
+    match kind {
+        Kind::Name if same_kind(before, Kind::For) => Some(Foreign::LoopParens),
+        Kind::Number if same_kind(before, Kind::Active) => Some(Foreign::ActiveCount),
+        Kind::Colon if are_before(tokens, at, Kind::Goto, Kind::Name) => Some(Foreign::GotoColon),
+        Kind::Less if same_kind(before, Kind::Assign) => Some(Foreign::ReceivedValue),
+        Kind::Quoted if is_before(tokens, at, 3, Kind::Mtype) => Some(Foreign::QuotedName),
+        _ => None,
+    }
+}
+
+/// Whether a type stands where the variable of a loop is wanted.
+fn at_loop_type(tokens: &[Token<'_>], at: usize) -> bool {
+    is_type(kind_at(tokens, at)) && are_before(tokens, at, Kind::For, Kind::OpenParen)
+}
+
+/// Whether a name stands where the `:` of a `select` is wanted.
+pub fn is_select_range(tokens: &[Token<'_>], at: usize) -> bool {
+    is_at(tokens, at, Kind::Name)
+        && is_before(tokens, at, 3, Kind::Select)
+        && are_before(tokens, at, Kind::OpenParen, Kind::Name)
+}
+
 /// Whether `unsigned` has no number of bits where a token stands.
 fn at_width(tokens: &[Token<'_>], at: usize) -> Option<Foreign> {
     let named = are_before(tokens, at, Kind::Unsigned, Kind::Name);
@@ -126,6 +174,17 @@ pub fn form_at(tokens: &[Token<'_>], at: usize) -> Option<Foreign> {
         _ => at_operator(tokens, at, kind),
     };
     match form {
+        Some(form) => Some(form),
+        None => form_of_word(tokens, at, kind),
+    }
+}
+
+/// What a word or a number is meant for.
+fn form_of_word(tokens: &[Token<'_>], at: usize, kind: Kind) -> Option<Foreign> {
+    if at_loop_type(tokens, at) {
+        return Some(Foreign::LoopType);
+    }
+    match at_word(tokens, at, kind) {
         Some(form) => Some(form),
         None => at_width(tokens, at),
     }

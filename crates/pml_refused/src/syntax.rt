@@ -1,7 +1,7 @@
 //! Where no rule reads the tokens, and what was wanted there.
 
 use crate::classes::classes_at;
-use crate::forms::{form_at, form_within, is_left_open, is_statement};
+use crate::forms::{form_at, form_within, is_left_open, is_select_range, is_statement};
 use crate::stopped::{
     Neighbours, begins_line, is_before, name_at, name_before, neighbours_of, opener_before,
 };
@@ -47,6 +47,9 @@ fn by_neighbours<'t>(text: &'t [u8], tokens: &[Token<'_>], at: usize) -> Option<
 
 /// What is told by a word or a form of another language, or by the name of a proctype.
 fn by_forms<'t>(text: &'t [u8], tokens: &[Token<'_>], at: usize) -> Option<Wanted<'t>> {
+    if is_select_range(tokens, at) {
+        return Some(Wanted::Foreign(Foreign::SelectRange, &text[..0]));
+    }
     if let Some(wanted) = foreign_beside(text, tokens, at) {
         return Some(wanted);
     }
@@ -96,6 +99,17 @@ fn within<'t>(
     }
 }
 
+/// What is told of a statement that stands in no braces.
+fn outside<'t>(text: &'t [u8], tokens: &[Token<'_>], at: usize) -> Option<Wanted<'t>> {
+    if !is_statement(kind_at(tokens, at)) {
+        return None;
+    }
+    match foreign_beside(text, tokens, at) {
+        Some(wanted) => Some(wanted),
+        None => Some(Wanted::Foreign(Foreign::Outside, &text[..0])),
+    }
+}
+
 /// What is told by what is open at the token.
 fn by_opener<'t>(
     text: &'t [u8],
@@ -105,13 +119,7 @@ fn by_opener<'t>(
 ) -> Option<Wanted<'t>> {
     match opener {
         Some(opener) => within(text, tokens, opener, at),
-        None => {
-            if is_statement(kind_at(tokens, at)) {
-                Some(Wanted::Foreign(Foreign::Outside, &text[..0]))
-            } else {
-                None
-            }
-        }
+        None => outside(text, tokens, at),
     }
 }
 
@@ -237,9 +245,11 @@ fn wanted_by_trial<'t>(
 
 /// What may stand there, by class.
 fn one_of<'t>(alloc: Global, tokens: &[Token<'_>], at: usize) -> Result<Wanted<'t>, AllocError> {
-    match classes_at(alloc, tokens, at)? {
-        Some(classes) => Ok(Wanted::OneOf(classes)),
-        None => Ok(Wanted::Untold),
+    let classes = classes_at(alloc, tokens, at)?;
+    if classes.first.is_none() {
+        Ok(Wanted::Untold)
+    } else {
+        Ok(Wanted::OneOf(classes))
     }
 }
 

@@ -91,25 +91,6 @@ pub fn stop(alloc: Global, tokens: &[Token<'_>]) -> Result<Option<usize>, AllocE
     stop_of(alloc, &list)
 }
 
-/// Whether a token of this kind may stand in place of the one at `at`: the tokens in front of it are read with it behind them, and what
-/// is behind it is no token of that place, so reading stops at it or there.
-pub fn may_stand(
-    alloc: Global,
-    tokens: &[Token<'_>],
-    at: usize,
-    kind: Kind,
-    text: &'static [u8],
-) -> Result<bool, AllocError> {
-    let mut list = Vec::with_capacity(alloc, at.saturating_add(2))?;
-    for token in between(tokens, 0, at) {
-        add(token.kind(), token.text(), &mut list)?;
-    }
-    add(kind, text, &mut list)?;
-    add(Kind::Xs, b"xs", &mut list)?;
-    let place = stop_of(alloc, &list)?;
-    Ok(is_behind(place, at))
-}
-
 /// The first token that has to be read behind a change, so that it was of use.
 fn aim(at: usize, change: Change) -> usize {
     match change {
@@ -136,4 +117,18 @@ pub fn reads_on(
     let list = changed(alloc, tokens, at, change)?;
     let place = stop_of(alloc, &list)?;
     Ok(is_behind(place, aim(at, change)))
+}
+
+/// Whether a token of this kind may stand in front of the one at `at`: it is read there, whatever may be behind it.
+pub fn may_stand(
+    alloc: Global,
+    tokens: &[Token<'_>],
+    at: usize,
+    kind: Kind,
+    text: &'static [u8],
+) -> Result<bool, AllocError> {
+    let front = between(tokens, 0, at.saturating_add(1));
+    let list = changed(alloc, front, at, Change::Insert(kind, text))?;
+    let place = stop_of(alloc, &list)?;
+    Ok(is_behind(place, at))
 }
