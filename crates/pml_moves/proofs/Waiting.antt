@@ -1,6 +1,6 @@
 -- What it means that a process waits for some messages alone.
 use Rattle.std.proofs.Common.{◌≡◌, ◌⊎◌, inl, inr, ℕ, zero, suc, ◌+◌, ◌<◌, ◌≤◌, Bool, true, false, nat_eq, if◌then◌else◌, List, [], ◌∷◌, ◌++◌, get_or, length, map, drop, refl, sym, ap, ◌∙◌, subst, Option, Some, None}
-use Rattle.std.specs.Prelude.{slice_get}
+use Rattle.std.specs.Prelude.{slice_get, slice_index_or}
 use Rattle.std.proofs.lemmas.List.{drop_all}
 use Rattle.pml_flow.specs.declared.edge.Edge.{Edge}
 use Rattle.pml_flow.specs.Flow.{Offer}
@@ -11,9 +11,9 @@ use Rattle.pml_moves.specs.declared.scene.Body.{Body}
 use Rattle.pml_moves.specs.declared.waits.Wait.{Wait}
 use Rattle.pml_moves.specs.State.{State, Stand, body_of, levels_in}
 use Rattle.pml_moves.specs.Scene.{stand_of, StandsIn, shows, edges_at}
-use Rattle.pml_moves.specs.Search.{Message, each, last, pairs_on, pairs_with}
+use Rattle.pml_moves.specs.Search.{Message, or_else, each, last, pairs_on, pairs_with}
 use Rattle.pml_moves.specs.Waits.{may_take, may_at, WaitsFor, AreWaits}
-use Rattle.pml_moves.proofs.Searching.{opens_at, held}
+use Rattle.pml_moves.proofs.Searching.{opens, opens_at, held}
 use Rattle.pml_moves.proofs.Placing.{pairs_in, pairs_closed}
 
 -- ---- a process
@@ -82,3 +82,25 @@ over f g es i all l e = sym e ∙ ap (λ (ys : List Edge). each f i (map g ys)) 
 
 pub skip_at : (f : ℕ → Offer → List Move) (g : Edge → Offer) (es : List Edge) (i : ℕ) (d : Edge) (all : List Move) → i < length es → f i (g (get_or es i d)) ≡ [] → each f i (map g (drop i es)) ≡ all → each f (i + 1) (map g (drop (i + 1) es)) ≡ all
 skip_at f g es i d all l none e = skip f g es i (get_or es i d) all (held es i d l) none e
+
+-- ---- level by level
+
+or_else_nil : {A : Type 0} (xs : List A) → or_else xs [] ≡ xs
+or_else_nil [] = refl
+or_else_nil (x ∷ xs) = refl
+
+-- a level that gives nothing is passed over
+pub last_skips : {A B : Type 0} (f : ℕ → A → List B) (xs : List A) (n : ℕ) (d : A) → n < length xs → f n (slice_index_or xs n d) ≡ [] → last f (n + 1) (drop (n + 1) xs) ≡ last f n (drop n xs)
+last_skips f xs n d l none =
+    sym (ap (λ ys. last f n ys) (opens xs n d l) ∙ (ap (λ zs. or_else (last f (n + 1) (drop (n + 1) xs)) zs) none ∙ or_else_nil (last f (n + 1) (drop (n + 1) xs))))
+
+pub last_over : {A B : Type 0} (f : ℕ → A → List B) (xs : List A) (n : ℕ) → length xs ≤ n → last f n (drop n xs) ≡ []
+last_over f xs n l = ap (λ ys. last f n ys) (drop_all n xs l)
+
+-- where no level receives anything else
+pub waits_down : (x : Seat) (b : Body) (s : State) (t : Bool) (j : ℕ) (w : Wait) → StandsIn s x b → ((k : Pick) (m : Message) → may_take w m ≡ false → last (pairs_on s t k m j) 0 (map (map (shows b)) (edges_at b x.node)) ≡ []) → WaitsFor s t j (stand_of s.program x) w
+waits_down x b s t j w h none k m d = by (nat_eq j k.process) refl
+  where
+    by : (o : Bool) → nat_eq j k.process ≡ o → pairs_with s t k m j (stand_of s.program x) ≡ []
+    by true i = own s t k m j (stand_of s.program x) i
+    by false i = pairs_in x b s t k m j i h ∙ none k m d

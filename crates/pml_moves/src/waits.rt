@@ -7,8 +7,8 @@ ghost use Rattle.pml_eval.specs.Value.{Reading, asked_by};
 ghost use Rattle.pml_value.specs.Reads.{seen};
 ghost use Rattle.pml_moves.specs.declared.moves.Pick.{Pick};
 ghost use Rattle.pml_moves.specs.State.{reads};
-ghost use Rattle.pml_moves.specs.Scene.{stand_of, IsBody, shows};
-ghost use Rattle.pml_moves.specs.Search.{Message as Sent, accepts, does_match, pairs_on};
+ghost use Rattle.pml_moves.specs.Scene.{stand_of, IsBody, shows, offers_at};
+ghost use Rattle.pml_moves.specs.Search.{Message as Sent, accepts, does_match, last, pairs_on};
 ghost use Rattle.pml_moves.specs.Waits.{begins_with, may_take, may_at, WaitsFor, AreWaits};
 
 use crate::executable::named;
@@ -109,27 +109,52 @@ fn begins(message: &Message<'_, '_>, number: i32) -> bool
     number == message.field(0)
 }
 
-/// What may be received by the offers of a level.
+/// What may be received so far, or by the offers of a level.
 fn wait_on(
     scene: &Scene<'_, '_, '_>,
     body: &Body<'_, '_, '_>,
     j: usize,
     timeout: bool,
     edges: &[Edge],
+    so_far: Wait,
 ) -> Wait
     requires there { j < length scene.now.stands }
     requires body { IsBody body.now }
-    ensures { (k : Pick) (m : Sent) (l : ℕ) → may_take result m ≡ false → pairs_on scene.now timeout k m j l (map (shows body.now) edges.now) ≡ [] }
+    ensures one { (m : Sent) → may_take result m ≡ false → may_take so_far m ≡ false }
+    ensures other { let os = map (shows body.now) edges.now in
+        (k : Pick) (m : Sent) (l : ℕ) → may_take result m ≡ false → pairs_on scene.now timeout k m j l os ≡ [] }
 {
     let view = scene.view(j, timeout);
-    let mut wait = Wait::Nothing;
+    let mut wait = so_far;
     for edge in edges {
         wait = wait.or_by(&view, body.basic(*edge));
     }
     wait
 }
 
-/// What a process may receive: anything, where it has several levels.
+/// What may be received at a node of several levels.
+#[inline(never)]
+fn wait_down(
+    scene: &Scene<'_, '_, '_>,
+    body: &Body<'_, '_, '_>,
+    j: usize,
+    timeout: bool,
+    node: usize,
+) -> Wait
+    requires there { j < length scene.now.stands }
+    requires body { IsBody body.now }
+    requires node { node < length body.now.graph.now.nodes }
+    ensures { (k : Pick) (m : Sent) → may_take result m ≡ false → last (pairs_on scene.now timeout k m j) 0 (offers_at body.now node) ≡ [] }
+{
+    let mut wait = Wait::Nothing;
+    for level in 0..body.graph.level_count(node) {
+        let edges = body.graph.level(node, level);
+        wait = wait_on(scene, body, j, timeout, edges, wait);
+    }
+    wait
+}
+
+/// What a process may receive.
 fn wait_of(scene: &Scene<'_, '_, '_>, j: usize, timeout: bool, seat: Seat) -> Wait
     requires { j < length scene.now.stands }
     ensures { WaitsFor scene.now timeout j (stand_of scene.now.program seat) result }
@@ -138,8 +163,8 @@ fn wait_of(scene: &Scene<'_, '_, '_>, j: usize, timeout: bool, seat: Seat) -> Wa
         return Wait::Nothing;
     };
     match body.graph.only_level(seat.node) {
-        Some(edges) => wait_on(scene, &body, j, timeout, edges),
-        None => Wait::Anything,
+        Some(edges) => wait_on(scene, &body, j, timeout, edges, Wait::Nothing),
+        None => wait_down(scene, &body, j, timeout, seat.node),
     }
 }
 

@@ -13,18 +13,21 @@ use Rattle.pml_moves.proofs.Waiting.{skip_at, over}
 use Rattle.pml_moves.proofs.waits.wait_on.Goals as goal
 
 pub loop-edge-preserved : goal.loop-edge-preserved
-loop-edge-preserved c = λ k m v d.
-    let cs = c.args.scene.now.channels in
-    let r = reads c.args.scene.now c.args.j c.args.timeout in
-    let a0 : accepts c.view-view.result.channels.now (seen c.view-view.result) m (option_copied c.basic.result) ≡ false = c.or_by-wait.ensures.other m d in
-    let a1 : accepts cs r m (option_copied c.basic.result) ≡ false =
-    ap (λ (x : List LiveChannel). accepts x r m (option_copied c.basic.result)) (sym c.view-view.ensures.channels)
-    ∙ (ap (λ (q : Reading). accepts c.view-view.result.channels.now q m (option_copied c.basic.result)) (sym c.view-view.ensures.reads) ∙ a0) in
-    let a2 = ap (λ (o : Option Basic). accepts cs r m o) (sym c.basic.ensures) ∙ a1 in
-    skip_at (λ i (o : Offer). only_if (accepts cs r m o.basic) (Pair k (pick c.args.j v i) c.args.timeout)) (shows c.args.body.now) c.args.edges.now c.loop-edge.edge-index _ _ (search rules)
-    (ap (λ (b : Bool). only_if b (Pair k (pick c.args.j v c.loop-edge.edge-index) c.args.timeout)) a2)
-    (c.loop-edge.invariant k m v (c.or_by-wait.ensures.one m d))
+loop-edge-preserved c = record {
+  one = λ m d. c.loop-edge.invariant.one m (c.or_by-wait.ensures.one m d);
+  other = λ k m v d.
+      let cs = c.args.scene.now.channels in
+      let r = reads c.args.scene.now c.args.j c.args.timeout in
+      let a0 : accepts c.view-view.result.channels.now (seen c.view-view.result) m (option_copied c.basic.result) ≡ false = c.or_by-wait.ensures.other m d in
+      let a1 : accepts cs r m (option_copied c.basic.result) ≡ false =
+      ap (λ (x : List LiveChannel). accepts x r m (option_copied c.basic.result)) (sym c.view-view.ensures.channels)
+      ∙ (ap (λ (q : Reading). accepts c.view-view.result.channels.now q m (option_copied c.basic.result)) (sym c.view-view.ensures.reads) ∙ a0) in
+      let a2 = ap (λ (o : Option Basic). accepts cs r m o) (sym c.basic.ensures) ∙ a1 in
+      skip_at (λ i (o : Offer). only_if (accepts cs r m o.basic) (Pair k (pick c.args.j v i) c.args.timeout)) (shows c.args.body.now) c.args.edges.now c.loop-edge.edge-index _ _ (search rules)
+      (ap (λ (b : Bool). only_if b (Pair k (pick c.args.j v c.loop-edge.edge-index) c.args.timeout)) a2)
+      (c.loop-edge.invariant.other k m v (c.or_by-wait.ensures.one m d));
+}
 
-pub returns : goal.returns
-returns c = λ k m l d.
-    over (λ i (o : Offer). only_if (accepts c.args.scene.now.channels (reads c.args.scene.now c.args.j c.args.timeout) m o.basic) (Pair k (pick c.args.j l i) c.args.timeout)) (shows c.args.body.now) c.args.edges.now c.loop-edge.edge-index _ (omega (arith, c.loop-edge-test.false)) (c.loop-edge.invariant k m l d)
+pub returns-clause-other : goal.returns-clause-other
+returns-clause-other c = λ k m l d.
+    over (λ i (o : Offer). only_if (accepts c.args.scene.now.channels (reads c.args.scene.now c.args.j c.args.timeout) m o.basic) (Pair k (pick c.args.j l i) c.args.timeout)) (shows c.args.body.now) c.args.edges.now c.loop-edge.edge-index _ (omega (arith, c.loop-edge-test.false)) (c.loop-edge.invariant.other k m l d)

@@ -10,6 +10,8 @@ use Rattle.pml_moves.proofs.waits.wait_on.Given as goal
 
 -- none so far receives anything else
 abbrev pub invariant-loop-edge : goal.invariant-loop-edge
-invariant-loop-edge l =
-    (k : Pick) (m : Message) (v : ℕ) → may_take l.wait m ≡ false →
-    each (λ i (o : Offer). only_if (accepts l.scene.channels (reads l.scene l.j l.timeout) m o.basic) (Pair k (pick l.j v i) l.timeout)) l.edge-index (map (shows l.body) (drop l.edge-index l.edges)) ≡ pairs_on l.scene l.timeout k m l.j v (map (shows l.body) l.edges)
+invariant-loop-edge l = record {
+  one : (m : Message) → may_take l.wait m ≡ false → may_take l.fn.so_far m ≡ false;
+  other : (k : Pick) (m : Message) (v : ℕ) → may_take l.wait m ≡ false →
+      each (λ i (o : Offer). only_if (accepts l.scene.channels (reads l.scene l.j l.timeout) m o.basic) (Pair k (pick l.j v i) l.timeout)) l.edge-index (map (shows l.body) (drop l.edge-index l.edges)) ≡ pairs_on l.scene l.timeout k m l.j v (map (shows l.body) l.edges);
+}

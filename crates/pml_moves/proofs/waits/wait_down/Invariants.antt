@@ -1,0 +1,12 @@
+use Rattle.std.proofs.Common.{◌≡◌, false, drop}
+use Rattle.pml_moves.specs.declared.moves.Pick.{Pick}
+use Rattle.pml_moves.specs.Scene.{offers_at}
+use Rattle.pml_moves.specs.Search.{Message, last, pairs_on}
+use Rattle.pml_moves.specs.Waits.{may_take}
+use Rattle.pml_moves.proofs.waits.wait_down.Given as goal
+
+-- no level so far receives anything else
+abbrev pub invariant-loop-level : goal.invariant-loop-level
+invariant-loop-level l =
+    (k : Pick) (m : Message) → may_take l.wait m ≡ false →
+    last (pairs_on l.scene l.timeout k m l.j) l.level (drop l.level (offers_at l.body l.node)) ≡ last (pairs_on l.scene l.timeout k m l.j) 0 (offers_at l.body l.node)
