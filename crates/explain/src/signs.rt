@@ -28,9 +28,9 @@ pub fn text_width(text: &str) -> usize {
     width
 }
 
-/// The digit of sixteen in a number, behind so many of its bits.
-fn digit(number: u32, bits: u32) -> char {
-    let digit = u8::try_from((number >> bits) & 15).unwrap_or(0);
+/// The last digit of sixteen of a number.
+fn digit(number: u32) -> char {
+    let digit = u8::try_from(number & 15).unwrap_or(0);
     if digit < 10 {
         char::from(b'0' + digit)
     } else {
@@ -42,10 +42,10 @@ fn digit(number: u32, bits: u32) -> char {
 pub fn push_number(out: &mut String, c: char) -> Result<(), AllocError> {
     out.push_str("\\u{")?;
     let number = u32::from(c);
-    out.push(digit(number, 12))?;
-    out.push(digit(number, 8))?;
-    out.push(digit(number, 4))?;
-    out.push(digit(number, 0))?;
+    out.push(digit(number >> 12))?;
+    out.push(digit(number >> 8))?;
+    out.push(digit(number >> 4))?;
+    out.push(digit(number))?;
     out.push_str("}")
 }
 
