@@ -83,13 +83,7 @@ fn places(rt: HostRuntime) {
     let mut store = Store::new(rt.alloc(), 4);
     store.push_frame(&[]).expect(&rt, "the globals");
     store.push_frame(&[0, 0, 4]).expect(&rt, "the locals");
-    let view = View {
-        store: &store,
-        channels: &[],
-        pid: 0,
-        process_count: 1,
-        timeout: false,
-    };
+    let view = View::new(&store, &[], parts::TAKER);
     for element in &ELEMENTS {
         is_there(&rt, rt.alloc(), &view, element);
     }

@@ -13,7 +13,7 @@ use pml_store::store::Store;
 use pml_token::token::{Kind, Token};
 use pml_tree::tree::{Infix, Scalar};
 use pml_value::live_channel::LiveChannel;
-use pml_value::message::Taker;
+use pml_value::view::Taker;
 use sqlite_items::{Boxed, Items};
 use std::alloc::{AllocError, Global};
 

@@ -117,20 +117,24 @@ fn ended<S: Source, O: Sink, P: Sink>(
     }
 }
 
-// What these devices hold once a session has ended so.
-fn left_behind<K: Ledger, L: Ledger, R: Abort>(
-    rt: &R,
-    alloc: Global,
+// What a device holds.
+fn held<L: Ledger, R: Abort>(rt: &R, alloc: Global, row: &Row, device: &Taking<L>) -> Vec<u8> {
+    Vec::from_slice(alloc, device.device().sink.bytes()).expect(rt, row.name)
+}
+
+// What these devices leave behind once a session has ended so, where they hold these bytes.
+fn left_behind<K: Ledger, L: Ledger>(
     row: &Row,
     source: &Choices<'_>,
     out: &Taking<K>,
     rec: &Taking<L>,
+    bytes: (Vec<u8>, Vec<u8>),
     end: End,
 ) -> Behind {
     let left = source.source.device().left().len();
     Behind {
-        out: Vec::from_slice(alloc, out.device().sink.bytes()).expect(rt, row.name),
-        rec: Vec::from_slice(alloc, rec.device().sink.bytes()).expect(rt, row.name),
+        out: bytes.0,
+        rec: bytes.1,
         read: row.choices.len().saturating_sub(left),
         calls: source.calls,
         asked_after_end: source.asked_after_end,
@@ -157,7 +161,8 @@ fn played_with<K: Ledger, L: Ledger, R: Abort>(
     let mut out = taking::<K>(alloc, first, row.failing.of_out());
     let mut rec = taking::<L>(alloc, second, row.failing.of_record());
     let end = ended(alloc, row, &mut source, &mut out, &mut rec);
-    left_behind(rt, alloc, row, &source, &out, &rec, end)
+    let bytes = (held(rt, alloc, row, &out), held(rt, alloc, row, &rec));
+    left_behind(row, &source, &out, &rec, bytes, end)
 }
 
 /// Plays a row, or converts its choices.

@@ -20,7 +20,8 @@ use pml_store::place::Place;
 use pml_store::store::Store;
 use pml_tree::tree::{Removal, Scalar, Search, SendOrder};
 use pml_value::live_channel::LiveChannel;
-use pml_value::message::{receive, send};
+use pml_value::message::send;
+use pml_value::receive::{Reception, receive};
 use pml_value::statement::take;
 use sqlite_items::Items;
 use std::alloc::{AllocError, Global};
@@ -152,7 +153,7 @@ fn counted(alloc: Global) -> Result<Items<Action<'static>>, AllocError> {
 /// A statement is taken, or it stores nothing.
 fn takes<R: Abort>(rt: &R, store: &mut Store, action: &Action<'_>, held: i32) -> i32 {
     let next = held.wrapping_add(1);
-    match take(store, &[], 0, 1, false, action) {
+    match take(store, &[], TAKER, action) {
         Ok(()) => {
             same(rt, "x++", "counts", store.cells().as_slice(), &[next]);
             next
@@ -211,15 +212,13 @@ fn goes_through<R: Abort>(
     if send(store, channels, TAKER, q, SendOrder::Sorted, &fields).is_err() {
         return;
     }
-    let received = receive(
-        store,
-        channels,
-        TAKER,
-        q,
-        Search::First,
-        Removal::Remove,
+    let reception = Reception {
+        target: q,
+        search: Search::First,
+        removal: Removal::Remove,
         wants,
-    );
+    };
+    let received = receive(store, channels, TAKER, reception);
     if let Err(stop) = received {
         same(rt, "a message", "is refused", stop, Stop::Memory);
         let cells: &[i32] = &[1, 0, 0, 0, 0];

@@ -5,8 +5,8 @@ use diagnostics::{Fault, Stop};
 use pml_program::expr::{Expr, Target};
 use pml_program::program::Action;
 use pml_store::store::Store;
-use pml_value::statement::{can_be_taken, take};
-use pml_value::view::View;
+use pml_value::statement::take;
+use pml_value::view::Taker;
 use sqlite_items::Items;
 use std::alloc::{AllocError, Global};
 use std::process::Abort;
@@ -139,20 +139,13 @@ fn statement(alloc: Global, row: &Row) -> Result<Items<Action<'static>>, AllocEr
     }
 }
 
-fn can_be<R: Abort>(rt: &R, store: &Store, row: &Row, action: &Action<'_>) {
-    let view = View {
-        store,
-        channels: &[],
+fn does<R: Abort>(rt: &R, store: &mut Store, row: &Row, action: &Action<'_>) {
+    let taker = Taker {
         pid: row.pid,
         process_count: 2,
         timeout: false,
     };
-    let can_be = can_be_taken(action, &view);
-    same(rt, row.name, "can be taken", can_be, true);
-}
-
-fn does<R: Abort>(rt: &R, store: &mut Store, row: &Row, action: &Action<'_>) {
-    let taken = take(store, &[], row.pid, 2, false, action);
+    let taken = take(store, &[], taker, action);
     same(rt, row.name, "is taken", taken, row.wanted);
     let cells = store.cells().as_slice();
     same(rt, row.name, "the cells", cells, row.cells.as_slice());
@@ -161,11 +154,9 @@ fn does<R: Abort>(rt: &R, store: &mut Store, row: &Row, action: &Action<'_>) {
 fn plays<R: Abort>(rt: &R, alloc: Global, store: &mut Store, row: &Row) {
     let actions = statement(alloc, row).expect(rt, row.name);
     let action = actions.get(0).expect(rt, row.name);
-    can_be(rt, store, row, action);
     does(rt, store, row, action);
 }
 
-/// Each can be taken, if only to a fault.
 #[test]
 fn statements(rt: HostRuntime) {
     let mut store = Store::new(rt.alloc(), 5);

@@ -52,7 +52,12 @@ pub fn of_label(message: &mut Message<'_>, cause: LabelCause<'_>) -> Result<(), 
         LabelCause::Twice(first) => message.placed("the label ", first, " stands already on ", ""),
         LabelCause::Missing(name, near) => {
             message.around("this proctype has no label ", name, "")?;
-            did_you_mean(message, near)
+            match near {
+                Some(_) => did_you_mean(message, near),
+                None => message.push(
+                    ": it stands with a `:` before a statement, as in `again: skip`",
+                ),
+            }
         }
         LabelCause::Elsewhere(other) => {
             message.placed("the label ", other, " stands in another proctype (", ")")

@@ -5,6 +5,25 @@ use pml_causes::cause::{Class, Classes};
 use pml_causes::foreign::Foreign;
 use std::alloc::AllocError;
 
+/// Of words that stand for parts of other statements and declarations.
+fn of_more_words(foreign: Foreign) -> &'static str {
+    match foreign {
+        Foreign::Modifier => "leave it out: a declaration begins with its type, as in `int x`",
+        Foreign::Skip => "write `skip`",
+        Foreign::Assertion => "write `assert(x == 1)`",
+        Foreign::Array => "an array has its size in brackets behind its name, as in `int a[3]`",
+        Foreign::Parallel =>
+            "processes run side by side once they are begun, as by `run P(); run Q()`",
+        Foreign::Length =>
+            "how many elements an array has is the number in its declaration; `len(c)` is of a channel",
+        Foreign::Own => "`_pid` is the number of the process itself",
+        Foreign::Otherwise => "all other cases are the option `:: else -> ..`",
+        Foreign::Join =>
+            "the end of a process is awaited by what it does last, as by a message or `done == 1`",
+        _ => "",
+    }
+}
+
 /// Of words of statements.
 fn of_statement(foreign: Foreign) -> &'static str {
     match foreign {
@@ -33,7 +52,7 @@ fn of_statement(foreign: Foreign) -> &'static str {
         Foreign::Spawn => "a process is begun by `run P()`",
         Foreign::Random => "write `select (x : 1 .. 6)`, and choose the number",
         Foreign::Message => "a message is sent by `c ! 1` and received by `c ? x`",
-        _ => "",
+        foreign => of_more_words(foreign),
     }
 }
 
@@ -76,10 +95,10 @@ fn of_sign(foreign: Foreign) -> &'static str {
         Foreign::Remainder => "write `%`",
         Foreign::Quotient => "write `/`",
         Foreign::Power => "there is no `**`: multiply, or shift by `<<`",
-        Foreign::Unequal => "write `!=` for `<>`",
-        Foreign::FatArrow => "write `->` for `=>`",
+        Foreign::Unequal => "write `!=` for `<>` and `~=`",
+        Foreign::FatArrow => "write `->`, as in `x == 1 -> x = 2`",
         Foreign::ColonEquals => "write `=` for `:=`",
-        Foreign::ThreeEquals => "write `==` for `===`",
+        Foreign::ThreeEquals => "write `==` for `===`, and `!=` for `!==`",
         Foreign::Conditional => "a value by a condition is `(x == 1 -> 2 : 3)`, in parentheses",
         Foreign::Prefix => "write `x++` or `x--`, with the sign behind",
         Foreign::Postfix => "`x++` and `x--` are statements of their own, and have no value",
@@ -109,6 +128,90 @@ fn of_form(foreign: Foreign) -> &'static str {
             "a message is received by a statement of its own, as `c ? v`, which stores it in `v`",
         Foreign::ChannelTypes => "the types stand in braces, as in `chan c = [2] of { byte }`",
         Foreign::BraceBody => "statements stand in braces, as in `atomic { .. }`",
+        foreign => of_text(foreign),
+    }
+}
+
+/// Of forms of texts and names.
+fn of_text(foreign: Foreign) -> &'static str {
+    match foreign {
+        Foreign::PrintmText =>
+            "`printm` prints a name of `mtype`: write `printf(\"..\")` for a text",
+        Foreign::TextPrefix =>
+            "a text has no letter before it: values stand behind it, as in `printf(\"%d\\n\", x)`",
+        Foreign::PrintValue => "`printf` begins with a text, as in `printf(\"%d\\n\", x)`",
+        Foreign::PrintJoined => "values stand behind the text, as in `printf(\"%d\\n\", x)`",
+        Foreign::Digits => "numbers are written with the digits 0 to 9 alone",
+        Foreign::NameBegins => "a name begins with a letter or `_`",
+        Foreign::NameSigns => "a name has letters, digits and `_` alone",
+        Foreign::CommentEnd =>
+            "the comment has ended before it: comments do not stand within one another",
+        Foreign::NumberedName =>
+            "names of `mtype` have no numbers of their own: write `mtype = { a, b }`",
+        Foreign::NamedMtype =>
+            "names are declared by `mtype = { a, b }` outside of all braces, and a variable of them by `mtype x`",
+        foreign => of_place(foreign),
+    }
+}
+
+/// Of what stands at another place here.
+fn of_place(foreign: Foreign) -> &'static str {
+    match foreign {
+        Foreign::TypeBehind => "the type stands before the name, as in `int x`",
+        Foreign::RepeatedType =>
+            "a type stands once before its names: write `;` for the `,`, or leave the type out",
+        Foreign::LabelDeclaration =>
+            "a label stands before a statement, and before no declaration: declare first",
+        Foreign::ReceivedType => "the variable is declared before, as in `int x; c ? x`",
+        Foreign::RecordValue =>
+            "a variable of a typedef begins with no value: assign its fields, as in `r.a = 1`",
+        Foreign::NestedUnit => "it stands outside of all braces, and in those of no other",
+        Foreign::ActiveProctype => "write `active proctype P() { .. }`",
+        Foreign::ActiveInit => "`init` begins by itself: leave `active` out",
+        Foreign::RunName => "a proctype with its arguments is wanted behind `run`, as in `run P()`",
+        Foreign::ChannelQuestion =>
+            "a channel is asked by `empty(c)`, `full(c)`, `nempty(c)`, `nfull(c)` or `len(c)`",
+        Foreign::MessageFields =>
+            "the fields of a message stand alone, as in `c ! 1, 2` and `c ? x, y`",
+        Foreign::TypeName => "a type is no name: a name stands behind it, as in `int x`",
+        Foreign::ArrayRange =>
+            "an array has one number as its size, as in `int a[3]`, and its elements are `a[0]` to `a[2]`",
+        Foreign::OutsideSign =>
+            "declarations and proctypes stand outside of all braces; a comment is written `/* .. */` or `// ..`",
+        Foreign::ChannelRecord =>
+            "a field of a message has a plain type, as `byte`: send the fields of a record one by one",
+        Foreign::ChannelFields =>
+            "the types of a channel's fields stand alone, as in `chan c = [2] of { byte, int }`",
+        foreign => of_other_sign(foreign),
+    }
+}
+
+/// Of signs that are written otherwise.
+fn of_other_sign(foreign: Foreign) -> &'static str {
+    match foreign {
+        Foreign::TwoAssignments => "one variable is assigned at a time, as in `x = 1; y = 2`",
+        Foreign::TwoEquals => "one `=` assigns, and `==` without a blank compares",
+        Foreign::LastComma =>
+            "what the `,` before it goes on with is missing, or the `,` is one too many",
+        Foreign::BreakLabel =>
+            "`break` leaves the innermost `do`, and names no label: others are left by `goto`",
+        Foreign::ElseArrow => "write `->` behind `else`, as in `:: else -> x = 1`",
+        Foreign::NoParens => "`skip` and `break` stand without parentheses",
+        Foreign::Target =>
+            "before `=` stands a variable, an element or a field alone; `==` compares",
+        Foreign::EndlessLoop =>
+            "a loop without end is `do :: x = x + 1 od`, and one over numbers `for (i : 0 .. 3) { .. }`",
+        Foreign::SelectCases =>
+            "`select (x : 1 .. 6)` takes a number; a choice of cases is `if :: x == 1 -> .. :: else -> .. fi`",
+        Foreign::Pointer => "there are no pointers and no addresses: name the variable itself",
+        Foreign::LessEquals => "write `<=` for `=<`",
+        Foreign::GreaterEquals => "write `>=` for `=>`",
+        Foreign::Same => "write `==` for `<->`",
+        Foreign::LabelName => "a label is a name, as in `again: skip`",
+        Foreign::EmptyBrackets => "a number is wanted between the brackets, as in `int a[3]`",
+        Foreign::Implication =>
+            "`(a -> b : c)` is a choice of two values: that `a` implies `b` is `!a || b`",
+        Foreign::Cast => "there are no casts: what is stored is cut to the type of its variable",
         foreign => of_sign(foreign),
     }
 }
@@ -129,16 +232,13 @@ pub fn advice(foreign: Foreign) -> &'static str {
     }
 }
 
-/// Adds what is told of a word or a form; the word is empty of a form.
-pub fn tell_foreign(
+/// Adds what is told of a word of another language.
+pub fn tell_word(
     message: &mut Message<'_>,
-    found: &[u8],
     foreign: Foreign,
     word: &[u8],
 ) -> Result<(), AllocError> {
-    if !word.is_empty() && word != found {
-        message.around("", word, " is no word here: ")?;
-    }
+    message.around("", word, " is no word here: ")?;
     message.push(advice(foreign))
 }
 

@@ -1,6 +1,7 @@
 //! What a user is told of a refused model: where the refusal lies, why, and what to write.
 #![tactic(auto)]
 
+mod ascii;
 mod author;
 mod counts;
 mod foreign;
@@ -9,20 +10,22 @@ mod names;
 mod position;
 mod shown;
 mod signs;
+mod syntax;
 mod texts;
 
 use author::seen_in;
 use counts::{of_control, of_count, of_inline, of_label, of_range, of_start};
 use diagnostics::Refusal;
 use message::Message;
-use names::{of_twice, of_unknown, of_wrong};
+use names::{of_declared, of_twice, of_unknown};
 use pml_causes::cause::{Cause, Finding, Place};
 use pml_refused::cause_of;
 use position::{column, line_of, shown_offset};
 use shown::{show_alone, show_line, window_round};
 use std::alloc::{AllocError, Global};
 use std::str;
-use texts::{of_syntax, of_text};
+use syntax::of_syntax;
+use texts::of_text;
 
 /// Adds the words of a cause.
 fn tell(message: &mut Message<'_>, cause: Cause<'_>) -> Result<(), AllocError> {
@@ -31,7 +34,7 @@ fn tell(message: &mut Message<'_>, cause: Cause<'_>) -> Result<(), AllocError> {
         Cause::Syntax(cause) => of_syntax(message, cause),
         Cause::Twice(cause) => of_twice(message, cause),
         Cause::Unknown(cause) => of_unknown(message, cause),
-        Cause::Wrong(cause) => of_wrong(message, cause),
+        Cause::Wrong(cause, first) => of_declared(message, cause, first),
         Cause::Count(cause) => of_count(message, cause),
         Cause::Label(cause) => of_label(message, cause),
         Cause::Control(cause) => of_control(message, cause),

@@ -45,11 +45,18 @@ fn a_sort(sort: Sort) -> &'static str {
     }
 }
 
+/// The types, as they are told.
+pub const TYPES: &str =
+    "`bit`, `bool`, `byte`, `chan`, `int`, `mtype`, `pid`, `short`, `unsigned` and the typedefs before it";
+
 /// Of a name that is declared nowhere, and has no other near it.
 fn nowhere(sort: Sort) -> &'static str {
     match sort {
-        Sort::Typedef => " is declared nowhere, where a typedef is wanted",
+        Sort::Typedef => " is declared nowhere, where a type is wanted: there are ",
         Sort::Proctype => " is declared nowhere, where a proctype is wanted",
+        Sort::Variable => {
+            " is declared nowhere: declare a variable before its use, as by `int a`, or a name by `mtype = { a, b }`"
+        }
         _ => " is declared nowhere",
     }
 }
@@ -88,7 +95,22 @@ fn of_nowhere(
     message.name(name)?;
     match near {
         Some(_) => did_you_mean(message, near),
-        None => message.push(nowhere(sort)),
+        None => {
+            message.push(nowhere(sort))?;
+            message.push(if matches!(sort, Sort::Typedef) {
+                TYPES
+            } else {
+                ""
+            })
+        }
+    }
+}
+
+/// What is told of a name that is something else than a variable, behind its line.
+fn behind_sort(sort: Sort) -> &'static str {
+    match sort {
+        Sort::Proctype => "), where a variable is wanted: a process of it is begun by `run`",
+        _ => "), where a variable is wanted",
     }
 }
 
@@ -106,7 +128,17 @@ pub fn of_unknown(message: &mut Message<'_>, cause: UnknownCause<'_>) -> Result<
             "), and is seen only there",
         ),
         UnknownCause::Instead(first, sort) => {
-            is_instead(message, first, sort, "), where a variable is wanted")
+            is_instead(message, first, sort, behind_sort(sort))
+        }
+        UnknownCause::Itself(first) => message.placed(
+            "the typedef ",
+            first,
+            " (",
+            ") cannot have a field of itself, nor of one that is declared behind it",
+        ),
+        UnknownCause::Arrow(holder, field) => {
+            message.around("", field, " is declared nowhere: a field of ")?;
+            message.around("", holder.name, " stands behind `.`, and not behind `->`")
         }
         UnknownCause::Foreign(name, foreign) => {
             message.around("", name, " is declared nowhere: ")?;
@@ -184,8 +216,21 @@ fn of_value(message: &mut Message<'_>, cause: WrongCause<'_>) -> Result<(), Allo
     }
 }
 
+/// Of a name or a value of the wrong kind, and where the name is declared.
+pub fn of_declared(
+    message: &mut Message<'_>,
+    cause: WrongCause<'_>,
+    first: Option<usize>,
+) -> Result<(), AllocError> {
+    of_wrong(message, cause)?;
+    match first {
+        Some(offset) => message.line("; it is declared on ", offset, ""),
+        None => Ok(()),
+    }
+}
+
 /// Of a name or a value of the wrong kind.
-pub fn of_wrong(message: &mut Message<'_>, cause: WrongCause<'_>) -> Result<(), AllocError> {
+fn of_wrong(message: &mut Message<'_>, cause: WrongCause<'_>) -> Result<(), AllocError> {
     match cause {
         WrongCause::FieldOfNone(name, field) => of_field(message, name, field),
         WrongCause::ReadUnderscore => {

@@ -1,8 +1,8 @@
-//! What is told of texts, words that are left out, and tokens that no rule reads.
+//! What is told of texts and words that are left out.
 
-use crate::foreign::{tell_classes, tell_foreign};
+use crate::ascii::{ANY, outside_of_ascii};
 use crate::message::Message;
-use pml_causes::cause::{Named, SyntaxCause, TextCause, Wanted};
+use pml_causes::cause::{Named, TextCause};
 use profile::{MOST_IN_A_ROW, MOST_OPEN, MOST_TEXT_BYTES};
 use std::alloc::AllocError;
 
@@ -88,7 +88,7 @@ fn about(word: &[u8]) -> &'static str {
     } else if is_embedded(word) {
         ": embedded C is left out; say it in Promela"
     } else if is_of_priorities(word) {
-        ": priorities are left out"
+        " is left out, as all priorities are: take it out with its number, and any process may go first"
     } else {
         about_word(word)
     }
@@ -159,7 +159,9 @@ fn left_out(message: &mut Message<'_>, word: &[u8]) -> Result<(), AllocError> {
 
 fn stray(message: &mut Message<'_>, byte: u8) -> Result<(), AllocError> {
     if byte == b'#' {
-        return message.push("`#` stands only at the beginning of a line");
+        return message.push(
+            "`#` stands only at the beginning of a line: a comment is written `/* .. */` or `// ..`",
+        );
     }
     if byte == b'\\' {
         return message.push(
@@ -170,11 +172,24 @@ fn stray(message: &mut Message<'_>, byte: u8) -> Result<(), AllocError> {
         return message.around("", &[byte], " begins no token");
     }
     if byte >= 128 {
-        return message.push(
-            "letters and signs outside of ASCII stand only in strings and comments",
-        );
+        return message.push(ANY);
     }
     message.figure("the byte ", usize::from(byte), " begins no token")
+}
+
+/// Of what is written as a function, and has a `return`.
+fn of_return(message: &mut Message<'_>, function: Named<'_>) -> Result<(), AllocError> {
+    message.placed(
+        "",
+        function,
+        " (",
+        ") is written as a function, and there are none: ",
+    )?;
+    message.push(if function.name == b"main".as_slice() {
+        "write `init { .. }`, without `return`"
+    } else {
+        "an `inline f(a, b) { b = a + 1 }` stands in place of its calls, and stores what it gives"
+    })
 }
 
 fn too_long(message: &mut Message<'_>, bytes: usize) -> Result<(), AllocError> {
@@ -187,9 +202,18 @@ pub fn of_text(message: &mut Message<'_>, cause: TextCause<'_>) -> Result<(), Al
     match cause {
         TextCause::TooLong(bytes) => too_long(message, bytes),
         TextCause::Stray(byte) => stray(message, byte),
+        TextCause::Sign(sign) => outside_of_ascii(message, sign),
+        TextCause::Slashes => message.push("write `&&` for `/\\`, and `||` for `\\/`"),
         TextCause::OpenString => message.push("the string has no `\"` at its end on this line"),
         TextCause::OpenComment => message.push("the comment has no `*/` at its end"),
         TextCause::LeftOut(word) => left_out(message, word),
+        TextCause::ReturnOf(function) => of_return(message, function),
+        TextCause::Quote => {
+            message.push("a text stands between `\"`, and only in `printf`: write `\"` for `'`")
+        }
+        TextCause::Prime => message.push(
+            "a name has letters, digits and `_` alone: the next value is stored by an assignment, as `x = x + 1`",
+        ),
         TextCause::Nested => message.figure(
             "more than ",
             MOST_OPEN as usize,
@@ -200,142 +224,5 @@ pub fn of_text(message: &mut Message<'_>, cause: TextCause<'_>) -> Result<(), Al
             MOST_IN_A_ROW as usize,
             " tokens stand in a row without `;`, `::`, a brace, `if`, `fi`, `do` or `od`",
         ),
-    }
-}
-
-/// What closes this, in words.
-fn closer(opener: &[u8]) -> &'static str {
-    match opener {
-        b"(" => "`)`",
-        b"[" => "`]`",
-        b"{" => "`}`",
-        b"if" => "`fi`",
-        _ => "`od`",
-    }
-}
-
-fn wants_closer(message: &mut Message<'_>, opener: Named<'_>) -> Result<(), AllocError> {
-    message.push(closer(opener.name))?;
-    message.placed(" is wanted, for the ", opener, " of ", "")
-}
-
-fn wants_inline(
-    message: &mut Message<'_>,
-    name: &[u8],
-    later: Option<Named<'_>>,
-) -> Result<(), AllocError> {
-    match later {
-        Some(inline) => {
-            message.around("the inline ", name, "")?;
-            message.line(" is defined only on ", inline.offset, ", behind its call")
-        }
-        None => message.around(
-            "no inline ",
-            name,
-            " is defined; a process is begun by `run`",
-        ),
-    }
-}
-
-/// `::` and a condition are wanted.
-fn wants_options(message: &mut Message<'_>, word: &[u8]) -> Result<(), AllocError> {
-    message.around("`::` is wanted behind ", word, "")?;
-    message.push(match word {
-        b"if" => ", as in `if :: x == 1 -> .. :: else -> .. fi`",
-        _ => ", as in `do :: x < 3 -> .. :: else -> break od`",
-    })
-}
-
-/// What closes is wanted in front of the token.
-fn wants_closer_before(message: &mut Message<'_>, opener: Named<'_>) -> Result<(), AllocError> {
-    message.push(closer(opener.name))?;
-    message.placed(" is wanted before it, for the ", opener, " of ", "")
-}
-
-/// What is told of names, where something of theirs is wanted.
-fn wants_of_name(message: &mut Message<'_>, wanted: Wanted<'_>) -> Result<(), AllocError> {
-    match wanted {
-        Wanted::Parameters(name) => {
-            message.around(
-                "`()` or parameters in parentheses are wanted behind ",
-                name,
-                "",
-            )
-        }
-        Wanted::RunOf(proctype) => {
-            message.placed("", proctype, " is a proctype (", "): ")?;
-            message.around("write `run` in front of ", proctype.name, "")
-        }
-        Wanted::Word(name, word) => {
-            message.around("", name, " is no word here")?;
-            message.around("; did you mean ", word, "?")
-        }
-        Wanted::CloserBefore(opener) => wants_closer_before(message, opener),
-        wanted => wants_sign(message, wanted),
-    }
-}
-
-/// What is wanted for a separator.
-fn wants_sign(message: &mut Message<'_>, wanted: Wanted<'_>) -> Result<(), AllocError> {
-    match wanted {
-        Wanted::SemicolonAtLineEnd(last) => message.line(
-            "a `;` is wanted at the end of ",
-            last.offset,
-            " (models for Spin 6.3 and later leave it out: `spinprep --play MODEL` writes it)",
-        ),
-        Wanted::Semicolon => message.push("a `;` is wanted before it"),
-        Wanted::OptionSign => message.push("`::` is wanted before it"),
-        Wanted::Operand(operator) => {
-            message.around("an operand is wanted behind ", operator, "")
-        }
-        Wanted::Arguments(name) => {
-            message.around("`(` and the arguments are wanted behind ", name, "")
-        }
-        Wanted::Options(word) => wants_options(message, word),
-        Wanted::Nothing => message.push("it is one too many"),
-        Wanted::Comma => message.push("a `,` is wanted before it"),
-        _ => message.push("it cannot stand here"),
-    }
-}
-
-fn wants(message: &mut Message<'_>, wanted: Wanted<'_>) -> Result<(), AllocError> {
-    match wanted {
-        Wanted::Statement(label) => message.around(
-            "a statement is wanted behind the label ",
-            label,
-            ", for example `skip`",
-        ),
-        Wanted::NoList => message.push(
-            "a list in braces is no initialiser here: give each element its value by an assignment",
-        ),
-        Wanted::NoSubtype => message.push("sub-typed mtypes are left out: write `mtype` alone"),
-        Wanted::NoRun => message.push(
-            "`run` stands by itself or behind `x =`, and in no other expression",
-        ),
-        Wanted::Closer(opener) => wants_closer(message, opener),
-        Wanted::NothingOpen => message.push("nothing is open that it closes"),
-        Wanted::Name => message.push("a name is wanted, and it is a word of the language"),
-        Wanted::PlainAssignment => message.push(
-            "an assignment with an operator is left out: write `x = x + 1` for `x += 1`",
-        ),
-        Wanted::Inline(name, later) => wants_inline(message, name, later),
-        Wanted::OneOf(classes) => tell_classes(message, classes),
-        wanted => wants_of_name(message, wanted),
-    }
-}
-
-/// Of tokens that no tree spells.
-pub fn of_syntax(message: &mut Message<'_>, cause: SyntaxCause<'_>) -> Result<(), AllocError> {
-    if let Wanted::EndOf(opener) = cause.wanted {
-        message.push("the text ends: ")?;
-        return wants_closer(message, opener);
-    }
-    if cause.found.is_empty() {
-        return message.push("nothing is declared");
-    }
-    message.around("", cause.found, " found: ")?;
-    match cause.wanted {
-        Wanted::Foreign(foreign, word) => tell_foreign(message, cause.found, foreign, word),
-        wanted => wants(message, wanted),
     }
 }

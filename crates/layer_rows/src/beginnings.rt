@@ -52,14 +52,8 @@ fn compare_beginning(
         tally.refuse(place, "a length that does not follow");
     }
     let wanted = wanted_tokens(alloc, list, line.that);
-    place.compare(
-        alloc,
-        TOKENS_WISH,
-        line.this,
-        beginning,
-        wanted.text(),
-        tally,
-    );
+    let came = place.answered(alloc, TOKENS_WISH, beginning);
+    place.compare(TOKENS_WISH, line.this, &came, wanted.text(), tally);
 }
 
 /// Compares the beginnings of this text, one in each line.

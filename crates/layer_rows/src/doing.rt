@@ -17,9 +17,10 @@ use pml_program::program::{Action, Basic, Program, Stmt};
 use pml_start::started::Started;
 use pml_token::token::Token;
 use pml_value::live_channel::LiveChannel;
-use pml_value::message::{Taker, assert, receive, send, values};
+use pml_value::message::{assert, send, values};
+use pml_value::receive::{Reception, receive};
 use pml_value::statement::take;
-use pml_value::view::View as Seen;
+use pml_value::view::{Taker, View as Seen};
 use profile::MOST_FIELDS;
 use row_files::{Block, Writer};
 use std::alloc::Global;
@@ -42,13 +43,7 @@ fn taker_of(words: &str, out: &mut Writer) -> Taker {
 
 /// What a process reads.
 fn seen<'w>(started: &'w Started, taker: Taker) -> Seen<'w> {
-    Seen {
-        store: &started.store,
-        channels: started.channels.as_slice(),
-        pid: taker.pid,
-        process_count: taker.process_count,
-        timeout: taker.timeout,
-    }
+    Seen::new(&started.store, started.channels.as_slice(), taker)
 }
 
 /// Prints a string with its values, of no more than a message may have fields.
@@ -85,23 +80,16 @@ fn stored(started: &mut Started, taker: Taker, action: &Action<'_>) -> Result<()
             let fields = fields.as_slice();
             send(&started.store, channels, taker, target, *order, fields)
         }
-        Action::Receive(target, search, removal, wants) => receive(
-            &mut started.store,
-            channels,
-            taker,
-            target,
-            *search,
-            *removal,
-            wants.as_slice(),
-        ),
-        _ => take(
-            &mut started.store,
-            channels,
-            taker.pid,
-            taker.process_count,
-            taker.timeout,
-            action,
-        ),
+        Action::Receive(target, search, removal, wants) => {
+            let reception = Reception {
+                target,
+                search: *search,
+                removal: *removal,
+                wants: wants.as_slice(),
+            };
+            receive(&mut started.store, channels, taker, reception)
+        }
+        _ => take(&mut started.store, channels, taker, action),
     }
 }
 

@@ -12,7 +12,10 @@ const LEFT_OUT: &str = "LeftOut(1)";
 /// Compares the tokens of a text that is written so.
 fn compare(alloc: Global, place: Place, written: &str, wanted: &str, tally: &mut Tally) {
     match bytes_of(alloc, written) {
-        Ok(text) => place.compare(alloc, TOKENS_WISH, written, text.as_slice(), wanted, tally),
+        Ok(text) => {
+            let came = place.answered(alloc, TOKENS_WISH, text.as_slice());
+            place.compare(TOKENS_WISH, written, &came, wanted, tally)
+        }
         Err(refused) => tally.refuse(place, refused.why),
     }
 }

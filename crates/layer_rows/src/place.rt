@@ -24,18 +24,15 @@ impl Place {
         }
     }
 
-    /// Compares what a row wants of a text, with this for `@this`, and what comes.
-    pub fn compare(
-        self,
-        alloc: Global,
-        wish: Wish,
-        this: &str,
-        text: &[u8],
-        wanted: &str,
-        tally: &mut Tally,
-    ) {
+    /// What comes of a text.
+    pub fn answered(self, alloc: Global, wish: Wish, text: &[u8]) -> Writer {
         let mut came = Writer::new(alloc);
         answer(alloc, wish.view, self.block, text, &mut came);
+        came
+    }
+
+    /// Compares what a row wants of a text, with this for `@this`, and what came.
+    pub fn compare(self, wish: Wish, this: &str, came: &Writer, wanted: &str, tally: &mut Tally) {
         if came.is(wanted) {
             tally.pass(wish.layer);
         } else {

@@ -84,7 +84,10 @@ fn compare_wish(
     tally: &mut Tally,
 ) {
     match filled(alloc, place.block, wish.word, filling) {
-        Ok(wanted) => place.compare(alloc, wish, filling.this, text, wanted.as_str(), tally),
+        Ok(wanted) => {
+            let came = place.answered(alloc, wish, text);
+            place.compare(wish, filling.this, &came, wanted.as_str(), tally)
+        }
         Err(AllocError) => tally.refuse(place, "out of memory"),
     }
 }

@@ -11,6 +11,7 @@ use Rattle.pml_blamed.specs.declared.site.Matter.TheVariants as matter
 use Rattle.pml_blamed.specs.declared.site.Site.{Site}
 use Rattle.pml_blamed.specs.declared.body.BadFirstPoint.{BadFirstPoint}
 use Rattle.pml_blamed.specs.declared.body.Circle.{Circle}
+use Rattle.pml_blamed.specs.declared.first_point.BadStep.{BadStep}
 use Rattle.pml_blamed.specs.Sites.{bare, sites_of}
 
 -- what stands at a node
@@ -62,6 +63,14 @@ pub record IsStep (ss : List Site) (es : List Ending) (step first point : ℕ) :
   pub least : ℕ
   pub is : (site_at ss step).matter ≡ matter.DStep least first
   pub stays : end_of es first ≡ Some point
+
+-- the d_step at a node is this one, with a bad first point
+abbrev pub IsBadStepAt : List Site → List Ending → ℕ → BadStep → Type 0
+IsBadStepAt ss es step bad = (is_bad ss es step ≡ true) × (bad.step ≡ step) × IsStep ss es step bad.first bad.point
+
+-- the first one in the text with a bad first point is this
+abbrev pub IsFirstBadStep : List Site → List Ending → BadStep → Type 0
+IsFirstBadStep ss es bad = IsFirstBad ss es bad.step × IsStep ss es bad.step bad.first bad.point
 
 abbrev pub NoneIsBad : List Site → List Ending → Type 0
 NoneIsBad ss es = (j : ℕ) → j < length ss → is_bad ss es j ≡ false

@@ -1,7 +1,7 @@
 //! The first d_step of a body, in the order of the text, that has a bad first point.
 
 ghost use Rattle.std.specs.Prelude.{◌≡◌, ◌≤◌, ◌<◌, ◌+◌, true, false, MatchOption, ℕ, length, IfSome};
-ghost use Rattle.pml_blamed.specs.Blamed.{site_at, is_else, end_of, bad_end, is_bad, IsFirstBad, IsStep, NoneIsBad, is_leap};
+ghost use Rattle.pml_blamed.specs.Blamed.{site_at, is_else, end_of, bad_end, is_bad, IsBadStepAt, IsFirstBadStep, NoneIsBad, is_leap};
 
 use crate::site::{Matter, Site};
 use pml_control::ends::Ending;
@@ -51,7 +51,7 @@ fn end_of(ends: &[Ending], node: usize) -> Option<usize>
 /// The d_step at a node, if it is one with a bad first point.
 fn bad_at(sites: &[Site], ends: &[Ending], step: usize) -> Option<BadStep>
     ensures { MatchOption result (is_bad sites.now ends.now step ≡ false)
-        (λ bad. (is_bad sites.now ends.now step ≡ true) × (bad.step ≡ step) × IsStep sites.now ends.now step bad.first bad.point) }
+        (IsBadStepAt sites.now ends.now step) }
 {
     let Matter::DStep(least, first) = matter_at(sites, step) else {
         return None;
@@ -68,7 +68,7 @@ fn bad_at(sites: &[Site], ends: &[Ending], step: usize) -> Option<BadStep>
 
 /// The first d_step in the text with a bad first point: the one with the greatest node. `ends` are the ends of the chains of all nodes.
 pub fn first_bad(sites: &[Site], ends: &[Ending]) -> Option<BadStep>
-    ensures { MatchOption result (NoneIsBad sites.now ends.now) (λ bad. IsFirstBad sites.now ends.now bad.step × IsStep sites.now ends.now bad.step bad.first bad.point) }
+    ensures { MatchOption result (NoneIsBad sites.now ends.now) (IsFirstBadStep sites.now ends.now) }
 {
     let mut left = sites.len();
     while left > 0 {

@@ -23,10 +23,20 @@ pub enum TextCause<'t> {
     TooLong(usize),
     /// A byte begins no token.
     Stray(u8),
+    /// A character begins none that people write for a sign.
+    Sign(&'t [u8]),
+    /// `/\` or `\/`.
+    Slashes,
     OpenString,
     OpenComment,
     /// A word, a sign or a `#` line that is left out.
     LeftOut(&'t [u8]),
+    /// A `return` in what is written as a function of this name.
+    ReturnOf(Named<'t>),
+    /// A text between `'`.
+    Quote,
+    /// A `'` behind a name.
+    Prime,
     /// Too many brackets are open.
     Nested,
     /// Too many tokens stand in a row.
@@ -59,7 +69,7 @@ pub enum Wanted<'t> {
     /// `x = x + ..` in place of `x += ..`.
     PlainAssignment,
     /// An inline of this name, which is defined behind it, or nowhere.
-    Inline(&'t [u8], Option<Named<'t>>),
+    Inline(Named<'t>, Option<Named<'t>>),
     /// `::` behind `if` or `do`.
     Options(&'t [u8]),
     /// `::` in front of `else`.
@@ -70,16 +80,34 @@ pub enum Wanted<'t> {
     Arguments(&'t [u8]),
     /// Nothing: without the token it is read.
     Nothing,
-    /// A word or a form of another language; of a word the word itself.
-    Foreign(Foreign, &'t [u8]),
+    /// A form of another language.
+    Form(Foreign),
+    /// Another one for this word of another language.
+    ForeignWord(Foreign, Named<'t>),
     /// `()` and the parameters of a proctype of this name.
     Parameters(&'t [u8]),
-    /// `run` in front of this proctype, which is called as a function.
-    RunOf(Named<'t>),
+    /// `run` in front of this proctype, which is called as a function: where it is declared, and where it is called.
+    RunOf(Named<'t>, Named<'t>),
     /// A word of the language that this name is near to.
-    Word(&'t [u8], &'static [u8]),
+    Word(Named<'t>, &'static [u8]),
+    /// A type or another word of the language for this name, which is none.
+    NoWord(Named<'t>),
+    /// A type for this name, of which a variable is declared.
+    NoType(Named<'t>),
+    /// An index for this variable, which is called as a function.
+    Index(Named<'t>),
+    /// What this inline stores, which stands where a value is wanted.
+    InlineValue(Named<'t>),
     /// What closes this, in front of the token.
     CloserBefore(Named<'t>),
+    /// What closes this and a `;`, in front of the token, which begins a line.
+    CloserAndSemicolon(Named<'t>),
+    /// A `;` at the end of the line before, or `::` in front of the token where it begins an option.
+    SemicolonOrOption(Named<'t>),
+    /// A `;` in place of the token.
+    SemicolonFor,
+    /// `::` in place of the token.
+    OptionFor,
     /// A `,` in front of the token.
     Comma,
     /// One of these.
@@ -156,10 +184,14 @@ pub enum UnknownCause<'t> {
     Nowhere(Sort, &'t [u8], Option<Named<'t>>),
     /// It is declared behind its use.
     Later(Named<'t>),
+    /// It is a typedef, and this is of a field of its own.
+    Itself(Named<'t>),
     /// It is declared in a proctype, where alone it can be named.
     Elsewhere(Named<'t>),
     /// It is something else.
     Instead(Named<'t>, Sort),
+    /// It stands behind `->`, and this record in front of that.
+    Arrow(Named<'t>, &'t [u8]),
     /// It is a word of another language.
     Foreign(&'t [u8], Foreign),
     /// It is near to a word of the language.
@@ -305,7 +337,8 @@ pub enum Cause<'t> {
     Syntax(SyntaxCause<'t>),
     Twice(TwiceCause<'t>),
     Unknown(UnknownCause<'t>),
-    Wrong(WrongCause<'t>),
+    /// How many bytes stand before the declaration of the variable that it is told of, where that is one name.
+    Wrong(WrongCause<'t>, Option<usize>),
     Count(CountCause<'t>),
     Label(LabelCause<'t>),
     Control(ControlCause<'t>),

@@ -5,4 +5,6 @@ pub mod brackets;
 pub mod cause;
 pub mod foreign;
 pub mod lexical;
+mod long_words;
 pub mod place;
+pub mod words;

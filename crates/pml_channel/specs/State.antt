@@ -1,5 +1,5 @@
 -- A channel as a list of messages.
-use Rattle.std.specs.Prelude.{◌≡◌, ℕ, zero, suc, ◌+◌, ◌-◌, ◌*◌, ◌≤◌, Bool, true, false, if◌then◌else◌, List, [], ◌∷◌, ◌++◌, take, drop, length, ℤ, int_lt}
+use Rattle.std.specs.Prelude.{◌≡◌, ℕ, zero, suc, ◌+◌, ◌-◌, ◌*◌, ◌≤◌, Bool, true, false, if◌then◌else◌, List, [], ◌∷◌, ◌++◌, take, drop, length, insert, ℤ, int_lt}
 use Rattle.std.specs.Ordering.{int_eq}
 use Rattle.pml_program.specs.declared.form.Form.{Form}
 use Rattle.pml_eval.specs.Clip.{clipped}
@@ -40,6 +40,15 @@ is_greater (x ∷ xs) (y ∷ ys) = if int_eq x y then is_greater xs ys else int_
 abbrev pub sorted_in : List ℤ → List (List ℤ) → List (List ℤ)
 sorted_in new [] = new ∷ []
 sorted_in new (m ∷ ms) = if is_greater m new then new ∷ m ∷ ms else m ∷ sorted_in new ms
+
+-- a message belongs at a place among others: right before the first that is greater, or last
+abbrev pub Belongs : ℕ → List ℤ → List (List ℤ) → Type 0
+Belongs n new ms = (n ≤ length ms) × (insert ms n new ≡ sorted_in new ms)
+
+-- the last message comes to a place among the others
+abbrev pub MovesLast : ℕ → ChannelState → ChannelState → Type 0
+MovesLast n old new = (others : List (List ℤ)) (last : List ℤ) → old.messages ≡ others ++ last ∷ []
+    → new ≡ record old { messages = insert others n last }
 
 -- how many numbers messages have
 abbrev pub numbers_in : List (List ℤ) → ℕ

@@ -1,9 +1,9 @@
 //! A channel: messages in order, never more than its capacity.
 
-ghost use Rattle.std.specs.Prelude.{◌≡◌, ◌+◌, ◌*◌, ◌<◌, ◌≤◌, ◌++◌, ◌∷◌, List, ℤ, [], length, take, drop, vec_len, IfSome, OnOk, OnErr, remove, slice_get, Some, insert};
+ghost use Rattle.std.specs.Prelude.{◌≡◌, ◌+◌, ◌*◌, ◌<◌, ◌≤◌, ◌++◌, ◌∷◌, List, ℤ, [], length, take, drop, vec_len, IfSome, OnOk, OnErr, remove, slice_get, Some};
 ghost use Rattle.std.specs.List.{position_from};
 ghost use Rattle.pml_eval.specs.Pattern.{matched};
-ghost use Rattle.pml_channel.specs.State.{cut, sorted_in, is_greater, rotated, numbers_in};
+ghost use Rattle.pml_channel.specs.State.{cut, sorted_in, Belongs, MovesLast, is_greater, rotated, numbers_in};
 
 use pml_eval::clip::clip;
 use pml_eval::pattern::{Sought, matches};
@@ -136,7 +136,8 @@ impl Channel {
     /// Where the last message belongs among the others, if they are in order: right before the first that is greater.
     fn place_of_last(&self) -> usize
         requires { 0 < length self.now.messages }
-        ensures { (others : List (List ℤ)) (last : List ℤ) → self.now.messages ≡ others ++ last ∷ [] → (result ≤ length others) × (insert others result last ≡ sorted_in last others) }
+        ensures { (others : List (List ℤ)) (last : List ℤ) → self.now.messages ≡ others ++ last ∷ []
+            → Belongs result last others }
     {
         let others = self.len() - 1;
         for place in 0..others {
@@ -150,7 +151,7 @@ impl Channel {
     /// Moves the last message to a place.
     fn move_last(&mut self, place: usize)
         requires { place < length self.old.messages }
-        ensures { (others : List (List ℤ)) (last : List ℤ) → self.old.messages ≡ others ++ last ∷ [] → self.new ≡ record self.old { messages = insert others place last } }
+        ensures { MovesLast place self.old self.new }
     {
         let fields = self.types.len();
         let from = end_of(self.numbers.as_slice(), self.start, place, fields) - fields;

@@ -1,5 +1,5 @@
 -- What stands round a place of a body, and the conditions on breaks and d_steps.
-use Rattle.std.specs.Prelude.{ℕ, zero, suc, ◌+◌, nat_eq, Bool, true, false, not, ◌&&◌, if◌then◌else◌, is_some, List, [], ◌∷◌, length, reverse, Option, Some, None}
+use Rattle.std.specs.Prelude.{◌≡◌, ℕ, zero, suc, ◌+◌, nat_eq, Bool, true, false, not, ◌&&◌, if◌then◌else◌, is_some, List, [], ◌∷◌, length, reverse, Option, Some, None}
 use Rattle.std.specs.Str.{bytes_eq}
 use Rattle.pml_marks.specs.declared.mark.Structure.{Structure}
 use Rattle.pml_marks.specs.declared.mark.Structure.TheVariants.{Do, DStep}
@@ -62,6 +62,10 @@ first_of (Some x) y = Some x
 -- the innermost d_step round the label n of o, where this mark is it
 abbrev pub step_there : ℕ → List ℕ → ℕ → What → Option ℕ → Option (Option ℕ)
 step_there o n k w step = if is_label o n k w then Some step else None
+
+-- behind a mark, what is kept for each name is what was, and else the d_step round the label of this name that the mark is
+abbrev pub AddsStep : (old new : ℕ → List ℕ → Option (Option ℕ)) → ℕ → What → Option ℕ → Type 0
+AddsStep old new owner w step = (o : ℕ) (n : List ℕ) → new o n ≡ first_of (old o n) (step_there o n owner w step)
 
 -- the same of the first such label, going back over marks
 abbrev pub labelled : List Mark → ℕ → List ℕ → Option (Option ℕ)

@@ -2,7 +2,7 @@
 
 ghost use Rattle.std.specs.Prelude.{◌≡◌, ◌||◌, ℕ, List, reverse, OnOk, IfOk};
 ghost use Rattle.pml_names.specs.Places.{IsKept, stands};
-ghost use Rattle.pml_conditions.specs.Structure.{is_label, first_of, step_there};
+ghost use Rattle.pml_conditions.specs.Structure.{AddsStep, is_label};
 ghost use Rattle.pml_conditions.specs.Labels.{labels_of, AreLabels};
 ghost use Rattle.pml_conditions.specs.Open.{AreSteps};
 
@@ -47,8 +47,7 @@ fn add_step<'a>(
 ) -> Result<(), AllocError>
     requires { IsKept steps.old.numbers steps.old.places }
     ensures kept { IsKept steps.new.numbers steps.new.places }
-    ensures added { OnOk result ((o : ℕ) (n : List ℕ) → stands steps.new.numbers steps.new.places o n
-        ≡ first_of (stands steps.old.numbers steps.old.places o n) (step_there o n owner what.now round.step)) }
+    ensures added { OnOk result (AddsStep (stands steps.old.numbers steps.old.places) (stands steps.new.numbers steps.new.places) owner what.now round.step) }
 {
     match what {
         What::Label(name) => {

@@ -84,8 +84,8 @@ fn add_basic<'t>(
             add_options(alloc, options.as_slice(), after + 1, after, inside, nodes)?;
             Ok(nodes.push(Node::pass(alloc, labels, after + 1)?)?)
         }
-        Basic::Block(body) => { Ok(add_entered(alloc, labels, body, after, out, inside, nodes)?) }
-        Basic::Atomic(body) => { Ok(add_entered(alloc, labels, body, after, out, inside, nodes)?) }
+        Basic::Block(body) => { Ok(add_entered(labels, body, after, out, inside, nodes)?) }
+        Basic::Atomic(body) => { Ok(add_entered(labels, body, after, out, inside, nodes)?) }
         Basic::DStep(body) => {
             add_part(alloc, body, after, out, true, nodes)?;
             let first = last(nodes.as_slice());
@@ -93,7 +93,7 @@ fn add_basic<'t>(
         }
         Basic::Unless(main, escape) => {
             add_part(alloc, escape, after, out, inside, nodes)?;
-            Ok(add_entered(alloc, labels, main, after, out, inside, nodes)?)
+            Ok(add_entered(labels, main, after, out, inside, nodes)?)
         }
     }
 }
@@ -101,7 +101,6 @@ fn add_basic<'t>(
 /// The nodes of a statement that is entered at the first statement of its part.
 #[cycle(nodes)]
 fn add_entered<'t>(
-    alloc: Global,
     labels: &[Token<'t>],
     part: &Seq<'t>,
     after: usize,
@@ -112,6 +111,7 @@ fn add_entered<'t>(
     requires { 0 < length nodes.old.items }
     ensures { OnOk result (nodes.new.items ≡ nodes.old.items ++ nodes_closed (last_of nodes.old.items) labels.now after out inside part.now) }
 {
+    let alloc = *nodes.allocator();
     add_part(alloc, part, after, out, inside, nodes)?;
     let first = last(nodes.as_slice());
     Ok(nodes.push(Node::pass(alloc, labels, first)?)?)

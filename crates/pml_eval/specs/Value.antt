@@ -173,10 +173,6 @@ want = fold-Want Valued Wanted Placed Turned value_step want_step target_step tu
 abbrev pub asked_by : List Want → Reading → Result (List Sought) Fault
 asked_by ws = wants_of (map want ws)
 
--- whether each field is what arguments ask of it, where all that they ask has a value
-abbrev pub is_asked : List Want → List ℤ → Reading → Result Bool Fault
-is_asked ws xs r = asked_by ws r >>= λ asked. Ok (matched asked xs)
-
 -- what a poll is worth of the channel whose number stands at a place
 abbrev pub poll_of : Search → List Want → Place → Valued
 poll_of search ws at r = polled search (length ws) (asked_by ws r) (r.channel (r.holds at))

@@ -4,7 +4,7 @@ ghost use Rattle.std.specs.Prelude.{◌≡◌, ◌+◌, ◌*◌, ◌<◌, ◌≤
 ghost use Rattle.profile.specs.declared.TheConstants.{MOST_FIELDS};
 ghost use Rattle.pml_program.specs.declared.expr.Expr.TheVariants.{Read};
 ghost use Rattle.pml_eval.specs.declared.pattern.Sought.{Sought};
-ghost use Rattle.pml_eval.specs.Value.{val, place, cells, cells_of, want, asked, asked_by, is_asked, has_match, within, inside, index_of, polled, is_match, messages_at, settled};
+ghost use Rattle.pml_eval.specs.Value.{val, place, cells, cells_of, want, asked, asked_by, has_match, within, inside, index_of, polled, is_match, messages_at, settled};
 ghost use Rattle.pml_eval.specs.Pattern.{matched, IsThere, AreThere};
 
 use crate::ground::Ground;
@@ -138,7 +138,8 @@ fn poll<G: Ground>(
     number: i32,
     ground: &G,
 ) -> Result<i32, Fault>
-    ensures { result ≡ polled search (length arguments.now) (asked_by arguments.now (G.reading ground.now)) ((G.reading ground.now).channel number) }
+    ensures { let r = G.reading ground.now in
+        result ≡ polled search (length arguments.now) (asked_by arguments.now r) (r.channel number) }
 {
     let Some(c) = ground.channel(number) else {
         return Err(Fault::NoSuchChannel);
@@ -174,7 +175,8 @@ fn any_fits<G: Ground>(
     ground: &G,
 ) -> Result<bool, Fault>
     requires { messages ≡ length (messages_at (G.reading ground.now) number) }
-    ensures { (ws : List Sought) → asked_by arguments.now (G.reading ground.now) ≡ Ok ws → result ≡ Ok (is_match search ws (messages_at (G.reading ground.now) number)) }
+    ensures { let r = G.reading ground.now in
+        (ws : List Sought) → asked_by arguments.now r ≡ Ok ws → result ≡ Ok (is_match search ws (messages_at r number)) }
 {
     for place in 0..messages as usize {
         if fits(arguments, ground.message(number, place), ground)? {
@@ -190,7 +192,8 @@ fn any_fits<G: Ground>(
 /// Whether each field is what is asked. What is asked has no fault, and is evaluated as far as the first field that is not.
 #[cycle(eval)]
 fn fits<G: Ground>(arguments: &[Want], fields: &[i32], ground: &G) -> Result<bool, Fault>
-    ensures { (ws : List Sought) → asked_by arguments.now (G.reading ground.now) ≡ Ok ws → result ≡ Ok (matched ws fields.now) }
+    ensures { let r = G.reading ground.now in
+        (ws : List Sought) → asked_by arguments.now r ≡ Ok ws → result ≡ Ok (matched ws fields.now) }
 {
     if arguments.len() != fields.len() {
         return Ok(false);
@@ -202,14 +205,6 @@ fn fits<G: Ground>(arguments: &[Want], fields: &[i32], ground: &G) -> Result<boo
         }
     }
     Ok(true)
-}
-
-/// Whether each field is what is asked of it, or the first fault from the left in what is asked. No memory is taken.
-pub fn is_asked<G: Ground>(arguments: &[Want], fields: &[i32], ground: &G) -> Result<bool, Fault>
-    ensures { result ≡ is_asked arguments.now fields.now (G.reading ground.now) }
-{
-    first_fault(arguments, ground)?;
-    fits(arguments, fields, ground)
 }
 
 /// Whether a message of the channel with this number is what is asked, the oldest or any of them, or the first fault from the left in

@@ -6,3 +6,4 @@ pub mod expr;
 pub mod fault;
 pub mod list;
 mod operators;
+pub mod references;

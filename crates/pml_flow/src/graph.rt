@@ -15,6 +15,9 @@ use crate::lines::kept_lines;
 use crate::marks::{mark, valid_ends};
 use crate::only::{Span, only_span, spanned};
 use crate::parts::{begin_of, bound, part_of};
+use crate::settled::{
+    atomic_at, end_of, entry_by, is_inside, is_same, rank, ranks, start_of, targets,
+};
 use crate::site::Site;
 use crate::sites::sites;
 use crate::statements::all_statements;
@@ -216,112 +219,6 @@ impl Graph {
         ensures { result ≡ atomic_in (slice_get self.now.nodes node) }
     {
         self.nodes[node].atomic
-    }
-}
-
-fn start_of(targets: &[usize]) -> usize
-    ensures { result ≡ rank targets.now (length targets.now - 1) }
-{
-    rank(targets, targets.len().saturating_sub(1))
-}
-
-/// The node of each number where settling ends.
-fn ranks(alloc: Global, next: &[Option<usize>]) -> Result<Vec<usize>, AllocError>
-    ensures { IfOk result (λ v. v.items ≡ ranks_from 0 next.now) }
-{
-    let mut ranks = Vec::with_capacity(alloc, next.len())?;
-    let mut count = 0;
-    for step in next {
-        ranks.push(count)?;
-        if step.is_none() {
-            count += 1;
-        }
-    }
-    Ok(ranks)
-}
-
-fn rank(ranks: &[usize], number: usize) -> usize
-    ensures { result ≡ rank ranks.now number }
-{
-    match ranks.get(number) {
-        Some(rank) => *rank,
-        None => 0,
-    }
-}
-
-fn node_by(ranks: &[usize], end: Ending) -> usize
-    ensures { result ≡ node_by ranks.now end }
-{
-    match end {
-        Ending::Stays(end) => rank(ranks, end),
-        _ => 0,
-    }
-}
-
-/// The node that settling comes to from each number.
-fn targets(alloc: Global, ranks: &[usize], ends: &[Ending]) -> Result<Vec<usize>, AllocError>
-    ensures { IfOk result (λ v. v.items ≡ targets ranks.now ends.now) }
-{
-    let mut targets = Vec::with_capacity(alloc, ends.len())?;
-    for end in ends {
-        targets.push(node_by(ranks, *end))?;
-    }
-    Ok(targets)
-}
-
-fn end_by(end: Ending) -> usize
-    ensures { result ≡ end_by end }
-{
-    match end {
-        Ending::Stays(end) => end,
-        _ => 0,
-    }
-}
-
-/// The number where settling ends from a number.
-fn end_of(ends: &[Ending], number: usize) -> usize
-    ensures { result ≡ end_of ends.now number }
-{
-    match ends.get(number) {
-        Some(end) => end_by(*end),
-        None => 0,
-    }
-}
-
-/// Whether both are there and equal.
-fn is_same(one: Option<usize>, other: Option<usize>) -> bool
-    ensures { result ≡ same_number one other }
-{
-    match (one, other) {
-        (Some(one), Some(other)) => one == other,
-        _ => false,
-    }
-}
-
-fn atomic_at(sites: &[Site], number: usize) -> Option<usize>
-    ensures { result ≡ (site_of sites.now number).atomic }
-{
-    match sites.get(number) {
-        Some(site) => site.atomic(),
-        None => None,
-    }
-}
-
-fn is_inside(sites: &[Site], number: usize) -> bool
-    ensures { result ≡ (site_of sites.now number).inside }
-{
-    match sites.get(number) {
-        Some(site) => site.is_inside(),
-        None => false,
-    }
-}
-
-fn entry_by(targets: &[usize], entry: Option<usize>) -> Option<usize>
-    ensures { result ≡ entry_by targets.now entry }
-{
-    match entry {
-        Some(number) => Some(rank(targets, number)),
-        None => None,
     }
 }
 

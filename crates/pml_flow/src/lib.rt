@@ -9,6 +9,7 @@ pub mod lines;
 mod marks;
 mod only;
 mod parts;
+mod settled;
 mod site;
 mod sites;
 pub mod statements;

@@ -2,7 +2,7 @@
 
 ghost use Rattle.std.specs.Prelude.{◌≡◌, ℕ, ◌+◌, ◌<◌, ◌++◌, ◌∷◌, [], Bool, true, false, None, IfOk, OnOk, length, slice_set};
 ghost use Rattle.pml_program.specs.declared.program.Basic.{DStep};
-ghost use Rattle.pml_flow.specs.Ways.{way, one, site, bare, outer, last_of, ways_in, ways_part, ways_list, ways_parts, sites_in, sites_part, sites_escape, sites_list, sites_parts, sites_of};
+ghost use Rattle.pml_flow.specs.Ways.{plain_site, way, one, site, bare, outer, last_of, ways_in, ways_part, ways_list, ways_parts, sites_in, sites_part, sites_entered, sites_escape, sites_list, sites_parts, sites_of};
 
 use crate::level::{Level, Way, add_copies, add_levels, copies, one};
 use crate::site::Site;
@@ -113,7 +113,7 @@ fn add_plain(
     sites: &mut Vec<Site>,
 ) -> Result<Vec<Level>, AllocError>
     requires { 0 < length sites.old.items }
-    ensures sites { OnOk result (sites.new.items ≡ sites.old.items ++ site atomic inside ((last_of sites.old.items + 1) ∷ above.now) (one (way (last_of sites.old.items + 1) (last_of sites.old.items))) ∷ []) }
+    ensures sites { OnOk result (sites.new.items ≡ sites.old.items ++ plain_site (last_of sites.old.items) atomic inside above.now ∷ []) }
     ensures ways { IfOk result (λ w. w.items ≡ one (way (last_of sites.old.items + 1) (last_of sites.old.items))) }
 {
     let after = last(sites.as_slice());
@@ -192,10 +192,10 @@ fn add_basic(
             sites.push(Site::bare(alloc, atomic, inside))?;
             Ok(ways)
         }
-        Basic::Block(body) => Ok(add_entered(alloc, body, inside, atomic, atomic, above, sites)?),
+        Basic::Block(body) => Ok(add_entered(body, inside, atomic, atomic, above, sites)?),
         Basic::Atomic(body) => {
             let within = outer(atomic, after + 1);
-            Ok(add_entered(alloc, body, inside, atomic, within, above, sites)?)
+            Ok(add_entered(body, inside, atomic, within, above, sites)?)
         }
         Basic::DStep(body) => Ok(add_d_step(alloc, body, inside, atomic, above, sites)?),
         Basic::Unless(main, escape) => {
@@ -212,7 +212,6 @@ fn add_basic(
 /// The places of a statement that is entered at its part, which lies in the atomic `within`. Answers the part's ways.
 #[cycle(sites)]
 fn add_entered(
-    alloc: Global,
     part: &Seq<'_>,
     inside: bool,
     atomic: Option<usize>,
@@ -221,9 +220,10 @@ fn add_entered(
     sites: &mut Vec<Site>,
 ) -> Result<Vec<Level>, AllocError>
     requires { 0 < length sites.old.items }
-    ensures sites { OnOk result (sites.new.items ≡ sites.old.items ++ (sites_part (last_of sites.old.items) inside within above.now part.now ++ bare atomic inside ∷ [])) }
+    ensures sites { OnOk result (sites.new.items ≡ sites.old.items ++ sites_entered (last_of sites.old.items) inside atomic within above.now part.now) }
     ensures ways { IfOk result (λ w. w.items ≡ ways_part (last_of sites.old.items) inside part.now) }
 {
+    let alloc = *sites.allocator();
     let ways = add_part(alloc, part, inside, within, above, sites)?;
     sites.push(Site::bare(alloc, atomic, inside))?;
     Ok(ways)

@@ -64,6 +64,10 @@ places_instead args p (Some k) = unwrap_places (slice_get args k)
 abbrev pub places_replaced : List Part → List (List ℕ) → List ℕ
 places_replaced parts args = flat_map (λ p. places_instead args p.place p.parameter) parts
 
+-- these are all of them, no more than `most`
+abbrev pub IsWithin : (all : List ℕ) (most : ℕ) → List ℕ → Type 0
+IsWithin all most found = (found ≡ all) × (length found ≤ most)
+
 -- the definition of this name among all, by its number
 abbrev pub number_of : List Inline → Word → Option ℕ
 number_of ds w = parameter (map (λ d. d.name) ds) w

@@ -1,5 +1,5 @@
 -- What the code does to a text, step by step. No clause of a public function cites this.
-use Rattle.std.specs.Prelude.{◌≡◌, ◌<◌, ◌≤◌, ◌+◌, ◌-◌, ℕ, Bool, true, false, nat_lt, if◌then◌else◌, List, [], ◌∷◌, ◌++◌, length, take, drop, map, All, Option, Some, None}
+use Rattle.std.specs.Prelude.{◌≡◌, ◌<◌, ◌≤◌, ◌+◌, ◌-◌, ℕ, Bool, true, false, nat_lt, if◌then◌else◌, List, [], ◌∷◌, ◌++◌, length, take, drop, map, All, Option, Some, None, MatchOption, slice_index_or, Result, IfOk}
 use Rattle.std.specs.List.{slice_get}
 use Rattle.pml_token.specs.Word.{Word}
 use Rattle.profile.specs.declared.TheConstants.{MOST_CALLS, MOST_REPLACED}
@@ -100,3 +100,25 @@ abbrev pub IsMisread : Option Given → InlineFault → Type 0
 IsMisread r Memory = Unit {0}
 IsMisread r (Misused misuse) = limited r ≡ None
 IsMisread r (TooDeep line limit) = ⊥
+
+-- the name at a place calls this definition, one of the first `known`, or none
+abbrev pub IsCalled : Text → ℕ → List ℕ → ℕ → Option ℕ → Type 0
+IsCalled t known places at found =
+    callee (take known (inlines t)) (word_at t.tokens.now (slice_index_or places at 0)) (words_of t.tokens.now (drop (at + 1) places)) ≡ option_inline (inlines t) found
+
+-- the definition of this number
+abbrev pub IsDefined : Text → ℕ → Inline → Type 0
+IsDefined t number d = slice_get (inlines t) number ≡ Some d
+
+-- a call is replaced by these places, or by none
+abbrev pub Replaces : {V : Type 0} → (V → List ℕ) → Text → ℕ → List ℕ → ℕ → List Word → ℕ → Inline → Option V → Type 0
+Replaces places t known active number inside most d found =
+    MatchOption found (IsNotReplaced t known active inside most d) (λ v. IsReplaced t known active number inside most (places v) d)
+
+-- whatever definition it is, and whichever are known, the call of it is replaced so, where memory is not refused
+abbrev pub AnswersCall : {V E : Type 0} → (V → List ℕ) → Text → List ℕ → ℕ → List ℕ → ℕ → Result (Option V) E → Type 0
+AnswersCall places t active number inside most r = (known : ℕ) (d : Inline) → IsDefined t number d → IfOk r (Replaces places t known active number (words_of t.tokens.now inside) most d)
+
+-- a call outside all others is read up to this place, or is wrong
+abbrev pub ReadsCall : Text → ℕ → ℕ → Given → Given → Option ℕ → Type 0
+ReadsCall t known at before after found = MatchOption found (IsWrongCall t known at before) (IsReadCall t known at before after)

@@ -4,7 +4,7 @@ ghost use Rattle.std.specs.Prelude.{◌≡◌, ◌<◌, ◌≤◌, ◌-◌, ◌+
 ghost use Rattle.std.specs.List.{list_any};
 ghost use Rattle.pml_inline.specs.Places.{words_of};
 ghost use Rattle.pml_inline.specs.Brackets as brackets;
-ghost use Rattle.pml_inline.specs.Parts.{places_replaced, places_instead, is_bare, lists_of};
+ghost use Rattle.pml_inline.specs.Parts.{IsWithin, places_replaced, places_instead, is_bare, lists_of};
 
 use crate::definitions::Part;
 use crate::places::kind_at;
@@ -105,8 +105,8 @@ pub(crate) fn replaced(
     arguments: &[&[usize]],
     most: usize,
 ) -> Result<Option<Vec<usize>>, AllocError>
-    ensures { IfOk result (λ o. MatchOption o (most < length (places_replaced body.now (lists_of arguments.now)))
-        (λ v. (v.items ≡ places_replaced body.now (lists_of arguments.now)) × (length v.items ≤ most))) }
+    ensures { let all = places_replaced body.now (lists_of arguments.now) in
+        IfOk result (λ o. MatchOption o (most < length all) (λ v. IsWithin all most v.items)) }
 {
     let mut places = Vec::new(alloc);
     for part in body {

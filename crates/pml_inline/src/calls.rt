@@ -1,13 +1,11 @@
 //! What comes out of calls.
 
-ghost use Rattle.std.specs.Prelude.{◌≡◌, ◌<◌, ◌≤◌, ◌+◌, ◌-◌, ◌++◌, ◌&&◌, not, nat_eq, [], ◌∷◌, ℕ, List, Some, None, IfOk, IfSome, MatchOption, length, take, drop, slice_index_or};
-ghost use Rattle.std.specs.List.{slice_get, list_any};
+ghost use Rattle.std.specs.Prelude.{◌≡◌, ◌<◌, ◌≤◌, ◌+◌, ◌-◌, ◌&&◌, not, nat_eq, ℕ, List, None, IfOk, IfSome, length, slice_index_or};
+ghost use Rattle.std.specs.List.{list_any};
 ghost use Rattle.pml_inline.specs.Parts.{is_bare, lists_of};
 ghost use Rattle.std.specs.Bool.{OnTrue};
-ghost use Rattle.pml_inline.specs.Inlines.{Inline};
-ghost use Rattle.pml_inline.specs.Places.{word_at, words_of};
 ghost use Rattle.pml_inline.specs.Calls as calls;
-ghost use Rattle.pml_inline.specs.Texts.{IsText, inlines, option_inline, below, AreNumbers, IsReplaced, IsNotReplaced, IsRead, read_within, given_of};
+ghost use Rattle.pml_inline.specs.Texts.{IsText, IsCalled, AnswersCall, below, AreNumbers, IsRead, read_within, given_of};
 
 use crate::arguments::{arguments, has_empty, replaced};
 use crate::definitions::Definition;
@@ -60,8 +58,7 @@ pub(crate) fn callee(
 ) -> Option<usize>
     requires text { IsText text.now }
     requires within { at < length places.now }
-    ensures value { calls.callee (take known (inlines text.now)) (word_at text.now.tokens.now (slice_index_or places.now at 0))
-        (words_of text.now.tokens.now (drop (at + 1) places.now)) ≡ option_inline (inlines text.now) result }
+    ensures value { IsCalled text.now known places.now at result }
     ensures within { IfSome result (λ n. n < length text.now.definitions.now) }
     ensures behind { IfSome result (λ n. at + 1 < length places.now) }
 {
@@ -92,9 +89,7 @@ fn replacement(
 ) -> Result<Option<Vec<usize>>, AllocError>
     requires text { IsText text.now }
     requires numbers { AreNumbers text.now active.now }
-    ensures { (known : ℕ) (d : Inline) → slice_get (inlines text.now) number ≡ Some d → IfOk result (λ o. MatchOption o
-        (IsNotReplaced text.now known active.now (words_of text.now.tokens.now inside.now) most d)
-        (λ v. IsReplaced text.now known active.now number (words_of text.now.tokens.now inside.now) most v.items d)) }
+    ensures { AnswersCall (λ v. v.items) text.now active.now number inside.now most result }
 {
     if active.len() >= MOST_CALLS as usize {
         return Ok(None);

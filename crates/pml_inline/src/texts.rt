@@ -1,10 +1,10 @@
 //! What comes out of a text.
 
-ghost use Rattle.std.specs.Prelude.{◌≡◌, ◌<◌, ◌≤◌, ◌+◌, ◌^◌, ◌-◌, [], Some, IfOk, IfErr, MatchOption};
+ghost use Rattle.std.specs.Prelude.{◌≡◌, ◌<◌, ◌≤◌, ◌+◌, ◌^◌, ◌-◌, [], Some, IfOk, IfErr};
 ghost use Rattle.pml_token.specs.Word.{Word};
 ghost use Rattle.pml_inline.specs.Inlines.{definitions};
 ghost use Rattle.pml_inline.specs.Expansion as expansion;
-ghost use Rattle.pml_inline.specs.Texts.{IsText, inlines, given_of, IsCall, IsWrongCall, IsReadCall, IsMisread};
+ghost use Rattle.pml_inline.specs.Texts.{IsText, ReadsCall, inlines, given_of, IsCall, IsMisread};
 
 use crate::calls::{Given, Text, callee, read};
 use crate::fault::InlineFault;
@@ -39,8 +39,7 @@ fn outermost<'t>(
     requires text { IsText text.now }
     requires call { IsCall text.now known at }
     requires counted { given.old.count ≤ MOST_REPLACED }
-    ensures { IfOk result (λ o. MatchOption o (IsWrongCall text.now known at (given_of given.old))
-        (IsReadCall text.now known at (given_of given.old) (given_of given.new))) }
+    ensures { IfOk result (ReadsCall text.now known at (given_of given.old) (given_of given.new)) }
 {
     let Some(length) = closing(
         text.tokens,

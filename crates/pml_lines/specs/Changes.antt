@@ -149,3 +149,7 @@ each_write f cells (w ∷ ws) = if_changed f w (slice_get cells w.0) ++ each_wri
 -- the value lines of the step that led to this store, by its log
 abbrev pub step_lines : Program → List ℕ → Contents → Wanted → List ℕ
 step_lines p kinds s w = value_lines p kinds (before s) s.frames w.globals w.locals
+
+-- where the processes are those of a store, the value lines of the step that led to it are appended
+abbrev pub AddsStep : Program → List ℕ → Wanted → Contents → (List ℕ → Type 0) → Type 0
+AddsStep p kinds w s Adds = AreDeclared p kinds s.frames → Adds (step_lines p kinds s w)

@@ -4,7 +4,7 @@ ghost use Rattle.std.specs.Prelude.{◌≡◌, ◌++◌, true, slice_get, OnOk, 
 ghost use Rattle.std.specs.Io.{StartsWith};
 ghost use Rattle.std.specs.Fmt.{decimal};
 ghost use Rattle.pml_lines.specs.Places.{place_line};
-ghost use Rattle.pml_lines.specs.Changes.{proctype_name, local_heading, heading_of, local_line, process_owners, line_at, wanted_line, changed_line, each_change, AreDeclared, AddsChanges, oldest, if_changed, each_write, step_lines};
+ghost use Rattle.pml_lines.specs.Changes.{proctype_name, local_heading, heading_of, local_line, process_owners, line_at, wanted_line, changed_line, each_change, AddsChanges, AddsStep, oldest, if_changed, each_write};
 
 use crate::place::place_line;
 use crate::tables::Tables;
@@ -83,20 +83,26 @@ fn heading_of(
     }
 }
 
-/// Appends the line of a cell of a variable of the process with this number, of a proctype by its number in the model.
+/// A process, and the number of its proctype in the model.
+#[derive(Clone, Copy, PartialEq, Eq, Debug)]
+pub struct Living {
+    pub process: usize,
+    pub kind: usize,
+}
+
+/// Appends the line of a cell of a variable of a process.
 pub fn local_line(
     tables: &Tables<'_, '_>,
-    process: usize,
-    kind: usize,
+    living: Living,
     slot: &Slot<'_>,
     cell: usize,
     number: i32,
     text: &mut Vec<u8>,
 ) -> Result<(), AllocError>
-    ensures added { OnOk result (text.new.items ≡ text.old.items ++ local_line tables.now process kind slot.now cell number) }
+    ensures added { OnOk result (text.new.items ≡ text.old.items ++ local_line tables.now living.process living.kind slot.now cell number) }
     ensures kept { OnErr result (StartsWith text.new.items text.old.items) }
 {
-    heading_of(tables, process, kind, text)?;
+    heading_of(tables, living.process, living.kind, text)?;
     place_line(tables, slot, cell, number, text)
 }
 
@@ -115,7 +121,13 @@ fn process_line_at(
     for (i, kind) in kinds.iter().enumerate() {
         let (found, rest) = tables.find_local(*kind, at);
         match found {
-            Some(slot) => return local_line(tables, i, *kind, slot, rest, number, text),
+            Some(slot) => {
+                let living = Living {
+                    process: i,
+                    kind: *kind,
+                };
+                return local_line(tables, living, slot, rest, number, text);
+            }
             None => at = rest,
         }
     }
@@ -272,8 +284,8 @@ pub fn logged_lines(
     store: &Store,
     text: &mut Vec<u8>,
 ) -> Result<(), AllocError>
-    ensures added { AreDeclared tables.now kinds.now store.now.frames →
-        OnOk result (text.new.items ≡ text.old.items ++ step_lines tables.now kinds.now store.now wanted) }
+    ensures added { AddsStep tables.now kinds.now wanted store.now
+        (λ lines. OnOk result (text.new.items ≡ text.old.items ++ lines)) }
     ensures kept { OnErr result (StartsWith text.new.items text.old.items) }
 {
     if !wanted.globals && !wanted.locals {
@@ -292,8 +304,8 @@ fn written_lines(
     store: &Store,
     text: &mut Vec<u8>,
 ) -> Result<(), AllocError>
-    ensures added { AreDeclared tables.now kinds.now store.now.frames →
-        OnOk result (text.new.items ≡ text.old.items ++ step_lines tables.now kinds.now store.now wanted) }
+    ensures added { AddsStep tables.now kinds.now wanted store.now
+        (λ lines. OnOk result (text.new.items ≡ text.old.items ++ lines)) }
     ensures kept { OnErr result (StartsWith text.new.items text.old.items) }
 {
     let writes = oldest(alloc, store.written())?;

@@ -7,7 +7,7 @@ ghost use Rattle.pml_lines.specs.Changes.{process_owners, owners, if_changed, ea
 ghost use Rattle.pml_lines.specs.Changed.{process_in, owner_line, kind_line, value_line, step_changes, LinesOfChanges};
 ghost use Rattle.pml_lines.specs.Placed.{place_at, changed_at, changed_number};
 
-use crate::change::{global_line, local_line, oldest};
+use crate::change::{Living, global_line, local_line, oldest};
 use crate::tables::Tables;
 use pml_program::program::{Proctype, Program, Slot};
 use pml_store::place::Place;
@@ -157,7 +157,8 @@ pub fn logged_changes(
     kinds: &[usize],
     store: &Store,
 ) -> Result<Vec<Change>, AllocError>
-    ensures { AreDeclared tables.now kinds.now store.now.frames → IfOk result (λ changes. changes.items ≡ step_changes kinds.now store.now) }
+    ensures { AreDeclared tables.now kinds.now store.now.frames
+        → IfOk result (λ changes. changes.items ≡ step_changes kinds.now store.now) }
 {
     let writes = oldest(alloc, store.written())?;
     changes_of_writes(alloc, tables, kinds, &writes, store.cells().as_slice())
@@ -214,15 +215,10 @@ fn local_change(
         return Ok(());
     };
     match slot_at(proctype.variables.as_slice(), change.place.variable) {
-        Some(slot) => local_line(
-            tables,
-            process,
-            kind,
-            slot,
-            change.place.cell,
-            change.number,
-            text,
-        ),
+        Some(slot) => {
+            let living = Living { process, kind };
+            local_line(tables, living, slot, change.place.cell, change.number, text)
+        }
         None => Ok(()),
     }
 }

@@ -7,8 +7,9 @@ use crate::sign::{
 };
 use crate::walk::{End, name_at, walk_behind};
 use pml_causes::cause::{Cause, Finding, Named, Sort, TwiceCause, UnknownCause};
-use pml_causes::foreign::foreign_word;
+use pml_causes::foreign::Foreign;
 use pml_causes::place::{at_place, untold};
+use pml_causes::words::foreign_word;
 use pml_marks::mark::{Mark, Shape};
 use pml_names::meaning::is_special;
 use std::alloc::{AllocError, Global};
@@ -111,9 +112,37 @@ fn declaring(all: usize, at: usize, sort: Sort) -> usize {
     }
 }
 
+/// Whether a word of another language may as well be a variable that was not declared, as `lock` or `size`.
+fn is_thing(foreign: Foreign) -> bool {
+    matches!(
+        foreign,
+        Foreign::Lock
+            | Foreign::Length
+            | Foreign::Array
+            | Foreign::Channel
+            | Foreign::Message
+            | Foreign::Process
+            | Foreign::Print
+            | Foreign::Random
+            | Foreign::Cases
+            | Foreign::Record
+            | Foreign::Number
+            | Foreign::To
+            | Foreign::LabelName
+    )
+}
+
+/// What a name of a sort is meant for, where it is a word of another language.
+fn meant_for(name: &[u8], sort: Sort) -> Option<Foreign> {
+    match foreign_word(name) {
+        Some(foreign) if matches!(sort, Sort::Variable) && is_thing(foreign) => None,
+        foreign => foreign,
+    }
+}
+
 /// Of a name that is declared nowhere and has none near it: a word of another language, or one that is near to a word of this one.
 fn no_name<'t>(alloc: Global, name: &'t [u8], sort: Sort) -> Result<UnknownCause<'t>, AllocError> {
-    if let Some(foreign) = foreign_word(name) {
+    if let Some(foreign) = meant_for(name, sort) {
         return Ok(UnknownCause::Foreign(name, foreign));
     }
     match nearest_word(alloc, name)? {
@@ -137,6 +166,15 @@ fn nowhere<'t>(
     Ok(Some(Unknown { name, cause }))
 }
 
+/// Of a name that is declared behind its use, or around it, as a typedef round its own fields.
+fn of_later<'t>(name: Named<'t>, cause: UnknownCause<'t>) -> Unknown<'t> {
+    let cause = match cause {
+        UnknownCause::Later(first) if first.offset < name.offset => UnknownCause::Itself(first),
+        cause => cause,
+    };
+    Unknown { name, cause }
+}
+
 /// Of a name that is not declared in front of its use.
 fn of_missing<'t>(
     alloc: Global,
@@ -147,7 +185,7 @@ fn of_missing<'t>(
     wish: Wish,
 ) -> Result<Option<Unknown<'t>>, AllocError> {
     match declared_otherwise(text, marks, at, name.name, wish) {
-        Some(cause) => Ok(Some(Unknown { name, cause })),
+        Some(cause) => Ok(Some(of_later(name, cause))),
         None => {
             let seen = front(marks, declaring(marks.len(), at, wish.sort));
             nowhere(alloc, text, seen, name, wish)

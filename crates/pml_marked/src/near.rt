@@ -59,7 +59,7 @@ fn distance(alloc: Global, name: &[u8], other: &[u8]) -> Result<Option<usize>, A
 }
 
 /// The words that begin something, or stand for a value.
-const WORDS: [&[u8]; 43] = [
+const WORDS: [&[u8]; 44] = [
     b"active",
     b"assert",
     b"atomic",
@@ -103,13 +103,52 @@ const WORDS: [&[u8]; 43] = [
     b"do",
     b"if",
     b"od",
+    b"fi",
 ];
 
 /// Shorter names are near to no word.
 const LEAST_NEAR: usize = 3;
 
+/// A letter as a small one.
+fn small(byte: u8) -> u8 {
+    if b'A' <= byte && byte <= b'Z' {
+        byte + 32
+    } else {
+        byte
+    }
+}
+
+/// Whether a name is a word but for its letters being large or small.
+fn is_spelled(name: &[u8], word: &[u8]) -> bool {
+    for (i, byte) in name.iter().enumerate() {
+        match word.get(i) {
+            Some(letter) if *letter == small(*byte) => {}
+            _ => return false,
+        }
+    }
+    name.len() == word.len()
+}
+
+/// The word that a name is but for that.
+fn spelled_word(name: &[u8]) -> Option<&'static [u8]> {
+    for word in &WORDS {
+        if is_spelled(name, *word) {
+            return Some(*word);
+        }
+    }
+    None
+}
+
 /// The nearest word of the language.
 pub fn nearest_word(alloc: Global, name: &[u8]) -> Result<Option<&'static [u8]>, AllocError> {
+    match spelled_word(name) {
+        Some(word) => Ok(Some(word)),
+        None => changed_word(alloc, name),
+    }
+}
+
+/// The word that a name is nearest to by letters that differ.
+fn changed_word(alloc: Global, name: &[u8]) -> Result<Option<&'static [u8]>, AllocError> {
     let mut least = usize::MAX;
     let mut found = None;
     if name.len() < LEAST_NEAR {

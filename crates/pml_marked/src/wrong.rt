@@ -285,9 +285,41 @@ fn wrong_at<'t>(
     }
 }
 
-fn told(wrong: Option<Wrong<'_>>) -> Finding<'_> {
+/// How many bytes stand before the declaration of a name, where that is another place.
+fn declared_before<'t>(
+    text: &'t [u8],
+    marks: &[Mark<'_>],
+    at: usize,
+    owner: usize,
+    name: Named<'t>,
+) -> Option<usize> {
+    let first = declaration_of(text, marks, at, owner, name).offset;
+    if first == name.offset || is_special(name.name) {
+        None
+    } else {
+        Some(first)
+    }
+}
+
+/// The same of the name that the mark at `at` uses by itself.
+fn declared_at(text: &[u8], marks: &[Mark<'_>], at: usize) -> Option<usize> {
+    let sign = sign_at(text, marks, at);
+    match sign.matter {
+        Matter::Reference(_) => {
+            let steps = steps_at(marks, at);
+            if steps.len() == 1 {
+                declared_before(text, marks, at, sign.owner, name_at(text, steps, 0))
+            } else {
+                None
+            }
+        }
+        _ => None,
+    }
+}
+
+fn told(wrong: Option<Wrong<'_>>, first: Option<usize>) -> Finding<'_> {
     match wrong {
-        Some(wrong) => at_place(wrong.place, Cause::Wrong(wrong.cause)),
+        Some(wrong) => at_place(wrong.place, Cause::Wrong(wrong.cause, first)),
         None => untold(),
     }
 }
@@ -301,7 +333,7 @@ pub fn of_wrong<'t>(
     at: usize,
 ) -> Result<Finding<'t>, AllocError> {
     match wrong_at(alloc, text, tokens, marks, at) {
-        Ok(wrong) => Ok(told(wrong)),
+        Ok(wrong) => Ok(told(wrong, declared_at(text, marks, at))),
         Err(AllocError) => Err(AllocError),
     }
 }

@@ -45,6 +45,10 @@ abbrev pub Hears : Option Span → Span → ℕ → Type 0
 Hears None any i = Unit {0}
 Hears (Some x) any i = LiesIn x i ⊎ LiesIn any i
 
+-- by what is known, of the channel with a number
+abbrev pub HearsOn : Known → ℤ → ℕ → Type 0
+HearsOn k n i = Hears (slice_get k.spans.now (place_of n)) k.any i
+
 -- of so many processes each lies where its channel is heard
 abbrev pub AreHeard : List Wait → List Span → Span → ℕ → Type 0
 AreHeard ws xs any n = (i : ℕ) (w : Wait) (m : Message) → i < n → slice_get ws i ≡ Some w → may_take w m ≡ true → Hears (slice_get xs (place_of m.number)) any i
@@ -52,4 +56,4 @@ AreHeard ws xs any n = (i : ℕ) (w : Wait) (m : Message) → i < n → slice_ge
 -- What is known is so of a state: who lies elsewhere, or waits for another message, receives none.
 pub record AreKnown (s : State) (t : Bool) (k : Known) : Type 0 where
   pub waits : AreWaits s t k.waits.now
-  pub heard : (i : ℕ) (y : Stand) (q : Pick) (m : Message) → slice_get s.stands i ≡ Some y → (Hears (slice_get k.spans.now (place_of m.number)) k.any i → ⊥) → pairs_with s t q m i y ≡ []
+  pub heard : (i : ℕ) (y : Stand) (q : Pick) (m : Message) → slice_get s.stands i ≡ Some y → (HearsOn k m.number i → ⊥) → pairs_with s t q m i y ≡ []

@@ -14,6 +14,8 @@ use Rattle.pml_eval.specs.Pattern.{matched}
 use Rattle.pml_eval.specs.Value.{Reading, asked_by}
 use Rattle.pml_channel.specs.State.{cut}
 use Rattle.pml_value.specs.declared.live_channel.LiveChannel.{LiveChannel}
+use Rattle.pml_value.specs.declared.view.View.{View}
+use Rattle.pml_value.specs.Reads.{seen}
 use Rattle.pml_moves.specs.declared.moves.Pick.{Pick}
 use Rattle.pml_moves.specs.declared.moves.Move.{Move}
 use Rattle.pml_moves.specs.declared.moves.Move.TheVariants.{Death, Alone, Pair}
@@ -139,6 +141,10 @@ message cs r (Some (Atomic s)) = None
 message cs r (Some (DStep s)) = None
 message cs r (Some (Unless s e)) = None
 message cs r None = None
+
+-- by what a view has
+abbrev pub message_in : View → Option Basic → Option Message
+message_in v x = message v.channels.now (seen v) x
 
 -- a pattern without value matches
 abbrev pub does_match : Result (List Sought) Fault → List ℤ → Bool

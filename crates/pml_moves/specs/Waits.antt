@@ -1,11 +1,12 @@
 -- What a process waits for, and which messages it may receive so.
 use Rattle.std.specs.Prelude.{◌≡◌, ℕ, Bool, true, false, ◌&&◌, List, [], ◌∷◌, ℤ, Option, Some, None, slice_get}
 use Rattle.std.specs.Ordering.{int_eq}
+use Rattle.pml_flow.specs.Flow.{Offer}
 use Rattle.pml_moves.specs.declared.moves.Pick.{Pick}
 use Rattle.pml_moves.specs.declared.waits.Wait.{Wait}
 use Rattle.pml_moves.specs.declared.waits.Wait.TheVariants.{Nothing, Channel, Number, Anything}
 use Rattle.pml_moves.specs.State.{Stand, State}
-use Rattle.pml_moves.specs.Search.{Message, pairs_with}
+use Rattle.pml_moves.specs.Search.{Message, last, pairs_on, pairs_with}
 
 abbrev pub begins_with : ℤ → List ℤ → Bool
 begins_with n [] = false
@@ -22,6 +23,14 @@ may_take Anything m = true
 abbrev pub may_at : Option Wait → Message → Bool
 may_at None m = true
 may_at (Some w) m = may_take w m
+
+-- by the offers of a level process j receives no other message
+abbrev pub WaitsOn : State → Bool → ℕ → List Offer → Wait → Type 0
+WaitsOn s t j os w = (k : Pick) (m : Message) (l : ℕ) → may_take w m ≡ false → pairs_on s t k m j l os ≡ []
+
+-- nor by those of the highest level that has a receive of it
+abbrev pub WaitsDown : State → Bool → ℕ → List (List Offer) → Wait → Type 0
+WaitsDown s t j ls w = (k : Pick) (m : Message) → may_take w m ≡ false → last (pairs_on s t k m j) 0 ls ≡ []
 
 -- process j receives no other message
 abbrev pub WaitsFor : State → Bool → ℕ → Stand → Wait → Type 0

@@ -2,7 +2,7 @@
 
 ghost use Rattle.std.specs.Prelude.{◌≡◌, ◌<◌, ◌≤◌, ◌⊎◌, ℕ, IfOk, length, slice_get};
 ghost use Rattle.std.specs.Option.{option_copied};
-ghost use Rattle.pml_moves.specs.Listeners.{place_of, with_one, widened, spans_with, any_with, joined, LiesIn, Hears, AreHeard};
+ghost use Rattle.pml_moves.specs.Listeners.{place_of, with_one, widened, spans_with, any_with, joined, LiesIn, HearsOn, AreHeard};
 
 use crate::waits::Wait;
 use profile::MOST_PROCESSES;
@@ -146,8 +146,7 @@ fn span_at(spans: &[Span], at: usize) -> Option<&Span>
 impl<'k> Known<'k> {
     /// From which process on those lie that may receive on a channel, and before which, where so many live.
     pub fn heard(self, number: i32, count: usize) -> (usize, usize)
-        ensures among { let span = slice_get self.entry.spans.now (place_of number) in
-            (i : ℕ) → i < count → Hears span self.entry.any i → (result.0 ≤ i) × (i < result.1) }
+        ensures among { (i : ℕ) → i < count → HearsOn self.entry number i → (result.0 ≤ i) × (i < result.1) }
         ensures within { result.1 ≤ count }
     {
         match span_at(self.spans, place_of(number)) {

@@ -9,7 +9,7 @@ ghost use Rattle.pml_value.specs.Reads.{seen};
 ghost use Rattle.pml_moves.specs.Executable.{named as names, values};
 ghost use Rattle.pml_moves.specs.Fields.{worth, worths};
 ghost use Rattle.pml_channel.specs.State.{cut};
-ghost use Rattle.pml_moves.specs.Search.{message, message_on, does_match, accepts};
+ghost use Rattle.pml_moves.specs.Search.{message_in, message_on, does_match, accepts};
 
 use crate::executable::{first_fault_of, named};
 use diagnostics::Fault;
@@ -117,7 +117,7 @@ fn message_to<'w, 'p>(
 
 /// What a statement offers to receivers, if nothing in it has a fault.
 pub fn offered<'w, 'p>(view: View<'w>, basic: Option<&'p Basic<'_>>) -> Option<Message<'w, 'p>>
-    ensures { result ≡ message view.entry.channels.now (seen view.entry) (option_copied basic.entry) }
+    ensures { result ≡ message_in view.entry (option_copied basic.entry) }
 {
     match basic {
         Some(Basic::Plain(Action::Send(target, _, fields))) => {

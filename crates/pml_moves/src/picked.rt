@@ -6,7 +6,7 @@ ghost use Rattle.pml_moves.specs.Scene.{IsBody, shows, offers_at, IsPicked};
 ghost use Rattle.pml_moves.specs.Picked.{offer_on, picked as picks};
 
 use crate::moves::Pick;
-use crate::scene::{Body, Scene, Seat};
+use crate::scene::{Body, Scene, seat_at};
 use pml_flow::edge::Edge;
 
 /// An offer: the body in which its process stands, and its edge.
@@ -14,12 +14,6 @@ use pml_flow::edge::Edge;
 pub struct Offered<'w, 'p, 'a> {
     pub body: Body<'w, 'p, 'a>,
     pub edge: &'p Edge,
-}
-
-fn seat_at(seats: &[Seat], process: usize) -> Option<&Seat>
-    ensures { option_copied result ≡ slice_get seats.now process }
-{
-    seats.get(process)
 }
 
 fn edge_at(edges: &[Edge], place: usize) -> Option<&Edge>

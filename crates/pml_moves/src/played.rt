@@ -73,7 +73,8 @@ fn start_of(graphs: &[Graph], kind: usize) -> usize
     }
 }
 
-fn proctype_at<'p, 'a>(program: &'p Program<'a>, kind: usize) -> Option<&'p Proctype<'a>>
+/// The proctype with this number.
+pub fn proctype_at<'p, 'a>(program: &'p Program<'a>, kind: usize) -> Option<&'p Proctype<'a>>
     ensures { option_copied result ≡ slice_get program.now.proctypes kind }
 {
     program.proctypes.as_slice().get(kind)

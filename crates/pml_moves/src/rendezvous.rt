@@ -3,14 +3,14 @@
 
 #![tactic(auto, using(crate::proofs::Keeping::kept_on, crate::proofs::Keeping::kept_same, crate::proofs::Keeping::kept_push))]
 
-ghost use Rattle.std.specs.Prelude.{◌≡◌, ◌++◌, ◌<◌, false, List, [], OnOk, length, map, slice_get};
+ghost use Rattle.std.specs.Prelude.{◌≡◌, ◌++◌, ◌<◌, false, List, [], OnOk, length, slice_get};
 ghost use Rattle.std.specs.Option.{option_copied};
 ghost use Rattle.pml_eval.specs.Value.{Reading};
 ghost use Rattle.pml_value.specs.declared.live_channel.LiveChannel.{LiveChannel};
 ghost use Rattle.pml_moves.specs.Kept.{Extends};
-ghost use Rattle.pml_moves.specs.Scene.{stand_of, IsBody, shows, offers_at};
-ghost use Rattle.pml_moves.specs.Paired.{pair_by, paired_on, paired_with, paired_by};
-ghost use Rattle.pml_moves.specs.Search.{Message as Sent, last, accepts};
+ghost use Rattle.pml_moves.specs.Scene.{IsBody, shows};
+ghost use Rattle.pml_moves.specs.Paired.{pair_by, paired_on, paired_down, paired_with, paired_by};
+ghost use Rattle.pml_moves.specs.Search.{Message as Sent, accepts};
 ghost use Rattle.pml_moves.specs.Waits.{may_at};
 ghost use Rattle.pml_moves.specs.Listeners.{AreKnown};
 
@@ -95,8 +95,7 @@ fn add_pairs_on(
 ) -> Result<(), AllocError>
     requires there { tier.process < length scene.now.stands }
     requires body { IsBody body.now }
-    ensures added { let os = map (shows body.now) edges.now in
-        OnOk result (moves.new.items ≡ moves.old.items ++ paired_on scene.now sending.now tier.process tier.level os) }
+    ensures added { OnOk result (moves.new.items ≡ moves.old.items ++ paired_on scene.now sending.now body.now tier edges.now) }
     ensures kept { Extends moves.new.items moves.old.items }
 {
     for place in 0..edges.len() {
@@ -118,7 +117,7 @@ fn add_pairs_down(
     requires there { j < length scene.now.stands }
     requires body { IsBody body.now }
     requires node { node < length body.now.graph.now.nodes }
-    ensures added { OnOk result (moves.new.items ≡ moves.old.items ++ last (paired_on scene.now sending.now j) 0 (offers_at body.now node)) }
+    ensures added { OnOk result (moves.new.items ≡ moves.old.items ++ paired_down scene.now sending.now body.now j node) }
     ensures kept { Extends moves.new.items moves.old.items }
 {
     let before = moves.len();
@@ -147,7 +146,7 @@ fn add_pairs_in(
     requires there { j < length scene.now.stands }
     requires body { IsBody body.now }
     requires node { node < length body.now.graph.now.nodes }
-    ensures added { OnOk result (moves.new.items ≡ moves.old.items ++ last (paired_on scene.now sending.now j) 0 (offers_at body.now node)) }
+    ensures added { OnOk result (moves.new.items ≡ moves.old.items ++ paired_down scene.now sending.now body.now j node) }
     ensures kept { Extends moves.new.items moves.old.items }
 {
     match body.graph.only_level(node) {
@@ -171,7 +170,7 @@ fn add_pairs_with(
     moves: &mut Vec<Move>,
 ) -> Result<(), AllocError>
     requires there { j < length scene.now.stands }
-    ensures added { OnOk result (moves.new.items ≡ moves.old.items ++ paired_with scene.now sending.now j (stand_of scene.now.program seat)) }
+    ensures added { OnOk result (moves.new.items ≡ moves.old.items ++ paired_with scene.now sending.now j seat) }
     ensures kept { Extends moves.new.items moves.old.items }
 {
     if j == sending.sender.process {
@@ -193,9 +192,9 @@ fn add_pairs_where(
     moves: &mut Vec<Move>,
 ) -> Result<(), AllocError>
     requires there { j < length scene.now.stands }
-    requires waits { let y = stand_of scene.now.program seat in
-        may_at (slice_get waits.now j) sending.now.message ≡ false → paired_with scene.now sending.now j y ≡ [] }
-    ensures added { OnOk result (moves.new.items ≡ moves.old.items ++ paired_with scene.now sending.now j (stand_of scene.now.program seat)) }
+    requires waits { may_at (slice_get waits.now j) sending.now.message ≡ false
+        → paired_with scene.now sending.now j seat ≡ [] }
+    ensures added { OnOk result (moves.new.items ≡ moves.old.items ++ paired_with scene.now sending.now j seat) }
     ensures kept { Extends moves.new.items moves.old.items }
 {
     if !may_receive(waits, j, &sending.message) {

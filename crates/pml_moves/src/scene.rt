@@ -14,7 +14,7 @@ use pml_flow::graph::Graph;
 use pml_flow::statements::Statements;
 use pml_program::program::{Basic, Proctype, Program};
 use pml_value::live_channel::LiveChannel;
-use pml_value::view::View;
+use pml_value::view::{Taker, View};
 use std::marker::Model;
 
 /// A process: the number of its proctype in the model, and the node of its graph where it stands.
@@ -22,6 +22,13 @@ use std::marker::Model;
 pub struct Seat {
     pub kind: usize,
     pub node: usize,
+}
+
+/// The process with this number.
+pub fn seat_at(seats: &[Seat], process: usize) -> Option<&Seat>
+    ensures { option_copied result ≡ slice_get seats.now process }
+{
+    seats.get(process)
 }
 
 /// A state of a model, lent. Contracts see the state.
@@ -117,13 +124,13 @@ impl<'w, 'p, 'a> Scene<'w, 'p, 'a> {
         ensures reads { seen result ≡ reads self.now process timeout }
         ensures channels { result.channels.now ≡ self.now.channels }
     {
-        View {
-            store: &self.state.started.store,
-            channels: self.state.started.channels.as_slice(),
+        let process_count = self.state.seats.len() as u8;
+        let taker = Taker {
             pid: process as u8,
-            process_count: self.state.seats.len() as u8,
+            process_count,
             timeout,
-        }
+        };
+        View::new(&self.state.started.store, self.channels(), taker)
     }
 
     /// The body of the proctype with this number.

@@ -3,13 +3,12 @@
 
 #![tactic(auto, using(crate::proofs::Keeping::kept_on, crate::proofs::Keeping::kept_same, crate::proofs::Keeping::kept_push))]
 
-ghost use Rattle.std.specs.Prelude.{◌≡◌, ◌++◌, ◌<◌, false, [], if◌then◌else◌, OnOk, length, map};
+ghost use Rattle.std.specs.Prelude.{◌≡◌, ◌++◌, ◌<◌, false, [], OnOk, length};
 ghost use Rattle.std.specs.Option.{option_copied};
-ghost use Rattle.pml_value.specs.Reads.{seen};
 ghost use Rattle.pml_moves.specs.Kept.{Extends};
-ghost use Rattle.pml_moves.specs.Scene.{stand_of, IsBody, shows, offers_at, seq_of};
-ghost use Rattle.pml_moves.specs.Search.{message, is_else as else_of, pairs, else_moves, moves_under, moves_held, moves as all_moves, last, only_if};
-ghost use Rattle.pml_moves.specs.Round.{IsKnown, round_for, round_plain, round_on, round_at, round_under};
+ghost use Rattle.pml_moves.specs.Scene.{IsBody, shows};
+ghost use Rattle.pml_moves.specs.Search.{message_in, is_else as else_of, moves_under, moves_held, moves as all_moves, only_if};
+ghost use Rattle.pml_moves.specs.Round.{IsKnown, round_pairs, round_for, round_plain_for, round_plain, else_on, round_on, round_down, round_at, round_under};
 ghost use Rattle.pml_moves.specs.declared.moves.Move.TheVariants.{Alone};
 
 use crate::alone::{can_be_alone, needs_nothing};
@@ -47,8 +46,8 @@ fn add_sent(
     moves: &mut Vec<Move>,
 ) -> Result<(), AllocError>
     requires { IsKnown round.now }
-    ensures added { let m = message view.entry.channels.now (seen view.entry) (option_copied basic.entry) in
-        OnOk result (moves.new.items ≡ moves.old.items ++ pairs round.now.scene.now round.now.timeout offer m) }
+    ensures added { let m = message_in view.entry (option_copied basic.entry) in
+        OnOk result (moves.new.items ≡ moves.old.items ++ round_pairs round.now offer m) }
     ensures kept { Extends moves.new.items moves.old.items }
 {
     match offered(view, basic) {
@@ -81,7 +80,7 @@ fn add_asked(
     requires known { IsKnown round.now }
     requires there { offer.process < length round.now.scene.now.stands }
     requires body { IsBody body.now }
-    ensures added { OnOk result (moves.new.items ≡ moves.old.items ++ round_for round.now (seq_of body.now) offer (shows body.now edge)) }
+    ensures added { OnOk result (moves.new.items ≡ moves.old.items ++ round_for round.now body.now offer edge) }
     ensures kept { Extends moves.new.items moves.old.items }
 {
     let basic = body.basic(edge);
@@ -105,8 +104,7 @@ fn add_plain_by(
     requires known { IsKnown round.now }
     requires there { offer.process < length round.now.scene.now.stands }
     requires body { IsBody body.now }
-    ensures added { let o = shows body.now edge.now in
-        OnOk result (moves.new.items ≡ moves.old.items ++ (if else_of o.basic then [] else round_for round.now (seq_of body.now) offer o)) }
+    ensures added { OnOk result (moves.new.items ≡ moves.old.items ++ round_plain_for round.now body.now offer edge.now) }
     ensures kept { Extends moves.new.items moves.old.items }
 {
     let basic = body.basic(*edge);
@@ -133,8 +131,7 @@ fn add_plain(
     requires known { IsKnown round.now }
     requires there { tier.process < length round.now.scene.now.stands }
     requires body { IsBody body.now }
-    ensures added { let os = map (shows body.now) edges.now in
-        OnOk result (moves.new.items ≡ moves.old.items ++ round_plain round.now tier.process (seq_of body.now) tier.level os) }
+    ensures added { OnOk result (moves.new.items ≡ moves.old.items ++ round_plain round.now body.now tier edges.now) }
     ensures kept { Extends moves.new.items moves.old.items }
 {
     for place in 0..edges.len() {
@@ -172,7 +169,7 @@ fn add_else(
     moves: &mut Vec<Move>,
 ) -> Result<(), AllocError>
     requires { IsBody body.now }
-    ensures added { OnOk result (moves.new.items ≡ moves.old.items ++ else_moves tier.process timeout tier.level (map (shows body.now) edges.now)) }
+    ensures added { OnOk result (moves.new.items ≡ moves.old.items ++ else_on body.now tier timeout edges.now) }
     ensures kept { Extends moves.new.items moves.old.items }
 {
     for place in 0..edges.len() {
@@ -193,8 +190,7 @@ fn add_moves_on(
     requires known { IsKnown round.now }
     requires there { tier.process < length round.now.scene.now.stands }
     requires body { IsBody body.now }
-    ensures added { let os = map (shows body.now) edges.now in
-        OnOk result (moves.new.items ≡ moves.old.items ++ round_on round.now tier.process (seq_of body.now) tier.level os) }
+    ensures added { OnOk result (moves.new.items ≡ moves.old.items ++ round_on round.now body.now tier edges.now) }
     ensures kept { Extends moves.new.items moves.old.items }
 {
     let before = moves.len();
@@ -218,7 +214,7 @@ fn add_moves_down(
     requires there { process < length round.now.scene.now.stands }
     requires body { IsBody body.now }
     requires node { node < length body.now.graph.now.nodes }
-    ensures added { OnOk result (moves.new.items ≡ moves.old.items ++ last (round_on round.now process (seq_of body.now)) 0 (offers_at body.now node)) }
+    ensures added { OnOk result (moves.new.items ≡ moves.old.items ++ round_down round.now body.now process node) }
     ensures kept { Extends moves.new.items moves.old.items }
 {
     let before = moves.len();
@@ -247,7 +243,7 @@ fn add_moves_in(
     requires there { process < length round.now.scene.now.stands }
     requires body { IsBody body.now }
     requires node { node < length body.now.graph.now.nodes }
-    ensures added { OnOk result (moves.new.items ≡ moves.old.items ++ last (round_on round.now process (seq_of body.now)) 0 (offers_at body.now node)) }
+    ensures added { OnOk result (moves.new.items ≡ moves.old.items ++ round_down round.now body.now process node) }
     ensures kept { Extends moves.new.items moves.old.items }
 {
     match body.graph.only_level(node) {
@@ -268,7 +264,7 @@ fn add_moves_at(
 ) -> Result<(), AllocError>
     requires known { IsKnown round.now }
     requires there { process < length round.now.scene.now.stands }
-    ensures added { OnOk result (moves.new.items ≡ moves.old.items ++ round_at round.now process (stand_of round.now.scene.now.program seat)) }
+    ensures added { OnOk result (moves.new.items ≡ moves.old.items ++ round_at round.now process seat) }
     ensures kept { Extends moves.new.items moves.old.items }
 {
     if let Some(body) = round.scene.standing(seat) {

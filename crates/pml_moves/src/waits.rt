@@ -1,15 +1,14 @@
 //! What processes wait for: a send then asks those alone that may receive its message.
 
-ghost use Rattle.std.specs.Prelude.{◌≡◌, ◌<◌, ◌&&◌, ℕ, false, [], IfOk, length, map, slice_get};
+ghost use Rattle.std.specs.Prelude.{◌≡◌, ◌<◌, ◌&&◌, false, IfOk, length, map, slice_get};
 ghost use Rattle.std.specs.Option.{option_copied};
 ghost use Rattle.std.specs.Ordering.{int_eq};
 ghost use Rattle.pml_eval.specs.Value.{Reading, asked_by};
 ghost use Rattle.pml_value.specs.Reads.{seen};
-ghost use Rattle.pml_moves.specs.declared.moves.Pick.{Pick};
 ghost use Rattle.pml_moves.specs.State.{reads};
 ghost use Rattle.pml_moves.specs.Scene.{stand_of, IsBody, shows, offers_at};
-ghost use Rattle.pml_moves.specs.Search.{Message as Sent, accepts, does_match, last, pairs_on};
-ghost use Rattle.pml_moves.specs.Waits.{begins_with, may_take, may_at, WaitsFor, AreWaits};
+ghost use Rattle.pml_moves.specs.Search.{Message as Sent, accepts, does_match};
+ghost use Rattle.pml_moves.specs.Waits.{begins_with, may_take, may_at, WaitsOn, WaitsDown, WaitsFor, AreWaits};
 
 use crate::executable::named;
 use crate::message::Message;
@@ -121,8 +120,7 @@ fn wait_on(
     requires there { j < length scene.now.stands }
     requires body { IsBody body.now }
     ensures one { (m : Sent) → may_take result m ≡ false → may_take so_far m ≡ false }
-    ensures other { let os = map (shows body.now) edges.now in
-        (k : Pick) (m : Sent) (l : ℕ) → may_take result m ≡ false → pairs_on scene.now timeout k m j l os ≡ [] }
+    ensures other { WaitsOn scene.now timeout j (map (shows body.now) edges.now) result }
 {
     let view = scene.view(j, timeout);
     let mut wait = so_far;
@@ -144,7 +142,7 @@ fn wait_down(
     requires there { j < length scene.now.stands }
     requires body { IsBody body.now }
     requires node { node < length body.now.graph.now.nodes }
-    ensures { (k : Pick) (m : Sent) → may_take result m ≡ false → last (pairs_on scene.now timeout k m j) 0 (offers_at body.now node) ≡ [] }
+    ensures { WaitsDown scene.now timeout j (offers_at body.now node) result }
 {
     let mut wait = Wait::Nothing;
     for level in 0..body.graph.level_count(node) {

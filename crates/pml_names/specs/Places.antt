@@ -1,5 +1,6 @@
 -- How a name is found: it has a number, and an owner and a number lead to what is kept for the owner's name.
-use Rattle.std.specs.Prelude.{◌≡◌, ℕ, suc, ◌<◌, List, [], ◌∷◌, if◌then◌else◌, Option, Some, None}
+use Rattle.std.specs.Prelude.{◌≡◌, ℕ, suc, ◌<◌, ◌&&◌, nat_eq, List, [], ◌∷◌, if◌then◌else◌, Option, Some, None}
+use Rattle.std.specs.Str.{bytes_eq}
 use Rattle.std.specs.Ordering.{nat_cmp, ordering_then}
 use Rattle.std.specs.Cmp.Lexicographic.{slice_cmp}
 use Rattle.std.specs.Borrow.{Bor}
@@ -26,6 +27,10 @@ place_by ps o (Some k) = place_in ps o k
 -- what is kept for a name of an owner
 abbrev pub stands : {X : Type 0} → Numbers → Places X → ℕ → List ℕ → Option X
 stands ns ps o n = place_by ps o (number_in ns n)
+
+-- this stands for a name of an owner now, and for each other what stood before
+abbrev pub Puts : {X : Type 0} → (old new : ℕ → List ℕ → Option X) → ℕ → List ℕ → X → Type 0
+Puts old new owner name x = (o : ℕ) (n : List ℕ) → new o n ≡ (if nat_eq owner o && bytes_eq name n then Some x else old o n)
 
 -- no two names have one number
 pub record AreNumbered (ns : Numbers) : Type 0 where

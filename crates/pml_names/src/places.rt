@@ -1,9 +1,8 @@
 //! What is kept for an owner's names. A name is found by the order of names, and never by a hash of its text.
 
-ghost use Rattle.std.specs.Prelude.{◌≡◌, ◌<◌, ◌≤◌, ◌&&◌, nat_eq, if◌then◌else◌, ℕ, List, None, Some, OnOk, OnErr, IfOk};
-ghost use Rattle.std.specs.Str.{bytes_eq};
+ghost use Rattle.std.specs.Prelude.{◌≡◌, ◌<◌, ◌≤◌, ℕ, List, None, Some, OnOk, OnErr, IfOk};
 ghost use Rattle.std.specs.BTreeMap.{btree_map_len};
-ghost use Rattle.pml_names.specs.Places.{AreNumbered, IsKept, number_in, stands};
+ghost use Rattle.pml_names.specs.Places.{AreNumbered, IsKept, Puts, number_in, stands};
 
 use std::alloc::{AllocError, Global};
 use std::collections::BTreeMap;
@@ -62,8 +61,7 @@ impl<'a, T: Copy + Drop> Places<'a, T> {
     pub fn put(&mut self, owner: usize, name: &'a [u8], place: T) -> Result<(), AllocError>
         requires { IsKept self.old.numbers self.old.places }
         ensures kept { IsKept self.new.numbers self.new.places }
-        ensures added { OnOk result ((o : ℕ) (n : List ℕ) → stands self.new.numbers self.new.places o n
-            ≡ (if nat_eq owner o && bytes_eq name.entry.now n then Some place else stands self.old.numbers self.old.places o n)) }
+        ensures added { OnOk result (Puts (stands self.old.numbers self.old.places) (stands self.new.numbers self.new.places) owner name.entry.now place) }
         ensures same { OnErr result ((o : ℕ) (n : List ℕ) → stands self.new.numbers self.new.places o n ≡ stands self.old.numbers self.old.places o n) }
     {
         let number = number(&mut self.numbers, name)?;

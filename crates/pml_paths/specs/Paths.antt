@@ -1,5 +1,5 @@
 -- The path of a cell in words, and what a reference that evaluates to the cell has to do with it.
-use Rattle.std.specs.Prelude.{◌≡◌, ℕ, ◌+◌, ◌*◌, false, List, [], ◌∷◌, ◌++◌, length, slice_get, Option, Some, None, pos, Ok, codes}
+use Rattle.std.specs.Prelude.{◌≡◌, ◌<◌, ℕ, ◌+◌, ◌*◌, false, List, [], ◌∷◌, ◌++◌, length, slice_get, Option, Some, None, pos, Ok, codes}
 use Rattle.pml_tree.specs.declared.tree.Reference.{Reference}
 use Rattle.pml_program.specs.declared.expr.Expr.{Expr}
 use Rattle.pml_program.specs.declared.expr.Turn.{Turn, out-Turn}
@@ -11,6 +11,7 @@ use Rattle.pml_store.specs.declared.place.Place.{Place}
 use Rattle.pml_eval.specs.Value.{Reading, val, place}
 use Rattle.pml_lines.specs.Places.{index, path}
 use Rattle.pml_stands.specs.Known.{Globals}
+use Rattle.pml_stands.specs.Stands.{Place as Meant, StandsReference}
 use Rattle.pml_stands.specs.Tiled.{is_struct, Leads, AreWithin, AreAmong, variables_of, fields_under, names_along, indices_along, names_of}
 
 -- what is behind a step of a path: nothing more, or a dot and the next
@@ -73,3 +74,12 @@ pub record ReadsBack (p : Program) (ss : List Slot) (r : Reference) (x : Target)
   pub names : names_along p.typedefs ss way ≡ names_of r
   pub indices : indices_along way ≡ is
   pub words : path p slot cell ≡ spelled p.typedefs ss way
+
+-- each cell of these variables is printed so
+abbrev pub ArePrinted : Program → List Slot → Type 0
+ArePrinted p ss = (k cell : ℕ) (s : Slot) → slice_get ss k ≡ Some s → cell < s.length * s.stride → Printed p ss s cell
+
+-- each reference to them that is asked of a state reads back
+abbrev pub AreReadBack : Program → List Slot → Type 0
+AreReadBack p ss = (gs : Globals) (ls : List Slot) (r : Reference) (x : Target) (is : List ℕ) (now : Reading)
+    → StandsReference gs ls r (Meant x) → IsAsked p ss gs ls r x is now → ReadsBack p ss r x is now

@@ -9,3 +9,4 @@ pub mod Changing
 pub mod Plain
 pub mod Run
 pub mod EachPath
+pub mod Shown

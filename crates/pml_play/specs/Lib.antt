@@ -3,3 +3,4 @@ pub mod Plays
 pub mod Converts
 pub mod Plain
 pub mod Run
+pub mod Shown

@@ -1,11 +1,13 @@
 -- What is said of a text by its own tokens, where none of them is the word `inline`.
 use Rattle.std.specs.Prelude.{◌≡◌, ℕ, false, List}
 use Rattle.pml_token.specs.Word.{Word}
-use Rattle.pml_lex.specs.Cut.{AreTokens}
+use Rattle.diagnostics.specs.declared.refusal.Refusal.{Refusal}
+use Rattle.pml_lex.specs.Cut.{AreTokens, IsLine}
 use Rattle.pml_lex.specs.Limits.{IsTooDeep}
 use Rattle.pml_inline.specs.Brackets.{has_inline}
 use Rattle.pml_tree.specs.declared.tree.Tree.{Tree}
 use Rattle.pml_syntax.specs.Grammar.{Spells}
+use Rattle.pml_play.specs.Transcript.{IsRefused, IsSpelled}
 
 -- the text's tokens, and no word `inline` is among them
 pub record ArePlain (text : List ℕ) (tokens : List Word) : Type 0 where
@@ -25,3 +27,19 @@ pub record SpellNothing (tokens : List Word) : Type 0 where
 -- each says what the other does
 abbrev pub SayTheSame : Type 0 → Type 0 → Type 0
 SayTheSame A B = (A → B) × (B → A)
+
+-- the text is refused so, at a line of its own, exactly where this holds
+abbrev pub IsRefusedWhere : List ℕ → Refusal → Type 0 → Type 0
+IsRefusedWhere text refusal holds = (line : ℕ) → SayTheSame (IsRefused text refusal line) (holds × IsLine text line)
+
+-- it is refused so at no line
+abbrev pub IsNeverRefused : List ℕ → Refusal → Type 0
+IsNeverRefused text refusal = (line : ℕ) → IsRefused text refusal line → ⊥
+
+-- the text spells a tree exactly where its own tokens do
+abbrev pub SpellTheSame : List ℕ → List Word → Type 0
+SpellTheSame text tokens = (tree : Tree) → SayTheSame (IsSpelled text tree) (SpellItself tokens tree)
+
+-- this holds of each text without the word `inline` and its tokens
+abbrev pub OfEachPlain : (List ℕ → List Word → Type 0) → Type 0
+OfEachPlain says = (text : List ℕ) (tokens : List Word) → ArePlain text tokens → says text tokens

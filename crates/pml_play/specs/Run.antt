@@ -87,3 +87,12 @@ PlaysJustThePath {S} {M} rules limit s session = (path : List (Turn S M)) (numbe
 -- the text stands for this model, and this is the session over it
 abbrev pub IsSessionOver : List ℕ → Options → Running → (List ℕ → Part End) → Type 0
 IsSessionOver text options model session = IsModel text options.lossy model × IsTranscript text options session
+
+-- this holds of each session over a text that stands for a model, by its options and the model
+abbrev pub OfEachSession : (Options → Running → (List ℕ → Part End) → Type 0) → Type 0
+OfEachSession says = (text : List ℕ) (options : Options) (model : Running) (session : List ℕ → Part End)
+    → IsSessionOver text options model session → says options model session
+
+-- whatever the choices are, the session on them runs through a path
+abbrev pub RunsThroughPaths : {S M : Type 0} → Rules S M → ℕ → S → (List ℕ → Part End) → Type 0
+RunsThroughPaths rules limit s session = (choices : List ℕ) → HasRun rules limit s (session choices)

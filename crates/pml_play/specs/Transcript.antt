@@ -105,3 +105,31 @@ HasLine text r.Inline line = line ≡ 0
 pub data IsTranscript (text : List ℕ) (options : Options) : (List ℕ → Part End) → Type 0 where
   of_refusal : {refusal : Refusal} {line : ℕ} → IsRefused text refusal line → IsTranscript text options (refused refusal line Unread)
   of_model : {state : Running} → IsModel text options.lossy state → IsTranscript text options (transcript rules options state)
+
+-- two sessions do the same on all choices
+abbrev pub DoTheSame : (a b : List ℕ → Part End) → Type 0
+DoTheSame a b = (choices : List ℕ) → (a choices).events ≡ (b choices).events
+
+-- the text is refused in one way at most
+abbrev pub HasOneRefusal : List ℕ → Type 0
+HasOneRefusal text = (a b : Refusal) (m n : ℕ) → IsRefused text a m → IsRefused text b n → a ≡ b
+
+-- it stands for one model at most
+abbrev pub HasOneModel : List ℕ → Type 0
+HasOneModel text = (lossy : Bool) (a b : Running) → IsModel text lossy a → IsModel text lossy b → a ≡ b
+
+-- it is not refused where it stands for a model
+abbrev pub IsRefusedOrStands : List ℕ → Type 0
+IsRefusedOrStands text = (a : Refusal) (m : ℕ) (lossy : Bool) (model : Running) → IsRefused text a m → IsModel text lossy model → ⊥
+
+-- it has a transcript
+abbrev pub HasTranscript : List ℕ → Options → Type 0
+HasTranscript text options = (part : List ℕ → Part End) × IsTranscript text options part
+
+-- all its transcripts do the same
+abbrev pub HasOneTranscript : List ℕ → Options → Type 0
+HasOneTranscript text options = (a b : List ℕ → Part End) → IsTranscript text options a → IsTranscript text options b → DoTheSame a b
+
+-- the line that it is refused at is that of the refusal
+abbrev pub HasLines : List ℕ → Type 0
+HasLines text = (refusal : Refusal) (line : ℕ) → IsRefused text refusal line → HasLine text refusal line

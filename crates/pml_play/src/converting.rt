@@ -1,19 +1,17 @@
 //! The conversion of the choices of a session over a text.
 
-ghost use Rattle.std.specs.Prelude.{◌≡◌, ◌≢◌, ℕ, List, None};
-ghost use Rattle.devices.specs.Holdings.{holding};
+ghost use Rattle.std.specs.Prelude.{◌≡◌, ℕ, List};
 ghost use Rattle.session.specs.declared.End.{End};
 ghost use Rattle.session.specs.Part.{Part};
 ghost use Rattle.session.specs.Session.{end_of};
-ghost use Rattle.pml_play.specs.Converts.{Converts, IsAlwaysConverted, cause_rejected};
-ghost use Rattle.pml_play.specs.Plays.{IsReady};
-ghost use Rattle.pml_play.specs.Transcript.{IsModel, IsTranscript};
+ghost use Rattle.pml_play.specs.Converts.{Converts, ConvertsModel, ConvertsReady, IsAlwaysConverted, cause_rejected};
+ghost use Rattle.pml_play.specs.Transcript.{IsTranscript};
 
 use crate::whole::{Rejection, checked_of, expanded_of, world_of};
 use devices::{Sink, Source};
 use pml_check::Checked;
 use pml_sim::world::World;
-use session::{Cause, Conversion, End, Options, end_of};
+use session::{Cause, Conversion, End, Held, Options, end_of};
 use std::alloc::Global;
 
 /// How the conversion over a rejected text ends.
@@ -34,7 +32,7 @@ fn convert_world<S: Source, O: Sink>(
     devices: &mut Conversion<S, O>,
 ) -> End
     ensures left { (left : List ℕ) × S.may_give devices.new.source left }
-    ensures part { (text : List ℕ) → IsModel text options.now.lossy world.entry → Converts text options.now (holding (S.may_give devices.old.source) (O.taken devices.old.out) None (S.failures devices.old.source) (O.failures devices.old.out) 0) (holding (S.may_give devices.new.source) (O.taken devices.new.out) None (S.failures devices.new.source) (O.failures devices.new.out) 0) result }
+    ensures part { let held = ⟦<Conversion<S, O> as Held>⟧.held in ConvertsModel world.entry options.now (held devices.old) (held devices.new) result }
 {
     let mut world = world;
     session::convert(alloc, &mut world, options, devices)
@@ -47,7 +45,7 @@ fn convert_checked<S: Source, O: Sink>(
     options: &Options,
     devices: &mut Conversion<S, O>,
 ) -> End
-    ensures part { (text : List ℕ) → IsReady text checked.now → Converts text options.now (holding (S.may_give devices.old.source) (O.taken devices.old.out) None (S.failures devices.old.source) (O.failures devices.old.out) 0) (holding (S.may_give devices.new.source) (O.taken devices.new.out) None (S.failures devices.new.source) (O.failures devices.new.out) 0) result }
+    ensures part { let held = ⟦<Conversion<S, O> as Held>⟧.held in ConvertsReady checked.now options.now (held devices.old) (held devices.new) result }
 {
     match world_of(alloc, checked, options.lossy) {
         Ok(world) => convert_world(alloc, world, options, devices),
@@ -64,7 +62,7 @@ pub fn convert<S: Source, O: Sink>(
     devices: &mut Conversion<S, O>,
 ) -> End
     ensures left { (left : List ℕ) × S.may_give devices.new.source left }
-    ensures part { Converts text.now options.now (holding (S.may_give devices.old.source) (O.taken devices.old.out) None (S.failures devices.old.source) (O.failures devices.old.out) 0) (holding (S.may_give devices.new.source) (O.taken devices.new.out) None (S.failures devices.new.source) (O.failures devices.new.out) 0) result }
+    ensures part { let held = ⟦<Conversion<S, O> as Held>⟧.held in Converts text.now options.now (held devices.old) (held devices.new) result }
     ensures law { (run : List ℕ → Part End) → IsTranscript text.now options.now run → IsAlwaysConverted run }
 {
     let tokens = match expanded_of(alloc, text) {

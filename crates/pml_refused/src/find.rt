@@ -1,13 +1,14 @@
 //! Why a text is refused, and where.
 
 use crate::control::{breaks_of, of_circle, of_first_point};
+use crate::fields::with_fields;
 use crate::initialiser::of_initialiser;
 use crate::misused::of_misuse;
 use crate::syntax::of_syntax;
 use crate::tree::marks_of;
 use diagnostics::Refusal;
 use pml_causes::cause::{Finding, TextCause};
-use pml_causes::lexical::{left_out, too_deep, too_long, uncut};
+use pml_causes::lexical::{left_out, returned, too_deep, too_long, uncut};
 use pml_causes::place::untold;
 use pml_conditions::condition::Condition;
 use pml_conditions::first::first_broken;
@@ -90,6 +91,20 @@ fn of_controlled<'t, 'a>(
     }
 }
 
+/// What is found at a name that is not declared.
+fn of_name<'t>(
+    alloc: Global,
+    text: &'t [u8],
+    tokens: &[Token<'_>],
+    marks: &[Mark<'_>],
+    at: usize,
+) -> Result<Finding<'t>, AllocError> {
+    match of_unknown(alloc, text, marks, at) {
+        Ok(finding) => Ok(with_fields(text, tokens, finding)),
+        Err(AllocError) => Err(AllocError),
+    }
+}
+
 /// What is found at the mark that breaks a condition.
 fn of_mark<'t, 'a>(
     alloc: Global,
@@ -100,7 +115,7 @@ fn of_mark<'t, 'a>(
 ) -> Result<Finding<'t>, AllocError> {
     let at = broken.at;
     match broken.condition {
-        Condition::Unknown => of_unknown(alloc, text, marks, at),
+        Condition::Unknown => of_name(alloc, text, tokens, marks, at),
         Condition::Wrong => of_wrong(alloc, text, tokens, marks, at),
         Condition::Label => of_label(alloc, text, marks, at),
         Condition::Break | Condition::Step => of_controlled(alloc, broken, text, tokens, marks),
@@ -237,7 +252,7 @@ fn of_tokens<'t>(
     text: &'t [u8],
     tokens: &[Token<'t>],
 ) -> Result<Finding<'t>, AllocError> {
-    match left_out(tokens) {
+    match returned(text, tokens).or(left_out(text, tokens)) {
         Some(finding) => Ok(finding),
         None => of_words(alloc, refusal, text, tokens),
     }

@@ -2,8 +2,10 @@
 #![tactic(auto)]
 
 mod begun;
+mod called;
 mod classes;
 mod control;
+mod fields;
 mod find;
 mod forms;
 mod initialiser;
@@ -12,7 +14,10 @@ mod stopped;
 mod syntax;
 mod tree;
 mod trial;
+mod tried;
+mod typed;
 mod unclosed;
+mod within;
 mod words;
 
 pub use find::cause_of;

@@ -2,7 +2,7 @@
 
 use pml_causes::brackets::{innermost, open_before};
 use pml_causes::cause::Named;
-use pml_causes::place::{closes, is_at, kind_at, named};
+use pml_causes::place::{between, closes, is_at, kind_at, named};
 use pml_token::token::{Kind, Token, same_kind};
 use std::alloc::{AllocError, Global};
 
@@ -59,11 +59,11 @@ pub fn opener_before(
 /// What is told by the token and those in front of it alone.
 #[derive(Clone, Copy)]
 pub enum Neighbours {
-    /// A `{` behind `=`.
+    /// A `{` or a `[` behind `=`.
     List,
     /// A `:` behind `mtype`.
     Subtype,
-    /// A `=` behind an operator.
+    /// A `=` behind an operator, or a `+` behind a `=`.
     Assignment,
     /// `run` and a name stand before it.
     Process,
@@ -75,7 +75,60 @@ pub enum Neighbours {
     Other,
 }
 
-fn is_operator(kind: Kind) -> bool {
+/// Whether a kind is that of a word that is a type.
+pub fn is_type(kind: Kind) -> bool {
+    matches!(
+        kind,
+        Kind::Bit
+            | Kind::Bool
+            | Kind::Byte
+            | Kind::Chan
+            | Kind::Int
+            | Kind::Mtype
+            | Kind::Pid
+            | Kind::Short
+    )
+}
+
+/// Whether a kind is that of a sign that parts statements or declarations.
+fn parts(kind: Kind) -> bool {
+    matches!(
+        kind,
+        Kind::Semicolon
+            | Kind::Arrow
+            | Kind::DoubleColon
+            | Kind::OpenBrace
+            | Kind::CloseBrace
+            | Kind::Fi
+            | Kind::Od
+    )
+}
+
+/// The first token of the statement or of the declaration that a token stands in, as far as signs part them.
+pub fn begin_of(tokens: &[Token<'_>], at: usize) -> usize {
+    let mut begin = 0usize;
+    for (i, token) in tokens.iter().enumerate() {
+        if i >= at {
+            return begin;
+        }
+        if parts(token.kind()) {
+            begin = i.saturating_add(1);
+        }
+    }
+    begin
+}
+
+/// Whether a token of this kind stands before another one in its statement.
+pub fn is_in_statement(tokens: &[Token<'_>], at: usize, kind: Kind) -> bool {
+    for token in between(tokens, begin_of(tokens, at), at) {
+        if same_kind(token.kind(), kind) {
+            return true;
+        }
+    }
+    false
+}
+
+fn is_arithmetic(kind: Kind) -> bool {
     matches!(
         kind,
         Kind::Plus
@@ -91,10 +144,32 @@ fn is_operator(kind: Kind) -> bool {
     )
 }
 
-fn is_operator_before(tokens: &[Token<'_>], at: usize) -> bool {
+/// Whether a sign wants a value behind it.
+fn wants_value(kind: Kind) -> bool {
+    is_arithmetic(kind)
+        || matches!(
+            kind,
+            Kind::Assign
+                | Kind::Equal
+                | Kind::Unequal
+                | Kind::Less
+                | Kind::Greater
+                | Kind::AtMost
+                | Kind::AtLeast
+                | Kind::AndAnd
+                | Kind::OrOr
+                | Kind::Bang
+                | Kind::BangBang
+                | Kind::Query
+                | Kind::QueryQuery
+        )
+}
+
+/// The kind of the token directly before the one at `at`.
+fn kind_in_front(tokens: &[Token<'_>], at: usize) -> Kind {
     match at.checked_sub(1) {
-        Some(place) => is_operator(kind_at(tokens, place)),
-        None => false,
+        Some(place) => kind_at(tokens, place),
+        None => Kind::End,
     }
 }
 
@@ -112,7 +187,8 @@ fn by_words(tokens: &[Token<'_>], at: usize, kind: Kind) -> Neighbours {
     if is_before(tokens, at, 1, Kind::Name) && is_before(tokens, at, 2, Kind::Run) {
         return Neighbours::Process;
     }
-    if is_operator_before(tokens, at) && ends_operand(kind) {
+    let is_same = same_kind(kind, Kind::Arrow) && is_before(tokens, at, 1, Kind::Less);
+    if !is_same && wants_value(kind_in_front(tokens, at)) && ends_operand(kind) {
         return Neighbours::Operand;
     }
     if is_before(tokens, at, 1, Kind::If) || is_before(tokens, at, 1, Kind::Do) {
@@ -125,13 +201,15 @@ fn by_words(tokens: &[Token<'_>], at: usize, kind: Kind) -> Neighbours {
 /// What is told by the token and those in front of it alone.
 pub fn neighbours_of(tokens: &[Token<'_>], at: usize) -> Neighbours {
     let kind = kind_at(tokens, at);
-    if same_kind(kind, Kind::OpenBrace) && is_before(tokens, at, 1, Kind::Assign) {
+    let opens = matches!(kind, Kind::OpenBrace | Kind::OpenBracket);
+    if opens && is_before(tokens, at, 1, Kind::Assign) {
         return Neighbours::List;
     }
     if same_kind(kind, Kind::Colon) && is_before(tokens, at, 1, Kind::Mtype) {
         return Neighbours::Subtype;
     }
-    if same_kind(kind, Kind::Assign) && is_operator_before(tokens, at) {
+    let is_joined = same_kind(kind, Kind::Assign) && is_arithmetic(kind_in_front(tokens, at));
+    if is_joined || (same_kind(kind, Kind::Plus) && is_before(tokens, at, 1, Kind::Assign)) {
         return Neighbours::Assignment;
     }
     if same_kind(kind, Kind::DoubleColon) {

@@ -1,41 +1,39 @@
 //! Where no rule reads the tokens, and what was wanted there.
 
-use crate::classes::classes_at;
-use crate::forms::{form_at, form_within, is_left_open, is_select_range, is_statement};
+use crate::called::{definition_of, is_call, shown_at, value_at};
+use crate::forms::{form_at, kind_before};
 use crate::stopped::{
-    Neighbours, begins_line, is_before, name_at, name_before, neighbours_of, opener_before,
+    Neighbours, begin_of, is_before, name_at, name_before, neighbours_of, opener_before,
 };
-use crate::trial::{Change, reads_on, stop};
+use crate::trial::stop;
+use crate::tried::wanted_by_trial;
+use crate::typed::is_select_range;
 use crate::unclosed::{Brackets, brackets_of};
-use crate::words::{foreign_beside, near_beside, proctype_beside};
+use crate::within::{form_within, has_arrow, is_left_open, is_outside_sign, is_statement};
+use crate::words::{
+    called_variable, foreign_beside, foreign_call, is_typed, near_at, near_beside, no_word,
+    number_beside, proctype_beside, type_before,
+};
 use pml_causes::cause::{Cause, Finding, Named, Place, SyntaxCause, Wanted};
 use pml_causes::foreign::Foreign;
-use pml_causes::place::{at_place, end_of, is_at, kind_at, named, untold};
+use pml_causes::place::{at_place, end_of, is_at, kind_at, untold};
 use pml_token::token::{Kind, Token, same_kind};
 use std::alloc::{AllocError, Global};
 
-/// Where an inline of this name is defined.
-fn definition_of<'t>(text: &'t [u8], originals: &[Token<'_>], name: &[u8]) -> Option<Named<'t>> {
-    let mut defines = false;
-    for token in originals {
-        if defines && token.text() == name {
-            return Some(named(text, token));
-        }
-        defines = matches!(token.kind(), Kind::Inline);
+/// What a list in braces is meant for.
+fn list_at<'t>(tokens: &[Token<'_>], at: usize) -> Wanted<'t> {
+    if is_before(tokens, at, 3, Kind::Mtype) {
+        Wanted::Form(Foreign::NamedMtype)
+    } else {
+        Wanted::NoList
     }
-    None
-}
-
-/// Whether a name with `(` behind it seems to call something.
-fn is_call(tokens: &[Token<'_>], at: usize) -> bool {
-    is_at(tokens, at, Kind::OpenParen) && is_before(tokens, at, 1, Kind::Name)
 }
 
 /// What is told by the token and those in front of it alone.
 fn by_neighbours<'t>(text: &'t [u8], tokens: &[Token<'_>], at: usize) -> Option<Wanted<'t>> {
     let name = name_before(text, tokens, at, 1).name;
     match neighbours_of(tokens, at) {
-        Neighbours::List => Some(Wanted::NoList),
+        Neighbours::List => Some(list_at(tokens, at)),
         Neighbours::Subtype => Some(Wanted::NoSubtype),
         Neighbours::Assignment => Some(Wanted::PlainAssignment),
         Neighbours::Process => Some(Wanted::Arguments(name)),
@@ -45,17 +43,23 @@ fn by_neighbours<'t>(text: &'t [u8], tokens: &[Token<'_>], at: usize) -> Option<
     }
 }
 
-/// What is told by a word or a form of another language, or by the name of a proctype.
+/// What is told by a form of another language, or by the name of a proctype.
 fn by_forms<'t>(text: &'t [u8], tokens: &[Token<'_>], at: usize) -> Option<Wanted<'t>> {
-    if is_select_range(tokens, at) {
-        return Some(Wanted::Foreign(Foreign::SelectRange, &text[..0]));
-    }
-    if let Some(wanted) = foreign_beside(text, tokens, at) {
-        return Some(wanted);
-    }
     match form_at(tokens, at) {
-        Some(form) => Some(Wanted::Foreign(form, &text[..0])),
+        Some(form) => Some(Wanted::Form(form)),
         None => proctype_beside(text, tokens, at),
+    }
+}
+
+/// What is told by a word or a number of another language, or else by a form.
+fn by_words<'t>(text: &'t [u8], tokens: &[Token<'_>], at: usize) -> Option<Wanted<'t>> {
+    if is_select_range(tokens, at) {
+        return Some(Wanted::Form(Foreign::SelectRange));
+    }
+    let word = foreign_beside(text, tokens, at).or(number_beside(text, tokens, at));
+    match word {
+        Some(wanted) => Some(wanted),
+        None => by_forms(text, tokens, at),
     }
 }
 
@@ -63,193 +67,146 @@ fn by_forms<'t>(text: &'t [u8], tokens: &[Token<'_>], at: usize) -> Option<Wante
 fn by_tokens<'t>(text: &'t [u8], tokens: &[Token<'_>], at: usize) -> Option<Wanted<'t>> {
     match by_neighbours(text, tokens, at) {
         Some(wanted) => Some(wanted),
-        None => by_forms(text, tokens, at),
+        None => by_words(text, tokens, at),
     }
 }
 
-/// Of a call of an inline that is not defined before it.
+/// Of a call of what is not declared, in front of the `(` at `at`.
+fn called_name<'t>(tokens: &[Token<'_>], at: usize, name: Named<'t>) -> Wanted<'t> {
+    match kind_before(tokens, at, 2) {
+        Kind::Assign | Kind::OpenParen | Kind::Comma | Kind::Equal | Kind::Plus | Kind::Minus => {
+            Wanted::ForeignWord(Foreign::Function, name)
+        }
+        _ => Wanted::Inline(name, None),
+    }
+}
+
+/// Of a call of a variable, or of an inline that is not defined before it.
 fn by_call<'t>(
     text: &'t [u8],
     originals: &[Token<'_>],
     tokens: &[Token<'_>],
     at: usize,
 ) -> Option<Wanted<'t>> {
-    if is_call(tokens, at) {
-        let name = name_before(text, tokens, at, 1).name;
-        Some(Wanted::Inline(name, definition_of(text, originals, name)))
-    } else {
-        None
+    if !is_call(tokens, at) {
+        return None;
+    }
+    let name = name_before(text, tokens, at, 1);
+    match definition_of(text, originals, name.name) {
+        None => called_variable(text, tokens, at).or(Some(called_name(tokens, at, name))),
+        definition => Some(Wanted::Inline(name, definition)),
     }
 }
 
-/// What is told by what is open at the token, where it is open there.
+/// What a name within `if` or `do` is, where it is the `end` of another language.
+fn end_within<'t>(
+    text: &'t [u8],
+    tokens: &[Token<'_>],
+    opener: usize,
+    at: usize,
+) -> Option<Wanted<'t>> {
+    let name = name_at(text, tokens, at);
+    if name.name != b"end".as_slice() {
+        return None;
+    }
+    match kind_at(tokens, opener) {
+        Kind::If => Some(Wanted::ForeignWord(Foreign::EndIf, name)),
+        Kind::Do => Some(Wanted::ForeignWord(Foreign::EndLoop, name)),
+        _ => None,
+    }
+}
+
+/// Whether a list in brackets or a condition in parentheses goes on at a token that it cannot go on with.
+fn unfit_within<'t>(
+    text: &'t [u8],
+    tokens: &[Token<'_>],
+    opener: usize,
+    at: usize,
+) -> Option<Wanted<'t>> {
+    let kind = kind_at(tokens, at);
+    let is_bracket = is_at(tokens, opener, Kind::OpenBracket);
+    let is_paren = is_at(tokens, opener, Kind::OpenParen);
+    if is_bracket && same_kind(kind, Kind::Comma) {
+        return Some(Wanted::NoList);
+    }
+    if is_paren && same_kind(kind, Kind::Assign) && has_arrow(tokens, opener, at) {
+        Some(Wanted::Closer(name_at(text, tokens, opener)))
+    } else {
+        end_within(text, tokens, opener, at)
+    }
+}
+
+/// What is told by what is open at the token.
 fn within<'t>(
     text: &'t [u8],
     tokens: &[Token<'_>],
     opener: usize,
     at: usize,
 ) -> Option<Wanted<'t>> {
+    if let Some(word) = foreign_call(text, tokens, opener) {
+        return Some(word);
+    }
     if let Some(form) = form_within(tokens, opener, at) {
-        return Some(Wanted::Foreign(form, &text[..0]));
+        return Some(Wanted::Form(form));
     }
     if is_left_open(tokens, opener, kind_at(tokens, at)) {
         Some(Wanted::CloserBefore(name_at(text, tokens, opener)))
     } else {
-        None
+        unfit_within(text, tokens, opener, at)
     }
 }
 
-/// What is told of a statement that stands in no braces.
-fn outside<'t>(text: &'t [u8], tokens: &[Token<'_>], at: usize) -> Option<Wanted<'t>> {
-    if !is_statement(kind_at(tokens, at)) {
-        return None;
-    }
-    match foreign_beside(text, tokens, at) {
-        Some(wanted) => Some(wanted),
-        None => Some(Wanted::Foreign(Foreign::Outside, &text[..0])),
-    }
-}
-
-/// What is told by what is open at the token.
+/// The same of a token that something may be open at.
 fn by_opener<'t>(
     text: &'t [u8],
     tokens: &[Token<'_>],
     opener: Option<usize>,
     at: usize,
 ) -> Option<Wanted<'t>> {
-    match opener {
-        Some(opener) => within(text, tokens, opener, at),
-        None => outside(text, tokens, at),
+    within(text, tokens, opener?, at)
+}
+
+/// What is told of a `=` behind two names, of which the first is no type.
+fn by_type<'t>(
+    alloc: Global,
+    text: &'t [u8],
+    tokens: &[Token<'_>],
+    at: usize,
+) -> Result<Option<Wanted<'t>>, AllocError> {
+    let Some(wanted) = type_before(text, tokens, at) else {
+        return Ok(None);
+    };
+    if let Some(word) = foreign_beside(text, tokens, at) {
+        return Ok(Some(word));
+    }
+    match near_at(alloc, text, tokens, at.saturating_sub(2))? {
+        Some(word) => Ok(Some(word)),
+        None => Ok(Some(wanted)),
     }
 }
 
-fn is_opener(tokens: &[Token<'_>], opener: Option<usize>) -> bool {
-    match opener {
-        Some(at) => is_at(tokens, at, Kind::If) || is_at(tokens, at, Kind::Do),
-        None => false,
-    }
-}
-
-/// Whether `::` is wanted in front of an `else`: it stands in a selection or a loop, and not behind `::`.
-fn wants_option(alloc: Global, tokens: &[Token<'_>], at: usize) -> Result<bool, AllocError> {
-    if !is_at(tokens, at, Kind::Else) {
-        return Ok(false);
-    }
-    let opener = opener_before(alloc, tokens, at)?;
-    Ok(is_opener(tokens, opener))
-}
-
-/// What is told by reading the tokens with a change of one of them.
-#[derive(Clone, Copy)]
-enum Trial {
-    Semicolon,
-    Statement,
-    Run,
-    Name,
-    Nothing,
-    Comma,
-    Untold,
-}
-
-fn is_word(bytes: &[u8]) -> bool {
-    match bytes {
-        [first, ..] => (b'a' <= *first && *first <= b'z') || (b'A' <= *first && *first <= b'Z'),
-        [] => false,
-    }
-}
-
-fn is_word_at(tokens: &[Token<'_>], at: usize) -> bool {
-    match tokens.get(at) {
-        Some(token) => is_word(token.text()),
-        None => false,
-    }
-}
-
-fn is_sign(kind: Kind) -> bool {
-    matches!(kind, Kind::Semicolon | Kind::Comma | Kind::Arrow)
-}
-
-/// What is told by reading the tokens with another one in the place of one of them.
-fn by_change(alloc: Global, tokens: &[Token<'_>], at: usize) -> Result<Trial, AllocError> {
-    let kind = kind_at(tokens, at);
-    if same_kind(kind, Kind::Run) {
-        return Ok(Trial::Run);
-    }
-    if is_word_at(tokens, at) && reads_on(alloc, tokens, at, Change::Replace(Kind::Name, b"x"))? {
-        return Ok(Trial::Name);
-    }
-    if is_sign(kind) && reads_on(alloc, tokens, at, Change::Remove)? {
-        return Ok(Trial::Nothing);
-    }
-    if reads_on(alloc, tokens, at, Change::Insert(Kind::Comma, b","))? {
-        return Ok(Trial::Comma);
-    }
-    Ok(Trial::Untold)
-}
-
-/// Whether a label stands in front of a token.
-fn is_labelled(tokens: &[Token<'_>], at: usize) -> bool {
-    is_before(tokens, at, 1, Kind::Colon) && is_before(tokens, at, 2, Kind::Name)
-}
-
-fn tried(alloc: Global, tokens: &[Token<'_>], at: usize) -> Result<Trial, AllocError> {
-    let semicolon = Change::Insert(Kind::Semicolon, b";");
-    if reads_on(alloc, tokens, at, semicolon)? {
-        return Ok(Trial::Semicolon);
-    }
-    let skip = Change::Insert(Kind::Skip, b"skip");
-    if is_labelled(tokens, at) && reads_on(alloc, tokens, at, skip)? {
-        return Ok(Trial::Statement);
-    }
-    by_change(alloc, tokens, at)
-}
-
-/// A `;` in front of a token, and where.
-fn semicolon<'t>(text: &'t [u8], tokens: &[Token<'_>], at: usize) -> Wanted<'t> {
-    let last = name_before(text, tokens, at, 1);
-    if 0 < at && begins_line(text, name_at(text, tokens, at).offset) {
-        Wanted::SemicolonAtLineEnd(last)
+/// What a token that stands in no braces is meant for.
+fn outside_form(kind: Kind) -> Foreign {
+    if is_statement(kind) {
+        Foreign::Outside
     } else {
-        Wanted::Semicolon
+        Foreign::OutsideSign
     }
 }
 
-/// What is wanted in place of the token, or in front of it.
-fn by_trial<'t>(text: &'t [u8], tokens: &[Token<'_>], at: usize, trial: Trial) -> Wanted<'t> {
-    match trial {
-        Trial::Semicolon => semicolon(text, tokens, at),
-        Trial::Statement => Wanted::Statement(name_before(text, tokens, at, 2).name),
-        Trial::Run => Wanted::NoRun,
-        Trial::Name => Wanted::Name,
-        Trial::Nothing => Wanted::Nothing,
-        Trial::Comma => Wanted::Comma,
-        Trial::Untold => Wanted::Untold,
-    }
-}
-
-fn wanted_by_trial<'t>(
+/// What is told of a statement or a sign that stands in no braces.
+fn outside<'t>(
     alloc: Global,
     text: &'t [u8],
     tokens: &[Token<'_>],
     at: usize,
 ) -> Result<Wanted<'t>, AllocError> {
-    if wants_option(alloc, tokens, at)? {
-        return Ok(Wanted::OptionSign);
+    if let Some(wanted) = foreign_beside(text, tokens, at) {
+        return Ok(wanted);
     }
-    let trial = tried(alloc, tokens, at)?;
-    if let Trial::Untold = trial {
-        return one_of(alloc, tokens, at);
-    }
-    Ok(by_trial(text, tokens, at, trial))
-}
-
-/// What may stand there, by class.
-fn one_of<'t>(alloc: Global, tokens: &[Token<'_>], at: usize) -> Result<Wanted<'t>, AllocError> {
-    let classes = classes_at(alloc, tokens, at)?;
-    if classes.first.is_none() {
-        Ok(Wanted::Untold)
-    } else {
-        Ok(Wanted::OneOf(classes))
+    match near_beside(alloc, text, tokens, at)? {
+        Some(wanted) => Ok(wanted),
+        None => Ok(Wanted::Form(outside_form(kind_at(tokens, at)))),
     }
 }
 
@@ -264,10 +221,40 @@ fn wanted_by_name<'t>(
     if let Some(wanted) = near_beside(alloc, text, tokens, at)? {
         return Ok(wanted);
     }
-    match by_call(text, originals, tokens, at) {
+    let called = by_call(text, originals, tokens, at).or(no_word(text, tokens, at));
+    match called {
         Some(wanted) => Ok(wanted),
-        None => wanted_by_trial(alloc, text, tokens, at),
+        None => {
+            let shown = shown_at(text, originals, tokens, at);
+            wanted_by_trial(alloc, text, tokens, at, shown)
+        }
     }
+}
+
+/// What is told of the tokens where nothing that is open tells it.
+fn wanted_by_tokens<'t>(
+    alloc: Global,
+    text: &'t [u8],
+    originals: &[Token<'_>],
+    tokens: &[Token<'_>],
+    at: usize,
+) -> Result<Wanted<'t>, AllocError> {
+    if let Some(wanted) = by_type(alloc, text, tokens, at)? {
+        return Ok(wanted);
+    }
+    let value = value_at(text, originals, tokens, at);
+    match value.or(by_tokens(text, tokens, at)) {
+        Some(wanted) => Ok(wanted),
+        None => wanted_by_name(alloc, text, originals, tokens, at),
+    }
+}
+
+/// Whether a statement, or a sign that begins no declaration, stands in no braces at a token.
+fn is_outside(tokens: &[Token<'_>], opener: Option<usize>, at: usize) -> bool {
+    let kind = kind_at(tokens, at);
+    let is_first = is_outside_sign(kind) && begin_of(tokens, at) == at;
+    let is_declared = is_typed(tokens, at) || is_before(tokens, at, 2, Kind::Typedef);
+    opener.is_none() && (is_statement(kind) || is_first) && !is_declared
 }
 
 fn wanted_of<'t>(
@@ -281,10 +268,10 @@ fn wanted_of<'t>(
     if let Some(wanted) = by_opener(text, tokens, opener, at) {
         return Ok(wanted);
     }
-    match by_tokens(text, tokens, at) {
-        Some(wanted) => Ok(wanted),
-        None => wanted_by_name(alloc, text, originals, tokens, at),
+    if is_outside(tokens, opener, at) {
+        return outside(alloc, text, tokens, at);
     }
+    wanted_by_tokens(alloc, text, originals, tokens, at)
 }
 
 fn wanted_at<'t>(
@@ -307,17 +294,35 @@ fn found_at<'t>(place: Place, found: &'t [u8], wanted: Wanted<'t>) -> Finding<'t
     at_place(place, Cause::Syntax(SyntaxCause { found, wanted }))
 }
 
-/// What is told of the token at `at`, or of the end where that is what is wanted.
-fn told<'t>(text: &'t [u8], tokens: &[Token<'_>], at: usize, wanted: Wanted<'t>) -> Finding<'t> {
-    let token = name_at(text, tokens, at);
+/// The word before the token that is told of, where it is the word that another one is wanted for.
+fn word_of(wanted: Wanted<'_>) -> Option<Named<'_>> {
+    match wanted {
+        Wanted::ForeignWord(_, word) => Some(word),
+        Wanted::RunOf(_, call) => Some(call),
+        Wanted::Word(name, _) => Some(name),
+        Wanted::NoWord(name) => Some(name),
+        Wanted::NoType(name) => Some(name),
+        Wanted::Index(name) => Some(name),
+        Wanted::InlineValue(name) => Some(name),
+        Wanted::Inline(name, _) => Some(name),
+        _ => None,
+    }
+}
+
+/// What is told of a token, or of the end or a word before it where that is what is wanted.
+fn told<'t>(text: &'t [u8], token: Named<'t>, wanted: Wanted<'t>) -> Finding<'t> {
     if matches!(wanted, Wanted::EndOf(_)) {
         return found_at(end_of(text), &text[..0], wanted);
     }
-    let place = Place {
-        offset: token.offset,
-        length: token.name.len(),
+    let word = match word_of(wanted) {
+        Some(word) => word,
+        None => token,
     };
-    found_at(place, token.name, wanted)
+    let place = Place {
+        offset: word.offset,
+        length: word.name.len(),
+    };
+    found_at(place, word.name, wanted)
 }
 
 /// Of the token that no rule reads.
@@ -328,8 +333,9 @@ fn of_stop<'t>(
     tokens: &[Token<'_>],
     at: usize,
 ) -> Result<Finding<'t>, AllocError> {
+    let token = shown_at(text, originals, tokens, at);
     match wanted_at(alloc, text, originals, tokens, at) {
-        Ok(wanted) => Ok(told(text, tokens, at, wanted)),
+        Ok(wanted) => Ok(told(text, token, wanted)),
         Err(AllocError) => Err(AllocError),
     }
 }

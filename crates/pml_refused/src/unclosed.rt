@@ -1,9 +1,9 @@
 //! Brackets that are not closed, or closed by another one, at the token that no rule reads.
 
 use crate::stopped::opener_before;
-use pml_causes::brackets::fits;
+use pml_causes::brackets::{fits, innermost, open_before};
 use pml_causes::place::{closes, kind_at};
-use pml_token::token::Token;
+use pml_token::token::{Kind, Token};
 use std::alloc::{AllocError, Global};
 
 /// What is told of brackets that do not fit.
@@ -19,9 +19,32 @@ pub enum Brackets {
     Right,
 }
 
-/// Of a token that closes what this opens, or else nothing.
-fn closed_by(tokens: &[Token<'_>], opener: Option<usize>, at: usize) -> Brackets {
-    match opener {
+/// Whether a token of this kind closes what one of that kind opens, or may be meant for it: `fi` and `od` for `if` and `do`.
+fn is_for(kind: Kind, opener: Kind) -> bool {
+    match kind {
+        Kind::CloseParen => matches!(opener, Kind::OpenParen),
+        Kind::CloseBracket => matches!(opener, Kind::OpenBracket),
+        Kind::Fi | Kind::Od => matches!(opener, Kind::If | Kind::Do),
+        _ => true,
+    }
+}
+
+/// Whether a token closes something, and none of these is meant.
+fn is_one_too_many(tokens: &[Token<'_>], open: &[usize], at: usize) -> bool {
+    for opener in open {
+        if is_for(kind_at(tokens, at), kind_at(tokens, *opener)) {
+            return false;
+        }
+    }
+    true
+}
+
+/// Of a token that closes the last of these, or else nothing.
+fn closed_by(tokens: &[Token<'_>], open: &[usize], at: usize) -> Brackets {
+    if is_one_too_many(tokens, open, at) {
+        return Brackets::Nothing;
+    }
+    match innermost(open) {
         Some(opener) => {
             if fits(tokens, opener, at) {
                 Brackets::Right
@@ -55,8 +78,8 @@ fn at_closer(alloc: Global, tokens: &[Token<'_>], at: usize) -> Result<Brackets,
     if !closes(kind_at(tokens, at)) {
         return Ok(Brackets::Right);
     }
-    let opener = opener_before(alloc, tokens, at)?;
-    Ok(closed_by(tokens, opener, at))
+    let open = open_before(alloc, tokens, at)?;
+    Ok(closed_by(tokens, &open, at))
 }
 
 /// What is told of the brackets at a token.

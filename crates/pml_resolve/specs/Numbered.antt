@@ -23,6 +23,8 @@ use Rattle.pml_program.specs.declared.expr.Want.{Want}
 use Rattle.pml_program.specs.declared.expr.Want.TheVariants as w
 use Rattle.pml_program.specs.declared.expr.Target.{Target, roll-Target}
 use Rattle.pml_program.specs.declared.expr.Turn.{Turn, roll-Turn}
+use Rattle.pml_resolve.specs.declared.scope.Scope as code
+use Rattle.pml_resolve.specs.declared.scope.Whose.{Whose}
 use Rattle.pml_resolve.specs.declared.reached.Reached.{Reached}
 use Rattle.pml_resolve.specs.declared.reached.Reached.TheVariants as r
 
@@ -34,6 +36,14 @@ pub record Scope : Type 0 where
 
 abbrev pub scope : List Entry → List Entry → ℕ → Scope
 scope all names o = record { all = all; names = names; owner = o }
+
+-- where the code looks a name up
+abbrev pub scope_of : code.Scope → Scope
+scope_of s = scope s.all.now s.table.now s.owner
+
+-- what is asked of the names of the whole text and of an owner, for this one
+abbrev pub owned : {A : Type 0} → Whose → (List Entry → ℕ → A) → A
+owned w ask = ask w.all.now w.owner
 
 abbrev pub Valued : Type 0
 Valued = Scope → Expr

@@ -4,11 +4,12 @@ ghost use Rattle.std.specs.Prelude.{◌≡◌, map, OnOk, IfOk};
 ghost use Rattle.pml_marks.specs.Marks.{size_of, made_by};
 ghost use Rattle.pml_names.specs.Env.{after};
 ghost use Rattle.pml_names.specs.Totals.{IsTotalled};
-ghost use Rattle.pml_resolve.specs.Numbered.{scope};
+ghost use Rattle.pml_resolve.specs.Numbered.{scope_of};
 ghost use Rattle.pml_resolve.specs.Declarations.{known, natural, plain, initial, slot, declares, with_variable, with_variables};
 
 use crate::expression::expr;
 use crate::room::room_for;
+use crate::scope::Scope;
 use pml_marks::constant::constant;
 use pml_marks::mark::{Constant, Declared, Makes, Role, What};
 use pml_names::names::Names;
@@ -90,15 +91,13 @@ fn forms(alloc: Global, types: &[Scalar]) -> Result<Items<Form>, AllocError>
 fn initial(
     alloc: Global,
     begins: &Option<TreeInitial>,
-    all: &Table,
-    table: &Table,
-    owner: usize,
+    within: Scope<'_, '_, '_>,
 ) -> Result<Initial, AllocError>
-    ensures { IfOk result (λ x. x ≡ initial begins.now (scope all.now table.now owner)) }
+    ensures { IfOk result (λ x. x ≡ initial begins.now (scope_of within.entry)) }
 {
     match begins {
         None => Ok(Initial::Zero),
-        Some(TreeInitial::Value(e)) => Ok(Initial::Value(expr(alloc, e.get(), all, table, owner)?)),
+        Some(TreeInitial::Value(e)) => Ok(Initial::Value(expr(alloc, e.get(), within)?)),
         Some(TreeInitial::Channel(e, types)) => {
             let forms = forms(alloc, types.as_slice())?;
             Ok(Initial::Channel(natural(constant(e.get())), forms))
@@ -131,29 +130,42 @@ fn slot<'a>(name: Token<'a>, initial: Initial, found: Option<Thing>) -> Slot<'a>
     }
 }
 
+/// Whose variables, parameters or fields are declared: those of a typedef, or of a proctype or the whole text, by their number.
+#[derive(Clone, Copy)]
+pub struct Holder {
+    /// Fields, or variables.
+    pub role: Role,
+    /// 0, or the number of a proctype or typedef among the units.
+    pub number: usize,
+}
+
 fn variable<'a>(
     alloc: Global,
     all: &Table,
-    role: Role,
-    holder: usize,
+    holder: Holder,
     v: &Variable<'a>,
     names: &mut Names<'a>,
     slots: &mut Items<Slot<'a>>,
 ) -> Result<(), AllocError>
     requires { IsTotalled names.old.table names.old.totals names.old.constants }
-    ensures known { OnOk result (known names.new.table slots.new ≡ with_variable all.now role holder v.now (known names.old.table slots.old)) }
+    ensures known { OnOk result (known names.new.table slots.new ≡ with_variable all.now holder.role holder.number v.now (known names.old.table slots.old)) }
     ensures totalled { OnOk result (IsTotalled names.new.table names.new.totals names.new.constants) }
 {
-    if names.table.find(holder, v.name.text()).is_some() {
+    if names.table.find(holder.number, v.name.text()).is_some() {
         return Ok(());
     }
-    let user = match role {
+    let user = match holder.role {
         Role::Field => 0,
-        Role::Variable => holder,
+        Role::Variable => holder.number,
     };
-    let initial = initial(alloc, &v.initial, all, &names.table, user)?;
-    declare(holder, &declares(role, v), names)?;
-    let found = names.table.find(holder, v.name.text());
+    let within = Scope {
+        all,
+        table: &names.table,
+        owner: user,
+    };
+    let initial = initial(alloc, &v.initial, within)?;
+    declare(holder.number, &declares(holder.role, v), names)?;
+    let found = names.table.find(holder.number, v.name.text());
     slots.push(slot(v.name.copied(), initial, found))
 }
 
@@ -161,18 +173,17 @@ fn variable<'a>(
 pub fn variables<'a>(
     alloc: Global,
     all: &Table,
-    role: Role,
-    holder: usize,
+    holder: Holder,
     vs: &[Variable<'a>],
     names: &mut Names<'a>,
     slots: &mut Items<Slot<'a>>,
 ) -> Result<(), AllocError>
     requires { IsTotalled names.old.table names.old.totals names.old.constants }
-    ensures known { OnOk result (known names.new.table slots.new ≡ with_variables all.now role holder vs.now (known names.old.table slots.old)) }
+    ensures known { OnOk result (known names.new.table slots.new ≡ with_variables all.now holder.role holder.number vs.now (known names.old.table slots.old)) }
     ensures totalled { OnOk result (IsTotalled names.new.table names.new.totals names.new.constants) }
 {
     for v in vs {
-        variable(alloc, all, role, holder, v, names, slots)?;
+        variable(alloc, all, holder, v, names, slots)?;
     }
     Ok(())
 }

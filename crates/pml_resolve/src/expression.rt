@@ -2,10 +2,11 @@
 
 ghost use Rattle.std.specs.Prelude.{◌≡◌, ◌++◌, map, IfOk, OnOk};
 ghost use Rattle.pml_tree.specs.declared.tree.Reference.{out-Reference};
-ghost use Rattle.pml_resolve.specs.Numbered.{scope, through, placed_by, numbered, numbered_argument, numbered_reference, numbered_step, at_scope, is_local, literal, signed, mtype, read, target, received, turn_of, target_of, no_target};
+ghost use Rattle.pml_resolve.specs.Numbered.{scope_of, through, placed_by, numbered, numbered_argument, numbered_reference, numbered_step, at_scope, is_local, literal, signed, mtype, read, target, received, turn_of, target_of, no_target};
 
 use crate::reached::Reached;
 use crate::room::room_for;
+use crate::scope::Scope;
 use pml_marks::arithmetic::{negative, value as number_value};
 use pml_marks::mark::Constant;
 use pml_names::meaning::{field, is_any, is_count, is_pid, meaning};
@@ -110,60 +111,46 @@ fn turn(offset: u32, v: Variable, index: Option<Boxed<Expr>>) -> Turn
 /// level of nesting takes little of the stack.
 #[cycle(expression)]
 #[inline(never)]
-fn boxed(
-    alloc: Global,
-    e: &TreeExpr,
-    all: &Table,
-    table: &Table,
-    owner: usize,
-) -> Result<Boxed<Expr>, AllocError>
-    ensures { IfOk result (λ x. x ≡ numbered e.now (scope all.now table.now owner)) }
+fn boxed(alloc: Global, e: &TreeExpr, within: Scope<'_, '_, '_>) -> Result<Boxed<Expr>, AllocError>
+    ensures { IfOk result (λ x. x ≡ numbered e.now (scope_of within.entry)) }
 {
     if let TreeExpr::Unary(op, a) = e {
-        let x = boxed(alloc, a.get(), all, table, owner)?;
+        let x = boxed(alloc, a.get(), within)?;
         return Ok(Boxed::new(alloc, Expr::Unary(*op, x))?);
     }
-    let x = expr(alloc, e, all, table, owner)?;
+    let x = expr(alloc, e, within)?;
     Ok(Boxed::new(alloc, x)?)
 }
 
 /// An expression with its names replaced.
 #[cycle(expression)]
-pub fn expr(
-    alloc: Global,
-    e: &TreeExpr,
-    all: &Table,
-    table: &Table,
-    owner: usize,
-) -> Result<Expr, AllocError>
-    ensures { IfOk result (λ x. x ≡ numbered e.now (scope all.now table.now owner)) }
+pub fn expr(alloc: Global, e: &TreeExpr, within: Scope<'_, '_, '_>) -> Result<Expr, AllocError>
+    ensures { IfOk result (λ x. x ≡ numbered e.now (scope_of within.entry)) }
 {
     match e {
         TreeExpr::Number(n) => Ok(Expr::Number(literal(number_value(n.text())))),
         TreeExpr::Truth(b) => Ok(Expr::Number(if *b { 1 } else { 0 })),
         TreeExpr::Timeout => Ok(Expr::Timeout),
-        TreeExpr::Read(r) => Ok(read(reference(alloc, r, all, table, owner)?)),
+        TreeExpr::Read(r) => Ok(read(reference(alloc, r, within)?)),
         TreeExpr::Ask(fill, r) => {
-            let at = reference(alloc, r, all, table, owner)?;
+            let at = reference(alloc, r, within)?;
             Ok(Expr::Ask(*fill, target(alloc, at)))
         }
         TreeExpr::Poll(r, any, arguments) => {
-            let at = reference(alloc, r, all, table, owner)?;
-            let wants = wants(alloc, arguments.as_slice(), all, table, owner)?;
+            let at = reference(alloc, r, within)?;
+            let wants = wants(alloc, arguments.as_slice(), within)?;
             Ok(Expr::Poll(target(alloc, at), *any, wants))
         }
-        TreeExpr::Unary(op, a) => {
-            Ok(Expr::Unary(*op, boxed(alloc, a.get(), all, table, owner)?))
-        }
+        TreeExpr::Unary(op, a) => { Ok(Expr::Unary(*op, boxed(alloc, a.get(), within)?)) }
         TreeExpr::Binary(op, a, b) => {
-            let x = boxed(alloc, a.get(), all, table, owner)?;
-            let y = boxed(alloc, b.get(), all, table, owner)?;
+            let x = boxed(alloc, a.get(), within)?;
+            let y = boxed(alloc, b.get(), within)?;
             Ok(Expr::Binary(*op, x, y))
         }
         TreeExpr::Choice(a, b, c) => {
-            let x = boxed(alloc, a.get(), all, table, owner)?;
-            let y = boxed(alloc, b.get(), all, table, owner)?;
-            let z = boxed(alloc, c.get(), all, table, owner)?;
+            let x = boxed(alloc, a.get(), within)?;
+            let y = boxed(alloc, b.get(), within)?;
+            let z = boxed(alloc, c.get(), within)?;
             Ok(Expr::Choice(x, y, z))
         }
     }
@@ -175,28 +162,20 @@ pub fn expr(
 pub fn wants(
     alloc: Global,
     arguments: &[Argument],
-    all: &Table,
-    table: &Table,
-    owner: usize,
+    within: Scope<'_, '_, '_>,
 ) -> Result<Items<Want>, AllocError>
-    ensures { IfOk result (λ ws. ws ≡ at_scope (map numbered_argument arguments.now) (scope all.now table.now owner)) }
+    ensures { IfOk result (λ ws. ws ≡ at_scope (map numbered_argument arguments.now) (scope_of within.entry)) }
 {
     let mut wants = room_for(alloc, arguments.len())?;
     for argument in arguments {
-        wants.push(want(alloc, argument, all, table, owner)?)?;
+        wants.push(want(alloc, argument, within)?)?;
     }
     Ok(wants)
 }
 
 #[cycle(expression)]
-fn want(
-    alloc: Global,
-    argument: &Argument,
-    all: &Table,
-    table: &Table,
-    owner: usize,
-) -> Result<Want, AllocError>
-    ensures { IfOk result (λ w. w ≡ numbered_argument argument.now (scope all.now table.now owner)) }
+fn want(alloc: Global, argument: &Argument, within: Scope<'_, '_, '_>) -> Result<Want, AllocError>
+    ensures { IfOk result (λ w. w ≡ numbered_argument argument.now (scope_of within.entry)) }
 {
     match argument {
         Argument::Exactly(sign, n) => Ok(Want::Exactly(literal(signed(
@@ -204,8 +183,8 @@ fn want(
             number_value(n.text()),
         )))),
         Argument::Fixed(b) => Ok(Want::Exactly(if *b { 1 } else { 0 })),
-        Argument::Eval(a) => { Ok(Want::Equal(boxed(alloc, a.get(), all, table, owner)?)) }
-        Argument::Into(r) => Ok(received(reference(alloc, r, all, table, owner)?)),
+        Argument::Eval(a) => { Ok(Want::Equal(boxed(alloc, a.get(), within)?)) }
+        Argument::Into(r) => Ok(received(reference(alloc, r, within)?)),
     }
 }
 
@@ -215,11 +194,9 @@ fn want(
 pub fn reference(
     alloc: Global,
     r: &Reference,
-    all: &Table,
-    table: &Table,
-    owner: usize,
+    within: Scope<'_, '_, '_>,
 ) -> Result<Reached, AllocError>
-    ensures { IfOk result (λ p. p ≡ numbered_reference r.now (scope all.now table.now owner)) }
+    ensures { IfOk result (λ p. p ≡ numbered_reference r.now (scope_of within.entry)) }
 {
     let name = r.first.name.text();
     if is_any(name) {
@@ -231,10 +208,10 @@ pub fn reference(
     if is_count(name) {
         return Ok(Reached::ProcessCount);
     }
-    match meaning(all, table, owner, name) {
+    match meaning(within.all, within.table, within.owner, name) {
         Some(Thing::Variable(v)) => {
-            let local = is_local(table, owner, name);
-            Ok(place(alloc, local, v, r, all, table, owner)?)
+            let local = is_local(within.table, within.owner, name);
+            Ok(place(alloc, local, v, r, within)?)
         }
         Some(Thing::Constant(n)) => Ok(Reached::Constant(n)),
         _ => Ok(Reached::Nothing),
@@ -247,23 +224,13 @@ fn place(
     local: bool,
     v: Variable,
     r: &Reference,
-    all: &Table,
-    table: &Table,
-    owner: usize,
+    within: Scope<'_, '_, '_>,
 ) -> Result<Reached, AllocError>
-    ensures { IfOk result (λ p. p ≡ placed_by local v r.now (scope all.now table.now owner)) }
+    ensures { IfOk result (λ p. p ≡ placed_by local v r.now (scope_of within.entry)) }
 {
     let mut turns = room_for(alloc, r.fields.len().saturating_add(1))?;
-    turns.push(turn(0, v, index(alloc, &r.first, all, table, owner)?))?;
-    let form = through(
-        alloc,
-        v.form,
-        r.fields.as_slice(),
-        all,
-        table,
-        owner,
-        &mut turns,
-    )?;
+    turns.push(turn(0, v, index(alloc, &r.first, within)?))?;
+    let form = through(alloc, v.form, r.fields.as_slice(), within, &mut turns)?;
     Ok(Reached::Place(Target {
         local,
         variable: v.number,
@@ -277,19 +244,17 @@ fn through(
     alloc: Global,
     form: Form,
     steps: &[Step],
-    all: &Table,
-    table: &Table,
-    owner: usize,
+    within: Scope<'_, '_, '_>,
     turns: &mut Items<Turn>,
 ) -> Result<Form, AllocError>
-    ensures form { IfOk result (λ f. f ≡ (through form (map numbered_step steps.now) (scope all.now table.now owner)).0) }
-    ensures turns { OnOk result (turns.new ≡ turns.old ++ (through form (map numbered_step steps.now) (scope all.now table.now owner)).1) }
+    ensures form { IfOk result (λ f. f ≡ (through form (map numbered_step steps.now) (scope_of within.entry)).0) }
+    ensures turns { OnOk result (turns.new ≡ turns.old ++ (through form (map numbered_step steps.now) (scope_of within.entry)).1) }
 {
     let mut here = form;
     for step in steps {
-        match field(table, here, step.name.text()) {
+        match field(within.table, here, step.name.text()) {
             Some(Some(Thing::Variable(v))) => {
-                turns.push(turn(v.offset, v, index(alloc, step, all, table, owner)?))?;
+                turns.push(turn(v.offset, v, index(alloc, step, within)?))?;
                 here = v.form;
             }
             _ => return Ok(here),
@@ -302,14 +267,12 @@ fn through(
 fn index(
     alloc: Global,
     step: &Step,
-    all: &Table,
-    table: &Table,
-    owner: usize,
+    within: Scope<'_, '_, '_>,
 ) -> Result<Option<Boxed<Expr>>, AllocError>
-    ensures { IfOk result (λ i. i ≡ (numbered_step step.now).index (scope all.now table.now owner)) }
+    ensures { IfOk result (λ i. i ≡ (numbered_step step.now).index (scope_of within.entry)) }
 {
     match &step.index {
         None => Ok(None),
-        Some(e) => { Ok(Some(boxed(alloc, e.get(), all, table, owner)?)) }
+        Some(e) => { Ok(Some(boxed(alloc, e.get(), within)?)) }
     }
 }

@@ -7,4 +7,5 @@ mod expression;
 pub mod model;
 mod reached;
 mod room;
+mod scope;
 mod statement;

@@ -5,9 +5,11 @@ ghost use Rattle.pml_tree.specs.declared.tree.Unit.TheVariants as part;
 ghost use Rattle.pml_marks.specs.Marks.{of_constants, of_tree};
 ghost use Rattle.pml_names.specs.Env.{env, env_from};
 ghost use Rattle.pml_names.specs.Totals.{IsTotalled};
+ghost use Rattle.pml_resolve.specs.Numbered.{owned};
 ghost use Rattle.pml_resolve.specs.Model.{count, made, with_process, with_unit, numbered_model};
 
-use crate::declare::{declare, natural, variables};
+use crate::declare::{Holder, declare, natural, variables};
+use crate::scope::Whose;
 use crate::statement::seq;
 use pml_marks::constant::constant;
 use pml_marks::mark::{Declared, Role, What};
@@ -63,16 +65,19 @@ fn process<'a>(
     let declared = Declared::Proctype(program.proctypes.len(), p.parameters.len());
     declare(0, &What::Declares(p.name.copied(), declared), names)?;
     let mut slots = Items::new(alloc);
+    let holder = Holder {
+        role: Role::Variable,
+        number: owner,
+    };
     variables(
         alloc,
         all,
-        Role::Variable,
-        owner,
+        holder,
         p.parameters.as_slice(),
         names,
         &mut slots,
     )?;
-    let body = seq(alloc, &p.body, all, owner, names, &mut slots)?;
+    let body = seq(alloc, &p.body, Whose { all, owner }, names, &mut slots)?;
     program.proctypes.push(Proctype {
         name: p.name.copied(),
         owner,
@@ -86,8 +91,7 @@ fn process<'a>(
 
 fn typedef<'a>(
     alloc: Global,
-    all: &Table,
-    number: usize,
+    whose: Whose<'_, '_>,
     name: &Token<'a>,
     vs: &[Variable<'a>],
     names: &mut Names<'a>,
@@ -95,15 +99,19 @@ fn typedef<'a>(
 ) -> Result<(), AllocError>
     requires { IsTotalled names.old.table names.old.totals names.old.constants }
     ensures made { OnOk result (made program.new names.new.table
-        ≡ with_unit all.now number (part.Typedef name.now vs.now) (made program.old names.old.table)) }
+        ≡ owned whose.entry with_unit (part.Typedef name.now vs.now) (made program.old names.old.table)) }
     ensures totalled { OnOk result (IsTotalled names.new.table names.new.totals names.new.constants) }
 {
     let mut fields = Items::new(alloc);
-    variables(alloc, all, Role::Field, number, vs, names, &mut fields)?;
-    let what = What::Declares(name.copied(), Declared::Typedef(number));
+    let holder = Holder {
+        role: Role::Field,
+        number: whose.owner,
+    };
+    variables(alloc, whose.all, holder, vs, names, &mut fields)?;
+    let what = What::Declares(name.copied(), Declared::Typedef(whose.owner));
     declare(0, &what, names)?;
     program.typedefs.push(Fields {
-        owner: number,
+        owner: whose.owner,
         fields,
     })
 }
@@ -121,17 +129,25 @@ fn unit<'a>(
     ensures totalled { OnOk result (IsTotalled names.new.table names.new.totals names.new.constants) }
 {
     match u {
-        Unit::Variables(vs) => variables(
-            alloc,
-            all,
-            Role::Variable,
-            0,
-            vs.as_slice(),
-            names,
-            &mut program.globals,
-        ),
+        Unit::Variables(vs) => {
+            let holder = Holder {
+                role: Role::Variable,
+                number: 0,
+            };
+            variables(
+                alloc,
+                all,
+                holder,
+                vs.as_slice(),
+                names,
+                &mut program.globals,
+            )
+        }
         Unit::Constants(list) => constants(list.as_slice(), names, &mut program.constants),
-        Unit::Typedef(name, vs) => typedef(alloc, all, number, name, vs.as_slice(), names, program),
+        Unit::Typedef(name, vs) => {
+            let whose = Whose { all, owner: number };
+            typedef(alloc, whose, name, vs.as_slice(), names, program)
+        }
         Unit::Proctype(p) => process(alloc, all, number, p, names, program),
     }
 }

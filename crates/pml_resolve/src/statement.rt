@@ -3,14 +3,15 @@
 ghost use Rattle.std.specs.Prelude.{◌≡◌, ◌++◌, map, IfOk, OnOk};
 ghost use Rattle.pml_names.specs.Totals.{IsTotalled};
 ghost use Rattle.pml_resolve.specs.Declarations.{known};
+ghost use Rattle.pml_resolve.specs.Numbered.{owned};
 ghost use Rattle.pml_resolve.specs.Statements.{each, two, stmts, numbered_basic, numbered_item, numbered_seq};
 
 use crate::action::action;
-use crate::declare::variables;
+use crate::declare::{Holder, variables};
 use crate::room::room_for;
+use crate::scope::Whose;
 use pml_marks::mark::Role;
 use pml_names::names::Names;
-use pml_names::table::Table;
 use pml_program::program::{Basic, Seq, Slot, Stmt};
 use pml_token::token::Token;
 use pml_tree::tree::{Basic as TreeBasic, Item, Seq as TreeSeq};
@@ -31,50 +32,45 @@ fn copied<'a>(alloc: Global, labels: &[Token<'a>]) -> Result<Items<Token<'a>>, A
 fn basic<'a>(
     alloc: Global,
     b: &TreeBasic<'a>,
-    all: &Table,
-    owner: usize,
+    whose: Whose<'_, '_>,
     names: &mut Names<'a>,
     slots: &mut Items<Slot<'a>>,
 ) -> Result<Option<Basic<'a>>, AllocError>
     requires { IsTotalled names.old.table names.old.totals names.old.constants }
-    ensures basic { IfOk result (λ x. x ≡ (numbered_basic b.now all.now owner (known names.old.table slots.old)).0) }
-    ensures known { OnOk result (known names.new.table slots.new ≡ (numbered_basic b.now all.now owner (known names.old.table slots.old)).1) }
+    ensures basic { IfOk result (λ x. x ≡ (owned whose.entry (numbered_basic b.now) (known names.old.table slots.old)).0) }
+    ensures known { OnOk result (known names.new.table slots.new ≡ (owned whose.entry (numbered_basic b.now) (known names.old.table slots.old)).1) }
     ensures totalled { OnOk result (IsTotalled names.new.table names.new.totals names.new.constants) }
 {
     match b {
         TreeBasic::Declare(vs) => {
-            variables(
-                alloc,
-                all,
-                Role::Variable,
-                owner,
-                vs.as_slice(),
-                names,
-                slots,
-            )?;
+            let holder = Holder {
+                role: Role::Variable,
+                number: whose.owner,
+            };
+            variables(alloc, whose.all, holder, vs.as_slice(), names, slots)?;
             Ok(None)
         }
         TreeBasic::Exclusive(_) => Ok(None),
         TreeBasic::Plain(a) => {
-            let x = action(alloc, a.get(), all, &names.table, owner)?;
+            let x = action(alloc, a.get(), whose.within(&names.table))?;
             Ok(Some(Basic::Plain(x)))
         }
         TreeBasic::Goto(l) => Ok(Some(Basic::Goto(l.copied()))),
         TreeBasic::Break => Ok(Some(Basic::Break)),
         TreeBasic::If(options) => {
-            let xs = seqs(alloc, options.as_slice(), all, owner, names, slots)?;
+            let xs = seqs(alloc, options.as_slice(), whose, names, slots)?;
             Ok(Some(Basic::If(xs)))
         }
         TreeBasic::Do(options) => {
-            let xs = seqs(alloc, options.as_slice(), all, owner, names, slots)?;
+            let xs = seqs(alloc, options.as_slice(), whose, names, slots)?;
             Ok(Some(Basic::Do(xs)))
         }
-        TreeBasic::Block(s) => Ok(Some(Basic::Block(seq(alloc, s, all, owner, names, slots)?))),
-        TreeBasic::Atomic(s) => Ok(Some(Basic::Atomic(seq(alloc, s, all, owner, names, slots)?))),
-        TreeBasic::DStep(s) => Ok(Some(Basic::DStep(seq(alloc, s, all, owner, names, slots)?))),
+        TreeBasic::Block(s) => Ok(Some(Basic::Block(seq(alloc, s, whose, names, slots)?))),
+        TreeBasic::Atomic(s) => Ok(Some(Basic::Atomic(seq(alloc, s, whose, names, slots)?))),
+        TreeBasic::DStep(s) => Ok(Some(Basic::DStep(seq(alloc, s, whose, names, slots)?))),
         TreeBasic::Unless(main, escape) => {
-            let x = seq(alloc, main, all, owner, names, slots)?;
-            let y = seq(alloc, escape, all, owner, names, slots)?;
+            let x = seq(alloc, main, whose, names, slots)?;
+            let y = seq(alloc, escape, whose, names, slots)?;
             Ok(Some(Basic::Unless(x, y)))
         }
     }
@@ -84,20 +80,19 @@ fn basic<'a>(
 fn item<'a>(
     alloc: Global,
     i: &Item<'a>,
-    all: &Table,
-    owner: usize,
+    whose: Whose<'_, '_>,
     names: &mut Names<'a>,
     slots: &mut Items<Slot<'a>>,
     steps: &mut Items<Stmt<'a>>,
 ) -> Result<(), AllocError>
     requires { IsTotalled names.old.table names.old.totals names.old.constants }
-    ensures steps { OnOk result (steps.new ≡ steps.old ++ (numbered_item i.now all.now owner (known names.old.table slots.old)).0) }
-    ensures known { OnOk result (known names.new.table slots.new ≡ (numbered_item i.now all.now owner (known names.old.table slots.old)).1) }
+    ensures steps { OnOk result (steps.new ≡ steps.old ++ (owned whose.entry (numbered_item i.now) (known names.old.table slots.old)).0) }
+    ensures known { OnOk result (known names.new.table slots.new ≡ (owned whose.entry (numbered_item i.now) (known names.old.table slots.old)).1) }
     ensures totalled { OnOk result (IsTotalled names.new.table names.new.totals names.new.constants) }
 {
     let labels = copied(alloc, i.labels.as_slice())?;
     let tokens = i.tokens.copied(alloc)?;
-    match basic(alloc, i.basic.get(), all, owner, names, slots)? {
+    match basic(alloc, i.basic.get(), whose, names, slots)? {
         None => Ok(()),
         Some(basic) => Ok(steps.push(Stmt {
             labels,
@@ -111,19 +106,18 @@ fn item<'a>(
 fn seqs<'a>(
     alloc: Global,
     ss: &[TreeSeq<'a>],
-    all: &Table,
-    owner: usize,
+    whose: Whose<'_, '_>,
     names: &mut Names<'a>,
     slots: &mut Items<Slot<'a>>,
 ) -> Result<Items<Seq<'a>>, AllocError>
     requires { IsTotalled names.old.table names.old.totals names.old.constants }
-    ensures seqs { IfOk result (λ xs. xs ≡ (each (map numbered_seq ss.now) all.now owner (known names.old.table slots.old)).0) }
-    ensures known { OnOk result (known names.new.table slots.new ≡ (each (map numbered_seq ss.now) all.now owner (known names.old.table slots.old)).1) }
+    ensures seqs { IfOk result (λ xs. xs ≡ (owned whose.entry (each (map numbered_seq ss.now)) (known names.old.table slots.old)).0) }
+    ensures known { OnOk result (known names.new.table slots.new ≡ (owned whose.entry (each (map numbered_seq ss.now)) (known names.old.table slots.old)).1) }
     ensures totalled { OnOk result (IsTotalled names.new.table names.new.totals names.new.constants) }
 {
     let mut seqs = room_for(alloc, ss.len())?;
     for s in ss {
-        seqs.push(seq(alloc, s, all, owner, names, slots)?)?;
+        seqs.push(seq(alloc, s, whose, names, slots)?)?;
     }
     Ok(seqs)
 }
@@ -133,19 +127,18 @@ fn seqs<'a>(
 pub fn seq<'a>(
     alloc: Global,
     s: &TreeSeq<'a>,
-    all: &Table,
-    owner: usize,
+    whose: Whose<'_, '_>,
     names: &mut Names<'a>,
     slots: &mut Items<Slot<'a>>,
 ) -> Result<Seq<'a>, AllocError>
     requires { IsTotalled names.old.table names.old.totals names.old.constants }
-    ensures seq { IfOk result (λ x. x ≡ (numbered_seq s.now all.now owner (known names.old.table slots.old)).0) }
-    ensures known { OnOk result (known names.new.table slots.new ≡ (numbered_seq s.now all.now owner (known names.old.table slots.old)).1) }
+    ensures seq { IfOk result (λ x. x ≡ (owned whose.entry (numbered_seq s.now) (known names.old.table slots.old)).0) }
+    ensures known { OnOk result (known names.new.table slots.new ≡ (owned whose.entry (numbered_seq s.now) (known names.old.table slots.old)).1) }
     ensures totalled { OnOk result (IsTotalled names.new.table names.new.totals names.new.constants) }
 {
     let mut steps = room_for(alloc, s.items.len())?;
     for i in s.items.as_slice() {
-        item(alloc, i, all, owner, names, slots, &mut steps)?;
+        item(alloc, i, whose, names, slots, &mut steps)?;
     }
     Ok(Seq { steps })
 }

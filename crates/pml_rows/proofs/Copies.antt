@@ -41,7 +41,7 @@ use Rattle.pml_texts.specs.Texts.{move_text, origin_of, stuck}
 use Rattle.pml_tree.specs.declared.tree.Removal.{Removal}
 use Rattle.pml_tree.specs.declared.tree.Search.{Search}
 use Rattle.pml_tree.specs.declared.tree.SendOrder.{SendOrder}
-use Rattle.pml_value.specs.Messages.{Received, changed, contents_at, found, stores, taken_from, with_fields, with_message}
+use Rattle.pml_value.specs.Messages.{Received, changed, stores, taken_at, with_fields, with_message}
 use Rattle.pml_value.specs.Reads.{channel_at}
 use Rattle.pml_value.specs.declared.live_channel.LiveChannel.{LiveChannel}
 use Rattle.pml_value.specs.declared.statement.Goes.{Goes}
@@ -94,8 +94,7 @@ module _ (means : Means) where
   messages-asked_at cs r t ws = messages-named cs r t (length ws) >>= λ n. value-asked_by ws r >>= λ ss. Ok (n, ss)
 
   abbrev pub messages-received : List LiveChannel → Reading → Target → Search → Removal → List Want → Result Received Fault
-  messages-received cs r t search how ws =
-      messages-asked_at cs r t ws >>= λ x. Ok (taken_from cs x.0 how x.1 (found search x.1 (contents_at cs x.0).messages))
+  messages-received cs r t search how ws = messages-asked_at cs r t ws >>= λ x. Ok (taken_at cs x.0 search how x.1)
 
   abbrev pub messages-asserted : Expr → Reading → Result (Unit {0}) Fault
   messages-asserted e r = means.val e r >>= λ v. if is_zero v then Err AssertionViolated else Ok tt
@@ -316,11 +315,17 @@ module _ (means : Means) where
   abbrev pub outcome-run_into : State → ℕ → Bool → Option Target → Run → Result State Fault
   outcome-run_into s p t x q = created-ran s (reads s p t) q >>= λ now. put_by now (statement-goes_to x (run_number s) (reads now p t))
 
+  abbrev pub outcome-sends : State → ℕ → Bool → Target → SendOrder → List Expr → Result State Fault
+  outcome-sends s p t q order es = with_sent s (messages-sent s.channels (reads s p t) q order es)
+
+  abbrev pub outcome-receives : State → ℕ → Bool → Target → Search → Removal → List Want → Result State Fault
+  outcome-receives s p t q search how ws = with_received s (messages-received s.channels (reads s p t) q search how ws)
+
   abbrev pub outcome-does : State → ℕ → Bool → Action → Result Done Fault
   outcome-does s p t (actions.Run q) = created-ran s (reads s p t) q >>= quiet
   outcome-does s p t (actions.AssignRun x q) = outcome-run_into s p t x q >>= quiet
-  outcome-does s p t (actions.Send q order es) = with_sent s (messages-sent s.channels (reads s p t) q order es) >>= quiet
-  outcome-does s p t (actions.Receive q search how ws) = with_received s (messages-received s.channels (reads s p t) q search how ws) >>= quiet
+  outcome-does s p t (actions.Send q order es) = outcome-sends s p t q order es >>= quiet
+  outcome-does s p t (actions.Receive q search how ws) = outcome-receives s p t q search how ws >>= quiet
   outcome-does s p t (actions.Printf text es) = prints_string s text.text (messages-values es (reads s p t))
   outcome-does s p t (actions.Printm e) = prints_name s (means.val e (reads s p t))
   outcome-does s p t (actions.Assert e) = messages-asserted e (reads s p t) >>= λ u. quiet s
@@ -357,9 +362,12 @@ module _ (means : Means) where
   outcome-taken most s p t b o (Some (DStep d)) = outcome-within_from most s p t b o.entry
   outcome-taken most s p t b o x = outcome-effect s p t x
 
+  abbrev pub outcome-offer_taken : ℕ → State → Pick → Bool → Offer → Result Done Fault
+  outcome-offer_taken most s k t o = outcome-taken most s k.process t (body_by s (slice_get s.stands k.process)) o o.basic
+
   abbrev pub outcome-alone : ℕ → State → Pick → Bool → Option Offer → Result Done Fault
   outcome-alone most s k t None = quiet s
-  outcome-alone most s k t (Some o) = outcome-taken most s k.process t (body_by s (slice_get s.stands k.process)) o o.basic >>= moved k.process o
+  outcome-alone most s k t (Some o) = outcome-offer_taken most s k t o >>= moved k.process o
 
   abbrev pub outcome-passed : Reading → Option Message → Option Basic → Result (List Goes) Fault
   outcome-passed r (Some m) (Some (Plain (actions.Receive q search how ws))) = value-asked_by ws r >>= λ ss. Ok (stores ss m.fields)

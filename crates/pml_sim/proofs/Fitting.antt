@@ -81,7 +81,7 @@ kept_fit most place short answer.Hundred stream left h = refl
 kept_fit most place short answer.Misfit stream left h = refl
 
 module _ {S M : Type 0} (rules : Rules S M) (options : Options) (Is : S → Type 0) (goes : (s t : S) (m : M) (printed : List ℕ) → Is s → rules.step s m ≡ Goes t printed → Is t)
-    (short : (s : S) (first : M) (moves : List M) → Is s → rules.moves s ≡ moves → AreShort (length moves) (place_of rules s first moves)) where
+    (short : (s : S) (moves : List M) → Is s → rules.moves s ≡ moves → AreShort (length moves) (place_of rules s moves)) where
   abbrev IsFit : (Stream → List ℕ → Part End) → Type 0
   IsFit part = (stream : Stream) (rest : List ℕ) → AreFit (part stream rest).events
 
@@ -105,16 +105,16 @@ module _ {S M : Type 0} (rules : Rules S M) (options : Options) (Is : S → Type
   answered_fit s moves start steps later ih is answer.Hundred stream left = refl
   answered_fit s moves start steps later ih is answer.Misfit stream left = refl
 
-  select_fit : (s : S) (moves : List M) → ((first : M) → AreShort (length moves) (place_of rules s first moves)) → (stream : Stream) (rest : List ℕ) → AreFit (select First rules s moves stream rest).events
+  select_fit : (s : S) (moves : List M) → AreShort (length moves) (place_of rules s moves) → (stream : Stream) (rest : List ℕ) → AreFit (select First rules s moves stream rest).events
   unfolding select
   select_fit s [] h stream rest = refl
   select_fit s (m ∷ []) h stream rest = refl
   select_fit s (m ∷ k ∷ ms) h stream rest =
       let most = length (m ∷ k ∷ ms) in
-      let place = place_of rules s m (m ∷ k ∷ ms) in
+      let place = place_of rules s (m ∷ k ∷ ms) in
       let asked = ask most place (most_bad_lines - 1) stream rest in
       fit_both asked.events (kept First place asked.value asked.stream asked.left).events (ask_fit most place (most_bad_lines - 1) stream rest)
-      (kept_fit most place (h m) asked.value asked.stream asked.left (ask_range most place (most_bad_lines - 1) stream rest))
+      (kept_fit most place h asked.value asked.stream asked.left (ask_range most place (most_bad_lines - 1) stream rest))
 
   none_fit : (fuel : ℕ) (s : S) (steps : ℕ) → rules.moves s ≡ [] → IsFit (story First rules options fuel s steps)
   none_fit fuel s steps is stream rest = same_fit _ (finished (rules.is_valid s) (rules.stuck s) steps stream rest) (story_none First rules options s steps stream fuel is rest) refl
@@ -133,7 +133,7 @@ module _ {S M : Type 0} (rules : Rules S M) (options : Options) (Is : S → Type
           let moves = m ∷ ms in
           let chosen = select First rules s moves stream rest in
           same_fit _ (answer_part First rules options s steps stream fuel moves m rest) (story_some First rules options s steps stream fuel m ms e rest)
-          (fit_both chosen.events (answered rules options s moves m steps (λ t o q. story First rules options fuel t (steps + 1) o q) chosen.value chosen.stream chosen.left).events (select_fit s moves (λ first. short s first moves is e) stream rest)
+          (fit_both chosen.events (answered rules options s moves m steps (λ t o q. story First rules options fuel t (steps + 1) o q) chosen.value chosen.stream chosen.left).events (select_fit s moves (short s moves is e) stream rest)
           (answered_fit s moves m steps (λ t o q. story First rules options fuel t (steps + 1) o q) ih is chosen.value chosen.stream chosen.left))
 
   pub session_fits : (s : S) → Is s → (choices : List ℕ) → AreFit (transcript rules options s choices).events

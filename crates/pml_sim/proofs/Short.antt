@@ -3,6 +3,7 @@ use Rattle.std.proofs.Common.{◌≡◌, ℕ, ◌+◌, ◌-◌, ◌*◌, ◌<◌
 use Rattle.std.specs.Prelude.{slice_get, slice_index_or, IfSome}
 use Rattle.std.specs.List.{AllByRecursion, Contains}
 use Rattle.std.proofs.lemmas.List.{length-take, length-map}
+use Rattle.std.proofs.lemmas.Option.{slice_get-get_or}
 use Rattle.diagnostics.specs.declared.fault.Fault.{Fault}
 use Rattle.session.specs.declared.Options.{Options}
 use Rattle.session.specs.Convert.{StandsForRecord}
@@ -111,14 +112,19 @@ number_fits w h n within =
     let digits = few_digits 42 n (omega (arith, few, within)) in
     omega (arith, digits)
 
-short : (w : Running) (m : Move) (ms : List Move) → IsLightHere w → moves w ≡ ms → (n : ℕ) → 0 < n → n ≤ length ms → length (placed_line n (place_of rules w m ms n)) ≤ most_line_bytes + 1
-short w m ms h e n some within =
+short_from : (w : Running) (m : Move) (ms : List Move) → IsLightHere w → moves w ≡ ms → (n : ℕ) → 0 < n → n ≤ length ms → length (placed_line n (place_of rules w ms n)) ≤ most_line_bytes + 1
+short_from w m ms h e n some within =
     let k = slice_index_or ms (n - 1) m in
+    let is : slice_get ms (n - 1) ≡ Some k = slice_get-get_or ms (n - 1) m (omega (arith, some, within)) in
     let there : Contains (moves w) k = subst (λ (l : List Move). Contains l k) (sym e) (picked_is_there ms n m some within) in
     let few : length ms ≤ 255 * (most * (255 * most + 1) + most + 1) = subst (λ (l : List Move). length l ≤ 255 * (most * (255 * most + 1) + most + 1)) e (listed_few w.state w.halt h) in
     let lives = process_lives w.state k (listed_within w k there) in
     let all = h.few in
-    short_line n (origin_of w.state k).0 (origin_of w.state k).1 (omega (arith, few, within)) (omega (arith, lives, all)) (line_light w.state k h)
+    rw is (short_line n (origin_of w.state k).0 (origin_of w.state k).1 (omega (arith, few, within)) (omega (arith, lives, all)) (line_light w.state k h))
+
+short : (w : Running) (ms : List Move) → IsLightHere w → moves w ≡ ms → (n : ℕ) → 0 < n → n ≤ length ms → length (placed_line n (place_of rules w ms n)) ≤ most_line_bytes + 1
+short w [] h e n some within = absurd (omega (arith, some, within))
+short w (m ∷ ms) h e n some within = short_from w m (m ∷ ms) h e n some within
 
 -- a session of a model whose bodies weigh no more leads, on its converted choices, where its record leads
 pub light_stands : (w : Running) (options : Options) → IsLightState most w.state → (choices : List ℕ) → StandsForRecord (transcript rules options w) choices

@@ -3,11 +3,13 @@
 ghost use Rattle.std.specs.Prelude.{◌≡◌, ◌≤◌, ◌++◌, [], IfOk, OnOk, OnErr, length, option_map};
 ghost use Rattle.std.specs.Io.{StartsWith};
 ghost use Rattle.std.specs.List.{Contains};
+ghost use Rattle.std.specs.Option.{option_copied};
 ghost use Rattle.profile.specs.declared.TheConstants.{MOST_CHANNELS, MOST_PROCESSES};
 ghost use Rattle.session.specs.Takes.{CanBeTaken, StaysStopped, TakesStep};
 ghost use Rattle.pml_start.specs.Begin.{shown};
 ghost use Rattle.pml_start.specs.Bound.{bound, IsBounded};
 ghost use Rattle.pml_start.specs.Start.{IsDeclared};
+ghost use Rattle.pml_value.specs.Reads.{channel_at};
 ghost use Rattle.pml_steps.specs.Footprint.{held};
 ghost use Rattle.pml_texts.specs.Charts.{told};
 ghost use Rattle.pml_texts.specs.Ends as ends;
@@ -18,19 +20,23 @@ ghost use Rattle.pml_sim.specs.World.{IsFirst};
 use crate::ending::Ending;
 use crate::halt::Halt;
 use diagnostics::Stop;
+use pml_channel::channel::Channel;
 use pml_check::Checked;
 use pml_lines::change::{Wanted, logged_lines};
 use pml_lines::changed::{Change, logged_changes, value_line};
 use pml_lines::tables::Tables;
 use pml_moves::moves::Move;
 use pml_moves::played::Played;
+use pml_moves::scene::Scene;
 use pml_moves::search::add_moves;
 use pml_start::start::start_by;
 use pml_start::started::Started;
 use pml_steps::live::Live;
 use pml_steps::take::take;
+use pml_store::store::Store;
 use pml_texts::ends::{add_stuck, is_valid, stuck};
 use pml_texts::texts::{add_move, origin};
+use pml_value::view::named;
 use session::{Machine, Report};
 use std::alloc::{AllocError, Global};
 use std::marker::Model;
@@ -203,6 +209,56 @@ impl<'p, 'a> World<'p, 'a> {
         ensures channels { length self.now.state.channels ≤ MOST_CHANNELS }
     {
         self.live.footprint()
+    }
+
+    /// The present state, lent.
+    pub fn scene(&self) -> Scene<'_, 'p, 'a>
+        ensures { result ≡ self.now.state }
+    {
+        self.live.scene()
+    }
+
+    /// The tables of its model, lent.
+    pub fn tables(&self) -> &Tables<'p, 'a>
+        ensures { result.now ≡ self.now.state.program }
+    {
+        &self.tables
+    }
+
+    /// Its variables, lent.
+    pub fn variables(&self) -> &Store
+        ensures { result.now.frames ≡ self.now.state.frames }
+    {
+        self.live.variables()
+    }
+
+    /// How many processes live.
+    pub fn process_count(&self) -> usize
+        ensures value { result ≡ length self.now.state.stands }
+        ensures few { result ≤ MOST_PROCESSES }
+    {
+        self.live.scene().process_count()
+    }
+
+    /// The process that has exclusive control.
+    pub fn holder(&self) -> Option<usize>
+        ensures { result ≡ self.now.state.holder }
+    {
+        self.live.scene().holder()
+    }
+
+    /// How many channels live.
+    pub fn channel_count(&self) -> usize
+        ensures { result ≡ length self.now.state.channels }
+    {
+        self.live.scene().channels().len()
+    }
+
+    /// The channel with this number, from 1 on.
+    pub fn channel(&self, number: i32) -> Option<&Channel>
+        ensures { option_copied result ≡ channel_at self.now.state.channels number }
+    {
+        named(self.live.scene().channels(), number)
     }
 
     /// Appends the value lines of the last step.

@@ -15,7 +15,7 @@ use Rattle.pml_program.specs.declared.expr.Target.{Target, Target-F, out-Target}
 use Rattle.pml_program.specs.declared.expr.Expr.{Expr}
 use Rattle.pml_program.specs.declared.expr.Want.{Want}
 use Rattle.pml_stands.specs.Known.{Structure, Globals, cells, counted}
-use Rattle.pml_stands.specs.Stands.{Meaning, Place}
+use Rattle.pml_stands.specs.Stands.{Meaning, Place, StandsReference}
 
 -- the fields of the typedef whose owner this is
 abbrev pub fields_at : List Fields → ℕ → Option (List Slot)
@@ -155,3 +155,7 @@ TargetLeads gs ls ts names x =
 abbrev pub LeadsAs : Globals → List Slot → List Fields → List (List ℕ) → Meaning → Type 0
 LeadsAs gs ls ts names (Place t) = TargetLeads gs ls ts names (out-Target t)
 LeadsAs gs ls ts names _ = Unit {0}
+
+-- each reference that means a place leads there
+abbrev pub ReferencesLead : Globals → List Slot → List Fields → Type 0
+ReferencesLead gs ls ts = (r : Reference) (m : Meaning) → StandsReference gs ls r m → LeadsAs gs ls ts (names_of r) m

@@ -7,9 +7,7 @@ ghost use Rattle.pml_program.specs.declared.program.Program.{Program};
 ghost use Rattle.pml_resolve.specs.Model.{numbered_model};
 ghost use Rattle.pml_stands.specs.StandsModel.{StandsModel};
 ghost use Rattle.pml_stands.specs.Known.{Globals};
-ghost use Rattle.pml_stands.specs.Stands.{Meaning, StandsReference};
-ghost use Rattle.pml_stands.specs.Tiled.{IsTiled, IsOwner, HasPaths, AreAmong, names_of, LeadsAs};
-ghost use Rattle.pml_tree.specs.declared.tree.Reference.{Reference};
+ghost use Rattle.pml_stands.specs.Tiled.{IsTiled, IsOwner, HasPaths, AreAmong, ReferencesLead};
 ghost use Rattle.pml_program.specs.declared.program.Fields.{Fields};
 
 /// A tree stands for its numbered model: the one that `check` answers where the tree is not refused.
@@ -38,6 +36,5 @@ pub fn each_cell_has_one_path()
 /// from the same variable leads to, where the typedefs before it are those of the model: the path of its names, each of them found, and
 /// of its indices.
 pub fn references_lead()
-    ensures { (gs : Globals) (ls : List Slot) (ts : List Fields) (r : Reference) (m : Meaning) → AreAmong gs.typedefs ts
-        → StandsReference gs ls r m → LeadsAs gs ls ts (names_of r) m }
+    ensures { (gs : Globals) (ls : List Slot) (ts : List Fields) → AreAmong gs.typedefs ts → ReferencesLead gs ls ts }
 {}

@@ -20,7 +20,7 @@ use pml_program::form::Form;
 use pml_program::program::{Initial, Slot};
 use pml_store::place::Place;
 use pml_value::live_channel::LiveChannel;
-use pml_value::view::View;
+use pml_value::view::{Taker, View};
 use profile::{MOST_CHANNELS, MOST_MESSAGES};
 use sqlite_items::Items;
 use std::alloc::{AllocError, Global};
@@ -31,13 +31,12 @@ fn initial_value(started: &Started, value: &Expr, form: Form) -> Result<i32, Fau
     ensures { result ≡ initial_value value.now form (shown started.now) }
 {
     let count = started.kinds.len();
-    let view = View {
-        store: &started.store,
-        channels: started.channels.as_slice(),
+    let taker = Taker {
         pid: count.saturating_sub(1) as u8,
         process_count: count as u8,
         timeout: false,
     };
+    let view = View::new(&started.store, started.channels.as_slice(), taker);
     let number = eval(value, &view)?;
     Ok(clip(form, number))
 }
@@ -114,7 +113,6 @@ fn begin_cell(
 
 /// What a cell of a variable begins with, by the variable or the field that has it.
 fn begin_leaf(
-    alloc: Global,
     beginnings: &Beginnings<'_, '_>,
     started: &mut Started,
     variable: usize,
@@ -125,6 +123,7 @@ fn begin_leaf(
     ensures value { Begins (leaf_begun beginnings.now slot.now variable cell (shown started.old)) result (shown started.new) }
     ensures keeps { Keeps started.old started.new }
 {
+    let alloc = *started.channels.allocator();
     let (place, _) = beginnings.typedefs().leaf(slot, cell);
     match place {
         None => begin_cell(alloc, started, variable, cell, slot),
@@ -137,7 +136,6 @@ fn begin_leaf(
 
 /// The same, where it is known before.
 fn begin_known(
-    alloc: Global,
     beginnings: &Beginnings<'_, '_>,
     started: &mut Started,
     variable: usize,
@@ -154,7 +152,7 @@ fn begin_known(
         Beginning::Nothing => Ok(()),
         Beginning::Number(number) => store_number(started, variable, cell, number),
         Beginning::Fails(fault) => Err(Stop::Fault(fault)),
-        Beginning::Channel => begin_leaf(alloc, beginnings, started, variable, slot, cell),
+        Beginning::Channel => begin_leaf(beginnings, started, variable, slot, cell),
     }
 }
 
@@ -177,7 +175,7 @@ fn begin_fields(
     let element = beginnings.element(alloc, slot).map_err(|_| Stop::Memory)?;
     for cell in 0..size(slot) {
         let known = element[remainder(cell, slot.stride)];
-        begin_known(alloc, beginnings, started, variable, slot, cell, known)?;
+        begin_known(beginnings, started, variable, slot, cell, known)?;
     }
     Ok(())
 }

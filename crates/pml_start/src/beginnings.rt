@@ -15,7 +15,7 @@ use pml_program::expr::Expr;
 use pml_program::form::Form;
 use pml_program::program::{Fields, Initial, Slot};
 use pml_store::store::Store;
-use pml_value::view::View;
+use pml_value::view::{Taker, View};
 use sqlite_items::Items;
 use std::alloc::{AllocError, Global};
 use std::marker::Model;
@@ -35,13 +35,12 @@ pub fn constant(alloc: Global, value: &Expr, form: Form) -> Result<i32, Fault>
     ensures { result ≡ initial_value value.now form nothing }
 {
     let store = Store::new(alloc, 0);
-    let view = View {
-        store: &store,
-        channels: &[],
+    let nobody = Taker {
         pid: 0,
         process_count: 0,
         timeout: false,
     };
+    let view = View::new(&store, &[], nobody);
     let number = eval(value, &view)?;
     Ok(clip(form, number))
 }

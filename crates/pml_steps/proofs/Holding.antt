@@ -17,13 +17,14 @@ use Rattle.pml_tree.specs.declared.tree.Removal.TheVariants as removal
 use Rattle.pml_program.specs.declared.expr.Expr.{Expr}
 use Rattle.pml_program.specs.declared.expr.Target.{Target}
 use Rattle.pml_program.specs.declared.expr.Want.{Want}
-use Rattle.pml_value.specs.Reads.{reading_of}
+use Rattle.pml_value.specs.declared.view.Taker.{Taker}
+use Rattle.pml_value.specs.Reads.{read_by}
 use Rattle.pml_store.specs.declared.place.Place.{Place}
 use Rattle.pml_store.specs.Store.{Contents, Frame, size_at, stored}
 use Rattle.pml_value.specs.declared.statement.Goes.{Goes}
 use Rattle.pml_value.specs.declared.live_channel.LiveChannel.{LiveChannel}
 use Rattle.pml_value.specs.Statement.{TakesStatement}
-use Rattle.pml_value.specs.Messages.{changed, contents_at, ordered, with_message, addressed, sent, found, without, taken_from, asked_at, received, Received, stored_all, SendsMessage, ReceivesMessage}
+use Rattle.pml_value.specs.Messages.{changed, contents_at, ordered, with_message, addressed, sent, found, without, taken_from, taken_at, asked_at, received, Received, stored_all, SendsMessage, ReceivesMessage}
 use Rattle.pml_start.specs.Begin.{shape}
 use Rattle.pml_start.specs.Bound.{room, most_room, AreBounded}
 use Rattle.pml_start.proofs.Shapes.{shape-with_number}
@@ -31,7 +32,7 @@ use Rattle.pml_moves.specs.declared.scene.Seat.{Seat}
 use Rattle.pml_moves.specs.State.{State, reads}
 use Rattle.pml_steps.specs.Change.{put, put_all, put_by, put_any, with_sent, with_received}
 use Rattle.pml_steps.specs.Outcome.{quiet}
-use Rattle.pml_steps.specs.Live.{Leads, Does, StoresAll}
+use Rattle.pml_steps.specs.Live.{Leads, Does, ReadsAs, StoresAll}
 use Rattle.pml_steps.specs.Passing.{AreIn, Refuses}
 use Rattle.pml_steps.specs.Held.{IsHeld, live_of}
 
@@ -214,7 +215,7 @@ taken_rooms cs n how ws None = refl
 taken_rooms cs n how ws (Some m) = changed_rooms n (without how m) cs (without_keeps_room how m)
 
 received_rooms : (x : Result (ℕ × List Sought) Fault) (search : Search) (how : Removal) (r : Result (Unit {0}) Stop) (old new : Contents) (cs ds : List LiveChannel) →
-    ReceivesMessage (x >>= λ y. Ok (taken_from cs y.0 how y.1 (found search y.1 (contents_at cs y.0).messages))) r old new cs ds → map room ds ≡ map room cs
+    ReceivesMessage (x >>= λ y. Ok (taken_at cs y.0 search how y.1)) r old new cs ds → map room ds ≡ map room cs
 received_rooms (Ok x) search how (Ok u) old new cs ds h = ap (map room) h.1 ∙ taken_rooms cs x.0 how x.1 (found search x.1 (contents_at cs x.0).messages)
 received_rooms (Ok x) search how (Err stop.Memory) old new cs ds h = ap (map room) h.1
 received_rooms (Ok x) search how (Err (stop.Fault f)) old new cs ds h = absurd h
@@ -223,7 +224,7 @@ received_rooms (Err f) search how (Err stop.Memory) old new cs ds h = absurd h
 received_rooms (Err f) search how (Err (stop.Fault g)) old new cs ds h = ap (map room) h.2
 
 received_length : (x : Result (ℕ × List Sought) Fault) (search : Search) (how : Removal) (r : Result (Unit {0}) Stop) (old new : Contents) (cs ds : List LiveChannel) →
-    ReceivesMessage (x >>= λ y. Ok (taken_from cs y.0 how y.1 (found search y.1 (contents_at cs y.0).messages))) r old new cs ds → length ds ≡ length cs
+    ReceivesMessage (x >>= λ y. Ok (taken_at cs y.0 search how y.1)) r old new cs ds → length ds ≡ length cs
 received_length x search how r old new cs ds h = as_many cs ds (received_rooms x search how r old new cs ds h)
 
 -- with as much room, no more than the model says
@@ -240,28 +241,25 @@ kept_whole n xs ys e l =
 
 -- ---- the same of what calls read by other names
 
-module _ (p : Program) (store : Contents) (cs : List LiveChannel) (xs : List Seat) (holder : Option ℕ) (lossy : Bool) (process : ℕ) (timeout : Bool) (pid count : ℕ) (t : Bool) where
+module _ (p : Program) (store : Contents) (cs : List LiveChannel) (xs : List Seat) (holder : Option ℕ) (lossy : Bool) (process : ℕ) (timeout : Bool) (k : Taker) where
   abbrev before : State
   before = (live_of p store cs xs holder lossy).state
 
-  abbrev ReadsSame : Type 0
-  ReadsSame = (fs : List Frame) (es : List LiveChannel) → reading_of fs es pid count t ≡ reading_of fs es process (length before.stands) timeout
-
-  pub sent_lives : (n : ℕ) (ds es : List LiveChannel) (target : Target) (order : SendOrder) (fields : List Expr) (r : Result (Unit {0}) Stop) → n ≡ length cs → ds ≡ cs → ReadsSame
-      → SendsMessage (sent ds (reading_of store.frames ds pid count t) target order fields) r ds es
+  pub sent_lives : (n : ℕ) (ds es : List LiveChannel) (target : Target) (order : SendOrder) (fields : List Expr) (r : Result (Unit {0}) Stop) → n ≡ length cs → ds ≡ cs → ReadsAs k process (length before.stands) timeout
+      → SendsMessage (sent ds (read_by store.frames ds k) target order fields) r ds es
       → Leads (with_sent before (sent before.channels (reads before process timeout) target order fields)) r (record before { channels = take n (es ++ drop (length es) cs) })
   sent_lives n ds es target order fields r count_is e same h =
-      let one : SendsMessage (sent cs (reading_of store.frames cs pid count t) target order fields) r cs es = subst (λ (l : List LiveChannel). SendsMessage (sent l (reading_of store.frames l pid count t) target order fields) r l es) e h in
+      let one : SendsMessage (sent cs (read_by store.frames cs k) target order fields) r cs es = subst (λ (l : List LiveChannel). SendsMessage (sent l (read_by store.frames l k) target order fields) r l es) e h in
       let two : SendsMessage (sent cs (reads before process timeout) target order fields) r cs es = subst (λ (g : Reading). SendsMessage (sent cs g target order fields) r cs es) (same store.frames cs) one in
       let whole = kept_whole n es cs count_is (sent_length (addressed cs (reads before process timeout) target fields) order r cs es two) in
       sent_leads before (sent cs (reads before process timeout) target order fields) r (take n (es ++ drop (length es) cs))
       (subst (λ (l : List LiveChannel). SendsMessage (sent cs (reads before process timeout) target order fields) r cs l) (sym whole) two)
 
-  pub received_lives : (n : ℕ) (ds es : List LiveChannel) (new : Contents) (target : Target) (search : Search) (removal : Removal) (wants : List Want) (r : Result (Unit {0}) Stop) → n ≡ length cs → ds ≡ cs → ReadsSame
-      → ReceivesMessage (received ds (reading_of store.frames ds pid count t) target search removal wants) r store new ds es
+  pub received_lives : (n : ℕ) (ds es : List LiveChannel) (new : Contents) (target : Target) (search : Search) (removal : Removal) (wants : List Want) (r : Result (Unit {0}) Stop) → n ≡ length cs → ds ≡ cs → ReadsAs k process (length before.stands) timeout
+      → ReceivesMessage (received ds (read_by store.frames ds k) target search removal wants) r store new ds es
       → Leads (with_received before (received before.channels (reads before process timeout) target search removal wants)) r (live_of p new (take n (es ++ drop (length es) cs)) xs holder lossy).state
   received_lives n ds es new target search removal wants r count_is e same h =
-      let one : ReceivesMessage (received cs (reading_of store.frames cs pid count t) target search removal wants) r store new cs es = subst (λ (l : List LiveChannel). ReceivesMessage (received l (reading_of store.frames l pid count t) target search removal wants) r store new l es) e h in
+      let one : ReceivesMessage (received cs (read_by store.frames cs k) target search removal wants) r store new cs es = subst (λ (l : List LiveChannel). ReceivesMessage (received l (read_by store.frames l k) target search removal wants) r store new l es) e h in
       let two : ReceivesMessage (received cs (reads before process timeout) target search removal wants) r store new cs es = subst (λ (g : Reading). ReceivesMessage (received cs g target search removal wants) r store new cs es) (same store.frames cs) one in
       let whole = kept_whole n es cs count_is (received_length (asked_at cs (reads before process timeout) target wants) search removal r store new cs es two) in
       received_leads p cs (take n (es ++ drop (length es) cs)) xs holder lossy store new (received cs (reads before process timeout) target search removal wants) r

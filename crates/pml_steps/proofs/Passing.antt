@@ -9,7 +9,8 @@ use Rattle.pml_store.specs.Store.{Contents, stored}
 use Rattle.pml_value.specs.declared.statement.Goes.{Goes}
 use Rattle.pml_value.specs.Messages.{goes_of, stores, stored_all, AreAsLarge, StoresSome}
 use Rattle.pml_value.proofs.Storing.{size-stored}
-use Rattle.pml_steps.specs.Passing.{IsIn, AreIn}
+use Rattle.pml_value.specs.Statement.{IsIn}
+use Rattle.pml_steps.specs.Passing.{AreIn}
 
 stored-behind : (s : Contents) (gs hs : List Goes) → stored_all s (gs ++ hs) ≡ stored_all (stored_all s gs) hs
 stored-behind s [] hs = refl

@@ -1,5 +1,5 @@
 -- One statement inside a d_step.
-use Rattle.std.specs.Prelude.{◌≡◌, ℕ, Bool, if◌then◌else◌, List, ◌++◌, Option, Some, None, Result, Ok, Err}
+use Rattle.std.specs.Prelude.{◌≡◌, ℕ, Bool, if◌then◌else◌, List, ◌++◌, Option, Some, None, Result, Ok, Err, slice_get}
 use Rattle.std.specs.Option.{option_copied}
 use Rattle.diagnostics.specs.declared.fault.Fault.{Fault}
 use Rattle.diagnostics.specs.declared.fault.Fault.TheVariants.{DStepBlocks}
@@ -15,7 +15,7 @@ use Rattle.pml_moves.specs.Search.{choices, first}
 use Rattle.pml_steps.specs.declared.within.Choice.{Choice}
 use Rattle.pml_steps.specs.declared.within.Inner.{Inner}
 use Rattle.pml_steps.specs.declared.within.Inner.TheVariants.{Left, At}
-use Rattle.pml_steps.specs.Outcome.{Done, effect}
+use Rattle.pml_steps.specs.Outcome.{Done, body_by, effect}
 
 -- what is chosen, the place behind it known by its node
 abbrev pub Chooses : Seq → Option Offer → Option Choice → Type 0
@@ -23,6 +23,14 @@ Chooses b None None = Unit {0}
 Chooses b (Some o) (Some k) = (option_copied k.basic ≡ o.basic) × (point_at b k.next ≡ o.next) × (k.stays ≡ o.stays)
 Chooses b None (Some k) = ⊥
 Chooses b (Some o) None = ⊥
+
+-- the first that can be taken at a point of a body
+abbrev pub choice_at : State → ℕ → Bool → Seq → Control → Option Offer
+choice_at s p t b c = first (choices s.lossy s.channels (reads s p t) (levels b c))
+
+-- it is chosen at a node of the body in which a process stands
+abbrev pub ChoosesAt : State → ℕ → Bool → ℕ → Option Choice → Type 0
+ChoosesAt s p t n result = (b : Seq) → body_by s (slice_get s.stands p) ≡ Some b → Chooses b (choice_at s p t b (point_at b n)) result
 
 -- What one statement does, and what is to do then inside the d_step; none where control has left.
 pub record Advance : Type 0 where
@@ -38,7 +46,7 @@ advanced_by s p t (Some o) = effect s p t o.basic >>= then_at o
 
 -- the first choice of a point is taken
 abbrev pub advanced : State → ℕ → Bool → Seq → Control → Result Advance Fault
-advanced s p t b c = advanced_by s p t (first (choices s.lossy s.channels (reads s p t) (levels b c)))
+advanced s p t b c = advanced_by s p t (choice_at s p t b c)
 
 -- it is done, what it prints is appended, and this is where control is; or its fault is answered, or memory is refused
 abbrev pub Advances : Seq → Result Advance Fault → Result Inner Stop → State → List ℕ → List ℕ → Type 0
@@ -49,3 +57,8 @@ Advances b (Ok x) (Err (stop.Fault f)) new before after = ⊥
 Advances b (Err f) (Err (stop.Fault g)) new before after = g ≡ f
 Advances b (Err f) (Err stop.Memory) new before after = Unit {0}
 Advances b (Err f) (Ok i) new before after = ⊥
+
+-- so it does at a node of the body in which a process stands
+abbrev pub AdvancesAt : State → ℕ → Bool → ℕ → Result Inner Stop → State → List ℕ → List ℕ → Type 0
+AdvancesAt s p t n result new before after = (b : Seq) → body_by s (slice_get s.stands p) ≡ Some b →
+    Advances b (advanced s p t b (point_at b n)) result new before after

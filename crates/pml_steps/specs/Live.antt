@@ -1,5 +1,6 @@
 -- A state and the log of its step, and what calls make of them.
-use Rattle.std.specs.Prelude.{◌≡◌, ℕ, Bool, List, ◌++◌, ℤ, if◌then◌else◌, Option, Some, None, Result, Ok, Err}
+use Rattle.std.specs.Prelude.{◌≡◌, ℕ, Bool, List, ◌++◌, ℤ, if◌then◌else◌, Option, Some, None, Result, Ok, Err, OnOk, OnErr}
+use Rattle.std.specs.Io.{StartsWith}
 use Rattle.diagnostics.specs.declared.fault.Fault.{Fault}
 use Rattle.diagnostics.specs.declared.stop.Stop.{Stop}
 use Rattle.diagnostics.specs.declared.stop.Stop.TheVariants as stop
@@ -9,8 +10,8 @@ use Rattle.pml_value.specs.Messages.{StoresSome, stored_all}
 use Rattle.pml_moves.specs.State.{Stand, State}
 use Rattle.pml_flow.specs.declared.edge.Edge.{Edge}
 use Rattle.pml_value.specs.declared.live_channel.LiveChannel.{LiveChannel}
-use Rattle.pml_value.specs.declared.message.Taker.{Taker}
-use Rattle.pml_value.specs.Reads.{reading_of}
+use Rattle.pml_value.specs.declared.view.Taker.{Taker}
+use Rattle.pml_value.specs.Reads.{read_by, reading_of}
 use Rattle.pml_steps.specs.Change.{go_to}
 use Rattle.pml_steps.specs.Outcome.{Done, control_of}
 
@@ -39,6 +40,12 @@ pub record Joins (old new : State) : Type 0 where
 abbrev pub PastGrows : Live → Live → Type 0
 PastGrows old new = (rest : List Frame) × (past new ≡ past old ++ rest)
 
+-- What a call of a step leaves: processes are added at most, the log leads back to what it did, and what was printed before stays.
+pub record Grows (result : Result (Unit {0}) Stop) (old new : Live) (before after : List ℕ) : Type 0 where
+  pub joins : Joins old.state new.state
+  pub past : OnOk result (PastGrows old new)
+  pub kept : OnErr result (StartsWith after before)
+
 -- a process stands at a node of its graph
 abbrev pub at_node : Live → ℕ → ℕ → Live
 at_node l p n = record l { state = go_to l.state p (control_of l.state p n) }
@@ -49,25 +56,24 @@ along l p e = record l { state = record (go_to l.state p (control_of l.state p e
 
 -- it reads what the process with this number reads, where so many live
 abbrev pub ReadsAs : Taker → ℕ → ℕ → Bool → Type 0
-ReadsAs k p n t = (fs : List Frame) (cs : List LiveChannel) → reading_of fs cs k.pid k.process_count k.timeout ≡ reading_of fs cs p n t
+ReadsAs k p n t = (fs : List Frame) (cs : List LiveChannel) → read_by fs cs k ≡ reading_of fs cs p n t
 
--- it leads to this state; or its fault is answered, or memory is refused
+-- what is wanted is reached; or its fault is answered, or memory is refused
+abbrev pub Reaches : {A : Type 0} → Result A Fault → Result (Unit {0}) Stop → (A → Type 0) → Type 0
+Reaches (Ok a) (Ok u) Is = Is a
+Reaches (Ok a) (Err stop.Memory) Is = Unit {0}
+Reaches (Ok a) (Err (stop.Fault f)) Is = ⊥
+Reaches (Err f) (Err (stop.Fault g)) Is = g ≡ f
+Reaches (Err f) (Err stop.Memory) Is = Unit {0}
+Reaches (Err f) (Ok u) Is = ⊥
+
+-- it leads to this state
 abbrev pub Leads : Result State Fault → Result (Unit {0}) Stop → State → Type 0
-Leads (Ok s) (Ok u) new = new ≡ s
-Leads (Ok s) (Err stop.Memory) new = Unit {0}
-Leads (Ok s) (Err (stop.Fault f)) new = ⊥
-Leads (Err f) (Err (stop.Fault g)) new = g ≡ f
-Leads (Err f) (Err stop.Memory) new = Unit {0}
-Leads (Err f) (Ok u) new = ⊥
+Leads wanted result new = Reaches wanted result (λ s. new ≡ s)
 
--- it is done, and what it prints is appended; or its fault is answered, or memory is refused
+-- it is done, and what it prints is appended
 abbrev pub Does : Result Done Fault → Result (Unit {0}) Stop → State → List ℕ → List ℕ → Type 0
-Does (Ok d) (Ok u) new before after = (new ≡ d.state) × (after ≡ before ++ d.printed)
-Does (Ok d) (Err stop.Memory) new before after = Unit {0}
-Does (Ok d) (Err (stop.Fault f)) new before after = ⊥
-Does (Err f) (Err (stop.Fault g)) new before after = g ≡ f
-Does (Err f) (Err stop.Memory) new before after = Unit {0}
-Does (Err f) (Ok u) new before after = ⊥
+Does wanted result new before after = Reaches wanted result (λ d. (new ≡ d.state) × (after ≡ before ++ d.printed))
 
 -- numbers are stored from left to right, or the fault is answered and nothing changes; for want of memory a part is stored
 abbrev pub StoresAll : Result (List Goes) Fault → Result (Unit {0}) Stop → Contents → Contents → Type 0

@@ -18,7 +18,9 @@ use Rattle.pml_flow.specs.Flow.{Offer}
 use Rattle.pml_eval.specs.Value.{Reading, val, asked_by, ◌>>=◌}
 use Rattle.pml_value.specs.declared.statement.Goes.{Goes}
 use Rattle.pml_value.specs.Statement.{outcome, goes_to}
+use Rattle.pml_value.specs.declared.receive.Reception.{Reception}
 use Rattle.pml_value.specs.Messages.{sent, received, stores, values, asserted}
+use Rattle.pml_value.specs.Reception.{received_by}
 use Rattle.pml_lines.specs.Places.{named}
 use Rattle.pml_printed.specs.Printed.{printed}
 use Rattle.pml_moves.specs.declared.moves.Pick.{Pick}
@@ -64,6 +66,10 @@ sends s p t q order es = with_sent s (sent s.channels (reads s p t) q order es)
 
 abbrev pub receives : State → ℕ → Bool → Target → Search → Removal → List Want → Result State Fault
 receives s p t q search how ws = with_received s (received s.channels (reads s p t) q search how ws)
+
+-- the same by what the receive says
+abbrev pub receives_by : State → ℕ → Bool → Reception → Result State Fault
+receives_by s p t x = with_received s (received_by s.channels (reads s p t) x)
 
 abbrev pub does : State → ℕ → Bool → Action → Result Done Fault
 does s p t (a.Run q) = ran s (reads s p t) q >>= quiet
@@ -139,9 +145,13 @@ control_of s p n = control_at (body_by s (slice_get s.stands p)) n
 abbrev pub moved : ℕ → Offer → Done → Result Done Fault
 moved p o d = Ok (record d { state = went d.state p o })
 
+-- the statement of an offer, in the body of the process that is picked
+abbrev pub offer_taken : ℕ → State → Pick → Bool → Offer → Result Done Fault
+offer_taken most s k t o = taken most s k.process t (body_by s (slice_get s.stands k.process)) o o.basic
+
 abbrev pub alone : ℕ → State → Pick → Bool → Option Offer → Result Done Fault
 alone most s k t None = quiet s
-alone most s k t (Some o) = taken most s k.process t (body_by s (slice_get s.stands k.process)) o o.basic >>= moved k.process o
+alone most s k t (Some o) = offer_taken most s k t o >>= moved k.process o
 
 -- what the receiver of a message stores, by what it asks before the step
 abbrev pub passed : Reading → Option Message → Option Basic → Result (List Goes) Fault

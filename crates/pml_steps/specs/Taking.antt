@@ -1,6 +1,7 @@
 -- What a move is taken by.
-use Rattle.std.specs.Prelude.{◌≡◌, ℕ, ◌<◌, length, Option, Some, slice_get}
+use Rattle.std.specs.Prelude.{◌≡◌, ℕ, ◌<◌, Bool, List, length, Option, Some, Result, slice_get}
 use Rattle.std.specs.Option.{option_copied}
+use Rattle.diagnostics.specs.declared.stop.Stop.{Stop}
 use Rattle.pml_program.specs.declared.program.Seq.{Seq}
 use Rattle.pml_flow.specs.Flow.{maybe, Offer as Offered}
 use Rattle.pml_flow.specs.Points.{point_at}
@@ -10,8 +11,8 @@ use Rattle.pml_moves.specs.declared.moves.Move.TheVariants.{Death, Alone, Pair}
 use Rattle.pml_moves.specs.State.{State}
 use Rattle.pml_moves.specs.Picked.{picked}
 use Rattle.pml_steps.specs.declared.take.Offer.{Offer}
-use Rattle.pml_steps.specs.Outcome.{body_by}
-use Rattle.pml_steps.specs.Live.{Live, PastGrows}
+use Rattle.pml_steps.specs.Outcome.{body_by, within_from, offer_taken}
+use Rattle.pml_steps.specs.Live.{Live, Does, PastGrows}
 
 -- It is what a pick names, in the body in which its process stands.
 pub record IsOffer (s : State) (k : Pick) (x : Offer) : Type 0 where
@@ -24,6 +25,15 @@ pub record IsOffer (s : State) (k : Pick) (x : Offer) : Type 0 where
   pub next : point_at body x.edge.now.target ≡ offer.next
   pub keeps : x.edge.now.keeps ≡ offer.keeps
   pub entry : maybe (point_at body) x.edge.now.entry ≡ offer.entry
+
+-- Inside the body in which a process stands, the statements of a d_step from this node on are done, at most so many of them.
+abbrev pub DoesWithin : ℕ → State → ℕ → Bool → Option ℕ → Result (Unit {0}) Stop → State → List ℕ → List ℕ → Type 0
+DoesWithin most s p t entry result new before after = (b : Seq) → body_by s (slice_get s.stands p) ≡ Some b →
+    Does (within_from most s p t (Some b) (maybe (point_at b) entry)) result new before after
+
+-- the statement of the offer that is picked is done
+abbrev pub DoesOffer : ℕ → State → Pick → Bool → Result (Unit {0}) Stop → State → List ℕ → List ℕ → Type 0
+DoesOffer most s k t result new before after = (o : Offered) → picked s k ≡ Some o → Does (offer_taken most s k t o) result new before after
 
 -- where a process dies, there is one
 abbrev pub CanDie : State → Move → Type 0

@@ -1,10 +1,9 @@
 //! The arguments of `run` and of `printf`, and where the number of a new process goes.
 
-ghost use Rattle.std.specs.Prelude.{◌≡◌, ◌<◌, IfOk, IfErr, IfSome, Ok};
-ghost use Rattle.pml_store.specs.Store.{size_at};
+ghost use Rattle.std.specs.Prelude.{◌≡◌, IfOk, IfErr, IfSome, Ok};
 ghost use Rattle.pml_value.specs.Messages.{values};
 ghost use Rattle.pml_value.specs.Reads.{seen};
-ghost use Rattle.pml_value.specs.Statement.{goes, goes_to};
+ghost use Rattle.pml_value.specs.Statement.{IsIn, goes, goes_to};
 ghost use Rattle.pml_steps.specs.Arguments.{Stops};
 
 use diagnostics::{Fault, Stop};
@@ -31,7 +30,7 @@ pub fn values_of(alloc: Global, expressions: &[Expr], view: &View<'_>) -> Result
 /// Where a number goes that is stored to this target.
 fn store_to(target: &Target, number: i32, view: &View<'_>) -> Result<Goes, Fault>
     ensures value { result ≡ goes target.now number (seen view.now) }
-    ensures there { IfOk result (λ g. g.place.cell < size_at view.now.store.now.frames g.place.frame g.place.variable) }
+    ensures there { IfOk result (IsIn view.now.store.now.frames) }
 {
     let at = place(target, view)?;
     Ok(Goes {
@@ -43,7 +42,7 @@ fn store_to(target: &Target, number: i32, view: &View<'_>) -> Result<Goes, Fault
 /// The same, if there is a target.
 pub fn goes_to(target: &Option<Target>, number: i32, view: &View<'_>) -> Result<Option<Goes>, Fault>
     ensures value { result ≡ goes_to target.now number (seen view.now) }
-    ensures there { IfOk result (λ s. IfSome s (λ g. g.place.cell < size_at view.now.store.now.frames g.place.frame g.place.variable)) }
+    ensures there { IfOk result (λ s. IfSome s (IsIn view.now.store.now.frames)) }
 {
     match target {
         None => Ok(None),

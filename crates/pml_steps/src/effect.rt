@@ -3,12 +3,12 @@
 ghost use Rattle.std.specs.Prelude.{◌≡◌, ◌<◌, OnOk, OnErr, length};
 ghost use Rattle.std.specs.Io.{StartsWith};
 ghost use Rattle.std.specs.Option.{option_copied};
-ghost use Rattle.pml_eval.specs.Value.{val};
-ghost use Rattle.pml_value.specs.Messages.{values, asserted};
+ghost use Rattle.pml_program.specs.declared.program.Action.TheVariants.{Printf, Printm};
+ghost use Rattle.pml_value.specs.Messages.{asserted};
 ghost use Rattle.pml_moves.specs.State.{reads};
 ghost use Rattle.pml_steps.specs.Created.{ran, run_number};
-ghost use Rattle.pml_steps.specs.Live.{Leads, Does, Joins, PastGrows};
-ghost use Rattle.pml_steps.specs.Outcome.{prints_string, prints_name, run_into as runs_into, does as does_by, effect as effect_of};
+ghost use Rattle.pml_steps.specs.Live.{Leads, Does, Joins, PastGrows, Grows};
+ghost use Rattle.pml_steps.specs.Outcome.{run_into as runs_into, does as does_by, effect as effect_of};
 
 use crate::arguments::{goes_to, values_of};
 use crate::live::Live;
@@ -20,6 +20,7 @@ use pml_program::expr::{Expr, Target};
 use pml_program::program::{Action, Basic, Run};
 use pml_token::token::Token;
 use pml_value::message::assert;
+use pml_value::receive::Reception;
 use profile::MOST_PROCESSES;
 use std::alloc::Global;
 
@@ -92,7 +93,7 @@ fn print(
 ) -> Result<(), Stop>
     requires { process < length live.now.state.stands }
     ensures value { let s = live.now.state in
-        Does (prints_string s string.now.text (values arguments.now (reads s process timeout))) result s text.old.items text.new.items }
+        Does (does_by s process timeout (Printf string.now arguments.now)) result s text.old.items text.new.items }
     ensures kept { OnErr result (StartsWith text.new.items text.old.items) }
 {
     let alloc = *text.allocator();
@@ -111,7 +112,7 @@ fn print_name(
 ) -> Result<(), Stop>
     requires { process < length live.now.state.stands }
     ensures value { let s = live.now.state in
-        Does (prints_name s (val value.now (reads s process timeout))) result s text.old.items text.new.items }
+        Does (does_by s process timeout (Printm value.now)) result s text.old.items text.new.items }
     ensures kept { OnErr result (StartsWith text.new.items text.old.items) }
 {
     let number = eval(value, &live.view(process, timeout)).map_err(Stop::Fault)?;
@@ -137,9 +138,7 @@ fn does(
 ) -> Result<(), Stop>
     requires { process < length live.old.state.stands }
     ensures value { Does (does_by live.old.state process timeout action.now) result live.new.state text.old.items text.new.items }
-    ensures kept { OnErr result (StartsWith text.new.items text.old.items) }
-    ensures joins { Joins live.old.state live.new.state }
-    ensures past { OnOk result (PastGrows live.old live.new) }
+    ensures grows { Grows result live.old live.new text.old.items text.new.items }
 {
     match action {
         Action::Else => Ok(()),
@@ -159,14 +158,15 @@ fn does(
         Action::Send(target, order, fields) => {
             live.send(process, timeout, target, *order, fields.as_slice())
         }
-        Action::Receive(target, search, removal, wants) => live.receive(
-            process,
-            timeout,
-            target,
-            *search,
-            *removal,
-            wants.as_slice(),
-        ),
+        Action::Receive(target, search, removal, wants) => {
+            let reception = Reception {
+                target,
+                search: *search,
+                removal: *removal,
+                wants: wants.as_slice(),
+            };
+            live.receive(process, timeout, reception)
+        }
         Action::Printf(string, arguments) => print(
             live,
             process,
@@ -191,9 +191,7 @@ fn does_at_once(
 ) -> Result<(), Stop>
     requires { process < length live.old.state.stands }
     ensures value { Does (does_by live.old.state process timeout action.now) result live.new.state text.old.items text.new.items }
-    ensures kept { OnErr result (StartsWith text.new.items text.old.items) }
-    ensures joins { Joins live.old.state live.new.state }
-    ensures past { OnOk result (PastGrows live.old live.new) }
+    ensures grows { Grows result live.old live.new text.old.items text.new.items }
 {
     match action {
         Action::Assign(_, _) => live.store(process, timeout, action),
@@ -213,9 +211,7 @@ pub fn effect(
 ) -> Result<(), Stop>
     requires { process < length live.old.state.stands }
     ensures value { Does (effect_of live.old.state process timeout (option_copied basic.entry)) result live.new.state text.old.items text.new.items }
-    ensures kept { OnErr result (StartsWith text.new.items text.old.items) }
-    ensures joins { Joins live.old.state live.new.state }
-    ensures past { OnOk result (PastGrows live.old live.new) }
+    ensures grows { Grows result live.old live.new text.old.items text.new.items }
 {
     match basic {
         Some(Basic::Plain(action)) => does_at_once(live, process, timeout, action, text),

@@ -9,16 +9,15 @@ ghost use Rattle.pml_start.specs.Begin.{shown};
 ghost use Rattle.pml_start.specs.Bound.{bound, most_cells, IsBounded};
 ghost use Rattle.pml_start.specs.Start.{IsDeclared};
 ghost use Rattle.pml_moves.specs.Scene.{begins_at, stand_of};
-ghost use Rattle.pml_store.specs.Store.{size_at};
 ghost use Rattle.pml_value.specs.Reads.{seen};
-ghost use Rattle.pml_value.specs.Statement.{outcome};
+ghost use Rattle.pml_value.specs.Statement.{IsIn, outcome};
 ghost use Rattle.pml_moves.specs.State.{reads};
 ghost use Rattle.pml_steps.specs.Change.{put_if, put_by, without_youngest};
 ghost use Rattle.pml_steps.specs.Created.{kinds, there, with_new};
 ghost use Rattle.pml_steps.specs.Footprint.{all_room, held, message_numbers};
 ghost use Rattle.pml_steps.specs.Held.{kinds_of, first_state};
 ghost use Rattle.pml_steps.specs.Live.{Leads, Keeps, Joins, PastGrows, ReadsAs, along, at_node};
-ghost use Rattle.pml_steps.specs.Outcome.{sends, receives, passes};
+ghost use Rattle.pml_steps.specs.Outcome.{sends, receives_by, passes};
 
 use crate::pair::{numbers_passed, store_passed};
 use diagnostics::Stop;
@@ -26,16 +25,17 @@ use pml_flow::edge::Edge;
 use pml_moves::played::Played;
 use pml_moves::scene::{Scene, Seat};
 use pml_moves::state::State;
-use pml_program::expr::{Expr, Target, Want};
+use pml_program::expr::{Expr, Target};
 use pml_program::program::{Action, Basic, Program};
 use pml_start::create::create;
 use pml_start::started::Started;
 use pml_store::store::Store;
-use pml_tree::tree::{Removal, Search, SendOrder};
+use pml_tree::tree::SendOrder;
 use pml_value::live_channel::LiveChannel;
-use pml_value::message::{Taker, receive, send};
+use pml_value::message::send;
+use pml_value::receive::{Reception, receive};
 use pml_value::statement::{Goes, take};
-use pml_value::view::View;
+use pml_value::view::{Taker, View};
 use std::alloc::{AllocError, Global};
 use std::marker::Model;
 
@@ -250,20 +250,9 @@ impl<'p, 'a> Live<'p, 'a> {
         ensures value { Leads (put_by self.old.state (outcome action.now (reads self.old.state process timeout))) result self.new.state }
         ensures keeps { Keeps self.old self.new }
     {
-        let Taker {
-            pid,
-            process_count,
-            timeout,
-        } = self.taker(process, timeout);
+        let taker = self.taker(process, timeout);
         let channels = self.state.started.channels.as_slice();
-        take(
-            &mut self.state.started.store,
-            channels,
-            pid,
-            process_count,
-            timeout,
-            action,
-        )
+        take(&mut self.state.started.store, channels, taker, action)
     }
 
     /// A process sends a message by itself.
@@ -298,26 +287,15 @@ impl<'p, 'a> Live<'p, 'a> {
         &mut self,
         process: usize,
         timeout: bool,
-        target: &Target,
-        search: Search,
-        removal: Removal,
-        wants: &[Want],
+        reception: Reception<'_>,
     ) -> Result<(), Stop>
         requires { process < length self.old.state.stands }
-        ensures value { Leads (receives self.old.state process timeout target.now search removal wants.now) result self.new.state }
+        ensures value { Leads (receives_by self.old.state process timeout reception.entry) result self.new.state }
         ensures keeps { Keeps self.old self.new }
     {
         let taker = self.taker(process, timeout);
         let channels = self.state.started.channels.as_mut_slice();
-        receive(
-            &mut self.state.started.store,
-            channels,
-            taker,
-            target,
-            search,
-            removal,
-            wants,
-        )
+        receive(&mut self.state.started.store, channels, taker, reception)
     }
 
     /// A process stores what another one sends it.
@@ -332,8 +310,8 @@ impl<'p, 'a> Live<'p, 'a> {
     ) -> Result<(), Stop>
         requires sends { sender < length self.old.state.stands }
         requires receives { receiver < length self.old.state.stands }
-        ensures value { let s = self.old.state in
-            Leads (passes s sender receiver timeout (option_copied sent.entry) (option_copied received.entry)) result self.new.state }
+        ensures value { Leads (passes self.old.state sender receiver timeout (option_copied sent.entry) (option_copied received.entry)) result
+            self.new.state }
         ensures keeps { Keeps self.old self.new }
     {
         let alloc = *self.state.started.channels.allocator();
@@ -349,7 +327,7 @@ impl<'p, 'a> Live<'p, 'a> {
 impl<'p, 'a> Live<'p, 'a> {
     /// Stores a number where it goes, if anywhere.
     pub fn put(&mut self, goes: Option<Goes>) -> Result<(), Stop>
-        requires { IfSome goes (λ g. g.place.cell < size_at self.old.state.frames g.place.frame g.place.variable) }
+        requires { IfSome goes (IsIn self.old.state.frames) }
         ensures value { Leads (Ok (put_if self.old.state goes)) result self.new.state }
         ensures keeps { Keeps self.old self.new }
     {

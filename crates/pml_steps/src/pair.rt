@@ -7,11 +7,9 @@ ghost use Rattle.pml_eval.specs.Pattern.{IsThere};
 ghost use Rattle.pml_eval.specs.Value.{asked_by};
 ghost use Rattle.pml_value.specs.Messages.{goes_of, stores, stored_all, StoresSome};
 ghost use Rattle.pml_value.specs.Reads.{seen};
-ghost use Rattle.pml_moves.specs.Search.{message};
 ghost use Rattle.pml_steps.specs.Arguments.{Stops};
 ghost use Rattle.pml_steps.specs.Live.{StoresAll};
-ghost use Rattle.pml_steps.specs.Outcome.{passed};
-ghost use Rattle.pml_steps.specs.Passing.{AreIn, Refuses, taken_by};
+ghost use Rattle.pml_steps.specs.Passing.{AreIn, Refuses, taken_by, passed_between};
 
 use diagnostics::Stop;
 use pml_eval::clip::clip;
@@ -91,10 +89,10 @@ pub fn numbers_passed(
     receiver: &View<'_>,
     received: Option<&Basic<'_>>,
 ) -> Result<Vec<Goes>, Stop>
-    ensures ok { let m = message sender.entry.channels.now (seen sender.entry) (option_copied sent.entry) in
-        IfOk result (λ v. passed (seen receiver.now) m (option_copied received.entry) ≡ Ok v.items) }
-    ensures err { let m = message sender.entry.channels.now (seen sender.entry) (option_copied sent.entry) in
-        IfErr result (Refuses (passed (seen receiver.now) m (option_copied received.entry))) }
+    ensures ok { let d = passed_between sender.entry (option_copied sent.entry) receiver.now (option_copied received.entry) in
+        IfOk result (λ v. d ≡ Ok v.items) }
+    ensures err { let d = passed_between sender.entry (option_copied sent.entry) receiver.now (option_copied received.entry) in
+        IfErr result (Refuses d) }
     ensures there { IfOk result (λ v. AreIn receiver.now.store.now.frames v.items) }
 {
     let Some(message) = offered(sender, sent) else {

@@ -1,16 +1,13 @@
 //! What a move leads to.
 
-ghost use Rattle.std.specs.Prelude.{◌≡◌, ◌<◌, ℕ, List, Some, None, IfSome, slice_get, OnOk, OnErr, length};
+ghost use Rattle.std.specs.Prelude.{◌≡◌, ◌<◌, ℕ, List, None, IfSome, OnOk, OnErr, length};
 ghost use Rattle.std.specs.Io.{StartsWith};
-ghost use Rattle.std.specs.Option.{option_copied};
-ghost use Rattle.pml_program.specs.declared.program.Seq.{Seq};
-ghost use Rattle.pml_flow.specs.Points.{point_at};
-ghost use Rattle.pml_flow.specs.Flow.{maybe, Offer as Offered};
 ghost use Rattle.pml_moves.specs.Picked.{picked as picks};
+ghost use Rattle.pml_moves.specs.declared.moves.Move.TheVariants.{Alone, Pair};
 ghost use Rattle.profile.specs.declared.TheConstants.{MOST_DSTEP_STATEMENTS};
-ghost use Rattle.pml_steps.specs.Live.{Does, Joins, PastGrows};
-ghost use Rattle.pml_steps.specs.Outcome.{body_by, within_from, taken, alone as alone_by, paired as paired_by, step};
-ghost use Rattle.pml_steps.specs.Taking.{IsOffer, CanDie, PastBy};
+ghost use Rattle.pml_steps.specs.Live.{Does, Joins, PastGrows, Grows};
+ghost use Rattle.pml_steps.specs.Outcome.{step};
+ghost use Rattle.pml_steps.specs.Taking.{IsOffer, DoesWithin, DoesOffer, CanDie, PastBy};
 
 use crate::effect::effect;
 use crate::live::Live;
@@ -51,12 +48,8 @@ fn inside(
 ) -> Result<(), Stop>
     requires { pick.process < length live.old.state.stands }
     ensures value { let s = live.old.state in
-        (b : Seq) → body_by s (slice_get s.stands pick.process) ≡ Some b →
-        Does (within_from MOST_DSTEP_STATEMENTS s pick.process timeout (Some b) (maybe (point_at b) entry)) result
-        live.new.state text.old.items text.new.items }
-    ensures kept { OnErr result (StartsWith text.new.items text.old.items) }
-    ensures joins { Joins live.old.state live.new.state }
-    ensures past { OnOk result (PastGrows live.old live.new) }
+        DoesWithin MOST_DSTEP_STATEMENTS s pick.process timeout entry result live.new.state text.old.items text.new.items }
+    ensures grows { Grows result live.old live.new text.old.items text.new.items }
 {
     match entry {
         Some(node) => within(live, pick.process, timeout, node, text),
@@ -74,12 +67,8 @@ fn take_offer(
 ) -> Result<(), Stop>
     requires { IsOffer live.old.state pick offer.now }
     ensures value { let s = live.old.state in
-        (o : Offered) → picks s pick ≡ Some o →
-        Does (taken MOST_DSTEP_STATEMENTS s pick.process timeout (body_by s (slice_get s.stands pick.process)) o o.basic) result
-        live.new.state text.old.items text.new.items }
-    ensures kept { OnErr result (StartsWith text.new.items text.old.items) }
-    ensures joins { Joins live.old.state live.new.state }
-    ensures past { OnOk result (PastGrows live.old live.new) }
+        DoesOffer MOST_DSTEP_STATEMENTS s pick timeout result live.new.state text.old.items text.new.items }
+    ensures grows { Grows result live.old live.new text.old.items text.new.items }
 {
     match offer.basic {
         Some(Basic::DStep(_)) => inside(live, pick, timeout, offer.edge.entry, text),
@@ -89,8 +78,8 @@ fn take_offer(
 
 /// A process takes an offer by itself.
 fn alone(live: &mut Live<'_, '_>, pick: Pick, timeout: bool, text: &mut Vec<u8>) -> Result<(), Stop>
-    ensures value { let s = live.old.state in
-        Does (alone_by MOST_DSTEP_STATEMENTS s pick timeout (picks s pick)) result live.new.state text.old.items text.new.items }
+    ensures value { let d = step MOST_DSTEP_STATEMENTS live.old.state (Alone pick timeout) in
+        Does d result live.new.state text.old.items text.new.items }
     ensures kept { OnErr result (StartsWith text.new.items text.old.items) }
     ensures joins { OnErr result (Joins live.old.state live.new.state) }
     ensures program { live.new.state.program ≡ live.old.state.program }
@@ -115,8 +104,8 @@ fn pass_on(
 ) -> Result<(), Stop>
     requires sends { IsOffer live.old.state sender sent.now }
     requires receives { IsOffer live.old.state receiver received.now }
-    ensures value { let s = live.old.state in
-        (text : List ℕ) → Does (paired_by s sender receiver timeout (picks s sender) (picks s receiver)) result live.new.state text text }
+    ensures value { let d = step MOST_DSTEP_STATEMENTS live.old.state (Pair sender receiver timeout) in
+        (text : List ℕ) → Does d result live.new.state text text }
     ensures joins { OnErr result (Joins live.old.state live.new.state) }
     ensures program { live.new.state.program ≡ live.old.state.program }
     ensures past { OnOk result (PastGrows live.old live.new) }
@@ -136,8 +125,8 @@ fn pass_on(
 /// Two processes meet.
 #[inline(never)]
 fn pair(live: &mut Live<'_, '_>, sender: Pick, receiver: Pick, timeout: bool) -> Result<(), Stop>
-    ensures value { let s = live.old.state in
-        (text : List ℕ) → Does (paired_by s sender receiver timeout (picks s sender) (picks s receiver)) result live.new.state text text }
+    ensures value { let d = step MOST_DSTEP_STATEMENTS live.old.state (Pair sender receiver timeout) in
+        (text : List ℕ) → Does d result live.new.state text text }
     ensures joins { OnErr result (Joins live.old.state live.new.state) }
     ensures program { live.new.state.program ≡ live.old.state.program }
     ensures past { OnOk result (PastGrows live.old live.new) }

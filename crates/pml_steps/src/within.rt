@@ -1,23 +1,20 @@
 //! A d_step: at each point inside, the first choice is taken until control leaves.
 
-ghost use Rattle.std.specs.Prelude.{◌≡◌, ◌<◌, Some, IfSome, OnOk, OnErr, length, option_map, slice_get};
+ghost use Rattle.std.specs.Prelude.{◌≡◌, ◌<◌, Some, IfSome, OnOk, length, option_map, slice_get};
 ghost use Rattle.std.specs.Io.{StartsWith};
 ghost use Rattle.std.specs.Option.{option_copied};
-ghost use Rattle.pml_program.specs.declared.program.Seq.{Seq};
-ghost use Rattle.pml_flow.specs.Points.{point_at};
-ghost use Rattle.pml_moves.specs.State.{reads, levels};
 ghost use Rattle.pml_moves.specs.Scene.{IsBody};
-ghost use Rattle.pml_moves.specs.Search.{choices, first};
 ghost use Rattle.profile.specs.declared.TheConstants.{MOST_DSTEP_STATEMENTS};
-ghost use Rattle.pml_steps.specs.Live.{Does, Joins, PastGrows};
-ghost use Rattle.pml_steps.specs.Outcome.{body_by, within};
-ghost use Rattle.pml_steps.specs.Inside.{Chooses, Advances, advanced};
+ghost use Rattle.pml_steps.specs.Live.{Joins, PastGrows, Grows};
+ghost use Rattle.pml_steps.specs.Outcome.{body_by};
+ghost use Rattle.pml_steps.specs.Taking.{DoesWithin};
+ghost use Rattle.pml_steps.specs.Inside.{ChoosesAt, AdvancesAt};
 
 use crate::effect::effect;
 use crate::live::Live;
 use diagnostics::{Fault, Stop};
 use pml_moves::d_step::choice;
-use pml_moves::scene::{Body, Scene, Seat};
+use pml_moves::scene::{Body, Scene, seat_at};
 use pml_program::program::Basic;
 use profile::MOST_DSTEP_STATEMENTS;
 
@@ -38,12 +35,6 @@ struct Choice<'p, 'a> {
     stays: bool,
 }
 
-fn seat_at(seats: &[Seat], process: usize) -> Option<&Seat>
-    ensures { option_copied result ≡ slice_get seats.now process }
-{
-    seats.get(process)
-}
-
 /// The body in which a process stands.
 fn body_in<'w, 'p, 'a>(scene: &Scene<'w, 'p, 'a>, process: usize) -> Option<Body<'w, 'p, 'a>>
     ensures body { option_map (λ k. k.proctype.now.body) result ≡ body_by scene.now (slice_get scene.now.stands process) }
@@ -61,9 +52,7 @@ fn chosen<'p, 'a>(
     node: usize,
 ) -> Option<Choice<'p, 'a>>
     requires { process < length live.now.state.stands }
-    ensures { let s = live.now.state in
-        (b : Seq) → body_by s (slice_get s.stands process) ≡ Some b →
-        Chooses b (first (choices s.lossy s.channels (reads s process timeout) (levels b (point_at b node)))) result }
+    ensures { ChoosesAt live.now.state process timeout node result }
 {
     let body = body_in(&live.scene(), process)?;
     let edge = choice(&live.view(process, timeout), live.is_lossy(), &body, node)?;
@@ -83,9 +72,7 @@ fn advance(
     text: &mut Vec<u8>,
 ) -> Result<Inner, Stop>
     requires { process < length live.old.state.stands }
-    ensures value { let s = live.old.state in
-        (b : Seq) → body_by s (slice_get s.stands process) ≡ Some b →
-        Advances b (advanced s process timeout b (point_at b node)) result live.new.state text.old.items text.new.items }
+    ensures value { AdvancesAt live.old.state process timeout node result live.new.state text.old.items text.new.items }
     ensures joins { Joins live.old.state live.new.state }
     ensures past { OnOk result (PastGrows live.old live.new) }
     ensures kept { StartsWith text.new.items text.old.items }
@@ -111,11 +98,8 @@ fn within_at_most(
 ) -> Result<(), Stop>
     requires { process < length live.old.state.stands }
     ensures value { let s = live.old.state in
-        (b : Seq) → body_by s (slice_get s.stands process) ≡ Some b →
-        Does (within most s process timeout b (point_at b entry)) result live.new.state text.old.items text.new.items }
-    ensures joins { Joins live.old.state live.new.state }
-    ensures past { OnOk result (PastGrows live.old live.new) }
-    ensures kept { OnErr result (StartsWith text.new.items text.old.items) }
+        DoesWithin most s process timeout (Some entry) result live.new.state text.old.items text.new.items }
+    ensures grows { Grows result live.old live.new text.old.items text.new.items }
 {
     let mut timeout_here = timeout;
     let mut node = entry;
@@ -139,11 +123,8 @@ pub fn within(
 ) -> Result<(), Stop>
     requires { process < length live.old.state.stands }
     ensures value { let s = live.old.state in
-        (b : Seq) → body_by s (slice_get s.stands process) ≡ Some b →
-        Does (within MOST_DSTEP_STATEMENTS s process timeout b (point_at b entry)) result live.new.state text.old.items text.new.items }
-    ensures joins { Joins live.old.state live.new.state }
-    ensures past { OnOk result (PastGrows live.old live.new) }
-    ensures kept { OnErr result (StartsWith text.new.items text.old.items) }
+        DoesWithin MOST_DSTEP_STATEMENTS s process timeout (Some entry) result live.new.state text.old.items text.new.items }
+    ensures grows { Grows result live.old live.new text.old.items text.new.items }
 {
     within_at_most(live, process, timeout, entry, MOST_DSTEP_STATEMENTS, text)
 }

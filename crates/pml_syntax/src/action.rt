@@ -9,11 +9,10 @@ use crate::ahead::leads_to_run;
 use crate::boxes;
 use crate::starts::{Change, Deed, change_of, deed_of};
 use pml_expression::cursor::Cursor;
-use pml_expression::expr::{
-    arguments, behind, boxed_expr, climb, expr_behind, expr_between, reference,
-};
+use pml_expression::expr::{behind, boxed_expr, climb, expr_behind};
 use pml_expression::fault::ReadFault;
 use pml_expression::list::{expr_list, values};
+use pml_expression::references::{arguments, expr_between, reference};
 use pml_token::token::{Kind, Token};
 use pml_tree::tree::{Action, Argument, Expr, Reference, Removal, Run, Search, SendOrder};
 use sqlite_items::{Boxed, Items};

@@ -26,18 +26,21 @@ fn action<'a>(
     Ok((Boxed::new(alloc, x)?, closed))
 }
 
+/// `else`.
 pub fn otherwise<'a>(alloc: Global) -> Result<(Boxed<Action<'a>>, bool), ReadFault>
     ensures { Makes (a.Else, true) result }
 {
     action(alloc, Action::Else, true)
 }
 
+/// `run NAME (..)`.
 pub fn run<'a>(alloc: Global, x: Run<'a>) -> Result<(Boxed<Action<'a>>, bool), ReadFault>
     ensures { Makes (a.Run x.entry, false) result }
 {
     action(alloc, Action::Run(x), false)
 }
 
+/// A condition.
 pub fn holds<'a>(alloc: Global, x: Boxed<Expr<'a>>) -> Result<(Boxed<Action<'a>>, bool), ReadFault>
     ensures { Makes (a.Holds x.entry, false) result }
 {
@@ -51,6 +54,7 @@ pub fn held<'a>(alloc: Global, x: Expr<'a>) -> Result<(Boxed<Action<'a>>, bool),
     holds(alloc, Boxed::new(alloc, x)?)
 }
 
+/// `VARIABLE = EXPRESSION`.
 pub fn assign<'a>(
     alloc: Global,
     r: Boxed<Reference<'a>>,
@@ -61,6 +65,7 @@ pub fn assign<'a>(
     action(alloc, Action::Assign(r.into_inner(), x), false)
 }
 
+/// `VARIABLE = run NAME (..)`.
 pub fn assign_run<'a>(
     alloc: Global,
     r: Boxed<Reference<'a>>,
@@ -71,6 +76,7 @@ pub fn assign_run<'a>(
     action(alloc, Action::AssignRun(r.into_inner(), x), false)
 }
 
+/// `VARIABLE ++`.
 pub fn increment<'a>(
     alloc: Global,
     r: Boxed<Reference<'a>>,
@@ -80,6 +86,7 @@ pub fn increment<'a>(
     action(alloc, Action::Increment(r.into_inner()), false)
 }
 
+/// `VARIABLE --`.
 pub fn decrement<'a>(
     alloc: Global,
     r: Boxed<Reference<'a>>,
@@ -89,6 +96,7 @@ pub fn decrement<'a>(
     action(alloc, Action::Decrement(r.into_inner()), false)
 }
 
+/// A send, by `!` or `!!`.
 pub fn send<'a>(
     alloc: Global,
     order: SendOrder,
@@ -100,6 +108,7 @@ pub fn send<'a>(
     action(alloc, Action::Send(r.into_inner(), order, xs), false)
 }
 
+/// A receive, by `?` or `??`, with or without `< >`.
 pub fn receive<'a>(
     alloc: Global,
     search: Search,
@@ -116,6 +125,7 @@ pub fn receive<'a>(
     )
 }
 
+/// `printf (STRING, ..)`.
 pub fn printf<'a>(
     alloc: Global,
     string: Token<'a>,
@@ -126,12 +136,14 @@ pub fn printf<'a>(
     action(alloc, Action::Printf(string, xs), false)
 }
 
+/// `printm (EXPRESSION)`.
 pub fn printm<'a>(alloc: Global, x: Boxed<Expr<'a>>) -> Result<(Boxed<Action<'a>>, bool), ReadFault>
     ensures { Makes (a.Printm x.entry, false) result }
 {
     action(alloc, Action::Printm(x), false)
 }
 
+/// `assert (EXPRESSION)`.
 pub fn assert<'a>(alloc: Global, x: Boxed<Expr<'a>>) -> Result<(Boxed<Action<'a>>, bool), ReadFault>
     ensures { Makes (a.Assert x.entry, false) result }
 {
@@ -148,6 +160,7 @@ pub fn with<'a>(
     Ok((made?, closed))
 }
 
+/// A declaration of variables.
 pub fn declare<'a>(
     alloc: Global,
     variables: Items<Variable<'a>>,
@@ -157,6 +170,7 @@ pub fn declare<'a>(
     Boxed::new(alloc, Basic::Declare(variables))
 }
 
+/// `xr` or `xs` of channels.
 pub fn exclusive<'a>(
     alloc: Global,
     channels: Items<Reference<'a>>,
@@ -166,18 +180,21 @@ pub fn exclusive<'a>(
     Boxed::new(alloc, Basic::Exclusive(channels))
 }
 
+/// A statement that gives no structure.
 pub fn plain<'a>(alloc: Global, x: Boxed<Action<'a>>) -> Result<Boxed<Basic<'a>>, AllocError>
     ensures { IfOk result (λ r. r ≡ b.Plain x.entry) }
 {
     Boxed::new(alloc, Basic::Plain(x))
 }
 
+/// `goto LABEL`.
 pub fn goto<'a>(alloc: Global, name: Token<'a>) -> Result<Boxed<Basic<'a>>, AllocError>
     ensures { IfOk result (λ r. r ≡ b.Goto name.entry) }
 {
     Boxed::new(alloc, Basic::Goto(name))
 }
 
+/// `break`.
 pub fn leave<'a>(alloc: Global) -> Result<Boxed<Basic<'a>>, AllocError>
     ensures { IfOk result (λ r. r ≡ b.Break) }
 {

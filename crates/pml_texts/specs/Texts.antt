@@ -1,6 +1,6 @@
 -- The texts of moves and where they come from, and the texts of the processes where a run does not end well. What is not there has
 -- no text.
-use Rattle.std.specs.Prelude.{ℕ, ◌<◌, List, [], ◌∷◌, ◌++◌, Option, Some, None, if◌then◌else◌, slice_get, codes}
+use Rattle.std.specs.Prelude.{◌≡◌, ℕ, ◌<◌, List, [], length, ◌∷◌, ◌++◌, Option, Some, None, if◌then◌else◌, slice_get, codes}
 use Rattle.std.specs.Fmt.{decimal}
 use Rattle.profile.specs.Characters.{line_feed}
 use Rattle.pml_program.specs.declared.program.Proctype.{Proctype}
@@ -111,3 +111,10 @@ abbrev pub IsWithin : ℕ → Move → Type 0
 IsWithin n (Death p) = p < n
 IsWithin n (Alone k t) = k.process < n
 IsWithin n (Pair k j t) = (k.process < n) × (j.process < n)
+
+-- ---- a law
+
+-- The text of a move stays while no process but younger ones come.
+abbrev pub TextsStay : Type 0
+TextsStay = (s t : State) (more : List Stand) (m : Move) → t.program ≡ s.program → t.stands ≡ s.stands ++ more →
+    IsWithin (length s.stands) m → move_text t m ≡ move_text s m

@@ -9,9 +9,9 @@ ghost use Rattle.pml_texts.specs.Ends.{may_end as may_end_at, is_done as done_at
 ghost use Rattle.pml_texts.specs.Texts.{stuck_line, stuck_at, stuck_by, stuck, stuck_in, stuck_place, stuck_of};
 ghost use Rattle.pml_texts.specs.Charts.{HasGraph, told};
 
-use crate::place::{add_heading, add_line, name_of, seat_at};
+use crate::place::{add_heading, add_line, name_of};
 use pml_flow::graph::Graph;
-use pml_moves::scene::{Scene, Seat};
+use pml_moves::scene::{Scene, Seat, seat_at};
 use pml_program::program::Proctype;
 use std::alloc::AllocError;
 

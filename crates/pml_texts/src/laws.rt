@@ -1,14 +1,12 @@
 //! Laws of ends and of texts.
 
-ghost use Rattle.std.specs.Prelude.{◌≡◌, ◌++◌, MatchBool, List, length};
+ghost use Rattle.std.specs.Prelude.{MatchBool};
 ghost use Rattle.pml_program.specs.declared.program.Seq.{Seq};
 ghost use Rattle.pml_control.specs.Control.{Control};
 ghost use Rattle.pml_flow.specs.Marks.{IsValidEnd};
 ghost use Rattle.pml_flow.specs.Flow.{Placed};
-ghost use Rattle.pml_moves.specs.declared.moves.Move.{Move};
-ghost use Rattle.pml_moves.specs.State.{Stand, State};
 ghost use Rattle.pml_texts.specs.Ends.{may_end};
-ghost use Rattle.pml_texts.specs.Texts.{move_text, IsWithin};
+ghost use Rattle.pml_texts.specs.Texts.{TextsStay};
 
 /// At a point of a body a process may end exactly where that is a valid end point.
 pub fn ends_are_valid()
@@ -17,6 +15,5 @@ pub fn ends_are_valid()
 
 /// The text of a move stays while no process but younger ones come.
 pub fn texts_stay()
-    ensures { (s t : State) (more : List Stand) (m : Move) → t.program ≡ s.program → t.stands ≡ s.stands ++ more →
-        IsWithin (length s.stands) m → move_text t m ≡ move_text s m }
+    ensures { TextsStay }
 {}

@@ -1,15 +1,13 @@
 //! Where a process is, in words.
 
-ghost use Rattle.std.specs.Prelude.{◌≡◌, ◌++◌, OnOk, OnErr, slice_get};
+ghost use Rattle.std.specs.Prelude.{◌≡◌, ◌++◌, OnOk, OnErr};
 ghost use Rattle.std.specs.Io.{StartsWith};
-ghost use Rattle.std.specs.Option.{option_copied};
 ghost use Rattle.pml_lines.specs.Changes.{proctype_name};
 ghost use Rattle.pml_texts.specs.Texts.{heading as heading_of, line};
 
 use itoa::Buffer;
 use pml_lines::change::proctype_name;
-use pml_moves::scene::Seat;
-use pml_program::program::{Proctype, Program};
+use pml_program::program::Proctype;
 use pml_token::token::{Kind, Token, same_kind};
 use std::alloc::AllocError;
 
@@ -49,18 +47,4 @@ pub fn add_line(number: u32, text: &mut Vec<u8>) -> Result<(), AllocError>
     let mut digits = Buffer::new();
     text.extend_from_slice(b"line ")?;
     text.extend_from_slice(digits.format(number).as_bytes())
-}
-
-/// The proctype with this number.
-pub fn proctype_at<'p, 'a>(program: &'p Program<'a>, kind: usize) -> Option<&'p Proctype<'a>>
-    ensures { option_copied result ≡ slice_get program.now.proctypes kind }
-{
-    program.proctypes.as_slice().get(kind)
-}
-
-/// The process with this number.
-pub fn seat_at(seats: &[Seat], process: usize) -> Option<&Seat>
-    ensures { option_copied result ≡ slice_get seats.now process }
-{
-    seats.get(process)
 }

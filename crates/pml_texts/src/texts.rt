@@ -6,10 +6,11 @@ ghost use Rattle.std.specs.Option.{option_copied};
 ghost use Rattle.pml_moves.specs.Picked.{picked as picks};
 ghost use Rattle.pml_texts.specs.Texts.{proctype_of as proctype_in, pick_text, death_text, move_text, line_in, brace_of, origin_of, IsWithin};
 
-use crate::place::{add_heading, add_line, proctype_at, seat_at};
+use crate::place::{add_heading, add_line};
 use pml_moves::moves::{Move, Pick};
 use pml_moves::picked::picked;
-use pml_moves::scene::Scene;
+use pml_moves::played::proctype_at;
+use pml_moves::scene::{Scene, seat_at};
 use pml_program::program::Proctype;
 use std::alloc::AllocError;
 

@@ -1,5 +1,5 @@
 -- What is said of a channel that keeps messages, while it lives.
-use Rattle.std.specs.Prelude.{◌≡◌, ℕ, Bool, if◌then◌else◌, nat_lt, List, [], ◌∷◌, ◌++◌, length, take, ℤ}
+use Rattle.std.specs.Prelude.{◌≡◌, if◌then◌else◌, nat_lt, List, [], ◌∷◌, ◌++◌, length, take, ℤ}
 use Rattle.pml_tree.specs.declared.tree.SendOrder.TheVariants.{Fifo}
 use Rattle.pml_tree.specs.declared.tree.Removal.TheVariants.{Remove}
 use Rattle.pml_channel.specs.State.{ChannelState, cut}

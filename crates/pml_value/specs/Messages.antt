@@ -130,6 +130,10 @@ taken_from cs n how ws (Some m) = record {
   live = changed n (without how m) cs;
 }
 
+-- the same of the message that is found, if one is
+abbrev pub taken_at : List LiveChannel → ℕ → Search → Removal → List Sought → Received
+taken_at cs n search how ws = taken_from cs n how ws (found search ws (contents_at cs n).messages)
+
 -- the place of a message's channel, and what is asked of the message
 abbrev pub asked_at : List LiveChannel → Reading → Target → List Want → Result (ℕ × List Sought) Fault
 asked_at cs r t ws = named cs r t (length ws) >>= λ n. asked_by ws r >>= λ ss. Ok (n, ss)
@@ -137,8 +141,7 @@ asked_at cs r t ws = named cs r t (length ws) >>= λ n. asked_by ws r >>= λ ss.
 -- The channel is asked, then the number of fields, then what is asked of each from left to right, all places before any is stored.
 -- Where no message is found nothing is done (no process receives from it).
 abbrev pub received : List LiveChannel → Reading → Target → Search → Removal → List Want → Result Received Fault
-received cs r t search how ws =
-    asked_at cs r t ws >>= λ x. Ok (taken_from cs x.0 how x.1 (found search x.1 (contents_at cs x.0).messages))
+received cs r t search how ws = asked_at cs r t ws >>= λ x. Ok (taken_at cs x.0 search how x.1)
 
 -- each variable has as many cells as before
 abbrev pub AreAsLarge : Contents → Contents → Type 0
@@ -151,10 +154,18 @@ pub record StoresSome (old new : Contents) (all : List Goes) : Type 0 where
   pub parts : all ≡ before ++ after
   pub stands : new ≡ stored_all old before
 
+-- all numbers are stored, and the channels are as it leaves them
+abbrev pub AllReceived : Received → Contents → Contents → List LiveChannel → Type 0
+AllReceived x old new ds = (new ≡ stored_all old x.numbers) × (ds ≡ x.live)
+
+-- a part of the numbers is stored, and the channels stay
+abbrev pub PartReceived : Received → Contents → Contents → List LiveChannel → List LiveChannel → Type 0
+PartReceived x old new cs ds = StoresSome old new x.numbers × (ds ≡ cs)
+
 -- it is done; or nothing changes, and the fault is answered; or for want of memory the channels stay and a part of the numbers is stored
 abbrev pub ReceivesMessage : Result Received Fault → Result (Unit {0}) Stop → Contents → Contents → List LiveChannel → List LiveChannel → Type 0
-ReceivesMessage (Ok x) (Ok u) old new cs ds = (new ≡ stored_all old x.numbers) × (ds ≡ x.live)
-ReceivesMessage (Ok x) (Err stop.Memory) old new cs ds = StoresSome old new x.numbers × (ds ≡ cs)
+ReceivesMessage (Ok x) (Ok u) old new cs ds = AllReceived x old new ds
+ReceivesMessage (Ok x) (Err stop.Memory) old new cs ds = PartReceived x old new cs ds
 ReceivesMessage (Ok x) (Err (stop.Fault f)) old new cs ds = ⊥
 ReceivesMessage (Err f) (Err (stop.Fault g)) old new cs ds = (g ≡ f) × (new ≡ old) × (ds ≡ cs)
 ReceivesMessage (Err f) (Err stop.Memory) old new cs ds = ⊥

@@ -3,6 +3,7 @@ use Rattle.std.specs.Prelude.{ℕ, zero, suc, ◌+◌, Bool, if◌then◌else◌
 use Rattle.pml_eval.specs.Value.{Reading, Filling}
 use Rattle.pml_store.specs.Store.{Frame, size_at, number_at}
 use Rattle.pml_channel.specs.State.{ChannelState}
+use Rattle.pml_value.specs.declared.view.Taker.{Taker}
 use Rattle.pml_value.specs.declared.view.View.{View}
 use Rattle.pml_value.specs.declared.live_channel.LiveChannel.{LiveChannel}
 
@@ -31,6 +32,10 @@ reading_of frames channels pid process_count timeout = record {
   channel = λ n. option_map filling (channel_at channels n);
 }
 
+-- the same by who takes a statement
+abbrev pub read_by : List Frame → List LiveChannel → Taker → Reading
+read_by frames channels taker = reading_of frames channels taker.pid taker.process_count taker.timeout
+
 -- what a view reads
 abbrev pub seen : View → Reading
-seen v = reading_of v.store.now.frames v.channels.now v.pid v.process_count v.timeout
+seen v = read_by v.store.now.frames v.channels.now v.taker

@@ -1,30 +1,21 @@
 -- What an assignment, an increment, a decrement and a condition do.
-use Rattle.std.specs.Prelude.{◌≡◌, ℤ, pos, negsuc, ◌+ℤ◌, Bool, true, false, not, Option, Some, None, Result, Ok, Err}
+use Rattle.std.specs.Prelude.{◌≡◌, ◌<◌, List, ℤ, pos, negsuc, ◌+ℤ◌, Option, Some, None, Result, Ok, Err}
 use Rattle.diagnostics.specs.declared.fault.Fault.{Fault}
 use Rattle.pml_program.specs.declared.expr.Expr.{Expr}
 use Rattle.pml_program.specs.declared.expr.Target.{Target, out-Target}
 use Rattle.pml_program.specs.declared.program.Action.{Action}
 use Rattle.pml_program.specs.declared.program.Action.TheVariants as a
 use Rattle.pml_eval.specs.Clip.{clipped}
-use Rattle.pml_eval.specs.Operators.{is_zero, wrapped}
+use Rattle.pml_eval.specs.Operators.{wrapped}
 use Rattle.pml_eval.specs.Value.{Reading, val, place, ◌>>=◌}
-use Rattle.pml_store.specs.Store.{Contents, stored}
+use Rattle.pml_store.specs.Store.{Contents, Frame, size_at, stored}
 use Rattle.pml_value.specs.declared.statement.Goes.{Goes}
 use Rattle.diagnostics.specs.declared.stop.Stop.{Stop}
 use Rattle.diagnostics.specs.declared.stop.Stop.TheVariants as stop
 
--- a condition holds where its value is not 0; where its value is a fault, to take it is that fault
-abbrev pub is_met : Result ℤ Fault → Bool
-is_met (Ok v) = not (is_zero v)
-is_met (Err f) = true
-
--- an assignment, `++` and `--` always, and a condition where it holds; it speaks of no other kind
-abbrev pub is_executable : Action → Reading → Bool
-is_executable (a.Assign t v) r = true
-is_executable (a.Increment t) r = true
-is_executable (a.Decrement t) r = true
-is_executable (a.Holds v) r = is_met (val v r)
-is_executable _ r = false
+-- a number goes to a cell of its variable, which has so many
+abbrev pub IsIn : List Frame → Goes → Type 0
+IsIn frames g = g.place.cell < size_at frames g.place.frame g.place.variable
 
 -- what the target's type keeps of a number, and the place that it goes to
 abbrev pub goes : Target → ℤ → Reading → Result Goes Fault

@@ -6,6 +6,7 @@ pub mod fields;
 pub mod laws;
 pub mod live_channel;
 pub mod message;
+pub mod receive;
 pub mod statement;
 pub mod view;
 

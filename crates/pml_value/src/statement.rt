@@ -1,13 +1,13 @@
 //! Assignments, increments, decrements and conditions (Holzmann, *The SPIN Model Checker*, chapter 3).
 
-ghost use Rattle.std.specs.Prelude.{◌≡◌, ◌<◌, IfOk, IfSome, Ok, Some};
-ghost use Rattle.pml_store.specs.Store.{size_at, before};
+ghost use Rattle.std.specs.Prelude.{◌≡◌, IfOk, IfSome, Ok, Some};
+ghost use Rattle.pml_store.specs.Store.{before};
 ghost use Rattle.pml_eval.specs.Clip.{clipped};
-ghost use Rattle.pml_value.specs.Statement.{is_executable, goes, goes_to, assigned, counted, outcome, TakesStatement};
-ghost use Rattle.pml_value.specs.Reads.{reading_of, seen};
+ghost use Rattle.pml_value.specs.Statement.{IsIn, goes, goes_to, assigned, counted, outcome, TakesStatement};
+ghost use Rattle.pml_value.specs.Reads.{read_by, seen};
 
 use crate::live_channel::LiveChannel;
-use crate::view::View;
+use crate::view::{Taker, View};
 use diagnostics::{Fault, Stop};
 use pml_eval::clip::clip;
 use pml_eval::eval::{eval, place, place_at_once};
@@ -23,21 +23,6 @@ use pml_store::store::Store;
 pub struct Goes {
     pub place: Place,
     pub number: i32,
-}
-
-/// Whether a statement can be taken: an assignment, `++`, `--`, or a condition that holds. A condition that comes to a fault can:
-/// to take it is the fault. Of statements of other kinds it answers no: `pml_moves` knows them.
-pub fn can_be_taken(action: &Action<'_>, view: &View<'_>) -> bool
-    ensures { result ≡ is_executable action.now (seen view.now) }
-{
-    match action {
-        Action::Assign(_, _) | Action::Increment(_) | Action::Decrement(_) => true,
-        Action::Holds(value) => match eval(value, view) {
-            Ok(number) => number != 0,
-            Err(_) => true,
-        },
-        _ => false,
-    }
 }
 
 /// What a place of this type keeps of a number.
@@ -56,7 +41,7 @@ fn kept(place: Place, form: Form, number: i32) -> Goes
 #[inline(always)]
 fn store_to(target: &Target, number: i32, view: &View<'_>) -> Result<Goes, Fault>
     ensures value { result ≡ goes target.now number (seen view.now) }
-    ensures there { IfOk result (λ g. g.place.cell < size_at view.now.store.now.frames g.place.frame g.place.variable) }
+    ensures there { IfOk result (IsIn view.now.store.now.frames) }
 {
     let at = place(target, view)?;
     Ok(kept(at, target.form, number))
@@ -66,7 +51,7 @@ fn store_to(target: &Target, number: i32, view: &View<'_>) -> Result<Goes, Fault
 #[inline(always)]
 fn assigned(target: &Option<Target>, value: &Expr, view: &View<'_>) -> Result<Option<Goes>, Fault>
     ensures value { result ≡ assigned target.now value.now (seen view.now) }
-    ensures there { IfOk result (λ s. IfSome s (λ g. g.place.cell < size_at view.now.store.now.frames g.place.frame g.place.variable)) }
+    ensures there { IfOk result (λ s. IfSome s (IsIn view.now.store.now.frames)) }
 {
     let number = eval(value, view)?;
     match target {
@@ -79,7 +64,7 @@ fn assigned(target: &Option<Target>, value: &Expr, view: &View<'_>) -> Result<Op
 #[inline(always)]
 fn counted(target: &Target, by: i32, view: &View<'_>) -> Result<Option<Goes>, Fault>
     ensures value { result ≡ counted target.now by (seen view.now) }
-    ensures there { IfOk result (λ s. IfSome s (λ g. g.place.cell < size_at view.now.store.now.frames g.place.frame g.place.variable)) }
+    ensures there { IfOk result (λ s. IfSome s (IsIn view.now.store.now.frames)) }
 {
     let at = place(target, view)?;
     let number = view.number(at).wrapping_add(by);
@@ -90,7 +75,7 @@ fn counted(target: &Target, by: i32, view: &View<'_>) -> Result<Option<Goes>, Fa
 #[inline(always)]
 fn resolved(action: &Action<'_>, view: &View<'_>) -> Result<Option<Goes>, Fault>
     ensures value { result ≡ outcome action.now (seen view.now) }
-    ensures there { IfOk result (λ s. IfSome s (λ g. g.place.cell < size_at view.now.store.now.frames g.place.frame g.place.variable)) }
+    ensures there { IfOk result (λ s. IfSome s (IsIn view.now.store.now.frames)) }
 {
     match action {
         Action::Assign(target, value) => assigned(target, value, view),
@@ -107,7 +92,7 @@ fn resolved(action: &Action<'_>, view: &View<'_>) -> Result<Option<Goes>, Fault>
 /// Stores a number.
 #[inline(always)]
 fn set(store: &mut Store, goes: Goes) -> Result<(), Stop>
-    requires { goes.place.cell < size_at store.old.frames goes.place.frame goes.place.variable }
+    requires { IsIn store.old.frames goes }
     ensures value { TakesStatement (Ok (Some goes)) result store.old store.new }
     ensures past { before store.new ≡ before store.old }
 {
@@ -122,22 +107,14 @@ fn set(store: &mut Store, goes: Goes) -> Result<(), Stop>
 fn set_by_turns(
     store: &mut Store,
     channels: &[LiveChannel],
-    pid: u8,
-    process_count: u8,
-    timeout: bool,
+    taker: Taker,
     target: &Target,
     number: i32,
 ) -> Result<(), Stop>
-    ensures value { TakesStatement (goes_to (Some target.now) number (reading_of store.old.frames channels.now pid process_count timeout)) result store.old store.new }
+    ensures value { TakesStatement (goes_to (Some target.now) number (read_by store.old.frames channels.now taker)) result store.old store.new }
     ensures past { before store.new ≡ before store.old }
 {
-    let view = View {
-        store: &*store,
-        channels,
-        pid,
-        process_count,
-        timeout,
-    };
+    let view = View::new(&*store, channels, taker);
     match store_to(target, number, &view) {
         Err(fault) => Err(Stop::Fault(fault)),
         Ok(goes) => set(store, goes),
@@ -149,29 +126,21 @@ fn set_by_turns(
 fn assign(
     store: &mut Store,
     channels: &[LiveChannel],
-    pid: u8,
-    process_count: u8,
-    timeout: bool,
+    taker: Taker,
     target: &Target,
     value: &Expr,
 ) -> Result<(), Stop>
-    ensures value { TakesStatement (assigned (Some target.now) value.now (reading_of store.old.frames channels.now pid process_count timeout)) result store.old store.new }
+    ensures value { TakesStatement (assigned (Some target.now) value.now (read_by store.old.frames channels.now taker)) result store.old store.new }
     ensures past { before store.new ≡ before store.old }
 {
-    let view = View {
-        store: &*store,
-        channels,
-        pid,
-        process_count,
-        timeout,
-    };
+    let view = View::new(&*store, channels, taker);
     let number = match eval(value, &view) {
         Ok(number) => number,
         Err(fault) => return Err(Stop::Fault(fault)),
     };
     match place_at_once(target, &view) {
         Some(at) => set(store, kept(at, target.form, number)),
-        None => set_by_turns(store, channels, pid, process_count, timeout, target, number),
+        None => set_by_turns(store, channels, taker, target, number),
     }
 }
 
@@ -180,24 +149,16 @@ fn assign(
 pub fn take(
     store: &mut Store,
     channels: &[LiveChannel],
-    pid: u8,
-    process_count: u8,
-    timeout: bool,
+    taker: Taker,
     action: &Action<'_>,
 ) -> Result<(), Stop>
-    ensures value { TakesStatement (outcome action.now (reading_of store.old.frames channels.now pid process_count timeout)) result store.old store.new }
+    ensures value { TakesStatement (outcome action.now (read_by store.old.frames channels.now taker)) result store.old store.new }
     ensures past { before store.new ≡ before store.old }
 {
     if let Action::Assign(Some(target), value) = action {
-        return assign(store, channels, pid, process_count, timeout, target, value);
+        return assign(store, channels, taker, target, value);
     }
-    let view = View {
-        store: &*store,
-        channels,
-        pid,
-        process_count,
-        timeout,
-    };
+    let view = View::new(&*store, channels, taker);
     match resolved(action, &view) {
         Err(fault) => Err(Stop::Fault(fault)),
         Ok(None) => Ok(()),

@@ -3,7 +3,7 @@
 ghost use Rattle.std.specs.Prelude.{◌≡◌, option_map};
 ghost use Rattle.std.specs.Option.{option_copied};
 ghost use Rattle.pml_eval.specs.Ground.{shown};
-ghost use Rattle.pml_value.specs.Reads.{frame_of, channel_at, filling};
+ghost use Rattle.pml_value.specs.Reads.{frame_of, channel_at, filling, read_by, seen};
 
 use crate::live_channel::LiveChannel;
 use pml_channel::channel::Channel;
@@ -11,23 +11,45 @@ use pml_eval::ground::{Filled, Ground};
 use pml_store::place::Place;
 use pml_store::store::Store;
 
-/// The store, the live channels, the number of the process, how many processes live, and `timeout`.
-#[derive(Drop)]
-pub struct View<'a> {
-    pub store: &'a Store,
-    pub channels: &'a [LiveChannel],
+/// The process that takes a statement: its number, how many processes live, and `timeout`.
+#[derive(Clone, Copy, PartialEq, Eq, Debug)]
+pub struct Taker {
     pub pid: u8,
     pub process_count: u8,
     pub timeout: bool,
 }
 
-impl Ground for View<'_> {
-    ghost use Rattle.pml_value.specs.Reads.{reading_of};
+/// The store and the live channels, and who reads them.
+#[derive(Drop)]
+pub struct View<'a> {
+    pub store: &'a Store,
+    pub channels: &'a [LiveChannel],
+    pub taker: Taker,
+}
 
-    ghost reading = { λ v. reading_of v.store.now.frames v.channels.now v.pid v.process_count v.timeout };
+impl<'a> View<'a> {
+    /// What a process reads of a store and live channels.
+    #[inline(always)]
+    pub fn new(store: &'a Store, channels: &'a [LiveChannel], taker: Taker) -> View<'a>
+        ensures reads { seen result ≡ read_by store.now.frames channels.now taker }
+        ensures store { result.store.now ≡ store.now }
+        ensures channels { result.channels.now ≡ channels.now }
+    {
+        View {
+            store,
+            channels,
+            taker,
+        }
+    }
+}
+
+impl Ground for View<'_> {
+    ghost use Rattle.pml_value.specs.Reads.{read_by};
+
+    ghost reading = { λ v. read_by v.store.now.frames v.channels.now v.taker };
 
     fn frame(&self, local: bool) -> usize {
-        frame_of(self.pid, local)
+        frame_of(self.taker.pid, local)
     }
 
     fn size(&self, frame: usize, variable: usize) -> usize {
@@ -39,15 +61,15 @@ impl Ground for View<'_> {
     }
 
     fn pid(&self) -> i32 {
-        i32::from(self.pid)
+        i32::from(self.taker.pid)
     }
 
     fn process_count(&self) -> i32 {
-        i32::from(self.process_count)
+        i32::from(self.taker.process_count)
     }
 
     fn timeout(&self) -> bool {
-        self.timeout
+        self.taker.timeout
     }
 
     fn channel(&self, number: i32) -> Option<Filled> {

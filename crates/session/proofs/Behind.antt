@@ -146,7 +146,7 @@ module _ (more : List ℕ) where
     unfolding select
     select_grows s [] = only_grows (answer.Pick 1)
     select_grows s (m ∷ []) = only_grows (answer.Pick 1)
-    select_grows s (m ∷ n ∷ ms) = choose_grows notes (rules.text s) (place_of rules s m (m ∷ n ∷ ms)) (m ∷ n ∷ ms)
+    select_grows s (m ∷ n ∷ ms) = choose_grows notes (rules.text s) (place_of rules s (m ∷ n ∷ ms)) (m ∷ n ∷ ms)
 
     -- ---- the session
 

@@ -84,7 +84,7 @@ module _ {S M : Type 0} (rules : Rules S M) (options others : Options) where
   unfolding select
   select_converts s [] stream rest = record { ends = refl; does = refl; knows = refl; leaves = refl }
   select_converts s (m ∷ []) stream rest = record { ends = refl; does = refl; knows = refl; leaves = refl }
-  select_converts s (m ∷ n ∷ ms) stream rest = choose_converts (rules.text s) (place_of rules s m (m ∷ n ∷ ms)) (m ∷ n ∷ ms) stream rest
+  select_converts s (m ∷ n ∷ ms) stream rest = choose_converts (rules.text s) (place_of rules s (m ∷ n ∷ ms)) (m ∷ n ∷ ms) stream rest
 
   stepped_converts : (s : S) (m : M) (steps : ℕ) (later other : S → Part End) (stream : Stream) (left : List ℕ) → ((t : S) → IsConversion (later t) (other t)) → (o : Outcome S)
       → IsConversion (stepped rules options s m steps later stream left o) (stepped rules others s m steps other stream left o)

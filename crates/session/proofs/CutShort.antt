@@ -140,7 +140,7 @@ module _ {S M : Type 0} (rules : Rules S M) (options : Options) where
   select_begins s [] some first steps later ih stream choices cut = absurd (omega arith)
   select_begins s (m ∷ []) some first steps later ih stream choices cut = answered_begins rules options s (m ∷ []) first steps later ih 1 (omega arith) (omega arith) stream choices cut
   select_begins s (m ∷ k ∷ ms) some first steps later ih stream choices cut =
-      let place = place_of rules s m (m ∷ k ∷ ms) in
+      let place = place_of rules s (m ∷ k ∷ ms) in
       let asked = ask (length (m ∷ k ∷ ms)) place (most_bad_lines - 1) stream choices in
       chosen_begins (rules.text s) place (m ∷ k ∷ ms) (answered rules options s (m ∷ k ∷ ms) first steps later) steps (answered_stops s (m ∷ k ∷ ms) first steps later)
       (answered_begins rules options s (m ∷ k ∷ ms) first steps later ih) asked.events asked.value asked.stream asked.left (ask_silent (length (m ∷ k ∷ ms)) place (most_bad_lines - 1) stream choices) (ask_range (length (m ∷ k ∷ ms)) place (most_bad_lines - 1) stream choices)

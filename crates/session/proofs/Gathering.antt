@@ -11,6 +11,7 @@ use Rattle.session.specs.declared.Broken.TheVariants as broken
 use Rattle.session.specs.Events.{Event, Put, Told, Stepped, output, front, recorded, steps_in, step_of}
 use Rattle.session.specs.Part.{Part, preceded}
 use Rattle.session.specs.Stands.{AreReadable, MovedBy, Leads, Breaks, CountsBroken}
+use Rattle.session.specs.declared.course.Course.{Course}
 use Rattle.session.specs.Gathered.{told_steps, begins_from, later, AddsText, CutsTexts, AreGathered, behind, Waits, BreaksBare, Halts, GoesFurther, Advances, TurnsOn}
 use Rattle.session.specs.declared.Options.{Options}
 use Rattle.session.specs.Machine.{Rules, Goes}
@@ -360,19 +361,19 @@ module _ {S M : Type 0} (notes : Version) (rules : Rules S M) (options : Options
       rw more (one_story m (options.limit - (steps + 1)) (sym is ∙ one_of m moves one (sym first)) left)
 
 -- a turn in which the one move was taken
-module _ {S M : Type 0} (notes : Version) (rules : Rules S M) (options : Options) (at t : S) (m : M) (steps steps' : ℕ) (stream : Stream) (a b : Holdings) (moves : List M) (bytes begins bytes' begins' : List ℕ) where
+module _ {S M : Type 0} (notes : Version) (rules : Rules S M) (options : Options) (at t : S) (m : M) (steps steps' : ℕ) (course course' : Course) (a b : Holdings) (moves : List M) where
   -- what follows the step is what follows after so many steps
   next_story : (n : ℕ) (whole : List ℕ → Part End) (r : Result (Option End) Broken) → IfOk r (λ end. IfNone end (steps' ≡ steps + 1))
-      → GoesFurther r a b n steps' whole (after_step notes rules options steps t stream) stream bytes' begins' → GoesFurther r a b n steps' whole (story_after notes rules options t steps' stream) stream bytes' begins'
+      → GoesFurther r a b n steps' whole (after_step notes rules options steps t course.stream) course.stream course'.gathered.bytes.items course'.gathered.begins.items → GoesFurther r a b n steps' whole (story_after notes rules options t steps' course.stream) course.stream course'.gathered.bytes.items course'.gathered.begins.items
   next_story n whole (Ok None) next w = rw next (rw next at w)
   next_story n whole (Ok (Some end)) next does = does
   next_story n whole (Err e) next halts = halts
 
-  pub one_turn : moves ≡ rules.moves at → length moves ≡ 1 → m ≡ get_or moves 0 m → steps < options.limit → (r : Result (Option End) Broken) → IfOk r (λ end. IfNone end (steps' ≡ steps + 1))
-      → Advances r rules options at m t a b steps steps' bytes begins bytes' begins' → TurnsOn r notes rules options at t a b steps steps' stream stream bytes begins bytes' begins'
-  one_turn is one first lt r next advances xs n are count =
-      let rest = step_part rules options at m steps (after_step notes rules options steps) stream in
-      let same : (left : List ℕ) → behind xs (story_after notes rules options at steps stream) left ≡ behind xs rest left = λ left. ap (preceded (told_steps xs)) (one_move notes rules options at steps stream m moves is one first lt left) in
-      next_story n (behind xs (story_after notes rules options at steps stream)) r next
-      (goes_on b steps' (behind xs rest) (after_step notes rules options steps t stream) stream bytes' begins' r (Leads-same same (Leads-nil (behind xs (story_after notes rules options at steps stream))))
-      (advances xs n (after_step notes rules options steps) stream are count))
+  pub one_turn : course'.stream ≡ course.stream → moves ≡ rules.moves at → length moves ≡ 1 → m ≡ get_or moves 0 m → steps < options.limit → (r : Result (Option End) Broken) → IfOk r (λ end. IfNone end (steps' ≡ steps + 1))
+      → Advances r (record { notes = notes; options = options }) rules at m t a b steps steps' course course' → TurnsOn r (record { notes = notes; options = options }) rules at t a b steps steps' course course'
+  one_turn still is one first lt r next advances xs n are count =
+      let rest = step_part rules options at m steps (after_step notes rules options steps) course.stream in
+      let same : (left : List ℕ) → behind xs (story_after notes rules options at steps course.stream) left ≡ behind xs rest left = λ left. ap (preceded (told_steps xs)) (one_move notes rules options at steps course.stream m moves is one first lt left) in
+      rw still (next_story n (behind xs (story_after notes rules options at steps course.stream)) r next
+      (goes_on b steps' (behind xs rest) (after_step notes rules options steps t course.stream) course.stream course'.gathered.bytes.items course'.gathered.begins.items r (Leads-same same (Leads-nil (behind xs (story_after notes rules options at steps course.stream))))
+      (advances xs n (after_step notes rules options steps) course.stream are count)))

@@ -293,7 +293,7 @@ module _ {S M : Type 0} (rules : Rules S M) (options : Options) where
   select_placed s [] some start steps later ih stream choices fit first plain = absurd (omega arith)
   select_placed s (m ∷ []) some start steps later ih stream choices fit first plain = answered_placed rules options s (m ∷ []) start steps later ih 1 stream choices fit first plain
   select_placed s (m ∷ k ∷ ms) some start steps later ih stream choices fit first plain =
-      let place = place_of rules s m (m ∷ k ∷ ms) in
+      let place = place_of rules s (m ∷ k ∷ ms) in
       let asked = ask (length (m ∷ k ∷ ms)) place (most_bad_lines - 1) stream choices in
       chosen_placed (rules.text s) place (m ∷ k ∷ ms) (answered rules options s (m ∷ k ∷ ms) start steps later) (answered_stops s (m ∷ k ∷ ms) start steps later)
       (answered_placed rules options s (m ∷ k ∷ ms) start steps later ih) asked.events asked.value asked.stream asked.left (ask_silent (length (m ∷ k ∷ ms)) place (most_bad_lines - 1) stream choices)
@@ -305,7 +305,7 @@ module _ {S M : Type 0} (rules : Rules S M) (options : Options) where
   select_headed s (m ∷ []) some start steps later ih ih2 stream choices unended fit first plain = answered_headed rules options s (m ∷ []) start steps later ih2 1 stream choices unended fit first plain
   select_headed s (m ∷ k ∷ ms) some start steps later ih ih2 stream choices unended fit first plain =
       let moves = m ∷ k ∷ ms in
-      let place = place_of rules s m moves in
+      let place = place_of rules s moves in
       let next = answered rules options s moves start steps later in
       let asked = ask (length moves) place (most_bad_lines - 1) stream choices in
       let run = chosen (rules.text s) place moves next asked.events asked.value asked.stream asked.left in

@@ -329,7 +329,7 @@ module _ {S M : Type 0} (rules : Rules S M) (options : Options) where
   select_again s [] some first steps later ih stream choices more complete = absurd (omega arith)
   select_again s (m ∷ []) some first steps later ih stream choices more complete = answered_again rules options s (m ∷ []) first steps later ih 1 (omega arith) (omega arith) stream choices more complete
   select_again s (m ∷ k ∷ ms) some first steps later ih stream choices more complete =
-      let place = place_of rules s m (m ∷ k ∷ ms) in
+      let place = place_of rules s (m ∷ k ∷ ms) in
       let asked = ask (length (m ∷ k ∷ ms)) place (most_bad_lines - 1) stream choices in
       chosen_again (rules.text s) place (m ∷ k ∷ ms) (answered rules options s (m ∷ k ∷ ms) first steps later) (answered_again rules options s (m ∷ k ∷ ms) first steps later ih)
       (answered_stops s (m ∷ k ∷ ms) first steps later) asked.events asked.value asked.stream asked.left more (ask_silent (length (m ∷ k ∷ ms)) place (most_bad_lines - 1) stream choices) (ask_range (length (m ∷ k ∷ ms)) place (most_bad_lines - 1) stream choices)

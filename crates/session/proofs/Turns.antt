@@ -3,6 +3,7 @@ use Rattle.std.proofs.Common.{◌≡◌, ℕ, zero, suc, ◌+◌, ◌-◌, ◌<�
 use Rattle.devices.specs.Holdings.{Holdings, Moved}
 use Rattle.diagnostics.specs.declared.fault.Fault.{Fault}
 use Rattle.session.specs.declared.Options.{Options}
+use Rattle.session.specs.declared.course.Course.{Course}
 use Rattle.session.specs.declared.End.{End}
 use Rattle.session.specs.declared.Cause.TheVariants as cause
 use Rattle.session.specs.declared.Broken.{Broken}
@@ -59,11 +60,11 @@ module _ {S M : Type 0} (notes : Version) (rules : Rules S M) (at : S) where
   select_one (m ∷ k ∷ ms) stream one = absurd (omega arith)
 
   pub select_many : (a b : Holdings) (moves : List M) (stream stream' : Stream) (r : Result Answer Broken) → 0 < length moves → (length moves ≡ 1 → ⊥)
-      → ((first : M) → PlaysQuestion r a b (choose notes (rules.text at) (place_of rules at first moves) moves stream) stream') → PlaysQuestion r a b (select notes rules at moves stream) stream'
+      → PlaysQuestion r a b (choose notes (rules.text at) (place_of rules at moves) moves stream) stream' → PlaysQuestion r a b (select notes rules at moves stream) stream'
   unfolding select
   select_many a b [] stream stream' r some many asked = absurd (omega arith)
   select_many a b (m ∷ []) stream stream' r some many asked = absurd (many refl)
-  select_many a b (m ∷ k ∷ ms) stream stream' r some many asked = asked m
+  select_many a b (m ∷ k ∷ ms) stream stream' r some many asked = asked
 
 -- ---- steps
 
@@ -163,21 +164,21 @@ pub last_does : {a b : Holdings} {n : ℕ} (piece : List ℕ) (end end' : End) (
 last_does piece end end' stream is took = rw is (Leads-does (puts piece (only end' stream) took) (only_does end' stream))
 
 -- a turn in which a move was selected
-module _ {S M : Type 0} (notes : Version) (rules : Rules S M) (options : Options) (at t : S) (steps steps' : ℕ) (stream stream' : Stream) (moves : List M) (a b : Holdings) (is : moves ≡ rules.moves at) (some : length moves ≡ 0 → ⊥) (lt : steps < options.limit) where
+module _ {S M : Type 0} (notes : Version) (rules : Rules S M) (options : Options) (at t : S) (steps steps' : ℕ) (course course' : Course) (moves : List M) (a b : Holdings) (is : moves ≡ rules.moves at) (some : length moves ≡ 0 → ⊥) (lt : steps < options.limit) where
   -- a story with a step to go is what a move and its answer lead to
-  to_act : (first : M) × Leads a a steps steps (story_after notes rules options at steps stream) (acted notes rules options at first steps (λ q w left. story notes rules options (options.limit - (steps + 1)) q (steps + 1) w left) stream)
+  to_act : (first : M) × Leads a a steps steps (story_after notes rules options at steps course.stream) (acted notes rules options at first steps (λ q w left. story notes rules options (options.limit - (steps + 1)) q (steps + 1) w left) course.stream)
   to_act =
       let more : options.limit - steps ≡ suc (options.limit - (steps + 1)) = omega arith in
-      rw more (to_answer notes rules options at steps stream (options.limit - (steps + 1)) (rules.moves at) refl (subst (λ (l : List M). length l ≡ 0 → ⊥) is some))
+      rw more (to_answer notes rules options at steps course.stream (options.limit - (steps + 1)) (rules.moves at) refl (subst (λ (l : List M). length l ≡ 0 → ⊥) is some))
 
-  by_first : (first : M) → Leads a a steps steps (story_after notes rules options at steps stream) (acted notes rules options at first steps (λ q w left. story notes rules options (options.limit - (steps + 1)) q (steps + 1) w left) stream)
-      → (r : Result (Option End) Broken) → Acts r notes rules options at t a b steps steps' stream stream' → IfOk r (λ end. IfNone end (steps' ≡ steps + 1)) → Turns r notes rules options at t a b steps steps' stream stream'
+  by_first : (first : M) → Leads a a steps steps (story_after notes rules options at steps course.stream) (acted notes rules options at first steps (λ q w left. story notes rules options (options.limit - (steps + 1)) q (steps + 1) w left) course.stream)
+      → (r : Result (Option End) Broken) → Acts r (record { notes = notes; options = options }) rules at t a b steps steps' course course' → IfOk r (λ end. IfNone end (steps' ≡ steps + 1)) → Turns r (record { notes = notes; options = options }) rules at t a b steps steps' course course'
   by_first first leads (Ok None) acts next = rw next (Leads-trans leads (rw next at acts (λ q w left. story notes rules options (options.limit - (steps + 1)) q (steps + 1) w left) first))
   by_first first leads (Ok (Some end)) acts next = Leads-does leads (acts (λ q w left. story notes rules options (options.limit - (steps + 1)) q (steps + 1) w left) first)
   by_first first leads (Err e) acts next = Leads-breaks leads (acts (λ q w left. story notes rules options (options.limit - (steps + 1)) q (steps + 1) w left) first)
 
-  pub act_turn : (r : Result (Option End) Broken) → Acts r notes rules options at t a b steps steps' stream stream' → IfOk r (λ end. IfNone end (steps' ≡ steps + 1))
-      → Turns r notes rules options at t a b steps steps' stream stream'
+  pub act_turn : (r : Result (Option End) Broken) → Acts r (record { notes = notes; options = options }) rules at t a b steps steps' course course' → IfOk r (λ end. IfNone end (steps' ≡ steps + 1))
+      → Turns r (record { notes = notes; options = options }) rules at t a b steps steps' course course'
   act_turn r acts next = by_first to_act.0 to_act.1 r acts next
 
 -- what follows an answer, where these are the moves
@@ -185,6 +186,6 @@ module _ {S M : Type 0} (notes : Version) (rules : Rules S M) (options : Options
   pub acts_of : moves ≡ rules.moves at
       → ((later : S → Stream → List ℕ → Part End) (first : M)
       → Continues r a b steps steps' (λ rest. followed (select notes rules at moves stream rest) (answered rules options at moves first steps later)) (later t stream') stream')
-      → Acts r notes rules options at t a b steps steps' stream stream'
+      → (later : S → Stream → List ℕ → Part End) (first : M) → Continues r a b steps steps' (acted notes rules options at first steps later stream) (later t stream') stream'
   acts_of is acts = subst (λ (ms : List M). (later : S → Stream → List ℕ → Part End) (first : M)
       → Continues r a b steps steps' (λ rest. followed (select notes rules at ms stream rest) (answered rules options at ms first steps later)) (later t stream') stream') is acts

@@ -1,10 +1,10 @@
 -- What a line of the second version says.
 use Rattle.std.proofs.Common.{◌≡◌, ℕ, ◌-◌, ◌<◌, ◌≤◌, List, length, get_or, Bool, true, false, cond, ◌&&◌, Some, None, refl, sym, ap, ◌∙◌, arith}
-use Rattle.std.proofs.lemmas.List.{get_or_read}
+use Rattle.std.proofs.lemmas.Option.{slice_get_read}
 use Rattle.session.specs.declared.choice.Answer.TheVariants as answer
 use Rattle.session.specs.Lines.{is_quit, trimmed, first_word, behind_word, number_up_to, writes, placed_answer, placed_reply}
 use Rattle.session.specs.Machine.{Rules}
-use Rattle.session.specs.Session.{place_of}
+use Rattle.session.specs.Session.{known_origin, place_of}
 
 -- ---- what a line says
 
@@ -23,9 +23,9 @@ module _ (most : ℕ) (place : ℕ → ℕ × ℕ) (line : List ℕ) where
   reply_some n other some fits is = rw (other, some, is) refl
 
 -- the place of a move is that of its number
-pub place_is : {S M : Type 0} (rules : Rules S M) (s : S) (moves : List M) (n : ℕ) (m first : M) (place : ℕ × ℕ) → (0 < n) × (n ≤ length moves) → m ≡ get_or moves (n - 1) m → place ≡ rules.origin s m
-    → place_of rules s first moves n ≡ place
-place_is rules s moves n m first place range is at = sym (at ∙ ap (rules.origin s) (get_or_read moves (n - 1) m (omega arith) is first))
+pub place_is : {S M : Type 0} (rules : Rules S M) (s : S) (moves : List M) (n : ℕ) (m : M) (place : ℕ × ℕ) → (0 < n) × (n ≤ length moves) → m ≡ get_or moves (n - 1) m → place ≡ rules.origin s m
+    → place_of rules s moves n ≡ place
+place_is rules s moves n m place range is at = ap (known_origin rules s) (slice_get_read moves (length moves) (n - 1) m refl (omega arith) is) ∙ sym at
 
 -- two words write the place, or one of them does not
 module _ (word line p l : List ℕ) (place at : ℕ × ℕ) (is : word ≡ line) (same : at ≡ place) (p_is : p ≡ first_word (behind_word word)) (l_is : l ≡ behind_word (behind_word word)) where

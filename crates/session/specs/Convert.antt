@@ -1,5 +1,5 @@
 -- What a session does whose choices are converted to the second version.
-use Rattle.std.specs.Prelude.{◌≡◌, ℕ, ◌+◌, List, [], ◌∷◌, ◌++◌, length, filter, nat_le, Bool, true, false, if◌then◌else◌}
+use Rattle.std.specs.Prelude.{◌≡◌, ◌≢◌, ℕ, ◌+◌, List, [], ◌∷◌, ◌++◌, length, filter, nat_le, Bool, true, false, if◌then◌else◌}
 use Rattle.std.specs.List.{flat_map, list_all, list_any}
 use Rattle.devices.specs.Holdings.{Gave}
 use Rattle.session.specs.declared.Options.{Options}
@@ -32,6 +32,10 @@ abbrev pub converted : (List ℕ → Part End) → List ℕ → Part End
 converted part choices =
     let run = part choices in
     record { events = Put Told header_line ∷ converted_events run.events; value = run.value; stream = run.stream; left = run.left }
+
+-- the session of a machine where its choices are converted
+abbrev pub conversion : {S M : Type 0} → Rules S M → Options → S → List ℕ → Part End
+conversion rules options s = converted (transcript rules options s)
 
 -- the choices of a run in the second version, without their first line
 abbrev pub placed_lines : List Event → List ℕ
@@ -85,6 +89,10 @@ CanBeConverted transcript = (choices : List ℕ) → list_all fits_line (transcr
 -- what was read, with whatever is left, is converted to choices that stand for the record
 abbrev pub IsConvertedBy : (old new : List ℕ → Type 0) → (List ℕ → Part End) → Type 0
 IsConvertedBy old new transcript = (bytes : List ℕ) × Gave old new bytes × ((left : List ℕ) → new left → StandsForRecord transcript (bytes ++ left))
+
+-- where the status is not 6, it is so
+abbrev pub StandsOwn : (old new : List ℕ → Type 0) → (List ℕ → Part End) → End → Type 0
+StandsOwn old new transcript end = end.status ≢ 6 → IsConvertedBy old new transcript
 
 -- so it is of each session of a machine
 abbrev pub ConvertedChoicesStandForTheRecord : {S M : Type 0} → Rules S M → Type 0

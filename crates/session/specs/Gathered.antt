@@ -11,9 +11,9 @@ use Rattle.session.specs.Machine.{Rules}
 use Rattle.session.specs.Session.{stepped}
 use Rattle.session.specs.Stands.{Does, Leads, Breaks}
 use Rattle.session.specs.Writes.{story_after}
-use Rattle.session.specs.declared.Options.{Options}
+use Rattle.session.specs.declared.course.Terms.{Terms}
+use Rattle.session.specs.declared.course.Course.{Course}
 use Rattle.session.specs.declared.form.Stream.{Stream}
-use Rattle.session.specs.declared.form.Version.{Version}
 
 -- what a session does in steps with these texts
 abbrev pub told_steps : List (List ℕ) → List Event
@@ -78,13 +78,15 @@ GoesFurther r before after steps steps' whole rest stream bytes begins =
     MatchResult r (WaitsOn before after steps steps' whole rest stream bytes begins) (λ e. Halts e before after steps steps' whole bytes begins)
 
 -- a step was taken, or the session ended, or it was broken off: whatever texts are gathered before, and whatever follows the step
-abbrev pub Advances : {S M : Type 0} → Result (Option End) Broken → Rules S M → Options → S → M → S → Holdings → Holdings → ℕ → ℕ → (bytes begins bytes' begins' : List ℕ) → Type 0
-Advances {S} {M} r rules options s m t before after steps steps' bytes begins bytes' begins' =
-    (texts : List (List ℕ)) (written : ℕ) (later : S → Stream → List ℕ → Part End) (stream : Stream) → AreGathered texts bytes begins → steps ≡ written + length texts
-    → GoesFurther r before after written steps' (behind texts (λ left. stepped rules options s m steps (λ q. later q stream left) stream left (rules.step s m))) (later t stream) stream bytes' begins'
+abbrev pub Advances : {S M : Type 0} → Result (Option End) Broken → Terms → Rules S M → S → M → S → Holdings → Holdings → ℕ → ℕ → (course course' : Course) → Type 0
+Advances {S} {M} r terms rules s m t before after steps steps' course course' =
+    (texts : List (List ℕ)) (written : ℕ) (later : S → Stream → List ℕ → Part End) (stream : Stream) → AreGathered texts course.gathered.bytes.items course.gathered.begins.items → steps ≡ written + length texts
+    → GoesFurther r before after written steps' (behind texts (λ left. stepped rules terms.options s m steps (λ q. later q stream left) stream left (rules.step s m))) (later t stream) stream
+    course'.gathered.bytes.items course'.gathered.begins.items
 
 -- a turn of the session was played, whatever texts are gathered before
-abbrev pub TurnsOn : {S M : Type 0} → Result (Option End) Broken → Version → Rules S M → Options → S → S → Holdings → Holdings → ℕ → ℕ → Stream → Stream → (bytes begins bytes' begins' : List ℕ) → Type 0
-TurnsOn r notes rules options s t before after steps steps' stream stream' bytes begins bytes' begins' =
-    (texts : List (List ℕ)) (written : ℕ) → AreGathered texts bytes begins → steps ≡ written + length texts
-    → GoesFurther r before after written steps' (behind texts (story_after notes rules options s steps stream)) (story_after notes rules options t steps' stream') stream' bytes' begins'
+abbrev pub TurnsOn : {S M : Type 0} → Result (Option End) Broken → Terms → Rules S M → S → S → Holdings → Holdings → ℕ → ℕ → (course course' : Course) → Type 0
+TurnsOn r terms rules s t before after steps steps' course course' =
+    (texts : List (List ℕ)) (written : ℕ) → AreGathered texts course.gathered.bytes.items course.gathered.begins.items → steps ≡ written + length texts
+    → GoesFurther r before after written steps' (behind texts (story_after terms.notes rules terms.options s steps course.stream)) (story_after terms.notes rules terms.options t steps' course'.stream)
+    course'.stream course'.gathered.bytes.items course'.gathered.begins.items

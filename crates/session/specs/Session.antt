@@ -1,6 +1,7 @@
 -- The session of a machine: what it does on these choices, and how it ends.
 use Rattle.std.specs.Prelude.{ℕ, ◌+◌, ◌-◌, List, [], ◌∷◌, ◌++◌, length, Bool, true, false, if◌then◌else◌, Option, Some, None, slice_index_or}
 use Prim.Native.Nat.{zero, suc}
+use Rattle.std.specs.List.{slice_get}
 use Rattle.diagnostics.specs.declared.refusal.Refusal.{Refusal}
 use Rattle.session.specs.declared.Options.{Options}
 use Rattle.session.specs.declared.End.{End}
@@ -101,15 +102,40 @@ choose notes text place moves stream rest =
     let most = length moves in
     preceded (Put Told (list_from text 1 moves) ∷ []) (preceded (Put Told (prompt most) ∷ []) (followed (question most place stream rest) (kept notes place)))
 
--- the process and the line of the move with this number, counted from 1
-abbrev pub place_of : {S M : Type 0} → Rules S M → S → M → List M → ℕ → ℕ × ℕ
-place_of rules s first moves n = rules.origin s (slice_index_or moves (n - 1) first)
+-- the process and the line that a move comes from
+abbrev pub known_origin : {S M : Type 0} → Rules S M → S → Option M → ℕ × ℕ
+known_origin rules s None = (0, 0)
+known_origin rules s (Some m) = rules.origin s m
+
+-- those of the move with this number, counted from 1
+abbrev pub place_of : {S M : Type 0} → Rules S M → S → List M → ℕ → ℕ × ℕ
+place_of rules s moves n = known_origin rules s (slice_get moves (n - 1))
+
+-- what a question for one of these moves of a state reads: a line of this version
+abbrev pub line_at : {S M : Type 0} → Version → Rules S M → S → List M → List ℕ → Part (Option Answer)
+line_at version rules s moves = one_line version (length moves) (place_of rules s moves)
+
+-- the next line
+abbrev pub next_at : {S M : Type 0} → Rules S M → S → List M → Stream → List ℕ → Part (Option Answer)
+next_at rules s moves stream = next_line (length moves) (place_of rules s moves) stream
+
+-- what is read for an answer
+abbrev pub reply_to : {S M : Type 0} → Rules S M → S → List M → Stream → List ℕ → Part (Option Answer)
+reply_to rules s moves stream = one_reply (length moves) (place_of rules s moves) stream
+
+-- the whole question, behind its prompt
+abbrev pub question_at : {S M : Type 0} → Rules S M → S → List M → Stream → List ℕ → Part Answer
+question_at rules s moves stream = question (length moves) (place_of rules s moves) stream
+
+-- the question with its list and its prompt, and the record of the answer
+abbrev pub choice_at : {S M : Type 0} → Version → Rules S M → S → List M → Stream → List ℕ → Part Answer
+choice_at notes rules s moves stream = choose notes (rules.text s) (place_of rules s moves) moves stream
 
 -- one move is taken without asking; of several one is asked for
 unfoldable pub select : {S M : Type 0} → Version → Rules S M → S → List M → Stream → List ℕ → Part Answer
 select notes rules s [] stream rest = only (answer.Pick 1) stream rest
 select notes rules s (m ∷ []) stream rest = only (answer.Pick 1) stream rest
-select notes rules s (m ∷ n ∷ ms) stream rest = choose notes (rules.text s) (place_of rules s m (m ∷ n ∷ ms)) (m ∷ n ∷ ms) stream rest
+select notes rules s (m ∷ n ∷ ms) stream rest = choice_at notes rules s (m ∷ n ∷ ms) stream rest
 
 -- how a session ends by this cause
 abbrev pub end_of : Cause → ℕ → End

@@ -1,8 +1,10 @@
 -- What calls do that write, that record, that take a step, and that play a turn.
-use Rattle.std.specs.Prelude.{◌≡◌, ℕ, ◌+◌, ◌-◌, ◌<◌, List, [], Option, Some, None, Result, MatchResult}
+use Rattle.std.specs.Prelude.{◌≡◌, ◌≢◌, ℕ, ◌+◌, ◌-◌, ◌<◌, List, [], Option, Some, None, Result, MatchResult}
 use Rattle.devices.specs.Holdings.{Holdings, Moved, WritesPart, RecordsPart}
 use Rattle.diagnostics.specs.declared.fault.Fault.{Fault}
 use Rattle.session.specs.declared.Options.{Options}
+use Rattle.session.specs.declared.course.Course.{Course}
+use Rattle.session.specs.declared.course.Terms.{Terms}
 use Rattle.session.specs.declared.End.{End}
 use Rattle.session.specs.declared.Cause.{Cause}
 use Rattle.session.specs.declared.Cause.TheVariants as cause
@@ -98,18 +100,18 @@ acted notes rules options s first steps later stream rest =
     followed (select notes rules s (rules.moves s) stream rest) (answered rules options s (rules.moves s) first steps later)
 
 -- a move was selected and taken, or the session ended, or it was broken off: whatever follows the step
-abbrev pub Acts : {S M : Type 0} → Result (Option End) Broken → Version → Rules S M → Options → S → S → Holdings → Holdings → ℕ → ℕ → Stream → Stream → Type 0
-Acts {S} {M} r notes rules options s t before after steps steps' stream stream' = (later : S → Stream → List ℕ → Part End) (first : M)
-    → Continues r before after steps steps' (acted notes rules options s first steps later stream) (later t stream') stream'
+abbrev pub Acts : {S M : Type 0} → Result (Option End) Broken → Terms → Rules S M → S → S → Holdings → Holdings → ℕ → ℕ → Course → Course → Type 0
+Acts {S} {M} r terms rules s t before after steps steps' course course' = (later : S → Stream → List ℕ → Part End) (first : M)
+    → Continues r before after steps steps' (acted terms.notes rules terms.options s first steps later course.stream) (later t course'.stream) course'.stream
 
 -- what is still to do of a session after so many steps
 abbrev pub story_after : {S M : Type 0} → Version → Rules S M → Options → S → ℕ → Stream → List ℕ → Part End
 story_after notes rules options s steps stream = story notes rules options (options.limit - steps) s steps stream
 
 -- a turn of the session was played
-abbrev pub Turns : {S M : Type 0} → Result (Option End) Broken → Version → Rules S M → Options → S → S → Holdings → Holdings → ℕ → ℕ → Stream → Stream → Type 0
-Turns r notes rules options s t before after steps steps' stream stream' =
-    Continues r before after steps steps' (story_after notes rules options s steps stream) (story_after notes rules options t steps' stream') stream'
+abbrev pub Turns : {S M : Type 0} → Result (Option End) Broken → Terms → Rules S M → S → S → Holdings → Holdings → ℕ → ℕ → Course → Course → Type 0
+Turns r terms rules s t before after steps steps' course course' =
+    Continues r before after steps steps' (story_after terms.notes rules terms.options s steps course.stream) (story_after terms.notes rules terms.options t steps' course'.stream) course'.stream
 
 -- ---- ends
 
@@ -138,3 +140,11 @@ failure_of broken.Memory = cause.Memory
 abbrev pub IsBrokenOff : Holdings → Holdings → (List ℕ → Part End) → End → Type 0
 IsBrokenOff before after part end = (broken : Broken) × (end.cause ≡ failure_of broken)
     × Breaks broken before after 0 end.steps part × CountsBroken broken before.failures after.failures
+
+-- where the status is not 6 this part came to this end
+abbrev pub EndsOwn : Holdings → Holdings → (List ℕ → Part End) → End → Type 0
+EndsOwn before after part end = end.status ≢ 6 → Ends before after end.steps part end
+
+-- where it is 6 the part was broken off
+abbrev pub EndsBroken : Holdings → Holdings → (List ℕ → Part End) → End → Type 0
+EndsBroken before after part end = end.status ≡ 6 → IsBrokenOff before after part end

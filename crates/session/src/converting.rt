@@ -1,10 +1,9 @@
 //! The session whose choices are converted to the second version.
-ghost use Rattle.std.specs.Prelude.{◌≡◌, ◌≢◌, ◌<◌, List, ℕ, None, IfOk};
-ghost use Rattle.session.specs.Convert.{converted, noting, quiet, failure_converting, IsConvertedBy, CanBeConverted};
+ghost use Rattle.std.specs.Prelude.{◌≡◌, ◌≢◌, ◌<◌, List, ℕ, IfOk};
+ghost use Rattle.session.specs.Convert.{conversion, noting, quiet, failure_converting, CanBeConverted, StandsOwn};
 ghost use Rattle.session.specs.Session.{end_of, transcript};
 ghost use Rattle.session.specs.Stands.{CountsAll};
-ghost use Rattle.session.specs.Writes.{Runs, Ends, IsOwnEnd, IsBrokenOff};
-ghost use Rattle.devices.specs.Holdings.{holding};
+ghost use Rattle.session.specs.Writes.{Runs, EndsOwn, EndsBroken, IsOwnEnd};
 
 use crate::whole::{end_of, run};
 use crate::{Broken, Cause, End, Machine, Options, Version};
@@ -44,6 +43,21 @@ impl<S: Source, O: Sink> Devices for Conversion<S, O> {
     fn keep(&mut self, line: &[u8]) -> Result<(), Failed> {
         put_all(&mut self.out, line)
     }
+}
+
+/// What devices hold that are more to their caller than to the session that they are handed to.
+pub trait Held {
+    ghost use Rattle.devices.specs.Holdings.{Holdings};
+
+    /// What they hold, as their caller sees it.
+    ghost held: { Self → Holdings };
+}
+
+impl<S: Source, O: Sink> Held for Conversion<S, O> {
+    ghost use Rattle.std.specs.Prelude.{None};
+    ghost use Rattle.devices.specs.Holdings.{holding};
+
+    ghost held = { λ d. holding (S.may_give d.source) (O.taken d.out) None (S.failures d.source) (O.failures d.out) 0 };
 }
 
 // The same limit, and nothing is shown.
@@ -101,12 +115,12 @@ pub fn convert<M: Machine, S: Source, O: Sink>(
     devices: &mut Conversion<S, O>,
 ) -> End
     ensures left { (left : List ℕ) × S.may_give devices.new.source left }
-    ensures whole { result.status ≢ 6 → Ends (holding (S.may_give devices.old.source) (O.taken devices.old.out) None (S.failures devices.old.source) (O.failures devices.old.out) 0) (holding (S.may_give devices.new.source) (O.taken devices.new.out) None (S.failures devices.new.source) (O.failures devices.new.out) 0) result.steps (converted (transcript M.rules options.now machine.old)) result }
+    ensures whole { let h = ⟦<Conversion<S, O> as Held>⟧.held in EndsOwn (h devices.old) (h devices.new) (conversion M.rules options.now machine.old) result }
     ensures source { result.status ≢ 6 → S.failures devices.new.source ≡ S.failures devices.old.source }
     ensures out { result.status ≢ 6 → O.failures devices.new.out ≡ O.failures devices.old.out }
-    ensures broken { result.status ≡ 6 → IsBrokenOff (holding (S.may_give devices.old.source) (O.taken devices.old.out) None (S.failures devices.old.source) (O.failures devices.old.out) 0) (holding (S.may_give devices.new.source) (O.taken devices.new.out) None (S.failures devices.new.source) (O.failures devices.new.out) 0) (converted (transcript M.rules options.now machine.old)) result }
+    ensures broken { let h = ⟦<Conversion<S, O> as Held>⟧.held in EndsBroken (h devices.old) (h devices.new) (conversion M.rules options.now machine.old) result }
     ensures end { result ≡ end_of result.cause result.steps }
-    ensures stands { result.status ≢ 6 → IsConvertedBy (S.may_give devices.old.source) (S.may_give devices.new.source) (transcript M.rules options.now machine.old) }
+    ensures stands { StandsOwn (S.may_give devices.old.source) (S.may_give devices.new.source) (transcript M.rules options.now machine.old) result }
     ensures law { CanBeConverted (transcript M.rules options.now machine.old) }
 {
     let mut steps = 0;

@@ -9,6 +9,7 @@ use std::alloc::{AllocError, AllocFailed};
 
 mod choice;
 mod converting;
+mod course;
 mod draft;
 mod form;
 mod gathered;
@@ -21,7 +22,7 @@ mod whole;
 mod writing;
 
 pub use choice::Answer;
-pub use converting::{Conversion, convert};
+pub use converting::{Conversion, Held, convert};
 pub use diagnostics::Stop;
 pub use form::{Stream, Version};
 pub use machine::{Machine, Report};

@@ -2,15 +2,15 @@
 ghost use Rattle.std.specs.Prelude.{◌≡◌, ◌<◌, ◌≤◌, ◌+◌, ◌^◌, List, ℕ, length, IfOk, IfNone, IfSome, ◌≢◌};
 ghost use Rattle.std.specs.List.{Contains};
 ghost use Rattle.session.specs.Lines.{IsPickUpTo};
-ghost use Rattle.session.specs.Session.{choose, select, cause_of, final_lines, final_cause, end_of, place_of, transcript, transcript_noting};
+ghost use Rattle.session.specs.Session.{choice_at, select, cause_of, final_lines, final_cause, end_of, transcript, transcript_noting};
 ghost use Rattle.session.specs.Replay.{CanBeReplayed};
 ghost use Rattle.session.specs.Stands.{PlaysQuestion, CountsAll};
 ghost use Rattle.session.specs.Texts.{last_line, status_of};
 ghost use Rattle.session.specs.Gathered.{Advances, TurnsOn};
 ghost use Rattle.session.specs.Writes.{Writes, Acts, Turns, Runs, Ends, IsOwnEnd, IsBrokenOff, failure_of};
 
+use crate::course::{Course, Terms};
 use crate::draft::Draft;
-use crate::gathered::Gathered;
 use crate::question::{put_out, question};
 use crate::writing::{keep, step, take_step, write_ending, write_last, write_question};
 use crate::{Answer, Broken, Cause, End, Machine, Options, Stream, Version};
@@ -27,7 +27,7 @@ fn choose<M: Machine, D: Devices>(
     devices: &mut D,
 ) -> Result<Answer, Broken>
     requires { moves.now ≡ M.rules.moves machine.now }
-    ensures part { (first : M.Move) → PlaysQuestion result (D.holds devices.old) (D.holds devices.new) (choose notes (M.rules.text machine.now) (place_of M.rules machine.now first moves.now) moves.now stream.old) stream.new }
+    ensures part { PlaysQuestion result (D.holds devices.old) (D.holds devices.new) (choice_at notes M.rules machine.now moves.now stream.old) stream.new }
     ensures range { IfOk result (IsPickUpTo (length moves.now)) }
     ensures count { CountsAll result (D.holds devices.old).failures (D.holds devices.new).failures }
 {
@@ -138,90 +138,100 @@ fn cause_of(said: Answer) -> Cause
 
 // Selects a move and takes it, or ends the session.
 fn act<M: Machine, D: Devices>(
-    notes: Version,
+    terms: &Terms,
     machine: &mut M,
     moves: &[M::Move],
-    options: &Options,
     steps: &mut u32,
-    stream: &mut Stream,
-    draft: &mut Draft,
+    course: &mut Course,
     devices: &mut D,
 ) -> Result<Option<End>, Broken>
     requires all { moves.now ≡ M.rules.moves machine.old }
     requires some { 0 < length moves.now }
     requires room { steps.old + 1 < 2 ^ 32 }
-    ensures part { Acts result notes M.rules options.now machine.old machine.new (D.holds devices.old) (D.holds devices.new) steps.old steps.new stream.old stream.new }
+    ensures part { Acts result terms.now M.rules machine.old machine.new (D.holds devices.old) (D.holds devices.new) steps.old steps.new course.old course.new }
     ensures falls { IfOk result (λ end. IfNone end (steps.new ≡ steps.old + 1)) }
     ensures own { IfOk result (λ end. IfSome end (IsOwnEnd steps.new)) }
     ensures count { CountsAll result (D.holds devices.old).failures (D.holds devices.new).failures }
+    ensures waits { course.new.gathered ≡ course.old.gathered }
 {
-    let said = select(notes, machine, moves, stream, draft, devices)?;
+    let said = select(
+        terms.notes,
+        machine,
+        moves,
+        &mut course.stream,
+        &mut course.draft,
+        devices,
+    )?;
     if let Answer::Pick(n) = said {
-        return match step(machine, &moves[n - 1], options, steps, draft, devices)? {
+        return match step(
+            machine,
+            &moves[n - 1],
+            &terms.options,
+            steps,
+            &mut course.draft,
+            devices,
+        )? {
             None => Ok(None),
             Some(f) => Ok(Some(end_of(Cause::Fault(f), *steps))),
         };
     }
-    Ok(Some(stop(cause_of(said), *steps, draft, devices)?))
+    Ok(Some(stop(cause_of(said), *steps, &mut course.draft, devices)?))
 }
 
 // The end, or a question and the step that is picked.
 fn ask_or_end<M: Machine, D: Devices>(
-    notes: Version,
+    terms: &Terms,
     machine: &mut M,
     moves: &[M::Move],
-    options: &Options,
     steps: &mut u32,
-    stream: &mut Stream,
-    draft: &mut Draft,
+    course: &mut Course,
     devices: &mut D,
 ) -> Result<Option<End>, Broken>
-    requires within { steps.old ≤ options.now.limit }
+    requires within { steps.old ≤ terms.now.options.limit }
     requires all { moves.now ≡ M.rules.moves machine.old }
-    ensures part { Turns result notes M.rules options.now machine.old machine.new (D.holds devices.old) (D.holds devices.new) steps.old steps.new stream.old stream.new }
+    ensures part { Turns result terms.now M.rules machine.old machine.new (D.holds devices.old) (D.holds devices.new) steps.old steps.new course.old course.new }
     ensures own { IfOk result (λ end. IfSome end (IsOwnEnd steps.new)) }
-    ensures falls { IfOk result (λ end. IfNone end ((steps.old < steps.new) × (steps.new ≤ options.now.limit))) }
+    ensures falls { IfOk result (λ end. IfNone end ((steps.old < steps.new) × (steps.new ≤ terms.now.options.limit))) }
     ensures count { CountsAll result (D.holds devices.old).failures (D.holds devices.new).failures }
+    ensures waits { course.new.gathered ≡ course.old.gathered }
 {
     if moves.len() == 0 {
-        return Ok(Some(finish(machine, *steps, draft, devices)?));
+        return Ok(Some(finish(machine, *steps, &mut course.draft, devices)?));
     }
-    if *steps == options.limit {
-        return Ok(Some(stop(Cause::StepLimit, *steps, draft, devices)?));
+    if *steps == terms.options.limit {
+        return Ok(Some(stop(Cause::StepLimit, *steps, &mut course.draft, devices)?));
     }
-    act(
-        notes, machine, moves, options, steps, stream, draft, devices,
-    )
+    act(terms, machine, moves, steps, course, devices)
 }
 
 // Takes the one move that there is and gathers the text of its step, or writes the line of its fault and ends the session.
 fn advance<M: Machine, D: Devices>(
+    terms: &Terms,
     machine: &mut M,
     m: &M::Move,
-    options: &Options,
     steps: &mut u32,
-    gathered: &mut Gathered,
-    draft: &mut Draft,
+    run: &mut Course,
     devices: &mut D,
 ) -> Result<Option<End>, Broken>
     requires present { Contains (M.rules.moves machine.old) m.now }
     requires room { steps.old + 1 < 2 ^ 32 }
-    ensures part { Advances result M.rules options.now machine.old m.now machine.new (D.holds devices.old) (D.holds devices.new) steps.old steps.new gathered.old.bytes.items gathered.old.begins.items gathered.new.bytes.items gathered.new.begins.items }
+    ensures part { Advances result terms.now M.rules machine.old m.now machine.new (D.holds devices.old) (D.holds devices.new) steps.old steps.new run.old run.new }
     ensures own { IfOk result (λ end. IfSome end (IsOwnEnd steps.new)) }
     ensures falls { IfOk result (λ end. IfNone end (steps.new ≡ steps.old + 1)) }
     ensures count { CountsAll result (D.holds devices.old).failures (D.holds devices.new).failures }
+    ensures still { run.new.stream ≡ run.old.stream }
 {
-    match take_step(machine, m, options, *steps, draft)? {
+    match take_step(machine, m, &terms.options, *steps, &mut run.draft)? {
         Some(f) => {
-            gathered.write(steps, devices)?;
-            put_out(devices, &draft.piece)?;
+            run.gathered.write(steps, devices)?;
+            put_out(devices, &run.draft.piece)?;
             Ok(Some(end_of(Cause::Fault(f), *steps)))
         }
         None => {
-            gathered.add(&draft.piece)?;
+            run.gathered.add(&run.draft.piece)?;
             *steps += 1;
-            if gathered.is_enough() {
-                gathered.write(steps, devices)?;
+            if run.gathered.is_enough() {
+                run.gathered.write(steps, devices)?;
             }
             Ok(None)
         }
@@ -231,30 +241,25 @@ fn advance<M: Machine, D: Devices>(
 // One turn: the end, or a step. The moves are listed in a buffer that is kept. The texts of steps between which nothing is asked are
 // gathered, and written before anything else is.
 fn turn<M: Machine, D: Devices>(
-    notes: Version,
+    terms: &Terms,
     machine: &mut M,
     moves: &mut Vec<M::Move>,
-    options: &Options,
     steps: &mut u32,
-    stream: &mut Stream,
-    gathered: &mut Gathered,
-    draft: &mut Draft,
+    course: &mut Course,
     devices: &mut D,
 ) -> Result<Option<End>, Broken>
-    requires { steps.old ≤ options.now.limit }
-    ensures part { TurnsOn result notes M.rules options.now machine.old machine.new (D.holds devices.old) (D.holds devices.new) steps.old steps.new stream.old stream.new gathered.old.bytes.items gathered.old.begins.items gathered.new.bytes.items gathered.new.begins.items }
+    requires { steps.old ≤ terms.now.options.limit }
+    ensures part { TurnsOn result terms.now M.rules machine.old machine.new (D.holds devices.old) (D.holds devices.new) steps.old steps.new course.old course.new }
     ensures own { IfOk result (λ end. IfSome end (IsOwnEnd steps.new)) }
-    ensures falls { IfOk result (λ end. IfNone end ((steps.old < steps.new) × (steps.new ≤ options.now.limit))) }
+    ensures falls { IfOk result (λ end. IfNone end ((steps.old < steps.new) × (steps.new ≤ terms.now.options.limit))) }
     ensures count { CountsAll result (D.holds devices.old).failures (D.holds devices.new).failures }
 {
     machine.moves(moves)?;
-    if moves.len() == 1 && *steps < options.limit {
-        return advance(machine, &moves[0], options, steps, gathered, draft, devices);
+    if moves.len() == 1 && *steps < terms.options.limit {
+        return advance(terms, machine, &moves[0], steps, course, devices);
     }
-    gathered.write(steps, devices)?;
-    ask_or_end(
-        notes, machine, &*moves, options, steps, stream, draft, devices,
-    )
+    course.gathered.write(steps, devices)?;
+    ask_or_end(terms, machine, &*moves, steps, course, devices)
 }
 
 /// Runs the session to its end, with a record in lines of this version, and counts its steps.
@@ -271,26 +276,18 @@ pub fn run<M: Machine, D: Devices>(
     ensures own { IfOk result (IsOwnEnd steps.new) }
     ensures count { CountsAll result (D.holds devices.old).failures (D.holds devices.new).failures }
 {
-    let mut stream = Stream::Unread;
+    let terms = Terms {
+        notes,
+        options: *options,
+    };
     let mut moves = Vec::new(alloc);
-    let mut gathered = Gathered::new(alloc);
-    let mut draft = Draft::new(alloc);
+    let mut course = Course::new(alloc);
     loop {
-        match turn(
-            notes,
-            machine,
-            &mut moves,
-            options,
-            steps,
-            &mut stream,
-            &mut gathered,
-            &mut draft,
-            devices,
-        ) {
+        match turn(&terms, machine, &mut moves, steps, &mut course, devices) {
             Ok(None) => {}
             Ok(Some(end)) => return Ok(end),
             Err(broken) => {
-                gathered.write(steps, devices)?;
+                course.gathered.write(steps, devices)?;
                 return Err(broken);
             }
         }

@@ -82,8 +82,8 @@ fn draft_noted<M: Machine>(
     requires all { moves.now ≡ M.rules.moves machine.now }
     requires some { 0 < n }
     requires within { n ≤ length moves.now }
-    ensures line { (first : M.Move) → OnOk result (draft.new.piece.items ≡ noted notes n (place_of M.rules machine.now first moves.now n)) }
-    ensures short { (first : M.Move) → length (noted notes n (place_of M.rules machine.now first moves.now n)) ≤ most_line_bytes + 1 }
+    ensures line { OnOk result (draft.new.piece.items ≡ noted notes n (place_of M.rules machine.now moves.now n)) }
+    ensures short { length (noted notes n (place_of M.rules machine.now moves.now n)) ≤ most_line_bytes + 1 }
 {
     match notes {
         Version::First => draft_record(n, &mut draft.piece),
@@ -105,8 +105,8 @@ pub fn keep<M: Machine, D: Devices>(
 ) -> Result<(), Broken>
     requires all { moves.now ≡ M.rules.moves machine.now }
     requires range { IsPickUpTo (length moves.now) said }
-    ensures text { (first : M.Move) → RecordsAnswer result (D.holds devices.old) (D.holds devices.new) (kept_text notes (place_of M.rules machine.now first moves.now) said) }
-    ensures short { (first : M.Move) → length (kept_text notes (place_of M.rules machine.now first moves.now) said) ≤ most_line_bytes + 1 }
+    ensures text { RecordsAnswer result (D.holds devices.old) (D.holds devices.new) (kept_text notes (place_of M.rules machine.now moves.now) said) }
+    ensures short { length (kept_text notes (place_of M.rules machine.now moves.now) said) ≤ most_line_bytes + 1 }
     ensures count { CountsAll result (D.holds devices.old).failures (D.holds devices.new).failures }
 {
     match said {

@@ -4,5 +4,5 @@ pub use pml_eval::pattern::Pattern;
 pub use pml_printed::named;
 pub use pml_printed::string::printed;
 pub use pml_store::place::Place;
-pub use pml_value::view::View;
+pub use pml_value::view::{Taker, View};
 pub use pml_value::{Channel, Store, clip, eval, pattern, place};

@@ -183,6 +183,7 @@ pub struct Model {
     pub file: Option<Identity>,
 }
 
+/// The model of this name, as it is read from its file.
 pub fn model_of(rt: &HostRuntime, name: &str) -> Result<Model, NoRun> {
     let opened = opened(rt, name)?;
     let file = identity_of(&opened);

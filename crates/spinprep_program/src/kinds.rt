@@ -145,6 +145,7 @@ pub struct Kinds<'t> {
 }
 
 impl<'t> Kinds<'t> {
+    /// No kind.
     pub fn new(alloc: Global) -> Kinds<'t> {
         Kinds {
             alloc,

@@ -13,6 +13,7 @@ struct Block<'t> {
     is_closed: bool,
 }
 
+/// What is said of a text that is prepared, as it is read.
 #[derive(Drop)]
 pub struct Report<'t> {
     // the line of the next byte
@@ -42,6 +43,7 @@ fn left_out(token: &[u8]) -> What {
 }
 
 impl<'t> Report<'t> {
+    /// Nothing is said before the first line.
     pub fn new(alloc: Global) -> Report<'t> {
         Report {
             line: 1,

@@ -7,7 +7,7 @@ use Rattle.pml_lines.proofs.change.local_line.Goals as goal
 pub returns-clause-added : goal.returns-clause-added
 returns-clause-added c =
     let place = place_line c.args.tables.now c.args.slot.now c.args.cell c.args.number in
-    let heading = heading_of c.args.process (slice_get c.args.tables.now.proctypes c.args.kind) in
+    let heading = heading_of c.args.living.process (slice_get c.args.tables.now.proctypes c.args.living.kind) in
     let fits : FitsSigned w32 c.args.number = search rules in
     let same = to_z-of_z w32 c.args.number fits in
     subst (λ (l : List ℕ). OnOk c.place_line.result (c.place_line.new.text.items ≡ l))

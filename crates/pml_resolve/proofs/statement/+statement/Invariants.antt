@@ -6,8 +6,8 @@ use Rattle.pml_resolve.proofs.statement.+statement.Given as goal
 
 abbrev pub invariant-seqs-loop-s : goal.invariant-seqs-loop-s
 invariant-seqs-loop-s l =
-    let rest = each (map numbered_seq (drop l.s-index l.ss)) l.all l.owner (known l.names.table l.slots) in
-    let whole = each (map numbered_seq l.ss) l.all l.owner (known l.initial.names.table l.initial.slots) in
+    let rest = each (map numbered_seq (drop l.s-index l.ss)) l.whose.all.now l.whose.owner (known l.names.table l.slots) in
+    let whole = each (map numbered_seq l.ss) l.whose.all.now l.whose.owner (known l.initial.names.table l.initial.slots) in
     record {
       seqs : l.seqs ++ rest.0 ≡ whole.0;
       known : rest.1 ≡ whole.1;
@@ -16,8 +16,8 @@ invariant-seqs-loop-s l =
 
 abbrev pub invariant-seq-loop-i : goal.invariant-seq-loop-i
 invariant-seq-loop-i l =
-    let rest = each (map numbered_item (drop l.i-index l.i-items)) l.all l.owner (known l.names.table l.slots) in
-    let whole = each (map numbered_item l.i-items) l.all l.owner (known l.initial.names.table l.initial.slots) in
+    let rest = each (map numbered_item (drop l.i-index l.i-items)) l.whose.all.now l.whose.owner (known l.names.table l.slots) in
+    let whole = each (map numbered_item l.i-items) l.whose.all.now l.whose.owner (known l.initial.names.table l.initial.slots) in
     record {
       steps : l.steps ++ joined rest.0 ≡ joined whole.0;
       known : rest.1 ≡ whole.1;

@@ -17,7 +17,7 @@ returns-in_err-take_offer-clause-value c =
 pub returns-clause-value : goal.returns-clause-value
 returns-clause-value c =
     let h : IsOffer c.args.live.now.state c.args.pick c.in-Some.offer = c.in-Some.ensures.some in
-    let goes = followed c.args.live.now.state c.take_offer.new.live.state c.args.pick c.in-Some.offer h (joined_body c.args.live.now.state c.take_offer.new.live.state c.args.pick.process c.in_ok-take_offer.ensures.joins h.there) in
+    let goes = followed c.args.live.now.state c.take_offer.new.live.state c.args.pick c.in-Some.offer h (joined_body c.args.live.now.state c.take_offer.new.live.state c.args.pick.process c.in_ok-take_offer.ensures.grows.joins h.there) in
     rw (h.is)
     (goes_on _ c.args.pick.process h.offer tt c.take_offer.new.live.state c.follow.new.self.state c.args.text.now.items c.take_offer.new.text.items (c.in_ok-take_offer.ensures.value h.offer h.is)
     (ap (λ (l : Live). l.state) c.follow.ensures ∙ goes))

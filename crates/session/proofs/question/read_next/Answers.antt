@@ -4,20 +4,20 @@ use Rattle.session.proofs.Asking.{over_asked}
 use Rattle.session.proofs.question.read_next.Goals as goal
 
 pub returns-in-Over-clause-ok : goal.returns-in-Over-clause-ok
-returns-in-Over-clause-ok g c first = over_asked _ (length c.args.moves.now) (place_of g.M.Machine.rules c.args.machine.now first c.args.moves.now) c.args.stream.now c.in-Over.is
+returns-in-Over-clause-ok g c = over_asked _ (length c.args.moves.now) (place_of g.M.Machine.rules c.args.machine.now c.args.moves.now) c.args.stream.now c.in-Over.is
 
 pub returns-in-Unread-clause-ok : goal.returns-in-Unread-clause-ok
 unfolding next_line
-returns-in-Unread-clause-ok g c first = rw c.in-Unread.is (c.read_one.ensures.ok first)
+returns-in-Unread-clause-ok g c = rw c.in-Unread.is (c.read_one.ensures.ok)
 
 pub returns-in-Unread-clause-err : goal.returns-in-Unread-clause-err
 unfolding next_line
-returns-in-Unread-clause-err g c first = rw c.in-Unread.is (c.read_one.ensures.err first)
+returns-in-Unread-clause-err g c = rw c.in-Unread.is (c.read_one.ensures.err)
 
 pub returns-in-Known-clause-ok : goal.returns-in-Known-clause-ok
 unfolding next_line
-returns-in-Known-clause-ok g c first = rw c.in-Known.is (c.read_one-in-Known.ensures.ok first)
+returns-in-Known-clause-ok g c = rw c.in-Known.is (c.read_one-in-Known.ensures.ok)
 
 pub returns-in-Known-clause-err : goal.returns-in-Known-clause-err
 unfolding next_line
-returns-in-Known-clause-err g c first = rw c.in-Known.is (c.read_one-in-Known.ensures.err first)
+returns-in-Known-clause-err g c = rw c.in-Known.is (c.read_one-in-Known.ensures.err)

@@ -8,23 +8,23 @@ use Rattle.session.proofs.whole.choose.Goals as goal
 pub returns-in_err-write_question-clause-part : goal.returns-in_err-write_question-clause-part
 returns-in_err-write_question-clause-part g c =
     let p = err_from_is_err_and c.from_residual.result c.from_residual.ensures.1 in
-    rw (p.1, p.2) (λ first steps. both_broken _ _ _ _ c.in_err-write_question.ensures.text)
+    rw (p.1, p.2) (λ steps. both_broken _ _ _ _ c.in_err-write_question.ensures.text)
 
 pub returns-in_err-said-clause-part : goal.returns-in_err-said-clause-part
 returns-in_err-said-clause-part g c =
     let p = err_from_is_err_and c.from_residual-in_err-said.result c.from_residual-in_err-said.ensures.1 in
-    rw (p.1, p.2) (λ first steps. Leads-breaks (both_written _ _ _ c.in_ok-write_question.ensures.text) (Breaks-then (kept c.args.notes (place_of g.M.Machine.rules c.args.machine.now first c.args.moves.now)) (c.in_err-said.ensures.part first steps)))
+    rw (p.1, p.2) (λ steps. Leads-breaks (both_written _ _ _ c.in_ok-write_question.ensures.text) (Breaks-then (kept c.args.notes (place_of g.M.Machine.rules c.args.machine.now c.args.moves.now)) (c.in_err-said.ensures.part steps)))
 
 pub returns-in_err-keep-clause-part : goal.returns-in_err-keep-clause-part
 returns-in_err-keep-clause-part g c =
     let p = err_from_is_err_and c.from_residual-in_err-keep.result c.from_residual-in_err-keep.ensures.1 in
-    rw (p.1, p.2) (λ first steps.
-    let place = place_of g.M.Machine.rules c.args.machine.now first c.args.moves.now in
+    rw (p.1, p.2) (λ steps.
+    let place = place_of g.M.Machine.rules c.args.machine.now c.args.moves.now in
     Leads-breaks (both_written _ _ _ c.in_ok-write_question.ensures.text)
-    (Leads-breaks (Does-then (kept c.args.notes place) (c.in_ok-said.ensures.part first steps)) (keep_breaks c.args.notes place _ c.in_ok-said.said c.question.new.stream (c.keep.ensures.short first) (c.in_err-keep.ensures.text first))))
+    (Leads-breaks (Does-then (kept c.args.notes place) (c.in_ok-said.ensures.part steps)) (keep_breaks c.args.notes place _ c.in_ok-said.said c.question.new.stream (c.keep.ensures.short) (c.in_err-keep.ensures.text))))
 
 pub returns-clause-part : goal.returns-clause-part
-returns-clause-part g c first steps =
-    let place = place_of g.M.Machine.rules c.args.machine.now first c.args.moves.now in
+returns-clause-part g c steps =
+    let place = place_of g.M.Machine.rules c.args.machine.now c.args.moves.now in
     Leads-does (both_written _ _ _ c.in_ok-write_question.ensures.text)
-    (Leads-does (Does-then (kept c.args.notes place) (c.in_ok-said.ensures.part first steps)) (keep_does c.args.notes place c.in_ok-said.said c.question.new.stream (c.keep.ensures.short first) (c.in_ok-keep.ensures.text first)))
+    (Leads-does (Does-then (kept c.args.notes place) (c.in_ok-said.ensures.part steps)) (keep_does c.args.notes place c.in_ok-said.said c.question.new.stream (c.keep.ensures.short) (c.in_ok-keep.ensures.text)))

@@ -16,5 +16,5 @@ returns-clause-value c =
     let count : c.self.inside.state.started.channels.len ≡ length c.self.inside.state.started.channels.items = search rules in
     let reads = rw (← c.self.view_is) at c.taker-taker.ensures in
     rw (← c.self.view_is)
-    (received_lives c.self.inside.played c.self.inside.state.started.store c.self.inside.state.started.channels.items c.self.inside.state.seats.items c.self.inside.state.holder c.self.inside.state.lossy c.args.process c.args.timeout _ _ _
-    c.self.inside.state.started.channels.len c.as_mut_slice-channels.result.now _ c.receive.new.store c.args.target.now c.args.search c.args.removal c.args.wants.now c.receive.result count same reads c.receive.ensures.value)
+    (received_lives c.self.inside.played c.self.inside.state.started.store c.self.inside.state.started.channels.items c.self.inside.state.seats.items c.self.inside.state.holder c.self.inside.state.lossy c.args.process c.args.timeout _
+    c.self.inside.state.started.channels.len c.as_mut_slice-channels.result.now _ c.receive.new.store c.args.reception.target.now c.args.reception.search c.args.reception.removal c.args.reception.wants.now c.receive.result count same reads c.receive.ensures.value)

@@ -16,5 +16,5 @@ returns-clause-value c =
     let count : c.self.inside.state.started.channels.len ≡ length c.self.inside.state.started.channels.items = search rules in
     let reads = rw (← c.self.view_is) at c.taker-taker.ensures in
     rw (← c.self.view_is)
-    (sent_lives c.self.inside.played c.self.inside.state.started.store c.self.inside.state.started.channels.items c.self.inside.state.seats.items c.self.inside.state.holder c.self.inside.state.lossy c.args.process c.args.timeout _ _ _
+    (sent_lives c.self.inside.played c.self.inside.state.started.store c.self.inside.state.started.channels.items c.self.inside.state.seats.items c.self.inside.state.holder c.self.inside.state.lossy c.args.process c.args.timeout _
     c.self.inside.state.started.channels.len c.as_mut_slice-channels.result.now _ c.args.target.now c.args.order c.args.fields.now c.send.result count same reads c.send.ensures)

@@ -9,7 +9,7 @@ invariant_of-self c =
 
 pub returns-clause-value : goal.returns-clause-value
 returns-clause-value c =
-    let reads = rw (← c.self.view_is) at (c.taker-pid.ensures c.self.inside.state.started.store.frames c.self.inside.state.started.channels.items) in
+    let reads = rw (← c.self.view_is) at (c.taker-taker.ensures c.self.inside.state.started.store.frames c.self.inside.state.started.channels.items) in
     let same : c.as_slice-channels.result.now ≡ c.self.inside.state.started.channels.items = search rules in
     let does = rw (same, reads) at c.take.ensures.value in
     rw (← c.self.view_is)

@@ -1,0 +1,201 @@
+//! What is told of tokens that no rule reads.
+
+use crate::foreign::{advice, tell_classes, tell_word};
+use crate::message::Message;
+use crate::names::TYPES;
+use pml_causes::cause::{Named, SyntaxCause, Wanted};
+use std::alloc::AllocError;
+
+/// What closes this, in words.
+fn closer(opener: &[u8]) -> &'static str {
+    match opener {
+        b"(" => "`)`",
+        b"[" => "`]`",
+        b"{" => "`}`",
+        b"if" => "`fi`",
+        _ => "`od`",
+    }
+}
+
+fn wants_closer(message: &mut Message<'_>, opener: Named<'_>) -> Result<(), AllocError> {
+    message.push(closer(opener.name))?;
+    message.placed(" is wanted, for the ", opener, " of ", "")
+}
+
+/// Of a call of an inline that is not defined before it.
+fn wants_inline(
+    message: &mut Message<'_>,
+    name: &[u8],
+    later: Option<Named<'_>>,
+) -> Result<(), AllocError> {
+    match later {
+        Some(inline) => {
+            message.around("the inline ", name, "")?;
+            message.line(" is defined only on ", inline.offset, ", behind its call")
+        }
+        None => {
+            message.around("no inline ", name, " is defined before its call: ")?;
+            message.push("write `inline f(a, b) { .. }` for it; a process is begun by `run`")
+        }
+    }
+}
+
+/// `::` and a condition are wanted.
+fn wants_options(message: &mut Message<'_>, word: &[u8]) -> Result<(), AllocError> {
+    message.around("`::` is wanted behind ", word, "")?;
+    message.push(match word {
+        b"if" => ", as in `if :: x == 1 -> .. :: else -> .. fi`",
+        _ => ", as in `do :: x < 3 -> .. :: else -> break od`",
+    })
+}
+
+/// What closes is wanted in front of the token.
+fn wants_closer_before(message: &mut Message<'_>, opener: Named<'_>) -> Result<(), AllocError> {
+    message.push(closer(opener.name))?;
+    message.placed(" is wanted before it, for the ", opener, " of ", "")
+}
+
+/// What is told of names, where something of theirs is wanted.
+fn wants_of_name(message: &mut Message<'_>, wanted: Wanted<'_>) -> Result<(), AllocError> {
+    match wanted {
+        Wanted::Parameters(name) => {
+            message.around(
+                "`()` or parameters in parentheses are wanted behind ",
+                name,
+                "",
+            )
+        }
+        Wanted::CloserBefore(opener) => wants_closer_before(message, opener),
+        Wanted::CloserAndSemicolon(opener) => {
+            message.push(closer(opener.name))?;
+            message.placed(
+                " and `;` are wanted before it, for the ",
+                opener,
+                " of ",
+                "",
+            )
+        }
+        wanted => wants_sign(message, wanted),
+    }
+}
+
+/// What is wanted for a separator.
+fn wants_sign(message: &mut Message<'_>, wanted: Wanted<'_>) -> Result<(), AllocError> {
+    match wanted {
+        Wanted::SemicolonAtLineEnd(last) => message.line(
+            "a `;` is wanted at the end of ",
+            last.offset,
+            " (models for Spin 6.3 and later leave it out: `spinprep --play MODEL` writes it)",
+        ),
+        Wanted::SemicolonOrOption(last) => message.line(
+            "a `;` is wanted at the end of ",
+            last.offset,
+            ", or `::` before it where another option begins",
+        ),
+        Wanted::SemicolonFor => message.push("write `;` for it, or `->` behind a condition"),
+        Wanted::OptionFor => message.push("write `::` for it"),
+        Wanted::Semicolon => message.push("a `;` is wanted before it"),
+        Wanted::OptionSign => message.push("`::` is wanted before it"),
+        Wanted::Operand(operator) => message.around("a value is wanted behind ", operator, ""),
+        Wanted::Arguments(name) => {
+            message.around("`(` and the arguments are wanted behind ", name, "")
+        }
+        Wanted::Options(word) => wants_options(message, word),
+        Wanted::Nothing => message.push("it is one too many"),
+        Wanted::Comma => message.push("a `,` is wanted before it"),
+        _ => message.push("it cannot stand here"),
+    }
+}
+
+fn wants(message: &mut Message<'_>, wanted: Wanted<'_>) -> Result<(), AllocError> {
+    match wanted {
+        Wanted::Statement(label) => message.around(
+            "a statement is wanted behind the label ",
+            label,
+            ", for example `skip`",
+        ),
+        Wanted::NoList => message.push(
+            "a list is no initialiser here: give each element its value by an assignment, as in `a[0] = 1`",
+        ),
+        Wanted::NoSubtype => message.push("sub-typed mtypes are left out: write `mtype` alone"),
+        Wanted::NoRun => message.push(
+            "`run` stands by itself or behind `x =`, and in no other expression",
+        ),
+        Wanted::Closer(opener) => wants_closer(message, opener),
+        Wanted::NothingOpen => message.push("nothing is open that it closes"),
+        Wanted::Name => message.push(
+            "a name is wanted, and it is a word of the language: choose another one",
+        ),
+        Wanted::PlainAssignment => message.push(
+            "an assignment with an operator is left out: write `x = x + 1` for `x += 1`",
+        ),
+        Wanted::OneOf(classes) => tell_classes(message, classes),
+        wanted => wants_of_name(message, wanted),
+    }
+}
+
+/// Of a name that is no type.
+fn no_type(message: &mut Message<'_>, name: &[u8]) -> Result<(), AllocError> {
+    message.around("", name, " is no type here: there are ")?;
+    message.push(TYPES)
+}
+
+/// Of an inline that stands where a value is wanted.
+fn inline_value(message: &mut Message<'_>, name: &[u8]) -> Result<(), AllocError> {
+    message.around("", name, " is an inline, and has no value: ")?;
+    message.push("let it store that in a parameter, as in `inline f(a, b) { b = a + 1 }`")
+}
+
+/// Of a variable that is called as a function.
+fn called(message: &mut Message<'_>, name: &[u8]) -> Result<(), AllocError> {
+    message.around("", name, " is a variable, and is not called")?;
+    message.push("; an element of an array is written `a[1]`")
+}
+
+/// Of a word that is told of itself, without what is found behind it; or else nothing is added, and that is answered.
+fn of_word(message: &mut Message<'_>, wanted: Wanted<'_>) -> Result<bool, AllocError> {
+    match wanted {
+        Wanted::ForeignWord(foreign, word) => tell_word(message, foreign, word.name)?,
+        Wanted::RunOf(proctype, _) => {
+            message.placed("", proctype, " is a proctype (", "): ")?;
+            message.around("write `run` in front of ", proctype.name, "")?;
+        }
+        Wanted::Word(name, word) => {
+            message.around("", name.name, " is no word here")?;
+            message.around("; did you mean ", word, "?")?;
+        }
+        Wanted::NoWord(name) => {
+            message.around(
+                "",
+                name.name,
+                " is no word here, and no type that is declared: ",
+            )?;
+            message.push("leave it out, or write a word of the language for it")?;
+        }
+        Wanted::NoType(name) => no_type(message, name.name)?,
+        Wanted::Index(name) => called(message, name.name)?,
+        Wanted::InlineValue(name) => inline_value(message, name.name)?,
+        Wanted::Inline(name, later) => wants_inline(message, name.name, later)?,
+        _ => return Ok(false),
+    }
+    Ok(true)
+}
+
+/// Of tokens that no tree spells.
+pub fn of_syntax(message: &mut Message<'_>, cause: SyntaxCause<'_>) -> Result<(), AllocError> {
+    if let Wanted::EndOf(opener) = cause.wanted {
+        message.push("the text ends: ")?;
+        return wants_closer(message, opener);
+    }
+    if cause.found.is_empty() {
+        return message.push("nothing is declared");
+    }
+    if of_word(message, cause.wanted)? {
+        return Ok(());
+    }
+    message.around("", cause.found, " found: ")?;
+    match cause.wanted {
+        Wanted::Form(form) => message.push(advice(form)),
+        wanted => wants(message, wanted),
+    }
+}

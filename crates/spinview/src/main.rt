@@ -1,0 +1,228 @@
+// Shows a run of a model: a session that walks through its states, or all of a run.
+#![tactic(auto)]
+
+mod files;
+mod runs;
+mod shown;
+mod stop;
+mod telling;
+
+use diagnostics::Refusal;
+use files::{Others, choices_of, choices_of_input, create, model_of, others_of};
+use pml_check::{CheckFault, Checked, check};
+use pml_inline::expand;
+use pml_inline::fault::InlineFault;
+use pml_lex::cut;
+use pml_lex::fault::LexFault;
+use pml_syntax::{SyntaxFault, parse};
+use pml_token::token::Token;
+use pml_tree::tree::Tree;
+use runs::run_all;
+use shown::{session, write_record};
+use std::fs::{File, OpenFile};
+use std::process::ExitCode;
+use std::{env, fs, io};
+use stop::NoView;
+use telling::{tell_refusal, tell_stop};
+use view_session::answers::Setting;
+use view_walk::walk::Walk;
+use view_words::{Asked, Form, read};
+
+fn words_of(rt: &HostRuntime) -> Result<Vec<String>, NoView> {
+    match env::args(rt) {
+        Ok(words) => Ok(words.collect(rt.alloc())?),
+        Err(error) if error.kind() == io::ErrorKind::OutOfMemory => Err(NoView::Memory),
+        Err(_) => Err(NoView::NotText),
+    }
+}
+
+// What the words of the command line ask for.
+fn asked_of(rt: &HostRuntime) -> Result<Asked, NoView> {
+    let words = words_of(rt)?;
+    let texts: Vec<&str> = words.iter().map(|word| word.as_str()).collect(rt.alloc())?;
+    read(rt.alloc(), texts.as_slice()).map_err(NoView::Words)
+}
+
+// The files of a run.
+#[derive(Drop)]
+struct Opened {
+    model: Vec<u8>,
+    choices: Option<Vec<u8>>,
+    others: Others,
+}
+
+// Whether lines are read and answered.
+fn has_session(asked: &Asked) -> bool {
+    asked.form == Form::Session && asked.page.is_none() && asked.seed.is_none()
+}
+
+// The choices that are taken without a question, where there are any.
+fn choices_asked(rt: &HostRuntime, asked: &Asked) -> Result<Option<Vec<u8>>, NoView> {
+    if let Some(name) = &asked.choices {
+        return Ok(Some(choices_of(rt, name.as_str())?));
+    }
+    if has_session(asked) || asked.seed.is_some() {
+        return Ok(None);
+    }
+    Ok(Some(choices_of_input(rt)?))
+}
+
+fn open_all(rt: &HostRuntime, asked: &Asked) -> Result<Opened, NoView> {
+    let model = model_of(rt, asked.model.as_str())?;
+    let choices = choices_asked(rt, asked)?;
+    let others = others_of(rt, asked.model.as_str(), &asked.choices);
+    if let Some(name) = &asked.rec {
+        create(rt, name.as_str(), others)?;
+    }
+    if let Some(name) = &asked.page {
+        create(rt, name.as_str(), others)?;
+    }
+    Ok(Opened {
+        model,
+        choices,
+        others,
+    })
+}
+
+// The model is refused.
+fn refused(
+    rt: &HostRuntime,
+    asked: &Asked,
+    opened: &Opened,
+    refusal: Refusal,
+    line: u32,
+) -> NoView {
+    tell_refusal(
+        rt,
+        asked.model.as_str(),
+        opened.model.as_slice(),
+        refusal,
+        line,
+        asked.explains,
+    );
+    NoView::Refused
+}
+
+// Writes the record that is asked for.
+fn recorded(rt: &HostRuntime, asked: &Asked, walk: &Walk<'_, '_>) -> Result<(), NoView> {
+    match &asked.rec {
+        Some(name) => write_record(rt, walk, name.as_str()),
+        None => Ok(()),
+    }
+}
+
+fn view_walk(
+    rt: &HostRuntime,
+    asked: &Asked,
+    opened: &Opened,
+    walk: Walk<'_, '_>,
+) -> Result<(), NoView> {
+    let mut walk = walk;
+    let setting = Setting {
+        text: opened.model.as_slice(),
+        limit: asked.limit as usize,
+    };
+    let choices = opened.choices.as_ref().map(|text| text.as_slice());
+    let seen = if has_session(asked) {
+        session(rt, &mut walk, setting, opened.others, choices)
+    } else {
+        run_all(
+            rt,
+            &mut walk,
+            asked,
+            opened.model.as_slice(),
+            choices.unwrap_or(&[]),
+        )
+    };
+    recorded(rt, asked, &walk)?;
+    seen
+}
+
+fn view_model(
+    rt: &HostRuntime,
+    asked: &Asked,
+    opened: &Opened,
+    checked: &Checked<'_>,
+) -> Result<(), NoView> {
+    match Walk::new(rt.alloc(), checked, asked.is_lossy) {
+        Ok(walk) => view_walk(rt, asked, opened, walk),
+        Err(_) => Err(NoView::Memory),
+    }
+}
+
+fn view_tree(
+    rt: &HostRuntime,
+    asked: &Asked,
+    opened: &Opened,
+    tree: Tree<'_>,
+) -> Result<(), NoView> {
+    match check(rt.alloc(), tree) {
+        Ok(checked) => view_model(rt, asked, opened, &checked),
+        Err(CheckFault::Memory) => Err(NoView::Memory),
+        Err(CheckFault::Refused(refusal)) => Err(refused(rt, asked, opened, refusal, 0)),
+    }
+}
+
+fn view_tokens<'a>(
+    rt: &HostRuntime,
+    asked: &Asked,
+    opened: &Opened,
+    tokens: &'a [Token<'a>],
+) -> Result<(), NoView> {
+    match parse(rt.alloc(), tokens) {
+        Ok(tree) => view_tree(rt, asked, opened, tree),
+        Err(SyntaxFault::Memory) => Err(NoView::Memory),
+        Err(SyntaxFault::Syntax(line)) => Err(refused(rt, asked, opened, Refusal::Syntax, line)),
+    }
+}
+
+fn view_cut(
+    rt: &HostRuntime,
+    asked: &Asked,
+    opened: &Opened,
+    tokens: &[Token<'_>],
+) -> Result<(), NoView> {
+    match expand(rt.alloc(), tokens) {
+        Ok(expanded) => view_tokens(rt, asked, opened, expanded.as_slice()),
+        Err(InlineFault::Memory) => Err(NoView::Memory),
+        Err(InlineFault::Inline(_)) => Err(refused(rt, asked, opened, Refusal::Inline, 0)),
+        Err(InlineFault::TooDeep(line, _)) => {
+            Err(refused(rt, asked, opened, Refusal::TooDeep, line))
+        }
+    }
+}
+
+fn view_text(rt: &HostRuntime, asked: &Asked, opened: &Opened) -> Result<(), NoView> {
+    match cut(rt.alloc(), opened.model.as_slice()) {
+        Ok(tokens) => view_cut(rt, asked, opened, tokens.as_slice()),
+        Err(LexFault::Memory) => Err(NoView::Memory),
+        Err(LexFault::TooLong) => Err(refused(rt, asked, opened, Refusal::TextTooLong, 0)),
+        Err(LexFault::Lexical(line)) => Err(refused(rt, asked, opened, Refusal::Lexical, line)),
+        Err(LexFault::LeftOut(line)) => Err(refused(rt, asked, opened, Refusal::LeftOut, line)),
+    }
+}
+
+fn view(rt: &HostRuntime, asked: &Asked) -> Result<(), NoView> {
+    let opened = open_all(rt, asked)?;
+    view_text(rt, asked, &opened)
+}
+
+// Holds the descriptors 0 to 2 where the caller has closed them, so that no file of a run takes the place of one.
+fn held_descriptors(rt: &HostRuntime) -> [io::Result<File>; 3] {
+    [fs::open(rt, "/"), fs::open(rt, "/"), fs::open(rt, "/")]
+}
+
+fn status_of(rt: &HostRuntime) -> u8 {
+    match asked_of(rt) {
+        Ok(asked) => match view(rt, &asked) {
+            Ok(()) => 0,
+            Err(stop) => tell_stop(rt, &stop, asked.explains),
+        },
+        Err(stop) => tell_stop(rt, &stop, false),
+    }
+}
+
+fn main(rt: HostRuntime) -> ExitCode {
+    let _held = held_descriptors(&rt);
+    ExitCode::from(status_of(&rt))
+}

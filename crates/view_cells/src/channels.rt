@@ -1,0 +1,98 @@
+//! Channels, their names and their messages.
+
+use crate::cells::{add_path, add_value};
+use crate::made::made_for;
+use crate::picture::Picture;
+use crate::processes::add_name;
+use pml_channel::channel::Channel;
+use pml_program::form::Form;
+use view_text::writer::Writer;
+
+/// The channel with this number, from 1 on.
+pub fn channel_at<'w>(picture: &Picture<'w, '_, '_>, number: usize) -> Option<&'w Channel> {
+    if number > 65_535 {
+        return None;
+    }
+    picture.channel(number as i32)
+}
+
+/// Writes the name of a channel, by the cell that it was made for: `q[1]`, or `P[2].q` of a process. Whether it has one.
+pub fn add_channel_name(picture: &Picture<'_, '_, '_>, number: usize, out: &mut Writer) -> bool {
+    let Some(place) = made_for(picture, number) else {
+        return false;
+    };
+    if place.frame > 0 {
+        add_name(picture, place.frame - 1, out);
+        out.add(b"[");
+        out.number(place.frame - 1);
+        out.add(b"].");
+    }
+    add_path(picture, place, out);
+    true
+}
+
+// Writes `chan N`.
+fn add_number(number: usize, out: &mut Writer) {
+    out.add(b"chan ");
+    out.number(number);
+}
+
+/// Writes the name of a channel without its process, or `chan N`.
+pub fn add_short_name(picture: &Picture<'_, '_, '_>, number: usize, out: &mut Writer) {
+    match made_for(picture, number) {
+        Some(place) => add_path(picture, place, out),
+        None => add_number(number, out),
+    }
+}
+
+/// Writes `chan N NAME`.
+pub fn add_channel(picture: &Picture<'_, '_, '_>, number: usize, out: &mut Writer) {
+    add_number(number, out);
+    let mut name = Writer::new(out.allocator());
+    if add_channel_name(picture, number, &mut name) {
+        out.add(b" ");
+        out.add(name.bytes());
+    }
+}
+
+/// Writes the name of a channel, or `chan N` where it has none.
+pub fn add_channel_word(picture: &Picture<'_, '_, '_>, number: usize, out: &mut Writer) {
+    if !add_channel_name(picture, number, out) {
+        add_number(number, out);
+    }
+}
+
+fn form_of(types: &[Form], at: usize) -> Form {
+    match types.get(at) {
+        Some(form) => *form,
+        None => Form::Unknown,
+    }
+}
+
+/// Writes the fields of a message, with this between them: `ping, 1`.
+pub fn add_fields(
+    picture: &Picture<'_, '_, '_>,
+    types: &[Form],
+    fields: &[i32],
+    between: &[u8],
+    out: &mut Writer,
+) {
+    for i in 0..fields.len() {
+        if i > 0 {
+            out.add(between);
+        }
+        add_value(picture, form_of(types, i), fields[i], out);
+    }
+}
+
+/// Writes a message: `(ping, 1)`.
+pub fn add_message(
+    picture: &Picture<'_, '_, '_>,
+    types: &[Form],
+    fields: &[i32],
+    out: &mut Writer,
+) {
+    out.add(b"(");
+    add_fields(picture, types, fields, b", ", out);
+    out.add(b")");
+}

@@ -1,0 +1,6 @@
+//! The page of a run: one file of HTML that refers to nothing outside it.
+#![tactic(auto)]
+
+pub mod page;
+mod parts;
+mod script;

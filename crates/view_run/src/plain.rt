@@ -1,0 +1,55 @@
+//! A run of which nothing is shown.
+
+use crate::next::{Next, follow};
+use std::alloc::AllocError;
+use view_session::replay::Replay;
+use view_session::steps::choose;
+use view_walk::walk::{Walk, Went};
+
+/// How a run ended, and how many processes lived at once at most.
+#[derive(Clone, Copy, Debug, PartialEq, Eq)]
+pub struct Ran {
+    pub end: &'static str,
+    pub most: usize,
+}
+
+// Takes the next step. Why the run ends, where it does.
+fn step(
+    walk: &mut Walk<'_, '_>,
+    replay: &mut Replay<'_>,
+    limit: usize,
+    printed: &mut Vec<u8>,
+) -> Result<Option<&'static str>, AllocError> {
+    let moves = walk.moves()?;
+    match follow(walk, moves.as_slice(), replay, limit) {
+        Next::End(end) => Ok(Some(end)),
+        Next::Take(choice) => {
+            printed.clear();
+            match choose(walk, choice, printed)? {
+                Went::On => Ok(None),
+                Went::Faults(_) => Ok(Some("fault")),
+                Went::Nowhere => Ok(Some("choice misfit")),
+            }
+        }
+    }
+}
+
+/// Runs to the end.
+pub fn run(
+    walk: &mut Walk<'_, '_>,
+    replay: &mut Replay<'_>,
+    limit: usize,
+    printed: &mut Vec<u8>,
+) -> Result<Ran, AllocError> {
+    let mut most = walk.world().process_count();
+    for _ in 0..u64::MAX {
+        if let Some(end) = step(walk, replay, limit, printed)? {
+            return Ok(Ran { end, most });
+        }
+        most = most.max(walk.world().process_count());
+    }
+    Ok(Ran {
+        end: "step limit",
+        most,
+    })
+}

@@ -1,0 +1,48 @@
+//! A run as the lines of its steps.
+
+use crate::next::{Next, follow};
+use std::alloc::AllocError;
+use view_session::replay::Replay;
+use view_session::seen::picture_of;
+use view_session::steps::{Taken, take};
+use view_state::choices::add_ending;
+use view_text::writer::Writer;
+use view_walk::walk::Walk;
+
+// Writes why a run ends that still has moves.
+fn add_stop(end: &str, steps: usize, out: &mut Writer) {
+    out.add(b"end: ");
+    out.add(end.as_bytes());
+    out.add(b", steps ");
+    out.number(steps);
+    out.add(b"\n");
+}
+
+fn add_last(walk: &Walk<'_, '_>, end: &str, has_moves: bool, out: &mut Writer) {
+    if has_moves {
+        add_stop(end, walk.at(), out);
+    } else {
+        add_ending(&picture_of(walk.world()), walk.at(), out);
+    }
+}
+
+/// Takes the next step of a run and writes its lines, or those of its end. Why it ends, where it does.
+pub fn add_step(
+    walk: &mut Walk<'_, '_>,
+    replay: &mut Replay<'_>,
+    limit: usize,
+    out: &mut Writer,
+) -> Result<Option<&'static str>, AllocError> {
+    let moves = walk.moves()?;
+    match follow(walk, moves.as_slice(), replay, limit) {
+        Next::End(end) => {
+            add_last(walk, end, !moves.is_empty(), out);
+            Ok(Some(end))
+        }
+        Next::Take(choice) => match take(walk, limit, choice, out)? {
+            Taken::Yes => Ok(None),
+            Taken::Faulted => Ok(Some("fault")),
+            _ => Ok(Some("choice misfit")),
+        },
+    }
+}

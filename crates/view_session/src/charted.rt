@@ -1,0 +1,88 @@
+//! The chart of a walk.
+
+use crate::seen::picture_of;
+use crate::steps::move_at;
+use pml_moves::moves::Move;
+use std::alloc::AllocError;
+use view_chart::chart::{add_birth, add_row, width_of};
+use view_text::writer::Writer;
+use view_waits::effect::effect_of;
+use view_walk::turn::Turn;
+use view_walk::walk::Walk;
+
+// Writes the rows of processes that began at a step.
+fn add_births(walk: &Walk<'_, '_>, width: usize, older: usize, out: &mut Writer) {
+    let picture = picture_of(walk.world());
+    for process in older..picture.process_count() {
+        add_birth(&picture, width, walk.at(), process, out);
+    }
+}
+
+// Writes the row of a move of the state where a walk stands.
+fn add_move(
+    walk: &Walk<'_, '_>,
+    width: usize,
+    m: &Move,
+    out: &mut Writer,
+) -> Result<(), AllocError> {
+    let picture = picture_of(walk.world());
+    let effect = effect_of(out.allocator(), &picture, m)?;
+    add_row(
+        &picture,
+        width,
+        walk.at().saturating_add(1),
+        m,
+        &effect,
+        out,
+    );
+    Ok(())
+}
+
+// Writes the rows of the next step of a walk.
+fn add_step(
+    walk: &mut Walk<'_, '_>,
+    width: usize,
+    turn: Turn,
+    out: &mut Writer,
+) -> Result<(), AllocError> {
+    let moves = walk.moves()?;
+    if let Some(m) = move_at(moves.as_slice(), turn.choice) {
+        add_move(walk, width, &m, out)?;
+    }
+    let older = walk.world().process_count();
+    let step = walk.at().saturating_add(1).min(walk.turns().len());
+    walk.go_to(step)?;
+    add_births(walk, width, older, out);
+    Ok(())
+}
+
+/// Writes the chart of so many steps of a walk, which stands behind them then. As many processes live at once at most.
+pub fn add_chart(
+    walk: &mut Walk<'_, '_>,
+    steps: usize,
+    most: usize,
+    out: &mut Writer,
+) -> Result<(), AllocError> {
+    let width = width_of(most);
+    walk.go_to(0)?;
+    add_births(walk, width, 0, out);
+    for _ in 0..steps {
+        let Some(turn) = walk.next() else {
+            break;
+        };
+        add_step(walk, width, turn, out)?;
+    }
+    Ok(())
+}
+
+/// How many processes live at once at most in so many steps of a walk, which stands behind them then.
+pub fn most_alive(walk: &mut Walk<'_, '_>, steps: usize) -> Result<usize, AllocError> {
+    walk.go_to(0)?;
+    let mut most = walk.world().process_count();
+    for step in 0..steps.min(walk.turns().len()) {
+        let next = step.saturating_add(1).min(walk.turns().len());
+        walk.go_to(next)?;
+        most = most.max(walk.world().process_count());
+    }
+    Ok(most)
+}

@@ -1,0 +1,14 @@
+//! A session: lines that walk through the states of a model, and what is shown of them.
+#![tactic(auto)]
+
+pub mod answers;
+pub mod charted;
+pub mod command;
+mod help;
+pub mod names;
+pub mod question;
+pub mod record;
+pub mod replay;
+pub mod seen;
+pub mod steps;
+pub mod until;

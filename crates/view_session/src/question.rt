@@ -1,0 +1,50 @@
+//! What is asked.
+
+use crate::seen::picture_of;
+use pml_moves::moves::Move;
+use std::alloc::AllocError;
+use view_cells::picture::Picture;
+use view_state::choices::{add_choices, add_ending, ending_of};
+use view_state::why::add_blocked;
+use view_text::writer::Writer;
+use view_walk::walk::Walk;
+
+// Writes where a walk stands, and of how many moves one is asked for.
+fn add_place(at: usize, length: usize, moves: &[Move], out: &mut Writer) {
+    out.add(b"at ");
+    out.number(at);
+    out.add(b" of ");
+    out.number(length);
+    if moves.is_empty() {
+        out.add(b": no choice\n");
+    } else {
+        out.add(b": choose 1..");
+        out.number(moves.len());
+        out.add(b"\n");
+    }
+}
+
+// Writes the present moves, or how the run ends; and below them what the processes wait for that have none.
+fn add_list(
+    picture: &Picture<'_, '_, '_>,
+    at: usize,
+    moves: &[Move],
+    out: &mut Writer,
+) -> Result<(), AllocError> {
+    if moves.is_empty() {
+        add_ending(picture, at, out);
+        if ending_of(picture) == "valid" {
+            return Ok(());
+        }
+    }
+    add_choices(picture, moves, out)?;
+    add_blocked(picture, moves, out)
+}
+
+/// Writes what is asked where a walk stands.
+pub fn add_question(walk: &Walk<'_, '_>, out: &mut Writer) -> Result<(), AllocError> {
+    let moves = walk.moves()?;
+    add_list(&picture_of(walk.world()), walk.at(), moves.as_slice(), out)?;
+    add_place(walk.at(), walk.turns().len(), moves.as_slice(), out);
+    Ok(())
+}

@@ -1,0 +1,122 @@
+//! Where a run is to stop.
+
+use view_cells::cells::{add_value, form_at, number_at, place_of};
+use view_cells::picture::Picture;
+use view_cells::processes::{add_name, line_of};
+use view_text::writer::Writer;
+
+/// Where a run is to stop.
+#[derive(Clone, Copy, Debug, PartialEq, Eq)]
+pub enum Goal<'l> {
+    /// Where a process stands at this line.
+    Line(u32),
+    /// Where the cell with this path has this value.
+    Equal(&'l str, &'l str),
+    /// Where it has another.
+    Other(&'l str, &'l str),
+}
+
+fn at_line<'l>(word: &str) -> Option<Goal<'l>> {
+    match word.parse::<u32>() {
+        Ok(line) => Some(Goal::Line(line)),
+        Err(_) => None,
+    }
+}
+
+/// What these words want.
+pub fn wanted<'l>(words: &[&'l str]) -> Option<Goal<'l>> {
+    match words {
+        [word, number] => {
+            if *word == "line" {
+                at_line(number)
+            } else {
+                None
+            }
+        }
+        [path, sign, value] => {
+            if *sign == "==" {
+                Some(Goal::Equal(path, value))
+            } else if *sign == "!=" {
+                Some(Goal::Other(path, value))
+            } else {
+                None
+            }
+        }
+        _ => None,
+    }
+}
+
+// Whether the cell of a frame with this path has this value; none, where there is no such cell.
+fn has_value(
+    picture: &Picture<'_, '_, '_>,
+    frame: usize,
+    path: &[u8],
+    value: &[u8],
+    text: &mut Writer,
+) -> Option<bool> {
+    let place = place_of(picture, frame, path, text)?;
+    text.clear();
+    add_value(
+        picture,
+        form_at(picture, place),
+        number_at(picture, place),
+        text,
+    );
+    Some(text.bytes() == value)
+}
+
+// What is behind `P[2].` in a path, where that is this process.
+fn path_within<'l>(
+    picture: &Picture<'_, '_, '_>,
+    process: usize,
+    path: &'l [u8],
+    text: &mut Writer,
+) -> Option<&'l [u8]> {
+    text.clear();
+    add_name(picture, process, text);
+    text.add(b"[");
+    text.number(process);
+    text.add(b"].");
+    path.strip_prefix(text.bytes())
+}
+
+// Whether the cell with this path, of the globals or of a process, has this value.
+fn is_value(
+    picture: &Picture<'_, '_, '_>,
+    path: &[u8],
+    value: &[u8],
+    text: &mut Writer,
+) -> Option<bool> {
+    let found = has_value(picture, 0, path, value, text);
+    if found.is_some() {
+        return found;
+    }
+    for process in 0..picture.process_count() {
+        if let Some(within) = path_within(picture, process, path, text) {
+            return has_value(picture, process.saturating_add(1), within, value, text);
+        }
+    }
+    None
+}
+
+fn is_at_line(picture: &Picture<'_, '_, '_>, line: u32) -> bool {
+    for process in 0..picture.process_count() {
+        if line_of(picture, process) == line {
+            return true;
+        }
+    }
+    false
+}
+
+/// Whether a state is one where a run is to stop; `text` is for what is compared.
+pub fn is_reached<'l>(picture: &Picture<'_, '_, '_>, goal: Goal<'l>, text: &mut Writer) -> bool {
+    match goal {
+        Goal::Line(line) => is_at_line(picture, line),
+        Goal::Equal(path, value) => {
+            is_value(picture, path.as_bytes(), value.as_bytes(), text) == Some(true)
+        }
+        Goal::Other(path, value) => {
+            is_value(picture, path.as_bytes(), value.as_bytes(), text) == Some(false)
+        }
+    }
+}

@@ -1,0 +1,105 @@
+//! The list of what can be done.
+
+use pml_moves::moves::Move;
+use pml_texts::ends::{is_valid, stuck};
+use pml_texts::texts::add_move as move_text;
+use std::alloc::AllocError;
+use view_cells::channels::{add_channel_word, add_message, channel_at};
+use view_cells::picture::Picture;
+use view_text::writer::Writer;
+use view_waits::effect::{Does, Effect, effect_of};
+
+// What a move does with a message, as a word, and what stands between the message and its channel.
+fn words_of(does: Does) -> Option<(&'static str, &'static str)> {
+    match does {
+        Does::Send => Some((" sends ", " to ")),
+        Does::Receive => Some((" takes ", " from ")),
+        Does::Read => Some((" reads ", " from ")),
+        Does::Pass => Some((" passes ", " over ")),
+        Does::Lose => Some((" loses ", " to ")),
+        Does::Statement | Does::End => None,
+    }
+}
+
+/// Writes what a move does with a message: ` takes (1) from fork[1]`.
+fn add_effect(picture: &Picture<'_, '_, '_>, effect: &Effect, out: &mut Writer) {
+    let Some((word, between)) = words_of(effect.does) else {
+        return;
+    };
+    let Some(channel) = channel_at(picture, effect.channel) else {
+        return;
+    };
+    out.add(word.as_bytes());
+    add_message(picture, channel.types(), effect.message.as_slice(), out);
+    out.add(between.as_bytes());
+    add_channel_word(picture, effect.channel, out);
+}
+
+/// Writes the text of a move.
+pub fn add_move(picture: &Picture<'_, '_, '_>, m: &Move, out: &mut Writer) {
+    let answer = move_text(&picture.scene, *m, out.text());
+    out.keep(answer);
+}
+
+// Writes a line of the list.
+fn add_choice(
+    picture: &Picture<'_, '_, '_>,
+    number: usize,
+    m: &Move,
+    out: &mut Writer,
+) -> Result<(), AllocError> {
+    let effect = effect_of(out.allocator(), picture, m)?;
+    out.add(b"choice ");
+    out.number(number);
+    out.add(b": ");
+    add_move(picture, m, out);
+    add_effect(picture, &effect, out);
+    out.add(b"\n");
+    Ok(())
+}
+
+/// Writes the list of the present moves.
+pub fn add_choices(
+    picture: &Picture<'_, '_, '_>,
+    moves: &[Move],
+    out: &mut Writer,
+) -> Result<(), AllocError> {
+    for at in 0..moves.len() {
+        add_choice(picture, at + 1, &moves[at], out)?;
+    }
+    Ok(())
+}
+
+// Writes where a process is stuck, if it is.
+fn add_stuck(picture: &Picture<'_, '_, '_>, process: usize, out: &mut Writer) {
+    if let Some((name, line)) = stuck(&picture.scene, process) {
+        out.add(b"at: proc ");
+        out.number(process);
+        out.add(b" (");
+        out.add(name);
+        out.add(b") line ");
+        out.number(line as usize);
+        out.add(b"\n");
+    }
+}
+
+/// Writes how a run ends that has no move: `end: invalid, steps 9`, and where each process is that may not end there.
+pub fn add_ending(picture: &Picture<'_, '_, '_>, steps: usize, out: &mut Writer) {
+    out.add(b"end: ");
+    out.add(ending_of(picture).as_bytes());
+    out.add(b", steps ");
+    out.number(steps);
+    out.add(b"\n");
+    for process in 0..picture.process_count() {
+        add_stuck(picture, process, out);
+    }
+}
+
+/// Whether a run that ends here ends well, as a word.
+pub fn ending_of(picture: &Picture<'_, '_, '_>) -> &'static str {
+    if is_valid(&picture.scene) {
+        "valid"
+    } else {
+        "invalid"
+    }
+}

@@ -1,0 +1,7 @@
+//! A state in words: what stands in it, what each process waits for, and the text of the model with the processes at their lines.
+#![tactic(auto)]
+
+pub mod choices;
+pub mod source;
+pub mod state;
+pub mod why;

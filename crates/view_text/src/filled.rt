@@ -1,0 +1,43 @@
+//! Items one behind another, on lines that a terminal holds.
+
+use crate::writer::Writer;
+
+/// Where a line of a terminal ends.
+const COLUMNS: usize = 80;
+
+/// Items two blanks apart. Where the next would pass the end of a line, a line begins, behind so many blanks.
+#[derive(Drop)]
+pub struct Filled {
+    start: usize,
+    indent: usize,
+    is_first: bool,
+}
+
+impl Filled {
+    /// On the line that begins at `start`, behind whose heading the next item stands.
+    pub fn new(start: usize, indent: usize) -> Filled {
+        Filled {
+            start,
+            indent,
+            is_first: false,
+        }
+    }
+
+    // Whether an item ends within the line.
+    fn has_room(&self, written: usize, item: &[u8]) -> bool {
+        let width = written.saturating_sub(self.start);
+        width.saturating_add(item.len()).saturating_add(2) <= COLUMNS
+    }
+
+    /// Writes an item.
+    pub fn add(&mut self, item: &[u8], out: &mut Writer) {
+        if self.has_room(out.len(), item) {
+            out.add(b"  ");
+        } else {
+            out.add(b"\n");
+            self.start = out.len();
+            out.blanks(self.indent);
+        }
+        out.add(item);
+    }
+}

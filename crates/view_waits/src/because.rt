@@ -1,0 +1,93 @@
+//! Why what a process could do is no move.
+
+use pml_channel::channel::Channel;
+use pml_moves::executable::named;
+use pml_program::program::{Action, Basic};
+use pml_value::view::View;
+
+/// Why what a process could do is no move.
+#[derive(Clone, Copy, Debug, PartialEq, Eq)]
+pub enum Because {
+    /// This process has exclusive control.
+    Held(usize),
+    /// This younger process lives.
+    Younger(usize),
+    False,
+    Full,
+    Empty,
+    NoMatch,
+    NoReceiver,
+    NoSender,
+    /// As many processes live as may.
+    Processes,
+    /// Nothing can be taken first in the d_step.
+    DStep,
+    /// Another statement beside the `else` can be taken.
+    Else,
+    /// A statement of a higher level can be taken.
+    Escape,
+}
+
+impl Because {
+    /// Its name.
+    pub fn code(self) -> &'static str {
+        match self {
+            Because::Held(_) => "held",
+            Because::Younger(_) => "younger",
+            Because::False => "false",
+            Because::Full => "full",
+            Because::Empty => "empty",
+            Because::NoMatch => "no match",
+            Because::NoReceiver => "no receiver",
+            Because::NoSender => "no sender",
+            Because::Processes => "processes",
+            Because::DStep => "d_step",
+            Because::Else => "else",
+            Because::Escape => "escape",
+        }
+    }
+}
+
+fn because_send(channel: &Channel) -> Because {
+    if channel.capacity() == 0 {
+        Because::NoReceiver
+    } else {
+        Because::Full
+    }
+}
+
+fn because_receive(channel: &Channel) -> Because {
+    if channel.capacity() == 0 {
+        Because::NoSender
+    } else if channel.len() == 0 {
+        Because::Empty
+    } else {
+        Because::NoMatch
+    }
+}
+
+fn because_action(view: &View<'_>, action: &Action<'_>) -> Because {
+    match action {
+        Action::Else => Because::Else,
+        Action::Holds(_) => Because::False,
+        Action::Run(_) => Because::Processes,
+        Action::Send(target, _, fields) => match named(view, target, fields.len()) {
+            Ok((_, channel)) => because_send(channel),
+            Err(_) => Because::Escape,
+        },
+        Action::Receive(target, _, _, arguments) => match named(view, target, arguments.len()) {
+            Ok((_, channel)) => because_receive(channel),
+            Err(_) => Because::Escape,
+        },
+        _ => Because::Escape,
+    }
+}
+
+/// Why an offer of a process without a move is none.
+pub fn because_of(view: &View<'_>, basic: Option<&Basic<'_>>) -> Because {
+    match basic {
+        Some(Basic::Plain(action)) => because_action(view, action),
+        Some(Basic::DStep(_)) => Because::DStep,
+        _ => Because::Escape,
+    }
+}

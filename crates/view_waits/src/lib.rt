@@ -1,0 +1,10 @@
+//! What a move does with a message, why a process has no move, and what a condition reads.
+#![tactic(auto)]
+
+pub mod because;
+pub mod effect;
+pub mod offers;
+pub mod reads;
+pub mod statement;
+pub mod waits;
+pub mod words;

@@ -1,0 +1,89 @@
+//! What a statement reads of a state.
+
+use crate::reads::{Reads, add_reads, add_target};
+use crate::words::add_all;
+use pml_moves::moves::{Move, Pick};
+use pml_moves::picked::picked;
+use pml_program::expr::{Expr, Want};
+use pml_program::program::{Action, Basic, Run};
+use pml_value::view::View;
+use view_cells::picture::Picture;
+use view_text::writer::Writer;
+
+fn add_list(list: &[Expr], view: &View<'_>, reads: &mut Reads) {
+    for one in list {
+        add_reads(one, view, reads);
+    }
+}
+
+fn add_wants(wants: &[Want], view: &View<'_>, reads: &mut Reads) {
+    for want in wants {
+        match want {
+            Want::Equal(e) => add_reads(e.get(), view, reads),
+            Want::Into(target) => add_target(target, view, reads),
+            _ => {}
+        }
+    }
+}
+
+fn add_run(run: &Run, view: &View<'_>, reads: &mut Reads) {
+    add_list(run.arguments.as_slice(), view, reads);
+}
+
+// Adds what a statement reads, and the variables that it would change.
+fn add_action(action: &Action<'_>, view: &View<'_>, reads: &mut Reads) {
+    match action {
+        Action::Else => {}
+        Action::Assign(_, e) | Action::Printm(e) | Action::Assert(e) | Action::Holds(e) => {
+            add_reads(e, view, reads)
+        }
+        Action::AssignRun(_, run) | Action::Run(run) => add_run(run, view, reads),
+        Action::Increment(target) | Action::Decrement(target) => add_target(target, view, reads),
+        Action::Send(target, _, fields) => {
+            add_target(target, view, reads);
+            add_list(fields.as_slice(), view, reads);
+        }
+        Action::Receive(target, _, _, wants) => {
+            add_target(target, view, reads);
+            add_wants(wants.as_slice(), view, reads);
+        }
+        Action::Printf(_, arguments) => add_list(arguments.as_slice(), view, reads),
+    }
+}
+
+fn add_basic(
+    picture: &Picture<'_, '_, '_>,
+    view: &View<'_>,
+    basic: Option<&Basic<'_>>,
+    out: &mut Writer,
+) {
+    let Some(Basic::Plain(action)) = basic else {
+        return;
+    };
+    let mut reads = Reads::new(out.allocator());
+    add_action(action, view, &mut reads);
+    if !reads.items().is_empty() {
+        out.add(b"  reads");
+        add_all(picture, view, &reads, out);
+        out.add(b"\n");
+    }
+}
+
+fn add_pick(picture: &Picture<'_, '_, '_>, pick: Pick, timeout: bool, out: &mut Writer) {
+    if pick.process >= picture.process_count() {
+        return;
+    }
+    let view = picture.scene.view(pick.process, timeout);
+    if let Some(offer) = picked(&picture.scene, pick) {
+        add_basic(picture, &view, offer.body.basic(*offer.edge), out);
+    }
+}
+
+/// Writes a line with what the statement of a move reads: `  reads: x = 0, a[1] = 3`; none, where it reads nothing.
+pub fn add_statement_reads(picture: &Picture<'_, '_, '_>, m: &Move, out: &mut Writer) {
+    match m {
+        Move::Death(_) => {}
+        Move::Alone(pick, timeout) => add_pick(picture, *pick, *timeout, out),
+        Move::Pair(sender, _, timeout) => add_pick(picture, *sender, *timeout, out),
+    }
+}

@@ -1,0 +1,48 @@
+-- A walk through the states of a model: its choices, and a place on them.
+use Rattle.std.specs.Prelude.{◌≡◌, ◌≤◌, ℕ, Bool, false, List, length, take, Option, Some, None, Result, Ok, Err}
+use Rattle.diagnostics.specs.declared.fault.Fault.{Fault}
+use Rattle.pml_program.specs.declared.program.Program.{Program}
+use Rattle.pml_start.specs.Begin.{Begun}
+use Rattle.pml_start.specs.Start.{first_state}
+use Rattle.pml_sim.specs.World.{Running, first, moves, rules}
+use Rattle.view_walk.specs.declared.turn.Turn.{Turn}
+use Rattle.view_walk.specs.Choices.{led_from, with_turn}
+
+-- the first state, where its initialisers have no fault
+abbrev pub started : Program → Bool → Result Begun Fault → Option Running
+started p lossy (Ok b) = Some (first p b lossy)
+started p lossy (Err f) = None
+
+-- the state of a model behind these choices
+abbrev pub walked : Program → Bool → List Turn → Option Running
+walked p lossy ts = led_from rules (started p lossy (first_state p)) ts
+
+-- A walk: its choices, how many of them stand, and the state of the machine. It is lost where memory was refused on the way there.
+pub record Walked : Type 0 where
+  pub program : Program
+  pub lossy : Bool
+  pub turns : List Turn
+  pub at : ℕ
+  pub is_lost : Bool
+  pub state : Running
+
+-- Its choices lead from state to state, from the first state of the model on; the machine is in the state behind those that stand.
+pub record IsWalk (w : Walked) : Type 0 where
+  pub within : w.at ≤ length w.turns
+  pub last : Running
+  pub whole : walked w.program w.lossy w.turns ≡ Some last
+  pub here : w.is_lost ≡ false → walked w.program w.lossy (take w.at w.turns) ≡ Some w.state
+
+-- the same model
+pub record SameModel (old new : Walked) : Type 0 where
+  pub program : new.program ≡ old.program
+  pub lossy : new.lossy ≡ old.lossy
+
+-- the same choices, and as many of them stand
+pub record StandsAs (old new : Walked) : Type 0 where
+  pub turns : new.turns ≡ old.turns
+  pub at : new.at ≡ old.at
+
+-- the choices of a walk behind the one with this number
+abbrev pub turns_behind : Walked → ℕ → List Turn
+turns_behind w k = with_turn w.turns w.at (record { choice = k; of = length (moves w.state) })

@@ -1,0 +1,39 @@
+//! The texts of `--help` and `--version`.
+
+/// The version of the program.
+pub const VERSION: &str = "0.9.0";
+
+/// What `--help` says.
+pub const HELP: &str = "\
+Shows a run of a Promela model: its states, what each process waits for, steps
+back and other ways on.
+
+Usage: spinview [OPTIONS] <MODEL>
+
+Arguments:
+  <MODEL>           The file of the model
+
+Options:
+  --choices <FILE>  Take the choices of FILE first
+  --record <FILE>   Write the choices of the walk to FILE when the session ends
+  --random <SEED>   Answer each question by a generator, without a session
+  --json            Without a session: a line of JSON for each step
+  --chart           Without a session: the chart of messages
+  --page <FILE>     Without a session: write FILE, a page for a browser
+  -m                Lose messages that are sent to a full channel
+  -u <N>            Take at most N steps (1000000 where it is not given)
+  --explain         Say why and where a model is refused, or why a file fails
+  -h, --help        Print help
+  -V, --version     Print version
+
+A session reads a line at a time: the number of a choice, or a command; help
+lists them. Without a session the choices are those of FILE, else those of the
+generator, else those of standard input, as spinplay reads them.
+
+Exit status:
+  0  the session ended, or all was written
+  3  the model is refused
+  4  wrong words, or a file that cannot be opened, read or written
+  5  choices that do not fit: a misfit, a line too long, 100 bad choices
+  6  a device or memory failed
+";

@@ -1,0 +1,9 @@
+//! What the command line of spinview asks for.
+#![tactic(auto)]
+
+mod asked;
+mod help;
+mod words;
+
+pub use asked::{Asked, Form};
+pub use words::read;

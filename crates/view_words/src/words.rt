@@ -1,0 +1,110 @@
+//! The words of the command line.
+
+use crate::asked::{Asked, Form};
+use crate::help::{HELP, VERSION};
+use clap::{Arg, ArgAction, ArgMatches, Command, Error, value_parser};
+use std::alloc::{AllocError, Global};
+
+// How many steps are taken at most where the command line says nothing of it.
+const USUAL_LIMIT: u32 = 1_000_000;
+
+// A flag that may be repeated.
+fn flag<'a>(alloc: Global, id: &'a str) -> Arg<'a> {
+    Arg::new(alloc, id).long(id).action(ArgAction::Count)
+}
+
+// An option with a file behind it.
+fn file<'a>(alloc: Global, id: &'a str) -> Arg<'a> {
+    Arg::new(alloc, id)
+        .long(id)
+        .action(ArgAction::Set)
+        .value_name("FILE")
+}
+
+fn seed<'a>(alloc: Global) -> Arg<'a> {
+    Arg::new(alloc, "random")
+        .long("random")
+        .action(ArgAction::Set)
+        .value_name("SEED")
+        .value_parser(value_parser!(u32))
+}
+
+fn limit<'a>(alloc: Global) -> Arg<'a> {
+    Arg::new(alloc, "u")
+        .short('u')
+        .action(ArgAction::Set)
+        .value_name("N")
+        .value_parser(value_parser!(u32))
+}
+
+fn lossy<'a>(alloc: Global) -> Arg<'a> {
+    Arg::new(alloc, "m").short('m').action(ArgAction::Count)
+}
+
+fn model<'a>(alloc: Global) -> Arg<'a> {
+    Arg::new(alloc, "MODEL")
+        .required(true)
+        .action(ArgAction::Set)
+}
+
+fn spinview<'a>(alloc: Global) -> Command<'a> {
+    Command::new(alloc, "spinview")
+        .version(VERSION)
+        .override_help(HELP)
+}
+
+fn command<'a>(alloc: Global) -> Result<Command<'a>, AllocError> {
+    spinview(alloc)
+        .arg(file(alloc, "choices"))?
+        .arg(file(alloc, "record"))?
+        .arg(file(alloc, "page"))?
+        .arg(seed(alloc))?
+        .arg(flag(alloc, "json"))?
+        .arg(flag(alloc, "chart"))?
+        .arg(lossy(alloc))?
+        .arg(limit(alloc))?
+        .arg(flag(alloc, "explain"))?
+        .arg(model(alloc))
+}
+
+// The text of an option, on the heap.
+fn text_of(
+    alloc: Global,
+    matches: &ArgMatches<'_>,
+    id: &str,
+) -> Result<Option<String>, AllocError> {
+    match matches.get_str(id) {
+        Some(text) => Ok(Some(String::from_str(alloc, text)?)),
+        None => Ok(None),
+    }
+}
+
+fn form_of(matches: &ArgMatches<'_>) -> Form {
+    if matches.get_count("json") > 0 {
+        Form::Json
+    } else if matches.get_count("chart") > 0 {
+        Form::Chart
+    } else {
+        Form::Session
+    }
+}
+
+/// What the words of a command line ask for. The first word is the program's name.
+pub fn read<'a>(alloc: Global, words: &'a [&'a str]) -> Result<Asked, Error> {
+    let matches = command(alloc)?.try_get_matches_from(words)?;
+    let model = String::from_str(alloc, matches.get_str("MODEL").unwrap_or(""))?;
+    let choices = text_of(alloc, &matches, "choices")?;
+    let rec = text_of(alloc, &matches, "record")?;
+    let page = text_of(alloc, &matches, "page")?;
+    Ok(Asked {
+        model,
+        choices,
+        rec,
+        page,
+        seed: matches.get_one::<u32>("random"),
+        form: form_of(&matches),
+        is_lossy: matches.get_count("m") > 0,
+        limit: matches.get_one::<u32>("u").unwrap_or(USUAL_LIMIT),
+        explains: matches.get_count("explain") > 0,
+    })
+}
