@@ -91,7 +91,9 @@ fn of_circle(message: &mut Message<'_>, circle: Circle<'_>) -> Result<(), AllocE
 /// Of breaks, d_steps and circles.
 pub fn of_control(message: &mut Message<'_>, cause: ControlCause<'_>) -> Result<(), AllocError> {
     match cause {
-        ControlCause::LooseBreak => message.push("no `do` is round it"),
+        ControlCause::LooseBreak => message.push(
+            "no loop is round it: write `skip` where nothing is to be done, or leave by `goto` and a label",
+        ),
         ControlCause::BreakOfStep => {
             message.push("it would end a `do` that is round the `d_step`")
         }
@@ -312,7 +314,7 @@ pub fn of_inline(message: &mut Message<'_>, cause: InlineCause<'_>) -> Result<()
     match cause {
         InlineCause::Within => message.push("an inline may be defined only outside of all braces"),
         InlineCause::Form => message.push(
-            "a definition is `inline NAME(PARAMETERS) { .. }`, with names and commas for PARAMETERS",
+            "a definition is `inline f(a, b) { .. }`: its parameters are names, without types",
         ),
         InlineCause::OpenBody(name) => {
             message.around("the body of ", name, " has no `}` at its end")

@@ -48,7 +48,8 @@ fn of_statement(foreign: Foreign) -> &'static str {
             "a process ends at its closing brace: `goto` a label there, as `done: skip`",
         Foreign::Lock =>
             "a lock is a variable that is asked and set in one: `atomic { !locked -> locked = true }`",
-        Foreign::Try => "write `{ .. } unless { .. }`",
+        Foreign::Try =>
+            "write `{ x = 1; y = 2 } unless { stop }`: what is done, and behind it what ends that",
         Foreign::Spawn => "a process is begun by `run P()`",
         Foreign::Random => "write `select (x : 1 .. 6)`, and choose the number",
         Foreign::Message => "a message is sent by `c ! 1` and received by `c ? x`",
@@ -190,6 +191,18 @@ fn of_place(foreign: Foreign) -> &'static str {
 fn of_other_sign(foreign: Foreign) -> &'static str {
     match foreign {
         Foreign::TwoAssignments => "one variable is assigned at a time, as in `x = 1; y = 2`",
+        Foreign::TwoMessages => "one message is sent or received at a time, as in `c ! 1; c ? x`",
+        Foreign::ReceiveInCondition =>
+            "a message is received by a statement of its own: ask its value in the next, as in `c ? x -> if :: x > 2 -> .. :: else -> .. fi`",
+        Foreign::Element => "an element of an array is written `a[1]`",
+        Foreign::LastSemicolon => "the `;` before it is one too many",
+        Foreign::ChannelParameter =>
+            "a parameter takes a channel that is declared elsewhere: write `chan c` alone",
+        Foreign::ChannelAssignment =>
+            "a channel is made where it is declared, as in `chan c = [1] of { byte }`",
+        Foreign::OtherWidth => "only `unsigned` has a number of bits, as in `unsigned x : 8`",
+        Foreign::LabelColon =>
+            "a label has a `:` behind it, as in `again: x = 1`, and a declaration begins with a type",
         Foreign::TwoEquals => "one `=` assigns, and `==` without a blank compares",
         Foreign::LastComma =>
             "what the `,` before it goes on with is missing, or the `,` is one too many",
@@ -205,7 +218,8 @@ fn of_other_sign(foreign: Foreign) -> &'static str {
             "`select (x : 1 .. 6)` takes a number; a choice of cases is `if :: x == 1 -> .. :: else -> .. fi`",
         Foreign::Pointer => "there are no pointers and no addresses: name the variable itself",
         Foreign::LessEquals => "write `<=` for `=<`",
-        Foreign::GreaterEquals => "write `>=` for `=>`",
+        Foreign::GreaterEquals =>
+            "write `->` for `=>` behind a condition, as in `x == 1 -> x = 2`, and `>=` between numbers",
         Foreign::Same => "write `==` for `<->`",
         Foreign::LabelName => "a label is a name, as in `again: skip`",
         Foreign::EmptyBrackets => "a number is wanted between the brackets, as in `int a[3]`",

@@ -3,6 +3,7 @@
 use crate::foreign::{advice, tell_classes, tell_word};
 use crate::message::Message;
 use crate::names::TYPES;
+use crate::position::{column, line_of};
 use pml_causes::cause::{Named, SyntaxCause, Wanted};
 use std::alloc::AllocError;
 
@@ -15,6 +16,20 @@ fn closer(opener: &[u8]) -> &'static str {
         b"if" => "`fi`",
         _ => "`od`",
     }
+}
+
+/// What closes is missing in front of the token, or of the text's end.
+fn misses_closer(message: &mut Message<'_>, opener: Named<'_>) -> Result<(), AllocError> {
+    message.push(closer(opener.name))?;
+    message.push(" is missing before it: by the indentation that")?;
+    message.placed(" of the ", opener, " of ", "")
+}
+
+/// What closes is wanted in front of a `->`.
+fn wants_closer_at_arrow(message: &mut Message<'_>, opener: Named<'_>) -> Result<(), AllocError> {
+    wants_closer_before(message, opener)?;
+    let column = column(line_of(message.text(), opener.offset), opener.offset);
+    message.figure(", column ", column, "")
 }
 
 fn wants_closer(message: &mut Message<'_>, opener: Named<'_>) -> Result<(), AllocError> {
@@ -66,6 +81,8 @@ fn wants_of_name(message: &mut Message<'_>, wanted: Wanted<'_>) -> Result<(), Al
             )
         }
         Wanted::CloserBefore(opener) => wants_closer_before(message, opener),
+        Wanted::CloserBeforeArrow(opener, _) => wants_closer_at_arrow(message, opener),
+        Wanted::CloserByLayout(opener) => misses_closer(message, opener),
         Wanted::CloserAndSemicolon(opener) => {
             message.push(closer(opener.name))?;
             message.placed(
@@ -76,6 +93,18 @@ fn wants_of_name(message: &mut Message<'_>, wanted: Wanted<'_>) -> Result<(), Al
             )
         }
         wanted => wants_sign(message, wanted),
+    }
+}
+
+/// A value, or what takes a message, is wanted behind a sign.
+fn wants_operand(message: &mut Message<'_>, operator: &[u8]) -> Result<(), AllocError> {
+    match operator {
+        b"?" | b"??" => message.around(
+            "what takes the message is wanted behind ",
+            operator,
+            ", as in `c ? x`",
+        ),
+        _ => message.around("a value is wanted behind ", operator, ""),
     }
 }
 
@@ -96,9 +125,13 @@ fn wants_sign(message: &mut Message<'_>, wanted: Wanted<'_>) -> Result<(), Alloc
         Wanted::OptionFor => message.push("write `::` for it"),
         Wanted::Semicolon => message.push("a `;` is wanted before it"),
         Wanted::OptionSign => message.push("`::` is wanted before it"),
-        Wanted::Operand(operator) => message.around("a value is wanted behind ", operator, ""),
+        Wanted::Operand(operator) => wants_operand(message, operator),
         Wanted::Arguments(name) => {
-            message.around("`(` and the arguments are wanted behind ", name, "")
+            message.around(
+                "`()` or arguments in parentheses are wanted behind ",
+                name,
+                "",
+            )
         }
         Wanted::Options(word) => wants_options(message, word),
         Wanted::Nothing => message.push("it is one too many"),
@@ -127,7 +160,7 @@ fn wants(message: &mut Message<'_>, wanted: Wanted<'_>) -> Result<(), AllocError
             "a name is wanted, and it is a word of the language: choose another one",
         ),
         Wanted::PlainAssignment => message.push(
-            "an assignment with an operator is left out: write `x = x + 1` for `x += 1`",
+            "there is no assignment with an operator: write `x = x + 1` for `x += 1`",
         ),
         Wanted::OneOf(classes) => tell_classes(message, classes),
         wanted => wants_of_name(message, wanted),
@@ -186,6 +219,10 @@ pub fn of_syntax(message: &mut Message<'_>, cause: SyntaxCause<'_>) -> Result<()
     if let Wanted::EndOf(opener) = cause.wanted {
         message.push("the text ends: ")?;
         return wants_closer(message, opener);
+    }
+    if let Wanted::EndByLayout(opener) = cause.wanted {
+        message.push("the text ends: ")?;
+        return misses_closer(message, opener);
     }
     if cause.found.is_empty() {
         return message.push("nothing is declared");

@@ -64,6 +64,12 @@ pub enum Wanted<'t> {
     NothingOpen,
     /// The text ends within this.
     EndOf(Named<'t>),
+    /// The text ends, and by the indentation of the lines what closes this is missing.
+    EndByLayout(Named<'t>),
+    /// What closes this, which by the indentation of the lines is missing somewhere before the token.
+    CloserByLayout(Named<'t>),
+    /// What closes this, in front of this `->`.
+    CloserBeforeArrow(Named<'t>, Named<'t>),
     /// A name, and the token is a word of the language.
     Name,
     /// `x = x + ..` in place of `x += ..`.

@@ -204,4 +204,20 @@ pub enum Foreign {
     LastComma,
     /// `= =`
     TwoEquals,
+    /// `c ? x && x > 2`
+    ReceiveInCondition,
+    /// `c ! 1, c ? x`
+    TwoMessages,
+    /// `x = a{1}`
+    Element,
+    /// `L x = 1`, where `L` is meant for a label.
+    LabelColon,
+    /// `(byte a; byte b;)`
+    LastSemicolon,
+    /// `int x : 8`
+    OtherWidth,
+    /// `proctype P(chan c of { byte })`
+    ChannelParameter,
+    /// `c = [1] of { byte }` as a statement
+    ChannelAssignment,
 }

@@ -4,6 +4,8 @@ use Rattle.std.specs.Prelude.{is_some}
 use Rattle.std.proofs.lemmas.Bool.{false≢true}
 use Rattle.std.proofs.Math.Seq.{take-nil, drop-append_seam, take-append_seam}
 use Rattle.std.proofs.lemmas.List.{length-append}
+use Rattle.std.proofs.lemmas.List.Folds.{concat-append}
+use Rattle.std.specs.List.{concat}
 use Rattle.pml_lex.specs.declared.piece.Piece.{Piece}
 use Rattle.pml_lex.specs.declared.piece.Piece.TheVariants.{Skipped, Token}
 use Rattle.pml_token.specs.declared.token.Kind.{Kind}
@@ -14,7 +16,7 @@ use Rattle.pml_lex.proofs.Wholes.{Divides, to_whole, from_whole}
 use Rattle.pml_lex.proofs.Places.{token_place}
 use Rattle.pml_lex.proofs.Longest.{IsNextAt}
 use Rattle.pml_lex.proofs.Steps.{fresh_from-append, same_piece}
-use Rattle.pml_places.specs.Placed.{placed_words, ArePlaced, StopsAt}
+use Rattle.pml_places.specs.Placed.{placed_words, ArePlaced, Begins, StopsAt}
 
 nothing_by : (fresh : Bool) (p : List ℕ) → p ≡ [] → is_some (piece fresh p) ≡ true → ⊥
 unfolding piece
@@ -32,11 +34,24 @@ step_back before rest p is_longest [] divides = absurd (nothing_stands (is_fresh
 step_back before rest p is_longest (q ∷ qs) divides =
     (qs, subst (λ (x : List ℕ). Divides (before ++ x) qs (drop (length x) rest)) (same_piece (is_fresh before) rest q p divides.0 is_longest) divides.1)
 
+-- one more piece behind those of a front
+begins_more : (before : List ℕ) (ps : List (List ℕ)) (rest left p : List ℕ) → Begins before ps rest left → IsLongest (is_fresh (before ++ concat ps)) left p
+    → Begins before (ps ++ p ∷ []) rest (drop (length p) left)
+begins_more before [] rest left p begins is_longest =
+    let here : IsLongest (is_fresh before) left p = subst (λ (b : List ℕ). IsLongest (is_fresh b) left p) (append-nil before) is_longest in
+    (subst (λ (r : List ℕ). IsLongest (is_fresh before) r p) (sym begins) here, ap (drop (length p)) begins)
+begins_more before (q ∷ qs) rest left p begins is_longest =
+    let behind : IsLongest (is_fresh ((before ++ q) ++ concat qs)) left p = subst (λ (b : List ℕ). IsLongest (is_fresh b) left p) (sym (append_assoc before q (concat qs))) is_longest in
+    (begins.0, begins_more (before ++ q) qs (drop (length q) rest) left p begins.1 behind)
+
 -- found: the tokens of what is before `rest`
 pub record Reached (text : List ℕ) (found : List Word) (rest : List ℕ) (place : ℕ) (fresh : Bool) : Type 0 where
   pub before : List ℕ
   pub joins : before ++ rest ≡ text
   pub place_is : place ≡ length before
+  pub pieces : List (List ℕ)
+  pub pieces_are : concat pieces ≡ before
+  pub begins : Begins [] pieces text rest
   pub fresh_is : fresh ≡ is_fresh before
   -- a division of the rest completes one of the text
   pub forth : (ps : List (List ℕ)) → Divides before ps rest → ArePlaced text (found ++ placed_words before ps)
@@ -48,6 +63,9 @@ reached_start text = record {
   before = [];
   joins = refl;
   place_is = refl;
+  pieces = [];
+  pieces_are = refl;
+  begins = refl;
   fresh_is = refl;
   forth = λ ps divides. record { pieces = ps; divides = to_whole ps text divides; are_words = refl };
   back = λ ps divides. (ps, from_whole ps text divides);
@@ -66,6 +84,11 @@ reached_more {text} {rest} {found} {place} {fresh} n s at here =
       before = at.before ++ p;
       joins = append_assoc at.before p (drop n rest) ∙ ap (λ t. at.before ++ t) (take-append-drop n rest) ∙ at.joins;
       place_is = let both : length (at.before ++ p) ≡ length at.before + length p = length-append at.before p in omega (arith, at.place_is);
+      pieces = at.pieces ++ p ∷ [];
+      pieces_are = concat-append at.pieces (p ∷ []) ∙ ap (λ b. b ++ (p ++ [])) at.pieces_are ∙ ap (λ q. at.before ++ q) (append-nil p);
+      begins =
+          let is_longest : IsLongest (is_fresh (concat at.pieces)) rest p = subst (λ (b : List ℕ). IsLongest (is_fresh b) rest p) (sym at.pieces_are) next_is in
+          subst (λ (m : ℕ). Begins [] (at.pieces ++ p ∷ []) text (drop m rest)) len (begins_more [] at.pieces text rest p at.begins is_longest);
       fresh_is = rw at.fresh_is (sym (fresh_from-append true at.before p));
       forth = λ ps divides.
           let whole : ArePlaced text (found ++ placed_words at.before (p ∷ ps)) = at.forth (p ∷ ps) (next_is, subst (λ (m : ℕ). Divides (at.before ++ p) ps (drop m rest)) (sym len) divides) in
@@ -95,6 +118,8 @@ reached_none {text} {rest} {found} {place} {fresh} at some none =
     let nothing : (p : List ℕ) → CanStand (is_fresh at.before) rest p → ⊥ = λ p h. none p (subst (λ (f : Bool). CanStand f rest p) (sym at.fresh_is) h) in
     record {
       within = omega (arith, reached_within at);
+      pieces = at.pieces;
+      begins = subst (λ (r : List ℕ). Begins [] at.pieces text r) (sym behind) at.begins;
       nothing = λ p h. nothing p (subst (λ (f : List ℕ). CanStand (is_fresh f) rest p) front (subst (λ (r : List ℕ). CanStand (is_fresh (take place text)) r p) behind h));
       never = λ ts is_cut.
           let qs : (xs : List (List ℕ)) × Divides at.before xs rest = at.back is_cut.pieces is_cut.divides in

@@ -7,7 +7,7 @@ use Rattle.pml_lex.specs.declared.fault.LexFault.TheVariants.{Memory, TooLong, L
 use Rattle.pml_token.specs.declared.token.Kind.{Kind}
 use Rattle.pml_token.specs.Word.{Word}
 use Rattle.pml_lex.specs.Pieces.{piece}
-use Rattle.pml_lex.specs.Division.{CanStand, IsDivision, IsCut, is_fresh, word}
+use Rattle.pml_lex.specs.Division.{CanStand, IsLongest, IsDivision, IsCut, is_fresh, word}
 
 -- the tokens among pieces, each with how many bytes stand before it in place of its line
 abbrev pub placed_words : List ℕ → List (List ℕ) → List Word
@@ -20,9 +20,16 @@ pub record ArePlaced (text : List ℕ) (ts : List Word) : Type 0 where
   pub divides : IsDivision text pieces
   pub are_words : ts ≡ placed_words [] pieces
 
--- the text has no tokens, since nothing can stand behind so many of its bytes
+-- these pieces are the front of `rest`, behind `before`, each the longest that can stand at its place, and `left` is behind them
+abbrev pub Begins : List ℕ → List (List ℕ) → List ℕ → List ℕ → Type 0
+Begins before [] rest left = rest ≡ left
+Begins before (p ∷ ps) rest left = IsLongest (is_fresh before) rest p × Begins (before ++ p) ps (drop (length p) rest) left
+
+-- the text has no tokens: so many of its bytes are pieces, and nothing can stand behind them
 pub record StopsAt (text : List ℕ) (place : ℕ) : Type 0 where
   pub within : place < length text
+  pub pieces : List (List ℕ)
+  pub begins : Begins [] pieces text (drop place text)
   pub nothing : (p : List ℕ) → CanStand (is_fresh (take place text)) (drop place text) p → ⊥
   pub never : (ts : List Word) → IsCut text ts → ⊥
 

@@ -83,6 +83,13 @@ fn braced(before: Kind) -> Option<Foreign> {
     }
 }
 
+/// Whether a name stands before a `{`, and a number or a name alone between it and its `}`.
+fn is_element(tokens: &[Token<'_>], at: usize) -> bool {
+    is_before(tokens, at, 1, Kind::Name)
+        && matches!(kind_behind(tokens, at), Kind::Number | Kind::Name)
+        && is_at(tokens, at.saturating_add(2), Kind::CloseBrace)
+}
+
 /// What a `(` behind a word is meant for.
 fn behind_word(before: Kind) -> Option<Foreign> {
     match before {
@@ -120,6 +127,7 @@ fn at_bracket(before: Kind) -> Option<Foreign> {
         Kind::Chan => Some(Foreign::Channel),
         Kind::CloseBracket => Some(Foreign::TwoSizes),
         Kind::Proctype => Some(Foreign::ActiveCount),
+        Kind::Of => Some(Foreign::ChannelTypes),
         Kind::Bang | Kind::BangBang | Kind::Query | Kind::QueryQuery => {
             Some(Foreign::MessageFields)
         }
@@ -133,6 +141,10 @@ fn at_query(tokens: &[Token<'_>], at: usize, before: Kind) -> Foreign {
     let is_named = matches!(before, Kind::Name | Kind::CloseBracket);
     if is_named && is_before(tokens, at, 2, Kind::Assign) {
         Foreign::ReceivedValue
+    } else if is_named && is_before(tokens, at, 2, Kind::Comma) {
+        Foreign::TwoMessages
+    } else if matches!(kind_before(tokens, at, 2), Kind::Query | Kind::QueryQuery) {
+        Foreign::MessageFields
     } else {
         Foreign::Conditional
     }
@@ -144,6 +156,7 @@ fn at_opener(tokens: &[Token<'_>], at: usize, kind: Kind) -> Option<Foreign> {
     match kind {
         Kind::OpenParen => at_paren(tokens, at),
         Kind::OpenBracket => at_bracket(before),
+        Kind::OpenBrace if is_element(tokens, at) => Some(Foreign::Element),
         Kind::OpenBrace => braced(before),
         Kind::Query => Some(at_query(tokens, at, before)),
         _ => None,
@@ -220,6 +233,7 @@ fn at_operator(tokens: &[Token<'_>], at: usize, kind: Kind) -> Option<Foreign> {
     let before = kind_before(tokens, at, 1);
     match kind {
         Kind::Star => at_star(tokens, at, before),
+        Kind::Ampersand if is_type(before) => Some(Foreign::Pointer),
         Kind::Ampersand if matches!(before, Kind::Assign | Kind::OpenParen | Kind::Comma) => {
             Some(Foreign::Pointer)
         }
@@ -255,7 +269,18 @@ fn at_comparison(tokens: &[Token<'_>], at: usize, kind: Kind) -> Option<Foreign>
         Kind::OrOr | Kind::AndAnd | Kind::Bar if is_in_statement(tokens, at, Kind::Run) => {
             Some(Foreign::Parallel)
         }
-        _ => None,
+        _ => behind_receive(tokens, at),
+    }
+}
+
+/// What a sign of a condition is meant for behind a receive.
+fn behind_receive(tokens: &[Token<'_>], at: usize) -> Option<Foreign> {
+    let receives = is_in_statement(tokens, at, Kind::Query)
+        || is_in_statement(tokens, at, Kind::QueryQuery);
+    if receives && !is_at(tokens, at, Kind::Arrow) {
+        Some(Foreign::ReceiveInCondition)
+    } else {
+        None
     }
 }
 
@@ -269,6 +294,7 @@ fn at_colon(tokens: &[Token<'_>], at: usize, before: Kind) -> Option<Foreign> {
         Kind::Number if begin_of(tokens, at).saturating_add(1) == at => Some(Foreign::LabelName),
         Kind::Name if is_before(tokens, at, 2, Kind::Goto) => Some(Foreign::GotoColon),
         Kind::Name if is_before(tokens, at, 2, Kind::Chan) => Some(Foreign::Channel),
+        Kind::Name if is_type(kind_before(tokens, at, 2)) => Some(Foreign::OtherWidth),
         Kind::Name if is_type(kind_behind(tokens, at)) => Some(Foreign::TypeBehind),
         before if is_type(before) => Some(Foreign::TypeName),
         _ => None,
@@ -309,6 +335,7 @@ fn form_of_sign(tokens: &[Token<'_>], at: usize, kind: Kind) -> Option<Foreign> 
         Kind::Less | Kind::Greater | Kind::Arrow | Kind::OrOr | Kind::AndAnd | Kind::Bar => {
             at_comparison(tokens, at, kind)
         }
+        Kind::Equal | Kind::Unequal | Kind::AtMost | Kind::AtLeast => behind_receive(tokens, at),
         Kind::Comma | Kind::Colon | Kind::Dot => at_separator(tokens, at, kind),
         _ => at_operator(tokens, at, kind),
     }
@@ -349,6 +376,9 @@ pub fn form_at(tokens: &[Token<'_>], at: usize) -> Option<Foreign> {
     let kind = kind_at(tokens, at);
     if is_behind_comma(tokens, at, kind) {
         return Some(Foreign::LastComma);
+    }
+    if same_kind(kind, Kind::CloseParen) && is_before(tokens, at, 1, Kind::Semicolon) {
+        return Some(Foreign::LastSemicolon);
     }
     if is_behind_head(tokens, at) {
         return Some(Foreign::Outside);

@@ -182,6 +182,14 @@ fn ends_operand(kind: Kind) -> bool {
         )
 }
 
+/// Whether a sign compares two values.
+fn compares(kind: Kind) -> bool {
+    matches!(
+        kind,
+        Kind::Less | Kind::Greater | Kind::AtMost | Kind::AtLeast | Kind::Equal | Kind::Unequal
+    )
+}
+
 /// What is told by the words in front of a token.
 fn by_words(tokens: &[Token<'_>], at: usize, kind: Kind) -> Neighbours {
     if is_before(tokens, at, 1, Kind::Name) && is_before(tokens, at, 2, Kind::Run) {
@@ -189,6 +197,9 @@ fn by_words(tokens: &[Token<'_>], at: usize, kind: Kind) -> Neighbours {
     }
     let is_same = same_kind(kind, Kind::Arrow) && is_before(tokens, at, 1, Kind::Less);
     if !is_same && wants_value(kind_in_front(tokens, at)) && ends_operand(kind) {
+        return Neighbours::Operand;
+    }
+    if compares(kind) && matches!(kind_in_front(tokens, at), Kind::AndAnd | Kind::OrOr) {
         return Neighbours::Operand;
     }
     if is_before(tokens, at, 1, Kind::If) || is_before(tokens, at, 1, Kind::Do) {

@@ -2,27 +2,40 @@
 
 use crate::called::{definition_of, is_call, shown_at, value_at};
 use crate::forms::{form_at, kind_before};
+use crate::layout::unclosed_by_layout;
 use crate::stopped::{
     Neighbours, begin_of, is_before, name_at, name_before, neighbours_of, opener_before,
 };
+use crate::told::{found_at, told};
 use crate::trial::stop;
 use crate::tried::wanted_by_trial;
 use crate::typed::is_select_range;
 use crate::unclosed::{Brackets, brackets_of};
-use crate::within::{form_within, has_arrow, is_left_open, is_outside_sign, is_statement};
+use crate::within::{
+    arrow_between, begins_unit, form_within, is_left_open, is_outside_sign, is_statement,
+};
 use crate::words::{
     called_variable, foreign_beside, foreign_call, is_typed, near_at, near_beside, no_word,
     number_beside, proctype_beside, type_before,
 };
-use pml_causes::cause::{Cause, Finding, Named, Place, SyntaxCause, Wanted};
+use pml_causes::cause::{Finding, Named, Wanted};
 use pml_causes::foreign::Foreign;
-use pml_causes::place::{at_place, end_of, is_at, kind_at, untold};
+use pml_causes::place::{end_of, is_at, kind_at, untold};
 use pml_token::token::{Kind, Token, same_kind};
 use std::alloc::{AllocError, Global};
 
-/// What a list in braces is meant for.
+/// What a list in braces or brackets is meant for.
 fn list_at<'t>(tokens: &[Token<'_>], at: usize) -> Wanted<'t> {
-    if is_before(tokens, at, 3, Kind::Mtype) {
+    if is_at(tokens, at.saturating_add(3), Kind::Of) {
+        return Wanted::Form(if is_at(tokens, at, Kind::OpenBracket) {
+            Foreign::ChannelAssignment
+        } else {
+            Foreign::Channel
+        });
+    }
+    if is_before(tokens, at, 2, Kind::Mtype) {
+        Wanted::Form(Foreign::Enumeration)
+    } else if is_before(tokens, at, 3, Kind::Mtype) {
         Wanted::Form(Foreign::NamedMtype)
     } else {
         Wanted::NoList
@@ -38,6 +51,9 @@ fn by_neighbours<'t>(text: &'t [u8], tokens: &[Token<'_>], at: usize) -> Option<
         Neighbours::Assignment => Some(Wanted::PlainAssignment),
         Neighbours::Process => Some(Wanted::Arguments(name)),
         Neighbours::Operand => Some(Wanted::Operand(name)),
+        Neighbours::Options if is_before(tokens, at, 2, Kind::Else) => {
+            Some(Wanted::Form(Foreign::ElseIf))
+        }
         Neighbours::Options => Some(Wanted::Options(name)),
         Neighbours::Other => None,
     }
@@ -129,11 +145,21 @@ fn unfit_within<'t>(
     if is_bracket && same_kind(kind, Kind::Comma) {
         return Some(Wanted::NoList);
     }
-    if is_paren && same_kind(kind, Kind::Assign) && has_arrow(tokens, opener, at) {
-        Some(Wanted::Closer(name_at(text, tokens, opener)))
-    } else {
-        end_within(text, tokens, opener, at)
+    if is_paren && same_kind(kind, Kind::Assign) {
+        return before_arrow(text, tokens, opener, at);
     }
+    end_within(text, tokens, opener, at)
+}
+
+/// Whether a parenthesis is to be closed in front of the `->` that stands in it.
+fn before_arrow<'t>(
+    text: &'t [u8],
+    tokens: &[Token<'_>],
+    opener: usize,
+    at: usize,
+) -> Option<Wanted<'t>> {
+    let arrow = arrow_between(tokens, opener, at)?;
+    Some(Wanted::CloserBeforeArrow(name_at(text, tokens, opener), name_at(text, tokens, arrow)))
 }
 
 /// What is told by what is open at the token.
@@ -210,6 +236,20 @@ fn outside<'t>(
     }
 }
 
+/// What is told of a mistyped word before a name and its parentheses, as of that of a proctype.
+fn near_unit<'t>(
+    alloc: Global,
+    text: &'t [u8],
+    tokens: &[Token<'_>],
+    at: usize,
+) -> Result<Option<Wanted<'t>>, AllocError> {
+    if is_call(tokens, at) && is_before(tokens, at, 2, Kind::Name) {
+        near_at(alloc, text, tokens, at.saturating_sub(2))
+    } else {
+        Ok(None)
+    }
+}
+
 /// What is told of a name that is mistyped, of a call, or by reading the tokens once more.
 fn wanted_by_name<'t>(
     alloc: Global,
@@ -219,6 +259,9 @@ fn wanted_by_name<'t>(
     at: usize,
 ) -> Result<Wanted<'t>, AllocError> {
     if let Some(wanted) = near_beside(alloc, text, tokens, at)? {
+        return Ok(wanted);
+    }
+    if let Some(wanted) = near_unit(alloc, text, tokens, at)? {
         return Ok(wanted);
     }
     let called = by_call(text, originals, tokens, at).or(no_word(text, tokens, at));
@@ -265,6 +308,11 @@ fn wanted_of<'t>(
     at: usize,
 ) -> Result<Wanted<'t>, AllocError> {
     let opener = opener_before(alloc, tokens, at)?;
+    if begins_unit(kind_at(tokens, at)) {
+        if let Some(suspect) = unclosed_by_layout(alloc, text, tokens, opener, at)? {
+            return Ok(Wanted::CloserByLayout(name_at(text, tokens, suspect)));
+        }
+    }
     if let Some(wanted) = by_opener(text, tokens, opener, at) {
         return Ok(wanted);
     }
@@ -272,6 +320,19 @@ fn wanted_of<'t>(
         return outside(alloc, text, tokens, at);
     }
     wanted_by_tokens(alloc, text, originals, tokens, at)
+}
+
+/// What is wanted at the end of the text, where this is open.
+fn at_end<'t>(
+    alloc: Global,
+    text: &'t [u8],
+    tokens: &[Token<'_>],
+    opener: usize,
+) -> Result<Wanted<'t>, AllocError> {
+    match unclosed_by_layout(alloc, text, tokens, Some(opener), tokens.len())? {
+        Some(suspect) => Ok(Wanted::EndByLayout(name_at(text, tokens, suspect))),
+        None => Ok(Wanted::EndOf(name_at(text, tokens, opener))),
+    }
 }
 
 fn wanted_at<'t>(
@@ -284,45 +345,9 @@ fn wanted_at<'t>(
     match brackets_of(alloc, tokens, at)? {
         Brackets::Other(opener) => Ok(Wanted::Closer(name_at(text, tokens, opener))),
         Brackets::Nothing => Ok(Wanted::NothingOpen),
-        Brackets::Open(opener) => Ok(Wanted::EndOf(name_at(text, tokens, opener))),
+        Brackets::Open(opener) => at_end(alloc, text, tokens, opener),
         Brackets::Right => wanted_of(alloc, text, originals, tokens, at),
     }
-}
-
-/// What is found at a place.
-fn found_at<'t>(place: Place, found: &'t [u8], wanted: Wanted<'t>) -> Finding<'t> {
-    at_place(place, Cause::Syntax(SyntaxCause { found, wanted }))
-}
-
-/// The word before the token that is told of, where it is the word that another one is wanted for.
-fn word_of(wanted: Wanted<'_>) -> Option<Named<'_>> {
-    match wanted {
-        Wanted::ForeignWord(_, word) => Some(word),
-        Wanted::RunOf(_, call) => Some(call),
-        Wanted::Word(name, _) => Some(name),
-        Wanted::NoWord(name) => Some(name),
-        Wanted::NoType(name) => Some(name),
-        Wanted::Index(name) => Some(name),
-        Wanted::InlineValue(name) => Some(name),
-        Wanted::Inline(name, _) => Some(name),
-        _ => None,
-    }
-}
-
-/// What is told of a token, or of the end or a word before it where that is what is wanted.
-fn told<'t>(text: &'t [u8], token: Named<'t>, wanted: Wanted<'t>) -> Finding<'t> {
-    if matches!(wanted, Wanted::EndOf(_)) {
-        return found_at(end_of(text), &text[..0], wanted);
-    }
-    let word = match word_of(wanted) {
-        Some(word) => word,
-        None => token,
-    };
-    let place = Place {
-        offset: word.offset,
-        length: word.name.len(),
-    };
-    found_at(place, word.name, wanted)
 }
 
 /// Of the token that no rule reads.

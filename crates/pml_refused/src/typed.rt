@@ -11,6 +11,10 @@ fn at_name(tokens: &[Token<'_>], at: usize, before: Kind) -> Option<Foreign> {
     let behind = kind_behind(tokens, at);
     match before {
         Kind::For => Some(Foreign::LoopParens),
+        Kind::Select => Some(Foreign::SelectRange),
+        Kind::CloseBracket if is_in_statement(tokens, at, Kind::Active) => {
+            Some(Foreign::ActiveProctype)
+        }
         Kind::Active if matches!(behind, Kind::OpenParen | Kind::OpenBrace) => {
             Some(Foreign::ActiveProctype)
         }
@@ -119,6 +123,7 @@ fn at_keyword(tokens: &[Token<'_>], at: usize, kind: Kind) -> Option<Foreign> {
     let before = kind_before(tokens, at, 1);
     match kind {
         Kind::Init if same_kind(before, Kind::Active) => Some(Foreign::ActiveInit),
+        Kind::Active if same_kind(before, Kind::Proctype) => Some(Foreign::ActiveProctype),
         Kind::Of if is_of_channel(tokens, at, before) => Some(Foreign::Channel),
         Kind::If if same_kind(before, Kind::Assign) => Some(Foreign::Conditional),
         Kind::Else if is_at(tokens, at.saturating_add(1), Kind::If) => Some(Foreign::ElseIf),

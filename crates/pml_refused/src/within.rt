@@ -60,21 +60,26 @@ pub fn is_closed(tokens: &[Token<'_>], opener: usize) -> bool {
     }
 }
 
-/// Whether a `->` stands between two tokens.
-pub fn has_arrow(tokens: &[Token<'_>], opener: usize, at: usize) -> bool {
-    for token in between(tokens, opener, at) {
+/// The first `->` between two tokens.
+pub fn arrow_between(tokens: &[Token<'_>], opener: usize, at: usize) -> Option<usize> {
+    for (i, token) in between(tokens, opener, at).iter().enumerate() {
         if same_kind(token.kind(), Kind::Arrow) {
-            return true;
+            return Some(opener.saturating_add(i));
         }
     }
-    false
+    None
+}
+
+/// Whether a `->` stands between two tokens.
+pub fn has_arrow(tokens: &[Token<'_>], opener: usize, at: usize) -> bool {
+    arrow_between(tokens, opener, at).is_some()
 }
 
 /// Whether a token ends what stands in parentheses or in brackets.
 fn ends_inside(tokens: &[Token<'_>], opener: usize, kind: Kind) -> bool {
     match kind {
         Kind::Semicolon | Kind::DoubleColon => true,
-        Kind::Assign => is_at(tokens, opener, Kind::OpenBracket),
+        Kind::Assign | Kind::Arrow => is_at(tokens, opener, Kind::OpenBracket),
         _ => false,
     }
 }
@@ -83,7 +88,14 @@ fn ends_inside(tokens: &[Token<'_>], opener: usize, kind: Kind) -> bool {
 pub fn is_left_open(tokens: &[Token<'_>], opener: usize, kind: Kind) -> bool {
     let is_inside = is_at(tokens, opener, Kind::OpenParen)
         || is_at(tokens, opener, Kind::OpenBracket);
-    begins_unit(kind) || (is_inside && ends_inside(tokens, opener, kind))
+    begins_unit(kind)
+        || (is_inside && ends_inside(tokens, opener, kind))
+        || (same_kind(kind, Kind::DoubleColon) && is_of_option(tokens, opener))
+}
+
+/// Whether braces stand behind the `->` of an option.
+fn is_of_option(tokens: &[Token<'_>], opener: usize) -> bool {
+    is_at(tokens, opener, Kind::OpenBrace) && is_before(tokens, opener, 1, Kind::Arrow)
 }
 
 /// Whether the parameters of a proctype are open, and a name without a type stands directly before a token.
@@ -126,6 +138,9 @@ fn within_parens(tokens: &[Token<'_>], opener: usize, at: usize, kind: Kind) -> 
     }
     if is_untyped(tokens, opener, at) {
         return Some(Foreign::ParameterType);
+    }
+    if same_kind(kind, Kind::Of) && is_before(tokens, opener, 2, Kind::Proctype) {
+        return Some(Foreign::ChannelParameter);
     }
     if same_kind(kind, Kind::CloseParen) && has_arrow(tokens, opener, at) {
         Some(Foreign::Implication)

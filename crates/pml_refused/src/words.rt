@@ -195,7 +195,11 @@ pub fn type_before<'t>(text: &'t [u8], tokens: &[Token<'_>], at: usize) -> Optio
     let place = at.checked_sub(2)?;
     let name = name_at(text, tokens, place);
     if is_declared(tokens, place, name.name) {
-        Some(Wanted::Form(Foreign::RecordValue))
+        return Some(Wanted::Form(Foreign::RecordValue));
+    }
+    let variable = name_at(text, tokens, at.saturating_sub(1));
+    if is_declared(tokens, place, variable.name) {
+        Some(Wanted::ForeignWord(Foreign::LabelColon, name))
     } else {
         Some(Wanted::NoType(name))
     }

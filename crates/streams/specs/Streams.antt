@@ -51,3 +51,7 @@ pub record ConvertsOver (text : List ℕ) (options : Options) (before after : Kn
   pub ended : Bool
   pub counts : FailureCounts
   pub converts : Converts text options (fresh_over before) (held_over after ended counts) end
+
+-- a book that no device has written in, of a ledger with this name and so many parts
+abbrev pub IsBlank : ℕ → ℕ → ℕ → ℕ → Type 0
+IsBlank name parts its_name its_parts = (its_name ≡ name) × (its_parts ≡ parts) × (its_parts ≡ 1)

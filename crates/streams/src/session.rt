@@ -1,8 +1,7 @@
 //! Playing and converting over a reader and writers.
 
 ghost use Rattle.std.specs.Prelude.{◌≡◌};
-ghost use Rattle.session.specs.Session.{end_of};
-ghost use Rattle.streams.specs.Streams.{ConvertsOver, PlaysOver, known_by, known_of};
+ghost use Rattle.streams.specs.Streams.{ConvertsOver, IsBlank, PlaysOver, known_by, known_of};
 
 use devices::{ByteReader, Either, Failures, Nowhere, PieceWriter, ThreeDevices};
 use session::{Conversion, End, Options};
@@ -68,10 +67,10 @@ fn play_counting<R: Read, O: Write, K: Write, S: Ledger, T: Ledger, U: Ledger>(
     streams: &mut Streams<R, O, K>,
     books: Books,
 ) -> End
-    requires source { (books.source.name ≡ S.name) × (books.source.parts ≡ S.parts) × (books.source.parts ≡ 1) }
-    requires out { (books.out.name ≡ T.name) × (books.out.parts ≡ T.parts) × (books.out.parts ≡ 1) }
-    requires rec { (books.rec.name ≡ U.name) × (books.rec.parts ≡ U.parts) × (books.rec.parts ≡ 1) }
-    ensures { let known = known_of R.remaining O.contents K.contents in PlaysOver text.now options.now (known streams.old) (known streams.new) result }
+    requires source { IsBlank S.name S.parts books.source.name books.source.parts }
+    requires out { IsBlank T.name T.parts books.out.name books.out.parts }
+    requires rec { IsBlank U.name U.parts books.rec.name books.rec.parts }
+    ensures { let k = known_of R.remaining O.contents K.contents in PlaysOver text.now options.now (k streams.old) (k streams.new) result }
 {
     let source = ByteReader::new(&mut streams.source, Failures::<S>::new(books.source));
     let out = PieceWriter::new(&mut streams.out, Failures::<T>::new(books.out));
@@ -82,26 +81,26 @@ fn play_counting<R: Read, O: Write, K: Write, S: Ledger, T: Ledger, U: Ledger>(
 
 /// Plays the text of a model. What is known of the streams after it is what the session over the text asks for: where the status is
 /// not 6 its whole output and record, and just the bytes of the choices that its questions read; where it is 6 a beginning of them.
-pub fn play<R: Read, O: Write, K: Write>(
+pub fn play_over<R: Read, O: Write, K: Write>(
     alloc: Global,
     text: &[u8],
     options: &Options,
     streams: &mut Streams<R, O, K>,
 ) -> End
-    ensures { let known = known_of R.remaining O.contents K.contents in PlaysOver text.now options.now (known streams.old) (known streams.new) result }
+    ensures { let k = known_of R.remaining O.contents K.contents in PlaysOver text.now options.now (k streams.old) (k streams.new) result }
 {
     play_counting::<R, O, K, Brand, Brand, Brand>(alloc, text, options, streams, Books::new())
 }
 
 /// Converts the choices of a session over the text of a model. Of the streams the reader gives them, and the writer of the output
 /// takes them in the second version; that of a record takes nothing.
-pub fn convert<R: Read, O: Write, K: Write>(
+pub fn convert_over<R: Read, O: Write, K: Write>(
     alloc: Global,
     text: &[u8],
     options: &Options,
     streams: &mut Streams<R, O, K>,
 ) -> End
-    ensures { let known = known_by R.remaining O.contents in ConvertsOver text.now options.now (known streams.old) (known streams.new) result }
+    ensures { let k = known_by R.remaining O.contents in ConvertsOver text.now options.now (k streams.old) (k streams.new) result }
 {
     convert_counting::<R, O, K, Brand, Brand>(alloc, text, options, streams, Books::new())
 }
@@ -114,9 +113,9 @@ fn convert_counting<R: Read, O: Write, K: Write, S: Ledger, T: Ledger>(
     streams: &mut Streams<R, O, K>,
     books: Books,
 ) -> End
-    requires source { (books.source.name ≡ S.name) × (books.source.parts ≡ S.parts) × (books.source.parts ≡ 1) }
-    requires out { (books.out.name ≡ T.name) × (books.out.parts ≡ T.parts) × (books.out.parts ≡ 1) }
-    ensures { let known = known_by R.remaining O.contents in ConvertsOver text.now options.now (known streams.old) (known streams.new) result }
+    requires source { IsBlank S.name S.parts books.source.name books.source.parts }
+    requires out { IsBlank T.name T.parts books.out.name books.out.parts }
+    ensures { let k = known_by R.remaining O.contents in ConvertsOver text.now options.now (k streams.old) (k streams.new) result }
 {
     let source = ByteReader::new(&mut streams.source, Failures::<S>::new(books.source));
     let out = PieceWriter::new(&mut streams.out, Failures::<T>::new(books.out));
