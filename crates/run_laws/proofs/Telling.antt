@@ -2,6 +2,7 @@
 use Rattle.std.proofs.Common.{◌≡◌, ℕ, zero, suc, ◌+◌, Bool, true, false, List, [], ◌∷◌, ◌++◌, Option, Some, None, refl, ap, ◌∙◌}
 use Rattle.std.specs.Prelude.{◌&&◌, if◌then◌else◌, option_map, slice_get}
 use Rattle.std.specs.List.{list_all}
+use Rattle.std.proofs.lemmas.Bool.{false≢true}
 use Rattle.pml_program.specs.declared.program.Program.{Program}
 use Rattle.pml_program.specs.declared.program.Proctype.{Proctype}
 use Rattle.pml_control.specs.Control.{Control}
@@ -10,7 +11,7 @@ use Rattle.pml_lines.specs.Changes.{proctype_name}
 use Rattle.pml_moves.specs.State.{State, Stand}
 use Rattle.pml_moves.specs.Search.{each}
 use Rattle.pml_texts.specs.Ends.{may_end, may_end_in, is_done}
-use Rattle.pml_texts.specs.Texts.{stuck_at, stuck_by, stuck_in, stuck_line, stuck_place}
+use Rattle.pml_texts.specs.Texts.{stuck_at, stuck_by, stuck_in, stuck_place}
 use Rattle.run_laws.specs.Stuck.{told_of, told_from}
 
 told_if : (p : ℕ) (b : Bool) (x : List ℕ × ℕ) → (if b then [] else told_of p (Some x)) ≡ told_of p (if b then None else Some x)
@@ -34,10 +35,7 @@ first_of false b h = h
 
 second_of : (a b : Bool) → (a && b) ≡ true → b ≡ true
 second_of true b h = h
-second_of false b h = absurd (no h)
-  where
-    no : false ≡ true → ⊥
-    no e = search
+second_of false b h = absurd (false≢true h)
 
 both_of : (a b : Bool) → a ≡ true → b ≡ true → (a && b) ≡ true
 both_of a b h k = rw (h, k) refl
@@ -63,4 +61,4 @@ nobody pr (y ∷ ys) (suc p) h = nobody pr ys p (second_of (is_done pr y) (list_
 
 pub all_done : (pr : Program) (ys : List Stand) → ((p : ℕ) → stuck_place pr (slice_get ys p) ≡ None) → list_all (is_done pr) ys ≡ true
 all_done pr [] h = refl
-all_done pr (y ∷ ys) h = both_of (is_done pr y) (list_all (is_done pr) ys) (may_end_there (slice_get pr.proctypes y.kind) y.control (h 0)) (all_done pr ys (λ p. h (p + 1)))
+all_done pr (y ∷ ys) h = both_of (is_done pr y) (list_all (is_done pr) ys) (may_end_there (slice_get pr.proctypes y.kind) y.control (h 0)) (all_done pr ys (λ p. h (suc p)))
