@@ -29,3 +29,6 @@ pub use pml_syntax::{SyntaxFault, parse};
 pub use pml_token::token::{Kind, Token};
 pub use pml_tree::tree::Tree;
 pub use session::{Cause, Conversion, End, Machine, Options, Report};
+pub use streams::followed::Followed;
+pub use streams::heard::Heard;
+pub use streams::over::{Streams, convert_over, play_over, session_over};

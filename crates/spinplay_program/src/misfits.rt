@@ -1,7 +1,6 @@
 // What is said of choices that do not fit, and of those that may be cut off.
 use crate::files::Input;
-use crate::followed::Followed;
-use spinplay::{Cause, End, shown_file};
+use spinplay::{Cause, End, Followed, shown_file};
 use std::alloc::{AllocError, Global};
 
 // Bytes of a line as they are shown.

@@ -6,7 +6,7 @@ use Rattle.session.specs.declared.Options.{Options}
 use Rattle.session.specs.declared.End.{End}
 use Rattle.pml_play.specs.Plays.{PlaysWhole, PlaysBroken}
 use Rattle.pml_play.specs.Converts.{Converts}
-use Rattle.streams.specs.declared.session.Streams.{Streams}
+use Rattle.streams.specs.declared.over.Streams.{Streams}
 
 -- What is known of a reader and of two writers: the bytes that the reader still gives, and those that each writer has been given.
 pub record Known : Type 0 where

@@ -3,4 +3,4 @@
 
 pub mod followed;
 pub mod heard;
-pub mod session;
+pub mod over;

@@ -1,6 +1,6 @@
 //! Playing and converting over a reader and writers.
 
-ghost use Rattle.std.specs.Prelude.{◌≡◌};
+ghost use Rattle.std.specs.Prelude.{◌≡◌, true, false};
 ghost use Rattle.streams.specs.Streams.{ConvertsOver, IsBlank, PlaysOver, known_by, known_of};
 
 use devices::{ByteReader, Either, Failures, Nowhere, PieceWriter, ThreeDevices};
@@ -121,4 +121,22 @@ fn convert_counting<R: Read, O: Write, K: Write, S: Ledger, T: Ledger>(
     let out = PieceWriter::new(&mut streams.out, Failures::<T>::new(books.out));
     let mut devices = Conversion { source, out };
     pml_play::convert(alloc, text, options, &mut devices)
+}
+
+/// Converts the choices of a session over the text of a model where that is asked for, and else plays it.
+pub fn session_over<R: Read, O: Write, K: Write>(
+    alloc: Global,
+    text: &[u8],
+    options: &Options,
+    converts: bool,
+    streams: &mut Streams<R, O, K>,
+) -> End
+    ensures played { converts ≡ false → (let k = known_of R.remaining O.contents K.contents in PlaysOver text.now options.now (k streams.old) (k streams.new) result) }
+    ensures converted { converts ≡ true → (let k = known_by R.remaining O.contents in ConvertsOver text.now options.now (k streams.old) (k streams.new) result) }
+{
+    if converts {
+        convert_over(alloc, text, options, streams)
+    } else {
+        play_over(alloc, text, options, streams)
+    }
 }
