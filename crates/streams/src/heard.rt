@@ -68,7 +68,7 @@ impl<W: Write> Write for Heard<W> {
 
     fn write(&mut self, buf: &[u8]) -> io::Result<usize> {
         match self.device.write(buf) {
-            Ok(count) => Ok(count),
+            Ok(taken) => Ok(taken),
             Err(error) => Err(self.keep(error)),
         }
     }
