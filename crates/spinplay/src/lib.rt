@@ -31,4 +31,4 @@ pub use pml_tree::tree::Tree;
 pub use session::{Cause, Conversion, End, Machine, Options, Report};
 pub use streams::followed::Followed;
 pub use streams::heard::Heard;
-pub use streams::over::{Streams, convert_over, play_over, session_over};
+pub use streams::over::{Played, Streams, convert_over, play_over, session_over};

@@ -8,7 +8,7 @@ mod telling;
 
 use files::{Input, Model, choices_of, created, model_of, others_of};
 use misfits::explain_choices;
-use spinplay::{Arguments, End, Followed, Heard, Streams, arguments, session_over};
+use spinplay::{Arguments, End, Followed, Heard, Played, Streams, arguments, session_over};
 use std::fs::{File, OpenFile};
 use std::process::ExitCode;
 use std::rt::Stdout;
@@ -55,35 +55,38 @@ fn open_all(rt: &HostRuntime, asked: &Arguments, model: &Model) -> Result<Opened
     })
 }
 
+// A run that was played over what was opened.
+type Ran = Played<Heard<Followed<Input>>, Heard<Stdout>, Heard<File>>;
+
 // Explains what came of a run that was no run, or that a device ended.
-fn explained(rt: &HostRuntime, asked: &Arguments, text: &[u8], opened: &Opened, end: &End) {
-    let rec = match &opened.rec {
+fn explained(rt: &HostRuntime, asked: &Arguments, text: &[u8], ran: &Ran) {
+    let rec = match &ran.streams.rec {
         Some(file) => file.error(),
         None => None,
     };
     let errors = Errors {
-        source: opened.source.error(),
-        out: opened.out.error(),
+        source: ran.streams.source.error(),
+        out: ran.streams.out.error(),
         rec,
     };
-    explain_end(rt, asked, text, end, errors);
-    explain_choices(rt, &asked.choices, opened.source.device(), end);
+    explain_end(rt, asked, text, &ran.end, errors);
+    explain_choices(rt, &asked.choices, ran.streams.source.device(), &ran.end);
 }
 
 // Plays the model that is asked for, and answers the end, whose status is that of the program.
 fn run(rt: &HostRuntime, asked: &Arguments) -> Result<End, NoRun> {
     let model = model_of(rt, asked.model.as_str())?;
-    let mut opened = open_all(rt, asked, &model)?;
+    let opened = open_all(rt, asked, &model)?;
     let text = model.text.as_slice();
-    let end = session_over(rt.alloc(), text, &asked.options, asked.convert, &mut opened);
+    let played = session_over(rt.alloc(), text, &asked.options, asked.convert, opened);
     if asked.convert {
-        tell_refusal(rt, &end);
+        tell_refusal(rt, &played.end);
     }
-    tell_end(rt, &end);
+    tell_end(rt, &played.end);
     if asked.explain {
-        explained(rt, asked, text, &opened, &end);
+        explained(rt, asked, text, &played);
     }
-    Ok(end)
+    Ok(played.end)
 }
 
 // Holds the descriptors 0 to 2 where the caller has closed them, so that no file of a run takes the place of one. A folder gives no byte

@@ -3,4 +3,5 @@
 
 pub mod followed;
 pub mod heard;
+pub mod kept;
 pub mod over;

@@ -1,9 +1,11 @@
 //! Playing and converting over a reader and writers.
 
-ghost use Rattle.std.specs.Prelude.{◌≡◌, true, false};
-ghost use Rattle.streams.specs.Streams.{ConvertsOver, IsBlank, PlaysOver, known_by, known_of};
+ghost use Rattle.std.specs.Prelude.{◌≡◌, None, true, false};
+ghost use Rattle.devices.specs.Choice.{taken_by_either, count_either};
+ghost use Rattle.streams.specs.Streams.{ConvertsOver, IsBlank, PlaysOver, known_by, known_if_any, known_of};
 
-use devices::{ByteReader, Either, Failures, Nowhere, PieceWriter, ThreeDevices};
+use crate::kept::{KeptReader, KeptWriter};
+use devices::{Either, Failures, Nowhere, ThreeDevices};
 use session::{Conversion, End, Options};
 use std::alloc::Global;
 use std::io::{Read, Write};
@@ -19,6 +21,13 @@ pub struct Streams<R, O, K> {
     pub out: O,
     /// Where the accepted numbers are written, a line each.
     pub rec: Option<K>,
+}
+
+/// How a session ended, and what it was played over.
+#[derive(Drop)]
+pub struct Played<R, O, K> {
+    pub end: End,
+    pub streams: Streams<R, O, K>,
 }
 
 // The books in which three devices count their failures.
@@ -45,17 +54,24 @@ impl Books {
 }
 
 // The sink that takes the record, or none.
-fn recorder<'r, K: Write, L: Ledger>(
-    rec: &'r mut Option<K>,
-    blank: Blank,
-) -> Either<PieceWriter<&'r mut K, L>, Nowhere>
-    requires name { blank.name ≡ L.name }
-    requires parts { blank.parts ≡ L.parts }
-    requires one { blank.parts ≡ 1 }
+fn recorder<K: Write, L: Ledger>(rec: Option<K>, blank: Blank) -> Either<KeptWriter<K, L>, Nowhere>
+    requires { IsBlank L.name L.parts blank.name blank.parts }
+    ensures known { taken_by_either (λ w. K.contents w.writer) (λ _. None) result ≡ known_if_any K.contents rec }
+    ensures count { count_either (λ w. w.failures) (λ _. 0) result ≡ 0 }
 {
     match rec {
-        Some(writer) => Either::First(PieceWriter::new(writer, Failures::<L>::new(blank))),
+        Some(writer) => Either::First(KeptWriter::new(writer, Failures::<L>::new(blank))),
         None => Either::Second(Nowhere),
+    }
+}
+
+// The writer that took the record, or none.
+fn recorded<K: Write, L: Ledger>(sink: Either<KeptWriter<K, L>, Nowhere>) -> Option<K>
+    ensures { known_if_any K.contents result ≡ taken_by_either (λ w. K.contents w.writer) (λ _. None) sink }
+{
+    match sink {
+        Either::First(kept) => Some(kept.into_writer()),
+        Either::Second(Nowhere) => None,
     }
 }
 
@@ -64,19 +80,26 @@ fn play_counting<R: Read, O: Write, K: Write, S: Ledger, T: Ledger, U: Ledger>(
     alloc: Global,
     text: &[u8],
     options: &Options,
-    streams: &mut Streams<R, O, K>,
+    streams: Streams<R, O, K>,
     books: Books,
-) -> End
+) -> Played<R, O, K>
     requires source { IsBlank S.name S.parts books.source.name books.source.parts }
     requires out { IsBlank T.name T.parts books.out.name books.out.parts }
     requires rec { IsBlank U.name U.parts books.rec.name books.rec.parts }
-    ensures { let k = known_of R.remaining O.contents K.contents in PlaysOver text.now options.now (k streams.old) (k streams.new) result }
+    ensures { let k = known_of R.remaining O.contents K.contents in PlaysOver text.now options.now (k streams) (k result.streams) result.end }
 {
-    let source = ByteReader::new(&mut streams.source, Failures::<S>::new(books.source));
-    let out = PieceWriter::new(&mut streams.out, Failures::<T>::new(books.out));
-    let rec = recorder::<K, U>(&mut streams.rec, books.rec);
+    let source = KeptReader::new(streams.source, Failures::<S>::new(books.source));
+    let out = KeptWriter::new(streams.out, Failures::<T>::new(books.out));
+    let rec = recorder::<K, U>(streams.rec, books.rec);
     let mut devices = ThreeDevices { source, out, rec };
-    pml_play::play(alloc, text, options, &mut devices)
+    let end = pml_play::play(alloc, text, options, &mut devices);
+    let ThreeDevices { source, out, rec } = devices;
+    let streams = Streams {
+        source: source.into_reader(),
+        out: out.into_writer(),
+        rec: recorded::<K, U>(rec),
+    };
+    Played { end, streams }
 }
 
 /// Plays the text of a model. What is known of the streams after it is what the session over the text asks for: where the status is
@@ -85,11 +108,37 @@ pub fn play_over<R: Read, O: Write, K: Write>(
     alloc: Global,
     text: &[u8],
     options: &Options,
-    streams: &mut Streams<R, O, K>,
-) -> End
-    ensures { let k = known_of R.remaining O.contents K.contents in PlaysOver text.now options.now (k streams.old) (k streams.new) result }
+    streams: Streams<R, O, K>,
+) -> Played<R, O, K>
+    ensures { let k = known_of R.remaining O.contents K.contents in PlaysOver text.now options.now (k streams) (k result.streams) result.end }
 {
     play_counting::<R, O, K, Brand, Brand, Brand>(alloc, text, options, streams, Books::new())
+}
+
+// Converts the choices, and counts what fails.
+fn convert_counting<R: Read, O: Write, K: Write, S: Ledger, T: Ledger>(
+    alloc: Global,
+    text: &[u8],
+    options: &Options,
+    streams: Streams<R, O, K>,
+    books: Books,
+) -> Played<R, O, K>
+    requires source { IsBlank S.name S.parts books.source.name books.source.parts }
+    requires out { IsBlank T.name T.parts books.out.name books.out.parts }
+    ensures { let k = known_by R.remaining O.contents in ConvertsOver text.now options.now (k streams) (k result.streams) result.end }
+{
+    let source = KeptReader::new(streams.source, Failures::<S>::new(books.source));
+    let out = KeptWriter::new(streams.out, Failures::<T>::new(books.out));
+    let rec = streams.rec;
+    let mut devices = Conversion { source, out };
+    let end = pml_play::convert(alloc, text, options, &mut devices);
+    let Conversion { source, out } = devices;
+    let streams = Streams {
+        source: source.into_reader(),
+        out: out.into_writer(),
+        rec,
+    };
+    Played { end, streams }
 }
 
 /// Converts the choices of a session over the text of a model. Of the streams the reader gives them, and the writer of the output
@@ -98,29 +147,11 @@ pub fn convert_over<R: Read, O: Write, K: Write>(
     alloc: Global,
     text: &[u8],
     options: &Options,
-    streams: &mut Streams<R, O, K>,
-) -> End
-    ensures { let k = known_by R.remaining O.contents in ConvertsOver text.now options.now (k streams.old) (k streams.new) result }
+    streams: Streams<R, O, K>,
+) -> Played<R, O, K>
+    ensures { let k = known_by R.remaining O.contents in ConvertsOver text.now options.now (k streams) (k result.streams) result.end }
 {
     convert_counting::<R, O, K, Brand, Brand>(alloc, text, options, streams, Books::new())
-}
-
-// Converts the choices, and counts what fails.
-fn convert_counting<R: Read, O: Write, K: Write, S: Ledger, T: Ledger>(
-    alloc: Global,
-    text: &[u8],
-    options: &Options,
-    streams: &mut Streams<R, O, K>,
-    books: Books,
-) -> End
-    requires source { IsBlank S.name S.parts books.source.name books.source.parts }
-    requires out { IsBlank T.name T.parts books.out.name books.out.parts }
-    ensures { let k = known_by R.remaining O.contents in ConvertsOver text.now options.now (k streams.old) (k streams.new) result }
-{
-    let source = ByteReader::new(&mut streams.source, Failures::<S>::new(books.source));
-    let out = PieceWriter::new(&mut streams.out, Failures::<T>::new(books.out));
-    let mut devices = Conversion { source, out };
-    pml_play::convert(alloc, text, options, &mut devices)
 }
 
 /// Converts the choices of a session over the text of a model where that is asked for, and else plays it.
@@ -129,10 +160,10 @@ pub fn session_over<R: Read, O: Write, K: Write>(
     text: &[u8],
     options: &Options,
     converts: bool,
-    streams: &mut Streams<R, O, K>,
-) -> End
-    ensures played { converts ≡ false → (let k = known_of R.remaining O.contents K.contents in PlaysOver text.now options.now (k streams.old) (k streams.new) result) }
-    ensures converted { converts ≡ true → (let k = known_by R.remaining O.contents in ConvertsOver text.now options.now (k streams.old) (k streams.new) result) }
+    streams: Streams<R, O, K>,
+) -> Played<R, O, K>
+    ensures played { converts ≡ false → (let k = known_of R.remaining O.contents K.contents in PlaysOver text.now options.now (k streams) (k result.streams) result.end) }
+    ensures converted { converts ≡ true → (let k = known_by R.remaining O.contents in ConvertsOver text.now options.now (k streams) (k result.streams) result.end) }
 {
     if converts {
         convert_over(alloc, text, options, streams)
