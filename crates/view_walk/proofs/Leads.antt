@@ -37,7 +37,7 @@ split_at [] n t h = absurd (none-some t h)
 split_at (x ∷ ts) zero t h = ap (λ y. y ∷ ts) (same_Some x t h)
 split_at (x ∷ ts) (suc n) t h = ap (λ r. x ∷ r) (split_at ts n t h)
 
-some_on : {S : Type 0} (r : Option S) (go : S → Option S) (u : S) → on r go ≡ Some u → (v : S) × (r ≡ Some v)
+pub some_on : {S : Type 0} (r : Option S) (go : S → Option S) (u : S) → on r go ≡ Some u → (v : S) × (r ≡ Some v)
 some_on None go u h = absurd (none-some u h)
 some_on (Some v) go u h = (v, refl)
 
