@@ -1,0 +1,6 @@
+pub mod Nothing
+pub mod Reasons
+pub mod Blocked
+pub mod Searched
+pub mod Adding
+pub mod Waiting

@@ -1,7 +1,14 @@
 //! Why what a process could do is no move.
 
+ghost use Rattle.std.specs.Prelude.{◌≡◌};
+ghost use Rattle.std.specs.Option.{option_copied};
+ghost use Rattle.pml_moves.specs.Executable.{named as names};
+ghost use Rattle.pml_value.specs.Reads.{seen};
+ghost use Rattle.view_waits.specs.Because.{at_send, at_receive, of_send, of_receive, of_action, because};
+
 use pml_channel::channel::Channel;
 use pml_moves::executable::named;
+use pml_program::expr::Target;
 use pml_program::program::{Action, Basic};
 use pml_value::view::View;
 
@@ -48,7 +55,9 @@ impl Because {
     }
 }
 
-fn because_send(channel: &Channel) -> Because {
+fn because_send(channel: &Channel) -> Because
+    ensures { result ≡ at_send channel.now }
+{
     if channel.capacity() == 0 {
         Because::NoReceiver
     } else {
@@ -56,7 +65,9 @@ fn because_send(channel: &Channel) -> Because {
     }
 }
 
-fn because_receive(channel: &Channel) -> Because {
+fn because_receive(channel: &Channel) -> Because
+    ensures { result ≡ at_receive channel.now }
+{
     if channel.capacity() == 0 {
         Because::NoSender
     } else if channel.len() == 0 {
@@ -66,25 +77,43 @@ fn because_receive(channel: &Channel) -> Because {
     }
 }
 
-fn because_action(view: &View<'_>, action: &Action<'_>) -> Because {
+fn because_send_to(view: &View<'_>, target: &Target, count: usize) -> Because
+    ensures { result ≡ of_send (names view.now.channels.now (seen view.now) target.now count) }
+{
+    match named(view, target, count) {
+        Ok((_, channel)) => because_send(channel),
+        Err(_) => Because::Escape,
+    }
+}
+
+fn because_receive_from(view: &View<'_>, target: &Target, count: usize) -> Because
+    ensures { result ≡ of_receive (names view.now.channels.now (seen view.now) target.now count) }
+{
+    match named(view, target, count) {
+        Ok((_, channel)) => because_receive(channel),
+        Err(_) => Because::Escape,
+    }
+}
+
+fn because_action(view: &View<'_>, action: &Action<'_>) -> Because
+    ensures { result ≡ of_action view.now.channels.now (seen view.now) action.now }
+{
     match action {
         Action::Else => Because::Else,
         Action::Holds(_) => Because::False,
         Action::Run(_) => Because::Processes,
-        Action::Send(target, _, fields) => match named(view, target, fields.len()) {
-            Ok((_, channel)) => because_send(channel),
-            Err(_) => Because::Escape,
-        },
-        Action::Receive(target, _, _, arguments) => match named(view, target, arguments.len()) {
-            Ok((_, channel)) => because_receive(channel),
-            Err(_) => Because::Escape,
-        },
+        Action::Send(target, _, fields) => because_send_to(view, target, fields.len()),
+        Action::Receive(target, _, _, arguments) => {
+            because_receive_from(view, target, arguments.len())
+        }
         _ => Because::Escape,
     }
 }
 
 /// Why an offer of a process without a move is none.
-pub fn because_of(view: &View<'_>, basic: Option<&Basic<'_>>) -> Because {
+pub fn because_of(view: &View<'_>, basic: Option<&Basic<'_>>) -> Because
+    ensures { result ≡ because view.now.channels.now (seen view.now) (option_copied basic.entry) }
+{
     match basic {
         Some(Basic::Plain(action)) => because_action(view, action),
         Some(Basic::DStep(_)) => Because::DStep,

@@ -3,6 +3,7 @@
 
 pub mod because;
 pub mod effect;
+pub mod laws;
 pub mod offers;
 pub mod reads;
 pub mod statement;

@@ -1,7 +1,13 @@
 //! What a process without a move waits for.
 
-ghost use Rattle.std.specs.Prelude.{◌<◌, length};
-ghost use Rattle.pml_moves.specs.Scene.{IsBody};
+ghost use Rattle.std.specs.Prelude.{◌≡◌, ◌++◌, ◌∷◌, ◌<◌, [], OnOk, Some, None, if◌then◌else◌, count_by, length, map, slice_get};
+ghost use Rattle.pml_value.specs.Reads.{seen};
+ghost use Rattle.pml_moves.specs.Laws.{taker};
+ghost use Rattle.pml_moves.specs.Scene.{stand_of, shows, offers_at, IsBody};
+ghost use Rattle.pml_moves.specs.Search.{moves as all_moves};
+ghost use Rattle.pml_moves.specs.State.{State, reads};
+ghost use Rattle.view_waits.specs.Searched.{is_late, timeout_by, control_by};
+ghost use Rattle.view_waits.specs.Waits.{takes_part, is_in, in_control, last_timeout, alone, waits_on, waits_down, waits_at, waits_behind, waits as all_waits};
 
 use crate::because::{Because, because_of};
 use crate::offers::offer_line;
@@ -11,7 +17,7 @@ use pml_moves::scene::{Body, Scene, Seat};
 use pml_value::view::View;
 use std::alloc::AllocError;
 use view_cells::picture::Picture;
-use view_cells::processes::{line_of, seat_at};
+use view_cells::processes::line_of;
 
 /// What a process waits for: an offer, or, without one, its death or its turn.
 #[derive(Clone, Copy, Debug, PartialEq, Eq)]
@@ -23,7 +29,9 @@ pub struct Wait {
 }
 
 /// Whether a process takes part in a move.
-pub fn takes_part(process: usize, m: &Move) -> bool {
+pub fn takes_part(process: usize, m: &Move) -> bool
+    ensures { result ≡ takes_part process m.now }
+{
     match m {
         Move::Death(p) => *p == process,
         Move::Alone(pick, _) => pick.process == process,
@@ -34,18 +42,23 @@ pub fn takes_part(process: usize, m: &Move) -> bool {
 }
 
 /// In how many moves a process takes part.
-pub fn moves_of(process: usize, moves: &[Move]) -> usize {
-    let mut count = 0usize;
-    for m in moves {
-        if takes_part(process, m) {
-            count = count.saturating_add(1);
-        }
-    }
-    count
+pub fn moves_of(process: usize, moves: &[Move]) -> usize
+    ensures { result ≡ count_by (takes_part process) moves.now }
+{
+    moves.iter().filter(|m| takes_part(process, m)).count()
+}
+
+// Whether a process takes part in one of these.
+fn is_in(process: usize, moves: &[Move]) -> bool
+    ensures { result ≡ is_in process moves.now }
+{
+    moves.iter().any(|m| takes_part(process, m))
 }
 
 /// The process that begins a move.
-pub fn starter_of(m: &Move) -> usize {
+pub fn starter_of(m: &Move) -> usize
+    ensures { result ≡ taker m.now }
+{
     match m {
         Move::Death(process) => *process,
         Move::Alone(pick, _) => pick.process,
@@ -53,7 +66,9 @@ pub fn starter_of(m: &Move) -> usize {
     }
 }
 
-fn is_under_timeout(m: &Move) -> bool {
+fn is_under_timeout(m: &Move) -> bool
+    ensures { result ≡ is_late m.now }
+{
     match m {
         Move::Death(_) => false,
         Move::Alone(_, timeout) => *timeout,
@@ -61,32 +76,60 @@ fn is_under_timeout(m: &Move) -> bool {
     }
 }
 
-fn first_of(moves: &[Move]) -> Option<Move> {
+fn first_of(moves: &[Move]) -> Option<Move>
+    ensures { result ≡ slice_get moves.now 0 }
+{
     match moves.get(0) {
         Some(m) => Some(*m),
         None => None,
     }
 }
 
-/// The `timeout` under which moves were searched last: nothing else can be done.
-pub fn timeout_of(moves: &[Move]) -> bool {
+// The `timeout` under which the first of these was found.
+fn first_timeout(moves: &[Move]) -> bool
+    ensures { result ≡ timeout_by (slice_get moves.now 0) }
+{
     match first_of(moves) {
         Some(m) => is_under_timeout(&m),
         None => true,
     }
 }
 
-// The process that alone may move, where it can.
-fn holder_of(picture: &Picture<'_, '_, '_>, moves: &[Move]) -> Option<usize> {
-    let holder = picture.holder()?;
-    let m = first_of(moves)?;
-    if starter_of(&m) == holder && !is_under_timeout(&m) {
-        Some(holder)
-    } else {
-        None
+/// The `timeout` under which moves were searched last, where these are those of a state.
+pub fn timeout_of(moves: &[Move]) -> bool
+    ensures value { result ≡ timeout_by (slice_get moves.now 0) }
+    ensures last { (s : State) → moves.now ≡ all_moves s → result ≡ last_timeout s }
+{
+    first_timeout(moves)
+}
+
+// Whether the first of the moves is of this process, and was found without `timeout`.
+fn is_first(process: usize, moves: &[Move]) -> bool
+    ensures { control_by (Some process) (slice_get moves.now 0) ≡ (if result then Some process else None) }
+{
+    match first_of(moves) {
+        Some(m) => starter_of(&m) == process && !is_under_timeout(&m),
+        None => false,
     }
 }
 
+// The process that alone may move, where it can and these are the present moves.
+fn in_control(holder: Option<usize>, moves: &[Move]) -> Option<usize>
+    ensures { result ≡ control_by holder (slice_get moves.now 0) }
+{
+    match holder {
+        Some(process) => {
+            if is_first(process, moves) {
+                Some(process)
+            } else {
+                None
+            }
+        }
+        None => None,
+    }
+}
+
+// Adds the offers of a level.
 fn add_level(
     view: &View<'_>,
     body: &Body<'_, '_, '_>,
@@ -95,6 +138,7 @@ fn add_level(
     waits: &mut Vec<Wait>,
 ) -> Result<(), AllocError>
     requires { IsBody body.now }
+    ensures { OnOk result (waits.new.items ≡ waits.old.items ++ waits_on view.now.channels.now (seen view.now) first.process first.level (map (shows body.now) edges.now)) }
 {
     for place in 0..edges.len() {
         let because = because_of(view, body.basic(edges[place]));
@@ -107,6 +151,7 @@ fn add_level(
     Ok(())
 }
 
+// Adds the offers of a node, level by level.
 fn add_offers(
     view: &View<'_>,
     body: &Body<'_, '_, '_>,
@@ -116,6 +161,7 @@ fn add_offers(
 ) -> Result<(), AllocError>
     requires body { IsBody body.now }
     requires node { node < length body.now.graph.now.nodes }
+    ensures { OnOk result (waits.new.items ≡ waits.old.items ++ waits_down view.now.channels.now (seen view.now) process (offers_at body.now node)) }
 {
     for level in 0..body.graph.level_count(node) {
         let first = Pick {
@@ -128,7 +174,10 @@ fn add_offers(
     Ok(())
 }
 
-fn put(because: Because, waits: &mut Vec<Wait>) -> Result<(), AllocError> {
+// Adds what has no offer.
+fn put(because: Because, waits: &mut Vec<Wait>) -> Result<(), AllocError>
+    ensures { OnOk result (waits.new.items ≡ waits.old.items ++ alone because ∷ []) }
+{
     waits.push(Wait {
         pick: None,
         because,
@@ -137,17 +186,17 @@ fn put(because: Because, waits: &mut Vec<Wait>) -> Result<(), AllocError> {
     Ok(())
 }
 
-// What a process waits for that stands here, under this `timeout`.
+// Adds what a process waits for that stands here, under this `timeout`.
 fn add_standing(
     scene: &Scene<'_, '_, '_>,
     process: usize,
     seat: Seat,
     timeout: bool,
     waits: &mut Vec<Wait>,
-) -> Result<(), AllocError> {
-    if process >= scene.process_count() {
-        return Ok(());
-    }
+) -> Result<(), AllocError>
+    requires { process < length scene.now.stands }
+    ensures { OnOk result (waits.new.items ≡ waits.old.items ++ waits_at scene.now timeout process (Some (stand_of scene.now.program seat))) }
+{
     let view = scene.view(process, timeout);
     match scene.standing(seat) {
         None => put(
@@ -158,19 +207,37 @@ fn add_standing(
     }
 }
 
-/// Adds what a process without a move waits for, where these are the present moves.
+// Adds what a process waits for where it stands, under this `timeout`.
+fn add_here(
+    scene: &Scene<'_, '_, '_>,
+    process: usize,
+    timeout: bool,
+    waits: &mut Vec<Wait>,
+) -> Result<(), AllocError>
+    ensures { OnOk result (waits.new.items ≡ waits.old.items ++ waits_at scene.now timeout process (slice_get scene.now.stands process)) }
+{
+    let seats = scene.seats();
+    if process < seats.len() {
+        return add_standing(scene, process, seats[process], timeout, waits);
+    }
+    Ok(())
+}
+
+/// Adds what a process waits for, where these are the present moves: nothing, where it takes part in one.
 pub fn add_waits(
     picture: &Picture<'_, '_, '_>,
     moves: &[Move],
     process: usize,
     waits: &mut Vec<Wait>,
-) -> Result<(), AllocError> {
-    if let Some(holder) = holder_of(picture, moves) {
-        return put(Because::Held(holder), waits);
+) -> Result<(), AllocError>
+    ensures { moves.now ≡ all_moves picture.now.scene → OnOk result (waits.new.items ≡ waits.old.items ++ all_waits picture.now.scene process) }
+{
+    if is_in(process, moves) {
+        return Ok(());
     }
-    match seat_at(&picture.scene, process) {
-        Some(seat) => add_standing(&picture.scene, process, seat, timeout_of(moves), waits),
-        None => Ok(()),
+    match in_control(picture.holder(), moves) {
+        Some(holder) => put(Because::Held(holder), waits),
+        None => add_here(&picture.scene, process, timeout_of(moves), waits),
     }
 }
 

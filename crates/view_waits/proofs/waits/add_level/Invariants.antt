@@ -1,0 +1,14 @@
+use Rattle.std.proofs.Common.{◌≡◌, ◌++◌, ◌∷◌, [], drop, map, List, ℕ}
+use Rattle.pml_flow.specs.Flow.{Offer}
+use Rattle.pml_value.specs.Reads.{seen}
+use Rattle.pml_moves.specs.Scene.{shows}
+use Rattle.pml_moves.specs.Search.{each, pick}
+use Rattle.view_waits.specs.declared.waits.Wait.{Wait}
+use Rattle.view_waits.specs.Waits.{wait_of}
+use Rattle.view_waits.proofs.waits.add_level.Given as goal
+
+-- what is added and the rest's are all
+abbrev pub invariant-loop-place : goal.invariant-loop-place
+invariant-loop-place l =
+    let f : ℕ → Offer → List Wait = λ i o. wait_of l.view.channels.now (seen l.view) (pick l.first.process l.first.level i) o ∷ [] in
+    l.waits.items ++ each f l.place (map (shows l.body) (drop l.place l.edges)) ≡ l.initial.waits.items ++ each f 0 (map (shows l.body) l.edges)

@@ -1,0 +1,80 @@
+-- What is so where a reason is given.
+use Rattle.std.specs.Prelude.{◌≡◌, ◌≢◌, ◌<◌, ◌≤◌, ◌+◌, ℕ, Bool, true, false, length, List, [], pos, Option, Some, None, Ok, slice_get}
+use Rattle.std.specs.List.{Contains}
+use Rattle.profile.specs.declared.TheConstants.{MOST_PROCESSES}
+use Rattle.pml_tree.specs.declared.tree.Search.{Search}
+use Rattle.pml_tree.specs.declared.tree.Removal.{Removal}
+use Rattle.pml_tree.specs.declared.tree.SendOrder.{SendOrder}
+use Rattle.pml_program.specs.declared.expr.Expr.{Expr}
+use Rattle.pml_program.specs.declared.expr.Target.{Target}
+use Rattle.pml_program.specs.declared.expr.Want.{Want}
+use Rattle.pml_program.specs.declared.program.Action.TheVariants as a
+use Rattle.pml_program.specs.declared.program.Run.{Run}
+use Rattle.pml_program.specs.declared.program.Seq.{Seq}
+use Rattle.pml_program.specs.declared.program.Basic.{Plain, DStep}
+use Rattle.pml_flow.specs.Flow.{Offer}
+use Rattle.pml_eval.specs.declared.pattern.Sought.{Sought}
+use Rattle.pml_eval.specs.Value.{val, asked_by, is_match}
+use Rattle.pml_moves.specs.declared.moves.Pick.{Pick}
+use Rattle.pml_moves.specs.declared.moves.Move.TheVariants.{Pair}
+use Rattle.pml_moves.specs.Executable.{Named, named, is_rendezvous}
+use Rattle.pml_moves.specs.Picked.{picked}
+use Rattle.pml_moves.specs.Search.{Message, message, accepts, choices, is_some, moves_held, moves}
+use Rattle.pml_moves.specs.State.{Stand, State, reads, body_of, levels_from}
+use Rattle.view_waits.specs.declared.because.Because.{Because}
+use Rattle.view_waits.specs.declared.because.Because.TheVariants as why
+use Rattle.view_waits.specs.declared.waits.Wait.{Wait}
+use Rattle.view_waits.specs.Waits.{last_timeout}
+
+-- no other process offers a receive that takes this message, whatever its level
+abbrev pub NobodyReceives : State → Bool → ℕ → Message → Type 0
+NobodyReceives s t p m =
+    (j : Pick) (o : Offer) → picked s j ≡ Some o → j.process ≢ p → accepts s.channels (reads s j.process t) m o.basic ≡ false
+
+-- no process passes a message to this offer
+abbrev pub NobodySends : State → Pick → Type 0
+NobodySends s j = (k : Pick) (t : Bool) → Contains (moves s) (Pair k j t) → ⊥
+
+-- the channel that a statement of process p names
+abbrev pub Names : State → Bool → ℕ → Target → ℕ → Named → Type 0
+Names s t p x count c = named s.channels (reads s p t) x count ≡ Ok c
+
+-- Why an offer, picked so, is no move under this `timeout`.
+pub data IsWhy (s : State) (t : Bool) (k : Pick) (o : Offer) : Because → Type 0 where
+  -- its condition is worth 0
+  is_false : {e : Expr} → o.basic ≡ Some (Plain (a.Holds e)) → val e (reads s k.process t) ≡ Ok (pos 0) → IsWhy s t k o why.False
+  -- it sends to a channel that keeps messages, has as many as it can, and none is lost
+  is_full : {x : Target} {order : SendOrder} {es : List Expr} {c : Named} → o.basic ≡ Some (Plain (a.Send x order es))
+      → Names s t k.process x (length es) c → is_rendezvous c.contents ≡ false → c.contents.capacity ≤ length c.contents.messages
+      → s.lossy ≡ false → IsWhy s t k o why.Full
+  -- it receives from a channel that keeps messages and has none
+  is_empty : {x : Target} {search : Search} {how : Removal} {ws : List Want} {c : Named} → o.basic ≡ Some (Plain (a.Receive x search how ws))
+      → Names s t k.process x (length ws) c → is_rendezvous c.contents ≡ false → c.contents.messages ≡ [] → IsWhy s t k o why.Empty
+  -- it receives from a channel that has messages, and none that may be taken is what it asks for
+  no_match : {x : Target} {search : Search} {how : Removal} {ws : List Want} {c : Named} {asked : List Sought}
+      → o.basic ≡ Some (Plain (a.Receive x search how ws)) → Names s t k.process x (length ws) c → is_rendezvous c.contents ≡ false
+      → c.contents.messages ≢ [] → asked_by ws (reads s k.process t) ≡ Ok asked → is_match search asked c.contents.messages ≡ false
+      → IsWhy s t k o why.NoMatch
+  -- it offers a message at a rendezvous, and nobody receives it
+  no_receiver : {m : Message} → message s.channels (reads s k.process t) o.basic ≡ Some m → NobodyReceives s t k.process m → IsWhy s t k o why.NoReceiver
+  -- it receives at a rendezvous, and nobody sends to it
+  no_sender : {x : Target} {search : Search} {how : Removal} {ws : List Want} {c : Named} → o.basic ≡ Some (Plain (a.Receive x search how ws))
+      → Names s t k.process x (length ws) c → is_rendezvous c.contents ≡ true → NobodySends s k → IsWhy s t k o why.NoSender
+  -- it runs a process, and as many live as may
+  too_many : {q : Run} → o.basic ≡ Some (Plain (a.Run q)) → MOST_PROCESSES ≤ length s.stands → IsWhy s t k o why.Processes
+  -- it is a d_step, and nothing can be taken first in it
+  no_first : {d : Seq} {y : Stand} {b : Seq} → o.basic ≡ Some (DStep d) → slice_get s.stands k.process ≡ Some y → body_of s.program y.kind ≡ Some b
+      → choices s.lossy s.channels (reads s k.process t) (levels_from b o.entry) ≡ [] → IsWhy s t k o why.DStep
+
+-- Why a process has no move, whatever it offers: another has exclusive control and a move, or it is at its closing brace and a younger lives.
+pub data IsWhyAll (s : State) (p : ℕ) : Because → Type 0 where
+  held : {h : ℕ} → s.holder ≡ Some h → h ≢ p → is_some (moves_held s (Some h)) ≡ true → IsWhyAll s p (why.Held h)
+  younger : {q : ℕ} {y : Stand} → slice_get s.stands p ≡ Some y → y.control ≡ [] → q + 1 ≡ length s.stands → p < q → IsWhyAll s p (why.Younger q)
+
+-- A reason of a process: of one of its offers, under the `timeout` of the last search; or of all.
+abbrev pub IsReason : State → ℕ → Option Pick → Because → Bool → Type 0
+IsReason s p None b t = IsWhyAll s p b
+IsReason s p (Some k) b t = (k.process ≡ p) × (t ≡ last_timeout s) × (o : Offer) × (picked s k ≡ Some o) × IsWhy s t k o b
+
+abbrev pub IsTrueOf : State → ℕ → Wait → Type 0
+IsTrueOf s p w = IsReason s p w.pick w.because w.timeout
