@@ -1,0 +1,4 @@
+//! Laws of walks.
+#![tactic(auto)]
+
+pub mod walks;
