@@ -7,13 +7,11 @@ use Rattle.std.proofs.lemmas.Option.{none-some}
 use Rattle.pml_program.specs.declared.program.Seq.{Seq}
 use Rattle.pml_control.specs.Control.{Control, Pending}
 use Rattle.pml_flow.specs.Flow.{Offer}
-use Rattle.pml_moves.specs.declared.moves.Pick.{Pick}
 use Rattle.pml_moves.specs.declared.moves.Move.{Move}
-use Rattle.pml_moves.specs.declared.moves.Move.TheVariants.{Alone, Pair}
+use Rattle.pml_moves.specs.declared.moves.Move.TheVariants.{Alone}
 use Rattle.pml_moves.specs.State.{Stand, State, body_of, levels}
 use Rattle.pml_moves.specs.Search.{or_else, is_some, is_else, only_if, pick, moves_by, plain_moves, else_moves, moves_on, moves_of, moves_at, moves_under, moves_if, moves_held, moves}
 use Rattle.view_waits.specs.Waits.{takes_part, is_in, in_control, last_timeout}
-use Rattle.view_waits.specs.Why.{NobodySends}
 use Rattle.view_waits.proofs.Searched.{process_all}
 use Rattle.view_waits.proofs.Nothing.{each_none, last_none, or_else_none, or_else_first, only_if_none, some_none, either_none, any_none}
 
@@ -23,7 +21,7 @@ none_taken : (test : Move → Bool) (ms : List Move) → AllByRecursion (λ m. t
 none_taken test [] each none = refl
 none_taken test (m ∷ ms) each none = absurd (true≢false (sym each.0 ∙ (either_none (test m) (list_any test ms) none).0))
 
-none_at : (test : Move → Bool) (m : Move) (ms : List Move) → list_any test ms ≡ false → (k : ℕ) → k < length ms → get_or ms k m ≡ m → test m ≡ false
+pub none_at : (test : Move → Bool) (m : Move) (ms : List Move) → list_any test ms ≡ false → (k : ℕ) → k < length ms → get_or ms k m ≡ m → test m ≡ false
 none_at test m [] none k below is = absurd (omega (arith, below))
 none_at test m (n ∷ ms) none zero below is = ap test (sym is) ∙ (either_none (test n) (list_any test ms) none).0
 none_at test m (n ∷ ms) none (suc k) below is = none_at test m ms (either_none (test n) (list_any test ms) none).1 k (omega (arith, below)) is
@@ -33,13 +31,6 @@ module _ (s : State) (p : ℕ) where
   pub own_moves : (t : Bool) (b : Option Seq) (c : Control) → AllByRecursion (λ m. takes_part p m ≡ true) (moves_of s p t b c)
   own_moves t b c = process_all (λ m. takes_part p m ≡ true) s p t (λ k e. eq-eqb k.process p e)
       (λ k j e. ap (λ (z : Bool). z || nat_eq j.process p) (eq-eqb k.process p e)) (λ e. eq-eqb p p refl) b c
-
-  -- nobody sends to who takes part in no move
-  pub nobody_sends : (k : Pick) → k.process ≡ p → is_in p (moves s) ≡ false → NobodySends s k
-  nobody_sends k own out q t (n, below, is) =
-      let is_mine : nat_eq k.process p ≡ true = eq-eqb k.process p own in
-      let parts = either_none (nat_eq q.process p) (nat_eq k.process p) (none_at (takes_part p) (Pair q k t) (moves s) out n below is) in
-      true≢false (sym is_mine ∙ parts.1)
 
   -- ---- who has exclusive control
 
@@ -67,14 +58,14 @@ module _ (s : State) (p : ℕ) where
       own_held (Some y) = own_moves false (body_of s.program y.kind) y.control
 
   -- where nobody has
-  none_held : in_control s ≡ None → moves_held s s.holder ≡ []
+  pub none_held : in_control s ≡ None → moves_held s s.holder ≡ []
   none_held is = by (is_some (moves_held s s.holder)) refl is
     where
       by : (b : Bool) → is_some (moves_held s s.holder) ≡ b → (if b then s.holder else None) ≡ None → moves_held s s.holder ≡ []
       by true has nobody = ap (moves_held s) nobody
       by false has nobody = some_none (moves_held s s.holder) has
 
-  searched : moves_held s s.holder ≡ [] → moves s ≡ moves_under s (last_timeout s)
+  pub searched : moves_held s s.holder ≡ [] → moves s ≡ moves_under s (last_timeout s)
   searched none =
       ap (λ (ms : List Move). or_else ms (or_else (moves_under s false) (moves_under s true))) none
       ∙ by (moves_under s false) refl

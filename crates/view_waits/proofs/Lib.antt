@@ -3,4 +3,5 @@ pub mod Reasons
 pub mod Blocked
 pub mod Searched
 pub mod Adding
+pub mod Senders
 pub mod Waiting

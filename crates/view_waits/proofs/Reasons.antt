@@ -36,6 +36,13 @@ use Rattle.view_waits.proofs.Nothing.{each_none, last_none, only_if_none, some_n
 
 -- ---- nobody receives what has no pair
 
+pub other_number : (x y : ℕ) → (x ≡ y → ⊥) → nat_eq x y ≡ false
+other_number x y differ = by (nat_eq x y) refl
+  where
+    by : (b : Bool) → nat_eq x y ≡ b → nat_eq x y ≡ false
+    by true is = absurd (differ (eqb-true x y is))
+    by false is = is
+
 -- where the offer of a pick is found
 pub record Lies (s : State) (j : Pick) (o : Offer) : Type 0 where
   pub stand : Stand
@@ -67,13 +74,6 @@ nobody_receives s t k m none j o is other =
     let level = last_none (pairs_on s t k m j.process) (levels_in (body_of s.program y.kind) y.control) down j.level l.level l.on in
     let place = each_none (λ i (q : Offer). only_if (accepts s.channels (reads s j.process t) m q.basic) (Pair k (pick j.process j.level i) t)) l.level level j.place o l.at in
     only_if_none (accepts s.channels (reads s j.process t) m o.basic) (Pair k (pick j.process j.level j.place) t) place
-  where
-    other_number : (x y : ℕ) → (x ≡ y → ⊥) → nat_eq x y ≡ false
-    other_number x y differ = by (nat_eq x y) refl
-      where
-        by : (b : Bool) → nat_eq x y ≡ b → nat_eq x y ≡ false
-        by true is = absurd (differ (eqb-true x y is))
-        by false is = is
 
 -- ---- by the statement
 
@@ -106,7 +106,7 @@ some_message [] h none = true≢false h
 some_message (x ∷ xs) h none = cc
 
 module _ (s : State) (t : Bool) (k : Pick) (o : Offer) (y : Stand) (b : Seq) (stands : slice_get s.stands k.process ≡ Some y) (body : body_of s.program y.kind ≡ Some b)
-    (alone : NobodySends s k) where
+    (alone : NobodySends s t k o) where
   abbrev Given : Option Basic → Type 0
   Given x = IsWhy s t k o (because s.channels (reads s k.process t) x)
 

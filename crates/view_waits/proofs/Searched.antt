@@ -27,39 +27,42 @@ module _ (P : Move → Type 0) where
   last_all f so i [] = tt
   last_all f so i (x ∷ xs) = or_all (last f (i + 1) xs) (f i x) (last_all f so (i + 1) xs) (so i x)
 
-  if_all : (b : Bool) (m : Move) → (b ≡ true → P m) → AllByRecursion P (only_if b m)
+  pub if_all : (b : Bool) (m : Move) → (b ≡ true → P m) → AllByRecursion P (only_if b m)
   if_all true m so = (so refl, tt)
   if_all false m so = tt
 
-  module _ (s : State) (p : ℕ) (t : Bool) (goes : (k : Pick) → k.process ≡ p → P (Alone k t)) (meets : (k j : Pick) → k.process ≡ p → P (Pair k j t)) where
-    pairs_with_all : (k : Pick) → k.process ≡ p → (m : Message) (j : ℕ) (y : Stand) → AllByRecursion P (pairs_with s t k m j y)
-    pairs_with_all k is m j y = by (nat_eq j k.process)
+  -- of those of a level
+  module _ (s : State) (p : ℕ) (t : Bool) (l : ℕ) (goes : (i : ℕ) → P (Alone (pick p l i) t)) (meets : (i : ℕ) (j : Pick) → P (Pair (pick p l i) j t)) where
+    pairs_with_all : (i : ℕ) (m : Message) (j : ℕ) (y : Stand) → AllByRecursion P (pairs_with s t (pick p l i) m j y)
+    pairs_with_all i m j y = by (nat_eq j p)
       where
-        by : (same : Bool) → AllByRecursion P (if same then [] else last (pairs_on s t k m j) 0 (levels_in (body_of s.program y.kind) y.control))
+        by : (same : Bool) → AllByRecursion P (if same then [] else last (pairs_on s t (pick p l i) m j) 0 (levels_in (body_of s.program y.kind) y.control))
         by true = tt
-        by false = last_all (pairs_on s t k m j) (λ l os. all_each P (λ i o. only_if (accepts s.channels (reads s j t) m o.basic) (Pair k (pick j l i) t)) os
-            (λ i o at. if_all (accepts s.channels (reads s j t) m o.basic) (Pair k (pick j l i) t) (λ e. meets k (pick j l i) is))) 0 (levels_in (body_of s.program y.kind) y.control)
+        by false = last_all (pairs_on s t (pick p l i) m j) (λ n os. all_each P (λ h o. only_if (accepts s.channels (reads s j t) m o.basic) (Pair (pick p l i) (pick j n h) t)) os
+            (λ h o at. if_all (accepts s.channels (reads s j t) m o.basic) (Pair (pick p l i) (pick j n h) t) (λ e. meets i (pick j n h)))) 0 (levels_in (body_of s.program y.kind) y.control)
 
-    pairs_all : (k : Pick) → k.process ≡ p → (m : Option Message) → AllByRecursion P (pairs s t k m)
-    pairs_all k is None = tt
-    pairs_all k is (Some m) = all_each P (pairs_with s t k m) s.stands (λ j y at. pairs_with_all k is m j y)
+    pairs_all : (i : ℕ) (m : Option Message) → AllByRecursion P (pairs s t (pick p l i) m)
+    pairs_all i None = tt
+    pairs_all i (Some m) = all_each P (pairs_with s t (pick p l i) m) s.stands (λ j y at. pairs_with_all i m j y)
 
-    plain_all : (b : Seq) (l i : ℕ) (o : Offer) → AllByRecursion P (if is_else o.basic then [] else moves_by s p t b l i o)
-    plain_all b l i o = by (is_else o.basic) (can_alone s.lossy s.channels (reads s p t) b o o.basic)
+    plain_all : (b : Seq) (i : ℕ) (o : Offer) → AllByRecursion P (if is_else o.basic then [] else moves_by s p t b l i o)
+    plain_all b i o = by (is_else o.basic) (can_alone s.lossy s.channels (reads s p t) b o o.basic)
       where
         by : (other can : Bool) → AllByRecursion P (if other then [] else (if can then Alone (pick p l i) t ∷ [] else pairs s t (pick p l i) (message s.channels (reads s p t) o.basic)))
         by true can = tt
-        by false true = (goes (pick p l i) refl, tt)
-        by false false = pairs_all (pick p l i) refl (message s.channels (reads s p t) o.basic)
+        by false true = (goes i, tt)
+        by false false = pairs_all i (message s.channels (reads s p t) o.basic)
 
-    level_all : (b : Seq) (l : ℕ) (os : List Offer) → AllByRecursion P (moves_on s p t b l os)
-    level_all b l os = or_all (plain_moves s p t b l os) (else_moves p t l os)
-        (all_each P (λ i o. if is_else o.basic then [] else moves_by s p t b l i o) os (λ i o at. plain_all b l i o))
-        (all_each P (λ i o. only_if (is_else o.basic) (Alone (pick p l i) t)) os (λ i o at. if_all (is_else o.basic) (Alone (pick p l i) t) (λ e. goes (pick p l i) refl)))
+    pub level_all : (b : Seq) (os : List Offer) → AllByRecursion P (moves_on s p t b l os)
+    level_all b os = or_all (plain_moves s p t b l os) (else_moves p t l os)
+        (all_each P (λ i o. if is_else o.basic then [] else moves_by s p t b l i o) os (λ i o at. plain_all b i o))
+        (all_each P (λ i o. only_if (is_else o.basic) (Alone (pick p l i) t)) os (λ i o at. if_all (is_else o.basic) (Alone (pick p l i) t) (λ e. goes i)))
 
+  module _ (s : State) (p : ℕ) (t : Bool) (goes : (k : Pick) → k.process ≡ p → P (Alone k t)) (meets : (k j : Pick) → k.process ≡ p → P (Pair k j t)) where
     pub left_all : (b : Option Seq) (f : Pending) (c : Control) → AllByRecursion P (moves_of s p t b (f ∷ c))
     left_all None f c = tt
-    left_all (Some b) f c = last_all (moves_on s p t b) (level_all b) 0 (levels b (f ∷ c))
+    left_all (Some b) f c =
+        last_all (moves_on s p t b) (λ l os. level_all s p t l (λ i. goes (pick p l i) refl) (λ i j. meets (pick p l i) j refl) b os) 0 (levels b (f ∷ c))
 
     pub process_all : (nat_eq (p + 1) (length s.stands) ≡ true → P (Death p)) → (b : Option Seq) (c : Control) → AllByRecursion P (moves_of s p t b c)
     process_all dies b [] = if_all (nat_eq (p + 1) (length s.stands)) (Death p) dies

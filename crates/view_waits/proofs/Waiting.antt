@@ -17,8 +17,9 @@ use Rattle.view_waits.specs.declared.waits.Wait.{Wait}
 use Rattle.view_waits.specs.Laws.{ReasonsAreTrue, IsOfferedNothing, MovesWithoutWaiting, WaitsWithoutMoves, WaitsForEachOffer}
 use Rattle.view_waits.specs.Waits.{is_in, in_control, last_timeout, wait_of, waits_on, waits_down, waits_left, waits_at, waits_behind}
 use Rattle.view_waits.specs.Why.{IsTrueOf, held, younger}
-use Rattle.view_waits.proofs.Blocked.{nobody_sends, in_control_is, another_holds, no_own, no_offered}
+use Rattle.view_waits.proofs.Blocked.{in_control_is, another_holds, no_own, no_offered}
 use Rattle.view_waits.proofs.Nothing.{all_each, each_none, each_contains, at_end, only_if_none}
+use Rattle.view_waits.proofs.Senders.{who_sends}
 use Rattle.view_waits.proofs.Reasons.{offer_why, Lies, lies}
 
 -- ---- true reasons
@@ -40,19 +41,20 @@ module _ (s : State) (p : ℕ) (out : is_in p (moves s) ≡ false) where
       ∙ ap (λ (x : Option (List Offer)). offer_on x i) on
       ∙ there
 
-  module _ (y : Stand) (at : slice_get s.stands p ≡ Some y) where
+  module _ (nobody : in_control s ≡ None) (y : Stand) (at : slice_get s.stands p ≡ Some y) where
     abbrev t : Bool
     t = last_timeout s
 
     offered_true : (f : Pending) (c : Control) → y.control ≡ f ∷ c → (b : Seq) → body_of s.program y.kind ≡ Some b → moves_of s p t (Some b) (f ∷ c) ≡ [] → (l : ℕ) (os : List Offer) → slice_get (levels b (f ∷ c)) l ≡ Some os
         → (i : ℕ) (o : Offer) → slice_get os i ≡ Some o → IsTrueOf s p (wait_of s.channels (reads s p t) (pick p l i) o)
     offered_true f c is b body none l os on i o there =
+        let found = at_level y at (f ∷ c) is b body l os on i o there in
         let gives = no_offered s p t b f c none l os on i o there in (
           refl,
           refl,
           o,
-          at_level y at (f ∷ c) is b body l os on i o there,
-          offer_why s t (pick p l i) o y b at body (nobody_sends s p (pick p l i) refl out) gives.0 gives.1,
+          found,
+          offer_why s t (pick p l i) o y b at body (who_sends s p out nobody (pick p l i) o refl found) gives.0 gives.1,
         )
 
     left_true : (c : Control) → y.control ≡ c → (b : Option Seq) → body_of s.program y.kind ≡ b → moves_of s p t b c ≡ [] → AllByRecursion (IsTrueOf s p) (waits_left s t p b c)
@@ -64,7 +66,7 @@ module _ (s : State) (p : ℕ) (out : is_in p (moves s) ≡ false) where
 
   at_true : in_control s ≡ None → (y : Option Stand) → slice_get s.stands p ≡ y → AllByRecursion (IsTrueOf s p) (waits_at s (last_timeout s) p y)
   at_true nobody None at = tt
-  at_true nobody (Some y) at = left_true y at y.control refl (body_of s.program y.kind) refl (no_own s p nobody out y at)
+  at_true nobody (Some y) at = left_true nobody y at y.control refl (body_of s.program y.kind) refl (no_own s p nobody out y at)
 
   behind_true : (h : Option ℕ) → in_control s ≡ h → AllByRecursion (IsTrueOf s p) (waits_behind s p h)
   behind_true (Some h) is = let has = in_control_is s p h is in (held has.0 (another_holds s p h is out) has.1, tt)

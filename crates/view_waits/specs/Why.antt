@@ -16,7 +16,9 @@ use Rattle.pml_flow.specs.Flow.{Offer}
 use Rattle.pml_eval.specs.declared.pattern.Sought.{Sought}
 use Rattle.pml_eval.specs.Value.{val, asked_by, is_match}
 use Rattle.pml_moves.specs.declared.moves.Pick.{Pick}
-use Rattle.pml_moves.specs.declared.moves.Move.TheVariants.{Pair}
+use Rattle.pml_moves.specs.declared.moves.Move.{Move}
+use Rattle.pml_moves.specs.declared.moves.Move.TheVariants.{Death, Alone, Pair}
+use Rattle.pml_moves.specs.Laws.{taker}
 use Rattle.pml_moves.specs.Executable.{Named, named, is_rendezvous}
 use Rattle.pml_moves.specs.Picked.{picked}
 use Rattle.pml_moves.specs.Search.{Message, message, accepts, choices, is_some, moves_held, moves}
@@ -31,9 +33,20 @@ abbrev pub NobodyReceives : State → Bool → ℕ → Message → Type 0
 NobodyReceives s t p m =
     (j : Pick) (o : Offer) → picked s j ≡ Some o → j.process ≢ p → accepts s.channels (reads s j.process t) m o.basic ≡ false
 
--- no process passes a message to this offer
-abbrev pub NobodySends : State → Pick → Type 0
-NobodySends s j = (k : Pick) (t : Bool) → Contains (moves s) (Pair k j t) → ⊥
+-- the level of the offer with which a move begins
+abbrev pub level_of : Move → ℕ
+level_of (Death p) = 0
+level_of (Alone k t) = k.level
+level_of (Pair k j t) = k.level
+
+-- the process of a pick has a move of a higher level, that of an escape
+abbrev pub EscapesFrom : State → Pick → Type 0
+EscapesFrom s k = (m : Move) × Contains (moves s) m × (taker m ≡ k.process) × (k.level < level_of m)
+
+-- no other process offers a message that this offer takes, unless it can escape from where it does
+abbrev pub NobodySends : State → Bool → Pick → Offer → Type 0
+NobodySends s t j o = (k : Pick) (q : Offer) (m : Message) → picked s k ≡ Some q → k.process ≢ j.process
+    → message s.channels (reads s k.process t) q.basic ≡ Some m → accepts s.channels (reads s j.process t) m o.basic ≡ true → EscapesFrom s k
 
 -- the channel that a statement of process p names
 abbrev pub Names : State → Bool → ℕ → Target → ℕ → Named → Type 0
@@ -59,7 +72,7 @@ pub data IsWhy (s : State) (t : Bool) (k : Pick) (o : Offer) : Because → Type 
   no_receiver : {m : Message} → message s.channels (reads s k.process t) o.basic ≡ Some m → NobodyReceives s t k.process m → IsWhy s t k o why.NoReceiver
   -- it receives at a rendezvous, and nobody sends to it
   no_sender : {x : Target} {search : Search} {how : Removal} {ws : List Want} {c : Named} → o.basic ≡ Some (Plain (a.Receive x search how ws))
-      → Names s t k.process x (length ws) c → is_rendezvous c.contents ≡ true → NobodySends s k → IsWhy s t k o why.NoSender
+      → Names s t k.process x (length ws) c → is_rendezvous c.contents ≡ true → NobodySends s t k o → IsWhy s t k o why.NoSender
   -- it runs a process, and as many live as may
   too_many : {q : Run} → o.basic ≡ Some (Plain (a.Run q)) → MOST_PROCESSES ≤ length s.stands → IsWhy s t k o why.Processes
   -- it is a d_step, and nothing can be taken first in it
