@@ -1,5 +1,6 @@
 pub mod Because
 pub mod Searched
 pub mod Waits
+pub mod Added
 pub mod Why
 pub mod Laws

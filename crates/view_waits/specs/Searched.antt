@@ -15,8 +15,12 @@ abbrev pub timeout_by : Option Move → Bool
 timeout_by None = true
 timeout_by (Some m) = is_late m
 
+-- a process, where this is so
+abbrev pub only : Bool → ℕ → Option ℕ
+only b h = if b then Some h else None
+
 -- the holder of exclusive control, where the first move is its own and was found without `timeout`
 abbrev pub control_by : Option ℕ → Option Move → Option ℕ
 control_by None m = None
 control_by (Some h) None = None
-control_by (Some h) (Some m) = if nat_eq (taker m) h && not (is_late m) then Some h else None
+control_by (Some h) (Some m) = only (nat_eq (taker m) h && not (is_late m)) h

@@ -59,10 +59,14 @@ abbrev pub waits_at : State → Bool → ℕ → Option Stand → List Wait
 waits_at s t p None = []
 waits_at s t p (Some y) = waits_left s t p (body_of s.program y.kind) y.control
 
+-- where it stands
+abbrev pub waits_here : State → Bool → ℕ → List Wait
+waits_here s t p = waits_at s t p (slice_get s.stands p)
+
 -- its turn comes behind the process that has exclusive control
 abbrev pub waits_behind : State → ℕ → Option ℕ → List Wait
 waits_behind s p (Some h) = alone (why.Held h) ∷ []
-waits_behind s p None = waits_at s (last_timeout s) p (slice_get s.stands p)
+waits_behind s p None = waits_here s (last_timeout s) p
 
 -- What a process waits for: nothing, where it takes part in a move.
 abbrev pub waits : State → ℕ → List Wait

@@ -69,7 +69,8 @@ pub data IsWhy (s : State) (t : Bool) (k : Pick) (o : Offer) : Because → Type 
       → c.contents.messages ≢ [] → asked_by ws (reads s k.process t) ≡ Ok asked → is_match search asked c.contents.messages ≡ false
       → IsWhy s t k o why.NoMatch
   -- it offers a message at a rendezvous, and nobody receives it
-  no_receiver : {m : Message} → message s.channels (reads s k.process t) o.basic ≡ Some m → NobodyReceives s t k.process m → IsWhy s t k o why.NoReceiver
+  no_receiver : {m : Message} → message s.channels (reads s k.process t) o.basic ≡ Some m → NobodyReceives s t k.process m
+      → IsWhy s t k o why.NoReceiver
   -- it receives at a rendezvous, and nobody sends to it
   no_sender : {x : Target} {search : Search} {how : Removal} {ws : List Want} {c : Named} → o.basic ≡ Some (Plain (a.Receive x search how ws))
       → Names s t k.process x (length ws) c → is_rendezvous c.contents ≡ true → NobodySends s t k o → IsWhy s t k o why.NoSender

@@ -1,13 +1,13 @@
 //! What a process without a move waits for.
 
-ghost use Rattle.std.specs.Prelude.{◌≡◌, ◌++◌, ◌∷◌, ◌<◌, [], OnOk, Some, None, if◌then◌else◌, count_by, length, map, slice_get};
-ghost use Rattle.pml_value.specs.Reads.{seen};
+ghost use Rattle.std.specs.Prelude.{◌≡◌, ◌++◌, ◌<◌, OnOk, Some, count_by, length, slice_get};
 ghost use Rattle.pml_moves.specs.Laws.{taker};
-ghost use Rattle.pml_moves.specs.Scene.{stand_of, shows, offers_at, IsBody};
+ghost use Rattle.pml_moves.specs.Scene.{IsBody};
 ghost use Rattle.pml_moves.specs.Search.{moves as all_moves};
-ghost use Rattle.pml_moves.specs.State.{State, reads};
-ghost use Rattle.view_waits.specs.Searched.{is_late, timeout_by, control_by};
-ghost use Rattle.view_waits.specs.Waits.{takes_part, is_in, in_control, last_timeout, alone, waits_on, waits_down, waits_at, waits_behind, waits as all_waits};
+ghost use Rattle.pml_moves.specs.State.{State};
+ghost use Rattle.view_waits.specs.Added.{level_waits, node_waits, one_wait, seat_waits};
+ghost use Rattle.view_waits.specs.Searched.{is_late, timeout_by, control_by, only};
+ghost use Rattle.view_waits.specs.Waits.{takes_part, is_in, last_timeout, waits_here, waits as all_waits};
 
 use crate::because::{Because, because_of};
 use crate::offers::offer_line;
@@ -105,7 +105,7 @@ pub fn timeout_of(moves: &[Move]) -> bool
 
 // Whether the first of the moves is of this process, and was found without `timeout`.
 fn is_first(process: usize, moves: &[Move]) -> bool
-    ensures { control_by (Some process) (slice_get moves.now 0) ≡ (if result then Some process else None) }
+    ensures { control_by (Some process) (slice_get moves.now 0) ≡ only result process }
 {
     match first_of(moves) {
         Some(m) => starter_of(&m) == process && !is_under_timeout(&m),
@@ -138,7 +138,7 @@ fn add_level(
     waits: &mut Vec<Wait>,
 ) -> Result<(), AllocError>
     requires { IsBody body.now }
-    ensures { OnOk result (waits.new.items ≡ waits.old.items ++ waits_on view.now.channels.now (seen view.now) first.process first.level (map (shows body.now) edges.now)) }
+    ensures { OnOk result (waits.new.items ≡ waits.old.items ++ level_waits view.now body.now first edges.now) }
 {
     for place in 0..edges.len() {
         let because = because_of(view, body.basic(edges[place]));
@@ -161,7 +161,7 @@ fn add_offers(
 ) -> Result<(), AllocError>
     requires body { IsBody body.now }
     requires node { node < length body.now.graph.now.nodes }
-    ensures { OnOk result (waits.new.items ≡ waits.old.items ++ waits_down view.now.channels.now (seen view.now) process (offers_at body.now node)) }
+    ensures { OnOk result (waits.new.items ≡ waits.old.items ++ node_waits view.now body.now process node) }
 {
     for level in 0..body.graph.level_count(node) {
         let first = Pick {
@@ -176,7 +176,7 @@ fn add_offers(
 
 // Adds what has no offer.
 fn put(because: Because, waits: &mut Vec<Wait>) -> Result<(), AllocError>
-    ensures { OnOk result (waits.new.items ≡ waits.old.items ++ alone because ∷ []) }
+    ensures { OnOk result (waits.new.items ≡ waits.old.items ++ one_wait because) }
 {
     waits.push(Wait {
         pick: None,
@@ -195,7 +195,7 @@ fn add_standing(
     waits: &mut Vec<Wait>,
 ) -> Result<(), AllocError>
     requires { process < length scene.now.stands }
-    ensures { OnOk result (waits.new.items ≡ waits.old.items ++ waits_at scene.now timeout process (Some (stand_of scene.now.program seat))) }
+    ensures { OnOk result (waits.new.items ≡ waits.old.items ++ seat_waits scene.now timeout process seat) }
 {
     let view = scene.view(process, timeout);
     match scene.standing(seat) {
@@ -214,7 +214,7 @@ fn add_here(
     timeout: bool,
     waits: &mut Vec<Wait>,
 ) -> Result<(), AllocError>
-    ensures { OnOk result (waits.new.items ≡ waits.old.items ++ waits_at scene.now timeout process (slice_get scene.now.stands process)) }
+    ensures { OnOk result (waits.new.items ≡ waits.old.items ++ waits_here scene.now timeout process) }
 {
     let seats = scene.seats();
     if process < seats.len() {
