@@ -1,6 +1,6 @@
 -- How many line feeds what is written has.
 use Rattle.std.proofs.Common.{ap, take, take-append-drop, ◌≡◌, ℕ, zero, suc, ◌+◌, ◌-◌, ◌/◌, ◌%◌, max, Bool, true, false, cond, ◌||◌, List, [], ◌∷◌, ◌++◌, Option, Some, None, map, replicate, drop, sym, refl, ◌∙◌, arith}
-use Rattle.std.specs.Prelude.{count_by, nat_lt}
+use Rattle.std.specs.Prelude.{count_by, nat_lt, ◌==◌}
 use Rattle.std.specs.List.{filter}
 use Rattle.std.proofs.lemmas.Bool.Decides.{nat_tests}
 use Rattle.std.proofs.lemmas.List.Sums.{sum_by-append}
@@ -8,6 +8,7 @@ use Rattle.std.proofs.lemmas.List.Folds.{sum_by-replicate}
 use lib.Chars.{codes}
 use Rattle.profile.specs.Characters.{line_feed, zero_digit}
 use Rattle.pml_lex.specs.Division.{is_line_feed, fresh_from}
+use Rattle.prepare.specs.declared.TheConstants.{FORM_FEED}
 use Rattle.prepare.specs.declared.place.Supply.{Supply}
 use Rattle.prepare.specs.declared.place.Supply.TheVariants as supply
 use Rattle.prepare.specs.declared.turn.Form.{Form}
@@ -24,10 +25,11 @@ use Rattle.prepare.specs.Spelling.{blank, unless_break, unbroken, shown, spelled
 use Rattle.prepare.specs.Numbering.{is_own_file, included, placed, line_after, stand_after, standing_behind, first_line, line_length, numbered_by, asked_by}
 use Rattle.prepare.specs.Laws.{source, sources}
 
-abbrev feeds : List ℕ → ℕ
+-- how many line feeds a text has
+abbrev pub feeds : List ℕ → ℕ
 feeds xs = count_by is_line_feed xs
 
-feeds-append : (xs ys : List ℕ) → feeds (xs ++ ys) ≡ feeds xs + feeds ys
+pub feeds-append : (xs ys : List ℕ) → feeds (xs ++ ys) ≡ feeds xs + feeds ys
 feeds-append xs ys = sum_by-append (λ b. cond (is_line_feed b) 1 0) xs ys
 
 feeds-cons : (b : ℕ) (q : List ℕ) → feeds (b ∷ q) ≡ cond (is_line_feed b) 1 0 + feeds q
@@ -84,19 +86,20 @@ nothing_fed supply.Nothing = refl
 nothing_fed supply.Separator = refl
 nothing_fed supply.Skip = refl
 
-blank_by : (t : Bool) (b n m : ℕ) → is_line_feed b ≡ t → n ≡ m → cond (is_line_feed (cond t b 32)) 1 0 + n ≡ cond t 1 0 + m
-blank_by true b n m e h = rw e (omega arith)
-blank_by false b n m e h = omega arith
+blank_by : (t u : Bool) (b n m : ℕ) → is_line_feed b ≡ t → n ≡ m → cond (is_line_feed (cond (t || u) b 32)) 1 0 + n ≡ cond t 1 0 + m
+blank_by true u b n m e h = rw e (omega arith)
+blank_by false true b n m e h = rw e (omega arith)
+blank_by false false b n m e h = omega arith
 
-blanks_feeds : (xs : List ℕ) → feeds (map blank xs) ≡ feeds xs
+pub blanks_feeds : (xs : List ℕ) → feeds (map blank xs) ≡ feeds xs
 blanks_feeds [] = refl
-blanks_feeds (b ∷ q) = feeds-cons (blank b) (map blank q) ∙ blank_by (is_line_feed b) b (feeds (map blank q)) (feeds q) refl (blanks_feeds q) ∙ sym (feeds-cons b q)
+blanks_feeds (b ∷ q) = feeds-cons (blank b) (map blank q) ∙ blank_by (is_line_feed b) (b == FORM_FEED) b (feeds (map blank q)) (feeds q) refl (blanks_feeds q) ∙ sym (feeds-cons b q)
 
 filter_by : (t : Bool) (b : ℕ) (xs : List ℕ) (m : ℕ) → is_line_feed b ≡ t → feeds xs ≡ m → feeds (cond t (b ∷ xs) xs) ≡ cond t 1 0 + m
 filter_by true b xs m e h = feeds-cons b xs ∙ rw e (omega arith)
 filter_by false b xs m e h = omega arith
 
-filter_feeds : (xs : List ℕ) → feeds (filter is_line_feed xs) ≡ feeds xs
+pub filter_feeds : (xs : List ℕ) → feeds (filter is_line_feed xs) ≡ feeds xs
 filter_feeds [] = refl
 filter_feeds (b ∷ q) = filter_by (is_line_feed b) b (filter is_line_feed q) (feeds q) refl (filter_feeds q) ∙ sym (feeds-cons b q)
 
@@ -114,7 +117,7 @@ no_feed_by : (t : Bool) (x : ℕ) → is_line_feed (zero_digit + x) ≡ t → x 
 no_feed_by true x e = absurd (grind (arith, nat_tests))
 no_feed_by false x e = omega arith
 
-digit_feeds : (x : ℕ) → feeds ((zero_digit + x) ∷ []) ≡ 0
+pub digit_feeds : (x : ℕ) → feeds ((zero_digit + x) ∷ []) ≡ 0
 digit_feeds x = feeds-cons (zero_digit + x) [] ∙ (let e = no_feed_by (is_line_feed (zero_digit + x)) x refl in omega arith)
 
 digit_or_none : (t : Bool) (x : ℕ) → feeds (cond t [] ((zero_digit + x) ∷ [])) ≡ 0

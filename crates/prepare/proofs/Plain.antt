@@ -16,14 +16,12 @@ use Rattle.prepare.specs.Standing.{Standing}
 use Rattle.prepare.specs.Mark.{Mark}
 use Rattle.prepare.specs.Marks.{mark}
 use Rattle.prepare.specs.Roles.{role}
-use Rattle.prepare.specs.Places.{written, behind, start}
+use Rattle.prepare.specs.Places.{written, behind}
 use Rattle.prepare.specs.Written.{Written}
-use Rattle.prepare.specs.Turns.{Rest, piece_at, turn, on_piece, turns_by, turns}
+use Rattle.prepare.specs.Turns.{Rest, piece_at, turn, on_piece, turns_by}
 use Rattle.prepare.specs.Spelling.{begins_feed, is_break, unless_break, unbroken, shown, spelled_turn, spelled}
-use Rattle.prepare.specs.Numbering.{included, placed, stand_after, standing_behind, first_line, line_length, numbered_by, has_mark_by, first_standing, numbered, has_mark, bare}
-use Rattle.prepare.specs.Coding.{coded, has_character}
-use Rattle.prepare.proofs.Fronts.{uncoded}
-use Rattle.prepare.specs.Laws.{source, sources, is_nothing, stays, is_plain, is_mended, prepared}
+use Rattle.prepare.specs.Numbering.{included, placed, stand_after, standing_behind, first_line, line_length, numbered_by, has_mark_by}
+use Rattle.prepare.specs.Laws.{source, sources, is_nothing, stays, is_plain}
 
 on_sources : (n : ℕ) (x : Piece) (fresh : Bool) (p : Place) (gap text : List ℕ) (go : Rest) → ((f : Bool) (q : Place) (g t : List ℕ) → sources (go f q g t) ≡ g ++ t) → sources (on_piece n x fresh p gap text go) ≡ gap ++ text
 unfolding turn
@@ -38,11 +36,11 @@ sources_are zero fresh p gap text = append-nil ((gap ++ text) ++ []) ∙ append-
 sources_are (suc fuel) fresh p gap [] = append-nil (gap ++ [])
 sources_are (suc fuel) fresh p gap (b ∷ q) = on_sources (piece_at fresh (b ∷ q)).0 (piece_at fresh (b ∷ q)).1 fresh p gap (b ∷ q) (turns_by fuel) (sources_are fuel)
 
-and_left : (a b : Bool) → (a && b) ≡ true → a ≡ true
+pub and_left : (a b : Bool) → (a && b) ≡ true → a ≡ true
 and_left true b h = refl
 and_left false b h = h
 
-and_right : (a b : Bool) → (a && b) ≡ true → b ≡ true
+pub and_right : (a b : Bool) → (a && b) ≡ true → b ≡ true
 and_right true b h = h
 and_right false b h = absurd (false≢true h)
 
@@ -132,9 +130,3 @@ unmarked (suc fuel) s (b ∷ q) short own none =
     unmarked fuel (standing_behind s (mark line) line) (drop n text) (omega arith) (owned_by s (mark line) _ plain own) (or_right (is_some (mark line)) (has_mark_by fuel (drop n text)) none) in
     ap (λ (xs : List ℕ). xs ++ numbered_by fuel (standing_behind s (mark line) line) (drop n text)) (placed_by s (mark line) line plain own)
     ∙ ap (λ (xs : List ℕ). line ++ xs) rest ∙ take-append-drop n text
-
--- a text in which nothing is to be mended comes out as it is
-pub unchanged : (text : List ℕ) → bare text ≡ text → has_mark text ≡ false → has_character text ≡ false → is_mended text ≡ true → prepared text ≡ text
-unchanged text e none uncharacter plain =
-    let lines : coded (numbered (bare text)) ≡ text = ap (λ (xs : List ℕ). coded (numbered xs)) e ∙ ap coded (unmarked (length text) first_standing text (omega arith) refl none) ∙ uncoded (length text) true text uncharacter in
-    ap (λ (xs : List ℕ). spelled (turns xs)) lines ∙ all_stay (turns text) plain ∙ sources_are (length text) true start [] text

@@ -1,5 +1,6 @@
 -- Worked rows: what is made of some texts, by computing.
 use Rattle.std.proofs.Common.{◌≡◌, ℕ, true, false, List, [], ◌∷◌, ◌++◌, refl}
+use Rattle.std.specs.Fmt.{digits}
 use Rattle.std.specs.List.{flat_map}
 use lib.Chars.{codes}
 use Rattle.pml_lex.specs.Tables.{reserved, word_kind}
@@ -93,8 +94,8 @@ row_16 : prepared (codes "init { if :: a: :: b: fi; do :: c: od }") ≡ codes "i
 unfolding reserved word_kind next comment_end quote_end piece_at string_end turn turns_by unbroken numbered_by coded_by
 row_16 = refl
 
--- the values of a subtype are no list, so a separator is written behind it
-row_17 : prepared (lines (codes "mtype:s = { a }" ∷ codes "init { x" ∷ codes "y }" ∷ [])) ≡ lines (codes "mtype:s = { a }" ∷ codes "init { x;" ∷ codes "y }" ∷ [])
+-- the values of a subtype are no list, so a separator is written behind it; what makes it one is blanked
+row_17 : prepared (lines (codes "mtype:s = { a }" ∷ codes "init { x" ∷ codes "y }" ∷ [])) ≡ lines (codes "mtype   = { a }" ∷ codes "init { x;" ∷ codes "y }" ∷ [])
 unfolding reserved word_kind next comment_end quote_end piece_at string_end turn turns_by unbroken numbered_by coded_by
 row_17 = refl
 
@@ -106,3 +107,48 @@ row_18 = refl
 row_19 : has_character (lines (codes "x = 'a // 'b'" ∷ codes "\"'c'\"" ∷ [])) ≡ false
 unfolding reserved word_kind next comment_end quote_end piece_at string_end has_character_by
 row_19 = refl
+
+-- subtypes of `mtype`; a colon without a name stays
+row_20 : prepared (codes "mtype:s x; mtype /*c*/ : /*d*/ s y; chan c = [1] of { mtype:s }; mtype: 1") ≡ codes "mtype   x; mtype /*c*/   /*d*/   y; chan c = [1] of { mtype   }; mtype: 1"
+unfolding reserved word_kind next comment_end quote_end piece_at string_end turn turns_by unbroken numbered_by coded_by
+row_20 = refl
+
+-- a `for` over an array
+row_21 : prepared (codes "int a[5]; init { int i; for (i in a) { skip } }") ≡ codes "int a[5]; init { int i; for (i : 0 .. 4) { skip } }"
+unfolding digits reserved word_kind next comment_end quote_end piece_at string_end turn turns_by unbroken numbered_by coded_by
+row_21 = refl
+
+-- arrays declared in a row, by a type of its own, and twice with the same size
+row_22 : prepared (codes "chan c = [1] of { byte, R }, d[12] = [2] of { R }, e; R r[1]; init { R i, j[12]; for(i in d) { for (i in r) { for(i in/**/j ) { skip } } } } proctype P() { int j[12] }") ≡ codes "chan c = [1] of { byte, R }, d[12] = [2] of { R }, e; R r[1]; init { R i, j[12]; for(i : 0 .. 11) { for (i : 0 .. 0) { for(i :/**/0 .. 11 ) { skip } } } } proctype P() { int j[12] }"
+unfolding digits reserved word_kind next comment_end quote_end piece_at string_end turn turns_by unbroken numbered_by coded_by
+row_22 = refl
+
+-- sizes that do not agree; a channel; a size that is none; no size that is a number
+row_23 : prepared (codes "int a[5]; chan c; int n[0]; int s[N]; init { int a[4]; for (i in a) { for (i in c) { for (i in n) { for (i in s) { for (i in u) { skip } } } } } }") ≡ codes "int a[5]; chan c; int n[0]; int s[N]; init { int a[4]; for (i in a) { for (i in c) { for (i in n) { for (i in s) { for (i in u) { skip } } } } } }"
+unfolding reserved word_kind next comment_end quote_end piece_at string_end turn turns_by unbroken numbered_by coded_by
+row_23 = refl
+
+-- fields, a parameter of an inline, a parameter that is a channel elsewhere, and a part of an array
+row_24 : prepared (codes "typedef R { int f[5]; chan g = [1] of { byte }; int h[5] } int a[5]; int b[5]; inline p(a) { for (i in a) { skip } } proctype P(chan b) { for (i in b) { for (i in f) { for (i in h) { for (i in r.f) { for (i in b[1]) { skip } } } } } }") ≡ codes "typedef R { int f[5]; chan g = [1] of { byte }; int h[5] } int a[5]; int b[5]; inline p(a) { for (i in a) { skip } } proctype P(chan b) { for (i in b) { for (i in f) { for (i in h) { for (i in r.f) { for (i in b[1]) { skip } } } } } }"
+unfolding reserved word_kind next comment_end quote_end piece_at string_end turn turns_by unbroken numbered_by coded_by
+row_24 = refl
+
+-- what stands behind a comma in a statement is not declared
+row_25 : prepared (codes "int a[5]; init { int x = f(y, a), z; c!x, a; printf(1, a); for (i in a) { c?x, a } }") ≡ codes "int a[5]; init { int x = f(y, a), z; c!x, a; printf(1, a); for (i : 0 .. 4) { c?x, a } }"
+unfolding digits reserved word_kind next comment_end quote_end piece_at string_end turn turns_by unbroken numbered_by coded_by
+row_25 = refl
+
+-- a field of the same name is no declaration of the array, nor is what stands behind the typedef one of a field
+row_26 : prepared (codes "typedef R { bit a; chan c = [1] of { byte }; byte b[3] }; byte b[2]; init { int a[5]; for (i in a) { for (i in b) { skip } } }") ≡ codes "typedef R { bit a; chan c = [1] of { byte }; byte b[3] }; byte b[2]; init { int a[5]; for (i : 0 .. 4) { for (i : 0 .. 1) { skip } } }"
+unfolding digits reserved word_kind next comment_end quote_end piece_at string_end turn turns_by unbroken numbered_by coded_by
+row_26 = refl
+
+-- a block of an included file keeps what ends its lines
+row_27 : prepared (lines (codes "# 1 \"m\"" ∷ codes "# 1 \"h\" 1" ∷ codes "ltl p {" ∷ codes "} byte x" ∷ codes "# 2 \"m\" 2" ∷ codes "byte y" ∷ [])) ≡ codes "       " ++ 12 ∷ codes "  byte x" ++ 12 ∷ 10 ∷ codes "byte y" ++ 10 ∷ []
+unfolding reserved word_kind next comment_end quote_end piece_at string_end turn turns_by unbroken numbered_by coded_by
+row_27 = refl
+
+-- a declaration goes on behind its brackets, whatever stands within them
+row_28 : prepared (codes "int a[5]; init { int b = (c -> 1 : 2), a[4]; for (i in a) { skip } }") ≡ codes "int a[5]; init { int b = (c -> 1 : 2), a[4]; for (i in a) { skip } }"
+unfolding reserved word_kind next comment_end quote_end piece_at string_end turn turns_by unbroken numbered_by coded_by
+row_28 = refl

@@ -17,10 +17,31 @@ use Rattle.prepare.specs.Turns.{turns}
 use Rattle.prepare.specs.Spelling.{spelled}
 use Rattle.prepare.specs.Numbering.{bare, numbered}
 use Rattle.prepare.specs.Coding.{coded}
+use Rattle.prepare.specs.Exchange.{Exchange}
+use Rattle.prepare.specs.Changes.{exchanges, respelled, is_same}
+
+-- a text with its separators, and without blocks
+abbrev pub separated : List ℕ → List ℕ
+separated text = spelled (turns (coded (numbered (bare text))))
+
+-- what becomes of the tokens of a text
+abbrev pub exchanged : List ℕ → List ℕ
+exchanged text = respelled (exchanges (turns text))
 
 -- what is made of a text
 abbrev pub prepared : List ℕ → List ℕ
-prepared text = spelled (turns (coded (numbered (bare text))))
+prepared text = exchanged (separated text)
+
+-- whether another token, or none, is written in place of one of a text: of a subtype of `mtype`, or of a `for` over an array
+abbrev pub has_change : List ℕ → Bool
+has_change text = not (list_all is_same (exchanges (turns text)))
+
+-- what an exchange has of the text
+abbrev pub own : Exchange → List ℕ
+own c = c.gap ++ c.token
+
+abbrev pub owns : List Exchange → List ℕ
+owns cs = flat_map own cs
 
 -- what a turn has of the text: all but what is written
 abbrev pub source : Written → List ℕ

@@ -5,6 +5,11 @@ pub mod Places
 pub mod Written
 pub mod Turns
 pub mod Spelling
+pub mod Exchange
+pub mod Sizes
+pub mod Changes
+pub mod Found
+pub mod Ranges
 pub mod Mark
 pub mod Standing
 pub mod Marks

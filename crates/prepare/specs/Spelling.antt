@@ -2,15 +2,16 @@
 use Rattle.std.specs.Prelude.{ℕ, Bool, true, false, ◌&&◌, ◌||◌, ◌==◌, if◌then◌else◌, List, [], ◌∷◌, ◌++◌, map}
 use Rattle.std.specs.List.{filter, flat_map}
 use Rattle.profile.specs.Characters.{line_feed, space, backslash}
+use Rattle.prepare.specs.declared.TheConstants.{FORM_FEED}
 use Rattle.pml_lex.specs.Division.{is_line_feed}
 use Rattle.prepare.specs.declared.turn.Form.{Form}
 use Rattle.prepare.specs.declared.turn.Form.TheVariants as form
 use Rattle.prepare.specs.Places.{written}
 use Rattle.prepare.specs.Written.{Written}
 
--- a blank in place of a byte that is no line feed
+-- a blank in place of a byte that ends no line, of the model's own file or of an included one
 abbrev pub blank : ℕ → ℕ
-blank b = if b == line_feed then b else space
+blank b = if b == line_feed || b == FORM_FEED then b else space
 
 abbrev pub begins_feed : List ℕ → Bool
 begins_feed [] = false

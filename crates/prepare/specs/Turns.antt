@@ -21,7 +21,7 @@ use Rattle.prepare.specs.declared.turn.Form.TheVariants as form
 use Rattle.prepare.specs.declared.turn.Remark.{Remark}
 use Rattle.prepare.specs.declared.turn.Remark.TheVariants as remark
 use Rattle.prepare.specs.Roles.{role}
-use Rattle.prepare.specs.Places.{is_assigned, is_typed, is_blanked, behind, supply, start}
+use Rattle.prepare.specs.Places.{is_assigned, is_blanked, behind, supply, start}
 use Rattle.prepare.specs.Written.{Written}
 
 -- a line ends at a line feed, and that of an included file at a form feed
@@ -80,7 +80,6 @@ block_remark _ r = head_remark r
 abbrev pub code_remark : Last → Role → Remark
 code_remark l as_role.LeftOut = remark.LeftOut
 code_remark l as_role.Opens = if is_assigned l then remark.List else remark.Nothing
-code_remark l as_role.Labels = if is_typed l then remark.Subtype else remark.Nothing
 code_remark l _ = remark.Nothing
 
 -- what is to be said of a token
@@ -95,13 +94,14 @@ turn p k gap token =
       supply = if is_blanked p.block r then as_supply.Nothing else supply p.code (list_any ends_line gap) r;
       gap = gap;
       token = token;
+      kind = k;
       form = form_of p.block r;
       remark = remark_of p r;
     }
 
 -- what is left behind the last token
 abbrev pub last_turn : List ℕ → Written
-last_turn gap = record { supply = as_supply.Nothing; gap = gap; token = []; form = form.Kept; remark = remark.Nothing }
+last_turn gap = record { supply = as_supply.Nothing; gap = gap; token = []; kind = kind.End; form = form.Kept; remark = remark.Nothing }
 
 abbrev pub Rest : Type 0
 Rest = Bool → Place → List ℕ → List ℕ → List Written

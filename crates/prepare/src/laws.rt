@@ -1,6 +1,6 @@
 //! What holds of the definitions alone.
 
-ghost use Rattle.std.specs.Prelude.{◌≡◌, ◌++◌, ◌∷◌, [], List, ℕ, true, false};
+ghost use Rattle.std.specs.Prelude.{◌≡◌, ◌++◌, ◌∷◌, [], List, ℕ, true, false, All};
 ghost use Rattle.pml_token.specs.Word.{Word};
 ghost use Rattle.pml_lex.specs.Division.{line_behind, IsCut};
 ghost use Rattle.prepare.specs.Written.{Written};
@@ -8,16 +8,35 @@ ghost use Rattle.prepare.specs.Turns.{turns};
 ghost use Rattle.prepare.specs.Spelling.{spelled};
 ghost use Rattle.prepare.specs.Numbering.{bare, numbered, lines_asked, has_mark};
 ghost use Rattle.prepare.specs.Coding.{has_character};
-ghost use Rattle.prepare.specs.Laws.{prepared, sources, tokens, texts, is_unsupplied, has_no_skip, is_mended, BlanksAreBlocks, AreKept, IsCutAgain};
+ghost use Rattle.prepare.specs.Sizes.{declared};
+ghost use Rattle.prepare.specs.Changes.{exchanges};
+ghost use Rattle.prepare.specs.Ranges.{IsOfSize};
+ghost use Rattle.prepare.specs.Laws.{prepared, exchanged, has_change, owns, sources, tokens, texts, is_unsupplied, has_no_skip, is_mended, BlanksAreBlocks, AreKept, IsCutAgain};
 
 /// What is prepared has as many lines as the marks of the text ask for.
 pub fn lines_are_those_asked()
     ensures { (text : List ℕ) → line_behind (prepared text) ≡ lines_asked (bare text) }
 {}
 
-/// A text without marks and character constants, in which nothing is to be mended, comes out byte for byte.
+/// A text without marks and character constants, in which nothing is to be mended and no token is another here, comes out byte for byte.
 pub fn nothing_mended_is_unchanged()
-    ensures { (text : List ℕ) → bare text ≡ text → has_mark text ≡ false → has_character text ≡ false → is_mended text ≡ true → prepared text ≡ text }
+    ensures { (text : List ℕ) → bare text ≡ text → has_mark text ≡ false → has_character text ≡ false → is_mended text ≡ true → has_change text ≡ false
+        → prepared text ≡ text }
+{}
+
+/// What becomes of a text's tokens leaves out nothing: gaps and tokens, one behind the other, are the text. So what is between tokens stays.
+pub fn exchanges_are_the_text()
+    ensures { (text : List ℕ) → owns (exchanges (turns text)) ≡ text }
+{}
+
+/// A text with its separators, of which no token becomes another, comes out byte for byte.
+pub fn nothing_exchanged_is_unchanged()
+    ensures { (text : List ℕ) → has_change text ≡ false → exchanged text ≡ text }
+{}
+
+/// Where the range of a `for` is written in place of an array's name, all declarations of that name in the text have its size.
+pub fn ranges_are_those_declared()
+    ensures { (text : List ℕ) → All (IsOfSize (declared (turns text))) (exchanges (turns text)) }
 {}
 
 /// The gaps and tokens of the turns, one behind the other, are the text: without what is written nothing is there but the text.
@@ -46,8 +65,9 @@ pub fn what_is_cut_wants_separators_alone()
     ensures { (text : List ℕ) (ts : List Word) → AreKept text ts → is_unsupplied (turns text) ≡ true → is_mended text ≡ true }
 {}
 
-/// What is written of a text that is cut into tokens of which none is left out is cut again, into these tokens and the separators: each
-/// separator is a token of its own, and changes no other. This is of texts in which each label has a statement.
+/// A text that is cut into tokens of which none is left out is cut again once its separators are written, into these tokens and the
+/// separators: each separator is a token of its own, and changes no other. This is of texts in which each label has a statement, and of
+/// what is written before tokens become others.
 pub fn what_is_written_is_cut_again()
     ensures { (text : List ℕ) (ts : List Word) → AreKept text ts → has_no_skip (turns text) ≡ true → IsCutAgain text }
 {}

@@ -1,7 +1,8 @@
-//! Prepares the text of a model: its lines where its marks say, the separators that the ends of lines stand for, and blanks in place of
-//! blocks that only verification needs.
+//! Prepares the text of a model: its lines where its marks say, the separators that the ends of lines stand for, blanks in place of
+//! blocks that only verification needs and of subtypes of `mtype`, and the range of a `for` over an array.
 #![tactic(auto)]
 
+pub mod changes;
 mod character;
 pub mod coding;
 pub mod laws;
@@ -9,6 +10,7 @@ pub mod marks;
 pub mod numbering;
 pub mod place;
 pub mod roles;
+pub mod sizes;
 pub mod spelling;
 pub mod turn;
 pub mod turns;

@@ -41,7 +41,7 @@ impl<'t> Mark<'t> {
     }
 }
 
-fn number(digits: &[u8]) -> u32
+pub(crate) fn number(digits: &[u8]) -> u32
     ensures value { result ≡ marks.number digits.now }
     ensures small { result ≤ MOST_LINE + 1 }
 {

@@ -68,7 +68,7 @@ pub enum Supply {
     Skip,
 }
 
-fn deeper(depth: u32) -> u32
+pub(crate) fn deeper(depth: u32) -> u32
     ensures { result ≡ places.deeper depth }
 {
     if depth < MOST_DEPTH { depth + 1 } else { depth }

@@ -6,6 +6,7 @@ ghost use Rattle.pml_lex.specs.Division.{is_line_feed};
 ghost use Rattle.prepare.specs.Places.{written};
 ghost use Rattle.prepare.specs.Spelling as spelling;
 
+use crate::FORM_FEED;
 use crate::place::Supply;
 use crate::turn::{Form, Turn};
 use std::alloc::{AllocError, Global};
@@ -13,10 +14,15 @@ use std::alloc::{AllocError, Global};
 fn blank(b: u8) -> u8
     ensures { result ≡ spelling.blank b }
 {
-    if b == b'\n' { b } else { b' ' }
+    if b == b'\n' || b == FORM_FEED {
+        b
+    } else {
+        b' '
+    }
 }
 
-fn add_blanks(out: &mut Vec<u8>, token: &[u8]) -> Result<(), AllocError>
+/// Writes blanks in place of a token, but for what ends its lines.
+pub(crate) fn add_blanks(out: &mut Vec<u8>, token: &[u8]) -> Result<(), AllocError>
     ensures { OnOk result (out.new.items ≡ out.old.items ++ map spelling.blank token.now) }
 {
     for b in token {

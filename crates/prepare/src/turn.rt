@@ -33,8 +33,6 @@ pub enum Remark {
     LeftOut,
     /// It opens a list of initialisers.
     List,
-    /// It is the colon of a subtype of `mtype`.
-    Subtype,
 }
 
 /// A token, the blanks and comments before it, and what is written before these.
@@ -43,6 +41,7 @@ pub struct Turn<'t> {
     supply: Supply,
     gap: &'t [u8],
     token: &'t [u8],
+    kind: Kind,
     form: Form,
     remark: Remark,
 }
@@ -52,7 +51,7 @@ impl<'t> Model for Turn<'t> {
 
     ghost Value = { Written };
 
-    ghost view = { λ t. record { supply = t.supply; gap = t.gap.now; token = t.token.now; form = t.form; remark = t.remark } };
+    ghost view = { λ t. record { supply = t.supply; gap = t.gap.now; token = t.token.now; kind = t.kind; form = t.form; remark = t.remark } };
 }
 
 fn ends_line(b: u8) -> bool
@@ -117,13 +116,6 @@ fn code_remark(last: Last, role: Role) -> Remark
                 Remark::Nothing
             }
         }
-        Role::Labels => {
-            if last == Last::Typed {
-                Remark::Subtype
-            } else {
-                Remark::Nothing
-            }
-        }
         _ => Remark::Nothing,
     }
 }
@@ -144,6 +136,7 @@ impl<'t> Turn<'t> {
             },
             gap,
             token,
+            kind,
             form: form_of(place.block, role),
             remark: if is_blank {
                 block_remark(place.block, role)
@@ -161,6 +154,7 @@ impl<'t> Turn<'t> {
             supply: Supply::Nothing,
             gap,
             token: b"",
+            kind: Kind::End,
             form: Form::Kept,
             remark: Remark::Nothing,
         }
@@ -185,6 +179,13 @@ impl<'t> Turn<'t> {
         ensures { result.now ≡ self.now.token }
     {
         self.token
+    }
+
+    /// What the token is.
+    pub fn kind(&self) -> Kind
+        ensures { result ≡ self.now.kind }
+    {
+        self.kind
     }
 
     /// How the token is written.

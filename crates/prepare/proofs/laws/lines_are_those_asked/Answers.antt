@@ -3,14 +3,16 @@ use Rattle.std.specs.Prelude.{count_by}
 use Rattle.pml_lex.specs.Division.{is_line_feed}
 use Rattle.prepare.specs.Places.{start}
 use Rattle.prepare.specs.Turns.{turns}
+use Rattle.prepare.specs.Spelling.{spelled}
 use Rattle.prepare.specs.Numbering.{bare, numbered, first_standing}
 use Rattle.prepare.specs.Coding.{coded}
 use Rattle.prepare.proofs.Lines.{asked_is, coded_feeds, spelled_feeds}
 use Rattle.prepare.proofs.Plain.{sources_are}
+use Rattle.prepare.proofs.Changing.{exchanged_feeds}
 use Rattle.prepare.proofs.laws.lines_are_those_asked.Goals as goal
 
 pub returns : goal.returns
 returns c = λ text.
     let lines = numbered (bare text) in
     let numbers = coded lines in
-    ap (λ (n : ℕ). 1 + n) (spelled_feeds (turns numbers) ∙ ap (count_by is_line_feed) (sources_are (length numbers) true start [] numbers) ∙ coded_feeds (length lines) true lines) ∙ asked_is (length (bare text)) first_standing (bare text)
+    ap (λ (n : ℕ). 1 + n) (exchanged_feeds (spelled (turns numbers)) ∙ spelled_feeds (turns numbers) ∙ ap (count_by is_line_feed) (sources_are (length numbers) true start [] numbers) ∙ coded_feeds (length lines) true lines) ∙ asked_is (length (bare text)) first_standing (bare text)

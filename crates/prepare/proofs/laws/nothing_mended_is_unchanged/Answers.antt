@@ -1,4 +1,4 @@
-use Rattle.prepare.proofs.Plain.{unchanged}
+use Rattle.prepare.proofs.Changing.{unchanged}
 use Rattle.prepare.proofs.laws.nothing_mended_is_unchanged.Goals as goal
 
 pub returns : goal.returns

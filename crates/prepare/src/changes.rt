@@ -1,0 +1,296 @@
+//! Writes what this profile has in place of subtypes of `mtype`, and of a `for` over an array.
+
+ghost use Rattle.std.specs.Prelude.{◌≡◌, ◌≤◌, ◌<◌, ◌++◌, drop, length, IfOk, OnOk};
+ghost use Rattle.std.specs.Fmt.{decimal};
+ghost use Rattle.prepare.specs.Sizes.{declared, agreed};
+ghost use Rattle.prepare.specs.Changes as changes;
+ghost use Rattle.prepare.specs.Found.{AreSizes};
+
+use crate::marks::MOST_LINE;
+use crate::sizes::{Sizes, is_in, sizes_of};
+use crate::spelling::{add_blanks, add_feeds};
+use crate::turn::Turn;
+use itoa::Buffer;
+use pml_token::token::{Kind, same_kind};
+use std::alloc::{AllocError, Global};
+use std::marker::Model;
+
+/// What the tokens before one are the beginning of.
+#[derive(Clone, Copy)]
+pub enum Head {
+    Outside,
+    /// `mtype`.
+    Typed,
+    /// `mtype` and a colon.
+    Subtyped,
+    /// `for`.
+    For,
+    /// `for` and `(`.
+    Enters,
+    /// These, and a name.
+    Counts,
+    /// These, and `in`.
+    In,
+}
+
+/// What becomes of a token.
+#[derive(Clone, Copy)]
+pub enum Change {
+    /// It stays.
+    Kept,
+    /// It stays, and this profile has nothing for it.
+    Left,
+    /// Blanks stand for it.
+    Blanked,
+    /// `:` stands for it.
+    Colon,
+    /// The range from 0 to this number stands for it.
+    Range(u32),
+}
+
+/// A token, with what becomes of it.
+#[derive(Drop)]
+pub struct Exchange<'t> {
+    gap: &'t [u8],
+    token: &'t [u8],
+    change: Change,
+}
+
+impl<'t> Model for Exchange<'t> {
+    ghost use Rattle.prepare.specs.Exchange.{Exchange as Seen};
+
+    ghost Value = { Seen };
+
+    ghost view = { λ c. record { gap = c.gap.now; token = c.token.now; change = c.change } };
+}
+
+impl<'t> Exchange<'t> {
+    /// The blanks, comments and marks before the token.
+    pub fn gap(&self) -> &'t [u8]
+        ensures { result.now ≡ self.now.gap }
+    {
+        self.gap
+    }
+
+    /// The token.
+    pub fn token(&self) -> &'t [u8]
+        ensures { result.now ≡ self.now.token }
+    {
+        self.token
+    }
+
+    /// What becomes of it.
+    pub fn change(&self) -> Change
+        ensures { result ≡ self.now.change }
+    {
+        self.change
+    }
+}
+
+fn begun(kind: Kind) -> Head
+    ensures { result ≡ changes.begun kind }
+{
+    match kind {
+        Kind::Mtype => Head::Typed,
+        Kind::For => Head::For,
+        _ => Head::Outside,
+    }
+}
+
+fn head_behind(head: Head, kind: Kind, token: &[u8]) -> Head
+    ensures { result ≡ changes.head_behind head kind token.now }
+{
+    match head {
+        Head::Typed => {
+            if same_kind(kind, Kind::Colon) {
+                Head::Subtyped
+            } else {
+                begun(kind)
+            }
+        }
+        Head::For => {
+            if same_kind(kind, Kind::OpenParen) {
+                Head::Enters
+            } else {
+                begun(kind)
+            }
+        }
+        Head::Enters => {
+            if same_kind(kind, Kind::Name) {
+                Head::Counts
+            } else {
+                begun(kind)
+            }
+        }
+        Head::Counts => {
+            if is_in(kind, token) {
+                Head::In
+            } else {
+                begun(kind)
+            }
+        }
+        _ => begun(kind),
+    }
+}
+
+fn begins_with(kind: Kind, turns: &[Turn<'_>]) -> bool
+    ensures { result ≡ changes.begins_with kind turns.now }
+{
+    match turns {
+        [turn, ..] => same_kind(turn.kind(), kind),
+        _ => false,
+    }
+}
+
+fn last_of(elements: Option<u32>) -> Option<u32>
+    ensures { result ≡ changes.last_of elements }
+{
+    match elements {
+        Some(count) => { if count > 0 { Some(count - 1) } else { None } }
+        None => None,
+    }
+}
+
+/// The number of the last element of an array that stands at the front of some of the turns.
+fn last_element(sizes: &Sizes<'_>, all: &[Turn<'_>], turns: &[Turn<'_>]) -> Option<u32>
+    requires sizes { AreSizes sizes.now.numbers all.now }
+    ensures { result ≡ changes.last_element (declared all.now) turns.now }
+{
+    match turns {
+        [turn, back @ ..] => {
+            if same_kind(turn.kind(), Kind::Name) && begins_with(Kind::CloseParen, back) {
+                last_of(sizes.find(turn.token()))
+            } else {
+                None
+            }
+        }
+        _ => None,
+    }
+}
+
+fn colon(is_range: bool) -> Change
+    ensures { result ≡ changes.colon is_range }
+{
+    if is_range {
+        Change::Colon
+    } else {
+        Change::Kept
+    }
+}
+
+fn range(last: Option<u32>) -> Change
+    ensures { result ≡ changes.range last }
+{
+    match last {
+        Some(last) => Change::Range(last),
+        None => Change::Left,
+    }
+}
+
+/// What becomes of the colon behind `mtype`, where these turns stand behind it.
+fn colon_of_subtype(turns: &[Turn<'_>]) -> Change
+    ensures { result ≡ changes.colon_of_subtype turns.now }
+{
+    if begins_with(Kind::Name, turns) {
+        Change::Blanked
+    } else {
+        Change::Left
+    }
+}
+
+/// What becomes of the token at the front of some of the turns.
+fn change_at(sizes: &Sizes<'_>, all: &[Turn<'_>], head: Head, turns: &[Turn<'_>]) -> Change
+    requires sizes { AreSizes sizes.now.numbers all.now }
+    ensures { result ≡ changes.change_at (declared all.now) head turns.now }
+{
+    let [turn, back @ ..] = turns else {
+        return Change::Kept
+    };
+    match head {
+        Head::Typed => {
+            if same_kind(turn.kind(), Kind::Colon) {
+                colon_of_subtype(back)
+            } else {
+                Change::Kept
+            }
+        }
+        Head::Subtyped => {
+            if same_kind(turn.kind(), Kind::Name) {
+                Change::Blanked
+            } else {
+                Change::Kept
+            }
+        }
+        Head::Counts => colon(
+            is_in(turn.kind(), turn.token()) && last_element(sizes, all, back).is_some(),
+        ),
+        Head::In => range(last_element(sizes, all, turns)),
+        _ => Change::Kept,
+    }
+}
+
+/// What becomes of the turns of a text that has its separators.
+///
+/// The colon of a subtype of `mtype` and the name behind it become blanks: the names of all subtypes are of one type here. `for (i in a)`
+/// becomes `for (i : 0 .. 4)` where all declarations of `a` in the text are of an array of five elements.
+pub fn exchanges<'t>(alloc: Global, turns: &[Turn<'t>]) -> Result<Vec<Exchange<'t>>, AllocError>
+    ensures { IfOk result (λ v. v.items ≡ changes.exchanges turns.now) }
+{
+    let sizes = sizes_of(alloc, turns)?;
+    let mut out = Vec::new(alloc);
+    let mut head = Head::Outside;
+    let mut rest = turns;
+    while let [turn, back @ ..] = rest {
+        out.push(Exchange {
+            gap: turn.gap(),
+            token: turn.token(),
+            change: change_at(&sizes, turns, head, rest),
+        })?;
+        head = head_behind(head, turn.kind(), turn.token());
+        rest = back;
+    }
+    Ok(out)
+}
+
+fn add_numbers(out: &mut Vec<u8>, last: u32) -> Result<(), AllocError>
+    ensures { OnOk result (out.new.items ≡ out.old.items ++ changes.numbers last) }
+{
+    out.extend_from_slice(b"0 .. ")?;
+    let mut digits = Buffer::new();
+    out.extend_from_slice(digits.format(last.min(MOST_LINE)).as_bytes())
+}
+
+fn add_shown(out: &mut Vec<u8>, change: Change, token: &[u8]) -> Result<(), AllocError>
+    ensures { OnOk result (out.new.items ≡ out.old.items ++ changes.shown change token.now) }
+{
+    match change {
+        Change::Kept | Change::Left => out.extend_from_slice(token),
+        Change::Blanked => add_blanks(out, token),
+        Change::Colon => {
+            out.push(b':')?;
+            add_feeds(out, token)
+        }
+        Change::Range(last) => {
+            add_numbers(out, last)?;
+            add_feeds(out, token)
+        }
+    }
+}
+
+fn add_exchange(out: &mut Vec<u8>, exchange: &Exchange<'_>) -> Result<(), AllocError>
+    ensures { OnOk result (out.new.items ≡ out.old.items ++ changes.respelled_one exchange.now) }
+{
+    out.extend_from_slice(exchange.gap())?;
+    add_shown(out, exchange.change(), exchange.token())
+}
+
+/// What is written of all.
+pub fn respelled(alloc: Global, all: &[Exchange<'_>]) -> Result<Vec<u8>, AllocError>
+    ensures { IfOk result (λ v. v.items ≡ changes.respelled all.now) }
+{
+    let mut out = Vec::new(alloc);
+    for exchange in all {
+        add_exchange(&mut out, exchange)?;
+    }
+    Ok(out)
+}
