@@ -17,7 +17,12 @@ pub enum What {
     Apostrophe,
     Bytes,
     List,
+    // A subtype of `mtype` is blanked.
+    Subtypes,
+    // The colon of one stays.
     Subtype,
+    // A `for` over what is no array stays.
+    Loop,
 }
 
 // The lines from one to another.
@@ -63,7 +68,13 @@ impl<'t> Kind<'t> {
             ),
             What::Bytes => format!(in alloc; "bytes that begin no word are left as they are"),
             What::List => format!(in alloc; "a list of initialisers '{word}' is left as it is"),
+            What::Subtypes => format!(in alloc;
+                "the subtypes of 'mtype' are blanked: all its names are of one type here"
+            ),
             What::Subtype => format!(in alloc; "a subtype of mtype '{word}' is left as it is"),
+            What::Loop => format!(in alloc;
+                "a 'for' over '{word}' is left as it is: that is no array with one number for its size"
+            ),
         }
     }
 
@@ -112,10 +123,10 @@ impl<'t> Kind<'t> {
     }
 }
 
-// The word by which a kind is known: of a line for a preprocessor its first word, and of bytes and characters none.
+// The word by which a kind is known: of a line for a preprocessor its first word, and of bytes, characters and blanked subtypes none.
 fn key(what: What, word: &[u8]) -> &[u8] {
     match what {
-        What::Apostrophe | What::Bytes => b"",
+        What::Apostrophe | What::Bytes | What::Subtypes => b"",
         _ => match word {
             [b'#', ..] => directive(word),
             _ => word,

@@ -1,6 +1,7 @@
 // What is said on standard error: which blocks are blanked, and what is left as it is, a line for each kind with all its places.
 
 use crate::kinds::{Kinds, What};
+use prepare::changes::{Change, Exchange};
 use prepare::turn::{Form, Remark, Turn};
 use std::alloc::Global;
 
@@ -89,7 +90,6 @@ impl<'t> Report<'t> {
             }
             Remark::LeftOut => self.left(left_out(turn.token()), turn.token()),
             Remark::List => self.left(What::List, turn.token()),
-            Remark::Subtype => self.left(What::Subtype, turn.token()),
         }
     }
 
@@ -105,6 +105,31 @@ impl<'t> Report<'t> {
             block.last = self.line;
         }
         self.line = self.line.saturating_add(feeds(turn.token()));
+    }
+
+    // Goes back to the first line, to read what becomes of the tokens.
+    pub fn again(&mut self) {
+        self.end_block();
+        self.line = 1;
+    }
+
+    // Reads one token more, with what becomes of it.
+    pub fn exchange(&mut self, exchange: &Exchange<'t>) {
+        self.line = self.line.saturating_add(feeds(exchange.gap()));
+        let token = exchange.token();
+        match exchange.change() {
+            Change::Blanked => self.kinds.add(What::Subtypes, token, self.line, self.line),
+            Change::Left => self.left(
+                if token == b":".as_slice() {
+                    What::Subtype
+                } else {
+                    What::Loop
+                },
+                token,
+            ),
+            Change::Kept | Change::Colon | Change::Range(_) => {}
+        }
+        self.line = self.line.saturating_add(feeds(token));
     }
 
     // Says all that is to be said of a file of this name, and answers whether something is left.
