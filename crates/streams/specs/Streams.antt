@@ -1,5 +1,5 @@
 -- What a session over a reader and two writers leaves behind.
-use Rattle.std.specs.Prelude.{◌≡◌, ◌≢◌, ℕ, Bool, false, List, Option, None, Some}
+use Rattle.std.specs.Prelude.{◌≡◌, ◌≢◌, ℕ, Bool, false, List, Option, None, Some, MatchBool}
 use Rattle.devices.specs.Holdings.{FailureCounts, Holdings}
 use Rattle.devices.specs.Left.{MayBeLeft}
 use Rattle.session.specs.declared.Options.{Options}
@@ -20,12 +20,12 @@ known_if_any contents None = None
 known_if_any contents (Some w) = contents w
 
 -- what is known of streams, by what is known of each
-abbrev pub known_of : {R O K : Type 0} → (R → Option (List ℕ)) → (O → Option (List ℕ)) → (K → Option (List ℕ)) → Streams R O K → Known
-known_of remaining out rec s = record { source = remaining s.source; out = out s.out; rec = known_if_any rec s.rec }
+abbrev pub known : {R O K : Type 0} → (R → Option (List ℕ)) → (O → Option (List ℕ)) → (K → Option (List ℕ)) → Streams R O K → Known
+known remaining out rec s = record { source = remaining s.source; out = out s.out; rec = known_if_any rec s.rec }
 
--- what is known of the reader and of the output's writer alone
-abbrev pub known_by : {R O K : Type 0} → (R → Option (List ℕ)) → (O → Option (List ℕ)) → Streams R O K → Known
-known_by remaining out s = record { source = remaining s.source; out = out s.out; rec = None }
+-- the writer of the record aside, which takes nothing where choices are converted
+abbrev pub alone : Known → Known
+alone k = record k { rec = None }
 
 -- the devices over them hold this, where the reader's end was seen or not, and they have failed so often
 abbrev pub held_over : Known → Bool → FailureCounts → Holdings
@@ -50,7 +50,11 @@ pub record PlaysOver (text : List ℕ) (options : Options) (before after : Known
 pub record ConvertsOver (text : List ℕ) (options : Options) (before after : Known) (end : End) : Type 0 where
   pub ended : Bool
   pub counts : FailureCounts
-  pub converts : Converts text options (fresh_over before) (held_over after ended counts) end
+  pub converts : Converts text options (fresh_over (alone before)) (held_over (alone after) ended counts) end
+
+-- the choices are converted where that is asked for, and else the text is played
+abbrev pub EndsOver : Bool → List ℕ → Options → Known → Known → End → Type 0
+EndsOver converts text options before after end = MatchBool converts (ConvertsOver text options before after end) (PlaysOver text options before after end)
 
 -- a book that no device has written in, of a ledger with this name and so many parts
 abbrev pub IsBlank : ℕ → ℕ → ℕ → ℕ → Type 0

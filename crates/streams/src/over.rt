@@ -1,8 +1,8 @@
 //! Playing and converting over a reader and writers.
 
-ghost use Rattle.std.specs.Prelude.{◌≡◌, None, true, false};
+ghost use Rattle.std.specs.Prelude.{◌≡◌, None};
 ghost use Rattle.devices.specs.Choice.{taken_by_either, count_either};
-ghost use Rattle.streams.specs.Streams.{ConvertsOver, IsBlank, PlaysOver, known_by, known_if_any, known_of};
+ghost use Rattle.streams.specs.Streams.{ConvertsOver, IsBlank, PlaysOver, EndsOver, known_if_any, known};
 
 use crate::kept::{KeptReader, KeptWriter};
 use devices::{Either, Failures, Nowhere, ThreeDevices};
@@ -86,7 +86,7 @@ fn play_counting<R: Read, O: Write, K: Write, S: Ledger, T: Ledger, U: Ledger>(
     requires source { IsBlank S.name S.parts books.source.name books.source.parts }
     requires out { IsBlank T.name T.parts books.out.name books.out.parts }
     requires rec { IsBlank U.name U.parts books.rec.name books.rec.parts }
-    ensures { let k = known_of R.remaining O.contents K.contents in PlaysOver text.now options.now (k streams) (k result.streams) result.end }
+    ensures { let k = known R.remaining O.contents K.contents in PlaysOver text.now options.now (k streams) (k result.streams) result.end }
 {
     let source = KeptReader::new(streams.source, Failures::<S>::new(books.source));
     let out = KeptWriter::new(streams.out, Failures::<T>::new(books.out));
@@ -110,7 +110,7 @@ pub fn play_over<R: Read, O: Write, K: Write>(
     options: &Options,
     streams: Streams<R, O, K>,
 ) -> Played<R, O, K>
-    ensures { let k = known_of R.remaining O.contents K.contents in PlaysOver text.now options.now (k streams) (k result.streams) result.end }
+    ensures { let k = known R.remaining O.contents K.contents in PlaysOver text.now options.now (k streams) (k result.streams) result.end }
 {
     play_counting::<R, O, K, Brand, Brand, Brand>(alloc, text, options, streams, Books::new())
 }
@@ -125,7 +125,7 @@ fn convert_counting<R: Read, O: Write, K: Write, S: Ledger, T: Ledger>(
 ) -> Played<R, O, K>
     requires source { IsBlank S.name S.parts books.source.name books.source.parts }
     requires out { IsBlank T.name T.parts books.out.name books.out.parts }
-    ensures { let k = known_by R.remaining O.contents in ConvertsOver text.now options.now (k streams) (k result.streams) result.end }
+    ensures { let k = known R.remaining O.contents K.contents in ConvertsOver text.now options.now (k streams) (k result.streams) result.end }
 {
     let source = KeptReader::new(streams.source, Failures::<S>::new(books.source));
     let out = KeptWriter::new(streams.out, Failures::<T>::new(books.out));
@@ -149,7 +149,7 @@ pub fn convert_over<R: Read, O: Write, K: Write>(
     options: &Options,
     streams: Streams<R, O, K>,
 ) -> Played<R, O, K>
-    ensures { let k = known_by R.remaining O.contents in ConvertsOver text.now options.now (k streams) (k result.streams) result.end }
+    ensures { let k = known R.remaining O.contents K.contents in ConvertsOver text.now options.now (k streams) (k result.streams) result.end }
 {
     convert_counting::<R, O, K, Brand, Brand>(alloc, text, options, streams, Books::new())
 }
@@ -162,8 +162,7 @@ pub fn session_over<R: Read, O: Write, K: Write>(
     converts: bool,
     streams: Streams<R, O, K>,
 ) -> Played<R, O, K>
-    ensures played { converts ≡ false → (let k = known_of R.remaining O.contents K.contents in PlaysOver text.now options.now (k streams) (k result.streams) result.end) }
-    ensures converted { converts ≡ true → (let k = known_by R.remaining O.contents in ConvertsOver text.now options.now (k streams) (k result.streams) result.end) }
+    ensures { let k = known R.remaining O.contents K.contents in EndsOver converts text.now options.now (k streams) (k result.streams) result.end }
 {
     if converts {
         convert_over(alloc, text, options, streams)
