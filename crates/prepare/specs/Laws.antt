@@ -15,8 +15,8 @@ use Rattle.prepare.specs.Roles.{is_block_word}
 use Rattle.prepare.specs.Written.{Written}
 use Rattle.prepare.specs.Turns.{turns}
 use Rattle.prepare.specs.Spelling.{spelled}
-use Rattle.prepare.specs.Numbering.{bare, numbered}
-use Rattle.prepare.specs.Coding.{coded}
+use Rattle.prepare.specs.Numbering.{bare, numbered, has_mark}
+use Rattle.prepare.specs.Coding.{coded, has_character}
 use Rattle.prepare.specs.Exchange.{Exchange}
 use Rattle.prepare.specs.Changes.{exchanges, respelled, is_same}
 
@@ -71,6 +71,15 @@ is_plain t = is_nothing t.supply && stays t.form t.token
 -- whether a text has no block, no line end that stands for a separator, no label without a statement and no string over several lines
 abbrev pub is_mended : List ℕ → Bool
 is_mended text = list_all is_plain (turns text)
+
+-- nothing in the text is to be mended: no mark of a line, no byte order mark, no character constant, no block, no line end that
+-- stands for a separator, no label without a statement, no string over several lines, and no token that is another here
+pub record HasNothingToMend (text : List ℕ) : Type 0 where
+  pub bare : bare text ≡ text
+  pub marks : has_mark text ≡ false
+  pub characters : has_character text ≡ false
+  pub turns : is_mended text ≡ true
+  pub changes : has_change text ≡ false
 
 abbrev pub is_blank_form : Form → Bool
 is_blank_form form.Blanked = true

@@ -11,7 +11,7 @@ ghost use Rattle.prepare.specs.Coding.{has_character};
 ghost use Rattle.prepare.specs.Sizes.{declared};
 ghost use Rattle.prepare.specs.Changes.{exchanges};
 ghost use Rattle.prepare.specs.Ranges.{IsOfSize};
-ghost use Rattle.prepare.specs.Laws.{prepared, exchanged, has_change, owns, sources, tokens, texts, is_unsupplied, has_no_skip, is_mended, BlanksAreBlocks, AreKept, IsCutAgain};
+ghost use Rattle.prepare.specs.Laws.{prepared, exchanged, has_change, HasNothingToMend, owns, sources, tokens, texts, is_unsupplied, has_no_skip, is_mended, BlanksAreBlocks, AreKept, IsCutAgain};
 
 /// What is prepared has as many lines as the marks of the text ask for.
 pub fn lines_are_those_asked()
@@ -20,8 +20,7 @@ pub fn lines_are_those_asked()
 
 /// A text without marks and character constants, in which nothing is to be mended and no token is another here, comes out byte for byte.
 pub fn nothing_mended_is_unchanged()
-    ensures { (text : List ℕ) → bare text ≡ text → has_mark text ≡ false → has_character text ≡ false → is_mended text ≡ true → has_change text ≡ false
-        → prepared text ≡ text }
+    ensures { (text : List ℕ) → HasNothingToMend text → prepared text ≡ text }
 {}
 
 /// What becomes of a text's tokens leaves out nothing: gaps and tokens, one behind the other, are the text. So what is between tokens stays.
