@@ -1,0 +1,126 @@
+//! The lines of a trail.
+
+use crate::scan::{
+    before_blanks, before_last, behind_blanks, behind_word, number_first, number_last, parted,
+};
+
+/// What a line of a trail tells.
+#[derive(Clone, Copy, Debug, PartialEq, Eq)]
+pub enum Event<'t> {
+    /// A statement with this line and this text.
+    Statement(usize, &'t [u8]),
+    Death,
+}
+
+/// A line of a trail that tells of a process.
+#[derive(Clone, Copy, Debug, PartialEq, Eq)]
+pub struct Entry<'t> {
+    /// The number of the line in the file.
+    pub row: usize,
+    /// The number that Spin gives the step; statements of one d_step have the same.
+    pub step: usize,
+    pub process: usize,
+    pub event: Event<'t>,
+}
+
+// The line of a statement: `model.pml:5`, or of older versions `line 5 "model.pml"`.
+fn line_in(place: &[u8]) -> Option<usize> {
+    let place = before_blanks(behind_blanks(place));
+    if let Some(rest) = behind_word(place, b"line ") {
+        let (line, _) = number_first(behind_blanks(rest))?;
+        return Some(line);
+    }
+    number_last(place)
+}
+
+// What stands behind the number of a process: `(P:1) model.pml:5 (state 2) [x = 1]`, or `terminates`.
+fn event_of(text: &[u8]) -> Option<Event<'_>> {
+    if behind_word(text, b"terminates").is_some() {
+        return Some(Event::Death);
+    }
+    let (_, behind_name) = parted(text, b") ")?;
+    let (place, behind_place) = parted(behind_name, b" (state ")?;
+    let line = line_in(place)?;
+    let (_, statement) = parted(behind_place, b"[")?;
+    let statement = before_last(statement, b']')?;
+    Some(Event::Statement(line, statement))
+}
+
+// The step whose number and colon stand last.
+fn step_in(before: &[u8]) -> Option<usize> {
+    let before = before_blanks(before);
+    match before {
+        [number @ .., b':'] => number_last(number),
+        _ => None,
+    }
+}
+
+// What a line of the file tells, where it tells of a process.
+fn entry_of(row: usize, text: &[u8]) -> Option<Entry<'_>> {
+    let (before, behind) = parted(text, b"proc ")?;
+    let step = step_in(before)?;
+    let (process, rest) = number_first(behind_blanks(behind))?;
+    let event = event_of(behind_blanks(rest))?;
+    Some(Entry {
+        row,
+        step,
+        process,
+        event,
+    })
+}
+
+// How the line behind the last one begins.
+const LAST: &[u8] = b"spin: trail ends";
+
+/// Whether a file has the line behind the last one of a trail.
+pub fn is_ended(text: &[u8]) -> bool {
+    parted(text, LAST).is_some()
+}
+
+/// The lines of a file that are still to be read.
+#[derive(Clone, Copy, Debug)]
+pub struct Entries<'t> {
+    rest: &'t [u8],
+    row: usize,
+}
+
+impl<'t> Entries<'t> {
+    /// Those of a whole file.
+    pub fn new(text: &'t [u8]) -> Entries<'t> {
+        Entries { rest: text, row: 0 }
+    }
+
+    // The next line.
+    fn line(&mut self) -> &'t [u8] {
+        self.row = self.row.saturating_add(1);
+        let rest = self.rest;
+        match parted(rest, b"\n") {
+            Some((line, behind)) => {
+                self.rest = behind;
+                line
+            }
+            None => {
+                self.rest = &rest[..0];
+                rest
+            }
+        }
+    }
+
+    /// The next line that tells of a process.
+    pub fn next(&mut self) -> Option<Entry<'t>> {
+        for _ in 0..self.rest.len() {
+            if self.rest.is_empty() {
+                return None;
+            }
+            let line = self.line();
+            if behind_word(line, LAST).is_some() {
+                self.rest = &line[..0];
+                return None;
+            }
+            if let Some(entry) = entry_of(self.row, line) {
+                return Some(entry);
+            }
+        }
+        None
+    }
+}

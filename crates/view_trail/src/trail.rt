@@ -1,0 +1,125 @@
+//! A trail, as far as it was followed.
+
+use crate::entry::{Entries, Entry, Event};
+use crate::quiet::is_of_spin;
+
+/// A trail, as far as it was followed.
+#[derive(Clone, Copy, Debug)]
+pub struct Trail<'t> {
+    entries: Entries<'t>,
+    /// How many steps were taken since its last line that it does not show.
+    quiet: usize,
+    /// The process and the number of the last line that was followed.
+    last: Option<(usize, usize)>,
+    /// The same, where the other lines with them belong to the same step: to a d_step, or to one that came to a fault.
+    held: Option<(usize, usize)>,
+    /// How often a `select` is still to count up.
+    counts: usize,
+}
+
+impl<'t> Trail<'t> {
+    /// From its beginning.
+    pub fn new(text: &'t [u8]) -> Trail<'t> {
+        Trail {
+            entries: Entries::new(text),
+            quiet: 0,
+            last: None,
+            held: None,
+            counts: 0,
+        }
+    }
+
+    // Whether a line is one more of the step that was taken last.
+    fn is_held(&self, entry: &Entry<'t>) -> bool {
+        self.held == Some((entry.process, entry.step))
+    }
+
+    /// The next line that is still to be followed, without a step.
+    pub fn next(&self) -> Option<Entry<'t>> {
+        let mut ahead = *self;
+        for _ in 0..u64::MAX {
+            let Some(entry) = ahead.entries.next() else {
+                return None;
+            };
+            if !self.is_held(&entry) {
+                return Some(entry);
+            }
+        }
+        None
+    }
+
+    /// Goes behind the next line.
+    pub fn pass(&mut self) -> Option<Entry<'t>> {
+        for _ in 0..u64::MAX {
+            let Some(entry) = self.entries.next() else {
+                return None;
+            };
+            if !self.is_held(&entry) {
+                self.last = Some((entry.process, entry.step));
+                self.held = None;
+                self.quiet = 0;
+                return Some(entry);
+            }
+        }
+        None
+    }
+
+    /// The statement that follows the next line, where it may be the other half of a rendezvous.
+    pub fn second(&self) -> Option<Entry<'t>> {
+        let mut ahead = *self;
+        ahead.pass()?;
+        for _ in 0..u64::MAX {
+            let Some(entry) = ahead.pass() else {
+                return None;
+            };
+            match entry.event {
+                Event::Statement(_, text) if is_of_spin(text) => {}
+                _ => return Some(entry),
+            }
+        }
+        None
+    }
+
+    /// Goes behind the other half.
+    pub fn pass_second(&mut self) {
+        for _ in 0..u64::MAX {
+            let Some(entry) = self.pass() else {
+                return;
+            };
+            match entry.event {
+                Event::Statement(_, text) if is_of_spin(text) => {}
+                _ => return,
+            }
+        }
+    }
+
+    /// The lines with the number of the last one belong to the same step.
+    pub fn hold(&mut self) {
+        self.held = self.last;
+    }
+
+    /// How often a `select` is still to count up for the next line.
+    pub fn counts(&self) -> usize {
+        self.counts
+    }
+
+    /// It is to count up so often. Where that is not at all, the trail goes on behind the line.
+    pub fn count(&mut self, counts: usize) {
+        self.counts = counts;
+        if counts == 0 {
+            let _ = self.pass();
+        }
+    }
+
+    /// A step is taken that the trail does not show. Whether that may be: it is so many times in a row.
+    pub fn keep_quiet(&mut self) -> bool {
+        if self.quiet >= MOST_QUIET {
+            return false;
+        }
+        self.quiet += 1;
+        true
+    }
+}
+
+// So many steps in a row may be none of the trail's.
+const MOST_QUIET: usize = 100;
