@@ -1,0 +1,104 @@
+//! Who used last what processes wait at, as text.
+
+use crate::target::channel_of;
+use crate::uses::{Last, Use, Uses};
+use std::alloc::AllocError;
+use view_cells::channels::add_channel_word;
+use view_cells::picture::Picture;
+use view_cells::processes::add_process;
+use view_text::writer::Writer;
+use view_waits::waits::Wait;
+
+// Writes who did something: `proc 2 (P) took`.
+fn add_use(picture: &Picture<'_, '_, '_>, used: Use, word: &[u8], out: &mut Writer) {
+    if used.lives {
+        add_process(picture, used.process, out);
+    } else {
+        out.add(b"proc ");
+        out.number(used.process);
+        out.add(b", which has ended,");
+    }
+    out.add(word);
+}
+
+fn add_step(step: usize, out: &mut Writer) {
+    out.add(b" last, at step ");
+    out.number(step);
+}
+
+// Writes who used a channel last.
+fn add_last(picture: &Picture<'_, '_, '_>, last: Last, out: &mut Writer) {
+    match (last.sent, last.took) {
+        (None, None) => out.add(b"nothing was sent or taken"),
+        (Some(sent), None) => {
+            add_use(picture, sent, b" sent", out);
+            add_step(sent.step, out);
+        }
+        (None, Some(took)) => {
+            add_use(picture, took, b" took", out);
+            add_step(took.step, out);
+        }
+        (Some(sent), Some(took)) => {
+            add_both(picture, sent, took, out);
+        }
+    }
+}
+
+fn add_both(picture: &Picture<'_, '_, '_>, sent: Use, took: Use, out: &mut Writer) {
+    if sent.step == took.step {
+        add_use(picture, sent, b" sent and ", out);
+        add_use(picture, took, b" took", out);
+        add_step(took.step, out);
+    } else if sent.step > took.step {
+        add_use(picture, sent, b" sent", out);
+        add_step(sent.step, out);
+    } else {
+        add_use(picture, took, b" took", out);
+        add_step(took.step, out);
+    }
+}
+
+fn has(known: &[usize], number: usize) -> bool {
+    for one in known {
+        if *one == number {
+            return true;
+        }
+    }
+    false
+}
+
+// Writes the line of the channel that a process waits at, unless it was written.
+fn add_channel(
+    picture: &Picture<'_, '_, '_>,
+    wait: &Wait,
+    uses: &Uses,
+    known: &mut Vec<usize>,
+    out: &mut Writer,
+) -> Result<(), AllocError> {
+    let Some(number) = channel_of(picture, wait) else {
+        return Ok(());
+    };
+    if has(known.as_slice(), number) {
+        return Ok(());
+    }
+    known.push(number)?;
+    add_channel_word(picture, number, out);
+    out.add(b": ");
+    add_last(picture, uses.of(number), out);
+    out.add(b"\n");
+    Ok(())
+}
+
+/// Writes a line for each channel that is waited at, of these waits, unless it is known: who used it last.
+pub fn add_channels(
+    picture: &Picture<'_, '_, '_>,
+    waits: &[Wait],
+    uses: &Uses,
+    known: &mut Vec<usize>,
+    out: &mut Writer,
+) -> Result<(), AllocError> {
+    for wait in waits {
+        add_channel(picture, wait, uses, known, out)?;
+    }
+    Ok(())
+}

@@ -1,0 +1,54 @@
+//! The channel that a process waits at.
+
+use pml_moves::executable::named;
+use pml_moves::moves::Pick;
+use pml_moves::picked::picked;
+use pml_moves::scene::Scene;
+use pml_program::program::{Action, Basic};
+use pml_value::view::View;
+use view_cells::picture::Picture;
+use view_waits::waits::Wait;
+
+fn number_of(number: i32) -> usize {
+    number.max(0) as usize
+}
+
+fn of_action(view: &View<'_>, action: &Action<'_>) -> Option<usize> {
+    match action {
+        Action::Send(target, _, fields) => match named(view, target, fields.len()) {
+            Ok((number, _)) => Some(number_of(number)),
+            Err(_) => None,
+        },
+        Action::Receive(target, _, _, wants) => match named(view, target, wants.len()) {
+            Ok((number, _)) => Some(number_of(number)),
+            Err(_) => None,
+        },
+        _ => None,
+    }
+}
+
+fn of_basic(view: &View<'_>, basic: Option<&Basic<'_>>) -> Option<usize> {
+    match basic {
+        Some(Basic::Plain(action)) => of_action(view, action),
+        _ => None,
+    }
+}
+
+fn of_pick(scene: &Scene<'_, '_, '_>, pick: Pick, timeout: bool) -> Option<usize> {
+    if pick.process >= scene.process_count() {
+        return None;
+    }
+    let view = scene.view(pick.process, timeout);
+    match picked(scene, pick) {
+        Some(offer) => of_basic(&view, offer.body.basic(*offer.edge)),
+        None => None,
+    }
+}
+
+/// The number of the channel that a process waits at to send or to receive.
+pub fn channel_of(picture: &Picture<'_, '_, '_>, wait: &Wait) -> Option<usize> {
+    match wait.pick {
+        Some(pick) => of_pick(&picture.scene, pick, wait.timeout),
+        None => None,
+    }
+}

@@ -1,0 +1,129 @@
+//! Who sent to a channel, and who took from it, last.
+
+use pml_moves::moves::Move;
+use std::alloc::{AllocError, Global};
+use view_cells::picture::Picture;
+use view_waits::effect::{Does, effect_of};
+use view_waits::waits::starter_of;
+
+/// A step that used a channel, and the process that did.
+#[derive(Clone, Copy, Debug, PartialEq, Eq)]
+pub struct Use {
+    pub step: usize,
+    pub process: usize,
+    /// Whether that process has lived since.
+    pub lives: bool,
+}
+
+/// The last uses of a channel.
+#[derive(Clone, Copy, Debug, PartialEq, Eq)]
+pub struct Last {
+    pub sent: Option<Use>,
+    pub took: Option<Use>,
+}
+
+const UNUSED: Last = Last {
+    sent: None,
+    took: None,
+};
+
+/// The last uses of each channel.
+#[derive(Drop)]
+pub struct Uses {
+    channels: Vec<Last>,
+}
+
+fn receiver_of(m: &Move) -> usize {
+    match m {
+        Move::Pair(_, receiver, _) => receiver.process,
+        _ => starter_of(m),
+    }
+}
+
+fn without_dead(used: Option<Use>, count: usize) -> Option<Use> {
+    match used {
+        Some(last) => Some(Use {
+            lives: last.lives && last.process < count,
+            ..last
+        }),
+        None => None,
+    }
+}
+
+impl Uses {
+    /// None yet.
+    pub fn new(alloc: Global) -> Uses {
+        Uses {
+            channels: Vec::new(alloc),
+        }
+    }
+
+    /// Those of the channel with this number, from 1 on.
+    pub fn of(&self, number: usize) -> Last {
+        if number == 0 {
+            return UNUSED;
+        }
+        match self.channels.get(number - 1) {
+            Some(last) => *last,
+            None => UNUSED,
+        }
+    }
+
+    // There is a place for each of so many channels.
+    fn widen(&mut self, count: usize) -> Result<(), AllocError> {
+        for _ in self.channels.len()..count {
+            self.channels.push(UNUSED)?;
+        }
+        Ok(())
+    }
+
+    fn put(&mut self, number: usize, does: Does, m: &Move, step: usize) {
+        if number == 0 || number > self.channels.len() {
+            return;
+        }
+        let sent = Use {
+            step,
+            process: starter_of(m),
+            lives: true,
+        };
+        let took = Use {
+            process: receiver_of(m),
+            ..sent
+        };
+        let last = &mut self.channels[number - 1];
+        match does {
+            Does::Send => last.sent = Some(sent),
+            Does::Receive => last.took = Some(took),
+            Does::Pass => {
+                last.sent = Some(sent);
+                last.took = Some(took);
+            }
+            _ => {}
+        }
+    }
+
+    /// A step takes this move of the present state.
+    pub fn add(
+        &mut self,
+        picture: &Picture<'_, '_, '_>,
+        m: &Move,
+        step: usize,
+    ) -> Result<(), AllocError> {
+        let effect = effect_of(*self.channels.allocator(), picture, m)?;
+        self.widen(picture.channel_count())?;
+        self.put(effect.channel, effect.does, m, step);
+        Ok(())
+    }
+
+    /// So many channels and processes live behind a step.
+    pub fn settle(&mut self, channels: usize, processes: usize) {
+        self.channels.truncate(channels);
+        for at in 0..self.channels.len() {
+            let last = self.channels[at];
+            self.channels[at] = Last {
+                sent: without_dead(last.sent, processes),
+                took: without_dead(last.took, processes),
+            };
+        }
+    }
+}

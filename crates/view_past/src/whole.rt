@@ -1,0 +1,50 @@
+//! A whole state as a text: two states of one model are the same where their texts are.
+
+use pml_moves::scene::Scene;
+use pml_value::live_channel::LiveChannel;
+use view_cells::picture::Picture;
+use view_text::writer::Writer;
+
+fn add_number(number: usize, out: &mut Writer) {
+    out.number(number);
+    out.add(b" ");
+}
+
+fn add_numbers(numbers: &[i32], out: &mut Writer) {
+    for number in numbers {
+        out.signed(*number);
+        out.add(b" ");
+    }
+}
+
+// Who has exclusive control, and where each process stands.
+fn add_processes(scene: &Scene<'_, '_, '_>, out: &mut Writer) {
+    match scene.holder() {
+        Some(holder) => add_number(holder, out),
+        None => out.add(b"- "),
+    }
+    for seat in scene.seats() {
+        add_number(seat.kind, out);
+        add_number(seat.node, out);
+    }
+}
+
+// A channel: whose it is, and its messages. Its size and its types are those of the declaration that it was made for.
+fn add_channel(live: &LiveChannel, out: &mut Writer) {
+    add_number(live.frame, out);
+    add_number(live.channel.len(), out);
+    for place in 0..live.channel.len() {
+        add_numbers(live.channel.message(place), out);
+    }
+}
+
+/// Writes a whole state.
+pub fn add_whole(picture: &Picture<'_, '_, '_>, out: &mut Writer) {
+    add_processes(&picture.scene, out);
+    out.add(b"; ");
+    for live in picture.scene.channels() {
+        add_channel(live, out);
+    }
+    out.add(b"; ");
+    add_numbers(picture.variables.cells().as_slice(), out);
+}
