@@ -6,8 +6,10 @@ use pml_texts::texts::add_move as move_text;
 use std::alloc::AllocError;
 use view_cells::channels::{add_channel_word, add_message, channel_at};
 use view_cells::picture::Picture;
+use view_cells::processes::add_process;
 use view_text::writer::Writer;
 use view_waits::effect::{Does, Effect, effect_of};
+use view_waits::waits::starter_of;
 
 // What a move does with a message, as a word, and what stands between the message and its channel.
 fn words_of(does: Does) -> Option<(&'static str, &'static str)> {
@@ -58,12 +60,74 @@ fn add_choice(
     Ok(())
 }
 
-/// Writes the list of the present moves.
+// A longer list is shown by process.
+const MOST_LINES: usize = 20;
+
+// Writes a number behind blanks, as wide as this one.
+fn add_aligned(number: usize, widest: usize, out: &mut Writer) {
+    let mut digits = Writer::new(out.allocator());
+    digits.number(number);
+    let mut most = Writer::new(out.allocator());
+    most.number(widest);
+    out.blanks(most.len().saturating_sub(digits.len()));
+    out.add(digits.bytes());
+}
+
+// Writes a line of a list that is shown by process, and before it that of its process, where it is another than that of the heading.
+fn add_grouped(
+    picture: &Picture<'_, '_, '_>,
+    (number, count): (usize, usize),
+    m: &Move,
+    heading: &mut Writer,
+    out: &mut Writer,
+) -> Result<(), AllocError> {
+    let effect = effect_of(out.allocator(), picture, m)?;
+    let mut own = Writer::new(out.allocator());
+    add_process(picture, starter_of(m), &mut own);
+    if own.bytes() != heading.bytes() {
+        out.add(own.bytes());
+        out.add(b"\n");
+        heading.clear();
+        heading.add(own.bytes());
+    }
+    let mut text = Writer::new(out.allocator());
+    add_move(picture, m, &mut text);
+    out.add(b"  choice ");
+    add_aligned(number, count, out);
+    out.add(b":");
+    out.add(
+        text.bytes()
+            .strip_prefix(own.bytes())
+            .unwrap_or(text.bytes()),
+    );
+    add_effect(picture, &effect, out);
+    out.add(b"\n");
+    Ok(())
+}
+
+// Writes the list by process.
+fn add_by_process(
+    picture: &Picture<'_, '_, '_>,
+    moves: &[Move],
+    out: &mut Writer,
+) -> Result<(), AllocError> {
+    let mut heading = Writer::new(out.allocator());
+    for at in 0..moves.len() {
+        let number = (at + 1, moves.len());
+        add_grouped(picture, number, &moves[at], &mut heading, out)?;
+    }
+    Ok(())
+}
+
+/// Writes the list of the present moves; one of more than 20 by process.
 pub fn add_choices(
     picture: &Picture<'_, '_, '_>,
     moves: &[Move],
     out: &mut Writer,
 ) -> Result<(), AllocError> {
+    if moves.len() > MOST_LINES {
+        return add_by_process(picture, moves, out);
+    }
     for at in 0..moves.len() {
         add_choice(picture, at + 1, &moves[at], out)?;
     }
