@@ -5,6 +5,7 @@ use std::fs::{Metadata, OpenFile};
 use std::io::Read;
 use std::os::unix::fs::MetadataExt;
 use std::{fs, io};
+use view_words::Asked;
 
 // At most so many bytes of a model are read: one more than a model may have.
 const MOST_READ: u64 = MOST_TEXT_BYTES as u64 + 1;
@@ -49,29 +50,44 @@ fn is_same(one: Identity, other: Option<Identity>) -> bool {
 #[derive(Clone, Copy)]
 pub struct Others {
     model: Option<Identity>,
+    // the file that the model was prepared of
+    source: Option<Identity>,
     choices: Option<Identity>,
+    trail: Option<Identity>,
     output: Option<Identity>,
 }
 
-// The files with these names, and the output.
-pub fn others_of(rt: &HostRuntime, model: &str, choices: &Option<String>) -> Others {
-    let choices = match choices {
+// The file with this name, where one is given.
+fn identity_of(rt: &HostRuntime, name: &Option<String>) -> Option<Identity> {
+    match name {
+        Some(name) => identity_at(rt, name.as_str()),
+        None => None,
+    }
+}
+
+// The files of a command line, and the output.
+pub fn others_of(rt: &HostRuntime, asked: &Asked) -> Others {
+    let choices = match &asked.choices {
         Some(name) => identity_at(rt, name.as_str()),
         None => identity_at(rt, "/dev/stdin"),
     };
     Others {
-        model: identity_at(rt, model),
+        model: identity_at(rt, asked.model.as_str()),
+        source: identity_of(rt, &asked.source),
         choices,
+        trail: identity_of(rt, &asked.trail),
         output: identity_at(rt, "/dev/stdout"),
     }
 }
 
 // Which of the others a file is.
 fn other_in(own: Identity, others: Others) -> Option<&'static str> {
-    if is_same(own, others.model) {
+    if is_same(own, others.model) || is_same(own, others.source) {
         Some("model")
     } else if is_same(own, others.choices) {
         Some("choices")
+    } else if is_same(own, others.trail) {
+        Some("trail")
     } else if is_same(own, others.output) {
         Some("output")
     } else {
@@ -130,6 +146,15 @@ fn bytes_of(rt: &HostRuntime, name: &str, most: u64) -> Result<Vec<u8>, NoView> 
 // The text of a model.
 pub fn model_of(rt: &HostRuntime, name: &str) -> Result<Vec<u8>, NoView> {
     bytes_of(rt, name, MOST_READ)
+}
+
+// The text that a model was prepared of, where it is a regular file that can be read: another may not be there twice.
+pub fn source_of(rt: &HostRuntime, name: &str) -> Option<Vec<u8>> {
+    identity_at(rt, name)?;
+    match bytes_of(rt, name, MOST_READ) {
+        Ok(text) => Some(text),
+        Err(_) => None,
+    }
 }
 
 // The choices of a file.

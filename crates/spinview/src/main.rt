@@ -8,7 +8,7 @@ mod stop;
 mod telling;
 
 use diagnostics::Refusal;
-use files::{Others, choices_of, choices_of_input, create, model_of, others_of};
+use files::{Others, choices_of, choices_of_input, create, model_of, others_of, source_of};
 use pml_check::{CheckFault, Checked, check};
 use pml_inline::expand;
 use pml_inline::fault::InlineFault;
@@ -23,8 +23,10 @@ use std::fs::{File, OpenFile};
 use std::process::ExitCode;
 use std::{env, fs, io};
 use stop::NoView;
-use telling::{tell_refusal, tell_stop};
+use telling::{tell_refusal, tell_stop, tell_trail};
+use view_run::trailed::follow_trail;
 use view_session::answers::Setting;
+use view_session::replay::Along;
 use view_walk::walk::Walk;
 use view_words::{Asked, Form, read};
 
@@ -47,7 +49,10 @@ fn asked_of(rt: &HostRuntime) -> Result<Asked, NoView> {
 #[derive(Drop)]
 struct Opened {
     model: Vec<u8>,
+    // the text that the model was prepared of
+    source: Option<Vec<u8>>,
     choices: Option<Vec<u8>>,
+    trail: Option<Vec<u8>>,
     others: Others,
 }
 
@@ -58,6 +63,9 @@ fn has_session(asked: &Asked) -> bool {
 
 // The choices that are taken without a question, where there are any.
 fn choices_asked(rt: &HostRuntime, asked: &Asked) -> Result<Option<Vec<u8>>, NoView> {
+    if asked.trail.is_some() {
+        return Ok(None);
+    }
     if let Some(name) = &asked.choices {
         return Ok(Some(choices_of(rt, name.as_str())?));
     }
@@ -67,10 +75,35 @@ fn choices_asked(rt: &HostRuntime, asked: &Asked) -> Result<Option<Vec<u8>>, NoV
     Ok(Some(choices_of_input(rt)?))
 }
 
+// The trail that is followed first.
+fn trail_asked(rt: &HostRuntime, asked: &Asked) -> Result<Option<Vec<u8>>, NoView> {
+    match &asked.trail {
+        Some(name) => Ok(Some(choices_of(rt, name.as_str())?)),
+        None => Ok(None),
+    }
+}
+
+// The text whose lines are shown, where it is another than the model's and can be read.
+fn source_asked(rt: &HostRuntime, asked: &Asked) -> Option<Vec<u8>> {
+    match &asked.source {
+        Some(name) => source_of(rt, name.as_str()),
+        None => None,
+    }
+}
+
+// The text whose lines are shown.
+fn shown_text(opened: &Opened) -> &[u8] {
+    match &opened.source {
+        Some(source) => source.as_slice(),
+        None => opened.model.as_slice(),
+    }
+}
+
 fn open_all(rt: &HostRuntime, asked: &Asked) -> Result<Opened, NoView> {
     let model = model_of(rt, asked.model.as_str())?;
     let choices = choices_asked(rt, asked)?;
-    let others = others_of(rt, asked.model.as_str(), &asked.choices);
+    let trail = trail_asked(rt, asked)?;
+    let others = others_of(rt, asked);
     if let Some(name) = &asked.rec {
         create(rt, name.as_str(), others)?;
     }
@@ -79,7 +112,9 @@ fn open_all(rt: &HostRuntime, asked: &Asked) -> Result<Opened, NoView> {
     }
     Ok(Opened {
         model,
+        source: source_asked(rt, asked),
         choices,
+        trail,
         others,
     })
 }
@@ -92,14 +127,8 @@ fn refused(
     refusal: Refusal,
     line: u32,
 ) -> NoView {
-    tell_refusal(
-        rt,
-        asked.model.as_str(),
-        opened.model.as_slice(),
-        refusal,
-        line,
-        asked.explains,
-    );
+    let texts = (opened.model.as_slice(), shown_text(opened));
+    tell_refusal(rt, asked, texts, refusal, line);
     NoView::Refused
 }
 
@@ -111,6 +140,22 @@ fn recorded(rt: &HostRuntime, asked: &Asked, walk: &Walk<'_, '_>) -> Result<(), 
     }
 }
 
+// Follows the trail that is asked for, and says where it does not fit.
+fn along_trail(
+    rt: &HostRuntime,
+    asked: &Asked,
+    opened: &Opened,
+    walk: &mut Walk<'_, '_>,
+) -> Result<Option<Along>, NoView> {
+    let (Some(name), Some(text)) = (&asked.trail, &opened.trail) else {
+        return Ok(None);
+    };
+    let mut printed = Vec::new(rt.alloc());
+    let followed = follow_trail(walk, text.as_slice(), asked.limit as usize, &mut printed)?;
+    tell_trail(rt, name.as_str(), followed);
+    Ok(Some(followed.along()))
+}
+
 fn view_walk(
     rt: &HostRuntime,
     asked: &Asked,
@@ -119,20 +164,16 @@ fn view_walk(
 ) -> Result<(), NoView> {
     let mut walk = walk;
     let setting = Setting {
-        text: opened.model.as_slice(),
+        text: shown_text(opened),
         limit: asked.limit as usize,
     };
+    let along = along_trail(rt, asked, opened, &mut walk)?;
     let choices = opened.choices.as_ref().map(|text| text.as_slice());
     let seen = if has_session(asked) {
-        session(rt, &mut walk, setting, opened.others, choices)
+        session(rt, &mut walk, setting, opened.others, (choices, along))
     } else {
-        run_all(
-            rt,
-            &mut walk,
-            asked,
-            opened.model.as_slice(),
-            choices.unwrap_or(&[]),
-        )
+        let given = (choices.unwrap_or(&[]), along);
+        run_all(rt, &mut walk, asked, shown_text(opened), given)
     };
     recorded(rt, asked, &walk)?;
     seen

@@ -2,6 +2,7 @@
 use crate::files::write;
 use crate::shown::show;
 use crate::stop::NoView;
+use crate::telling::shown_name;
 use rand_pcg::Pcg32;
 use view_json::lines::{Shown, add_start};
 use view_page::page::{Contents, add_page};
@@ -10,8 +11,9 @@ use view_run::next::is_misfit;
 use view_run::plain::run;
 use view_run::steps::add_step;
 use view_session::charted::add_chart;
-use view_session::replay::Replay;
+use view_session::replay::{Along, Replay};
 use view_session::seen::picture_of;
+use view_session::told::Told;
 use view_text::writer::Writer;
 use view_walk::walk::Walk;
 use view_words::{Asked, Form};
@@ -19,8 +21,11 @@ use view_words::{Asked, Form};
 // So many bytes are written at once.
 const AT_ONCE: usize = 60_000;
 
-// The choices of a run: of a file or of standard input, or of a generator.
-pub fn replay_of<'t>(asked: &Asked, choices: &'t [u8]) -> Replay<'t> {
+// The choices of a run: along a trail, of a file or of standard input, or of a generator.
+fn replay_of<'t>(asked: &Asked, (choices, along): (&'t [u8], Option<Along>)) -> Replay<'t> {
+    if let Some(along) = along {
+        return Replay::along(along);
+    }
     match asked.seed {
         Some(seed) if asked.choices.is_none() => {
             Replay::new(choices, Some(Pcg32::new(u64::from(seed), 54)))
@@ -68,7 +73,7 @@ fn begin(walk: &Walk<'_, '_>, asked: &Asked, sheet: &mut Sheet) -> Result<(), No
     let picture = picture_of(walk.world());
     add_start(
         &picture,
-        name_of(asked.model.as_str()),
+        name_of(shown_name(asked)),
         asked.is_lossy,
         moves.as_slice(),
         &mut sheet.shown,
@@ -119,7 +124,7 @@ fn write_page(
 ) -> Result<(), NoView> {
     let mut page = Writer::new(rt.alloc());
     let contents = Contents {
-        name: name_of(asked.model.as_str()).as_bytes(),
+        name: name_of(shown_name(asked)).as_bytes(),
         model,
         steps: sheet.items.bytes(),
         lines: sheet.lines.bytes(),
@@ -161,12 +166,12 @@ fn run_steps(
     replay: &mut Replay<'_>,
     limit: usize,
 ) -> Result<&'static str, NoView> {
-    let mut out = Writer::new(rt.alloc());
+    let mut told = Told::new(rt.alloc());
     for _ in 0..u64::MAX {
-        let end = add_step(walk, replay, limit, &mut out)?;
-        if out.len() > AT_ONCE || end.is_some() {
-            show(rt, &out)?;
-            out.clear();
+        let end = add_step(walk, replay, limit, &mut told)?;
+        if told.out.len() > AT_ONCE || end.is_some() {
+            show(rt, &told.out)?;
+            told.out.clear();
         }
         if let Some(end) = end {
             return Ok(end);
@@ -175,22 +180,23 @@ fn run_steps(
     Ok("step limit")
 }
 
-// A run without a session, of these choices.
+// A run without a session, of these choices, or along the walk.
 pub fn run_all(
     rt: &HostRuntime,
     walk: &mut Walk<'_, '_>,
     asked: &Asked,
     model: &[u8],
-    choices: &[u8],
+    given: (&[u8], Option<Along>),
 ) -> Result<(), NoView> {
-    let mut replay = replay_of(asked, choices);
+    walk.go_to(0)?;
+    let mut replay = replay_of(asked, given);
     if asked.form == Form::Json || asked.page.is_some() {
         let end = run_sheet(rt, walk, &mut replay, asked, model)?;
         if asked.form != Form::Chart {
             return told(end);
         }
         walk.go_to(0)?;
-        replay = replay_of(asked, choices);
+        replay = replay_of(asked, given);
     }
     let limit = asked.limit as usize;
     if asked.form == Form::Chart {

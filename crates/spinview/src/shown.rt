@@ -2,11 +2,12 @@
 use crate::files::{Others, is_saved, write};
 use crate::stop::NoView;
 use std::io::Write;
-use view_session::answers::{Reply, Setting, answer, begin};
+use view_session::answers::{Reply, Setting, answer, begin, resume};
 use view_session::record::{add_record, choice_count};
-use view_session::replay::{Replay, Said};
+use view_session::replay::{Along, Replay, Said};
 use view_session::seen::picture_of;
 use view_session::steps::choose;
+use view_session::told::Told;
 use view_text::writer::Writer;
 use view_walk::walk::{Walk, Went};
 
@@ -58,16 +59,17 @@ fn answer_line(
     setting: Setting<'_>,
     others: Others,
     line: &str,
+    told: &mut Told,
 ) -> Result<bool, NoView> {
-    let mut out = Writer::new(rt.alloc());
     let mut goes_on = true;
-    match answer(walk, setting, line, &mut out) {
+    match answer(walk, setting, line, told) {
         Ok(Reply::On) => {}
-        Ok(Reply::Save(name)) => save(rt, walk, name, others, &mut out),
+        Ok(Reply::Save(name)) => save(rt, walk, name, others, &mut told.out),
         Ok(Reply::End) => goes_on = false,
-        Err(_) => recover(walk, &mut out)?,
+        Err(_) => recover(walk, &mut told.out)?,
     }
-    show(rt, &out)?;
+    show(rt, &told.out)?;
+    told.out.clear();
     Ok(goes_on)
 }
 
@@ -81,7 +83,8 @@ fn take_next(
     if moves.is_empty() {
         return Ok(false);
     }
-    let Said::Pick(choice) = replay.next(&picture_of(walk.world()), moves.as_slice()) else {
+    let said = replay.next(&picture_of(walk.world()), moves.as_slice(), None);
+    let Said::Pick(choice) = said else {
         return Ok(false);
     };
     printed.clear();
@@ -105,25 +108,42 @@ fn take_all(
     Ok(())
 }
 
+// Shows where a session begins: behind its first choices, or at the end of a trail.
+fn begin_behind(
+    rt: &HostRuntime,
+    walk: &mut Walk<'_, '_>,
+    limit: usize,
+    (choices, along): (Option<&[u8]>, Option<Along>),
+    told: &mut Told,
+) -> Result<(), NoView> {
+    if let Some(along) = along {
+        resume(walk, limit, along, told)?;
+        return Ok(());
+    }
+    if let Some(choices) = choices {
+        take_all(rt, walk, choices, limit)?;
+    }
+    begin(walk, limit, told)?;
+    Ok(())
+}
+
 // A session.
 pub fn session(
     rt: &HostRuntime,
     walk: &mut Walk<'_, '_>,
     setting: Setting<'_>,
     others: Others,
-    choices: Option<&[u8]>,
+    first: (Option<&[u8]>, Option<Along>),
 ) -> Result<(), NoView> {
-    let mut out = Writer::new(rt.alloc());
-    if let Some(choices) = choices {
-        take_all(rt, walk, choices, setting.limit)?;
-    }
-    begin(walk, setting.limit, &mut out)?;
-    show(rt, &out)?;
+    let mut told = Told::new(rt.alloc());
+    begin_behind(rt, walk, setting.limit, first, &mut told)?;
+    show(rt, &told.out)?;
+    told.out.clear();
     for line in rt.lines(rt.alloc()) {
         let Ok(line) = line else {
             return Err(NoView::Device);
         };
-        if !answer_line(rt, walk, setting, others, line.as_str())? {
+        if !answer_line(rt, walk, setting, others, line.as_str(), &mut told)? {
             break;
         }
     }

@@ -2,8 +2,10 @@
 use crate::stop::NoView;
 use clap::error::ErrorKind;
 use diagnostics::Refusal;
-use explain::{explain, shown_file};
+use explain::{explain_beside, shown_file};
 use std::io;
+use view_run::trailed::Followed;
+use view_words::Asked;
 
 // Says why a file failed, where that is asked for.
 fn explain_file(rt: &HostRuntime, is_asked: bool, name: &str, error: &io::Error) {
@@ -81,9 +83,17 @@ pub fn tell_stop(rt: &HostRuntime, stop: &NoView, explains: bool) -> u8 {
     }
 }
 
-// Says why the model of this text is refused, and where.
-fn explain_refusal(rt: &HostRuntime, name: &str, text: &[u8], refusal: Refusal) {
-    if let Ok(words) = explain(rt.alloc(), name, text, refusal) {
+// What a model is called.
+pub fn shown_name(asked: &Asked) -> &str {
+    match &asked.name {
+        Some(name) => name.as_str(),
+        None => asked.model.as_str(),
+    }
+}
+
+// Says why the model of this text is refused, and where, with the lines of its source.
+fn explain_refusal(rt: &HostRuntime, name: &str, (text, source): (&[u8], &[u8]), refusal: Refusal) {
+    if let Ok(words) = explain_beside(rt.alloc(), name, text, source, refusal) {
         let _ = eprint!(rt; "{words}");
     }
 }
@@ -91,11 +101,10 @@ fn explain_refusal(rt: &HostRuntime, name: &str, text: &[u8], refusal: Refusal) 
 // Says that the model is refused, and why where that is asked for.
 pub fn tell_refusal(
     rt: &HostRuntime,
-    name: &str,
-    text: &[u8],
+    asked: &Asked,
+    texts: (&[u8], &[u8]),
     refusal: Refusal,
     line: u32,
-    explains: bool,
 ) {
     if let Ok(words) = str::from_utf8(refusal.words()) {
         let _ = eprintln!(rt; "refused M{} ({words})", refusal.number());
@@ -103,7 +112,27 @@ pub fn tell_refusal(
     if line > 0 {
         let _ = eprintln!(rt; "spinview: line {line}: M{}", refusal.number());
     }
-    if explains {
-        explain_refusal(rt, name, text, refusal);
+    if asked.explains {
+        explain_refusal(rt, shown_name(asked), texts, refusal);
+    }
+}
+
+// Says which line of a trail does not fit, where one is left.
+pub fn tell_trail(rt: &HostRuntime, name: &str, followed: Followed) {
+    match followed {
+        Followed::Empty => {
+            let _ = eprintln!(rt;
+                "spinview: {name}: no line of a trail, as spin -t -p prints them"
+            );
+        }
+        Followed::Misfit(line) => {
+            let _ = eprintln!(rt; "spinview: {name}:{line}: no choice fits this line of the trail");
+        }
+        Followed::Fault(_, Some(line)) => {
+            let _ = eprintln!(rt;
+                "spinview: {name}:{line}: the run comes to a fault before this line of the trail"
+            );
+        }
+        _ => {}
     }
 }

@@ -1,7 +1,8 @@
-//! A run without a session: lines of JSON, or the chart of a walk.
+//! A run without a session: lines of JSON, or the chart of a walk; and a walk along a trail of Spin.
 #![tactic(auto)]
 
 pub mod lines;
 pub mod next;
 pub mod plain;
 pub mod steps;
+pub mod trailed;

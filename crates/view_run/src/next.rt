@@ -28,7 +28,7 @@ pub fn follow(walk: &Walk<'_, '_>, moves: &[Move], replay: &mut Replay<'_>, limi
     if walk.at() >= limit {
         return Next::End("step limit");
     }
-    match replay.next(&picture, moves) {
+    match replay.next(&picture, moves, walk.next()) {
         Said::Pick(choice) => Next::Take(choice),
         other => Next::End(other.end()),
     }

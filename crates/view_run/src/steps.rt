@@ -5,6 +5,7 @@ use std::alloc::AllocError;
 use view_session::replay::Replay;
 use view_session::seen::picture_of;
 use view_session::steps::{Taken, take};
+use view_session::told::Told;
 use view_state::choices::add_ending;
 use view_text::writer::Writer;
 use view_walk::walk::Walk;
@@ -31,15 +32,15 @@ pub fn add_step(
     walk: &mut Walk<'_, '_>,
     replay: &mut Replay<'_>,
     limit: usize,
-    out: &mut Writer,
+    told: &mut Told,
 ) -> Result<Option<&'static str>, AllocError> {
     let moves = walk.moves()?;
     match follow(walk, moves.as_slice(), replay, limit) {
         Next::End(end) => {
-            add_last(walk, end, !moves.is_empty(), out);
+            add_last(walk, end, !moves.is_empty(), &mut told.out);
             Ok(Some(end))
         }
-        Next::Take(choice) => match take(walk, limit, choice, out)? {
+        Next::Take(choice) => match take(walk, limit, choice, told)? {
             Taken::Yes => Ok(None),
             Taken::Faulted => Ok(Some("fault")),
             _ => Ok(Some("choice misfit")),

@@ -3,10 +3,15 @@
 use crate::charted::{add_chart, most_alive};
 use crate::command::{Command, MOST_UNASKED, USUAL_RUN, read};
 use crate::help::HELP;
-use crate::question::add_question;
+use crate::question::{add_cause, add_question};
 use crate::record::add_record;
+use crate::replay::Along;
 use crate::seen::picture_of;
-use crate::steps::{Taken, take, take_by_chance, take_next, take_of, take_single, take_until};
+use crate::steps::{
+    Taken, take, take_by_chance, take_next, take_of, take_single, take_turns, take_until,
+};
+use crate::told::Told;
+use crate::written::last_written;
 use std::alloc::AllocError;
 use view_state::source::add_source;
 use view_state::state::add_state;
@@ -35,14 +40,27 @@ pub struct Setting<'t> {
 }
 
 // Takes the steps that need no choice, and asks.
-fn go_on(walk: &mut Walk<'_, '_>, limit: usize, out: &mut Writer) -> Result<(), AllocError> {
-    take_single(walk, limit, MOST_UNASKED, out)?;
-    add_question(walk, out)
+fn go_on(walk: &mut Walk<'_, '_>, limit: usize, told: &mut Told) -> Result<(), AllocError> {
+    take_single(walk, limit, MOST_UNASKED, told)?;
+    add_question(walk, &mut told.out)
 }
 
 /// Shows where a session begins.
-pub fn begin(walk: &mut Walk<'_, '_>, limit: usize, out: &mut Writer) -> Result<(), AllocError> {
-    go_on(walk, limit, out)
+pub fn begin(walk: &mut Walk<'_, '_>, limit: usize, told: &mut Told) -> Result<(), AllocError> {
+    go_on(walk, limit, told)
+}
+
+/// Shows where a session begins at the end of a trail, and the fault that the trail comes to there.
+pub fn resume(
+    walk: &mut Walk<'_, '_>,
+    limit: usize,
+    along: Along,
+    told: &mut Told,
+) -> Result<(), AllocError> {
+    if let Along::Fault(choice) = along {
+        take(walk, limit, choice, told)?;
+    }
+    add_question(walk, &mut told.out)
 }
 
 fn number(word: &str) -> usize {
@@ -52,23 +70,21 @@ fn number(word: &str) -> usize {
     }
 }
 
-// Takes one choice. Whether the next may be taken.
+// Takes one choice, and the steps behind it that need none.
 fn choose_one(
     walk: &mut Walk<'_, '_>,
     limit: usize,
     choice: usize,
-    out: &mut Writer,
-) -> Result<bool, AllocError> {
-    match take(walk, limit, choice, out)? {
-        Taken::Yes => {
-            take_single(walk, limit, MOST_UNASKED, out)?;
-            return Ok(true);
-        }
+    told: &mut Told,
+) -> Result<Taken, AllocError> {
+    let taken = take(walk, limit, choice, told)?;
+    match taken {
+        Taken::Yes => take_single(walk, limit, MOST_UNASKED, told)?,
         Taken::Faulted => {}
-        Taken::Bad => out.add(b"bad choice\n"),
-        Taken::Limit => out.add(b"step limit\n"),
+        Taken::Bad => told.out.add(b"bad choice\n"),
+        Taken::Limit => told.out.add(b"step limit\n"),
     }
-    Ok(false)
+    Ok(taken)
 }
 
 // Takes the choices with these numbers, one behind another, and asks, unless the first is none.
@@ -76,25 +92,90 @@ fn choose(
     walk: &mut Walk<'_, '_>,
     limit: usize,
     words: &[&str],
-    out: &mut Writer,
+    told: &mut Told,
 ) -> Result<(), AllocError> {
-    let before = walk.at();
+    let mut asks = false;
     for word in words {
-        if !choose_one(walk, limit, number(word), out)? {
+        let taken = choose_one(walk, limit, number(word), told)?;
+        asks = asks || taken == Taken::Yes || taken == Taken::Faulted;
+        if taken != Taken::Yes {
             break;
         }
     }
-    if walk.at() > before {
-        return add_question(walk, out);
+    if asks {
+        return add_question(walk, &mut told.out);
     }
     Ok(())
 }
 
 // Goes to a place of a walk, and asks.
-fn go_to(walk: &mut Walk<'_, '_>, step: usize, out: &mut Writer) -> Result<(), AllocError> {
+fn go_to(walk: &mut Walk<'_, '_>, step: usize, told: &mut Told) -> Result<(), AllocError> {
     let step = step.min(walk.turns().len());
     walk.go_to(step)?;
-    add_question(walk, out)
+    add_question(walk, &mut told.out)
+}
+
+// Goes back to the last step that changed a variable, shows it, and asks.
+fn go_to_last(
+    walk: &mut Walk<'_, '_>,
+    limit: usize,
+    path: &str,
+    told: &mut Told,
+) -> Result<(), AllocError> {
+    let mut text = Writer::new(told.out.allocator());
+    match last_written(walk, path.as_bytes(), &mut text)? {
+        Some(step) => {
+            let before = step.saturating_sub(1).min(walk.turns().len());
+            walk.go_to(before)?;
+            take_next(walk, limit, 1, told)?;
+            add_question(walk, &mut told.out)
+        }
+        None => {
+            told.out.add(b"no step up to here changed ");
+            told.out.add(path.as_bytes());
+            told.out.add(b"\n");
+            Ok(())
+        }
+    }
+}
+
+// Goes to the end of the branch with this number, and asks.
+fn go_to_branch(
+    walk: &mut Walk<'_, '_>,
+    limit: usize,
+    number: usize,
+    told: &mut Told,
+) -> Result<(), AllocError> {
+    match told.branches.of(number)? {
+        Some(turns) => {
+            walk.go_to(0)?;
+            take_turns(walk, limit, turns.as_slice(), told)?;
+            add_question(walk, &mut told.out)
+        }
+        None => {
+            told.out.add(b"no such branch: branches lists them\n");
+            Ok(())
+        }
+    }
+}
+
+// Does what leads back.
+fn go_back<'l>(
+    walk: &mut Walk<'_, '_>,
+    limit: usize,
+    command: Command<'l>,
+    told: &mut Told,
+) -> Result<(), AllocError> {
+    match command {
+        Command::Back(by) => {
+            let to = walk.at().saturating_sub(by);
+            go_to(walk, to, told)
+        }
+        Command::Goto(step) => go_to(walk, step, told),
+        Command::Last(path) => go_to_last(walk, limit, path, told),
+        Command::Branch(number) => go_to_branch(walk, limit, number, told),
+        _ => go_to(walk, 0, told),
+    }
 }
 
 // Does what leads somewhere.
@@ -102,28 +183,24 @@ fn go<'l>(
     walk: &mut Walk<'_, '_>,
     limit: usize,
     command: Command<'l>,
-    out: &mut Writer,
+    told: &mut Told,
 ) -> Result<(), AllocError> {
     match command {
-        Command::Back(by) => {
-            let to = walk.at().saturating_sub(by);
-            return go_to(walk, to, out);
-        }
-        Command::Goto(step) => return go_to(walk, step, out),
-        Command::Restart => return go_to(walk, 0, out),
-        Command::Forward(by) => take_next(walk, limit, by, out)?,
-        Command::Run(most) => take_single(walk, limit, most, out)?,
-        Command::Process(process) => take_of(walk, limit, USUAL_RUN, process, out)?,
-        Command::Until(goal) => take_until(walk, limit, USUAL_RUN, goal, out)?,
-        Command::Random(most, seed) => take_by_chance(walk, limit, most, seed, out)?,
-        _ => {}
+        Command::Forward(by) => take_next(walk, limit, by, told)?,
+        Command::Run(most) => take_single(walk, limit, most, told)?,
+        Command::Process(process) => take_of(walk, limit, USUAL_RUN, process, told)?,
+        Command::Until(goal) => take_until(walk, limit, USUAL_RUN, goal, told)?,
+        Command::Random(most, seed) => take_by_chance(walk, limit, most, seed, told)?,
+        Command::Moves => {}
+        _ => return go_back(walk, limit, command, told),
     }
-    add_question(walk, out)
+    add_question(walk, &mut told.out)
 }
 
-fn show_why(walk: &Walk<'_, '_>, out: &mut Writer) -> Result<(), AllocError> {
+fn show_why(walk: &mut Walk<'_, '_>, out: &mut Writer) -> Result<(), AllocError> {
     let moves = walk.moves()?;
-    add_why(&picture_of(walk.world()), moves.as_slice(), out)
+    add_why(&picture_of(walk.world()), moves.as_slice(), out)?;
+    add_cause(walk, moves.as_slice(), out)
 }
 
 // Writes the chart of a walk up to where it stands.
@@ -139,19 +216,20 @@ fn obey<'l>(
     setting: Setting<'_>,
     words: &[&'l str],
     command: Command<'l>,
-    out: &mut Writer,
+    told: &mut Told,
 ) -> Result<(), AllocError> {
     match command {
-        Command::Choose => return choose(walk, setting.limit, words, out),
-        Command::State => add_state(&picture_of(walk.world()), out),
-        Command::Why => return show_why(walk, out),
-        Command::Chart => return show_chart(walk, out),
-        Command::Source => add_source(&picture_of(walk.world()), setting.text, out),
-        Command::Record => add_record(walk.turns(), out),
-        Command::Help => out.add(HELP.as_bytes()),
-        Command::Wrong(form) => out.add(form.as_bytes()),
-        Command::Unknown => out.add(b"no such command: help lists them\n"),
-        _ => return go(walk, setting.limit, command, out),
+        Command::Choose => return choose(walk, setting.limit, words, told),
+        Command::State => add_state(&picture_of(walk.world()), &mut told.out),
+        Command::Why => return show_why(walk, &mut told.out),
+        Command::Chart => return show_chart(walk, &mut told.out),
+        Command::Source => add_source(&picture_of(walk.world()), setting.text, &mut told.out),
+        Command::Record => add_record(walk.turns(), &mut told.out),
+        Command::Branches => told.branches.add(walk.turns(), &mut told.out),
+        Command::Help => told.out.add(HELP.as_bytes()),
+        Command::Wrong(form) => told.out.add(form.as_bytes()),
+        Command::Unknown => told.out.add(b"no such command: help lists them\n"),
+        _ => return go(walk, setting.limit, command, told),
     }
     Ok(())
 }
@@ -165,24 +243,48 @@ fn recover(walk: &mut Walk<'_, '_>) -> Result<(), AllocError> {
     Ok(())
 }
 
+// Whether a command may cut off steps to come, or other steps behind these.
+fn may_cut<'l>(walk: &Walk<'_, '_>, command: Command<'l>) -> bool {
+    walk.at() < walk.turns().len() || matches!(command, Command::Branch(_))
+}
+
+// Does what a command says, and keeps the walk that it leaves for another.
+fn obey_and_keep<'l>(
+    walk: &mut Walk<'_, '_>,
+    setting: Setting<'_>,
+    words: &[&'l str],
+    command: Command<'l>,
+    told: &mut Told,
+) -> Result<(), AllocError> {
+    if !may_cut(walk, command) {
+        return obey(walk, setting, words, command, told);
+    }
+    let mut before = Vec::new(told.out.allocator());
+    before.extend_from_slice(walk.turns())?;
+    obey(walk, setting, words, command, told)?;
+    told.branches.keep(before.as_slice(), walk.turns())?;
+    told.branches.let_go(walk.turns());
+    Ok(())
+}
+
 /// Answers a line.
 pub fn answer<'l>(
     walk: &mut Walk<'_, '_>,
     setting: Setting<'_>,
     line: &'l str,
-    out: &mut Writer,
+    told: &mut Told,
 ) -> Result<Reply<'l>, AllocError> {
     if line.len() >= MOST_LINE {
-        out.add(b"line too long\n");
+        told.out.add(b"line too long\n");
         return Ok(Reply::On);
     }
     recover(walk)?;
-    let words: Vec<&'l str> = line.split_whitespace().collect(out.allocator())?;
+    let words: Vec<&'l str> = line.split_whitespace().collect(told.out.allocator())?;
     match read(words.as_slice()) {
         Command::Quit => Ok(Reply::End),
         Command::Save(file) => Ok(Reply::Save(file)),
         other => {
-            obey(walk, setting, words.as_slice(), other, out)?;
+            obey_and_keep(walk, setting, words.as_slice(), other, told)?;
             Ok(Reply::On)
         }
     }

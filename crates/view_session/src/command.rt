@@ -29,6 +29,10 @@ pub enum Command<'l> {
     Process(usize),
     /// Steps with one move, until one leads there.
     Until(Goal<'l>),
+    /// Back to the last step that changed this variable.
+    Last(&'l str),
+    Branches,
+    Branch(usize),
     Chart,
     Record,
     Save(&'l str),
@@ -102,6 +106,23 @@ fn random<'l>(rest: &[&str]) -> Command<'l> {
     }
 }
 
+fn last<'l>(rest: &[&'l str]) -> Command<'l> {
+    match rest {
+        [path] => Command::Last(path),
+        _ => Command::Wrong("last NAME\n"),
+    }
+}
+
+fn branch<'l>(rest: &[&str]) -> Command<'l> {
+    match rest {
+        [word] => match number(word) {
+            Some(branch) => Command::Branch(branch),
+            None => Command::Wrong("branch N\n"),
+        },
+        _ => Command::Wrong("branch N\n"),
+    }
+}
+
 fn save<'l>(rest: &[&'l str]) -> Command<'l> {
     match rest {
         [file] => Command::Save(file),
@@ -122,7 +143,9 @@ fn process<'l>(rest: &[&str]) -> Command<'l> {
 fn until<'l>(rest: &[&'l str]) -> Command<'l> {
     match wanted(rest) {
         Some(goal) => Command::Until(goal),
-        None => Command::Wrong("until line L, until PATH == VALUE, until PATH != VALUE\n"),
+        None => Command::Wrong(
+            "until NAME, until line L, until NAME == VALUE, until NAME != VALUE\n",
+        ),
     }
 }
 
@@ -145,6 +168,9 @@ fn with_words<'l>(name: Name, rest: &[&'l str]) -> Command<'l> {
         Name::Save => save(rest),
         Name::Process => process(rest),
         Name::Until => until(rest),
+        Name::Last => last(rest),
+        Name::Branch => branch(rest),
+        Name::Branches => alone(Command::Branches, rest),
         Name::Chart => alone(Command::Chart, rest),
         Name::Moves => alone(Command::Moves, rest),
         Name::State => alone(Command::State, rest),

@@ -2,13 +2,17 @@
 #![tactic(auto)]
 
 pub mod answers;
+pub mod branches;
 pub mod charted;
 pub mod command;
 mod help;
 pub mod names;
+pub mod past;
 pub mod question;
 pub mod record;
 pub mod replay;
 pub mod seen;
 pub mod steps;
+pub mod told;
 pub mod until;
+pub mod written;

@@ -15,6 +15,9 @@ pub enum Name {
     Random,
     Process,
     Until,
+    Last,
+    Branches,
+    Branch,
     Chart,
     Record,
     Save,
@@ -23,7 +26,7 @@ pub enum Name {
 }
 
 // Each name, and the short one that means it too.
-const NAMES: [(Name, &str, &str); 17] = [
+const NAMES: [(Name, &str, &str); 20] = [
     (Name::Moves, "moves", "m"),
     (Name::State, "state", "s"),
     (Name::Why, "why", "w"),
@@ -36,6 +39,9 @@ const NAMES: [(Name, &str, &str); 17] = [
     (Name::Random, "random", "random"),
     (Name::Process, "p", "p"),
     (Name::Until, "until", "until"),
+    (Name::Last, "last", "last"),
+    (Name::Branches, "branches", "branches"),
+    (Name::Branch, "branch", "branch"),
     (Name::Chart, "chart", "chart"),
     (Name::Record, "record", "record"),
     (Name::Save, "save", "save"),

@@ -1,5 +1,6 @@
 //! What is asked.
 
+use crate::past::add_past;
 use crate::seen::picture_of;
 use pml_moves::moves::Move;
 use std::alloc::AllocError;
@@ -41,10 +42,23 @@ fn add_list(
     add_blocked(picture, moves, out)
 }
 
+/// Writes what led to the end where a walk stands that has these moves, where that is an invalid one.
+pub fn add_cause(
+    walk: &mut Walk<'_, '_>,
+    moves: &[Move],
+    out: &mut Writer,
+) -> Result<(), AllocError> {
+    if moves.is_empty() && ending_of(&picture_of(walk.world())) == "invalid" {
+        return add_past(walk, out);
+    }
+    Ok(())
+}
+
 /// Writes what is asked where a walk stands.
-pub fn add_question(walk: &Walk<'_, '_>, out: &mut Writer) -> Result<(), AllocError> {
+pub fn add_question(walk: &mut Walk<'_, '_>, out: &mut Writer) -> Result<(), AllocError> {
     let moves = walk.moves()?;
     add_list(&picture_of(walk.world()), walk.at(), moves.as_slice(), out)?;
+    add_cause(walk, moves.as_slice(), out)?;
     add_place(walk.at(), walk.turns().len(), moves.as_slice(), out);
     Ok(())
 }

@@ -1,4 +1,4 @@
-//! Choices that are taken without a question: of a record of either version, or of a generator.
+//! Choices that are taken without a question: of a record of either version, of a generator, or those of a walk that are still to come.
 
 ghost use Rattle.std.specs.Prelude.{◌<◌, ◌≤◌, IfSome, length};
 
@@ -8,6 +8,7 @@ use rand_core::utils::NextWord;
 use rand_pcg::Pcg32;
 use view_cells::picture::Picture;
 use view_waits::waits::{origin_line, starter_of};
+use view_walk::turn::Turn;
 
 /// How a question is answered.
 #[derive(Clone, Copy, Debug, PartialEq, Eq)]
@@ -52,6 +53,15 @@ pub struct Replay<'t> {
     generator: Option<Pcg32>,
     is_begun: bool,
     is_second: bool,
+    along: Option<Along>,
+}
+
+/// How a run goes on behind the choices of a walk, which it follows.
+#[derive(Clone, Copy, Debug, PartialEq, Eq)]
+pub enum Along {
+    /// By the move with this number, which comes to a fault.
+    Fault(usize),
+    Stop(Said),
 }
 
 fn is_blank(byte: u8) -> bool {
@@ -162,6 +172,15 @@ fn said_with_place(picture: &Picture<'_, '_, '_>, moves: &[Move], line: &[u8]) -
     }
 }
 
+// What is said where a walk is followed, and this is the next of its choices.
+fn said_along(along: Along, next: Option<Turn>) -> Said {
+    match (next, along) {
+        (Some(turn), _) => Said::Pick(turn.choice),
+        (None, Along::Fault(choice)) => Said::Pick(choice),
+        (None, Along::Stop(said)) => said,
+    }
+}
+
 // Where the first line feed among so many bytes is.
 fn feed_in(text: &[u8], most: usize) -> Option<usize>
     ensures { IfSome result (λ at. at < length text.now) }
@@ -182,6 +201,18 @@ impl<'t> Replay<'t> {
             generator,
             is_begun: false,
             is_second: false,
+            along: None,
+        }
+    }
+
+    /// Those of a walk that are still to come, and behind them this.
+    pub fn along(along: Along) -> Replay<'static> {
+        Replay {
+            rest: &[],
+            generator: None,
+            is_begun: false,
+            is_second: false,
+            along: Some(along),
         }
     }
 
@@ -242,8 +273,16 @@ impl<'t> Replay<'t> {
         Said::Hundred
     }
 
-    /// Which of the present moves is taken: the only one, without a line.
-    pub fn next(&mut self, picture: &Picture<'_, '_, '_>, moves: &[Move]) -> Said {
+    /// Which of the present moves is taken, where this choice of the walk is the next: the only one, without a line.
+    pub fn next(
+        &mut self,
+        picture: &Picture<'_, '_, '_>,
+        moves: &[Move],
+        next: Option<Turn>,
+    ) -> Said {
+        if let Some(along) = self.along {
+            return said_along(along, next);
+        }
         if moves.len() == 1 {
             return Said::Pick(1);
         }

@@ -1,6 +1,7 @@
 //! Steps of a walk, and their lines.
 
 use crate::seen::picture_of;
+use crate::told::Told;
 use crate::until::{Goal, is_reached};
 use diagnostics::Fault;
 use pml_moves::moves::Move;
@@ -12,6 +13,7 @@ use view_state::choices::add_move;
 use view_text::writer::Writer;
 use view_waits::statement::add_statement_reads;
 use view_waits::waits::starter_of;
+use view_walk::turn::Turn;
 use view_walk::walk::{Walk, Went};
 
 /// The move with this number, counted from 1.
@@ -100,7 +102,7 @@ pub fn take(
     walk: &mut Walk<'_, '_>,
     limit: usize,
     choice: usize,
-    out: &mut Writer,
+    told: &mut Told,
 ) -> Result<Taken, AllocError> {
     let moves = walk.moves()?;
     let Some(m) = move_at(moves.as_slice(), choice) else {
@@ -110,17 +112,20 @@ pub fn take(
         return Ok(Taken::Limit);
     }
     let step = walk.at().saturating_add(1);
-    let mut text = Writer::new(out.allocator());
+    let mut text = Writer::new(told.out.allocator());
     add_move(&picture_of(walk.world()), &m, &mut text);
-    let mut printed = Vec::new(out.allocator());
+    let mut printed = Vec::new(told.out.allocator());
+    told.step_from(walk);
     match choose(walk, choice, &mut printed)? {
         Went::On => {
-            add_step(walk.world(), step, text.bytes(), printed.as_slice(), out)?;
+            let printed = printed.as_slice();
+            add_step(walk.world(), step, text.bytes(), printed, &mut told.out)?;
+            told.add_same(walk)?;
             Ok(Taken::Yes)
         }
         Went::Faults(fault) => {
-            add_fault(fault, step, text.bytes(), out);
-            add_statement_reads(&picture_of(walk.world()), &m, out);
+            add_fault(fault, step, text.bytes(), &mut told.out);
+            add_statement_reads(&picture_of(walk.world()), &m, &mut told.out);
             Ok(Taken::Faulted)
         }
         Went::Nowhere => Ok(Taken::Bad),
@@ -132,19 +137,14 @@ pub fn take_single(
     walk: &mut Walk<'_, '_>,
     limit: usize,
     most: usize,
-    out: &mut Writer,
+    told: &mut Told,
 ) -> Result<(), AllocError> {
     for _ in 0..most {
-        if walk.moves()?.len() != 1 || take(walk, limit, 1, out)? != Taken::Yes {
+        if walk.moves()?.len() != 1 || take(walk, limit, 1, told)? != Taken::Yes {
             break;
         }
     }
     Ok(())
-}
-
-// Whether a walk stands where a run is to stop.
-fn is_at<'l>(walk: &Walk<'_, '_>, goal: Goal<'l>, text: &mut Writer) -> bool {
-    is_reached(&picture_of(walk.world()), goal, text)
 }
 
 /// Takes steps with one move until one leads where a run is to stop, at most so many.
@@ -153,14 +153,14 @@ pub fn take_until<'l>(
     limit: usize,
     most: usize,
     goal: Goal<'l>,
-    out: &mut Writer,
+    told: &mut Told,
 ) -> Result<(), AllocError> {
-    let mut text = Writer::new(out.allocator());
+    let mut text = Writer::new(told.out.allocator());
     for _ in 0..most {
-        if walk.moves()?.len() != 1 || take(walk, limit, 1, out)? != Taken::Yes {
+        if walk.moves()?.len() != 1 || take(walk, limit, 1, told)? != Taken::Yes {
             break;
         }
-        if is_at(walk, goal, &mut text) {
+        if is_reached(walk.world(), goal, &mut text)? {
             break;
         }
     }
@@ -195,14 +195,14 @@ pub fn take_of(
     limit: usize,
     most: usize,
     process: usize,
-    out: &mut Writer,
+    told: &mut Told,
 ) -> Result<(), AllocError> {
     for _ in 0..most {
         let moves = walk.moves()?;
         let Some(choice) = only_of(moves.as_slice(), process) else {
             break;
         };
-        if take(walk, limit, choice, out)? != Taken::Yes {
+        if take(walk, limit, choice, told)? != Taken::Yes {
             break;
         }
     }
@@ -214,13 +214,13 @@ pub fn take_next(
     walk: &mut Walk<'_, '_>,
     limit: usize,
     most: usize,
-    out: &mut Writer,
+    told: &mut Told,
 ) -> Result<(), AllocError> {
     for _ in 0..most {
         let Some(turn) = walk.next() else {
             break;
         };
-        if take(walk, limit, turn.choice, out)? != Taken::Yes {
+        if take(walk, limit, turn.choice, told)? != Taken::Yes {
             break;
         }
     }
@@ -248,12 +248,31 @@ pub fn take_by_chance(
     limit: usize,
     most: usize,
     seed: u64,
-    out: &mut Writer,
+    told: &mut Told,
 ) -> Result<(), AllocError> {
     let mut generator = Pcg32::new(seed, 54);
-    let mut printed = Vec::new(out.allocator());
+    told.step_from(walk);
+    let mut printed = Vec::new(told.out.allocator());
     for _ in 0..most {
         if walk.at() >= limit || !take_any(walk, &mut generator, &mut printed)? {
+            break;
+        }
+    }
+    Ok(())
+}
+
+/// Takes these choices, without their lines.
+pub fn take_turns(
+    walk: &mut Walk<'_, '_>,
+    limit: usize,
+    turns: &[Turn],
+    told: &mut Told,
+) -> Result<(), AllocError> {
+    let mut printed = Vec::new(told.out.allocator());
+    told.step_from(walk);
+    for turn in turns {
+        printed.clear();
+        if walk.at() >= limit || choose(walk, turn.choice, &mut printed)? != Went::On {
             break;
         }
     }

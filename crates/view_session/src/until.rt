@@ -1,5 +1,9 @@
 //! Where a run is to stop.
 
+use crate::seen::picture_of;
+use crate::written::is_written;
+use pml_sim::world::World;
+use std::alloc::AllocError;
 use view_cells::cells::{add_value, form_at, number_at, place_of};
 use view_cells::picture::Picture;
 use view_cells::processes::{add_name, line_of};
@@ -14,6 +18,8 @@ pub enum Goal<'l> {
     Equal(&'l str, &'l str),
     /// Where it has another.
     Other(&'l str, &'l str),
+    /// Behind a step that changed it.
+    Written(&'l str),
 }
 
 fn at_line<'l>(word: &str) -> Option<Goal<'l>> {
@@ -26,6 +32,7 @@ fn at_line<'l>(word: &str) -> Option<Goal<'l>> {
 /// What these words want.
 pub fn wanted<'l>(words: &[&'l str]) -> Option<Goal<'l>> {
     match words {
+        [path] => Some(Goal::Written(path)),
         [word, number] => {
             if *word == "line" {
                 at_line(number)
@@ -65,8 +72,8 @@ fn has_value(
     Some(text.bytes() == value)
 }
 
-// What is behind `P[2].` in a path, where that is this process.
-fn path_within<'l>(
+/// What is behind `P[2].` in a path, where that is this process.
+pub fn path_within<'l>(
     picture: &Picture<'_, '_, '_>,
     process: usize,
     path: &'l [u8],
@@ -109,14 +116,20 @@ fn is_at_line(picture: &Picture<'_, '_, '_>, line: u32) -> bool {
 }
 
 /// Whether a state is one where a run is to stop; `text` is for what is compared.
-pub fn is_reached<'l>(picture: &Picture<'_, '_, '_>, goal: Goal<'l>, text: &mut Writer) -> bool {
+pub fn is_reached<'l>(
+    world: &World<'_, '_>,
+    goal: Goal<'l>,
+    text: &mut Writer,
+) -> Result<bool, AllocError> {
+    let picture = picture_of(world);
     match goal {
-        Goal::Line(line) => is_at_line(picture, line),
+        Goal::Line(line) => Ok(is_at_line(&picture, line)),
         Goal::Equal(path, value) => {
-            is_value(picture, path.as_bytes(), value.as_bytes(), text) == Some(true)
+            Ok(is_value(&picture, path.as_bytes(), value.as_bytes(), text) == Some(true))
         }
         Goal::Other(path, value) => {
-            is_value(picture, path.as_bytes(), value.as_bytes(), text) == Some(false)
+            Ok(is_value(&picture, path.as_bytes(), value.as_bytes(), text) == Some(false))
         }
+        Goal::Written(path) => is_written(world, path.as_bytes(), text),
     }
 }

@@ -14,8 +14,14 @@ pub enum Form {
 pub struct Asked {
     /// The file of the model.
     pub model: String,
+    /// What the model is called.
+    pub name: Option<String>,
+    /// The file whose lines are shown, of which the model was prepared.
+    pub source: Option<String>,
     /// The file of the choices that are taken first.
     pub choices: Option<String>,
+    /// The file of a trail of Spin that is followed first.
+    pub trail: Option<String>,
     /// The file of the walk's choices.
     pub rec: Option<String>,
     /// The file of the page.

@@ -15,6 +15,7 @@ Arguments:
 
 Options:
   --choices <FILE>  Take the choices of FILE first
+  --trail <FILE>    Take first the steps that spin -t -p printed into FILE
   --record <FILE>   Write the choices of the walk to FILE when the session ends
   --random <SEED>   Answer each question by a generator, without a session
   --json            Without a session: a line of JSON for each step
@@ -23,17 +24,30 @@ Options:
   -m                Lose messages that are sent to a full channel
   -u <N>            Take at most N steps (1000000 where it is not given)
   --explain         Say why and where a model is refused, or why a file fails
+  --name <NAME>     Call the model NAME
+  --source <FILE>   Show the lines of FILE, of which MODEL was prepared
   -h, --help        Print help
   -V, --version     Print version
 
+A model with #define, ltl or a never claim, or with ends of lines in place of
+';', is prepared and shown by spinprep, which takes the same options:
+  spinprep --view model.pml
+
 A session reads a line at a time: the number of a choice, or a command; help
-lists them. Without a session the choices are those of FILE, else those of the
-generator, else those of standard input, as spinplay reads them.
+lists them. Without a session the choices are those of the trail, else those of
+FILE, else those of the generator, else those of standard input, as spinplay
+reads them.
+
+To see a counterexample of Spin:
+  spin -a m.pml && gcc -o pan pan.c && ./pan
+  spin -t -p m.pml > m.txt
+  spinview --trail m.txt m.pml
 
 Exit status:
   0  the session ended, or all was written
   3  the model is refused
   4  wrong words, or a file that cannot be opened, read or written
-  5  choices that do not fit: a misfit, a line too long, 100 bad choices
+  5  choices that do not fit: a misfit, a line too long, 100 bad choices, a
+     trail that does not fit, which is told in a session too
   6  a device or memory failed
 ";

@@ -21,6 +21,14 @@ fn file<'a>(alloc: Global, id: &'a str) -> Arg<'a> {
         .value_name("FILE")
 }
 
+// An option with a name behind it.
+fn name<'a>(alloc: Global) -> Arg<'a> {
+    Arg::new(alloc, "name")
+        .long("name")
+        .action(ArgAction::Set)
+        .value_name("NAME")
+}
+
 fn seed<'a>(alloc: Global) -> Arg<'a> {
     Arg::new(alloc, "random")
         .long("random")
@@ -56,6 +64,7 @@ fn spinview<'a>(alloc: Global) -> Command<'a> {
 fn command<'a>(alloc: Global) -> Result<Command<'a>, AllocError> {
     spinview(alloc)
         .arg(file(alloc, "choices"))?
+        .arg(file(alloc, "trail"))?
         .arg(file(alloc, "record"))?
         .arg(file(alloc, "page"))?
         .arg(seed(alloc))?
@@ -64,6 +73,8 @@ fn command<'a>(alloc: Global) -> Result<Command<'a>, AllocError> {
         .arg(lossy(alloc))?
         .arg(limit(alloc))?
         .arg(flag(alloc, "explain"))?
+        .arg(name(alloc))?
+        .arg(file(alloc, "source"))?
         .arg(model(alloc))
 }
 
@@ -94,11 +105,17 @@ pub fn read<'a>(alloc: Global, words: &'a [&'a str]) -> Result<Asked, Error> {
     let matches = command(alloc)?.try_get_matches_from(words)?;
     let model = String::from_str(alloc, matches.get_str("MODEL").unwrap_or(""))?;
     let choices = text_of(alloc, &matches, "choices")?;
+    let trail = text_of(alloc, &matches, "trail")?;
     let rec = text_of(alloc, &matches, "record")?;
     let page = text_of(alloc, &matches, "page")?;
+    let name = text_of(alloc, &matches, "name")?;
+    let source = text_of(alloc, &matches, "source")?;
     Ok(Asked {
         model,
+        name,
+        source,
         choices,
+        trail,
         rec,
         page,
         seed: matches.get_one::<u32>("random"),
