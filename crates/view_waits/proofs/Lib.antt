@@ -5,3 +5,4 @@ pub mod Searched
 pub mod Adding
 pub mod Senders
 pub mod Waiting
+pub mod Filled

@@ -4,3 +4,4 @@ pub mod Waits
 pub mod Added
 pub mod Why
 pub mod Laws
+pub mod Filled

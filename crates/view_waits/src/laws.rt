@@ -1,5 +1,6 @@
 //! Laws of what processes wait for, which functions without a body state.
 
+ghost use Rattle.view_waits.specs.Filled.{KeptStatesStandAtNodes, WaitsExactlyWithoutMoves};
 ghost use Rattle.view_waits.specs.Laws.{MovesWithoutWaiting, ReasonsAreTrue, WaitsForEachOffer, WaitsWithoutMoves};
 
 /// Each reason that is given is so, by its case: a condition is worth 0, a channel is full, empty, or has no message that matches, nobody receives or sends
@@ -15,4 +16,11 @@ pub fn who_has_no_move_waits()
     ensures moves { MovesWithoutWaiting }
     ensures waits { WaitsWithoutMoves }
     ensures each { WaitsForEachOffer }
+{}
+
+/// In a model in which each `if` and `do` has an option, and each sequence in a statement a statement, a process that stands at a node of its proctype waits
+/// for nothing exactly where it takes part in a move. Each process of a state that is kept of a run stands at a node.
+pub fn who_waits_has_no_move()
+    ensures exactly { WaitsExactlyWithoutMoves }
+    ensures kept { KeptStatesStandAtNodes }
 {}
