@@ -27,7 +27,7 @@ limit_rule = record (new_rule (codes "u")) {
   parser = Some (vp.Signed (pos 0) (pos 4294967295));
 }
 
--- `--choices FILE`, `--record FILE`, `--name NAME` and `--source FILE`
+-- `--choices FILE`, `--record FILE`, `--name NAME`, `--source FILE` and `--lines FILE`
 abbrev pub file_rule : Text → Rule
 file_rule id = record (new_rule id) { long = Some id; action = Some Set; value_names = 1 }
 
@@ -51,7 +51,8 @@ pub record IsNamed (c : Command) : Type 0 where
   pub local : (fields_of c).has_globals ≡ false
   pub negates : (fields_of c).subcommand_negates_reqs ≡ false
 
--- `spinplay [-i] [-p] [-g] [-l] [-m] [-T] [-uN] [--choices FILE] [--record FILE] [--convert] [--explain] [--name NAME] [--source FILE] MODEL`
+-- `spinplay [-i] [-p] [-g] [-l] [-m] [-T] [-uN] [--choices FILE] [--record FILE] [--convert] [--explain] [--name NAME] [--source FILE]
+-- [--lines FILE] MODEL`
 unfoldable pub command_line : App
 command_line = with_all named (
     counted_letter (codes "i") 105
@@ -67,6 +68,7 @@ command_line = with_all named (
     ∷ counted_word (codes "explain")
     ∷ file_rule (codes "name")
     ∷ file_rule (codes "source")
+    ∷ file_rule (codes "lines")
     ∷ model_rule
     ∷ [])
 
@@ -75,7 +77,7 @@ abbrev pub ids : List Text
 ids =
     codes "i" ∷ codes "p" ∷ codes "g" ∷ codes "l" ∷ codes "m" ∷ codes "T" ∷ codes "u"
     ∷ codes "choices" ∷ codes "record" ∷ codes "convert" ∷ codes "explain"
-    ∷ codes "name" ∷ codes "source" ∷ codes "MODEL" ∷ []
+    ∷ codes "name" ∷ codes "source" ∷ codes "lines" ∷ codes "MODEL" ∷ []
 
 -- the argument excludes no other, belongs to this command alone and has this id
 abbrev pub IsArgument : Text → Arg → Type 0
@@ -92,4 +94,4 @@ pub record IsCommandLine (c : Command) : Type 0 where
   pub in_turn : AddsInTurn AddsArg start added c
   pub plain : All (λ a. IsPlainArg a × (a.global ≡ false)) added
   pub ids : map (λ a. a.id.now) added ≡ ids
-  pub model : (d : Arg) → TakesValue (slice_index_or added 13 d)
+  pub model : (d : Arg) → TakesValue (slice_index_or added 14 d)

@@ -27,3 +27,4 @@ pub record IsReadFrom (rows : List Row) (a : Arguments) : Type 0 where
   pub explain : IsTrue a.explain ↔ (0 < count_of (codes "explain") rows)
   pub name : first_of (codes "name") rows ≡ option_map string_bytes a.name
   pub source : first_of (codes "source") rows ≡ option_map string_bytes a.source
+  pub lines : first_of (codes "lines") rows ≡ option_map string_bytes a.lines

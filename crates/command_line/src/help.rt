@@ -23,6 +23,7 @@ Options:
   --explain         Say why and where a model is refused, on standard error
   --name <NAME>     Call the model NAME there
   --source <FILE>   Show lines of FILE there, of which MODEL was prepared
+  --lines <FILE>    Tell lines of included files there, as FILE of spinprep does
   -i, -T            Accepted as Spin has them, and change nothing
   -h, --help        Print help
   -V, --version     Print version

@@ -19,4 +19,6 @@ pub struct Arguments {
     pub name: Option<String>,
     /// The file whose lines explanations show, where the model was prepared of it.
     pub source: Option<String>,
+    /// The file that says which lines of the model are of included files, where it was prepared.
+    pub lines: Option<String>,
 }

@@ -51,7 +51,7 @@ fn limit<'a>(alloc: Global) -> Arg<'a>
         .help("Take at most N steps (1000000 where it is not given)")
 }
 
-// `--choices FILE`, `--record FILE` and `--source FILE`.
+// `--choices FILE`, `--record FILE`, `--source FILE` and `--lines FILE`.
 fn file<'a>(alloc: Global, id: &'a str, help: &'a str) -> Arg<'a>
     ensures rule { rule_of result ≡ file_rule id.entry.now }
     ensures plain { IsArgument id.entry.now result }
@@ -133,6 +133,11 @@ fn command<'a>(alloc: Global) -> Result<Command<'a>, AllocError>
         .arg(long_flag(alloc, "explain", "Say why a model is refused, and where"))?
         .arg(name(alloc))?
         .arg(file(alloc, "source", "Show lines of FILE in explanations"))?
+        .arg(file(
+            alloc,
+            "lines",
+            "Tell lines of included files by FILE in explanations",
+        ))?
         .arg(model(alloc))
 }
 
@@ -164,6 +169,7 @@ pub fn arguments<'a>(alloc: Global, words: &'a [&'a str]) -> Result<Arguments, E
     let rec = text_of(alloc, &matches, "record")?;
     let name = text_of(alloc, &matches, "name")?;
     let source = text_of(alloc, &matches, "source")?;
+    let lines = text_of(alloc, &matches, "lines")?;
     Ok(Arguments {
         options,
         model,
@@ -173,5 +179,6 @@ pub fn arguments<'a>(alloc: Global, words: &'a [&'a str]) -> Result<Arguments, E
         explain: matches.get_count("explain") > 0,
         name,
         source,
+        lines,
     })
 }

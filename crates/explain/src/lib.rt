@@ -5,6 +5,7 @@ mod ascii;
 mod author;
 mod counts;
 mod foreign;
+mod included;
 mod message;
 mod names;
 mod position;
@@ -16,11 +17,12 @@ mod texts;
 use author::seen_in;
 use counts::{of_control, of_count, of_inline, of_label, of_range, of_start};
 use diagnostics::Refusal;
+use included::included_at;
 use message::Message;
 use names::{of_declared, of_twice, of_unknown};
 use pml_causes::cause::{Cause, Finding, Place};
 use pml_refused::cause_of;
-use position::{column, line_of, shown_offset};
+use position::{Line, column, line_of, shown_offset};
 use shown::{show_alone, show_line, window_round};
 use std::alloc::{AllocError, Global};
 use std::str;
@@ -69,22 +71,48 @@ fn tell_head(
     message.push("\n")
 }
 
+/// What a text was prepared of.
+#[derive(Clone, Copy)]
+pub struct Source<'t> {
+    /// The model as its author has it.
+    pub text: &'t [u8],
+    /// Which lines are of included files, as `spinprep` writes it.
+    pub lines: &'t [u8],
+    /// The included file in which the refusal lies, if it does.
+    pub included: &'t [u8],
+}
+
+/// Adds the name of the file in which a place lies, and answers the line of the place, and the text that it is shown from.
+fn tell_file<'t>(
+    message: &mut Message<'t>,
+    name: &str,
+    source: Source<'t>,
+    offset: usize,
+) -> Result<(Line<'t>, &'t [u8]), AllocError> {
+    match message.included(offset) {
+        Some(included) => {
+            message.file(included.file)?;
+            Ok((included.line, source.included))
+        }
+        None => {
+            message.file(name)?;
+            Ok((line_of(message.text(), offset), source.text))
+        }
+    }
+}
+
 /// Adds all that is told of a place, whose line is shown as it stands in the source.
-fn tell_place(
-    message: &mut Message<'_>,
-    source: &[u8],
+fn tell_place<'t>(
+    message: &mut Message<'t>,
+    name: &str,
+    source: Source<'t>,
     refusal: Refusal,
     cause: Cause<'_>,
     place: Place,
 ) -> Result<(), AllocError> {
     let offset = shown_offset(message.text(), place.offset);
-    let line = line_of(message.text(), offset);
-    let seen = seen_in(
-        source,
-        line,
-        offset.saturating_sub(line.start),
-        place.length,
-    );
+    let (line, text) = tell_file(message, name, source, offset)?;
+    let seen = seen_in(text, line, offset.saturating_sub(line.start), place.length);
     message.figure(":", line.number, "")?;
     match seen.mark {
         Some(mark) => {
@@ -114,31 +142,58 @@ pub fn explain(
     text: &[u8],
     refusal: Refusal,
 ) -> Result<String, AllocError> {
-    explain_beside(alloc, name, text, text, refusal)
+    let source = Source {
+        text,
+        lines: b"",
+        included: b"",
+    };
+    explain_beside(alloc, name, text, source, refusal)
 }
 
 /// The same of a text that was prepared of another one with the same lines: where the two differ, the line of that source is shown, and the
-/// place on it where its token is found there.
+/// place on it where its token is found there. A place in an included file is told by that file's name and lines.
 pub fn explain_beside(
     alloc: Global,
     name: &str,
     text: &[u8],
-    source: &[u8],
+    source: Source<'_>,
     refusal: Refusal,
 ) -> Result<String, AllocError> {
     let Finding { place, cause } = cause_of(alloc, text, refusal)?;
-    let mut message = Message::new(alloc, text);
-    message.file(name)?;
+    let mut message = Message::new(alloc, text, source.lines);
     match place {
-        Some(place) => tell_place(&mut message, source, refusal, cause, place)?,
-        None => tell_head(&mut message, refusal, cause)?,
+        Some(place) => tell_place(&mut message, name, source, refusal, cause, place)?,
+        None => {
+            message.file(name)?;
+            tell_head(&mut message, refusal, cause)?
+        }
     }
     Ok(message.into_text())
 }
 
+/// The included file in which a refusal lies, if it does, by a table of the lines of such files.
+pub fn included_file<'t>(
+    alloc: Global,
+    text: &'t [u8],
+    lines: &'t [u8],
+    refusal: Refusal,
+) -> Result<Option<&'t str>, AllocError> {
+    if lines.is_empty() {
+        return Ok(None);
+    }
+    let Finding { place, cause: _ } = cause_of(alloc, text, refusal)?;
+    match place {
+        Some(place) => match included_at(text, lines, shown_offset(text, place.offset)) {
+            Some(included) => Ok(Some(included.file)),
+            None => Ok(None),
+        },
+        None => Ok(None),
+    }
+}
+
 /// The name of a file as it is shown.
 pub fn shown_file(alloc: Global, name: &str) -> Result<String, AllocError> {
-    let mut message = Message::new(alloc, b"");
+    let mut message = Message::new(alloc, b"", b"");
     message.file(name)?;
     Ok(message.into_text())
 }

@@ -1,5 +1,6 @@
 //! Texts that are put together of words, names and numbers.
 
+use crate::included::{Included, included_at};
 use crate::position::{between, line_number};
 use crate::signs::{is_unseen, push_number, push_shown};
 use itoa::Buffer;
@@ -14,27 +15,39 @@ const MOST_SHOWN: usize = 60;
 #[derive(Drop)]
 pub struct Message<'t> {
     text: &'t [u8],
+    // which of its lines are of included files
+    lines: &'t [u8],
     out: String,
 }
 
 impl<'t> Message<'t> {
     /// An empty one.
-    pub fn new(alloc: Global, text: &'t [u8]) -> Message<'t> {
+    pub fn new(alloc: Global, text: &'t [u8], lines: &'t [u8]) -> Message<'t> {
         Message {
             text,
+            lines,
             out: String::new(alloc),
         }
     }
 
     /// What it says.
     pub fn into_text(self) -> String {
-        let Message { text: _, out } = self;
+        let Message {
+            text: _,
+            lines: _,
+            out,
+        } = self;
         out
     }
 
     /// The text that it is about.
     pub fn text(&self) -> &'t [u8] {
         self.text
+    }
+
+    /// The line of an included file on which a place of the text lies, if it does.
+    pub fn included(&self, offset: usize) -> Option<Included<'t>> {
+        included_at(self.text, self.lines, offset)
     }
 
     /// Adds words that are not fixed.
@@ -142,9 +155,15 @@ impl<'t> Message<'t> {
 
     /// Adds the line of the place behind so many bytes, between words.
     pub fn line(&mut self, before: &str, offset: usize, behind: &str) -> Result<(), AllocError> {
-        let number = line_number(self.text, offset);
         self.push(before)?;
-        self.figure("line ", number, behind)
+        match self.included(offset) {
+            Some(included) => {
+                self.figure("line ", included.line.number, " of ")?;
+                self.file(included.file)?;
+                self.push(behind)
+            }
+            None => self.figure("line ", line_number(self.text, offset), behind),
+        }
     }
 
     /// Adds a name and its line between words.

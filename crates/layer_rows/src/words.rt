@@ -1,4 +1,4 @@
-//! What is read of a command line: a letter for each flag, or a dash, the limit and the files, with a dash for what is not there, and words for `--explain`, `--name` and `--source`.
+//! What is read of a command line: a letter for each flag, or a dash, the limit and the files, with a dash for what is not there, and words for `--explain`, `--name`, `--source` and `--lines`.
 use command_line::{Arguments, arguments};
 use row_files::Writer;
 use std::alloc::{AllocError, Global};
@@ -38,6 +38,7 @@ fn add_read(read: &Arguments, out: &mut Writer) {
     out.word(if read.explain { " explain" } else { "" });
     add_named(" name ", &read.name, out);
     add_named(" source ", &read.source, out);
+    add_named(" lines ", &read.lines, out);
 }
 
 fn words_of(alloc: Global, text: &[u8]) -> Result<Vec<&str>, AllocError> {

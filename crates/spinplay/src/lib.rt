@@ -11,7 +11,7 @@ pub use devices::{
     ThreeDevices,
 };
 pub use diagnostics::{Fault, Refusal, Stop};
-pub use explain::{explain, explain_beside, shown_file};
+pub use explain::{Source as Prepared, explain, explain_beside, included_file, shown_file};
 pub use pml_check::{CheckFault, Checked, check};
 pub use pml_inline::expand;
 pub use pml_inline::fault::InlineFault;

@@ -2,7 +2,9 @@
 use crate::files::source_of;
 use crate::stop::NoRun;
 use clap::error::ErrorKind;
-use spinplay::{Arguments, Cause, End, Refusal, explain, explain_beside, shown_file};
+use spinplay::{
+    Arguments, Cause, End, Prepared, Refusal, explain_beside, included_file, shown_file,
+};
 use std::alloc::{AllocError, Global};
 use std::io;
 
@@ -46,22 +48,38 @@ fn name_of(asked: &Arguments) -> &str {
     }
 }
 
-// The text whose lines explanations show, where it is another than the model's and can be read.
-fn shown_source(rt: &HostRuntime, asked: &Arguments) -> Option<Vec<u8>> {
-    match &asked.source {
+// The text of a file that an explanation shows or reads, where there is one and it can be read.
+fn shown_text(rt: &HostRuntime, name: &Option<String>) -> Option<Vec<u8>> {
+    match name {
         Some(name) => source_of(rt, name.as_str()),
         None => None,
     }
 }
 
+// The text of the included file in which a refusal lies.
+fn included_text(rt: &HostRuntime, text: &[u8], lines: &[u8], refusal: Refusal) -> Option<Vec<u8>> {
+    match included_file(rt.alloc(), text, lines, refusal) {
+        Ok(Some(name)) => source_of(rt, name),
+        _ => None,
+    }
+}
+
 // Says why the model of this text is refused, and where.
 fn explain_refusal(rt: &HostRuntime, asked: &Arguments, text: &[u8], refusal: Refusal) {
-    let name = name_of(asked);
-    let words = match shown_source(rt, asked) {
-        Some(source) => explain_beside(rt.alloc(), name, text, source.as_slice(), refusal),
-        None => explain(rt.alloc(), name, text, refusal),
+    let own = shown_text(rt, &asked.source);
+    let lines = shown_text(rt, &asked.lines).unwrap_or(Vec::new(rt.alloc()));
+    let included = included_text(rt, text, lines.as_slice(), refusal).unwrap_or(Vec::new(
+        rt.alloc(),
+    ));
+    let source = Prepared {
+        text: match &own {
+            Some(own) => own.as_slice(),
+            None => text,
+        },
+        lines: lines.as_slice(),
+        included: included.as_slice(),
     };
-    if let Ok(words) = words {
+    if let Ok(words) = explain_beside(rt.alloc(), name_of(asked), text, source, refusal) {
         let _ = eprint!(rt; "{words}");
     }
 }

@@ -76,4 +76,5 @@ returns-clause-ok c =
       explain = set_where _ _ (c.get_count-6.ensures.value ∙ counted (codes "explain"));
       name = sym (first (codes "name")) ∙ sym c.in_ok-name.ensures;
       source = sym (first (codes "source")) ∙ sym c.in_ok-source.ensures;
+      lines = sym (first (codes "lines")) ∙ sym c.in_ok-lines.ensures;
     }

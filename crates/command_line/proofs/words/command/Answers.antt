@@ -21,6 +21,7 @@ returns c =
     let eleven = more (codes "explain") _ _ _ _ _ _ _ _ ten c.in_ok-arg-11.ensures c.long_flag-2.ensures.plain c.long_flag-2.ensures.rule in
     let twelve = more (codes "name") _ _ _ _ _ _ _ _ eleven c.in_ok-arg-12.ensures c.name.ensures.plain c.name.ensures.rule in
     let thirteen = more (codes "source") _ _ _ _ _ _ _ _ twelve c.in_ok-arg-13.ensures c.file-3.ensures.plain c.file-3.ensures.rule in
-    IfOk-weaker c.arg-14.result _ _ (λ d last.
-    finished c.spinplay.result d _ (more (codes "MODEL") _ _ d _ _ _ _ _ thirteen last c.model.ensures.plain c.model.ensures.rule)
-    (c.spinplay.ensures.empty.0, c.spinplay.ensures.empty.1) c.spinplay.ensures.local c.spinplay.ensures.negates (λ _. c.model.ensures.value)) c.arg-14.ensures
+    let fourteen = more (codes "lines") _ _ _ _ _ _ _ _ thirteen c.in_ok-arg-14.ensures c.file-4.ensures.plain c.file-4.ensures.rule in
+    IfOk-weaker c.arg-15.result _ _ (λ d last.
+    finished c.spinplay.result d _ (more (codes "MODEL") _ _ d _ _ _ _ _ fourteen last c.model.ensures.plain c.model.ensures.rule)
+    (c.spinplay.ensures.empty.0, c.spinplay.ensures.empty.1) c.spinplay.ensures.local c.spinplay.ensures.negates (λ _. c.model.ensures.value)) c.arg-15.ensures
