@@ -84,6 +84,36 @@ fn explain_refusal(rt: &HostRuntime, asked: &Arguments, text: &[u8], refusal: Re
     }
 }
 
+// The file in which the choices of a run stand, or what stands for it.
+fn choices_of(alloc: Global, asked: &Arguments) -> Result<String, AllocError> {
+    match (&asked.choices, &asked.rec) {
+        (Some(name), _) | (None, Some(name)) => shown_file(alloc, name.as_str()),
+        (None, None) => String::from_str(alloc, "FILE"),
+    }
+}
+
+// Says by which command the values are shown that the statement of a fault read: a run keeps no state behind it, and spinview goes over it again.
+fn explain_fault(rt: &HostRuntime, asked: &Arguments) -> Result<(), AllocError> {
+    let own = shown_file(rt.alloc(), name_of(asked))?;
+    let choices = choices_of(rt.alloc(), asked)?;
+    let lossy = if asked.options.lossy { " -m" } else { "" };
+    let recorded = if asked.choices.is_none() && asked.rec.is_none() {
+        "record the choices by --record FILE, and then: "
+    } else {
+        ""
+    };
+    let _ = if asked.source.is_some() {
+        eprintln!(rt;
+            "spinplay: to see the values that it read: {recorded}spinprep {own} > prepared.pml; spinview{lossy} --choices {choices} prepared.pml"
+        )
+    } else {
+        eprintln!(rt;
+            "spinplay: to see the values that it read: {recorded}spinview{lossy} --choices {choices} {own}"
+        )
+    };
+    Ok(())
+}
+
 // Says which device failed, and why, where an error said so.
 fn explain_device(rt: &HostRuntime, device: &str, why: Option<&io::Error>) {
     let _ = match why {
@@ -100,10 +130,13 @@ pub struct Errors<'e> {
     pub rec: Option<&'e io::Error>,
 }
 
-// Explains an end that is no run's own: a refusal, or a device that failed.
+// Explains an end that is no run's own, as a refusal or a device that failed, or that is a fault.
 pub fn explain_end(rt: &HostRuntime, asked: &Arguments, text: &[u8], end: &End, errors: Errors) {
     match end.cause {
         Cause::Refused(refusal, _) => explain_refusal(rt, asked, text, refusal),
+        Cause::Fault(_) => {
+            let _ = explain_fault(rt, asked);
+        }
         Cause::SourceFailed => explain_device(rt, "choices", errors.source),
         Cause::OutFailed => explain_device(rt, "output", errors.out),
         Cause::RecordFailed => explain_device(rt, "record", errors.rec),
