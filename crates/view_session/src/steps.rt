@@ -1,7 +1,7 @@
 //! Steps of a walk, and their lines.
 
 use crate::seen::picture_of;
-use crate::told::Told;
+use crate::told::{Told, add_same};
 use crate::until::{Goal, is_reached};
 use diagnostics::Fault;
 use pml_moves::moves::Move;
@@ -115,12 +115,12 @@ pub fn take(
     let mut text = Writer::new(told.out.allocator());
     add_move(&picture_of(walk.world()), &m, &mut text);
     let mut printed = Vec::new(told.out.allocator());
-    told.step_from(walk);
+    told.step_from(walk.at());
     match choose(walk, choice, &mut printed)? {
         Went::On => {
             let printed = printed.as_slice();
             add_step(walk.world(), step, text.bytes(), printed, &mut told.out)?;
-            told.add_same(walk)?;
+            add_same(walk, told)?;
             Ok(Taken::Yes)
         }
         Went::Faults(fault) => {
@@ -251,7 +251,7 @@ pub fn take_by_chance(
     told: &mut Told,
 ) -> Result<(), AllocError> {
     let mut generator = Pcg32::new(seed, 54);
-    told.step_from(walk);
+    told.step_from(walk.at());
     let mut printed = Vec::new(told.out.allocator());
     for _ in 0..most {
         if walk.at() >= limit || !take_any(walk, &mut generator, &mut printed)? {
@@ -269,7 +269,7 @@ pub fn take_turns(
     told: &mut Told,
 ) -> Result<(), AllocError> {
     let mut printed = Vec::new(told.out.allocator());
-    told.step_from(walk);
+    told.step_from(walk.at());
     for turn in turns {
         printed.clear();
         if walk.at() >= limit || choose(walk, turn.choice, &mut printed)? != Went::On {

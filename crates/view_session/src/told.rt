@@ -27,50 +27,62 @@ impl Told {
         }
     }
 
-    /// A step is taken where a walk stands: what was to come may be another.
-    pub fn step_from(&mut self, walk: &Walk<'_, '_>) {
-        self.states.cut(walk.at().saturating_add(1));
+    /// A step is taken behind so many: what was to come may be another.
+    pub fn step_from(&mut self, at: usize) {
+        self.states.cut(at.saturating_add(1));
     }
+}
 
-    // Keeps the state where a walk stands. Behind how many steps it stood first, where it stood before.
-    fn keep(&mut self, walk: &Walk<'_, '_>) -> Result<Option<usize>, AllocError> {
-        let mut text = Writer::new(self.out.allocator());
-        add_whole(&picture_of(walk.world()), &mut text);
-        self.states.add(text.finish()?.as_slice())
-    }
+// The state where a walk stands, as a text.
+fn whole_of(walk: &Walk<'_, '_>, alloc: Global) -> Result<Vec<u8>, AllocError> {
+    let mut text = Writer::new(alloc);
+    add_whole(&picture_of(walk.world()), &mut text);
+    text.finish()
+}
 
-    // Keeps the states of a walk before the place where it stands.
-    fn learn(&mut self, walk: &mut Walk<'_, '_>) -> Result<(), AllocError> {
-        let at = walk.at();
-        if self.states.len() >= at {
-            return Ok(());
-        }
-        for step in self.states.len()..at {
-            if self.states.is_full() {
-                break;
-            }
-            let step = step.min(walk.turns().len());
-            walk.go_to(step)?;
-            let _ = self.keep(walk)?;
-        }
-        let at = at.min(walk.turns().len());
-        walk.go_to(at)
-    }
+// Keeps the state where a walk stands. Behind how many steps it stood first, where it stood before.
+fn keep(walk: &Walk<'_, '_>, told: &mut Told) -> Result<Option<usize>, AllocError> {
+    let text = whole_of(walk, told.out.allocator())?;
+    told.states.add(text.as_slice())
+}
 
-    /// Writes which step led to the state where a walk stands before, where one did, as long as there is room for the states of the walk.
-    pub fn add_same(&mut self, walk: &mut Walk<'_, '_>) -> Result<(), AllocError> {
-        if walk.at() >= MOST_STATES || self.states.is_full() {
-            return Ok(());
+// Keeps the states of a walk before the place where it stands, one behind another.
+fn keep_all(walk: &mut Walk<'_, '_>, at: usize, told: &mut Told) -> Result<(), AllocError> {
+    for step in told.states.len()..at {
+        if told.states.is_full() {
+            break;
         }
-        self.learn(walk)?;
-        if self.states.len() != walk.at() {
-            return Ok(());
-        }
-        if let Some(step) = self.keep(walk)? {
-            self.out.add(b"  same as step ");
-            self.out.number(step);
-            self.out.add(b"\n");
-        }
-        Ok(())
+        let step = step.min(walk.turns().len());
+        walk.go_to(step)?;
+        keep(walk, told)?;
     }
+    Ok(())
+}
+
+// Keeps the states of a walk before the place where it stands, where they are not kept.
+fn learn(walk: &mut Walk<'_, '_>, told: &mut Told) -> Result<(), AllocError> {
+    let at = walk.at();
+    if told.states.len() >= at {
+        return Ok(());
+    }
+    keep_all(walk, at, told)?;
+    let at = at.min(walk.turns().len());
+    walk.go_to(at)
+}
+
+/// Writes which step led to the state where a walk stands before, where one did, as long as there is room for the states of the walk.
+pub fn add_same(walk: &mut Walk<'_, '_>, told: &mut Told) -> Result<(), AllocError> {
+    if walk.at() >= MOST_STATES || told.states.is_full() {
+        return Ok(());
+    }
+    learn(walk, told)?;
+    if told.states.len() != walk.at() {
+        return Ok(());
+    }
+    if let Some(step) = keep(walk, told)? {
+        told.out.add(b"  same as step ");
+        told.out.number(step);
+        told.out.add(b"\n");
+    }
+    Ok(())
 }
