@@ -1,8 +1,9 @@
 // What standard error says. A message that cannot be shown is left out.
+use crate::files::source_of;
 use crate::stop::NoView;
 use clap::error::ErrorKind;
 use diagnostics::Refusal;
-use explain::{explain_beside, shown_file};
+use explain::{Source, explain_beside, included_file, shown_file};
 use std::io;
 use view_run::trailed::Followed;
 use view_words::Asked;
@@ -91,9 +92,33 @@ pub fn shown_name(asked: &Asked) -> &str {
     }
 }
 
-// Says why the model of this text is refused, and where, with the lines of its source.
-fn explain_refusal(rt: &HostRuntime, name: &str, (text, source): (&[u8], &[u8]), refusal: Refusal) {
-    if let Ok(words) = explain_beside(rt.alloc(), name, text, source, refusal) {
+// Which lines of the model are of included files, as far as that can be read.
+fn included_lines(rt: &HostRuntime, asked: &Asked) -> Option<Vec<u8>> {
+    match &asked.lines {
+        Some(name) => source_of(rt, name.as_str()),
+        None => None,
+    }
+}
+
+// The text of the included file in which a refusal lies.
+fn included_text(rt: &HostRuntime, text: &[u8], lines: &[u8], refusal: Refusal) -> Option<Vec<u8>> {
+    match included_file(rt.alloc(), text, lines, refusal) {
+        Ok(Some(name)) => source_of(rt, name),
+        _ => None,
+    }
+}
+
+// Says why the model of this text is refused, and where, with the lines of its source or of the file that it includes.
+fn explain_refusal(rt: &HostRuntime, asked: &Asked, (text, own): (&[u8], &[u8]), refusal: Refusal) {
+    let lines = included_lines(rt, asked).unwrap_or(Vec::new(rt.alloc()));
+    let included = included_text(rt, text, lines.as_slice(), refusal);
+    let included = included.unwrap_or(Vec::new(rt.alloc()));
+    let source = Source {
+        text: own,
+        lines: lines.as_slice(),
+        included: included.as_slice(),
+    };
+    if let Ok(words) = explain_beside(rt.alloc(), shown_name(asked), text, source, refusal) {
         let _ = eprint!(rt; "{words}");
     }
 }
@@ -113,7 +138,7 @@ pub fn tell_refusal(
         let _ = eprintln!(rt; "spinview: line {line}: M{}", refusal.number());
     }
     if asked.explains {
-        explain_refusal(rt, shown_name(asked), texts, refusal);
+        explain_refusal(rt, asked, texts, refusal);
     }
 }
 

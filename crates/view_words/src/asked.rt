@@ -18,6 +18,8 @@ pub struct Asked {
     pub name: Option<String>,
     /// The file whose lines are shown, of which the model was prepared.
     pub source: Option<String>,
+    /// The file that says which lines of the model are of included files, where it was prepared.
+    pub lines: Option<String>,
     /// The file of the choices that are taken first.
     pub choices: Option<String>,
     /// The file of a trail of Spin that is followed first.

@@ -26,6 +26,7 @@ Options:
   --explain         Say why and where a model is refused, or why a file fails
   --name <NAME>     Call the model NAME
   --source <FILE>   Show the lines of FILE, of which MODEL was prepared
+  --lines <FILE>    Tell lines of included files, as FILE of spinprep does
   -h, --help        Print help
   -V, --version     Print version
 

@@ -75,6 +75,7 @@ fn command<'a>(alloc: Global) -> Result<Command<'a>, AllocError> {
         .arg(flag(alloc, "explain"))?
         .arg(name(alloc))?
         .arg(file(alloc, "source"))?
+        .arg(file(alloc, "lines"))?
         .arg(model(alloc))
 }
 
@@ -110,10 +111,12 @@ pub fn read<'a>(alloc: Global, words: &'a [&'a str]) -> Result<Asked, Error> {
     let page = text_of(alloc, &matches, "page")?;
     let name = text_of(alloc, &matches, "name")?;
     let source = text_of(alloc, &matches, "source")?;
+    let lines = text_of(alloc, &matches, "lines")?;
     Ok(Asked {
         model,
         name,
         source,
+        lines,
         choices,
         trail,
         rec,
