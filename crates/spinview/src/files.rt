@@ -4,6 +4,7 @@ use profile::MOST_TEXT_BYTES;
 use std::fs::{Metadata, OpenFile};
 use std::io::Read;
 use std::os::unix::fs::MetadataExt;
+use std::alloc::AllocError;
 use std::{fs, io};
 use view_words::Asked;
 
@@ -31,11 +32,12 @@ fn regular(about: &Metadata) -> Option<Identity> {
     }
 }
 
-// Which regular file a name leads to, if there is one.
-fn identity_at(rt: &HostRuntime, name: &str) -> Option<Identity> {
+// Which regular file a name leads to, if there is one. Want of memory is told: a file that is not known would be emptied.
+fn identity_at(rt: &HostRuntime, name: &str) -> Result<Option<Identity>, AllocError> {
     match fs::metadata(rt, name) {
-        Ok(about) => regular(&about),
-        Err(_) => None,
+        Ok(about) => Ok(regular(&about)),
+        Err(error) if error.kind() == io::ErrorKind::OutOfMemory => Err(AllocError),
+        Err(_) => Ok(None),
     }
 }
 
@@ -58,26 +60,26 @@ pub struct Others {
 }
 
 // The file with this name, where one is given.
-fn identity_of(rt: &HostRuntime, name: &Option<String>) -> Option<Identity> {
+fn identity_of(rt: &HostRuntime, name: &Option<String>) -> Result<Option<Identity>, AllocError> {
     match name {
         Some(name) => identity_at(rt, name.as_str()),
-        None => None,
+        None => Ok(None),
     }
 }
 
 // The files of a command line, and the output.
-pub fn others_of(rt: &HostRuntime, asked: &Asked) -> Others {
+pub fn others_of(rt: &HostRuntime, asked: &Asked) -> Result<Others, AllocError> {
     let choices = match &asked.choices {
-        Some(name) => identity_at(rt, name.as_str()),
-        None => identity_at(rt, "/dev/stdin"),
+        Some(name) => identity_at(rt, name.as_str())?,
+        None => identity_at(rt, "/dev/stdin")?,
     };
-    Others {
-        model: identity_at(rt, asked.model.as_str()),
-        source: identity_of(rt, &asked.source),
+    Ok(Others {
+        model: identity_at(rt, asked.model.as_str())?,
+        source: identity_of(rt, &asked.source)?,
         choices,
-        trail: identity_of(rt, &asked.trail),
-        output: identity_at(rt, "/dev/stdout"),
-    }
+        trail: identity_of(rt, &asked.trail)?,
+        output: identity_at(rt, "/dev/stdout")?,
+    })
 }
 
 // Which of the others a file is.
@@ -96,16 +98,20 @@ fn other_in(own: Identity, others: Others) -> Option<&'static str> {
 }
 
 // Which of the others the file with this name is.
-fn other_at(rt: &HostRuntime, name: &str, others: Others) -> Option<&'static str> {
-    match identity_at(rt, name) {
-        Some(own) => other_in(own, others),
-        None => None,
+fn other_at(
+    rt: &HostRuntime,
+    name: &str,
+    others: Others,
+) -> Result<Option<&'static str>, AllocError> {
+    match identity_at(rt, name)? {
+        Some(own) => Ok(other_in(own, others)),
+        None => Ok(None),
     }
 }
 
 // Empties a file that is to be written, unless it is one of the others.
 pub fn create(rt: &HostRuntime, name: &str, others: Others) -> Result<(), NoView> {
-    if let Some(other) = other_at(rt, name, others) {
+    if let Some(other) = other_at(rt, name, others)? {
         return Err(NoView::WouldEmpty(String::from_str(rt.alloc(), name)?, other));
     }
     match fs::create(rt, name) {
@@ -124,10 +130,10 @@ pub fn write(rt: &HostRuntime, name: &str, bytes: &[u8]) -> Result<(), NoView> {
 
 // Saves bytes in a file, unless it is one of the others. Whether that was done.
 pub fn is_saved(rt: &HostRuntime, name: &str, others: Others, bytes: &[u8]) -> bool {
-    if other_at(rt, name, others).is_some() {
-        return false;
+    match other_at(rt, name, others) {
+        Ok(None) => fs::write(rt, name, bytes).is_ok(),
+        _ => false,
     }
-    fs::write(rt, name, bytes).is_ok()
 }
 
 // At most so many bytes of a file.
@@ -149,11 +155,14 @@ pub fn model_of(rt: &HostRuntime, name: &str) -> Result<Vec<u8>, NoView> {
 }
 
 // The text that a model was prepared of, where it is a regular file that can be read: another may not be there twice.
-pub fn source_of(rt: &HostRuntime, name: &str) -> Option<Vec<u8>> {
-    identity_at(rt, name)?;
+pub fn source_of(rt: &HostRuntime, name: &str) -> Result<Option<Vec<u8>>, NoView> {
+    if identity_at(rt, name)?.is_none() {
+        return Ok(None);
+    }
     match bytes_of(rt, name, MOST_READ) {
-        Ok(text) => Some(text),
-        Err(_) => None,
+        Ok(text) => Ok(Some(text)),
+        Err(NoView::Memory) => Err(NoView::Memory),
+        Err(_) => Ok(None),
     }
 }
 

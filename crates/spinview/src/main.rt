@@ -84,10 +84,10 @@ fn trail_asked(rt: &HostRuntime, asked: &Asked) -> Result<Option<Vec<u8>>, NoVie
 }
 
 // The text whose lines are shown, where it is another than the model's and can be read.
-fn source_asked(rt: &HostRuntime, asked: &Asked) -> Option<Vec<u8>> {
+fn source_asked(rt: &HostRuntime, asked: &Asked) -> Result<Option<Vec<u8>>, NoView> {
     match &asked.source {
         Some(name) => source_of(rt, name.as_str()),
-        None => None,
+        None => Ok(None),
     }
 }
 
@@ -103,7 +103,7 @@ fn open_all(rt: &HostRuntime, asked: &Asked) -> Result<Opened, NoView> {
     let model = model_of(rt, asked.model.as_str())?;
     let choices = choices_asked(rt, asked)?;
     let trail = trail_asked(rt, asked)?;
-    let others = others_of(rt, asked);
+    let others = others_of(rt, asked)?;
     if let Some(name) = &asked.rec {
         create(rt, name.as_str(), others)?;
     }
@@ -112,7 +112,7 @@ fn open_all(rt: &HostRuntime, asked: &Asked) -> Result<Opened, NoView> {
     }
     Ok(Opened {
         model,
-        source: source_asked(rt, asked),
+        source: source_asked(rt, asked)?,
         choices,
         trail,
         others,

@@ -1,6 +1,6 @@
 // What is seen of a walk: a session, or all of a run.
 use crate::files::{Others, is_saved, write};
-use crate::stop::NoView;
+use crate::stop::{NoView, no_line};
 use std::io::Write;
 use view_session::answers::{Reply, Setting, answer, begin, resume};
 use view_session::record::{add_record, choice_count};
@@ -140,9 +140,7 @@ pub fn session(
     show(rt, &told.out)?;
     told.out.clear();
     for line in rt.lines(rt.alloc()) {
-        let Ok(line) = line else {
-            return Err(NoView::Device);
-        };
+        let line = line.map_err(no_line)?;
         if !answer_line(rt, walk, setting, others, line.as_str(), &mut told)? {
             break;
         }

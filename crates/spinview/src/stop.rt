@@ -27,6 +27,15 @@ impl From<AllocError> for NoView {
     }
 }
 
+// Why a line of standard input was not read.
+pub fn no_line(error: io::Error) -> NoView {
+    if error.kind() == io::ErrorKind::OutOfMemory {
+        NoView::Memory
+    } else {
+        NoView::Device
+    }
+}
+
 // Why a file was not opened.
 pub fn cannot_open(rt: &HostRuntime, name: &str, error: io::Error) -> NoView {
     if error.kind() == io::ErrorKind::OutOfMemory {

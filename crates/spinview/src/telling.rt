@@ -93,32 +93,53 @@ pub fn shown_name(asked: &Asked) -> &str {
 }
 
 // Which lines of the model are of included files, as far as that can be read.
-fn included_lines(rt: &HostRuntime, asked: &Asked) -> Option<Vec<u8>> {
+fn included_lines(rt: &HostRuntime, asked: &Asked) -> Result<Option<Vec<u8>>, NoView> {
     match &asked.lines {
         Some(name) => source_of(rt, name.as_str()),
-        None => None,
+        None => Ok(None),
     }
 }
 
 // The text of the included file in which a refusal lies.
-fn included_text(rt: &HostRuntime, text: &[u8], lines: &[u8], refusal: Refusal) -> Option<Vec<u8>> {
-    match included_file(rt.alloc(), text, lines, refusal) {
-        Ok(Some(name)) => source_of(rt, name),
-        _ => None,
+fn included_text(
+    rt: &HostRuntime,
+    text: &[u8],
+    lines: &[u8],
+    refusal: Refusal,
+) -> Result<Option<Vec<u8>>, NoView> {
+    match included_file(rt.alloc(), text, lines, refusal)? {
+        Some(name) => source_of(rt, name),
+        None => Ok(None),
     }
 }
 
-// Says why the model of this text is refused, and where, with the lines of its source or of the file that it includes.
-fn explain_refusal(rt: &HostRuntime, asked: &Asked, (text, own): (&[u8], &[u8]), refusal: Refusal) {
-    let lines = included_lines(rt, asked).unwrap_or(Vec::new(rt.alloc()));
-    let included = included_text(rt, text, lines.as_slice(), refusal);
+// Why the model of this text is refused, and where, with the lines of its source or of the file that it includes.
+fn explained(
+    rt: &HostRuntime,
+    asked: &Asked,
+    (text, own): (&[u8], &[u8]),
+    refusal: Refusal,
+) -> Result<String, NoView> {
+    let lines = included_lines(rt, asked)?.unwrap_or(Vec::new(rt.alloc()));
+    let included = included_text(rt, text, lines.as_slice(), refusal)?;
     let included = included.unwrap_or(Vec::new(rt.alloc()));
     let source = Source {
         text: own,
         lines: lines.as_slice(),
         included: included.as_slice(),
     };
-    if let Ok(words) = explain_beside(rt.alloc(), shown_name(asked), text, source, refusal) {
+    Ok(explain_beside(
+        rt.alloc(),
+        shown_name(asked),
+        text,
+        source,
+        refusal,
+    )?)
+}
+
+// Says that, unless memory is refused for it.
+fn explain_refusal(rt: &HostRuntime, asked: &Asked, texts: (&[u8], &[u8]), refusal: Refusal) {
+    if let Ok(words) = explained(rt, asked, texts, refusal) {
         let _ = eprint!(rt; "{words}");
     }
 }

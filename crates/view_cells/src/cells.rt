@@ -105,7 +105,7 @@ fn add_named(picture: &Picture<'_, '_, '_>, place: Place, number: i32, out: &mut
     let mut name = Writer::new(out.allocator());
     if add_channel_name(picture, number as usize, &mut name) {
         out.add(b" ");
-        out.add(name.bytes());
+        out.append(&name);
     }
 }
 

@@ -51,7 +51,7 @@ pub fn add_channel(picture: &Picture<'_, '_, '_>, number: usize, out: &mut Write
     let mut name = Writer::new(out.allocator());
     if add_channel_name(picture, number, &mut name) {
         out.add(b" ");
-        out.add(name.bytes());
+        out.append(&name);
     }
 }
 

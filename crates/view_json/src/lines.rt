@@ -2,7 +2,7 @@
 
 pub use crate::changed::Shown;
 use crate::changed::{Behind, changed_cells, has_changes};
-use crate::objects::{all_cells, message, named, number, picked, text};
+use crate::objects::{all_cells, message, named, number, picked, text, written};
 use crate::out::Json;
 use diagnostics::Fault;
 use pml_lines::changed::Change;
@@ -39,7 +39,7 @@ fn proctype(json: &mut Json, proctype: &Proctype<'_>) {
     let mut name = Writer::new(json.allocator());
     let answer = pml_lines::change::proctype_name(&proctype.name, name.text());
     name.keep(answer);
-    text(json, "name", name.bytes());
+    written(json, "name", &name);
     number(json, "end", proctype.end.line() as usize);
     json.end_object();
 }

@@ -29,8 +29,8 @@ pub fn text(json: &mut Json, key: &str, bytes: &[u8]) {
     json.text(bytes);
 }
 
-// Writes a member whose text a call writes, where that is whole.
-fn written(json: &mut Json, key: &str, text: &Writer) {
+/// Writes a member whose text a call wrote, where that is whole.
+pub fn written(json: &mut Json, key: &str, text: &Writer) {
     json.key(key);
     json.text(text.bytes());
     if text.is_refused() {
@@ -109,6 +109,9 @@ fn form_name(json: &mut Json, form: Form) {
             text.add(b"unsigned : ");
             text.number(width as usize);
             json.text(text.bytes());
+            if text.is_refused() {
+                json.refuse();
+            }
         }
         _ => json.string("?"),
     }

@@ -83,9 +83,7 @@ pub fn add_item(text: &[u8], printed: &[u8], choice: usize, of: usize, out: &mut
         quoted.quoted(printed);
         out.add(b", prints ");
         add_escaped(quoted.bytes(), out);
-        if quoted.is_refused() {
-            out.refuse();
-        }
+        out.heed(&quoted);
     }
     out.add(b"</li>\n");
 }

@@ -88,6 +88,7 @@ fn take(
     let alloc = sheet.lines.allocator();
     let mut text = Writer::new(alloc);
     add_move(&picture_of(walk.world()), &taking.m, &mut text);
+    sheet.items.heed(&text);
     let front = front_of(walk, "step", taking, sheet);
     let older = walk.world().process_count();
     let mut printed = Vec::new(alloc);

@@ -114,6 +114,7 @@ pub fn take(
     let step = walk.at().saturating_add(1);
     let mut text = Writer::new(told.out.allocator());
     add_move(&picture_of(walk.world()), &m, &mut text);
+    told.out.heed(&text);
     let mut printed = Vec::new(told.out.allocator());
     told.step_from(walk.at());
     match choose(walk, choice, &mut printed)? {

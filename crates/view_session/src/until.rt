@@ -115,21 +115,37 @@ fn is_at_line(picture: &Picture<'_, '_, '_>, line: u32) -> bool {
     false
 }
 
+/// What is compared stands there whole, or memory was refused for it.
+pub fn whole(text: &Writer) -> Result<(), AllocError> {
+    if text.is_refused() {
+        return Err(AllocError);
+    }
+    Ok(())
+}
+
+// Whether the cell with this path has this value, or has not.
+fn is_so(
+    world: &World<'_, '_>,
+    (path, value): (&str, &str),
+    is_wanted: bool,
+    text: &mut Writer,
+) -> Result<bool, AllocError> {
+    let picture = picture_of(world);
+    let found = is_value(&picture, path.as_bytes(), value.as_bytes(), text);
+    whole(text)?;
+    Ok(found == Some(is_wanted))
+}
+
 /// Whether a state is one where a run is to stop; `text` is for what is compared.
 pub fn is_reached<'l>(
     world: &World<'_, '_>,
     goal: Goal<'l>,
     text: &mut Writer,
 ) -> Result<bool, AllocError> {
-    let picture = picture_of(world);
     match goal {
-        Goal::Line(line) => Ok(is_at_line(&picture, line)),
-        Goal::Equal(path, value) => {
-            Ok(is_value(&picture, path.as_bytes(), value.as_bytes(), text) == Some(true))
-        }
-        Goal::Other(path, value) => {
-            Ok(is_value(&picture, path.as_bytes(), value.as_bytes(), text) == Some(false))
-        }
+        Goal::Line(line) => Ok(is_at_line(&picture_of(world), line)),
+        Goal::Equal(path, value) => is_so(world, (path, value), true, text),
+        Goal::Other(path, value) => is_so(world, (path, value), false, text),
         Goal::Written(path) => is_written(world, path.as_bytes(), text),
     }
 }

@@ -1,7 +1,7 @@
 //! Steps that changed a variable.
 
 use crate::seen::picture_of;
-use crate::until::path_within;
+use crate::until::{path_within, whole};
 use pml_sim::world::World;
 use pml_store::place::Place;
 use std::alloc::AllocError;
@@ -30,7 +30,9 @@ pub fn is_written(
     path: &[u8],
     text: &mut Writer,
 ) -> Result<bool, AllocError> {
-    let Some(place) = place_named(&picture_of(world), path, text) else {
+    let found = place_named(&picture_of(world), path, text);
+    whole(text)?;
+    let Some(place) = found else {
         return Ok(false);
     };
     let changes = world.changes()?;

@@ -70,7 +70,8 @@ fn add_aligned(number: usize, widest: usize, out: &mut Writer) {
     let mut most = Writer::new(out.allocator());
     most.number(widest);
     out.blanks(most.len().saturating_sub(digits.len()));
-    out.add(digits.bytes());
+    out.append(&digits);
+    out.heed(&most);
 }
 
 // Writes a line of a list that is shown by process, and before it that of its process, where it is another than that of the heading.
@@ -85,10 +86,10 @@ fn add_grouped(
     let mut own = Writer::new(out.allocator());
     add_process(picture, starter_of(m), &mut own);
     if own.bytes() != heading.bytes() {
-        out.add(own.bytes());
+        out.append(&own);
         out.add(b"\n");
         heading.clear();
-        heading.add(own.bytes());
+        heading.append(&own);
     }
     let mut text = Writer::new(out.allocator());
     add_move(picture, m, &mut text);
@@ -100,6 +101,8 @@ fn add_grouped(
             .strip_prefix(own.bytes())
             .unwrap_or(text.bytes()),
     );
+    out.heed(&own);
+    out.heed(&text);
     add_effect(picture, &effect, out);
     out.add(b"\n");
     Ok(())
@@ -116,6 +119,7 @@ fn add_by_process(
         let number = (at + 1, moves.len());
         add_grouped(picture, number, &moves[at], &mut heading, out)?;
     }
+    out.heed(&heading);
     Ok(())
 }
 

@@ -34,6 +34,7 @@ fn add_variable(
         add_cell(picture, place, &mut item);
         filled.add(item.bytes(), out);
     }
+    out.heed(&item);
 }
 
 // Those of each variable of a frame.
@@ -62,6 +63,7 @@ fn add_messages(
         add_message(picture, channel.types(), channel.message(place), &mut item);
         filled.add(item.bytes(), out);
     }
+    out.heed(&item);
 }
 
 fn add_contents(picture: &Picture<'_, '_, '_>, channel: &Channel, start: usize, out: &mut Writer) {

@@ -1,6 +1,6 @@
 //! A text that is written piece by piece. Want of memory is told once, at the end.
 
-ghost use Rattle.std.specs.Prelude.{◌≡◌, ◌++◌, [], true, false, length, IfOk};
+ghost use Rattle.std.specs.Prelude.{◌≡◌, ◌++◌, ◌||◌, [], true, false, length, IfOk};
 ghost use Rattle.std.specs.Fmt.{decimal, signed_decimal};
 ghost use Rattle.view_text.specs.Written.{Adds, Stays};
 
@@ -143,6 +143,24 @@ impl Writer {
         ensures { self.new ≡ record self.old { refused = true } }
     {
         self.is_refused = true;
+    }
+
+    /// Memory that was refused for a part is refused for the whole.
+    pub fn heed(&mut self, part: &Writer)
+        ensures { self.new ≡ record self.old { refused = self.old.refused || part.now.refused } }
+    {
+        if part.is_refused {
+            self.is_refused = true;
+        }
+    }
+
+    /// Writes what another one has written, unless that was refused memory.
+    pub fn append(&mut self, part: &Writer)
+        ensures added { Adds self.old self.new part.now.text }
+        ensures heeded { part.now.refused ≡ true → self.new.refused ≡ true }
+    {
+        self.heed(part);
+        self.add(part.bytes());
     }
 
     /// What is written so far.

@@ -231,6 +231,7 @@ fn add_receive(
     match named(view, target, wants.len()) {
         Ok((number, channel)) => {
             let name = name_of(picture, number, out);
+            out.heed(&name);
             add_receive_from(picture, view, (name.bytes(), channel), search, wants, out);
         }
         Err(_) => out.add(IN_ESCAPE),
@@ -247,6 +248,7 @@ fn add_send(
     match named(view, target, fields.len()) {
         Ok((number, channel)) => {
             let name = name_of(picture, number, out);
+            out.heed(&name);
             add_send_to(picture, view, (name.bytes(), channel), fields, out);
         }
         Err(_) => out.add(IN_ESCAPE),
