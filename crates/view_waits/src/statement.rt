@@ -62,6 +62,7 @@ fn add_basic(
     };
     let mut reads = Reads::new(out.allocator());
     add_action(action, view, &mut reads);
+    out.keep(reads.answer());
     if !reads.items().is_empty() {
         out.add(b"  reads");
         add_all(picture, view, &reads, out);
