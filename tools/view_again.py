@@ -1,4 +1,5 @@
-"""The chart and the page of a run, made of its lines of JSON: a second reading of docs/VIEW.md, in which nothing of the program has a part."""
+"""The chart, the page and the transcript of a run, made of its lines of JSON: a second reading of docs/VIEW.md and docs/FORMATS.md, in which nothing of the
+programs has a part."""
 import json
 import os
 import re
@@ -74,17 +75,54 @@ class Chart:
         return out + "%6d end: %s, steps %d\n" % (self.end["steps"], self.end["end"], self.end["steps"])
 
 
+# ---- words of a move
+
+def move_text(line):
+    text = "proc %d (%s) line %d [%s]" % (line["proc"], line["name"], line["line"], line["text"])
+    return text + (" -> " + move_text(line["to"]) if "to" in line else "")
+
+
+# ---- the transcript
+
+def value_lines(line, older):
+    """What a step changed, as spinplay shows it with -g and -l; `older` processes were there before it."""
+    number = lambda value: value["chan"] if isinstance(value, dict) else value
+    out = "".join("global %s = %s\n" % (path, number(value)) for path, value in line.get("globals", {}).items())
+    for process in line.get("processes", []):
+        if process["proc"] < older:
+            out += "".join("local %d (%s) %s = %s\n" % (process["proc"], process["name"], path, number(value)) for path, value in process["locals"].items())
+    return out
+
+
+def last_lines(line):
+    """How a run ends."""
+    if line["end"] in ("valid", "invalid"):
+        return "end: %s, steps %d\n" % (line["end"], line["steps"]) + "".join("at: proc %d (%s) line %d\n" % (p["proc"], p["name"], p["line"]) for p in line["at"])
+    return "" if line["end"] == "fault" else "stop: %s, steps %d\n" % (line["end"], line["steps"])
+
+
+def transcript(lines):
+    """What spinplay -p -g -l prints of a run that its choices or its moves end."""
+    out, older = "", len(lines[0]["processes"])
+    for line in lines[1:]:
+        if line.get("of", 1) > 1:
+            out += "".join("choice %d: %s\n" % (at + 1, move) for at, move in enumerate(line["moves"])) + "choose 1..%d\n" % line["of"]
+        if line["event"] == "step":
+            out += "step %d: %s\n" % (line["step"], move_text(line)) + line.get("printed", "") + value_lines(line, older)
+            older = line["alive"]
+        elif line["event"] == "fault":
+            out += "fault F%d (%s): step %d: %s\n" % (line["fault"], line["words"], line["step"], move_text(line))
+        else:
+            out += last_lines(line)
+    return out
+
+
 # ---- the page
 
 def escaped(text):
     for sign, name in ("&", "&amp;"), ("<", "&lt;"), (">", "&gt;"), ('"', "&quot;"), ("\r", "&#13;"):
         text = text.replace(sign, name)
     return text
-
-
-def move_text(line):
-    text = "proc %d (%s) line %d [%s]" % (line["proc"], line["name"], line["line"], line["text"])
-    return text + (" -> " + move_text(line["to"]) if "to" in line else "")
 
 
 def quoted(text):
