@@ -1,5 +1,5 @@
 -- The texts of steps that are done and still to be written.
-use Rattle.std.specs.Prelude.{◌≡◌, ◌⊎◌, ℕ, ◌+◌, ◌-◌, ◌<◌, List, [], ◌∷◌, ◌++◌, length, take, nat_lt, Option, Some, None, Result, MatchResult}
+use Rattle.std.specs.Prelude.{◌≡◌, ◌⊎◌, ℕ, ◌+◌, ◌-◌, ◌<◌, Bool, false, ◌||◌, List, [], ◌∷◌, ◌++◌, length, take, nat_le, nat_lt, Option, Some, None, Result, MatchResult}
 use Rattle.std.specs.List.{count_by}
 use Rattle.devices.specs.Holdings.{Holdings, Moved}
 use Rattle.session.specs.declared.End.{End}
@@ -14,6 +14,7 @@ use Rattle.session.specs.Writes.{story_after}
 use Rattle.session.specs.declared.course.Terms.{Terms}
 use Rattle.session.specs.declared.course.Course.{Course}
 use Rattle.session.specs.declared.form.Stream.{Stream}
+use Rattle.session.specs.declared.gathered.TheConstants.{ENOUGH_BYTES, ENOUGH_TEXTS}
 
 -- what a session does in steps with these texts
 abbrev pub told_steps : List (List ℕ) → List Event
@@ -24,6 +25,14 @@ told_steps (text ∷ texts) = Stepped ∷ Put Told text ∷ told_steps texts
 abbrev pub begins_from : ℕ → List (List ℕ) → List ℕ
 begins_from at [] = []
 begins_from at (text ∷ texts) = at ∷ begins_from (at + length text) texts
+
+-- so many bytes, or so many texts, are enough to be written at once
+abbrev pub are_enough : (bytes begins : List ℕ) → Bool
+are_enough bytes begins = nat_le ENOUGH_BYTES (length bytes) || nat_le ENOUGH_TEXTS (length begins)
+
+-- no more wait than are kept back while nothing is asked
+abbrev pub AreFew : Course → Type 0
+AreFew course = are_enough course.gathered.bytes.items course.gathered.begins.items ≡ false
 
 -- how many begin behind the first bytes
 abbrev pub later : ℕ → List ℕ → ℕ

@@ -1,7 +1,7 @@
 //! The texts of steps that are done and still to be written.
 ghost use Rattle.std.specs.Prelude.{◌≡◌, ◌-◌, ◌++◌, ◌∷◌, [], length, IfErr, OnOk, OnErr};
 ghost use Rattle.session.specs.declared.Broken.TheVariants.{Out};
-ghost use Rattle.session.specs.Gathered.{later, AddsText, CutsTexts};
+ghost use Rattle.session.specs.Gathered.{are_enough, later, AddsText, CutsTexts};
 ghost use Rattle.session.specs.Stands.{CountsAll};
 ghost use Rattle.devices.specs.Holdings.{Moved};
 
@@ -10,10 +10,10 @@ use devices::Devices;
 use std::alloc::{AllocError, Global};
 
 /// As many bytes are enough to be written at once.
-const ENOUGH_BYTES: usize = 4096;
+pub const ENOUGH_BYTES: usize = 4096;
 
 /// As many texts are enough.
-const ENOUGH_TEXTS: usize = 512;
+pub const ENOUGH_TEXTS: usize = 512;
 
 /// The texts of steps that are done and still to be written: one behind another, and where each of them begins.
 #[derive(Drop)]
@@ -65,8 +65,10 @@ impl Gathered {
         Ok(())
     }
 
-    /// Whether there is enough to be written.
-    pub fn is_enough(&self) -> bool {
+    /// Whether there is enough to be written: 4,096 bytes, or 512 texts.
+    pub fn is_enough(&self) -> bool
+        ensures { result ≡ are_enough self.now.bytes.items self.now.begins.items }
+    {
         self.bytes.len() >= ENOUGH_BYTES || self.begins.len() >= ENOUGH_TEXTS
     }
 

@@ -6,7 +6,7 @@ ghost use Rattle.session.specs.Session.{choice_at, select, cause_of, final_lines
 ghost use Rattle.session.specs.Replay.{CanBeReplayed};
 ghost use Rattle.session.specs.Stands.{PlaysQuestion, CountsAll};
 ghost use Rattle.session.specs.Texts.{last_line, status_of};
-ghost use Rattle.session.specs.Gathered.{Advances, TurnsOn};
+ghost use Rattle.session.specs.Gathered.{AreFew, Advances, TurnsOn};
 ghost use Rattle.session.specs.Writes.{Writes, Acts, Turns, Runs, Ends, IsOwnEnd, IsBrokenOff, failure_of};
 
 use crate::course::{Course, Terms};
@@ -220,6 +220,7 @@ fn advance<M: Machine, D: Devices>(
     ensures falls { IfOk result (λ end. IfNone end (steps.new ≡ steps.old + 1)) }
     ensures count { CountsAll result (D.holds devices.old).failures (D.holds devices.new).failures }
     ensures still { run.new.stream ≡ run.old.stream }
+    ensures few { IfOk result (λ end. IfNone end (AreFew run.new)) }
 {
     match take_step(machine, m, &terms.options, *steps, &mut run.draft)? {
         Some(f) => {
@@ -253,6 +254,7 @@ fn turn<M: Machine, D: Devices>(
     ensures own { IfOk result (λ end. IfSome end (IsOwnEnd steps.new)) }
     ensures falls { IfOk result (λ end. IfNone end ((steps.old < steps.new) × (steps.new ≤ terms.now.options.limit))) }
     ensures count { CountsAll result (D.holds devices.old).failures (D.holds devices.new).failures }
+    ensures few { IfOk result (λ end. IfNone end (AreFew course.new)) }
 {
     machine.moves(moves)?;
     if moves.len() == 1 && *steps < terms.options.limit {
