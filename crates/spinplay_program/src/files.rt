@@ -195,13 +195,26 @@ pub fn model_of(rt: &HostRuntime, name: &str) -> Result<Model, NoRun> {
     }
 }
 
+// What an error leaves of a text that need not be there: none, unless memory was refused.
+fn no_text(error: io::Error) -> Result<Option<Vec<u8>>, NoRun> {
+    if error.kind() == io::ErrorKind::OutOfMemory {
+        return Err(NoRun::Memory);
+    }
+    Ok(None)
+}
+
 // The text that a model was prepared of, as much of it as is read, where it is a regular file: another may not be there twice.
-pub fn source_of(rt: &HostRuntime, name: &str) -> Option<Vec<u8>> {
-    identity_at(rt, name).ok()??;
-    let file = fs::open(rt, name).ok()?;
+pub fn source_of(rt: &HostRuntime, name: &str) -> Result<Option<Vec<u8>>, NoRun> {
+    if identity_at(rt, name)?.is_none() {
+        return Ok(None);
+    }
+    let file = match fs::open(rt, name) {
+        Ok(file) => file,
+        Err(error) => return no_text(error),
+    };
     let mut text = Vec::new(rt.alloc());
     match file.take(MOST_SOURCE).read_to_end(&mut text) {
-        Ok(_) => Some(text),
-        Err(_) => None,
+        Ok(_) => Ok(Some(text)),
+        Err(error) => no_text(error),
     }
 }

@@ -49,28 +49,37 @@ fn name_of(asked: &Arguments) -> &str {
 }
 
 // The text of a file that an explanation shows or reads, where there is one and it can be read.
-fn shown_text(rt: &HostRuntime, name: &Option<String>) -> Option<Vec<u8>> {
+fn shown_text(rt: &HostRuntime, name: &Option<String>) -> Result<Option<Vec<u8>>, NoRun> {
     match name {
         Some(name) => source_of(rt, name.as_str()),
-        None => None,
+        None => Ok(None),
     }
 }
 
 // The text of the included file in which a refusal lies.
-fn included_text(rt: &HostRuntime, text: &[u8], lines: &[u8], refusal: Refusal) -> Option<Vec<u8>> {
-    match included_file(rt.alloc(), text, lines, refusal) {
-        Ok(Some(name)) => source_of(rt, name),
-        _ => None,
+fn included_text(
+    rt: &HostRuntime,
+    text: &[u8],
+    lines: &[u8],
+    refusal: Refusal,
+) -> Result<Option<Vec<u8>>, NoRun> {
+    match included_file(rt.alloc(), text, lines, refusal)? {
+        Some(name) => source_of(rt, name),
+        None => Ok(None),
     }
 }
 
-// Says why the model of this text is refused, and where.
-fn explain_refusal(rt: &HostRuntime, asked: &Arguments, text: &[u8], refusal: Refusal) {
-    let own = shown_text(rt, &asked.source);
-    let lines = shown_text(rt, &asked.lines).unwrap_or(Vec::new(rt.alloc()));
-    let included = included_text(rt, text, lines.as_slice(), refusal).unwrap_or(Vec::new(
-        rt.alloc(),
-    ));
+// Why the model of this text is refused, and where.
+fn explained(
+    rt: &HostRuntime,
+    asked: &Arguments,
+    text: &[u8],
+    refusal: Refusal,
+) -> Result<String, NoRun> {
+    let own = shown_text(rt, &asked.source)?;
+    let lines = shown_text(rt, &asked.lines)?.unwrap_or(Vec::new(rt.alloc()));
+    let included = included_text(rt, text, lines.as_slice(), refusal)?;
+    let included = included.unwrap_or(Vec::new(rt.alloc()));
     let source = Prepared {
         text: match &own {
             Some(own) => own.as_slice(),
@@ -79,7 +88,12 @@ fn explain_refusal(rt: &HostRuntime, asked: &Arguments, text: &[u8], refusal: Re
         lines: lines.as_slice(),
         included: included.as_slice(),
     };
-    if let Ok(words) = explain_beside(rt.alloc(), name_of(asked), text, source, refusal) {
+    Ok(explain_beside(rt.alloc(), name_of(asked), text, source, refusal)?)
+}
+
+// Says that, unless memory is refused for it: without its files it would show another line.
+fn explain_refusal(rt: &HostRuntime, asked: &Arguments, text: &[u8], refusal: Refusal) {
+    if let Ok(words) = explained(rt, asked, text, refusal) {
         let _ = eprint!(rt; "{words}");
     }
 }
