@@ -11,7 +11,8 @@ use crate::steps::{
     Taken, take, take_by_chance, take_next, take_of, take_single, take_turns, take_until,
 };
 use crate::told::Told;
-use crate::written::last_written;
+use crate::until::Goal;
+use crate::written::{is_there, last_written};
 use std::alloc::AllocError;
 use view_state::source::add_source;
 use view_state::state::add_state;
@@ -115,6 +116,36 @@ fn go_to(walk: &mut Walk<'_, '_>, step: usize, told: &mut Told) -> Result<(), Al
     add_question(walk, &mut told.out)
 }
 
+// Says that no cell with this path is there, if that is so.
+fn add_if_unknown(
+    walk: &Walk<'_, '_>,
+    path: &str,
+    told: &mut Told,
+) -> Result<bool, AllocError> {
+    let mut text = Writer::new(told.out.allocator());
+    if is_there(walk.world(), path.as_bytes(), &mut text)? {
+        return Ok(false);
+    }
+    told.out.add(b"no variable ");
+    told.out.add(path.as_bytes());
+    told.out.add(b" is there: one of process 1, a P, is P[1].x\n");
+    Ok(true)
+}
+
+// Takes steps until one leads where a run is to stop; a variable may be there only behind some.
+fn go_until<'l>(
+    walk: &mut Walk<'_, '_>,
+    limit: usize,
+    goal: Goal<'l>,
+    told: &mut Told,
+) -> Result<(), AllocError> {
+    take_until(walk, limit, USUAL_RUN, goal, told)?;
+    if let Some(path) = goal.path() {
+        add_if_unknown(walk, path, told)?;
+    }
+    Ok(())
+}
+
 // Goes back to the last step that changed a variable, shows it, and asks.
 fn go_to_last(
     walk: &mut Walk<'_, '_>,
@@ -131,6 +162,9 @@ fn go_to_last(
             add_question(walk, &mut told.out)
         }
         None => {
+            if add_if_unknown(walk, path, told)? {
+                return Ok(());
+            }
             told.out.add(b"no step up to here changed ");
             told.out.add(path.as_bytes());
             told.out.add(b"\n");
@@ -189,7 +223,7 @@ fn go<'l>(
         Command::Forward(by) => take_next(walk, limit, by, told)?,
         Command::Run(most) => take_single(walk, limit, most, told)?,
         Command::Process(process) => take_of(walk, limit, USUAL_RUN, process, told)?,
-        Command::Until(goal) => take_until(walk, limit, USUAL_RUN, goal, told)?,
+        Command::Until(goal) => go_until(walk, limit, goal, told)?,
         Command::Random(most, seed) => take_by_chance(walk, limit, most, seed, told)?,
         Command::Moves => {}
         _ => return go_back(walk, limit, command, told),

@@ -22,6 +22,16 @@ pub enum Goal<'l> {
     Written(&'l str),
 }
 
+impl<'l> Goal<'l> {
+    /// The path of the cell that it asks of, if it asks of one.
+    pub fn path(self) -> Option<&'l str> {
+        match self {
+            Goal::Line(_) => None,
+            Goal::Equal(path, _) | Goal::Other(path, _) | Goal::Written(path) => Some(path),
+        }
+    }
+}
+
 fn at_line<'l>(word: &str) -> Option<Goal<'l>> {
     match word.parse::<u32>() {
         Ok(line) => Some(Goal::Line(line)),

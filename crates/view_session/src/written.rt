@@ -24,6 +24,17 @@ fn place_named(picture: &Picture<'_, '_, '_>, path: &[u8], text: &mut Writer) ->
     None
 }
 
+/// Whether a cell with this path, of the globals or of a process, is there.
+pub fn is_there(
+    world: &World<'_, '_>,
+    path: &[u8],
+    text: &mut Writer,
+) -> Result<bool, AllocError> {
+    let found = place_named(&picture_of(world), path, text);
+    whole(text)?;
+    Ok(found.is_some())
+}
+
 /// Whether the last step changed the cell with this path; `text` is for what is compared.
 pub fn is_written(
     world: &World<'_, '_>,
