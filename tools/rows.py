@@ -72,12 +72,11 @@ def blocks_of(name, crate="rows"):
         return ("\n" + file.read()[:-1]).split("\n== ")[1:]
 
 
-def all_rows():
-    """All rows that any program can be swept with, in the order of the files' names."""
-    for name in file_names():
-        if name not in APART:
-            for block in blocks_of(name):
-                yield from rows_of(block)
+def all_rows(names=None):
+    """All rows that any program can be swept with, in the order of the files' names, or those of these files."""
+    for name in names or [name for name in file_names() if name not in APART]:
+        for block in blocks_of(name):
+            yield from rows_of(block)
 
 
 def count_of_layer(texts, words):
