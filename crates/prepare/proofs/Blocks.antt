@@ -56,7 +56,7 @@ word_by false false false false x h = sym (no_head x) ∙ h
 pub head_is_word : (x : Kind) (t : List ℕ) → is_head_word (role x t) ≡ true → is_block_word t ≡ true
 head_is_word x t h = word_by (is_block_word t) (is_both x) (is_ending x) (declares x || (acts x || asks x)) x h
 
-outside_kept : (r : Role) → is_blank_form (form_outside r) ≡ false
+pub outside_kept : (r : Role) → is_blank_form (form_outside r) ≡ false
 outside_kept as_role.Quotes = refl
 outside_kept _ = refl
 
@@ -64,7 +64,7 @@ blank_by : (t : Bool) (r : Role) → is_blank_form (cond t form.Blanked (form_ou
 blank_by true r = refl
 blank_by false r = outside_kept r
 
-blank_is : (b : Block) (r : Role) → is_blank_form (form_of b r) ≡ is_blanked b r
+pub blank_is : (b : Block) (r : Role) → is_blank_form (form_of b r) ≡ is_blanked b r
 blank_is b r = blank_by (is_blanked b r) r
 
 begun_by : (b : Block) (x : Kind) (t : List ℕ) → is_blanked b (role x t) ≡ true → (is_inside b || is_block_word t) ≡ true

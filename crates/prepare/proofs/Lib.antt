@@ -11,5 +11,8 @@ pub mod Blocks
 pub mod Tokens
 pub mod Needs
 pub mod Stays
+pub mod Softly
+pub mod Joining
+pub mod Alone
 pub mod Again
 mod Rows

@@ -1,7 +1,9 @@
 -- Words for laws over the definitions.
-use Rattle.std.specs.Prelude.{◌≡◌, ℕ, Bool, true, false, not, ◌&&◌, ◌||◌, List, [], ◌∷◌, ◌++◌, map}
+use Rattle.std.specs.Prelude.{◌≡◌, ℕ, ◌+◌, Bool, true, false, not, ◌&&◌, ◌||◌, List, [], ◌∷◌, ◌++◌, map, count_by}
 use Rattle.std.specs.List.{list_all, list_any, flat_map}
 use lib.Chars.{codes}
+use Rattle.pml_token.specs.declared.token.Kind.TheVariants.{LeftOut}
+use Rattle.pml_token.specs.Kinds.{same_kind}
 use Rattle.pml_token.specs.Word.{Word}
 use Rattle.pml_lex.specs.Division.{is_line_feed, IsCut}
 use Rattle.pml_lex.specs.Limits.{has_left_out}
@@ -14,7 +16,7 @@ use Rattle.prepare.specs.declared.turn.Remark.TheVariants as remark
 use Rattle.prepare.specs.Roles.{is_block_word}
 use Rattle.prepare.specs.Written.{Written}
 use Rattle.prepare.specs.Turns.{turns}
-use Rattle.prepare.specs.Spelling.{spelled}
+use Rattle.prepare.specs.Spelling.{unbroken, spelled}
 use Rattle.prepare.specs.Numbering.{bare, numbered, has_mark}
 use Rattle.prepare.specs.Coding.{coded, has_character}
 use Rattle.prepare.specs.Exchange.{Exchange}
@@ -102,29 +104,45 @@ BlanksAreBlocks inside (t ∷ ts) = (is_blank_form t.form ≡ true → (inside |
 abbrev pub tokens : List Written → List (List ℕ)
 tokens ts = map (λ t. t.token) ts
 
-abbrev pub is_no_skip : Supply → Bool
-is_no_skip as_supply.Skip = false
-is_no_skip _ = true
+-- whether a token is that of a block, or one that the text may have: no word, sign or line that is left out, and no byte that begins none
+abbrev pub is_token : Written → Bool
+is_token t = is_blank_form t.form || not (same_kind t.kind LeftOut)
 
--- whether separators alone are written between turns
-abbrev pub has_no_skip : List Written → Bool
-has_no_skip ts = list_all (λ t. is_no_skip t.supply) ts
+-- whether a text has such tokens alone
+abbrev pub has_tokens_alone : List ℕ → Bool
+has_tokens_alone text = list_all is_token (turns text)
 
--- the tokens that are written: what is supplied, and what is not blanked
+-- the tokens that are written: what is supplied, and what is not blanked, a string on one line
 abbrev pub supplied : Supply → List (List ℕ)
 supplied as_supply.Nothing = []
 supplied as_supply.Separator = codes ";" ∷ []
 supplied as_supply.Skip = codes "skip" ∷ []
 
 abbrev pub kept : Form → List ℕ → List (List ℕ)
+kept form.Kept t = t ∷ []
+kept form.Joined t = unbroken false t ∷ []
 kept form.Blanked t = []
-kept _ t = t ∷ []
 
--- without the last turn, which has no token
-abbrev pub written_tokens : List Written → List (List ℕ)
-written_tokens [] = []
-written_tokens (t ∷ []) = supplied t.supply
-written_tokens (t ∷ u ∷ us) = supplied t.supply ++ (kept t.form t.token ++ written_tokens (u ∷ us))
+-- a token on its line
+pub record Standing : Type 0 where
+  pub text : List ℕ
+  pub line : ℕ
+
+abbrev pub all_on : ℕ → List (List ℕ) → List Standing
+all_on line ts = map (λ t. record { text = t; line = line }) ts
+
+-- the line behind a text, where it begins on line n
+abbrev pub line_from : ℕ → List ℕ → ℕ
+line_from n t = n + count_by is_line_feed t
+
+-- the tokens that are written of turns whose text begins on line n, each on the line that it has there; the last turn has none
+abbrev pub written_from : ℕ → List Written → List Standing
+written_from n [] = []
+written_from n (t ∷ []) = all_on n (supplied t.supply)
+written_from n (t ∷ u ∷ us) = all_on n (supplied t.supply) ++ (all_on (line_from n t.gap) (kept t.form t.token) ++ written_from (line_from n (source t)) (u ∷ us))
+
+abbrev pub standing : List Word → List Standing
+standing ts = map (λ w. record { text = w.text; line = w.line }) ts
 
 abbrev pub texts : List Word → List (List ℕ)
 texts ts = map (λ w. w.text) ts
@@ -134,8 +152,8 @@ pub record AreKept (text : List ℕ) (ts : List Word) : Type 0 where
   pub are_cut : IsCut text ts
   pub all_kept : has_left_out ts ≡ false
 
--- what is written of a text has the tokens that are written
+-- what is written of a text is cut into the tokens that are written, each on the line that it has in the text
 pub record IsCutAgain (text : List ℕ) : Type 0 where
   pub cut : List Word
   pub are_cut : IsCut (spelled (turns text)) cut
-  pub as_written : texts cut ≡ written_tokens (turns text)
+  pub as_written : standing cut ≡ written_from 1 (turns text)

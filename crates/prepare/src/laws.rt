@@ -11,7 +11,7 @@ ghost use Rattle.prepare.specs.Coding.{has_character};
 ghost use Rattle.prepare.specs.Sizes.{declared};
 ghost use Rattle.prepare.specs.Changes.{exchanges};
 ghost use Rattle.prepare.specs.Ranges.{IsOfSize};
-ghost use Rattle.prepare.specs.Laws.{prepared, exchanged, has_change, HasNothingToMend, owns, sources, tokens, texts, is_unsupplied, has_no_skip, is_mended, BlanksAreBlocks, AreKept, IsCutAgain};
+ghost use Rattle.prepare.specs.Laws.{prepared, exchanged, has_change, HasNothingToMend, owns, sources, tokens, texts, is_unsupplied, has_tokens_alone, is_mended, BlanksAreBlocks, AreKept, IsCutAgain};
 
 /// What is prepared has as many lines as the marks of the text ask for.
 pub fn lines_are_those_asked()
@@ -64,9 +64,13 @@ pub fn what_is_cut_wants_separators_alone()
     ensures { (text : List ℕ) (ts : List Word) → AreKept text ts → is_unsupplied (turns text) ≡ true → is_mended text ≡ true }
 {}
 
-/// A text that is cut into tokens of which none is left out is cut again once its separators are written, into these tokens and the
-/// separators: each separator is a token of its own, and changes no other. This is of texts in which each label has a statement, and of
-/// what is written before tokens become others.
+/// Where a text is cut into tokens of which none is left out, it has such tokens alone as what is written is cut into.
+pub fn what_is_cut_has_tokens_alone()
+    ensures { (text : List ℕ) (ts : List Word) → AreKept text ts → has_tokens_alone text ≡ true }
+{}
+
+/// Of a text whose tokens outside blocks are such as the language has, what is written is cut again: into its tokens but for those of
+/// blocks, a string over several lines on one, and each `;` and `skip` that is written, each on the line that it has in the text.
 pub fn what_is_written_is_cut_again()
-    ensures { (text : List ℕ) (ts : List Word) → AreKept text ts → has_no_skip (turns text) ≡ true → IsCutAgain text }
+    ensures { (text : List ℕ) → has_tokens_alone text ≡ true → IsCutAgain text }
 {}
