@@ -37,7 +37,8 @@ use Rattle.prepare.specs.Places.{written, is_blanked, behind, start}
 use Rattle.prepare.specs.Written.{Written}
 use Rattle.prepare.specs.Turns.{string_end, string_or_rest, broken, found_or, piece_at, form_outside, turn, last_turn, on_piece, turns_by, turns}
 use Rattle.prepare.specs.Spelling.{blank, unbroken, divider, shown, spelled}
-use Rattle.prepare.specs.Laws.{source, sources, is_blank_form, is_token, has_tokens_alone, supplied, kept, Standing, all_on, line_from, written_from, standing}
+use Rattle.prepare.specs.Blocks.{is_blank_form}
+use Rattle.prepare.specs.Laws.{source, sources, is_token, has_tokens_alone, supplied, kept, Standing, all_on, line_from, written_from, standing}
 use Rattle.prepare.proofs.Turning.{at_piece}
 use Rattle.prepare.proofs.Blocks.{outside_kept}
 use Rattle.prepare.proofs.Lines.{feeds, feeds-append, blanks_feeds, filter_feeds, unbroken_feeds}
@@ -523,7 +524,7 @@ no_word w q none = by (bytes_eq (34 ∷ q) w) refl
     by true e = absurd (none ((bytes_eq-Decides (34 ∷ q) w).0 e))
     by false e = e
 
-quote_no_word : (q : List ℕ) → is_block_word (34 ∷ q) ≡ false
+pub quote_no_word : (q : List ℕ) → is_block_word (34 ∷ q) ≡ false
 quote_no_word q =
     let a : bytes_eq (34 ∷ q) (codes "never") ≡ false = no_word (codes "never") q (λ e. cc) in
     let b : bytes_eq (34 ∷ q) (codes "ltl") ≡ false = no_word (codes "ltl") q (λ e. cc) in
@@ -540,22 +541,22 @@ unfolding turn
 joins_turn p gap q out ends = record { is = form_at p kind.Quoted gap (34 ∷ q) false out ∙ ap form_outside (quoted_role q); others = q; bytes = refl; ends = ends }
 
 -- what stands at the front of a text: a piece, a string over lines, or what begins no token
-record Begins (fresh : Bool) (b : ℕ) (r : List ℕ) (n : ℕ) (x : Piece) : Type 0 where
-  found : piece_at fresh (b ∷ r) ≡ (n, x)
-  some : 0 < n
-  within : n ≤ length (b ∷ r)
+pub record Begins (fresh : Bool) (b : ℕ) (r : List ℕ) (n : ℕ) (x : Piece) : Type 0 where
+  pub found : piece_at fresh (b ∷ r) ≡ (n, x)
+  pub some : 0 < n
+  pub within : n ≤ length (b ∷ r)
 
-abbrev IsString : ℕ → List ℕ → ℕ → Piece → Type 0
+abbrev pub IsString : ℕ → List ℕ → ℕ → Piece → Type 0
 IsString b r n x = (x ≡ Token kind.Quoted) × (b ≡ 34) × EndsAt 1 false r n
 
-abbrev IsOdd : ℕ → Piece → Type 0
+abbrev pub IsOdd : ℕ → Piece → Type 0
 IsOdd b x = (x ≡ Token kind.LeftOut) × (is_blank b ≡ false)
 
-record AtFront (fresh : Bool) (b : ℕ) (r : List ℕ) : Type 0 where
-  size : ℕ
-  sort : Piece
-  begins : Begins fresh b r size sort
-  is : ((next fresh (b ∷ r) ≡ Some (size, sort)) ⊎ IsString b r size sort) ⊎ IsOdd b sort
+pub record AtFront (fresh : Bool) (b : ℕ) (r : List ℕ) : Type 0 where
+  pub size : ℕ
+  pub sort : Piece
+  pub begins : Begins fresh b r size sort
+  pub is : ((next fresh (b ∷ r) ≡ Some (size, sort)) ⊎ IsString b r size sort) ⊎ IsOdd b sort
 
 odd : (fresh : Bool) (b : ℕ) (r : List ℕ) (n : ℕ) → piece_at fresh (b ∷ r) ≡ (n, Token kind.LeftOut) → 0 < n → n ≤ length (b ∷ r) → is_blank b ≡ false → AtFront fresh b r
 odd fresh b r n e some within black = record { size = n; sort = Token kind.LeftOut; begins = record { found = e; some = some; within = within }; is = inr (refl, black) }
@@ -580,7 +581,7 @@ unfolding piece_at
 front_by fresh b r None e h = broken_front fresh b r (b == 34) (b == 47) refl (none_head fresh b r e) (ap (found_or (broken (b ∷ r))) e)
 front_by fresh b r (Some x) e h = record { size = x.0; sort = x.1; begins = record { found = ap (found_or (broken (b ∷ r))) e; some = h.some; within = h.within }; is = inl (inl e) }
 
-front : (fresh : Bool) (b : ℕ) (r : List ℕ) → AtFront fresh b r
+pub front : (fresh : Bool) (b : ℕ) (r : List ℕ) → AtFront fresh b r
 front fresh b r = front_by fresh b r (next fresh (b ∷ r)) refl (next_is fresh (b ∷ r) (omega arith))
 
 list_all_left : (t : Written) (ts : List Written) → list_all is_token (t ∷ ts) ≡ true → is_token t ≡ true
@@ -597,11 +598,11 @@ list_all_right t ts h = by (is_token t) h
     by true h = h
     by false h = absurd (false≢true h)
 
-abbrev piece_turns : ℕ → Piece → Bool → Place → List ℕ → List ℕ → List ℕ → List Written
+abbrev pub piece_turns : ℕ → Piece → Bool → Place → List ℕ → List ℕ → List ℕ → List Written
 piece_turns fuel Skipped fresh p gap t rest = turns_by fuel (fresh_from fresh t) p (gap ++ t) rest
 piece_turns fuel (Token k) fresh p gap t rest = turn p k gap t ∷ turns_by fuel false (behind p (role k t)) [] rest
 
-piece_is : (fuel n : ℕ) (k : Piece) (fresh : Bool) (p : Place) (gap text : List ℕ) → on_piece n k fresh p gap text (turns_by fuel) ≡ piece_turns fuel k fresh p gap (take n text) (drop n text)
+pub piece_is : (fuel n : ℕ) (k : Piece) (fresh : Bool) (p : Place) (gap text : List ℕ) → on_piece n k fresh p gap text (turns_by fuel) ≡ piece_turns fuel k fresh p gap (take n text) (drop n text)
 piece_is fuel n Skipped fresh p gap text = refl
 piece_is fuel n (Token k) fresh p gap text = refl
 

@@ -19,7 +19,8 @@ use Rattle.prepare.specs.Roles.{role}
 use Rattle.prepare.specs.Places.{behind, start}
 use Rattle.prepare.specs.Written.{Written}
 use Rattle.prepare.specs.Turns.{turn, on_piece, turns_by}
-use Rattle.prepare.specs.Laws.{is_blank_form, is_token, has_tokens_alone}
+use Rattle.prepare.specs.Blocks.{is_blank_form}
+use Rattle.prepare.specs.Laws.{is_token, has_tokens_alone}
 use Rattle.prepare.proofs.Turning.{at_piece}
 use Rattle.prepare.proofs.Tokens.{Finds, finds, no_piece}
 

@@ -15,4 +15,7 @@ pub mod Softly
 pub mod Joining
 pub mod Alone
 pub mod Again
+pub mod Chain
+pub mod Blanking
+pub mod Dividing
 mod Rows

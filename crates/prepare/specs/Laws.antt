@@ -11,12 +11,10 @@ use Rattle.prepare.specs.declared.place.Supply.{Supply}
 use Rattle.prepare.specs.declared.place.Supply.TheVariants as as_supply
 use Rattle.prepare.specs.declared.turn.Form.{Form}
 use Rattle.prepare.specs.declared.turn.Form.TheVariants as form
-use Rattle.prepare.specs.declared.turn.Remark.{Remark}
-use Rattle.prepare.specs.declared.turn.Remark.TheVariants as remark
-use Rattle.prepare.specs.Roles.{is_block_word}
 use Rattle.prepare.specs.Written.{Written}
 use Rattle.prepare.specs.Turns.{turns}
 use Rattle.prepare.specs.Spelling.{unbroken, spelled}
+use Rattle.prepare.specs.Blocks.{is_blanked}
 use Rattle.prepare.specs.Numbering.{bare, numbered, has_mark}
 use Rattle.prepare.specs.Coding.{coded, has_character}
 use Rattle.prepare.specs.Exchange.{Exchange}
@@ -83,30 +81,13 @@ pub record HasNothingToMend (text : List ℕ) : Type 0 where
   pub turns : is_mended text ≡ true
   pub changes : has_change text ≡ false
 
-abbrev pub is_blank_form : Form → Bool
-is_blank_form form.Blanked = true
-is_blank_form _ = false
-
-abbrev pub is_block_end : Remark → Bool
-is_block_end remark.BlockEnds = true
-is_block_end _ = false
-
--- whether a block goes on behind a turn
-abbrev pub goes_on : Written → Bool
-goes_on t = is_blank_form t.form && not (is_block_end t.remark)
-
--- A token that is blanked is the word of a block, or stands behind another one of it: `inside` says whether one stands before the turns.
-abbrev pub BlanksAreBlocks : Bool → List Written → Type 0
-BlanksAreBlocks inside [] = Unit {0}
-BlanksAreBlocks inside (t ∷ ts) = (is_blank_form t.form ≡ true → (inside || is_block_word t.token) ≡ true) × BlanksAreBlocks (goes_on t) ts
-
 -- the tokens of turns, as bytes
 abbrev pub tokens : List Written → List (List ℕ)
 tokens ts = map (λ t. t.token) ts
 
 -- whether a token is that of a block, or one that the text may have: no word, sign or line that is left out, and no byte that begins none
 abbrev pub is_token : Written → Bool
-is_token t = is_blank_form t.form || not (same_kind t.kind LeftOut)
+is_token t = is_blanked t || not (same_kind t.kind LeftOut)
 
 -- whether a text has such tokens alone
 abbrev pub has_tokens_alone : List ℕ → Bool

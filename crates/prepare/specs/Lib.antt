@@ -14,4 +14,6 @@ pub mod Mark
 pub mod Standing
 pub mod Marks
 pub mod Numbering
+pub mod Blocks
+pub mod Separators
 pub mod Laws

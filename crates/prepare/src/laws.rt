@@ -11,7 +11,9 @@ ghost use Rattle.prepare.specs.Coding.{has_character};
 ghost use Rattle.prepare.specs.Sizes.{declared};
 ghost use Rattle.prepare.specs.Changes.{exchanges};
 ghost use Rattle.prepare.specs.Ranges.{IsOfSize};
-ghost use Rattle.prepare.specs.Laws.{prepared, exchanged, has_change, HasNothingToMend, owns, sources, tokens, texts, is_unsupplied, has_tokens_alone, is_mended, BlanksAreBlocks, AreKept, IsCutAgain};
+ghost use Rattle.prepare.specs.Blocks.{BlanksAreBlocks};
+ghost use Rattle.prepare.specs.Separators.{SeparatorsEndStatements, SkipsAreLabelled};
+ghost use Rattle.prepare.specs.Laws.{prepared, exchanged, has_change, HasNothingToMend, owns, sources, tokens, texts, is_unsupplied, has_tokens_alone, is_mended, AreKept, IsCutAgain};
 
 /// What is prepared has as many lines as the marks of the text ask for.
 pub fn lines_are_those_asked()
@@ -53,9 +55,17 @@ pub fn tokens_are_those_cut()
     ensures { (text : List ℕ) (ts : List Word) → IsCut text ts → tokens (turns text) ≡ texts ts ++ [] ∷ [] }
 {}
 
-/// What is blanked are blocks: each begins with `never`, `ltl`, `trace` or `notrace`, and goes on to its last brace.
+/// What is blanked are the blocks, and nothing else is: each begins with `never`, `ltl`, `trace` or `notrace`, and ends with the brace that
+/// closes it, or with the text where none does.
 pub fn blanks_are_blocks()
-    ensures { (text : List ℕ) → BlanksAreBlocks false (turns text) }
+    ensures { (text : List ℕ) → BlanksAreBlocks (turns text) }
+{}
+
+/// A `;` is written only where a line ends, a statement may end before it and another begin behind it, within braces and in no other
+/// brackets; ` skip` only between a colon and what ends a sequence.
+pub fn what_is_written_divides_statements()
+    ensures separators { (text : List ℕ) → SeparatorsEndStatements (turns text) }
+    ensures skips { (text : List ℕ) → SkipsAreLabelled (turns text) }
 {}
 
 /// Where a text is cut into tokens of which none is left out, it has no block and no string over several lines: unless something is
