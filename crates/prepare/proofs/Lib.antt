@@ -15,6 +15,8 @@ pub mod Softly
 pub mod Joining
 pub mod Alone
 pub mod Again
+pub mod Lined
+pub mod Lineup
 pub mod Chain
 pub mod Blanking
 pub mod Dividing

@@ -18,11 +18,15 @@ use Rattle.prepare.specs.Blocks.{is_blanked}
 use Rattle.prepare.specs.Numbering.{bare, numbered, has_mark}
 use Rattle.prepare.specs.Coding.{coded, has_character}
 use Rattle.prepare.specs.Exchange.{Exchange}
-use Rattle.prepare.specs.Changes.{exchanges, respelled, is_same}
+use Rattle.prepare.specs.Changes.{exchanges, respelled_one, respelled, is_same}
 
--- a text with its separators, and without blocks
+-- a text with its lines where its marks say, and with numbers in place of its character constants
+abbrev pub lined : List ℕ → List ℕ
+lined text = coded (numbered (bare text))
+
+-- this with its separators, and without blocks
 abbrev pub separated : List ℕ → List ℕ
-separated text = spelled (turns (coded (numbered (bare text))))
+separated text = spelled (turns (lined text))
 
 -- what becomes of the tokens of a text
 abbrev pub exchanged : List ℕ → List ℕ
@@ -121,6 +125,12 @@ abbrev pub written_from : ℕ → List Written → List Standing
 written_from n [] = []
 written_from n (t ∷ []) = all_on n (supplied t.supply)
 written_from n (t ∷ u ∷ us) = all_on n (supplied t.supply) ++ (all_on (line_from n t.gap) (kept t.form t.token) ++ written_from (line_from n (source t)) (u ∷ us))
+
+-- the tokens of what becomes of a text, as they were before, each on the line where what becomes of it is written; the last has none
+abbrev pub shown_from : ℕ → List Exchange → List Standing
+shown_from n [] = []
+shown_from n (c ∷ []) = []
+shown_from n (c ∷ d ∷ ds) = record { text = c.token; line = line_from n c.gap } ∷ shown_from (line_from n (respelled_one c)) (d ∷ ds)
 
 abbrev pub standing : List Word → List Standing
 standing ts = map (λ w. record { text = w.text; line = w.line }) ts

@@ -3,9 +3,13 @@
 ghost use Rattle.std.specs.Prelude.{◌≡◌, ◌++◌, ◌∷◌, [], List, ℕ, true, false, All};
 ghost use Rattle.pml_token.specs.Word.{Word};
 ghost use Rattle.pml_lex.specs.Division.{line_behind, IsCut};
+ghost use Rattle.prepare.specs.declared.TheConstants.{MOST_BYTES, FORM_FEED};
+ghost use Rattle.prepare.specs.declared.marks.TheConstants.{MOST_LINE};
+ghost use Rattle.prepare.specs.declared.place.TheConstants.{MOST_DEPTH};
 ghost use Rattle.prepare.specs.Written.{Written};
 ghost use Rattle.prepare.specs.Turns.{turns};
-ghost use Rattle.prepare.specs.Spelling.{spelled};
+ghost use Rattle.prepare.specs.Spelling.{joined, spelled};
+ghost use Rattle.prepare.specs.Strings.{IsJoined};
 ghost use Rattle.prepare.specs.Numbering.{bare, numbered, lines_asked, has_mark};
 ghost use Rattle.prepare.specs.Coding.{has_character};
 ghost use Rattle.prepare.specs.Sizes.{declared};
@@ -13,7 +17,7 @@ ghost use Rattle.prepare.specs.Changes.{exchanges};
 ghost use Rattle.prepare.specs.Ranges.{IsOfSize};
 ghost use Rattle.prepare.specs.Blocks.{BlanksAreBlocks};
 ghost use Rattle.prepare.specs.Separators.{SeparatorsEndStatements, SkipsAreLabelled};
-ghost use Rattle.prepare.specs.Laws.{prepared, exchanged, has_change, HasNothingToMend, owns, sources, tokens, texts, is_unsupplied, has_tokens_alone, is_mended, AreKept, IsCutAgain};
+ghost use Rattle.prepare.specs.Laws.{lined, separated, prepared, exchanged, has_change, HasNothingToMend, owns, sources, tokens, texts, is_unsupplied, has_tokens_alone, is_mended, AreKept, written_from, shown_from, IsCutAgain};
 
 /// What is prepared has as many lines as the marks of the text ask for.
 pub fn lines_are_those_asked()
@@ -83,4 +87,23 @@ pub fn what_is_cut_has_tokens_alone()
 /// blocks, a string over several lines on one, and each `;` and `skip` that is written, each on the line that it has in the text.
 pub fn what_is_written_is_cut_again()
     ensures { (text : List ℕ) → has_tokens_alone text ≡ true → IsCutAgain text }
+{}
+
+/// What is prepared has the tokens that are written of the text with its lines where its marks say, in order, each on the line that it has
+/// there: a token of a subtype or of a `for` over an array becomes another on its line.
+pub fn tokens_stay_on_their_lines()
+    ensures { (text : List ℕ) → has_tokens_alone (lined text) ≡ true → shown_from 1 (exchanges (turns (separated text))) ≡ written_from 1 (turns (lined text)) }
+{}
+
+/// A string over several lines keeps its bytes but for its line feeds, and the backslashes that they belong to: the line feeds stand behind it.
+pub fn joined_strings_keep_their_bytes()
+    ensures { (string : List ℕ) → IsJoined string (joined string) }
+{}
+
+/// Each limit of preparing is this number, and so is the byte that ends a line of an included file.
+pub fn the_limits_are_these()
+    ensures bytes_of_a_text { MOST_BYTES ≡ 8388608 }
+    ensures line_of_a_mark { MOST_LINE ≡ 1048576 }
+    ensures open_brackets { MOST_DEPTH ≡ 1000000 }
+    ensures end_of_an_included_line { FORM_FEED ≡ 12 }
 {}
