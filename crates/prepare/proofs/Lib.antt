@@ -17,6 +17,8 @@ pub mod Alone
 pub mod Again
 pub mod Lined
 pub mod Lineup
+pub mod Owning
+pub mod Numbers
 pub mod Chain
 pub mod Blanking
 pub mod Dividing

@@ -44,7 +44,7 @@ none_included : (xs : List ℕ) → feeds (map included xs) ≡ 0
 none_included [] = refl
 none_included (b ∷ q) = feeds-cons (included b) (map included q) ∙ included_by (is_line_feed b) b (feeds (map included q)) refl (none_included q)
 
-feeds-replicate : (n : ℕ) → feeds (replicate n line_feed) ≡ n
+pub feeds-replicate : (n : ℕ) → feeds (replicate n line_feed) ≡ n
 feeds-replicate n = sum_by-replicate (λ b. cond (is_line_feed b) 1 0) n line_feed ∙ omega arith
 
 own_line : (t : Bool) (n : ℕ) (line : List ℕ) → n + feeds (cond t line (map included line)) ≡ cond t (n + feeds line) n
@@ -144,7 +144,7 @@ number_feeds t =
     let c = digits_feeds (value t) in
     omega arith
 
-character_feeds : (t : Bool) (front : List ℕ) → feeds (coding.written t front) ≡ feeds front
+pub character_feeds : (t : Bool) (front : List ℕ) → feeds (coding.written t front) ≡ feeds front
 character_feeds true front =
     let a = feeds-append (number front) (filter is_line_feed front) in
     let b = number_feeds front in
