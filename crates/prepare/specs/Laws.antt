@@ -148,3 +148,8 @@ pub record IsCutAgain (text : List ℕ) : Type 0 where
   pub cut : List Word
   pub are_cut : IsCut (spelled (turns text)) cut
   pub as_written : standing cut ≡ written_from 1 (turns text)
+
+-- the tokens of what is prepared, as they were before some become others, are those that are written of a text with its lines where its marks
+-- say, each on the line that it has there
+abbrev pub TokensStay : List ℕ → Type 0
+TokensStay text = has_tokens_alone (lined text) ≡ true → shown_from 1 (exchanges (turns (separated text))) ≡ written_from 1 (turns (lined text))

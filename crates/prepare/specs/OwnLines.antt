@@ -1,11 +1,11 @@
 -- On which line a line of the model's own file stands, and what numbers stand for.
-use Rattle.std.specs.Prelude.{◌≡◌, ◌<◌, ℕ, zero, suc, false, List, [], ◌∷◌, ◌++◌, length, drop, count_by, ◌⊎◌, Option, None, Some}
+use Rattle.std.specs.Prelude.{◌≡◌, ◌<◌, ℕ, zero, suc, false, List, [], ◌∷◌, ◌++◌, length, drop, max, count_by, ◌⊎◌, Option, None, Some}
 use Rattle.std.specs.List.{filter, flat_map, list_any}
 use Rattle.profile.specs.Characters.{line_feed}
 use Rattle.pml_lex.specs.Division.{is_line_feed, line_behind}
 use Rattle.prepare.specs.Mark.{Mark}
 use Rattle.prepare.specs.Marks.{mark}
-use Rattle.prepare.specs.Numbering.{first_line, line_length, has_mark}
+use Rattle.prepare.specs.Numbering.{first_line, line_length, numbered, has_mark}
 use Rattle.prepare.specs.Character.{character_length, number}
 
 -- whole lines: nothing, or a text that ends with a line feed
@@ -59,6 +59,15 @@ pub record StandFrom (n : ℕ) (own text : List ℕ) : Type 0 where
   pub behind : List ℕ
   pub divides : text ≡ before ++ (own ++ behind)
   pub line : line_behind before ≡ n
+
+-- lines of the model's own file stand, once the lines of a text are where its marks say, from the line on that the mark before them gives, or
+-- behind what was written before it
+abbrev pub OwnLinesStand : List ℕ → Type 0
+OwnLinesStand text = (before own : List ℕ) (m : Mark) → AreOwn text before own m → StandFrom (max (line_behind (numbered before)) m.line) own (numbered text)
+
+-- and lines before which no mark stands from line 1 on
+abbrev pub FirstLinesStand : List ℕ → Type 0
+FirstLinesStand text = (own : List ℕ) → AreFirst text own → StandFrom 1 own (numbered text)
 
 -- a part of a text, and what is written of it
 pub record Part : Type 0 where

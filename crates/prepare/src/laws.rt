@@ -1,6 +1,6 @@
 //! What holds of the definitions alone.
 
-ghost use Rattle.std.specs.Prelude.{◌≡◌, ◌++◌, ◌∷◌, [], List, ℕ, true, false, All, max};
+ghost use Rattle.std.specs.Prelude.{◌≡◌, ◌++◌, ◌∷◌, [], List, ℕ, true, false, All};
 ghost use Rattle.pml_token.specs.Word.{Word};
 ghost use Rattle.pml_lex.specs.Division.{line_behind, IsCut};
 ghost use Rattle.prepare.specs.declared.TheConstants.{MOST_BYTES, FORM_FEED};
@@ -10,8 +10,7 @@ ghost use Rattle.prepare.specs.Written.{Written};
 ghost use Rattle.prepare.specs.Turns.{turns};
 ghost use Rattle.prepare.specs.Spelling.{joined, spelled};
 ghost use Rattle.prepare.specs.Strings.{IsJoined};
-ghost use Rattle.prepare.specs.Mark.{Mark};
-ghost use Rattle.prepare.specs.OwnLines.{AreOwn, AreFirst, StandFrom, HasNumbers};
+ghost use Rattle.prepare.specs.OwnLines.{OwnLinesStand, FirstLinesStand, HasNumbers};
 ghost use Rattle.prepare.specs.Numbering.{bare, numbered, lines_asked, has_mark};
 ghost use Rattle.prepare.specs.Coding.{coded, has_character};
 ghost use Rattle.prepare.specs.Sizes.{declared};
@@ -19,7 +18,7 @@ ghost use Rattle.prepare.specs.Changes.{exchanges};
 ghost use Rattle.prepare.specs.Ranges.{IsOfSize};
 ghost use Rattle.prepare.specs.Blocks.{BlanksAreBlocks};
 ghost use Rattle.prepare.specs.Separators.{SeparatorsEndStatements, SkipsAreLabelled};
-ghost use Rattle.prepare.specs.Laws.{lined, separated, prepared, exchanged, has_change, HasNothingToMend, owns, sources, tokens, texts, is_unsupplied, has_tokens_alone, is_mended, AreKept, written_from, shown_from, IsCutAgain};
+ghost use Rattle.prepare.specs.Laws.{prepared, exchanged, has_change, HasNothingToMend, owns, sources, tokens, texts, is_unsupplied, has_tokens_alone, is_mended, AreKept, TokensStay, IsCutAgain};
 
 /// What is prepared has as many lines as the marks of the text ask for.
 pub fn lines_are_those_asked()
@@ -94,15 +93,14 @@ pub fn what_is_written_is_cut_again()
 /// What is prepared has the tokens that are written of the text with its lines where its marks say, in order, each on the line that it has
 /// there: a token of a subtype or of a `for` over an array becomes another on its line.
 pub fn tokens_stay_on_their_lines()
-    ensures { (text : List ℕ) → has_tokens_alone (lined text) ≡ true → shown_from 1 (exchanges (turns (separated text))) ≡ written_from 1 (turns (lined text)) }
+    ensures { (text : List ℕ) → TokensStay text }
 {}
 
 /// Lines of the model's own file stand, once its marks have put them, from the line on that the mark before them gives, and line by line behind
 /// that; where more lines were written before it, behind these. Before the first mark they stand from line 1 on.
 pub fn own_lines_stand_where_marks_say()
-    ensures marked { (text before own : List ℕ) (m : Mark) → AreOwn (bare text) before own m
-        → StandFrom (max (line_behind (numbered before)) m.line) own (numbered (bare text)) }
-    ensures first { (text own : List ℕ) → AreFirst (bare text) own → StandFrom 1 own (numbered (bare text)) }
+    ensures marked { (text : List ℕ) → OwnLinesStand (bare text) }
+    ensures first { (text : List ℕ) → FirstLinesStand (bare text) }
 {}
 
 /// Where numbers are written in place of character constants, all else stays, and each line.
