@@ -1,12 +1,12 @@
 // Prepares what a reader gives, and writes it.
 
-ghost use Rattle.std.specs.Prelude.{◌≡◌, ◌≤◌, ◌+◌, length, take, IfOk, OnOk, IfSome};
+ghost use Rattle.std.specs.Prelude.{◌≡◌, ◌≤◌, ◌+◌, length, take, IfOk, OnOk, OnErr, IfSome};
 ghost use Rattle.std.specs.Io.KnownBytes.{Appends};
 ghost use Rattle.prepare.specs.declared.TheConstants.{MOST_BYTES};
 ghost use Rattle.prepare.specs.Turns as as_turns;
 ghost use Rattle.prepare.specs.Spelling as as_spelling;
 ghost use Rattle.prepare.specs.Laws as laws;
-ghost use Rattle.spinprep_program.specs.Over.{PreparesOver};
+ghost use Rattle.spinprep_program.specs.Over.{count, IsBegun, PreparesOver, BreaksOver};
 
 use crate::report::Report;
 use crate::stop::Stop;
@@ -74,14 +74,48 @@ fn exchanged<'t>(
     respelled(alloc, &exchanges)
 }
 
-// Writes all of some bytes.
-fn put<W: Write>(out: &mut W, bytes: &[u8]) -> Result<(), Stop>
-    ensures { OnOk result (Appends (W.contents out.old) (W.contents out.new) bytes.now) }
+// Whether a call failed that may be made again.
+fn is_interrupted(error: &io::Error) -> bool {
+    error.kind() == io::ErrorKind::Interrupted
+}
+
+// How many of some bytes a writer takes, none where the call may be made again; nothing where it fails.
+fn some_taken<W: Write>(out: &mut W, bytes: &[u8]) -> Option<usize>
+    ensures within { IfSome result (λ n. n ≤ length bytes.now) }
+    ensures took { Appends (W.contents out.old) (W.contents out.new) (take (count result) bytes.now) }
 {
-    if out.write_all(bytes).is_err() || out.flush().is_err() {
-        return Err(Stop::Device);
+    match out.write(bytes) {
+        Ok(count) => { if count > 0 { Some(count) } else { None } }
+        Err(error) => {
+            if is_interrupted(&error) {
+                Some(0)
+            } else {
+                None
+            }
+        }
     }
-    Ok(())
+}
+
+// Writes all of some bytes; a device that fails has taken a beginning of them.
+fn put<W: Write>(out: &mut W, bytes: &[u8]) -> Result<(), Stop>
+    ensures whole { OnOk result (Appends (W.contents out.old) (W.contents out.new) bytes.now) }
+    ensures begun { OnErr result (IsBegun (W.contents out.old) (W.contents out.new) bytes.now) }
+{
+    let mut rest = bytes;
+    for turn in 0..u64::MAX {
+        let _ = turn;
+        if rest.is_empty() {
+            return match out.flush() {
+                Ok(()) => Ok(()),
+                Err(_) => Err(Stop::Device),
+            };
+        }
+        match some_taken(out, rest) {
+            Some(count) => rest = &rest[count..],
+            None => return Err(Stop::Device),
+        }
+    }
+    Err(Stop::Device)
 }
 
 // Writes what is made of a text with its separators, says what is to be said, and answers whether something is left.
@@ -92,7 +126,8 @@ fn write_exchanged<'t, W: Write>(
     name: &str,
     out: &mut W,
 ) -> Result<bool, Stop>
-    ensures { OnOk result (Appends (W.contents out.old) (W.contents out.new) (laws.exchanged text.now)) }
+    ensures whole { OnOk result (Appends (W.contents out.old) (W.contents out.new) (laws.exchanged text.now)) }
+    ensures begun { OnErr result (IsBegun (W.contents out.old) (W.contents out.new) (laws.exchanged text.now)) }
 {
     let mut report = report;
     let output = exchanged(rt.alloc(), text, &mut report)?;
@@ -107,12 +142,10 @@ fn write_prepared<W: Write>(
     name: &str,
     out: &mut W,
 ) -> Result<bool, Stop>
-    ensures written { OnOk result (Appends (W.contents out.old) (W.contents out.new) (laws.prepared text.now)) }
-    ensures short { OnOk result (length text.now ≤ MOST_BYTES) }
+    requires { length text.now ≤ MOST_BYTES }
+    ensures whole { OnOk result (Appends (W.contents out.old) (W.contents out.new) (laws.prepared text.now)) }
+    ensures begun { OnErr result (IsBegun (W.contents out.old) (W.contents out.new) (laws.prepared text.now)) }
 {
-    if text.len() > MOST_BYTES {
-        return Err(Stop::TooLong);
-    }
     let lines = numbered(rt.alloc(), text)?;
     let numbers = coded(rt.alloc(), &lines)?;
     let mut report = Report::new(rt.alloc());
@@ -128,13 +161,17 @@ pub fn prepare_over<R: Read + Drop, W: Write>(
     reader: R,
     out: &mut W,
 ) -> Result<Done, Stop>
-    ensures { IfOk result (λ d. PreparesOver (R.remaining reader) (W.contents out.old) (W.contents out.new) d.text.items) }
+    ensures whole { IfOk result (λ d. PreparesOver (R.remaining reader) (W.contents out.old) (W.contents out.new) d.text.items) }
+    ensures begun { OnErr result (BreaksOver (R.remaining reader) (W.contents out.old) (W.contents out.new)) }
 {
     let text = match text_of(rt.alloc(), reader) {
         Ok(text) => text,
         Err(error) if error.kind() == io::ErrorKind::OutOfMemory => return Err(Stop::Memory),
         Err(_) => return Err(Stop::CannotRead(String::from_str(rt.alloc(), file)?)),
     };
+    if text.len() > MOST_BYTES {
+        return Err(Stop::TooLong);
+    }
     let is_left = write_prepared(rt, &text, name, out)?;
     Ok(Done { text, is_left })
 }
