@@ -1,9 +1,13 @@
--- What is written of a text that is cut is cut again: into its tokens, and what is supplied.
-use Rattle.std.proofs.Common.{◌≡◌, ℕ, zero, suc, ◌-◌, ◌<◌, ◌≤◌, Bool, true, false, cond, ◌&&◌, ◌||◌, List, [], ◌∷◌, ◌++◌, Option, Some, length, take, drop, sym, refl, ap, ◌∙◌, subst, inl, inr, ⊎_elim, append_assoc, append-nil, length-drop, take-append-drop, arith}
-use Rattle.std.specs.Prelude.{◌⊎◌}
-use Rattle.std.specs.List.{concat}
+-- What is written of a text is cut again: into its tokens but for those of blocks, and what is supplied.
+use Rattle.std.proofs.Common.{◌≡◌, ℕ, zero, suc, ◌+◌, ◌-◌, ◌<◌, ◌≤◌, Bool, true, false, not, cond, ◌&&◌, ◌||◌, List, [], ◌∷◌, ◌++◌, Option, Some, None, length, take, drop, map, sym, refl, ap, ◌∙◌, subst, inl, inr, ⊎_elim, append_assoc, append-nil, length-drop, take-append-drop, length-take-le, arith}
+use Rattle.std.specs.Prelude.{◌⊎◌, ◌==◌}
+use Rattle.std.specs.List.{concat, filter, list_all, list_any, prefix_len}
+use Rattle.std.specs.Str.{bytes_eq}
+use Rattle.std.specs.Option.{option_map}
 use lib.Chars.{codes}
 use Rattle.std.proofs.lemmas.Bool.{false≢true}
+use Rattle.std.proofs.lemmas.Bool.Decides.{nat_tests}
+use Rattle.std.proofs.lemmas.Slice.Eq.{bytes_eq-Decides}
 use Rattle.std.proofs.Math.Seq.{take-append_seam, drop-append_seam}
 use Rattle.pml_lex.specs.declared.piece.Piece.{Piece}
 use Rattle.pml_lex.specs.declared.piece.Piece.TheVariants.{Skipped, Token}
@@ -11,37 +15,38 @@ use Rattle.pml_token.specs.declared.token.Kind.{Kind}
 use Rattle.pml_token.specs.declared.token.Kind.TheVariants as kind
 use Rattle.pml_token.specs.Kinds.{same_kind}
 use Rattle.pml_token.specs.Word.{Word}
-use Rattle.pml_lex.specs.Pieces.{piece}
-use Rattle.pml_lex.specs.Scanning.{next}
-use Rattle.pml_lex.specs.Division.{IsLongest, IsCut, fresh_from, is_fresh, line_behind, word, words}
+use Rattle.pml_lex.specs.Tables.{word_kind}
+use Rattle.pml_lex.specs.Pieces.{piece, is_blank, is_name_byte}
+use Rattle.pml_lex.specs.Scanning.{Found, next}
+use Rattle.pml_lex.specs.Division.{IsLongest, IsCut, fresh_from, is_fresh, is_line_feed, line_behind, word, words}
 use Rattle.pml_lex.proofs.Longest.{IsNext, IsNextAt}
 use Rattle.pml_lex.proofs.Scan.{next_is}
 use Rattle.pml_lex.proofs.Places.{token_place}
 use Rattle.pml_lex.proofs.Steps.{fresh_from-append}
 use Rattle.pml_lex.proofs.Wholes.{Divides, to_whole}
-use Rattle.prepare.specs.declared.place.Supply.{Supply}
-use Rattle.prepare.specs.declared.place.Supply.TheVariants as supply
-use Rattle.prepare.specs.Places.{written}
-use Rattle.prepare.specs.Written.{Written}
-use Rattle.prepare.specs.Spelling.{shown, spelled}
-use Rattle.pml_lex.specs.Limits.{has_left_out}
-use Rattle.pml_lex.proofs.Wholes.{from_whole}
 use Rattle.prepare.specs.declared.roles.Role.{Role}
 use Rattle.prepare.specs.declared.roles.Role.TheVariants as as_role
-use Rattle.prepare.specs.declared.place.Block.{Block}
+use Rattle.prepare.specs.declared.place.Supply.{Supply}
+use Rattle.prepare.specs.declared.place.Supply.TheVariants as supply
 use Rattle.prepare.specs.declared.place.Block.TheVariants.{Outside}
 use Rattle.prepare.specs.declared.place.Place.{Place}
 use Rattle.prepare.specs.declared.turn.Form.{Form}
 use Rattle.prepare.specs.declared.turn.Form.TheVariants as form
-use Rattle.prepare.specs.Roles.{role}
-use Rattle.prepare.specs.Places.{is_blanked, block_behind, behind, start}
-use Rattle.prepare.specs.Turns.{form_outside, turn, last_turn, on_piece, turns_by, turns}
-use Rattle.prepare.specs.Laws.{sources, supplied, kept, is_no_skip, has_no_skip, written_tokens, texts}
+use Rattle.prepare.specs.Roles.{is_block_word, role}
+use Rattle.prepare.specs.Places.{written, is_blanked, behind, start}
+use Rattle.prepare.specs.Written.{Written}
+use Rattle.prepare.specs.Turns.{string_end, string_or_rest, broken, found_or, piece_at, form_outside, turn, last_turn, on_piece, turns_by, turns}
+use Rattle.prepare.specs.Spelling.{blank, unbroken, divider, shown, spelled}
+use Rattle.prepare.specs.Blocks.{is_blank_form}
+use Rattle.prepare.specs.Laws.{source, sources, is_token, has_tokens_alone, supplied, kept, Standing, all_on, line_from, written_from, standing}
 use Rattle.prepare.proofs.Turning.{at_piece}
-use Rattle.prepare.proofs.Plain.{sources_are, shown_stays}
-use Rattle.prepare.proofs.Tokens.{Finds, finds, no_piece}
-use Rattle.prepare.proofs.Needs.{heads_none, stays_outside_by, no_feed, form_stays}
-use Rattle.prepare.proofs.Stays.{Fits, head, is_soft, next_stays}
+use Rattle.prepare.proofs.Blocks.{outside_kept}
+use Rattle.prepare.proofs.Lines.{feeds, feeds-append, blanks_feeds, filter_feeds, unbroken_feeds}
+use Rattle.prepare.proofs.Plain.{sources_are, shown_stays, unbroken_stays, not_true}
+use Rattle.prepare.proofs.Needs.{no_feed, form_stays}
+use Rattle.prepare.proofs.Stays.{Fits, head, is_soft, stop_now, next_stays}
+use Rattle.prepare.proofs.Softly.{Follows, skip_stays, Least, next_fresher, least_from, skip_head, token_head, none_head, blank_skipped}
+use Rattle.prepare.proofs.Joining.{joined_end, EndsAt, ends_at}
 
 -- a scan finds just this piece
 record IsScanned (f : Bool) (q back : List ℕ) (k : Piece) : Type 0 where
@@ -64,67 +69,131 @@ longest f q back k h = longest_at f q back k (subst (IsNext f (q ++ back)) h.fou
 scanned_again : (f : Bool) (q back back' : List ℕ) (k : Piece) → Fits k back back' → IsScanned f q back k → IsScanned f q back' k
 scanned_again f q back back' k fits h = record { some = h.some; found = next_stays f q back back' k h.some fits h.found }
 
+skipped_again : (f : Bool) (q back back' : List ℕ) → Follows back back' → IsScanned f q back Skipped → IsScanned f q back' Skipped
+skipped_again f q back back' follows h = record { some = h.some; found = skip_stays f q back back' h.some follows h.found }
+
+fresher : (f f' : Bool) (q back : List ℕ) (k : Piece) → Least f f' → IsScanned f q back k → IsScanned f' q back k
+fresher f f' q back k l h = record { some = h.some; found = next_fresher f f' (q ++ back) (length q, k) l h.found }
+
 -- pieces of a gap, which are skipped
 Skips : Bool → List (List ℕ) → List ℕ → Type 0
 Skips f [] rest = Unit {0}
 Skips f (g ∷ gs) rest = IsScanned f g (concat gs ++ rest) Skipped × Skips (fresh_from f g) gs rest
 
-head_same : (gs : List (List ℕ)) (f : Bool) (rest rest' : List ℕ) → head rest ≡ head rest' → Skips f gs rest → head (concat gs ++ rest) ≡ head (concat gs ++ rest')
+ends_same : (gs : List (List ℕ)) (f : Bool) (rest rest' : List ℕ) → Follows rest rest' → Skips f gs rest → Follows (concat gs ++ rest) (concat gs ++ rest')
 unfolding Skips
-head_same [] f rest rest' e h = e
-head_same ([] ∷ gs) f rest rest' e h = let none : 0 < 0 = h.0.some in absurd (omega arith)
-head_same ((b ∷ g) ∷ gs) f rest rest' e h = refl
+ends_same [] f rest rest' e h = e
+ends_same ([] ∷ gs) f rest rest' e h = let none : 0 < 0 = h.0.some in absurd (omega arith)
+ends_same ((b ∷ g) ∷ gs) f rest rest' e h = inl refl
 
-skips_again : (gs : List (List ℕ)) (f : Bool) (rest rest' : List ℕ) → head rest ≡ head rest' → Skips f gs rest → Skips f gs rest'
+skips_again : (gs : List (List ℕ)) (f : Bool) (rest rest' : List ℕ) → Follows rest rest' → Skips f gs rest → Skips f gs rest'
 unfolding Skips
 skips_again [] f rest rest' e h = tt
 skips_again (g ∷ gs) f rest rest' e h =
-    (scanned_again f g (concat gs ++ rest) (concat gs ++ rest') Skipped (inl (head_same gs (fresh_from f g) rest rest' e h.1)) h.0, skips_again gs (fresh_from f g) rest rest' e h.1)
+    (skipped_again f g (concat gs ++ rest) (concat gs ++ rest') (ends_same gs (fresh_from f g) rest rest' e h.1) h.0, skips_again gs (fresh_from f g) rest rest' e h.1)
 
--- pieces of a text behind `before`, and the tokens among them
-record Cut (before text : List ℕ) (ts : List (List ℕ)) : Type 0 where
+-- pieces of a text behind `before`, and the tokens among them, each on its line
+record Cut (before text : List ℕ) (ts : List Standing) : Type 0 where
   pieces : List (List ℕ)
   divides : Divides before pieces text
-  are : texts (words before pieces) ≡ ts
+  are : standing (words before pieces) ≡ ts
 
-one_more : (before q back : List ℕ) (k : Piece) (ts : List (List ℕ)) → IsScanned (is_fresh before) q back k → Cut (before ++ q) back ts → Cut before (q ++ back) (texts (word (Some k) q (line_behind before)) ++ ts)
+one_more : (before q back : List ℕ) (k : Piece) (ts : List Standing) → IsScanned (is_fresh before) q back k → Cut (before ++ q) back ts → Cut before (q ++ back) (standing (word (Some k) q (line_behind before)) ++ ts)
 one_more before q back k ts h c =
     let l = longest (is_fresh before) q back k h in
     record {
       pieces = q ∷ c.pieces;
       divides = (l.0, subst (Divides (before ++ q) c.pieces) (sym (drop-append_seam q back)) c.divides);
-      are = ap (λ (o : Option Piece). texts (word o q (line_behind before) ++ words (before ++ q) c.pieces)) l.1 ∙ joined k q c;
+      are = ap (λ (o : Option Piece). standing (word o q (line_behind before) ++ words (before ++ q) c.pieces)) l.1 ∙ joined k q c;
     }
   where
-    joined : (k : Piece) (q : List ℕ) (c : Cut (before ++ q) back ts) → texts (word (Some k) q (line_behind before) ++ words (before ++ q) c.pieces) ≡ texts (word (Some k) q (line_behind before)) ++ ts
+    joined : (k : Piece) (q : List ℕ) (c : Cut (before ++ q) back ts) → standing (word (Some k) q (line_behind before) ++ words (before ++ q) c.pieces) ≡ standing (word (Some k) q (line_behind before)) ++ ts
     joined Skipped q c = c.are
-    joined (Token x) q c = ap (λ (us : List (List ℕ)). q ∷ us) c.are
+    joined (Token x) q c = ap (λ (us : List Standing). record { text = q; line = line_behind before } ∷ us) c.are
 
-one_skipped : (before q back : List ℕ) (ts : List (List ℕ)) → IsScanned (is_fresh before) q back Skipped → Cut (before ++ q) back ts → Cut before (q ++ back) ts
+one_skipped : (before q back : List ℕ) (ts : List Standing) → IsScanned (is_fresh before) q back Skipped → Cut (before ++ q) back ts → Cut before (q ++ back) ts
 one_skipped before q back ts h c = one_more before q back Skipped ts h c
 
-one_token : (before q back : List ℕ) (x : Kind) (ts : List (List ℕ)) → IsScanned (is_fresh before) q back (Token x) → Cut (before ++ q) back ts → Cut before (q ++ back) (q ∷ ts)
-one_token before q back x ts h c = one_more before q back (Token x) ts h c
+abbrev at : List ℕ → ℕ → Standing
+at q n = record { text = q; line = n }
 
-over_gap : (gs : List (List ℕ)) (before rest : List ℕ) (ts : List (List ℕ)) → Skips (is_fresh before) gs rest → Cut (before ++ concat gs) rest ts → Cut before (concat gs ++ rest) ts
+one_token : (before q back : List ℕ) (x : Kind) (n : ℕ) (ts : List Standing) → IsScanned (is_fresh before) q back (Token x) → line_behind before ≡ n → Cut (before ++ q) back ts → Cut before (q ++ back) (at q n ∷ ts)
+one_token before q back x n ts h line c = subst (λ (m : ℕ). Cut before (q ++ back) (at q m ∷ ts)) line (one_more before q back (Token x) ts h c)
+
+over_gap : (gs : List (List ℕ)) (f : Bool) (before rest : List ℕ) (ts : List Standing) → Least f (is_fresh before) → Skips f gs rest → Cut (before ++ concat gs) rest ts → Cut before (concat gs ++ rest) ts
 unfolding Skips
-over_gap [] before rest ts h c = subst (λ (b : List ℕ). Cut b rest ts) (append-nil before) c
-over_gap (g ∷ gs) before rest ts h c =
+over_gap [] f before rest ts l h c = subst (λ (b : List ℕ). Cut b rest ts) (append-nil before) c
+over_gap (g ∷ gs) f before rest ts l h c =
+    let more : Least (fresh_from f g) (is_fresh (before ++ g)) = subst (Least (fresh_from f g)) (sym (fresh_from-append true before g)) (least_from g f (is_fresh before) l) in
     subst (λ (t : List ℕ). Cut before t ts) (sym (append_assoc g (concat gs) rest))
-    (one_skipped before g (concat gs ++ rest) ts h.0
-    (over_gap gs (before ++ g) rest ts (subst (λ (f : Bool). Skips f gs rest) (sym (fresh_from-append true before g)) h.1) (subst (λ (b : List ℕ). Cut b rest ts) (sym (append_assoc before g (concat gs))) c)))
+    (one_skipped before g (concat gs ++ rest) ts (fresher f (is_fresh before) g (concat gs ++ rest) Skipped l h.0)
+    (over_gap gs (fresh_from f g) (before ++ g) rest ts more h.1 (subst (λ (b : List ℕ). Cut b rest ts) (sym (append_assoc before g (concat gs))) c)))
+
+-- bytes that are blanks are skipped
+over_blanks : (q before rest : List ℕ) (ts : List Standing) → list_all is_blank q ≡ true → Cut (before ++ q) rest ts → Cut before (q ++ rest) ts
+over_blanks [] before rest ts h c = subst (λ (b : List ℕ). Cut b rest ts) (append-nil before) c
+over_blanks (b ∷ q) before rest ts h c =
+    one_skipped before (b ∷ []) (q ++ rest) ts (record { some = omega arith; found = blank_skipped (is_fresh before) b (q ++ rest) (and_left (is_blank b) (list_all is_blank q) h) })
+    (over_blanks q (before ++ b ∷ []) rest ts (and_right (is_blank b) (list_all is_blank q) h) (subst (λ (x : List ℕ). Cut x rest ts) (sym (append_assoc before (b ∷ []) q)) c))
+  where
+    and_left : (a b : Bool) → (a && b) ≡ true → a ≡ true
+    and_left true b h = refl
+    and_left false b h = h
+
+    and_right : (a b : Bool) → (a && b) ≡ true → b ≡ true
+    and_right true b h = h
+    and_right false b h = absurd (false≢true h)
+
+blank_by : (t u : Bool) (b : ℕ) → (b == 10) ≡ t → (b == 12) ≡ u → is_blank (cond (t || u) b 32) ≡ true
+blank_by true u b e h = let same : b ≡ 10 = grind (arith, nat_tests) in ap is_blank same
+blank_by false true b e h = let same : b ≡ 12 = grind (arith, nat_tests) in ap is_blank same
+blank_by false false b e h = refl
+
+are_blanks : (q : List ℕ) → list_all is_blank (map blank q) ≡ true
+are_blanks [] = refl
+are_blanks (b ∷ q) = ap (λ (t : Bool). t && list_all is_blank (map blank q)) (blank_by (b == 10) (b == 12) b refl refl) ∙ are_blanks q
+
+feeds_are_blanks : (q : List ℕ) → list_all is_blank (filter is_line_feed q) ≡ true
+feeds_are_blanks [] = refl
+feeds_are_blanks (b ∷ q) = feed_by (is_line_feed b) b (filter is_line_feed q) refl (feeds_are_blanks q)
+  where
+    feed_by : (t : Bool) (b : ℕ) (r : List ℕ) → is_line_feed b ≡ t → list_all is_blank r ≡ true → list_all is_blank (cond t (b ∷ r) r) ≡ true
+    feed_by true b r e h = let same : b ≡ 10 = grind (arith, nat_tests) in ap (λ (x : ℕ). is_blank x && list_all is_blank r) same ∙ h
+    feed_by false b r e h = h
+
+-- a token that is written as it is
+record Stays (f : Bool) (t : Written) (back : List ℕ) : Type 0 where
+  sort : Kind
+  scanned : IsScanned f t.token back (Token sort)
+  keeps : same_kind sort kind.LeftOut ≡ false
+  same : shown t.form t.token ≡ t.token
+  single : kept t.form t.token ≡ t.token ∷ []
+
+-- one of a block
+record Blanks (t : Written) : Type 0 where
+  is : t.form ≡ form.Blanked
+  first : ℕ
+  others : List ℕ
+  bytes : t.token ≡ first ∷ others
+  black : is_blank first ≡ false
+
+-- a string that is read to its end
+record Joins (t : Written) : Type 0 where
+  is : t.form ≡ form.Joined
+  others : List ℕ
+  bytes : t.token ≡ 34 ∷ others
+  ends : string_end 1 false others ≡ Some (1 + length others)
+
+abbrev Shows : Bool → Written → List ℕ → Type 0
+Shows f t back = (Stays f t back ⊎ Blanks t) ⊎ Joins t
 
 -- a turn of a text, without the piece-wise reading of what is behind it
 record ParsedTurn (f : Bool) (t : Written) (us : List Written) : Type 0 where
   gaps : List (List ℕ)
   joins : concat gaps ≡ t.gap
-  sort : Kind
   skips : Skips f gaps (t.token ++ sources us)
-  scanned : IsScanned (fresh_from f t.gap) t.token (sources us) (Token sort)
-  keeps : same_kind sort kind.LeftOut ≡ false
-  same : shown t.form t.token ≡ t.token
-  single : kept t.form t.token ≡ t.token ∷ []
-  separated : (t.supply ≡ supply.Nothing) ⊎ ((t.supply ≡ supply.Separator) × (f ≡ false))
+  shows : Shows (fresh_from f t.gap) t (sources us)
+  behind_token : (t.supply ≡ supply.Nothing) ⊎ (f ≡ false)
 
 record ParsedEnd (f : Bool) (t : Written) : Type 0 where
   gaps : List (List ℕ)
@@ -139,79 +208,229 @@ Parsed f [] = ⊥
 Parsed f (t ∷ []) = ParsedEnd f t
 Parsed f (t ∷ u ∷ us) = ParsedTurn f t (u ∷ us) × Parsed false (u ∷ us)
 
-heads : (gap token rest rest' : List ℕ) → ((0 < length token) ⊎ (rest ≡ rest')) → head ((gap ++ token) ++ rest) ≡ head ((gap ++ token) ++ rest')
-heads (b ∷ g) token rest rest' h = refl
-heads [] (b ∷ t) rest rest' h = refl
-heads [] [] rest rest' h = ⊎_elim (λ (lt : 0 < 0). absurd (omega arith)) (λ (e : rest ≡ rest'). ap head e) h
+black_blanked : (b : ℕ) → is_blank b ≡ false → blank b ≡ 32
+black_blanked b h = blanked (b == 10) (b == 12) b refl refl h
+  where
+    blanked : (t u : Bool) (b : ℕ) → (b == 10) ≡ t → (b == 12) ≡ u → is_blank b ≡ false → cond (t || u) b 32 ≡ 32
+    blanked true u b e g h = let same : b ≡ 10 = grind (arith, nat_tests) in absurd (false≢true (sym h ∙ ap is_blank same))
+    blanked false true b e g h = let same : b ≡ 12 = grind (arith, nat_tests) in absurd (false≢true (sym h ∙ ap is_blank same))
+    blanked false false b e g h = refl
+
+black_feeds : (b : ℕ) → is_blank b ≡ false → is_line_feed b ≡ false
+black_feeds b h = no_feed_by (is_line_feed b) b refl h
+  where
+    no_feed_by : (t : Bool) (b : ℕ) → is_line_feed b ≡ t → is_blank b ≡ false → t ≡ false
+    no_feed_by true b e h = let same : b ≡ 10 = grind (arith, nat_tests) in absurd (false≢true (sym h ∙ ap is_blank same))
+    no_feed_by false b e h = refl
+
+first_quote : (q : List ℕ) → unbroken false (34 ∷ q) ≡ 34 ∷ unbroken false q
+unfolding unbroken
+first_quote q = refl
+
+token_heads : (t x y : List ℕ) → 0 < length t → head (t ++ x) ≡ head (t ++ y)
+token_heads [] x y h = absurd (omega arith)
+token_heads (b ∷ t) x y h = refl
+
+-- what is written of a token begins as it does, or with a blank where it begins with none
+stays_head : (f : Bool) (t : Written) (back x y : List ℕ) → Stays f t back → head (t.token ++ x) ≡ head (shown t.form t.token ++ y)
+stays_head f t back x y h = token_heads t.token x y h.scanned.some ∙ ap (λ (q : List ℕ). head (q ++ y)) (sym h.same)
+
+joins_head : (t : Written) (x y : List ℕ) → Joins t → head (t.token ++ x) ≡ head (shown t.form t.token ++ y)
+joins_head t x y h =
+    ap (λ (q : List ℕ). head (q ++ x)) h.bytes
+    ∙ sym (ap (λ (g : Form). head (shown g t.token ++ y)) h.is ∙ ap (λ (q : List ℕ). head (shown form.Joined q ++ y)) h.bytes ∙ ap (λ (q : List ℕ). head ((q ++ filter is_line_feed (34 ∷ h.others)) ++ y)) (first_quote h.others))
+
+blanks_head : (t : Written) (y : List ℕ) → Blanks t → head (shown t.form t.token ++ y) ≡ Some 32
+blanks_head t y h = ap (λ (g : Form). head (shown g t.token ++ y)) h.is ∙ ap (λ (q : List ℕ). head (map blank q ++ y)) h.bytes ∙ ap Some (black_blanked h.first h.black)
+
+token_follows : (f : Bool) (t : Written) (back x y : List ℕ) → Shows f t back → Follows (t.token ++ x) (shown t.form t.token ++ y)
+token_follows f t back x y shows =
+    ⊎_elim (λ (s : Stays f t back ⊎ Blanks t).
+    ⊎_elim (λ (h : Stays f t back). let r : Follows (t.token ++ x) (shown t.form t.token ++ y) = inl (stays_head f t back x y h) in r)
+    (λ (h : Blanks t). let r : Follows (t.token ++ x) (shown t.form t.token ++ y) = inr (h.first, ap (λ (q : List ℕ). head (q ++ x)) h.bytes, black_feeds h.first h.black) in r) s)
+    (λ (h : Joins t). let r : Follows (t.token ++ x) (shown t.form t.token ++ y) = inl (joins_head t x y h) in r) shows
+
+token_fits : (k : Kind) (f : Bool) (t : Written) (back x y : List ℕ) → same_kind k kind.LeftOut ≡ false → Shows f t back → Fits (Token k) (t.token ++ x) (shown t.form t.token ++ y)
+token_fits k f t back x y keeps shows =
+    ⊎_elim (λ (s : Stays f t back ⊎ Blanks t).
+    ⊎_elim (λ (h : Stays f t back). let r : Fits (Token k) (t.token ++ x) (shown t.form t.token ++ y) = inl (stays_head f t back x y h) in r)
+    (λ (h : Blanks t). let r : Fits (Token k) (t.token ++ x) (shown t.form t.token ++ y) = inr (k, refl, keeps, ap is_soft (blanks_head t y h)) in r) s)
+    (λ (h : Joins t). let r : Fits (Token k) (t.token ++ x) (shown t.form t.token ++ y) = inl (joins_head t x y h) in r) shows
+
+front_fits : (k : Kind) (s : Supply) (gap x y : List ℕ) → same_kind k kind.LeftOut ≡ false → Fits (Token k) x y → Fits (Token k) (gap ++ x) ((written s ++ divider s gap) ++ (gap ++ y))
+front_fits k supply.Nothing [] x y keeps h = h
+front_fits k supply.Nothing (b ∷ g) x y keeps h = inl refl
+front_fits k supply.Separator gap x y keeps h = inr (k, refl, keeps, refl)
+front_fits k supply.Skip [] x y keeps h = inr (k, refl, keeps, refl)
+front_fits k supply.Skip (b ∷ g) x y keeps h = inr (k, refl, keeps, refl)
+
+spelled_is : (t : Written) (us : List Written) → spelled (t ∷ us) ≡ (written t.supply ++ divider t.supply t.gap) ++ (t.gap ++ (shown t.form t.token ++ spelled us))
+spelled_is t us =
+    append_assoc (written t.supply ++ divider t.supply t.gap) (t.gap ++ shown t.form t.token) (spelled us) ∙ ap (λ (x : List ℕ). (written t.supply ++ divider t.supply t.gap) ++ x) (append_assoc t.gap (shown t.form t.token) (spelled us))
 
 -- what is written of the turns behind a token begins as they do, or softly
 fits_next : (k : Kind) (us : List Written) → same_kind k kind.LeftOut ≡ false → Parsed false us → Fits (Token k) (sources us) (spelled us)
 unfolding Parsed
 fits_next k [] keeps h = absurd h
 fits_next k (u ∷ []) keeps h =
-    inl (heads u.gap u.token [] [] (inr refl) ∙ sym (ap (λ (s : Supply). head ((written s ++ (u.gap ++ shown u.form u.token)) ++ [])) h.nothing ∙ ap (λ (t : List ℕ). head ((u.gap ++ t) ++ [])) (h.same ∙ sym h.none)))
+    let one : sources (u ∷ []) ≡ u.gap ++ [] = append-nil (u.gap ++ u.token) ∙ ap (λ (x : List ℕ). u.gap ++ x) h.none in
+    let two : spelled (u ∷ []) ≡ (written u.supply ++ divider u.supply u.gap) ++ (u.gap ++ []) = append-nil _ ∙ ap (λ (x : List ℕ). (written u.supply ++ divider u.supply u.gap) ++ (u.gap ++ x)) h.same in
+    subst (λ (x : List ℕ). Fits (Token k) x (spelled (u ∷ []))) (sym one) (subst (Fits (Token k) (u.gap ++ [])) (sym two) (front_fits k u.supply u.gap [] [] keeps (inl refl)))
 fits_next k (u ∷ v ∷ us) keeps h =
-    ⊎_elim
-    (λ (e : u.supply ≡ supply.Nothing).
-    let l : Fits (Token k) (sources (u ∷ v ∷ us)) (spelled (u ∷ v ∷ us)) = inl (heads u.gap u.token (sources (v ∷ us)) (spelled (v ∷ us)) (inl h.0.scanned.some)
-    ∙ sym (ap (λ (s : Supply). head ((written s ++ (u.gap ++ shown u.form u.token)) ++ spelled (v ∷ us))) e ∙ ap (λ (t : List ℕ). head ((u.gap ++ t) ++ spelled (v ∷ us))) h.0.same)) in l)
-    (λ (e : (u.supply ≡ supply.Separator) × (false ≡ false)).
-    let r : Fits (Token k) (sources (u ∷ v ∷ us)) (spelled (u ∷ v ∷ us)) = inr (k, refl, keeps, ap (λ (s : Supply). is_soft (head ((written s ++ (u.gap ++ shown u.form u.token)) ++ spelled (v ∷ us)))) e.0) in r)
-    h.0.separated
+    let one : sources (u ∷ v ∷ us) ≡ u.gap ++ (u.token ++ sources (v ∷ us)) = append_assoc u.gap u.token (sources (v ∷ us)) in
+    subst (λ (x : List ℕ). Fits (Token k) x (spelled (u ∷ v ∷ us))) (sym one)
+    (subst (Fits (Token k) (u.gap ++ (u.token ++ sources (v ∷ us)))) (sym (spelled_is u (v ∷ us)))
+    (front_fits k u.supply u.gap (u.token ++ sources (v ∷ us)) (shown u.form u.token ++ spelled (v ∷ us)) keeps
+    (token_fits k (fresh_from false u.gap) u (sources (v ∷ us)) (sources (v ∷ us)) (spelled (v ∷ us)) keeps h.0.shows)))
 
 semicolon : (f : Bool) (back : List ℕ) → IsScanned f (codes ";") back (Token kind.Semicolon)
 unfolding next
 semicolon f [] = record { some = omega arith; found = refl }
 semicolon f (h ∷ r) = record { some = omega arith; found = refl }
 
+skip_kind : Kind
+skip_kind = word_kind (codes "skip")
+
+skip_size : (f : Bool) (back : List ℕ) → prefix_len is_name_byte back ≡ 0 → next f (codes "skip" ++ back) ≡ Some (4, Token skip_kind)
+unfolding next skip_kind
+skip_size f back h =
+    ap (λ (n : ℕ). let r : Found = Some (1 + (1 + (1 + (1 + n))), Token (word_kind (115 ∷ take (1 + (1 + (1 + n))) (codes "kip" ++ back)))) in r) h
+
+skip_word : (f : Bool) (back : List ℕ) → prefix_len is_name_byte back ≡ 0 → IsScanned f (codes "skip") back (Token skip_kind)
+skip_word f back h = record { some = omega arith; found = skip_size f back h }
+
 nothing_left : (before : List ℕ) → Cut before [] []
 nothing_left before = record { pieces = []; divides = refl; are = refl }
 
-token_heads : (t x y : List ℕ) → 0 < length t → head (t ++ x) ≡ head (t ++ y)
-token_heads [] x y h = absurd (omega arith)
-token_heads (b ∷ t) x y h = refl
+line_on : (before q : List ℕ) (n : ℕ) → line_behind before ≡ n → line_behind (before ++ q) ≡ line_from n q
+line_on before q n e = let a = feeds-append before q in omega arith
 
--- a gap and its token, behind a text that is cut
-over_turn : (f : Bool) (t : Written) (us : List Written) (before : List ℕ) → ParsedTurn f t us → Parsed false us → is_fresh before ≡ f
-    → ((b : List ℕ) → is_fresh b ≡ false → Cut b (spelled us) (written_tokens us)) → Cut before (t.gap ++ (t.token ++ spelled us)) (t.token ∷ written_tokens us)
-over_turn f t us before h more fresh go =
-    let here : is_fresh (before ++ concat h.gaps) ≡ fresh_from f t.gap = fresh_from-append true before (concat h.gaps) ∙ ap (λ (x : Bool). fresh_from x (concat h.gaps)) fresh ∙ ap (fresh_from f) h.joins in
-    let scan : IsScanned (fresh_from f t.gap) t.token (spelled us) (Token h.sort) = scanned_again (fresh_from f t.gap) t.token (sources us) (spelled us) (Token h.sort) (fits_next h.sort us h.keeps more) h.scanned in
-    let stale : is_fresh ((before ++ concat h.gaps) ++ t.token) ≡ false = fresh_from-append true (before ++ concat h.gaps) t.token ∙ ap (λ (x : Bool). fresh_from x t.token) here ∙ (token_place (fresh_from f t.gap) t.token h.sort (longest (fresh_from f t.gap) t.token (sources us) (Token h.sort) h.scanned).1).1 in
-    let token : Cut (before ++ concat h.gaps) (t.token ++ spelled us) (t.token ∷ written_tokens us) =
-    one_token (before ++ concat h.gaps) t.token (spelled us) h.sort (written_tokens us) (subst (λ (x : Bool). IsScanned x t.token (spelled us) (Token h.sort)) (sym here) scan) (go ((before ++ concat h.gaps) ++ t.token) stale) in
-    let skips : Skips f h.gaps (t.token ++ spelled us) = skips_again h.gaps f (t.token ++ sources us) (t.token ++ spelled us) (token_heads t.token (sources us) (spelled us) h.scanned.some) h.skips in
-    subst (λ (g : List ℕ). Cut before (g ++ (t.token ++ spelled us)) (t.token ∷ written_tokens us)) h.joins
-    (over_gap h.gaps before (t.token ++ spelled us) (t.token ∷ written_tokens us) (subst (λ (x : Bool). Skips x h.gaps (t.token ++ spelled us)) (sym fresh) skips) token)
+same_line : (before q : List ℕ) (n : ℕ) → feeds q ≡ 0 → line_behind before ≡ n → line_behind (before ++ q) ≡ n
+same_line before q n none e = let a = feeds-append before q in omega arith
+
+-- what every text behind a token gives, where its lines are known
+abbrev Gives : List Written → Type 0
+Gives us = (b : List ℕ) (m : ℕ) → line_behind b ≡ m → Cut b (spelled us) (written_from m us)
+
+-- the token of a turn
+over_stays : (f : Bool) (t : Written) (us : List Written) (before : List ℕ) (n : ℕ) → Stays f t (sources us) → Parsed false us → Least f (is_fresh before) → line_behind before ≡ n
+    → Gives us → Cut before (shown t.form t.token ++ spelled us) (all_on n (kept t.form t.token) ++ written_from (line_from n t.token) us)
+over_stays f t us before n h more l line go =
+    let scan : IsScanned f t.token (spelled us) (Token h.sort) = scanned_again f t.token (sources us) (spelled us) (Token h.sort) (fits_next h.sort us h.keeps more) h.scanned in
+    let token : Cut before (t.token ++ spelled us) (at t.token n ∷ written_from (line_from n t.token) us) =
+    one_token before t.token (spelled us) h.sort n (written_from (line_from n t.token) us) (fresher f (is_fresh before) t.token (spelled us) (Token h.sort) l scan) line (go (before ++ t.token) (line_from n t.token) (line_on before t.token n line)) in
+    subst (λ (x : List ℕ). Cut before (x ++ spelled us) (all_on n (kept t.form t.token) ++ written_from (line_from n t.token) us)) (sym h.same)
+    (subst (λ (x : List (List ℕ)). Cut before (t.token ++ spelled us) (all_on n x ++ written_from (line_from n t.token) us)) (sym h.single) token)
+
+over_blanked : (t : Written) (us : List Written) (before : List ℕ) (n : ℕ) → Blanks t → line_behind before ≡ n
+    → Gives us → Cut before (shown t.form t.token ++ spelled us) (all_on n (kept t.form t.token) ++ written_from (line_from n t.token) us)
+over_blanked t us before n h line go =
+    let behind_blanks : line_behind (before ++ map blank t.token) ≡ line_from n t.token = line_on before (map blank t.token) n line ∙ ap (λ (m : ℕ). n + m) (blanks_feeds t.token) in
+    subst (λ (g : Form). Cut before (shown g t.token ++ spelled us) (all_on n (kept g t.token) ++ written_from (line_from n t.token) us)) (sym h.is)
+    (over_blanks (map blank t.token) before (spelled us) (written_from (line_from n t.token) us) (are_blanks t.token) (go (before ++ map blank t.token) (line_from n t.token) behind_blanks))
+
+quoted_size : (q back : List ℕ) → string_end 1 false q ≡ Some (1 + length q) → (f : Bool) → next f ((34 ∷ unbroken false q) ++ back) ≡ Some (length (34 ∷ unbroken false q), Token kind.Quoted)
+unfolding next
+quoted_size q back h f =
+    ap (λ (o : Option ℕ). option_map (λ (n : ℕ). let r : ℕ × Piece = (n, Token kind.Quoted) in r) o) (joined_end q 1 (1 + length q) 1 back h refl)
+    ∙ (let len : 1 + length (unbroken false q) ≡ length (34 ∷ unbroken false q) = omega arith in ap (λ (n : ℕ). let r : Found = Some (n, Token kind.Quoted) in r) len)
+
+over_joined : (t : Written) (us : List Written) (before : List ℕ) (n : ℕ) → Joins t → line_behind before ≡ n
+    → Gives us → Cut before (shown t.form t.token ++ spelled us) (all_on n (kept t.form t.token) ++ written_from (line_from n t.token) us)
+over_joined t us before n h line go =
+    subst (λ (g : Form). Cut before (shown g t.token ++ spelled us) (all_on n (kept g t.token) ++ written_from (line_from n t.token) us)) (sym h.is)
+    (subst (λ (q : List ℕ). Cut before (shown form.Joined q ++ spelled us) (all_on n (kept form.Joined q) ++ written_from (line_from n q) us)) (sym h.bytes)
+    (string (34 ∷ h.others) (34 ∷ unbroken false h.others) (filter is_line_feed (34 ∷ h.others)) (first_quote h.others) (λ back f. quoted_size h.others back h.ends f) (omega arith) (feeds_are_blanks (34 ∷ h.others)) (no_feeds (34 ∷ h.others)) (filter_feeds (34 ∷ h.others))))
+  where
+    no_feeds : (q : List ℕ) → feeds (unbroken false q) ≡ 0
+    no_feeds q = unbroken_feeds false q
+
+    string : (q u ends : List ℕ) → unbroken false q ≡ u → ((back : List ℕ) (f : Bool) → next f (u ++ back) ≡ Some (length u, Token kind.Quoted)) → 0 < length u → list_all is_blank ends ≡ true → feeds (unbroken false q) ≡ 0 → feeds ends ≡ feeds q
+        → Cut before ((unbroken false q ++ ends) ++ spelled us) (at (unbroken false q) n ∷ written_from (line_from n q) us)
+    string q u ends e scan some blanks none same =
+        let middle : line_behind (before ++ u) ≡ n = line_on before u n line ∙ (let x : feeds u ≡ 0 = ap feeds (sym e) ∙ none in omega arith) in
+        let last : line_behind ((before ++ u) ++ ends) ≡ line_from n q = line_on (before ++ u) ends n middle ∙ ap (λ (m : ℕ). n + m) same in
+        let token : Cut before (u ++ (ends ++ spelled us)) (at u n ∷ written_from (line_from n q) us) =
+        one_token before u (ends ++ spelled us) kind.Quoted n (written_from (line_from n q) us) (record { some = some; found = scan (ends ++ spelled us) (is_fresh before) }) line
+        (over_blanks ends (before ++ u) (spelled us) (written_from (line_from n q) us) blanks (go ((before ++ u) ++ ends) (line_from n q) last)) in
+        subst (λ (x : List ℕ). Cut before ((x ++ ends) ++ spelled us) (at x n ∷ written_from (line_from n q) us)) (sym e)
+        (subst (λ (x : List ℕ). Cut before x (at u n ∷ written_from (line_from n q) us)) (sym (append_assoc u ends (spelled us))) token)
+
+over_token : (f : Bool) (t : Written) (us : List Written) (before : List ℕ) (n : ℕ) → Shows f t (sources us) → Parsed false us → Least f (is_fresh before) → line_behind before ≡ n
+    → Gives us → Cut before (shown t.form t.token ++ spelled us) (all_on n (kept t.form t.token) ++ written_from (line_from n t.token) us)
+over_token f t us before n shows more l line go =
+    ⊎_elim (λ (s : Stays f t (sources us) ⊎ Blanks t).
+    ⊎_elim (λ (h : Stays f t (sources us)). over_stays f t us before n h more l line go) (λ (h : Blanks t). over_blanked t us before n h line go) s)
+    (λ (h : Joins t). over_joined t us before n h line go) shows
+
+source_line : (t : Written) (n : ℕ) → line_from (line_from n t.gap) t.token ≡ line_from n (source t)
+source_line t n = let a = feeds-append t.gap t.token in omega arith
+
+-- a gap and its token
+over_turn : (f : Bool) (t : Written) (us : List Written) (before : List ℕ) (n : ℕ) → ParsedTurn f t us → Parsed false us → Least f (is_fresh before) → line_behind before ≡ n
+    → Gives us → Cut before (t.gap ++ (shown t.form t.token ++ spelled us)) (all_on (line_from n t.gap) (kept t.form t.token) ++ written_from (line_from n (source t)) us)
+over_turn f t us before n h more l line go =
+    let rest = shown t.form t.token ++ spelled us in
+    let ts = all_on (line_from n t.gap) (kept t.form t.token) ++ written_from (line_from (line_from n t.gap) t.token) us in
+    let gap_line : line_behind (before ++ concat h.gaps) ≡ line_from n t.gap = line_on before (concat h.gaps) n line ∙ ap (line_from n) h.joins in
+    let less : Least (fresh_from f t.gap) (is_fresh (before ++ concat h.gaps)) =
+    subst (Least (fresh_from f t.gap)) (sym (fresh_from-append true before (concat h.gaps) ∙ ap (fresh_from (is_fresh before)) h.joins)) (least_from t.gap f (is_fresh before) l) in
+    let token : Cut (before ++ concat h.gaps) rest ts = over_token (fresh_from f t.gap) t us (before ++ concat h.gaps) (line_from n t.gap) h.shows more less gap_line go in
+    let skips : Skips f h.gaps rest = skips_again h.gaps f (t.token ++ sources us) rest (token_follows (fresh_from f t.gap) t (sources us) (sources us) (spelled us) h.shows) h.skips in
+    subst (λ (m : ℕ). Cut before (t.gap ++ rest) (all_on (line_from n t.gap) (kept t.form t.token) ++ written_from m us)) (source_line t n)
+    (subst (λ (g : List ℕ). Cut before (g ++ rest) ts) h.joins (over_gap h.gaps f before rest ts l skips token))
+
+-- a gap that begins a skipped piece begins with no byte of a name
+gap_head : (f : Bool) (gs : List (List ℕ)) (rest : List ℕ) → Skips f gs rest → (b : ℕ) (g : List ℕ) → concat gs ≡ b ∷ g → is_name_byte b ≡ false
+unfolding Skips
+gap_head f [] rest h b g e = cc
+gap_head f ([] ∷ gs) rest h b g e = let none : 0 < 0 = h.0.some in absurd (omega arith)
+gap_head f ((a ∷ q) ∷ gs) rest h b g e =
+    let same : a ≡ b = cc in
+    ap is_name_byte (sym same) ∙ skip_head f a (q ++ (concat gs ++ rest)) (length (a ∷ q)) h.0.found
 
 -- what is supplied before it
-with_supply : (s : Supply) (before : List ℕ) (f : Bool) (text : List ℕ) (ts : List (List ℕ)) → is_fresh before ≡ f → ((s ≡ supply.Nothing) ⊎ ((s ≡ supply.Separator) × (f ≡ false)))
-    → ((b : List ℕ) → is_fresh b ≡ f → Cut b text ts) → Cut before (written s ++ text) (supplied s ++ ts)
-with_supply supply.Nothing before f text ts fresh sep go = go before fresh
-with_supply supply.Skip before f text ts fresh sep go = ⊎_elim (λ (e : supply.Skip ≡ supply.Nothing). cc) (λ (e : (supply.Skip ≡ supply.Separator) × (f ≡ false)). let x = e.0 in cc) sep
-with_supply supply.Separator before f text ts fresh sep go =
-    ⊎_elim (λ (e : supply.Separator ≡ supply.Nothing). cc)
-    (λ (e : (supply.Separator ≡ supply.Separator) × (f ≡ false)).
-    let stale : is_fresh (before ++ codes ";") ≡ f = fresh_from-append true before (codes ";") ∙ ap (λ (x : Bool). fresh_from x (codes ";")) (fresh ∙ e.1) ∙ sym e.1 in
-    one_token before (codes ";") text kind.Semicolon ts (semicolon (is_fresh before) text) (go (before ++ codes ";") stale)) sep
+with_skip : (gap : List ℕ) (before rest : List ℕ) (n : ℕ) (ts : List Standing) → ((b : ℕ) (g : List ℕ) → gap ≡ b ∷ g → is_name_byte b ≡ false) → line_behind before ≡ n
+    → ((b : List ℕ) → line_behind b ≡ n → Cut b (gap ++ rest) ts) → Cut before ((codes " skip" ++ divider supply.Skip gap) ++ (gap ++ rest)) (at (codes "skip") n ∷ ts)
+with_skip [] before rest n ts h line go =
+    let one : line_behind (before ++ codes " ") ≡ n = same_line before (codes " ") n refl line in
+    let two : line_behind ((before ++ codes " ") ++ codes "skip") ≡ n = same_line (before ++ codes " ") (codes "skip") n refl one in
+    let three : line_behind (((before ++ codes " ") ++ codes "skip") ++ codes " ") ≡ n = same_line ((before ++ codes " ") ++ codes "skip") (codes " ") n refl two in
+    over_blanks (codes " ") before (codes "skip" ++ (codes " " ++ rest)) (at (codes "skip") n ∷ ts) refl
+    (one_token (before ++ codes " ") (codes "skip") (codes " " ++ rest) skip_kind n ts (skip_word (is_fresh (before ++ codes " ")) (codes " " ++ rest) refl) one
+    (over_blanks (codes " ") ((before ++ codes " ") ++ codes "skip") rest ts refl (go (((before ++ codes " ") ++ codes "skip") ++ codes " ") three)))
+with_skip (b ∷ g) before rest n ts h line go =
+    let one : line_behind (before ++ codes " ") ≡ n = same_line before (codes " ") n refl line in
+    let two : line_behind ((before ++ codes " ") ++ codes "skip") ≡ n = same_line (before ++ codes " ") (codes "skip") n refl one in
+    over_blanks (codes " ") before (codes "skip" ++ ((b ∷ g) ++ rest)) (at (codes "skip") n ∷ ts) refl
+    (one_token (before ++ codes " ") (codes "skip") ((b ∷ g) ++ rest) skip_kind n ts (skip_word (is_fresh (before ++ codes " ")) ((b ∷ g) ++ rest) (stop_now is_name_byte ((b ∷ g) ++ rest) (h b g refl))) one
+    (go ((before ++ codes " ") ++ codes "skip") two))
 
-over_turns : (us : List Written) (f : Bool) → Parsed f us → (before : List ℕ) → is_fresh before ≡ f → Cut before (spelled us) (written_tokens us)
+with_supply : (s : Supply) (gap before rest : List ℕ) (f : Bool) (n : ℕ) (ts : List Standing) → ((b : ℕ) (g : List ℕ) → gap ≡ b ∷ g → is_name_byte b ≡ false) → Least f (is_fresh before) → ((s ≡ supply.Nothing) ⊎ (f ≡ false)) → line_behind before ≡ n
+    → ((b : List ℕ) → Least f (is_fresh b) → line_behind b ≡ n → Cut b (gap ++ rest) ts) → Cut before ((written s ++ divider s gap) ++ (gap ++ rest)) (all_on n (supplied s) ++ ts)
+with_supply supply.Nothing gap before rest f n ts h l stale line go = go before l line
+with_supply supply.Separator gap before rest f n ts h l stale line go =
+    ⊎_elim (λ (e : supply.Separator ≡ supply.Nothing). cc)
+    (λ (e : f ≡ false).
+    one_token before (codes ";") (gap ++ rest) kind.Semicolon n ts (semicolon (is_fresh before) (gap ++ rest)) line
+    (go (before ++ codes ";") (λ x. absurd (false≢true (sym e ∙ x))) (same_line before (codes ";") n refl line))) stale
+with_supply supply.Skip gap before rest f n ts h l stale line go =
+    ⊎_elim (λ (e : supply.Skip ≡ supply.Nothing). cc) (λ (e : f ≡ false). with_skip gap before rest n ts h line (λ b x. go b (λ y. absurd (false≢true (sym e ∙ y))) x)) stale
+
+over_turns : (us : List Written) (f : Bool) → Parsed f us → (before : List ℕ) (n : ℕ) → Least f (is_fresh before) → line_behind before ≡ n → Cut before (spelled us) (written_from n us)
 unfolding Parsed
-over_turns [] f h before fresh = absurd h
-over_turns (t ∷ []) f h before fresh =
-    let gap : Cut before (concat h.gaps ++ []) [] = over_gap h.gaps before [] [] (subst (λ (x : Bool). Skips x h.gaps []) (sym fresh) h.skips) (nothing_left (before ++ concat h.gaps)) in
-    let text : (written t.supply ++ (t.gap ++ shown t.form t.token)) ++ [] ≡ concat h.gaps ++ [] =
-    append-nil (written t.supply ++ (t.gap ++ shown t.form t.token)) ∙ ap (λ (s : Supply). written s ++ (t.gap ++ shown t.form t.token)) h.nothing ∙ ap (λ (x : List ℕ). t.gap ++ x) h.same ∙ ap (λ (g : List ℕ). g ++ []) (sym h.joins) in
-    subst (λ (x : List ℕ). Cut before x (supplied t.supply)) (sym text) (subst (λ (s : Supply). Cut before (concat h.gaps ++ []) (supplied s)) (sym h.nothing) gap)
-over_turns (t ∷ u ∷ us) f h before fresh =
-    let rest = spelled (u ∷ us) in
-    let turned : Cut before (written t.supply ++ (t.gap ++ (t.token ++ rest))) (supplied t.supply ++ (t.token ∷ written_tokens (u ∷ us))) =
-    with_supply t.supply before f (t.gap ++ (t.token ++ rest)) (t.token ∷ written_tokens (u ∷ us)) fresh h.0.separated (λ b e. over_turn f t (u ∷ us) b h.0 h.1 e (λ c x. over_turns (u ∷ us) false h.1 c x)) in
-    let text : (written t.supply ++ (t.gap ++ shown t.form t.token)) ++ rest ≡ written t.supply ++ (t.gap ++ (t.token ++ rest)) =
-    ap (λ (x : List ℕ). (written t.supply ++ (t.gap ++ x)) ++ rest) h.0.same ∙ append_assoc (written t.supply) (t.gap ++ t.token) rest ∙ ap (λ (x : List ℕ). written t.supply ++ x) (append_assoc t.gap t.token rest) in
-    let single : kept t.form t.token ++ written_tokens (u ∷ us) ≡ t.token ∷ written_tokens (u ∷ us) = ap (λ (x : List (List ℕ)). x ++ written_tokens (u ∷ us)) h.0.single in
-    subst (λ (x : List ℕ). Cut before x (supplied t.supply ++ (kept t.form t.token ++ written_tokens (u ∷ us)))) (sym text)
-    (subst (λ (x : List (List ℕ)). Cut before (written t.supply ++ (t.gap ++ (t.token ++ rest))) (supplied t.supply ++ x)) (sym single) turned)
+over_turns [] f h before n l line = absurd h
+over_turns (t ∷ []) f h before n l line =
+    let gap : Cut before (concat h.gaps ++ []) [] = over_gap h.gaps f before [] [] l h.skips (nothing_left (before ++ concat h.gaps)) in
+    let text : spelled (t ∷ []) ≡ concat h.gaps ++ [] =
+    append-nil _ ∙ ap (λ (s : Supply). (written s ++ divider s t.gap) ++ (t.gap ++ shown t.form t.token)) h.nothing ∙ ap (λ (x : List ℕ). t.gap ++ x) h.same ∙ ap (λ (g : List ℕ). g ++ []) (sym h.joins) in
+    subst (λ (x : List ℕ). Cut before x (all_on n (supplied t.supply))) (sym text) (subst (λ (s : Supply). Cut before (concat h.gaps ++ []) (all_on n (supplied s))) (sym h.nothing) gap)
+over_turns (t ∷ u ∷ us) f h before n l line =
+    let rest = shown t.form t.token ++ spelled (u ∷ us) in
+    let ts = all_on (line_from n t.gap) (kept t.form t.token) ++ written_from (line_from n (source t)) (u ∷ us) in
+    subst (λ (x : List ℕ). Cut before x (all_on n (supplied t.supply) ++ ts)) (sym (spelled_is t (u ∷ us)))
+    (with_supply t.supply t.gap before rest f n ts (λ b g e. gap_head f h.0.gaps (t.token ++ sources (u ∷ us)) h.0.skips b g (h.0.joins ∙ e)) l h.0.behind_token line
+    (λ b less x. over_turn f t (u ∷ us) b n h.0 h.1 less x (λ c m y. over_turns (u ∷ us) false h.1 c m (λ z. absurd (false≢true z)) y)))
 
 snoc : (gs : List (List ℕ)) (f : Bool) (q rest : List ℕ) → Skips f gs (q ++ rest) → IsScanned (fresh_from f (concat gs)) q rest Skipped → Skips f (gs ++ q ∷ []) rest
 unfolding Skips
@@ -241,11 +460,6 @@ unfolding turns_by
 at_end zero fresh f p gs s = ended f gs (concat gs ++ []) (sym (append-nil (concat gs))) s
 at_end (suc fuel) fresh f p gs s = ended f gs (concat gs) refl s
 
-separated_by : (s : Supply) (f : Bool) → is_no_skip s ≡ true → ((f ≡ false) ⊎ (s ≡ supply.Nothing)) → (s ≡ supply.Nothing) ⊎ ((s ≡ supply.Separator) × (f ≡ false))
-separated_by supply.Nothing f h e = inl refl
-separated_by supply.Skip f h e = absurd (false≢true h)
-separated_by supply.Separator f h e = ⊎_elim (λ (x : f ≡ false). let r : (supply.Separator ≡ supply.Nothing) ⊎ ((supply.Separator ≡ supply.Separator) × (f ≡ false)) = inr (refl, x) in r) (λ (x : supply.Separator ≡ supply.Nothing). cc) e
-
 nothing_by : (t : Bool) (s : Supply) → s ≡ supply.Nothing → cond t supply.Nothing s ≡ supply.Nothing
 nothing_by true s e = refl
 nothing_by false s e = e
@@ -254,115 +468,263 @@ first_nothing : (p : Place) (k : Kind) (gap t : List ℕ) → p ≡ start → (t
 unfolding turn
 first_nothing p k gap t e = ap (λ (x : Place). (turn x k gap t).supply) e ∙ nothing_by (is_blanked Outside (role k t)) _ refl
 
-kept_outside : (r : Role) (t : List ℕ) → kept (form_outside r) t ≡ t ∷ []
-kept_outside as_role.Quotes t = refl
-kept_outside _ t = refl
+kept_outside : (r : Role) (t : List ℕ) → list_any is_line_feed t ≡ false → kept (form_outside r) t ≡ t ∷ []
+kept_outside as_role.Quotes t h = ap (λ (x : List ℕ). x ∷ []) (unbroken_stays false t h)
+kept_outside _ t h = refl
 
-form_is : (p : Place) (k : Kind) (gap t : List ℕ) (f : Bool) → p.block ≡ Outside → piece f t ≡ Some (Token k) → same_kind k kind.LeftOut ≡ false → (turn p k gap t).form ≡ form_outside (role k t)
-unfolding turn
-form_is p k gap t f outside is keeps = ap (λ (b : Bool). cond b form.Blanked (form_outside (role k t))) (ap (λ (b : Block). is_blanked b (role k t)) outside ∙ heads_none f t k is keeps)
+no_feed_gap : (f : Bool) (text : List ℕ) → Skips f [] text
+unfolding Skips
+no_feed_gap f text = tt
 
-parsed_turn : (f : Bool) (p : Place) (k : Kind) (gs : List (List ℕ)) (q back : List ℕ) (us : List Written) → sources us ≡ back → Skips f gs (q ++ back) → IsScanned (fresh_from f (concat gs)) q back (Token k) → same_kind k kind.LeftOut ≡ false
-    → p.block ≡ Outside → ((f ≡ false) ⊎ (p ≡ start)) → is_no_skip (turn p k (concat gs) q).supply ≡ true → ParsedTurn f (turn p k (concat gs) q) us
+form_at : (p : Place) (k : Kind) (gap t : List ℕ) (b : Bool) → is_blanked p.block (role k t) ≡ b → (turn p k gap t).form ≡ cond b form.Blanked (form_outside (role k t))
 unfolding turn
-parsed_turn f p k gs q back us e skips scanned keeps outside first no_skip =
-    let fr = fresh_from f (concat gs) in
-    let is : piece fr q ≡ Some (Token k) = (longest fr q back (Token k) scanned).1 in
-    let formed = form_is p k (concat gs) q fr outside is keeps in
+form_at p k gap t b e = ap (λ (x : Bool). cond x form.Blanked (form_outside (role k t))) e
+
+token_at : (p : Place) (k : Kind) (gap t : List ℕ) → (turn p k gap t).token ≡ t
+unfolding turn
+token_at p k gap t = refl
+
+gap_at : (p : Place) (k : Kind) (gap t : List ℕ) → (turn p k gap t).gap ≡ gap
+unfolding turn
+gap_at p k gap t = refl
+
+kind_at : (p : Place) (k : Kind) (gap t : List ℕ) → (turn p k gap t).kind ≡ k
+unfolding turn
+kind_at p k gap t = refl
+
+-- what a token that is not blanked may be
+keeps_by : (p : Place) (k : Kind) (gap t : List ℕ) → is_blanked p.block (role k t) ≡ false → is_token (turn p k gap t) ≡ true → same_kind k kind.LeftOut ≡ false
+unfolding turn
+keeps_by p k gap t e h =
+    not_true (same_kind k kind.LeftOut) (sym (ap (λ (x : Bool). is_blank_form (cond x form.Blanked (form_outside (role k t))) || not (same_kind k kind.LeftOut)) e ∙ ap (λ (x : Bool). x || not (same_kind k kind.LeftOut)) (outside_kept (role k t))) ∙ h)
+
+-- a token that a scan finds
+stays_turn : (f : Bool) (p : Place) (k : Kind) (gap q back : List ℕ) → is_blanked p.block (role k q) ≡ false → IsScanned f q back (Token k) → is_token (turn p k gap q) ≡ true → Stays f (turn p k gap q) back
+unfolding turn
+stays_turn f p k gap q back out scanned h =
+    let is : piece f q ≡ Some (Token k) = (longest f q back (Token k) scanned).1 in
+    let none : list_any is_line_feed q ≡ false = no_feed q (token_place f q k is).0 in
+    let formed = form_at p k gap q false out in
     record {
-      gaps = gs;
-      joins = refl;
       sort = k;
-      skips = subst (λ (x : List ℕ). Skips f gs (q ++ x)) (sym e) skips;
-      scanned = subst (λ (x : List ℕ). IsScanned fr q x (Token k)) (sym e) scanned;
-      keeps = keeps;
-      same = ap (λ (x : Form). shown x q) formed ∙ shown_stays (form_outside (role k q)) q (form_stays (role k q) q (no_feed q (token_place fr q k is).0));
-      single = ap (λ (x : Form). kept x q) formed ∙ kept_outside (role k q) q;
-      separated = separated_by (turn p k (concat gs) q).supply f no_skip (⊎_elim (λ (x : f ≡ false). let l : (f ≡ false) ⊎ ((turn p k (concat gs) q).supply ≡ supply.Nothing) = inl x in l) (λ (x : p ≡ start). let r : (f ≡ false) ⊎ ((turn p k (concat gs) q).supply ≡ supply.Nothing) = inr (first_nothing p k (concat gs) q x) in r) first);
+      scanned = scanned;
+      keeps = keeps_by p k gap q out h;
+      same = ap (λ (x : Form). shown x q) formed ∙ shown_stays (form_outside (role k q)) q (form_stays (role k q) q none);
+      single = ap (λ (x : Form). kept x q) formed ∙ kept_outside (role k q) q none;
     }
 
-and_left : (a b : Bool) → (a && b) ≡ true → a ≡ true
-and_left true b h = refl
-and_left false b h = h
+blanks_turn : (p : Place) (k : Kind) (gap : List ℕ) (b : ℕ) (q : List ℕ) → is_blanked p.block (role k (b ∷ q)) ≡ true → is_blank b ≡ false → Blanks (turn p k gap (b ∷ q))
+unfolding turn
+blanks_turn p k gap b q out black = record { is = form_at p k gap (b ∷ q) true out; first = b; others = q; bytes = refl; black = black }
 
-and_right : (a b : Bool) → (a && b) ≡ true → b ≡ true
-and_right true b h = h
-and_right false b h = absurd (false≢true h)
+no_word : (w q : List ℕ) → (34 ∷ q ≡ w → ⊥) → bytes_eq (34 ∷ q) w ≡ false
+no_word w q none = by (bytes_eq (34 ∷ q) w) refl
+  where
+    by : (t : Bool) → bytes_eq (34 ∷ q) w ≡ t → bytes_eq (34 ∷ q) w ≡ false
+    by true e = absurd (none ((bytes_eq-Decides (34 ∷ q) w).0 e))
+    by false e = e
 
-or_left : (a b : Bool) → (a || b) ≡ false → a ≡ false
-or_left true b h = h
-or_left false b h = refl
+pub quote_no_word : (q : List ℕ) → is_block_word (34 ∷ q) ≡ false
+quote_no_word q =
+    let a : bytes_eq (34 ∷ q) (codes "never") ≡ false = no_word (codes "never") q (λ e. cc) in
+    let b : bytes_eq (34 ∷ q) (codes "ltl") ≡ false = no_word (codes "ltl") q (λ e. cc) in
+    let c : bytes_eq (34 ∷ q) (codes "trace") ≡ false = no_word (codes "trace") q (λ e. cc) in
+    let d : bytes_eq (34 ∷ q) (codes "notrace") ≡ false = no_word (codes "notrace") q (λ e. cc) in
+    ap (λ (x : Bool). x || (bytes_eq (34 ∷ q) (codes "ltl") || (bytes_eq (34 ∷ q) (codes "trace") || bytes_eq (34 ∷ q) (codes "notrace")))) a
+    ∙ ap (λ (x : Bool). x || (bytes_eq (34 ∷ q) (codes "trace") || bytes_eq (34 ∷ q) (codes "notrace"))) b ∙ ap (λ (x : Bool). x || bytes_eq (34 ∷ q) (codes "notrace")) c ∙ d
 
-or_right : (a b : Bool) → (a || b) ≡ false → b ≡ false
-or_right true b h = absurd (false≢true (sym h))
-or_right false b h = h
+quoted_role : (q : List ℕ) → role kind.Quoted (34 ∷ q) ≡ as_role.Quotes
+quoted_role q = ap (λ (x : Bool). cond x as_role.Heads as_role.Quotes) (quote_no_word q)
 
-no_gap : (f : Bool) (text : List ℕ) → Skips f [] text
-unfolding Skips
-no_gap f text = tt
+joins_turn : (p : Place) (gap q : List ℕ) → is_blanked p.block (role kind.Quoted (34 ∷ q)) ≡ false → string_end 1 false q ≡ Some (1 + length q) → Joins (turn p kind.Quoted gap (34 ∷ q))
+unfolding turn
+joins_turn p gap q out ends = record { is = form_at p kind.Quoted gap (34 ∷ q) false out ∙ ap form_outside (quoted_role q); others = q; bytes = refl; ends = ends }
 
--- what a piece leads to, by its bytes and what is behind it
-abbrev piece_turns : ℕ → Piece → Bool → Place → List ℕ → List ℕ → List ℕ → List Written
+-- what stands at the front of a text: a piece, a string over lines, or what begins no token
+pub record Begins (fresh : Bool) (b : ℕ) (r : List ℕ) (n : ℕ) (x : Piece) : Type 0 where
+  pub found : piece_at fresh (b ∷ r) ≡ (n, x)
+  pub some : 0 < n
+  pub within : n ≤ length (b ∷ r)
+
+abbrev pub IsString : ℕ → List ℕ → ℕ → Piece → Type 0
+IsString b r n x = (x ≡ Token kind.Quoted) × (b ≡ 34) × EndsAt 1 false r n
+
+abbrev pub IsOdd : ℕ → Piece → Type 0
+IsOdd b x = (x ≡ Token kind.LeftOut) × (is_blank b ≡ false)
+
+pub record AtFront (fresh : Bool) (b : ℕ) (r : List ℕ) : Type 0 where
+  pub size : ℕ
+  pub sort : Piece
+  pub begins : Begins fresh b r size sort
+  pub is : ((next fresh (b ∷ r) ≡ Some (size, sort)) ⊎ IsString b r size sort) ⊎ IsOdd b sort
+
+odd : (fresh : Bool) (b : ℕ) (r : List ℕ) (n : ℕ) → piece_at fresh (b ∷ r) ≡ (n, Token kind.LeftOut) → 0 < n → n ≤ length (b ∷ r) → is_blank b ≡ false → AtFront fresh b r
+odd fresh b r n e some within black = record { size = n; sort = Token kind.LeftOut; begins = record { found = e; some = some; within = within }; is = inr (refl, black) }
+
+string_front : (fresh : Bool) (b : ℕ) (r : List ℕ) (o : Option ℕ) → string_end 1 false r ≡ o → b ≡ 34 → is_blank b ≡ false → piece_at fresh (b ∷ r) ≡ string_or_rest (length (b ∷ r)) o → AtFront fresh b r
+string_front fresh b r None e q black h = odd fresh b r (length (b ∷ r)) h (omega arith) (omega arith) black
+string_front fresh b r (Some m) e q black h =
+    let ends : EndsAt 1 false r m = ends_at r 1 false m e in
+    record { size = m; sort = Token kind.Quoted; begins = record { found = h; some = omega (arith, ends.behind); within = omega (arith, ends.within) }; is = inl (inr (refl, q, ends)) }
+
+is_34 : (b : ℕ) → (b == 34) ≡ true → b ≡ 34
+is_34 b h = grind (arith, nat_tests)
+
+broken_front : (fresh : Bool) (b : ℕ) (r : List ℕ) (t1 t2 : Bool) → (b == 34) ≡ t1 → is_blank b ≡ false
+    → piece_at fresh (b ∷ r) ≡ cond t1 (string_or_rest (length (b ∷ r)) (string_end 1 false r)) (cond t2 (length (b ∷ r), Token kind.LeftOut) (1, Token kind.LeftOut)) → AtFront fresh b r
+broken_front fresh b r true t2 e black h = string_front fresh b r (string_end 1 false r) refl (is_34 b e) black h
+broken_front fresh b r false true e black h = odd fresh b r (length (b ∷ r)) h (omega arith) (omega arith) black
+broken_front fresh b r false false e black h = odd fresh b r 1 h (omega arith) (omega arith) black
+
+front_by : (fresh : Bool) (b : ℕ) (r : List ℕ) (o : Found) → next fresh (b ∷ r) ≡ o → IsNext fresh (b ∷ r) o → AtFront fresh b r
+unfolding piece_at
+front_by fresh b r None e h = broken_front fresh b r (b == 34) (b == 47) refl (none_head fresh b r e) (ap (found_or (broken (b ∷ r))) e)
+front_by fresh b r (Some x) e h = record { size = x.0; sort = x.1; begins = record { found = ap (found_or (broken (b ∷ r))) e; some = h.some; within = h.within }; is = inl (inl e) }
+
+pub front : (fresh : Bool) (b : ℕ) (r : List ℕ) → AtFront fresh b r
+front fresh b r = front_by fresh b r (next fresh (b ∷ r)) refl (next_is fresh (b ∷ r) (omega arith))
+
+list_all_left : (t : Written) (ts : List Written) → list_all is_token (t ∷ ts) ≡ true → is_token t ≡ true
+list_all_left t ts h = by (is_token t) h
+  where
+    by : (a : Bool) → (a && list_all is_token ts) ≡ true → a ≡ true
+    by true h = refl
+    by false h = h
+
+list_all_right : (t : Written) (ts : List Written) → list_all is_token (t ∷ ts) ≡ true → list_all is_token ts ≡ true
+list_all_right t ts h = by (is_token t) h
+  where
+    by : (a : Bool) → (a && list_all is_token ts) ≡ true → list_all is_token ts ≡ true
+    by true h = h
+    by false h = absurd (false≢true h)
+
+abbrev pub piece_turns : ℕ → Piece → Bool → Place → List ℕ → List ℕ → List ℕ → List Written
 piece_turns fuel Skipped fresh p gap t rest = turns_by fuel (fresh_from fresh t) p (gap ++ t) rest
 piece_turns fuel (Token k) fresh p gap t rest = turn p k gap t ∷ turns_by fuel false (behind p (role k t)) [] rest
 
-piece_is : (fuel n : ℕ) (k : Piece) (fresh : Bool) (p : Place) (gap text : List ℕ) → on_piece n k fresh p gap text (turns_by fuel) ≡ piece_turns fuel k fresh p gap (take n text) (drop n text)
+pub piece_is : (fuel n : ℕ) (k : Piece) (fresh : Bool) (p : Place) (gap text : List ℕ) → on_piece n k fresh p gap text (turns_by fuel) ≡ piece_turns fuel k fresh p gap (take n text) (drop n text)
 piece_is fuel n Skipped fresh p gap text = refl
 piece_is fuel n (Token k) fresh p gap text = refl
 
-abbrev Follows : ℕ → List (List ℕ) → Type 0
-Follows fuel ps = (fresh f : Bool) (p : Place) (gs : List (List ℕ)) (before rest : List ℕ) → length rest ≤ fuel → fresh ≡ is_fresh before → fresh ≡ fresh_from f (concat gs) → Skips f gs rest → p.block ≡ Outside → ((f ≡ false) ⊎ (p ≡ start))
-    → Divides before ps rest → has_left_out (words before ps) ≡ false → has_no_skip (turns_by fuel fresh p (concat gs) rest) ≡ true → Parsed f (turns_by fuel fresh p (concat gs) rest)
+-- the rest of a text, from a place on, where its turns are tokens
+abbrev Reads : ℕ → Type 0
+Reads fuel = (fresh f : Bool) (p : Place) (gs : List (List ℕ)) (rest : List ℕ) → length rest ≤ fuel → fresh ≡ fresh_from f (concat gs) → Skips f gs rest → ((f ≡ false) ⊎ (p ≡ start)) → list_all is_token (turns_by fuel fresh p (concat gs) rest) ≡ true
+    → Parsed f (turns_by fuel fresh p (concat gs) rest)
 
-on_kind : (fuel : ℕ) (f : Bool) (p : Place) (gs : List (List ℕ)) (before q back : List ℕ) (ps : List (List ℕ)) (k : Piece) → Follows fuel ps → length back ≤ fuel → is_fresh before ≡ fresh_from f (concat gs) → Skips f gs (q ++ back) → p.block ≡ Outside
-    → ((f ≡ false) ⊎ (p ≡ start)) → IsScanned (is_fresh before) q back k → Divides (before ++ q) ps back → has_left_out (word (Some k) q (line_behind before) ++ words (before ++ q) ps) ≡ false
-    → (t rest : List ℕ) → t ≡ q → rest ≡ back → has_no_skip (piece_turns fuel k (is_fresh before) p (concat gs) t rest) ≡ true → Parsed f (piece_turns fuel k (is_fresh before) p (concat gs) t rest)
-on_kind fuel f p gs before q back ps Skipped h short fresh skips outside first scanned divides keeps t rest te re no_skip =
-    let go : List ℕ → List ℕ → List ℕ → List Written = λ x g r. turns_by fuel (fresh_from (is_fresh before) x) p g r in
-    let moved : go t (concat gs ++ t) rest ≡ go q (concat (gs ++ q ∷ [])) back = ap (λ (x : List ℕ). go x (concat gs ++ x) rest) te ∙ ap (λ (r : List ℕ). go q (concat gs ++ q) r) re ∙ ap (λ (g : List ℕ). go q g back) (sym (concat_snoc gs q)) in
-    subst (Parsed f) (sym moved)
-    (h (fresh_from (is_fresh before) q) f p (gs ++ q ∷ []) (before ++ q) back short (sym (fresh_from-append true before q))
-    (ap (λ (x : Bool). fresh_from x q) fresh ∙ sym (fresh_from-append f (concat gs) q) ∙ ap (fresh_from f) (sym (concat_snoc gs q)))
-    (snoc gs f q back skips (subst (λ (x : Bool). IsScanned x q back Skipped) fresh scanned)) outside first divides keeps (ap has_no_skip (sym moved) ∙ no_skip))
-on_kind fuel f p gs before q back ps (Token k) h short fresh skips outside first scanned divides keeps t rest te re no_skip =
-    let xs : List ℕ → List ℕ → List Written = λ x r. turns_by fuel false (behind p (role k x)) [] r in
-    let all : List ℕ → List ℕ → List Written = λ x r. turn p k (concat gs) x ∷ xs x r in
-    let moved : all t rest ≡ all q back = ap (λ (x : List ℕ). all x rest) te ∙ ap (all q) re in
-    let none : has_no_skip (all q back) ≡ true = ap has_no_skip (sym moved) ∙ no_skip in
-    let here : same_kind k kind.LeftOut ≡ false = or_left (same_kind k kind.LeftOut) (has_left_out (words (before ++ q) ps)) keeps in
-    let is : piece (is_fresh before) q ≡ Some (Token k) = (longest (is_fresh before) q back (Token k) scanned).1 in
-    let stale : false ≡ is_fresh (before ++ q) = sym (token_place (is_fresh before) q k is).1 ∙ sym (fresh_from-append true before q) in
-    let out : (behind p (role k q)).block ≡ Outside = ap (λ (b : Block). block_behind b (role k q)) outside ∙ stays_outside_by (role k q) (heads_none (is_fresh before) q k is here) in
-    let more : Parsed false (xs q back) =
-    h false false (behind p (role k q)) [] (before ++ q) back short stale refl (no_gap false back) out (inl refl) divides (or_right (same_kind k kind.LeftOut) (has_left_out (words (before ++ q) ps)) keeps) (and_right (is_no_skip (turn p k (concat gs) q).supply) (has_no_skip (xs q back)) none) in
-    subst (Parsed f) (sym moved)
-    (cons f (turn p k (concat gs) q) (xs q back)
-    (parsed_turn f p k gs q back (xs q back) (sources_are fuel false (behind p (role k q)) [] back) skips (subst (λ (x : Bool). IsScanned x q back (Token k)) fresh scanned) here outside first (and_left (is_no_skip (turn p k (concat gs) q).supply) (has_no_skip (xs q back)) none)) more)
+-- a token of the text, which shows so
+on_token : (fuel : ℕ) (f : Bool) (p : Place) (gs : List (List ℕ)) (k : Kind) (q back : List ℕ) → Reads fuel → length back ≤ fuel → Skips f gs (q ++ back) → ((f ≡ false) ⊎ (p ≡ start))
+    → Shows (fresh_from f (concat gs)) (turn p k (concat gs) q) back → list_all is_token (turn p k (concat gs) q ∷ turns_by fuel false (behind p (role k q)) [] back) ≡ true
+    → Parsed f (turn p k (concat gs) q ∷ turns_by fuel false (behind p (role k q)) [] back)
+unfolding turn
+on_token fuel f p gs k q back reads short skips first shows tokens =
+    let us = turns_by fuel false (behind p (role k q)) [] back in
+    let are : sources us ≡ back = sources_are fuel false (behind p (role k q)) [] back in
+    let first_turn : (turn p k (concat gs) q).supply ≡ supply.Nothing ⊎ (f ≡ false) =
+    ⊎_elim (λ (x : f ≡ false). let l : ((turn p k (concat gs) q).supply ≡ supply.Nothing) ⊎ (f ≡ false) = inr x in l)
+    (λ (x : p ≡ start). let r : ((turn p k (concat gs) q).supply ≡ supply.Nothing) ⊎ (f ≡ false) = inl (first_nothing p k (concat gs) q x) in r) first in
+    cons f (turn p k (concat gs) q) us
+    (record {
+      gaps = gs;
+      joins = refl;
+      skips = subst (λ (x : List ℕ). Skips f gs (q ++ x)) (sym are) skips;
+      shows = subst (Shows (fresh_from f (concat gs)) (turn p k (concat gs) q)) (sym are) shows;
+      behind_token = first_turn;
+    })
+    (reads false false (behind p (role k q)) [] back short refl (no_feed_gap false back) (inl refl) (list_all_right (turn p k (concat gs) q) us tokens))
 
-follow : (fuel : ℕ) (ps : List (List ℕ)) → Follows fuel ps
-follow fuel [] fresh f p gs before rest short fresh_is fresh_gap skips outside first divides keeps no_skip =
-    subst (λ (r : List ℕ). Parsed f (turns_by fuel fresh p (concat gs) r)) (sym divides) (at_end fuel fresh f p gs (subst (Skips f gs) divides skips))
-follow zero (q ∷ ps) fresh f p gs before [] short fresh_is fresh_gap skips outside first divides keeps no_skip = absurd (no_piece (is_fresh before) q divides.0)
-follow zero (q ∷ ps) fresh f p gs before (b ∷ r) short fresh_is fresh_gap skips outside first divides keeps no_skip = absurd (omega arith)
-follow (suc fuel) (q ∷ ps) fresh f p gs before [] short fresh_is fresh_gap skips outside first divides keeps no_skip = absurd (no_piece (is_fresh before) q divides.0)
-follow (suc fuel) (q ∷ ps) fresh f p gs before (b ∷ r) short fresh_is fresh_gap skips outside first divides keeps no_skip =
-    let rest = b ∷ r in
-    let c : Finds (is_fresh before) rest q = finds (is_fresh before) rest q (omega arith) divides.0 in
-    let n = length q in
-    let back = drop n rest in
-    let whole : rest ≡ q ++ back = sym (take-append-drop n rest) ∙ ap (λ (x : List ℕ). x ++ back) c.front in
-    let len : length back ≡ length rest - n = length-drop n rest in
-    let some : 0 < n = c.some in
-    let scanned : IsScanned (is_fresh before) q back c.kind = record { some = c.some; found = ap (next (is_fresh before)) (sym whole) ∙ c.scanned } in
-    let same : turns_by (suc fuel) fresh p (concat gs) rest ≡ piece_turns fuel c.kind (is_fresh before) p (concat gs) (take n rest) back =
-    ap (λ (x : Bool). turns_by (suc fuel) x p (concat gs) rest) fresh_is ∙ at_piece fuel (is_fresh before) p (concat gs) rest n c.kind c.some c.within c.found ∙ piece_is fuel n c.kind (is_fresh before) p (concat gs) rest in
-    subst (Parsed f) (sym same)
-    (on_kind fuel f p gs before q back ps c.kind (follow fuel ps) (omega arith) (sym fresh_is ∙ fresh_gap) (subst (Skips f gs) whole skips) outside first scanned divides.1
-    (ap (λ (o : Option Piece). has_left_out (word o q (line_behind before) ++ words (before ++ q) ps)) (sym c.spells) ∙ keeps) (take n rest) back c.front refl (ap has_no_skip (sym same) ∙ no_skip))
+scanned_shows : (f : Bool) (p : Place) (k : Kind) (gap q back : List ℕ) → IsScanned f q back (Token k) → is_token (turn p k gap q) ≡ true → Shows f (turn p k gap q) back
+scanned_shows f p k gap [] back scanned h = let none : 0 < 0 = scanned.some in absurd (omega arith)
+scanned_shows f p k gap (b ∷ q) back scanned h = by (is_blanked p.block (role k (b ∷ q))) refl
+  where
+    by : (t : Bool) → is_blanked p.block (role k (b ∷ q)) ≡ t → Shows f (turn p k gap (b ∷ q)) back
+    by true e = inl (inr (blanks_turn p k gap b q e (token_head f b (q ++ back) k (length (b ∷ q)) scanned.found)))
+    by false e = inl (inl (stays_turn f p k gap (b ∷ q) back e scanned h))
 
-pub cut_again : (text : List ℕ) (ts : List Word) → IsCut text ts → has_left_out ts ≡ false → has_no_skip (turns text) ≡ true → (us : List Word) × (IsCut (spelled (turns text)) us × (texts us ≡ written_tokens (turns text)))
-cut_again text ts h keeps no_skip =
-    let parsed : Parsed true (turns text) =
-    follow (length text) h.pieces true true start [] [] text (omega arith) refl refl (no_gap true text) refl (inr refl) (from_whole h.pieces text h.divides) (ap has_left_out (sym h.are_words) ∙ keeps) no_skip in
-    let cut : Cut [] (spelled (turns text)) (written_tokens (turns text)) = over_turns (turns text) true parsed [] refl in
+string_shows : (f : Bool) (p : Place) (gap q back : List ℕ) → string_end 1 false q ≡ Some (1 + length q) → is_token (turn p kind.Quoted gap (34 ∷ q)) ≡ true → Shows f (turn p kind.Quoted gap (34 ∷ q)) back
+string_shows f p gap q back ends h = by (is_blanked p.block (role kind.Quoted (34 ∷ q))) refl
+  where
+    by : (t : Bool) → is_blanked p.block (role kind.Quoted (34 ∷ q)) ≡ t → Shows f (turn p kind.Quoted gap (34 ∷ q)) back
+    by true e = inl (inr (blanks_turn p kind.Quoted gap 34 q e refl))
+    by false e = inr (joins_turn p gap q e ends)
+
+odd_shows : (f : Bool) (p : Place) (gap : List ℕ) (b : ℕ) (q back : List ℕ) → is_blank b ≡ false → is_token (turn p kind.LeftOut gap (b ∷ q)) ≡ true → Shows f (turn p kind.LeftOut gap (b ∷ q)) back
+odd_shows f p gap b q back black h = by (is_blanked p.block (role kind.LeftOut (b ∷ q))) refl
+  where
+    by : (t : Bool) → is_blanked p.block (role kind.LeftOut (b ∷ q)) ≡ t → Shows f (turn p kind.LeftOut gap (b ∷ q)) back
+    by true e = inl (inr (blanks_turn p kind.LeftOut gap b q e black))
+    by false e = absurd (false≢true (sym (keeps_by p kind.LeftOut gap (b ∷ q) e h)))
+
+-- a piece at the front of the rest
+on_scanned : (fuel : ℕ) (f : Bool) (p : Place) (gs : List (List ℕ)) (x : Piece) (q back : List ℕ) → Reads fuel → length back ≤ fuel → Skips f gs (q ++ back) → ((f ≡ false) ⊎ (p ≡ start)) → IsScanned (fresh_from f (concat gs)) q back x
+    → list_all is_token (piece_turns fuel x (fresh_from f (concat gs)) p (concat gs) q back) ≡ true → Parsed f (piece_turns fuel x (fresh_from f (concat gs)) p (concat gs) q back)
+on_scanned fuel f p gs Skipped q back reads short skips first scanned tokens =
+    let more : Skips f (gs ++ q ∷ []) back = snoc gs f q back skips scanned in
+    let fresh : fresh_from (fresh_from f (concat gs)) q ≡ fresh_from f (concat (gs ++ q ∷ [])) = sym (fresh_from-append f (concat gs) q) ∙ ap (fresh_from f) (sym (concat_snoc gs q)) in
+    let same : turns_by fuel (fresh_from (fresh_from f (concat gs)) q) p (concat (gs ++ q ∷ [])) back ≡ turns_by fuel (fresh_from (fresh_from f (concat gs)) q) p (concat gs ++ q) back =
+    ap (λ (g : List ℕ). turns_by fuel (fresh_from (fresh_from f (concat gs)) q) p g back) (concat_snoc gs q) in
+    subst (Parsed f) same (reads (fresh_from (fresh_from f (concat gs)) q) f p (gs ++ q ∷ []) back short fresh more first (ap (list_all is_token) same ∙ tokens))
+on_scanned fuel f p gs (Token k) q back reads short skips first scanned tokens =
+    on_token fuel f p gs k q back reads short skips first (scanned_shows (fresh_from f (concat gs)) p k (concat gs) q back scanned (list_all_left (turn p k (concat gs) q) (turns_by fuel false (behind p (role k q)) [] back) tokens)) tokens
+
+-- the pieces of a text, from its front on
+on_front : (fuel : ℕ) (f : Bool) (p : Place) (gs : List (List ℕ)) (b : ℕ) (r : List ℕ) → Reads fuel → length (b ∷ r) ≤ suc fuel → Skips f gs (b ∷ r) → ((f ≡ false) ⊎ (p ≡ start)) → (a : AtFront (fresh_from f (concat gs)) b r)
+    → list_all is_token (piece_turns fuel a.sort (fresh_from f (concat gs)) p (concat gs) (take a.size (b ∷ r)) (drop a.size (b ∷ r))) ≡ true
+    → Parsed f (piece_turns fuel a.sort (fresh_from f (concat gs)) p (concat gs) (take a.size (b ∷ r)) (drop a.size (b ∷ r)))
+on_front fuel f p gs b r reads short skips first a tokens =
+    let fr = fresh_from f (concat gs) in
+    let q = take a.size (b ∷ r) in
+    let back = drop a.size (b ∷ r) in
+    let some : 0 < a.size = a.begins.some in
+    let within : a.size ≤ length (b ∷ r) = a.begins.within in
+    let whole : b ∷ r ≡ q ++ back = sym (take-append-drop a.size (b ∷ r)) in
+    let len : length q ≡ a.size = length-take-le a.size (b ∷ r) within in
+    let gone : length back ≡ length (b ∷ r) - a.size = length-drop a.size (b ∷ r) in
+    let less : length back ≤ fuel = omega arith in
+    let skipped : Skips f gs (q ++ back) = subst (Skips f gs) whole skips in
+    ⊎_elim (λ (s : (next fr (b ∷ r) ≡ Some (a.size, a.sort)) ⊎ IsString b r a.size a.sort).
+    ⊎_elim (λ (e : next fr (b ∷ r) ≡ Some (a.size, a.sort)).
+    on_scanned fuel f p gs a.sort q back reads less skipped first (record { some = omega arith; found = ap (next fr) (sym whole) ∙ e ∙ ap (λ (n : ℕ). let o : Found = Some (n, a.sort) in o) (sym len) }) tokens)
+    (λ (e : IsString b r a.size a.sort).
+    string fuel f p gs b r reads a.size a.sort e.0 e.1 e.2 less skipped first tokens) s)
+    (λ (e : IsOdd b a.sort). left fuel f p gs b r reads a.size a.sort e.0 e.1 some less skipped first tokens) a.is
+  where
+    string : (fuel : ℕ) (f : Bool) (p : Place) (gs : List (List ℕ)) (b : ℕ) (r : List ℕ) → Reads fuel → (n : ℕ) (x : Piece) → x ≡ Token kind.Quoted → b ≡ 34 → EndsAt 1 false r n → length (drop n (b ∷ r)) ≤ fuel → Skips f gs (take n (b ∷ r) ++ drop n (b ∷ r)) → ((f ≡ false) ⊎ (p ≡ start))
+        → list_all is_token (piece_turns fuel x (fresh_from f (concat gs)) p (concat gs) (take n (b ∷ r)) (drop n (b ∷ r))) ≡ true → Parsed f (piece_turns fuel x (fresh_from f (concat gs)) p (concat gs) (take n (b ∷ r)) (drop n (b ∷ r)))
+    string fuel f p gs b r reads n x ex eb ends less skipped first tokens =
+        let front : take n (b ∷ r) ≡ 34 ∷ take (n - 1) r = (let e : n ≡ suc (n - 1) = omega (arith, ends.behind) in ap (λ (m : ℕ). take m (b ∷ r)) e) ∙ ap (λ (c : ℕ). c ∷ take (n - 1) r) eb in
+        let len : length (take (n - 1) r) ≡ n - 1 = length-take-le (n - 1) r (omega (arith, ends.within)) in
+        let found : string_end 1 false (take (n - 1) r) ≡ Some (1 + length (take (n - 1) r)) = ends.front ∙ (let e : n ≡ 1 + length (take (n - 1) r) = omega (arith, ends.behind) in ap Some e) in
+        let back = drop n (b ∷ r) in
+        let all : Piece → List ℕ → List Written = λ y t. piece_turns fuel y (fresh_from f (concat gs)) p (concat gs) t back in
+        let same : all x (take n (b ∷ r)) ≡ all (Token kind.Quoted) (34 ∷ take (n - 1) r) = ap (λ (y : Piece). all y (take n (b ∷ r))) ex ∙ ap (all (Token kind.Quoted)) front in
+        let now = ap (list_all is_token) (sym same) ∙ tokens in
+        subst (Parsed f) (sym same)
+        (on_token fuel f p gs kind.Quoted (34 ∷ take (n - 1) r) back reads less (subst (λ (t : List ℕ). Skips f gs (t ++ back)) front skipped) first
+        (string_shows (fresh_from f (concat gs)) p (concat gs) (take (n - 1) r) back found (list_all_left (turn p kind.Quoted (concat gs) (34 ∷ take (n - 1) r)) (turns_by fuel false (behind p (role kind.Quoted (34 ∷ take (n - 1) r))) [] back) now)) now)
+
+    left : (fuel : ℕ) (f : Bool) (p : Place) (gs : List (List ℕ)) (b : ℕ) (r : List ℕ) → Reads fuel → (n : ℕ) (x : Piece) → x ≡ Token kind.LeftOut → is_blank b ≡ false → 0 < n → length (drop n (b ∷ r)) ≤ fuel → Skips f gs (take n (b ∷ r) ++ drop n (b ∷ r)) → ((f ≡ false) ⊎ (p ≡ start))
+        → list_all is_token (piece_turns fuel x (fresh_from f (concat gs)) p (concat gs) (take n (b ∷ r)) (drop n (b ∷ r))) ≡ true → Parsed f (piece_turns fuel x (fresh_from f (concat gs)) p (concat gs) (take n (b ∷ r)) (drop n (b ∷ r)))
+    left fuel f p gs b r reads n x ex black some less skipped first tokens =
+        let front : take n (b ∷ r) ≡ b ∷ take (n - 1) r = (let e : n ≡ suc (n - 1) = omega arith in ap (λ (m : ℕ). take m (b ∷ r)) e) in
+        let back = drop n (b ∷ r) in
+        let all : Piece → List ℕ → List Written = λ y t. piece_turns fuel y (fresh_from f (concat gs)) p (concat gs) t back in
+        let same : all x (take n (b ∷ r)) ≡ all (Token kind.LeftOut) (b ∷ take (n - 1) r) = ap (λ (y : Piece). all y (take n (b ∷ r))) ex ∙ ap (all (Token kind.LeftOut)) front in
+        let now = ap (list_all is_token) (sym same) ∙ tokens in
+        subst (Parsed f) (sym same)
+        (on_token fuel f p gs kind.LeftOut (b ∷ take (n - 1) r) back reads less (subst (λ (t : List ℕ). Skips f gs (t ++ back)) front skipped) first
+        (odd_shows (fresh_from f (concat gs)) p (concat gs) b (take (n - 1) r) back black (list_all_left (turn p kind.LeftOut (concat gs) (b ∷ take (n - 1) r)) (turns_by fuel false (behind p (role kind.LeftOut (b ∷ take (n - 1) r))) [] back) now)) now)
+
+read : (fuel : ℕ) → Reads fuel
+read fuel fresh f p gs [] short fresh_is skips first tokens = at_end fuel fresh f p gs skips
+read zero fresh f p gs (b ∷ r) short fresh_is skips first tokens = absurd (omega arith)
+read (suc fuel) fresh f p gs (b ∷ r) short fresh_is skips first tokens =
+    let a = front (fresh_from f (concat gs)) b r in
+    let same : turns_by (suc fuel) fresh p (concat gs) (b ∷ r) ≡ piece_turns fuel a.sort (fresh_from f (concat gs)) p (concat gs) (take a.size (b ∷ r)) (drop a.size (b ∷ r)) =
+    ap (λ (x : Bool). turns_by (suc fuel) x p (concat gs) (b ∷ r)) fresh_is ∙ at_piece fuel (fresh_from f (concat gs)) p (concat gs) (b ∷ r) a.size a.sort a.begins.some a.begins.within a.begins.found ∙ piece_is fuel a.size a.sort (fresh_from f (concat gs)) p (concat gs) (b ∷ r) in
+    subst (Parsed f) (sym same) (on_front fuel f p gs b r (read fuel) short skips first a (ap (list_all is_token) (sym same) ∙ tokens))
+
+pub cut_again : (text : List ℕ) → has_tokens_alone text ≡ true → (us : List Word) × (IsCut (spelled (turns text)) us × (standing us ≡ written_from 1 (turns text)))
+cut_again text h =
+    let parsed : Parsed true (turns text) = read (length text) true true start [] text (omega arith) refl (no_feed_gap true text) (inr refl) h in
+    let cut : Cut [] (spelled (turns text)) (written_from 1 (turns text)) = over_turns (turns text) true parsed [] 1 (λ e. refl) refl in
     (words [] cut.pieces, (record { pieces = cut.pieces; divides = to_whole cut.pieces (spelled (turns text)) cut.divides; are_words = refl }, cut.are))

@@ -43,7 +43,7 @@ numbers_feeds n =
     let b = decimal_feeds (min n MOST_LINE) (omega arith) in
     omega arith
 
-shown_feeds : (c : Change) (t : List ℕ) → feeds (shown c t) ≡ feeds t
+pub shown_feeds : (c : Change) (t : List ℕ) → feeds (shown c t) ≡ feeds t
 shown_feeds change.Kept t = refl
 shown_feeds change.Left t = refl
 shown_feeds change.Blanked t = blanks_feeds t

@@ -11,5 +11,15 @@ pub mod Blocks
 pub mod Tokens
 pub mod Needs
 pub mod Stays
+pub mod Softly
+pub mod Joining
+pub mod Alone
 pub mod Again
+pub mod Lined
+pub mod Lineup
+pub mod Owning
+pub mod Numbers
+pub mod Chain
+pub mod Blanking
+pub mod Dividing
 mod Rows

@@ -21,7 +21,7 @@ use Rattle.prepare.specs.Character.{value, digits, number}
 use Rattle.prepare.specs.Coding.{is_coded, front_length, coded_by}
 use Rattle.prepare.specs.Coding as coding
 use Rattle.prepare.specs.Written.{Written}
-use Rattle.prepare.specs.Spelling.{blank, unless_break, unbroken, shown, spelled_turn, spelled}
+use Rattle.prepare.specs.Spelling.{blank, unless_break, escapes, unbroken, shown, divider, supplied, spelled_turn, spelled}
 use Rattle.prepare.specs.Numbering.{is_own_file, included, placed, line_after, stand_after, standing_behind, first_line, line_length, numbered_by, asked_by}
 use Rattle.prepare.specs.Laws.{source, sources}
 
@@ -44,7 +44,7 @@ none_included : (xs : List ℕ) → feeds (map included xs) ≡ 0
 none_included [] = refl
 none_included (b ∷ q) = feeds-cons (included b) (map included q) ∙ included_by (is_line_feed b) b (feeds (map included q)) refl (none_included q)
 
-feeds-replicate : (n : ℕ) → feeds (replicate n line_feed) ≡ n
+pub feeds-replicate : (n : ℕ) → feeds (replicate n line_feed) ≡ n
 feeds-replicate n = sum_by-replicate (λ b. cond (is_line_feed b) 1 0) n line_feed ∙ omega arith
 
 own_line : (t : Bool) (n : ℕ) (line : List ℕ) → n + feeds (cond t line (map included line)) ≡ cond t (n + feeds line) n
@@ -81,10 +81,11 @@ asked_is (suc fuel) s (b ∷ q) =
     omega arith ∙ rest
 
 -- what is written between turns has no line feed
-nothing_fed : (s : Supply) → feeds (written s) ≡ 0
-nothing_fed supply.Nothing = refl
-nothing_fed supply.Separator = refl
-nothing_fed supply.Skip = refl
+pub nothing_fed : (s : Supply) (gap : List ℕ) → feeds (written s ++ divider s gap) ≡ 0
+nothing_fed supply.Nothing gap = refl
+nothing_fed supply.Separator gap = refl
+nothing_fed supply.Skip [] = refl
+nothing_fed supply.Skip (b ∷ q) = refl
 
 blank_by : (t u : Bool) (b n m : ℕ) → is_line_feed b ≡ t → n ≡ m → cond (is_line_feed (cond (t || u) b 32)) 1 0 + n ≡ cond t 1 0 + m
 blank_by true u b n m e h = rw e (omega arith)
@@ -108,10 +109,10 @@ unbroken_by true b other rest e h = h
 unbroken_by false b true rest e h = h
 unbroken_by false b false rest e h = feeds-cons b rest ∙ rw e (omega arith)
 
-unbroken_feeds : (xs : List ℕ) → feeds (unbroken xs) ≡ 0
+pub unbroken_feeds : (e : Bool) (xs : List ℕ) → feeds (unbroken e xs) ≡ 0
 unfolding unbroken
-unbroken_feeds [] = refl
-unbroken_feeds (b ∷ q) = unbroken_by (is_line_feed b) b _ (unbroken q) refl (unbroken_feeds q)
+unbroken_feeds e [] = refl
+unbroken_feeds e (b ∷ q) = unbroken_by (is_line_feed b) b _ (unbroken (escapes e b) q) refl (unbroken_feeds (escapes e b) q)
 
 no_feed_by : (t : Bool) (x : ℕ) → is_line_feed (zero_digit + x) ≡ t → x + cond t 1 0 ≡ x
 no_feed_by true x e = absurd (grind (arith, nat_tests))
@@ -143,7 +144,7 @@ number_feeds t =
     let c = digits_feeds (value t) in
     omega arith
 
-character_feeds : (t : Bool) (front : List ℕ) → feeds (coding.written t front) ≡ feeds front
+pub character_feeds : (t : Bool) (front : List ℕ) → feeds (coding.written t front) ≡ feeds front
 character_feeds true front =
     let a = feeds-append (number front) (filter is_line_feed front) in
     let b = number_feeds front in
@@ -169,18 +170,18 @@ coded_feeds (suc fuel) fresh (b ∷ q) =
 shown_feeds : (f : Form) (t : List ℕ) → feeds (shown f t) ≡ feeds t
 shown_feeds form.Kept t = refl
 shown_feeds form.Joined t =
-    let a = feeds-append (unbroken t) (filter is_line_feed t) in
-    let b = unbroken_feeds t in
+    let a = feeds-append (unbroken false t) (filter is_line_feed t) in
+    let b = unbroken_feeds false t in
     let c = filter_feeds t in
     omega arith
 shown_feeds form.Blanked t = blanks_feeds t
 
 turn_feeds : (t : Written) → feeds (spelled_turn t) ≡ feeds (source t)
 turn_feeds t =
-    let a = feeds-append (written t.supply) (t.gap ++ shown t.form t.token) in
+    let a = feeds-append (supplied t) (t.gap ++ shown t.form t.token) in
     let b = feeds-append t.gap (shown t.form t.token) in
     let c = feeds-append t.gap t.token in
-    let d = nothing_fed t.supply in
+    let d = nothing_fed t.supply t.gap in
     let e = shown_feeds t.form t.token in
     omega arith
 

@@ -46,7 +46,7 @@ or_cases true b h = inl refl
 or_cases false b h = inr h
 
 -- the words of blocks are left out
-no_word : (f : Bool) (t : List ℕ) (k : Kind) → piece f t ≡ Some (Token k) → same_kind k LeftOut ≡ false → is_block_word t ≡ true → ⊥
+pub no_word : (f : Bool) (t : List ℕ) (k : Kind) → piece f t ≡ Some (Token k) → same_kind k LeftOut ≡ false → is_block_word t ≡ true → ⊥
 unfolding piece word_kind reserved
 no_word f t k is kept h =
     ⊎_elim (λ (e : bytes_eq t (codes "never") ≡ true). word_by f (codes "never") t k e refl is kept)

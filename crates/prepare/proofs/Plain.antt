@@ -19,7 +19,7 @@ use Rattle.prepare.specs.Roles.{role}
 use Rattle.prepare.specs.Places.{written, behind}
 use Rattle.prepare.specs.Written.{Written}
 use Rattle.prepare.specs.Turns.{Rest, piece_at, turn, on_piece, turns_by}
-use Rattle.prepare.specs.Spelling.{begins_feed, is_break, unless_break, unbroken, shown, spelled_turn, spelled}
+use Rattle.prepare.specs.Spelling.{begins_feed, is_break, unless_break, escapes, unbroken, shown, divider, spelled_turn, spelled}
 use Rattle.prepare.specs.Numbering.{included, placed, stand_after, standing_behind, first_line, line_length, numbered_by, has_mark_by}
 use Rattle.prepare.specs.Laws.{source, sources, is_nothing, stays, is_plain}
 
@@ -52,7 +52,7 @@ or_right : (a b : Bool) → (a || b) ≡ false → b ≡ false
 or_right true b h = absurd (false≢true (sym h))
 or_right false b h = h
 
-not_true : (a : Bool) → not a ≡ true → a ≡ false
+pub not_true : (a : Bool) → not a ≡ true → a ≡ false
 not_true true h = sym h
 not_true false h = refl
 
@@ -60,20 +60,21 @@ no_feed_next : (q : List ℕ) → list_any is_line_feed q ≡ false → begins_f
 no_feed_next [] h = refl
 no_feed_next (b ∷ q) h = or_left (is_line_feed b) (list_any is_line_feed q) h
 
-break_by : (x y z : Bool) → x ≡ false → z ≡ false → (x || (y && z)) ≡ false
-break_by true y z h g = h
-break_by false true z h g = g
-break_by false false z h g = refl
+break_by : (x n y z : Bool) → x ≡ false → z ≡ false → (x || (n && (y && z))) ≡ false
+break_by true n y z h g = h
+break_by false true true z h g = g
+break_by false true false z h g = refl
+break_by false false y z h g = refl
 
 -- a string on one line stays
-unbroken_stays : (t : List ℕ) → list_any is_line_feed t ≡ false → unbroken t ≡ t
+pub unbroken_stays : (e : Bool) (t : List ℕ) → list_any is_line_feed t ≡ false → unbroken e t ≡ t
 unfolding unbroken
-unbroken_stays [] h = refl
-unbroken_stays (b ∷ q) h =
+unbroken_stays e [] h = refl
+unbroken_stays e (b ∷ q) h =
     let here : is_line_feed b ≡ false = or_left (is_line_feed b) (list_any is_line_feed q) h in
     let rest : list_any is_line_feed q ≡ false = or_right (is_line_feed b) (list_any is_line_feed q) h in
-    let break : is_break b q ≡ false = break_by (is_line_feed b) (b == backslash) (begins_feed q) here (no_feed_next q rest) in
-    ap (λ (x : Bool). unless_break x b (unbroken q)) break ∙ ap (λ (xs : List ℕ). b ∷ xs) (unbroken_stays q rest)
+    let break : is_break e b q ≡ false = break_by (is_line_feed b) (not e) (b == backslash) (begins_feed q) here (no_feed_next q rest) in
+    ap (λ (x : Bool). unless_break x b (unbroken (escapes e b) q)) break ∙ ap (λ (xs : List ℕ). b ∷ xs) (unbroken_stays (escapes e b) q rest)
 
 no_feeds : (t : List ℕ) → list_any is_line_feed t ≡ false → filter is_line_feed t ≡ []
 no_feeds [] h = refl
@@ -83,17 +84,17 @@ pub shown_stays : (f : Form) (t : List ℕ) → stays f t ≡ true → shown f t
 shown_stays form.Kept t h = refl
 shown_stays form.Joined t h =
     let none : list_any is_line_feed t ≡ false = not_true (list_any is_line_feed t) h in
-    ap (λ (xs : List ℕ). xs ++ filter is_line_feed t) (unbroken_stays t none) ∙ ap (λ (xs : List ℕ). t ++ xs) (no_feeds t none) ∙ append-nil t
+    ap (λ (xs : List ℕ). xs ++ filter is_line_feed t) (unbroken_stays false t none) ∙ ap (λ (xs : List ℕ). t ++ xs) (no_feeds t none) ∙ append-nil t
 shown_stays form.Blanked t h = absurd (false≢true h)
 
-nothing_written : (s : Supply) → is_nothing s ≡ true → written s ≡ []
-nothing_written supply.Nothing h = refl
-nothing_written supply.Separator h = absurd (false≢true h)
-nothing_written supply.Skip h = absurd (false≢true h)
+nothing_written : (s : Supply) (gap : List ℕ) → is_nothing s ≡ true → written s ++ divider s gap ≡ []
+nothing_written supply.Nothing gap h = refl
+nothing_written supply.Separator gap h = absurd (false≢true h)
+nothing_written supply.Skip gap h = absurd (false≢true h)
 
 turn_stays : (t : Written) → is_plain t ≡ true → spelled_turn t ≡ source t
 turn_stays t h =
-    ap (λ (xs : List ℕ). xs ++ (t.gap ++ shown t.form t.token)) (nothing_written t.supply (and_left (is_nothing t.supply) (stays t.form t.token) h))
+    ap (λ (xs : List ℕ). xs ++ (t.gap ++ shown t.form t.token)) (nothing_written t.supply t.gap (and_left (is_nothing t.supply) (stays t.form t.token) h))
     ∙ ap (λ (xs : List ℕ). t.gap ++ xs) (shown_stays t.form t.token (and_right (is_nothing t.supply) (stays t.form t.token) h))
 
 pub all_stay : (ts : List Written) → list_all is_plain ts ≡ true → spelled ts ≡ sources ts

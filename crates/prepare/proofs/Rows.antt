@@ -152,3 +152,13 @@ row_27 = refl
 row_28 : prepared (codes "int a[5]; init { int b = (c -> 1 : 2), a[4]; for (i in a) { skip } }") ≡ codes "int a[5]; init { int b = (c -> 1 : 2), a[4]; for (i in a) { skip } }"
 unfolding reserved word_kind next comment_end quote_end piece_at string_end turn turns_by unbroken numbered_by coded_by
 row_28 = refl
+
+-- a label with nothing between it and the token behind it
+row_29 : prepared (codes "init { if :: a:fi; do :: b:od; c:}") ≡ codes "init { if :: a: skip fi; do :: b: skip od; c: skip }"
+unfolding reserved word_kind next comment_end quote_end piece_at string_end turn turns_by unbroken numbered_by coded_by
+row_29 = refl
+
+-- a backslash that belongs to another one stays where a line feed is behind it, and a line feed that belongs to a backslash goes with it
+row_30 : prepared (lines (codes "printf(\"a\\\\" ∷ codes "\\n\\" ∷ codes "\") x" ∷ [])) ≡ lines (codes "printf(\"a\\\\\\n\"" ∷ codes "" ∷ codes ") x" ∷ [])
+unfolding reserved word_kind next comment_end quote_end piece_at string_end turn turns_by unbroken numbered_by coded_by
+row_30 = refl

@@ -32,7 +32,7 @@ is_soft (Some b) = eqb b 59 || eqb b 32
 abbrev pub Fits : Piece → List ℕ → List ℕ → Type 0
 Fits k back back' = (head back ≡ head back') ⊎ ((x : Kind) × (k ≡ Token x) × (same_kind x kind.LeftOut ≡ false) × (is_soft (head back') ≡ true))
 
-abbrev Stops : (ℕ → Bool) → Option ℕ → Type 0
+abbrev pub Stops : (ℕ → Bool) → Option ℕ → Type 0
 Stops p None = Unit {0}
 Stops p (Some b) = p b ≡ false
 
@@ -47,12 +47,12 @@ pass_by : (t : Bool) (n m : ℕ) → cond t (1 + n) 0 ≡ suc m → (t ≡ true)
 pass_by true n m h = (refl, omega arith)
 pass_by false n m h = absurd (omega arith)
 
-stops : (p : ℕ → Bool) (q back : List ℕ) → prefix_len p (q ++ back) ≡ length q → Stops p (head back)
+pub stops : (p : ℕ → Bool) (q back : List ℕ) → prefix_len p (q ++ back) ≡ length q → Stops p (head back)
 stops p [] [] h = tt
 stops p [] (b ∷ r) h = stop_by (p b) (prefix_len p r) h
 stops p (b ∷ q) back h = stops p q back (pass_by (p b) (prefix_len p (q ++ back)) (length q) h).1
 
-stop_now : (p : ℕ → Bool) (back : List ℕ) → Stops p (head back) → prefix_len p back ≡ 0
+pub stop_now : (p : ℕ → Bool) (back : List ℕ) → Stops p (head back) → prefix_len p back ≡ 0
 stop_now p [] h = refl
 stop_now p (b ∷ r) h = ap (λ t. cond t (1 + prefix_len p r) 0) h
 
@@ -72,22 +72,22 @@ soft_runs p k q back back' semi space fits h =
     ⊎_elim (λ (e : head back ≡ head back'). runs p q back back' h (subst (Stops p) e (stops p q back h)))
     (λ (s : (x : Kind) × (k ≡ Token x) × (same_kind x kind.LeftOut ≡ false) × (is_soft (head back') ≡ true)). runs p q back back' h (soft_stops_by p (head back') semi space s.3)) fits
 
-abbrev size : Found → ℕ
+abbrev pub size : Found → ℕ
 size None = 0
 size (Some x) = x.0
 
-abbrev what : Found → Piece
+abbrev pub what : Found → Piece
 what None = Skipped
 what (Some x) = x.1
 
 abbrev with_piece : Piece → ℕ → ℕ × Piece
 with_piece s n = (n, s)
 
-end_of : (o : Option ℕ) (s k : Piece) (m : ℕ) → option_map (with_piece s) o ≡ Some (m, k) → o ≡ Some m
+pub end_of : (o : Option ℕ) (s k : Piece) (m : ℕ) → option_map (with_piece s) o ≡ Some (m, k) → o ≡ Some m
 end_of None s k m h = cc
 end_of (Some n) s k m h = ap Some (ap size h)
 
-kind_of : (o : Option ℕ) (s k : Piece) (m : ℕ) → option_map (with_piece s) o ≡ Some (m, k) → s ≡ k
+pub kind_of : (o : Option ℕ) (s k : Piece) (m : ℕ) → option_map (with_piece s) o ≡ Some (m, k) → s ≡ k
 kind_of None s k m h = cc
 kind_of (Some n) s k m h = ap what h
 
@@ -113,7 +113,7 @@ comment_by : (t : Bool) (x x' : Option ℕ) (c m : ℕ) → (x ≡ Some m → x'
 comment_by true x x' c m f h = h
 comment_by false x x' c m f h = f h
 
-comment_stays : (n : ℕ) (q back back' : List ℕ) (m : ℕ) → m ≡ n + length q → comment_end n (q ++ back) ≡ Some m → comment_end n (q ++ back') ≡ Some m
+pub comment_stays : (n : ℕ) (q back back' : List ℕ) (m : ℕ) → m ≡ n + length q → comment_end n (q ++ back) ≡ Some m → comment_end n (q ++ back') ≡ Some m
 unfolding comment_end
 comment_stays n [] back back' m is h = absurd (too_short (n + 2) (n + length back) m (comment_end n back) (comment_within n back) h (omega arith))
 comment_stays n (a ∷ []) back back' m is h = absurd (too_short (n + 2) (n + length (a ∷ back)) m (comment_end n (a ∷ back)) (comment_within n (a ∷ back)) h (omega arith))

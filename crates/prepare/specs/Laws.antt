@@ -1,7 +1,9 @@
 -- Words for laws over the definitions.
-use Rattle.std.specs.Prelude.{◌≡◌, ℕ, Bool, true, false, not, ◌&&◌, ◌||◌, List, [], ◌∷◌, ◌++◌, map}
+use Rattle.std.specs.Prelude.{◌≡◌, ℕ, ◌+◌, Bool, true, false, not, ◌&&◌, ◌||◌, List, [], ◌∷◌, ◌++◌, map, count_by}
 use Rattle.std.specs.List.{list_all, list_any, flat_map}
 use lib.Chars.{codes}
+use Rattle.pml_token.specs.declared.token.Kind.TheVariants.{LeftOut}
+use Rattle.pml_token.specs.Kinds.{same_kind}
 use Rattle.pml_token.specs.Word.{Word}
 use Rattle.pml_lex.specs.Division.{is_line_feed, IsCut}
 use Rattle.pml_lex.specs.Limits.{has_left_out}
@@ -9,20 +11,22 @@ use Rattle.prepare.specs.declared.place.Supply.{Supply}
 use Rattle.prepare.specs.declared.place.Supply.TheVariants as as_supply
 use Rattle.prepare.specs.declared.turn.Form.{Form}
 use Rattle.prepare.specs.declared.turn.Form.TheVariants as form
-use Rattle.prepare.specs.declared.turn.Remark.{Remark}
-use Rattle.prepare.specs.declared.turn.Remark.TheVariants as remark
-use Rattle.prepare.specs.Roles.{is_block_word}
 use Rattle.prepare.specs.Written.{Written}
 use Rattle.prepare.specs.Turns.{turns}
-use Rattle.prepare.specs.Spelling.{spelled}
+use Rattle.prepare.specs.Spelling.{unbroken, spelled}
+use Rattle.prepare.specs.Blocks.{is_blanked}
 use Rattle.prepare.specs.Numbering.{bare, numbered, has_mark}
 use Rattle.prepare.specs.Coding.{coded, has_character}
 use Rattle.prepare.specs.Exchange.{Exchange}
-use Rattle.prepare.specs.Changes.{exchanges, respelled, is_same}
+use Rattle.prepare.specs.Changes.{exchanges, respelled_one, respelled, is_same}
 
--- a text with its separators, and without blocks
+-- a text with its lines where its marks say, and with numbers in place of its character constants
+abbrev pub lined : List ℕ → List ℕ
+lined text = coded (numbered (bare text))
+
+-- this with its separators, and without blocks
 abbrev pub separated : List ℕ → List ℕ
-separated text = spelled (turns (coded (numbered (bare text))))
+separated text = spelled (turns (lined text))
 
 -- what becomes of the tokens of a text
 abbrev pub exchanged : List ℕ → List ℕ
@@ -81,50 +85,55 @@ pub record HasNothingToMend (text : List ℕ) : Type 0 where
   pub turns : is_mended text ≡ true
   pub changes : has_change text ≡ false
 
-abbrev pub is_blank_form : Form → Bool
-is_blank_form form.Blanked = true
-is_blank_form _ = false
-
-abbrev pub is_block_end : Remark → Bool
-is_block_end remark.BlockEnds = true
-is_block_end _ = false
-
--- whether a block goes on behind a turn
-abbrev pub goes_on : Written → Bool
-goes_on t = is_blank_form t.form && not (is_block_end t.remark)
-
--- A token that is blanked is the word of a block, or stands behind another one of it: `inside` says whether one stands before the turns.
-abbrev pub BlanksAreBlocks : Bool → List Written → Type 0
-BlanksAreBlocks inside [] = Unit {0}
-BlanksAreBlocks inside (t ∷ ts) = (is_blank_form t.form ≡ true → (inside || is_block_word t.token) ≡ true) × BlanksAreBlocks (goes_on t) ts
-
 -- the tokens of turns, as bytes
 abbrev pub tokens : List Written → List (List ℕ)
 tokens ts = map (λ t. t.token) ts
 
-abbrev pub is_no_skip : Supply → Bool
-is_no_skip as_supply.Skip = false
-is_no_skip _ = true
+-- whether a token is that of a block, or one that the text may have: no word, sign or line that is left out, and no byte that begins none
+abbrev pub is_token : Written → Bool
+is_token t = is_blanked t || not (same_kind t.kind LeftOut)
 
--- whether separators alone are written between turns
-abbrev pub has_no_skip : List Written → Bool
-has_no_skip ts = list_all (λ t. is_no_skip t.supply) ts
+-- whether a text has such tokens alone
+abbrev pub has_tokens_alone : List ℕ → Bool
+has_tokens_alone text = list_all is_token (turns text)
 
--- the tokens that are written: what is supplied, and what is not blanked
+-- the tokens that are written: what is supplied, and what is not blanked, a string on one line
 abbrev pub supplied : Supply → List (List ℕ)
 supplied as_supply.Nothing = []
 supplied as_supply.Separator = codes ";" ∷ []
 supplied as_supply.Skip = codes "skip" ∷ []
 
 abbrev pub kept : Form → List ℕ → List (List ℕ)
+kept form.Kept t = t ∷ []
+kept form.Joined t = unbroken false t ∷ []
 kept form.Blanked t = []
-kept _ t = t ∷ []
 
--- without the last turn, which has no token
-abbrev pub written_tokens : List Written → List (List ℕ)
-written_tokens [] = []
-written_tokens (t ∷ []) = supplied t.supply
-written_tokens (t ∷ u ∷ us) = supplied t.supply ++ (kept t.form t.token ++ written_tokens (u ∷ us))
+-- a token on its line
+pub record Standing : Type 0 where
+  pub text : List ℕ
+  pub line : ℕ
+
+abbrev pub all_on : ℕ → List (List ℕ) → List Standing
+all_on line ts = map (λ t. record { text = t; line = line }) ts
+
+-- the line behind a text, where it begins on line n
+abbrev pub line_from : ℕ → List ℕ → ℕ
+line_from n t = n + count_by is_line_feed t
+
+-- the tokens that are written of turns whose text begins on line n, each on the line that it has there; the last turn has none
+abbrev pub written_from : ℕ → List Written → List Standing
+written_from n [] = []
+written_from n (t ∷ []) = all_on n (supplied t.supply)
+written_from n (t ∷ u ∷ us) = all_on n (supplied t.supply) ++ (all_on (line_from n t.gap) (kept t.form t.token) ++ written_from (line_from n (source t)) (u ∷ us))
+
+-- the tokens of what becomes of a text, as they were before, each on the line where what becomes of it is written; the last has none
+abbrev pub shown_from : ℕ → List Exchange → List Standing
+shown_from n [] = []
+shown_from n (c ∷ []) = []
+shown_from n (c ∷ d ∷ ds) = record { text = c.token; line = line_from n c.gap } ∷ shown_from (line_from n (respelled_one c)) (d ∷ ds)
+
+abbrev pub standing : List Word → List Standing
+standing ts = map (λ w. record { text = w.text; line = w.line }) ts
 
 abbrev pub texts : List Word → List (List ℕ)
 texts ts = map (λ w. w.text) ts
@@ -134,8 +143,13 @@ pub record AreKept (text : List ℕ) (ts : List Word) : Type 0 where
   pub are_cut : IsCut text ts
   pub all_kept : has_left_out ts ≡ false
 
--- what is written of a text has the tokens that are written
+-- what is written of a text is cut into the tokens that are written, each on the line that it has in the text
 pub record IsCutAgain (text : List ℕ) : Type 0 where
   pub cut : List Word
   pub are_cut : IsCut (spelled (turns text)) cut
-  pub as_written : texts cut ≡ written_tokens (turns text)
+  pub as_written : standing cut ≡ written_from 1 (turns text)
+
+-- the tokens of what is prepared, as they were before some become others, are those that are written of a text with its lines where its marks
+-- say, each on the line that it has there
+abbrev pub TokensStay : List ℕ → Type 0
+TokensStay text = has_tokens_alone (lined text) ≡ true → shown_from 1 (exchanges (turns (separated text))) ≡ written_from 1 (turns (lined text))

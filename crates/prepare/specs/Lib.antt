@@ -14,4 +14,8 @@ pub mod Mark
 pub mod Standing
 pub mod Marks
 pub mod Numbering
+pub mod OwnLines
+pub mod Strings
+pub mod Blocks
+pub mod Separators
 pub mod Laws

@@ -3,15 +3,22 @@
 ghost use Rattle.std.specs.Prelude.{◌≡◌, ◌++◌, ◌∷◌, [], List, ℕ, true, false, All};
 ghost use Rattle.pml_token.specs.Word.{Word};
 ghost use Rattle.pml_lex.specs.Division.{line_behind, IsCut};
+ghost use Rattle.prepare.specs.declared.TheConstants.{MOST_BYTES, FORM_FEED};
+ghost use Rattle.prepare.specs.declared.marks.TheConstants.{MOST_LINE};
+ghost use Rattle.prepare.specs.declared.place.TheConstants.{MOST_DEPTH};
 ghost use Rattle.prepare.specs.Written.{Written};
 ghost use Rattle.prepare.specs.Turns.{turns};
-ghost use Rattle.prepare.specs.Spelling.{spelled};
+ghost use Rattle.prepare.specs.Spelling.{joined, spelled};
+ghost use Rattle.prepare.specs.Strings.{IsJoined};
+ghost use Rattle.prepare.specs.OwnLines.{OwnLinesStand, FirstLinesStand, HasNumbers};
 ghost use Rattle.prepare.specs.Numbering.{bare, numbered, lines_asked, has_mark};
-ghost use Rattle.prepare.specs.Coding.{has_character};
+ghost use Rattle.prepare.specs.Coding.{coded, has_character};
 ghost use Rattle.prepare.specs.Sizes.{declared};
 ghost use Rattle.prepare.specs.Changes.{exchanges};
 ghost use Rattle.prepare.specs.Ranges.{IsOfSize};
-ghost use Rattle.prepare.specs.Laws.{prepared, exchanged, has_change, HasNothingToMend, owns, sources, tokens, texts, is_unsupplied, has_no_skip, is_mended, BlanksAreBlocks, AreKept, IsCutAgain};
+ghost use Rattle.prepare.specs.Blocks.{BlanksAreBlocks};
+ghost use Rattle.prepare.specs.Separators.{SeparatorsEndStatements, SkipsAreLabelled};
+ghost use Rattle.prepare.specs.Laws.{prepared, exchanged, has_change, HasNothingToMend, owns, sources, tokens, texts, is_unsupplied, has_tokens_alone, is_mended, AreKept, TokensStay, IsCutAgain};
 
 /// What is prepared has as many lines as the marks of the text ask for.
 pub fn lines_are_those_asked()
@@ -53,9 +60,17 @@ pub fn tokens_are_those_cut()
     ensures { (text : List ℕ) (ts : List Word) → IsCut text ts → tokens (turns text) ≡ texts ts ++ [] ∷ [] }
 {}
 
-/// What is blanked are blocks: each begins with `never`, `ltl`, `trace` or `notrace`, and goes on to its last brace.
+/// What is blanked are the blocks, and nothing else is: each begins with `never`, `ltl`, `trace` or `notrace`, and ends with the brace that
+/// closes it, or with the text where none does.
 pub fn blanks_are_blocks()
-    ensures { (text : List ℕ) → BlanksAreBlocks false (turns text) }
+    ensures { (text : List ℕ) → BlanksAreBlocks (turns text) }
+{}
+
+/// A `;` is written only where a line ends, a statement may end before it and another begin behind it, within braces and in no other
+/// brackets; ` skip` only between a colon and what ends a sequence.
+pub fn what_is_written_divides_statements()
+    ensures separators { (text : List ℕ) → SeparatorsEndStatements (turns text) }
+    ensures skips { (text : List ℕ) → SkipsAreLabelled (turns text) }
 {}
 
 /// Where a text is cut into tokens of which none is left out, it has no block and no string over several lines: unless something is
@@ -64,9 +79,44 @@ pub fn what_is_cut_wants_separators_alone()
     ensures { (text : List ℕ) (ts : List Word) → AreKept text ts → is_unsupplied (turns text) ≡ true → is_mended text ≡ true }
 {}
 
-/// A text that is cut into tokens of which none is left out is cut again once its separators are written, into these tokens and the
-/// separators: each separator is a token of its own, and changes no other. This is of texts in which each label has a statement, and of
-/// what is written before tokens become others.
+/// Where a text is cut into tokens of which none is left out, it has such tokens alone as what is written is cut into.
+pub fn what_is_cut_has_tokens_alone()
+    ensures { (text : List ℕ) (ts : List Word) → AreKept text ts → has_tokens_alone text ≡ true }
+{}
+
+/// Of a text whose tokens outside blocks are such as the language has, what is written is cut again: into its tokens but for those of
+/// blocks, a string over several lines on one, and each `;` and `skip` that is written, each on the line that it has in the text.
 pub fn what_is_written_is_cut_again()
-    ensures { (text : List ℕ) (ts : List Word) → AreKept text ts → has_no_skip (turns text) ≡ true → IsCutAgain text }
+    ensures { (text : List ℕ) → has_tokens_alone text ≡ true → IsCutAgain text }
+{}
+
+/// What is prepared has the tokens that are written of the text with its lines where its marks say, in order, each on the line that it has
+/// there: a token of a subtype or of a `for` over an array becomes another on its line.
+pub fn tokens_stay_on_their_lines()
+    ensures { (text : List ℕ) → TokensStay text }
+{}
+
+/// Lines of the model's own file stand, once its marks have put them, from the line on that the mark before them gives, and line by line behind
+/// that; where more lines were written before it, behind these. Before the first mark they stand from line 1 on.
+pub fn own_lines_stand_where_marks_say()
+    ensures marked { (text : List ℕ) → OwnLinesStand (bare text) }
+    ensures first { (text : List ℕ) → FirstLinesStand (bare text) }
+{}
+
+/// Where numbers are written in place of character constants, all else stays, and each line.
+pub fn numbers_stand_for_characters()
+    ensures { (text : List ℕ) → HasNumbers text (coded text) }
+{}
+
+/// A string over several lines keeps its bytes but for its line feeds, and the backslashes that they belong to: the line feeds stand behind it.
+pub fn joined_strings_keep_their_bytes()
+    ensures { (string : List ℕ) → IsJoined string (joined string) }
+{}
+
+/// Each limit of preparing is this number, and so is the byte that ends a line of an included file.
+pub fn the_limits_are_these()
+    ensures bytes_of_a_text { MOST_BYTES ≡ 8388608 }
+    ensures line_of_a_mark { MOST_LINE ≡ 1048576 }
+    ensures open_brackets { MOST_DEPTH ≡ 1000000 }
+    ensures end_of_an_included_line { FORM_FEED ≡ 12 }
 {}

@@ -1,6 +1,6 @@
 //! Writes turns.
 
-ghost use Rattle.std.specs.Prelude.{◌≡◌, ◌++◌, map, IfOk, OnOk};
+ghost use Rattle.std.specs.Prelude.{◌≡◌, ◌++◌, [], false, map, IfOk, OnOk};
 ghost use Rattle.std.specs.List.{filter};
 ghost use Rattle.pml_lex.specs.Division.{is_line_feed};
 ghost use Rattle.prepare.specs.Places.{written};
@@ -31,22 +31,38 @@ pub(crate) fn add_blanks(out: &mut Vec<u8>, token: &[u8]) -> Result<(), AllocErr
     Ok(())
 }
 
-fn is_break(b: u8, rest: &[u8]) -> bool
-    ensures { result ≡ spelling.is_break b rest.now }
+fn is_break(is_escaped: bool, b: u8, rest: &[u8]) -> bool
+    ensures { result ≡ spelling.is_break is_escaped b rest.now }
 {
-    b == b'\n' || (b == b'\\' && matches!(rest, [b'\n', ..]))
+    b == b'\n' || (!is_escaped && (b == b'\\' && matches!(rest, [b'\n', ..])))
+}
+
+fn escapes(is_escaped: bool, b: u8) -> bool
+    ensures { result ≡ spelling.escapes is_escaped b }
+{
+    !is_escaped && b == b'\\'
+}
+
+/// Writes a byte of a string, if it stays.
+fn add_byte(out: &mut Vec<u8>, is_escaped: bool, b: u8, rest: &[u8]) -> Result<(), AllocError>
+    ensures { OnOk result (out.new.items ≡ out.old.items ++ spelling.unless_break (spelling.is_break is_escaped b rest.now) b []) }
+{
+    if !is_break(is_escaped, b, rest) {
+        out.push(b)?;
+    }
+    Ok(())
 }
 
 fn add_unbroken(out: &mut Vec<u8>, token: &[u8]) -> Result<(), AllocError>
-    ensures { OnOk result (out.new.items ≡ out.old.items ++ spelling.unbroken token.now) }
+    ensures { OnOk result (out.new.items ≡ out.old.items ++ spelling.unbroken false token.now) }
 {
     let mut at = 0;
+    let mut is_escaped = false;
     while at < token.len() {
         let b = token[at];
         at += 1;
-        if !is_break(b, &token[at..]) {
-            out.push(b)?;
-        }
+        add_byte(out, is_escaped, b, &token[at..])?;
+        is_escaped = escapes(is_escaped, b);
     }
     Ok(())
 }
@@ -76,20 +92,21 @@ fn add_token(out: &mut Vec<u8>, form: Form, token: &[u8]) -> Result<(), AllocErr
     }
 }
 
-fn add_supply(out: &mut Vec<u8>, supply: Supply) -> Result<(), AllocError>
-    ensures { OnOk result (out.new.items ≡ out.old.items ++ written supply) }
+/// Writes what is supplied before a gap: behind `skip` a blank, where the gap is none.
+fn add_supply(out: &mut Vec<u8>, supply: Supply, gap: &[u8]) -> Result<(), AllocError>
+    ensures { OnOk result (out.new.items ≡ out.old.items ++ (written supply ++ spelling.divider supply gap.now)) }
 {
     match supply {
         Supply::Nothing => Ok(()),
         Supply::Separator => out.extend_from_slice(b";"),
-        Supply::Skip => out.extend_from_slice(b" skip"),
+        Supply::Skip => out.extend_from_slice(if gap.is_empty() { b" skip " } else { b" skip" }),
     }
 }
 
 fn add_turn(out: &mut Vec<u8>, turn: &Turn<'_>) -> Result<(), AllocError>
     ensures { OnOk result (out.new.items ≡ out.old.items ++ spelling.spelled_turn turn.now) }
 {
-    add_supply(out, turn.supply())?;
+    add_supply(out, turn.supply(), turn.gap())?;
     out.extend_from_slice(turn.gap())?;
     add_token(out, turn.form(), turn.token())
 }

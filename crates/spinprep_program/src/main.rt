@@ -3,62 +3,20 @@
 
 mod kinds;
 mod lines;
+mod over;
 mod report;
 mod shown;
+mod stop;
 
 use lines::lines_of;
-use prepare::MOST_BYTES;
-use prepare::changes::{exchanges, respelled};
-use prepare::coding::coded;
-use prepare::numbering::numbered;
-use prepare::spelling::spelled;
-use prepare::turns::turns;
-use report::Report;
+use over::prepare_over;
 use shown::shown_name;
 use std::alloc::{AllocError, Global};
-use std::fs::{File, OpenFile};
-use std::io::{Read, Write};
+use std::fs::File;
+use std::io::Write;
 use std::process::ExitCode;
 use std::{env, fs, io};
-
-// At most so many bytes of a text are read: one more than it may have.
-const MOST_READ: u64 = MOST_BYTES as u64 + 1;
-
-const HELP: &str = "Prepares the text of a Promela model, as cpp leaves it, for spinplay.
-
-usage: spinprep-text [--strict] [--name=NAME] [--lines=TABLE] FILE
-
-Writes a text with the same lines as the model's own file: blanks in place of ltl, never, trace, notrace and subtypes of mtype,
-the range of a for over an array, and the separators that the ends of lines stand for. What is blanked and what is left as it is
-stands on standard error, with its lines.
-bin/spinprep runs cpp and then this, and with --play bin/spinplay on what comes out.
-
-  --strict      ends with status 1 where something is left that spinplay does not play
-  --name=NAME   calls the file NAME in what is said
-  --lines=TABLE writes to the file TABLE where the lines of included files stand, for spinplay --lines
-  --help        says this
-
-Exit statuses: 0 prepared; 1 something is left (--strict); 3 the text has more than 8388608 bytes; 4 wrong words, or a file that
-cannot be opened or read; 6 a device or memory failed.
-";
-
-// Why nothing is prepared.
-#[derive(Drop)]
-enum Stop {
-    Help,
-    Words,
-    CannotOpen(String),
-    CannotRead(String),
-    TooLong,
-    Device,
-    Memory,
-}
-
-impl From<AllocError> for Stop {
-    fn from(_error: AllocError) -> Stop {
-        Stop::Memory
-    }
-}
+use stop::{Stop, status_of, tell_stop};
 
 // What is asked for.
 #[derive(Drop)]
@@ -123,16 +81,6 @@ fn opened(rt: &HostRuntime, name: &str) -> Result<File, Stop> {
     }
 }
 
-fn text_of(rt: &HostRuntime, name: &str) -> Result<Vec<u8>, Stop> {
-    let file = opened(rt, name)?;
-    let mut text = Vec::new(rt.alloc());
-    match file.take(MOST_READ).read_to_end(&mut text) {
-        Ok(_) => Ok(text),
-        Err(error) if error.kind() == io::ErrorKind::OutOfMemory => Err(Stop::Memory),
-        Err(_) => Err(Stop::CannotRead(String::from_str(rt.alloc(), name)?)),
-    }
-}
-
 // What the file is called in what is said.
 fn name_of(rt: &HostRuntime, asked: &Asked) -> Result<String, AllocError> {
     let name = match &asked.name {
@@ -140,63 +88,6 @@ fn name_of(rt: &HostRuntime, asked: &Asked) -> Result<String, AllocError> {
         None => asked.file.as_str(),
     };
     shown_name(rt.alloc(), name)
-}
-
-// What is made of a text by its ends of lines and its blocks, of which the report hears.
-fn separated<'t>(
-    alloc: Global,
-    text: &'t [u8],
-    report: &mut Report<'t>,
-) -> Result<Vec<u8>, AllocError> {
-    let turns = turns(alloc, text)?;
-    for turn in &turns {
-        report.turn(turn);
-    }
-    report.again();
-    spelled(alloc, &turns)
-}
-
-// What is made of it then by its subtypes and its loops over arrays.
-fn exchanged<'t>(
-    alloc: Global,
-    text: &'t [u8],
-    report: &mut Report<'t>,
-) -> Result<Vec<u8>, AllocError> {
-    let tokens = turns(alloc, text)?;
-    let exchanges = exchanges(alloc, &tokens)?;
-    drop(tokens);
-    for exchange in &exchanges {
-        report.exchange(exchange);
-    }
-    respelled(alloc, &exchanges)
-}
-
-// Writes what is made of a text with its separators, and answers whether something is left.
-fn written<'t>(
-    rt: &HostRuntime,
-    text: &'t [u8],
-    report: Report<'t>,
-    name: &str,
-) -> Result<bool, Stop> {
-    let mut report = report;
-    let output = exchanged(rt.alloc(), text, &mut report)?;
-    let mut out = rt.stdout();
-    if out.write_all(&output).is_err() || out.flush().is_err() {
-        return Err(Stop::Device);
-    }
-    Ok(report.end(rt, name))
-}
-
-// Writes what is prepared of the text of this name, and answers whether something is left.
-fn prepared(rt: &HostRuntime, text: &[u8], name: &str) -> Result<bool, Stop> {
-    if text.len() > MOST_BYTES {
-        return Err(Stop::TooLong);
-    }
-    let lines = numbered(rt.alloc(), text)?;
-    let numbers = coded(rt.alloc(), &lines)?;
-    let mut report = Report::new(rt.alloc());
-    let separated = separated(rt.alloc(), &numbers, &mut report)?;
-    written(rt, &separated, report, name)
 }
 
 // Writes where the lines of included files stand in what is prepared of the text.
@@ -216,46 +107,14 @@ fn write_lines(rt: &HostRuntime, text: &[u8], name: &str) -> Result<(), Stop> {
 
 fn run(rt: &HostRuntime) -> Result<u8, Stop> {
     let asked = asked_of(rt)?;
-    let text = text_of(rt, asked.file.as_str())?;
+    let file = asked.file.as_str();
+    let reader = opened(rt, file)?;
     let name = name_of(rt, &asked)?;
-    let is_left = prepared(rt, &text, name.as_str())?;
+    let done = prepare_over(rt, file, name.as_str(), reader, &mut rt.stdout())?;
     if let Some(table) = &asked.lines {
-        write_lines(rt, &text, table.as_str())?;
+        write_lines(rt, &done.text, table.as_str())?;
     }
-    Ok(u8::from(asked.is_strict && is_left))
-}
-
-// Shows why nothing is prepared, and answers the status. A message that cannot be shown is left out.
-fn tell_stop(rt: &HostRuntime, stop: Stop) -> u8 {
-    match stop {
-        Stop::Help => { if print!(rt; "{HELP}").is_ok() { 0 } else { 6 } }
-        Stop::Words => {
-            let _ = eprintln!(rt;
-                "usage: spinprep-text [--strict] [--name=NAME] [--lines=TABLE] FILE"
-            );
-            4
-        }
-        Stop::CannotOpen(name) => {
-            let _ = eprintln!(rt; "spinprep: cannot open {name}");
-            4
-        }
-        Stop::CannotRead(name) => {
-            let _ = eprintln!(rt; "spinprep: cannot read {name}");
-            4
-        }
-        Stop::TooLong => {
-            let _ = eprintln!(rt; "spinprep: the text has more than {MOST_BYTES} bytes");
-            3
-        }
-        Stop::Device => {
-            let _ = eprintln!(rt; "spinprep: device failed");
-            6
-        }
-        Stop::Memory => {
-            let _ = eprintln!(rt; "spinprep: out of memory");
-            6
-        }
-    }
+    Ok(status_of(asked.is_strict, done.is_left))
 }
 
 fn main(rt: HostRuntime) -> ExitCode {

@@ -1,0 +1,27 @@
+-- What is prepared over a reader of a text and a writer.
+use Rattle.std.specs.Prelude.{◌≡◌, ◌≤◌, ℕ, List, ◌++◌, Option, None, Some, IfSome, length}
+use Rattle.std.specs.Io.KnownBytes.{Appends}
+use Rattle.prepare.specs.declared.TheConstants.{MOST_BYTES}
+use Rattle.prepare.specs.Laws.{prepared}
+
+-- The text is all that the reader gives, and has no more bytes than it may. What is known of the writer has grown by just what is prepared of it.
+pub record PreparesOver (given before after : Option (List ℕ)) (text : List ℕ) : Type 0 where
+  pub read : IfSome given (λ bytes. text ≡ bytes)
+  pub short : length text ≤ MOST_BYTES
+  pub written : Appends before after (prepared text)
+
+-- how many bytes are told to be taken
+abbrev pub count : Option ℕ → ℕ
+count None = 0
+count (Some n) = n
+
+-- known bytes have grown by a beginning of these
+pub record IsBegun (before after : Option (List ℕ)) (bytes : List ℕ) : Type 0 where
+  pub front : List ℕ
+  pub back : List ℕ
+  pub joins : bytes ≡ front ++ back
+  pub taken : Appends before after front
+
+-- What is known of the writer has grown by a beginning of what is prepared of what the reader gives.
+abbrev pub BreaksOver : Option (List ℕ) → Option (List ℕ) → Option (List ℕ) → Type 0
+BreaksOver given before after = IfSome given (λ bytes. IsBegun before after (prepared bytes))
