@@ -1,0 +1,3 @@
+pub mod OneRecord
+pub mod OneRun
+pub mod Origins

@@ -1,0 +1,31 @@
+-- Where the moves of a run come from, by their texts.
+use Rattle.std.specs.Prelude.{◌≡◌, ℕ, Bool, List, ◌++◌, codes}
+use Rattle.std.specs.Fmt.{decimal}
+use Rattle.std.specs.List.{Contains}
+use Rattle.pml_moves.specs.declared.moves.Move.{Move}
+use Rattle.pml_moves.specs.State.{State}
+use Rattle.pml_texts.specs.Texts.{origin_of, move_text}
+use Rattle.pml_sim.specs.Origins.{IsThere}
+use Rattle.pml_sim.specs.World.{Running, rules}
+use Rattle.pml_play.specs.Shown.{PathLeads}
+use Rattle.pml_play.specs.Transcript.{IsModel}
+
+-- `proc P (NAME) line L [`, and more: behind the digits of the line stands ` [`
+pub record NamesPlace (place : ℕ × ℕ) (text : List ℕ) : Type 0 where
+  pub name : List ℕ
+  pub more : List ℕ
+  pub is : text ≡ codes "proc " ++ (decimal place.0 ++ (codes " (" ++ (name ++ (codes ") line " ++ (decimal place.1 ++ (codes " [" ++ more))))))
+
+-- the text of a move of a statement that is there names its process and its line
+abbrev pub TextsNamePlaces : Type 0
+TextsNamePlaces = (s : State) (m : Move) → IsThere s m → NamesPlace (origin_of s m) (move_text s m)
+
+-- the move's statement is there, and its text names its process and its line
+pub record HasOrigin (w : Running) (m : Move) : Type 0 where
+  pub there : IsThere w.state m
+  pub names : NamesPlace (rules.origin w m) (rules.text w m)
+
+-- in each state that a path of a text's model leads to each move that is listed has its origin
+abbrev pub ListedMovesHaveOrigins : Type 0
+ListedMovesHaveOrigins = (text : List ℕ) (lossy : Bool) (model state : Running) → IsModel text lossy model → PathLeads rules model state
+    → (m : Move) → Contains (rules.moves state) m → HasOrigin state m
