@@ -5,3 +5,4 @@ pub mod Running
 pub mod Fitting
 pub mod Standing
 pub mod Naming
+pub mod Samples
