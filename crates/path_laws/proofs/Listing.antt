@@ -62,7 +62,7 @@ module _ (s : State) (t : Bool) (k : Pick) (m : Message) where
   pairs_apart = each_apart receiver (pairs_with s t k m) (λ j y. pairs_with_is (Each (λ n. receiver n ≡ j)) tt j (pairs_on_hold (λ n. receiver n ≡ j) j (λ q e. e)) y)
       (λ j y. pairs_with_is Apart tt j (pairs_on_apart j) y) 0 s.stands
 
-pub any_hold : (P : Move → Type 0) (s : State) (t : Bool) (k : Pick) → ((q : Pick) → P (Pair k q t)) → (m : Option Message) → Each P (pairs s t k m)
+any_hold : (P : Move → Type 0) (s : State) (t : Bool) (k : Pick) → ((q : Pick) → P (Pair k q t)) → (m : Option Message) → Each P (pairs s t k m)
 any_hold P s t k so None = tt
 any_hold P s t k so (Some m) = pairs_hold s t k m P so
 

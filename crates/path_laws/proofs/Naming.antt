@@ -17,16 +17,15 @@ use Rattle.pml_moves.specs.declared.moves.Pick.{Pick}
 use Rattle.pml_moves.specs.declared.moves.Move.{Move}
 use Rattle.pml_moves.specs.declared.moves.Move.TheVariants.{Death, Alone, Pair}
 use Rattle.pml_moves.specs.State.{Stand, State, reads, body_of, levels, levels_in}
-use Rattle.pml_moves.specs.Search.{or_else, each, last, only_if, is_else, can_alone, message, pick, pairs, moves_by, plain_moves, else_moves, moves_on, moves_of, moves_at, moves_under, moves_if, moves_held, moves}
+use Rattle.pml_moves.specs.Search.{or_else, each, last, only_if, is_else, can_alone, Message, message, accepts, pick, pairs_on, pairs_with, pairs, moves_by, plain_moves, else_moves, moves_on, moves_of, moves_at, moves_under, moves_if, moves_held, moves}
 use Rattle.pml_moves.specs.Laws.{Each}
 use Rattle.pml_moves.specs.Picked.{offer_on, offer_at, picked}
 use Rattle.pml_texts.specs.Texts.{kind_of, proctype_of, heading, offer_text, pick_text, death_text, line_in, brace_of}
 use Rattle.pml_sim.specs.declared.halt.Halt.{Halt}
 use Rattle.pml_sim.specs.Origins.{IsOffered, IsThere}
 use Rattle.pml_sim.specs.World.{unless_stopped}
-use Rattle.path_laws.specs.Origins.{NamesPlace, TextsNamePlaces, ListedMovesHaveOrigins}
+use Rattle.path_laws.specs.Origins.{NamesPlace, NamesReceiver, TextsNamePlaces, ListedMovesHaveOrigins}
 use Rattle.path_laws.proofs.Apart.{or_holds, only_holds}
-use Rattle.path_laws.proofs.Listing.{any_hold}
 use Rattle.path_laws.proofs.Standing.{IsFitStand, IsFitState, IsFitOffer, all_got, inside_fits, reached_fits}
 
 -- ---- what an offer says
@@ -154,9 +153,23 @@ element P (n ∷ ns) (suc k) m h l e = element P ns k m h.1 (omega (arith, l)) e
 
 -- ---- listed moves are there
 
+-- the statement of the receiver of a pair is there
+abbrev ReceiverIsThere : State → Move → Type 0
+ReceiverIsThere s (Death p) = Unit {0}
+ReceiverIsThere s (Alone k t) = Unit {0}
+ReceiverIsThere s (Pair k j t) = IsOffered (picked s j)
+
+abbrev AreThere : State → Move → Type 0
+AreThere s m = IsThere s m × ReceiverIsThere s m
+
+receiver_names : (s : State) (m : Move) → ReceiverIsThere s m → NamesReceiver s m
+receiver_names s (Death p) there = tt
+receiver_names s (Alone k t) there = tt
+receiver_names s (Pair k j t) there = pick_names s j there
+
 module _ (s : State) (fit : IsFitState s) where
   abbrev AllThere : List Move → Type 0
-  AllThere = Each (IsThere s)
+  AllThere = Each (AreThere s)
 
   module _ (p : ℕ) (y : Stand) (stands : slice_get s.stands p ≡ Some y) where
     f : IsFitStand s.program y
@@ -169,38 +182,51 @@ module _ (s : State) (fit : IsFitState s) where
         all_got (IsFitOffer f.body) os i o (all_got (AllByRecursion (IsFitOffer f.body)) (levels_in (body_of s.program y.kind) y.control) l os (inside_fits s.program y f) level) place in
         subst IsOffered (sym is) fits.1
 
-    dies : IsThere s (Death p)
-    dies = subst (λ (o : Option Stand). IsSome (kind_of s.program o)) (sym stands) (by (slice_get s.program.proctypes y.kind) f.is)
+    dies : AreThere s (Death p)
+    dies = (subst (λ (o : Option Stand). IsSome (kind_of s.program o)) (sym stands) (by (slice_get s.program.proctypes y.kind) f.is), tt)
       where
         by : (q : Option Proctype) → option_map (λ (r : Proctype). r.body) q ≡ Some f.body → IsSome q
         by None e = cc
         by (Some q) e = refl
 
+  -- both statements of each pair are there, where the sender's is
+  pairs_there : (t : Bool) (k : Pick) → IsOffered (picked s k) → (m : Option Message) → AllThere (pairs s t k m)
+  pairs_there t k sends None = tt
+  pairs_there t k sends (Some m) = each_at (AreThere s) (pairs_with s t k m) s.stands (λ j y e. with_process j y e (nat_eq j k.process))
+    where
+      with_process : (j : ℕ) (y : Stand) → slice_get s.stands j ≡ Some y → (same : Bool) → AllThere (if same then [] else last (pairs_on s t k m j) 0 (levels_in (body_of s.program y.kind) y.control))
+      with_process j y e true = tt
+      with_process j y e false = last_at (AreThere s) (pairs_on s t k m j) (levels_in (body_of s.program y.kind) y.control) (λ l os level.
+          each_at (AreThere s) (λ i o. only_if (accepts s.channels (reads s j t) m o.basic) (Pair k (pick j l i) t)) os (λ i o place.
+          only_holds (AreThere s) (accepts s.channels (reads s j t) m o.basic) (Pair k (pick j l i) t) (sends, offered j y e l os level i o place)))
+
+  module _ (p : ℕ) (y : Stand) (stands : slice_get s.stands p ≡ Some y) where
     on_level : (t : Bool) (b : Seq) (l : ℕ) (os : List Offer) → slice_get (levels_in (body_of s.program y.kind) y.control) l ≡ Some os → AllThere (moves_on s p t b l os)
     on_level t b l os level =
         or_holds AllThere (plain_moves s p t b l os) (else_moves p t l os)
-        (each_at (IsThere s) (λ i o. if is_else o.basic then [] else moves_by s p t b l i o) os (λ i o e. plain i o (offered l os level i o e)))
-        (each_at (IsThere s) (λ i o. only_if (is_else o.basic) (Alone (pick p l i) t)) os (λ i o e. only_holds (IsThere s) (is_else o.basic) (Alone (pick p l i) t) (offered l os level i o e)))
+        (each_at (AreThere s) (λ i o. if is_else o.basic then [] else moves_by s p t b l i o) os (λ i o e. plain i o (offered p y stands l os level i o e)))
+        (each_at (AreThere s) (λ i o. only_if (is_else o.basic) (Alone (pick p l i) t)) os
+        (λ i o e. only_holds (AreThere s) (is_else o.basic) (Alone (pick p l i) t) (offered p y stands l os level i o e, tt)))
       where
         plain : (i : ℕ) (o : Offer) → IsOffered (picked s (pick p l i)) → AllThere (if is_else o.basic then [] else moves_by s p t b l i o)
         plain i o there = by (is_else o.basic) (can_alone s.lossy s.channels (reads s p t) b o o.basic)
           where
             by : (other can : Bool) → AllThere (if other then [] else (if can then Alone (pick p l i) t ∷ [] else pairs s t (pick p l i) (message s.channels (reads s p t) o.basic)))
             by true can = tt
-            by false true = (there, tt)
-            by false false = any_hold (IsThere s) s t (pick p l i) (λ q. there) (message s.channels (reads s p t) o.basic)
+            by false true = ((there, tt), tt)
+            by false false = pairs_there t (pick p l i) there (message s.channels (reads s p t) o.basic)
 
     at_process : (t : Bool) → AllThere (moves_at s p t y)
     at_process t = by (body_of s.program y.kind) refl y.control refl
       where
         by : (b : Option Seq) → body_of s.program y.kind ≡ b → (c : Control) → y.control ≡ c → AllThere (moves_of s p t b c)
-        by b e [] k = only_holds (IsThere s) (nat_eq (p + 1) (length s.stands)) (Death p) dies
+        by b e [] k = only_holds (AreThere s) (nat_eq (p + 1) (length s.stands)) (Death p) (dies p y stands)
         by None e (x ∷ c) k = tt
-        by (Some b) e (x ∷ c) k = last_at (IsThere s) (moves_on s p t b) (levels b (x ∷ c)) (λ l os at.
+        by (Some b) e (x ∷ c) k = last_at (AreThere s) (moves_on s p t b) (levels b (x ∷ c)) (λ l os at.
             on_level t b l os (ap (λ (o : Option Seq). slice_get (levels_in o y.control) l) e ∙ ap (λ (d : Control). slice_get (levels b d) l) k ∙ at))
 
   under_there : (t : Bool) → AllThere (moves_under s t)
-  under_there t = each_at (IsThere s) (λ p y. moves_at s p t y) s.stands (λ p y e. at_process p y e t)
+  under_there t = each_at (AreThere s) (λ p y. moves_at s p t y) s.stands (λ p y e. at_process p y e t)
 
   held_there : (h : Option ℕ) → AllThere (moves_held s h)
   held_there None = tt
@@ -216,9 +242,9 @@ module _ (s : State) (fit : IsFitState s) where
 
 pub listed_moves_have_origins : ListedMovesHaveOrigins
 listed_moves_have_origins text lossy model state is leads m listed =
-    let there : IsThere state.state m = by state.halt listed in
-    record { there = there; names = texts_name_places state.state m there }
+    let there : AreThere state.state m = by state.halt listed in
+    record { there = there.0; names = texts_name_places state.state m there.0; receiver = receiver_names state.state m there.1 }
   where
-    by : (h : Option Halt) → Contains (unless_stopped h (moves state.state)) m → IsThere state.state m
-    by None c = element (IsThere state.state) (moves state.state) c.0 m (all_there state.state (reached_fits text lossy model state is leads)) c.1 c.2
+    by : (h : Option Halt) → Contains (unless_stopped h (moves state.state)) m → AreThere state.state m
+    by None c = element (AreThere state.state) (moves state.state) c.0 m (all_there state.state (reached_fits text lossy model state is leads)) c.1 c.2
     by (Some h) c = absurd (omega (arith, c.1))

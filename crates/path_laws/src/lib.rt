@@ -35,7 +35,7 @@ pub fn runs_and_records_are_one_to_one()
 {}
 
 /// The text of a move whose statement is there names its process and its line, and behind the line's digits stands ` [`. In each state that a path of a
-/// text's model leads to, each move that is listed is of a statement that is there, so its text names where it comes from.
+/// text's model leads to, each move that is listed is of a statement that is there, so its text names where it comes from, of a pair for both processes.
 pub fn listed_moves_have_origins()
     ensures names { TextsNamePlaces }
     ensures listed { ListedMovesHaveOrigins }
