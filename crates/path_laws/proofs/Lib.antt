@@ -3,6 +3,7 @@ pub mod Listing
 pub mod Numbering
 pub mod Running
 pub mod Fitting
+pub mod Growing
 pub mod Standing
 pub mod Naming
 pub mod Samples

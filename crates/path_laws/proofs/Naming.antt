@@ -26,7 +26,8 @@ use Rattle.pml_sim.specs.Origins.{IsOffered, IsThere}
 use Rattle.pml_sim.specs.World.{unless_stopped}
 use Rattle.path_laws.specs.Origins.{NamesPlace, NamesReceiver, TextsNamePlaces, ListedMovesHaveOrigins}
 use Rattle.path_laws.proofs.Apart.{or_holds, only_holds}
-use Rattle.path_laws.proofs.Standing.{IsFitStand, IsFitState, IsFitOffer, all_got, inside_fits, reached_fits}
+use Rattle.path_laws.proofs.Growing.{IsFitStand, IsFitState, all_got}
+use Rattle.path_laws.proofs.Standing.{IsFitOffer, inside_fits, reached_fits}
 
 -- ---- what an offer says
 
