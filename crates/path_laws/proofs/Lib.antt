@@ -7,3 +7,4 @@ pub mod Growing
 pub mod Standing
 pub mod Naming
 pub mod Samples
+pub mod GoingOn

@@ -5,6 +5,7 @@ ghost use Rattle.pml_moves.specs.Search.{moves};
 ghost use Rattle.pml_moves.specs.State.{State};
 ghost use Rattle.pml_play.specs.Run.{OfEachSession};
 ghost use Rattle.pml_sim.specs.World.{rules};
+ghost use Rattle.path_laws.specs.GoesOn.{PathsGoOnByMoves};
 ghost use Rattle.path_laws.specs.OneRecord.{PathsAndRecordsAreOneToOne, PathsHaveOneRecord, StandOnce, ListsOnce};
 ghost use Rattle.path_laws.specs.Origins.{ListedMovesHaveOrigins, TextsNamePlaces};
 ghost use Rattle.path_laws.specs.OneRun.{EachHasOneRun, RunsAndRecordsAreOneToOne, SessionsAreTold};
@@ -39,4 +40,9 @@ pub fn runs_and_records_are_one_to_one()
 pub fn listed_moves_have_origins()
     ensures names { TextsNamePlaces }
     ensures listed { ListedMovesHaveOrigins }
+{}
+
+/// The moves that are listed in a state are those by which paths go on from it: what is searched for and what is run are the same.
+pub fn paths_go_on_by_listed_moves<M: Machine>()
+    ensures { PathsGoOnByMoves M.rules }
 {}
