@@ -1,2 +1,3 @@
 pub mod Deriving
 pub mod Expanding
+pub mod Defining

@@ -1,6 +1,7 @@
 //! What comes of calls of inlines and of whole texts, by rules. Nothing here is run.
 #![tactic(auto)]
 
+ghost use Rattle.inline_laws.specs.Defined.{DefinitionsAreAsWritten};
 ghost use Rattle.inline_laws.specs.Derived.{DerivedAreAnswered, AnswersAreDerived};
 ghost use Rattle.inline_laws.specs.Expanded.{DerivedAreExpansions, ExpansionsAreDerived};
 
@@ -20,4 +21,9 @@ pub fn nothing_else_is_derived()
 pub fn expansions_are_derived()
     ensures forth { ExpansionsAreDerived }
     ensures back { DerivedAreExpansions }
+{}
+
+/// The tokens behind a word `inline` are a definition exactly where they begin with a name, parameters in parentheses and a body in braces, by rules.
+pub fn definitions_are_as_written()
+    ensures { DefinitionsAreAsWritten }
 {}
