@@ -15,7 +15,7 @@ passing known call [] (suc n) = refl
 passing known call (w ∷ ws) (suc n) = passing known call ws n
 
 -- a call that is right is what comes of its body
-call_right : (known : List Inline) (room : ℕ) (active : List (List ℕ)) (d : Inline) (n : ℕ) (ws : List Word) → IsRight active d n ws
+pub call_right : (known : List Inline) (room : ℕ) (active : List (List ℕ)) (d : Inline) (n : ℕ) (ws : List Word) → IsRight active d n ws
     → calling known (suc room) active d (inside n ws) ≡ join (counted (body_of d n ws)) (answered known room (active ++ d.name ∷ []) (body_of d n ws))
 unfolding calling
 call_right known room active d n ws right =
@@ -45,14 +45,14 @@ are_answered known room active ts us c (is_replaced {room = room'} {w = w} {ws =
 
 -- ---- what is answered is derived
 
-some_is : (x g : Given) → Some x ≡ Some g → x ≡ g
+pub some_is : (x g : Given) → Some x ≡ Some g → x ≡ g
 some_is x g h = cc
 
-not_some : (g : Given) → None ≡ Some g → ⊥
+pub not_some : (g : Given) → None ≡ Some g → ⊥
 not_some g h = cc
 
 -- what is answered of a call comes of its body
-abbrev Replaced : List Inline → ℕ → List (List ℕ) → Inline → ℕ → List Word → Given → Type 0
+abbrev pub Replaced : List Inline → ℕ → List (List ℕ) → Inline → ℕ → List Word → Given → Type 0
 Replaced known zero active d n ws g = ⊥
 Replaced known (suc room) active d n ws g = IsRight active d n ws × ((a : ℕ) × Comes known room (active ++ d.name ∷ []) (body_of d n ws) g.tokens a × (g.count ≡ length (body_of d n ws) + a))
 
@@ -70,7 +70,7 @@ module _ (known : List Inline) (room : ℕ) (active : List (List ℕ))
       let same : 0 + x.count ≡ x.count = omega arith in
       subst (λ (y : Given). Comes known room active (w ∷ ws) y.tokens y.count) is (subst (λ (k : ℕ). Comes known room active (w ∷ ws) (w ∷ x.tokens) k) (sym same) (stays none (rest x refl)))
 
-join_parts : (p q : Option Given) (g : Given) → join p q ≡ Some g → (x : Given) × (y : Given) × (p ≡ Some x) × (q ≡ Some y) × (g ≡ record { tokens = x.tokens ++ y.tokens; count = x.count + y.count })
+pub join_parts : (p q : Option Given) (g : Given) → join p q ≡ Some g → (x : Given) × (y : Given) × (p ≡ Some x) × (q ≡ Some y) × (g ≡ record { tokens = x.tokens ++ y.tokens; count = x.count + y.count })
 join_parts None q g h = absurd (not_some g h)
 join_parts (Some a) None g h = absurd (not_some g h)
 join_parts (Some a) (Some b) g h = (a, b, refl, refl, sym (some_is _ g h))
@@ -109,7 +109,7 @@ module _ (known : List Inline) (room : ℕ) (active : List (List ℕ))
   read (w ∷ ws) zero g h = at_token w ws g (callee known w ws) refl (read ws) h
 
 -- a call that is answered is right, and what is answered comes of its body
-call_is_right : (known : List Inline) (room : ℕ) (active : List (List ℕ)) (d : Inline) (n : ℕ) (ws : List Word) (g : Given)
+pub call_is_right : (known : List Inline) (room : ℕ) (active : List (List ℕ)) (d : Inline) (n : ℕ) (ws : List Word) (g : Given)
     → ((g' : Given) → answered known room (active ++ d.name ∷ []) (body_of d n ws) ≡ Some g' → Comes known room (active ++ d.name ∷ []) (body_of d n ws) g'.tokens g'.count)
     → calling known (suc room) active d (inside n ws) ≡ Some g → Replaced known (suc room) active d n ws g
 unfolding calling

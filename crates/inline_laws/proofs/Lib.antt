@@ -1,1 +1,3 @@
 pub mod Deriving
+pub mod Expanding
+pub mod Defining

@@ -1,1 +1,3 @@
 pub mod Derived
+pub mod Expanded
+pub mod Defined

@@ -1,7 +1,9 @@
-//! What comes of calls of inlines, by rules. Nothing here is run.
+//! What comes of calls of inlines and of whole texts, by rules. Nothing here is run.
 #![tactic(auto)]
 
+ghost use Rattle.inline_laws.specs.Defined.{DefinitionsAreAsWritten};
 ghost use Rattle.inline_laws.specs.Derived.{DerivedAreAnswered, AnswersAreDerived};
+ghost use Rattle.inline_laws.specs.Expanded.{DerivedAreExpansions, ExpansionsAreDerived};
 
 /// What comes of tokens in which calls are replaced is derived by the rules: a token stays, and a call is replaced by what comes of the
 /// inline's body with the arguments for its parameters, read again within the call.
@@ -12,4 +14,16 @@ pub fn replacements_are_derived()
 /// Nothing else is derived by the rules: what they derive of tokens is what comes of them.
 pub fn nothing_else_is_derived()
     ensures { DerivedAreAnswered }
+{}
+
+/// The whole of what comes of a text's tokens is what rules derive, and no other: a token stays, a call outside all others is replaced as above, and a
+/// definition outside all braces is taken out and known from there on; no name is defined twice, and the replacements are not too many.
+pub fn expansions_are_derived()
+    ensures forth { ExpansionsAreDerived }
+    ensures back { DerivedAreExpansions }
+{}
+
+/// The tokens behind a word `inline` are a definition exactly where they begin with a name, parameters in parentheses and a body in braces, by rules.
+pub fn definitions_are_as_written()
+    ensures { DefinitionsAreAsWritten }
 {}

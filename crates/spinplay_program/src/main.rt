@@ -1,6 +1,11 @@
 // Reads the words, opens the files, plays and ends with a status.
 #![tactic(auto)]
 
+ghost use Rattle.std.specs.Prelude.{IfOk};
+ghost use Rattle.std.specs.Process.{exit_status};
+ghost use Rattle.streams.specs.Streams.{EndsOver, known};
+ghost use Rattle.spinplay_program.specs.Ended.{HasPlayed, HasPlayedText, IsAskedFor, IsEnd, IsStatus, IsStatusOf};
+
 mod files;
 mod misfits;
 mod stop;
@@ -9,11 +14,13 @@ mod telling;
 use files::{Input, Model, choices_of, created, model_of, others_of};
 use misfits::explain_choices;
 use spinplay::{Arguments, End, Followed, Heard, Played, Streams, arguments, session_over};
+use std::alloc::Global;
 use std::fs::{File, OpenFile};
+use std::io::{Read, Write};
 use std::process::ExitCode;
 use std::rt::Stdout;
 use std::{env, fs, io};
-use stop::NoRun;
+use stop::{NoRun, Unplayed};
 use telling::{Errors, explain_end, tell_end, tell_refusal, tell_stop};
 
 fn words_of(rt: &HostRuntime) -> Result<Vec<String>, NoRun> {
@@ -25,7 +32,9 @@ fn words_of(rt: &HostRuntime) -> Result<Vec<String>, NoRun> {
 }
 
 // What the words of the command line ask for.
-fn asked_of(rt: &HostRuntime) -> Result<Arguments, NoRun> {
+fn asked_of(rt: &HostRuntime) -> Result<Arguments, NoRun>
+    ensures { IfOk result IsAskedFor }
+{
     let words = words_of(rt)?;
     let texts: Vec<&str> = words.iter().map(|word| word.as_str()).collect(rt.alloc())?;
     let asked = arguments(rt.alloc(), texts.as_slice()).map_err(NoRun::Words)?;
@@ -73,12 +82,24 @@ fn explained(rt: &HostRuntime, asked: &Arguments, text: &[u8], ran: &Ran) {
     explain_choices(rt, &asked.choices, ran.streams.source.device(), &ran.end);
 }
 
-// Plays the model that is asked for, and answers the end, whose status is that of the program.
-fn run(rt: &HostRuntime, asked: &Arguments) -> Result<End, NoRun> {
-    let model = model_of(rt, asked.model.as_str())?;
-    let opened = open_all(rt, asked, &model)?;
-    let text = model.text.as_slice();
-    let played = session_over(rt.alloc(), text, &asked.options, asked.convert, opened);
+// Plays the text over streams as it is asked for, or converts the choices.
+fn played_over<R: Read, O: Write, K: Write>(
+    alloc: Global,
+    text: &[u8],
+    asked: &Arguments,
+    streams: Streams<R, O, K>,
+) -> Played<R, O, K>
+    ensures { let k = known R.remaining O.contents K.contents in
+        EndsOver asked.now.convert text.now asked.now.options (k streams) (k result.streams) result.end }
+{
+    session_over(alloc, text, &asked.options, asked.convert, streams)
+}
+
+// Plays this text over what was opened, says what is to be said of the end, and answers it.
+fn run_text(rt: &HostRuntime, asked: &Arguments, text: &[u8], opened: Opened) -> End
+    ensures { HasPlayed asked.now text.now result }
+{
+    let played = played_over(rt.alloc(), text, asked, opened);
     if asked.convert {
         tell_refusal(rt, &played.end);
     }
@@ -86,7 +107,16 @@ fn run(rt: &HostRuntime, asked: &Arguments) -> Result<End, NoRun> {
     if asked.explain {
         explained(rt, asked, text, &played);
     }
-    Ok(played.end)
+    played.end
+}
+
+// Plays the model that is asked for, and answers the end, whose status is that of the program.
+fn run(rt: &HostRuntime, asked: &Arguments) -> Result<End, NoRun>
+    ensures { IfOk result (HasPlayedText asked.now) }
+{
+    let model = model_of(rt, asked.model.as_str())?;
+    let opened = open_all(rt, asked, &model)?;
+    Ok(run_text(rt, asked, model.text.as_slice(), opened))
 }
 
 // Holds the descriptors 0 to 2 where the caller has closed them, so that no file of a run takes the place of one. A folder gives no byte
@@ -95,17 +125,39 @@ fn held_descriptors(rt: &HostRuntime) -> [io::Result<File>; 3] {
     [fs::open(rt, "/"), fs::open(rt, "/"), fs::open(rt, "/")]
 }
 
-fn status_of(rt: &HostRuntime) -> u8 {
-    match asked_of(rt) {
-        Ok(asked) => match run(rt, &asked) {
-            Ok(end) => end.status,
-            Err(stop) => tell_stop(rt, &stop, asked.explain),
-        },
-        Err(stop) => tell_stop(rt, &stop, false),
+// Plays as the words ask for, and answers the end, or why there is none.
+fn outcome_of(rt: &HostRuntime) -> Result<End, Unplayed>
+    ensures { IfOk result IsEnd }
+{
+    let asked = match asked_of(rt) {
+        Ok(asked) => asked,
+        Err(stop) => return Err(Unplayed::new(stop, false)),
+    };
+    match run(rt, &asked) {
+        Ok(end) => Ok(end),
+        Err(stop) => Err(Unplayed::new(stop, asked.explain)),
     }
+}
+
+// The status of an outcome. Of one that is no end it is told why.
+fn status_of(rt: &HostRuntime, outcome: &Result<End, Unplayed>) -> u8
+    ensures { IsStatusOf outcome.now result }
+{
+    match outcome {
+        Ok(end) => end.status,
+        Err(unplayed) => tell_stop(rt, &unplayed.stop, unplayed.explains),
+    }
+}
+
+// Plays as the words ask for, and answers the status of the program.
+fn ended(rt: &HostRuntime) -> ExitCode
+    ensures { IsStatus (exit_status result) }
+{
+    let outcome = outcome_of(rt);
+    ExitCode::from(status_of(rt, &outcome))
 }
 
 fn main(rt: HostRuntime) -> ExitCode {
     let _held = held_descriptors(&rt);
-    ExitCode::from(status_of(&rt))
+    ended(&rt)
 }

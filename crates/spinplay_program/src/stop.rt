@@ -1,4 +1,6 @@
 // Why there is no run.
+ghost use Rattle.std.specs.Prelude.{◌≡◌};
+
 use std::alloc::AllocError;
 use std::io;
 
@@ -13,6 +15,23 @@ pub enum NoRun {
     // The record would empty the file of the model, or that of the choices.
     WouldEmpty(String, &'static str),
     Memory,
+}
+
+/// Why there is no run, and whether more of it is asked for.
+#[derive(Drop)]
+pub struct Unplayed {
+    pub stop: NoRun,
+    pub explains: bool,
+}
+
+impl Unplayed {
+    /// Both.
+    pub fn new(stop: NoRun, explains: bool) -> Unplayed
+        ensures stop { result.stop ≡ stop }
+        ensures explains { result.explains ≡ explains }
+    {
+        Unplayed { stop, explains }
+    }
 }
 
 impl From<AllocError> for NoRun {

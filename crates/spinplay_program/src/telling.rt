@@ -1,4 +1,6 @@
 // What standard error says. A message that cannot be shown is left out.
+ghost use Rattle.spinplay_program.specs.Ended.{IsStatusOfStop, IsStatusOfWords};
+
 use crate::files::source_of;
 use crate::stop::NoRun;
 use clap::error::ErrorKind;
@@ -168,35 +170,41 @@ fn explain_file(rt: &HostRuntime, is_asked: bool, name: &str, error: &io::Error)
 }
 
 // Says why there was no run, and more of it where that is asked for, and answers the status.
-pub fn tell_stop(rt: &HostRuntime, stop: &NoRun, explains: bool) -> u8 {
+pub fn tell_stop(rt: &HostRuntime, stop: &NoRun, explains: bool) -> u8
+    ensures { IsStatusOfStop stop.now result }
+{
     match stop {
-        NoRun::Words(error) => return tell_words(rt, error),
+        NoRun::Words(error) => tell_words(rt, error),
         NoRun::NotText => {
             let _ = eprintln!(rt; "error: invalid UTF-8 was detected in one or more arguments");
+            4
         }
         NoRun::ConvertWithRecord => {
             let _ = eprintln!(rt; "spinplay: --convert with --record");
+            4
         }
         NoRun::CannotOpen(name, error) => {
             let _ = eprintln!(rt; "spinplay: cannot open {name}");
             explain_file(rt, explains, name.as_str(), error);
+            4
         }
         NoRun::CannotRead(name, error) => {
             let _ = eprintln!(rt; "spinplay: cannot read {name}");
             explain_file(rt, explains, name.as_str(), error);
+            4
         }
         NoRun::WouldEmpty(name, what) => {
             let _ = eprintln!(rt; "spinplay: cannot open {name}");
             let _ = eprintln!(rt;
                 "spinplay: it is the file of the {what}, which a record would empty"
             );
+            4
         }
         NoRun::Memory => {
             let _ = eprintln!(rt; "spinplay: out of memory");
-            return 6;
+            6
         }
     }
-    4
 }
 
 // What is told of a letter in place of the tip to hand it on as a value.
@@ -255,7 +263,9 @@ fn shown_words(rt: &HostRuntime, error: &clap::Error) -> io::Result<()> {
 }
 
 // Help goes to standard output, and a mistake in the words to standard error.
-fn tell_words(rt: &HostRuntime, error: &clap::Error) -> u8 {
+fn tell_words(rt: &HostRuntime, error: &clap::Error) -> u8
+    ensures { IsStatusOfWords error.now result }
+{
     if error.kind() == ErrorKind::OutOfMemory {
         let _ = eprintln!(rt; "spinplay: out of memory");
         return 6;

@@ -1,0 +1,10 @@
+pub mod Apart
+pub mod Listing
+pub mod Numbering
+pub mod Running
+pub mod Fitting
+pub mod Growing
+pub mod Standing
+pub mod Naming
+pub mod Samples
+pub mod GoingOn

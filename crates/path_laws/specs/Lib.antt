@@ -1,0 +1,4 @@
+pub mod GoesOn
+pub mod OneRecord
+pub mod OneRun
+pub mod Origins
