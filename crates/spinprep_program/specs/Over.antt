@@ -22,6 +22,14 @@ pub record IsBegun (before after : Option (List ℕ)) (bytes : List ℕ) : Type 
   pub joins : bytes ≡ front ++ back
   pub taken : Appends before after front
 
+-- what is known of a writer has grown by these bytes
+abbrev pub Takes : {W : Type 0} → (W → Option (List ℕ)) → W → W → List ℕ → Type 0
+Takes contents before after bytes = Appends (contents before) (contents after) bytes
+
+-- it has grown by a beginning of these bytes
+abbrev pub TakesFront : {W : Type 0} → (W → Option (List ℕ)) → W → W → List ℕ → Type 0
+TakesFront contents before after bytes = IsBegun (contents before) (contents after) bytes
+
 -- What is known of the writer has grown by a beginning of what is prepared of what the reader gives.
 abbrev pub BreaksOver : Option (List ℕ) → Option (List ℕ) → Option (List ℕ) → Type 0
 BreaksOver given before after = IfSome given (λ bytes. IsBegun before after (prepared bytes))

@@ -6,7 +6,7 @@ ghost use Rattle.prepare.specs.declared.TheConstants.{MOST_BYTES};
 ghost use Rattle.prepare.specs.Turns as as_turns;
 ghost use Rattle.prepare.specs.Spelling as as_spelling;
 ghost use Rattle.prepare.specs.Laws as laws;
-ghost use Rattle.spinprep_program.specs.Over.{count, IsBegun, PreparesOver, BreaksOver};
+ghost use Rattle.spinprep_program.specs.Over.{count, Takes, TakesFront, PreparesOver, BreaksOver};
 
 use crate::report::Report;
 use crate::stop::Stop;
@@ -98,8 +98,8 @@ fn some_taken<W: Write>(out: &mut W, bytes: &[u8]) -> Option<usize>
 
 // Writes all of some bytes; a device that fails has taken a beginning of them.
 fn put<W: Write>(out: &mut W, bytes: &[u8]) -> Result<(), Stop>
-    ensures whole { OnOk result (Appends (W.contents out.old) (W.contents out.new) bytes.now) }
-    ensures begun { OnErr result (IsBegun (W.contents out.old) (W.contents out.new) bytes.now) }
+    ensures whole { OnOk result (Takes W.contents out.old out.new bytes.now) }
+    ensures begun { OnErr result (TakesFront W.contents out.old out.new bytes.now) }
 {
     let mut rest = bytes;
     for turn in 0..u64::MAX {
@@ -126,8 +126,8 @@ fn write_exchanged<'t, W: Write>(
     name: &str,
     out: &mut W,
 ) -> Result<bool, Stop>
-    ensures whole { OnOk result (Appends (W.contents out.old) (W.contents out.new) (laws.exchanged text.now)) }
-    ensures begun { OnErr result (IsBegun (W.contents out.old) (W.contents out.new) (laws.exchanged text.now)) }
+    ensures whole { OnOk result (Takes W.contents out.old out.new (laws.exchanged text.now)) }
+    ensures begun { OnErr result (TakesFront W.contents out.old out.new (laws.exchanged text.now)) }
 {
     let mut report = report;
     let output = exchanged(rt.alloc(), text, &mut report)?;
@@ -143,8 +143,8 @@ fn write_prepared<W: Write>(
     out: &mut W,
 ) -> Result<bool, Stop>
     requires { length text.now ≤ MOST_BYTES }
-    ensures whole { OnOk result (Appends (W.contents out.old) (W.contents out.new) (laws.prepared text.now)) }
-    ensures begun { OnErr result (IsBegun (W.contents out.old) (W.contents out.new) (laws.prepared text.now)) }
+    ensures whole { OnOk result (Takes W.contents out.old out.new (laws.prepared text.now)) }
+    ensures begun { OnErr result (TakesFront W.contents out.old out.new (laws.prepared text.now)) }
 {
     let lines = numbered(rt.alloc(), text)?;
     let numbers = coded(rt.alloc(), &lines)?;
