@@ -1,14 +1,20 @@
 -- What is prepared over a reader of a text and a writer.
-use Rattle.std.specs.Prelude.{◌≡◌, ◌≤◌, ℕ, List, ◌++◌, Option, None, Some, IfSome, length}
+use Rattle.std.specs.Prelude.{◌≡◌, ◌≤◌, ℕ, Bool, true, false, List, ◌++◌, Option, None, Some, IfSome, length}
 use Rattle.std.specs.Io.KnownBytes.{Appends}
 use Rattle.prepare.specs.declared.TheConstants.{MOST_BYTES}
-use Rattle.prepare.specs.Laws.{prepared}
+use Rattle.prepare.specs.Laws.{lined, prepared, has_tokens_alone}
+use Rattle.spinprep_program.specs.declared.over.Done.{Done}
+
+-- where it is told that nothing is left, the tokens of the text outside blocks are such as the language has
+abbrev pub TellsTokens : Bool → List ℕ → Type 0
+TellsTokens is_left text = is_left ≡ false → has_tokens_alone (lined text) ≡ true
 
 -- The text is all that the reader gives, and has no more bytes than it may. What is known of the writer has grown by just what is prepared of it.
-pub record PreparesOver (given before after : Option (List ℕ)) (text : List ℕ) : Type 0 where
-  pub read : IfSome given (λ bytes. text ≡ bytes)
-  pub short : length text ≤ MOST_BYTES
-  pub written : Appends before after (prepared text)
+pub record PreparesOver (given before after : Option (List ℕ)) (done : Done) : Type 0 where
+  pub read : IfSome given (λ bytes. done.text.items ≡ bytes)
+  pub short : length done.text.items ≤ MOST_BYTES
+  pub written : Appends before after (prepared done.text.items)
+  pub told : TellsTokens done.is_left done.text.items
 
 -- how many bytes are told to be taken
 abbrev pub count : Option ℕ → ℕ
