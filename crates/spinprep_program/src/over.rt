@@ -1,20 +1,23 @@
 // Prepares what a reader gives, and writes it.
 
 ghost use Rattle.std.specs.Prelude.{◌≡◌, ◌≤◌, ◌+◌, length, take, IfOk, OnOk, OnErr, IfSome};
+ghost use Rattle.std.specs.List.{list_all};
 ghost use Rattle.std.specs.Io.KnownBytes.{Appends};
 ghost use Rattle.prepare.specs.declared.TheConstants.{MOST_BYTES};
 ghost use Rattle.prepare.specs.Turns as as_turns;
 ghost use Rattle.prepare.specs.Spelling as as_spelling;
 ghost use Rattle.prepare.specs.Laws as laws;
-ghost use Rattle.spinprep_program.specs.Over.{count, IsBegun, PreparesOver, BreaksOver};
+ghost use Rattle.spinprep_program.specs.Over.{count, Takes, TakesFront, TellsTokens, PreparesOver, BreaksOver};
 
 use crate::report::Report;
 use crate::stop::Stop;
+use pml_token::token::{Kind, same_kind};
 use prepare::MOST_BYTES;
 use prepare::changes::{exchanges, respelled};
 use prepare::coding::coded;
 use prepare::numbering::numbered;
 use prepare::spelling::spelled;
+use prepare::turn::{Form, Turn};
 use prepare::turns::turns;
 use std::alloc::{AllocError, Global};
 use std::io;
@@ -41,20 +44,50 @@ fn text_of<R: Read + Drop>(alloc: Global, reader: R) -> io::Result<Vec<u8>>
     Ok(text)
 }
 
+// Whether a token is that of a block, or one that the language has.
+fn is_token(turn: &Turn<'_>) -> bool
+    ensures { result ≡ laws.is_token turn.now }
+{
+    matches!(turn.form(), Form::Blanked) || !same_kind(turn.kind(), Kind::LeftOut)
+}
+
+// Whether all are.
+fn are_tokens(turns: &[Turn<'_>]) -> bool
+    ensures { result ≡ list_all laws.is_token turns.now }
+{
+    for turn in turns {
+        if !is_token(turn) {
+            return false;
+        }
+    }
+    true
+}
+
+// What is made of a text by its ends of lines and its blocks.
+#[derive(Drop)]
+struct WithSeparators {
+    text: Vec<u8>,
+    // whether its tokens are such as the language has, but for those of blocks
+    are_tokens: bool,
+}
+
 // What is made of a text by its ends of lines and its blocks, of which the report hears.
 fn separated<'t>(
     alloc: Global,
     text: &'t [u8],
     report: &mut Report<'t>,
-) -> Result<Vec<u8>, AllocError>
-    ensures { IfOk result (λ v. v.items ≡ as_spelling.spelled (as_turns.turns text.now)) }
+) -> Result<WithSeparators, AllocError>
+    ensures text { IfOk result (λ s. s.text.items ≡ as_spelling.spelled (as_turns.turns text.now)) }
+    ensures tokens { IfOk result (λ s. s.are_tokens ≡ laws.has_tokens_alone text.now) }
 {
     let turns = turns(alloc, text)?;
     for turn in &turns {
         report.turn(turn);
     }
     report.again();
-    spelled(alloc, &turns)
+    let are_tokens = are_tokens(&turns);
+    let text = spelled(alloc, &turns)?;
+    Ok(WithSeparators { text, are_tokens })
 }
 
 // What is made of it then by its subtypes and its loops over arrays.
@@ -98,8 +131,8 @@ fn some_taken<W: Write>(out: &mut W, bytes: &[u8]) -> Option<usize>
 
 // Writes all of some bytes; a device that fails has taken a beginning of them.
 fn put<W: Write>(out: &mut W, bytes: &[u8]) -> Result<(), Stop>
-    ensures whole { OnOk result (Appends (W.contents out.old) (W.contents out.new) bytes.now) }
-    ensures begun { OnErr result (IsBegun (W.contents out.old) (W.contents out.new) bytes.now) }
+    ensures whole { OnOk result (Takes W.contents out.old out.new bytes.now) }
+    ensures begun { OnErr result (TakesFront W.contents out.old out.new bytes.now) }
 {
     let mut rest = bytes;
     for turn in 0..u64::MAX {
@@ -126,8 +159,8 @@ fn write_exchanged<'t, W: Write>(
     name: &str,
     out: &mut W,
 ) -> Result<bool, Stop>
-    ensures whole { OnOk result (Appends (W.contents out.old) (W.contents out.new) (laws.exchanged text.now)) }
-    ensures begun { OnErr result (IsBegun (W.contents out.old) (W.contents out.new) (laws.exchanged text.now)) }
+    ensures whole { OnOk result (Takes W.contents out.old out.new (laws.exchanged text.now)) }
+    ensures begun { OnErr result (TakesFront W.contents out.old out.new (laws.exchanged text.now)) }
 {
     let mut report = report;
     let output = exchanged(rt.alloc(), text, &mut report)?;
@@ -143,14 +176,16 @@ fn write_prepared<W: Write>(
     out: &mut W,
 ) -> Result<bool, Stop>
     requires { length text.now ≤ MOST_BYTES }
-    ensures whole { OnOk result (Appends (W.contents out.old) (W.contents out.new) (laws.prepared text.now)) }
-    ensures begun { OnErr result (IsBegun (W.contents out.old) (W.contents out.new) (laws.prepared text.now)) }
+    ensures whole { OnOk result (Takes W.contents out.old out.new (laws.prepared text.now)) }
+    ensures begun { OnErr result (TakesFront W.contents out.old out.new (laws.prepared text.now)) }
+    ensures told { IfOk result (λ is_left. TellsTokens is_left text.now) }
 {
     let lines = numbered(rt.alloc(), text)?;
     let numbers = coded(rt.alloc(), &lines)?;
     let mut report = Report::new(rt.alloc());
     let separated = separated(rt.alloc(), &numbers, &mut report)?;
-    write_exchanged(rt, &separated, report, name, out)
+    let is_left = write_exchanged(rt, &separated.text, report, name, out)?;
+    Ok(is_left || !separated.are_tokens)
 }
 
 // Prepares the text that a reader gives, of the file `file`, which is called `name`.
@@ -161,7 +196,7 @@ pub fn prepare_over<R: Read + Drop, W: Write>(
     reader: R,
     out: &mut W,
 ) -> Result<Done, Stop>
-    ensures whole { IfOk result (λ d. PreparesOver (R.remaining reader) (W.contents out.old) (W.contents out.new) d.text.items) }
+    ensures whole { IfOk result (PreparesOver (R.remaining reader) (W.contents out.old) (W.contents out.new)) }
     ensures begun { OnErr result (BreaksOver (R.remaining reader) (W.contents out.old) (W.contents out.new)) }
 {
     let text = match text_of(rt.alloc(), reader) {

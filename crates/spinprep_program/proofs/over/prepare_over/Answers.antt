@@ -1,7 +1,7 @@
 use Rattle.std.proofs.Common.{◌≡◌, ◌≤◌, ◌<◌, ℕ, List, length, subst, arith}
 use Rattle.std.specs.Io.KnownBytes.{Appends}
 use Rattle.prepare.specs.Laws.{prepared}
-use Rattle.spinprep_program.specs.Over.{IsBegun, BreaksOver}
+use Rattle.spinprep_program.specs.Over.{IsBegun, TellsTokens, BreaksOver}
 use Rattle.spinprep_program.proofs.Given.{whole, breaks, breaks_none, on_err}
 use Rattle.spinprep_program.proofs.over.prepare_over.Goals as goal
 
@@ -15,6 +15,7 @@ returns-clause-whole g c =
       read = whole (g.R.Read.remaining c.args.reader) 8388609 text less c.in-Ok.ensures;
       short = short;
       written = subst (λ (t : List ℕ). Appends (g.W.Write.contents c.args.out.now) (g.W.Write.contents c.write_prepared.new.out) (prepared t)) same c.in_ok-is_left.ensures.whole;
+      told = subst (TellsTokens c.in_ok-is_left.is_left) same c.in_ok-is_left.ensures.told;
     }
 
 pub returns-in_err-from_str-in-Err-2-clause-begun : goal.returns-in_err-from_str-in-Err-2-clause-begun
