@@ -43,7 +43,7 @@ IsMistake error = (kind_of error ≢ kind.DisplayHelp) × (kind_of error ≢ kin
 -- shown or memory was refused.
 pub data IsStatusOfWords (error : Error) : ℕ → Type 0 where
   no_memory : kind_of error ≡ kind.OutOfMemory → IsStatusOfWords error 6
-  mistake : IsMistake error → IsStatusOfWords error 4
+  mistake : (kind_of error ≢ kind.OutOfMemory) → IsMistake error → IsStatusOfWords error 4
   shown : (IsMistake error → ⊥) → IsStatusOfWords error 0
   not_shown : (IsMistake error → ⊥) → IsStatusOfWords error 6
 

@@ -1,7 +1,9 @@
-use Rattle.std.proofs.Common.{refl, sym, ◌∙◌, rules}
+use Rattle.std.proofs.Common.{refl, sym, ap, ◌∙◌, rules}
 use Rattle.std.proofs.lemmas.Bool.{false≢true}
-use denote.Enum.Bare.{same_true}
+use denote.Enum.Bare.{same_true, sameb}
 use Rattle.clap.specs.contracts.error.kind.ErrorKind.{the_type}
+use Rattle.clap.specs.declared.error.kind.ErrorKind.{ErrorKind}
+use Rattle.clap.specs.declared.error.kind.ErrorKind.TheVariants as kind
 use Rattle.spinplay_program.specs.Ended.{no_memory, mistake, shown, not_shown}
 use Rattle.spinplay_program.proofs.telling.tell_words.Goals as goal
 
@@ -9,7 +11,8 @@ pub returns-then-eq : goal.returns-then-eq
 returns-then-eq c = no_memory (sym c.kind.ensures ∙ same_true the_type (search rules) _ _ (sym c.if-eq.ensures))
 
 pub returns-then-use_stderr : goal.returns-then-use_stderr
-returns-then-use_stderr c = mistake (c.if-use_stderr.ensures.0 refl)
+returns-then-use_stderr c =
+    mistake (λ is. false≢true (c.if-eq.ensures ∙ ap (λ (k : ErrorKind). sameb the_type k kind.OutOfMemory) (c.kind.ensures ∙ is))) (c.if-use_stderr.ensures.0 refl)
 
 pub returns-then-shown : goal.returns-then-shown
 returns-then-shown c = shown (λ is. false≢true (c.if-use_stderr.ensures.1 is))
