@@ -41,7 +41,7 @@ impl Row {
         digits.number(step);
         let mut text = Writer::new(alloc);
         text.blanks(STEP_WIDTH.saturating_sub(digits.len()));
-        text.add(digits.bytes());
+        text.join(&digits);
         text.add(b" ");
         Row { text, width }
     }

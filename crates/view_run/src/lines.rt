@@ -94,6 +94,7 @@ fn take(
     match choose(walk, taking.choice, &mut printed)? {
         Went::On => {
             let of = taking.moves.len();
+            sheet.items.keep_refusal(&text);
             add_item(
                 text.bytes(),
                 printed.as_slice(),
@@ -105,6 +106,7 @@ fn take(
             Ok(None)
         }
         Went::Faults(fault) => {
+            sheet.items.keep_refusal(&text);
             add_fault_item(text.bytes(), fault, &mut sheet.items);
             add_faulted(walk, fault, taking, sheet);
             Ok(Some("fault"))

@@ -65,14 +65,18 @@ fn step(
     walk: &mut Walk<'_, '_>,
     trail: &mut Trail<'_>,
     limit: usize,
-    scratch: &Writer,
+    scratch: &mut Writer,
     printed: &mut Vec<u8>,
 ) -> Result<Option<Followed>, AllocError> {
     if walk.at() >= limit {
         return Ok(Some(Followed::Limit));
     }
     let moves = walk.moves()?;
-    match which(&picture_of(walk.world()), moves.as_slice(), trail, scratch) {
+    let named = which(&picture_of(walk.world()), moves.as_slice(), trail, scratch);
+    if scratch.is_refused() {
+        return Err(AllocError);
+    }
+    match named {
         Named::Take(choice) => take(walk, trail, choice, printed),
         Named::Ended => Ok(Some(Followed::Whole)),
         Named::Misfit(row) => Ok(Some(Followed::Misfit(row))),
@@ -86,13 +90,13 @@ pub fn follow_trail(
     limit: usize,
     printed: &mut Vec<u8>,
 ) -> Result<Followed, AllocError> {
-    let scratch = Writer::new(*printed.allocator());
+    let mut scratch = Writer::new(*printed.allocator());
     let mut trail = Trail::new(text);
     if trail.next().is_none() && !is_ended(text) {
         return Ok(Followed::Empty);
     }
     for _ in 0..u64::MAX {
-        if let Some(followed) = step(walk, &mut trail, limit, &scratch, printed)? {
+        if let Some(followed) = step(walk, &mut trail, limit, &mut scratch, printed)? {
             return Ok(followed);
         }
     }

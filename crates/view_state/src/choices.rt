@@ -39,8 +39,9 @@ fn add_effect(picture: &Picture<'_, '_, '_>, effect: &Effect, out: &mut Writer) 
 
 /// Writes the text of a move.
 pub fn add_move(picture: &Picture<'_, '_, '_>, m: &Move, out: &mut Writer) {
-    let answer = move_text(&picture.scene, *m, out.text());
-    out.keep(answer);
+    let mut text = out.take();
+    let answer = move_text(picture.scene(), *m, &mut text);
+    out.put(text, answer);
 }
 
 // Writes a line of the list.
@@ -70,7 +71,8 @@ fn add_aligned(number: usize, widest: usize, out: &mut Writer) {
     let mut most = Writer::new(out.allocator());
     most.number(widest);
     out.blanks(most.len().saturating_sub(digits.len()));
-    out.add(digits.bytes());
+    out.join(&digits);
+    out.keep_refusal(&most);
 }
 
 // Writes a line of a list that is shown by process, and before it that of its process, where it is another than that of the heading.
@@ -85,13 +87,16 @@ fn add_grouped(
     let mut own = Writer::new(out.allocator());
     add_process(picture, starter_of(m), &mut own);
     if own.bytes() != heading.bytes() {
-        out.add(own.bytes());
+        out.join(&own);
         out.add(b"\n");
         heading.clear();
-        heading.add(own.bytes());
+        heading.join(&own);
     }
     let mut text = Writer::new(out.allocator());
     add_move(picture, m, &mut text);
+    out.keep_refusal(&text);
+    out.keep_refusal(&own);
+    out.keep_refusal(heading);
     out.add(b"  choice ");
     add_aligned(number, count, out);
     out.add(b":");
@@ -136,7 +141,7 @@ pub fn add_choices(
 
 // Writes where a process is stuck, if it is.
 fn add_stuck(picture: &Picture<'_, '_, '_>, process: usize, out: &mut Writer) {
-    if let Some((name, line)) = stuck(&picture.scene, process) {
+    if let Some((name, line)) = stuck(picture.scene(), process) {
         out.add(b"at: proc ");
         out.number(process);
         out.add(b" (");
@@ -161,7 +166,7 @@ pub fn add_ending(picture: &Picture<'_, '_, '_>, steps: usize, out: &mut Writer)
 
 /// Whether a run that ends here ends well, as a word.
 pub fn ending_of(picture: &Picture<'_, '_, '_>) -> &'static str {
-    if is_valid(&picture.scene) {
+    if is_valid(picture.scene()) {
         "valid"
     } else {
         "invalid"

@@ -32,7 +32,7 @@ fn add_variable(
             cell,
         };
         add_cell(picture, place, &mut item);
-        filled.add(item.bytes(), out);
+        filled.add(&item, out);
     }
 }
 
@@ -60,7 +60,7 @@ fn add_messages(
     for place in 0..channel.len() {
         item.clear();
         add_message(picture, channel.types(), channel.message(place), &mut item);
-        filled.add(item.bytes(), out);
+        filled.add(&item, out);
     }
 }
 

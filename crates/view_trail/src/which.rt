@@ -25,17 +25,20 @@ pub enum Named {
 const OF_D_STEP: usize = 1_000_000_000;
 
 // The text of the offer that a pick names.
-fn text_of(picture: &Picture<'_, '_, '_>, pick: Pick, out: &Writer) -> Writer {
+fn text_of(picture: &Picture<'_, '_, '_>, pick: Pick, out: &mut Writer) -> Writer {
     let mut text = Writer::new(out.allocator());
     add_offer(picture, pick, &mut text);
+    out.keep_refusal(&text);
     text
 }
 
-fn is_spelled(one: &[u8], other: &[u8], out: &Writer) -> bool {
+fn is_spelled(one: &[u8], other: &[u8], out: &mut Writer) -> bool {
     let mut spelled = Writer::new(out.allocator());
     add_spelled(one, &mut spelled);
     let mut wanted = Writer::new(out.allocator());
     add_spelled(other, &mut wanted);
+    out.keep_refusal(&spelled);
+    out.keep_refusal(&wanted);
     spelled.bytes() == wanted.bytes()
 }
 
@@ -44,7 +47,7 @@ fn distance_of(
     picture: &Picture<'_, '_, '_>,
     pick: Pick,
     entry: &Entry<'_>,
-    out: &Writer,
+    out: &mut Writer,
 ) -> Option<usize> {
     let Event::Statement(line, wanted) = entry.event else {
         return None;
@@ -69,7 +72,7 @@ fn distance_of_pair(
     receiver: Pick,
     trail: &Trail<'_>,
     entry: &Entry<'_>,
-    out: &Writer,
+    out: &mut Writer,
 ) -> Option<usize> {
     let first = distance_of(picture, sender, entry, out)?;
     let second = trail.second()?;
@@ -83,7 +86,7 @@ fn distance(
     m: &Move,
     trail: &Trail<'_>,
     entry: &Entry<'_>,
-    out: &Writer,
+    out: &mut Writer,
 ) -> Option<usize> {
     match m {
         Move::Death(process) => {
@@ -106,7 +109,7 @@ fn nearest(
     moves: &[Move],
     trail: &Trail<'_>,
     entry: &Entry<'_>,
-    out: &Writer,
+    out: &mut Writer,
 ) -> Option<(usize, usize)> {
     let mut best: Option<(usize, usize)> = None;
     for at in 0..moves.len() {
@@ -128,12 +131,13 @@ fn spelled_of(
     picture: &Picture<'_, '_, '_>,
     m: &Move,
     process: usize,
-    out: &Writer,
+    out: &mut Writer,
 ) -> Option<Writer> {
     match m {
         Move::Alone(pick, _) if pick.process == process => {
             let mut spelled = Writer::new(out.allocator());
             add_spelled(text_of(picture, *pick, out).bytes(), &mut spelled);
+            out.keep_refusal(&spelled);
             Some(spelled)
         }
         _ => None,
@@ -157,13 +161,14 @@ fn selecting(
     moves: &[Move],
     trail: &Trail<'_>,
     entry: &Entry<'_>,
-    out: &Writer,
+    out: &mut Writer,
 ) -> Option<(usize, usize)> {
     let Event::Statement(_, text) = entry.event else {
         return None;
     };
     let mut wanted = Writer::new(out.allocator());
     add_spelled(text, &mut wanted);
+    out.keep_refusal(&wanted);
     for at in 0..moves.len() {
         if let Some(spelled) = spelled_of(picture, &moves[at], entry.process, out) {
             let counts = counts_behind(spelled.bytes(), wanted.bytes(), trail.counts());
@@ -176,7 +181,7 @@ fn selecting(
 }
 
 // Whether a process takes a step by this move that Spin may leave out.
-fn is_quiet(picture: &Picture<'_, '_, '_>, m: &Move, process: usize, out: &Writer) -> bool {
+fn is_quiet(picture: &Picture<'_, '_, '_>, m: &Move, process: usize, out: &mut Writer) -> bool {
     match m {
         Move::Alone(pick, _) if pick.process == process => {
             is_of_machine(text_of(picture, *pick, out).bytes())
@@ -190,7 +195,7 @@ fn quiet_of(
     picture: &Picture<'_, '_, '_>,
     moves: &[Move],
     process: usize,
-    out: &Writer,
+    out: &mut Writer,
 ) -> Option<usize> {
     for at in 0..moves.len() {
         if is_quiet(picture, &moves[at], process, out) {
@@ -205,7 +210,7 @@ fn unshown(
     picture: &Picture<'_, '_, '_>,
     moves: &[Move],
     entry: &Entry<'_>,
-    out: &Writer,
+    out: &mut Writer,
 ) -> Option<usize> {
     let found = quiet_of(picture, moves, entry.process, out);
     if found.is_some() {
@@ -244,12 +249,13 @@ fn is_shown_alone(entry: &Entry<'_>) -> bool {
     }
 }
 
-/// Which of the present moves is next; the trail goes on behind the lines that name it.
+/// Which of the present moves is next; the trail goes on behind the lines that name it. Where memory was refused for a text that was compared, it is kept in `out`,
+/// and what is answered says nothing.
 pub fn which(
     picture: &Picture<'_, '_, '_>,
     moves: &[Move],
     trail: &mut Trail<'_>,
-    out: &Writer,
+    out: &mut Writer,
 ) -> Named {
     for _ in 0..u64::MAX {
         let Some(entry) = trail.next() else {
