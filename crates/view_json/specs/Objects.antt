@@ -1,5 +1,5 @@
 -- The tokens of what stands in a state: numbers, cells, channels, processes.
-use Rattle.std.specs.Prelude.{◌≡◌, ℕ, zero, suc, Bool, true, false, if◌then◌else◌, nat_eq, ◌-◌, List, [], ◌∷◌, ◌++◌, length, take, map, Option, Some, None, ℤ, pos, negsuc, slice_get, slice_index_or, count_by, codes}
+use Rattle.std.specs.Prelude.{◌≡◌, ℕ, zero, suc, if◌then◌else◌, List, [], ◌∷◌, ◌++◌, length, Option, Some, None, ℤ, pos, negsuc, slice_index_or, count_by, codes}
 use Rattle.std.specs.List.{flat_map, range_with_len}
 use Rattle.std.specs.Fmt.{decimal, signed_decimal}
 use Rattle.json.specs.Token.{Token, begin_object, end_object, begin_array, end_array, key, string, number, null}

@@ -1,4 +1,4 @@
-use Rattle.std.proofs.Common.{◌≡◌, ◌∙◌, ◌++◌, ap, sym, subst, ℤ, List, take}
+use Rattle.std.proofs.Common.{◌∙◌, ◌++◌, ap, sym, subst, ℤ, List, take}
 use Rattle.std.specs.List.{flat_map}
 use Rattle.std.proofs.lemmas.Option.{get_or_from_slice_get, slice_get_within}
 use Rattle.pml_program.specs.declared.form.Form.{Form}
