@@ -1,19 +1,42 @@
 //! Channels, their names and their messages.
 
+ghost use Rattle.std.specs.Prelude.{◌≡◌, pos};
+ghost use Rattle.std.specs.Option.{option_copied};
+ghost use Rattle.pml_value.specs.Reads.{channel_at};
+
 use crate::cells::{add_path, add_value};
 use crate::made::made_for;
 use crate::picture::Picture;
 use crate::processes::add_name;
 use pml_channel::channel::Channel;
 use pml_program::form::Form;
+use pml_value::live_channel::LiveChannel;
 use view_text::writer::Writer;
 
-/// The channel with this number, from 1 on.
-pub fn channel_at<'w>(picture: &Picture<'w, '_, '_>, number: usize) -> Option<&'w Channel> {
-    if number > 65_535 {
+fn channel_in(channels: &[LiveChannel], number: usize) -> Option<&Channel>
+    ensures { option_copied result ≡ channel_at channels.now (pos number) }
+{
+    if number == 0 {
         return None;
     }
-    picture.channel(number as i32)
+    channels.get(number - 1).map(|live| &live.channel)
+}
+
+/// The channel with this number, from 1 on.
+pub fn channel_at<'w>(picture: &Picture<'w, '_, '_>, number: usize) -> Option<&'w Channel>
+    ensures { option_copied result ≡ channel_at picture.now.channels (pos number) }
+{
+    channel_in(picture.scene().channels(), number)
+}
+
+// Writes whose a cell is: `P[2].` of a process.
+fn add_owner(picture: &Picture<'_, '_, '_>, frame: usize, out: &mut Writer) {
+    if frame > 0 {
+        add_name(picture, frame - 1, out);
+        out.add(b"[");
+        out.number(frame - 1);
+        out.add(b"].");
+    }
 }
 
 /// Writes the name of a channel, by the cell that it was made for: `q[1]`, or `P[2].q` of a process. Whether it has one.
@@ -21,16 +44,10 @@ pub fn add_channel_name(picture: &Picture<'_, '_, '_>, number: usize, out: &mut 
     let Some(place) = made_for(picture, number) else {
         return false;
     };
-    if place.frame > 0 {
-        add_name(picture, place.frame - 1, out);
-        out.add(b"[");
-        out.number(place.frame - 1);
-        out.add(b"].");
-    }
+    add_owner(picture, place.frame, out);
     add_path(picture, place, out);
     true
 }
-
 // Writes `chan N`.
 fn add_number(number: usize, out: &mut Writer) {
     out.add(b"chan ");
@@ -51,7 +68,7 @@ pub fn add_channel(picture: &Picture<'_, '_, '_>, number: usize, out: &mut Write
     let mut name = Writer::new(out.allocator());
     if add_channel_name(picture, number, &mut name) {
         out.add(b" ");
-        out.append(&name);
+        out.join(&name);
     }
 }
 

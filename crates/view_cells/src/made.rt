@@ -2,126 +2,99 @@
 
 use crate::cells::{cell_count, slot_at, variable_count};
 use crate::picture::Picture;
-use pml_lines::tables::Tables;
+use pml_cells::typedefs::Typedefs;
 use pml_program::form::Form;
 use pml_program::program::{Fields, Initial, Slot};
 use pml_store::place::Place;
 use pml_value::live_channel::LiveChannel;
 
-// What is found of the k-th channel in a variable: the cell that it was made for, or how many channels are made for the variable.
+// What is found of the k-th channel in a variable: the cell that it was made for, or of how many the variables behind it are to be passed over.
 #[derive(Clone, Copy)]
 enum Found {
     At(usize),
-    Not(usize),
+    Left(usize),
 }
 
-// How many channels are made for a variable that is no structure.
-fn made_plain(slot: &Slot<'_>) -> usize {
-    match &slot.initial {
-        Initial::Channel(_, _) => slot.length as usize,
-        _ => 0,
+// Whether channels are made for a variable or a field.
+fn makes(slot: &Slot<'_>) -> bool {
+    matches!(slot.initial, Initial::Channel(_, _))
+}
+
+// Whether a channel is made for a cell of a variable.
+fn is_made(typedefs: &Typedefs<'_, '_>, slot: &Slot<'_>, cell: usize) -> bool {
+    match typedefs.leaf(slot, cell).0 {
+        None => makes(slot),
+        Some((typedef, number)) => match typedefs.field(typedef, number) {
+            Some(field) => makes(field),
+            None => makes(slot),
+        },
     }
 }
 
-// Whether a channel is made for a field, by the numbers of its typedef and its own.
-fn is_field_made(tables: &Tables<'_, '_>, typedef: usize, number: usize) -> bool {
-    match tables.typedefs().field(typedef, number) {
-        Some(field) => made_plain(field) > 0,
-        None => false,
+// Whether channels are made for a field of a typedef.
+fn is_making(typedef: &Fields<'_>) -> bool {
+    typedef.fields.as_slice().iter().any(|field| makes(field))
+}
+
+// Whether channels may be made for cells of a variable.
+fn can_make(typedefs: &[Fields<'_>], slot: &Slot<'_>) -> bool {
+    if makes(slot) {
+        return true;
+    }
+    match slot.form {
+        Form::Struct(_) => typedefs.iter().any(|typedef| is_making(typedef)),
+        _ => false,
     }
 }
 
-// Whether a channel is made for a cell of a structure.
-fn is_made(tables: &Tables<'_, '_>, slot: &Slot<'_>, cell: usize) -> bool {
-    match tables.typedefs().leaf(slot, cell).0 {
-        Some((typedef, number)) => is_field_made(tables, typedef, number),
-        None => false,
-    }
-}
-
-// Whether a typedef has a field of its own for which channels are made.
-fn makes(typedef: &Fields<'_>) -> bool {
-    for field in typedef.fields.as_slice() {
-        if made_plain(field) > 0 {
-            return true;
-        }
-    }
-    false
-}
-
-// Whether there is such a typedef.
-fn has_made(tables: &Tables<'_, '_>) -> bool {
-    for typedef in tables.program().typedefs.as_slice() {
-        if makes(typedef) {
-            return true;
-        }
-    }
-    false
-}
-
-fn found_in_struct(tables: &Tables<'_, '_>, slot: &Slot<'_>, cells: usize, k: usize) -> Found {
-    if !has_made(tables) {
-        return Found::Not(0);
-    }
-    let mut count = 0usize;
+// Finds it among so many cells of a variable.
+fn found_in(
+    typedefs: &Typedefs<'_, '_>,
+    slot: &Slot<'_>,
+    cells: usize,
+    k: usize,
+) -> Found {
+    let mut left = k;
     for cell in 0..cells {
-        if is_made(tables, slot, cell) {
-            if count == k {
+        if is_made(typedefs, slot, cell) {
+            if left == 0 {
                 return Found::At(cell);
             }
-            count = count.saturating_add(1);
+            left -= 1;
         }
     }
-    Found::Not(count)
+    Found::Left(left)
 }
 
-fn found_plain(slot: &Slot<'_>, k: usize) -> Found {
-    let count = made_plain(slot);
-    if k < count {
-        Found::At(k)
-    } else {
-        Found::Not(count)
-    }
-}
-
-fn found_in(picture: &Picture<'_, '_, '_>, frame: usize, variable: usize, k: usize) -> Found {
+fn found_at(picture: &Picture<'_, '_, '_>, frame: usize, variable: usize, k: usize) -> Found {
     let Some(slot) = slot_at(picture, frame, variable) else {
-        return Found::Not(0);
+        return Found::Left(k);
     };
-    match slot.form {
-        Form::Struct(_) => {
-            found_in_struct(
-                picture.tables,
-                slot,
-                cell_count(picture, frame, variable),
-                k,
-            )
-        }
-        _ => found_plain(slot, k),
+    if !can_make(picture.program().typedefs.as_slice(), slot) {
+        return Found::Left(k);
+    }
+    let cells = cell_count(picture, frame, variable);
+    found_in(picture.tables().typedefs(), slot, cells, k)
+}
+
+// The frame of a channel, counted from 0.
+fn frame_of(channels: &[LiveChannel], at: usize) -> Option<usize> {
+    match channels.get(at) {
+        Some(live) => Some(live.frame),
+        None => None,
     }
 }
 
-// The frame of the channel with this number, and how many of that frame are older.
-fn order_of(channels: &[LiveChannel], number: usize) -> Option<(usize, usize)> {
-    if number == 0 {
-        return None;
-    }
-    let frame = channels.get(number - 1)?.frame;
-    let mut older = 0usize;
-    for live in channels.iter().take(number - 1) {
-        if live.frame == frame {
-            older = older.saturating_add(1);
-        }
-    }
-    Some((frame, older))
+// How many of the first channels are of a frame.
+fn older(channels: &[LiveChannel], frame: usize, count: usize) -> usize {
+    channels.iter().take(count).filter(|live| live.frame == frame).count()
 }
 
-/// The cell for which the channel with this number was made.
-pub fn made_for(picture: &Picture<'_, '_, '_>, number: usize) -> Option<Place> {
-    let (frame, older) = order_of(picture.scene.channels(), number)?;
-    let mut k = older;
+// The k-th cell of a frame for which a channel is made.
+fn nth_made(picture: &Picture<'_, '_, '_>, frame: usize, k: usize) -> Option<Place> {
+    let mut k = k;
     for variable in 0..variable_count(picture, frame) {
-        match found_in(picture, frame, variable, k) {
+        match found_at(picture, frame, variable, k) {
             Found::At(cell) => {
                 return Some(Place {
                     frame,
@@ -129,8 +102,18 @@ pub fn made_for(picture: &Picture<'_, '_, '_>, number: usize) -> Option<Place> {
                     cell,
                 });
             }
-            Found::Not(count) => k = k.saturating_sub(count),
+            Found::Left(left) => k = left,
         }
     }
     None
+}
+
+/// The cell for which the channel with this number was made.
+pub fn made_for(picture: &Picture<'_, '_, '_>, number: usize) -> Option<Place> {
+    if number == 0 {
+        return None;
+    }
+    let channels = picture.scene().channels();
+    let frame = frame_of(channels, number - 1)?;
+    nth_made(picture, frame, older(channels, frame, number - 1))
 }

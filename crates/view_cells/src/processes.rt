@@ -1,22 +1,20 @@
 //! Processes, and where they stand.
 
-ghost use Rattle.std.specs.Prelude.{◌≡◌, slice_get};
+ghost use Rattle.std.specs.Prelude.{◌≡◌, ◌++◌, codes, slice_get};
 ghost use Rattle.std.specs.Option.{option_copied};
+ghost use Rattle.std.specs.Fmt.{decimal};
+ghost use Rattle.pml_flow.specs.Points.{point_at};
+ghost use Rattle.pml_flow.specs.Marks.{line_at};
+ghost use Rattle.pml_moves.specs.Scene.{IsBody, stand_of};
+ghost use Rattle.pml_texts.specs.Texts.{proctype_of as proctype_in};
+ghost use Rattle.view_text.specs.Written.{Adds};
+ghost use Rattle.view_cells.specs.Processes.{name_of, line_by, line_of};
 
 use crate::picture::Picture;
 use pml_lines::change::proctype_name;
-use pml_moves::scene::{Scene, Seat};
+use pml_moves::scene::{Body, Scene, Seat, seat_at};
 use pml_program::program::{Proctype, Program};
 use view_text::writer::Writer;
-
-fn seat_in(seats: &[Seat], process: usize) -> Option<Seat>
-    ensures { result ≡ slice_get seats.now process }
-{
-    match seats.get(process) {
-        Some(seat) => Some(*seat),
-        None => None,
-    }
-}
 
 fn proctype_at<'p, 'a>(program: &'p Program<'a>, kind: usize) -> Option<&'p Proctype<'a>>
     ensures { option_copied result ≡ slice_get program.now.proctypes kind }
@@ -24,30 +22,37 @@ fn proctype_at<'p, 'a>(program: &'p Program<'a>, kind: usize) -> Option<&'p Proc
     program.proctypes.as_slice().get(kind)
 }
 
-/// Where a process is, by its number.
-pub fn seat_at(scene: &Scene<'_, '_, '_>, process: usize) -> Option<Seat> {
-    seat_in(scene.seats(), process)
+fn proctype_in<'p, 'a>(scene: &Scene<'_, 'p, 'a>, process: usize) -> Option<&'p Proctype<'a>>
+    ensures { option_copied result ≡ proctype_in scene.now process }
+{
+    proctype_at(scene.program(), seat_at(scene.seats(), process)?.kind)
 }
 
 /// The proctype of a process.
 pub fn proctype_of<'p, 'a>(
     picture: &Picture<'_, 'p, 'a>,
     process: usize,
-) -> Option<&'p Proctype<'a>> {
-    let seat = seat_at(&picture.scene, process)?;
-    proctype_at(picture.program(), seat.kind)
+) -> Option<&'p Proctype<'a>>
+    ensures { option_copied result ≡ proctype_in picture.now process }
+{
+    proctype_in(picture.scene(), process)
 }
 
 /// Writes the name of a process's proctype, or `:init:`.
-pub fn add_name(picture: &Picture<'_, '_, '_>, process: usize, out: &mut Writer) {
+pub fn add_name(picture: &Picture<'_, '_, '_>, process: usize, out: &mut Writer)
+    ensures { Adds out.old out.new (name_of picture.now process) }
+{
     if let Some(proctype) = proctype_of(picture, process) {
-        let answer = proctype_name(&proctype.name, out.text());
-        out.keep(answer);
+        let mut text = out.take();
+        let answer = proctype_name(&proctype.name, &mut text);
+        out.put(text, answer);
     }
 }
 
 /// Writes `proc P (NAME)`.
-pub fn add_process(picture: &Picture<'_, '_, '_>, process: usize, out: &mut Writer) {
+pub fn add_process(picture: &Picture<'_, '_, '_>, process: usize, out: &mut Writer)
+    ensures { Adds out.old out.new (codes "proc " ++ (decimal process ++ (codes " (" ++ (name_of picture.now process ++ codes ")")))) }
+{
     out.add(b"proc ");
     out.number(process);
     out.add(b" (");
@@ -55,37 +60,52 @@ pub fn add_process(picture: &Picture<'_, '_, '_>, process: usize, out: &mut Writ
     out.add(b")");
 }
 
-// The line of a closing brace.
-fn brace_line(proctype: Option<&Proctype<'_>>) -> u32 {
-    match proctype {
-        Some(proctype) => proctype.end.line(),
+// The line of what stands first at a node of a body, or of its closing brace.
+fn line_in(body: &Body<'_, '_, '_>, node: usize) -> u32
+    requires { IsBody body.now }
+    ensures { let q = body.now.proctype.now in result ≡ line_at q.body q.end.line (point_at q.body node) }
+{
+    if body.has_node(node) {
+        body.graph.line(node)
+    } else {
+        body.proctype.end.line()
+    }
+}
+
+// The line of what stands first at a seat.
+fn line_at_seat(scene: &Scene<'_, '_, '_>, seat: Seat) -> u32
+    ensures { result ≡ line_by scene.now.program (Some (stand_of scene.now.program seat)) }
+{
+    match scene.body(seat.kind) {
+        Some(body) => line_in(&body, seat.node),
         None => 0,
     }
 }
 
-// The line of what stands first at a seat, where something is left to do.
-fn standing_line(scene: &Scene<'_, '_, '_>, seat: Seat) -> Option<u32> {
-    match scene.standing(seat) {
-        Some(body) => Some(body.graph.line(seat.node)),
-        None => None,
+fn line_in_scene(scene: &Scene<'_, '_, '_>, process: usize) -> u32
+    ensures { result ≡ line_of scene.now process }
+{
+    match seat_at(scene.seats(), process) {
+        Some(seat) => line_at_seat(scene, *seat),
+        None => 0,
     }
-}
-
-// The line of what stands first in a process, where something is left to do.
-fn first_line(picture: &Picture<'_, '_, '_>, process: usize) -> Option<u32> {
-    let seat = seat_at(&picture.scene, process)?;
-    standing_line(&picture.scene, seat)
 }
 
 /// The line of what stands first in a process, or that of its closing brace.
-pub fn line_of(picture: &Picture<'_, '_, '_>, process: usize) -> u32 {
-    match first_line(picture, process) {
-        Some(line) => line,
-        None => brace_line(proctype_of(picture, process)),
-    }
+pub fn line_of(picture: &Picture<'_, '_, '_>, process: usize) -> u32
+    ensures { result ≡ line_of picture.now process }
+{
+    line_in_scene(picture.scene(), process)
+}
+
+fn is_closed(scene: &Scene<'_, '_, '_>, seat: Seat) -> bool {
+    scene.standing(seat).is_none()
 }
 
 /// Whether nothing is left to do in a process.
 pub fn is_at_brace(picture: &Picture<'_, '_, '_>, process: usize) -> bool {
-    first_line(picture, process).is_none()
+    match seat_at(picture.scene().seats(), process) {
+        Some(seat) => is_closed(picture.scene(), *seat),
+        None => true,
+    }
 }

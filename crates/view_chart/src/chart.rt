@@ -48,7 +48,7 @@ pub fn add_birth(
     row.living(process);
     row.column(b"+", label.bytes());
     row.end(out);
-    out.heed(&label);
+    out.keep_refusal(&label);
 }
 
 fn add_death(width: usize, step: usize, process: usize, out: &mut Writer) {
@@ -116,7 +116,7 @@ pub fn add_row(
         _ => add_act(&mut row, alive, starter_of(m), label.bytes()),
     }
     row.end(out);
-    out.heed(&label);
+    out.keep_refusal(&label);
 }
 
 /// Writes the last row: `end: valid, steps 9`.

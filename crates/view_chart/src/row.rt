@@ -41,7 +41,7 @@ impl Row {
         digits.number(step);
         let mut text = Writer::new(alloc);
         text.blanks(STEP_WIDTH.saturating_sub(digits.len()));
-        text.append(&digits);
+        text.join(&digits);
         text.add(b" ");
         Row { text, width }
     }
@@ -93,6 +93,8 @@ impl Row {
     pub fn end(&self, out: &mut Writer) {
         out.add(without_blanks(self.text.bytes()));
         out.add(b"\n");
-        out.heed(&self.text);
+        if self.text.is_refused() {
+            out.refuse();
+        }
     }
 }

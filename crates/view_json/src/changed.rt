@@ -1,7 +1,9 @@
 //! What of a state differs from what was shown last.
 
-use crate::objects::{all_cells, cell, channel, standing};
+use crate::channel::channel;
+use crate::objects::{all_cells, cell};
 use crate::out::Json;
+use crate::process::standing;
 use pml_lines::changed::Change;
 use pml_moves::moves::Move;
 use std::alloc::{AllocError, Global};

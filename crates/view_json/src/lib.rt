@@ -2,6 +2,8 @@
 #![tactic(auto)]
 
 mod changed;
+mod channel;
 pub mod lines;
 mod objects;
 pub mod out;
+mod process;

@@ -1,12 +1,24 @@
 //! The lines.
 
+ghost use Rattle.std.specs.Prelude.{◌≡◌, ◌++◌, true, false, Some, length, pos, codes};
+ghost use Rattle.std.specs.List.{flat_map, range_with_len};
+ghost use Rattle.pml_moves.specs.declared.moves.Move.TheVariants.{Death};
+ghost use Rattle.pml_value.specs.Reads.{channel_at};
+ghost use Rattle.pml_texts.specs.Texts.{move_text};
+ghost use Rattle.view_text.specs.Written.{Adds};
+ghost use Rattle.view_json.specs.Printed.{Writes};
+ghost use Rattle.view_json.specs.Objects.{text};
+ghost use Rattle.view_json.specs.Lines.{begun, texts, does_word, mover, addressee, receiver, passed, effect, stuck_by, stuck, all_stuck, open_moves, stuck_where, is_own, ended, end_tokens, choices, chosen, front, faulted, line};
+
 pub use crate::changed::Shown;
 use crate::changed::{Behind, changed_cells, has_changes};
-use crate::objects::{all_cells, message, named, number, picked, text, written};
+use crate::channel::message;
+use crate::objects::{all_cells, number, text, whole, written};
 use crate::out::Json;
+use crate::process::{named, picked};
 use diagnostics::Fault;
 use pml_lines::changed::Change;
-use pml_moves::moves::Move;
+use pml_moves::moves::{Move, Pick};
 use pml_program::program::Proctype;
 use pml_texts::ends::stuck as pml_stuck;
 use pml_texts::texts::add_move;
@@ -37,8 +49,9 @@ pub struct Done<'s> {
 fn proctype(json: &mut Json, proctype: &Proctype<'_>) {
     json.begin_object();
     let mut name = Writer::new(json.allocator());
-    let answer = pml_lines::change::proctype_name(&proctype.name, name.text());
-    name.keep(answer);
+    let mut bytes = name.take();
+    let answer = pml_lines::change::proctype_name(&proctype.name, &mut bytes);
+    name.put(bytes, answer);
     written(json, "name", &name);
     number(json, "end", proctype.end.line() as usize);
     json.end_object();
@@ -54,7 +67,9 @@ fn proctypes(picture: &Picture<'_, '_, '_>, json: &mut Json) {
 }
 
 // Begins a line that tells of this.
-fn begin(alloc: Global, event: &str) -> Json {
+fn begin(alloc: Global, event: &str) -> Json
+    ensures { result.refused ≡ false → result.tokens ≡ begun event.now }
+{
     let mut json = Json::new(alloc);
     json.begin_object();
     json.key("event");
@@ -92,23 +107,38 @@ pub fn add_start(
     Ok(())
 }
 
+// Writes the text of a move.
+fn move_text(picture: &Picture<'_, '_, '_>, json: &mut Json, m: Move)
+    ensures { Writes json.old json.new (text (move_text picture.now m)) }
+{
+    let mut line = Writer::new(json.allocator());
+    let mut bytes = line.take();
+    let answer = add_move(picture.scene(), m, &mut bytes);
+    line.put(bytes, answer);
+    whole(json, &line);
+}
+
+fn move_texts(picture: &Picture<'_, '_, '_>, json: &mut Json, moves: &[Move])
+    ensures { Writes json.old json.new (flat_map (λ m. text (move_text picture.now m)) moves.now) }
+{
+    for m in moves {
+        move_text(picture, json, *m);
+    }
+}
+
 // Writes the texts of the present moves.
-fn texts(picture: &Picture<'_, '_, '_>, json: &mut Json, moves: &[Move]) {
+fn texts(picture: &Picture<'_, '_, '_>, json: &mut Json, moves: &[Move])
+    ensures { Writes json.old json.new (texts picture.now moves.now) }
+{
     json.key("moves");
     json.begin_array();
-    for m in moves {
-        let mut line = Writer::new(json.allocator());
-        let answer = add_move(&picture.scene, *m, line.text());
-        line.keep(answer);
-        json.text(line.bytes());
-        if line.is_refused() {
-            json.refuse();
-        }
-    }
+    move_texts(picture, json, moves);
     json.end_array();
 }
 
-fn does(does: Does) -> &'static str {
+fn does(does: Does) -> &'static str
+    ensures { result.now ≡ does_word does }
+{
     match does {
         Does::Statement => "statement",
         Does::Send => "send",
@@ -120,23 +150,30 @@ fn does(does: Does) -> &'static str {
     }
 }
 
+// Writes a process that ends, and the line of its closing brace.
+fn ending(picture: &Picture<'_, '_, '_>, json: &mut Json, process: usize)
+    ensures { Writes json.old json.new (mover picture.now (Death process)) }
+{
+    named(picture, json, process);
+    number(json, "line", line_of(picture, process) as usize);
+    text(json, "text", b"-end-");
+}
+
 // Writes whose move it is, and its text.
-fn mover(picture: &Picture<'_, '_, '_>, json: &mut Json, m: &Move) {
+fn mover(picture: &Picture<'_, '_, '_>, json: &mut Json, m: &Move)
+    ensures { Writes json.old json.new (mover picture.now m.now) }
+{
     match m {
-        Move::Death(process) => {
-            named(picture, json, *process);
-            number(json, "line", line_of(picture, *process) as usize);
-            text(json, "text", b"-end-");
-        }
+        Move::Death(process) => ending(picture, json, *process),
         Move::Alone(pick, _) => picked(picture, json, *pick),
         Move::Pair(sender, _, _) => picked(picture, json, *sender),
     }
 }
 
-// Writes what it does with a message.
-fn effect(picture: &Picture<'_, '_, '_>, json: &mut Json, effect: &Effect) {
-    json.key("does");
-    json.string(does(effect.does));
+// Writes with which channel something is done, and with which message.
+fn passed(picture: &Picture<'_, '_, '_>, json: &mut Json, effect: &Effect)
+    ensures { Writes json.old json.new (passed picture.now.program effect.now (channel_at picture.now.channels (pos effect.now.channel))) }
+{
     if let Some(channel) = channel_at(picture, effect.channel) {
         number(json, "chan", effect.channel);
         json.key("message");
@@ -144,13 +181,49 @@ fn effect(picture: &Picture<'_, '_, '_>, json: &mut Json, effect: &Effect) {
     }
 }
 
-fn receiver(picture: &Picture<'_, '_, '_>, json: &mut Json, m: &Move) {
+// Writes what it does with a message.
+fn effect(picture: &Picture<'_, '_, '_>, json: &mut Json, done: &Effect)
+    ensures { Writes json.old json.new (effect picture.now done.now) }
+{
+    json.key("does");
+    json.string(does(done.does));
+    passed(picture, json, done);
+}
+
+// Writes to whom a message goes.
+fn addressee(picture: &Picture<'_, '_, '_>, json: &mut Json, pick: Pick)
+    ensures { Writes json.old json.new (addressee picture.now pick) }
+{
+    json.key("to");
+    json.begin_object();
+    picked(picture, json, pick);
+    json.end_object();
+}
+
+fn receiver(picture: &Picture<'_, '_, '_>, json: &mut Json, m: &Move)
+    ensures { Writes json.old json.new (receiver picture.now m.now) }
+{
     if let Move::Pair(_, receiver, _) = m {
-        json.key("to");
-        json.begin_object();
-        picked(picture, json, *receiver);
-        json.end_object();
+        addressee(picture, json, *receiver);
     }
+}
+
+fn choices(picture: &Picture<'_, '_, '_>, json: &mut Json, moves: &[Move])
+    ensures { Writes json.old json.new (choices picture.now moves.now) }
+{
+    if moves.len() > 1 {
+        texts(picture, json, moves);
+    }
+}
+
+// Writes the number of a step, and which of how many moves it is.
+fn chosen(picture: &Picture<'_, '_, '_>, json: &mut Json, ahead: Ahead<'_>)
+    ensures { Writes json.old json.new (chosen picture.now ahead.entry.step ahead.entry.choice ahead.entry.moves.now) }
+{
+    number(json, "step", ahead.step);
+    number(json, "choice", ahead.choice);
+    number(json, "of", ahead.moves.len());
+    choices(picture, json, ahead.moves);
 }
 
 /// What is told of a step before it is taken: `event` is `step`, or `fault` where it comes to one.
@@ -160,14 +233,11 @@ pub fn front(
     event: &str,
     ahead: Ahead<'_>,
     m: &Move,
-) -> Json {
+) -> Json
+    ensures { result.refused ≡ false → result.tokens ≡ front picture.now event.now ahead.entry m.now }
+{
     let mut json = begin(alloc, event);
-    number(&mut json, "step", ahead.step);
-    number(&mut json, "choice", ahead.choice);
-    number(&mut json, "of", ahead.moves.len());
-    if ahead.moves.len() > 1 {
-        texts(picture, &mut json, ahead.moves);
-    }
+    chosen(picture, &mut json, ahead);
     mover(picture, &mut json, m);
     effect(picture, &mut json, ahead.effect);
     receiver(picture, &mut json, m);
@@ -212,33 +282,94 @@ pub fn add_step(
     Ok(())
 }
 
-/// Writes the line of a step that came to a fault.
-pub fn add_fault(front: Json, fault: Fault, out: &mut Writer) {
-    let mut json = front;
-    number(&mut json, "fault", fault.number() as usize);
-    text(&mut json, "words", fault.words());
-    json.end_object();
+// Writes a line, and that it ends.
+fn end_line(json: Json, out: &mut Writer)
+    ensures line { Adds out.old out.new (line json.tokens) }
+    ensures refused { json.refused ≡ true → out.new.refused ≡ true }
+{
     json.finish(out);
     out.add(b"\n");
 }
 
-fn stuck(picture: &Picture<'_, '_, '_>, json: &mut Json, process: usize) {
-    if let Some((name, line)) = pml_stuck(&picture.scene, process) {
-        json.begin_object();
-        number(json, "proc", process);
-        text(json, "name", name);
-        number(json, "line", line as usize);
-        json.end_object();
+/// Writes the line of a step that came to a fault.
+pub fn add_fault(front: Json, fault: Fault, out: &mut Writer)
+    ensures { Adds out.old out.new (line (front.tokens ++ faulted fault)) }
+{
+    let mut json = front;
+    number(&mut json, "fault", fault.number() as usize);
+    text(&mut json, "words", fault.words());
+    json.end_object();
+    end_line(json, out);
+}
+
+// Writes where a process may not end.
+fn stuck_place(json: &mut Json, process: usize, name: &[u8], line: u32)
+    ensures { Writes json.old json.new (stuck_by process (Some (name.now, line))) }
+{
+    json.begin_object();
+    number(json, "proc", process);
+    text(json, "name", name);
+    number(json, "line", line as usize);
+    json.end_object();
+}
+
+fn stuck(picture: &Picture<'_, '_, '_>, json: &mut Json, process: usize)
+    ensures { Writes json.old json.new (stuck picture.now process) }
+{
+    if let Some((name, line)) = pml_stuck(picture.scene(), process) {
+        stuck_place(json, process, name, line);
     }
 }
 
-fn all_stuck(picture: &Picture<'_, '_, '_>, json: &mut Json) {
-    json.key("at");
-    json.begin_array();
+fn each_stuck(picture: &Picture<'_, '_, '_>, json: &mut Json)
+    ensures { Writes json.old json.new (flat_map (stuck picture.now) (range_with_len 0 (length picture.now.stands))) }
+{
     for process in 0..picture.process_count() {
         stuck(picture, json, process);
     }
+}
+
+fn all_stuck(picture: &Picture<'_, '_, '_>, json: &mut Json)
+    ensures { Writes json.old json.new (all_stuck picture.now) }
+{
+    json.key("at");
+    json.begin_array();
+    each_stuck(picture, json);
     json.end_array();
+}
+
+fn stuck_where(picture: &Picture<'_, '_, '_>, json: &mut Json, is_own: bool)
+    ensures { Writes json.old json.new (stuck_where picture.now is_own) }
+{
+    if is_own {
+        all_stuck(picture, json);
+    }
+}
+
+fn open_moves(picture: &Picture<'_, '_, '_>, json: &mut Json, moves: &[Move])
+    ensures { Writes json.old json.new (open_moves picture.now moves.now) }
+{
+    if !moves.is_empty() {
+        texts(picture, json, moves);
+    }
+}
+
+// How the last line begins.
+fn ended(alloc: Global, steps: usize, end: &str) -> Json
+    ensures { result.refused ≡ false → result.tokens ≡ ended steps end.now }
+{
+    let mut json = begin(alloc, "end");
+    number(&mut json, "steps", steps);
+    json.key("end");
+    json.string(end);
+    json
+}
+
+// Whether a run ends so by itself.
+fn is_own(end: &str) -> bool
+    ensures { result ≡ is_own end.now }
+{
+    end == "invalid" || end == "valid"
 }
 
 /// Writes the last line.
@@ -248,18 +379,12 @@ pub fn add_end(
     end: &str,
     moves: &[Move],
     out: &mut Writer,
-) {
-    let mut json = begin(out.allocator(), "end");
-    number(&mut json, "steps", steps);
-    json.key("end");
-    json.string(end);
-    if end == "invalid" || end == "valid" {
-        all_stuck(picture, &mut json);
-    }
-    if !moves.is_empty() {
-        texts(picture, &mut json, moves);
-    }
+)
+    ensures { Adds out.old out.new (line (end_tokens picture.now steps end.now moves.now)) }
+{
+    let mut json = ended(out.allocator(), steps, end);
+    stuck_where(picture, &mut json, is_own(end));
+    open_moves(picture, &mut json, moves);
     json.end_object();
-    json.finish(out);
-    out.add(b"\n");
+    end_line(json, out);
 }

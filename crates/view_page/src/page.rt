@@ -1,11 +1,16 @@
 //! The page, and the steps as a list that is read without scripts.
 
+ghost use Rattle.view_text.specs.Written.{Adds};
+ghost use Rattle.view_page.specs.Page.{shown_byte, shown, held_byte, held, source, page, choice_text, printed_text, step_item, fault_item, end_item};
+
 use crate::parts::{TO_HEADING, TO_LINES, TO_SOURCE, TO_STEPS, TO_TITLE};
 use crate::script::TO_END;
 use diagnostics::Fault;
 use view_text::writer::Writer;
 
-fn add_escaped_byte(byte: u8, out: &mut Writer) {
+fn add_escaped_byte(byte: u8, out: &mut Writer)
+    ensures { Adds out.old out.new (shown_byte byte) }
+{
     match byte {
         b'\r' => out.add(b"&#13;"),
         b'&' => out.add(b"&amp;"),
@@ -17,20 +22,30 @@ fn add_escaped_byte(byte: u8, out: &mut Writer) {
 }
 
 // Writes bytes so that HTML shows them as they are.
-fn add_escaped(bytes: &[u8], out: &mut Writer) {
+fn add_escaped(bytes: &[u8], out: &mut Writer)
+    ensures { Adds out.old out.new (shown bytes.now) }
+{
     for byte in bytes {
         add_escaped_byte(*byte, out);
     }
 }
 
+fn add_held_byte(byte: u8, out: &mut Writer)
+    ensures { Adds out.old out.new (held_byte byte) }
+{
+    if byte == b'<' {
+        out.add(b"\\u003c");
+    } else {
+        out.add(&[byte]);
+    }
+}
+
 // Writes lines of JSON so that nothing in them ends the element that holds them.
-fn add_lines(lines: &[u8], out: &mut Writer) {
+fn add_lines(lines: &[u8], out: &mut Writer)
+    ensures { Adds out.old out.new (held lines.now) }
+{
     for byte in lines {
-        if *byte == b'<' {
-            out.add(b"\\u003c");
-        } else {
-            out.add(&[*byte]);
-        }
+        add_held_byte(*byte, out);
     }
 }
 
@@ -43,28 +58,40 @@ pub struct Contents<'c> {
     pub lines: &'c [u8],
 }
 
+fn add_part(part: &str, out: &mut Writer)
+    ensures { Adds out.old out.new part.now }
+{
+    out.add(part.as_bytes());
+}
+
 // Writes what stands before the steps.
-fn add_source(contents: Contents<'_>, out: &mut Writer) {
-    out.add(TO_TITLE.as_bytes());
+fn add_source(contents: Contents<'_>, out: &mut Writer)
+    ensures { Adds out.old out.new (source contents.entry) }
+{
+    add_part(TO_TITLE, out);
     add_escaped(contents.name, out);
-    out.add(TO_HEADING.as_bytes());
+    add_part(TO_HEADING, out);
     add_escaped(contents.name, out);
-    out.add(TO_SOURCE.as_bytes());
+    add_part(TO_SOURCE, out);
     add_escaped(contents.model, out);
 }
 
 /// Writes the page.
-pub fn add_page(contents: Contents<'_>, out: &mut Writer) {
+pub fn add_page(contents: Contents<'_>, out: &mut Writer)
+    ensures { Adds out.old out.new (page contents.entry) }
+{
     add_source(contents, out);
-    out.add(TO_STEPS.as_bytes());
+    add_part(TO_STEPS, out);
     out.add(contents.steps);
-    out.add(TO_LINES.as_bytes());
+    add_part(TO_LINES, out);
     add_lines(contents.lines, out);
-    out.add(TO_END.as_bytes());
+    add_part(TO_END, out);
 }
 
 // Writes which choice a step was, where it was one of several.
-fn add_choice(choice: usize, of: usize, out: &mut Writer) {
+fn add_choice(choice: usize, of: usize, out: &mut Writer)
+    ensures { Adds out.old out.new (choice_text choice of) }
+{
     if of > 1 {
         out.add(b", choice ");
         out.number(choice);
@@ -73,23 +100,37 @@ fn add_choice(choice: usize, of: usize, out: &mut Writer) {
     }
 }
 
+// Writes what a step printed, if anything.
+fn add_printed(printed: &[u8], out: &mut Writer)
+    ensures { Adds out.old out.new (printed_text printed.now) }
+{
+    if printed.is_empty() {
+        return;
+    }
+    let mut quoted = Writer::new(out.allocator());
+    quoted.quoted(printed);
+    out.add(b", prints ");
+    add_escaped(quoted.bytes(), out);
+    if quoted.is_refused() {
+        out.refuse();
+    }
+}
+
 /// Writes a step as an item of the list: its text, which choice it was, and what it printed.
-pub fn add_item(text: &[u8], printed: &[u8], choice: usize, of: usize, out: &mut Writer) {
+pub fn add_item(text: &[u8], printed: &[u8], choice: usize, of: usize, out: &mut Writer)
+    ensures { Adds out.old out.new (step_item text.now printed.now choice of) }
+{
     out.add(b"<li>");
     add_escaped(text, out);
     add_choice(choice, of, out);
-    if !printed.is_empty() {
-        let mut quoted = Writer::new(out.allocator());
-        quoted.quoted(printed);
-        out.add(b", prints ");
-        add_escaped(quoted.bytes(), out);
-        out.heed(&quoted);
-    }
+    add_printed(printed, out);
     out.add(b"</li>\n");
 }
 
 /// Writes a step that came to a fault.
-pub fn add_fault_item(text: &[u8], fault: Fault, out: &mut Writer) {
+pub fn add_fault_item(text: &[u8], fault: Fault, out: &mut Writer)
+    ensures { Adds out.old out.new (fault_item text.now fault) }
+{
     out.add(b"<li>");
     add_escaped(text, out);
     out.add(b": fault F");
@@ -100,7 +141,9 @@ pub fn add_fault_item(text: &[u8], fault: Fault, out: &mut Writer) {
 }
 
 /// Writes how the run ends.
-pub fn add_end_item(end: &[u8], out: &mut Writer) {
+pub fn add_end_item(end: &[u8], out: &mut Writer)
+    ensures { Adds out.old out.new (end_item end.now) }
+{
     out.add(b"<li>end: ");
     add_escaped(end, out);
     out.add(b"</li>\n");

@@ -48,7 +48,7 @@ fn of_pick(scene: &Scene<'_, '_, '_>, pick: Pick, timeout: bool) -> Option<usize
 /// The number of the channel that a process waits at to send or to receive.
 pub fn channel_of(picture: &Picture<'_, '_, '_>, wait: &Wait) -> Option<usize> {
     match wait.pick {
-        Some(pick) => of_pick(&picture.scene, pick, wait.timeout),
+        Some(pick) => of_pick(picture.scene(), pick, wait.timeout),
         None => None,
     }
 }

@@ -40,11 +40,11 @@ fn add_channel(live: &LiveChannel, out: &mut Writer) {
 
 /// Writes a whole state.
 pub fn add_whole(picture: &Picture<'_, '_, '_>, out: &mut Writer) {
-    add_processes(&picture.scene, out);
+    add_processes(picture.scene(), out);
     out.add(b"; ");
-    for live in picture.scene.channels() {
+    for live in picture.scene().channels() {
         add_channel(live, out);
     }
     out.add(b"; ");
-    add_numbers(picture.variables.cells().as_slice(), out);
+    add_numbers(picture.variables().cells().as_slice(), out);
 }

@@ -88,13 +88,13 @@ fn take(
     let alloc = sheet.lines.allocator();
     let mut text = Writer::new(alloc);
     add_move(&picture_of(walk.world()), &taking.m, &mut text);
-    sheet.items.heed(&text);
     let front = front_of(walk, "step", taking, sheet);
     let older = walk.world().process_count();
     let mut printed = Vec::new(alloc);
     match choose(walk, taking.choice, &mut printed)? {
         Went::On => {
             let of = taking.moves.len();
+            sheet.items.keep_refusal(&text);
             add_item(
                 text.bytes(),
                 printed.as_slice(),
@@ -106,6 +106,7 @@ fn take(
             Ok(None)
         }
         Went::Faults(fault) => {
+            sheet.items.keep_refusal(&text);
             add_fault_item(text.bytes(), fault, &mut sheet.items);
             add_faulted(walk, fault, taking, sheet);
             Ok(Some("fault"))

@@ -154,7 +154,9 @@ fn go_to_last(
     told: &mut Told,
 ) -> Result<(), AllocError> {
     let mut text = Writer::new(told.out.allocator());
-    match last_written(walk, path.as_bytes(), &mut text)? {
+    let found = last_written(walk, path.as_bytes(), &mut text)?;
+    told.out.keep_refusal(&text);
+    match found {
         Some(step) => {
             let before = step.saturating_sub(1).min(walk.turns().len());
             walk.go_to(before)?;

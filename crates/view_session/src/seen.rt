@@ -7,11 +7,7 @@ use view_cells::picture::Picture;
 
 /// The present state of a machine.
 pub fn picture_of<'w, 'p, 'a>(world: &'w World<'p, 'a>) -> Picture<'w, 'p, 'a>
-    ensures { result.scene ≡ world.now.state }
+    ensures { result ≡ world.now.state }
 {
-    Picture {
-        scene: world.scene(),
-        tables: world.tables(),
-        variables: world.variables(),
-    }
+    Picture::new(world.scene(), world.tables(), world.variables())
 }

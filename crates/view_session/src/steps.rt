@@ -32,8 +32,9 @@ fn add_changes(world: &World<'_, '_>, out: &mut Writer) -> Result<(), AllocError
     let changes = world.changes()?;
     for change in changes.as_slice() {
         out.add(b"  ");
-        let answer = world.value_line(change, out.text());
-        out.keep(answer);
+        let mut text = out.take();
+        let answer = world.value_line(change, &mut text);
+        out.put(text, answer);
     }
     Ok(())
 }
@@ -114,7 +115,7 @@ pub fn take(
     let step = walk.at().saturating_add(1);
     let mut text = Writer::new(told.out.allocator());
     add_move(&picture_of(walk.world()), &m, &mut text);
-    told.out.heed(&text);
+    told.out.keep_refusal(&text);
     let mut printed = Vec::new(told.out.allocator());
     told.step_from(walk.at());
     match choose(walk, choice, &mut printed)? {
@@ -165,6 +166,7 @@ pub fn take_until<'l>(
             break;
         }
     }
+    told.out.keep_refusal(&text);
     Ok(())
 }
 

@@ -39,8 +39,9 @@ fn add_effect(picture: &Picture<'_, '_, '_>, effect: &Effect, out: &mut Writer) 
 
 /// Writes the text of a move.
 pub fn add_move(picture: &Picture<'_, '_, '_>, m: &Move, out: &mut Writer) {
-    let answer = move_text(&picture.scene, *m, out.text());
-    out.keep(answer);
+    let mut text = out.take();
+    let answer = move_text(picture.scene(), *m, &mut text);
+    out.put(text, answer);
 }
 
 // Writes a line of the list.
@@ -70,8 +71,8 @@ fn add_aligned(number: usize, widest: usize, out: &mut Writer) {
     let mut most = Writer::new(out.allocator());
     most.number(widest);
     out.blanks(most.len().saturating_sub(digits.len()));
-    out.append(&digits);
-    out.heed(&most);
+    out.join(&digits);
+    out.keep_refusal(&most);
 }
 
 // Writes a line of a list that is shown by process, and before it that of its process, where it is another than that of the heading.
@@ -86,13 +87,16 @@ fn add_grouped(
     let mut own = Writer::new(out.allocator());
     add_process(picture, starter_of(m), &mut own);
     if own.bytes() != heading.bytes() {
-        out.append(&own);
+        out.join(&own);
         out.add(b"\n");
         heading.clear();
-        heading.append(&own);
+        heading.join(&own);
     }
     let mut text = Writer::new(out.allocator());
     add_move(picture, m, &mut text);
+    out.keep_refusal(&text);
+    out.keep_refusal(&own);
+    out.keep_refusal(heading);
     out.add(b"  choice ");
     add_aligned(number, count, out);
     out.add(b":");
@@ -101,8 +105,6 @@ fn add_grouped(
             .strip_prefix(own.bytes())
             .unwrap_or(text.bytes()),
     );
-    out.heed(&own);
-    out.heed(&text);
     add_effect(picture, &effect, out);
     out.add(b"\n");
     Ok(())
@@ -119,7 +121,6 @@ fn add_by_process(
         let number = (at + 1, moves.len());
         add_grouped(picture, number, &moves[at], &mut heading, out)?;
     }
-    out.heed(&heading);
     Ok(())
 }
 
@@ -140,7 +141,7 @@ pub fn add_choices(
 
 // Writes where a process is stuck, if it is.
 fn add_stuck(picture: &Picture<'_, '_, '_>, process: usize, out: &mut Writer) {
-    if let Some((name, line)) = stuck(&picture.scene, process) {
+    if let Some((name, line)) = stuck(picture.scene(), process) {
         out.add(b"at: proc ");
         out.number(process);
         out.add(b" (");
@@ -165,7 +166,7 @@ pub fn add_ending(picture: &Picture<'_, '_, '_>, steps: usize, out: &mut Writer)
 
 /// Whether a run that ends here ends well, as a word.
 pub fn ending_of(picture: &Picture<'_, '_, '_>) -> &'static str {
-    if is_valid(&picture.scene) {
+    if is_valid(picture.scene()) {
         "valid"
     } else {
         "invalid"

@@ -32,9 +32,8 @@ fn add_variable(
             cell,
         };
         add_cell(picture, place, &mut item);
-        filled.add(item.bytes(), out);
+        filled.add(&item, out);
     }
-    out.heed(&item);
 }
 
 // Those of each variable of a frame.
@@ -61,9 +60,8 @@ fn add_messages(
     for place in 0..channel.len() {
         item.clear();
         add_message(picture, channel.types(), channel.message(place), &mut item);
-        filled.add(item.bytes(), out);
+        filled.add(&item, out);
     }
-    out.heed(&item);
 }
 
 fn add_contents(picture: &Picture<'_, '_, '_>, channel: &Channel, start: usize, out: &mut Writer) {

@@ -30,14 +30,14 @@ impl Filled {
     }
 
     /// Writes an item.
-    pub fn add(&mut self, item: &[u8], out: &mut Writer) {
-        if self.has_room(out.len(), item) {
+    pub fn add(&mut self, item: &Writer, out: &mut Writer) {
+        if self.has_room(out.len(), item.bytes()) {
             out.add(b"  ");
         } else {
             out.add(b"\n");
             self.start = out.len();
             out.blanks(self.indent);
         }
-        out.add(item);
+        out.join(item);
     }
 }

@@ -1,8 +1,9 @@
 //! A text that is written piece by piece. Want of memory is told once, at the end.
 
-ghost use Rattle.std.specs.Prelude.{◌≡◌, ◌++◌, ◌||◌, [], true, false, length, IfOk};
+ghost use Rattle.std.specs.Prelude.{◌≡◌, ◌%◌, ◌++◌, [], true, false, length, IfOk, OnOk, OnErr};
 ghost use Rattle.std.specs.Fmt.{decimal, signed_decimal};
-ghost use Rattle.view_text.specs.Written.{Adds, Stays};
+ghost use Rattle.view_text.specs.Written.{Adds, Stays, quoted_byte, quoted};
+ghost use Rattle.std.specs.Char.{digit_char};
 
 use itoa::Buffer;
 use std::alloc::{AllocError, Global};
@@ -80,7 +81,7 @@ impl Writer {
 
     // Writes a byte within quotation marks.
     fn quoted_byte(&mut self, byte: u8)
-        ensures { Stays self.old self.new }
+        ensures { Adds self.old self.new (quoted_byte byte) }
     {
         match byte {
             b'\n' => self.add(b"\\n"),
@@ -100,13 +101,34 @@ impl Writer {
 
     /// Writes bytes between quotation marks, on one line: those below 32, 127, quotation marks and backslashes by an escape.
     pub fn quoted(&mut self, bytes: &[u8])
-        ensures { Stays self.old self.new }
+        ensures { Adds self.old self.new (quoted bytes.now) }
     {
         self.add(b"\"");
         for byte in bytes {
             self.quoted_byte(*byte);
         }
         self.add(b"\"");
+    }
+
+    /// Writes another text; where memory was refused for it, it is refused here.
+    pub fn join(&mut self, text: &Writer)
+        ensures added { Adds self.old self.new text.now.text }
+        ensures refused { text.now.refused ≡ true → self.new.refused ≡ true }
+    {
+        self.add(text.bytes());
+        self.keep_refusal(text);
+    }
+
+    /// Keeps whether memory was refused for another text.
+    pub fn keep_refusal(&mut self, text: &Writer)
+        ensures text { self.new.text ≡ self.old.text }
+        ensures refused { text.now.refused ≡ true → self.new.refused ≡ true }
+        ensures stays { text.now.refused ≡ false → self.new ≡ self.old }
+        ensures kept { Stays self.old self.new }
+    {
+        if text.is_refused {
+            self.is_refused = true;
+        }
     }
 
     /// How many bytes are written.
@@ -124,14 +146,30 @@ impl Writer {
         self.text.clear();
     }
 
-    /// What is written, for a call that appends to it.
-    pub fn text(&mut self) -> &mut Vec<u8> {
-        &mut self.text
+    /// Takes what is written, for a call that appends to it; `put` gives it back.
+    pub fn take(&mut self) -> Vec<u8>
+        ensures text { result.items ≡ self.old.text }
+        ensures refused { self.new.refused ≡ self.old.refused }
+    {
+        let empty = Vec::new(*self.text.allocator());
+        std::mem::replace(&mut self.text, empty)
     }
 
-    /// Keeps whether such a call was refused memory.
+    /// Puts back what was taken, with whether the call was refused memory.
+    pub fn put(&mut self, text: Vec<u8>, answer: Result<(), AllocError>)
+        ensures text { self.new.text ≡ text.items }
+        ensures refused { OnErr answer (self.new.refused ≡ true) }
+        ensures stays { OnOk answer (self.new.refused ≡ self.old.refused) }
+    {
+        self.text = text;
+        self.keep(answer);
+    }
+
+    /// Keeps whether a call was refused memory.
     pub fn keep(&mut self, answer: Result<(), AllocError>)
-        ensures { self.new.text ≡ self.old.text }
+        ensures text { self.new.text ≡ self.old.text }
+        ensures refused { OnErr answer (self.new.refused ≡ true) }
+        ensures stays { OnOk answer (self.new.refused ≡ self.old.refused) }
     {
         if answer.is_err() {
             self.is_refused = true;
@@ -143,24 +181,6 @@ impl Writer {
         ensures { self.new ≡ record self.old { refused = true } }
     {
         self.is_refused = true;
-    }
-
-    /// Memory that was refused for a part is refused for the whole.
-    pub fn heed(&mut self, part: &Writer)
-        ensures { self.new ≡ record self.old { refused = self.old.refused || part.now.refused } }
-    {
-        if part.is_refused {
-            self.is_refused = true;
-        }
-    }
-
-    /// Writes what another one has written, unless that was refused memory.
-    pub fn append(&mut self, part: &Writer)
-        ensures added { Adds self.old self.new part.now.text }
-        ensures heeded { part.now.refused ≡ true → self.new.refused ≡ true }
-    {
-        self.heed(part);
-        self.add(part.bytes());
     }
 
     /// What is written so far.
@@ -195,7 +215,9 @@ impl Writer {
 }
 
 // A digit below 16.
-fn hexadecimal(digit: u8) -> u8 {
+fn hexadecimal(digit: u8) -> u8
+    ensures { result ≡ digit_char (digit % 16) }
+{
     let digit = digit % 16;
     if digit < 10 {
         b'0' + digit

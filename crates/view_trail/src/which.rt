@@ -28,7 +28,7 @@ const OF_D_STEP: usize = 1_000_000_000;
 fn text_of(picture: &Picture<'_, '_, '_>, pick: Pick, out: &mut Writer) -> Writer {
     let mut text = Writer::new(out.allocator());
     add_offer(picture, pick, &mut text);
-    out.heed(&text);
+    out.keep_refusal(&text);
     text
 }
 
@@ -37,8 +37,8 @@ fn is_spelled(one: &[u8], other: &[u8], out: &mut Writer) -> bool {
     add_spelled(one, &mut spelled);
     let mut wanted = Writer::new(out.allocator());
     add_spelled(other, &mut wanted);
-    out.heed(&spelled);
-    out.heed(&wanted);
+    out.keep_refusal(&spelled);
+    out.keep_refusal(&wanted);
     spelled.bytes() == wanted.bytes()
 }
 
@@ -137,7 +137,7 @@ fn spelled_of(
         Move::Alone(pick, _) if pick.process == process => {
             let mut spelled = Writer::new(out.allocator());
             add_spelled(text_of(picture, *pick, out).bytes(), &mut spelled);
-            out.heed(&spelled);
+            out.keep_refusal(&spelled);
             Some(spelled)
         }
         _ => None,
@@ -168,7 +168,7 @@ fn selecting(
     };
     let mut wanted = Writer::new(out.allocator());
     add_spelled(text, &mut wanted);
-    out.heed(&wanted);
+    out.keep_refusal(&wanted);
     for at in 0..moves.len() {
         if let Some(spelled) = spelled_of(picture, &moves[at], entry.process, out) {
             let counts = counts_behind(spelled.bytes(), wanted.bytes(), trail.counts());
@@ -249,7 +249,8 @@ fn is_shown_alone(entry: &Entry<'_>) -> bool {
     }
 }
 
-/// Which of the present moves is next; the trail goes on behind the lines that name it. Where memory is refused for what is compared, `out` says so.
+/// Which of the present moves is next; the trail goes on behind the lines that name it. Where memory was refused for a text that was compared, it is kept in `out`,
+/// and what is answered says nothing.
 pub fn which(
     picture: &Picture<'_, '_, '_>,
     moves: &[Move],

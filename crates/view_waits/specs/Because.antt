@@ -1,5 +1,5 @@
 -- Which reason is given for an offer that is no move.
-use Rattle.std.specs.Prelude.{nat_eq, if◌then◌else◌, length, List, Option, Some, None, Result, Ok, Err}
+use Rattle.std.specs.Prelude.{ℕ, codes, nat_eq, if◌then◌else◌, length, List, Option, Some, None, Result, Ok, Err}
 use Rattle.diagnostics.specs.declared.fault.Fault.{Fault}
 use Rattle.pml_program.specs.declared.program.Action.{Action}
 use Rattle.pml_program.specs.declared.program.Action.TheVariants as a
@@ -54,3 +54,18 @@ because cs r (Some (Block s)) = why.Escape
 because cs r (Some (Atomic s)) = why.Escape
 because cs r (Some (Unless s e)) = why.Escape
 because cs r None = why.Escape
+
+-- the name of a reason
+abbrev pub code : Because → List ℕ
+code (why.Held p) = codes "held"
+code (why.Younger p) = codes "younger"
+code why.False = codes "false"
+code why.Full = codes "full"
+code why.Empty = codes "empty"
+code why.NoMatch = codes "no match"
+code why.NoReceiver = codes "no receiver"
+code why.NoSender = codes "no sender"
+code why.Processes = codes "processes"
+code why.DStep = codes "d_step"
+code why.Else = codes "else"
+code why.Escape = codes "escape"

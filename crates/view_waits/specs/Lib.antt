@@ -5,3 +5,4 @@ pub mod Added
 pub mod Why
 pub mod Laws
 pub mod Filled
+pub mod Offers

@@ -4,7 +4,7 @@ ghost use Rattle.std.specs.Prelude.{◌≡◌};
 ghost use Rattle.std.specs.Option.{option_copied};
 ghost use Rattle.pml_moves.specs.Executable.{named as names};
 ghost use Rattle.pml_value.specs.Reads.{seen};
-ghost use Rattle.view_waits.specs.Because.{at_send, at_receive, of_send, of_receive, of_action, because};
+ghost use Rattle.view_waits.specs.Because.{at_send, at_receive, of_send, of_receive, of_action, because, code};
 
 use pml_channel::channel::Channel;
 use pml_moves::executable::named;
@@ -37,7 +37,9 @@ pub enum Because {
 
 impl Because {
     /// Its name.
-    pub fn code(self) -> &'static str {
+    pub fn code(self) -> &'static str
+        ensures { result.now ≡ code self }
+    {
         match self {
             Because::Held(_) => "held",
             Because::Younger(_) => "younger",

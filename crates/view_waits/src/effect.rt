@@ -198,7 +198,7 @@ pub fn effect_of(
 ) -> Result<Effect, AllocError> {
     match m {
         Move::Death(_) => Ok(plain(alloc, Does::End)),
-        Move::Alone(pick, timeout) => of_pick(alloc, &picture.scene, *pick, *timeout),
-        Move::Pair(sender, _, timeout) => of_pick(alloc, &picture.scene, *sender, *timeout),
+        Move::Alone(pick, timeout) => of_pick(alloc, picture.scene(), *pick, *timeout),
+        Move::Pair(sender, _, timeout) => of_pick(alloc, picture.scene(), *sender, *timeout),
     }
 }

@@ -1,39 +1,66 @@
 //! The offers that picks name.
 
+ghost use Rattle.std.specs.Prelude.{◌≡◌};
+ghost use Rattle.view_text.specs.Written.{Adds};
+ghost use Rattle.view_waits.specs.Offers.{behind, bare, offered_line, offered_text};
+
 use pml_moves::moves::Pick;
 use pml_moves::picked::picked;
 use pml_moves::scene::Scene;
 use view_cells::picture::Picture;
 use view_text::writer::Writer;
 
-// What stands between the brackets of `line L [TEXT]`.
-fn bare(text: &[u8]) -> &[u8] {
+// What stands behind the first `[`.
+fn behind(text: &[u8]) -> &[u8]
+    ensures { result.now ≡ behind text.now }
+{
     for i in 0..text.len() {
-        if text[i] == b'[' && i + 1 < text.len() {
-            return &text[i + 1..text.len() - 1];
+        if text[i] == b'[' {
+            return &text[i + 1..];
         }
     }
-    text
+    &[]
 }
 
-fn offered<'p>(scene: &Scene<'_, 'p, '_>, pick: Pick) -> Option<(u32, &'p [u8])> {
-    let offer = picked(scene, pick)?;
-    let graph = offer.body.graph;
-    let statement = offer.edge.statement;
-    Some((graph.offer_line(statement), graph.text(statement)))
+// What stands between the brackets of `line L [TEXT]`.
+fn bare(text: &[u8]) -> &[u8]
+    ensures { result.now ≡ bare text.now }
+{
+    let rest = behind(text);
+    if rest.is_empty() {
+        return rest;
+    }
+    &rest[..rest.len() - 1]
 }
 
-/// The line of the offer that a pick names.
-pub fn offer_line(picture: &Picture<'_, '_, '_>, pick: Pick) -> u32 {
-    match offered(&picture.scene, pick) {
-        Some((line, _)) => line,
+fn line_in_scene(scene: &Scene<'_, '_, '_>, pick: Pick) -> u32
+    ensures { result ≡ offered_line scene.now pick }
+{
+    match picked(scene, pick) {
+        Some(offer) => offer.body.graph.offer_line(offer.edge.statement),
         None => 0,
     }
 }
 
-/// Writes the text of the offer that a pick names, without its line and its brackets.
-pub fn add_offer(picture: &Picture<'_, '_, '_>, pick: Pick, out: &mut Writer) {
-    if let Some((_, text)) = offered(&picture.scene, pick) {
-        out.add(bare(text));
+fn text_in_scene<'p>(scene: &Scene<'_, 'p, '_>, pick: Pick) -> &'p [u8]
+    ensures { result.now ≡ offered_text scene.now pick }
+{
+    match picked(scene, pick) {
+        Some(offer) => bare(offer.body.graph.text(offer.edge.statement)),
+        None => &[],
     }
+}
+
+/// The line of the offer that a pick names.
+pub fn offer_line(picture: &Picture<'_, '_, '_>, pick: Pick) -> u32
+    ensures { result ≡ offered_line picture.now pick }
+{
+    line_in_scene(picture.scene(), pick)
+}
+
+/// Writes the text of the offer that a pick names, without its line and its brackets.
+pub fn add_offer(picture: &Picture<'_, '_, '_>, pick: Pick, out: &mut Writer)
+    ensures { Adds out.old out.new (offered_text picture.now pick) }
+{
+    out.add(text_in_scene(picture.scene(), pick));
 }

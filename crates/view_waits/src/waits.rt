@@ -230,14 +230,14 @@ pub fn add_waits(
     process: usize,
     waits: &mut Vec<Wait>,
 ) -> Result<(), AllocError>
-    ensures { moves.now ≡ all_moves picture.now.scene → OnOk result (waits.new.items ≡ waits.old.items ++ all_waits picture.now.scene process) }
+    ensures { moves.now ≡ all_moves picture.now → OnOk result (waits.new.items ≡ waits.old.items ++ all_waits picture.now process) }
 {
     if is_in(process, moves) {
         return Ok(());
     }
     match in_control(picture.holder(), moves) {
         Some(holder) => put(Because::Held(holder), waits),
-        None => add_here(&picture.scene, process, timeout_of(moves), waits),
+        None => add_here(picture.scene(), process, timeout_of(moves), waits),
     }
 }
 

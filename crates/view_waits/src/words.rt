@@ -231,8 +231,8 @@ fn add_receive(
     match named(view, target, wants.len()) {
         Ok((number, channel)) => {
             let name = name_of(picture, number, out);
-            out.heed(&name);
             add_receive_from(picture, view, (name.bytes(), channel), search, wants, out);
+            out.keep_refusal(&name);
         }
         Err(_) => out.add(IN_ESCAPE),
     }
@@ -248,8 +248,8 @@ fn add_send(
     match named(view, target, fields.len()) {
         Ok((number, channel)) => {
             let name = name_of(picture, number, out);
-            out.heed(&name);
             add_send_to(picture, view, (name.bytes(), channel), fields, out);
+            out.keep_refusal(&name);
         }
         Err(_) => out.add(IN_ESCAPE),
     }
@@ -314,7 +314,7 @@ pub fn add_words(picture: &Picture<'_, '_, '_>, wait: &Wait, out: &mut Writer) {
             add_process(picture, youngest, out);
             out.add(b" has ended");
         }
-        (_, Some(pick)) => add_pick(picture, &picture.scene, pick, wait.timeout, out),
+        (_, Some(pick)) => add_pick(picture, picture.scene(), pick, wait.timeout, out),
         _ => {}
     }
 }

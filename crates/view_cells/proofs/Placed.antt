@@ -1,0 +1,12 @@
+-- The number at a place, where there is one.
+use Rattle.std.proofs.Common.{◌≡◌, sym, ℕ, ◌<◌, ◌≤◌, List, length, pos}
+use Rattle.std.proofs.lemmas.List.{get_or_past}
+use Rattle.pml_store.specs.declared.place.Place.{Place}
+use Rattle.pml_store.specs.Store.{Frame, HasPlace, cells_at, size_at, number_at}
+use Rattle.pml_store.proofs.Back as back
+
+pub has_cell : (frames : List Frame) (p : Place) → p.cell < size_at frames p.frame p.variable → HasPlace frames p
+has_cell = back.has_cell
+
+pub no_cell : (frames : List Frame) (p : Place) → size_at frames p.frame p.variable ≤ p.cell → pos 0 ≡ number_at frames p
+no_cell frames p past = sym (get_or_past (cells_at frames p) p.cell (pos 0) past)

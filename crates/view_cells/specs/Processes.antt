@@ -1,0 +1,29 @@
+-- Processes, and where they stand.
+use Rattle.std.specs.Prelude.{ℕ, List, [], Option, Some, None, slice_get}
+use Rattle.pml_program.specs.declared.program.Proctype.{Proctype}
+use Rattle.pml_program.specs.declared.program.Program.{Program}
+use Rattle.pml_control.specs.Control.{Control}
+use Rattle.pml_flow.specs.Marks.{line_at}
+use Rattle.pml_lines.specs.Changes.{proctype_name}
+use Rattle.pml_moves.specs.State.{Stand, State}
+use Rattle.pml_texts.specs.Texts.{proctype_of}
+
+abbrev pub name_by : Option Proctype → List ℕ
+name_by None = []
+name_by (Some q) = proctype_name q.name
+
+-- the name of a process's proctype, or of init
+abbrev pub name_of : State → ℕ → List ℕ
+name_of s p = name_by (proctype_of s p)
+
+abbrev pub line_in : Option Proctype → Control → ℕ
+line_in None c = 0
+line_in (Some q) c = line_at q.body q.end.line c
+
+abbrev pub line_by : Program → Option Stand → ℕ
+line_by pr None = 0
+line_by pr (Some y) = line_in (slice_get pr.proctypes y.kind) y.control
+
+-- the line of what stands first in a process, or of its closing brace
+abbrev pub line_of : State → ℕ → ℕ
+line_of s p = line_by s.program (slice_get s.stands p)

@@ -1,0 +1,7 @@
+use Rattle.view_text.proofs.Writing.{each_more}
+use Rattle.view_json.specs.Lines.{stuck}
+use Rattle.view_json.proofs.Writing.{chain}
+use Rattle.view_json.proofs.lines.each_stuck.Goals as goal
+
+pub loop-process-preserved : goal.loop-process-preserved
+loop-process-preserved c = chain _ _ _ _ _ _ c.loop-process.invariant c.stuck.ensures (each_more (stuck c.args.picture.now) c.loop-process.process)

@@ -1,0 +1,10 @@
+use Rattle.pml_texts.specs.Texts.{move_text}
+use Rattle.view_text.proofs.Writing.{item_more}
+use Rattle.view_json.specs.Objects.{text}
+use Rattle.view_json.proofs.Writing.{chain}
+use Rattle.view_json.proofs.lines.move_texts.Goals as goal
+
+pub loop-m-preserved : goal.loop-m-preserved
+loop-m-preserved c =
+    chain _ _ _ _ _ _ c.loop-m.invariant c.move_text.ensures
+    (item_more (λ m. text (move_text c.args.picture.now m)) c.args.moves.now c.loop-m.m-index _ c.loop-m-test.true)

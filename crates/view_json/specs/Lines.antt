@@ -1,0 +1,121 @@
+-- The tokens of lines: what is told of a step before it is taken, of a fault, and of the end of a run.
+use Rattle.std.specs.Prelude.{ℕ, Bool, ◌||◌, ltb, if◌then◌else◌, List, [], ◌∷◌, ◌++◌, length, Option, Some, None, pos, codes}
+use Rattle.std.specs.List.{flat_map, range_with_len}
+use Rattle.std.specs.Str.{bytes_eq}
+use Rattle.json.specs.Token.{Token, begin_object, end_object, string}
+use Rattle.json.specs.Print.{print}
+use Rattle.diagnostics.specs.declared.fault.Fault.{Fault}
+use Rattle.diagnostics.specs.Words.{fault_number, fault_words}
+use Rattle.pml_program.specs.declared.program.Program.{Program}
+use Rattle.pml_channel.specs.State.{ChannelState}
+use Rattle.pml_value.specs.Reads.{channel_at}
+use Rattle.pml_moves.specs.declared.moves.Pick.{Pick}
+use Rattle.pml_moves.specs.declared.moves.Move.{Move}
+use Rattle.pml_moves.specs.declared.moves.Move.TheVariants.{Death, Alone, Pair}
+use Rattle.pml_moves.specs.State.{State}
+use Rattle.pml_texts.specs.Texts.{move_text, stuck_of}
+use Rattle.view_cells.specs.Processes.{line_of}
+use Rattle.view_waits.specs.declared.effect.Does.{Does}
+use Rattle.view_waits.specs.declared.effect.Does.TheVariants as does
+use Rattle.view_waits.specs.declared.effect.Effect.{Effect}
+use Rattle.view_json.specs.declared.lines.Ahead.{Ahead}
+use Rattle.view_json.specs.Objects.{count, text, member, object, array, message, named, offer}
+
+-- how a line begins that tells of this event
+abbrev pub begun : List ℕ → List Token
+begun event = begin_object ∷ member (codes "event") (string event ∷ [])
+
+-- the texts of moves
+abbrev pub texts : State → List Move → List Token
+texts s ms = member (codes "moves") (array (flat_map (λ m. text (move_text s m)) ms))
+
+abbrev pub does_word : Does → List ℕ
+does_word does.Statement = codes "statement"
+does_word does.Send = codes "send"
+does_word does.Receive = codes "receive"
+does_word does.Read = codes "read"
+does_word does.Pass = codes "pass"
+does_word does.Lose = codes "lose"
+does_word does.End = codes "end"
+
+abbrev pub picked : State → Pick → List Token
+picked s k = named s k.process ++ offer s k
+
+-- whose move it is, and its text: of a rendezvous the sender's
+abbrev pub mover : State → Move → List Token
+mover s (Death p) = named s p ++ (member (codes "line") (count (line_of s p)) ++ member (codes "text") (text (codes "-end-")))
+mover s (Alone k t) = picked s k
+mover s (Pair k j t) = picked s k
+
+abbrev pub addressee : State → Pick → List Token
+addressee s k = member (codes "to") (object (picked s k))
+
+-- the receiver of a rendezvous
+abbrev pub receiver : State → Move → List Token
+receiver s (Pair k j t) = addressee s j
+receiver s m = []
+
+abbrev pub passed : Program → Effect → Option ChannelState → List Token
+passed pr e None = []
+passed pr e (Some c) = member (codes "chan") (count e.channel) ++ member (codes "message") (message pr c.types e.message.items)
+
+-- what it does, with which channel, and with which message
+abbrev pub effect : State → Effect → List Token
+effect s e = member (codes "does") (string (does_word e.does) ∷ []) ++ passed s.program e (channel_at s.channels (pos e.channel))
+
+-- ---- the end
+
+abbrev pub stuck_by : ℕ → Option (List ℕ × ℕ) → List Token
+stuck_by p None = []
+stuck_by p (Some x) = object (member (codes "proc") (count p) ++ (member (codes "name") (text x.0) ++ member (codes "line") (count x.1)))
+
+-- where a process may not end
+abbrev pub stuck : State → ℕ → List Token
+stuck s p = stuck_by p (stuck_of s p)
+
+-- each of them
+abbrev pub all_stuck : State → List Token
+all_stuck s = member (codes "at") (array (flat_map (stuck s) (range_with_len 0 (length s.stands))))
+
+-- the moves that there are, if any
+abbrev pub open_moves : State → List Move → List Token
+open_moves s [] = []
+open_moves s (m ∷ ms) = texts s (m ∷ ms)
+
+-- where processes may not end, if this is an end of the run's own
+abbrev pub stuck_where : State → Bool → List Token
+stuck_where s own = if own then all_stuck s else []
+
+-- whether a run ends so by itself
+abbrev pub is_own : List ℕ → Bool
+is_own end = bytes_eq end (codes "invalid") || bytes_eq end (codes "valid")
+
+-- how the last line begins
+abbrev pub ended : ℕ → List ℕ → List Token
+ended steps end = begun (codes "end") ++ (member (codes "steps") (count steps) ++ member (codes "end") (string end ∷ []))
+
+-- The line of the end: how many steps, how it ends, where processes may not end, and which moves there are.
+abbrev pub end_tokens : State → ℕ → List ℕ → List Move → List Token
+end_tokens s steps end ms = ended steps end ++ (stuck_where s (is_own end) ++ (open_moves s ms ++ end_object ∷ []))
+
+-- ---- a step that is about to be taken
+
+-- the texts of the moves, where there are several
+abbrev pub choices : State → List Move → List Token
+choices s ms = if ltb 1 (length ms) then texts s ms else []
+
+-- its number, which of how many moves it is, and what they are
+abbrev pub chosen : State → ℕ → ℕ → List Move → List Token
+chosen s step choice ms = (member (codes "step") (count step) ++ (member (codes "choice") (count choice) ++ member (codes "of") (count (length ms)))) ++ choices s ms
+
+-- What is told of a step before it is taken.
+abbrev pub front : State → List ℕ → Ahead → Move → List Token
+front s event a m = begun event ++ (chosen s a.step a.choice a.moves.now ++ (mover s m ++ (effect s a.effect.now ++ receiver s m)))
+
+-- A step that comes to a fault.
+abbrev pub faulted : Fault → List Token
+faulted f = member (codes "fault") (count (fault_number f)) ++ (member (codes "words") (text (fault_words f)) ++ end_object ∷ [])
+
+-- a line
+abbrev pub line : List Token → List ℕ
+line ts = print ts ++ codes "\n"

@@ -1,0 +1,170 @@
+//! Channels.
+
+ghost use Rattle.std.specs.Prelude.{◌≡◌, ◌<◌, ◌++◌, ℕ, List, Option, Some, length, pos, codes, slice_index_or};
+ghost use Rattle.std.specs.List.{flat_map};
+ghost use Rattle.std.specs.Fmt.{decimal};
+ghost use Rattle.pml_program.specs.declared.form.Form.TheVariants as kind;
+ghost use Rattle.pml_value.specs.Reads.{channel_at};
+ghost use Rattle.view_json.specs.Printed.{Writes};
+ghost use Rattle.view_json.specs.Objects.{text, member, array, scalar_name, form_token, field, fields, message, messages, or_null, contents, channel_heading, AddsChannel};
+
+use crate::objects::{number, value, whole};
+use crate::out::Json;
+use pml_channel::channel::Channel;
+use pml_program::form::Form;
+use pml_tree::tree::Scalar;
+use view_cells::channels::{add_channel_name, channel_at};
+use view_cells::picture::Picture;
+use view_text::writer::Writer;
+
+fn scalar_name(scalar: Scalar) -> &'static str
+    ensures { result.now ≡ scalar_name scalar }
+{
+    match scalar {
+        Scalar::Bit => "bit",
+        Scalar::Bool => "bool",
+        Scalar::Byte => "byte",
+        Scalar::Chan => "chan",
+        Scalar::Mtype => "mtype",
+        Scalar::Pid => "pid",
+        Scalar::Short => "short",
+        Scalar::Int => "int",
+    }
+}
+
+// Writes how wide a type is.
+fn unsigned(json: &mut Json, width: u32)
+    ensures { Writes json.old json.new (text (codes "unsigned : " ++ decimal width)) }
+{
+    let mut text = Writer::new(json.allocator());
+    text.add(b"unsigned : ");
+    text.number(width as usize);
+    whole(json, &text);
+}
+
+fn form_name(json: &mut Json, form: Form)
+    ensures { Writes json.old json.new (form_token form) }
+{
+    match form {
+        Form::Plain(scalar) => json.string(scalar_name(scalar)),
+        Form::Unsigned(width) => unsigned(json, width),
+        _ => json.string("?"),
+    }
+}
+
+fn form_of(types: &[Form], at: usize) -> Form
+    ensures { result ≡ slice_index_or types.now at kind.Unknown }
+{
+    match types.get(at) {
+        Some(form) => *form,
+        None => Form::Unknown,
+    }
+}
+
+fn field(picture: &Picture<'_, '_, '_>, json: &mut Json, types: &[Form], numbers: &[i32], at: usize)
+    requires { at < length numbers.now }
+    ensures { Writes json.old json.new (field picture.now.program types.now numbers.now at) }
+{
+    let form = form_of(types, at);
+    let number = numbers[at];
+    value(picture, json, form, number);
+}
+
+fn fields(picture: &Picture<'_, '_, '_>, json: &mut Json, types: &[Form], numbers: &[i32])
+    ensures { Writes json.old json.new (fields picture.now.program types.now numbers.now) }
+{
+    for at in 0..numbers.len() {
+        field(picture, json, types, numbers, at);
+    }
+}
+
+/// Writes the fields of a message, as an array.
+pub fn message(picture: &Picture<'_, '_, '_>, json: &mut Json, types: &[Form], numbers: &[i32])
+    ensures { Writes json.old json.new (message picture.now.program types.now numbers.now) }
+{
+    json.begin_array();
+    fields(picture, json, types, numbers);
+    json.end_array();
+}
+
+fn form_names(json: &mut Json, types: &[Form])
+    ensures { Writes json.old json.new (flat_map form_token types.now) }
+{
+    for form in types {
+        form_name(json, *form);
+    }
+}
+
+fn types(json: &mut Json, types: &[Form])
+    ensures { Writes json.old json.new (member (codes "fields") (array (flat_map form_token types.now))) }
+{
+    json.key("fields");
+    json.begin_array();
+    form_names(json, types);
+    json.end_array();
+}
+
+fn all_messages(picture: &Picture<'_, '_, '_>, json: &mut Json, channel: &Channel)
+    ensures { Writes json.old json.new (flat_map (message picture.now.program channel.now.types) channel.now.messages) }
+{
+    for place in 0..channel.len() {
+        message(picture, json, channel.types(), channel.message(place));
+    }
+}
+
+fn messages(picture: &Picture<'_, '_, '_>, json: &mut Json, channel: &Channel)
+    ensures { Writes json.old json.new (messages picture.now.program channel.now) }
+{
+    json.key("messages");
+    json.begin_array();
+    all_messages(picture, json, channel);
+    json.end_array();
+}
+
+fn channel_name(picture: &Picture<'_, '_, '_>, json: &mut Json, n: usize)
+    ensures { (name : Option (List ℕ)) × Writes json.old json.new (or_null name) }
+{
+    let mut name = Writer::new(json.allocator());
+    if add_channel_name(picture, n, &mut name) {
+        whole(json, &name);
+    } else {
+        json.null();
+    }
+}
+
+// Writes what a channel has.
+fn contents(picture: &Picture<'_, '_, '_>, json: &mut Json, channel: &Channel)
+    ensures { Writes json.old json.new (contents picture.now.program (Some channel.now)) }
+{
+    number(json, "capacity", usize::from(channel.capacity()));
+    types(json, channel.types());
+    messages(picture, json, channel);
+}
+
+// Writes what the channel with this number has.
+fn contents_at(picture: &Picture<'_, '_, '_>, json: &mut Json, n: usize)
+    ensures { Writes json.old json.new (contents picture.now.program (channel_at picture.now.channels (pos n))) }
+{
+    if let Some(channel) = channel_at(picture, n) {
+        contents(picture, json, channel);
+    }
+}
+
+// Writes the number of a channel and its name.
+fn channel_heading(picture: &Picture<'_, '_, '_>, json: &mut Json, n: usize)
+    ensures { (name : Option (List ℕ)) × Writes json.old json.new (channel_heading n name) }
+{
+    number(json, "chan", n);
+    json.key("name");
+    channel_name(picture, json, n);
+}
+
+/// Writes a channel.
+pub fn channel(picture: &Picture<'_, '_, '_>, json: &mut Json, n: usize)
+    ensures { AddsChannel picture.now n json.old json.new }
+{
+    json.begin_object();
+    channel_heading(picture, json, n);
+    contents_at(picture, json, n);
+    json.end_object();
+}

@@ -1,0 +1,136 @@
+//! Processes, their offers, and what they wait for.
+
+ghost use Rattle.std.specs.Prelude.{◌≡◌, ◌++◌, ℕ, List, codes};
+ghost use Rattle.pml_moves.specs.Search.{moves as all_moves};
+ghost use Rattle.view_cells.specs.Processes.{name_of};
+ghost use Rattle.view_waits.specs.Offers.{offered_text};
+ghost use Rattle.view_waits.specs.Waits.{waits as all_waits};
+ghost use Rattle.view_json.specs.Printed.{Writes};
+ghost use Rattle.view_json.specs.Objects.{text, member, named, offer, waits_at, because, wait, heading, AddsWaits, AddsStanding};
+
+use crate::objects::{number, written};
+use crate::out::Json;
+use pml_moves::moves::{Move, Pick};
+use view_cells::picture::Picture;
+use view_cells::processes::{add_name, line_of};
+use view_text::writer::Writer;
+use view_waits::offers::{add_offer, offer_line};
+use view_waits::waits::{Wait, add_waits, moves_of};
+use view_waits::words::add_words;
+
+// Writes the name of a process's proctype.
+fn name(picture: &Picture<'_, '_, '_>, json: &mut Json, process: usize)
+    ensures { Writes json.old json.new (member (codes "name") (text (name_of picture.now process))) }
+{
+    let mut name = Writer::new(json.allocator());
+    add_name(picture, process, &mut name);
+    written(json, "name", &name);
+}
+
+/// Writes the members of a process that name it.
+pub fn named(picture: &Picture<'_, '_, '_>, json: &mut Json, process: usize)
+    ensures { Writes json.old json.new (named picture.now process) }
+{
+    number(json, "proc", process);
+    name(picture, json, process);
+}
+
+// Writes the text of an offer.
+fn offer_text(picture: &Picture<'_, '_, '_>, json: &mut Json, pick: Pick)
+    ensures { Writes json.old json.new (member (codes "text") (text (offered_text picture.now pick))) }
+{
+    let mut text = Writer::new(json.allocator());
+    add_offer(picture, pick, &mut text);
+    written(json, "text", &text);
+}
+
+// Writes the members of an offer.
+fn offer(picture: &Picture<'_, '_, '_>, json: &mut Json, pick: Pick)
+    ensures { Writes json.old json.new (offer picture.now pick) }
+{
+    number(json, "line", offer_line(picture, pick) as usize);
+    offer_text(picture, json, pick);
+}
+
+/// Writes the members of a process and of its offer.
+pub fn picked(picture: &Picture<'_, '_, '_>, json: &mut Json, pick: Pick)
+    ensures { Writes json.old json.new (named picture.now pick.process ++ offer picture.now pick) }
+{
+    named(picture, json, pick.process);
+    offer(picture, json, pick);
+}
+
+// Writes where a process waits: at an offer, or where it stands.
+fn waits_at(picture: &Picture<'_, '_, '_>, json: &mut Json, process: usize, pick: Option<Pick>)
+    ensures { Writes json.old json.new (waits_at picture.now process pick) }
+{
+    match pick {
+        Some(pick) => offer(picture, json, pick),
+        None => {
+            number(json, "line", line_of(picture, process) as usize);
+            json.key("text");
+            json.null();
+        }
+    }
+}
+
+// Writes why, and words for it.
+fn because(json: &mut Json, one: &Wait, words: &Writer)
+    ensures { Writes json.old json.new (because one.now words.now.text) }
+{
+    json.key("because");
+    json.string(one.because.code());
+    written(json, "words", words);
+}
+
+fn wait(picture: &Picture<'_, '_, '_>, json: &mut Json, process: usize, one: &Wait)
+    ensures { (words : List ℕ) × Writes json.old json.new (wait picture.now process one.now words) }
+{
+    let mut words = Writer::new(json.allocator());
+    add_words(picture, one, &mut words);
+    json.begin_object();
+    waits_at(picture, json, process, one.pick);
+    because(json, one, &words);
+    json.end_object();
+}
+
+// Writes each of these, one behind another.
+fn waits(picture: &Picture<'_, '_, '_>, json: &mut Json, process: usize, waits: &[Wait])
+    ensures { AddsWaits picture.now process waits.now json.old json.new }
+{
+    for one in waits {
+        wait(picture, json, process, one);
+    }
+}
+
+// Writes what a process waits for.
+fn all_of(picture: &Picture<'_, '_, '_>, json: &mut Json, moves: &[Move], process: usize)
+    ensures { moves.now ≡ all_moves picture.now → AddsWaits picture.now process (all_waits picture.now process) json.old json.new }
+{
+    let mut found = Vec::new(json.allocator());
+    match add_waits(picture, moves, process, &mut found) {
+        Ok(()) => waits(picture, json, process, found.as_slice()),
+        Err(_) => json.refuse(),
+    }
+}
+
+// Writes where a process stands, and in how many moves it takes part.
+fn place_of(picture: &Picture<'_, '_, '_>, json: &mut Json, moves: &[Move], process: usize)
+    ensures { Writes json.old json.new (heading picture.now moves.now process) }
+{
+    named(picture, json, process);
+    number(json, "line", line_of(picture, process) as usize);
+    number(json, "moves", moves_of(process, moves));
+}
+
+/// Writes the members of a process but for its variables.
+pub fn standing(picture: &Picture<'_, '_, '_>, json: &mut Json, moves: &[Move], process: usize)
+    ensures { moves.now ≡ all_moves picture.now → AddsStanding picture.now moves.now process json.old json.new }
+{
+    json.begin_object();
+    place_of(picture, json, moves, process);
+    json.key("waits");
+    json.begin_array();
+    all_of(picture, json, moves, process);
+    json.end_array();
+}

@@ -1,0 +1,10 @@
+use Rattle.view_text.proofs.Writing.{chained}
+use Rattle.view_page.proofs.page.add_page.Goals as goal
+
+pub returns : goal.returns
+returns c =
+    chained _ _ _ _ _ c.add_source.ensures
+    (chained _ _ _ _ _ c.add_part.ensures
+    (chained _ _ _ _ _ c.add.ensures
+    (chained _ _ _ _ _ c.add_part-2.ensures
+    (chained _ _ _ _ _ c.add_lines.ensures c.add_part-3.ensures))))

@@ -1,0 +1,10 @@
+//! Laws of pages, which functions without a body state.
+
+ghost use Rattle.view_page.specs.Page.{NothingHeldEnds, NothingShownIsAnElement};
+
+/// What a page holds of a run has no `<`, so nothing in it ends the element that holds it; and what it shows of a model has no `<`, no `>` and no
+/// quotation mark.
+pub fn nothing_ends_its_element()
+    ensures held { NothingHeldEnds }
+    ensures shown { NothingShownIsAnElement }
+{}
