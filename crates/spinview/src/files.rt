@@ -1,10 +1,10 @@
 // The files of a command line.
 use crate::stop::{NoView, cannot_open, cannot_read, cannot_write};
 use profile::MOST_TEXT_BYTES;
+use std::alloc::AllocError;
 use std::fs::{Metadata, OpenFile};
 use std::io::Read;
 use std::os::unix::fs::MetadataExt;
-use std::alloc::AllocError;
 use std::{fs, io};
 use view_words::Asked;
 

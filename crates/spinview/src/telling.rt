@@ -128,13 +128,7 @@ fn explained(
         lines: lines.as_slice(),
         included: included.as_slice(),
     };
-    Ok(explain_beside(
-        rt.alloc(),
-        shown_name(asked),
-        text,
-        source,
-        refusal,
-    )?)
+    Ok(explain_beside(rt.alloc(), shown_name(asked), text, source, refusal)?)
 }
 
 // Says that, unless memory is refused for it.

@@ -48,12 +48,7 @@ fn can_make(typedefs: &[Fields<'_>], slot: &Slot<'_>) -> bool {
 }
 
 // Finds it among so many cells of a variable.
-fn found_in(
-    typedefs: &Typedefs<'_, '_>,
-    slot: &Slot<'_>,
-    cells: usize,
-    k: usize,
-) -> Found {
+fn found_in(typedefs: &Typedefs<'_, '_>, slot: &Slot<'_>, cells: usize, k: usize) -> Found {
     let mut left = k;
     for cell in 0..cells {
         if is_made(typedefs, slot, cell) {
@@ -87,7 +82,11 @@ fn frame_of(channels: &[LiveChannel], at: usize) -> Option<usize> {
 
 // How many of the first channels are of a frame.
 fn older(channels: &[LiveChannel], frame: usize, count: usize) -> usize {
-    channels.iter().take(count).filter(|live| live.frame == frame).count()
+    channels
+        .iter()
+        .take(count)
+        .filter(|live| live.frame == frame)
+        .count()
 }
 
 // The k-th cell of a frame for which a channel is made.

@@ -117,18 +117,15 @@ fn go_to(walk: &mut Walk<'_, '_>, step: usize, told: &mut Told) -> Result<(), Al
 }
 
 // Says that no cell with this path is there, if that is so.
-fn add_if_unknown(
-    walk: &Walk<'_, '_>,
-    path: &str,
-    told: &mut Told,
-) -> Result<bool, AllocError> {
+fn add_if_unknown(walk: &Walk<'_, '_>, path: &str, told: &mut Told) -> Result<bool, AllocError> {
     let mut text = Writer::new(told.out.allocator());
     if is_there(walk.world(), path.as_bytes(), &mut text)? {
         return Ok(false);
     }
     told.out.add(b"no variable ");
     told.out.add(path.as_bytes());
-    told.out.add(b" is there: one of process 1, a P, is P[1].x\n");
+    told.out
+        .add(b" is there: one of process 1, a P, is P[1].x\n");
     Ok(true)
 }
 

@@ -25,11 +25,7 @@ fn place_named(picture: &Picture<'_, '_, '_>, path: &[u8], text: &mut Writer) ->
 }
 
 /// Whether a cell with this path, of the globals or of a process, is there.
-pub fn is_there(
-    world: &World<'_, '_>,
-    path: &[u8],
-    text: &mut Writer,
-) -> Result<bool, AllocError> {
+pub fn is_there(world: &World<'_, '_>, path: &[u8], text: &mut Writer) -> Result<bool, AllocError> {
     let found = place_named(&picture_of(world), path, text);
     whole(text)?;
     Ok(found.is_some())
