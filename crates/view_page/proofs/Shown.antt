@@ -38,5 +38,5 @@ pub nothing_shown_is_an_element : NothingShownIsAnElement
 nothing_shown_is_an_element bs = (
   none_of 60 shown_byte (shown_none 60 refl refl refl refl refl (λ x l g q. other_byte 60 x l)) bs,
   none_of 62 shown_byte (shown_none 62 refl refl refl refl refl (λ x l g q. other_byte 62 x g)) bs,
-  none_of 34 shown_byte (shown_none 34 refl refl refl refl refl (λ x l g q. other_byte 34 x q)) bs
+  none_of 34 shown_byte (shown_none 34 refl refl refl refl refl (λ x l g q. other_byte 34 x q)) bs,
 )
