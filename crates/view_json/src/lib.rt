@@ -2,8 +2,8 @@
 #![tactic(auto)]
 
 mod changed;
-mod channel;
+pub mod channel;
 pub mod lines;
-mod objects;
+pub mod objects;
 pub mod out;
-mod process;
+pub mod process;
