@@ -2,8 +2,8 @@
 
 use crate::channel::channel;
 use crate::objects::{all_cells, cell};
-use crate::out::Json;
 use crate::process::standing;
+use crate::tokens::Json;
 use pml_lines::changed::Change;
 use pml_moves::moves::Move;
 use std::alloc::{AllocError, Global};

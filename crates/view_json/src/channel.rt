@@ -9,7 +9,7 @@ ghost use Rattle.view_json.specs.Printed.{Writes};
 ghost use Rattle.view_json.specs.Objects.{text, member, array, scalar_name, form_token, field, fields, message, messages, or_null, contents, channel_heading, AddsChannel};
 
 use crate::objects::{number, value, whole};
-use crate::out::Json;
+use crate::tokens::Json;
 use pml_channel::channel::Channel;
 use pml_program::form::Form;
 use pml_tree::tree::Scalar;

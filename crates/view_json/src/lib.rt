@@ -5,5 +5,5 @@ mod changed;
 pub mod channel;
 pub mod lines;
 pub mod objects;
-pub mod out;
 pub mod process;
+pub mod tokens;

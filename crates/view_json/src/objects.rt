@@ -6,7 +6,7 @@ ghost use Rattle.view_cells.specs.Cells.{path_of};
 ghost use Rattle.view_json.specs.Printed.{Writes, string_of};
 ghost use Rattle.view_json.specs.Objects.{count, text, member, object, value, held, cell, variable_cells, frame_cells, cells};
 
-use crate::out::Json;
+use crate::tokens::Json;
 use pml_program::form::Form;
 use pml_store::place::Place;
 use view_cells::cells::{

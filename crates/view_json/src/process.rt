@@ -9,7 +9,7 @@ ghost use Rattle.view_json.specs.Printed.{Writes};
 ghost use Rattle.view_json.specs.Objects.{text, member, named, offer, waits_at, because, wait, heading, AddsWaits, AddsStanding};
 
 use crate::objects::{number, written};
-use crate::out::Json;
+use crate::tokens::Json;
 use pml_moves::moves::{Move, Pick};
 use view_cells::picture::Picture;
 use view_cells::processes::{add_name, line_of};

@@ -5,7 +5,7 @@ use diagnostics::Fault;
 use pml_moves::moves::Move;
 use std::alloc::AllocError;
 use view_json::lines::{Ahead, Done, Shown, add_end, add_fault, add_step, front};
-use view_json::out::Json;
+use view_json::tokens::Json;
 use view_page::page::{add_end_item, add_fault_item, add_item};
 use view_session::replay::Replay;
 use view_session::seen::picture_of;
