@@ -14,9 +14,10 @@ ListsOnce {S} rules = (s : S) → StandOnce (rules.moves s)
 
 -- a path is chosen by one list of numbers
 abbrev pub PathsHaveOneRecord : {S M : Type 0} → Rules S M → Type 0
-PathsHaveOneRecord {S} {M} rules = (s : S) (path : List (Turn S M)) (numbers others : List ℕ) → IsPath rules s path numbers → IsPath rules s path others → numbers ≡ others
+PathsHaveOneRecord {S} {M} rules = (s : S) (path : List (Turn S M)) (numbers others : List ℕ) → IsPath rules s path numbers
+    → IsPath rules s path others → numbers ≡ others
 
 -- paths from one state with as many steps are the same exactly where their numbers are
 abbrev pub PathsAndRecordsAreOneToOne : {S M : Type 0} → Rules S M → Type 0
-PathsAndRecordsAreOneToOne {S} {M} rules = (s : S) (path again : List (Turn S M)) (numbers others : List ℕ) → IsPath rules s path numbers → IsPath rules s again others
-    → length path ≡ length again → SayTheSame (path ≡ again) (numbers ≡ others)
+PathsAndRecordsAreOneToOne {S} {M} rules = (s : S) (path again : List (Turn S M)) (numbers others : List ℕ) → IsPath rules s path numbers
+    → IsPath rules s again others → length path ≡ length again → SayTheSame (path ≡ again) (numbers ≡ others)
