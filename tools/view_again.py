@@ -141,9 +141,14 @@ def item(line):
     return "<li>end: %s</li>\n" % line["end"] if line["event"] == "end" and line["end"] != "fault" else ""
 
 
-def page(name, model, text):
-    """The page of a model with this name and these lines of JSON."""
+def items(text):
+    """The list of a page's steps, of the lines of JSON of its run."""
+    return "".join(item(json.loads(line)) for line in text.splitlines())
+
+
+def page(name, model, text, steps):
+    """The page of a model with this name, these lines of JSON and this list of steps."""
     with open(PAGE, encoding="utf-8") as file:
         template = file.read()
-    parts = {"TITLE": escaped(name), "SOURCE": escaped(model), "STEPS": "".join(item(json.loads(line)) for line in text.splitlines()), "LINES": text.replace("<", "\\u003c")}
+    parts = {"TITLE": escaped(name), "SOURCE": escaped(model), "STEPS": steps, "LINES": text.replace("<", "\\u003c")}
     return re.sub("@(TITLE|SOURCE|STEPS|LINES)@", lambda found: parts[found[1]], template)
