@@ -1,6 +1,7 @@
 //! The three devices of a session.
 ghost use Rattle.std.specs.Prelude.{◌≡◌, ℕ, List, [], IfErr, OnOk, OnErr};
-ghost use Rattle.devices.specs.Holdings.{Holdings, Moved, Asks, WritesFirst, WritesPart, RecordsPart, CountsAsk, CountsOut, CountsRecord};
+ghost use Rattle.devices.specs.Holdings.{Holdings, Moved};
+ghost use Rattle.devices.specs.Doing.{Asks, WritesFirst, WritesPart, RecordsPart, CountsAsk, CountsOut, CountsRecord};
 
 use crate::{Failed, Next, Sink, Source, put_all, put_counted};
 
@@ -48,7 +49,7 @@ pub struct ThreeDevices<S, O, R> {
 }
 
 impl<S: Source, O: Sink, R: Sink> Devices for ThreeDevices<S, O, R> {
-    ghost use Rattle.devices.specs.Holdings.{holding};
+    ghost use Rattle.devices.specs.Doing.{holding};
 
     ghost holds = { λ d. holding (S.may_give d.source) (O.taken d.out) (R.taken d.rec) (S.failures d.source) (O.failures d.out) (R.failures d.rec) };
 

@@ -18,14 +18,14 @@ use Rattle.pml_flow.specs.Statements.{statement_at}
 use Rattle.pml_flow.specs.Texts.{text_by}
 use Rattle.pml_store.specs.Store.{Frame}
 use Rattle.pml_start.specs.Begin.{Begun}
-use Rattle.pml_start.specs.Start.{first_state, starting}
+use Rattle.pml_start.specs.Start.{first_state}
+use Rattle.pml_start.specs.Starting.{starting}
 use Rattle.pml_start.proofs.Chaining.{chain, chain_any}
 use Rattle.pml_start.proofs.Living.{living_are}
 use Rattle.pml_moves.specs.declared.moves.Pick.{Pick}
 use Rattle.pml_moves.specs.declared.moves.Move.{Move}
 use Rattle.pml_moves.specs.declared.moves.Move.TheVariants.{Death, Alone, Pair}
-use Rattle.pml_moves.specs.State.{Stand, State, reads, body_of, levels_in}
-use Rattle.pml_moves.specs.Scene.{begins_by, begins_at}
+use Rattle.pml_moves.specs.State.{Stand, State, reads, body_of, levels_in, begins_by, begins_at}
 use Rattle.pml_moves.specs.Search.{message}
 use Rattle.pml_moves.specs.Picked.{offer_on, offer_at, picked}
 use Rattle.pml_steps.specs.Change.{put_all, moved_to, go_to, went}

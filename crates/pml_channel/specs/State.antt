@@ -1,28 +1,14 @@
 -- A channel as a list of messages.
-use Rattle.std.specs.Prelude.{◌≡◌, ℕ, zero, suc, ◌+◌, ◌-◌, ◌*◌, ◌≤◌, Bool, true, false, if◌then◌else◌, List, [], ◌∷◌, ◌++◌, take, drop, length, insert, ℤ, int_lt}
+use Rattle.std.specs.Prelude.{ℕ, Bool, true, false, if◌then◌else◌, List, [], ◌∷◌, ℤ, int_lt}
 use Rattle.std.specs.Ordering.{int_eq}
 use Rattle.pml_program.specs.declared.form.Form.{Form}
 use Rattle.pml_eval.specs.Clip.{clipped}
 
+-- a channel: how many messages it keeps, the types of their fields, and its messages, the oldest first
 pub record ChannelState : Type 0 where
   pub capacity : ℕ
   pub types : List Form
   pub messages : List (List ℤ)
-
--- so many messages of so many fields each, one behind another
-abbrev pub messages_in : ℕ → ℕ → List ℤ → List (List ℤ)
-messages_in zero fields xs = []
-messages_in (suc n) fields xs = take fields xs ∷ messages_in n fields (drop fields xs)
-
--- never more messages than the capacity, and from the start of the oldest on there are their numbers and no others
-pub record IsLaid (capacity fields count start : ℕ) (numbers : List ℤ) : Type 0 where
-  pub few : count ≤ capacity
-  pub cover : length numbers ≡ start + count * fields
-
--- the last numbers of a part before the others of it
-abbrev pub rotated : ℕ → ℕ → ℕ → List ℤ → List ℤ
-rotated from end by xs =
-    take from xs ++ (take by (drop (end - by) xs) ++ (take (end - by - from) (drop from xs) ++ drop end xs))
 
 -- each field cut to its type
 abbrev pub cut : List Form → List ℤ → List ℤ
@@ -40,17 +26,3 @@ is_greater (x ∷ xs) (y ∷ ys) = if int_eq x y then is_greater xs ys else int_
 abbrev pub sorted_in : List ℤ → List (List ℤ) → List (List ℤ)
 sorted_in new [] = new ∷ []
 sorted_in new (m ∷ ms) = if is_greater m new then new ∷ m ∷ ms else m ∷ sorted_in new ms
-
--- a message belongs at a place among others: right before the first that is greater, or last
-abbrev pub Belongs : ℕ → List ℤ → List (List ℤ) → Type 0
-Belongs n new ms = (n ≤ length ms) × (insert ms n new ≡ sorted_in new ms)
-
--- the last message comes to a place among the others
-abbrev pub MovesLast : ℕ → ChannelState → ChannelState → Type 0
-MovesLast n old new = (others : List (List ℤ)) (last : List ℤ) → old.messages ≡ others ++ last ∷ []
-    → new ≡ record old { messages = insert others n last }
-
--- how many numbers messages have
-abbrev pub numbers_in : List (List ℤ) → ℕ
-numbers_in [] = 0
-numbers_in (m ∷ ms) = length m + numbers_in ms

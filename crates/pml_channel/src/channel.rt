@@ -3,7 +3,8 @@
 ghost use Rattle.std.specs.Prelude.{◌≡◌, ◌+◌, ◌*◌, ◌<◌, ◌≤◌, ◌++◌, ◌∷◌, List, ℤ, [], length, take, drop, vec_len, IfSome, OnOk, OnErr, remove, slice_get, Some};
 ghost use Rattle.std.specs.List.{position_from};
 ghost use Rattle.pml_eval.specs.Pattern.{matched};
-ghost use Rattle.pml_channel.specs.State.{cut, sorted_in, Belongs, MovesLast, is_greater, rotated, numbers_in};
+ghost use Rattle.pml_channel.specs.State.{cut, sorted_in, is_greater};
+ghost use Rattle.pml_channel.specs.Laid.{Belongs, MovesLast, rotated, numbers_in};
 
 use pml_eval::clip::clip;
 use pml_eval::pattern::{Sought, matches};
@@ -27,7 +28,8 @@ pub struct Channel {
 
 impl Model for Channel {
     ghost use Rattle.std.specs.Prelude.{drop, length};
-    ghost use Rattle.pml_channel.specs.State.{ChannelState, IsLaid, messages_in};
+    ghost use Rattle.pml_channel.specs.State.{ChannelState};
+    ghost use Rattle.pml_channel.specs.Laid.{IsLaid, messages_in};
 
     ghost Value = { ChannelState };
 

@@ -23,6 +23,7 @@ use Rattle.pml_control.specs.Control.{Circle, SettlesEverywhere, BadFirstPoint, 
 abbrev pub HasCircle : List Proctype → Type 0
 HasCircle ps = (k : ℕ) × (p : Proctype) × (slice_get ps k ≡ Some p) × Circle p.body
 
+-- in each of these proctypes settling ends at each place
 abbrev pub SettleEverywhere : List Proctype → Type 0
 SettleEverywhere ps = (k : ℕ) (p : Proctype) → slice_get ps k ≡ Some p → SettlesEverywhere p.body
 
@@ -30,6 +31,7 @@ SettleEverywhere ps = (k : ℕ) (p : Proctype) → slice_get ps k ≡ Some p →
 abbrev pub HasBadStep : List Proctype → Type 0
 HasBadStep ps = (k : ℕ) × (p : Proctype) × (slice_get ps k ≡ Some p) × BadFirstPoint p.body
 
+-- in each of these proctypes the first point of each d_step fits
 abbrev pub HaveGoodSteps : List Proctype → Type 0
 HaveGoodSteps ps = (k : ℕ) (p : Proctype) → slice_get ps k ≡ Some p → FirstPointsFit p.body
 
@@ -37,11 +39,13 @@ HaveGoodSteps ps = (k : ℕ) (p : Proctype) → slice_get ps k ≡ Some p → Fi
 abbrev pub HasBadStart : Program → Type 0
 HasBadStart p = (f : Fault) × (first_state p ≡ Err f)
 
+-- the initialisers have no fault
 abbrev pub HasGoodStart : Program → Type 0
 HasGoodStart p = (b : Begun) × (first_state p ≡ Ok b)
 
 -- ---- what is decided on the marks of the tree alone
 
+-- the condition on marks that a refusal tells of, if it tells of one
 abbrev pub condition_of : Refusal → Option Condition
 condition_of r.NameTwice = Some condition.Twice
 condition_of r.UnknownName = Some condition.Unknown
@@ -63,16 +67,19 @@ condition_of r.CircleOfGotos = None
 condition_of r.Initialiser = None
 condition_of r.Inline = None
 
+-- the marks break it
 abbrev pub BreaksCondition : Option Condition → List Mark → Type 0
 BreaksCondition None ms = ⊥
 BreaksCondition (Some x) ms = marks.Applies x ms
 
+-- the marks keep it
 abbrev pub KeepsCondition : Option Condition → List Mark → Type 0
 KeepsCondition None ms = Unit {0}
 KeepsCondition (Some x) ms = marks.Fits x ms
 
 -- ---- what is asked of the model with its names replaced
 
+-- the model breaks the condition on d_steps, on circles of gotos or on initialisers that a refusal tells of
 abbrev pub BreaksModel : Refusal → Program → Type 0
 BreaksModel r.DStep p = HasBadStep p.proctypes
 BreaksModel r.CircleOfGotos p = HasCircle p.proctypes
@@ -94,6 +101,7 @@ BreaksModel r.NoProcess p = ⊥
 BreaksModel r.TooManyAtStart p = ⊥
 BreaksModel r.Inline p = ⊥
 
+-- the model keeps it
 abbrev pub KeepsModel : Refusal → Program → Type 0
 KeepsModel r.DStep p = HaveGoodSteps p.proctypes
 KeepsModel r.CircleOfGotos p = SettleEverywhere p.proctypes
@@ -117,9 +125,11 @@ KeepsModel r.Inline p = Unit {0}
 
 -- ---- a refusal applies to a tree, or the tree fits it
 
+-- a refusal applies to a model, by its marks or by the model itself
 unfoldable pub AppliesTo : Refusal → List Mark → Program → Type 0
 AppliesTo x ms p = BreaksCondition (condition_of x) ms ⊎ BreaksModel x p
 
+-- the model has nothing that this refusal tells of
 unfoldable pub FitsTo : Refusal → List Mark → Program → Type 0
 FitsTo x ms p = KeepsCondition (condition_of x) ms × KeepsModel x p
 

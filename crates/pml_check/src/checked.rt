@@ -60,7 +60,7 @@ impl<'a> Model for Checked<'a> {
 }
 
 impl<'a> Checked<'a> {
-    ghost use Rattle.pml_flow.specs.Flow.{AreGraphs};
+    ghost use Rattle.pml_flow.specs.Graph.{AreGraphs};
     ghost use Rattle.pml_start.specs.Bound.{IsWithin};
     ghost use Rattle.pml_check.specs.Judged.{HasGoodStart};
 

@@ -2,7 +2,7 @@
 
 ghost use Rattle.std.specs.Prelude.{◌≡◌, ◌||◌, IfOk};
 ghost use Rattle.pml_control.specs.Plan.{ArePlans};
-ghost use Rattle.pml_flow.specs.Flow.{AreGraphs};
+ghost use Rattle.pml_flow.specs.Graph.{AreGraphs};
 ghost use Rattle.pml_check.specs.Judged.{SettleEverywhere};
 ghost use Rattle.pml_check.specs.Decided.{DecidesCircles, DecidesSteps};
 

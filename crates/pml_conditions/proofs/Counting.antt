@@ -14,7 +14,7 @@ use Rattle.pml_names.specs.Meaning.{Naming}
 use Rattle.pml_names.specs.Naming.{form, length_of}
 use Rattle.pml_conditions.specs.declared.condition.Condition.TheVariants as condition
 use Rattle.pml_conditions.specs.Start.{channels_of, made, channels, channels_in, started, processes, by_processes}
-use Rattle.pml_conditions.specs.Decided.{Decides}
+use Rattle.pml_conditions.specs.Finds.{Decides}
 
 large : (n c : ℕ) → 256 < c → min (n * 256) 256 ≡ min (n * c) 256
 large zero c h = omega arith

@@ -5,7 +5,8 @@ use Rattle.std.proofs.lemmas.List.{take_more, reverse-append}
 use Rattle.std.proofs.lemmas.Option.{slice_get_read, slice_get_within}
 use Rattle.std.proofs.lemmas.Bool.{cases_eq}
 use Rattle.pml_marks.specs.declared.mark.Mark.{Mark}
-use Rattle.pml_conditions.specs.Decided.{Somewhere, Finds}
+use Rattle.pml_conditions.specs.Decided.{Somewhere}
+use Rattle.pml_conditions.specs.Finds.{Finds}
 
 pub here : (p : List Mark → Mark → Bool) (ms : List Mark) (i : ℕ) (m : Mark) → i < length ms → m ≡ get_or ms i m → p (take i ms) m ≡ true → Somewhere p ms
 here p ms i m h e b = (i, m, slice_get_read ms (length ms) i m refl h e, b)

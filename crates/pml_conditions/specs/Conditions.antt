@@ -31,12 +31,14 @@ twice names o _ = false
 
 -- ---- a name that is not declared, or a field that its typedef lacks
 
+-- a field that its typedef has not is missing; of what has no fields none is missing, which is refused by itself
 abbrev pub lacks_in : Option (Option Thing) → (Form → Bool) → Bool
 lacks_in None rest = false
 lacks_in (Some None) rest = true
 lacks_in (Some (Some (thing.Variable v))) rest = rest v.form
 lacks_in (Some (Some _)) rest = false
 
+-- one of these fields is missing, of what has this type
 abbrev pub lacks : Naming → Form → List Shape → Bool
 lacks names f [] = false
 lacks names f (s ∷ ss) = lacks_in (field names f s.name.text) (λ g. lacks names g ss)
@@ -47,13 +49,16 @@ lost names (Some (thing.Variable v)) ss = lacks names v.form ss
 lost names (Some (thing.Constant n)) ss = false
 lost names _ ss = true
 
+-- a reference begins with a name that is not declared, or one of its fields is missing
 abbrev pub unknown_in : Naming → Naming → ℕ → List Shape → Bool
 unknown_in all names o [] = false
 unknown_in all names o (s ∷ ss) = if is_special s.name.text then false else lost names (meaning all names o s.name.text) ss
 
+-- a name is not declared
 abbrev pub unknown_name : Naming → Naming → ℕ → List ℕ → Bool
 unknown_name all names o n = if is_special n then false else is_none (meaning all names o n)
 
+-- a use, a typedef's name or a proctype's name is not declared
 abbrev pub unknown : Naming → Naming → ℕ → What → Bool
 unknown all names o (what.Uses u ss) = unknown_in all names o ss
 unknown all names o (what.Typedef t) = unknown_name all names o t.text
@@ -62,6 +67,7 @@ unknown all names o _ = false
 
 -- ---- a name or a value of the wrong kind
 
+-- no field is behind it
 abbrev pub is_empty : List Shape → Bool
 is_empty [] = true
 is_empty (s ∷ ss) = false
@@ -70,10 +76,12 @@ is_empty (s ∷ ss) = false
 abbrev pub is_plain : Shape → List Shape → Bool
 is_plain s ss = not s.indexed && is_empty ss
 
+-- its value is read
 abbrev pub is_read : Use → Bool
 is_read Read = true
 is_read _ = false
 
+-- it is given a value, by an assignment or by a receive
 abbrev pub is_stored : Use → Bool
 is_stored Store = true
 is_stored Receive = true
@@ -86,10 +94,12 @@ is_compared Receive = true
 is_compared Preset = true
 is_compared _ = false
 
+-- it is used as a channel
 abbrev pub is_channel : Use → Bool
 is_channel Channel = true
 is_channel _ = false
 
+-- it stands in the initialiser of a field
 abbrev pub is_preset : Use → Bool
 is_preset Preset = true
 is_preset _ = false
@@ -101,6 +111,7 @@ misused u kind.Unknown = false
 misused u (kind.Plain Chan) = false
 misused u _ = is_channel u
 
+-- a field of what has none is wrong, and one that is missing is refused by itself; an array has an index, and nothing else has
 abbrev pub misfits_in : Bool → Option (Option Thing) → (Form → Bool) → Bool
 misfits_in indexed None rest = true
 misfits_in indexed (Some None) rest = false
@@ -118,6 +129,7 @@ misfits names u f [] = misused u f
 misfits names u f (s ∷ ss) =
     if is_unknown f then false else misfits_in s.indexed (field names f s.name.text) (λ g. misfits names u g ss)
 
+-- what is declared by this name is used as something else
 abbrev pub wrong_thing : Naming → Use → Option Thing → Shape → List Shape → Bool
 wrong_thing names u (Some (thing.Variable v)) s ss = is_preset u || (not (beq s.indexed v.array) || misfits names u v.form ss)
 wrong_thing names u (Some (thing.Constant n)) s ss = not (is_plain s ss && is_compared u)
@@ -129,25 +141,30 @@ wrong_special o u s ss =
     if is_any s.name.text then not (is_plain s ss && is_stored u)
     else (if is_pid s.name.text then not (is_plain s ss && (is_read u && nat_lt 0 o)) else not (is_plain s ss && is_read u))
 
+-- a reference is used as something else than what it is declared as
 abbrev pub wrong_in : Naming → Naming → ℕ → Use → List Shape → Bool
 wrong_in all names o u [] = false
 wrong_in all names o u (s ∷ ss) =
     if is_special s.name.text then wrong_special o u s ss else wrong_thing names u (meaning all names o s.name.text) s ss
 
+-- what is declared by this name is no typedef
 abbrev pub no_typedef : Option Thing → Bool
 no_typedef None = false
 no_typedef (Some (thing.Typedef t n)) = false
 no_typedef (Some _) = true
 
+-- what is declared by this name is no proctype
 abbrev pub no_process : Option Thing → Bool
 no_process None = false
 no_process (Some (thing.Proctype o n)) = false
 no_process (Some _) = true
 
+-- a value that is not known before the run
 abbrev pub is_open : Constant → Bool
 is_open Open = true
 is_open _ = false
 
+-- a name is used as something else than what it is declared as
 abbrev pub wrong : Naming → Naming → ℕ → What → Bool
 wrong all names o (what.Uses u ss) = wrong_in all names o u ss
 wrong all names o (what.Typedef t) = is_special t.text || no_typedef (meaning all names o t.text)
@@ -161,6 +178,7 @@ wrong all names o _ = false
 
 -- ---- run against its parameters, printf against its conversions
 
+-- the letter of a conversion: d, u, o, x, c or e
 abbrev pub is_conversion : ℕ → Bool
 is_conversion c = nat_eq c letter_d || (nat_eq c letter_u || (nat_eq c letter_o || (nat_eq c letter_x || (nat_eq c letter_c || nat_eq c letter_e))))
 
@@ -169,9 +187,11 @@ abbrev pub one_more : Option ℕ → Option ℕ
 one_more None = None
 one_more (Some n) = Some (n + 1)
 
+-- a percent sign and this letter before the rest of a text: `%%` counts as none, and another letter is no conversion
 abbrev pub conversion : ℕ → Option ℕ → Option ℕ
 conversion c rest = if nat_eq c percent then rest else (if is_conversion c then one_more rest else None)
 
+-- how many conversions a text has; none is known where a letter behind a percent sign is no conversion
 abbrev pub conversions : List ℕ → Option ℕ
 conversions [] = Some 0
 conversions (c ∷ []) = if nat_eq c percent then None else Some 0
@@ -179,10 +199,12 @@ conversions (c ∷ d ∷ cs) =
     if nat_eq c percent then conversion d (conversions cs)
     else (if nat_eq c backslash then conversions cs else conversions (d ∷ cs))
 
+-- the count is not known, or another one
 abbrev pub differs : Option ℕ → ℕ → Bool
 differs None k = true
 differs (Some n) k = not (nat_eq n k)
 
+-- a proctype takes another number of arguments
 abbrev pub takes_other : Option Thing → ℕ → Bool
 takes_other (Some (thing.Proctype o n)) k = not (nat_eq n k)
 takes_other _ k = false
@@ -192,6 +214,7 @@ abbrev pub inside : List ℕ → List ℕ
 inside [] = []
 inside (c ∷ cs) = take (length cs - 1) cs
 
+-- another number of arguments or of values is given than is wanted
 abbrev pub other_count : Naming → Naming → ℕ → What → Bool
 other_count all names o (what.Runs n k) = takes_other (meaning all names o n.text) k
 other_count all names o (what.Prints t k) = differs (conversions (inside t.text)) k
@@ -203,6 +226,7 @@ other_count all names o _ = false
 abbrev pub Labels : Type 0
 Labels = ℕ → List ℕ → Bool
 
+-- a label stands twice in its proctype, or a goto leads to one that the proctype does not have
 abbrev pub mislabelled : Labels → Labels → ℕ → What → Bool
 mislabelled every labels o (what.Label l) = labels o l.text
 mislabelled every labels o (what.Goto l) = not (every o l.text)
@@ -210,16 +234,19 @@ mislabelled every labels o _ = false
 
 -- ---- a number out of range
 
+-- a constant is not within these bounds
 abbrev pub is_outside : ℕ → ℕ → Constant → Bool
 is_outside least most Open = false
 is_outside least most Faulty = true
 is_outside least most (Is (negsuc n)) = true
 is_outside least most (Is (pos n)) = nat_lt n least || nat_lt most n
 
+-- a constant whose value is a fault, as one that divides by zero
 abbrev pub is_faulty : Constant → Bool
 is_faulty Faulty = true
 is_faulty _ = false
 
+-- a count is not within these bounds, or not known
 abbrev pub out_of : ℕ → ℕ → Option ℕ → Bool
 out_of least most None = true
 out_of least most (Some n) = nat_lt n least || nat_lt most n
@@ -237,6 +264,7 @@ out_of_range constants _ = false
 
 -- ---- too many cells
 
+-- the capacity that a constant asks for
 abbrev pub capacity : Constant → ℕ
 capacity (Is (pos n)) = n
 capacity _ = 0

@@ -3,7 +3,6 @@ use Rattle.std.specs.Prelude.{◌≡◌, ◌⊎◌, ℕ, ◌<◌, ◌≤◌, Boo
 use Rattle.profile.specs.declared.TheConstants.{MOST_CHANNELS, MOST_PROCESSES}
 use Rattle.pml_marks.specs.declared.mark.Mark.{Mark}
 use Rattle.pml_names.specs.Naming.{before}
-use Rattle.pml_conditions.specs.declared.find.Found.{Found}
 use Rattle.pml_conditions.specs.declared.condition.Condition.{Condition}
 use Rattle.pml_conditions.specs.declared.condition.Condition.TheVariants as condition
 use Rattle.pml_conditions.specs.Conditions.{Around, judged}
@@ -14,6 +13,7 @@ use Rattle.pml_conditions.specs.Start.{begins, processes, first_channels}
 abbrev pub Somewhere : (List Mark → Mark → Bool) → List Mark → Type 0
 Somewhere p ms = (k : ℕ) × (m : Mark) × (slice_get ms k ≡ Some m) × (p (take k ms) m ≡ true)
 
+-- no mark is so, by the marks before it
 abbrev pub Nowhere : (List Mark → Mark → Bool) → List Mark → Type 0
 Nowhere p ms = (k : ℕ) (m : Mark) → slice_get ms k ≡ Some m → p (take k ms) m ≡ false
 
@@ -22,6 +22,7 @@ abbrev pub has_label : List Mark → ℕ → List ℕ → Bool
 has_label [] o n = false
 has_label (m ∷ ms) o n = is_label o n m.owner m.what || has_label ms o n
 
+-- what stands before a mark and in the whole text, by which its condition is asked
 abbrev pub around : List Mark → List Mark → Around
 around ms first = record { all = (before ms).names; every_label = has_label ms; before = before first; labels = has_label first }
 
@@ -37,6 +38,7 @@ breaks_loose before m = loose (round before) m.what
 abbrev pub crosses_step : List Mark → List Mark → Mark → Bool
 crosses_step ms before m = crosses (labels_in ms) (round before) m.owner m.what
 
+-- a process begins with this mark
 abbrev pub begins_there : List Mark → Mark → Bool
 begins_there before m = begins m.what
 
@@ -55,22 +57,3 @@ Fits condition.Step ms = Nowhere (crosses_step ms) ms
 Fits condition.NoProcess ms = Somewhere begins_there ms
 Fits condition.Start ms = (processes ms ≤ MOST_PROCESSES) × (first_channels ms ≤ MOST_CHANNELS)
 Fits r ms = Nowhere (broken r ms) ms
-
-abbrev pub Decides : Bool → Condition → List Mark → Type 0
-Decides true r ms = Applies r ms
-Decides false r ms = Fits r ms
-
--- the same of a test that is asked of each mark
-abbrev pub Finds : Bool → (List Mark → Mark → Bool) → List Mark → Type 0
-Finds true p ms = Somewhere p ms
-Finds false p ms = Nowhere p ms
-
--- what is found of a text
-pub record AreFound (ms : List Mark) (found : Found) : Type 0 where
-  pub twice : Finds found.twice (broken condition.Twice ms) ms
-  pub unknown : Finds found.unknown (broken condition.Unknown ms) ms
-  pub wrong : Finds found.wrong (broken condition.Wrong ms) ms
-  pub arguments : Finds found.arguments (broken condition.Arguments ms) ms
-  pub label : Finds found.label (broken condition.Label ms) ms
-  pub range : Finds found.range (broken condition.Range ms) ms
-  pub cells : Finds found.cells (broken condition.Cells ms) ms

@@ -3,6 +3,7 @@ pub mod Structure
 pub mod Open
 pub mod Start
 pub mod Decided
+pub mod Finds
 pub mod First
 pub mod Labels
 pub mod Laws

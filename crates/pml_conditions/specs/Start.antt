@@ -21,6 +21,7 @@ abbrev pub started : What → ℕ
 started (what.Starts c) = capacity c
 started _ = 0
 
+-- how many processes begin at first
 abbrev pub processes : List Mark → ℕ
 processes [] = 0
 processes (m ∷ ms) = started m.what + processes ms

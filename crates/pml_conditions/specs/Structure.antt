@@ -24,6 +24,7 @@ abbrev pub opened : List Mark → ℕ → List Open
 opened [] left = []
 opened (m ∷ ms) left = entered m.what (length ms) (opened ms) left
 
+-- a `do` is open, in the innermost d_step or out of it
 abbrev pub has_do : List Open → Bool
 has_do [] = false
 has_do ((Do, k) ∷ outer) = true
@@ -35,11 +36,13 @@ is_cut [] = false
 is_cut ((Do, k) ∷ outer) = false
 is_cut ((DStep, k) ∷ outer) = true
 
+-- the innermost d_step that is open, by its number
 abbrev pub innermost_step : List Open → Option ℕ
 innermost_step [] = None
 innermost_step ((Do, k) ∷ outer) = innermost_step outer
 innermost_step ((DStep, k) ∷ outer) = Some k
 
+-- what a place stands in: whether a `do` is open, whether a break would leave a d_step, and the innermost d_step
 abbrev pub round_of : List Open → Round
 round_of xs = record { looped = has_do xs; cut = is_cut xs; step = innermost_step xs }
 
@@ -83,6 +86,7 @@ loose r _ = false
 
 -- ---- what enters or leaves a d_step, and an unless in one
 
+-- two places stand in the same d_step, or in none
 abbrev pub same_step : Option ℕ → Option ℕ → Bool
 same_step None None = true
 same_step (Some a) (Some b) = nat_eq a b

@@ -2,7 +2,7 @@
 
 ghost use Rattle.std.specs.Prelude.{◌≡◌, IfOk};
 ghost use Rattle.pml_names.specs.Env.{env};
-ghost use Rattle.pml_conditions.specs.Decided.{AreFound, Decides};
+ghost use Rattle.pml_conditions.specs.Finds.{AreFound, Decides};
 
 use crate::condition::Condition;
 use crate::find::Found;

@@ -6,7 +6,7 @@ ghost use Rattle.pml_names.specs.Totals.{IsTotalled};
 ghost use Rattle.pml_conditions.specs.declared.condition.Condition.TheVariants as condition;
 ghost use Rattle.pml_conditions.specs.Conditions.{judged};
 ghost use Rattle.pml_conditions.specs.Labels.{told_around};
-ghost use Rattle.pml_conditions.specs.Decided.{AreFound};
+ghost use Rattle.pml_conditions.specs.Finds.{AreFound};
 
 use crate::counts::{mislabelled, other_count, out_of_range, too_many, twice};
 use crate::labels::{add_label, all_labels};

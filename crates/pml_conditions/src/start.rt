@@ -4,7 +4,8 @@ ghost use Rattle.std.specs.Prelude.{◌≡◌, ℕ, ◌+◌, ◌^◌, ◌<◌, �
 ghost use Rattle.pml_names.specs.Entry.{found};
 ghost use Rattle.pml_names.specs.Env.{env};
 ghost use Rattle.pml_conditions.specs.Start.{begins, started, processes, channels_of, made, by_processes, channels_in, first_channels, raised};
-ghost use Rattle.pml_conditions.specs.Decided.{Finds, begins_there, Decides};
+ghost use Rattle.pml_conditions.specs.Decided.{begins_there};
+ghost use Rattle.pml_conditions.specs.Finds.{Finds, Decides};
 ghost use Rattle.pml_conditions.specs.declared.condition.Condition.TheVariants as condition;
 
 use crate::counts::capacity;

@@ -3,7 +3,8 @@
 ghost use Rattle.std.specs.Prelude.{◌≡◌, IfOk};
 ghost use Rattle.pml_names.specs.Places.{stands};
 ghost use Rattle.pml_conditions.specs.Structure.{loose, same_step, elsewhere, crosses};
-ghost use Rattle.pml_conditions.specs.Decided.{Finds, breaks_loose, crosses_step};
+ghost use Rattle.pml_conditions.specs.Decided.{breaks_loose, crosses_step};
+ghost use Rattle.pml_conditions.specs.Finds.{Finds};
 
 use crate::labels::label_steps;
 use crate::round::{Round, Rounds};

@@ -1,10 +1,11 @@
 -- What a variable of a type keeps of a number.
-use Rattle.std.specs.Prelude.{◌≡◌, ℕ, min, nat_le, ◌-◌, ◌*◌, ◌%◌, ◌^◌, Bool, true, false, if◌then◌else◌, nat_lt, ℤ, pos, negsuc, ◌+ℤ◌, ◌-ℤ◌, ◌≤ℤ◌, ◌<ℤ◌, neg_ℤ}
+use Rattle.std.specs.Prelude.{ℕ, min, nat_le, ◌-◌, ◌%◌, ◌^◌, Bool, true, false, if◌then◌else◌, nat_lt, ℤ, pos, negsuc, ◌-ℤ◌}
 use Rattle.pml_program.specs.declared.form.Form.{Form}
 use Rattle.pml_program.specs.declared.form.Form.TheVariants.{Plain, Unsigned}
 use Rattle.pml_tree.specs.declared.tree.Scalar.{Scalar}
 use Rattle.pml_tree.specs.declared.tree.Scalar.TheVariants as word
 
+-- how many bits a variable of a type has
 abbrev pub bits_of_word : Scalar → ℕ
 bits_of_word word.Bit = 1
 bits_of_word word.Bool = 1
@@ -21,6 +22,7 @@ bits_of (Plain t) = bits_of_word t
 bits_of (Unsigned width) = min width 32
 bits_of _ = 32
 
+-- a `short` and an `int` have a sign
 abbrev pub is_word_signed : Scalar → Bool
 is_word_signed word.Short = true
 is_word_signed word.Int = true
@@ -42,19 +44,6 @@ abbrev pub placed : Bool → ℕ → ℕ → ℤ
 placed false n low = pos low
 placed true n low = if nat_lt low (2 ^ (n - 1)) then pos low else pos low -ℤ pos (2 ^ n)
 
+-- what a variable of a type keeps of a number
 abbrev pub clipped : Form → ℤ → ℤ
 clipped form v = placed (is_signed form) (bits_of form) (residue (bits_of form) v)
-
--- the numbers of n bits, with a sign or without
-abbrev pub InBits : Bool → ℕ → ℤ → Type 0
-InBits false n r = (pos 0 ≤ℤ r) × (r <ℤ pos (2 ^ n))
-InBits true n r = (neg_ℤ (pos (2 ^ (n - 1))) ≤ℤ r) × (r <ℤ pos (2 ^ (n - 1)))
-
--- v and r differ by a multiple of d
-abbrev pub Differ : ℕ → ℤ → ℤ → Type 0
-Differ d v r = (j : ℕ) × (k : ℕ) × (v +ℤ pos (j * d) ≡ r +ℤ pos (k * d))
-
--- r is in the type's range, and differs from v by a multiple of 2 ^ n
-pub record IsClip (form : Form) (v r : ℤ) : Type 0 where
-  pub range : InBits (is_signed form) (bits_of form) r
-  pub differ : Differ (2 ^ bits_of form) v r

@@ -9,10 +9,12 @@ use Rattle.pml_tree.specs.declared.tree.Infix.TheVariants as op
 use Rattle.diagnostics.specs.declared.fault.Fault.{Fault}
 use Rattle.diagnostics.specs.declared.fault.Fault.TheVariants.{ZeroDivisor}
 
+-- a truth is 1 or 0
 abbrev pub truth : Bool → ℤ
 truth true = pos 1
 truth false = pos 0
 
+-- a number is 0
 abbrev pub is_zero : ℤ → Bool
 is_zero v = int_eq v (pos 0)
 
@@ -20,6 +22,7 @@ is_zero v = int_eq v (pos 0)
 abbrev pub wrapped : ℤ → ℤ
 wrapped v = int_wrap w32 v
 
+-- what an operator before a number makes of it
 abbrev pub prefixed : Prefix → ℤ → ℤ
 prefixed before.Not v = truth (is_zero v)
 prefixed before.Complement v = int_bit_not w32 v
@@ -30,6 +33,7 @@ abbrev pub shifted_left : ℤ → ℤ → ℤ
 shifted_left a (pos k) = if nat_lt k 32 then int_shl w32 a k else pos 0
 shifted_left a (negsuc k) = pos 0
 
+-- by a number from 0 to 31 the sign stays in front; by any other 0 is left
 abbrev pub shifted_right : ℤ → ℤ → ℤ
 shifted_right a (pos k) = if nat_lt k 32 then int_shr a k else pos 0
 shifted_right a (negsuc k) = pos 0
@@ -58,6 +62,7 @@ infixed op.Or a b = Ok (truth (not (is_zero a && is_zero b)))
 
 -- ---- the right operand is evaluated only where the left one does not decide
 
+-- what the left side of `&&` and `||` decides alone, if it does
 abbrev pub decided : Infix → ℤ → Option ℤ
 decided op.And a = if is_zero a then Some (pos 0) else None
 decided op.Or a = if is_zero a then None else Some (pos 1)

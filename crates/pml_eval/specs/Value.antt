@@ -41,6 +41,7 @@ abbrev pub ◌>>=◌ : {A B : Type 0} → Result A Fault → (A → Result B Fau
 (Ok x) >>= f = f x
 (Err e) >>= f = Err e
 
+-- what is asked of how full a channel is
 abbrev pub filled : Fill → Filling → ℤ
 filled Length c = pos (length c.messages)
 filled IsEmpty c = truth (length c.messages == 0)
@@ -48,6 +49,7 @@ filled IsFull c = truth (not (nat_lt (length c.messages) c.capacity))
 filled IsNotEmpty c = truth (not (length c.messages == 0))
 filled IsNotFull c = truth (nat_lt (length c.messages) c.capacity)
 
+-- the same of a channel that may not be there
 abbrev pub asked : Fill → Option Filling → Result ℤ Fault
 asked fill None = Err NoSuchChannel
 asked fill (Some c) = Ok (filled fill c)
@@ -58,6 +60,7 @@ is_match search ws [] = false
 is_match First ws (m ∷ ms) = matched ws m
 is_match Matching ws (m ∷ ms) = matched ws m || is_match Matching ws ms
 
+-- the messages of a channel, if it is there
 abbrev pub messages_of : Option Filling → List (List ℤ)
 messages_of None = []
 messages_of (Some c) = c.messages
@@ -89,6 +92,7 @@ pub record Placed : Type 0 where
   pub form : Form
   pub lies : Reading → Result Place Fault
 
+-- how far a turn leads into a variable, or its fault
 abbrev pub Turned : Type 0
 Turned = Reading → Result ℕ Fault
 
@@ -101,9 +105,11 @@ abbrev pub or_both : Infix → ℤ → Option ℤ → Result ℤ Fault → Resul
 or_both op x (Some y) right = Ok y
 or_both op x None right = right >>= λ y. infixed op x y
 
+-- what a receive asks for one field, or a fault
 abbrev pub Wanted : Type 0
 Wanted = Reading → Result Sought Fault
 
+-- what a receive asks, field by field, or the first fault
 abbrev pub wants_of : List Wanted → Reading → Result (List Sought) Fault
 wants_of [] r = Ok []
 wants_of (a ∷ more) r = a r >>= λ w. wants_of more r >>= λ ws. Ok (w ∷ ws)
@@ -113,6 +119,7 @@ abbrev pub settled : Result (List Sought) Fault → Result (Unit {0}) Fault
 settled (Ok ws) = Ok tt
 settled (Err f) = Err f
 
+-- the value of an expression by those of its parts
 abbrev pub value_step : Expr-F Valued Wanted Placed Turned → Valued
 value_step (Expr-F.Number n) r = Ok n
 value_step Expr-F.Pid r = Ok r.pid
@@ -125,6 +132,7 @@ value_step (Expr-F.Unary op a) r = a r >>= λ x. Ok (prefixed op x)
 value_step (Expr-F.Binary op a b) r = a r >>= λ x. or_both op x (decided op x) (b r)
 value_step (Expr-F.Choice a b c) r = a r >>= λ x. if_zero x (c r) (b r)
 
+-- what is asked for a field by the values of its parts
 abbrev pub want_step : Want-F Valued Wanted Placed Turned → Wanted
 want_step (Want-F.Exactly n) r = Ok (Exactly n)
 want_step (Want-F.Equal a) r = a r >>= λ n. Ok (Exactly n)
@@ -142,30 +150,38 @@ cell_in frame variable turns r =
     let whole = r.cells frame variable in
     inside whole 0 >>= λ c. cells_of turns whole c r >>= λ cell. Ok (record { frame = frame; variable = variable; cell = cell })
 
+-- where a target lies by its turns
 abbrev pub target_step : Target-F Valued Wanted Placed Turned → Placed
 target_step p = record { form = p.form; lies = λ r. cell_in (r.frame p.local) p.variable p.turns r }
 
+-- the value of an index, which is within its array, or a fault
 abbrev pub index_of : Option Valued → ℕ → Reading → Result ℕ Fault
 index_of None length r = Ok 0
 index_of (Some a) length r = a r >>= within length
 
+-- how far a turn leads: its offset, and its stride for each place before the index
 abbrev pub turn_step : Turn-F Valued Wanted Placed Turned → Turned
 turn_step s r = index_of s.index s.length r >>= λ i. Ok (s.offset + i * s.stride)
 
 -- ---- the whole tree
 
+-- the value of an expression in what it reads, or its fault
 abbrev pub val : Expr → Valued
 val = fold-Expr Valued Wanted Placed Turned value_step want_step target_step turn_step
 
+-- a target, with its type and where it lies
 abbrev pub placed : Target → Placed
 placed = fold-Target Valued Wanted Placed Turned value_step want_step target_step turn_step
 
+-- the cell of a target, or its fault
 abbrev pub place : Target → Reading → Result Place Fault
 place t = (placed t).lies
 
+-- how far a turn leads into a variable
 abbrev pub cells : Turn → Turned
 cells = fold-Turn Valued Wanted Placed Turned value_step want_step target_step turn_step
 
+-- what a receive asks for one field
 abbrev pub want : Want → Wanted
 want = fold-Want Valued Wanted Placed Turned value_step want_step target_step turn_step
 

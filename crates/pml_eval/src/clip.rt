@@ -2,7 +2,8 @@
 
 ghost use Rattle.std.specs.Prelude.{◌≡◌, ◌≤◌, ◌<◌, ◌^◌, true, false, pos, ℤ};
 ghost use Rattle.pml_program.specs.declared.form.Form.{Form};
-ghost use Rattle.pml_eval.specs.Clip.{bits_of, bits_of_word, is_signed, is_word_signed, residue, placed, clipped, InBits, IsClip};
+ghost use Rattle.pml_eval.specs.Clip.{bits_of, bits_of_word, is_signed, is_word_signed, residue, placed, clipped};
+ghost use Rattle.pml_eval.specs.Range.{InBits, IsClip};
 
 use pml_program::form::Form;
 use pml_tree::tree::Scalar;

@@ -69,18 +69,21 @@ level op.Remainder = 10
 abbrev pub prefix_level : ℕ
 prefix_level = 11
 
+-- the operator before an operand that a token is: `!`, `~` or `-`
 abbrev pub prefix_operator : Kind → Option Prefix
 prefix_operator k.Bang = Some prefixes.Not
 prefix_operator k.Tilde = Some prefixes.Complement
 prefix_operator k.Minus = Some prefixes.Minus
 prefix_operator _ = None
 
+-- `true` and `skip` are 1, `false` is 0
 abbrev pub truth : Kind → Option Bool
 truth k.True = Some true
 truth k.Skip = Some true
 truth k.False = Some false
 truth _ = None
 
+-- what a word asks of how full a channel is
 abbrev pub fill : Kind → Option Fill
 fill k.Len = Some fills.Length
 fill k.Empty = Some fills.IsEmpty
@@ -97,9 +100,11 @@ query _ = None
 
 -- ---- the trees, by their parts
 
+-- a name, and the index behind it, if there is one
 abbrev pub step_of : Word → Option Expr → Step
 step_of name index = roll-Step (record { name = name; index = index })
 
+-- a name, and the fields behind it
 abbrev pub reference_of : Step → List Step → Reference
 reference_of first fields = roll-Reference (record { first = first; fields = fields })
 

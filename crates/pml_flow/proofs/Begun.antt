@@ -7,7 +7,8 @@ use Rattle.pml_program.specs.declared.program.Basic.{Basic, Plain, Goto, Break, 
 use Rattle.pml_control.specs.Control.{Turn, Place, Todo, Control, steps, basic_of, basic_at, sequence, beyond, behind, behind_of, at, into, todos, settle}
 use Rattle.pml_control.proofs.Places.{stands, entered}
 use Rattle.pml_control.proofs.Reaching.{IsAt, first_of}
-use Rattle.pml_flow.specs.Flow.{first_place, maybe, entry_of}
+use Rattle.pml_flow.specs.Flow.{entry_of}
+use Rattle.pml_flow.specs.Graph.{first_place, maybe}
 use Rattle.pml_flow.proofs.Beginning.{enters}
 
 -- the statement x stands at p, before c

@@ -2,7 +2,7 @@
 use Rattle.std.proofs.Common.{◌≡◌, ℕ, zero, suc, ◌+◌, ◌-◌, ◌<◌, List, [], ◌∷◌, ◌++◌, length, map, take, drop, refl, sym, ap, ◌∙◌, arith, append_assoc, length-append}
 use Rattle.std.specs.Prelude.{slice_index_or, slice_range}
 use Rattle.pml_flow.specs.Parts.{all_of, bounds_from, begin_of, part}
-use Rattle.pml_flow.specs.Flow.{span, levels_by}
+use Rattle.pml_flow.specs.Graph.{span, levels_by}
 
 pub bounds-length : {X : Type 0} (k : ℕ) (xss : List (List X)) → length (bounds_from k xss) ≡ length xss
 bounds-length k [] = refl

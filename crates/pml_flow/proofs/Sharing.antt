@@ -5,7 +5,7 @@ use Rattle.pml_program.specs.declared.program.Seq.{Seq, Seq', Row_of-Stmt, end_o
 use Rattle.pml_program.specs.declared.program.Basic.{Basic, Plain, Goto, Break, If', Do', Block, Atomic, DStep, Unless, Row_of-Seq, end_of-Seq, more_of-Seq}
 use Rattle.pml_control.proofs.Reaching.{zero_plus, plus_zero, plus_one}
 use Rattle.pml_flow.specs.Ways.{Ways, Site, way, own_step, one, outer, site, bare, count_part, count_row, count_options, ways_part, ways_row, ways_options, sites_in, sites_part, sites_escape, sites_row, sites_options, sites_of}
-use Rattle.pml_flow.specs.Flow.{kept, site_of}
+use Rattle.pml_flow.specs.Graph.{kept, site_of}
 use Rattle.pml_flow.proofs.Whole as whole
 use Rattle.pml_flow.proofs.Whole.{sites_whole}
 use Rattle.pml_flow.proofs.Beginning.{read, append_nil}

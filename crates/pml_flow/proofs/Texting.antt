@@ -11,9 +11,10 @@ use Rattle.pml_flow.specs.declared.edge.Edge.{Edge}
 use Rattle.pml_flow.specs.Ways.{Ways, Site}
 use Rattle.pml_flow.specs.Parts.{all_of}
 use Rattle.pml_flow.specs.Statements.{statement_at, stated}
-use Rattle.pml_flow.specs.Marks.{mark}
-use Rattle.pml_flow.specs.Texts.{text_by, line_by, text_if, text_at, offer_line_at, texts_from, offer_lines_from, texts_of}
-use Rattle.pml_flow.specs.Flow.{first_place, numbered_at, is_end_at, Tables, edge, edges_level, own_levels, site_of, mark_edges}
+use Rattle.pml_flow.specs.Marked.{mark}
+use Rattle.pml_flow.specs.Texts.{text_by, line_by}
+use Rattle.pml_flow.specs.Composed.{text_if, text_at, offer_line_at, texts_from, offer_lines_from, texts_of}
+use Rattle.pml_flow.specs.Graph.{first_place, numbered_at, is_end_at, Tables, edge, edges_level, own_levels, site_of, mark_edges}
 use Rattle.pml_flow.proofs.Beginning.{read, Own}
 use Rattle.pml_flow.proofs.Ending.{read_map, mark_keeps, mark_sets, mark-length}
 use Rattle.pml_flow.proofs.Parting.{part_is, all_append}

@@ -1,17 +1,18 @@
 -- What is known of a point besides its offers: its line, and whether a process may end there.
-use Rattle.std.specs.Prelude.{◌≡◌, ℕ, ◌+◌, Bool, true, false, ◌||◌, if◌then◌else◌, nat_eq, nat_lt, List, [], ◌∷◌, length, Option, Some, None, codes, slice_set, slice_index_or}
+use Rattle.std.specs.Prelude.{ℕ, Bool, false, ◌||◌, nat_eq, List, [], ◌∷◌, Option, Some, None, codes}
 use Rattle.std.specs.List.{starts_with}
 use Rattle.pml_token.specs.Word.{Word}
 use Rattle.pml_program.specs.declared.program.Stmt.{Stmt}
 use Rattle.pml_program.specs.declared.program.Seq.{Seq}
-use Rattle.pml_control.specs.Control.{Place, Control, at, settle, steps}
-use Rattle.pml_flow.specs.Statements.{statement_at, stated}
+use Rattle.pml_control.specs.Control.{Control}
+use Rattle.pml_flow.specs.Statements.{stated}
 
 -- the line of the first token, or of the closing brace
 abbrev pub first_line : List Word → ℕ → ℕ
 first_line [] brace = brace
 first_line (w ∷ ws) brace = w.line
 
+-- the line of a statement, or of the closing brace where there is none
 abbrev pub line_of : Option Stmt → ℕ → ℕ
 line_of None brace = brace
 line_of (Some s) brace = first_line s.tokens brace
@@ -24,36 +25,12 @@ line_at b brace c = line_of (stated b c) brace
 abbrev pub is_end : List ℕ → Bool
 is_end l = starts_with nat_eq l (codes "end")
 
+-- one of these labels begins with `end`
 abbrev pub any_end : List Word → Bool
 any_end [] = false
 any_end (w ∷ ws) = is_end w.text || any_end ws
 
+-- a statement has a label that begins with `end`
 abbrev pub has_end : Option Stmt → Bool
 has_end None = false
 has_end (Some s) = any_end s.labels
-
--- A valid end point: nothing is left, or a label that begins with `end` leads there without a step.
-pub data IsValidEnd (b : Seq) (c : Control) : Type 0 where
-  at_end : c ≡ [] → IsValidEnd b c
-  by_label : (p : Place) → has_end (statement_at b p) ≡ true → settle b (at (steps b) p) ≡ c → IsValidEnd b c
-
--- ---- what the code makes of statements
-
--- the lines where settling ends, from number k on
-abbrev pub lines_from : ℕ → List (Option Stmt) → ℕ → List (Option ℕ) → List ℕ
-lines_from brace ds k [] = []
-lines_from brace ds k (None ∷ os) = line_of (slice_index_or ds k None) brace ∷ lines_from brace ds (k + 1) os
-lines_from brace ds k (Some j ∷ os) = lines_from brace ds (k + 1) os
-
--- node n is marked
-abbrev pub mark : List Bool → ℕ → List Bool
-mark bs n = if nat_lt n (length bs) then slice_set bs n true else bs
-
-abbrev pub mark_if : Bool → List Bool → ℕ → List Bool
-mark_if true bs n = mark bs n
-mark_if false bs n = bs
-
--- the nodes of the numbers, from number k on, whose statement has a label that begins with `end`
-abbrev pub marked : List (Option Stmt) → ℕ → List Bool → List ℕ → List Bool
-marked ds k bs [] = bs
-marked ds k bs (t ∷ ts) = marked ds (k + 1) (mark_if (has_end (slice_index_or ds k None)) bs t) ts

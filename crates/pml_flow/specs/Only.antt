@@ -2,7 +2,7 @@
 use Rattle.std.specs.Prelude.{ℕ, List, [], ◌∷◌, map, Option, Some, None, slice_index_or}
 use Rattle.pml_flow.specs.declared.only.Span.{Span}
 use Rattle.pml_flow.specs.Parts.{begin_of}
-use Rattle.pml_flow.specs.Flow.{Node}
+use Rattle.pml_flow.specs.Graph.{Node}
 
 -- of levels: nowhere where there is none, or more than one
 abbrev pub only_span : List ℕ → List ℕ → Option Span

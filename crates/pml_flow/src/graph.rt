@@ -5,9 +5,9 @@ ghost use Rattle.std.specs.Option.{option_copied};
 ghost use Rattle.pml_control.specs.Control.{SettlesEverywhere};
 ghost use Rattle.pml_control.specs.Plan.{IsPlan};
 ghost use Rattle.pml_flow.specs.Parts.{all_of, bounds_from};
-ghost use Rattle.pml_flow.specs.Texts.{text_at, offer_line_at};
+ghost use Rattle.pml_flow.specs.Composed.{text_at, offer_line_at};
 ghost use Rattle.pml_flow.specs.Only.{only_spans};
-ghost use Rattle.pml_flow.specs.Flow.{kept, ranks_from, rank, node_by, targets, end_by, end_of, same_number, site_of, entry_by, edge, edges_level, all_edges, levels_by, all_levels, node_of, node_at, levels_of, atomic_in, is_end_at, mark_edges, IsGraph};
+ghost use Rattle.pml_flow.specs.Graph.{kept, ranks_from, rank, node_by, targets, end_by, end_of, same_number, site_of, entry_by, edge, edges_level, all_edges, levels_by, all_levels, node_of, node_at, levels_of, atomic_in, is_end_at, mark_edges, IsGraph};
 
 use crate::edge::Edge;
 use crate::level::{Level, Way};
@@ -36,7 +36,7 @@ pub struct Node {
 }
 
 impl Model for Node {
-    ghost use Rattle.pml_flow.specs.Flow.{Node};
+    ghost use Rattle.pml_flow.specs.Graph.{Node};
 
     ghost Value = { Node };
 
@@ -52,7 +52,7 @@ struct Tables<'t> {
 }
 
 impl<'t> Model for Tables<'t> {
-    ghost use Rattle.pml_flow.specs.Flow.{Tables};
+    ghost use Rattle.pml_flow.specs.Graph.{Tables};
 
     ghost Value = { Tables };
 
@@ -68,7 +68,7 @@ struct AllEdges {
 }
 
 impl Model for AllEdges {
-    ghost use Rattle.pml_flow.specs.Flow.{AllEdges};
+    ghost use Rattle.pml_flow.specs.Graph.{AllEdges};
 
     ghost Value = { AllEdges };
 
@@ -90,7 +90,7 @@ pub struct Graph {
 
 impl Model for Graph {
     ghost use Rattle.std.specs.Prelude.{◌≡◌};
-    ghost use Rattle.pml_flow.specs.Flow.{Graph};
+    ghost use Rattle.pml_flow.specs.Graph.{Graph};
     ghost use Rattle.pml_flow.specs.Only.{only_spans};
 
     ghost Value = { Graph };

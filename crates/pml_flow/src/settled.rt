@@ -1,7 +1,7 @@
 //! Where settling ends, by numbers and by nodes.
 
 ghost use Rattle.std.specs.Prelude.{◌≡◌, ◌-◌, IfOk, length};
-ghost use Rattle.pml_flow.specs.Flow.{ranks_from, rank, node_by, targets, end_by, end_of, same_number, site_of, entry_by};
+ghost use Rattle.pml_flow.specs.Graph.{ranks_from, rank, node_by, targets, end_by, end_of, same_number, site_of, entry_by};
 
 use crate::site::Site;
 use pml_control::ends::Ending;

@@ -14,6 +14,7 @@ is_name w = same_kind w.kind Name
 unfoldable pub is_inline : Word → Bool
 is_inline w = same_kind w.kind Inline
 
+-- the word `inline` is among the tokens
 abbrev pub has_inline : List Word → Bool
 has_inline ws = list_any is_inline ws
 
@@ -57,6 +58,7 @@ abbrev pub put : Word → List (List Word) → List (List Word)
 put w [] = (w ∷ []) ∷ []
 put w (p ∷ ps) = (w ∷ p) ∷ ps
 
+-- a comma that stands in no brackets begins a new part, and each other token belongs to the part that it stands in
 abbrev pub part_turn : Bool → Word → (ℕ → List (List Word)) → ℕ → List (List Word)
 part_turn true w rest n = [] ∷ rest 0
 part_turn false w rest n = put w (rest (level_behind n w.kind))

@@ -18,9 +18,11 @@ join None b = None
 join (Some a) None = None
 join (Some a) (Some b) = Some (record { tokens = a.tokens ++ b.tokens; count = a.count + b.count })
 
+-- no token comes out
 abbrev pub nothing : Option Given
 nothing = Some (record { tokens = []; count = 0 })
 
+-- a token comes out as it is
 abbrev pub itself : Word → Option Given
 itself w = Some (record { tokens = w ∷ []; count = 0 })
 
@@ -37,10 +39,12 @@ place_of n (m ∷ ms) = if bytes_eq n m then Some 0 else one_more (place_of n ms
 abbrev pub parameter : List (List ℕ) → Word → Option ℕ
 parameter ps w = if is_name w then place_of w.text ps else None
 
+-- the tokens, or none
 abbrev pub unwrap_list : Option (List Word) → List Word
 unwrap_list None = []
 unwrap_list (Some ts) = ts
 
+-- a token that names no parameter stays, and one that does gives way to its argument
 abbrev pub instead : List (List Word) → Word → Option ℕ → List Word
 instead args w None = w ∷ []
 instead args w (Some k) = unwrap_list (slice_get args k)
@@ -49,6 +53,7 @@ instead args w (Some k) = unwrap_list (slice_get args k)
 abbrev pub replaced : Inline → List (List Word) → List Word
 replaced d args = flat_map (λ w. instead args w (parameter d.parameters w)) d.body
 
+-- no token is there
 abbrev pub is_empty : List Word → Bool
 is_empty [] = true
 is_empty (w ∷ ws) = false
@@ -66,6 +71,7 @@ abbrev pub enclosed : (List Word → Option Given) → List Word → (ℕ → Op
 enclosed call ws rest None = None
 enclosed call ws rest (Some n) = join (call (take n (drop 1 ws))) (rest (n + 2))
 
+-- what comes of a token and of what is behind it: it is passed over, or stays, or is a call
 abbrev pub turn : (Inline → List Word → Option Given) → ℕ → Option Inline → Word → List Word → (ℕ → Option Given) → Option Given
 turn call (suc n) d w ws rest = rest n
 turn call zero None w ws rest = join (itself w) (rest 0)
@@ -76,6 +82,7 @@ abbrev pub reading : List Inline → (Inline → List Word → Option Given) →
 reading known call [] n = nothing
 reading known call (w ∷ ws) n = turn call n (callee known w ws) w ws (reading known call ws)
 
+-- what is read is counted where the call has as many arguments as there are parameters
 abbrev pub where_right : Bool → (List Word → Option Given) → List Word → Option Given
 where_right true read ts = join (counted ts) (read ts)
 where_right false read ts = None

@@ -32,6 +32,7 @@ defined rest known (d ∷ ds) zero = rest (known ++ d ∷ []) ds 0 d.size
 defined rest known (d ∷ ds) (suc n) = None
 defined rest known [] n = None
 
+-- what comes of a token of a text and of what is behind it: it is passed over, or begins a definition, or stays, or is a call
 abbrev pub text_turn : ℕ → Bool → Option Inline → Word → List Word → Rest → Rest
 text_turn (suc m) here d w ws rest known ds n m' = rest known ds n m
 text_turn zero true d w ws rest known ds n m' = defined rest known ds n
@@ -49,6 +50,7 @@ abbrev pub limited : Option Given → Option (List Word)
 limited None = None
 limited (Some g) = if nat_le g.count MOST_REPLACED then Some g.tokens else None
 
+-- what comes of a text with these definitions, no two of which have one name
 abbrev pub by_definitions : List Word → Option (List Inline) → Option (List Word)
 by_definitions ts None = None
 by_definitions ts (Some ds) = if all_differ (map (λ d. d.name) ds) then limited (texts ts [] ds 0 0) else None
@@ -66,6 +68,7 @@ pub record IsExpanded (ts us : List Word) : Type 0 where
   pub expands : Expands ts us
   pub shallow : IsTooDeep us → ⊥
 
+-- what comes of the tokens is too deep
 pub record GoesTooDeep (ts : List Word) : Type 0 where
   pub given : List Word
   pub expands : Expands ts given

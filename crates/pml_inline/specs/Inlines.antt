@@ -16,13 +16,16 @@ pub record Inline : Type 0 where
   -- how many tokens it has behind the word `inline`
   pub size : ℕ
 
+-- a name is one of these
 abbrev pub is_among : List ℕ → List (List ℕ) → Bool
 is_among n ns = list_any (bytes_eq n) ns
 
+-- no two of these names are the same
 abbrev pub all_differ : List (List ℕ) → Bool
 all_differ [] = true
 all_differ (n ∷ ns) = not (is_among n ns) && all_differ ns
 
+-- a name before others
 abbrev pub and_name : List ℕ → Option (List (List ℕ)) → Option (List (List ℕ))
 and_name n None = None
 and_name n (Some ns) = Some (n ∷ ns)
@@ -49,9 +52,11 @@ with_end name ps ts (Some n) =
     if all_differ ps && not (has_inline (take (n + 2) ts))
     then Some (record { name = name; parameters = ps; body = take (n + 2) ts; size = 2 + listed ps + (n + 2) }) else None
 
+-- the definition whose body begins with the `{` that tokens begin with, if they do
 abbrev pub with_body : List ℕ → List (List ℕ) → List Word → Option Inline
 with_body name ps ts = if begins OpenBrace ts then with_end name ps ts (closing OpenBrace CloseBrace (drop 1 ts) 0) else None
 
+-- the definition with these parameters, whose body stands behind them
 abbrev pub with_parameters : List ℕ → List Word → Option (List (List ℕ)) → Option Inline
 with_parameters name ts None = None
 with_parameters name ts (Some ps) = with_body name ps (drop (listed ps) ts)
@@ -61,14 +66,17 @@ unfoldable pub definition : List Word → Option Inline
 definition [] = None
 definition (w ∷ ws) = if is_name w && begins OpenParen ws then with_parameters w.text (drop 1 ws) (parameters (drop 1 ws)) else None
 
+-- a definition before others
 abbrev pub and_inline : Inline → Option (List Inline) → Option (List Inline)
 and_inline d None = None
 and_inline d (Some ds) = Some (d ∷ ds)
 
+-- a definition, and those behind it
 abbrev pub define : Option Inline → (ℕ → Option (List Inline)) → Option (List Inline)
 define None rest = None
 define (Some d) rest = and_inline d (rest d.size)
 
+-- the definitions from a token on: it is passed over, or begins one, or is another token
 abbrev pub definition_turn : ℕ → Bool → Option Inline → (ℕ → Option (List Inline)) → Option (List Inline)
 definition_turn (suc n) here d rest = rest n
 definition_turn zero true d rest = define d rest

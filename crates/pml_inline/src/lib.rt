@@ -12,7 +12,7 @@ mod places;
 mod texts;
 
 ghost use Rattle.std.specs.Prelude.{◌≡◌, ℕ, List, IfOk, IfErr, MatchResult};
-ghost use Rattle.pml_lex.specs.Limits.{AreOnLines};
+ghost use Rattle.pml_lex.specs.Rows.{AreOnLines};
 ghost use Rattle.pml_token.specs.Word.{Word};
 ghost use Rattle.pml_inline.specs.Expansion.{IsExpanded, IsLeast, IsFaultOnLine};
 

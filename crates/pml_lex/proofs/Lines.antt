@@ -9,7 +9,8 @@ use Rattle.pml_lex.specs.declared.piece.Piece.TheVariants.{Skipped, Token}
 use Rattle.pml_token.specs.Word.{Word}
 use Rattle.pml_lex.specs.Pieces.{piece}
 use Rattle.pml_lex.specs.Division.{IsCut, is_line_feed, line_behind, is_fresh, word, words}
-use Rattle.pml_lex.specs.Limits.{IsOnLine, AreOnLines}
+use Rattle.pml_lex.specs.Limits.{IsOnLine}
+use Rattle.pml_lex.specs.Rows.{AreOnLines}
 
 pub line_on : (before rest text : List ℕ) → before ++ rest ≡ text → IsOnLine (line_behind text) (line_behind before)
 line_on before rest text joins =

@@ -4,7 +4,7 @@ ghost use Rattle.std.specs.Prelude.{◌≡◌, ◌++◌, ◌∷◌, [], List, �
 ghost use Rattle.std.specs.List.{concat};
 ghost use Rattle.pml_token.specs.Word.{Word};
 ghost use Rattle.pml_lex.specs.Division.{IsDivision, IsCut, is_fresh, line_behind};
-ghost use Rattle.pml_lex.specs.Limits.{AreOnLines};
+ghost use Rattle.pml_lex.specs.Rows.{AreOnLines};
 ghost use Rattle.pml_lex.specs.Laws.{LastLineIsBlank, StandInOrder};
 
 /// A text has one division at most.

@@ -10,7 +10,8 @@ mod words;
 ghost use Rattle.std.specs.Prelude.{◌≡◌, ◌≤◌, ◌<◌, ◌+◌, ◌^◌, ℕ, List, length, count_by, MatchResult, IfOk, IfErr, IfSome};
 ghost use Rattle.pml_token.specs.Word.{Word};
 ghost use Rattle.pml_lex.specs.Division.{is_line_feed, fresh_from};
-ghost use Rattle.pml_lex.specs.Cut.{AreTokens, IsLeast, IsUncut, IsDivided};
+ghost use Rattle.pml_lex.specs.Cut.{AreTokens};
+ghost use Rattle.pml_lex.specs.Divided.{IsLeast, IsUncut, IsDivided};
 ghost use Rattle.profile.specs.declared.TheConstants.{MOST_TEXT_BYTES};
 
 use fault::LexFault;

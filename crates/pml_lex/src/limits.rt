@@ -2,7 +2,9 @@
 
 ghost use Rattle.std.specs.Prelude.{◌≡◌, ◌≤◌, ◌<◌, ◌+◌, ◌^◌, ◌-◌, ℕ, true, false, All, MatchOption, length, take, ⊤};
 ghost use Rattle.pml_lex.specs.Limits as limits;
-ghost use Rattle.pml_lex.specs.Limits.{IsOnLine, AreOnLines};
+ghost use Rattle.pml_lex.specs.Rows as rows;
+ghost use Rattle.pml_lex.specs.Limits.{IsOnLine};
+ghost use Rattle.pml_lex.specs.Rows.{AreOnLines};
 ghost use Rattle.pml_token.specs.Word.{Word};
 
 use pml_token::token::{Kind, Token, same_kind};
@@ -67,7 +69,7 @@ fn deepen(depth: u32, kind: Kind) -> u32
 
 fn lengthen(row: u32, kind: Kind) -> u32
     requires { row < 1000000 }
-    ensures { result ≡ limits.lengthen row kind }
+    ensures { result ≡ rows.lengthen row kind }
 {
     (row + 1) * u32::from(!breaks(kind))
 }

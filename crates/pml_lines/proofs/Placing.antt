@@ -4,10 +4,12 @@ use Rattle.std.proofs.lemmas.Bool.{lt-ltb, le-ltb, cases_lt}
 use Rattle.pml_program.specs.declared.program.Slot.{Slot}
 use Rattle.pml_program.specs.declared.program.Program.{Program}
 use Rattle.pml_store.specs.declared.place.Place.{Place}
-use Rattle.pml_store.specs.Store.{Frame, flat, joined}
+use Rattle.pml_store.specs.Store.{Frame}
+use Rattle.pml_store.specs.Writing.{flat, joined}
 use Rattle.pml_cells.specs.Cells.{size, cell_of, number_of, number_in}
 use Rattle.pml_lines.specs.declared.changed.Change.{Change}
-use Rattle.pml_lines.specs.Changes.{Owner, each_change, IsFrame, AreFrames, AreDeclared, process_owners, owners}
+use Rattle.pml_lines.specs.Changes.{Owner, each_change, process_owners, owners}
+use Rattle.pml_lines.specs.Written.{IsFrame, AreFrames, AreDeclared}
 use Rattle.pml_lines.specs.Changed.{change, variable_changes, frame_changes, changes}
 use Rattle.pml_lines.specs.Placed.{place_at, changed_from, changed_at}
 use Rattle.pml_lines.proofs.Flat.{each_change-split, each_change-same, each_change-none, each_change-short, length-flat}

@@ -7,7 +7,8 @@ use Rattle.pml_program.specs.declared.program.Slot.{Slot}
 use Rattle.pml_program.specs.declared.program.Program.{Program}
 use Rattle.pml_lines.specs.Places.{place_line}
 use Rattle.pml_cells.specs.Cells.{slot_of, cell_of}
-use Rattle.pml_lines.specs.Changes.{Owner, line, each_change, line_at, heading_of, slots_of, process_owner, process_owners}
+use Rattle.pml_lines.specs.Changes.{Owner, line, each_change, heading_of, slots_of, process_owner, process_owners}
+use Rattle.pml_lines.specs.Written.{line_at}
 
 pub line-here : (p : Program) (o : Owner) (os : List Owner) (i : ℕ) (v : ℤ) (s : Slot) → Some s ≡ slot_of o.slots i → line_at p (o ∷ os) i v ≡ line p o s (cell_of o.slots i) v
 line-here p o os i v s h = subst (λ (x : Option Slot). (elim x as (λ _. List ℕ) [ None ↦ line_at p os (cell_of o.slots i) v | Some t ↦ line p o t (cell_of o.slots i) v ]) ≡ line p o s (cell_of o.slots i) v) h refl

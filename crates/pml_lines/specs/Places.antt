@@ -16,6 +16,7 @@ constant names (pos zero) = None
 constant names (pos (suc n)) = slice_get names n
 constant names (negsuc n) = None
 
+-- a name, or what stands for one where there is none
 abbrev pub name_or : Option Word → List ℕ → List ℕ
 name_or None other = other
 name_or (Some w) other = w.text

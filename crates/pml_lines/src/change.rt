@@ -4,7 +4,8 @@ ghost use Rattle.std.specs.Prelude.{◌≡◌, ◌++◌, true, slice_get, OnOk, 
 ghost use Rattle.std.specs.Io.{StartsWith};
 ghost use Rattle.std.specs.Fmt.{decimal};
 ghost use Rattle.pml_lines.specs.Places.{place_line};
-ghost use Rattle.pml_lines.specs.Changes.{proctype_name, local_heading, heading_of, local_line, process_owners, line_at, wanted_line, changed_line, each_change, AddsChanges, AddsStep, oldest, if_changed, each_write};
+ghost use Rattle.pml_lines.specs.Changes.{proctype_name, local_heading, heading_of, process_owners, each_change};
+ghost use Rattle.pml_lines.specs.Written.{local_line, line_at, wanted_line, changed_line, AddsChanges, AddsStep, oldest, if_changed, each_write};
 
 use crate::place::place_line;
 use crate::tables::Tables;

@@ -24,14 +24,17 @@ abbrev pub signed : Option ℕ → Constant
 signed None = Faulty
 signed (Some n) = Is (cast_signed w32 n)
 
+-- the value of a number's digits
 abbrev pub number : List ℕ → Constant
 number cs = signed (numeral cs)
 
+-- the value behind a minus sign, of 32 bits
 abbrev pub negated : Constant → Constant
 negated (Is x) = Is (int_wrap w32 (neg_ℤ x))
 negated Faulty = Faulty
 negated Open = Open
 
+-- a number is 0
 abbrev pub is_zero : ℤ → Bool
 is_zero x = int_eq x (pos 0)
 
@@ -44,6 +47,7 @@ applied op.Divide x y = if is_zero y then Faulty else Is (int_wrapping_div w32 x
 applied op.Remainder x y = if is_zero y then Faulty else Is (int_rem x y)
 applied _ x y = Faulty
 
+-- the value of two operands: a fault in either is a fault, and what is open in either stays open
 abbrev pub joined : Infix → Constant → Constant → Constant
 joined o (Is x) (Is y) = applied o x y
 joined o (Is x) Faulty = Faulty
@@ -60,14 +64,17 @@ is_constant op.Divide = true
 is_constant op.Remainder = true
 is_constant _ = false
 
+-- the value behind an operator; a minus sign alone keeps it known
 abbrev pub constant_unary : Prefix → Constant → Constant
 constant_unary prefix.Minus a = negated a
 constant_unary _ a = Open
 
+-- `true` is 1, and `false` is 0
 abbrev pub truth : Bool → Constant
 truth true = Is (pos 1)
 truth false = Is (pos 0)
 
+-- the value of an expression by those of its parts
 abbrev pub constant_layer : Expr-F (Unit {0}) Constant (Unit {0}) (Unit {0}) → Constant
 constant_layer (Expr-F.Number n) = number n.text
 constant_layer (Expr-F.Truth b) = truth b

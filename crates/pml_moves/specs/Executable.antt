@@ -14,7 +14,8 @@ use Rattle.pml_eval.specs.Value.{Reading, val, place, asked_by, is_match, ◌>>=
 use Rattle.pml_channel.specs.State.{ChannelState}
 use Rattle.pml_value.specs.declared.live_channel.LiveChannel.{LiveChannel}
 use Rattle.pml_value.specs.declared.view.View.{View}
-use Rattle.pml_value.specs.Reads.{channel_at, seen}
+use Rattle.pml_value.specs.Reads.{channel_at}
+use Rattle.pml_value.specs.Seen.{seen}
 
 -- the values of expressions, from left to right, or the first fault
 abbrev pub values : List Expr → Reading → Result (List ℤ) Fault
@@ -28,6 +29,7 @@ pub record Named : Type 0 where
   pub number : ℤ
   pub contents : ChannelState
 
+-- a channel, where it is there and its messages have so many fields
 abbrev pub with_fields : ℕ → ℤ → Option ChannelState → Result Named Fault
 with_fields count n None = Err NoSuchChannel
 with_fields count n (Some c) =
@@ -37,6 +39,7 @@ with_fields count n (Some c) =
 abbrev pub named : List LiveChannel → Reading → Target → ℕ → Result Named Fault
 named cs r t count = place t r >>= λ at. with_fields count (r.holds at) (channel_at cs (r.holds at))
 
+-- a channel without a capacity
 abbrev pub is_rendezvous : ChannelState → Bool
 is_rendezvous c = nat_eq c.capacity 0
 
@@ -48,6 +51,7 @@ abbrev pub can_send : Bool → Bool → ChannelState → Result (List ℤ) Fault
 can_send lossy in_d_step c fields =
     if is_rendezvous c then (if in_d_step then Ok false else (fields >>= λ vs. Ok false)) else Ok (lossy || nat_lt (length c.messages) c.capacity)
 
+-- a value is not 0
 abbrev pub nonzero : Result ℤ Fault → Result Bool Fault
 nonzero v = v >>= λ n. Ok (not (is_zero n))
 
@@ -56,6 +60,7 @@ abbrev pub can_receive : Search → ChannelState → Result (List Sought) Fault 
 can_receive search c wants =
     if is_rendezvous c || nat_eq (length c.messages) 0 then Ok false else (wants >>= λ ws. Ok (is_match search ws c.messages))
 
+-- a statement without a structure can be taken by itself, or has a fault
 abbrev pub ready : Bool → List LiveChannel → Reading → Bool → Action → Result Bool Fault
 ready lossy cs r in_d_step (a.Holds e) = nonzero (val e r)
 ready lossy cs r in_d_step (a.Run q) = Ok (int_lt r.process_count (pos MOST_PROCESSES))
@@ -76,6 +81,7 @@ abbrev pub or_fault : Result Bool Fault → Bool
 or_fault (Ok b) = b
 or_fault (Err f) = true
 
+-- a statement can be taken; one with a fault can, since taking it tells the fault
 abbrev pub can : Bool → List LiveChannel → Reading → Bool → Action → Bool
 can lossy cs r in_d_step x = or_fault (ready lossy cs r in_d_step x)
 

@@ -10,12 +10,13 @@ use Rattle.pml_control.specs.Told.{told_of}
 use Rattle.pml_flow.specs.declared.edge.Edge.{Edge}
 use Rattle.pml_flow.specs.Points.{point_at}
 use Rattle.pml_flow.specs.Statements.{stated}
-use Rattle.pml_flow.specs.Flow.{Graph, Offer, levels_of, shown, IsGraph, AreGraphs}
+use Rattle.pml_flow.specs.Flow.{Offer}
+use Rattle.pml_flow.specs.Graph.{Graph, levels_of, shown, IsGraph, AreGraphs}
 use Rattle.pml_moves.specs.declared.scene.Seat.{Seat}
 use Rattle.pml_moves.specs.declared.scene.Body.{Body}
 use Rattle.pml_moves.specs.declared.state.State.{State as Kept}
 use Rattle.pml_moves.specs.declared.moves.Pick.{Pick}
-use Rattle.pml_moves.specs.State.{Stand, State, body_of, first_control}
+use Rattle.pml_moves.specs.State.{Stand, State, body_of}
 
 -- what is to do at a node; nothing, where there is none
 abbrev pub control_at : Option Seq → ℕ → Control
@@ -45,16 +46,6 @@ pub record IsPlayed (p : Program) (gs : List Graph) (ss : List (List (Option Stm
   pub graphs : AreGraphs p.proctypes gs
   pub statements : ss ≡ map (λ (q : Proctype). statements_of q.body) p.proctypes
   pub typedefs : ts ≡ p.typedefs
-
--- ---- before the first statement
-
--- a process of this proctype before its first statement
-abbrev pub begins_by : ℕ → Option Seq → Stand
-begins_by k None = record { kind = k; control = [] }
-begins_by k (Some b) = record { kind = k; control = first_control b }
-
-abbrev pub begins_at : Program → ℕ → Stand
-begins_at p k = begins_by k (body_of p k)
 
 -- ---- a body, its graph and its statements
 

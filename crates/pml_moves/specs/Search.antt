@@ -15,7 +15,7 @@ use Rattle.pml_eval.specs.Value.{Reading, asked_by}
 use Rattle.pml_channel.specs.State.{cut}
 use Rattle.pml_value.specs.declared.live_channel.LiveChannel.{LiveChannel}
 use Rattle.pml_value.specs.declared.view.View.{View}
-use Rattle.pml_value.specs.Reads.{seen}
+use Rattle.pml_value.specs.Seen.{seen}
 use Rattle.pml_moves.specs.declared.moves.Pick.{Pick}
 use Rattle.pml_moves.specs.declared.moves.Move.{Move}
 use Rattle.pml_moves.specs.declared.moves.Move.TheVariants.{Death, Alone, Pair}
@@ -39,15 +39,18 @@ abbrev pub last : {A B : Type 0} → (ℕ → A → List B) → ℕ → List A �
 last f i [] = []
 last f i (x ∷ xs) = or_else (last f (i + 1) xs) (f i x)
 
+-- one thing, where this holds
 abbrev pub only_if : {A : Type 0} → Bool → A → List A
 only_if b x = if b then x ∷ [] else []
 
+-- something is there
 abbrev pub is_some : {A : Type 0} → List A → Bool
 is_some [] = false
 is_some (x ∷ xs) = true
 
 -- ---- inside a d_step
 
+-- the statement is `else`
 abbrev pub is_else : Option Basic → Bool
 is_else (Some (Plain a.Else)) = true
 is_else x = false
@@ -65,9 +68,11 @@ can_inside lossy cs r (Some (DStep s)) = true
 can_inside lossy cs r (Some (Unless s e)) = true
 can_inside lossy cs r None = true
 
+-- an offer that is no `else`, and that can be taken
 abbrev pub is_choice : Bool → List LiveChannel → Reading → Offer → Bool
 is_choice lossy cs r o = not (is_else o.basic) && can_inside lossy cs r o.basic
 
+-- an offer of `else`
 abbrev pub is_other : Offer → Bool
 is_other o = is_else o.basic
 
@@ -76,6 +81,7 @@ abbrev pub choices : Bool → List LiveChannel → Reading → List (List Offer)
 choices lossy cs r [] = []
 choices lossy cs r (os ∷ ls) = or_else (filter (is_choice lossy cs r) os) (filter is_other os)
 
+-- the first, if there is one
 abbrev pub first : {A : Type 0} → List A → Option A
 first [] = None
 first (x ∷ xs) = Some x
@@ -106,11 +112,13 @@ pub record Message : Type 0 where
   pub number : ℤ
   pub fields : List ℤ
 
+-- the message that is sent over a rendezvous channel, its fields cut to their types
 abbrev pub message_of : Named → Result (List ℤ) Fault → Option Message
 message_of c (Ok vs) =
     if is_rendezvous c.contents then Some (record { number = c.number; fields = cut c.contents.types vs }) else None
 message_of c (Err f) = None
 
+-- the message that is sent over this channel; none, where either has a fault
 abbrev pub message_on : Result Named Fault → Result (List ℤ) Fault → Option Message
 message_on (Ok c) vs = message_of c vs
 message_on (Err f) vs = None
@@ -130,6 +138,7 @@ message_by cs r (a.Printm e) = None
 message_by cs r (a.Assert e) = None
 message_by cs r (a.Holds e) = None
 
+-- the message that a statement hands over, if it sends over a rendezvous channel
 abbrev pub message : List LiveChannel → Reading → Option Basic → Option Message
 message cs r (Some (Plain x)) = message_by cs r x
 message cs r (Some (Goto l)) = None
@@ -151,6 +160,7 @@ abbrev pub does_match : Result (List Sought) Fault → List ℤ → Bool
 does_match (Ok ws) xs = matched ws xs
 does_match (Err f) xs = true
 
+-- a receive from this channel asks for this message; it does not, where either has a fault
 abbrev pub accepts_on : Result Named Fault → Result (List Sought) Fault → Message → Bool
 accepts_on (Ok c) ws m = int_eq c.number m.number && does_match ws m.fields
 accepts_on (Err f) ws m = false
@@ -170,6 +180,7 @@ accepts_by cs r m (a.Printm e) = false
 accepts_by cs r m (a.Assert e) = false
 accepts_by cs r m (a.Holds e) = false
 
+-- a statement receives this message
 abbrev pub accepts : List LiveChannel → Reading → Message → Option Basic → Bool
 accepts cs r m (Some (Plain x)) = accepts_by cs r m x
 accepts cs r m (Some (Goto l)) = false
@@ -182,6 +193,7 @@ accepts cs r m (Some (DStep s)) = false
 accepts cs r m (Some (Unless s e)) = false
 accepts cs r m None = false
 
+-- an offer by its process, its level and its place there
 abbrev pub pick : ℕ → ℕ → ℕ → Pick
 pick p l i = record { process = p; level = l; place = i }
 
@@ -194,6 +206,7 @@ abbrev pub pairs_with : State → Bool → Pick → Message → ℕ → Stand �
 pairs_with s t k m j y =
     if nat_eq j k.process then [] else last (pairs_on s t k m j) 0 (levels_in (body_of s.program y.kind) y.control)
 
+-- the pairs of a send, where it hands a message over: with each process in order
 abbrev pub pairs : State → Bool → Pick → Option Message → List Move
 pairs s t k None = []
 pairs s t k (Some m) = each (pairs_with s t k m) 0 s.stands
@@ -210,9 +223,11 @@ moves_by s p t b l i o =
 abbrev pub moves_for : State → Bool → Seq → Pick → Offer → List Move
 moves_for s t b k o = moves_by s k.process t b k.level k.place o
 
+-- the moves of the offers of a level that are no `else`
 abbrev pub plain_moves : State → ℕ → Bool → Seq → ℕ → List Offer → List Move
 plain_moves s p t b l os = each (λ i o. if is_else o.basic then [] else moves_by s p t b l i o) 0 os
 
+-- the moves of the offers of a level that are `else`
 abbrev pub else_moves : ℕ → Bool → ℕ → List Offer → List Move
 else_moves p t l os = each (λ i o. only_if (is_else o.basic) (Alone (pick p l i) t)) 0 os
 
@@ -226,18 +241,22 @@ moves_of s p t b [] = only_if (nat_eq (p + 1) (length s.stands)) (Death p)
 moves_of s p t None (f ∷ c) = []
 moves_of s p t (Some b) (f ∷ c) = last (moves_on s p t b) 0 (levels b (f ∷ c))
 
+-- the moves of a process that stands so
 abbrev pub moves_at : State → ℕ → Bool → Stand → List Move
 moves_at s p t y = moves_of s p t (body_of s.program y.kind) y.control
 
 -- ---- the moves of a state
 
+-- the moves of all processes in order, under this value of `timeout`
 abbrev pub moves_under : State → Bool → List Move
 moves_under s t = each (λ p y. moves_at s p t y) 0 s.stands
 
+-- the moves of a process, if it is there, while `timeout` is false
 abbrev pub moves_if : State → ℕ → Option Stand → List Move
 moves_if s p None = []
 moves_if s p (Some y) = moves_at s p false y
 
+-- the moves of the process that has exclusive control, if one has it
 abbrev pub moves_held : State → Option ℕ → List Move
 moves_held s None = []
 moves_held s (Some p) = moves_if s p (slice_get s.stands p)

@@ -9,6 +9,7 @@ use Rattle.pml_eval.specs.Value.{Reading}
 use Rattle.pml_store.specs.Store.{Frame}
 use Rattle.pml_value.specs.declared.live_channel.LiveChannel.{LiveChannel}
 use Rattle.pml_value.specs.Reads.{reading_of}
+use Rattle.pml_start.specs.Begin.{Begun}
 
 -- A process: its proctype, by its number in the model, and what it still has to do. At its closing brace nothing is left.
 pub record Stand : Type 0 where
@@ -50,3 +51,20 @@ levels_from b (Some c) = levels b c
 -- what a process of this body has to do before its first statement
 abbrev pub first_control : Seq → Control
 first_control b = settle b (at (steps b) ([], 0))
+
+-- ---- before the first statement
+
+-- a process of this proctype before its first statement
+abbrev pub begins_by : ℕ → Option Seq → Stand
+begins_by k None = record { kind = k; control = [] }
+begins_by k (Some b) = record { kind = k; control = first_control b }
+
+-- a process of the proctype with this number before its first statement
+abbrev pub begins_at : Program → ℕ → Stand
+begins_at p k = begins_by k (body_of p k)
+
+-- ---- the first state
+
+-- all processes stand before their first statements, and nobody holds exclusive control
+abbrev pub first_state : Program → Begun → Bool → State
+first_state p b lossy = record { program = p; frames = b.frames; stands = map (begins_at p) b.kinds; channels = b.channels; holder = None; lossy = lossy }

@@ -2,7 +2,7 @@
 
 ghost use Rattle.std.specs.Prelude.{◌≡◌, true, false};
 ghost use Rattle.std.specs.Option.{option_copied};
-ghost use Rattle.pml_value.specs.Reads.{seen};
+ghost use Rattle.pml_value.specs.Seen.{seen};
 ghost use Rattle.pml_moves.specs.Scene.{IsBody, shows, seq_of};
 ghost use Rattle.pml_moves.specs.Search.{is_else as else_of, can_alone, NeedsNothing};
 

@@ -5,7 +5,7 @@ ghost use Rattle.std.specs.Option.{option_copied};
 ghost use Rattle.pml_eval.specs.declared.pattern.Sought.{Sought};
 ghost use Rattle.pml_eval.specs.Pattern.{matched};
 ghost use Rattle.pml_eval.specs.Value.{val, asked_by};
-ghost use Rattle.pml_value.specs.Reads.{seen};
+ghost use Rattle.pml_value.specs.Seen.{seen};
 ghost use Rattle.pml_moves.specs.Executable.{named as names, values};
 ghost use Rattle.pml_moves.specs.Fields.{worth, worths};
 ghost use Rattle.pml_channel.specs.State.{cut};
@@ -37,7 +37,7 @@ impl<'w, 'p> Model for Message<'w, 'p> {
     ghost use Rattle.std.specs.Coded.{codes};
     ghost use Rattle.pml_program.specs.contracts.expr.Expr as worth;
     ghost use Rattle.pml_channel.specs.State.{cut};
-    ghost use Rattle.pml_value.specs.Reads.{seen};
+    ghost use Rattle.pml_value.specs.Seen.{seen};
     ghost use Rattle.pml_moves.specs.Fields.{worths};
     ghost use Rattle.pml_moves.specs.Search.{Message};
 

@@ -2,9 +2,9 @@
 
 ghost use Rattle.std.specs.Prelude.{◌≡◌, IfOk, IfSome, map, option_map, slice_get};
 ghost use Rattle.std.specs.Option.{option_copied};
-ghost use Rattle.pml_flow.specs.Flow.{AreGraphs};
-ghost use Rattle.pml_moves.specs.State.{body_of};
-ghost use Rattle.pml_moves.specs.Scene.{begins_at, stand_of, statements_of, IsBody};
+ghost use Rattle.pml_flow.specs.Graph.{AreGraphs};
+ghost use Rattle.pml_moves.specs.State.{body_of, begins_at};
+ghost use Rattle.pml_moves.specs.Scene.{stand_of, statements_of, IsBody};
 
 use crate::scene::{Body, Seat};
 use pml_flow::graph::Graph;

@@ -3,7 +3,7 @@
 ghost use Rattle.std.specs.Prelude.{◌≡◌, ◌<◌, ◌≤◌, true, false, [], None, IfSome, length, map, option_map, slice_get};
 ghost use Rattle.std.specs.Option.{option_copied};
 ghost use Rattle.profile.specs.declared.TheConstants.{MOST_PROCESSES};
-ghost use Rattle.pml_value.specs.Reads.{seen};
+ghost use Rattle.pml_value.specs.Seen.{seen};
 ghost use Rattle.pml_moves.specs.State.{reads, body_of};
 ghost use Rattle.pml_moves.specs.Scene.{state_of, stand_of, IsBody, StandsIn, shows};
 

@@ -4,7 +4,7 @@ ghost use Rattle.std.specs.Prelude.{◌≡◌, ◌<◌, ◌&&◌, false, IfOk, l
 ghost use Rattle.std.specs.Option.{option_copied};
 ghost use Rattle.std.specs.Ordering.{int_eq};
 ghost use Rattle.pml_eval.specs.Value.{Reading, asked_by};
-ghost use Rattle.pml_value.specs.Reads.{seen};
+ghost use Rattle.pml_value.specs.Seen.{seen};
 ghost use Rattle.pml_moves.specs.State.{reads};
 ghost use Rattle.pml_moves.specs.Scene.{stand_of, IsBody, shows, offers_at};
 ghost use Rattle.pml_moves.specs.Search.{Message as Sent, accepts, does_match};

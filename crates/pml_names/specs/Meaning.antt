@@ -10,12 +10,15 @@ use Rattle.pml_names.specs.declared.thing.Thing.TheVariants as thing
 abbrev pub Naming : Type 0
 Naming = ℕ → List ℕ → Option Thing
 
+-- the name `_`
 unfoldable pub is_any : List ℕ → Bool
 is_any n = bytes_eq n (codes "_")
 
+-- the name `_pid`
 unfoldable pub is_pid : List ℕ → Bool
 is_pid n = bytes_eq n (codes "_pid")
 
+-- the name `_nr_pr`
 unfoldable pub is_count : List ℕ → Bool
 is_count n = bytes_eq n (codes "_nr_pr")
 
@@ -23,10 +26,12 @@ is_count n = bytes_eq n (codes "_nr_pr")
 abbrev pub is_special : List ℕ → Bool
 is_special n = is_any n || (is_pid n || is_count n)
 
+-- the first of two that is there
 abbrev pub or_else : Option Thing → Option Thing → Option Thing
 or_else (Some t) r = Some t
 or_else None r = r
 
+-- a proctype, and nothing else
 abbrev pub only_process : Option Thing → Option Thing
 only_process (Some (thing.Proctype o n)) = Some (thing.Proctype o n)
 only_process _ = None

@@ -26,10 +26,12 @@ most_cells = MOST_CELLS + 1
 
 -- ---- the type of a variable
 
+-- the type that a name of a typedef stands for
 abbrev pub form_of : Option Thing → Form
 form_of (Some (thing.Typedef t n)) = kind.Struct t
 form_of _ = kind.Unknown
 
+-- how many cells a value of a typedef has
 abbrev pub stride_of : Option Thing → ℕ
 stride_of (Some (thing.Typedef t n)) = n
 stride_of _ = 1
@@ -45,6 +47,7 @@ form names o (sort.Plain t) = kind.Plain t
 form names o (sort.Unsigned n) = kind.Unsigned (width_of (numeral n.text))
 form names o (sort.Named t) = form_of (visible names o t.text)
 
+-- how many cells a value of a sort has
 abbrev pub stride : Naming → ℕ → Sort → ℕ
 stride names o (sort.Named t) = stride_of (visible names o t.text)
 stride names o _ = 1
@@ -68,6 +71,7 @@ pub record Before : Type 0 where
   pub variables : ℕ → ℕ
   pub constants : ℕ
 
+-- what a name stands for by its declaration
 abbrev pub thing_of : Before → ℕ → Declared → Thing
 thing_of b o (declared_as.Variable x s size makes) =
     thing.Variable (record {
@@ -92,22 +96,27 @@ abbrev pub newly : Before → ℕ → What → Option Thing
 newly b k (what.Declares w d) = if is_some (b.names k w.text) then None else Some (thing_of b k d)
 newly b k _ = None
 
+-- how many cells a variable has
 abbrev pub cells_in : Thing → ℕ
 cells_in (thing.Variable v) = v.length * v.stride
 cells_in _ = 0
 
+-- 1 for a variable
 abbrev pub variables_in : Thing → ℕ
 variables_in (thing.Variable v) = 1
 variables_in _ = 0
 
+-- 1 for a name of an `mtype`
 abbrev pub constants_in : Thing → ℕ
 constants_in (thing.Constant n) = 1
 constants_in _ = 0
 
+-- what is counted of a thing; 0, where there is none
 abbrev pub in_it : (Thing → ℕ) → Option Thing → ℕ
 in_it f None = 0
 in_it f (Some t) = f t
 
+-- what stands before a mark, by its parts
 abbrev pub known : Naming → (ℕ → ℕ) → (ℕ → ℕ) → ℕ → Before
 known names cells variables constants = record { names = names; cells = cells; variables = variables; constants = constants }
 

@@ -1,6 +1,7 @@
 -- From what the parts of converting answer to what the whole does.
 use Rattle.std.proofs.Common.{◌≡◌, ◌≢◌, ℕ, List, [], Option, None, refl}
-use Rattle.devices.specs.Holdings.{Holdings, holding}
+use Rattle.devices.specs.Holdings.{Holdings}
+use Rattle.devices.specs.Doing.{holding}
 use Rattle.session.specs.declared.Options.{Options}
 use Rattle.session.specs.declared.End.{End}
 use Rattle.session.specs.declared.Cause.TheVariants as cause
@@ -9,7 +10,7 @@ use Rattle.session.specs.declared.form.Stream.TheVariants.{Unread}
 use Rattle.session.specs.Convert.{converted, IsConvertedBy}
 use Rattle.session.specs.Part.{Part}
 use Rattle.session.specs.Session.{only, end_of, refused, transcript}
-use Rattle.session.specs.Writes.{Ends, IsBrokenOff}
+use Rattle.session.specs.Stands.{Ends, IsBrokenOff}
 use Rattle.session.proofs.Moving.{Moved-nil}
 use Rattle.session.proofs.Parts.{memory_breaks, only_does}
 use Rattle.session.proofs.Placing.{refused_can_be_converted}
@@ -17,9 +18,10 @@ use Rattle.pml_sim.specs.World.{Running, rules}
 use Rattle.pml_play.specs.declared.whole.Rejection.{Rejection}
 use Rattle.pml_play.specs.declared.whole.Rejection.TheVariants.{Memory, Refused}
 use Rattle.pml_play.specs.Transcript.{IsModel, IsTranscript, of_refusal, of_model}
-use Rattle.pml_play.specs.Plays.{IsRejected}
+use Rattle.pml_play.specs.Parts.{IsRejected}
 use Rattle.pml_sim.proofs.Short.{light_stands}
-use Rattle.pml_play.specs.Converts.{IsConversion, no_model, of_its_model, Converts, IsAlwaysConverted, cause_rejected}
+use Rattle.pml_play.specs.Converts.{IsConversion, no_model, of_its_model, Converts, IsAlwaysConverted}
+use Rattle.pml_play.specs.Converting.{cause_rejected}
 use Rattle.pml_play.proofs.Light.{text_light}
 use Rattle.pml_play.proofs.Each.{has_transcript}
 

@@ -11,7 +11,8 @@ use Rattle.session.specs.Session.{refused, transcript}
 use Rattle.pml_token.specs.Word.{Word}
 use Rattle.pml_lex.specs.Scanning.{Found, next}
 use Rattle.pml_lex.specs.Division.{IsCut}
-use Rattle.pml_lex.specs.Limits.{has_left_out, depth_behind, row_behind, IsPast, IsTooDeep}
+use Rattle.pml_lex.specs.Limits.{has_left_out, depth_behind, IsTooDeep}
+use Rattle.pml_lex.specs.Rows.{row_behind, IsPast}
 use Rattle.pml_lex.specs.Cut.{IsLine, AreTokens}
 use Rattle.pml_inline.specs.Expansion.{expansion, Expands}
 use Rattle.pml_lex.proofs.Longest.{IsNext}

@@ -20,7 +20,6 @@ use Rattle.pml_program.specs.declared.program.Program.{Program}
 use Rattle.pml_stands.specs.StandsModel.{StandsModel}
 use Rattle.pml_stands.proofs.Model.{one-model}
 use Rattle.pml_marks.specs.declared.mark.Mark.{Mark}
-use Rattle.pml_program.specs.declared.program.Program.{Program}
 use Rattle.pml_check.specs.Judged.{AppliesTo, IsFit, IsLeast}
 use Rattle.pml_check.proofs.Least.{one_least, fit_has_none}
 use Rattle.diagnostics.specs.declared.fault.Fault.{Fault}
@@ -29,7 +28,8 @@ use Rattle.pml_start.specs.Start.{first_state}
 use Rattle.pml_sim.specs.World.{Running, first, rules}
 use Rattle.session.specs.Replay.{CanBeReplayed}
 use Rattle.session.proofs.CutShort.{can_be_replayed, refused_can_be_replayed}
-use Rattle.pml_play.specs.Transcript.{AreExpanded, IsSpelled, IsModel, HasNoExpansion, ExpandsTooDeep, IsUnspelled, IsRefused, too_long, lexical, left_out, inline, too_deep, unspelled, unfit, IsTranscript, HasLine, of_refusal, of_model}
+use Rattle.pml_play.specs.Transcript.{AreExpanded, IsSpelled, IsModel, HasNoExpansion, ExpandsTooDeep, IsUnspelled, IsRefused, too_long, lexical, left_out, inline, too_deep, unspelled, unfit, IsTranscript, of_refusal, of_model}
+use Rattle.pml_play.specs.Outcomes.{HasLine}
 use Rattle.session.specs.declared.form.Stream.TheVariants.{Unread}
 
 ok_is : {x y : Begun} → ◌≡◌ {A = Result Begun Fault} (Ok x) (Ok y) → x ≡ y

@@ -15,8 +15,10 @@ use Rattle.session.proofs.Parts.{Leads-does, puts, memory_breaks, only_does}
 use Rattle.session.proofs.Turns.{write_breaks}
 use Rattle.pml_token.specs.Word.{Word}
 use Rattle.pml_lex.specs.Division.{line_behind}
-use Rattle.pml_lex.specs.Limits.{IsOnLine, AreOnLines}
-use Rattle.pml_lex.specs.Cut.{AreTokens, IsLeast}
+use Rattle.pml_lex.specs.Limits.{IsOnLine}
+use Rattle.pml_lex.specs.Rows.{AreOnLines}
+use Rattle.pml_lex.specs.Cut.{AreTokens}
+use Rattle.pml_lex.specs.Divided.{IsLeast}
 use Rattle.pml_lex.specs.declared.fault.LexFault.{LexFault}
 use Rattle.pml_lex.specs.declared.fault.LexFault.TheVariants as lex
 use Rattle.pml_inline.specs.declared.fault.InlineFault.{InlineFault}
@@ -36,9 +38,11 @@ use Rattle.pml_program.specs.declared.program.Program.{Program}
 use Rattle.pml_stands.specs.StandsModel.{StandsModel}
 use Rattle.pml_play.specs.declared.whole.Rejection.{Rejection}
 use Rattle.pml_play.specs.declared.whole.Rejection.TheVariants.{Memory, Refused}
-use Rattle.pml_sim.specs.World.{IsFirst, Running, rules}
+use Rattle.pml_sim.specs.World.{Running, rules}
+use Rattle.pml_sim.specs.Lent.{IsFirst}
 use Rattle.pml_play.specs.Transcript.{AreExpanded, IsSpelled, IsModel, too_long, lexical, left_out, inline, too_deep, unspelled, unfit, of_refusal, of_model}
-use Rattle.pml_play.specs.Plays.{IsReady, IsRejected, of_lexical, of_inline, of_syntax, of_check, Rejects, PlaysText, PlaysWhole}
+use Rattle.pml_play.specs.Plays.{PlaysWhole}
+use Rattle.pml_play.specs.Parts.{IsReady, IsRejected, of_lexical, of_inline, of_syntax, of_check, Rejects, PlaysText}
 use Rattle.pml_lex.proofs.Lines.{token_lines}
 use Rattle.pml_play.proofs.Each.{has_transcript}
 use Rattle.session.specs.declared.form.Stream.TheVariants.{Unread}

@@ -4,18 +4,14 @@ use Rattle.devices.specs.Holdings.{Holdings}
 use Rattle.diagnostics.specs.declared.refusal.Refusal.{Refusal}
 use Rattle.session.specs.declared.Options.{Options}
 use Rattle.session.specs.declared.End.{End}
-use Rattle.session.specs.declared.Cause.{Cause}
 use Rattle.session.specs.declared.Cause.TheVariants as cause
 use Rattle.session.specs.declared.form.Stream.TheVariants.{Unread}
 use Rattle.session.specs.Convert.{converted, IsConvertedBy, StandsForRecord}
 use Rattle.session.specs.Part.{Part}
 use Rattle.session.specs.Session.{only, end_of, transcript}
-use Rattle.session.specs.Writes.{Ends, IsBrokenOff}
+use Rattle.session.specs.Stands.{Ends, IsBrokenOff}
 use Rattle.pml_sim.specs.World.{Running, rules}
-use Rattle.pml_play.specs.declared.whole.Rejection.{Rejection}
-use Rattle.pml_play.specs.declared.whole.Rejection.TheVariants.{Memory, Refused}
-use Rattle.pml_program.specs.declared.program.Program.{Program}
-use Rattle.pml_play.specs.Plays.{IsReady}
+use Rattle.pml_play.specs.declared.whole.Rejection.TheVariants.{Refused}
 use Rattle.pml_play.specs.Transcript.{IsModel, IsRefused, IsTranscript}
 
 -- The conversion of the choices of a session over a text: nothing is done where it is refused, and else that of the model.
@@ -45,19 +41,6 @@ pub record Converts (text : List ℕ) (options : Options) (before after : Holdin
   pub broken : end.status ≡ 6 → ConvertsBroken text options before after end
   pub is_end : end ≡ end_of end.cause end.steps
 
--- so of each text that stands for this model
-abbrev pub ConvertsModel : Running → Options → Holdings → Holdings → End → Type 0
-ConvertsModel model options before after end = (text : List ℕ) → IsModel text options.lossy model → Converts text options before after end
-
--- so of each text that is ready to be played as this program
-abbrev pub ConvertsReady : Program → Options → Holdings → Holdings → End → Type 0
-ConvertsReady p options before after end = (text : List ℕ) → IsReady text p → Converts text options before after end
-
 -- whatever the choices are, what they are converted to stands for the record
 abbrev pub IsAlwaysConverted : (List ℕ → Part End) → Type 0
 IsAlwaysConverted transcript = (choices : List ℕ) → StandsForRecord transcript choices
-
--- why the conversion over a rejected text ends
-abbrev pub cause_rejected : Rejection → Cause
-cause_rejected Memory = cause.Memory
-cause_rejected (Refused refusal line) = cause.Refused refusal line

@@ -1,6 +1,9 @@
 pub mod Transcript
+pub mod Outcomes
 pub mod Plays
+pub mod Parts
 pub mod Converts
+pub mod Converting
 pub mod Plain
 pub mod Run
 pub mod Shown

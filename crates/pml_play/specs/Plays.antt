@@ -1,70 +1,12 @@
 -- What the parts of playing a text answer.
-use Rattle.std.specs.Prelude.{◌≡◌, ℕ, List, [], Result, Err, IfOk, MatchResult}
-use Rattle.devices.specs.Holdings.{Holdings, Moved}
-use Rattle.diagnostics.specs.declared.refusal.Refusal.TheVariants as refusal
+use Rattle.std.specs.Prelude.{◌≡◌, ℕ, List}
+use Rattle.devices.specs.Holdings.{Holdings}
 use Rattle.session.specs.declared.Options.{Options}
 use Rattle.session.specs.declared.End.{End}
-use Rattle.session.specs.declared.Cause.TheVariants as cause
 use Rattle.session.specs.declared.Broken.{Broken}
-use Rattle.session.specs.declared.Broken.TheVariants as broken
 use Rattle.session.specs.Part.{Part}
-use Rattle.session.specs.Session.{end_of}
-use Rattle.session.specs.Stands.{Breaks, CountsBroken}
-use Rattle.session.specs.Texts.{refusal_line}
-use Rattle.session.specs.Writes.{Writes, Ends, failure_of}
-use Rattle.pml_lex.specs.declared.fault.LexFault.{LexFault}
-use Rattle.pml_lex.specs.declared.fault.LexFault.TheVariants as lex
-use Rattle.pml_inline.specs.declared.fault.InlineFault.{InlineFault}
-use Rattle.pml_inline.specs.declared.fault.InlineFault.TheVariants as inlines
-use Rattle.pml_syntax.specs.declared.program.SyntaxFault.{SyntaxFault}
-use Rattle.pml_syntax.specs.declared.program.SyntaxFault.TheVariants as syntax
-use Rattle.pml_tree.specs.declared.tree.Tree.{Tree}
-use Rattle.pml_program.specs.declared.program.Program.{Program}
-use Rattle.pml_stands.specs.StandsModel.{StandsModel}
-use Rattle.pml_check.specs.Judged.{IsFit}
-use Rattle.pml_check.specs.declared.checked.CheckFault.{CheckFault}
-use Rattle.pml_check.specs.declared.checked.CheckFault.TheVariants as check
-use Rattle.pml_play.specs.declared.whole.Rejection.{Rejection}
-use Rattle.pml_play.specs.declared.whole.Rejection.TheVariants.{Memory, Refused}
-use Rattle.pml_play.specs.Transcript.{IsSpelled, IsRefused, IsTranscript}
-
--- memory ran out, or the text is refused so
-abbrev pub IsRejected : List ℕ → Rejection → Type 0
-IsRejected text Memory = Unit {0}
-IsRejected text (Refused r line) = IsRefused text r line
-
--- what a fault of cutting, of replacing, of reading or of the checks makes of a text
-abbrev pub of_lexical : LexFault → Rejection
-of_lexical lex.Memory = Memory
-of_lexical lex.TooLong = Refused refusal.TextTooLong 0
-of_lexical (lex.Lexical line) = Refused refusal.Lexical line
-of_lexical (lex.LeftOut line) = Refused refusal.LeftOut line
-
-abbrev pub of_inline : InlineFault → Rejection
-of_inline inlines.Memory = Memory
-of_inline (inlines.Inline misuse) = Refused refusal.Inline 0
-of_inline (inlines.TooDeep line limit) = Refused refusal.TooDeep line
-
-abbrev pub of_syntax : SyntaxFault → Rejection
-of_syntax syntax.Memory = Memory
-of_syntax (syntax.Syntax line) = Refused refusal.Syntax line
-
-abbrev pub of_check : CheckFault → Rejection
-of_check check.Memory = Memory
-of_check (check.Refused r) = Refused r 0
-
--- the text has a tree that fits all conditions, and this is the model that it stands for
-pub record IsReady (text : List ℕ) (p : Program) : Type 0 where
-  pub tree : Tree
-  pub is_spelled : IsSpelled text tree
-  pub fits : IsFit tree
-  pub stands : StandsModel tree p
-
--- what is written of a rejected text, and how its session ends
-abbrev pub Rejects : Rejection → Result End Broken → Holdings → Holdings → Type 0
-Rejects Memory result before after = (result ≡ Err broken.Memory) × Moved before after [] [] []
-Rejects (Refused r line) result before after =
-    Writes result before after (refusal_line r) × IfOk result (λ end. end ≡ end_of (cause.Refused r line) 0)
+use Rattle.session.specs.Stands.{Breaks, CountsBroken, Ends, failure_of}
+use Rattle.pml_play.specs.Transcript.{IsTranscript}
 
 -- a session over the text came to this end, after so many steps
 pub record PlaysWhole (text : List ℕ) (options : Options) (before after : Holdings) (steps : ℕ) (end : End) : Type 0 where
@@ -77,10 +19,6 @@ pub record BreaksOff (text : List ℕ) (options : Options) (before after : Holdi
   pub part : List ℕ → Part End
   pub is_transcript : IsTranscript text options part
   pub breaks : Breaks broken before after 0 steps part
-
--- a session over the text came to its end, or was broken off
-abbrev pub PlaysText : List ℕ → Options → Result End Broken → Holdings → Holdings → ℕ → Type 0
-PlaysText text options r before after steps = MatchResult r (PlaysWhole text options before after steps) (BreaksOff text options before after steps)
 
 -- a device or memory broke the session over the text off, the end says which, and the count of that device alone has risen
 abbrev pub PlaysBroken : List ℕ → Options → Holdings → Holdings → End → Type 0

@@ -4,7 +4,8 @@ ghost use Rattle.std.specs.Prelude.{◌≡◌, ℕ, List};
 ghost use Rattle.session.specs.declared.End.{End};
 ghost use Rattle.session.specs.Part.{Part};
 ghost use Rattle.session.specs.Session.{end_of};
-ghost use Rattle.pml_play.specs.Converts.{Converts, ConvertsModel, ConvertsReady, IsAlwaysConverted, cause_rejected};
+ghost use Rattle.pml_play.specs.Converts.{Converts, IsAlwaysConverted};
+ghost use Rattle.pml_play.specs.Converting.{ConvertsModel, ConvertsReady, cause_rejected};
 ghost use Rattle.pml_play.specs.Transcript.{IsTranscript};
 
 use crate::whole::{Rejection, checked_of, expanded_of, world_of};

@@ -8,7 +8,8 @@ ghost use Rattle.session.specs.declared.Options.{Options};
 ghost use Rattle.pml_play.specs.Plain.{IsNeverRefused, IsRefusedWhere, OfEachPlain, SpellNothing, SpellTheSame};
 ghost use Rattle.pml_play.specs.Run.{OfEachSession, PlaysEachPath, PlaysJustThePath, RecordGivesRun, RunsThroughPaths};
 ghost use Rattle.pml_play.specs.Shown.{ComeWherePathsLead, ShowsEachPath};
-ghost use Rattle.pml_play.specs.Transcript.{HasLines, HasOneModel, HasOneRefusal, HasOneTranscript, HasTranscript, IsModel, IsRefusedOrStands};
+ghost use Rattle.pml_play.specs.Transcript.{IsModel};
+ghost use Rattle.pml_play.specs.Outcomes.{HasLines, HasOneModel, HasOneRefusal, HasOneTranscript, HasTranscript, IsRefusedOrStands};
 
 /// A text is refused in one way at most, or stands for one model at most, and not both.
 pub fn one_outcome()

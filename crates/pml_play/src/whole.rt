@@ -6,13 +6,13 @@ ghost use Rattle.session.specs.Part.{Part};
 ghost use Rattle.session.specs.Replay.{CanBeReplayed};
 ghost use Rattle.session.specs.Session.{end_of, transcript};
 ghost use Rattle.pml_sim.specs.World.{rules};
-ghost use Rattle.session.specs.Stands.{CountsAll};
-ghost use Rattle.session.specs.Writes.{IsOwnEnd, Runs};
+ghost use Rattle.session.specs.Writes.{CountsAll, IsOwnEnd, Runs};
 ghost use Rattle.pml_lex.specs.Cut.{AreTokens};
 ghost use Rattle.pml_syntax.specs.Grammar.{Spells};
 ghost use Rattle.pml_play.specs.Transcript.{AreExpanded, IsModel, IsSpelled, IsTranscript};
-ghost use Rattle.pml_play.specs.Plays as plays;
-ghost use Rattle.pml_play.specs.Plays.{IsReady, IsRejected, Rejects, PlaysText, PlaysWhole, PlaysBroken};
+ghost use Rattle.pml_play.specs.Parts as parts;
+ghost use Rattle.pml_play.specs.Plays.{PlaysWhole, PlaysBroken};
+ghost use Rattle.pml_play.specs.Parts.{IsReady, IsRejected, Rejects, PlaysText};
 
 use devices::Devices;
 use diagnostics::Refusal;
@@ -37,7 +37,7 @@ pub enum Rejection {
 }
 
 fn of_lexical(fault: LexFault) -> Rejection
-    ensures { result ≡ plays.of_lexical fault }
+    ensures { result ≡ parts.of_lexical fault }
 {
     match fault {
         LexFault::Memory => Rejection::Memory,
@@ -59,7 +59,7 @@ fn tokens_of<'t>(alloc: Global, text: &'t [u8]) -> Result<Vec<Token<'t>>, Reject
 }
 
 fn of_inline(fault: InlineFault) -> Rejection
-    ensures { result ≡ plays.of_inline fault }
+    ensures { result ≡ parts.of_inline fault }
 {
     match fault {
         InlineFault::Memory => Rejection::Memory,
@@ -91,7 +91,7 @@ pub fn expanded_of<'t>(alloc: Global, text: &'t [u8]) -> Result<Vec<Token<'t>>, 
 }
 
 fn of_syntax(fault: SyntaxFault) -> Rejection
-    ensures { result ≡ plays.of_syntax fault }
+    ensures { result ≡ parts.of_syntax fault }
 {
     match fault {
         SyntaxFault::Memory => Rejection::Memory,
@@ -100,7 +100,7 @@ fn of_syntax(fault: SyntaxFault) -> Rejection
 }
 
 fn of_check(fault: CheckFault) -> Rejection
-    ensures { result ≡ plays.of_check fault }
+    ensures { result ≡ parts.of_check fault }
 {
     match fault {
         CheckFault::Memory => Rejection::Memory,

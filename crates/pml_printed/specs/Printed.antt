@@ -12,6 +12,7 @@ use Rattle.pml_printed.specs.declared.string.Before.TheVariants.{Nothing, Percen
 abbrev pub letter_n : ℕ
 letter_n = 110
 
+-- the letter t
 abbrev pub letter_t : ℕ
 letter_t = 116
 
@@ -51,6 +52,7 @@ abbrev pub first_of : List ℤ → ℤ
 first_of [] = pos 0
 first_of (value ∷ values) = value
 
+-- the values that are left behind this byte of a string
 abbrev pub values_left : Before → ℕ → List ℤ → List ℤ
 values_left before byte values = if takes_value before byte then drop 1 values else values
 

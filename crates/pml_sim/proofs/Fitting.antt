@@ -12,7 +12,7 @@ use Rattle.session.specs.declared.form.Stream.{Stream}
 use Rattle.session.specs.declared.form.Stream.TheVariants.{Unread, Known, Over}
 use Rattle.session.specs.declared.form.Version.{Version}
 use Rattle.session.specs.declared.form.Version.TheVariants.{First, Second}
-use Rattle.session.specs.Convert.{fits_line}
+use Rattle.session.specs.Converting.{fits_line}
 use Rattle.session.specs.Events.{Event, asks}
 use Rattle.session.specs.Limits.{most_line_bytes, most_bad_lines}
 use Rattle.session.specs.Lines.{Line, line_within, read_of, saw_end, IsPickUpTo}

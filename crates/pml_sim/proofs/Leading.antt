@@ -4,7 +4,8 @@ use Rattle.std.proofs.lemmas.List.{take_all, take-append-le}
 use Rattle.std.proofs.lemmas.Bool.{cases_lt}
 use Rattle.diagnostics.specs.declared.fault.Fault.{Fault}
 use Rattle.session.specs.Machine.{Outcome, Goes, Faults}
-use Rattle.pml_store.specs.Store.{Frame, undone}
+use Rattle.pml_store.specs.Store.{Frame}
+use Rattle.pml_store.specs.Writing.{undone}
 use Rattle.diagnostics.specs.declared.stop.Stop.{Stop}
 use Rattle.diagnostics.specs.declared.stop.Stop.TheVariants as stop
 use Rattle.pml_moves.specs.declared.moves.Move.{Move}

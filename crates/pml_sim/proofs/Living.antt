@@ -13,7 +13,7 @@ use Rattle.pml_moves.specs.declared.moves.Move.{Move}
 use Rattle.pml_moves.specs.declared.moves.Move.TheVariants.{Death, Alone, Pair}
 use Rattle.pml_moves.specs.State.{Stand, State, body_of, levels, levels_in, reads}
 use Rattle.pml_moves.specs.Search.{or_else, each, last, only_if, is_else, can_alone, accepts, Message, message, pick, pairs_on, pairs_with, pairs, moves_by, plain_moves, else_moves, moves_on, moves_of, moves_at, moves_under, moves_if, moves_held, moves}
-use Rattle.pml_texts.specs.Texts.{IsWithin}
+use Rattle.pml_texts.specs.Staying.{IsWithin}
 
 -- ---- lists
 

@@ -20,18 +20,19 @@ use Rattle.pml_program.specs.declared.program.Program.{Program}
 use Rattle.pml_flow.specs.Flow.{Offer}
 use Rattle.pml_store.specs.Store.{Frame}
 use Rattle.pml_start.specs.Begin.{Begun}
-use Rattle.pml_start.specs.Start.{first_state, starting}
+use Rattle.pml_start.specs.Start.{first_state}
+use Rattle.pml_start.specs.Starting.{starting}
 use Rattle.pml_start.proofs.Living.{living_are}
 use Rattle.pml_moves.specs.declared.moves.Move.{Move}
 use Rattle.pml_moves.specs.declared.moves.Move.TheVariants.{Death, Alone, Pair}
-use Rattle.pml_moves.specs.State.{Stand, State, body_of}
+use Rattle.pml_moves.specs.State.{Stand, State, body_of, begins_by, begins_at}
 use Rattle.pml_moves.specs.Picked.{picked}
 use Rattle.pml_moves.specs.Search as search
 use Rattle.profile.specs.declared.TheConstants.{MOST_DSTEP_STATEMENTS}
-use Rattle.pml_moves.specs.Scene.{begins_by, begins_at}
 use Rattle.pml_steps.specs.Outcome.{Done}
 use Rattle.pml_steps.specs.Outcome as outcome
-use Rattle.pml_texts.specs.Texts.{kind_of, line_in, brace_of, origin_of, IsWithin}
+use Rattle.pml_texts.specs.Texts.{kind_of, line_in, brace_of, origin_of}
+use Rattle.pml_texts.specs.Staying.{IsWithin}
 use Rattle.pml_sim.specs.declared.halt.Halt.{Halt}
 use Rattle.pml_sim.specs.World.{Running, first, unless_stopped, moves, led_to, step, rules}
 use Rattle.pml_sim.proofs.Weight.{weight_part}

@@ -7,15 +7,19 @@ use Rattle.diagnostics.specs.declared.stop.Stop.TheVariants as stop
 use Rattle.session.specs.Machine.{Goes, Faults, Stopped}
 use Rattle.session.specs.Takes.{CanBeTaken, IsReason}
 use Rattle.pml_program.specs.declared.program.Program.{Program}
-use Rattle.pml_store.specs.Store.{Frame, Contents}
+use Rattle.pml_store.specs.Store.{Frame}
+use Rattle.pml_store.specs.Writing.{Contents}
 use Rattle.pml_start.specs.Bound.{most_cells}
-use Rattle.pml_start.specs.Begin.{Begun, shown}
+use Rattle.pml_start.specs.Begin.{Begun}
+use Rattle.pml_start.specs.Shown.{shown}
 use Rattle.pml_start.specs.declared.started.Started.{Started}
-use Rattle.pml_start.specs.Start.{IsDeclared, Starts, first_state as begin}
+use Rattle.pml_start.specs.Start.{first_state as begin}
+use Rattle.pml_start.specs.Starting.{IsDeclared, Starts}
 use Rattle.pml_check.specs.Judged.{HasGoodStart}
 use Rattle.pml_lines.specs.declared.change.Wanted.{Wanted}
 use Rattle.pml_lines.specs.Changed.{changes as changed, step_changes}
-use Rattle.pml_lines.specs.Changes.{AreDeclared, step_lines, value_lines}
+use Rattle.pml_lines.specs.Changes.{value_lines}
+use Rattle.pml_lines.specs.Written.{AreDeclared, step_lines}
 use Rattle.pml_moves.specs.declared.moves.Move.{Move}
 use Rattle.pml_moves.specs.declared.moves.Move.TheVariants.{Death, Alone, Pair}
 use Rattle.pml_moves.specs.State.{State}
@@ -25,11 +29,14 @@ use Rattle.pml_steps.specs.Created.{kinds, there}
 use Rattle.pml_steps.specs.Outcome.{Done, step}
 use Rattle.pml_steps.specs.Live.{Live, Does, Joins, past as past_of}
 use Rattle.pml_steps.specs.Taking.{CanDie, PastBy}
-use Rattle.pml_texts.specs.Texts.{IsWithin, move_text}
+use Rattle.pml_texts.specs.Texts.{move_text}
+use Rattle.pml_texts.specs.Staying.{IsWithin}
 use Rattle.pml_texts.proofs.Staying.{text_stays}
 use Rattle.pml_sim.specs.declared.halt.Halt.{Halt}
-use Rattle.pml_sim.specs.World.{IsFirst, Running, rules, unless_stopped, stopped, changed_lines, led_to}
+use Rattle.pml_sim.specs.World.{Running, rules, unless_stopped, stopped, changed_lines, led_to}
+use Rattle.pml_sim.specs.Lent.{IsFirst}
 use Rattle.pml_sim.specs.World as world
+use Rattle.pml_sim.specs.Lent as lends
 use Rattle.pml_sim.proofs.Living.{moves_within}
 use Rattle.pml_sim.proofs.Leading.{past_by, went, failed}
 use Rattle.pml_sim.proofs.Values.{changes_of_first, first_declared, frames_declared, lines_of_first, taken_min}
@@ -108,7 +115,7 @@ are_declared live p ks store n pr k st h =
 
 pub changes_are : (w : Running) (live : Live) (ks : List ℕ) (store : Contents) (older n : ℕ) → w.state ≡ live.state → w.past ≡ take (older + 1) (past_of live) →
     ks ≡ kinds live.state → store ≡ record { frames = live.state.frames; written = live.written; most = most_cells live.state.program } → n ≡ min older (length ks) → IsDeclared live.state.program (there live.state) →
-    step_changes (take n ks) store ≡ world.changes w
+    step_changes (take n ks) store ≡ lends.changes w
 changes_are w live ks store older n s past k st ni h =
     let now : Contents = record { frames = live.state.frames; written = live.written; most = most_cells live.state.program } in
     ap (λ (i : ℕ). step_changes (take i ks) store) ni ∙ ap (λ (l : List ℕ). step_changes (take (min older (length l)) l) store) k

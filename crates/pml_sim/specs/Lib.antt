@@ -1,2 +1,3 @@
 pub mod World
+pub mod Lent
 pub mod Origins

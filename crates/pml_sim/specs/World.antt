@@ -1,26 +1,20 @@
 -- A checked model as a machine: its first state, its moves, its steps, and the texts.
-use Rattle.std.specs.Prelude.{◌≡◌, ℕ, Bool, if◌then◌else◌, List, [], length, take, Option, Some, None, Result, Ok, Err}
+use Rattle.std.specs.Prelude.{ℕ, Bool, List, [], length, take, Option, Some, None, Result, Ok, Err}
 use Rattle.diagnostics.specs.declared.fault.Fault.{Fault}
 use Rattle.session.specs.Machine.{Rules, Outcome, Stopped, Goes, Faults}
 use Rattle.pml_program.specs.declared.program.Program.{Program}
 use Rattle.pml_store.specs.Store.{Frame}
 use Rattle.pml_start.specs.Begin.{Begun}
-use Rattle.pml_start.specs.Start.{first_state as begin}
-use Rattle.pml_lines.specs.declared.changed.Change.{Change}
-use Rattle.pml_lines.specs.Changed.{changes as changed, value_line as line_of}
 use Rattle.pml_lines.specs.Changes.{value_lines}
 use Rattle.pml_moves.specs.declared.moves.Move.{Move}
-use Rattle.pml_moves.specs.State.{State}
+use Rattle.pml_moves.specs.State.{State, first_state}
 use Rattle.pml_moves.specs.Search as search
 use Rattle.profile.specs.declared.TheConstants.{MOST_DSTEP_STATEMENTS}
 use Rattle.pml_steps.specs.Created.{kinds}
-use Rattle.pml_steps.specs.Held.{first_state}
 use Rattle.pml_steps.specs.Outcome as outcome
 use Rattle.pml_texts.specs.Texts as texts
 use Rattle.pml_texts.specs.Ends as ends
 use Rattle.pml_sim.specs.declared.halt.Halt.{Halt}
-use Rattle.pml_sim.specs.declared.ending.Ending.{Ending}
-use Rattle.pml_sim.specs.declared.ending.Ending.TheVariants.{Valid, Invalid}
 
 -- A state; what the variables that are still there held before the last step; and the move that was not taken to its end, if one was
 -- not: nothing is done from there on.
@@ -38,6 +32,7 @@ abbrev pub unless_stopped : Option Halt → List Move → List Move
 unless_stopped None ms = ms
 unless_stopped (Some h) ms = []
 
+-- the moves of a state, in order; none, where it has stopped
 abbrev pub moves : Running → List Move
 moves w = unless_stopped w.halt (search.moves w.state)
 
@@ -51,31 +46,15 @@ abbrev pub led_to : List Frame → Result outcome.Done Fault → Outcome Running
 led_to frames (Ok d) = Goes (record { state = d.state; past = take (length d.state.frames) frames; halt = None }) d.printed
 led_to frames (Err f) = Faults f
 
+-- what a move leads to
 abbrev pub step : Running → Move → Outcome Running
 step w m = led_to w.state.frames (outcome.step MOST_DSTEP_STATEMENTS w.state m)
-
--- the first state of a model, whose initialisers have no fault
-pub record IsFirst (p : Program) (lossy : Bool) (w : Running) : Type 0 where
-  pub begun : Begun
-  pub starts : begin p ≡ Ok begun
-  pub is : w ≡ first p begun lossy
-
--- the places that are there before the last step and now and whose numbers differ
-abbrev pub changes : Running → List Change
-changes w = changed w.past w.state.frames
-
--- the value line of one of them
-abbrev pub value_line : Running → Change → List ℕ
-value_line w c = line_of w.state.program (kinds w.state) c
-
--- whether each process may end where it stands
-abbrev pub ending : Running → Ending
-ending w = if ends.is_valid w.state then Valid else Invalid
 
 -- the variables before the last step and now, compared
 abbrev pub changed_lines : Running → Bool → Bool → List ℕ
 changed_lines w globals locals = value_lines w.state.program (kinds w.state) w.past w.state.frames globals locals
 
+-- a checked model as the machine that a session plays
 abbrev pub rules : Rules Running Move
 rules = record {
   moves = moves;

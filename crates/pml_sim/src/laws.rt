@@ -8,7 +8,8 @@ ghost use Rattle.pml_start.specs.Begin.{Begun};
 ghost use Rattle.pml_lines.specs.Changed.{wanted_changes};
 ghost use Rattle.pml_moves.specs.declared.moves.Move.{Move};
 ghost use Rattle.pml_sim.specs.Origins.{TextsNameOrigins};
-ghost use Rattle.pml_sim.specs.World.{Running, changed_lines, changes, first, step, value_line};
+ghost use Rattle.pml_sim.specs.World.{Running, changed_lines, first, step};
+ghost use Rattle.pml_sim.specs.Lent.{changes, value_line};
 
 /// The numbers before the last step are those of the state before it, as far as its variables are still there.
 pub fn steps_lead_back()

@@ -6,16 +6,18 @@ ghost use Rattle.std.specs.List.{Contains};
 ghost use Rattle.std.specs.Option.{option_copied};
 ghost use Rattle.profile.specs.declared.TheConstants.{MOST_CHANNELS, MOST_PROCESSES};
 ghost use Rattle.session.specs.Takes.{CanBeTaken, StaysStopped, TakesStep};
-ghost use Rattle.pml_start.specs.Begin.{shown};
+ghost use Rattle.pml_start.specs.Shown.{shown};
 ghost use Rattle.pml_start.specs.Bound.{bound, IsBounded};
-ghost use Rattle.pml_start.specs.Start.{IsDeclared};
+ghost use Rattle.pml_start.specs.Starting.{IsDeclared};
 ghost use Rattle.pml_value.specs.Reads.{channel_at};
 ghost use Rattle.pml_steps.specs.Footprint.{held};
 ghost use Rattle.pml_texts.specs.Charts.{told};
 ghost use Rattle.pml_texts.specs.Ends as ends;
 ghost use Rattle.pml_texts.specs.Texts as texts;
+ghost use Rattle.pml_texts.specs.Staying as staying;
 ghost use Rattle.pml_sim.specs.World as world;
-ghost use Rattle.pml_sim.specs.World.{IsFirst};
+ghost use Rattle.pml_sim.specs.Lent as lends;
+ghost use Rattle.pml_sim.specs.Lent.{IsFirst};
 
 use crate::ending::Ending;
 use crate::halt::Halt;
@@ -162,7 +164,7 @@ impl<'p, 'a> World<'p, 'a> {
     /// The places whose numbers the last step changed, in the order of their value lines: the globals as they are declared, and then
     /// the variables of each process that was there before; an array by its index, a typedef by its fields.
     pub fn changes(&self) -> Result<Vec<Change>, AllocError>
-        ensures { IfOk result (λ found. found.items ≡ world.changes self.now) }
+        ensures { IfOk result (λ found. found.items ≡ lends.changes self.now) }
     {
         let kinds = self.live.kinds();
         let count = self.older.min(kinds.len());
@@ -176,7 +178,7 @@ impl<'p, 'a> World<'p, 'a> {
 
     /// Appends the value line of a change of the last step.
     pub fn value_line(&self, change: &Change, text: &mut Vec<u8>) -> Result<(), AllocError>
-        ensures added { OnOk result (text.new.items ≡ text.old.items ++ world.value_line self.now change.now) }
+        ensures added { OnOk result (text.new.items ≡ text.old.items ++ lends.value_line self.now change.now) }
         ensures kept { OnErr result (StartsWith text.new.items text.old.items) }
     {
         value_line(&self.tables, self.live.kinds(), *change, text)
@@ -184,7 +186,7 @@ impl<'p, 'a> World<'p, 'a> {
 
     /// Whether a run that ends here ends well.
     pub fn ending(&self) -> Ending
-        ensures { result ≡ world.ending self.now }
+        ensures { result ≡ lends.ending self.now }
     {
         if is_valid(&self.live.scene()) {
             Ending::Valid
@@ -195,7 +197,7 @@ impl<'p, 'a> World<'p, 'a> {
 
     /// The name of a process and the line of what stands first in it, where it lives and may not end there.
     pub fn stuck(&self, process: usize) -> Option<(&'p [u8], u32)>
-        ensures { option_map told result ≡ texts.stuck_of self.now.state process }
+        ensures { option_map told result ≡ staying.stuck_of self.now.state process }
     {
         stuck(&self.live.scene(), process)
     }

@@ -24,11 +24,13 @@ pub record Globals : Type 0 where
   pub typedefs : List Structure
   pub proctypes : List Word
 
+-- a token has this name
 abbrev pub is_called : List ℕ → Word → Bool
 is_called n w = bytes_eq n w.text
 
 -- ---- the first of a name
 
+-- the same, with a number one higher
 abbrev pub one_behind : Option (ℕ × Slot) → Option (ℕ × Slot)
 one_behind None = None
 one_behind (Some p) = Some (suc p.0, p.1)
@@ -38,6 +40,7 @@ abbrev pub variable_named : List Slot → List ℕ → Option (ℕ × Slot)
 variable_named [] n = None
 variable_named (s ∷ ss) n = if is_called n s.name then Some (0, s) else one_behind (variable_named ss n)
 
+-- a number one higher
 abbrev pub one_more : Option ℕ → Option ℕ
 one_more None = None
 one_more (Some k) = Some (suc k)
@@ -47,10 +50,12 @@ abbrev pub constant_named : List Word → List ℕ → Option ℕ
 constant_named [] n = None
 constant_named (w ∷ ws) n = if is_called n w then Some 1 else one_more (constant_named ws n)
 
+-- the first typedef of a name
 abbrev pub typedef_named : List Structure → List ℕ → Option Structure
 typedef_named [] n = None
 typedef_named (x ∷ xs) n = if is_called n x.name then Some x else typedef_named xs n
 
+-- one of these tokens has the name
 abbrev pub has_name : List Word → List ℕ → Bool
 has_name [] n = false
 has_name (w ∷ ws) n = is_called n w || has_name ws n
@@ -67,6 +72,7 @@ fields_in gs _ = []
 
 -- ---- the proctype of a name, in the whole text
 
+-- the names of variables
 abbrev pub names_of : List Variable → List Word
 names_of [] = []
 names_of (v ∷ vs) = v.name ∷ names_of vs
@@ -78,6 +84,7 @@ declares (part.Constants ws) n = has_name ws n
 declares (part.Typedef t vs) n = is_called n t
 declares (part.Proctype p) n = is_called n p.name
 
+-- a unit that is a proctype
 abbrev pub is_proctype : Part → Bool
 is_proctype (part.Proctype p) = true
 is_proctype _ = false
@@ -96,16 +103,20 @@ is_declared gs n =
     (is_some (variable_named gs.variables n) || is_some (constant_named gs.constants n))
     || (is_some (typedef_named gs.typedefs n) || has_name gs.proctypes n)
 
+-- one more name of an `mtype`, where nothing has the name yet
 abbrev pub with_constant : Globals → Word → Globals
 with_constant gs w = if is_declared gs w.text then gs else record gs { constants = gs.constants ++ w ∷ [] }
 
+-- more names of an `mtype`, from the first on
 abbrev pub with_constants : Globals → List Word → Globals
 with_constants gs [] = gs
 with_constants gs (w ∷ ws) = with_constants (with_constant gs w) ws
 
+-- one more typedef, where nothing has its name yet
 abbrev pub with_typedef : Globals → Structure → Globals
 with_typedef gs x = if is_declared gs x.name.text then gs else record gs { typedefs = gs.typedefs ++ x ∷ [] }
 
+-- one more proctype, where nothing has its name yet
 abbrev pub with_proctype : Globals → Word → Globals
 with_proctype gs w = if is_declared gs w.text then gs else record gs { proctypes = gs.proctypes ++ w ∷ [] }
 
@@ -115,6 +126,7 @@ nothing_of us = record { text = us; variables = []; constants = []; typedefs = [
 
 -- ---- cells
 
+-- how many cells variables have
 abbrev pub cells : List Slot → ℕ
 cells [] = 0
 cells (s ∷ ss) = s.length * s.stride + cells ss

@@ -32,9 +32,11 @@ use Rattle.pml_stands.specs.Known.{Globals, variable_named, constant_named, fiel
 
 -- ---- the trees, by their parts
 
+-- a name, and the index behind it, if there is one
 abbrev pub step_of : Word → Option TreeExpr → Step
 step_of n i = roll-Step (record { name = n; index = i })
 
+-- a name, and the fields behind it
 abbrev pub reference_of : Step → List Step → Reference
 reference_of s ss = roll-Reference (record { first = s; fields = ss })
 
@@ -42,11 +44,13 @@ reference_of s ss = roll-Reference (record { first = s; fields = ss })
 abbrev pub turn_to : ℕ → Slot → Option Expr → Turn
 turn_to offset s i = roll-Turn (record { offset = offset; length = s.length; stride = s.stride; index = i })
 
+-- a variable, by whose it is and by its number, with the turns that lead into it
 abbrev pub target_at : Bool → ℕ → Form → List Turn → Target
 target_at local n f ts = roll-Target (record { local = local; variable = n; form = f; turns = ts })
 
 -- ---- numbers: what is out of range is refused by itself
 
+-- the value of a constant; 0, where it is not known
 abbrev pub value_of : Constant → ℤ
 value_of (Is x) = x
 value_of _ = pos 0
@@ -56,10 +60,12 @@ abbrev pub truth_of : Bool → ℤ
 truth_of true = pos 1
 truth_of false = pos 0
 
+-- a constant behind its sign
 abbrev pub with_sign : Sign → Constant → Constant
 with_sign Plus c = c
 with_sign Minus c = negated c
 
+-- the value of a name of an `mtype`, by its number
 abbrev pub mtype_value : ℕ → ℤ
 mtype_value n = if nat_lt MOST_CONSTANTS n then pos 0 else pos n
 

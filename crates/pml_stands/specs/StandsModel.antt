@@ -18,6 +18,7 @@ use Rattle.pml_program.specs.declared.program.Program.{Program}
 use Rattle.pml_stands.specs.Known.{Globals, Structure, is_declared, with_constants, with_typedef, with_proctype, nothing_of}
 use Rattle.pml_stands.specs.StandsStatements.{count_of, StandsVariable, StandsVariables, StandsSeq}
 
+-- the same, with these variables
 abbrev pub with_variables : Globals → List Slot → Globals
 with_variables gs ss = record gs { variables = ss }
 
@@ -35,9 +36,11 @@ beginning starts.Never = 0
 beginning starts.Once = 1
 beginning (starts.Times e) = count_of (constant e)
 
+-- the fields of a typedef
 abbrev pub fields_with : ℕ → List Slot → Fields
 fields_with o fs = record { owner = o; fields = fs }
 
+-- a typedef with its number and its fields
 abbrev pub structure : Word → ℕ → List Slot → Structure
 structure t o fs = record { name = t; number = o; fields = fs }
 
@@ -72,6 +75,7 @@ pub data StandsUnits : ℕ → Globals → List Part → Globals → List Word �
       → StandsUnits (o + 1) (with_proctype gs p.name) us zs cs ts ps
       → StandsUnits o gs (part.Proctype p ∷ us) zs cs ts (proctype_with o p ls x ∷ ps)
 
+-- a model by its parts
 abbrev pub program_of : List Slot → List Word → List Fields → List Proctype → Program
 program_of gs cs ts ps = record { globals = gs; constants = cs; typedefs = ts; proctypes = ps }
 

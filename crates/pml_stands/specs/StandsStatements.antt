@@ -66,9 +66,11 @@ abbrev pub count_of : Constant → ℕ
 count_of (Is (pos n)) = n
 count_of _ = 0
 
+-- the type that a word names
 abbrev pub plain_form : Scalar → Form
 plain_form s = kind.Plain s
 
+-- what an initialiser stands for
 pub data StandsInitial (gs : Globals) (ls : List Slot) : Option TreeInitial → Initial → Type 0 where
   no_initial : StandsInitial gs ls None i.Zero
   value_initial : {e : TreeExpr} {x : Expr} → StandsExpr gs ls e x → StandsInitial gs ls (Some (begin.Value e)) (i.Value x)
@@ -113,6 +115,7 @@ pub data StandsVariables (gs : Globals) (use_as : Role) : List Slot → List Var
 
 -- ---- statements that give no structure
 
+-- what expressions stand for, one by one
 pub data StandsExprs (gs : Globals) (ls : List Slot) : List TreeExpr → List Expr → Type 0 where
   no_expr : StandsExprs gs ls [] []
   one_expr : {e : TreeExpr} {es : List TreeExpr} {x : Expr} {xs : List Expr}
@@ -127,10 +130,12 @@ as_store _ = None
 abbrev pub proctype_of : Globals → List Slot → List ℕ → ℕ
 proctype_of gs ls n = if is_some (variable_named ls n) then 0 else or_none (proctype_named 0 gs.text n)
 
+-- what a `run` stands for: its arguments, and its proctype by its number
 pub data StandsRun (gs : Globals) (ls : List Slot) : TreeRun → Run → Type 0 where
   run : {q : TreeRun} {xs : List Expr} → StandsExprs gs ls q.arguments xs
       → StandsRun gs ls q (record { proctype = proctype_of gs ls q.name.text; arguments = xs })
 
+-- what a statement without a structure stands for
 pub data StandsAction (gs : Globals) (ls : List Slot) : TreeAction → Action → Type 0 where
   otherwise : StandsAction gs ls t.Else a.Else
   assign : {r : Reference} {m : Meaning} {e : TreeExpr} {x : Expr}
@@ -152,15 +157,19 @@ pub data StandsAction (gs : Globals) (ls : List Slot) : TreeAction → Action �
 
 -- ---- bodies
 
+-- a statement of the tree, with its labels and its tokens
 abbrev pub item_of : List Word → TreeBasic → List Word → Item
 item_of labels x tokens = roll-Item (record { labels = labels; basic = x; tokens = tokens })
 
+-- statements of the tree, one behind another
 abbrev pub items_of : List Item → TreeSeq
 items_of xs = tree-Seq (record { items = xs })
 
+-- a statement of the model, with its labels and its tokens
 abbrev pub stmt_of : List Word → Basic → List Word → Stmt
 stmt_of labels x tokens = roll-Stmt (record { labels = labels; basic = x; tokens = tokens })
 
+-- statements of the model, one behind another
 abbrev pub steps_of : List Stmt → Seq
 steps_of xs = roll-Seq (record { steps = xs })
 

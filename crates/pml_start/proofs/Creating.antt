@@ -6,12 +6,14 @@ use Rattle.std.proofs.lemmas.List.{set-get_or, drop_more, length_push, length-ma
 use Rattle.std.proofs.Math.Seq.{take-append_seam}
 use Rattle.pml_program.specs.declared.program.Slot.{Slot}
 use Rattle.pml_store.specs.declared.place.Place.{Place}
-use Rattle.pml_store.specs.Store.{Frame, Cells, frame_at, cells_at, with_number, zeros, undone, before, but_last}
+use Rattle.pml_store.specs.Store.{Frame, Cells, frame_at, cells_at, with_number, zeros}
+use Rattle.pml_store.specs.Writing.{undone, before, but_last}
 use Rattle.pml_cells.specs.Cells.{size}
 use Rattle.pml_value.specs.declared.live_channel.LiveChannel.{LiveChannel}
 use Rattle.pml_start.specs.declared.started.Started.{Started}
 use Rattle.pml_eval.specs.Clip.{clipped}
-use Rattle.pml_start.specs.Begin.{Begun, shown, shape, with_value}
+use Rattle.pml_start.specs.Begin.{Begun, with_value}
+use Rattle.pml_start.specs.Shown.{shown, shape}
 use Rattle.pml_start.specs.Created.{with_arguments, with_process}
 use Rattle.pml_start.specs.Known.{Keeps}
 use Rattle.pml_start.proofs.Past.{keeps_past}

@@ -14,7 +14,8 @@ use Rattle.pml_program.specs.declared.program.Slot.{Slot}
 use Rattle.pml_program.specs.declared.program.Fields.{Fields}
 use Rattle.pml_eval.specs.Value.{◌>>=◌}
 use Rattle.pml_store.specs.declared.place.Place.{Place}
-use Rattle.pml_store.specs.Store.{Frame, HasPlace, size_at, number_at, with_number, is_same}
+use Rattle.pml_store.specs.Store.{Frame, size_at, number_at, with_number}
+use Rattle.pml_store.specs.Writing.{HasPlace, is_same}
 use Rattle.pml_store.proofs.Back.{has_cell}
 use Rattle.pml_store.proofs.OnePlace.{number_at-with_number}
 use Rattle.pml_cells.specs.Cells.{size, slot_of, fields_of, leaf, last_field}

@@ -1,6 +1,7 @@
 -- The log of a store leads back also where owners came after its writes.
 use Rattle.std.proofs.Common.{◌≡◌, ℕ, ◌-◌, ltb, length, Bool, true, false, if◌then◌else◌, List, [], ◌∷◌, ◌++◌, ℤ, refl, ap, ◌∙◌}
-use Rattle.pml_store.specs.Store.{Frame, Contents, flat, frame_with, index_with, undone, before}
+use Rattle.pml_store.specs.Store.{Frame}
+use Rattle.pml_store.specs.Writing.{Contents, flat, frame_with, index_with, undone, before}
 
 -- a cell of the first owners, or of those behind them
 pub index_append : (fs zs : List Frame) (i : ℕ) (v : ℤ) → (rest : List Frame) × (index_with (fs ++ zs) i v ≡ index_with fs i v ++ rest)

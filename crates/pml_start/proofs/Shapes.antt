@@ -1,17 +1,18 @@
 -- How many cells each variable has.
 use Rattle.std.proofs.Common.{◌≡◌, ℕ, ◌<◌, List, [], ◌∷◌, ◌++◌, length, get_or, set, map, take, ◌≤◌, Bool, true, false, if◌then◌else◌, ℤ, pos, Result, Ok, Err, OnOk, OnErr, refl, sym, ap, ◌∙◌, arith}
 use Rattle.std.proofs.lemmas.List.{length-set, length-replicate, get_or_push, map-append, get_or-map as get_or-map_within, length-take, take-take, take-set-le}
-use Rattle.std.proofs.Math.Seq.{take-append_seam, take-length}
+use Rattle.std.proofs.Math.Seq.{take-append_seam, take-length, map-set_same}
 use Rattle.std.proofs.Math.ListN.{get_or-map}
-use Rattle.std.proofs.Math.Seq.{map-set_same}
 use Rattle.pml_program.specs.declared.program.Slot.{Slot}
 use Rattle.pml_store.specs.declared.place.Place.{Place}
-use Rattle.pml_store.specs.Store.{Contents, Frame, HasPlace, frame_at, cells_at, size_at, stored, before, with_number, zeros}
+use Rattle.pml_store.specs.Store.{Frame, frame_at, cells_at, size_at, with_number, zeros}
+use Rattle.pml_store.specs.Writing.{Contents, HasPlace, stored, before}
 use Rattle.pml_store.proofs.Back.{has_cell, before_set}
 use Rattle.pml_cells.specs.Cells.{size}
 use Rattle.pml_value.specs.declared.live_channel.LiveChannel.{LiveChannel}
 use Rattle.pml_start.specs.declared.started.Started.{Started}
-use Rattle.pml_start.specs.Begin.{Begun, cell_in, shape, shown, with_frame}
+use Rattle.pml_start.specs.Begin.{Begun, cell_in, with_frame}
+use Rattle.pml_start.specs.Shown.{shape, shown}
 use Rattle.pml_start.specs.Known.{Keeps}
 
 pub shape-with_number : (fs : List Frame) (p : Place) (v : ℤ) → shape (with_number fs p v) ≡ shape fs

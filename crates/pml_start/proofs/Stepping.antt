@@ -9,8 +9,10 @@ use Rattle.pml_program.specs.declared.program.Program.{Program}
 use Rattle.pml_eval.specs.Value.{◌>>=◌}
 use Rattle.diagnostics.specs.declared.stop.Stop.{Stop}
 use Rattle.diagnostics.specs.declared.stop.Stop.TheVariants as stop
-use Rattle.pml_start.specs.Begin.{Begun, Begins, leaf_begun, fields_begun, with_value, with_values, variable_begun, variables_begun}
-use Rattle.pml_start.specs.Start.{process_begun, kind_begun, kinds_begun, Starts}
+use Rattle.pml_start.specs.Begin.{Begun, leaf_begun, fields_begun, with_value, with_values, variable_begun, variables_begun}
+use Rattle.pml_start.specs.Shown.{Begins}
+use Rattle.pml_start.specs.Start.{process_begun, kind_begun, kinds_begun}
+use Rattle.pml_start.specs.Starting.{Starts}
 
 -- a step that is made leads on
 pub made : (x : Result Begun Fault) (u : Unit {0}) (b : Begun) (rest : Begun → Result Begun Fault) → Begins x (Ok u) b → (x >>= rest) ≡ rest b

@@ -1,5 +1,5 @@
 -- What the variables of a frame begin with.
-use Rattle.std.specs.Prelude.{min, ◌≡◌, ℕ, zero, suc, ◌+◌, ◌-◌, ◌++◌, List, [], ◌∷◌, length, map, pos, ℤ, false, nat_lt, if◌then◌else◌, Result, Ok, Err}
+use Rattle.std.specs.Prelude.{min, ℕ, zero, suc, ◌+◌, ◌-◌, ◌++◌, List, [], ◌∷◌, length, map, pos, ℤ, false, nat_lt, if◌then◌else◌, Result, Ok, Err}
 use Rattle.profile.specs.declared.TheConstants.{MOST_CHANNELS, MOST_MESSAGES}
 use Rattle.diagnostics.specs.declared.fault.Fault.{Fault}
 use Rattle.diagnostics.specs.declared.fault.Fault.TheVariants.{TooManyChannels}
@@ -12,14 +12,11 @@ use Rattle.pml_program.specs.declared.program.Fields.{Fields}
 use Rattle.pml_eval.specs.Clip.{clipped}
 use Rattle.pml_eval.specs.Value.{Reading, val, ◌>>=◌}
 use Rattle.pml_store.specs.declared.place.Place.{Place}
-use Rattle.pml_store.specs.Store.{Contents, Frame, with_number, zeros}
+use Rattle.pml_store.specs.Store.{Frame, with_number, zeros}
 use Rattle.pml_channel.specs.State.{ChannelState}
 use Rattle.pml_cells.specs.Cells.{size, leaf}
 use Rattle.pml_value.specs.declared.live_channel.LiveChannel.{LiveChannel}
-use Rattle.diagnostics.specs.declared.stop.Stop.{Stop}
-use Rattle.diagnostics.specs.declared.stop.Stop.TheVariants as stop
 use Rattle.pml_value.specs.Reads.{reading_of}
-use Rattle.pml_start.specs.declared.started.Started.{Started}
 
 -- What the variables of each frame hold, the live channels, and the proctypes of the live processes by their numbers in the
 -- model. Frame 0 has the globals, and frame n + 1 the variables of process n.
@@ -28,12 +25,7 @@ pub record Begun : Type 0 where
   pub channels : List LiveChannel
   pub kinds : List ℕ
 
-abbrev pub held : Contents → List LiveChannel → List ℕ → Begun
-held store channels kinds = record { frames = store.frames; channels = channels; kinds = kinds }
-
-abbrev pub shown : Started → Begun
-shown s = held s.store s.channels.items s.kinds.items
-
+-- a beginning in which nothing is there
 abbrev pub nothing : Begun
 nothing = record { frames = []; channels = []; kinds = [] }
 
@@ -104,18 +96,3 @@ with_frame ss b = record b { frames = b.frames ++ zeros (map size ss) ∷ [] }
 -- the variables of one more frame: 0 in each cell, and then the initialisers
 abbrev pub frame_begun : List Fields → List Slot → Begun → Result Begun Fault
 frame_begun ts ss b = variables_begun ts ss 0 (with_frame ss b)
-
--- ---- what is known of it
-
--- how many cells the variables of each owner have
-abbrev pub shape : List Frame → List (List ℕ)
-shape = map (map length)
-
--- all are begun, or the first fault is answered; where memory is refused, nothing is said
-abbrev pub Begins : Result Begun Fault → Result (Unit {0}) Stop → Begun → Type 0
-Begins (Ok b) (Ok u) new = new ≡ b
-Begins (Ok b) (Err stop.Memory) new = Unit {0}
-Begins (Ok b) (Err (stop.Fault f)) new = ⊥
-Begins (Err f) (Err (stop.Fault g)) new = g ≡ f
-Begins (Err f) (Err stop.Memory) new = Unit {0}
-Begins (Err f) (Ok u) new = ⊥

@@ -15,6 +15,7 @@ use Rattle.pml_start.specs.Begin.{Begun, with_value, with_frame, variables_begun
 
 -- ---- how many channels variables make
 
+-- an initialiser that makes channels
 abbrev pub is_channel : Initial → Bool
 is_channel (i.Channel capacity types) = true
 is_channel _ = false
@@ -34,6 +35,7 @@ abbrev pub channels_by : List Fields → Initial → Slot → ℕ
 channels_by ts (i.Value v) s = 0
 channels_by ts _ s = channels_in ts s 0 (size s)
 
+-- how many channels variables make
 abbrev pub channels_of : List Fields → List Slot → ℕ
 channels_of ts [] = 0
 channels_of ts (s ∷ ss) = channels_by ts s.initial s + channels_of ts ss

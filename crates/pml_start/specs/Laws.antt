@@ -12,7 +12,8 @@ use Rattle.pml_store.specs.Store.{number_at, size_at}
 use Rattle.pml_cells.specs.Cells.{size}
 use Rattle.pml_start.specs.Begin.{Begun, cell_in, empty_channel, initial_value, variable_begun}
 use Rattle.pml_start.specs.Known.{IsPlain, is_of}
-use Rattle.pml_start.specs.Start.{first_state, starting}
+use Rattle.pml_start.specs.Start.{first_state}
+use Rattle.pml_start.specs.Starting.{starting}
 
 -- the processes are those that the model starts with, as far as 255 go
 abbrev pub AreThoseThatBegin : Type 0

@@ -1,6 +1,8 @@
 pub mod Begin
+pub mod Shown
 pub mod Bound
 pub mod Created
 pub mod Known
 pub mod Laws
 pub mod Start
+pub mod Starting

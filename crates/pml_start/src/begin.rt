@@ -2,8 +2,10 @@
 
 ghost use Rattle.std.specs.Prelude.{◌≡◌, ◌+◌, ◌<◌, ◌≤◌, ◌++◌, ◌∷◌, [], IfOk, OnOk, OnErr, Ok, length, map};
 ghost use Rattle.profile.specs.declared.TheConstants.{MOST_PROCESSES};
-ghost use Rattle.pml_store.specs.Store.{HasPlace, frame_at, joined, size_at};
-ghost use Rattle.pml_start.specs.Begin.{Begins, shown, shape, initial_value, cell_in, with_value, with_frame, with_channel, empty_channel, cell_begun, leaf_begun, with_values, fields_begun, variable_begun, variables_begun, frame_begun};
+ghost use Rattle.pml_store.specs.Store.{frame_at, size_at};
+ghost use Rattle.pml_store.specs.Writing.{HasPlace, joined};
+ghost use Rattle.pml_start.specs.Begin.{initial_value, cell_in, with_value, with_frame, with_channel, empty_channel, cell_begun, leaf_begun, with_values, fields_begun, variable_begun, variables_begun, frame_begun};
+ghost use Rattle.pml_start.specs.Shown.{Begins, shown, shape};
 ghost use Rattle.pml_cells.specs.Cells.{size, leaf};
 ghost use Rattle.pml_start.specs.Bound.{cells_of};
 ghost use Rattle.pml_start.specs.Known.{Keeps, known};

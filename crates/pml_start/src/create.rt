@@ -2,9 +2,11 @@
 
 ghost use Rattle.std.specs.Prelude.{◌≡◌, ◌+◌, ◌-◌, ◌<◌, ◌≤◌, ◌++◌, ◌∷◌, [], List, Ok, OnOk, OnErr, length, map, take};
 ghost use Rattle.profile.specs.declared.TheConstants.{MOST_PROCESSES};
-ghost use Rattle.pml_store.specs.Store.{Frame, before, but_last, frame_at, joined};
+ghost use Rattle.pml_store.specs.Store.{Frame, frame_at};
+ghost use Rattle.pml_store.specs.Writing.{before, but_last, joined};
 ghost use Rattle.pml_cells.specs.Cells.{size};
-ghost use Rattle.pml_start.specs.Begin.{Begins, shown, shape, with_value};
+ghost use Rattle.pml_start.specs.Begin.{with_value};
+ghost use Rattle.pml_start.specs.Shown.{Begins, shown, shape};
 ghost use Rattle.pml_start.specs.Bound.{cells_of};
 ghost use Rattle.pml_start.specs.Created.{with_arguments, begun_with, with_process, created};
 ghost use Rattle.pml_start.specs.Known.{Keeps};

@@ -1,9 +1,10 @@
 //! The globals and the processes that a model begins with.
 
 ghost use Rattle.std.specs.Prelude.{◌≡◌, ◌<◌, [], IfOk, OnOk, length};
-ghost use Rattle.pml_start.specs.Begin.{Begins, shown};
+ghost use Rattle.pml_start.specs.Shown.{Begins, shown};
 ghost use Rattle.pml_start.specs.Bound.{most_cells, IsWithin, IsBounded};
-ghost use Rattle.pml_start.specs.Start.{Starts, IsDeclared, first_state, process_begun, kind_begun};
+ghost use Rattle.pml_start.specs.Start.{first_state, process_begun, kind_begun};
+ghost use Rattle.pml_start.specs.Starting.{Starts, IsDeclared};
 
 use crate::begin::begin_frame;
 use crate::beginnings::Beginnings;

@@ -18,14 +18,16 @@ use Rattle.pml_program.specs.declared.expr.Expr.{Expr}
 use Rattle.pml_program.specs.declared.expr.Target.{Target}
 use Rattle.pml_program.specs.declared.expr.Want.{Want}
 use Rattle.pml_value.specs.declared.view.Taker.{Taker}
-use Rattle.pml_value.specs.Reads.{read_by}
+use Rattle.pml_value.specs.Seen.{read_by}
 use Rattle.pml_store.specs.declared.place.Place.{Place}
-use Rattle.pml_store.specs.Store.{Contents, Frame, size_at, stored}
+use Rattle.pml_store.specs.Store.{Frame, size_at}
+use Rattle.pml_store.specs.Writing.{Contents, stored}
 use Rattle.pml_value.specs.declared.statement.Goes.{Goes}
 use Rattle.pml_value.specs.declared.live_channel.LiveChannel.{LiveChannel}
-use Rattle.pml_value.specs.Statement.{TakesStatement}
-use Rattle.pml_value.specs.Messages.{changed, contents_at, ordered, with_message, addressed, sent, found, without, taken_from, taken_at, asked_at, received, Received, stored_all, SendsMessage, ReceivesMessage}
-use Rattle.pml_start.specs.Begin.{shape}
+use Rattle.pml_value.specs.Takes.{TakesStatement}
+use Rattle.pml_value.specs.Messages.{changed, contents_at, ordered, with_message, addressed, sent, found, without, taken_from, taken_at, asked_at, received, Received}
+use Rattle.pml_value.specs.Storing.{stored_all, SendsMessage, ReceivesMessage}
+use Rattle.pml_start.specs.Shown.{shape}
 use Rattle.pml_start.specs.Bound.{room, most_room, AreBounded}
 use Rattle.pml_start.proofs.Shapes.{shape-with_number}
 use Rattle.pml_moves.specs.declared.scene.Seat.{Seat}

@@ -5,11 +5,12 @@ use Rattle.diagnostics.specs.declared.fault.Fault.{Fault}
 use Rattle.pml_program.specs.declared.expr.Want.{Want}
 use Rattle.pml_eval.specs.declared.pattern.Sought.{Sought}
 use Rattle.pml_eval.specs.Value.{Reading, want, asked_by, ◌>>=◌}
-use Rattle.pml_store.specs.Store.{Contents, stored}
+use Rattle.pml_store.specs.Writing.{Contents, stored}
 use Rattle.pml_value.specs.declared.statement.Goes.{Goes}
-use Rattle.pml_value.specs.Messages.{goes_of, stores, stored_all, AreAsLarge, StoresSome}
+use Rattle.pml_value.specs.Messages.{goes_of, stores}
+use Rattle.pml_value.specs.Storing.{stored_all, AreAsLarge, StoresSome}
 use Rattle.pml_value.proofs.Storing.{size-stored}
-use Rattle.pml_value.specs.Statement.{IsIn}
+use Rattle.pml_value.specs.Takes.{IsIn}
 use Rattle.pml_steps.specs.Passing.{AreIn}
 
 stored-behind : (s : Contents) (gs hs : List Goes) → stored_all s (gs ++ hs) ≡ stored_all (stored_all s gs) hs

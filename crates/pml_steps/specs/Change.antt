@@ -15,10 +15,12 @@ use Rattle.pml_moves.specs.State.{Stand, State}
 abbrev pub put : State → Goes → State
 put s g = record s { frames = with_number s.frames g.place g.number }
 
+-- a number in its cell, where there is one to store
 abbrev pub put_if : State → Option Goes → State
 put_if s None = s
 put_if s (Some g) = put s g
 
+-- the same, or the fault
 abbrev pub put_by : State → Result (Option Goes) Fault → Result State Fault
 put_by s r = r >>= λ g. Ok (put_if s g)
 
@@ -27,6 +29,7 @@ abbrev pub put_all : State → List Goes → State
 put_all s [] = s
 put_all s (g ∷ gs) = put_all (put s g) gs
 
+-- numbers in their cells from left to right, or the fault
 abbrev pub put_any : State → Result (List Goes) Fault → Result State Fault
 put_any s r = r >>= λ gs. Ok (put_all s gs)
 
@@ -38,6 +41,7 @@ with_sent s r = r >>= λ cs. Ok (record s { channels = cs })
 abbrev pub with_received : State → Result Received Fault → Result State Fault
 with_received s r = r >>= λ x. Ok (record (put_all s x.numbers) { channels = x.live })
 
+-- a process with something else to do, if it is there
 abbrev pub moved_to : Control → Option Stand → ℕ → List Stand → List Stand
 moved_to next None p ys = ys
 moved_to next (Some y) p ys = slice_set ys p (record y { control = next })

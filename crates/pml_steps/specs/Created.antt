@@ -11,6 +11,7 @@ use Rattle.pml_start.specs.Begin.{Begun}
 use Rattle.pml_start.specs.Created.{created}
 use Rattle.pml_moves.specs.State.{Stand, State, first_control}
 
+-- the proctypes of the live processes, by their numbers in the model
 abbrev pub kinds : State → List ℕ
 kinds s = map (λ (y : Stand). y.kind) s.stands
 

@@ -1,7 +1,7 @@
 -- How much a state keeps.
 use Rattle.std.specs.Prelude.{ℕ, ◌+◌, ◌*◌, length, List, [], ◌∷◌}
-use Rattle.pml_store.specs.Store.{joined}
-use Rattle.pml_channel.specs.State.{numbers_in}
+use Rattle.pml_store.specs.Writing.{joined}
+use Rattle.pml_channel.specs.Laid.{numbers_in}
 use Rattle.pml_value.specs.declared.live_channel.LiveChannel.{LiveChannel}
 use Rattle.pml_start.specs.Bound.{room}
 use Rattle.pml_moves.specs.State.{State}

@@ -1,14 +1,13 @@
 -- What is always so of what lives.
-use Rattle.std.specs.Prelude.{◌≡◌, ℕ, Bool, List, map, Option, None}
+use Rattle.std.specs.Prelude.{◌≡◌, ℕ, Bool, List, map, Option}
 use Rattle.pml_program.specs.declared.program.Program.{Program}
-use Rattle.pml_store.specs.Store.{Contents}
+use Rattle.pml_store.specs.Writing.{Contents}
 use Rattle.pml_value.specs.declared.live_channel.LiveChannel.{LiveChannel}
-use Rattle.pml_start.specs.Begin.{Begun, held}
+use Rattle.pml_start.specs.Shown.{held}
 use Rattle.pml_start.specs.Bound.{IsBounded}
-use Rattle.pml_start.specs.Start.{IsDeclared}
+use Rattle.pml_start.specs.Starting.{IsDeclared}
 use Rattle.pml_moves.specs.declared.scene.Seat.{Seat}
-use Rattle.pml_moves.specs.State.{State}
-use Rattle.pml_moves.specs.Scene.{stand_of, begins_at}
+use Rattle.pml_moves.specs.Scene.{stand_of}
 use Rattle.pml_steps.specs.Live.{Live}
 
 abbrev pub kinds_of : List Seat → List ℕ
@@ -25,9 +24,3 @@ live_of p store channels seats holder lossy = record {
   state = record { program = p; frames = store.frames; stands = map (stand_of p) seats; channels = channels; holder = holder; lossy = lossy };
   written = store.written;
 }
-
--- ---- the first state
-
--- all processes stand before their first statements, and nobody holds exclusive control
-abbrev pub first_state : Program → Begun → Bool → State
-first_state p b lossy = record { program = p; frames = b.frames; stands = map (begins_at p) b.kinds; channels = b.channels; holder = None; lossy = lossy }

@@ -64,6 +64,7 @@ run_into s p t x q = ran s (reads s p t) q >>= λ now. put_by now (goes_to x (ru
 abbrev pub sends : State → ℕ → Bool → Target → SendOrder → List Expr → Result State Fault
 sends s p t q order es = with_sent s (sent s.channels (reads s p t) q order es)
 
+-- a message is received from a channel with a capacity
 abbrev pub receives : State → ℕ → Bool → Target → Search → Removal → List Want → Result State Fault
 receives s p t q search how ws = with_received s (received s.channels (reads s p t) q search how ws)
 
@@ -71,6 +72,7 @@ receives s p t q search how ws = with_received s (received s.channels (reads s p
 abbrev pub receives_by : State → ℕ → Bool → Reception → Result State Fault
 receives_by s p t x = with_received s (received_by s.channels (reads s p t) x)
 
+-- what a statement without a structure does, and prints
 abbrev pub does : State → ℕ → Bool → Action → Result Done Fault
 does s p t (a.Run q) = ran s (reads s p t) q >>= quiet
 does s p t (a.AssignRun x q) = run_into s p t x q >>= quiet
@@ -100,6 +102,7 @@ effect s p t None = quiet s
 
 -- ---- inside a d_step
 
+-- bytes that were printed before
 abbrev pub behind : List ℕ → Done → Result Done Fault
 behind bytes d = Ok (record d { printed = bytes ++ d.printed })
 
@@ -121,6 +124,7 @@ within (suc n) s p t b c =
     effect s p t o.basic >>= λ d.
     onward o.stays d (λ e. within n e.state p false b o.next >>= behind e.printed))
 
+-- what the statements of a d_step do from a point on, at most so many
 abbrev pub within_from : ℕ → State → ℕ → Bool → Option Seq → Option Control → Result Done Fault
 within_from most s p t (Some b) (Some c) = within most s p t b c
 within_from most s p t b c = quiet s
@@ -149,6 +153,7 @@ moved p o d = Ok (record d { state = went d.state p o })
 abbrev pub offer_taken : ℕ → State → Pick → Bool → Offer → Result Done Fault
 offer_taken most s k t o = taken most s k.process t (body_by s (slice_get s.stands k.process)) o o.basic
 
+-- what an offer leads to that a process takes by itself
 abbrev pub alone : ℕ → State → Pick → Bool → Option Offer → Result Done Fault
 alone most s k t None = quiet s
 alone most s k t (Some o) = offer_taken most s k t o >>= moved k.process o
@@ -166,6 +171,7 @@ passes s i j t x y = put_any s (passed (reads s j t) (message s.channels (reads 
 abbrev pub both_on : State → ℕ → ℕ → Offer → Offer → List Goes → Result Done Fault
 both_on s p q o w gs = quiet (went (go_to (put_all s gs) p o.next) q w)
 
+-- what a send and the receive that it meets lead to
 abbrev pub paired : State → Pick → Pick → Bool → Option Offer → Option Offer → Result Done Fault
 paired s k j t (Some o) (Some w) =
     passed (reads s j.process t) (message s.channels (reads s k.process t) o.basic) w.basic >>= both_on s k.process j.process o w

@@ -10,9 +10,9 @@ use Rattle.pml_eval.specs.Value.{Reading, asked_by, ◌>>=◌}
 use Rattle.pml_program.specs.declared.program.Basic.{Basic}
 use Rattle.pml_value.specs.declared.statement.Goes.{Goes}
 use Rattle.pml_value.specs.declared.view.View.{View}
-use Rattle.pml_value.specs.Reads.{seen}
+use Rattle.pml_value.specs.Seen.{seen}
 use Rattle.pml_value.specs.Messages.{stores}
-use Rattle.pml_value.specs.Statement.{IsIn}
+use Rattle.pml_value.specs.Takes.{IsIn}
 use Rattle.pml_moves.specs.Search.{message_in}
 use Rattle.pml_steps.specs.Outcome.{passed}
 

@@ -3,7 +3,8 @@ use Rattle.std.specs.Prelude.{◌≡◌, ℕ, ◌<◌, Bool, List, length, Optio
 use Rattle.std.specs.Option.{option_copied}
 use Rattle.diagnostics.specs.declared.stop.Stop.{Stop}
 use Rattle.pml_program.specs.declared.program.Seq.{Seq}
-use Rattle.pml_flow.specs.Flow.{maybe, Offer as Offered}
+use Rattle.pml_flow.specs.Flow.{Offer as Offered}
+use Rattle.pml_flow.specs.Graph.{maybe}
 use Rattle.pml_flow.specs.Points.{point_at}
 use Rattle.pml_moves.specs.declared.moves.Pick.{Pick}
 use Rattle.pml_moves.specs.declared.moves.Move.{Move}

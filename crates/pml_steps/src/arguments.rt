@@ -2,8 +2,9 @@
 
 ghost use Rattle.std.specs.Prelude.{◌≡◌, IfOk, IfErr, IfSome, Ok};
 ghost use Rattle.pml_value.specs.Messages.{values};
-ghost use Rattle.pml_value.specs.Reads.{seen};
-ghost use Rattle.pml_value.specs.Statement.{IsIn, goes, goes_to};
+ghost use Rattle.pml_value.specs.Seen.{seen};
+ghost use Rattle.pml_value.specs.Statement.{goes, goes_to};
+ghost use Rattle.pml_value.specs.Takes.{IsIn};
 ghost use Rattle.pml_steps.specs.Arguments.{Stops};
 
 use diagnostics::{Fault, Stop};

@@ -2,11 +2,13 @@
 
 ghost use Rattle.std.specs.Prelude.{◌≡◌, ◌∷◌, ◌++◌, [], drop, Ok, IfOk, IfErr, OnOk, OnErr};
 ghost use Rattle.std.specs.Option.{option_copied};
-ghost use Rattle.pml_store.specs.Store.{size_at, before};
-ghost use Rattle.pml_eval.specs.Pattern.{IsThere};
+ghost use Rattle.pml_store.specs.Store.{size_at};
+ghost use Rattle.pml_store.specs.Writing.{before};
+ghost use Rattle.pml_eval.specs.There.{IsThere};
 ghost use Rattle.pml_eval.specs.Value.{asked_by};
-ghost use Rattle.pml_value.specs.Messages.{goes_of, stores, stored_all, StoresSome};
-ghost use Rattle.pml_value.specs.Reads.{seen};
+ghost use Rattle.pml_value.specs.Messages.{goes_of, stores};
+ghost use Rattle.pml_value.specs.Storing.{stored_all, StoresSome};
+ghost use Rattle.pml_value.specs.Seen.{seen};
 ghost use Rattle.pml_steps.specs.Arguments.{Stops};
 ghost use Rattle.pml_steps.specs.Live.{StoresAll};
 ghost use Rattle.pml_steps.specs.Passing.{AreIn, Refuses, taken_by, passed_between};

@@ -5,7 +5,8 @@ use Rattle.std.proofs.lemmas.List.{length-map, get_or-drop, get_or-take, take-ap
 use Rattle.pml_store.specs.declared.place.Place.{Place}
 use Rattle.pml_store.specs.declared.store.Extent.{Extent}
 use Rattle.pml_store.specs.declared.store.FrameExtents.{FrameExtents}
-use Rattle.pml_store.specs.Store.{Frame, Cells, frame_at, cells_at, number_at, HasPlace, flat, joined, index_of, size_at}
+use Rattle.pml_store.specs.Store.{Frame, Cells, frame_at, cells_at, number_at, size_at}
+use Rattle.pml_store.specs.Writing.{HasPlace, flat, joined, index_of}
 use Rattle.pml_store.specs.Laid.{cells_of, frame_of, frames_of, nowhere, no_frame, frame_extents_at, extent_of, ExtentsLie, extents_end, FramesLie, frames_end, IsLaid}
 
 pub frame_is : (os : List FrameExtents) (cells : List ℤ) (o : ℕ) → frame_at (frames_of os cells) o ≡ frame_of cells (frame_extents_at os o)

@@ -1,23 +1,20 @@
 -- A store: what each frame's variables hold.
-use Rattle.std.specs.Prelude.{◌≡◌, ℕ, ◌+◌, ◌-◌, ◌<◌, Bool, ◌&&◌, nat_eq, ltb, if◌then◌else◌, List, [], ◌∷◌, ◌++◌, length, take, ℤ, pos, slice_set, slice_index_or, map, replicate}
+use Rattle.std.specs.Prelude.{ℕ, List, [], length, ℤ, pos, slice_set, slice_index_or, map, replicate}
 use Rattle.pml_store.specs.declared.place.Place.{Place}
 
 -- the cells of a variable; the variables of a frame; the frames
 abbrev pub Cells : Type 0
 Cells = List ℤ
 
+-- the variables of one owner, each with its cells
 abbrev pub Frame : Type 0
 Frame = List Cells
 
--- the cells that were stored are known by their index, with the number before; and how many cells there may be at most
-pub record Contents : Type 0 where
-  pub frames : List Frame
-  pub written : List (ℕ × ℤ)
-  pub most : ℕ
-
+-- a frame by its number; empty, where there is none
 abbrev pub frame_at : List Frame → ℕ → Frame
 frame_at frames frame = slice_index_or frames frame []
 
+-- the cells of the variable that a place lies in; none, where there is no such variable
 abbrev pub cells_at : List Frame → Place → Cells
 cells_at frames p = slice_index_or (frame_at frames p.frame) p.variable []
 
@@ -25,12 +22,7 @@ cells_at frames p = slice_index_or (frame_at frames p.frame) p.variable []
 abbrev pub size_at : List Frame → ℕ → ℕ → ℕ
 size_at frames frame variable = length (slice_index_or (frame_at frames frame) variable [])
 
--- the place is there
-pub record HasPlace (frames : List Frame) (p : Place) : Type 0 where
-  pub frame : p.frame < length frames
-  pub variable : p.variable < length (frame_at frames p.frame)
-  pub cell : p.cell < length (cells_at frames p)
-
+-- the number at a place; 0, where there is none
 abbrev pub number_at : List Frame → Place → ℤ
 number_at frames p = slice_index_or (cells_at frames p) p.cell (pos 0)
 
@@ -39,62 +31,6 @@ abbrev pub with_number : List Frame → Place → ℤ → List Frame
 with_number frames p v =
     slice_set frames p.frame (slice_set (frame_at frames p.frame) p.variable (slice_set (cells_at frames p) p.cell v))
 
--- all numbers, frame by frame
-abbrev pub flat : Frame → List ℤ
-flat [] = []
-flat (v ∷ vs) = v ++ flat vs
-
-abbrev pub joined : List Frame → List ℤ
-joined [] = []
-joined (f ∷ fs) = flat f ++ joined fs
-
--- where a place stands among them
-abbrev pub index_of : List Frame → Place → ℕ
-index_of frames p = length (joined (take p.frame frames)) + (length (flat (take p.variable (frame_at frames p.frame))) + p.cell)
-
--- one place has another number, and the log what it had before
-abbrev pub stored : Contents → Place → ℤ → Contents
-stored s p v = record s { frames = with_number s.frames p v; written = s.written ++ (index_of s.frames p, number_at s.frames p) ∷ [] }
-
 -- variables of these sizes, each cell 0
 abbrev pub zeros : List ℕ → Frame
 zeros sizes = map (λ n. replicate n (pos 0)) sizes
-
--- without the youngest frame
-abbrev pub but_last : List Frame → List Frame
-but_last frames = take (length frames - 1) frames
-
-abbrev pub is_same : Place → Place → Bool
-is_same p q = nat_eq p.frame q.frame && (nat_eq p.variable q.variable && nat_eq p.cell q.cell)
-
--- ---- a log of writes
-
--- a frame's variables with another number in the cell of an index among theirs, if they have as many
-abbrev pub frame_with : Frame → ℕ → ℤ → Frame
-frame_with [] i v = []
-frame_with (c ∷ cs) i v = if ltb i (length c) then slice_set c i v ∷ cs else c ∷ frame_with cs (i - length c) v
-
--- the same among all
-abbrev pub index_with : List Frame → ℕ → ℤ → List Frame
-index_with [] i v = []
-index_with (f ∷ fs) i v = if ltb i (length (flat f)) then frame_with f i v ∷ fs else f ∷ index_with fs (i - length (flat f)) v
-
--- the frames before writes, by the indices and the numbers before them: the last write is undone first
-abbrev pub undone : List Frame → List (ℕ × ℤ) → List Frame
-undone frames [] = frames
-undone frames (w ∷ ws) = index_with (undone frames ws) w.0 w.1
-
--- the frames before the writes of the log
-abbrev pub before : Contents → List Frame
-before now = undone now.frames now.written
-
--- ---- laws
-
--- to store a number changes what one place holds, and no other
-abbrev pub OnePlaceChanges : Type 0
-OnePlaceChanges = (frames : List Frame) (p q : Place) (v : ℤ) → HasPlace frames p →
-    number_at (with_number frames p v) q ≡ (if is_same p q then v else number_at frames q)
-
--- the frames before a write are those before the writes of the log
-abbrev pub LeadsBack : Type 0
-LeadsBack = (now : Contents) (p : Place) (v : ℤ) → HasPlace now.frames p → before (stored now p v) ≡ before now

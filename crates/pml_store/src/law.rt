@@ -2,7 +2,8 @@
 
 ghost use Rattle.std.specs.Prelude.{◌≡◌, ◌<◌, ℕ, List, [], map, length};
 ghost use Rattle.pml_store.specs.declared.place.Place.{Place};
-ghost use Rattle.pml_store.specs.Store.{Frame, Contents, HasPlace, size_at, before, OnePlaceChanges, LeadsBack};
+ghost use Rattle.pml_store.specs.Store.{Frame, size_at};
+ghost use Rattle.pml_store.specs.Writing.{Contents, HasPlace, before, OnePlaceChanges, LeadsBack};
 
 /// To store a number changes what one place holds, and no other.
 pub fn one_place()

@@ -1,7 +1,8 @@
 //! All numbers in one vector, the youngest frame last.
 
 ghost use Rattle.std.specs.Prelude.{◌≡◌, ◌+◌, ◌<◌, ◌≤◌, ◌++◌, ◌∷◌, [], length, OnOk, OnErr, IfOk, sum, slice_index_or, pos};
-ghost use Rattle.pml_store.specs.Store.{HasPlace, number_at, index_of, size_at, stored, before, zeros, joined, but_last};
+ghost use Rattle.pml_store.specs.Store.{number_at, size_at, zeros};
+ghost use Rattle.pml_store.specs.Writing.{HasPlace, index_of, stored, before, joined, but_last};
 ghost use Rattle.pml_store.specs.Laid.{nowhere, extent_of, extents_of};
 
 use crate::place::Place;
@@ -33,7 +34,7 @@ pub struct Store {
 }
 
 impl Model for Store {
-    ghost use Rattle.pml_store.specs.Store.{Contents};
+    ghost use Rattle.pml_store.specs.Writing.{Contents};
     ghost use Rattle.pml_store.specs.Laid.{frames_of, IsKept};
 
     ghost Value = { Contents };

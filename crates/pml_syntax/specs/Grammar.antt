@@ -50,6 +50,7 @@ bang k.Bang = Some orders.Fifo
 bang k.BangBang = Some orders.Sorted
 bang _ = None
 
+-- the type that a word names
 abbrev pub scalar : Kind → Option Scalar
 scalar k.Bit = Some scalars.Bit
 scalar k.Bool = Some scalars.Bool
@@ -61,17 +62,20 @@ scalar k.Short = Some scalars.Short
 scalar k.Int = Some scalars.Int
 scalar _ = None
 
+-- `hidden`, `show` or `local`
 abbrev pub is_visibility : Kind → Bool
 is_visibility k.Hidden = true
 is_visibility k.Show = true
 is_visibility k.Local = true
 is_visibility _ = false
 
+-- `xr` or `xs`
 abbrev pub is_exclusive : Kind → Bool
 is_exclusive k.Xr = true
 is_exclusive k.Xs = true
 is_exclusive _ = false
 
+-- `;` or `->`
 abbrev pub is_separator : Kind → Bool
 is_separator k.Semicolon = true
 is_separator k.Arrow = true
@@ -79,15 +83,19 @@ is_separator _ = false
 
 -- ---- the trees, by their parts
 
+-- `run name(arguments)`
 abbrev pub run_of : Word → List Expr → Run
 run_of name arguments = record { name = name; arguments = arguments }
 
+-- a variable of a sort, with its name, its size in brackets and its initialiser
 abbrev pub variable_of : Sort → Word → Option Expr → Option Initial → Variable
 variable_of sort name size initial = record { sort = sort; name = name; size = size; initial = initial }
 
+-- a statement with its labels and the tokens that are shown of it
 abbrev pub item_of : List Word → Basic → List Word → Item
 item_of labels basic tokens = roll-Item (record { labels = labels; basic = basic; tokens = tokens })
 
+-- statements one behind another
 abbrev pub seq_of : List Item → Seq
 seq_of items = roll-Seq (record { items = items })
 
@@ -96,26 +104,33 @@ seq_of items = roll-Seq (record { items = items })
 abbrev pub counter_of : ℕ → Reference → List Word → Counter
 counter_of line i tokens = record { line = line; set = i; compared = i; raised = i; tokens = tokens }
 
+-- the first or the last value of a range, with its tokens
 abbrev pub bound_of : Expr → List Word → Bound
 bound_of value tokens = record { value = value; tokens = tokens }
 
+-- what is counted, from a first value up to a last one
 abbrev pub range_of : Counter → Bound → Bound → Range
 range_of counter first last = record { counter = counter; first = first; last = last }
 
+-- a proctype, with the token that closes it
 abbrev pub proctype_of : Starts → Word → List Variable → Seq → Word → Proctype
 proctype_of starts name parameters body end = record { starts = starts; name = name; parameters = parameters; body = body; end = end }
 
+-- the units of a model
 abbrev pub tree_of : List ModelUnit → Tree
 tree_of units = record { units = units }
 
+-- a name is one token
 pub data SpellsName : Word → List Word → List Word → Type 0 where
   name : {n : Word} {to : List Word} → n.kind ≡ k.Name → SpellsName n (n ∷ to) to
 
+-- the word of a type
 pub data SpellsScalar : Scalar → List Word → List Word → Type 0 where
   scalar_type : {w : Word} {s : Scalar} {to : List Word} → scalar w.kind ≡ Some s → SpellsScalar s (w ∷ to) to
 
 -- ---- statements without a structure. Their first argument says that they end with `}`, `fi`, `od` or `else`.
 
+-- `run` of a proctype with its arguments, in parentheses or without
 pub data SpellsRun : Run → List Word → List Word → Type 0 where
   run_nothing : {r n o c : Word} {to : List Word} → r.kind ≡ k.Run → n.kind ≡ k.Name → o.kind ≡ k.OpenParen → c.kind ≡ k.CloseParen
       → SpellsRun (run_of n []) (r ∷ n ∷ o ∷ c ∷ to) to
@@ -167,15 +182,18 @@ pub data SpellsAction : Bool → Action → List Word → List Word → Type 0 w
 
 -- ---- declarations. Here too the first argument says that they end with `}`.
 
+-- at most one word that says who sees a variable, which means nothing here
 pub data SpellsVisibility : List Word → List Word → Type 0 where
   no_visibility : {to : List Word} → SpellsVisibility to to
   visibility : {w : Word} {to : List Word} → is_visibility w.kind ≡ true → SpellsVisibility (w ∷ to) to
 
+-- what a declaration begins with: the word of a type, `unsigned`, or the name of a typedef
 pub data SpellsOpener : Opener → List Word → List Word → Type 0 where
   of_scalar : {w : Word} {s : Scalar} {to : List Word} → scalar w.kind ≡ Some s → SpellsOpener (opener.Plain s) (w ∷ to) to
   of_unsigned : {w : Word} {to : List Word} → w.kind ≡ k.Unsigned → SpellsOpener opener.Unsigned (w ∷ to) to
   of_typedef : {w : Word} {to : List Word} → w.kind ≡ k.Name → SpellsOpener (opener.Named w) (w ∷ to) to
 
+-- an initialiser: none, a value, or a channel with its capacity and its types
 pub data SpellsInitial : Bool → Option Initial → List Word → List Word → Type 0 where
   no_initial : {to : List Word} → SpellsInitial false None to to
   value : {o : Word} {x : Expr} {from to : List Word} → o.kind ≡ k.Assign → SpellsExpr 1 x from to → SpellsInitial false (Some (ini.Value x)) (o ∷ from) to
@@ -184,6 +202,7 @@ pub data SpellsInitial : Bool → Option Initial → List Word → List Word →
       → f.kind ≡ k.Of → d.kind ≡ k.OpenBrace → SpellsList SpellsScalar ss types (z ∷ to) → z.kind ≡ k.CloseBrace
       → SpellsInitial true (Some (ini.Channel x ss)) (w ∷ o ∷ from) to
 
+-- a variable of a declaration, behind its type
 pub data SpellsVariable : Bool → Opener → Variable → List Word → List Word → Type 0 where
   plain : {closed : Bool} {s : Scalar} {n : Word} {x : Option Expr} {i : Option Initial} {from middle to : List Word} → n.kind ≡ k.Name
       → SpellsIndex x from middle → SpellsInitial closed i middle to
@@ -196,6 +215,7 @@ pub data SpellsVariable : Bool → Opener → Variable → List Word → List Wo
       → SpellsExpr 1 x from to
       → SpellsVariable false opener.Unsigned (variable_of (sort.Unsigned w) n None (Some (ini.Value x))) (n ∷ c ∷ w ∷ o ∷ from) to
 
+-- variables of one type, with commas between
 pub data SpellsVariables : Bool → Opener → List Variable → List Word → List Word → Type 0 where
   last_variable : {closed : Bool} {f : Opener} {v : Variable} {from to : List Word} → SpellsVariable closed f v from to
       → SpellsVariables closed f (v ∷ []) from to
@@ -203,6 +223,7 @@ pub data SpellsVariables : Bool → Opener → List Variable → List Word → L
       → SpellsVariable closed f v from (c ∷ middle) → c.kind ≡ k.Comma → SpellsVariables later f vs middle to
       → SpellsVariables later f (v ∷ vs) from to
 
+-- a declaration: its type, and its variables
 pub data SpellsDeclaration : Bool → List Variable → List Word → List Word → Type 0 where
   declaration : {closed : Bool} {f : Opener} {vs : List Variable} {from typed named to : List Word} → SpellsVisibility from typed
       → SpellsOpener f typed named → SpellsVariables closed f vs named to
@@ -233,9 +254,11 @@ comparing o word i named y = item_of [] (b.Plain (a.Holds (e.Binary o (e.Read i)
 abbrev pub raising : ℕ → Reference → List Word → Item
 raising line i named = item_of [] (b.Plain (a.Increment i)) (named ++ made k.Increment (codes "++") line ∷ [])
 
+-- `else`
 abbrev pub otherwise_item : ℕ → Item
 otherwise_item line = item_of [] (b.Plain a.Else) (made k.Else (codes "else") line ∷ [])
 
+-- `break`
 abbrev pub breaking : ℕ → Item
 breaking line = item_of [] b.Break (made k.Break (codes "break") line ∷ [])
 
@@ -251,6 +274,7 @@ at_most line compared named y = comparing op.AtMost (made k.AtMost (codes "<=") 
 abbrev pub for_on : ℕ → Reference → Reference → List Word → Bound → List Item → Seq
 for_on line compared raised named y s = seq_of (at_most line compared named y ∷ s ++ raising line raised named ∷ [])
 
+-- `:: else -> break`
 abbrev pub for_out : ℕ → Seq
 for_out line = seq_of (otherwise_item line ∷ breaking line ∷ [])
 
@@ -258,6 +282,7 @@ for_out line = seq_of (otherwise_item line ∷ breaking line ∷ [])
 abbrev pub select_on : ℕ → Reference → Reference → List Word → Bound → Seq
 select_on line compared raised named y = seq_of (comparing op.Below (made k.Less (codes "<") line) compared named y ∷ raising line raised named ∷ [])
 
+-- `:: break`
 abbrev pub select_out : ℕ → Seq
 select_out line = seq_of (breaking line ∷ [])
 
@@ -275,6 +300,7 @@ select_of r =
 
 -- ---- bodies
 
+-- any number of `;` and `->`
 pub data SpellsSeparators : List Word → List Word → Type 0 where
   no_separator : {to : List Word} → SpellsSeparators to to
   one_separator : {s : Word} {from to : List Word} → is_separator s.kind ≡ true → SpellsSeparators from to → SpellsSeparators (s ∷ from) to
@@ -284,6 +310,7 @@ pub data SpellsGap : Bool → List Word → List Word → Type 0 where
   separated : {closed : Bool} {s : Word} {from to : List Word} → is_separator s.kind ≡ true → SpellsSeparators from to → SpellsGap closed (s ∷ from) to
   joined : {to : List Word} → SpellsGap true to to
 
+-- labels, each with its colon
 pub data SpellsLabels : List Word → List Word → List Word → Type 0 where
   no_label : {to : List Word} → SpellsLabels [] to to
   one_label : {n c : Word} {labels from to : List Word} → n.kind ≡ k.Name → c.kind ≡ k.Colon → SpellsLabels labels from to
@@ -347,6 +374,7 @@ pub data SpellsBody : List Item → List Word → List Word → Type 0 where
 
 -- ---- units
 
+-- any number of `;`
 pub data SpellsSemicolons : List Word → List Word → Type 0 where
   no_semicolon : {to : List Word} → SpellsSemicolons to to
   one_semicolon : {s : Word} {from to : List Word} → s.kind ≡ k.Semicolon → SpellsSemicolons from to → SpellsSemicolons (s ∷ from) to
@@ -379,18 +407,21 @@ pub data SpellsMoreParameters : Opener → List Variable → List Word → List 
       → SpellsVisibility from typed → SpellsOpener t typed named
       → SpellsParameter t v named middle → SpellsMoreParameters t vs middle to → SpellsMoreParameters f (v ∷ vs) (c ∷ from) to
 
+-- the parameters of a proctype
 pub data SpellsParameters : List Variable → List Word → List Word → Type 0 where
   no_parameters : {to : List Word} → SpellsParameters [] to to
   parameters : {t : Opener} {v : Variable} {vs : List Variable} {from typed named middle to : List Word} → SpellsVisibility from typed
       → SpellsOpener t typed named → SpellsParameter t v named middle
       → SpellsMoreParameters t vs middle to → SpellsParameters (v ∷ vs) from to
 
+-- whether a proctype is `active`, and how many processes begin with it
 pub data SpellsStarts : Starts → List Word → List Word → Type 0 where
   never : {to : List Word} → SpellsStarts starts.Never to to
   once : {w : Word} {to : List Word} → w.kind ≡ k.Active → SpellsStarts starts.Once (w ∷ to) to
   times : {w o c : Word} {x : Expr} {from to : List Word} → w.kind ≡ k.Active → o.kind ≡ k.OpenBracket → SpellsExpr 1 x from (c ∷ to)
       → c.kind ≡ k.CloseBracket → SpellsStarts (starts.Times x) (w ∷ o ∷ from) to
 
+-- one unit of a model
 pub data SpellsUnit : ModelUnit → List Word → List Word → Type 0 where
   variables : {closed : Bool} {vs : List Variable} {from to : List Word} → SpellsDeclaration closed vs from to → SpellsUnit (u.Variables vs) from to
   constants : {w o c : Word} {ns from to : List Word} → w.kind ≡ k.Mtype → o.kind ≡ k.OpenBrace → SpellsList SpellsName ns from (c ∷ to)

@@ -15,8 +15,10 @@ use Rattle.pml_control.proofs.Covering.{covered_at}
 use Rattle.pml_control.proofs.Circling.{got}
 use Rattle.pml_flow.specs.Points.{points_of, point_at}
 use Rattle.pml_flow.specs.Statements.{statement_at, stated}
-use Rattle.pml_flow.specs.Marks.{has_end, IsValidEnd, at_end, by_label}
-use Rattle.pml_flow.specs.Flow.{same_turns, same_place, Placed, IsGraph, Graph, is_end_at}
+use Rattle.pml_flow.specs.Marks.{has_end}
+use Rattle.pml_flow.specs.Marked.{IsValidEnd, at_end, by_label}
+use Rattle.pml_flow.specs.Flow.{same_turns, same_place}
+use Rattle.pml_flow.specs.Graph.{Placed, IsGraph, Graph, is_end_at}
 use Rattle.pml_flow.proofs.Begun.{begun}
 use Rattle.pml_flow.proofs.Beginning.{read}
 use Rattle.pml_flow.proofs.Differing.{placed}

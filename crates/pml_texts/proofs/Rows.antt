@@ -12,7 +12,8 @@ use Rattle.pml_moves.specs.State.{Stand, State}
 use Rattle.pml_moves.specs.Search.{pick}
 use Rattle.pml_moves.proofs.Samples.{yes, timeout, otherwise, sends, receives}
 use Rattle.pml_texts.specs.Ends.{is_valid}
-use Rattle.pml_texts.specs.Texts.{move_text, origin_of, stuck, stuck_of}
+use Rattle.pml_texts.specs.Texts.{move_text, origin_of, stuck}
+use Rattle.pml_texts.specs.Staying.{stuck_of}
 use Rattle.pml_texts.proofs.Samples.{word, labelled, said, body, proctype, init, before, closed, state}
 
 -- ---- moves

@@ -8,7 +8,8 @@ use Rattle.pml_moves.specs.declared.moves.Move.{Move}
 use Rattle.pml_moves.specs.declared.moves.Move.TheVariants.{Death, Alone, Pair}
 use Rattle.pml_moves.specs.State.{Stand, State, body_of, levels_in}
 use Rattle.pml_moves.specs.Picked.{offer_on, offer_at}
-use Rattle.pml_texts.specs.Texts.{kind_of, offer_text, death_text, pick_text, move_text, IsWithin}
+use Rattle.pml_texts.specs.Texts.{kind_of, offer_text, death_text, pick_text, move_text}
+use Rattle.pml_texts.specs.Staying.{IsWithin}
 
 get_left : {X : Type 0} (xs ys : List X) (k : ℕ) → k < length xs → slice_get (xs ++ ys) k ≡ slice_get xs k
 get_left [] ys k h = absurd (omega (arith, h))

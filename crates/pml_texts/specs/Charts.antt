@@ -1,7 +1,7 @@
 -- Proctypes with their graphs.
 use Rattle.std.specs.Prelude.{ℕ, List}
 use Rattle.std.specs.Borrow.{Bor}
-use Rattle.pml_flow.specs.Flow.{IsGraph}
+use Rattle.pml_flow.specs.Graph.{IsGraph}
 use Rattle.pml_texts.specs.declared.ends.Chart.{Chart}
 
 -- the graph is that of the proctype

@@ -30,6 +30,7 @@ abbrev pub may_end_in : Option Seq → Control → Bool
 may_end_in None c = true
 may_end_in (Some b) c = may_end b c
 
+-- a process may end where it stands
 abbrev pub is_done : Program → Stand → Bool
 is_done pr y = may_end_in (body_of pr y.kind) y.control
 

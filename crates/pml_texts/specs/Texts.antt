@@ -1,6 +1,6 @@
 -- The texts of moves and where they come from, and the texts of the processes where a run does not end well. What is not there has
 -- no text.
-use Rattle.std.specs.Prelude.{◌≡◌, ℕ, ◌<◌, List, [], length, ◌∷◌, ◌++◌, Option, Some, None, if◌then◌else◌, slice_get, codes}
+use Rattle.std.specs.Prelude.{ℕ, List, [], ◌∷◌, ◌++◌, Option, Some, None, if◌then◌else◌, slice_get, codes}
 use Rattle.std.specs.Fmt.{decimal}
 use Rattle.profile.specs.Characters.{line_feed}
 use Rattle.pml_program.specs.declared.program.Proctype.{Proctype}
@@ -36,6 +36,7 @@ line n = codes "line " ++ decimal n
 
 -- ---- moves
 
+-- the text of an offer of a process, behind its heading
 abbrev pub offer_text : ℕ → Option Proctype → Option Offer → List ℕ
 offer_text p (Some q) (Some o) = heading p q ++ o.text
 offer_text p q o = []
@@ -84,37 +85,10 @@ abbrev pub stuck_at : ℕ → Option Proctype → Control → List ℕ
 stuck_at p None c = []
 stuck_at p (Some q) c = if may_end q.body c then [] else stuck_line p q (line_at q.body q.end.line c)
 
+-- the line of a process that is stuck where it stands
 abbrev pub stuck_by : Program → ℕ → Stand → List ℕ
 stuck_by pr p y = stuck_at p (slice_get pr.proctypes y.kind) y.control
 
 -- of each process, in their order
 abbrev pub stuck : State → List ℕ
 stuck s = each (stuck_by s.program) 0 s.stands
-
--- where a process may not end: the name of its proctype, and the line of what stands first
-abbrev pub stuck_in : Option Proctype → Control → Option (List ℕ × ℕ)
-stuck_in None c = None
-stuck_in (Some q) c = if may_end q.body c then None else Some (proctype_name q.name, line_at q.body q.end.line c)
-
-abbrev pub stuck_place : Program → Option Stand → Option (List ℕ × ℕ)
-stuck_place pr None = None
-stuck_place pr (Some y) = stuck_in (slice_get pr.proctypes y.kind) y.control
-
--- process p, where it lives and may not end where it stands
-abbrev pub stuck_of : State → ℕ → Option (List ℕ × ℕ)
-stuck_of s p = stuck_place s.program (slice_get s.stands p)
-
--- ---- which processes a move names
-
--- only some of the first n
-abbrev pub IsWithin : ℕ → Move → Type 0
-IsWithin n (Death p) = p < n
-IsWithin n (Alone k t) = k.process < n
-IsWithin n (Pair k j t) = (k.process < n) × (j.process < n)
-
--- ---- a law
-
--- The text of a move stays while no process but younger ones come.
-abbrev pub TextsStay : Type 0
-TextsStay = (s t : State) (more : List Stand) (m : Move) → t.program ≡ s.program → t.stands ≡ s.stands ++ more →
-    IsWithin (length s.stands) m → move_text t m ≡ move_text s m

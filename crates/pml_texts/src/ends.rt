@@ -6,7 +6,8 @@ ghost use Rattle.pml_flow.specs.Points.{point_at};
 ghost use Rattle.pml_flow.specs.Marks.{line_at};
 ghost use Rattle.pml_moves.specs.Scene.{stand_of};
 ghost use Rattle.pml_texts.specs.Ends.{may_end as may_end_at, is_done as done_at, is_valid as ends_well};
-ghost use Rattle.pml_texts.specs.Texts.{stuck_line, stuck_at, stuck_by, stuck, stuck_in, stuck_place, stuck_of};
+ghost use Rattle.pml_texts.specs.Texts.{stuck_line, stuck_at, stuck_by, stuck};
+ghost use Rattle.pml_texts.specs.Staying.{stuck_in, stuck_place, stuck_of};
 ghost use Rattle.pml_texts.specs.Charts.{HasGraph, told};
 
 use crate::place::{add_heading, add_line, name_of};

@@ -3,10 +3,10 @@
 ghost use Rattle.std.specs.Prelude.{MatchBool};
 ghost use Rattle.pml_program.specs.declared.program.Seq.{Seq};
 ghost use Rattle.pml_control.specs.Control.{Control};
-ghost use Rattle.pml_flow.specs.Marks.{IsValidEnd};
-ghost use Rattle.pml_flow.specs.Flow.{Placed};
+ghost use Rattle.pml_flow.specs.Marked.{IsValidEnd};
+ghost use Rattle.pml_flow.specs.Graph.{Placed};
 ghost use Rattle.pml_texts.specs.Ends.{may_end};
-ghost use Rattle.pml_texts.specs.Texts.{TextsStay};
+ghost use Rattle.pml_texts.specs.Staying.{TextsStay};
 
 /// At a point of a body a process may end exactly where that is a valid end point.
 pub fn ends_are_valid()

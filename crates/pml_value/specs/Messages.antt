@@ -1,11 +1,9 @@
 -- What a send and a receive do to channels and variables, taken by one process alone, and what an `assert` does.
-use Rattle.std.specs.Prelude.{◌≡◌, ℕ, zero, suc, ◌&&◌, if◌then◌else◌, nat_eq, nat_le, nat_lt, length, map, List, [], ◌∷◌, ◌++◌, ℤ, pos, Option, Some, None, Result, Ok, Err, slice_index_or, remove}
+use Rattle.std.specs.Prelude.{ℕ, zero, suc, ◌&&◌, if◌then◌else◌, nat_eq, nat_le, nat_lt, length, map, List, [], ◌∷◌, ◌++◌, ℤ, pos, Option, Some, None, Result, Ok, Err, slice_index_or, remove}
 use Rattle.std.specs.List.{position_from}
 use Rattle.profile.specs.declared.TheConstants.{MOST_FIELDS}
 use Rattle.diagnostics.specs.declared.fault.Fault.{Fault}
 use Rattle.diagnostics.specs.declared.fault.Fault.TheVariants.{AssertionViolated, NoSuchChannel, WrongNumberOfFields}
-use Rattle.diagnostics.specs.declared.stop.Stop.{Stop}
-use Rattle.diagnostics.specs.declared.stop.Stop.TheVariants as stop
 use Rattle.pml_tree.specs.declared.tree.SendOrder.{SendOrder}
 use Rattle.pml_tree.specs.declared.tree.SendOrder.TheVariants.{Fifo, Sorted}
 use Rattle.pml_tree.specs.declared.tree.Search.{Search}
@@ -21,7 +19,6 @@ use Rattle.pml_eval.specs.Clip.{clipped}
 use Rattle.pml_eval.specs.Operators.{is_zero}
 use Rattle.pml_eval.specs.Pattern.{matched}
 use Rattle.pml_eval.specs.Value.{Reading, val, place, asked_by, ◌>>=◌}
-use Rattle.pml_store.specs.Store.{Contents, size_at, stored}
 use Rattle.pml_channel.specs.State.{ChannelState, cut, sorted_in}
 use Rattle.pml_value.specs.declared.live_channel.LiveChannel.{LiveChannel}
 use Rattle.pml_value.specs.declared.statement.Goes.{Goes}
@@ -44,6 +41,7 @@ with_fields count n (Some c) =
 abbrev pub named : List LiveChannel → Reading → Target → ℕ → Result ℕ Fault
 named cs r t count = place t r >>= λ at. with_fields count (r.holds at) (channel_at cs (r.holds at))
 
+-- a channel that keeps nothing and has no fields
 abbrev pub no_channel : ChannelState
 no_channel = record { capacity = 0; types = []; messages = [] }
 
@@ -82,15 +80,6 @@ addressed cs r t es = named cs r t (length es) >>= λ n. values es r >>= λ vs. 
 abbrev pub sent : List LiveChannel → Reading → Target → SendOrder → List Expr → Result (List LiveChannel) Fault
 sent cs r t order es = addressed cs r t es >>= λ m. Ok (changed m.0 (with_message order m.1) cs)
 
--- the message is put; or nothing changes, for the fault, which is answered, or for want of memory
-abbrev pub SendsMessage : Result (List LiveChannel) Fault → Result (Unit {0}) Stop → List LiveChannel → List LiveChannel → Type 0
-SendsMessage (Ok cs) (Ok u) old new = new ≡ cs
-SendsMessage (Ok cs) (Err stop.Memory) old new = new ≡ old
-SendsMessage (Ok cs) (Err (stop.Fault f)) old new = ⊥
-SendsMessage (Err f) (Err (stop.Fault g)) old new = (g ≡ f) × (new ≡ old)
-SendsMessage (Err f) (Err stop.Memory) old new = ⊥
-SendsMessage (Err f) (Ok u) old new = ⊥
-
 -- ---- a receive
 
 -- the place of the message that is received: the oldest if it matches, or the first that does
@@ -104,14 +93,10 @@ abbrev pub goes_of : Sought → ℤ → List Goes
 goes_of (Into p form) x = record { place = p; number = clipped form x } ∷ []
 goes_of w x = []
 
+-- what a receive stores of the fields of a message
 abbrev pub stores : List Sought → List ℤ → List Goes
 stores (w ∷ ws) (x ∷ xs) = goes_of w x ++ stores ws xs
 stores _ _ = []
-
--- one number after the other is stored
-abbrev pub stored_all : Contents → List Goes → Contents
-stored_all s [] = s
-stored_all s (g ∷ gs) = stored_all (stored s g.place g.number) gs
 
 -- what a receive does: the numbers that it stores, from left to right, and what it leaves of the live channels
 pub record Received : Type 0 where
@@ -123,6 +108,7 @@ abbrev pub without : Removal → ℕ → ChannelState → ChannelState
 without Remove n c = record c { messages = remove c.messages n }
 without Keep n c = c
 
+-- what a receive takes of the message at this place, and the channels that are left
 abbrev pub taken_from : List LiveChannel → ℕ → Removal → List Sought → Option ℕ → Received
 taken_from cs n how ws None = record { numbers = []; live = cs }
 taken_from cs n how ws (Some m) = record {
@@ -142,34 +128,6 @@ asked_at cs r t ws = named cs r t (length ws) >>= λ n. asked_by ws r >>= λ ss.
 -- Where no message is found nothing is done (no process receives from it).
 abbrev pub received : List LiveChannel → Reading → Target → Search → Removal → List Want → Result Received Fault
 received cs r t search how ws = asked_at cs r t ws >>= λ x. Ok (taken_at cs x.0 search how x.1)
-
--- each variable has as many cells as before
-abbrev pub AreAsLarge : Contents → Contents → Type 0
-AreAsLarge old new = (frame variable : ℕ) → size_at new.frames frame variable ≡ size_at old.frames frame variable
-
--- a beginning of what is to be stored is stored
-pub record StoresSome (old new : Contents) (all : List Goes) : Type 0 where
-  pub before : List Goes
-  pub after : List Goes
-  pub parts : all ≡ before ++ after
-  pub stands : new ≡ stored_all old before
-
--- all numbers are stored, and the channels are as it leaves them
-abbrev pub AllReceived : Received → Contents → Contents → List LiveChannel → Type 0
-AllReceived x old new ds = (new ≡ stored_all old x.numbers) × (ds ≡ x.live)
-
--- a part of the numbers is stored, and the channels stay
-abbrev pub PartReceived : Received → Contents → Contents → List LiveChannel → List LiveChannel → Type 0
-PartReceived x old new cs ds = StoresSome old new x.numbers × (ds ≡ cs)
-
--- it is done; or nothing changes, and the fault is answered; or for want of memory the channels stay and a part of the numbers is stored
-abbrev pub ReceivesMessage : Result Received Fault → Result (Unit {0}) Stop → Contents → Contents → List LiveChannel → List LiveChannel → Type 0
-ReceivesMessage (Ok x) (Ok u) old new cs ds = AllReceived x old new ds
-ReceivesMessage (Ok x) (Err stop.Memory) old new cs ds = PartReceived x old new cs ds
-ReceivesMessage (Ok x) (Err (stop.Fault f)) old new cs ds = ⊥
-ReceivesMessage (Err f) (Err (stop.Fault g)) old new cs ds = (g ≡ f) × (new ≡ old) × (ds ≡ cs)
-ReceivesMessage (Err f) (Err stop.Memory) old new cs ds = ⊥
-ReceivesMessage (Err f) (Ok u) old new cs ds = ⊥
 
 -- ---- an assert
 

@@ -3,8 +3,6 @@ use Rattle.std.specs.Prelude.{ℕ, zero, suc, ◌+◌, Bool, if◌then◌else◌
 use Rattle.pml_eval.specs.Value.{Reading, Filling}
 use Rattle.pml_store.specs.Store.{Frame, size_at, number_at}
 use Rattle.pml_channel.specs.State.{ChannelState}
-use Rattle.pml_value.specs.declared.view.Taker.{Taker}
-use Rattle.pml_value.specs.declared.view.View.{View}
 use Rattle.pml_value.specs.declared.live_channel.LiveChannel.{LiveChannel}
 
 -- frame 0 has the globals, and frame n + 1 the variables of process n
@@ -17,6 +15,7 @@ channel_at channels (pos zero) = None
 channel_at channels (pos (suc n)) = option_map (λ o. o.channel) (slice_get channels n)
 channel_at channels (negsuc n) = None
 
+-- what an expression reads of a channel
 abbrev pub filling : ChannelState → Filling
 filling c = record { capacity = c.capacity; fields = length c.types; messages = c.messages }
 
@@ -31,11 +30,3 @@ reading_of frames channels pid process_count timeout = record {
   timeout = timeout;
   channel = λ n. option_map filling (channel_at channels n);
 }
-
--- the same by who takes a statement
-abbrev pub read_by : List Frame → List LiveChannel → Taker → Reading
-read_by frames channels taker = reading_of frames channels taker.pid taker.process_count taker.timeout
-
--- what a view reads
-abbrev pub seen : View → Reading
-seen v = read_by v.store.now.frames v.channels.now v.taker

@@ -3,12 +3,13 @@ use Rattle.std.specs.Prelude.{List, Result}
 use Rattle.diagnostics.specs.declared.fault.Fault.{Fault}
 use Rattle.diagnostics.specs.declared.stop.Stop.{Stop}
 use Rattle.pml_eval.specs.Value.{Reading}
-use Rattle.pml_store.specs.Store.{Contents}
+use Rattle.pml_store.specs.Writing.{Contents}
 use Rattle.pml_value.specs.declared.live_channel.LiveChannel.{LiveChannel}
 use Rattle.pml_value.specs.declared.receive.Reception.{Reception}
 use Rattle.pml_value.specs.declared.view.Taker.{Taker}
-use Rattle.pml_value.specs.Reads.{read_by}
-use Rattle.pml_value.specs.Messages.{Received, ReceivesMessage, received}
+use Rattle.pml_value.specs.Seen.{read_by}
+use Rattle.pml_value.specs.Messages.{Received, received}
+use Rattle.pml_value.specs.Storing.{ReceivesMessage}
 
 abbrev pub received_by : List LiveChannel → Reading → Reception → Result Received Fault
 received_by cs r x = received cs r x.target.now x.search x.removal x.wants.now

@@ -1,5 +1,5 @@
 -- What an assignment, an increment, a decrement and a condition do.
-use Rattle.std.specs.Prelude.{◌≡◌, ◌<◌, List, ℤ, pos, negsuc, ◌+ℤ◌, Option, Some, None, Result, Ok, Err}
+use Rattle.std.specs.Prelude.{ℤ, pos, negsuc, ◌+ℤ◌, Option, Some, None, Result, Ok}
 use Rattle.diagnostics.specs.declared.fault.Fault.{Fault}
 use Rattle.pml_program.specs.declared.expr.Expr.{Expr}
 use Rattle.pml_program.specs.declared.expr.Target.{Target, out-Target}
@@ -8,14 +8,7 @@ use Rattle.pml_program.specs.declared.program.Action.TheVariants as a
 use Rattle.pml_eval.specs.Clip.{clipped}
 use Rattle.pml_eval.specs.Operators.{wrapped}
 use Rattle.pml_eval.specs.Value.{Reading, val, place, ◌>>=◌}
-use Rattle.pml_store.specs.Store.{Contents, Frame, size_at, stored}
 use Rattle.pml_value.specs.declared.statement.Goes.{Goes}
-use Rattle.diagnostics.specs.declared.stop.Stop.{Stop}
-use Rattle.diagnostics.specs.declared.stop.Stop.TheVariants as stop
-
--- a number goes to a cell of its variable, which has so many
-abbrev pub IsIn : List Frame → Goes → Type 0
-IsIn frames g = g.place.cell < size_at frames g.place.frame g.place.variable
 
 -- what the target's type keeps of a number, and the place that it goes to
 abbrev pub goes : Target → ℤ → Reading → Result Goes Fault
@@ -41,14 +34,3 @@ outcome (a.Increment t) r = counted t (pos 1) r
 outcome (a.Decrement t) r = counted t (negsuc 0) r
 outcome (a.Holds v) r = val v r >>= λ n. Ok None
 outcome s r = Ok None
-
--- what is to be stored is stored, or the fault is answered and nothing changes; want of memory changes nothing
-abbrev pub TakesStatement : Result (Option Goes) Fault → Result (Unit {0}) Stop → Contents → Contents → Type 0
-TakesStatement (Ok None) (Ok u) old new = new ≡ old
-TakesStatement (Ok None) (Err s) old new = ⊥
-TakesStatement (Ok (Some g)) (Ok u) old new = new ≡ stored old g.place g.number
-TakesStatement (Ok (Some g)) (Err stop.Memory) old new = new ≡ old
-TakesStatement (Ok (Some g)) (Err (stop.Fault f)) old new = ⊥
-TakesStatement (Err f) (Err (stop.Fault g)) old new = (g ≡ f) × (new ≡ old)
-TakesStatement (Err f) (Err stop.Memory) old new = ⊥
-TakesStatement (Err f) (Ok u) old new = ⊥

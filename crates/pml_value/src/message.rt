@@ -3,8 +3,9 @@
 ghost use Rattle.std.specs.Prelude.{◌≡◌, ◌<◌, ◌≤◌, [], Ok, Err, IfOk, IfErr, OnOk, OnErr, length};
 ghost use Rattle.profile.specs.declared.TheConstants.{MOST_FIELDS};
 ghost use Rattle.pml_value.specs.declared.few.TheConstants.{FEW_FIELDS};
-ghost use Rattle.pml_value.specs.Messages.{named, contents_at, changed, values, with_message, addressed, sent, SendsMessage, asserted};
-ghost use Rattle.pml_value.specs.Reads.{read_by, seen};
+ghost use Rattle.pml_value.specs.Messages.{named, contents_at, changed, values, with_message, addressed, sent, asserted};
+ghost use Rattle.pml_value.specs.Storing.{SendsMessage};
+ghost use Rattle.pml_value.specs.Seen.{read_by, seen};
 
 use crate::few::{FEW_FIELDS, FewFields};
 use crate::fields::Fields;

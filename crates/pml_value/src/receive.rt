@@ -1,13 +1,15 @@
 //! Receives that a process takes by itself (Holzmann, *The SPIN Model Checker*, chapter 3).
 
 ghost use Rattle.std.specs.Prelude.{◌≡◌, ◌<◌, ◌≤◌, [], Ok, Err, IfOk, IfErr, IfSome, OnOk, OnErr, length};
-ghost use Rattle.pml_store.specs.Store.{size_at, before};
+ghost use Rattle.pml_store.specs.Store.{size_at};
+ghost use Rattle.pml_store.specs.Writing.{before};
 ghost use Rattle.pml_eval.specs.Value.{asked_by};
 ghost use Rattle.pml_value.specs.declared.few.TheConstants.{FEW_FIELDS};
-ghost use Rattle.pml_eval.specs.Pattern.{IsThere, AreThere};
-ghost use Rattle.pml_value.specs.Messages.{contents_at, changed, found, goes_of, stores, stored_all, without, taken_at, asked_at, AreAsLarge, StoresSome, AllReceived, PartReceived};
+ghost use Rattle.pml_eval.specs.There.{IsThere, AreThere};
+ghost use Rattle.pml_value.specs.Messages.{contents_at, changed, found, goes_of, stores, without, taken_at, asked_at};
+ghost use Rattle.pml_value.specs.Storing.{stored_all, AreAsLarge, StoresSome, AllReceived, PartReceived};
 ghost use Rattle.pml_value.specs.Reception.{Receives};
-ghost use Rattle.pml_value.specs.Reads.{seen};
+ghost use Rattle.pml_value.specs.Seen.{seen};
 
 use crate::few::{FEW_FIELDS, FewSought};
 use crate::live_channel::LiveChannel;

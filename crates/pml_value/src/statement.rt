@@ -1,10 +1,11 @@
 //! Assignments, increments, decrements and conditions (Holzmann, *The SPIN Model Checker*, chapter 3).
 
 ghost use Rattle.std.specs.Prelude.{◌≡◌, IfOk, IfSome, Ok, Some};
-ghost use Rattle.pml_store.specs.Store.{before};
+ghost use Rattle.pml_store.specs.Writing.{before};
 ghost use Rattle.pml_eval.specs.Clip.{clipped};
-ghost use Rattle.pml_value.specs.Statement.{IsIn, goes, goes_to, assigned, counted, outcome, TakesStatement};
-ghost use Rattle.pml_value.specs.Reads.{read_by, seen};
+ghost use Rattle.pml_value.specs.Statement.{goes, goes_to, assigned, counted, outcome};
+ghost use Rattle.pml_value.specs.Takes.{IsIn, TakesStatement};
+ghost use Rattle.pml_value.specs.Seen.{read_by, seen};
 
 use crate::live_channel::LiveChannel;
 use crate::view::{Taker, View};

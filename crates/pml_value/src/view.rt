@@ -3,7 +3,8 @@
 ghost use Rattle.std.specs.Prelude.{◌≡◌, option_map};
 ghost use Rattle.std.specs.Option.{option_copied};
 ghost use Rattle.pml_eval.specs.Ground.{shown};
-ghost use Rattle.pml_value.specs.Reads.{frame_of, channel_at, filling, read_by, seen};
+ghost use Rattle.pml_value.specs.Reads.{frame_of, channel_at, filling};
+ghost use Rattle.pml_value.specs.Seen.{read_by, seen};
 
 use crate::live_channel::LiveChannel;
 use pml_channel::channel::Channel;
@@ -44,7 +45,7 @@ impl<'a> View<'a> {
 }
 
 impl Ground for View<'_> {
-    ghost use Rattle.pml_value.specs.Reads.{read_by};
+    ghost use Rattle.pml_value.specs.Seen.{read_by};
 
     ghost reading = { λ v. read_by v.store.now.frames v.channels.now v.taker };
 

@@ -11,7 +11,8 @@ use Rattle.pml_lines.specs.Changes.{proctype_name}
 use Rattle.pml_moves.specs.State.{State, Stand}
 use Rattle.pml_moves.specs.Search.{each}
 use Rattle.pml_texts.specs.Ends.{may_end, may_end_in, is_done}
-use Rattle.pml_texts.specs.Texts.{stuck_at, stuck_by, stuck_in, stuck_place}
+use Rattle.pml_texts.specs.Texts.{stuck_at, stuck_by}
+use Rattle.pml_texts.specs.Staying.{stuck_in, stuck_place}
 use Rattle.run_laws.specs.Stuck.{told_of, told_from}
 
 told_if : (p : ℕ) (b : Bool) (x : List ℕ × ℕ) → (if b then [] else told_of p (Some x)) ≡ told_of p (if b then None else Some x)

@@ -4,7 +4,8 @@ use Rattle.std.specs.Fmt.{decimal}
 use Rattle.profile.specs.Characters.{line_feed}
 use Rattle.pml_moves.specs.State.{State, Stand}
 use Rattle.pml_texts.specs.Ends.{is_valid}
-use Rattle.pml_texts.specs.Texts.{line, stuck, stuck_of, stuck_place}
+use Rattle.pml_texts.specs.Texts.{line, stuck}
+use Rattle.pml_texts.specs.Staying.{stuck_of, stuck_place}
 
 -- `at: proc P (NAME) line L`, of a process that may not end where it stands
 abbrev pub told_of : ℕ → Option (List ℕ × ℕ) → List ℕ

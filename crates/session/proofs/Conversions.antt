@@ -5,7 +5,8 @@ use Rattle.std.specs.List.{list_all}
 use Rattle.std.proofs.lemmas.Grind.{flat_map-append}
 use Rattle.std.proofs.lemmas.List.Sums.{sum_by-cons}
 use Rattle.std.proofs.KnownBytes.{Appends-nil}
-use Rattle.devices.specs.Holdings.{Holdings, Moved, RecordsPart, holding}
+use Rattle.devices.specs.Holdings.{Holdings, Moved}
+use Rattle.devices.specs.Doing.{RecordsPart, holding}
 use Rattle.session.specs.declared.Options.{Options}
 use Rattle.session.specs.declared.End.{End}
 use Rattle.session.specs.declared.Cause.TheVariants as cause
@@ -16,15 +17,16 @@ use Rattle.session.specs.declared.choice.Answer.TheVariants as answer
 use Rattle.session.specs.declared.form.Stream.{Stream}
 use Rattle.session.specs.declared.form.Stream.TheVariants.{Unread}
 use Rattle.session.specs.declared.form.Version.TheVariants.{First, Second}
-use Rattle.session.specs.Convert.{fits_line, IsConvertedBy, told_event, told_events, converted_event, converted_events, converted, noting, quiet, told, failure_converting}
+use Rattle.session.specs.Convert.{IsConvertedBy, converted_event, converted_events, converted}
+use Rattle.session.specs.Converting.{fits_line, told_event, told_events, noting, quiet, told, failure_converting}
 use Rattle.session.specs.Events.{Event, Put, Told, Asked, AskedEnd, Recorded, Stepped, IsAsk, output, front, recorded, steps_in, step_of}
 use Rattle.session.specs.Limits.{most_bad_lines, most_line_bytes}
 use Rattle.session.specs.Machine.{Rules, Outcome, Goes, Faults}
 use Rattle.session.specs.Part.{Part, preceded, followed}
 use Rattle.session.specs.Session.{kept, question, choose, place_of, select, stopped, stepped, answered, at_moves, story, transcript, transcript_noting, step_text, end_of}
-use Rattle.session.specs.Stands.{is_readable, AreReadable, MovedBy, Begins, Does, Breaks, CountsBroken}
+use Rattle.session.specs.Stands.{is_readable, AreReadable, MovedBy, Begins, Does, Breaks, CountsBroken, Ends, IsBrokenOff}
 use Rattle.session.specs.Texts.{header_line, list_from, prompt}
-use Rattle.session.specs.Writes.{Runs, Ends, IsBrokenOff}
+use Rattle.session.specs.Writes.{Runs}
 use Rattle.session.proofs.Parts.{records, record_breaks, Leads-does, Leads-breaks}
 use Rattle.session.proofs.Replay.{ask_silent, silent_told}
 use Rattle.session.proofs.Placing.{can_be_converted}

@@ -10,13 +10,13 @@ use Rattle.session.specs.declared.Broken.{Broken}
 use Rattle.session.specs.declared.Broken.TheVariants as broken
 use Rattle.session.specs.Events.{Event, Put, Told, Stepped, output, front, recorded, steps_in, step_of}
 use Rattle.session.specs.Part.{Part, preceded}
-use Rattle.session.specs.Stands.{AreReadable, MovedBy, Leads, Breaks, CountsBroken}
+use Rattle.session.specs.Stands.{AreReadable, MovedBy, Breaks, CountsBroken}
+use Rattle.session.specs.Writes.{Leads, Continues, story_after}
 use Rattle.session.specs.declared.course.Course.{Course}
 use Rattle.session.specs.Gathered.{told_steps, begins_from, later, AddsText, CutsTexts, AreGathered, behind, Waits, BreaksBare, Halts, GoesFurther, Advances, TurnsOn}
 use Rattle.session.specs.declared.Options.{Options}
 use Rattle.session.specs.Machine.{Rules, Goes}
 use Rattle.session.specs.Session.{stepped, step_text, story, select, answered}
-use Rattle.session.specs.Writes.{Continues, story_after}
 use Rattle.session.proofs.Turns.{step_part, step_leads}
 use Rattle.session.proofs.Moving.{Moved-nil, Moved-still}
 use Rattle.session.proofs.Parts.{Leads-nil, preceded-preceded, Leads-same, Leads-trans, Leads-does, Leads-breaks, output-append}

@@ -5,13 +5,15 @@ use Rattle.std.proofs.lemmas.List.Sums.{sum_by-append}
 use Rattle.std.proofs.lemmas.List.Folds.{list_all-append}
 use Rattle.std.proofs.lemmas.List.{length-take}
 use Rattle.std.proofs.lemmas.Bool.{le-leb}
-use Rattle.devices.specs.Holdings.{Holdings, Moved, WritesPart, RecordsPart}
+use Rattle.devices.specs.Holdings.{Holdings, Moved}
+use Rattle.devices.specs.Doing.{WritesPart, RecordsPart}
 use Rattle.session.specs.declared.Broken.{Broken}
 use Rattle.session.specs.declared.Broken.TheVariants as broken
 use Rattle.session.specs.Events.{Event, Role, Put, Recorded, asks, output, front, recorded, steps_in, output_of, bytes_of, record_of, step_of}
 use Rattle.session.specs.Part.{Part, preceded, followed}
 use Rattle.session.specs.Limits.{most_line_bytes}
-use Rattle.session.specs.Stands.{is_readable, AreReadable, MovedBy, Begins, Does, Leads, Breaks}
+use Rattle.session.specs.Stands.{is_readable, AreReadable, MovedBy, Begins, Does, Breaks}
+use Rattle.session.specs.Writes.{Leads}
 use Rattle.session.specs.Session.{only}
 use Rattle.session.specs.Reads.{AsksPart, AsksBroken}
 use Rattle.session.proofs.Moving.{Moved-nil, Moved-trans, Moved-piece, Moved-line}

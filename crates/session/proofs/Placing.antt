@@ -16,7 +16,8 @@ use Rattle.session.specs.declared.form.Stream.{Stream}
 use Rattle.session.specs.declared.form.Stream.TheVariants.{Unread, Known, Over}
 use Rattle.session.specs.declared.form.Version.{Version}
 use Rattle.session.specs.declared.form.Version.TheVariants.{First, Second}
-use Rattle.session.specs.Convert.{converted_event, converted_events, placed_lines, second, is_no_ask, is_ask, fits_line, IsSameReading, StandsForRecord, CanBeConverted}
+use Rattle.session.specs.Convert.{converted_event, converted_events, placed_lines, second, is_no_ask, is_ask, IsSameReading, StandsForRecord}
+use Rattle.session.specs.Converting.{fits_line, CanBeConverted}
 use Rattle.session.specs.Events.{Event, Put, Told, Asked, AskedEnd, Recorded, Stepped, IsAsk, asks, output, front, recorded}
 use Rattle.session.specs.Limits.{most_line_bytes, most_bad_lines}
 use Rattle.session.specs.Lines.{line_within, read_of, saw_end, IsPickUpTo}

@@ -8,7 +8,8 @@ use Rattle.session.specs.Texts.{prompt, bad_line}
 use Rattle.session.specs.Part.{Part, preceded, followed}
 use Rattle.session.specs.Session.{one_reply, ask, after_line, only}
 use Rattle.devices.specs.Holdings.{Holdings}
-use Rattle.session.specs.Stands.{Does, Leads, Breaks}
+use Rattle.session.specs.Stands.{Does, Breaks}
+use Rattle.session.specs.Writes.{Leads}
 use Rattle.session.specs.Reads.{AsksPart, AsksBroken}
 use Rattle.session.proofs.Parts.{Leads-trans, Leads-does, Leads-breaks, Does-then, Breaks-then, asks_does, ask_breaks, only_does}
 use Rattle.session.specs.declared.form.Stream.{Stream}

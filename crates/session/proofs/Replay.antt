@@ -18,7 +18,8 @@ use Rattle.session.specs.Part.{Part, preceded, followed}
 use Rattle.session.specs.Machine.{Rules, Outcome, Goes, Faults}
 use Rattle.session.specs.Session.{one_line, next_line, one_reply, begins_second, stream_behind, reply_at, ask, after_line, only, kept, choose, place_of, select, stopped, finished, stepped, answered, story, step_text}
 use Rattle.session.specs.Texts.{record_line, placed_line, list_from, prompt}
-use Rattle.session.specs.Convert.{told_events, converted_events, placed_lines}
+use Rattle.session.specs.Convert.{converted_events, placed_lines}
+use Rattle.session.specs.Converting.{told_events}
 use Rattle.session.specs.Replay.{without_corrections, is_complete, IsSameRun}
 use Rattle.session.proofs.Parts.{front-append, output-append, recorded-append, front-asks, output-asks, recorded-asks}
 use Rattle.session.proofs.Records.{IsPlain, record_asked}

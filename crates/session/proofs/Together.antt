@@ -3,13 +3,14 @@ use Rattle.std.proofs.Common.{◌≡◌, ℕ, ◌+◌, ◌-◌, ◌<◌, List, [
 use Rattle.std.proofs.lemmas.Bool.{ltb-true, ltb-false}
 use Rattle.std.proofs.lemmas.List.{length-append, take-append-le}
 use Rattle.std.proofs.Math.Seq.{take-append-add}
-use Rattle.devices.specs.Holdings.{Holdings, Moved, WritesPart}
+use Rattle.devices.specs.Holdings.{Holdings, Moved}
+use Rattle.devices.specs.Doing.{WritesPart}
 use Rattle.session.specs.declared.Broken.{Broken}
 use Rattle.session.specs.declared.Broken.TheVariants as broken
 use Rattle.session.specs.Events.{Role, Put}
 use Rattle.session.specs.Part.{Part, preceded}
-use Rattle.session.specs.Stands.{Leads, Breaks}
-use Rattle.session.specs.Writes.{WriteBreaks}
+use Rattle.session.specs.Stands.{Breaks}
+use Rattle.session.specs.Writes.{Leads, WriteBreaks}
 use Rattle.session.proofs.Parts.{MovedBy-put, memory_breaks}
 
 -- one piece, another, and what follows

@@ -14,9 +14,9 @@ use Rattle.session.specs.Events.{Role, Put, Told, Stepped}
 use Rattle.session.specs.Machine.{Rules, Goes, Faults}
 use Rattle.session.specs.Part.{Part, preceded, followed}
 use Rattle.session.specs.Session.{only, kept, choose, place_of, select, stopped, finished, end_of, cause_of, stepped, step_text, answered, story}
-use Rattle.session.specs.Stands.{Does, Leads, Breaks, PlaysQuestion}
+use Rattle.session.specs.Stands.{Does, Breaks}
+use Rattle.session.specs.Writes.{Leads, PlaysQuestion, WriteBreaks, RecordBreaks, kept_text, StepBreaks, Continues, Acts, Turns, acted, story_after}
 use Rattle.session.specs.Texts.{noted, placed_line, fault_line}
-use Rattle.session.specs.Writes.{WriteBreaks, RecordBreaks, kept_text, StepBreaks, Continues, Acts, Turns, acted, story_after}
 use Rattle.session.proofs.Moving.{Moved-piece}
 use Rattle.session.proofs.Parts.{IsReadable, Leads-nil, Leads-same, Leads-trans, Leads-does, Leads-breaks, puts, put_breaks, records, record_breaks, memory_breaks, only_moves, only_does}
 use Rattle.session.specs.declared.form.Stream.{Stream}

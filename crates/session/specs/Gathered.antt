@@ -9,8 +9,8 @@ use Rattle.session.specs.Events.{Event, Put, Told, Stepped, output}
 use Rattle.session.specs.Part.{Part, preceded}
 use Rattle.session.specs.Machine.{Rules}
 use Rattle.session.specs.Session.{stepped}
-use Rattle.session.specs.Stands.{Does, Leads, Breaks}
-use Rattle.session.specs.Writes.{story_after}
+use Rattle.session.specs.Stands.{Does, Breaks}
+use Rattle.session.specs.Writes.{Leads, story_after}
 use Rattle.session.specs.declared.course.Terms.{Terms}
 use Rattle.session.specs.declared.course.Course.{Course}
 use Rattle.session.specs.declared.form.Stream.{Stream}

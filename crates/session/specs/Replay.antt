@@ -16,6 +16,7 @@ is_no_correction AskedEnd = true
 is_no_correction (Recorded line placed) = true
 is_no_correction Stepped = true
 
+-- events without the answers to bad lines and the prompts that follow them
 abbrev pub without_corrections : List Event → List Event
 without_corrections events = filter is_no_correction events
 

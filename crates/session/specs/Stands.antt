@@ -1,13 +1,16 @@
 -- How what the devices hold stands to what a session does.
-use Rattle.std.specs.Prelude.{◌≡◌, ℕ, ◌+◌, ◌<◌, List, [], ◌∷◌, ◌++◌, length, take, nat_le, Bool, true, Result, MatchResult}
+use Rattle.std.specs.Prelude.{◌≡◌, ℕ, ◌+◌, ◌<◌, List, [], ◌∷◌, ◌++◌, length, take, nat_le, Bool, true}
 use Rattle.std.specs.List.{list_all}
 use Rattle.devices.specs.Holdings.{Holdings, FailureCounts, Moved, SourceFails, OutFails, RecordFails}
 use Rattle.session.specs.declared.Broken.{Broken}
 use Rattle.session.specs.declared.Broken.TheVariants as broken
 use Rattle.session.specs.Events.{Event, Role, Put, Asked, AskedEnd, Recorded, Stepped, IsAsk, output, front, recorded, steps_in}
 use Rattle.session.specs.Limits.{most_line_bytes}
-use Rattle.session.specs.Part.{Part, preceded}
+use Rattle.session.specs.Part.{Part}
 use Rattle.session.specs.declared.form.Stream.{Stream}
+use Rattle.session.specs.declared.End.{End}
+use Rattle.session.specs.declared.Cause.{Cause}
+use Rattle.session.specs.declared.Cause.TheVariants as cause
 
 -- a line that is recorded is no longer than a line of the choices may be, with its line feed
 abbrev pub is_readable : Event → Bool
@@ -17,6 +20,7 @@ is_readable AskedEnd = true
 is_readable (Recorded line placed) = nat_le (length line) (most_line_bytes + 1)
 is_readable Stepped = true
 
+-- each line that is recorded can be read as a choice
 abbrev pub AreReadable : List Event → Type 0
 AreReadable events = list_all is_readable events ≡ true
 
@@ -51,26 +55,11 @@ pub record Does {T : Type 0} (before after : Holdings) (steps steps' : ℕ) (par
   pub is : (left : List ℕ) → after.source left
       → part (front done ++ left) ≡ record { events = done; value = value; stream = stream; left = left }
 
--- the whole part was begun, and the rest is still to do
-pub record Leads {T : Type 0} (before after : Holdings) (steps steps' : ℕ) (part rest : List ℕ → Part T) : Type 0 where
-  pub done : List Event
-  pub moved : MovedBy before after steps steps' done
-  pub is : (left : List ℕ) → after.source left → part (front done ++ left) ≡ preceded done (rest left)
-
 -- the part was broken off
 pub record Breaks {T : Type 0} (broken : Broken) (before after : Holdings) (steps steps' : ℕ) (part : List ℕ → Part T) : Type 0 where
   pub done : List Event
   pub moved : MovedBy before after steps steps' done
   pub begins : (left : List ℕ) → after.source left → Begins broken done (part (front done ++ left)).events
-
--- the part was done whole, with the outcome that the call answers, or it was broken off
-abbrev pub Plays : {T : Type 0} → Result T Broken → Holdings → Holdings → ℕ → ℕ → (List ℕ → Part T) → Stream → Type 0
-Plays r before after steps steps' part stream =
-    MatchResult r (λ value. Does before after steps steps' part value stream) (λ e. Breaks e before after steps steps' part)
-
--- the same of a part in which no step is taken
-abbrev pub PlaysQuestion : {T : Type 0} → Result T Broken → Holdings → Holdings → (List ℕ → Part T) → Stream → Type 0
-PlaysQuestion r before after part stream = (steps : ℕ) → Plays r before after steps steps part stream
 
 -- the counts of failures: that of the device that broke has risen, and no other
 abbrev pub CountsBroken : Broken → FailureCounts → FailureCounts → Type 0
@@ -79,6 +68,20 @@ CountsBroken broken.Source before after = SourceFails before after
 CountsBroken broken.Out before after = OutFails before after
 CountsBroken broken.Record before after = RecordFails before after
 
--- no count has risen where the call succeeds, and else that of the device that broke
-abbrev pub CountsAll : {T : Type 0} → Result T Broken → FailureCounts → FailureCounts → Type 0
-CountsAll r before after = MatchResult r (λ _. after ≡ before) (λ e. CountsBroken e before after)
+-- ---- ends
+
+-- a session came to this end, after so many steps
+abbrev pub Ends : Holdings → Holdings → ℕ → (List ℕ → Part End) → End → Type 0
+Ends before after steps part end = (stream : Stream) × Does before after 0 steps part end stream
+
+-- the cause of a session that was broken off
+abbrev pub failure_of : Broken → Cause
+failure_of broken.Source = cause.SourceFailed
+failure_of broken.Out = cause.OutFailed
+failure_of broken.Record = cause.RecordFailed
+failure_of broken.Memory = cause.Memory
+
+-- a device or memory broke the session off, the end says which, and the count of that device alone has risen
+abbrev pub IsBrokenOff : Holdings → Holdings → (List ℕ → Part End) → End → Type 0
+IsBrokenOff before after part end = (broken : Broken) × (end.cause ≡ failure_of broken)
+    × Breaks broken before after 0 end.steps part × CountsBroken broken before.failures after.failures

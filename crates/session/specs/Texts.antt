@@ -49,6 +49,7 @@ noted Second n place = placed_line n place
 abbrev pub header : List ℕ
 header = codes "choices 2"
 
+-- the first line of choices of the second version
 abbrev pub header_line : List ℕ
 header_line = header ++ codes "\n"
 

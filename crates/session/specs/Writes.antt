@@ -1,22 +1,21 @@
 -- What calls do that write, that record, that take a step, and that play a turn.
-use Rattle.std.specs.Prelude.{◌≡◌, ◌≢◌, ℕ, ◌+◌, ◌-◌, ◌<◌, List, [], Option, Some, None, Result, MatchResult}
-use Rattle.devices.specs.Holdings.{Holdings, Moved, WritesPart, RecordsPart}
+use Rattle.std.specs.Prelude.{◌≡◌, ◌≢◌, ℕ, ◌+◌, ◌-◌, ◌<◌, List, [], Option, Some, None, Result, MatchResult, ◌++◌}
+use Rattle.devices.specs.Holdings.{Holdings, Moved, FailureCounts}
+use Rattle.devices.specs.Doing.{WritesPart, RecordsPart}
 use Rattle.diagnostics.specs.declared.fault.Fault.{Fault}
 use Rattle.session.specs.declared.Options.{Options}
 use Rattle.session.specs.declared.course.Course.{Course}
 use Rattle.session.specs.declared.course.Terms.{Terms}
 use Rattle.session.specs.declared.End.{End}
-use Rattle.session.specs.declared.Cause.{Cause}
-use Rattle.session.specs.declared.Cause.TheVariants as cause
 use Rattle.session.specs.declared.Broken.{Broken}
 use Rattle.session.specs.declared.Broken.TheVariants as broken
 use Rattle.session.specs.declared.choice.Answer.{Answer}
 use Rattle.session.specs.declared.choice.Answer.TheVariants as answer
 use Rattle.session.specs.Events.{Event, front}
 use Rattle.session.specs.Machine.{Rules, Goes, Faults}
-use Rattle.session.specs.Part.{Part, followed}
+use Rattle.session.specs.Part.{Part, followed, preceded}
 use Rattle.session.specs.Session.{stepped, step_text, select, answered, story, end_of}
-use Rattle.session.specs.Stands.{MovedBy, Begins, Does, Leads, Breaks, CountsBroken}
+use Rattle.session.specs.Stands.{MovedBy, Begins, Does, Breaks, CountsBroken}
 use Rattle.session.specs.Texts.{noted, fault_line}
 use Rattle.session.specs.declared.form.Stream.{Stream}
 use Rattle.session.specs.declared.form.Version.{Version}
@@ -113,12 +112,6 @@ abbrev pub Turns : {S M : Type 0} → Result (Option End) Broken → Terms → R
 Turns r terms rules s t before after steps steps' course course' =
     Continues r before after steps steps' (story_after terms.notes rules terms.options s steps course.stream) (story_after terms.notes rules terms.options t steps' course'.stream) course'.stream
 
--- ---- ends
-
--- a session came to this end, after so many steps
-abbrev pub Ends : Holdings → Holdings → ℕ → (List ℕ → Part End) → End → Type 0
-Ends before after steps part end = (stream : Stream) × Does before after 0 steps part end stream
-
 -- it came to its end, or was broken off
 abbrev pub Runs : Result End Broken → Holdings → Holdings → ℕ → (List ℕ → Part End) → Type 0
 Runs r before after steps part = MatchResult r (Ends before after steps part) (λ e. Breaks e before after 0 steps part)
@@ -129,18 +122,6 @@ pub record IsOwnEnd (steps : ℕ) (end : End) : Type 0 where
   pub counted : end.steps ≡ steps
   pub told : end ≡ end_of end.cause end.steps
 
--- the cause of a session that was broken off
-abbrev pub failure_of : Broken → Cause
-failure_of broken.Source = cause.SourceFailed
-failure_of broken.Out = cause.OutFailed
-failure_of broken.Record = cause.RecordFailed
-failure_of broken.Memory = cause.Memory
-
--- a device or memory broke the session off, the end says which, and the count of that device alone has risen
-abbrev pub IsBrokenOff : Holdings → Holdings → (List ℕ → Part End) → End → Type 0
-IsBrokenOff before after part end = (broken : Broken) × (end.cause ≡ failure_of broken)
-    × Breaks broken before after 0 end.steps part × CountsBroken broken before.failures after.failures
-
 -- where the status is not 6 this part came to this end
 abbrev pub EndsOwn : Holdings → Holdings → (List ℕ → Part End) → End → Type 0
 EndsOwn before after part end = end.status ≢ 6 → Ends before after end.steps part end
@@ -148,3 +129,22 @@ EndsOwn before after part end = end.status ≢ 6 → Ends before after end.steps
 -- where it is 6 the part was broken off
 abbrev pub EndsBroken : Holdings → Holdings → (List ℕ → Part End) → End → Type 0
 EndsBroken before after part end = end.status ≡ 6 → IsBrokenOff before after part end
+
+-- the whole part was begun, and the rest is still to do
+pub record Leads {T : Type 0} (before after : Holdings) (steps steps' : ℕ) (part rest : List ℕ → Part T) : Type 0 where
+  pub done : List Event
+  pub moved : MovedBy before after steps steps' done
+  pub is : (left : List ℕ) → after.source left → part (front done ++ left) ≡ preceded done (rest left)
+
+-- the part was done whole, with the outcome that the call answers, or it was broken off
+abbrev pub Plays : {T : Type 0} → Result T Broken → Holdings → Holdings → ℕ → ℕ → (List ℕ → Part T) → Stream → Type 0
+Plays r before after steps steps' part stream =
+    MatchResult r (λ value. Does before after steps steps' part value stream) (λ e. Breaks e before after steps steps' part)
+
+-- the same of a part in which no step is taken
+abbrev pub PlaysQuestion : {T : Type 0} → Result T Broken → Holdings → Holdings → (List ℕ → Part T) → Stream → Type 0
+PlaysQuestion r before after part stream = (steps : ℕ) → Plays r before after steps steps part stream
+
+-- no count has risen where the call succeeds, and else that of the device that broke
+abbrev pub CountsAll : {T : Type 0} → Result T Broken → FailureCounts → FailureCounts → Type 0
+CountsAll r before after = MatchResult r (λ _. after ≡ before) (λ e. CountsBroken e before after)

@@ -1,9 +1,8 @@
 //! The session whose choices are converted to the second version.
 ghost use Rattle.std.specs.Prelude.{◌≡◌, ◌≢◌, ◌<◌, List, ℕ, IfOk};
-ghost use Rattle.session.specs.Convert.{conversion, noting, quiet, failure_converting, CanBeConverted, StandsOwn};
+ghost use Rattle.session.specs.Converting.{conversion, noting, quiet, failure_converting, CanBeConverted, StandsOwn};
 ghost use Rattle.session.specs.Session.{end_of, transcript};
-ghost use Rattle.session.specs.Stands.{CountsAll};
-ghost use Rattle.session.specs.Writes.{Runs, EndsOwn, EndsBroken, IsOwnEnd};
+ghost use Rattle.session.specs.Writes.{CountsAll, Runs, EndsOwn, EndsBroken, IsOwnEnd};
 
 use crate::whole::{end_of, run};
 use crate::{Broken, Cause, End, Machine, Options, Version};
@@ -22,7 +21,7 @@ pub struct Conversion<S, O> {
 
 impl<S: Source, O: Sink> Devices for Conversion<S, O> {
     ghost use Rattle.std.specs.Prelude.{None};
-    ghost use Rattle.devices.specs.Holdings.{holding};
+    ghost use Rattle.devices.specs.Doing.{holding};
 
     ghost holds = { λ d. holding (S.may_give d.source) None (O.taken d.out) (S.failures d.source) 0 (O.failures d.out) };
 
@@ -55,7 +54,7 @@ pub trait Held {
 
 impl<S: Source, O: Sink> Held for Conversion<S, O> {
     ghost use Rattle.std.specs.Prelude.{None};
-    ghost use Rattle.devices.specs.Holdings.{holding};
+    ghost use Rattle.devices.specs.Doing.{holding};
 
     ghost held = { λ d. holding (S.may_give d.source) (O.taken d.out) None (S.failures d.source) (O.failures d.out) 0 };
 }

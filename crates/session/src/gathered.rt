@@ -2,7 +2,7 @@
 ghost use Rattle.std.specs.Prelude.{◌≡◌, ◌-◌, ◌++◌, ◌∷◌, [], length, IfErr, OnOk, OnErr};
 ghost use Rattle.session.specs.declared.Broken.TheVariants.{Out};
 ghost use Rattle.session.specs.Gathered.{are_enough, later, AddsText, CutsTexts};
-ghost use Rattle.session.specs.Stands.{CountsAll};
+ghost use Rattle.session.specs.Writes.{CountsAll};
 ghost use Rattle.devices.specs.Holdings.{Moved};
 
 use crate::Broken;

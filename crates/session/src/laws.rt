@@ -1,6 +1,6 @@
 //! Laws of sessions.
 
-ghost use Rattle.session.specs.Convert.{ConvertedChoicesStandForTheRecord, RecordInSecondConverts};
+ghost use Rattle.session.specs.Converting.{ConvertedChoicesStandForTheRecord, RecordInSecondConverts};
 ghost use Rattle.session.specs.Laws.{ShowingChangesNothing, WhatIsBehindChangesNothing};
 
 use crate::Machine;

@@ -1,9 +1,8 @@
 //! The session of a model that is refused.
 ghost use Rattle.std.specs.Prelude.{◌≡◌, IfOk};
 ghost use Rattle.session.specs.Session.{end_of};
-ghost use Rattle.session.specs.Stands.{CountsAll};
+ghost use Rattle.session.specs.Writes.{CountsAll, Writes, IsOwnEnd};
 ghost use Rattle.session.specs.Texts.{refusal_line};
-ghost use Rattle.session.specs.Writes.{Writes, IsOwnEnd};
 
 use crate::draft::draft_refusal;
 use crate::question::put_out;

@@ -2,12 +2,11 @@
 ghost use Rattle.std.specs.Prelude.{◌≡◌, ◌+◌, ◌<◌, ◌≤◌, ◌^◌, ◌++◌, IfOk, IfErr, OnOk, length};
 ghost use Rattle.std.specs.List.{Contains};
 ghost use Rattle.session.specs.declared.Broken.TheVariants.{Memory};
-ghost use Rattle.session.specs.Stands.{CountsAll};
+ghost use Rattle.session.specs.Writes.{CountsAll, Writes, kept_text, RecordsAnswer, Composes, Steps};
 ghost use Rattle.session.specs.Limits.{most_line_bytes};
 ghost use Rattle.session.specs.Lines.{IsPickUpTo};
 ghost use Rattle.session.specs.Session.{place_of, final_lines};
 ghost use Rattle.session.specs.Texts.{list_from, prompt, last_line, noted};
-ghost use Rattle.session.specs.Writes.{Writes, kept_text, RecordsAnswer, Composes, Steps};
 
 use crate::draft::{
     Draft, draft_fault, draft_last, draft_list, draft_placed, draft_prompt, draft_record,

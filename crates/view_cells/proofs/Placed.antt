@@ -2,7 +2,8 @@
 use Rattle.std.proofs.Common.{◌≡◌, sym, ℕ, ◌<◌, ◌≤◌, List, length, pos}
 use Rattle.std.proofs.lemmas.List.{get_or_past}
 use Rattle.pml_store.specs.declared.place.Place.{Place}
-use Rattle.pml_store.specs.Store.{Frame, HasPlace, cells_at, size_at, number_at}
+use Rattle.pml_store.specs.Store.{Frame, cells_at, size_at, number_at}
+use Rattle.pml_store.specs.Writing.{HasPlace}
 use Rattle.pml_store.proofs.Back as back
 
 pub has_cell : (frames : List Frame) (p : Place) → p.cell < size_at frames p.frame p.variable → HasPlace frames p

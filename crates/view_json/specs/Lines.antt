@@ -13,7 +13,8 @@ use Rattle.pml_moves.specs.declared.moves.Pick.{Pick}
 use Rattle.pml_moves.specs.declared.moves.Move.{Move}
 use Rattle.pml_moves.specs.declared.moves.Move.TheVariants.{Death, Alone, Pair}
 use Rattle.pml_moves.specs.State.{State}
-use Rattle.pml_texts.specs.Texts.{move_text, stuck_of}
+use Rattle.pml_texts.specs.Texts.{move_text}
+use Rattle.pml_texts.specs.Staying.{stuck_of}
 use Rattle.view_cells.specs.Processes.{line_of}
 use Rattle.view_waits.specs.declared.effect.Does.{Does}
 use Rattle.view_waits.specs.declared.effect.Does.TheVariants as does

@@ -9,7 +9,8 @@ use Rattle.session.specs.declared.Options.{Options}
 use Rattle.pml_start.specs.Begin.{Begun}
 use Rattle.pml_start.specs.Start.{first_state}
 use Rattle.pml_moves.specs.declared.moves.Move.{Move}
-use Rattle.pml_sim.specs.World.{Running, IsFirst, first, rules}
+use Rattle.pml_sim.specs.World.{Running, first, rules}
+use Rattle.pml_sim.specs.Lent.{IsFirst}
 use Rattle.pml_play.specs.Run.{Turn, IsRun, PlaysEachPath, last_state}
 use Rattle.pml_play.specs.Transcript.{IsModel}
 use Rattle.pml_play.proofs.EachPath.{just_path, text_plays_each}

@@ -2,7 +2,8 @@
 use Rattle.std.specs.Prelude.{◌≡◌, ℕ, false, List, length, take, Some}
 use Rattle.session.specs.Machine.{Rules}
 use Rattle.pml_moves.specs.declared.moves.Move.{Move}
-use Rattle.pml_sim.specs.World.{Running, IsFirst, rules as rules_of_models}
+use Rattle.pml_sim.specs.World.{Running, rules as rules_of_models}
+use Rattle.pml_sim.specs.Lent.{IsFirst}
 use Rattle.pml_play.specs.Run.{Turn, IsPath, last_state}
 use Rattle.view_walk.specs.declared.turn.Turn as choice
 use Rattle.view_walk.specs.Choices.{led_from}

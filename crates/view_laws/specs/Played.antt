@@ -5,7 +5,7 @@ use Rattle.session.specs.declared.End.{End}
 use Rattle.session.specs.declared.Options.{Options}
 use Rattle.pml_moves.specs.declared.moves.Move.{Move}
 use Rattle.pml_sim.specs.World.{Running, rules}
-use Rattle.pml_play.specs.Plays.{IsReady}
+use Rattle.pml_play.specs.Parts.{IsReady}
 use Rattle.pml_play.specs.Run.{Turn, IsRun, last_state}
 use Rattle.pml_play.specs.Transcript.{IsModel, IsTranscript}
 use Rattle.view_walk.specs.Records.{record_of}

@@ -3,7 +3,7 @@ use Rattle.std.specs.Prelude.{◌≡◌, ◌<◌, ℕ, true, List, [], length}
 use Rattle.pml_program.specs.declared.program.Program.{Program}
 use Rattle.pml_moves.specs.Search.{moves}
 use Rattle.pml_moves.specs.State.{State}
-use Rattle.pml_play.specs.Plays.{IsReady}
+use Rattle.pml_play.specs.Parts.{IsReady}
 use Rattle.view_waits.specs.Filled.{HasFilledBodies, StandAtNodes}
 use Rattle.view_waits.specs.Waits.{is_in, waits}
 

@@ -2,7 +2,7 @@
 use Rattle.std.specs.Prelude.{ℕ, Bool, List, [], ◌∷◌, map, Some}
 use Rattle.pml_flow.specs.declared.edge.Edge.{Edge}
 use Rattle.pml_value.specs.declared.view.View.{View}
-use Rattle.pml_value.specs.Reads.{seen}
+use Rattle.pml_value.specs.Seen.{seen}
 use Rattle.pml_moves.specs.declared.moves.Pick.{Pick}
 use Rattle.pml_moves.specs.declared.scene.Body.{Body}
 use Rattle.pml_moves.specs.declared.scene.Seat.{Seat}

@@ -8,7 +8,8 @@ use Rattle.session.specs.Machine.{Goes, Faults}
 use Rattle.pml_program.specs.declared.program.Program.{Program}
 use Rattle.pml_start.specs.Start.{first_state}
 use Rattle.pml_moves.specs.declared.moves.Move.{Move}
-use Rattle.pml_sim.specs.World.{Running, IsFirst, moves, step, rules}
+use Rattle.pml_sim.specs.World.{Running, moves, step, rules}
+use Rattle.pml_sim.specs.Lent.{IsFirst}
 use Rattle.view_walk.specs.declared.turn.Turn.{Turn}
 use Rattle.view_walk.specs.Choices.{numbered, chosen, on, with_turn}
 use Rattle.view_walk.specs.Walks.{started, walked, Walked, IsWalk}

@@ -1,7 +1,8 @@
 use Rattle.std.proofs.Common.{[], ◌≡◌, ◌≤◌, ◌∙◌, true, List, Some, ap, sym, subst, length, map}
 use Rattle.std.proofs.lemmas.Result.{err_from_is_err_and}
 use Rattle.std.proofs.lemmas.List.Elements.{All-same}
-use Rattle.pml_lex.specs.Limits.{IsTooDeep, IsOnLine, AreOnLines}
+use Rattle.pml_lex.specs.Limits.{IsTooDeep, IsOnLine}
+use Rattle.pml_lex.specs.Rows.{AreOnLines}
 use Rattle.pml_token.specs.Word.{Word}
 use Rattle.pml_inline.specs.Inlines.{all_differ, definitions}
 use Rattle.pml_inline.specs.Expansion.{IsLeast, IsFaultOnLine, texts}

@@ -2,7 +2,7 @@ use Rattle.std.proofs.Common.{◌+◌, ◌<◌, ◌∙◌, ◌∷◌, [], sym, a
 use Rattle.std.specs.Prelude.{slice_get}
 use Rattle.std.proofs.lemmas.Option.{slice_get_read}
 use Rattle.pml_program.specs.declared.program.Proctype.{Proctype}
-use Rattle.pml_flow.specs.Flow.{Graph, IsGraph}
+use Rattle.pml_flow.specs.Graph.{Graph, IsGraph}
 use Rattle.pml_check.proofs.Pairing.{each_more}
 use Rattle.pml_check.proofs.control.all_graphs.Goals as goal
 

@@ -1,7 +1,7 @@
 use Rattle.std.proofs.Common.{◌≡◌, ℕ, Some, length}
 use Rattle.std.specs.Prelude.{slice_get}
 use Rattle.pml_program.specs.declared.program.Proctype.{Proctype}
-use Rattle.pml_flow.specs.Flow.{Graph, IsGraph}
+use Rattle.pml_flow.specs.Graph.{Graph, IsGraph}
 use Rattle.pml_check.proofs.control.all_graphs.Given as goal
 
 -- those of the proctypes before

@@ -1,5 +1,5 @@
 use Rattle.std.proofs.Common.{◌≡◌, ◌++◌, Ok, map, drop, length}
-use Rattle.pml_eval.specs.Pattern.{AreThere}
+use Rattle.pml_eval.specs.There.{AreThere}
 use Rattle.pml_eval.specs.Value.{want, wants_of, ◌>>=◌}
 use Rattle.pml_eval.proofs.eval.pattern.Given as goal
 

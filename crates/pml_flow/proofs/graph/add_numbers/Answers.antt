@@ -1,6 +1,6 @@
 use Rattle.std.proofs.Common.{◌<◌, ◌+◌, ◌-◌, ◌++◌, ◌∷◌, ◌∙◌, [], sym, ap, arith, append_assoc}
 use Rattle.std.specs.Prelude.{slice_index_or}
-use Rattle.pml_flow.specs.Flow.{span}
+use Rattle.pml_flow.specs.Graph.{span}
 use Rattle.pml_flow.proofs.Parting.{span_more}
 use Rattle.pml_flow.proofs.graph.add_numbers.Goals as goal
 

@@ -1,6 +1,6 @@
 use Rattle.std.proofs.Common.{◌≡◌, ◌++◌, ◌-◌}
 use Rattle.std.specs.Prelude.{slice_index_or}
-use Rattle.pml_flow.specs.Flow.{span, levels_by}
+use Rattle.pml_flow.specs.Graph.{span, levels_by}
 use Rattle.pml_flow.proofs.graph.add_numbers.Given as goal
 
 abbrev pub invariant-loop-level : goal.invariant-loop-level

@@ -1,5 +1,5 @@
 use Rattle.std.proofs.Common.{◌≡◌, drop}
-use Rattle.pml_flow.specs.Flow.{mark_edges}
+use Rattle.pml_flow.specs.Graph.{mark_edges}
 use Rattle.pml_flow.proofs.graph.mark_edges.Given as goal
 
 abbrev pub invariant-loop-edge : goal.invariant-loop-edge

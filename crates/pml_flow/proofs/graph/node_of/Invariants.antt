@@ -1,5 +1,5 @@
 use Rattle.std.proofs.Common.{◌≡◌, ◌++◌, drop}
-use Rattle.pml_flow.specs.Flow.{all_levels}
+use Rattle.pml_flow.specs.Graph.{all_levels}
 use Rattle.pml_flow.proofs.graph.node_of.Given as goal
 
 abbrev pub invariant-loop-number : goal.invariant-loop-number

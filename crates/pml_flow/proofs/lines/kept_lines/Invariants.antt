@@ -1,5 +1,5 @@
 use Rattle.std.proofs.Common.{◌≡◌, ◌++◌, drop}
-use Rattle.pml_flow.specs.Marks.{lines_from}
+use Rattle.pml_flow.specs.Marked.{lines_from}
 use Rattle.pml_flow.proofs.lines.kept_lines.Given as goal
 
 abbrev pub invariant-loop-number : goal.invariant-loop-number

@@ -1,5 +1,5 @@
 use Rattle.std.proofs.Common.{◌≡◌, drop, replicate, false}
-use Rattle.pml_flow.specs.Marks.{mark, marked}
+use Rattle.pml_flow.specs.Marked.{mark, marked}
 use Rattle.pml_flow.proofs.marks.valid_ends.Given as goal
 
 abbrev pub invariant-loop-number : goal.invariant-loop-number

@@ -1,5 +1,5 @@
 use Rattle.std.proofs.Common.{◌≡◌, ◌≤◌, ◌++◌, drop}
-use Rattle.pml_flow.specs.Flow.{ranks_from}
+use Rattle.pml_flow.specs.Graph.{ranks_from}
 use Rattle.pml_flow.proofs.settled.ranks.Given as goal
 
 abbrev pub invariant-loop-step : goal.invariant-loop-step

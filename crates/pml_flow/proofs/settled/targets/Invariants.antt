@@ -1,5 +1,5 @@
 use Rattle.std.proofs.Common.{◌≡◌, map, take}
-use Rattle.pml_flow.specs.Flow.{node_by}
+use Rattle.pml_flow.specs.Graph.{node_by}
 use Rattle.pml_flow.proofs.settled.targets.Given as goal
 
 abbrev pub invariant-loop-end : goal.invariant-loop-end

@@ -1,6 +1,6 @@
 use Rattle.std.specs.Option.{option_copied}
 use Rattle.std.proofs.Common.{◌≡◌, ◌<◌, ◌+◌, ◌-◌, ◌++◌, ◌∙◌, ap, arith, drop, length}
-use Rattle.pml_flow.specs.Statements.{inner_list}
+use Rattle.pml_flow.specs.Inside.{inner_list}
 use Rattle.pml_flow.proofs.Stating.{done_if, done_do, done_part, one_more}
 use Rattle.pml_flow.proofs.statements.+statements.Goals as goal
 

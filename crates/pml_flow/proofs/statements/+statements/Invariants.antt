@@ -1,6 +1,6 @@
 use Rattle.std.proofs.Common.{◌≡◌, ◌≤◌, ◌++◌, length, drop}
 use Rattle.std.specs.Option.{option_copied}
-use Rattle.pml_flow.specs.Statements.{inner_list, inner_parts}
+use Rattle.pml_flow.specs.Inside.{inner_list, inner_parts}
 use Rattle.pml_flow.proofs.statements.+statements.Given as goal
 
 abbrev pub invariant-add_steps-loop-left : goal.invariant-add_steps-loop-left

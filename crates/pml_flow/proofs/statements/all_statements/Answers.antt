@@ -1,5 +1,5 @@
 use Rattle.std.proofs.Common.{◌++◌, ◌∙◌, None, ap}
-use Rattle.pml_flow.specs.Statements.{inner_part}
+use Rattle.pml_flow.specs.Inside.{inner_part}
 use Rattle.pml_flow.proofs.Stating.{all_stated}
 use Rattle.pml_flow.proofs.statements.all_statements.Goals as goal
 

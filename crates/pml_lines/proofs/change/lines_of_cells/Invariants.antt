@@ -1,6 +1,7 @@
 use Rattle.std.proofs.Common.{◌≡◌, ◌++◌, drop}
 use Rattle.std.specs.Io.{StartsWith}
-use Rattle.pml_lines.specs.Changes.{owners, line_at, each_change}
+use Rattle.pml_lines.specs.Changes.{owners, each_change}
+use Rattle.pml_lines.specs.Written.{line_at}
 use Rattle.pml_lines.proofs.change.lines_of_cells.Given as goal
 
 -- the text so far, and the lines of the cells that are left

@@ -2,7 +2,7 @@ use Rattle.std.proofs.Common.{rules, ◌≡◌, ◌∷◌, ◌-◌, ◌<◌, ◌
 use Rattle.std.proofs.lemmas.Int.{to_z-of_z}
 use Rattle.std.specs.Ordering.{nat_cmp}
 use Rattle.std.specs.BTreeMap.{insert_entry}
-use Rattle.pml_lines.specs.Changes.{oldest}
+use Rattle.pml_lines.specs.Written.{oldest}
 use Rattle.pml_lines.proofs.change.oldest.Goals as goal
 
 pub loop-left-preserved : goal.loop-left-preserved

@@ -1,5 +1,5 @@
 use Rattle.std.proofs.Common.{◌≡◌, ◌≤◌, length, drop}
-use Rattle.pml_lines.specs.Changes.{oldest}
+use Rattle.pml_lines.specs.Written.{oldest}
 use Rattle.pml_lines.proofs.change.oldest.Given as goal
 
 -- the writes from here on are done

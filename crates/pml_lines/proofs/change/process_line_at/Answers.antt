@@ -2,7 +2,8 @@ use Rattle.std.proofs.Common.{rules, ◌≡◌, ◌+◌, ◌++◌, ◌∙◌, ap
 use Rattle.std.proofs.lemmas.List.{drop_all}
 use Rattle.std.proofs.lemmas.Int.{to_z-of_z}
 use Rattle.pml_lines.specs.Places.{place_line}
-use Rattle.pml_lines.specs.Changes.{heading_of, process_owners, line_at}
+use Rattle.pml_lines.specs.Changes.{heading_of, process_owners}
+use Rattle.pml_lines.specs.Written.{line_at}
 use Rattle.pml_lines.proofs.Seeking.{process-here, process-after}
 use Rattle.pml_lines.proofs.change.process_line_at.Goals as goal
 

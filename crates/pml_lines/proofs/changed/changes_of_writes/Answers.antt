@@ -3,7 +3,7 @@ use Rattle.std.proofs.lemmas.Int.{to_z-of_z}
 use Rattle.std.proofs.lemmas.Map.Iter.{rest_more}
 use Rattle.std.specs.Map.Iter.{deref_pair}
 use Rattle.pml_lines.specs.declared.changed.Change.{Change}
-use Rattle.pml_lines.specs.Changes.{if_changed, each_write}
+use Rattle.pml_lines.specs.Written.{if_changed, each_write}
 use Rattle.pml_lines.specs.Placed.{changed_at}
 use Rattle.pml_lines.proofs.changed.changes_of_writes.Goals as goal
 

@@ -1,5 +1,5 @@
 use Rattle.std.proofs.Common.{◌≡◌, ◌++◌}
-use Rattle.pml_lines.specs.Changes.{each_write}
+use Rattle.pml_lines.specs.Written.{each_write}
 use Rattle.pml_lines.specs.Placed.{changed_at}
 use Rattle.pml_lines.proofs.changed.changes_of_writes.Given as goal
 

@@ -1,7 +1,7 @@
 use Rattle.std.proofs.Common.{◌≡◌, ◌∙◌, ap, subst, List, ℕ, ℤ, IfOk}
-use Rattle.pml_store.specs.Store.{joined}
+use Rattle.pml_store.specs.Writing.{joined}
 use Rattle.pml_lines.specs.declared.changed.Change.{Change}
-use Rattle.pml_lines.specs.Changes.{oldest, each_write}
+use Rattle.pml_lines.specs.Written.{oldest, each_write}
 use Rattle.pml_lines.specs.Placed.{changed_at}
 use Rattle.pml_lines.proofs.Undoing.{changes_written}
 use Rattle.pml_lines.proofs.changed.logged_changes.Goals as goal

@@ -1,7 +1,8 @@
 use Rattle.std.proofs.Common.{List, sym, ap, ◌∙◌}
-use Rattle.pml_flow.specs.Flow.{Offer, maybe}
+use Rattle.pml_flow.specs.Flow.{Offer}
+use Rattle.pml_flow.specs.Graph.{maybe}
 use Rattle.pml_flow.specs.Points.{point_at}
-use Rattle.pml_value.specs.Reads.{seen}
+use Rattle.pml_value.specs.Seen.{seen}
 use Rattle.pml_moves.specs.State.{levels_from}
 use Rattle.pml_moves.specs.Search.{choices, is_some}
 use Rattle.pml_moves.proofs.Placing.{at_node}

@@ -1,6 +1,6 @@
 use Rattle.std.proofs.Common.{◌≡◌, drop, map}
 use Rattle.std.specs.List.{filter}
-use Rattle.pml_value.specs.Reads.{seen}
+use Rattle.pml_value.specs.Seen.{seen}
 use Rattle.pml_moves.specs.Scene.{shows}
 use Rattle.pml_moves.specs.Search.{first, is_choice}
 use Rattle.pml_moves.proofs.d_step.first_plain.Given as goal

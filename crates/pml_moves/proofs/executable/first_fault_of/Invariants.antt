@@ -1,5 +1,5 @@
 use Rattle.std.proofs.Common.{◌≡◌, drop}
-use Rattle.pml_value.specs.Reads.{seen}
+use Rattle.pml_value.specs.Seen.{seen}
 use Rattle.pml_moves.specs.Executable.{values}
 use Rattle.pml_moves.specs.Fields.{evaluated}
 use Rattle.pml_moves.proofs.executable.first_fault_of.Given as goal

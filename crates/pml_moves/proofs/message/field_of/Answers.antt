@@ -1,7 +1,7 @@
 use Rattle.std.proofs.Common.{rules}
 use Rattle.pml_program.specs.declared.form.Form.TheVariants.{Plain}
 use Rattle.pml_tree.specs.declared.tree.Scalar.TheVariants.{Bit}
-use Rattle.pml_value.specs.Reads.{seen}
+use Rattle.pml_value.specs.Seen.{seen}
 use Rattle.pml_moves.proofs.Offering.{field_is}
 use Rattle.pml_moves.proofs.message.field_of.Goals as goal
 

@@ -1,7 +1,7 @@
 use Rattle.std.proofs.Common.{List}
 use Rattle.pml_eval.specs.declared.pattern.Sought.{Sought}
 use Rattle.pml_eval.proofs.Asking.{Rest}
-use Rattle.pml_value.specs.Reads.{seen}
+use Rattle.pml_value.specs.Seen.{seen}
 use Rattle.pml_moves.proofs.message.is_asked.Given as goal
 
 -- the rest of what is asked decides

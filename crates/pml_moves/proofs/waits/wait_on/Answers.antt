@@ -4,7 +4,7 @@ use Rattle.pml_program.specs.declared.program.Basic.{Basic}
 use Rattle.pml_flow.specs.Flow.{Offer}
 use Rattle.pml_eval.specs.Value.{Reading}
 use Rattle.pml_value.specs.declared.live_channel.LiveChannel.{LiveChannel}
-use Rattle.pml_value.specs.Reads.{seen}
+use Rattle.pml_value.specs.Seen.{seen}
 use Rattle.pml_moves.specs.declared.moves.Move.TheVariants.{Pair}
 use Rattle.pml_moves.specs.State.{reads}
 use Rattle.pml_moves.specs.Scene.{shows}

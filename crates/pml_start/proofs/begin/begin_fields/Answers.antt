@@ -1,6 +1,6 @@
 use Rattle.std.proofs.Common.{◌≡◌, Err, true, refl, sym, ◌∙◌, arith, rules}
 use Rattle.pml_cells.specs.Cells.{size}
-use Rattle.pml_start.specs.Begin.{shown}
+use Rattle.pml_start.specs.Shown.{shown}
 use Rattle.pml_start.specs.Known.{is_zero, have_no_initials, known_cells}
 use Rattle.pml_start.proofs.Shapes.{cell_there, keeps-then}
 use Rattle.pml_start.proofs.Stepping.{fields_made, fields_stopped}

@@ -1,5 +1,5 @@
 use Rattle.std.proofs.Common.{◌∙◌}
-use Rattle.pml_start.specs.Begin.{shown}
+use Rattle.pml_start.specs.Shown.{shown}
 use Rattle.pml_start.proofs.Shapes.{added_sizes, added_shape, OnOk-always}
 use Rattle.pml_start.proofs.begin.begin_frame.Goals as goal
 

@@ -1,5 +1,5 @@
 use Rattle.std.proofs.Common.{◌≡◌, Err, rules}
-use Rattle.pml_start.specs.Begin.{shown}
+use Rattle.pml_start.specs.Shown.{shown}
 use Rattle.pml_start.proofs.Shapes.{variable_there, keeps-then}
 use Rattle.pml_start.proofs.Stepping.{variables_made, variables_stopped}
 use Rattle.pml_start.proofs.begin.begin_variables.Goals as goal

@@ -1,5 +1,6 @@
 use Rattle.std.proofs.Common.{◌≡◌, drop}
-use Rattle.pml_start.specs.Begin.{shown, variables_begun}
+use Rattle.pml_start.specs.Begin.{variables_begun}
+use Rattle.pml_start.specs.Shown.{shown}
 use Rattle.pml_start.specs.Known.{Keeps}
 use Rattle.pml_start.proofs.begin.begin_variables.Given as goal
 

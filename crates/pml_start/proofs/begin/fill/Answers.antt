@@ -1,6 +1,6 @@
 use Rattle.std.proofs.Common.{rules, FitsSigned, w32}
 use Rattle.std.proofs.lemmas.Int.{to_z-of_z}
-use Rattle.pml_start.specs.Begin.{shown}
+use Rattle.pml_start.specs.Shown.{shown}
 use Rattle.pml_start.proofs.Shapes.{cell_there, keeps-then}
 use Rattle.pml_start.proofs.Stepping.{values_made}
 use Rattle.pml_start.proofs.begin.fill.Goals as goal

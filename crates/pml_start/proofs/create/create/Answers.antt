@@ -1,5 +1,6 @@
 use Rattle.std.proofs.Common.{◌≡◌, ◌∙◌, ap, length, rules}
-use Rattle.pml_start.specs.Begin.{Begun, shown}
+use Rattle.pml_start.specs.Begin.{Begun}
+use Rattle.pml_start.specs.Shown.{shown}
 use Rattle.pml_start.proofs.Shapes.{OnOk-always, OnErr-always}
 use Rattle.pml_start.proofs.Creating.{process_sizes, process_shape, past, dropped}
 use Rattle.pml_start.proofs.create.create.Goals as goal

@@ -1,5 +1,5 @@
 use Rattle.std.proofs.Common.{◌∙◌, sym, arith}
-use Rattle.pml_start.specs.Begin.{shown}
+use Rattle.pml_start.specs.Shown.{shown}
 use Rattle.pml_start.proofs.Creating.{all_set}
 use Rattle.pml_start.proofs.create.set_arguments.Goals as goal
 

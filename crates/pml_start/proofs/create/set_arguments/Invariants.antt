@@ -1,5 +1,5 @@
 use Rattle.std.proofs.Common.{◌≡◌, drop}
-use Rattle.pml_start.specs.Begin.{shown}
+use Rattle.pml_start.specs.Shown.{shown}
 use Rattle.pml_start.specs.Created.{with_arguments}
 use Rattle.pml_start.specs.Known.{Keeps}
 use Rattle.pml_start.proofs.create.set_arguments.Given as goal

@@ -2,7 +2,7 @@ use Rattle.std.proofs.Common.{◌≡◌, ◌++◌, ◌∷◌, [], map, length, a
 use Rattle.pml_program.specs.declared.program.Slot.{Slot}
 use Rattle.pml_program.specs.declared.program.Proctype.{Proctype}
 use Rattle.pml_cells.specs.Cells.{size}
-use Rattle.pml_start.specs.Begin.{shown, shape}
+use Rattle.pml_start.specs.Shown.{shown, shape}
 use Rattle.pml_start.specs.Start.{variables_at}
 use Rattle.pml_start.proofs.Shapes.{OnOk-then}
 use Rattle.pml_start.proofs.Bounding.{room_for}

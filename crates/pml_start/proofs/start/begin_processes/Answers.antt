@@ -1,5 +1,5 @@
 use Rattle.std.proofs.Common.{◌≡◌, Err, rules}
-use Rattle.pml_start.specs.Begin.{shown}
+use Rattle.pml_start.specs.Shown.{shown}
 use Rattle.pml_start.proofs.Stepping.{kind_made, kind_stopped}
 use Rattle.pml_start.proofs.start.begin_processes.Goals as goal
 

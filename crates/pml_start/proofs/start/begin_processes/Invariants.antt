@@ -1,7 +1,8 @@
 use Rattle.std.proofs.Common.{◌≡◌, ◌-◌}
-use Rattle.pml_start.specs.Begin.{shown}
+use Rattle.pml_start.specs.Shown.{shown}
 use Rattle.pml_start.specs.Bound.{most_cells}
-use Rattle.pml_start.specs.Start.{IsDeclared, kind_begun}
+use Rattle.pml_start.specs.Start.{kind_begun}
+use Rattle.pml_start.specs.Starting.{IsDeclared}
 use Rattle.pml_start.proofs.start.begin_processes.Given as goal
 
 -- the processes that are begun by now, and then the others, are all

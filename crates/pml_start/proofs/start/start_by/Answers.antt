@@ -1,7 +1,7 @@
 use Rattle.std.proofs.Common.{arith, ◌≡◌, ◌≤◌, ◌∙◌, ap, sym, drop, [], List, drop_of_length-le}
 use Rattle.pml_program.specs.declared.program.Proctype.{Proctype}
-use Rattle.pml_store.specs.Store.{Contents}
-use Rattle.pml_start.specs.Begin.{shown}
+use Rattle.pml_store.specs.Writing.{Contents}
+use Rattle.pml_start.specs.Shown.{shown}
 use Rattle.pml_start.specs.Bound.{bound}
 use Rattle.pml_start.specs.Start.{kinds_begun}
 use Rattle.pml_start.proofs.Bounding.{first_bounded}

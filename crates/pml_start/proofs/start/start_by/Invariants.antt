@@ -1,7 +1,8 @@
 use Rattle.std.proofs.Common.{◌≡◌, drop}
-use Rattle.pml_start.specs.Begin.{shown}
+use Rattle.pml_start.specs.Shown.{shown}
 use Rattle.pml_start.specs.Bound.{most_cells}
-use Rattle.pml_start.specs.Start.{IsDeclared, first_state, kinds_begun}
+use Rattle.pml_start.specs.Start.{first_state, kinds_begun}
+use Rattle.pml_start.specs.Starting.{IsDeclared}
 use Rattle.pml_start.proofs.start.start_by.Given as goal
 
 -- what is begun by now, and then the processes of the other proctypes, is the first state

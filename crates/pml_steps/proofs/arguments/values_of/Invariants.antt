@@ -1,7 +1,7 @@
 use Rattle.std.proofs.Common.{◌≡◌, ◌++◌, Ok, drop}
 use Rattle.pml_eval.specs.Value.{◌>>=◌}
 use Rattle.pml_value.specs.Messages.{values}
-use Rattle.pml_value.specs.Reads.{seen}
+use Rattle.pml_value.specs.Seen.{seen}
 use Rattle.pml_steps.proofs.arguments.values_of.Given as goal
 
 -- the values so far and those of the rest are those of all

@@ -1,6 +1,6 @@
 use Rattle.std.proofs.Common.{◌≡◌, take, drop}
-use Rattle.pml_store.specs.Store.{before}
-use Rattle.pml_value.specs.Messages.{stored_all}
+use Rattle.pml_store.specs.Writing.{before}
+use Rattle.pml_value.specs.Storing.{stored_all}
 use Rattle.pml_steps.specs.Passing.{AreIn}
 use Rattle.pml_steps.proofs.pair.store_all.Given as goal
 

@@ -1,7 +1,7 @@
 use Rattle.std.proofs.Common.{◌≡◌, ◌++◌, Ok, drop, length}
 use Rattle.pml_eval.specs.Value.{◌>>=◌}
 use Rattle.pml_value.specs.Messages.{values}
-use Rattle.pml_value.specs.Reads.{seen}
+use Rattle.pml_value.specs.Seen.{seen}
 use Rattle.pml_value.proofs.message.add_values.Given as goal
 
 -- the values so far and those of the rest are those of all, one for each expression so far

@@ -1,8 +1,8 @@
 use Rattle.std.proofs.Common.{◌≡◌, ◌++◌, Ok, map, drop, length}
 use Rattle.pml_store.specs.Store.{size_at}
-use Rattle.pml_eval.specs.Pattern.{AreThere}
+use Rattle.pml_eval.specs.There.{AreThere}
 use Rattle.pml_eval.specs.Value.{want, wants_of, ◌>>=◌}
-use Rattle.pml_value.specs.Reads.{seen}
+use Rattle.pml_value.specs.Seen.{seen}
 use Rattle.pml_value.proofs.receive.add_wants.Given as goal
 
 -- what is asked so far and by the rest is what all ask, one field for each argument so far, and its places are there

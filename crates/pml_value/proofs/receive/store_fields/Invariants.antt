@@ -1,6 +1,7 @@
 use Rattle.std.proofs.Common.{◌≡◌, drop}
-use Rattle.pml_store.specs.Store.{size_at, before}
-use Rattle.pml_eval.specs.Pattern.{AreThere}
+use Rattle.pml_store.specs.Store.{size_at}
+use Rattle.pml_store.specs.Writing.{before}
+use Rattle.pml_eval.specs.There.{AreThere}
 use Rattle.pml_value.proofs.Storing.{Done}
 use Rattle.pml_value.proofs.receive.store_fields.Given as goal
 

@@ -1,5 +1,6 @@
 use Rattle.std.proofs.Common.{refl, None}
-use Rattle.devices.specs.Holdings.{Holdings, holding}
+use Rattle.devices.specs.Holdings.{Holdings}
+use Rattle.devices.specs.Doing.{holding}
 use Rattle.session.proofs.Conversions.{converts_counted, stands, breaks_off}
 use Rattle.session.proofs.Placing.{can_be_converted}
 use Rattle.session.proofs.converting.convert.Goals as goal

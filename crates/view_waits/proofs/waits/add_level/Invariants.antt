@@ -1,6 +1,6 @@
 use Rattle.std.proofs.Common.{◌≡◌, ◌++◌, ◌∷◌, [], drop, map, List, ℕ}
 use Rattle.pml_flow.specs.Flow.{Offer}
-use Rattle.pml_value.specs.Reads.{seen}
+use Rattle.pml_value.specs.Seen.{seen}
 use Rattle.pml_moves.specs.Scene.{shows}
 use Rattle.pml_moves.specs.Search.{each, pick}
 use Rattle.view_waits.specs.declared.waits.Wait.{Wait}

@@ -1,5 +1,5 @@
 use Rattle.std.proofs.Common.{◌≡◌, ◌++◌, drop}
-use Rattle.pml_value.specs.Reads.{seen}
+use Rattle.pml_value.specs.Seen.{seen}
 use Rattle.pml_moves.specs.Scene.{offers_at}
 use Rattle.pml_moves.specs.Search.{each}
 use Rattle.view_waits.specs.Waits.{waits_on}

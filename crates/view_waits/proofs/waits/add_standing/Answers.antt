@@ -2,7 +2,7 @@ use Rattle.std.proofs.Common.{◌≡◌, ◌∙◌, ◌++◌, ap, subst, List, S
 use Rattle.std.specs.Prelude.{OnOk}
 use Rattle.pml_eval.specs.Value.{Reading}
 use Rattle.pml_value.specs.declared.live_channel.LiveChannel.{LiveChannel}
-use Rattle.pml_value.specs.Reads.{seen}
+use Rattle.pml_value.specs.Seen.{seen}
 use Rattle.pml_moves.specs.Scene.{offers_at, stand_of}
 use Rattle.view_waits.specs.declared.waits.Wait.{Wait}
 use Rattle.view_waits.specs.Waits.{waits_at, waits_down}

@@ -1,6 +1,6 @@
 use Rattle.std.proofs.Common.{arith, ◌≡◌, ◌*◌, drop, length, length-drop}
 use Rattle.std.proofs.Math.Nat.{mul-le-mul_right}
-use Rattle.pml_channel.specs.State.{numbers_in, messages_in}
+use Rattle.pml_channel.specs.Laid.{numbers_in, messages_in}
 use Rattle.pml_channel.proofs.Keeping.{numbers-are}
 use Rattle.pml_channel.proofs.channel.Channel.numbers.Goals as goal
 

@@ -1,5 +1,6 @@
 use Rattle.std.proofs.Common.{◌≡◌, ◌<◌, ◌+◌, ◌++◌, length, drop, List, ℤ, ap, ◌∙◌, arith}
-use Rattle.pml_channel.specs.State.{cut, messages_in}
+use Rattle.pml_channel.specs.State.{cut}
+use Rattle.pml_channel.specs.Laid.{messages_in}
 use Rattle.pml_channel.proofs.Keeping.{length-messages, length-cut, sent, sent-laid}
 use Rattle.pml_channel.proofs.channel.Channel.send.Goals as goal
 

@@ -1,5 +1,5 @@
 use Rattle.std.proofs.Common.{sym}
-use Rattle.pml_value.specs.Reads.{seen}
+use Rattle.pml_value.specs.Seen.{seen}
 use Rattle.pml_moves.proofs.Offering.{fields-length}
 use Rattle.pml_moves.proofs.message.Message.len.Goals as goal
 

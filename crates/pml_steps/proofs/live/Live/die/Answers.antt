@@ -1,7 +1,7 @@
 use Rattle.std.proofs.Common.{rules, ◌≡◌, ◌+◌, ◌-◌, ◌<◌, ◌∙◌, ap, sym, length, map, take, arith, ℕ}
 use Rattle.std.proofs.lemmas.List.{length-map}
-use Rattle.pml_store.specs.Store.{Contents}
-use Rattle.pml_start.specs.Begin.{held}
+use Rattle.pml_store.specs.Writing.{Contents}
+use Rattle.pml_start.specs.Shown.{held}
 use Rattle.pml_start.proofs.Declaring.{frames_of_kinds}
 use Rattle.pml_moves.specs.declared.scene.Seat.{Seat}
 use Rattle.pml_moves.specs.Scene.{stand_of}

@@ -1,6 +1,6 @@
 use Rattle.std.proofs.Common.{rules, ◌≡◌, ◌∙◌, sym, subst, List, ℕ}
-use Rattle.pml_start.specs.Begin.{held}
-use Rattle.pml_start.specs.Start.{IsDeclared}
+use Rattle.pml_start.specs.Shown.{held}
+use Rattle.pml_start.specs.Starting.{IsDeclared}
 use Rattle.pml_steps.proofs.Creating.{kinds_are}
 use Rattle.pml_steps.proofs.live.Live.kinds.Goals as goal
 

@@ -1,6 +1,6 @@
 use Rattle.std.proofs.Common.{arith, length-take, List, ◌∙◌, sym, ap, refl}
 use Rattle.pml_store.specs.declared.store.FrameExtents.{FrameExtents}
-use Rattle.pml_store.specs.Store.{but_last}
+use Rattle.pml_store.specs.Writing.{but_last}
 use Rattle.pml_store.specs.Laid.{frames_of}
 use Rattle.pml_store.proofs.Frames.{IsLaid-pop, frames_of-pop}
 use Rattle.pml_store.proofs.Storing.{contents_is}

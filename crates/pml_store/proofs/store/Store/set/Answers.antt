@@ -1,7 +1,7 @@
 use Rattle.std.proofs.Common.{arith, rules, FitsSigned, w32, ℕ, ℤ, pos, set, ◌∙◌, ap}
 use Rattle.std.proofs.lemmas.List.{get_or_default}
 use Rattle.std.proofs.lemmas.Int.{to_z-of_z}
-use Rattle.pml_store.specs.Store.{before}
+use Rattle.pml_store.specs.Writing.{before}
 use Rattle.pml_store.specs.Laid.{frames_of}
 use Rattle.pml_store.proofs.Back.{before_set}
 use Rattle.pml_store.proofs.Places.{joined_is, index_is}

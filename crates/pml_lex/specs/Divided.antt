@@ -1,0 +1,27 @@
+-- What dividing a text answers.
+use Rattle.std.specs.Prelude.{◌<◌, ℕ, List, length}
+use Rattle.profile.specs.declared.TheConstants.{MOST_TEXT_BYTES}
+use Rattle.pml_lex.specs.declared.fault.LexFault.{LexFault}
+use Rattle.pml_lex.specs.declared.fault.LexFault.TheVariants.{Memory, TooLong, Lexical, LeftOut}
+use Rattle.pml_token.specs.Word.{Word}
+use Rattle.pml_lex.specs.Division.{line_behind, IsCut}
+use Rattle.pml_lex.specs.Rows.{AreOnLines}
+use Rattle.pml_lex.specs.Cut.{CannotBeCut, HoldsLeftOut}
+
+-- the fault is the least that applies
+abbrev pub IsLeast : List ℕ → LexFault → Type 0
+IsLeast text Memory = Unit {0}
+IsLeast text TooLong = MOST_TEXT_BYTES < length text
+IsLeast text (Lexical line) = CannotBeCut text line
+IsLeast text (LeftOut line) = HoldsLeftOut text line
+
+-- What the first half of `cut` answers. No clause of a public function cites it.
+pub record IsDivided (text : List ℕ) (ts : List Word) : Type 0 where
+  pub are_cut : IsCut text ts
+  pub on_lines : AreOnLines (line_behind text) ts
+
+abbrev pub IsUncut : List ℕ → LexFault → Type 0
+IsUncut text Memory = Unit {0}
+IsUncut text TooLong = ⊥
+IsUncut text (Lexical line) = CannotBeCut text line
+IsUncut text (LeftOut line) = ⊥
