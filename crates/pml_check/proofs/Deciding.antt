@@ -9,7 +9,7 @@ use Rattle.diagnostics.specs.declared.refusal.Refusal.{Refusal}
 use Rattle.diagnostics.specs.declared.refusal.Refusal.TheVariants as r
 use Rattle.pml_tree.specs.declared.tree.Tree.{Tree}
 use Rattle.pml_marks.specs.declared.mark.Mark.{Mark}
-use Rattle.pml_marks.specs.Marks.{of_tree}
+use Rattle.pml_marks.specs.MarksOfUnits.{of_tree}
 use Rattle.pml_conditions.specs.declared.condition.Condition.{Condition}
 use Rattle.pml_conditions.specs.declared.condition.Condition.TheVariants as condition
 use Rattle.pml_conditions.specs.Decided as marks
@@ -19,7 +19,7 @@ use Rattle.pml_control.specs.declared.ends.Ending.{Ending}
 use Rattle.pml_control.specs.declared.ends.Ending.TheVariants as ending
 use Rattle.pml_control.specs.Ends.{ending_of, AreEnds}
 use Rattle.pml_control.specs.Graph.{nodes_of, nexts, bad_step, spot_of}
-use Rattle.pml_control.specs.Control.{Circle, SettlesEverywhere, BadFirstPoint, FirstPointsFit}
+use Rattle.pml_control.specs.Circles.{Circle, SettlesEverywhere, BadFirstPoint, FirstPointsFit}
 use Rattle.pml_control.proofs.Circling.{stays_within, decides}
 use Rattle.pml_control.proofs.First.{decides_first}
 use Rattle.pml_program.specs.declared.program.Seq.{Seq}

@@ -4,7 +4,7 @@ use Rattle.std.specs.List.{AllByRecursion}
 use Rattle.profile.specs.declared.TheConstants.{MOST_CELLS}
 use Rattle.diagnostics.specs.declared.refusal.Refusal.TheVariants as r
 use Rattle.pml_tree.specs.declared.tree.Tree.{Tree}
-use Rattle.pml_marks.specs.Marks.{of_tree}
+use Rattle.pml_marks.specs.MarksOfUnits.{of_tree}
 use Rattle.pml_marks.specs.declared.mark.Constant.{Constant}
 use Rattle.pml_marks.specs.declared.mark.Constant.TheVariants as number
 use Rattle.pml_marks.specs.declared.mark.Role.TheVariants as role
@@ -17,7 +17,8 @@ use Rattle.pml_names.specs.Env.{told, env, env_from}
 use Rattle.pml_names.specs.Naming.{Before}
 use Rattle.pml_names.proofs.Firsts.{told-before}
 use Rattle.pml_conditions.specs.declared.condition.Condition.TheVariants as condition
-use Rattle.pml_conditions.specs.Conditions.{capacity, too_many, judged}
+use Rattle.pml_conditions.specs.Conditions.{judged}
+use Rattle.pml_conditions.specs.Ranges.{capacity, too_many}
 use Rattle.pml_conditions.specs.Decided as marks
 use Rattle.pml_program.specs.declared.program.Initial.{Initial}
 use Rattle.pml_program.specs.declared.program.Initial.TheVariants as i

@@ -6,7 +6,7 @@ use Rattle.diagnostics.specs.declared.refusal.Refusal.TheVariants as r
 use Rattle.diagnostics.specs.Words.{refusal_number}
 use Rattle.pml_tree.specs.declared.tree.Tree.{Tree}
 use Rattle.pml_marks.specs.declared.mark.Mark.{Mark}
-use Rattle.pml_marks.specs.Marks.{of_tree}
+use Rattle.pml_marks.specs.MarksOfUnits.{of_tree}
 use Rattle.pml_conditions.specs.declared.condition.Condition.{Condition}
 use Rattle.pml_conditions.specs.declared.condition.Condition.TheVariants as condition
 use Rattle.pml_conditions.specs.Decided as marks
@@ -15,7 +15,7 @@ use Rattle.pml_program.specs.declared.program.Program.{Program}
 use Rattle.pml_stands.specs.StandsModel.{StandsModel}
 use Rattle.pml_start.specs.Begin.{Begun}
 use Rattle.pml_start.specs.Start.{first_state}
-use Rattle.pml_control.specs.Control.{Circle, SettlesEverywhere, BadFirstPoint, FirstPointsFit}
+use Rattle.pml_control.specs.Circles.{Circle, SettlesEverywhere, BadFirstPoint, FirstPointsFit}
 
 -- ---- what is asked of control, of the body of each proctype, and of the first state
 

@@ -8,7 +8,8 @@ use Rattle.pml_names.specs.Env.{env, told}
 use Rattle.pml_names.specs.Meaning.{Naming}
 use Rattle.pml_names.specs.Naming.{Before, before}
 use Rattle.pml_names.proofs.Firsts.{told-before}
-use Rattle.pml_conditions.specs.Conditions.{Labels, Around}
+use Rattle.pml_conditions.specs.Conditions.{Around}
+use Rattle.pml_conditions.specs.Ranges.{Labels}
 use Rattle.pml_conditions.specs.Decided.{has_label, around}
 use Rattle.pml_conditions.specs.Structure.{is_label}
 use Rattle.pml_conditions.specs.Labels.{labels_of, told_around}

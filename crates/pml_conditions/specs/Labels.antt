@@ -5,7 +5,8 @@ use Rattle.pml_names.specs.declared.places.Places.{Places}
 use Rattle.pml_names.specs.Places.{IsKept, stands}
 use Rattle.pml_names.specs.Entry.{Entry, found}
 use Rattle.pml_names.specs.Env.{told}
-use Rattle.pml_conditions.specs.Conditions.{Labels, Around}
+use Rattle.pml_conditions.specs.Conditions.{Around}
+use Rattle.pml_conditions.specs.Ranges.{Labels}
 use Rattle.pml_conditions.specs.Decided.{has_label}
 
 abbrev pub labels_of : Places ℕ → Labels

@@ -1,3 +1,4 @@
+pub mod Ranges
 pub mod Conditions
 pub mod Structure
 pub mod Open

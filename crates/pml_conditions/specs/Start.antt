@@ -9,7 +9,7 @@ use Rattle.pml_marks.specs.declared.mark.What.TheVariants as what
 use Rattle.pml_marks.specs.declared.mark.Mark.{Mark}
 use Rattle.pml_names.specs.Meaning.{Naming}
 use Rattle.pml_names.specs.Naming.{form, length_of, before}
-use Rattle.pml_conditions.specs.Conditions.{capacity}
+use Rattle.pml_conditions.specs.Ranges.{capacity}
 
 -- whether processes begin here
 abbrev pub begins : What → Bool

@@ -2,7 +2,8 @@
 
 ghost use Rattle.std.specs.Prelude.{◌≡◌, ◌+◌, ◌*◌, ◌<◌, ◌^◌, nat_lt, ℕ, pos};
 ghost use Rattle.pml_conditions.specs.Labels.{labels_of};
-ghost use Rattle.pml_conditions.specs.Conditions.{twice, conversions, is_conversion, inside, other_count, mislabelled, is_outside, out_of, out_of_range, capacity, too_many};
+ghost use Rattle.pml_conditions.specs.Conditions.{twice, conversions, is_conversion, inside, other_count};
+ghost use Rattle.pml_conditions.specs.Ranges.{mislabelled, is_outside, out_of, out_of_range, capacity, too_many};
 ghost use Rattle.pml_names.specs.Entry.{found};
 ghost use Rattle.pml_names.specs.Env.{told};
 ghost use Rattle.pml_names.specs.Naming.{stride, length_of};

@@ -20,7 +20,7 @@ use Rattle.pml_lex.proofs.Scan.{next_is}
 use Rattle.pml_lex.proofs.Steps.{Reached, reached_start, reached_more, reached_end, reached_none}
 use Rattle.pml_lex.proofs.Rows.{too_deep_from, too_deep_is, none_at_all}
 use Rattle.pml_tree.specs.declared.tree.Tree.{Tree}
-use Rattle.pml_syntax.specs.Grammar.{Spells}
+use Rattle.pml_syntax.specs.GrammarOfUnits.{Spells}
 use Rattle.pml_syntax.specs.ReadingUnits as reading
 use Rattle.pml_syntax.proofs.Whole.{is_found, is_none}
 use Rattle.pml_resolve.specs.Model.{numbered_model}

@@ -14,7 +14,7 @@ use Rattle.pml_lex.proofs.Steps.{one_list}
 use Rattle.pml_inline.specs.Expansion.{Expands}
 use Rattle.pml_inline.proofs.Whole.{one_result}
 use Rattle.pml_tree.specs.declared.tree.Tree.{Tree}
-use Rattle.pml_syntax.specs.Grammar.{Spells}
+use Rattle.pml_syntax.specs.GrammarOfUnits.{Spells}
 use Rattle.pml_syntax.proofs.Whole as trees
 use Rattle.pml_program.specs.declared.program.Program.{Program}
 use Rattle.pml_stands.specs.StandsModel.{StandsModel}

@@ -28,7 +28,7 @@ use Rattle.pml_inline.proofs.Keeping.{kept}
 use Rattle.pml_tree.specs.declared.tree.Tree.{Tree}
 use Rattle.pml_syntax.specs.declared.program.SyntaxFault.{SyntaxFault}
 use Rattle.pml_syntax.specs.declared.program.SyntaxFault.TheVariants as syntax
-use Rattle.pml_syntax.specs.Grammar.{Spells}
+use Rattle.pml_syntax.specs.GrammarOfUnits.{Spells}
 use Rattle.pml_syntax.specs.Answer.{Answers}
 use Rattle.pml_check.specs.declared.checked.CheckFault.{CheckFault}
 use Rattle.pml_check.specs.declared.checked.CheckFault.TheVariants as check

@@ -6,7 +6,7 @@ use Rattle.pml_lex.specs.Cut.{AreTokens, IsLine}
 use Rattle.pml_lex.specs.Limits.{IsTooDeep}
 use Rattle.pml_inline.specs.Brackets.{has_inline}
 use Rattle.pml_tree.specs.declared.tree.Tree.{Tree}
-use Rattle.pml_syntax.specs.Grammar.{Spells}
+use Rattle.pml_syntax.specs.GrammarOfUnits.{Spells}
 use Rattle.pml_play.specs.Transcript.{IsRefused, IsSpelled}
 
 -- the text's tokens, and no word `inline` is among them

@@ -11,7 +11,7 @@ use Rattle.profile.specs.declared.TheConstants.{MOST_TEXT_BYTES}
 use Rattle.pml_lex.specs.Cut.{IsLine, AreTokens, CannotBeCut, HoldsLeftOut}
 use Rattle.pml_inline.specs.Expansion.{Expands, IsExpanded, GoesTooDeep}
 use Rattle.pml_tree.specs.declared.tree.Tree.{Tree}
-use Rattle.pml_syntax.specs.Grammar.{Spells}
+use Rattle.pml_syntax.specs.GrammarOfUnits.{Spells}
 use Rattle.pml_stands.specs.StandsModel.{StandsModel}
 use Rattle.pml_check.specs.Judged.{IsFit, IsLeast}
 use Rattle.pml_program.specs.declared.program.Program.{Program}

@@ -8,7 +8,7 @@ ghost use Rattle.session.specs.Session.{end_of, transcript};
 ghost use Rattle.pml_sim.specs.World.{rules};
 ghost use Rattle.session.specs.Writes.{CountsAll, IsOwnEnd, Runs};
 ghost use Rattle.pml_lex.specs.Cut.{AreTokens};
-ghost use Rattle.pml_syntax.specs.Grammar.{Spells};
+ghost use Rattle.pml_syntax.specs.GrammarOfUnits.{Spells};
 ghost use Rattle.pml_play.specs.Transcript.{AreExpanded, IsModel, IsSpelled, IsTranscript};
 ghost use Rattle.pml_play.specs.Parts as parts;
 ghost use Rattle.pml_play.specs.Plays.{PlaysWhole, PlaysBroken};

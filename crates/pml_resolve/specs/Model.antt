@@ -7,7 +7,7 @@ use Rattle.pml_tree.specs.declared.tree.Unit.{Unit as Part}
 use Rattle.pml_tree.specs.declared.tree.Unit.TheVariants as part
 use Rattle.pml_tree.specs.declared.tree.Tree.{Tree}
 use Rattle.pml_marks.specs.Constant.{constant}
-use Rattle.pml_marks.specs.Marks.{of_constants, of_tree}
+use Rattle.pml_marks.specs.MarksOfUnits.{of_constants, of_tree}
 use Rattle.pml_marks.specs.declared.mark.Declared.TheVariants as declared_as
 use Rattle.pml_marks.specs.declared.mark.What.TheVariants as what
 use Rattle.pml_marks.specs.declared.mark.Role.TheVariants as role

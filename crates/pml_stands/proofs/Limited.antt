@@ -5,7 +5,8 @@ use Rattle.profile.specs.declared.TheConstants.{MOST_CELLS}
 use Rattle.pml_tree.specs.declared.tree.Unit.{Unit as Part}
 use Rattle.pml_tree.specs.declared.tree.Unit.TheVariants as part
 use Rattle.pml_tree.specs.declared.tree.Tree.{Tree}
-use Rattle.pml_marks.specs.Marks.{one, of_variables, of_unit, of_units, of_tree, proctypes_past}
+use Rattle.pml_marks.specs.Marks.{one, of_variables}
+use Rattle.pml_marks.specs.MarksOfUnits.{of_unit, of_units, of_tree, proctypes_past}
 use Rattle.pml_marks.specs.declared.mark.Mark.{Mark}
 use Rattle.pml_marks.specs.declared.mark.Declared.TheVariants as declared_as
 use Rattle.pml_marks.specs.declared.mark.Role.{Role}

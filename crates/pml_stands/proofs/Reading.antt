@@ -6,7 +6,7 @@ use Rattle.std.proofs.lemmas.List.{reverse-append}
 use Rattle.pml_token.specs.Word.{Word}
 use Rattle.pml_tree.specs.declared.tree.Variable.{Variable as TreeVariable}
 use Rattle.pml_tree.specs.declared.tree.Unit.{Unit as Part}
-use Rattle.pml_marks.specs.Marks.{constant_mark}
+use Rattle.pml_marks.specs.MarksOfUnits.{constant_mark}
 use Rattle.pml_marks.specs.declared.mark.Declared.{Declared}
 use Rattle.pml_marks.specs.declared.mark.Declared.TheVariants as declared_as
 use Rattle.pml_marks.specs.declared.mark.What.TheVariants as what

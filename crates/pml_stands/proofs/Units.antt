@@ -10,7 +10,7 @@ use Rattle.pml_tree.specs.declared.tree.Proctype.{Proctype as TreeProctype}
 use Rattle.pml_tree.specs.declared.tree.Unit.{Unit as Part}
 use Rattle.pml_tree.specs.declared.tree.Unit.TheVariants as part
 use Rattle.pml_marks.specs.Constant.{constant}
-use Rattle.pml_marks.specs.Marks.{constant_mark}
+use Rattle.pml_marks.specs.MarksOfUnits.{constant_mark}
 use Rattle.pml_marks.specs.declared.mark.Declared.TheVariants as declared_as
 use Rattle.pml_marks.specs.declared.mark.What.TheVariants as what
 use Rattle.pml_marks.specs.declared.mark.Role.TheVariants as role

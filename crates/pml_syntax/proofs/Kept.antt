@@ -5,7 +5,9 @@ use Rattle.pml_tree.specs.declared.tree.Basic.{Basic}
 use Rattle.pml_tree.specs.declared.tree.Item.{Item}
 use Rattle.pml_expression.specs.Grammar.{between, SpellsExpr, SpellsList}
 use Rattle.pml_syntax.specs.Grammar as grammar
-use Rattle.pml_syntax.specs.Grammar.{SpellsScalar, SpellsRun, SpellsValues, SpellsAction, SpellsVisibility, SpellsOpener, SpellsInitial, SpellsVariable, SpellsVariables, SpellsDeclaration, SpellsSeparators, SpellsGap, SpellsLabels, SpellsBasic, SpellsStatement, SpellsItem, SpellsItems, SpellsOptions}
+use Rattle.pml_syntax.specs.GrammarOfStatements as grammarofstatements
+use Rattle.pml_syntax.specs.Grammar.{SpellsScalar, SpellsRun, SpellsValues, SpellsAction, SpellsVisibility, SpellsOpener, SpellsInitial, SpellsVariable, SpellsVariables, SpellsDeclaration, SpellsBasic, SpellsStatement, SpellsItem, SpellsItems, SpellsOptions}
+use Rattle.pml_syntax.specs.GrammarOfStatements.{SpellsSeparators, SpellsGap, SpellsLabels}
 use Rattle.pml_expression.proofs.Kept.{Leads, here, past, ◌then◌, step, index_leads, reference_leads, expr_leads, arguments_lead, list_leads, cut}
 use Rattle.pml_syntax.proofs.Ranges.{range_leads}
 
@@ -68,46 +70,46 @@ pub declaration_leads : {closed : Bool} {vs : _} {from to : List Word} → Spell
 declaration_leads (grammar.declaration v f vs) = visibility_leads v then opener_leads f then variables_lead vs
 
 pub separators_lead : {from to : List Word} → SpellsSeparators from to → Leads from to
-separators_lead grammar.no_separator = here
-separators_lead (grammar.one_separator _ s) = past (separators_lead s)
+separators_lead grammarofstatements.no_separator = here
+separators_lead (grammarofstatements.one_separator _ s) = past (separators_lead s)
 
 pub gap_leads : {closed : Bool} {from to : List Word} → SpellsGap closed from to → Leads from to
-gap_leads (grammar.separated _ s) = past (separators_lead s)
-gap_leads grammar.joined = here
+gap_leads (grammarofstatements.separated _ s) = past (separators_lead s)
+gap_leads grammarofstatements.joined = here
 
 pub labels_lead : {ls from to : List Word} → SpellsLabels ls from to → Leads from to
-labels_lead grammar.no_label = here
-labels_lead (grammar.one_label _ _ ls) = past (past (labels_lead ls))
+labels_lead grammarofstatements.no_label = here
+labels_lead (grammarofstatements.one_label _ _ ls) = past (past (labels_lead ls))
 
 mutual
   basic_leads : {closed : Bool} {x : Basic} {from to : List Word} → SpellsBasic closed x from to → Leads from to
-  basic_leads (grammar.if_fi _ os _) = past (step (options_lead os))
-  basic_leads (grammar.do_od _ os _) = past (step (options_lead os))
-  basic_leads (grammar.block _ xs _) = past (step (items_lead xs))
-  basic_leads (grammar.atomic _ _ xs _) = past (past (step (items_lead xs)))
-  basic_leads (grammar.d_step _ _ xs _) = past (past (step (items_lead xs)))
-  basic_leads (grammar.for_loop r _ xs _) = step (range_leads r) then step (items_lead xs)
-  basic_leads (grammar.select r) = range_leads r
-  basic_leads (grammar.goto _ _) = past (past here)
-  basic_leads (grammar.break _) = past here
-  basic_leads (grammar.action x) = action_leads x
+  basic_leads (grammarofstatements.if_fi _ os _) = past (step (options_lead os))
+  basic_leads (grammarofstatements.do_od _ os _) = past (step (options_lead os))
+  basic_leads (grammarofstatements.block _ xs _) = past (step (items_lead xs))
+  basic_leads (grammarofstatements.atomic _ _ xs _) = past (past (step (items_lead xs)))
+  basic_leads (grammarofstatements.d_step _ _ xs _) = past (past (step (items_lead xs)))
+  basic_leads (grammarofstatements.for_loop r _ xs _) = step (range_leads r) then step (items_lead xs)
+  basic_leads (grammarofstatements.select r) = range_leads r
+  basic_leads (grammarofstatements.goto _ _) = past (past here)
+  basic_leads (grammarofstatements.break _) = past here
+  basic_leads (grammarofstatements.action x) = action_leads x
 
   pub statement_leads : {closed : Bool} {x : Item} {from to : List Word} → SpellsStatement closed x from to → Leads from to
-  statement_leads (grammar.statement ls x) = labels_lead ls then basic_leads x
+  statement_leads (grammarofstatements.statement ls x) = labels_lead ls then basic_leads x
 
   pub item_leads : {s closed : Bool} {x : Item} {from to : List Word} → SpellsItem s closed x from to → Leads from to
-  item_leads (grammar.declared d) = declaration_leads d
-  item_leads (grammar.exclusive _ rs) = past (list_leads (λ r from to s. reference_leads s) rs)
-  item_leads (grammar.only x) = statement_leads x
-  item_leads (grammar.unless x _ y) = step (statement_leads x) then statement_leads y
+  item_leads (grammarofstatements.declared d) = declaration_leads d
+  item_leads (grammarofstatements.exclusive _ rs) = past (list_leads (λ r from to s. reference_leads s) rs)
+  item_leads (grammarofstatements.only x) = statement_leads x
+  item_leads (grammarofstatements.unless x _ y) = step (statement_leads x) then statement_leads y
 
   pub items_lead : {s : Bool} {xs : List Item} {from to : List Word} → SpellsItems s xs from to → Leads from to
-  items_lead (grammar.last_item x s) = item_leads x then separators_lead s
-  items_lead (grammar.more_items x g xs) = item_leads x then gap_leads g then items_lead xs
+  items_lead (grammarofstatements.last_item x s) = item_leads x then separators_lead s
+  items_lead (grammarofstatements.more_items x g xs) = item_leads x then gap_leads g then items_lead xs
 
   pub options_lead : {os : _} {from to : List Word} → SpellsOptions os from to → Leads from to
-  options_lead (grammar.last_option _ xs) = past (items_lead xs)
-  options_lead (grammar.more_options _ xs os) = past (items_lead xs then options_lead os)
+  options_lead (grammarofstatements.last_option _ xs) = past (items_lead xs)
+  options_lead (grammarofstatements.more_options _ xs os) = past (items_lead xs then options_lead os)
 
 -- what a statement keeps as its tokens is what it took from the front
 pub tokens_kept : {closed : Bool} {x : Basic} {from to : List Word} → SpellsBasic closed x from to → from ≡ between from to ++ to

@@ -1,5 +1,7 @@
 pub mod Answer
 pub mod Grammar
+pub mod GrammarOfStatements
+pub mod GrammarOfUnits
 pub mod Starts
 pub mod ReadingStatements
 pub mod ReadingUnits

@@ -36,7 +36,8 @@ use Rattle.pml_syntax.specs.declared.starts.Change.TheVariants as c
 use Rattle.pml_syntax.specs.declared.range.Counter.{Counter}
 use Rattle.pml_syntax.specs.declared.range.Bound.{Bound}
 use Rattle.pml_syntax.specs.declared.range.Range.{Range}
-use Rattle.pml_syntax.specs.Grammar.{scalar, is_visibility, is_exclusive, is_separator, run_of, variable_of, item_of, seq_of, counter_of, bound_of, range_of, for_of, select_of}
+use Rattle.pml_syntax.specs.Grammar.{scalar, is_visibility, is_exclusive, is_separator, run_of, variable_of, item_of, seq_of, counter_of, bound_of, range_of}
+use Rattle.pml_syntax.specs.GrammarOfStatements.{for_of, select_of}
 use Rattle.pml_syntax.specs.Starts.{opening, deed, change, declares, is_end}
 
 -- whether `run` stands behind any number of `(`

@@ -5,6 +5,7 @@ ghost use Rattle.pml_tree.specs.declared.tree.Action.TheVariants as a;
 ghost use Rattle.pml_tree.specs.declared.tree.Expr.TheVariants as e;
 ghost use Rattle.pml_tree.specs.declared.tree.Basic.TheVariants as b;
 ghost use Rattle.pml_syntax.specs.Grammar as grammar;
+ghost use Rattle.pml_syntax.specs.GrammarOfStatements as grammarofstatements;
 
 use crate::boxes;
 use crate::range::{Bound, Counter, Range};
@@ -115,7 +116,7 @@ fn setting<'a>(
     named: &[Token<'a>],
     first: Bound<'a>,
 ) -> Result<Items<Item<'a>>, AllocError>
-    ensures { IfOk result (λ r. r ≡ grammar.setting line variable.entry named.now first.entry ∷ []) }
+    ensures { IfOk result (λ r. r ≡ grammarofstatements.setting line variable.entry named.now first.entry ∷ []) }
 {
     let Bound { value, tokens } = first;
     let action = Boxed::new(alloc, Action::Assign(variable.into_inner(), value))?;
@@ -152,7 +153,7 @@ fn comparing<'a>(
     named: &[Token<'a>],
     last: Bound<'a>,
 ) -> Result<Items<Item<'a>>, AllocError>
-    ensures { IfOk result (λ r. r ≡ grammar.comparing operator word.entry variable.entry named.now last.entry ∷ []) }
+    ensures { IfOk result (λ r. r ≡ grammarofstatements.comparing operator word.entry variable.entry named.now last.entry ∷ []) }
 {
     let Bound { value, tokens } = last;
     let action = compared(alloc, operator, variable, value)?;
@@ -167,7 +168,7 @@ fn raising<'a>(
     variable: Boxed<Reference<'a>>,
     named: &[Token<'a>],
 ) -> Result<Items<Item<'a>>, AllocError>
-    ensures { IfOk result (λ r. r ≡ grammar.raising line variable.entry named.now ∷ []) }
+    ensures { IfOk result (λ r. r ≡ grammarofstatements.raising line variable.entry named.now ∷ []) }
 {
     let action = Boxed::new(alloc, Action::Increment(variable.into_inner()))?;
     let word = Token::new(Kind::Increment, b"++", line);
@@ -177,7 +178,7 @@ fn raising<'a>(
 
 /// The `else` of a `for`.
 fn otherwise<'a>(alloc: Global, line: u32) -> Result<Items<Item<'a>>, AllocError>
-    ensures { IfOk result (λ r. r ≡ grammar.otherwise_item line ∷ []) }
+    ensures { IfOk result (λ r. r ≡ grammarofstatements.otherwise_item line ∷ []) }
 {
     let action = Boxed::new(alloc, Action::Else)?;
     let tokens = around(alloc, &[], Token::new(Kind::Else, b"else", line), &[])?;
@@ -185,7 +186,7 @@ fn otherwise<'a>(alloc: Global, line: u32) -> Result<Items<Item<'a>>, AllocError
 }
 
 fn breaking<'a>(alloc: Global, line: u32) -> Result<Items<Item<'a>>, AllocError>
-    ensures { IfOk result (λ r. r ≡ grammar.breaking line ∷ []) }
+    ensures { IfOk result (λ r. r ≡ grammarofstatements.breaking line ∷ []) }
 {
     let tokens = around(alloc, &[], Token::new(Kind::Break, b"break", line), &[])?;
     let basic = boxes::leave(alloc)?;
@@ -199,7 +200,7 @@ fn turning<'a>(
     on: Items<Item<'a>>,
     out: Items<Item<'a>>,
 ) -> Result<Items<Item<'a>>, AllocError>
-    ensures { IfOk result (λ r. r ≡ grammar.turning line (grammar.seq_of on.entry ∷ grammar.seq_of out.entry ∷ []) ∷ []) }
+    ensures { IfOk result (λ r. r ≡ grammarofstatements.turning line (grammar.seq_of on.entry ∷ grammar.seq_of out.entry ∷ []) ∷ []) }
 {
     let options = two_options(alloc, on, out)?;
     let tokens = around(alloc, &[], Token::new(Kind::Do, b"do", line), &[])?;
@@ -215,7 +216,7 @@ fn raised_behind<'a>(
     named: &[Token<'a>],
     items: Items<Item<'a>>,
 ) -> Result<Items<Item<'a>>, AllocError>
-    ensures { IfOk result (λ r. r ≡ items.entry ++ grammar.raising line variable.entry named.now ∷ []) }
+    ensures { IfOk result (λ r. r ≡ items.entry ++ grammarofstatements.raising line variable.entry named.now ∷ []) }
 {
     let raise = raising(alloc, line, variable, named)?;
     joined(items, raise)
@@ -230,7 +231,7 @@ fn for_on<'a>(
     last: Bound<'a>,
     items: Items<Item<'a>>,
 ) -> Result<Items<Item<'a>>, AllocError>
-    ensures { IfOk result (λ r. r ≡ grammar.at_most line variable.entry named.now last.entry ∷ items.entry) }
+    ensures { IfOk result (λ r. r ≡ grammarofstatements.at_most line variable.entry named.now last.entry ∷ items.entry) }
 {
     let word = Token::new(Kind::AtMost, b"<=", line);
     let test = comparing(alloc, Infix::AtMost, word, variable, named, last)?;
@@ -239,7 +240,7 @@ fn for_on<'a>(
 
 /// The option that ends a `for`.
 fn for_out<'a>(alloc: Global, line: u32) -> Result<Items<Item<'a>>, AllocError>
-    ensures { IfOk result (λ r. grammar.seq_of r ≡ grammar.for_out line) }
+    ensures { IfOk result (λ r. grammar.seq_of r ≡ grammarofstatements.for_out line) }
 {
     let first = otherwise(alloc, line)?;
     let second = breaking(alloc, line)?;
@@ -255,7 +256,7 @@ fn select_on<'a>(
     named: &[Token<'a>],
     last: Bound<'a>,
 ) -> Result<Items<Item<'a>>, AllocError>
-    ensures { IfOk result (λ r. grammar.seq_of r ≡ grammar.select_on line compared.entry raised.entry named.now last.entry) }
+    ensures { IfOk result (λ r. grammar.seq_of r ≡ grammarofstatements.select_on line compared.entry raised.entry named.now last.entry) }
 {
     let word = Token::new(Kind::Less, b"<", line);
     let test = comparing(alloc, Infix::Below, word, compared, named, last)?;
@@ -271,7 +272,7 @@ fn counted<'a>(
     on: Items<Item<'a>>,
     out: Items<Item<'a>>,
 ) -> Result<Boxed<Basic<'a>>, AllocError>
-    ensures { IfOk result (λ r. r ≡ b.Block (grammar.seq_of (set.entry ++ grammar.turning line (grammar.seq_of on.entry ∷ grammar.seq_of out.entry ∷ []) ∷ []))) }
+    ensures { IfOk result (λ r. r ≡ b.Block (grammar.seq_of (set.entry ++ grammarofstatements.turning line (grammar.seq_of on.entry ∷ grammar.seq_of out.entry ∷ []) ∷ []))) }
 {
     let turns = turning(alloc, line, on, out)?;
     let items = joined(set, turns)?;
@@ -284,7 +285,7 @@ pub fn for_of<'a>(
     range: Boxed<Range<'a>>,
     items: Items<Item<'a>>,
 ) -> Result<Boxed<Basic<'a>>, AllocError>
-    ensures { IfOk result (λ r. r ≡ grammar.for_of range.entry items.entry) }
+    ensures { IfOk result (λ r. r ≡ grammarofstatements.for_of range.entry items.entry) }
 {
     let Range {
         counter,
@@ -308,7 +309,7 @@ pub fn for_of<'a>(
 
 /// What a `select` stands for.
 pub fn select_of<'a>(alloc: Global, range: Boxed<Range<'a>>) -> Result<Boxed<Basic<'a>>, AllocError>
-    ensures { IfOk result (λ r. r ≡ grammar.select_of range.entry) }
+    ensures { IfOk result (λ r. r ≡ grammarofstatements.select_of range.entry) }
 {
     let Range {
         counter,
