@@ -58,14 +58,7 @@ condition_of r.NumberOutOfRange = Some condition.Range
 condition_of r.TooManyCells = Some condition.Cells
 condition_of r.NoProcess = Some condition.NoProcess
 condition_of r.TooManyAtStart = Some condition.Start
-condition_of r.TextTooLong = None
-condition_of r.Lexical = None
-condition_of r.LeftOut = None
-condition_of r.TooDeep = None
-condition_of r.Syntax = None
-condition_of r.CircleOfGotos = None
-condition_of r.Initialiser = None
-condition_of r.Inline = None
+condition_of _ = None
 
 -- the marks break it
 abbrev pub BreaksCondition : Option Condition → List Mark → Type 0

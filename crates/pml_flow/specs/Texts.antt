@@ -4,12 +4,12 @@ use Rattle.std.specs.List.{flat_map}
 use Rattle.std.specs.Fmt.{decimal}
 use Rattle.pml_token.specs.Word.{Word}
 use Rattle.pml_program.specs.declared.program.Stmt.{Stmt}
-use Rattle.pml_program.specs.declared.program.Basic.{Basic, Plain, Goto, Break, If', Do', Block, Atomic, DStep, Unless}
+use Rattle.pml_program.specs.declared.program.Basic.{Basic, DStep}
 use Rattle.pml_flow.specs.Marks.{first_line}
 
 -- a token behind a space
 abbrev pub spaced : Word → List ℕ
-spaced w = 32 ∷ w.text
+spaced w = codes " " ++ w.text
 
 -- tokens, joined by one space
 abbrev pub joined : List Word → List ℕ
@@ -18,15 +18,8 @@ joined (w ∷ ws) = w.text ++ flat_map spaced ws
 
 -- a statement's tokens, or `d_step`
 abbrev pub action : Basic → List Word → List ℕ
-action (Plain a) ts = joined ts
-action (Goto l) ts = joined ts
-action Break ts = joined ts
-action (If' m row) ts = joined ts
-action (Do' m row) ts = joined ts
-action (Block s) ts = joined ts
-action (Atomic s) ts = joined ts
 action (DStep s) ts = codes "d_step"
-action (Unless s e) ts = joined ts
+action _ ts = joined ts
 
 -- the line of an offered statement, in its text and by itself
 abbrev pub offer_line : Stmt → ℕ

@@ -67,14 +67,7 @@ ready lossy cs r in_d_step (a.Run q) = Ok (int_lt r.process_count (pos MOST_PROC
 ready lossy cs r in_d_step (a.Send t order es) = named cs r t (length es) >>= λ c. can_send lossy in_d_step c.contents (values es r)
 ready lossy cs r in_d_step (a.Receive t search _ ws) =
     named cs r t (length ws) >>= λ c. can_receive search c.contents (asked_by ws r)
-ready lossy cs r in_d_step a.Else = Ok true
-ready lossy cs r in_d_step (a.Assign x e) = Ok true
-ready lossy cs r in_d_step (a.AssignRun x q) = Ok true
-ready lossy cs r in_d_step (a.Increment x) = Ok true
-ready lossy cs r in_d_step (a.Decrement x) = Ok true
-ready lossy cs r in_d_step (a.Printf text es) = Ok true
-ready lossy cs r in_d_step (a.Printm e) = Ok true
-ready lossy cs r in_d_step (a.Assert e) = Ok true
+ready lossy cs r in_d_step _ = Ok true
 
 -- to take what has no value is the fault
 abbrev pub or_fault : Result Bool Fault → Bool

@@ -5,7 +5,7 @@ use Rattle.std.specs.Ordering.{int_eq}
 use Rattle.diagnostics.specs.declared.fault.Fault.{Fault}
 use Rattle.pml_program.specs.declared.program.Action.{Action}
 use Rattle.pml_program.specs.declared.program.Action.TheVariants as a
-use Rattle.pml_program.specs.declared.program.Basic.{Basic, Plain, Goto, Break, If', Do', Block, Atomic, DStep, Unless}
+use Rattle.pml_program.specs.declared.program.Basic.{Basic, Plain, DStep}
 use Rattle.pml_program.specs.declared.program.Seq.{Seq}
 use Rattle.pml_control.specs.Control.{Control}
 use Rattle.pml_flow.specs.Flow.{Offer}
@@ -58,15 +58,7 @@ is_else x = false
 -- whether a statement can be taken inside a d_step
 abbrev pub can_inside : Bool → List LiveChannel → Reading → Option Basic → Bool
 can_inside lossy cs r (Some (Plain x)) = can lossy cs r true x
-can_inside lossy cs r (Some (Goto l)) = true
-can_inside lossy cs r (Some Break) = true
-can_inside lossy cs r (Some (If' m row)) = true
-can_inside lossy cs r (Some (Do' m row)) = true
-can_inside lossy cs r (Some (Block s)) = true
-can_inside lossy cs r (Some (Atomic s)) = true
-can_inside lossy cs r (Some (DStep s)) = true
-can_inside lossy cs r (Some (Unless s e)) = true
-can_inside lossy cs r None = true
+can_inside lossy cs r _ = true
 
 -- an offer that is no `else`, and that can be taken
 abbrev pub is_choice : Bool → List LiveChannel → Reading → Offer → Bool
@@ -92,14 +84,7 @@ first (x ∷ xs) = Some x
 abbrev pub can_alone : Bool → List LiveChannel → Reading → Seq → Offer → Option Basic → Bool
 can_alone lossy cs r b o (Some (Plain x)) = can lossy cs r false x
 can_alone lossy cs r b o (Some (DStep d)) = is_some (choices lossy cs r (levels_from b o.entry))
-can_alone lossy cs r b o (Some (Goto l)) = true
-can_alone lossy cs r b o (Some Break) = true
-can_alone lossy cs r b o (Some (If' m row)) = true
-can_alone lossy cs r b o (Some (Do' m row)) = true
-can_alone lossy cs r b o (Some (Block s)) = true
-can_alone lossy cs r b o (Some (Atomic s)) = true
-can_alone lossy cs r b o (Some (Unless s e)) = true
-can_alone lossy cs r b o None = true
+can_alone lossy cs r b o _ = true
 
 -- a statement that can be taken whatever the state is
 abbrev pub NeedsNothing : Option Basic → Type 0
@@ -126,30 +111,12 @@ message_on (Err f) vs = None
 -- what a statement offers to receivers, if nothing in it has a fault
 abbrev pub message_by : List LiveChannel → Reading → Action → Option Message
 message_by cs r (a.Send t order es) = message_on (named cs r t (length es)) (values es r)
-message_by cs r a.Else = None
-message_by cs r (a.Assign x e) = None
-message_by cs r (a.AssignRun x q) = None
-message_by cs r (a.Increment x) = None
-message_by cs r (a.Decrement x) = None
-message_by cs r (a.Run q) = None
-message_by cs r (a.Receive t search how ws) = None
-message_by cs r (a.Printf text es) = None
-message_by cs r (a.Printm e) = None
-message_by cs r (a.Assert e) = None
-message_by cs r (a.Holds e) = None
+message_by cs r _ = None
 
 -- the message that a statement hands over, if it sends over a rendezvous channel
 abbrev pub message : List LiveChannel → Reading → Option Basic → Option Message
 message cs r (Some (Plain x)) = message_by cs r x
-message cs r (Some (Goto l)) = None
-message cs r (Some Break) = None
-message cs r (Some (If' m row)) = None
-message cs r (Some (Do' m row)) = None
-message cs r (Some (Block s)) = None
-message cs r (Some (Atomic s)) = None
-message cs r (Some (DStep s)) = None
-message cs r (Some (Unless s e)) = None
-message cs r None = None
+message cs r _ = None
 
 -- by what a view has
 abbrev pub message_in : View → Option Basic → Option Message
@@ -168,30 +135,12 @@ accepts_on (Err f) ws m = false
 -- whether a statement receives this message
 abbrev pub accepts_by : List LiveChannel → Reading → Message → Action → Bool
 accepts_by cs r m (a.Receive t search how ws) = accepts_on (named cs r t (length ws)) (asked_by ws r) m
-accepts_by cs r m a.Else = false
-accepts_by cs r m (a.Assign x e) = false
-accepts_by cs r m (a.AssignRun x q) = false
-accepts_by cs r m (a.Increment x) = false
-accepts_by cs r m (a.Decrement x) = false
-accepts_by cs r m (a.Run q) = false
-accepts_by cs r m (a.Send t order es) = false
-accepts_by cs r m (a.Printf text es) = false
-accepts_by cs r m (a.Printm e) = false
-accepts_by cs r m (a.Assert e) = false
-accepts_by cs r m (a.Holds e) = false
+accepts_by cs r m _ = false
 
 -- a statement receives this message
 abbrev pub accepts : List LiveChannel → Reading → Message → Option Basic → Bool
 accepts cs r m (Some (Plain x)) = accepts_by cs r m x
-accepts cs r m (Some (Goto l)) = false
-accepts cs r m (Some Break) = false
-accepts cs r m (Some (If' n row)) = false
-accepts cs r m (Some (Do' n row)) = false
-accepts cs r m (Some (Block s)) = false
-accepts cs r m (Some (Atomic s)) = false
-accepts cs r m (Some (DStep s)) = false
-accepts cs r m (Some (Unless s e)) = false
-accepts cs r m None = false
+accepts cs r m _ = false
 
 -- an offer by its process, its level and its place there
 abbrev pub pick : ℕ → ℕ → ℕ → Pick

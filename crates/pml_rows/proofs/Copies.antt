@@ -21,7 +21,7 @@ use Rattle.pml_program.specs.declared.expr.Target.{Target, out-Target}
 use Rattle.pml_program.specs.declared.expr.Want.{Want}
 use Rattle.pml_program.specs.declared.form.Form.{Form}
 use Rattle.pml_program.specs.declared.program.Action.{Action}
-use Rattle.pml_program.specs.declared.program.Basic.{Atomic, Basic, Block, Break, DStep, Do', Goto, If', Plain, Unless}
+use Rattle.pml_program.specs.declared.program.Basic.{Basic, DStep, Plain}
 use Rattle.pml_program.specs.declared.program.Fields.{Fields}
 use Rattle.pml_program.specs.declared.program.Initial.{Initial}
 use Rattle.pml_program.specs.declared.program.Proctype.{Proctype}
@@ -48,7 +48,7 @@ use Rattle.pml_value.specs.declared.statement.Goes.{Goes}
 use Rattle.profile.specs.declared.TheConstants.{MOST_CHANNELS, MOST_DSTEP_STATEMENTS, MOST_PROCESSES}
 use Rattle.session.specs.Machine.{Outcome, Rules}
 use Rattle.std.specs.List.{filter}
-use Rattle.std.specs.Prelude.{Bool, Err, List, None, Ok, Option, Result, Some, [], false, if◌then◌else◌, int_lt, length, map, nat_eq, nat_lt, negsuc, not, pos, slice_get, suc, true, zero, ℕ, ℤ, ◌&&◌, ◌*◌, ◌++◌, ◌+ℤ◌, ◌+◌, ◌-◌, ◌<◌, ◌==◌, ◌||◌, ◌∷◌, ◌≡◌, ◌≤◌}
+use Rattle.std.specs.Prelude.{Bool, Err, List, None, Ok, Option, Result, Some, [], false, if◌then◌else◌, int_lt, length, map, nat_eq, nat_lt, negsuc, not, pos, slice_get, suc, true, zero, ℕ, ℤ, ◌&&◌, ◌*◌, ◌++◌, ◌+ℤ◌, ◌+◌, ◌-◌, ◌==◌, ◌||◌, ◌∷◌, ◌≡◌}
 use Rattle.pml_program.specs.declared.program.Action.TheVariants as actions
 use Rattle.pml_program.specs.declared.program.Initial.TheVariants as initials
 use Rattle.pml_rows.proofs.Means.{Means}
@@ -136,7 +136,7 @@ module _ (means : Means) where
   abbrev pub start-process_begun : Program → ℕ → Begun → Result Begun Fault
   start-process_begun p k b =
       if nat_lt (length b.kinds) MOST_PROCESSES then begin-frame_begun p.typedefs (variables_at p k) (record b { kinds = b.kinds ++ k ∷ [] }) else
-      Ok b
+        Ok b
 
   abbrev pub start-kind_begun : Program → ℕ → ℕ → Begun → Result Begun Fault
   start-kind_begun p k zero b = Ok b
@@ -160,32 +160,17 @@ module _ (means : Means) where
   executable-ready lossy cs r in_d_step (actions.Holds e) = nonzero (means.val e r)
   executable-ready lossy cs r in_d_step (actions.Run q) = Ok (int_lt r.process_count (pos MOST_PROCESSES))
   executable-ready lossy cs r in_d_step (actions.Send t order es) = executable-named cs r t (length es) >>= λ c. can_send lossy in_d_step
-      c.contents (executable-values es r)
+    c.contents (executable-values es r)
   executable-ready lossy cs r in_d_step (actions.Receive t search _ ws) =
       executable-named cs r t (length ws) >>= λ c. can_receive search c.contents (value-asked_by ws r)
-  executable-ready lossy cs r in_d_step actions.Else = Ok true
-  executable-ready lossy cs r in_d_step (actions.Assign x e) = Ok true
-  executable-ready lossy cs r in_d_step (actions.AssignRun x q) = Ok true
-  executable-ready lossy cs r in_d_step (actions.Increment x) = Ok true
-  executable-ready lossy cs r in_d_step (actions.Decrement x) = Ok true
-  executable-ready lossy cs r in_d_step (actions.Printf text es) = Ok true
-  executable-ready lossy cs r in_d_step (actions.Printm e) = Ok true
-  executable-ready lossy cs r in_d_step (actions.Assert e) = Ok true
+  executable-ready lossy cs r in_d_step _ = Ok true
 
   abbrev pub executable-can : Bool → List LiveChannel → Reading → Bool → Action → Bool
   executable-can lossy cs r in_d_step x = or_fault (executable-ready lossy cs r in_d_step x)
 
   abbrev pub search-can_inside : Bool → List LiveChannel → Reading → Option Basic → Bool
   search-can_inside lossy cs r (Some (Plain x)) = executable-can lossy cs r true x
-  search-can_inside lossy cs r (Some (Goto l)) = true
-  search-can_inside lossy cs r (Some Break) = true
-  search-can_inside lossy cs r (Some (If' m row)) = true
-  search-can_inside lossy cs r (Some (Do' m row)) = true
-  search-can_inside lossy cs r (Some (Block s)) = true
-  search-can_inside lossy cs r (Some (Atomic s)) = true
-  search-can_inside lossy cs r (Some (DStep s)) = true
-  search-can_inside lossy cs r (Some (Unless s e)) = true
-  search-can_inside lossy cs r None = true
+  search-can_inside lossy cs r _ = true
 
   abbrev pub search-is_choice : Bool → List LiveChannel → Reading → Offer → Bool
   search-is_choice lossy cs r o = not (is_else o.basic) && search-can_inside lossy cs r o.basic
@@ -197,66 +182,23 @@ module _ (means : Means) where
   abbrev pub search-can_alone : Bool → List LiveChannel → Reading → Seq → Offer → Option Basic → Bool
   search-can_alone lossy cs r b o (Some (Plain x)) = executable-can lossy cs r false x
   search-can_alone lossy cs r b o (Some (DStep d)) = is_some (search-choices lossy cs r (levels_from b o.entry))
-  search-can_alone lossy cs r b o (Some (Goto l)) = true
-  search-can_alone lossy cs r b o (Some Break) = true
-  search-can_alone lossy cs r b o (Some (If' m row)) = true
-  search-can_alone lossy cs r b o (Some (Do' m row)) = true
-  search-can_alone lossy cs r b o (Some (Block s)) = true
-  search-can_alone lossy cs r b o (Some (Atomic s)) = true
-  search-can_alone lossy cs r b o (Some (Unless s e)) = true
-  search-can_alone lossy cs r b o None = true
+  search-can_alone lossy cs r b o _ = true
 
   abbrev pub search-message_by : List LiveChannel → Reading → Action → Option Message
   search-message_by cs r (actions.Send t order es) = message_on (executable-named cs r t (length es)) (executable-values es r)
-  search-message_by cs r actions.Else = None
-  search-message_by cs r (actions.Assign x e) = None
-  search-message_by cs r (actions.AssignRun x q) = None
-  search-message_by cs r (actions.Increment x) = None
-  search-message_by cs r (actions.Decrement x) = None
-  search-message_by cs r (actions.Run q) = None
-  search-message_by cs r (actions.Receive t search how ws) = None
-  search-message_by cs r (actions.Printf text es) = None
-  search-message_by cs r (actions.Printm e) = None
-  search-message_by cs r (actions.Assert e) = None
-  search-message_by cs r (actions.Holds e) = None
+  search-message_by cs r _ = None
 
   abbrev pub search-message : List LiveChannel → Reading → Option Basic → Option Message
   search-message cs r (Some (Plain x)) = search-message_by cs r x
-  search-message cs r (Some (Goto l)) = None
-  search-message cs r (Some Break) = None
-  search-message cs r (Some (If' m row)) = None
-  search-message cs r (Some (Do' m row)) = None
-  search-message cs r (Some (Block s)) = None
-  search-message cs r (Some (Atomic s)) = None
-  search-message cs r (Some (DStep s)) = None
-  search-message cs r (Some (Unless s e)) = None
-  search-message cs r None = None
+  search-message cs r _ = None
 
   abbrev pub search-accepts_by : List LiveChannel → Reading → Message → Action → Bool
   search-accepts_by cs r m (actions.Receive t search how ws) = accepts_on (executable-named cs r t (length ws)) (value-asked_by ws r) m
-  search-accepts_by cs r m actions.Else = false
-  search-accepts_by cs r m (actions.Assign x e) = false
-  search-accepts_by cs r m (actions.AssignRun x q) = false
-  search-accepts_by cs r m (actions.Increment x) = false
-  search-accepts_by cs r m (actions.Decrement x) = false
-  search-accepts_by cs r m (actions.Run q) = false
-  search-accepts_by cs r m (actions.Send t order es) = false
-  search-accepts_by cs r m (actions.Printf text es) = false
-  search-accepts_by cs r m (actions.Printm e) = false
-  search-accepts_by cs r m (actions.Assert e) = false
-  search-accepts_by cs r m (actions.Holds e) = false
+  search-accepts_by cs r m _ = false
 
   abbrev pub search-accepts : List LiveChannel → Reading → Message → Option Basic → Bool
   search-accepts cs r m (Some (Plain x)) = search-accepts_by cs r m x
-  search-accepts cs r m (Some (Goto l)) = false
-  search-accepts cs r m (Some Break) = false
-  search-accepts cs r m (Some (If' n row)) = false
-  search-accepts cs r m (Some (Do' n row)) = false
-  search-accepts cs r m (Some (Block s)) = false
-  search-accepts cs r m (Some (Atomic s)) = false
-  search-accepts cs r m (Some (DStep s)) = false
-  search-accepts cs r m (Some (Unless s e)) = false
-  search-accepts cs r m None = false
+  search-accepts cs r m _ = false
 
   abbrev pub search-pairs_on : State → Bool → Pick → Message → ℕ → ℕ → List Offer → List Move
   search-pairs_on s t k m j l os = each (λ i o. only_if (search-accepts s.channels (reads s j t) m o.basic) (Pair k (pick j l i) t)) 0 os
@@ -309,7 +251,7 @@ module _ (means : Means) where
   abbrev pub created-ran : State → Reading → Run → Result State Fault
   created-ran s r q =
       if nat_lt (length s.stands) MOST_PROCESSES then (messages-values q.arguments r >>= created-with_new s q.proctype (slice_get
-      s.program.proctypes q.proctype))
+        s.program.proctypes q.proctype))
       else Ok s
 
   abbrev pub outcome-run_into : State → ℕ → Bool → Option Target → Run → Result State Fault
@@ -337,15 +279,7 @@ module _ (means : Means) where
 
   abbrev pub outcome-effect : State → ℕ → Bool → Option Basic → Result Done Fault
   outcome-effect s p t (Some (Plain x)) = outcome-does s p t x
-  outcome-effect s p t (Some (Goto l)) = quiet s
-  outcome-effect s p t (Some Break) = quiet s
-  outcome-effect s p t (Some (If' m row)) = quiet s
-  outcome-effect s p t (Some (Do' m row)) = quiet s
-  outcome-effect s p t (Some (Block b)) = quiet s
-  outcome-effect s p t (Some (Atomic b)) = quiet s
-  outcome-effect s p t (Some (DStep b)) = quiet s
-  outcome-effect s p t (Some (Unless b e)) = quiet s
-  outcome-effect s p t None = quiet s
+  outcome-effect s p t _ = quiet s
 
   abbrev pub outcome-within : ℕ → State → ℕ → Bool → Seq → Control → Result Done Fault
   outcome-within zero s p t b c = Err DStepTooLong

@@ -1,5 +1,5 @@
 -- What a move leads to.
-use Rattle.std.specs.Prelude.{ℕ, zero, suc, Bool, true, false, length, List, [], ◌∷◌, ◌++◌, ℤ, Option, Some, None, Result, Ok, Err, slice_get}
+use Rattle.std.specs.Prelude.{ℕ, zero, suc, Bool, true, false, List, [], ◌∷◌, ◌++◌, ℤ, Option, Some, None, Result, Ok, Err, slice_get}
 use Rattle.diagnostics.specs.declared.fault.Fault.{Fault}
 use Rattle.diagnostics.specs.declared.fault.Fault.TheVariants.{DStepBlocks, DStepTooLong}
 use Rattle.pml_tree.specs.declared.tree.SendOrder.{SendOrder}
@@ -11,7 +11,7 @@ use Rattle.pml_program.specs.declared.expr.Target.{Target}
 use Rattle.pml_program.specs.declared.program.Run.{Run}
 use Rattle.pml_program.specs.declared.program.Action.{Action}
 use Rattle.pml_program.specs.declared.program.Action.TheVariants as a
-use Rattle.pml_program.specs.declared.program.Basic.{Basic, Plain, Goto, Break, If', Do', Block, Atomic, DStep, Unless}
+use Rattle.pml_program.specs.declared.program.Basic.{Basic, Plain, DStep}
 use Rattle.pml_program.specs.declared.program.Seq.{Seq}
 use Rattle.pml_control.specs.Control.{Control}
 use Rattle.pml_flow.specs.Flow.{Offer}
@@ -90,15 +90,7 @@ does s p t (a.Holds e) = put_by s (outcome (a.Holds e) (reads s p t)) >>= quiet
 -- a goto, a break and what gives structure do nothing by themselves
 abbrev pub effect : State → ℕ → Bool → Option Basic → Result Done Fault
 effect s p t (Some (Plain x)) = does s p t x
-effect s p t (Some (Goto l)) = quiet s
-effect s p t (Some Break) = quiet s
-effect s p t (Some (If' m row)) = quiet s
-effect s p t (Some (Do' m row)) = quiet s
-effect s p t (Some (Block b)) = quiet s
-effect s p t (Some (Atomic b)) = quiet s
-effect s p t (Some (DStep b)) = quiet s
-effect s p t (Some (Unless b e)) = quiet s
-effect s p t None = quiet s
+effect s p t _ = quiet s
 
 -- ---- inside a d_step
 

@@ -38,19 +38,15 @@ second events = header_line ++ placed_lines events
 
 -- an event that asks for nothing
 abbrev pub is_no_ask : Event → Bool
-is_no_ask (Put role piece) = true
 is_no_ask (Asked b) = false
 is_no_ask AskedEnd = false
-is_no_ask (Recorded line placed) = true
-is_no_ask Stepped = true
+is_no_ask _ = true
 
 -- an event that asks for a byte
 abbrev pub is_ask : Event → Bool
-is_ask (Put role piece) = false
 is_ask (Asked b) = true
 is_ask AskedEnd = true
-is_ask (Recorded line placed) = false
-is_ask Stepped = false
+is_ask _ = false
 
 -- The other run ends alike, does the same but for what it asks for, and reads these bytes.
 pub record IsSameReading (run other : Part End) (bytes : List ℕ) : Type 0 where

@@ -25,34 +25,22 @@ pub data Event : Type 0 where
 -- what one event writes to the output
 abbrev pub output_of : Event → List ℕ
 output_of (Put role piece) = piece
-output_of (Asked b) = []
-output_of AskedEnd = []
-output_of (Recorded line placed) = []
-output_of Stepped = []
+output_of _ = []
 
 -- the byte of the choices that one event reads
 abbrev pub bytes_of : Event → List ℕ
-bytes_of (Put role piece) = []
 bytes_of (Asked b) = b ∷ []
-bytes_of AskedEnd = []
-bytes_of (Recorded line placed) = []
-bytes_of Stepped = []
+bytes_of _ = []
 
 -- what one event writes to the record
 abbrev pub record_of : Event → List ℕ
-record_of (Put role piece) = []
-record_of (Asked b) = []
-record_of AskedEnd = []
 record_of (Recorded line placed) = line
-record_of Stepped = []
+record_of _ = []
 
 -- the steps that one event counts for
 abbrev pub step_of : Event → ℕ
-step_of (Put role piece) = 0
-step_of (Asked b) = 0
-step_of AskedEnd = 0
-step_of (Recorded line placed) = 0
 step_of Stepped = 1
+step_of _ = 0
 
 -- what a list of events writes to the output
 abbrev pub output : List Event → List ℕ

@@ -3,18 +3,14 @@ use Rattle.std.specs.Prelude.{◌≡◌, ℕ, List, filter, Bool, true, false}
 use Rattle.session.specs.declared.End.{End}
 use Rattle.session.specs.declared.Cause.{Cause}
 use Rattle.session.specs.declared.Cause.TheVariants as cause
-use Rattle.session.specs.Events.{Event, Put, Told, Corrected, Asked, AskedEnd, Recorded, Stepped, output, front, recorded}
+use Rattle.session.specs.Events.{Event, Put, Corrected, output, front, recorded}
 use Rattle.session.specs.Part.{Part}
 use Rattle.session.specs.Session.{end_of}
 
 -- all but the answers to bad lines and the prompts that follow them
 abbrev pub is_no_correction : Event → Bool
-is_no_correction (Put Told piece) = true
 is_no_correction (Put Corrected piece) = false
-is_no_correction (Asked b) = true
-is_no_correction AskedEnd = true
-is_no_correction (Recorded line placed) = true
-is_no_correction Stepped = true
+is_no_correction _ = true
 
 -- events without the answers to bad lines and the prompts that follow them
 abbrev pub without_corrections : List Event → List Event

@@ -4,7 +4,7 @@ use Rattle.std.specs.List.{list_all}
 use Rattle.devices.specs.Holdings.{Holdings, FailureCounts, Moved, SourceFails, OutFails, RecordFails}
 use Rattle.session.specs.declared.Broken.{Broken}
 use Rattle.session.specs.declared.Broken.TheVariants as broken
-use Rattle.session.specs.Events.{Event, Role, Put, Asked, AskedEnd, Recorded, Stepped, IsAsk, output, front, recorded, steps_in}
+use Rattle.session.specs.Events.{Event, Role, Put, Recorded, IsAsk, output, front, recorded, steps_in}
 use Rattle.session.specs.Limits.{most_line_bytes}
 use Rattle.session.specs.Part.{Part}
 use Rattle.session.specs.declared.form.Stream.{Stream}
@@ -14,11 +14,8 @@ use Rattle.session.specs.declared.Cause.TheVariants as cause
 
 -- a line that is recorded is no longer than a line of the choices may be, with its line feed
 abbrev pub is_readable : Event → Bool
-is_readable (Put role piece) = true
-is_readable (Asked b) = true
-is_readable AskedEnd = true
 is_readable (Recorded line placed) = nat_le (length line) (most_line_bytes + 1)
-is_readable Stepped = true
+is_readable _ = true
 
 -- each line that is recorded can be read as a choice
 abbrev pub AreReadable : List Event → Type 0
