@@ -1,4 +1,5 @@
--- What the three devices of a session hold at a moment, and what calls do to it.
+-- What the three devices of a session hold at a moment, and what is read and written from one moment to another.
+-- Hold it against docs/FORMATS.md, 'To drive it'.
 use Rattle.std.specs.Prelude.{◌≡◌, ℕ, ◌<◌, List, ◌++◌, Option}
 use Rattle.std.specs.Io.KnownBytes.{Appends}
 

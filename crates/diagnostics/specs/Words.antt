@@ -1,4 +1,5 @@
 -- The numbers and the words of faults and refusals.
+-- Hold it against docs/REFUSALS.md.
 use Rattle.std.specs.Prelude.{ℕ, List, codes}
 use Rattle.diagnostics.specs.declared.fault.Fault.{Fault}
 use Rattle.diagnostics.specs.declared.fault.Fault.TheVariants as fault

@@ -1,8 +1,7 @@
 -- What the tokens of a definition are.
 use Rattle.std.specs.Prelude.{◌≡◌, ℕ, ◌+◌, true, false, List, [], ◌∷◌, length, take, drop, Some}
 use Rattle.pml_token.specs.declared.token.Kind.TheVariants.{OpenParen, CloseParen, OpenBrace, CloseBrace, Comma}
-use Rattle.pml_token.specs.Kinds.{same_kind}
-use Rattle.pml_token.specs.Word.{Word}
+use Rattle.pml_token.specs.Word.{same_kind, Word}
 use Rattle.pml_inline.specs.Brackets.{is_name, has_inline, begins, closing}
 use Rattle.pml_inline.specs.Inlines.{Inline, all_differ, definition}
 

@@ -21,8 +21,7 @@ use Rattle.pml_start.specs.Begin.{Begun}
 use Rattle.pml_start.proofs.Chaining.{chain, chain_any}
 use Rattle.pml_moves.specs.State.{Stand, State, reads, body_of, levels, first_control}
 use Rattle.pml_moves.specs.Search.{choices}
-use Rattle.pml_steps.specs.Change.{put, put_if, put_by, put_all, with_sent, with_received}
-use Rattle.pml_steps.specs.Created.{with_new, joined_by, ran, run_number}
+use Rattle.pml_steps.specs.Change.{put, put_if, put_by, put_all, with_sent, with_received, with_new, joined_by, ran, run_number}
 use Rattle.pml_steps.specs.Outcome.{Done, quiet, run_into, does, effect, behind, first_of, onward, within, within_from, taken}
 use Rattle.path_laws.proofs.Fitting.{Fits, at_fits, settle_fits}
 

@@ -6,7 +6,7 @@ use Rattle.session.specs.declared.End.{End}
 use Rattle.session.specs.declared.Cause.{Cause}
 use Rattle.session.specs.declared.Cause.TheVariants as cause
 use Rattle.session.specs.Machine.{Rules}
-use Rattle.session.specs.Part.{Part}
+use Rattle.session.specs.Events.{Part}
 use Rattle.session.specs.Replay.{is_cut_short}
 use Rattle.session.specs.Session.{final_cause}
 use Rattle.session.specs.Texts.{record_line}

@@ -5,9 +5,8 @@ use Rattle.session.specs.declared.End.{End}
 use Rattle.session.specs.declared.Cause.{Cause}
 use Rattle.session.specs.declared.Cause.TheVariants as cause
 use Rattle.session.specs.declared.Options.{Options}
-use Rattle.session.specs.Events.{recorded}
+use Rattle.session.specs.Events.{recorded, Part}
 use Rattle.session.specs.Machine.{Rules, Faults}
-use Rattle.session.specs.Part.{Part}
 use Rattle.pml_sim.specs.World.{Running, rules as rules_of_models}
 use Rattle.pml_play.specs.Plain.{SayTheSame}
 use Rattle.pml_play.specs.Run.{Turn, IsChosen, IsRun, HasRun, IsSessionOver, last_state}

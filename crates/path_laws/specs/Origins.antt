@@ -4,8 +4,7 @@ use Rattle.std.specs.Fmt.{decimal}
 use Rattle.std.specs.List.{Contains}
 use Rattle.pml_moves.specs.declared.moves.Move.{Move}
 use Rattle.pml_moves.specs.declared.moves.Move.TheVariants.{Death, Alone, Pair}
-use Rattle.pml_moves.specs.Picked.{picked}
-use Rattle.pml_moves.specs.State.{State}
+use Rattle.pml_moves.specs.State.{picked, State}
 use Rattle.pml_texts.specs.Texts.{line_in, origin_of, move_text, pick_text}
 use Rattle.pml_sim.specs.Origins.{IsThere}
 use Rattle.pml_sim.specs.World.{Running, rules}

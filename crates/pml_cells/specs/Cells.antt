@@ -1,4 +1,5 @@
 -- Which variable or field has a cell.
+-- Hold it against the pages `arrays` and `typedef`.
 use Rattle.std.specs.Prelude.{ℕ, zero, suc, length, ◌-◌, ◌*◌, ◌%◌, nat_eq, ltb, if◌then◌else◌, List, [], ◌∷◌, Option, Some, None}
 use Rattle.pml_program.specs.declared.form.Form.{Form}
 use Rattle.pml_program.specs.declared.form.Form.TheVariants as kind

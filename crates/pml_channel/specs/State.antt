@@ -1,4 +1,5 @@
 -- A channel as a list of messages.
+-- Hold it against the pages `chan` and `send`.
 use Rattle.std.specs.Prelude.{ℕ, Bool, true, false, if◌then◌else◌, List, [], ◌∷◌, ℤ, int_lt}
 use Rattle.std.specs.Ordering.{int_eq}
 use Rattle.pml_program.specs.declared.form.Form.{Form}

@@ -2,7 +2,7 @@
 
 ghost use Rattle.std.specs.Prelude.{◌≡◌, ◌+◌, ◌*◌, ◌<◌, ◌≤◌, ◌++◌, ◌∷◌, List, ℤ, [], length, take, drop, vec_len, IfSome, OnOk, OnErr, remove, slice_get, Some};
 ghost use Rattle.std.specs.List.{position_from};
-ghost use Rattle.pml_eval.specs.Pattern.{matched};
+ghost use Rattle.pml_eval.specs.Value.{matched};
 ghost use Rattle.pml_channel.specs.State.{cut, sorted_in, is_greater};
 ghost use Rattle.pml_channel.specs.Laid.{Belongs, MovesLast, rotated, numbers_in};
 

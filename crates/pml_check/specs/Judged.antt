@@ -1,4 +1,5 @@
 -- The conditions that refuse a model, each by itself, and the least that applies.
+-- Hold it against docs/REFUSALS.md.
 use Rattle.std.specs.Prelude.{◌≡◌, ◌⊎◌, ◌<◌, ℕ, List, Option, Some, None, Ok, Err, slice_get}
 use Rattle.diagnostics.specs.declared.fault.Fault.{Fault}
 use Rattle.diagnostics.specs.declared.refusal.Refusal.{Refusal}

@@ -1,4 +1,5 @@
--- The conditions on names, kinds, counts and ranges: each is asked of one mark, and of what is declared before it.
+-- The conditions on names, kinds and counts, and all that are asked of one mark and of what is declared before it.
+-- Hold it against docs/REFUSALS.md, M6 to M9.
 use Rattle.std.specs.Prelude.{ℕ, ◌+◌, nat_eq, nat_lt, ◌-◌, Bool, true, false, not, ◌&&◌, ◌||◌, if◌then◌else◌, is_some, is_none, List, [], ◌∷◌, length, take, Option, Some, None}
 use mathlib.Core.Bool.{beq}
 use Rattle.profile.specs.Characters.{percent, backslash, letter_c, letter_d, letter_e, letter_o, letter_u, letter_x}

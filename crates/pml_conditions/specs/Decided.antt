@@ -1,4 +1,5 @@
 -- Which conditions refuse a model.
+-- Hold it against docs/REFUSALS.md, M6 to M17.
 use Rattle.std.specs.Prelude.{◌≡◌, ◌⊎◌, ℕ, ◌<◌, ◌≤◌, Bool, true, false, ◌||◌, List, [], ◌∷◌, take, slice_get, Some}
 use Rattle.profile.specs.declared.TheConstants.{MOST_CHANNELS, MOST_PROCESSES}
 use Rattle.pml_marks.specs.declared.mark.Mark.{Mark}

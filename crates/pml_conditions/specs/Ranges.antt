@@ -1,11 +1,11 @@
 -- The conditions on labels, on numbers out of range and on cells: each is asked of one mark.
+-- Hold it against docs/REFUSALS.md, M10, M14 and M15.
 use Rattle.std.specs.Prelude.{ℕ, ◌+◌, ◌*◌, nat_lt, Bool, true, false, not, ◌||◌, is_none, List, Option, Some, None, pos, negsuc}
 use mathlib.Core.Bool.{beq}
 use Rattle.profile.specs.declared.TheConstants.{MOST_BITS, MOST_CELLS, MOST_CONSTANTS, MOST_FIELDS, MOST_MESSAGES, MOST_PROCESSES}
 use Rattle.pml_marks.specs.Constant.{numeral}
 use Rattle.pml_marks.specs.declared.mark.Constant.{Constant}
 use Rattle.pml_marks.specs.declared.mark.Constant.TheVariants.{Is, Faulty, Open}
-use Rattle.pml_marks.specs.declared.mark.Use.TheVariants.{Channel, Preset}
 use Rattle.pml_marks.specs.declared.mark.Role.TheVariants as role
 use Rattle.pml_marks.specs.declared.mark.Declared.TheVariants as declared_as
 use Rattle.pml_marks.specs.declared.mark.What.{What}

@@ -1,4 +1,5 @@
 -- The conditions on the first state: how many processes begin, and how many channels they and the globals make.
+-- Hold it against docs/REFUSALS.md, M16 and M17.
 use Rattle.std.specs.Prelude.{min, ℕ, ◌+◌, ◌*◌, nat_eq, Bool, true, false, if◌then◌else◌, List, [], ◌∷◌, reverse}
 use Rattle.pml_program.specs.declared.form.Form.{Form}
 use Rattle.pml_program.specs.declared.form.Form.TheVariants as kind

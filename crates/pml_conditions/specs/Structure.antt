@@ -1,4 +1,5 @@
 -- What stands round a place of a body, and the conditions on breaks and d_steps.
+-- Hold it against docs/REFUSALS.md, M11 and M12.
 use Rattle.std.specs.Prelude.{◌≡◌, ℕ, zero, suc, ◌+◌, nat_eq, Bool, true, false, not, ◌&&◌, if◌then◌else◌, is_some, List, [], ◌∷◌, length, reverse, Option, Some, None}
 use Rattle.std.specs.Str.{bytes_eq}
 use Rattle.pml_marks.specs.declared.mark.Structure.{Structure}

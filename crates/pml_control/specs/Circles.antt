@@ -1,4 +1,5 @@
 -- Where control goes round without an end, and where a d_step begins.
+-- Hold it against docs/REFUSALS.md, M12 and M13.
 use Rattle.std.specs.Prelude.{◌≡◌, ◌⊎◌, [], ◌∷◌, Bool, true, false, Some}
 use Rattle.pml_program.specs.declared.program.Action.TheVariants as action
 use Rattle.pml_program.specs.declared.program.Seq.{Seq}

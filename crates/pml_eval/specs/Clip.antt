@@ -1,4 +1,5 @@
 -- What a variable of a type keeps of a number.
+-- Hold it against the page `datatypes`.
 use Rattle.std.specs.Prelude.{ℕ, min, nat_le, ◌-◌, ◌%◌, ◌^◌, Bool, true, false, if◌then◌else◌, nat_lt, ℤ, pos, negsuc, ◌-ℤ◌}
 use Rattle.pml_program.specs.declared.form.Form.{Form}
 use Rattle.pml_program.specs.declared.form.Form.TheVariants.{Plain, Unsigned}

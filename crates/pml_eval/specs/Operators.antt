@@ -1,4 +1,5 @@
 -- The operators on signed numbers of 32 bits.
+-- Hold it against the page `grammar`; the operators of C on numbers of 32 bits.
 use Rattle.std.specs.Prelude.{Bool, true, false, not, ◌&&◌, Option, Some, None, if◌then◌else◌, nat_lt, ℤ, pos, negsuc, ◌+ℤ◌, ◌-ℤ◌, ◌*ℤ◌, neg_ℤ, int_lt, int_le, int_rem, Result, Ok, Err}
 use Rattle.std.specs.Int.{w32, int_wrap, int_wrapping_div, int_bit_and, int_bit_or, int_bit_xor, int_bit_not, int_shl, int_shr}
 use Rattle.std.specs.Ordering.{int_eq}

@@ -1,5 +1,9 @@
--- The value of an expression.
-use Rattle.std.specs.Prelude.{map, ℕ, ◌+◌, ◌*◌, Bool, false, not, ◌||◌, if◌then◌else◌, ◌==◌, nat_lt, length, List, [], ◌∷◌, ℤ, pos, negsuc, Option, Some, None, Result, Ok, Err}
+-- The value of an expression, and when a message matches what a receive asks.
+-- Hold it against chapter 3 of the book; the pages `cond_expr`, `len`, `poll`, `timeout`, `_pid` and `_nr_pr`.
+use Rattle.std.specs.Prelude.{Bool, true, false, ◌&&◌, List, [], ◌∷◌, ℤ, map, ℕ, ◌+◌, ◌*◌, not, ◌||◌, if◌then◌else◌, ◌==◌, nat_lt, length, pos, negsuc, Option, Some, None, Result, Ok, Err}
+use Rattle.std.specs.Ordering.{int_eq}
+use Rattle.pml_eval.specs.declared.pattern.Sought.{Sought}
+use Rattle.pml_eval.specs.declared.pattern.Sought.TheVariants.{Exactly, Into, Anything}
 use Rattle.pml_tree.specs.declared.tree.Infix.{Infix}
 use Rattle.pml_tree.specs.declared.tree.Search.{Search}
 use Rattle.pml_tree.specs.declared.tree.Search.TheVariants.{First, Matching}
@@ -10,13 +14,23 @@ use Rattle.diagnostics.specs.declared.fault.Fault.TheVariants.{IndexOutOfRange, 
 use Rattle.pml_program.specs.declared.expr.Expr.{Expr, Expr-F, fold-Expr}
 use Rattle.pml_program.specs.declared.expr.Want.{Want, Want-F, fold-Want}
 use Rattle.pml_program.specs.declared.form.Form.{Form}
-use Rattle.pml_eval.specs.declared.pattern.Sought.{Sought}
-use Rattle.pml_eval.specs.declared.pattern.Sought.TheVariants.{Exactly, Into, Anything}
-use Rattle.pml_eval.specs.Pattern.{matched}
 use Rattle.pml_program.specs.declared.expr.Target.{Target, Target-F, fold-Target}
 use Rattle.pml_program.specs.declared.expr.Turn.{Turn, Turn-F, fold-Turn}
 use Rattle.pml_store.specs.declared.place.Place.{Place}
 use Rattle.pml_eval.specs.Operators.{truth, is_zero, prefixed, infixed, decided}
+
+-- a number matches an equal field, a place and `_` match every field
+abbrev pub taken : Sought → ℤ → Bool
+taken (Exactly n) x = int_eq n x
+taken (Into p form) x = true
+taken Anything x = true
+
+-- each field is what is asked for it, and there are as many
+abbrev pub matched : List Sought → List ℤ → Bool
+matched [] [] = true
+matched [] (x ∷ xs) = false
+matched (w ∷ ws) [] = false
+matched (w ∷ ws) (x ∷ xs) = taken w x && matched ws xs
 
 -- a channel as an expression sees it: how many messages and fields it may have, and its messages
 pub record Filling : Type 0 where

@@ -4,8 +4,7 @@ ghost use Rattle.std.specs.Prelude.{◌≡◌, ◌+◌, ◌*◌, ◌<◌, ◌≤
 ghost use Rattle.profile.specs.declared.TheConstants.{MOST_FIELDS};
 ghost use Rattle.pml_program.specs.declared.expr.Expr.TheVariants.{Read};
 ghost use Rattle.pml_eval.specs.declared.pattern.Sought.{Sought};
-ghost use Rattle.pml_eval.specs.Value.{val, place, cells, cells_of, want, asked, asked_by, has_match, within, inside, index_of, polled, is_match, messages_at, settled};
-ghost use Rattle.pml_eval.specs.Pattern.{matched};
+ghost use Rattle.pml_eval.specs.Value.{val, place, cells, cells_of, want, asked, asked_by, has_match, within, inside, index_of, polled, is_match, messages_at, settled, matched};
 ghost use Rattle.pml_eval.specs.There.{IsThere, AreThere};
 
 use crate::ground::Ground;

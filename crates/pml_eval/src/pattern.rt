@@ -2,7 +2,7 @@
 
 ghost use Rattle.std.specs.Prelude.{◌≡◌, ◌<◌, ◌++◌, ◌∷◌, [], length};
 ghost use Rattle.profile.specs.declared.TheConstants.{MOST_FIELDS};
-ghost use Rattle.pml_eval.specs.Pattern.{matched, taken};
+ghost use Rattle.pml_eval.specs.Value.{matched, taken};
 
 use pml_program::form::Form;
 use pml_store::place::Place;

@@ -1,8 +1,7 @@
 -- Lists that go on from what was found before, and those with commas, above what is known of their elements.
 use Rattle.std.proofs.Common.{◌≡◌, ℕ, zero, suc, ◌<◌, ◌≤◌, false, List, [], ◌∷◌, ◌++◌, length, Ok, inl, inr, refl, sym, ap, subst, ◌∙◌, append_assoc, arith}
 use Rattle.std.proofs.lemmas.List.{append-nil}
-use Rattle.pml_token.specs.Word.{Word}
-use Rattle.pml_token.specs.Kinds.{same_kind}
+use Rattle.pml_token.specs.Word.{Word, same_kind}
 use Rattle.pml_token.specs.declared.token.Kind.TheVariants as k
 use Rattle.pml_expression.specs.Grammar as grammar
 use Rattle.pml_expression.specs.Grammar.{SpellsList}

@@ -4,8 +4,7 @@ use denote.Enum.Bare.{same_true, true_same}
 use Rattle.pml_token.specs.contracts.token.Kind.{the_type}
 use Rattle.pml_token.specs.declared.token.Kind.{Kind}
 use Rattle.pml_token.specs.declared.token.Kind.TheVariants as k
-use Rattle.pml_token.specs.Kinds.{same_kind}
-use Rattle.pml_token.specs.Word.{Word}
+use Rattle.pml_token.specs.Word.{same_kind, Word}
 use Rattle.pml_tree.specs.declared.tree.Infix.{Infix}
 use Rattle.pml_tree.specs.declared.tree.Infix.TheVariants as op
 use Rattle.pml_expression.specs.Grammar as grammar

@@ -1,5 +1,6 @@
 -- The grammar of expressions: which tree the tokens from one place up to another spell. Each relation has one rule for each
 -- production. `from` is the list of the tokens from a place on, and `to` the list of those that are left behind it.
+-- Hold it against the page `grammar`; docs/LANGUAGE.md, 'Expressions'.
 use Rattle.std.specs.Prelude.{◌≡◌, ◌≤◌, ℕ, ◌-◌, ◌+◌, Bool, true, false, List, [], ◌∷◌, length, take, Option, Some, None}
 use Rattle.pml_token.specs.Word.{Word}
 use Rattle.pml_token.specs.declared.token.Kind.{Kind}

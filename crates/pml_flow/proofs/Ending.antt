@@ -12,8 +12,7 @@ use Rattle.pml_control.proofs.Telling.{Holds}
 use Rattle.pml_control.proofs.Covering.{covered_at}
 use Rattle.pml_control.proofs.Circling.{got, within, same_some as same}
 use Rattle.pml_flow.specs.Points.{points_of}
-use Rattle.pml_flow.specs.Statements.{statement_at, stated}
-use Rattle.pml_flow.specs.Marks.{line_of, line_at, has_end}
+use Rattle.pml_flow.specs.Flow.{statement_at, stated, line_of, line_at, has_end}
 use Rattle.pml_flow.specs.Marked.{IsValidEnd, at_end, by_label, lines_from, mark, mark_if, marked}
 use Rattle.pml_flow.specs.Graph.{kept, rank, is_end_at}
 use Rattle.pml_flow.proofs.Beginning.{read}

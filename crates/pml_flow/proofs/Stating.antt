@@ -10,7 +10,7 @@ use Rattle.pml_control.specs.Told.{told_in, told_part, told_row, told_options, t
 use Rattle.pml_control.proofs.Places.{part_there}
 use Rattle.pml_control.proofs.Reaching.{first_of, rest_of, zero_plus, plus_zero, plus_one}
 use Rattle.pml_control.proofs.Rows.{steps_out}
-use Rattle.pml_flow.specs.Statements.{statement_at, stated}
+use Rattle.pml_flow.specs.Flow.{statement_at, stated}
 use Rattle.pml_flow.specs.Inside.{either, first_or, inner_in, inner_part, inner_row, inner_options, inner_list, inner_parts}
 
 map_append : {X Y : Type 0} (f : X → Y) (xs ys : List X) → map f (xs ++ ys) ≡ map f xs ++ map f ys

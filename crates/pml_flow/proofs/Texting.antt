@@ -10,9 +10,8 @@ use Rattle.pml_flow.specs.declared.level.Way.{Way}
 use Rattle.pml_flow.specs.declared.edge.Edge.{Edge}
 use Rattle.pml_flow.specs.Ways.{Ways, Site}
 use Rattle.pml_flow.specs.Parts.{all_of}
-use Rattle.pml_flow.specs.Statements.{statement_at, stated}
+use Rattle.pml_flow.specs.Flow.{statement_at, stated, text_by, line_by}
 use Rattle.pml_flow.specs.Marked.{mark}
-use Rattle.pml_flow.specs.Texts.{text_by, line_by}
 use Rattle.pml_flow.specs.Composed.{text_if, text_at, offer_line_at, texts_from, offer_lines_from, texts_of}
 use Rattle.pml_flow.specs.Graph.{first_place, numbered_at, is_end_at, Tables, edge, edges_level, own_levels, site_of, mark_edges}
 use Rattle.pml_flow.proofs.Beginning.{read, Own}

@@ -14,11 +14,9 @@ use Rattle.pml_flow.specs.declared.edge.Edge.{Edge}
 use Rattle.pml_flow.specs.Ways.{Ways, Site, bare}
 use Rattle.pml_flow.specs.Points.{points_of, point_at}
 use Rattle.pml_flow.specs.Parts.{all_of, bounds_from, begin_of, part}
-use Rattle.pml_flow.specs.Statements.{stated}
-use Rattle.pml_flow.specs.Marks.{line_at}
+use Rattle.pml_flow.specs.Flow.{stated, line_at, Offer, offer_of}
 use Rattle.pml_flow.specs.Marked.{mark, IsValidEnd}
 use Rattle.pml_flow.specs.Composed.{Texts, text_at, offer_line_at}
-use Rattle.pml_flow.specs.Flow.{Offer, offer_of}
 
 -- the place of what stands first
 abbrev pub first_place : Control → Place

@@ -3,7 +3,7 @@
 ghost use Rattle.std.specs.Prelude.{◌≡◌, ℕ, ◌++◌, ◌∷◌, [], None, List, Option, IfOk, OnOk, map, slice_get, slice_index_or};
 ghost use Rattle.std.specs.Option.{option_copied};
 ghost use Rattle.pml_control.specs.Told.{told_of};
-ghost use Rattle.pml_flow.specs.Statements.{stated};
+ghost use Rattle.pml_flow.specs.Flow.{stated};
 ghost use Rattle.pml_flow.specs.Inside.{either, inner_in, inner_part, inner_list, inner_parts};
 
 use pml_program::program::{Basic, Seq, Stmt};

@@ -4,7 +4,7 @@ ghost use Rattle.std.specs.Prelude.{◌≡◌, ◌++◌, IfOk, OnOk, OnErr};
 ghost use Rattle.std.specs.Fmt.{decimal};
 ghost use Rattle.std.specs.Io.{StartsWith};
 ghost use Rattle.std.specs.Option.{option_copied};
-ghost use Rattle.pml_flow.specs.Texts as texts;
+ghost use Rattle.pml_flow.specs.Flow as flow;
 ghost use Rattle.pml_flow.specs.Composed as composed-more;
 
 use crate::lines::first_line;
@@ -60,7 +60,7 @@ fn add_number(text: &mut Vec<u8>, number: u32) -> Result<(), AllocError>
 
 /// Appends tokens, joined by one space.
 fn add_tokens(text: &mut Vec<u8>, tokens: &[Token<'_>]) -> Result<(), AllocError>
-    ensures added { OnOk result (text.new.items ≡ text.old.items ++ texts.joined tokens.now) }
+    ensures added { OnOk result (text.new.items ≡ text.old.items ++ flow.joined tokens.now) }
     ensures kept { OnErr result (StartsWith text.new.items text.old.items) }
 {
     let [first, rest @ ..] = tokens else {
@@ -80,7 +80,7 @@ pub fn add_action(
     basic: &Basic<'_>,
     tokens: &[Token<'_>],
 ) -> Result<(), AllocError>
-    ensures added { OnOk result (text.new.items ≡ text.old.items ++ texts.action basic.now tokens.now) }
+    ensures added { OnOk result (text.new.items ≡ text.old.items ++ flow.action basic.now tokens.now) }
     ensures kept { OnErr result (StartsWith text.new.items text.old.items) }
 {
     match basic {
@@ -98,13 +98,13 @@ pub fn add_action(
 
 /// The line of an offered statement.
 fn offer_line(stmt: &Stmt<'_>) -> u32
-    ensures { result ≡ texts.offer_line stmt.now }
+    ensures { result ≡ flow.offer_line stmt.now }
 {
     first_line(stmt.tokens.as_slice(), 0)
 }
 
 fn line_by(stmt: Option<&Stmt<'_>>) -> u32
-    ensures { result ≡ texts.line_by (option_copied stmt.entry) }
+    ensures { result ≡ flow.line_by (option_copied stmt.entry) }
 {
     match stmt {
         Some(stmt) => offer_line(stmt),
@@ -114,7 +114,7 @@ fn line_by(stmt: Option<&Stmt<'_>>) -> u32
 
 /// Appends `line L [TEXT]`.
 fn add_offer(text: &mut Vec<u8>, stmt: &Stmt<'_>) -> Result<(), AllocError>
-    ensures { OnOk result (text.new.items ≡ text.old.items ++ texts.offer_text stmt.now) }
+    ensures { OnOk result (text.new.items ≡ text.old.items ++ flow.offer_text stmt.now) }
 {
     text.extend_from_slice(b"line ")?;
     add_number(text, offer_line(stmt))?;

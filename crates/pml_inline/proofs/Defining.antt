@@ -2,8 +2,7 @@
 use Rattle.std.proofs.Common.{◌≡◌, ℕ, ◌+◌, ◌-◌, ◌*◌, ◌≤◌, Bool, true, false, not, ◌&&◌, cond, nat_eq, List, length, take, drop, Option, Some, None, refl, ap, sym, ◌∙◌, arith}
 use Rattle.std.proofs.lemmas.List.{drop-drop, drop_all, get_or_past, drop-map, take-map, take_rest}
 use Rattle.pml_token.specs.declared.token.Kind.TheVariants.{Name, OpenParen, OpenBrace, CloseBrace}
-use Rattle.pml_token.specs.Kinds.{same_kind}
-use Rattle.pml_token.specs.Word.{Word}
+use Rattle.pml_token.specs.Word.{same_kind, Word}
 use Rattle.pml_inline.specs.Brackets.{has_inline, closing}
 use Rattle.pml_inline.specs.Inlines.{Inline, parameters, listed, with_end, with_body, with_parameters, definition, all_differ}
 use Rattle.pml_inline.specs.Places.{no_word, word_at, words_of}

@@ -5,8 +5,7 @@ use Rattle.std.specs.List.{flat_map, slice_get}
 use Rattle.std.specs.Str.{bytes_eq}
 use Rattle.std.proofs.lemmas.List.Elements.{All-nil, All-cons, All-head, All-tail, All-append, All-take, All-drop}
 use Rattle.pml_token.specs.declared.token.Kind.TheVariants.{OpenParen, CloseParen, OpenBrace, CloseBrace, Comma}
-use Rattle.pml_token.specs.Kinds.{same_kind}
-use Rattle.pml_token.specs.Word.{Word}
+use Rattle.pml_token.specs.Word.{same_kind, Word}
 use Rattle.profile.specs.declared.TheConstants.{MOST_CALLS, MOST_REPLACED}
 use Rattle.pml_inline.specs.Brackets.{is_name, is_inline, has_inline, begins, closing, put, part_turn, parts, arguments, level_behind}
 use Rattle.pml_inline.specs.Inlines.{Inline, is_among, parameters, listed, with_end, with_parameters, definition, and_inline, definition_turn, definitions, all_differ}

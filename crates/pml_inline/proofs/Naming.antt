@@ -5,13 +5,11 @@ use Rattle.std.specs.List.{list_any, slice_get}
 use Rattle.std.specs.Str.{bytes_eq}
 use Rattle.std.proofs.lemmas.Bool.{cases_lt, cases_order, eq-eqb, ne_eqb, lt-ltb, le-ltb, false≢true, and_parts, not-true}
 use Rattle.std.proofs.lemmas.Slice.Eq.{bytes_eq-Decides}
-use Rattle.std.proofs.lemmas.List.{map-append, take_more, take-append-drop, length-take-le}
+use Rattle.std.proofs.lemmas.List.{map-append, take_more, take-append-drop, length-take-le, drop_more, drop_all, length-map}
 use Rattle.std.proofs.lemmas.List.Elements.{All-head, All-tail}
-use Rattle.pml_token.specs.Word.{Word}
+use Rattle.pml_token.specs.Word.{Word, same_kind}
 use Rattle.pml_token.specs.declared.token.Kind.TheVariants.{OpenParen}
 use Rattle.pml_inline.specs.Brackets.{is_name, begins, one_more}
-use Rattle.pml_token.specs.Kinds.{same_kind}
-use Rattle.std.proofs.lemmas.List.{drop_more, drop_all, length-map}
 use Rattle.pml_inline.specs.Inlines.{Inline, is_among, all_differ}
 use Rattle.pml_inline.specs.Calls.{place_of, callee}
 use Rattle.pml_inline.specs.Places.{word_at, words_of}

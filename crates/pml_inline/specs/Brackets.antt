@@ -1,10 +1,10 @@
 -- Kinds of tokens, brackets that match, and the parts between commas.
+-- Hold it against the page `inline`.
 use Rattle.std.specs.Prelude.{ℕ, zero, suc, ◌+◌, ◌-◌, Bool, true, false, ◌&&◌, ◌||◌, nat_eq, if◌then◌else◌, List, [], ◌∷◌, Option, Some, None}
 use Rattle.std.specs.List.{list_any}
 use Rattle.pml_token.specs.declared.token.Kind.{Kind}
 use Rattle.pml_token.specs.declared.token.Kind.TheVariants.{Name, Inline, OpenParen, CloseParen, OpenBracket, CloseBracket, OpenBrace, CloseBrace, Comma}
-use Rattle.pml_token.specs.Kinds.{same_kind}
-use Rattle.pml_token.specs.Word.{Word}
+use Rattle.pml_token.specs.Word.{same_kind, Word}
 
 -- a name that is no reserved word
 abbrev pub is_name : Word → Bool

@@ -1,4 +1,5 @@
 -- What comes out of tokens in which calls of inlines are replaced.
+-- Hold it against the page `inline`.
 use Rattle.std.specs.Prelude.{ℕ, zero, suc, ◌+◌, Bool, true, false, not, ◌&&◌, nat_eq, if◌then◌else◌, List, [], ◌∷◌, ◌++◌, length, take, drop, Option, Some, None, find}
 use Rattle.std.specs.List.{list_any, flat_map, slice_get}
 use Rattle.std.specs.Str.{bytes_eq}

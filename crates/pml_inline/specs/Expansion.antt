@@ -1,9 +1,9 @@
 -- The expansion of a list of tokens.
+-- Hold it against the page `inline`; docs/REFUSALS.md, M4 and M19.
 use Rattle.std.specs.Prelude.{◌≡◌, ℕ, zero, suc, ◌+◌, ◌-◌, Bool, true, false, nat_le, if◌then◌else◌, List, [], ◌∷◌, ◌++◌, take, drop, map, Option, Some, None}
 use Rattle.pml_token.specs.declared.token.Kind.TheVariants.{OpenParen, CloseParen, OpenBrace, CloseBrace}
-use Rattle.pml_token.specs.Kinds.{same_kind}
+use Rattle.pml_token.specs.Word.{same_kind, Word}
 use Rattle.pml_lex.specs.Limits.{IsTooDeep, IsOnLine}
-use Rattle.pml_token.specs.Word.{Word}
 use Rattle.profile.specs.declared.TheConstants.{MOST_CALLS, MOST_REPLACED}
 use Rattle.pml_inline.specs.declared.fault.InlineFault.{InlineFault}
 use Rattle.pml_inline.specs.declared.fault.InlineFault.TheVariants.{Memory, Inline as Misused, TooDeep}

@@ -1,9 +1,9 @@
 -- The places that a step changed, and their lines.
+-- Hold it against docs/FORMATS.md, 'Lines on standard output'.
 use Rattle.std.specs.Prelude.{ℕ, ◌+◌, Bool, if◌then◌else◌, List, [], ◌∷◌, ◌++◌, slice_get, Option, Some, None, ℤ, codes}
 use Rattle.std.specs.Ordering.{int_eq}
 use Rattle.std.specs.Fmt.{decimal}
-use Rattle.pml_token.specs.Word.{Word}
-use Rattle.pml_token.specs.Kinds.{same_kind}
+use Rattle.pml_token.specs.Word.{Word, same_kind}
 use Rattle.pml_token.specs.declared.token.Kind.TheVariants.{Init}
 use Rattle.pml_program.specs.declared.program.Slot.{Slot}
 use Rattle.pml_program.specs.declared.program.Proctype.{Proctype}

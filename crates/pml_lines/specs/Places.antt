@@ -1,4 +1,5 @@
 -- The texts of places and of their numbers.
+-- Hold it against docs/FORMATS.md, 'Lines on standard output'.
 use Rattle.std.specs.Prelude.{ℕ, zero, suc, length, ◌/◌, ◌%◌, Bool, true, false, List, [], ◌++◌, slice_get, Option, Some, None, ℤ, pos, negsuc, codes}
 use Rattle.std.specs.Fmt.{decimal, signed_decimal}
 use Rattle.pml_token.specs.Word.{Word}

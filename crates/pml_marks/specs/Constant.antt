@@ -1,4 +1,5 @@
 -- Constant expressions.
+-- Hold it against docs/REFUSALS.md, M14.
 use Rattle.std.specs.Prelude.{ℕ, ◌+◌, ◌*◌, ◌-◌, Bool, true, false, if◌then◌else◌, nat_lt, List, [], ◌∷◌, Option, Some, None, ℤ, pos, ◌+ℤ◌, ◌-ℤ◌, ◌*ℤ◌, neg_ℤ, int_rem}
 use Rattle.std.specs.Int.{w32, int_wrap, int_wrapping_div, cast_signed}
 use Rattle.std.specs.Ordering.{int_eq}

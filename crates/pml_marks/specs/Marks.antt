@@ -1,4 +1,5 @@
 -- The marks of a model, in the order of the text.
+-- Hold it against docs/REFUSALS.md, M6 to M17.
 use Rattle.std.specs.Prelude.{ℕ, ◌+◌, Bool, true, false, List, [], ◌∷◌, ◌++◌, length, map, Option, Some, None}
 use Rattle.pml_token.specs.Word.{Word}
 use Rattle.pml_tree.specs.declared.tree.Scalar.TheVariants.{Chan}

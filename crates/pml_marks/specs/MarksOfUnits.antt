@@ -1,14 +1,13 @@
 -- The marks of units, and of a whole model.
+-- Hold it against docs/REFUSALS.md, M6 to M17.
 use Rattle.std.specs.Prelude.{ℕ, pos, ◌+◌, List, [], ◌∷◌, ◌++◌, length, map, reverse}
 use Rattle.pml_token.specs.Word.{Word}
-use Rattle.pml_tree.specs.declared.tree.Variable.{Variable}
 use Rattle.pml_tree.specs.declared.tree.Starts.{Starts}
 use Rattle.pml_tree.specs.declared.tree.Starts.TheVariants as starts
 use Rattle.pml_tree.specs.declared.tree.Proctype.{Proctype}
 use Rattle.pml_tree.specs.declared.tree.Unit.{Unit as Part}
 use Rattle.pml_tree.specs.declared.tree.Unit.TheVariants as part
 use Rattle.pml_tree.specs.declared.tree.Tree.{Tree}
-use Rattle.pml_marks.specs.declared.mark.Constant.{Constant}
 use Rattle.pml_marks.specs.declared.mark.Constant.TheVariants as constant
 use Rattle.pml_marks.specs.declared.mark.Role.TheVariants as role
 use Rattle.pml_marks.specs.declared.mark.Declared.TheVariants as declared_as

@@ -1,4 +1,5 @@
 -- When a statement that gives no structure can be taken by itself.
+-- Hold it against the pages `condition`, `send`, `receive` and `run`.
 use Rattle.std.specs.Prelude.{ℕ, Bool, true, false, not, ◌||◌, if◌then◌else◌, nat_eq, nat_lt, length, List, [], ◌∷◌, ℤ, pos, int_lt, Option, Some, None, Result, Ok, Err}
 use Rattle.profile.specs.declared.TheConstants.{MOST_PROCESSES}
 use Rattle.diagnostics.specs.declared.fault.Fault.{Fault}

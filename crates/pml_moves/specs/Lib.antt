@@ -4,9 +4,8 @@ pub mod Fields
 pub mod Search
 pub mod Waits
 pub mod Listeners
+pub mod Scene
 pub mod Round
 pub mod Paired
-pub mod Scene
 pub mod Kept
-pub mod Picked
 pub mod Laws

@@ -9,8 +9,7 @@ use Rattle.pml_control.specs.Control.{Control}
 use Rattle.pml_control.specs.Told.{told_of}
 use Rattle.pml_flow.specs.declared.edge.Edge.{Edge}
 use Rattle.pml_flow.specs.Points.{point_at}
-use Rattle.pml_flow.specs.Statements.{stated}
-use Rattle.pml_flow.specs.Flow.{Offer}
+use Rattle.pml_flow.specs.Flow.{stated, Offer}
 use Rattle.pml_flow.specs.Graph.{Graph, levels_of, shown, IsGraph, AreGraphs}
 use Rattle.pml_moves.specs.declared.scene.Seat.{Seat}
 use Rattle.pml_moves.specs.declared.scene.Body.{Body}

@@ -1,4 +1,5 @@
 -- The search for moves.
+-- Hold it against chapter 7 of the book; the pages `timeout`, `else`, `atomic` and `chan`.
 use Rattle.std.specs.Prelude.{◌≡◌, ℕ, ◌+◌, Bool, true, false, not, ◌&&◌, if◌then◌else◌, nat_eq, length, List, [], ◌∷◌, ◌++◌, ℤ, Option, Some, None, Result, Ok, Err, slice_get}
 use Rattle.std.specs.List.{filter}
 use Rattle.std.specs.Ordering.{int_eq}
@@ -10,8 +11,7 @@ use Rattle.pml_program.specs.declared.program.Seq.{Seq}
 use Rattle.pml_control.specs.Control.{Control}
 use Rattle.pml_flow.specs.Flow.{Offer}
 use Rattle.pml_eval.specs.declared.pattern.Sought.{Sought}
-use Rattle.pml_eval.specs.Pattern.{matched}
-use Rattle.pml_eval.specs.Value.{Reading, asked_by}
+use Rattle.pml_eval.specs.Value.{matched, Reading, asked_by}
 use Rattle.pml_channel.specs.State.{cut}
 use Rattle.pml_value.specs.declared.live_channel.LiveChannel.{LiveChannel}
 use Rattle.pml_value.specs.declared.view.View.{View}

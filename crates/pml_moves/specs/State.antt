@@ -1,10 +1,12 @@
--- A state of a model with any number of processes, and what its processes are offered.
-use Rattle.std.specs.Prelude.{ℕ, Bool, List, [], length, map, Option, Some, None, option_map, slice_get}
+-- A state of a model with any number of processes, the first one, what its processes are offered, and the offer that a pick names.
+-- Hold it against chapter 7 of the book: what a state holds.
+use Rattle.std.specs.Prelude.{ℕ, List, Option, Some, None, slice_get, Bool, [], length, map, option_map}
+use Rattle.pml_flow.specs.Flow.{Offer, offer_of}
+use Rattle.pml_moves.specs.declared.moves.Pick.{Pick}
 use Rattle.pml_program.specs.declared.program.Seq.{Seq}
 use Rattle.pml_program.specs.declared.program.Program.{Program}
 use Rattle.pml_control.specs.Control.{Control, settle, at, steps}
 use Rattle.pml_control.specs.Offers.{offers}
-use Rattle.pml_flow.specs.Flow.{Offer, offer_of}
 use Rattle.pml_eval.specs.Value.{Reading}
 use Rattle.pml_store.specs.Store.{Frame}
 use Rattle.pml_value.specs.declared.live_channel.LiveChannel.{LiveChannel}
@@ -68,3 +70,17 @@ begins_at p k = begins_by k (body_of p k)
 -- all processes stand before their first statements, and nobody holds exclusive control
 abbrev pub first_state : Program → Begun → Bool → State
 first_state p b lossy = record { program = p; frames = b.frames; stands = map (begins_at p) b.kinds; channels = b.channels; holder = None; lossy = lossy }
+
+-- an offer of a level by its place, if the level is there
+abbrev pub offer_on : Option (List Offer) → ℕ → Option Offer
+offer_on None i = None
+offer_on (Some os) i = slice_get os i
+
+-- the offer of a process by its level and its place there, if it is there
+abbrev pub offer_at : State → Pick → Option Stand → Option Offer
+offer_at s k None = None
+offer_at s k (Some y) = offer_on (slice_get (levels_in (body_of s.program y.kind) y.control) k.level) k.place
+
+-- of the process where it stands, if there is such a process, such a level, and such a place on it
+abbrev pub picked : State → Pick → Option Offer
+picked s k = offer_at s k (slice_get s.stands k.process)

@@ -3,8 +3,7 @@
 ghost use Rattle.std.specs.Prelude.{◌≡◌, ◌<◌, List, Ok, length, pos, get_or};
 ghost use Rattle.std.specs.Option.{option_copied};
 ghost use Rattle.pml_eval.specs.declared.pattern.Sought.{Sought};
-ghost use Rattle.pml_eval.specs.Pattern.{matched};
-ghost use Rattle.pml_eval.specs.Value.{val, asked_by};
+ghost use Rattle.pml_eval.specs.Value.{matched, val, asked_by};
 ghost use Rattle.pml_value.specs.Seen.{seen};
 ghost use Rattle.pml_moves.specs.Executable.{named as names, values};
 ghost use Rattle.pml_moves.specs.Fields.{worth, worths};

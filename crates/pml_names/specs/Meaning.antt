@@ -1,4 +1,5 @@
 -- What names stand for where they are used.
+-- Hold it against docs/REFUSALS.md, M7 and M8.
 use Rattle.std.specs.Prelude.{ℕ, Bool, ◌||◌, List, Option, Some, None, codes}
 use Rattle.std.specs.Str.{bytes_eq}
 use Rattle.pml_program.specs.declared.form.Form.{Form}

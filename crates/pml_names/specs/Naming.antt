@@ -1,4 +1,5 @@
 -- What the names of a list of marks stand for: of each name the first declaration counts.
+-- Hold it against docs/REFUSALS.md, M6 to M8.
 use Rattle.std.specs.Prelude.{ℕ, ◌+◌, ◌*◌, nat_eq, nat_lt, min, ◌&&◌, if◌then◌else◌, is_some, List, [], ◌∷◌, reverse, Option, Some, None, pos}
 use Rattle.std.specs.Str.{bytes_eq}
 use Rattle.pml_tree.specs.declared.tree.Sort.{Sort}

@@ -8,7 +8,7 @@ use Rattle.session.specs.declared.Cause.TheVariants as cause
 use Rattle.session.specs.declared.Broken.TheVariants as broken
 use Rattle.session.specs.declared.form.Stream.TheVariants.{Unread}
 use Rattle.session.specs.Convert.{converted, IsConvertedBy}
-use Rattle.session.specs.Part.{Part}
+use Rattle.session.specs.Events.{Part}
 use Rattle.session.specs.Session.{only, end_of, refused, transcript}
 use Rattle.session.specs.Stands.{Ends, IsBrokenOff}
 use Rattle.session.proofs.Moving.{Moved-nil}

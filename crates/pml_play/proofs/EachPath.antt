@@ -8,10 +8,9 @@ use Rattle.session.specs.declared.End.{End}
 use Rattle.session.specs.declared.form.Stream.{Stream}
 use Rattle.session.specs.declared.form.Stream.TheVariants.{Unread, Known}
 use Rattle.session.specs.declared.form.Version.TheVariants.{First}
-use Rattle.session.specs.Events.{Event, Put, Told, Recorded, Stepped, asks, recorded}
-use Rattle.session.specs.Limits.{most_line_bytes}
+use Rattle.session.specs.Events.{Event, Put, Told, Recorded, Stepped, asks, recorded, Part, preceded}
+use Rattle.session.specs.Lines.{most_line_bytes}
 use Rattle.session.specs.Machine.{Rules, Goes}
-use Rattle.session.specs.Part.{Part, preceded}
 use Rattle.session.specs.Session.{place_of, select, stepped, step_text, answered, story, transcript}
 use Rattle.session.specs.Texts.{record_line, all_digits, placed_line, prompt, list_from}
 use Rattle.session.proofs.Parts.{recorded-append, recorded-asks}

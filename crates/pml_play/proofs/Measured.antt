@@ -14,7 +14,7 @@ use Rattle.pml_program.specs.declared.program.Basic.{Basic}
 use Rattle.pml_program.specs.declared.program.Basic.TheBlock.{shape-the_row-Stmt-1}
 use Rattle.pml_program.specs.declared.program.Stmt.{Stmt}
 use Rattle.pml_program.specs.declared.program.Seq.{Seq, roll-Seq, items_hidden-the_row-Stmt-1}
-use Rattle.pml_flow.specs.Marks.{first_line}
+use Rattle.pml_flow.specs.Flow.{first_line}
 use Rattle.pml_stands.specs.Known.{Globals}
 use Rattle.pml_stands.specs.StandsStatements as stands
 use Rattle.pml_stands.specs.StandsStatements.{item_of, items_of, StandsBasic, StandsItems, StandsSeq, StandsOptions}

@@ -4,7 +4,7 @@ use Rattle.diagnostics.specs.declared.refusal.Refusal.{Refusal}
 use Rattle.diagnostics.specs.declared.refusal.Refusal.TheVariants as r
 use Rattle.session.specs.declared.Options.{Options}
 use Rattle.session.specs.declared.End.{End}
-use Rattle.session.specs.Part.{Part}
+use Rattle.session.specs.Events.{Part}
 use Rattle.session.specs.Session.{refused, transcript}
 use Rattle.pml_token.specs.Word.{Word}
 use Rattle.pml_lex.specs.Limits.{has_left_out, IsTooDeep}

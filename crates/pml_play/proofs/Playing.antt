@@ -40,8 +40,7 @@ use Rattle.pml_play.specs.declared.whole.Rejection.{Rejection}
 use Rattle.pml_play.specs.declared.whole.Rejection.TheVariants.{Memory, Refused}
 use Rattle.pml_sim.specs.World.{Running, rules}
 use Rattle.pml_sim.specs.Lent.{IsFirst}
-use Rattle.pml_play.specs.Transcript.{AreExpanded, IsSpelled, IsModel, too_long, lexical, left_out, inline, too_deep, unspelled, unfit, of_refusal, of_model}
-use Rattle.pml_play.specs.Plays.{PlaysWhole}
+use Rattle.pml_play.specs.Transcript.{AreExpanded, IsSpelled, IsModel, too_long, lexical, left_out, inline, too_deep, unspelled, unfit, of_refusal, of_model, PlaysWhole}
 use Rattle.pml_play.specs.Parts.{IsReady, IsRejected, of_lexical, of_inline, of_syntax, of_check, Rejects, PlaysText}
 use Rattle.pml_lex.proofs.Lines.{token_lines}
 use Rattle.pml_play.proofs.Each.{has_transcript}

@@ -13,11 +13,9 @@ use Rattle.session.specs.declared.choice.Answer.TheVariants as answer
 use Rattle.session.specs.declared.form.Stream.{Stream}
 use Rattle.session.specs.declared.form.Stream.TheVariants.{Unread}
 use Rattle.session.specs.declared.form.Version.TheVariants.{First}
-use Rattle.session.specs.Events.{Event, recorded}
-use Rattle.session.specs.Limits.{most_bad_lines}
-use Rattle.session.specs.Lines.{is_digit, number_of, IsPickUpTo}
+use Rattle.session.specs.Events.{Event, recorded, Part}
+use Rattle.session.specs.Lines.{most_bad_lines, is_digit, number_of, IsPickUpTo}
 use Rattle.session.specs.Machine.{Rules, Outcome, Goes, Faults}
-use Rattle.session.specs.Part.{Part}
 use Rattle.session.specs.Session.{ask, place_of, select, finished, stepped, answered, story, transcript, final_cause}
 use Rattle.session.specs.Texts.{record_line, all_digits}
 use Rattle.session.proofs.Parts.{recorded-append}

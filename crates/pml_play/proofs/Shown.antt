@@ -8,10 +8,9 @@ use Rattle.session.specs.declared.End.{End}
 use Rattle.session.specs.declared.form.Stream.{Stream}
 use Rattle.session.specs.declared.form.Stream.TheVariants.{Unread, Known}
 use Rattle.session.specs.declared.form.Version.TheVariants.{First}
-use Rattle.session.specs.Events.{Put, Told, Stepped}
-use Rattle.session.specs.Limits.{most_line_bytes}
+use Rattle.session.specs.Events.{Put, Told, Stepped, Part, preceded}
+use Rattle.session.specs.Lines.{most_line_bytes}
 use Rattle.session.specs.Machine.{Rules, Goes}
-use Rattle.session.specs.Part.{Part, preceded}
 use Rattle.session.specs.Session.{step_text, story, transcript}
 use Rattle.session.specs.Texts.{record_line, all_digits}
 use Rattle.session.proofs.Records.{IsPlain}

@@ -1,4 +1,5 @@
 -- What converting the choices of a text answers.
+-- Hold it against docs/FORMATS.md, 'Choices'.
 use Rattle.std.specs.Prelude.{◌≡◌, ◌≢◌, ℕ, List}
 use Rattle.devices.specs.Holdings.{Holdings}
 use Rattle.diagnostics.specs.declared.refusal.Refusal.{Refusal}
@@ -7,11 +8,10 @@ use Rattle.session.specs.declared.End.{End}
 use Rattle.session.specs.declared.Cause.TheVariants as cause
 use Rattle.session.specs.declared.form.Stream.TheVariants.{Unread}
 use Rattle.session.specs.Convert.{converted, IsConvertedBy, StandsForRecord}
-use Rattle.session.specs.Part.{Part}
+use Rattle.session.specs.Events.{Part}
 use Rattle.session.specs.Session.{only, end_of, transcript}
 use Rattle.session.specs.Stands.{Ends, IsBrokenOff}
 use Rattle.pml_sim.specs.World.{Running, rules}
-use Rattle.pml_play.specs.declared.whole.Rejection.TheVariants.{Refused}
 use Rattle.pml_play.specs.Transcript.{IsModel, IsRefused, IsTranscript}
 
 -- The conversion of the choices of a session over a text: nothing is done where it is refused, and else that of the model.

@@ -1,6 +1,5 @@
 pub mod Transcript
 pub mod Outcomes
-pub mod Plays
 pub mod Parts
 pub mod Converts
 pub mod Converting

@@ -4,7 +4,7 @@ use Rattle.diagnostics.specs.declared.refusal.Refusal.{Refusal}
 use Rattle.diagnostics.specs.declared.refusal.Refusal.TheVariants as r
 use Rattle.session.specs.declared.Options.{Options}
 use Rattle.session.specs.declared.End.{End}
-use Rattle.session.specs.Part.{Part}
+use Rattle.session.specs.Events.{Part}
 use Rattle.pml_lex.specs.Cut.{IsLine}
 use Rattle.pml_sim.specs.World.{Running}
 use Rattle.pml_play.specs.Transcript.{IsModel, IsRefused, IsTranscript}

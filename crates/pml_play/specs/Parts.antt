@@ -24,8 +24,7 @@ use Rattle.pml_check.specs.declared.checked.CheckFault.{CheckFault}
 use Rattle.pml_check.specs.declared.checked.CheckFault.TheVariants as check
 use Rattle.pml_play.specs.declared.whole.Rejection.{Rejection}
 use Rattle.pml_play.specs.declared.whole.Rejection.TheVariants.{Memory, Refused}
-use Rattle.pml_play.specs.Transcript.{IsSpelled, IsRefused}
-use Rattle.pml_play.specs.Plays.{PlaysWhole, BreaksOff}
+use Rattle.pml_play.specs.Transcript.{IsSpelled, IsRefused, PlaysWhole, BreaksOff}
 
 -- memory ran out, or the text is refused so
 abbrev pub IsRejected : List ℕ → Rejection → Type 0

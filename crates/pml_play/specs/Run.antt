@@ -5,9 +5,8 @@ use Rattle.diagnostics.specs.declared.fault.Fault.{Fault}
 use Rattle.session.specs.declared.End.{End}
 use Rattle.session.specs.declared.Cause.{Cause}
 use Rattle.session.specs.declared.Cause.TheVariants as cause
-use Rattle.session.specs.Events.{recorded}
+use Rattle.session.specs.Events.{recorded, Part}
 use Rattle.session.specs.Machine.{Rules, Goes, Faults}
-use Rattle.session.specs.Part.{Part}
 use Rattle.session.specs.Replay.{is_cut_short}
 use Rattle.session.specs.Session.{final_cause}
 use Rattle.session.specs.Texts.{record_line}

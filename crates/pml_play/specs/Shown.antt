@@ -3,9 +3,8 @@ use Rattle.std.specs.Prelude.{◌≡◌, ◌≤◌, ℕ, ◌+◌, Bool, false, L
 use Rattle.std.specs.List.{flat_map}
 use Rattle.session.specs.declared.Options.{Options}
 use Rattle.session.specs.declared.End.{End}
-use Rattle.session.specs.Events.{Event, Put, Told, Recorded, Stepped, asks}
+use Rattle.session.specs.Events.{Event, Put, Told, Recorded, Stepped, asks, Part, preceded}
 use Rattle.session.specs.Machine.{Rules, Outcome, Goes, Faults}
-use Rattle.session.specs.Part.{Part, preceded}
 use Rattle.session.specs.Session.{place_of, step_text}
 use Rattle.session.specs.Texts.{record_line, placed_line, prompt, list_from}
 use Rattle.pml_moves.specs.declared.moves.Move.{Move}

@@ -1,10 +1,14 @@
--- What a text stands for: a refusal, or a model; and the session over it.
-use Rattle.std.specs.Prelude.{◌≡◌, ◌<◌, ℕ, Bool, List, length, Ok}
-use Rattle.diagnostics.specs.declared.refusal.Refusal.{Refusal}
-use Rattle.diagnostics.specs.declared.refusal.Refusal.TheVariants as r
+-- What a text stands for: a refusal, or a model; the session over it; and what playing it answers.
+-- Hold it against docs/FORMATS.md; docs/REFUSALS.md.
+use Rattle.std.specs.Prelude.{◌≡◌, ℕ, List, ◌<◌, Bool, length, Ok}
+use Rattle.devices.specs.Holdings.{Holdings}
 use Rattle.session.specs.declared.Options.{Options}
 use Rattle.session.specs.declared.End.{End}
-use Rattle.session.specs.Part.{Part}
+use Rattle.session.specs.declared.Broken.{Broken}
+use Rattle.session.specs.Events.{Part}
+use Rattle.session.specs.Stands.{Breaks, CountsBroken, Ends, failure_of}
+use Rattle.diagnostics.specs.declared.refusal.Refusal.{Refusal}
+use Rattle.diagnostics.specs.declared.refusal.Refusal.TheVariants as r
 use Rattle.session.specs.Session.{refused, transcript}
 use Rattle.pml_token.specs.Word.{Word}
 use Rattle.profile.specs.declared.TheConstants.{MOST_TEXT_BYTES}
@@ -83,3 +87,20 @@ pub data IsRefused (text : List ℕ) : Refusal → ℕ → Type 0 where
 pub data IsTranscript (text : List ℕ) (options : Options) : (List ℕ → Part End) → Type 0 where
   of_refusal : {refusal : Refusal} {line : ℕ} → IsRefused text refusal line → IsTranscript text options (refused refusal line Unread)
   of_model : {state : Running} → IsModel text options.lossy state → IsTranscript text options (transcript rules options state)
+
+-- a session over the text came to this end, after so many steps
+pub record PlaysWhole (text : List ℕ) (options : Options) (before after : Holdings) (steps : ℕ) (end : End) : Type 0 where
+  pub part : List ℕ → Part End
+  pub is_transcript : IsTranscript text options part
+  pub ends : Ends before after steps part end
+
+-- a session over the text was broken off, behind a beginning of its transcript's events
+pub record BreaksOff (text : List ℕ) (options : Options) (before after : Holdings) (steps : ℕ) (broken : Broken) : Type 0 where
+  pub part : List ℕ → Part End
+  pub is_transcript : IsTranscript text options part
+  pub breaks : Breaks broken before after 0 steps part
+
+-- a device or memory broke the session over the text off, the end says which, and the count of that device alone has risen
+abbrev pub PlaysBroken : List ℕ → Options → Holdings → Holdings → End → Type 0
+PlaysBroken text options before after end = (broken : Broken) × (end.cause ≡ failure_of broken)
+    × BreaksOff text options before after end.steps broken × CountsBroken broken before.failures after.failures

@@ -2,7 +2,7 @@
 
 ghost use Rattle.std.specs.Prelude.{◌≡◌, ℕ, List};
 ghost use Rattle.session.specs.declared.End.{End};
-ghost use Rattle.session.specs.Part.{Part};
+ghost use Rattle.session.specs.Events.{Part};
 ghost use Rattle.session.specs.Session.{end_of};
 ghost use Rattle.pml_play.specs.Converts.{Converts, IsAlwaysConverted};
 ghost use Rattle.pml_play.specs.Converting.{ConvertsModel, ConvertsReady, cause_rejected};

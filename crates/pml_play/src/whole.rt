@@ -2,16 +2,15 @@
 
 ghost use Rattle.std.specs.Prelude.{◌≡◌, ◌≢◌, ◌<◌, ℕ, List, Err, IfOk, IfErr, OnOk};
 ghost use Rattle.session.specs.declared.End.{End};
-ghost use Rattle.session.specs.Part.{Part};
+ghost use Rattle.session.specs.Events.{Part};
 ghost use Rattle.session.specs.Replay.{CanBeReplayed};
 ghost use Rattle.session.specs.Session.{end_of, transcript};
 ghost use Rattle.pml_sim.specs.World.{rules};
 ghost use Rattle.session.specs.Writes.{CountsAll, IsOwnEnd, Runs};
 ghost use Rattle.pml_lex.specs.Cut.{AreTokens};
 ghost use Rattle.pml_syntax.specs.GrammarOfUnits.{Spells};
-ghost use Rattle.pml_play.specs.Transcript.{AreExpanded, IsModel, IsSpelled, IsTranscript};
+ghost use Rattle.pml_play.specs.Transcript.{AreExpanded, IsModel, IsSpelled, IsTranscript, PlaysWhole, PlaysBroken};
 ghost use Rattle.pml_play.specs.Parts as parts;
-ghost use Rattle.pml_play.specs.Plays.{PlaysWhole, PlaysBroken};
 ghost use Rattle.pml_play.specs.Parts.{IsReady, IsRejected, Rejects, PlaysText};
 
 use devices::Devices;

@@ -1,4 +1,5 @@
 -- What `printf` prints.
+-- Hold it against the page `printf`.
 use Rattle.std.specs.Prelude.{ℕ, ◌-◌, Bool, true, false, ◌||◌, if◌then◌else◌, nat_eq, length, take, drop, List, [], ◌∷◌, ◌++◌, ℤ, pos}
 use Rattle.std.specs.Fmt.{decimal, signed_decimal, radix_digits}
 use Rattle.profile.specs.Characters.{tab, line_feed, percent, backslash, letter_c, letter_d, letter_e, letter_o, letter_u, letter_x}

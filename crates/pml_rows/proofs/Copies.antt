@@ -10,9 +10,8 @@ use Rattle.pml_eval.specs.Value.{Reading, wants_of, ◌>>=◌}
 use Rattle.pml_eval.specs.declared.pattern.Sought.{Sought}
 use Rattle.pml_flow.specs.Flow.{Offer}
 use Rattle.pml_moves.specs.Executable.{Named, can_receive, can_send, nonzero, or_fault, with_fields as executable-with_fields}
-use Rattle.pml_moves.specs.Picked.{picked}
+use Rattle.pml_moves.specs.State.{picked, Stand, State, body_of, levels, levels_from, levels_in, reads}
 use Rattle.pml_moves.specs.Search.{Message, accepts_on, each, else_moves, is_else, is_other, is_some, last, message_on, only_if, or_else, pick}
-use Rattle.pml_moves.specs.State.{Stand, State, body_of, levels, levels_from, levels_in, reads}
 use Rattle.pml_moves.specs.declared.moves.Move.{Move}
 use Rattle.pml_moves.specs.declared.moves.Move.TheVariants.{Alone, Death, Pair}
 use Rattle.pml_moves.specs.declared.moves.Pick.{Pick}
@@ -33,8 +32,7 @@ use Rattle.pml_sim.specs.World.{Running, changed_lines, led_to, stopped, unless_
 use Rattle.pml_start.specs.Begin.{Begun, empty_channel, nothing, read_in, with_channel, with_frame, with_value, with_values}
 use Rattle.pml_start.specs.Created.{channels_of, with_arguments, with_process}
 use Rattle.pml_start.specs.Start.{variables_at}
-use Rattle.pml_steps.specs.Change.{put_by, with_received, with_sent, without_youngest}
-use Rattle.pml_steps.specs.Created.{joined_by, run_number, there}
+use Rattle.pml_steps.specs.Change.{put_by, with_received, with_sent, without_youngest, joined_by, run_number, there}
 use Rattle.pml_steps.specs.Outcome.{Done, behind, body_by, both_on, first_of, moved, onward, prints_name, prints_string, quiet}
 use Rattle.pml_texts.specs.Ends.{is_valid}
 use Rattle.pml_texts.specs.Texts.{move_text, origin_of, stuck}

@@ -8,14 +8,13 @@ use Rattle.diagnostics.specs.declared.fault.Fault.{Fault}
 use Rattle.session.specs.declared.Options.{Options}
 use Rattle.session.specs.declared.End.{End}
 use Rattle.session.specs.Lines.{line_within, number_up_to, reply_of, placed_answer, placed_reply, is_header}
-use Rattle.session.specs.Part.{Part}
+use Rattle.session.specs.Events.{Part}
 use Rattle.session.specs.Session.{transcript, story, select, answered, stepped, ask, one_line, next_line, one_reply}
 use Rattle.session.specs.Texts.{digits_of, all_digits}
 use Rattle.pml_program.specs.declared.expr.Expr.{roll-Expr}
 use Rattle.pml_program.specs.declared.expr.Want.{roll-Want}
 use Rattle.pml_program.specs.declared.expr.Target.{roll-Target, out-Target}
-use Rattle.pml_program.specs.declared.expr.Expr.TheBlock.{shape-the_row-Want-0, hidden-the_row-Want-0, shape-the_row-Expr-1, hidden-the_row-Expr-1}
-use Rattle.pml_program.specs.declared.expr.Expr.TheBlock.{shape-the_row-Turn-2, hidden-the_row-Turn-2}
+use Rattle.pml_program.specs.declared.expr.Expr.TheBlock.{shape-the_row-Want-0, hidden-the_row-Want-0, shape-the_row-Expr-1, hidden-the_row-Expr-1, shape-the_row-Turn-2, hidden-the_row-Turn-2}
 use Rattle.pml_program.specs.declared.program.Program.{Program}
 use Rattle.pml_program.specs.declared.program.Seq.{roll-Seq}
 use Rattle.pml_program.specs.declared.program.Basic.TheBlock.{shape-the_row-Stmt-1, hidden-the_row-Stmt-1, shape-the_row-Seq-0, hidden-the_row-Seq-0}

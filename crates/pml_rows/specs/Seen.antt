@@ -3,8 +3,7 @@ use Rattle.std.specs.Prelude.{ℕ, List, length, Option, Some, None, option_map,
 use Rattle.diagnostics.specs.declared.fault.Fault.{Fault}
 use Rattle.session.specs.declared.Options.{Options}
 use Rattle.session.specs.declared.End.{End}
-use Rattle.session.specs.Events.{output, recorded, front}
-use Rattle.session.specs.Part.{Part}
+use Rattle.session.specs.Events.{output, recorded, front, Part}
 use Rattle.session.specs.Session.{transcript}
 use Rattle.pml_program.specs.declared.program.Program.{Program}
 use Rattle.pml_start.specs.Begin.{Begun}

@@ -13,11 +13,9 @@ use Rattle.session.specs.declared.form.Stream.TheVariants.{Unread, Known, Over}
 use Rattle.session.specs.declared.form.Version.{Version}
 use Rattle.session.specs.declared.form.Version.TheVariants.{First, Second}
 use Rattle.session.specs.Converting.{fits_line}
-use Rattle.session.specs.Events.{Event, asks}
-use Rattle.session.specs.Limits.{most_line_bytes, most_bad_lines}
-use Rattle.session.specs.Lines.{Line, line_within, read_of, saw_end, IsPickUpTo}
+use Rattle.session.specs.Events.{Event, asks, Part, preceded}
+use Rattle.session.specs.Lines.{most_line_bytes, most_bad_lines, Line, line_within, read_of, saw_end, IsPickUpTo}
 use Rattle.session.specs.Machine.{Rules, Outcome, Goes, Faults}
-use Rattle.session.specs.Part.{Part, preceded}
 use Rattle.session.specs.Session.{one_line, next_line, one_reply, begins_second, stream_behind, only, after_line, ask, kept, place_of, select, stopped, finished, stepped, answered, story, transcript}
 use Rattle.session.specs.Texts.{placed_line}
 use Rattle.session.proofs.Replay.{ask_range}

@@ -16,8 +16,7 @@ use Rattle.pml_program.specs.declared.program.Program.{Program}
 use Rattle.pml_program.specs.declared.program.Run.{Run}
 use Rattle.pml_control.specs.Control.{Place, Control, at, steps, turn, sequence, basic_at}
 use Rattle.pml_control.specs.Offers.{Edge, Levels, offers}
-use Rattle.pml_flow.specs.Flow.{Offer, offer_of, entry_of}
-use Rattle.pml_flow.specs.Texts.{line_by}
+use Rattle.pml_flow.specs.Flow.{Offer, offer_of, entry_of, line_by}
 use Rattle.pml_eval.specs.Value.{Reading, val, ◌>>=◌}
 use Rattle.pml_value.specs.declared.statement.Goes.{Goes}
 use Rattle.pml_value.specs.declared.live_channel.LiveChannel.{LiveChannel}
@@ -28,11 +27,9 @@ use Rattle.pml_start.proofs.Chaining.{chain, chain_any}
 use Rattle.pml_moves.specs.declared.moves.Pick.{Pick}
 use Rattle.pml_moves.specs.declared.moves.Move.{Move}
 use Rattle.pml_moves.specs.declared.moves.Move.TheVariants.{Death, Alone, Pair}
-use Rattle.pml_moves.specs.State.{Stand, State, reads, body_of, levels, levels_in, first_control}
+use Rattle.pml_moves.specs.State.{Stand, State, reads, body_of, levels, levels_in, first_control, offer_on, offer_at, picked}
 use Rattle.pml_moves.specs.Search.{or_else, choices, is_choice, is_other, message}
-use Rattle.pml_moves.specs.Picked.{offer_on, offer_at, picked}
-use Rattle.pml_steps.specs.Change.{put, put_if, put_by, put_all, with_sent, with_received, moved_to, go_to, went, without_youngest}
-use Rattle.pml_steps.specs.Created.{with_new, joined_by, ran, run_number}
+use Rattle.pml_steps.specs.Change.{put, put_if, put_by, put_all, with_sent, with_received, moved_to, go_to, went, without_youngest, with_new, joined_by, ran, run_number}
 use Rattle.pml_steps.specs.Outcome.{Done, quiet, run_into, does, effect, behind, first_of, onward, within, within_from, taken, body_by, moved, alone, both_on, paired, passed, step}
 use Rattle.pml_sim.proofs.Weight.{weight_part, AreLight, IsLight, light_steps, light_sequence, light_at}
 use Rattle.pml_sim.proofs.Settling.{GoOn, AreFew, few_offers, light_settled}

@@ -7,7 +7,7 @@ use Rattle.std.proofs.lemmas.Option.{slice_get-get_or}
 use Rattle.diagnostics.specs.declared.fault.Fault.{Fault}
 use Rattle.session.specs.declared.Options.{Options}
 use Rattle.session.specs.Convert.{StandsForRecord}
-use Rattle.session.specs.Limits.{most_line_bytes}
+use Rattle.session.specs.Lines.{most_line_bytes}
 use Rattle.session.specs.Machine.{Goes}
 use Rattle.session.specs.Session.{place_of, transcript}
 use Rattle.session.specs.Texts.{all_digits, placed_line}
@@ -25,8 +25,7 @@ use Rattle.pml_start.specs.Starting.{starting}
 use Rattle.pml_start.proofs.Living.{living_are}
 use Rattle.pml_moves.specs.declared.moves.Move.{Move}
 use Rattle.pml_moves.specs.declared.moves.Move.TheVariants.{Death, Alone, Pair}
-use Rattle.pml_moves.specs.State.{Stand, State, body_of, begins_by, begins_at}
-use Rattle.pml_moves.specs.Picked.{picked}
+use Rattle.pml_moves.specs.State.{Stand, State, body_of, begins_by, begins_at, picked}
 use Rattle.pml_moves.specs.Search as search
 use Rattle.profile.specs.declared.TheConstants.{MOST_DSTEP_STATEMENTS}
 use Rattle.pml_steps.specs.Outcome.{Done}

@@ -25,7 +25,7 @@ use Rattle.pml_moves.specs.declared.moves.Move.TheVariants.{Death, Alone, Pair}
 use Rattle.pml_moves.specs.State.{State}
 use Rattle.pml_moves.specs.Search as search
 use Rattle.profile.specs.declared.TheConstants.{MOST_DSTEP_STATEMENTS}
-use Rattle.pml_steps.specs.Created.{kinds, there}
+use Rattle.pml_steps.specs.Change.{kinds, there}
 use Rattle.pml_steps.specs.Outcome.{Done, step}
 use Rattle.pml_steps.specs.Live.{Live, Does, Joins, past as past_of}
 use Rattle.pml_steps.specs.Taking.{CanDie, PastBy}

@@ -5,7 +5,7 @@ use Rattle.pml_start.specs.Begin.{Begun}
 use Rattle.pml_start.specs.Start.{first_state as begin}
 use Rattle.pml_lines.specs.declared.changed.Change.{Change}
 use Rattle.pml_lines.specs.Changed.{changes as changed, value_line as line_of}
-use Rattle.pml_steps.specs.Created.{kinds}
+use Rattle.pml_steps.specs.Change.{kinds}
 use Rattle.pml_texts.specs.Ends as ends
 use Rattle.pml_sim.specs.declared.ending.Ending.{Ending}
 use Rattle.pml_sim.specs.declared.ending.Ending.TheVariants.{Valid, Invalid}

@@ -1,4 +1,5 @@
 -- A checked model as a machine: its first state, its moves, its steps, and the texts.
+-- Hold it against chapter 7 of the book.
 use Rattle.std.specs.Prelude.{ℕ, Bool, List, [], length, take, Option, Some, None, Result, Ok, Err}
 use Rattle.diagnostics.specs.declared.fault.Fault.{Fault}
 use Rattle.session.specs.Machine.{Rules, Outcome, Stopped, Goes, Faults}
@@ -10,7 +11,7 @@ use Rattle.pml_moves.specs.declared.moves.Move.{Move}
 use Rattle.pml_moves.specs.State.{State, first_state}
 use Rattle.pml_moves.specs.Search as search
 use Rattle.profile.specs.declared.TheConstants.{MOST_DSTEP_STATEMENTS}
-use Rattle.pml_steps.specs.Created.{kinds}
+use Rattle.pml_steps.specs.Change.{kinds}
 use Rattle.pml_steps.specs.Outcome as outcome
 use Rattle.pml_texts.specs.Texts as texts
 use Rattle.pml_texts.specs.Ends as ends

@@ -1,4 +1,5 @@
 -- What is declared before a place, and the first of a name among it.
+-- Hold it against docs/LANGUAGE.md, 'A model'.
 use Rattle.std.specs.Prelude.{ℕ, suc, ◌+◌, ◌*◌, nat_eq, min, Bool, true, false, ◌||◌, if◌then◌else◌, is_some, List, [], ◌∷◌, ◌++◌, Option, Some, None}
 use Rattle.std.specs.Str.{bytes_eq}
 use Rattle.profile.specs.declared.TheConstants.{MOST_CELLS}

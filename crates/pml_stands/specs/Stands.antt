@@ -1,5 +1,6 @@
 -- What an expression stands for, by cases on its tree. `gs` is what is declared globally before it, and `ls` are the variables of its
 -- proctype that are declared before it.
+-- Hold it against docs/LANGUAGE.md, 'Types' and 'Expressions'.
 use Rattle.std.specs.Prelude.{◌≡◌, ℕ, nat_lt, Bool, true, false, if◌then◌else◌, List, [], ◌∷◌, Option, Some, None, ℤ, pos, codes}
 use Rattle.std.specs.Str.{bytes_eq}
 use Rattle.profile.specs.declared.TheConstants.{MOST_CONSTANTS}

@@ -1,4 +1,5 @@
 -- What a whole tree stands for, by cases on its units.
+-- Hold it against docs/LANGUAGE.md, 'A model'.
 use Rattle.std.specs.Prelude.{◌≡◌, ℕ, ◌+◌, true, false, List, [], ◌∷◌, ◌++◌, length, reverse}
 use Rattle.pml_token.specs.Word.{Word}
 use Rattle.pml_tree.specs.declared.tree.Variable.{Variable}

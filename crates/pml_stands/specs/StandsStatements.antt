@@ -1,5 +1,6 @@
 -- What the declarations and the statements of a body stand for, by cases on their trees. The variables of the proctype grow from one
 -- to the next: `ls` are those before, and `zs` those behind.
+-- Hold it against docs/LANGUAGE.md, 'Statements'.
 use Rattle.std.specs.Prelude.{◌≡◌, ℕ, ◌+◌, nat_lt, ◌&&◌, if◌then◌else◌, is_some, List, [], ◌∷◌, ◌++◌, map, Option, Some, None, pos}
 use Rattle.pml_token.specs.Word.{Word}
 use Rattle.pml_tree.specs.declared.tree.Scalar.{Scalar}

@@ -1,4 +1,5 @@
 -- What the variables of a frame begin with.
+-- Hold it against the pages `datatypes` and `chan`.
 use Rattle.std.specs.Prelude.{min, ℕ, zero, suc, ◌+◌, ◌-◌, ◌++◌, List, [], ◌∷◌, length, map, pos, ℤ, false, nat_lt, if◌then◌else◌, Result, Ok, Err}
 use Rattle.profile.specs.declared.TheConstants.{MOST_CHANNELS, MOST_MESSAGES}
 use Rattle.diagnostics.specs.declared.fault.Fault.{Fault}

@@ -1,4 +1,5 @@
 -- New processes.
+-- Hold it against the page `run`.
 use Rattle.std.specs.Prelude.{ℕ, zero, suc, ◌+◌, Bool, true, false, if◌then◌else◌, nat_lt, length, List, [], ◌∷◌, ◌++◌, ℤ, Result, Err}
 use Rattle.profile.specs.declared.TheConstants.{MOST_CHANNELS}
 use Rattle.diagnostics.specs.declared.fault.Fault.{Fault}

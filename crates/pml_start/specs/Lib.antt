@@ -3,6 +3,6 @@ pub mod Shown
 pub mod Bound
 pub mod Created
 pub mod Known
-pub mod Laws
 pub mod Start
 pub mod Starting
+pub mod Laws

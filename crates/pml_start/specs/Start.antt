@@ -1,4 +1,5 @@
--- The first state of a checked model.
+-- The first state of a checked model: which processes begin in it, and with what.
+-- Hold it against the pages `init` and `active`.
 use Rattle.std.specs.Prelude.{ℕ, zero, suc, ◌+◌, ◌++◌, List, [], ◌∷◌, length, nat_lt, if◌then◌else◌, Option, None, Some, slice_get, Result, Ok}
 use Rattle.profile.specs.declared.TheConstants.{MOST_PROCESSES}
 use Rattle.diagnostics.specs.declared.fault.Fault.{Fault}

@@ -27,7 +27,7 @@ use Rattle.pml_moves.specs.declared.scene.Seat.{Seat}
 use Rattle.pml_moves.specs.State.{Stand, State, body_of, first_control, begins_by, begins_at}
 use Rattle.pml_moves.specs.Scene.{stand_of}
 use Rattle.pml_moves.proofs.Searching.{within}
-use Rattle.pml_steps.specs.Created.{there, joined_by, with_new}
+use Rattle.pml_steps.specs.Change.{there, joined_by, with_new}
 use Rattle.pml_steps.specs.Live.{Leads}
 use Rattle.pml_steps.specs.Held.{IsHeld, kinds_of, live_of}
 

@@ -4,8 +4,7 @@ use Rattle.diagnostics.specs.declared.fault.Fault.{Fault}
 use Rattle.pml_flow.specs.Flow.{Offer}
 use Rattle.pml_value.specs.declared.statement.Goes.{Goes}
 use Rattle.pml_moves.specs.declared.moves.Pick.{Pick}
-use Rattle.pml_moves.specs.State.{State, reads}
-use Rattle.pml_moves.specs.Picked.{picked}
+use Rattle.pml_moves.specs.State.{State, reads, picked}
 use Rattle.pml_moves.specs.Search.{message}
 use Rattle.pml_eval.specs.Value.{◌>>=◌}
 use Rattle.pml_steps.specs.Change.{went}

@@ -17,10 +17,9 @@ use Rattle.pml_flow.specs.Points.{point_at}
 use Rattle.pml_eval.specs.Value.{◌>>=◌}
 use Rattle.pml_value.specs.declared.statement.Goes.{Goes}
 use Rattle.pml_moves.specs.declared.moves.Pick.{Pick}
-use Rattle.pml_moves.specs.State.{Stand, State, body_of, reads}
+use Rattle.pml_moves.specs.State.{Stand, State, body_of, reads, picked}
 use Rattle.pml_moves.specs.Scene.{control_at}
 use Rattle.pml_moves.specs.Search.{message}
-use Rattle.pml_moves.specs.Picked.{picked}
 use Rattle.pml_moves.proofs.Searching.{got}
 use Rattle.pml_steps.specs.declared.take.Offer.{Offer}
 use Rattle.pml_steps.specs.Change.{put_all, put_any, go_to, moved_to, went}

@@ -2,9 +2,8 @@
 use Rattle.std.specs.Prelude.{◌≡◌, ℕ, Bool, true, Some, Ok}
 use Rattle.pml_flow.specs.Flow.{Offer}
 use Rattle.pml_moves.specs.declared.moves.Pick.{Pick}
-use Rattle.pml_moves.specs.declared.moves.Move.TheVariants.{Death, Alone, Pair}
-use Rattle.pml_moves.specs.State.{State}
-use Rattle.pml_moves.specs.Picked.{picked}
+use Rattle.pml_moves.specs.declared.moves.Move.TheVariants.{Alone, Pair}
+use Rattle.pml_moves.specs.State.{State, picked}
 use Rattle.pml_steps.specs.Outcome.{Done, step}
 
 -- Who takes a statement that lies in the same atomic sequence as what follows it holds exclusive control then; of a pair the receiver.

@@ -1,5 +1,4 @@
 pub mod Change
-pub mod Created
 pub mod Outcome
 pub mod Live
 pub mod Footprint

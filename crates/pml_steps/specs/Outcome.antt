@@ -1,4 +1,5 @@
 -- What a move leads to.
+-- Hold it against chapter 7 of the book; the pages `d_step`, `run`, `printf` and `assert`.
 use Rattle.std.specs.Prelude.{ℕ, zero, suc, Bool, true, false, List, [], ◌∷◌, ◌++◌, ℤ, Option, Some, None, Result, Ok, Err, slice_get}
 use Rattle.diagnostics.specs.declared.fault.Fault.{Fault}
 use Rattle.diagnostics.specs.declared.fault.Fault.TheVariants.{DStepBlocks, DStepTooLong}
@@ -26,12 +27,10 @@ use Rattle.pml_printed.specs.Printed.{printed}
 use Rattle.pml_moves.specs.declared.moves.Pick.{Pick}
 use Rattle.pml_moves.specs.declared.moves.Move.{Move}
 use Rattle.pml_moves.specs.declared.moves.Move.TheVariants.{Death, Alone, Pair}
-use Rattle.pml_moves.specs.State.{Stand, State, reads, body_of, levels}
+use Rattle.pml_moves.specs.State.{Stand, State, reads, body_of, levels, picked}
 use Rattle.pml_moves.specs.Search.{Message, message, choices}
-use Rattle.pml_moves.specs.Picked.{picked}
 use Rattle.pml_moves.specs.Scene.{control_at}
-use Rattle.pml_steps.specs.Change.{put_by, put_any, put_all, with_sent, with_received, go_to, went, without_youngest}
-use Rattle.pml_steps.specs.Created.{ran, run_number}
+use Rattle.pml_steps.specs.Change.{put_by, put_any, put_all, with_sent, with_received, go_to, went, without_youngest, ran, run_number}
 
 -- a state, and the bytes that were printed on the way
 pub record Done : Type 0 where

@@ -9,8 +9,7 @@ use Rattle.pml_flow.specs.Points.{point_at}
 use Rattle.pml_moves.specs.declared.moves.Pick.{Pick}
 use Rattle.pml_moves.specs.declared.moves.Move.{Move}
 use Rattle.pml_moves.specs.declared.moves.Move.TheVariants.{Death, Alone, Pair}
-use Rattle.pml_moves.specs.State.{State}
-use Rattle.pml_moves.specs.Picked.{picked}
+use Rattle.pml_moves.specs.State.{State, picked}
 use Rattle.pml_steps.specs.declared.take.Offer.{Offer}
 use Rattle.pml_steps.specs.Outcome.{body_by, within_from, offer_taken}
 use Rattle.pml_steps.specs.Live.{Live, Does, PastGrows}

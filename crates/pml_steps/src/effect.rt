@@ -6,7 +6,7 @@ ghost use Rattle.std.specs.Option.{option_copied};
 ghost use Rattle.pml_program.specs.declared.program.Action.TheVariants.{Printf, Printm};
 ghost use Rattle.pml_value.specs.Messages.{asserted};
 ghost use Rattle.pml_moves.specs.State.{reads};
-ghost use Rattle.pml_steps.specs.Created.{ran, run_number};
+ghost use Rattle.pml_steps.specs.Change.{ran, run_number};
 ghost use Rattle.pml_steps.specs.Live.{Leads, Does, Joins, PastGrows, Grows};
 ghost use Rattle.pml_steps.specs.Outcome.{run_into as runs_into, does as does_by, effect as effect_of};
 

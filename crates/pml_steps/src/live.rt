@@ -13,8 +13,7 @@ ghost use Rattle.pml_moves.specs.State.{begins_at, reads, first_state};
 ghost use Rattle.pml_value.specs.Seen.{seen};
 ghost use Rattle.pml_value.specs.Statement.{outcome};
 ghost use Rattle.pml_value.specs.Takes.{IsIn};
-ghost use Rattle.pml_steps.specs.Change.{put_if, put_by, without_youngest};
-ghost use Rattle.pml_steps.specs.Created.{kinds, there, with_new};
+ghost use Rattle.pml_steps.specs.Change.{put_if, put_by, without_youngest, kinds, there, with_new};
 ghost use Rattle.pml_steps.specs.Footprint.{all_room, held, message_numbers};
 ghost use Rattle.pml_steps.specs.Held.{kinds_of};
 ghost use Rattle.pml_steps.specs.Live.{Leads, Keeps, Joins, PastGrows, ReadsAs, along, at_node};
@@ -55,7 +54,7 @@ impl<'p, 'a> Model for Live<'p, 'a> {
     ghost use Rattle.pml_program.specs.contracts.program.Seq as seq;
     ghost use Rattle.pml_program.specs.contracts.program.Basic as basic;
     ghost use Rattle.pml_steps.specs.Live.{Live};
-    ghost use Rattle.pml_steps.specs.Created.{kinds, there, with_new};
+    ghost use Rattle.pml_steps.specs.Change.{kinds, there, with_new};
     ghost use Rattle.pml_steps.specs.Held.{IsHeld, live_of};
 
     ghost Value = { Live };

@@ -2,7 +2,7 @@
 
 ghost use Rattle.std.specs.Prelude.{◌≡◌, ◌<◌, ℕ, List, None, IfSome, OnOk, OnErr, length};
 ghost use Rattle.std.specs.Io.{StartsWith};
-ghost use Rattle.pml_moves.specs.Picked.{picked as picks};
+ghost use Rattle.pml_moves.specs.State.{picked as picks};
 ghost use Rattle.pml_moves.specs.declared.moves.Move.TheVariants.{Alone, Pair};
 ghost use Rattle.profile.specs.declared.TheConstants.{MOST_DSTEP_STATEMENTS};
 ghost use Rattle.pml_steps.specs.Live.{Does, Joins, PastGrows, Grows};

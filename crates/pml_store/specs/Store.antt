@@ -1,4 +1,5 @@
 -- A store: what each frame's variables hold.
+-- Hold it against chapter 7 of the book: what a state holds.
 use Rattle.std.specs.Prelude.{ℕ, List, [], length, ℤ, pos, slice_set, slice_index_or, map, replicate}
 use Rattle.pml_store.specs.declared.place.Place.{Place}
 

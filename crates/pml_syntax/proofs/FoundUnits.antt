@@ -1,7 +1,6 @@
 -- What is read as a model is spelled so.
 use Rattle.std.proofs.Common.{◌≡◌, ℕ, zero, suc, Bool, true, false, List, [], ◌∷◌, ◌++◌, length, Option, Ok, inl, inr, refl, sym, ap, subst, ◌∙◌, append_assoc}
-use Rattle.pml_token.specs.Word.{Word}
-use Rattle.pml_token.specs.Kinds.{same_kind}
+use Rattle.pml_token.specs.Word.{Word, same_kind}
 use Rattle.pml_token.specs.declared.token.Kind.{Kind}
 use Rattle.pml_token.specs.declared.token.Kind.TheVariants as k
 use Rattle.pml_tree.specs.declared.tree.Expr.{Expr}

@@ -1,5 +1,6 @@
 -- The grammar of Promela: which tree the tokens from one place up to another spell. Each relation has one rule for each
 -- production. `from` is the list of the tokens from a place on, and `to` the list of those that are left behind it.
+-- Hold it against the pages `grammar`, `send`, `receive` and `datatypes`.
 use Rattle.std.specs.Prelude.{◌≡◌, ℕ, Bool, true, false, List, [], ◌∷◌, Option, Some, None}
 use lib.Chars.{codes}
 use Rattle.pml_token.specs.Word.{Word}

@@ -1,4 +1,5 @@
 -- The grammar of statements with a structure, of bodies, and of what `for` and `select` stand for.
+-- Hold it against the pages `grammar`, `if`, `do`, `atomic`, `d_step`, `unless`, `for` and `select`.
 use Rattle.std.specs.Prelude.{◌≡◌, ℕ, Bool, true, false, ◌||◌, List, [], ◌∷◌, ◌++◌}
 use lib.Chars.{codes}
 use Rattle.pml_token.specs.Word.{Word}

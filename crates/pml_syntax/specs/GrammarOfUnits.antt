@@ -1,4 +1,5 @@
 -- The grammar of units, and of a whole model: which tree the tokens from one place up to another spell.
+-- Hold it against the pages `grammar`, `proctype`, `active`, `init`, `typedef` and `mtype`.
 use Rattle.std.specs.Prelude.{◌≡◌, Bool, List, [], ◌∷◌, ◌++◌, None}
 use lib.Chars.{codes}
 use Rattle.pml_token.specs.Word.{Word}
@@ -10,7 +11,6 @@ use Rattle.pml_tree.specs.declared.tree.Variable.{Variable}
 use Rattle.pml_tree.specs.declared.tree.Item.{Item}
 use Rattle.pml_tree.specs.declared.tree.Starts.{Starts}
 use Rattle.pml_tree.specs.declared.tree.Starts.TheVariants as starts
-use Rattle.pml_tree.specs.declared.tree.Proctype.{Proctype}
 use Rattle.pml_tree.specs.declared.tree.Unit.{Unit as ModelUnit}
 use Rattle.pml_tree.specs.declared.tree.Unit.TheVariants as u
 use Rattle.pml_tree.specs.declared.tree.Tree.{Tree}

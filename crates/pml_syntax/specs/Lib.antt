@@ -1,5 +1,5 @@
-pub mod Answer
 pub mod Grammar
+pub mod Answer
 pub mod GrammarOfStatements
 pub mod GrammarOfUnits
 pub mod Starts

@@ -14,10 +14,8 @@ use Rattle.pml_control.proofs.Telling.{Holds}
 use Rattle.pml_control.proofs.Covering.{covered_at}
 use Rattle.pml_control.proofs.Circling.{got}
 use Rattle.pml_flow.specs.Points.{points_of, point_at}
-use Rattle.pml_flow.specs.Statements.{statement_at, stated}
-use Rattle.pml_flow.specs.Marks.{has_end}
+use Rattle.pml_flow.specs.Flow.{statement_at, stated, has_end, same_turns, same_place}
 use Rattle.pml_flow.specs.Marked.{IsValidEnd, at_end, by_label}
-use Rattle.pml_flow.specs.Flow.{same_turns, same_place}
 use Rattle.pml_flow.specs.Graph.{Placed, IsGraph, Graph, is_end_at}
 use Rattle.pml_flow.proofs.Begun.{begun}
 use Rattle.pml_flow.proofs.Beginning.{read}

@@ -6,8 +6,7 @@ use Rattle.pml_flow.specs.Flow.{Offer}
 use Rattle.pml_moves.specs.declared.moves.Pick.{Pick}
 use Rattle.pml_moves.specs.declared.moves.Move.{Move}
 use Rattle.pml_moves.specs.declared.moves.Move.TheVariants.{Death, Alone, Pair}
-use Rattle.pml_moves.specs.State.{Stand, State, body_of, levels_in}
-use Rattle.pml_moves.specs.Picked.{offer_on, offer_at}
+use Rattle.pml_moves.specs.State.{Stand, State, body_of, levels_in, offer_on, offer_at}
 use Rattle.pml_texts.specs.Texts.{kind_of, offer_text, death_text, pick_text, move_text}
 use Rattle.pml_texts.specs.Staying.{IsWithin}
 

@@ -1,13 +1,12 @@
 -- Where processes may end.
+-- Hold it against the page `end`.
 use Rattle.std.specs.Prelude.{Bool, true, ◌&&◌, [], ◌∷◌, Option, Some, None}
 use Rattle.std.specs.List.{list_any, list_all}
 use Rattle.pml_program.specs.declared.program.Seq.{Seq}
 use Rattle.pml_program.specs.declared.program.Program.{Program}
 use Rattle.pml_control.specs.Control.{Place, Control, Todo, settle}
 use Rattle.pml_control.specs.Told.{told_of}
-use Rattle.pml_flow.specs.Statements.{stated}
-use Rattle.pml_flow.specs.Marks.{has_end}
-use Rattle.pml_flow.specs.Flow.{same_place}
+use Rattle.pml_flow.specs.Flow.{stated, has_end, same_place}
 use Rattle.pml_moves.specs.State.{Stand, State, body_of}
 
 -- the place of the statement that stands first, if one does

@@ -1,20 +1,19 @@
 -- The texts of moves and where they come from, and the texts of the processes where a run does not end well. What is not there has
 -- no text.
+-- Hold it against docs/FORMATS.md, 'Lines on standard output'.
 use Rattle.std.specs.Prelude.{ℕ, List, [], ◌∷◌, ◌++◌, Option, Some, None, if◌then◌else◌, slice_get, codes}
 use Rattle.std.specs.Fmt.{decimal}
 use Rattle.profile.specs.Characters.{line_feed}
 use Rattle.pml_program.specs.declared.program.Proctype.{Proctype}
 use Rattle.pml_program.specs.declared.program.Program.{Program}
 use Rattle.pml_control.specs.Control.{Control}
-use Rattle.pml_flow.specs.Flow.{Offer}
-use Rattle.pml_flow.specs.Marks.{line_at}
+use Rattle.pml_flow.specs.Flow.{Offer, line_at}
 use Rattle.pml_lines.specs.Changes.{proctype_name}
 use Rattle.pml_moves.specs.declared.moves.Pick.{Pick}
 use Rattle.pml_moves.specs.declared.moves.Move.{Move}
 use Rattle.pml_moves.specs.declared.moves.Move.TheVariants.{Death, Alone, Pair}
-use Rattle.pml_moves.specs.State.{Stand, State}
+use Rattle.pml_moves.specs.State.{Stand, State, picked}
 use Rattle.pml_moves.specs.Search.{each}
-use Rattle.pml_moves.specs.Picked.{picked}
 use Rattle.pml_texts.specs.Ends.{may_end}
 
 -- the proctype of a process

@@ -1,7 +1,7 @@
 //! Tokens of a text, which they borrow.
 
 ghost use Rattle.std.specs.Prelude.{◌≡◌};
-ghost use Rattle.pml_token.specs.Kinds.{same_kind as equal};
+ghost use Rattle.pml_token.specs.Word.{same_kind as equal};
 
 use std::marker::Model;
 

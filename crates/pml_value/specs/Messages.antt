@@ -1,4 +1,5 @@
 -- What a send and a receive do to channels and variables, taken by one process alone, and what an `assert` does.
+-- Hold it against the pages `send`, `receive` and `assert`.
 use Rattle.std.specs.Prelude.{ℕ, zero, suc, ◌&&◌, if◌then◌else◌, nat_eq, nat_le, nat_lt, length, map, List, [], ◌∷◌, ◌++◌, ℤ, pos, Option, Some, None, Result, Ok, Err, slice_index_or, remove}
 use Rattle.std.specs.List.{position_from}
 use Rattle.profile.specs.declared.TheConstants.{MOST_FIELDS}
@@ -17,8 +18,7 @@ use Rattle.pml_eval.specs.declared.pattern.Sought.{Sought}
 use Rattle.pml_eval.specs.declared.pattern.Sought.TheVariants.{Into}
 use Rattle.pml_eval.specs.Clip.{clipped}
 use Rattle.pml_eval.specs.Operators.{is_zero}
-use Rattle.pml_eval.specs.Pattern.{matched}
-use Rattle.pml_eval.specs.Value.{Reading, val, place, asked_by, ◌>>=◌}
+use Rattle.pml_eval.specs.Value.{matched, Reading, val, place, asked_by, ◌>>=◌}
 use Rattle.pml_channel.specs.State.{ChannelState, cut, sorted_in}
 use Rattle.pml_value.specs.declared.live_channel.LiveChannel.{LiveChannel}
 use Rattle.pml_value.specs.declared.statement.Goes.{Goes}

@@ -1,4 +1,5 @@
 -- What an expression of one process reads in a state.
+-- Hold it against chapter 7 of the book; the pages `_pid`, `_nr_pr` and `timeout`.
 use Rattle.std.specs.Prelude.{ℕ, zero, suc, ◌+◌, Bool, if◌then◌else◌, List, length, ℤ, pos, negsuc, Option, None, option_map, slice_get}
 use Rattle.pml_eval.specs.Value.{Reading, Filling}
 use Rattle.pml_store.specs.Store.{Frame, size_at, number_at}

@@ -1,4 +1,5 @@
 -- What an assignment, an increment, a decrement and a condition do.
+-- Hold it against the pages `assignments` and `condition`.
 use Rattle.std.specs.Prelude.{ℤ, pos, negsuc, ◌+ℤ◌, Option, Some, None, Result, Ok}
 use Rattle.diagnostics.specs.declared.fault.Fault.{Fault}
 use Rattle.pml_program.specs.declared.expr.Expr.{Expr}

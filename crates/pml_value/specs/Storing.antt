@@ -3,7 +3,6 @@ use Rattle.std.specs.Prelude.{◌≡◌, ℕ, List, [], ◌∷◌, ◌++◌, Res
 use Rattle.diagnostics.specs.declared.fault.Fault.{Fault}
 use Rattle.diagnostics.specs.declared.stop.Stop.{Stop}
 use Rattle.diagnostics.specs.declared.stop.Stop.TheVariants as stop
-use Rattle.pml_eval.specs.Value.{place}
 use Rattle.pml_store.specs.Store.{size_at}
 use Rattle.pml_store.specs.Writing.{Contents, stored}
 use Rattle.pml_value.specs.declared.live_channel.LiveChannel.{LiveChannel}

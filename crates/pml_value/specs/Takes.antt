@@ -1,7 +1,6 @@
 -- What a call that takes a statement leaves.
 use Rattle.std.specs.Prelude.{◌≡◌, ◌<◌, List, Option, Some, None, Result, Ok, Err}
 use Rattle.diagnostics.specs.declared.fault.Fault.{Fault}
-use Rattle.pml_eval.specs.Value.{place}
 use Rattle.pml_store.specs.Store.{Frame, size_at}
 use Rattle.pml_store.specs.Writing.{Contents, stored}
 use Rattle.pml_value.specs.declared.statement.Goes.{Goes}

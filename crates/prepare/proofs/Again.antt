@@ -13,8 +13,7 @@ use Rattle.pml_lex.specs.declared.piece.Piece.{Piece}
 use Rattle.pml_lex.specs.declared.piece.Piece.TheVariants.{Skipped, Token}
 use Rattle.pml_token.specs.declared.token.Kind.{Kind}
 use Rattle.pml_token.specs.declared.token.Kind.TheVariants as kind
-use Rattle.pml_token.specs.Kinds.{same_kind}
-use Rattle.pml_token.specs.Word.{Word}
+use Rattle.pml_token.specs.Word.{same_kind, Word}
 use Rattle.pml_lex.specs.Tables.{word_kind}
 use Rattle.pml_lex.specs.Pieces.{piece, is_blank, is_name_byte}
 use Rattle.pml_lex.specs.Scanning.{Found, next}

@@ -6,8 +6,7 @@ use Rattle.pml_lex.specs.declared.piece.Piece.{Piece}
 use Rattle.pml_lex.specs.declared.piece.Piece.TheVariants.{Skipped, Token}
 use Rattle.pml_token.specs.declared.token.Kind.{Kind}
 use Rattle.pml_token.specs.declared.token.Kind.TheVariants.{LeftOut}
-use Rattle.pml_token.specs.Kinds.{same_kind}
-use Rattle.pml_token.specs.Word.{Word}
+use Rattle.pml_token.specs.Word.{same_kind, Word}
 use Rattle.pml_lex.specs.Pieces.{piece}
 use Rattle.pml_lex.specs.Limits.{has_left_out}
 use Rattle.pml_lex.specs.Division.{IsCut, fresh_from, is_fresh, line_behind, word, words}

@@ -6,7 +6,7 @@ use Rattle.pml_lex.specs.declared.piece.Piece.{Piece}
 use Rattle.pml_lex.specs.declared.piece.Piece.TheVariants.{Skipped, Token}
 use Rattle.pml_token.specs.declared.token.Kind.{Kind}
 use Rattle.pml_token.specs.declared.token.Kind.TheVariants as kind
-use Rattle.pml_token.specs.Kinds.{same_kind}
+use Rattle.pml_token.specs.Word.{same_kind}
 use Rattle.pml_lex.specs.Pieces.{piece}
 use Rattle.pml_lex.specs.Scanning.{next}
 use Rattle.pml_lex.specs.Division.{fresh_from}

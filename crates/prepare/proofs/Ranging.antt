@@ -6,7 +6,7 @@ use Rattle.std.proofs.lemmas.Bool.{false≢true}
 use Rattle.std.proofs.lemmas.Bool.Decides.{nat_tests}
 use Rattle.std.proofs.lemmas.List.Elements.{All-cons}
 use Rattle.pml_token.specs.declared.token.Kind.TheVariants as kind
-use Rattle.pml_token.specs.Kinds.{same_kind}
+use Rattle.pml_token.specs.Word.{same_kind}
 use Rattle.prepare.specs.declared.changes.Head.{Head}
 use Rattle.prepare.specs.declared.changes.Head.TheVariants as head
 use Rattle.prepare.specs.declared.changes.Change.{Change}

@@ -13,7 +13,7 @@ use Rattle.pml_lex.specs.declared.piece.Piece.{Piece}
 use Rattle.pml_lex.specs.declared.piece.Piece.TheVariants.{Skipped, Token}
 use Rattle.pml_token.specs.declared.token.Kind.{Kind}
 use Rattle.pml_token.specs.declared.token.Kind.TheVariants as kind
-use Rattle.pml_token.specs.Kinds.{same_kind}
+use Rattle.pml_token.specs.Word.{same_kind}
 use Rattle.pml_lex.specs.Tables.{word_kind, sign_of_one, sign_of_two}
 use Rattle.pml_lex.specs.Pieces.{is_digit, is_name_byte, is_in_line, is_line_mark, class_of}
 use Rattle.pml_lex.specs.Scanning.{Found, comment_end, quote_end, slash, sign, hash, long_or_short, next_by, next}

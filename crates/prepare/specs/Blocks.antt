@@ -2,7 +2,7 @@
 use Rattle.std.specs.Prelude.{◌≡◌, ◌<◌, ℕ, ◌-◌, Bool, true, false, ◌||◌, if◌then◌else◌, List, [], ◌∷◌, ◌++◌, fold, ◌⊎◌}
 use Rattle.std.specs.List.{list_all}
 use Rattle.pml_token.specs.declared.token.Kind.TheVariants.{OpenBrace, CloseBrace, Name}
-use Rattle.pml_token.specs.Kinds.{same_kind}
+use Rattle.pml_token.specs.Word.{same_kind}
 use Rattle.prepare.specs.declared.turn.Form.{Form}
 use Rattle.prepare.specs.declared.turn.Form.TheVariants as form
 use Rattle.prepare.specs.Roles.{is_block_word}

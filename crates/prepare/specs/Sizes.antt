@@ -4,7 +4,7 @@ use Rattle.std.specs.Str.{bytes_eq}
 use lib.Chars.{codes}
 use Rattle.pml_token.specs.declared.token.Kind.{Kind}
 use Rattle.pml_token.specs.declared.token.Kind.TheVariants as kind
-use Rattle.pml_token.specs.Kinds.{same_kind}
+use Rattle.pml_token.specs.Word.{same_kind}
 use Rattle.prepare.specs.declared.marks.TheConstants.{MOST_LINE}
 use Rattle.prepare.specs.declared.sizes.Lead.{Lead}
 use Rattle.prepare.specs.declared.sizes.Lead.TheVariants as lead

@@ -1,4 +1,5 @@
 -- Characters that definitions speak of, by their codes.
+-- Hold it against the codes of ASCII.
 use Rattle.std.specs.Prelude.{ℕ}
 
 -- b'\t'

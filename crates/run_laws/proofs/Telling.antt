@@ -6,7 +6,7 @@ use Rattle.std.proofs.lemmas.Bool.{false≢true}
 use Rattle.pml_program.specs.declared.program.Program.{Program}
 use Rattle.pml_program.specs.declared.program.Proctype.{Proctype}
 use Rattle.pml_control.specs.Control.{Control}
-use Rattle.pml_flow.specs.Marks.{line_at}
+use Rattle.pml_flow.specs.Flow.{line_at}
 use Rattle.pml_lines.specs.Changes.{proctype_name}
 use Rattle.pml_moves.specs.State.{State, Stand}
 use Rattle.pml_moves.specs.Search.{each}

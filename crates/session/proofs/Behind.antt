@@ -6,11 +6,9 @@ use Rattle.session.specs.declared.End.{End}
 use Rattle.session.specs.declared.Cause.TheVariants as cause
 use Rattle.session.specs.declared.choice.Answer.{Answer}
 use Rattle.session.specs.declared.choice.Answer.TheVariants as answer
-use Rattle.session.specs.Events.{Event, Put, Told, Corrected, Stepped, asks}
-use Rattle.session.specs.Limits.{most_line_bytes, most_bad_lines}
-use Rattle.session.specs.Lines.{Line, line_within, lengthened, read_of, saw_end}
+use Rattle.session.specs.Events.{Event, Put, Told, Corrected, Stepped, asks, Part, preceded, followed}
+use Rattle.session.specs.Lines.{most_line_bytes, most_bad_lines, Line, line_within, lengthened, read_of, saw_end}
 use Rattle.session.specs.Machine.{Rules, Outcome, Goes, Faults}
-use Rattle.session.specs.Part.{Part, preceded, followed}
 use Rattle.session.specs.Session.{one_line, next_line, one_reply, begins_second, stream_behind, ask, after_line, only, kept, question, choose, place_of, select, stopped, finished, stepped, answered, at_moves, story, step_text}
 use Rattle.session.specs.Texts.{prompt, bad_line, list_from}
 use Rattle.session.specs.Laws.{is_asked_end, meets_the_end, with_more_left, WhatIsBehindChangesNothing}

@@ -19,10 +19,9 @@ use Rattle.session.specs.declared.form.Stream.TheVariants.{Unread}
 use Rattle.session.specs.declared.form.Version.TheVariants.{First, Second}
 use Rattle.session.specs.Convert.{IsConvertedBy, converted_event, converted_events, converted}
 use Rattle.session.specs.Converting.{fits_line, told_event, told_events, noting, quiet, told, failure_converting}
-use Rattle.session.specs.Events.{Event, Put, Told, Asked, AskedEnd, Recorded, Stepped, IsAsk, output, front, recorded, steps_in, step_of}
-use Rattle.session.specs.Limits.{most_bad_lines, most_line_bytes}
+use Rattle.session.specs.Events.{Event, Put, Told, Asked, AskedEnd, Recorded, Stepped, IsAsk, output, front, recorded, steps_in, step_of, Part, preceded, followed}
+use Rattle.session.specs.Lines.{most_bad_lines, most_line_bytes}
 use Rattle.session.specs.Machine.{Rules, Outcome, Goes, Faults}
-use Rattle.session.specs.Part.{Part, preceded, followed}
 use Rattle.session.specs.Session.{kept, question, choose, place_of, select, stopped, stepped, answered, at_moves, story, transcript, transcript_noting, step_text, end_of}
 use Rattle.session.specs.Stands.{is_readable, AreReadable, MovedBy, Begins, Does, Breaks, CountsBroken, Ends, IsBrokenOff}
 use Rattle.session.specs.Texts.{header_line, list_from, prompt}

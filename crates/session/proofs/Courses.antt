@@ -7,9 +7,8 @@ use Rattle.session.specs.declared.End.{End}
 use Rattle.session.specs.declared.Cause.TheVariants as cause
 use Rattle.session.specs.declared.choice.Answer.{Answer}
 use Rattle.session.specs.declared.choice.Answer.TheVariants as answer
-use Rattle.session.specs.Events.{Event, Put, Told, Stepped}
+use Rattle.session.specs.Events.{Event, Put, Told, Stepped, Part, preceded, followed}
 use Rattle.session.specs.Machine.{Rules, Outcome, Goes, Faults}
-use Rattle.session.specs.Part.{Part, preceded, followed}
 use Rattle.session.specs.Session.{select, stopped, stepped, answered, at_moves, story, transcript, step_text}
 use Rattle.session.specs.Laws.{is_no_piece, beside_output, IsSameCourse, ShowingChangesNothing}
 use Rattle.session.specs.declared.form.Stream.{Stream}

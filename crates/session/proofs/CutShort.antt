@@ -8,10 +8,8 @@ use Rattle.session.specs.declared.End.{End}
 use Rattle.session.specs.declared.Cause.TheVariants as cause
 use Rattle.session.specs.declared.choice.Answer.{Answer}
 use Rattle.session.specs.declared.choice.Answer.TheVariants as answer
-use Rattle.session.specs.Events.{Event, Put, Told, AskedEnd, Recorded, Stepped, asks, front, recorded}
-use Rattle.session.specs.Limits.{most_line_bytes, most_bad_lines}
-use Rattle.session.specs.Lines.{IsPickUpTo, is_header}
-use Rattle.session.specs.Part.{Part, preceded, followed}
+use Rattle.session.specs.Events.{Event, Put, Told, AskedEnd, Recorded, Stepped, asks, front, recorded, Part, preceded, followed}
+use Rattle.session.specs.Lines.{most_line_bytes, most_bad_lines, IsPickUpTo, is_header}
 use Rattle.session.specs.Machine.{Rules, Outcome, Goes, Faults}
 use Rattle.session.specs.Session.{one_line, next_line, one_reply, ask, only, kept, choose, place_of, select, stopped, finished, stepped, answered, story, transcript, refused, end_of, step_text}
 use Rattle.session.specs.Texts.{record_line, placed_line, list_from, prompt}

@@ -8,8 +8,7 @@ use Rattle.devices.specs.Holdings.{Holdings, FailureCounts, Moved, OutFails}
 use Rattle.session.specs.declared.End.{End}
 use Rattle.session.specs.declared.Broken.{Broken}
 use Rattle.session.specs.declared.Broken.TheVariants as broken
-use Rattle.session.specs.Events.{Event, Put, Told, Stepped, output, front, recorded, steps_in, step_of}
-use Rattle.session.specs.Part.{Part, preceded}
+use Rattle.session.specs.Events.{Event, Put, Told, Stepped, output, front, recorded, steps_in, step_of, Part, preceded}
 use Rattle.session.specs.Stands.{AreReadable, MovedBy, Breaks, CountsBroken}
 use Rattle.session.specs.Writes.{Leads, Continues, story_after}
 use Rattle.session.specs.declared.course.Course.{Course}

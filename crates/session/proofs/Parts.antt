@@ -9,9 +9,8 @@ use Rattle.devices.specs.Holdings.{Holdings, Moved}
 use Rattle.devices.specs.Doing.{WritesPart, RecordsPart}
 use Rattle.session.specs.declared.Broken.{Broken}
 use Rattle.session.specs.declared.Broken.TheVariants as broken
-use Rattle.session.specs.Events.{Event, Role, Put, Recorded, asks, output, front, recorded, steps_in, output_of, bytes_of, record_of, step_of}
-use Rattle.session.specs.Part.{Part, preceded, followed}
-use Rattle.session.specs.Limits.{most_line_bytes}
+use Rattle.session.specs.Events.{Event, Role, Put, Recorded, asks, output, front, recorded, steps_in, output_of, bytes_of, record_of, step_of, Part, preceded, followed}
+use Rattle.session.specs.Lines.{most_line_bytes}
 use Rattle.session.specs.Stands.{is_readable, AreReadable, MovedBy, Begins, Does, Breaks}
 use Rattle.session.specs.Writes.{Leads}
 use Rattle.session.specs.Session.{only}

@@ -9,10 +9,8 @@ use Rattle.session.specs.declared.line.LineEnd.TheVariants.{Whole}
 use Rattle.session.specs.declared.choice.Answer.TheVariants as answer
 use Rattle.session.specs.declared.form.Stream.TheVariants.{Unread, Known}
 use Rattle.session.specs.declared.form.Version.TheVariants.{Second}
-use Rattle.session.specs.Events.{asks}
-use Rattle.session.specs.Limits.{most_line_bytes}
-use Rattle.session.specs.Lines.{line_within, lengthened, is_blank, is_digit, is_gap, front_trimmed, end_trimmed, trimmed, is_quit, is_header, first_word, behind_word, gap_trimmed, number_up_to, writes, placed_answer, placed_reply}
-use Rattle.session.specs.Part.{preceded}
+use Rattle.session.specs.Events.{asks, preceded}
+use Rattle.session.specs.Lines.{most_line_bytes, line_within, lengthened, is_blank, is_digit, is_gap, front_trimmed, end_trimmed, trimmed, is_quit, is_header, first_word, behind_word, gap_trimmed, number_up_to, writes, placed_answer, placed_reply}
 use Rattle.session.specs.Session.{one_line, next_line, one_reply, ask}
 use Rattle.session.specs.Texts.{all_digits, placed_line, header, header_line}
 use Rattle.session.proofs.LineReading.{line_feed, line_byte}

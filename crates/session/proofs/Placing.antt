@@ -18,11 +18,9 @@ use Rattle.session.specs.declared.form.Version.{Version}
 use Rattle.session.specs.declared.form.Version.TheVariants.{First, Second}
 use Rattle.session.specs.Convert.{converted_event, converted_events, placed_lines, second, is_no_ask, is_ask, IsSameReading, StandsForRecord}
 use Rattle.session.specs.Converting.{fits_line, CanBeConverted}
-use Rattle.session.specs.Events.{Event, Put, Told, Asked, AskedEnd, Recorded, Stepped, IsAsk, asks, output, front, recorded}
-use Rattle.session.specs.Limits.{most_line_bytes, most_bad_lines}
-use Rattle.session.specs.Lines.{line_within, read_of, saw_end, IsPickUpTo}
+use Rattle.session.specs.Events.{Event, Put, Told, Asked, AskedEnd, Recorded, Stepped, IsAsk, asks, output, front, recorded, Part, preceded, followed}
+use Rattle.session.specs.Lines.{most_line_bytes, most_bad_lines, line_within, read_of, saw_end, IsPickUpTo}
 use Rattle.session.specs.Machine.{Rules, Outcome, Goes, Faults}
-use Rattle.session.specs.Part.{Part, preceded, followed}
 use Rattle.session.specs.Reads.{line_asks}
 use Rattle.session.specs.Session.{one_line, next_line, one_reply, begins_second, stream_behind, ask, only, kept, choose, place_of, select, stopped, finished, stepped, answered, story, transcript, step_text, refused}
 use Rattle.session.specs.Texts.{record_line, placed_line, header_line, list_from, prompt}

@@ -3,9 +3,8 @@ use Rattle.std.proofs.Common.{◌≡◌, ℕ, zero, suc, ◌-◌, List, [], ◌�
 use Rattle.session.specs.declared.Broken.TheVariants as broken
 use Rattle.session.specs.declared.choice.Answer.{Answer}
 use Rattle.session.specs.declared.choice.Answer.TheVariants as answer
-use Rattle.session.specs.Events.{Put, Corrected}
+use Rattle.session.specs.Events.{Put, Corrected, Part, preceded, followed}
 use Rattle.session.specs.Texts.{prompt, bad_line}
-use Rattle.session.specs.Part.{Part, preceded, followed}
 use Rattle.session.specs.Session.{one_reply, ask, after_line, only}
 use Rattle.devices.specs.Holdings.{Holdings}
 use Rattle.session.specs.Stands.{Does, Breaks}

@@ -9,8 +9,7 @@ use Rattle.session.specs.Events.{asks}
 use Rattle.session.specs.declared.form.Stream.{Stream}
 use Rattle.session.specs.declared.form.Stream.TheVariants.{Unread, Known, Over}
 use Rattle.session.specs.declared.form.Version.TheVariants.{First}
-use Rattle.session.specs.Limits.{most_line_bytes}
-use Rattle.session.specs.Lines.{line_within, lengthened, is_blank, is_digit, front_trimmed, end_trimmed, trimmed, number_up_to, is_quit, is_header, picked, reply_of}
+use Rattle.session.specs.Lines.{most_line_bytes, line_within, lengthened, is_blank, is_digit, front_trimmed, end_trimmed, trimmed, number_up_to, is_quit, is_header, picked, reply_of}
 use Rattle.session.specs.Session.{one_line, next_line, one_reply, ask}
 use Rattle.std.specs.Prelude.{⊤}
 use Rattle.std.specs.Str.{bytes_eq}

@@ -11,10 +11,8 @@ use Rattle.session.specs.declared.line.LineEnd.{LineEnd}
 use Rattle.session.specs.declared.line.LineEnd.TheVariants.{Whole, Last, TooLong}
 use Rattle.session.specs.declared.choice.Answer.{Answer}
 use Rattle.session.specs.declared.choice.Answer.TheVariants as answer
-use Rattle.session.specs.Events.{Event, Put, Told, Corrected, Asked, AskedEnd, Recorded, Stepped, asks, output, front, recorded}
-use Rattle.session.specs.Limits.{most_line_bytes, most_bad_lines}
-use Rattle.session.specs.Lines.{Line, line_within, read_of, saw_end, reply_of, reply_in, number_of, number_up_to, is_digit, is_quit, trimmed, first_word, behind_word, writes, picked, picked_at, placed_answer, placed_reply, IsPickUpTo}
-use Rattle.session.specs.Part.{Part, preceded, followed}
+use Rattle.session.specs.Events.{Event, Put, Told, Corrected, Asked, AskedEnd, Recorded, Stepped, asks, output, front, recorded, Part, preceded, followed}
+use Rattle.session.specs.Lines.{most_line_bytes, most_bad_lines, Line, line_within, read_of, saw_end, reply_of, reply_in, number_of, number_up_to, is_digit, is_quit, trimmed, first_word, behind_word, writes, picked, picked_at, placed_answer, placed_reply, IsPickUpTo}
 use Rattle.session.specs.Machine.{Rules, Outcome, Goes, Faults}
 use Rattle.session.specs.Session.{one_line, next_line, one_reply, begins_second, stream_behind, reply_at, ask, after_line, only, kept, choose, place_of, select, stopped, finished, stepped, answered, story, step_text}
 use Rattle.session.specs.Texts.{record_line, placed_line, list_from, prompt}

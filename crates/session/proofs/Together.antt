@@ -7,8 +7,7 @@ use Rattle.devices.specs.Holdings.{Holdings, Moved}
 use Rattle.devices.specs.Doing.{WritesPart}
 use Rattle.session.specs.declared.Broken.{Broken}
 use Rattle.session.specs.declared.Broken.TheVariants as broken
-use Rattle.session.specs.Events.{Role, Put}
-use Rattle.session.specs.Part.{Part, preceded}
+use Rattle.session.specs.Events.{Role, Put, Part, preceded}
 use Rattle.session.specs.Stands.{Breaks}
 use Rattle.session.specs.Writes.{Leads, WriteBreaks}
 use Rattle.session.proofs.Parts.{MovedBy-put, memory_breaks}

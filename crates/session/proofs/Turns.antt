@@ -10,9 +10,8 @@ use Rattle.session.specs.declared.Broken.{Broken}
 use Rattle.session.specs.declared.Broken.TheVariants as broken
 use Rattle.session.specs.declared.choice.Answer.{Answer}
 use Rattle.session.specs.declared.choice.Answer.TheVariants as answer
-use Rattle.session.specs.Events.{Role, Put, Told, Stepped}
+use Rattle.session.specs.Events.{Role, Put, Told, Stepped, Part, preceded, followed}
 use Rattle.session.specs.Machine.{Rules, Goes, Faults}
-use Rattle.session.specs.Part.{Part, preceded, followed}
 use Rattle.session.specs.Session.{only, kept, choose, place_of, select, stopped, finished, end_of, cause_of, stepped, step_text, answered, story}
 use Rattle.session.specs.Stands.{Does, Breaks}
 use Rattle.session.specs.Writes.{Leads, PlaysQuestion, WriteBreaks, RecordBreaks, kept_text, StepBreaks, Continues, Acts, Turns, acted, story_after}

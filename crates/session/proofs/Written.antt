@@ -10,10 +10,8 @@ use Rattle.session.specs.declared.line.LineEnd.{LineEnd}
 use Rattle.session.specs.declared.line.LineEnd.TheVariants.{Whole, Last, TooLong}
 use Rattle.session.specs.declared.choice.Answer.{Answer}
 use Rattle.session.specs.declared.choice.Answer.TheVariants as answer
-use Rattle.session.specs.Limits.{most_line_bytes}
-use Rattle.session.specs.Lines.{Line, line_within, lengthened, is_blank, is_digit, number_of, number_up_to, is_quit, is_gap, front_trimmed, end_trimmed, trimmed, first_word, behind_word, writes, picked, picked_at, placed_answer, placed_reply, reply_of, reply_in, read_of, saw_end}
-use Rattle.session.specs.Events.{asks}
-use Rattle.session.specs.Part.{Part, preceded}
+use Rattle.session.specs.Lines.{most_line_bytes, Line, line_within, lengthened, is_blank, is_digit, number_of, number_up_to, is_quit, is_gap, front_trimmed, end_trimmed, trimmed, first_word, behind_word, writes, picked, picked_at, placed_answer, placed_reply, reply_of, reply_in, read_of, saw_end}
+use Rattle.session.specs.Events.{asks, Part, preceded}
 use Rattle.session.specs.Session.{one_line, next_line, one_reply, begins_second, stream_behind, reply_at, ask, after_line, only}
 use Rattle.session.specs.Texts.{digits_of, all_digits, record_line, placed_line}
 use Rattle.session.specs.declared.form.Stream.{Stream}

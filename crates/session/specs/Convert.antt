@@ -1,10 +1,10 @@
 -- What a session does whose choices are converted to the second version.
+-- Hold it against docs/FORMATS.md, 'Choices'.
 use Rattle.std.specs.Prelude.{◌≡◌, ℕ, ◌+◌, List, [], ◌∷◌, ◌++◌, filter, Bool, true, false, if◌then◌else◌}
 use Rattle.std.specs.List.{flat_map, list_any}
 use Rattle.devices.specs.Holdings.{Gave}
 use Rattle.session.specs.declared.End.{End}
-use Rattle.session.specs.Events.{Event, Put, Told, Asked, AskedEnd, Recorded, Stepped, output, front, recorded}
-use Rattle.session.specs.Part.{Part}
+use Rattle.session.specs.Events.{Event, Put, Told, Asked, AskedEnd, Recorded, Stepped, output, front, recorded, Part}
 use Rattle.session.specs.Session.{transcript}
 use Rattle.session.specs.Texts.{header_line}
 

@@ -8,10 +8,9 @@ use Rattle.session.specs.declared.Cause.TheVariants as cause
 use Rattle.session.specs.declared.Broken.{Broken}
 use Rattle.session.specs.declared.Broken.TheVariants as broken
 use Rattle.session.specs.declared.form.Version.TheVariants.{Second}
-use Rattle.session.specs.Events.{Event, Put, Told, Asked, AskedEnd, Recorded, Stepped}
-use Rattle.session.specs.Limits.{most_line_bytes}
+use Rattle.session.specs.Events.{Event, Put, Told, Asked, AskedEnd, Recorded, Stepped, Part, preceded}
+use Rattle.session.specs.Lines.{most_line_bytes}
 use Rattle.session.specs.Machine.{Rules}
-use Rattle.session.specs.Part.{Part, preceded}
 use Rattle.session.specs.Session.{transcript, transcript_noting}
 use Rattle.session.specs.Texts.{header_line}
 use Rattle.session.specs.Convert.{converted, StandsForRecord, IsConvertedBy}

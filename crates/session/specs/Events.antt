@@ -1,5 +1,7 @@
--- What a session does, one thing after another, and what of it each device sees.
-use Rattle.std.specs.Prelude.{ℕ, List, [], ◌∷◌, ◌++◌, map, sum_by, Bool, if◌then◌else◌}
+-- What a session does, one thing after another, what of it each device sees, and a part of a session.
+-- Hold it against docs/FORMATS.md, 'Lines on standard output' and 'Choices'.
+use Rattle.std.specs.Prelude.{ℕ, List, ◌++◌, [], ◌∷◌, map, sum_by, Bool, if◌then◌else◌}
+use Rattle.session.specs.declared.form.Stream.{Stream}
 use Rattle.std.specs.List.{flat_map}
 
 -- what a piece of output is for
@@ -69,3 +71,18 @@ IsAsk (Asked b) = Unit {0}
 IsAsk AskedEnd = Unit {0}
 IsAsk (Recorded line placed) = ⊥
 IsAsk Stepped = ⊥
+
+-- What a part of a session does on the choices: its events, what comes of it, what is known of the choices, the bytes left.
+pub record Part (T : Type 0) : Type 0 where
+  pub events : List Event
+  pub value : T
+  pub stream : Stream
+  pub left : List ℕ
+
+-- the same with events in front
+abbrev pub preceded : {T : Type 0} → List Event → Part T → Part T
+preceded events part = record { events = events ++ part.events; value = part.value; stream = part.stream; left = part.left }
+
+-- a part, and then what follows from its outcome
+abbrev pub followed : {T U : Type 0} → Part T → (T → Stream → List ℕ → Part U) → Part U
+followed part next = preceded part.events (next part.value part.stream part.left)

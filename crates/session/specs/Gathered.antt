@@ -5,8 +5,7 @@ use Rattle.devices.specs.Holdings.{Holdings, Moved}
 use Rattle.session.specs.declared.End.{End}
 use Rattle.session.specs.declared.Broken.{Broken}
 use Rattle.session.specs.declared.Broken.TheVariants as broken
-use Rattle.session.specs.Events.{Event, Put, Told, Stepped, output}
-use Rattle.session.specs.Part.{Part, preceded}
+use Rattle.session.specs.Events.{Event, Put, Told, Stepped, output, Part, preceded}
 use Rattle.session.specs.Machine.{Rules}
 use Rattle.session.specs.Session.{stepped}
 use Rattle.session.specs.Stands.{Does, Breaks}

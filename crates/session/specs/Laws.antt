@@ -2,9 +2,8 @@
 use Rattle.std.specs.Prelude.{◌≡◌, ℕ, List, ◌++◌, filter, Bool, true, false}
 use Rattle.std.specs.List.{list_any}
 use Rattle.session.specs.declared.Options.{Options}
-use Rattle.session.specs.Events.{Event, Put, Asked, AskedEnd, Recorded, Stepped}
+use Rattle.session.specs.Events.{Event, Put, Asked, AskedEnd, Recorded, Stepped, Part}
 use Rattle.session.specs.Machine.{Rules}
-use Rattle.session.specs.Part.{Part}
 use Rattle.session.specs.Session.{transcript}
 
 -- an event that writes nothing to the output: a byte that is asked for, a line of the record, a step

@@ -1,4 +1,5 @@
 -- A machine as a session sees it: states, their moves, what a move does, and texts.
+-- Hold it against chapter 7 of the book: states, and what leads from one to another.
 use Rattle.std.specs.Prelude.{ℕ, List, Bool, Option}
 use Rattle.diagnostics.specs.declared.fault.Fault.{Fault}
 use Rattle.diagnostics.specs.declared.stop.Stop.{Stop}

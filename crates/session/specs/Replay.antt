@@ -1,10 +1,10 @@
 -- A run that is played again on its own record.
+-- Hold it against docs/FORMATS.md, 'Choices'.
 use Rattle.std.specs.Prelude.{◌≡◌, ℕ, List, filter, Bool, true, false}
 use Rattle.session.specs.declared.End.{End}
 use Rattle.session.specs.declared.Cause.{Cause}
 use Rattle.session.specs.declared.Cause.TheVariants as cause
-use Rattle.session.specs.Events.{Event, Put, Corrected, output, front, recorded}
-use Rattle.session.specs.Part.{Part}
+use Rattle.session.specs.Events.{Event, Put, Corrected, output, front, recorded, Part}
 use Rattle.session.specs.Session.{end_of}
 
 -- all but the answers to bad lines and the prompts that follow them

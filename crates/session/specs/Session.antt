@@ -1,4 +1,5 @@
 -- The session of a machine: what it does on these choices, and how it ends.
+-- Hold it against docs/FORMATS.md.
 use Rattle.std.specs.Prelude.{ℕ, ◌+◌, ◌-◌, List, [], ◌∷◌, ◌++◌, length, Bool, true, false, if◌then◌else◌, Option, Some, None, slice_index_or}
 use Prim.Native.Nat.{zero, suc}
 use Rattle.std.specs.List.{slice_get}
@@ -11,10 +12,8 @@ use Rattle.session.specs.declared.line.LineEnd.{LineEnd}
 use Rattle.session.specs.declared.line.LineEnd.TheVariants.{Whole, Last, TooLong}
 use Rattle.session.specs.declared.choice.Answer.{Answer}
 use Rattle.session.specs.declared.choice.Answer.TheVariants as answer
-use Rattle.session.specs.Events.{Put, Told, Corrected, Recorded, Stepped, asks}
-use Rattle.session.specs.Limits.{most_line_bytes, most_bad_lines}
-use Rattle.session.specs.Lines.{line_within, read_of, saw_end, reply_in, is_header}
-use Rattle.session.specs.Part.{Part, preceded, followed}
+use Rattle.session.specs.Events.{Put, Told, Corrected, Recorded, Stepped, asks, Part, preceded, followed}
+use Rattle.session.specs.Lines.{most_line_bytes, most_bad_lines, line_within, read_of, saw_end, reply_in, is_header}
 use Rattle.session.specs.Machine.{Rules, Outcome, Goes, Faults}
 use Rattle.session.specs.Texts.{list_from, prompt, bad_line, noted, placed_line, last_line, step_line, fault_line, refusal_line, status_of}
 use Rattle.session.specs.declared.form.Stream.{Stream}

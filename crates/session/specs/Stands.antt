@@ -1,12 +1,12 @@
 -- How what the devices hold stands to what a session does.
+-- Hold it against docs/FORMATS.md, 'Exit statuses'.
 use Rattle.std.specs.Prelude.{◌≡◌, ℕ, ◌+◌, ◌<◌, List, [], ◌∷◌, ◌++◌, length, take, nat_le, Bool, true}
 use Rattle.std.specs.List.{list_all}
 use Rattle.devices.specs.Holdings.{Holdings, FailureCounts, Moved, SourceFails, OutFails, RecordFails}
 use Rattle.session.specs.declared.Broken.{Broken}
 use Rattle.session.specs.declared.Broken.TheVariants as broken
-use Rattle.session.specs.Events.{Event, Role, Put, Recorded, IsAsk, output, front, recorded, steps_in}
-use Rattle.session.specs.Limits.{most_line_bytes}
-use Rattle.session.specs.Part.{Part}
+use Rattle.session.specs.Events.{Event, Role, Put, Recorded, IsAsk, output, front, recorded, steps_in, Part}
+use Rattle.session.specs.Lines.{most_line_bytes}
 use Rattle.session.specs.declared.form.Stream.{Stream}
 use Rattle.session.specs.declared.End.{End}
 use Rattle.session.specs.declared.Cause.{Cause}

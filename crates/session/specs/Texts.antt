@@ -1,4 +1,5 @@
 -- The lines that a session writes.
+-- Hold it against docs/FORMATS.md, 'Lines on standard output'.
 use Rattle.std.specs.Prelude.{ℕ, zero, suc, ◌+◌, ◌/◌, ◌%◌, nat_lt, if◌then◌else◌, List, [], ◌∷◌, ◌++◌, codes}
 use Rattle.std.specs.Fmt.{decimal}
 use Rattle.profile.specs.Characters.{zero_digit}

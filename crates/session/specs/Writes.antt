@@ -11,9 +11,8 @@ use Rattle.session.specs.declared.Broken.{Broken}
 use Rattle.session.specs.declared.Broken.TheVariants as broken
 use Rattle.session.specs.declared.choice.Answer.{Answer}
 use Rattle.session.specs.declared.choice.Answer.TheVariants as answer
-use Rattle.session.specs.Events.{Event, front}
+use Rattle.session.specs.Events.{Event, front, Part, followed, preceded}
 use Rattle.session.specs.Machine.{Rules, Goes, Faults}
-use Rattle.session.specs.Part.{Part, followed, preceded}
 use Rattle.session.specs.Session.{stepped, step_text, select, answered, story, end_of}
 use Rattle.session.specs.Stands.{MovedBy, Begins, Does, Breaks, CountsBroken}
 use Rattle.session.specs.Texts.{noted, fault_line}

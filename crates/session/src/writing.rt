@@ -3,8 +3,7 @@ ghost use Rattle.std.specs.Prelude.{◌≡◌, ◌+◌, ◌<◌, ◌≤◌, ◌^
 ghost use Rattle.std.specs.List.{Contains};
 ghost use Rattle.session.specs.declared.Broken.TheVariants.{Memory};
 ghost use Rattle.session.specs.Writes.{CountsAll, Writes, kept_text, RecordsAnswer, Composes, Steps};
-ghost use Rattle.session.specs.Limits.{most_line_bytes};
-ghost use Rattle.session.specs.Lines.{IsPickUpTo};
+ghost use Rattle.session.specs.Lines.{most_line_bytes, IsPickUpTo};
 ghost use Rattle.session.specs.Session.{place_of, final_lines};
 ghost use Rattle.session.specs.Texts.{list_from, prompt, last_line, noted};
 

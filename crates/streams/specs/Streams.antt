@@ -4,7 +4,7 @@ use Rattle.devices.specs.Holdings.{FailureCounts, Holdings}
 use Rattle.devices.specs.Left.{MayBeLeft}
 use Rattle.session.specs.declared.Options.{Options}
 use Rattle.session.specs.declared.End.{End}
-use Rattle.pml_play.specs.Plays.{PlaysWhole, PlaysBroken}
+use Rattle.pml_play.specs.Transcript.{PlaysWhole, PlaysBroken}
 use Rattle.pml_play.specs.Converts.{Converts}
 use Rattle.streams.specs.declared.over.Streams.{Streams}
 

@@ -3,7 +3,7 @@ use Rattle.std.specs.Prelude.{ℕ, List, [], Option, Some, None, slice_get}
 use Rattle.pml_program.specs.declared.program.Proctype.{Proctype}
 use Rattle.pml_program.specs.declared.program.Program.{Program}
 use Rattle.pml_control.specs.Control.{Control}
-use Rattle.pml_flow.specs.Marks.{line_at}
+use Rattle.pml_flow.specs.Flow.{line_at}
 use Rattle.pml_lines.specs.Changes.{proctype_name}
 use Rattle.pml_moves.specs.State.{Stand, State}
 use Rattle.pml_texts.specs.Texts.{proctype_of}

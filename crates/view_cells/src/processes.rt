@@ -4,7 +4,7 @@ ghost use Rattle.std.specs.Prelude.{◌≡◌, ◌++◌, codes, slice_get};
 ghost use Rattle.std.specs.Option.{option_copied};
 ghost use Rattle.std.specs.Fmt.{decimal};
 ghost use Rattle.pml_flow.specs.Points.{point_at};
-ghost use Rattle.pml_flow.specs.Marks.{line_at};
+ghost use Rattle.pml_flow.specs.Flow.{line_at};
 ghost use Rattle.pml_moves.specs.Scene.{IsBody, stand_of};
 ghost use Rattle.pml_texts.specs.Texts.{proctype_of as proctype_in};
 ghost use Rattle.view_text.specs.Written.{Adds};

@@ -1,6 +1,6 @@
 -- The sessions that go along a walk.
 use Rattle.std.specs.Prelude.{◌≡◌, ◌≤◌, ℕ, false, List, ◌++◌, length, take}
-use Rattle.session.specs.Part.{Part}
+use Rattle.session.specs.Events.{Part}
 use Rattle.session.specs.declared.End.{End}
 use Rattle.session.specs.declared.Options.{Options}
 use Rattle.pml_moves.specs.declared.moves.Move.{Move}

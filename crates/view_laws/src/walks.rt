@@ -1,7 +1,7 @@
 //! Laws of walks, which functions without a body state.
 
 ghost use Rattle.std.specs.Prelude.{ℕ, List};
-ghost use Rattle.session.specs.Part.{Part};
+ghost use Rattle.session.specs.Events.{Part};
 ghost use Rattle.session.specs.declared.End.{End};
 ghost use Rattle.session.specs.declared.Options.{Options};
 ghost use Rattle.view_walk.specs.Walks.{IsWalk, Walked};

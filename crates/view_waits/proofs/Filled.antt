@@ -10,11 +10,10 @@ use Rattle.pml_control.specs.Control.{Turn, Place, Control, Todo, Back, Under, I
 use Rattle.pml_control.specs.Offers.{Edge, Levels, one, join, begins, begins_seq, begins_row, begins_any, escapes, offers}
 use Rattle.pml_flow.specs.Flow.{Offer, offer_of}
 use Rattle.pml_flow.specs.Points.{points_in, points_part, points_row, points_options, point_at}
-use Rattle.pml_moves.specs.Picked.{picked, offer_at, offer_on}
+use Rattle.pml_moves.specs.State.{picked, offer_at, offer_on, Stand, State, body_of, levels, levels_in}
 use Rattle.pml_moves.specs.declared.scene.Seat.{Seat}
 use Rattle.pml_moves.specs.Scene.{control_at, stand_of}
 use Rattle.pml_moves.specs.Search.{pick, moves}
-use Rattle.pml_moves.specs.State.{Stand, State, body_of, levels, levels_in}
 use Rattle.view_waits.specs.Filled.{KeptStatesStandAtNodes, IsFilled, HasSteps, SomeSteps, EachStep, HasOptions, EachOption, IsFilledBody, HasFilledBodies, StandAtNodes}
 use Rattle.view_waits.specs.Laws.{IsOfferedNothing}
 use Rattle.view_waits.specs.Waits.{is_in, in_control, last_timeout, waits_behind, waits_left, waits_at, waits}

@@ -25,9 +25,8 @@ use Rattle.pml_channel.specs.State.{cut}
 use Rattle.pml_moves.specs.declared.moves.Pick.{Pick}
 use Rattle.pml_moves.specs.declared.moves.Move.{Move}
 use Rattle.pml_moves.specs.declared.moves.Move.TheVariants.{Alone, Pair}
-use Rattle.pml_moves.specs.State.{Stand, State, reads, body_of, levels_in, levels_from}
+use Rattle.pml_moves.specs.State.{Stand, State, reads, body_of, levels_in, levels_from, picked, offer_at, offer_on}
 use Rattle.pml_moves.specs.Executable.{Named, named, values, is_rendezvous, nonzero, or_fault, can_send, can_receive}
-use Rattle.pml_moves.specs.Picked.{picked, offer_at, offer_on}
 use Rattle.pml_moves.specs.Search.{Message, message, message_on, accepts, choices, is_else, can_alone, last, only_if, pick, pairs, pairs_on, pairs_with, moves_by}
 use Rattle.view_waits.specs.declared.because.Because.TheVariants as why
 use Rattle.view_waits.specs.Because.{because, of_send, of_receive}

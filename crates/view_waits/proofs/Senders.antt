@@ -18,9 +18,8 @@ use Rattle.pml_moves.specs.declared.moves.Move.{Move}
 use Rattle.pml_moves.specs.declared.moves.Move.TheVariants.{Alone, Pair}
 use Rattle.pml_moves.specs.Executable.{Named, named, values, is_rendezvous, or_fault, can_send}
 use Rattle.pml_moves.specs.Laws.{taker}
-use Rattle.pml_moves.specs.Picked.{picked}
+use Rattle.pml_moves.specs.State.{picked, Stand, State, reads, body_of, levels, levels_in}
 use Rattle.pml_moves.specs.Search.{last, only_if, is_else, can_alone, Message, message, message_on, accepts, pick, pairs_on, pairs_with, pairs, moves_by, plain_moves, else_moves, moves_on, moves_of, moves_at, moves}
-use Rattle.pml_moves.specs.State.{Stand, State, reads, body_of, levels, levels_in}
 use Rattle.view_waits.specs.Waits.{takes_part, is_in, in_control, last_timeout}
 use Rattle.view_waits.specs.Why.{level_of, EscapesFrom, NobodySends}
 use Rattle.view_waits.proofs.Blocked.{none_at, none_held, searched}

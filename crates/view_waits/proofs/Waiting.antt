@@ -9,8 +9,7 @@ use Rattle.pml_control.specs.Control.{Control, Pending}
 use Rattle.pml_flow.specs.Flow.{Offer}
 use Rattle.pml_moves.specs.declared.moves.Pick.{Pick}
 use Rattle.pml_moves.specs.declared.moves.Move.TheVariants.{Death}
-use Rattle.pml_moves.specs.Picked.{picked, offer_at, offer_on}
-use Rattle.pml_moves.specs.State.{Stand, State, reads, body_of, levels, levels_in}
+use Rattle.pml_moves.specs.State.{picked, offer_at, offer_on, Stand, State, reads, body_of, levels, levels_in}
 use Rattle.pml_moves.specs.Search.{pick, moves, moves_of}
 use Rattle.view_waits.specs.declared.because.Because.TheVariants as why
 use Rattle.view_waits.specs.declared.waits.Wait.{Wait}

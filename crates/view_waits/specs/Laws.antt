@@ -3,9 +3,8 @@ use Rattle.std.specs.Prelude.{◌≡◌, ◌<◌, ◌⊎◌, ℕ, true, false, l
 use Rattle.std.specs.List.{AllByRecursion, Contains}
 use Rattle.pml_flow.specs.Flow.{Offer}
 use Rattle.pml_moves.specs.declared.moves.Pick.{Pick}
-use Rattle.pml_moves.specs.Picked.{picked}
+use Rattle.pml_moves.specs.State.{picked, State, reads}
 use Rattle.pml_moves.specs.Search.{moves}
-use Rattle.pml_moves.specs.State.{State, reads}
 use Rattle.view_waits.specs.Waits.{is_in, in_control, last_timeout, wait_of, waits}
 use Rattle.view_waits.specs.Why.{IsTrueOf}
 

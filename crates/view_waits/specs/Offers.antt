@@ -2,8 +2,7 @@
 use Rattle.std.specs.Prelude.{ℕ, ◌-◌, if◌then◌else◌, nat_eq, List, [], ◌∷◌, length, take, Option, Some, None}
 use Rattle.pml_flow.specs.Flow.{Offer}
 use Rattle.pml_moves.specs.declared.moves.Pick.{Pick}
-use Rattle.pml_moves.specs.Picked.{picked}
-use Rattle.pml_moves.specs.State.{State}
+use Rattle.pml_moves.specs.State.{picked, State}
 use Rattle.pml_texts.specs.Texts.{line_in}
 
 -- what stands behind the first `[`

@@ -20,9 +20,8 @@ use Rattle.pml_moves.specs.declared.moves.Move.{Move}
 use Rattle.pml_moves.specs.declared.moves.Move.TheVariants.{Death, Alone, Pair}
 use Rattle.pml_moves.specs.Laws.{taker}
 use Rattle.pml_moves.specs.Executable.{Named, named, is_rendezvous}
-use Rattle.pml_moves.specs.Picked.{picked}
+use Rattle.pml_moves.specs.State.{picked, Stand, State, reads, body_of, levels_from}
 use Rattle.pml_moves.specs.Search.{Message, message, accepts, choices, is_some, moves_held, moves}
-use Rattle.pml_moves.specs.State.{Stand, State, reads, body_of, levels_from}
 use Rattle.view_waits.specs.declared.because.Because.{Because}
 use Rattle.view_waits.specs.declared.because.Because.TheVariants as why
 use Rattle.view_waits.specs.declared.waits.Wait.{Wait}

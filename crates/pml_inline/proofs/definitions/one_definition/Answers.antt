@@ -3,7 +3,7 @@ use Rattle.std.proofs.lemmas.List.{length-map, length-take, length-drop}
 use Rattle.std.specs.Borrow.{Bor}
 use Rattle.pml_token.specs.declared.token.Kind.{Kind}
 use Rattle.pml_token.specs.declared.token.Kind.TheVariants.{Name, OpenParen, OpenBrace, CloseBrace}
-use Rattle.pml_token.specs.Kinds.{same_kind}
+use Rattle.pml_token.specs.Word.{same_kind}
 use Rattle.pml_inline.specs.Brackets.{has_inline, closing}
 use Rattle.pml_inline.specs.Inlines.{parameters, listed, all_differ}
 use Rattle.pml_inline.specs.Places.{word_at, words_of}

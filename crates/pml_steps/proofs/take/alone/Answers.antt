@@ -1,6 +1,6 @@
 use Rattle.std.proofs.Common.{rules, ◌≡◌, ◌∙◌, ap, Err}
 use Rattle.pml_flow.specs.Flow.{Offer as Offered}
-use Rattle.pml_moves.specs.Picked.{picked}
+use Rattle.pml_moves.specs.State.{picked}
 use Rattle.profile.specs.declared.TheConstants.{MOST_DSTEP_STATEMENTS}
 use Rattle.pml_steps.specs.Live.{Live, Does}
 use Rattle.pml_steps.specs.Outcome.{alone, moved}
