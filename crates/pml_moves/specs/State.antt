@@ -68,8 +68,8 @@ begins_at p k = begins_by k (body_of p k)
 -- ---- the first state
 
 -- all processes stand before their first statements, and nobody holds exclusive control
-abbrev pub first_state : Program → Begun → Bool → State
-first_state p b lossy = record { program = p; frames = b.frames; stands = map (begins_at p) b.kinds; channels = b.channels; holder = None; lossy = lossy }
+abbrev pub begun_state : Program → Begun → Bool → State
+begun_state p b lossy = record { program = p; frames = b.frames; stands = map (begins_at p) b.kinds; channels = b.channels; holder = None; lossy = lossy }
 
 -- an offer of a level by its place, if the level is there
 abbrev pub offer_on : Option (List Offer) → ℕ → Option Offer

@@ -8,7 +8,7 @@ use Rattle.pml_store.specs.Store.{Frame}
 use Rattle.pml_start.specs.Begin.{Begun}
 use Rattle.pml_lines.specs.Changes.{value_lines}
 use Rattle.pml_moves.specs.declared.moves.Move.{Move}
-use Rattle.pml_moves.specs.State.{State, first_state}
+use Rattle.pml_moves.specs.State.{State, begun_state}
 use Rattle.pml_moves.specs.Search as search
 use Rattle.profile.specs.declared.TheConstants.{MOST_DSTEP_STATEMENTS}
 use Rattle.pml_steps.specs.Change.{kinds}
@@ -26,7 +26,7 @@ pub record Running : Type 0 where
 
 -- before the first step nothing has changed
 abbrev pub first : Program → Begun → Bool → Running
-first p b lossy = record { state = first_state p b lossy; past = b.frames; halt = None }
+first p b lossy = record { state = begun_state p b lossy; past = b.frames; halt = None }
 
 -- where it has stopped there is no move
 abbrev pub unless_stopped : Option Halt → List Move → List Move

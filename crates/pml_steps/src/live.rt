@@ -9,7 +9,7 @@ ghost use Rattle.pml_start.specs.Shown.{shown};
 ghost use Rattle.pml_start.specs.Bound.{bound, most_cells, IsBounded};
 ghost use Rattle.pml_start.specs.Starting.{IsDeclared};
 ghost use Rattle.pml_moves.specs.Scene.{stand_of};
-ghost use Rattle.pml_moves.specs.State.{begins_at, reads, first_state};
+ghost use Rattle.pml_moves.specs.State.{begins_at, reads, begun_state};
 ghost use Rattle.pml_value.specs.Seen.{seen};
 ghost use Rattle.pml_value.specs.Statement.{outcome};
 ghost use Rattle.pml_value.specs.Takes.{IsIn};
@@ -113,7 +113,7 @@ impl<'p, 'a> Live<'p, 'a> {
         requires declared { IsDeclared played (shown started) }
         requires fresh { started.store.written ≡ [] }
         requires bounded { IsBounded played started.store started.channels.items }
-        ensures { IfOk result (λ l. l ≡ record { state = first_state played.entry (shown started) lossy; written = [] }) }
+        ensures { IfOk result (λ l. l ≡ record { state = begun_state played.entry (shown started) lossy; written = [] }) }
     {
         let seats = seats_of(alloc, &played, started.kinds.as_slice())?;
         let state = State {
