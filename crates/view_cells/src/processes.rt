@@ -102,6 +102,28 @@ fn is_closed(scene: &Scene<'_, '_, '_>, seat: Seat) -> bool {
     scene.standing(seat).is_none()
 }
 
+fn has_line(scene: &Scene<'_, '_, '_>, kind: usize, line: u32) -> bool {
+    let Some(body) = scene.body(kind) else {
+        return false;
+    };
+    for node in 0..body.graph.node_count() {
+        if body.graph.line(node) == line {
+            return true;
+        }
+    }
+    body.proctype.end.line() == line
+}
+
+/// Whether some process can stand at a line: before a statement that begins there, or at its closing brace.
+pub fn is_standing_line(picture: &Picture<'_, '_, '_>, line: u32) -> bool {
+    for kind in 0..picture.program().proctypes.len() {
+        if has_line(picture.scene(), kind, line) {
+            return true;
+        }
+    }
+    false
+}
+
 /// Whether nothing is left to do in a process.
 pub fn is_at_brace(picture: &Picture<'_, '_, '_>, process: usize) -> bool {
     match seat_at(picture.scene().seats(), process) {

@@ -14,6 +14,7 @@ use crate::told::Told;
 use crate::until::Goal;
 use crate::written::{is_there, last_written};
 use std::alloc::AllocError;
+use view_cells::processes::is_standing_line;
 use view_state::source::add_source;
 use view_state::state::add_state;
 use view_state::why::add_why;
@@ -129,6 +130,15 @@ fn add_if_unknown(walk: &Walk<'_, '_>, path: &str, told: &mut Told) -> Result<bo
     Ok(true)
 }
 
+// Says that no process can stand at a line, if that is so.
+fn add_if_no_line(walk: &Walk<'_, '_>, line: u32, out: &mut Writer) {
+    if !is_standing_line(&picture_of(walk.world()), line) {
+        out.add(b"no process can stand at line ");
+        out.number(line as usize);
+        out.add(b"\n");
+    }
+}
+
 // Takes steps until one leads where a run is to stop; a variable may be there only behind some.
 fn go_until<'l>(
     walk: &mut Walk<'_, '_>,
@@ -137,6 +147,9 @@ fn go_until<'l>(
     told: &mut Told,
 ) -> Result<(), AllocError> {
     take_until(walk, limit, USUAL_RUN, goal, told)?;
+    if let Goal::Line(line) = goal {
+        add_if_no_line(walk, line, &mut told.out);
+    }
     if let Some(path) = goal.path() {
         add_if_unknown(walk, path, told)?;
     }
