@@ -110,6 +110,7 @@ impl Graph {
         let next = plan.next();
         let ranks = ranks(alloc, next)?;
         let targets = targets(alloc, ranks.as_slice(), plan.ends())?;
+        drop(ranks);
         let sites = sites(alloc, &proctype.body)?;
         let tables = Tables {
             targets: targets.as_slice(),
@@ -118,6 +119,7 @@ impl Graph {
         };
         let all = all_edges(alloc, &tables)?;
         let nodes = kept_nodes(alloc, all.numbers.as_slice(), sites.as_slice(), next)?;
+        drop(sites);
         let start = start_of(targets.as_slice());
         let statements = all_statements(alloc, &proctype.body)?;
         let lines = kept_lines(alloc, next, &statements, proctype.end.line())?;
@@ -300,7 +302,7 @@ fn add_numbers(numbers: &[usize], number: usize, levels: &mut Vec<usize>) -> Res
 fn node_of(alloc: Global, numbers: &[usize], site: &Site) -> Result<Node, AllocError>
     ensures { IfOk result (λ n. n ≡ node_of numbers.now site.now) }
 {
-    let mut levels = Vec::new(alloc);
+    let mut levels = Vec::with_capacity(alloc, site.shows().len())?;
     for number in site.shows() {
         add_numbers(numbers, *number, &mut levels)?;
     }

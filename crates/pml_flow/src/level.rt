@@ -38,7 +38,7 @@ impl Level {
     fn only(alloc: Global, way: Way) -> Result<Level, AllocError>
         ensures { IfOk result (λ l. l ≡ way ∷ []) }
     {
-        let mut ways = Vec::new(alloc);
+        let mut ways = Vec::with_capacity(alloc, 1)?;
         ways.push(way)?;
         Ok(Level { ways })
     }
@@ -53,8 +53,7 @@ impl Level {
     fn copy(&self, alloc: Global) -> Result<Level, AllocError>
         ensures { IfOk result (λ l. l ≡ self.now) }
     {
-        let mut ways = Vec::new(alloc);
-        ways.extend_from_slice(self.ways.as_slice())?;
+        let ways = Vec::from_slice(alloc, self.ways.as_slice())?;
         Ok(Level { ways })
     }
 
@@ -70,7 +69,7 @@ impl Level {
 pub fn one(alloc: Global, way: Way) -> Result<Vec<Level>, AllocError>
     ensures { IfOk result (λ v. v.items ≡ one way) }
 {
-    let mut levels = Vec::new(alloc);
+    let mut levels = Vec::with_capacity(alloc, 1)?;
     levels.push(Level::only(alloc, way)?)?;
     Ok(levels)
 }
@@ -79,7 +78,7 @@ pub fn one(alloc: Global, way: Way) -> Result<Vec<Level>, AllocError>
 pub fn copies(alloc: Global, levels: &[Level]) -> Result<Vec<Level>, AllocError>
     ensures { IfOk result (λ v. v.items ≡ levels.now) }
 {
-    let mut copied = Vec::new(alloc);
+    let mut copied = Vec::with_capacity(alloc, levels.len())?;
     for level in levels {
         copied.push(level.copy(alloc)?)?;
     }

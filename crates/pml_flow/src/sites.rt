@@ -59,7 +59,7 @@ fn none(above: &[usize]) -> &[usize]
 fn before(alloc: Global, number: usize, numbers: &[usize]) -> Result<Vec<usize>, AllocError>
     ensures { IfOk result (λ v. v.items ≡ number ∷ numbers.now) }
 {
-    let mut all = Vec::new(alloc);
+    let mut all = Vec::with_capacity(alloc, numbers.len().saturating_add(1))?;
     all.push(number)?;
     all.extend_from_slice(numbers)?;
     Ok(all)

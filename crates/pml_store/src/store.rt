@@ -13,8 +13,8 @@ use std::marker::Model;
 /// Where the cells of a variable are.
 #[derive(Clone, Copy, PartialEq, Eq, Debug)]
 pub struct Extent {
-    start: usize,
-    size: usize,
+    start: u32,
+    size: u32,
 }
 
 /// Where the cells of a frame begin, and those of its variables.
@@ -73,14 +73,14 @@ impl Store {
         ensures holds { slice_index_or (joined self.now.frames) result (pos 0) ≡ number_at self.now.frames place }
     {
         let extent = find_extent(self.frames.as_slice(), place.frame, place.variable);
-        extent.start + place.cell
+        extent.start as usize + place.cell
     }
 
     /// How many cells a variable has: none where it is not there.
     pub fn size(&self, frame: usize, variable: usize) -> usize
         ensures { result ≡ size_at self.now.frames frame variable }
     {
-        find_extent(self.frames.as_slice(), frame, variable).size
+        find_extent(self.frames.as_slice(), frame, variable).size as usize
     }
 
     /// Stores a number. Want of memory changes nothing.
@@ -181,11 +181,11 @@ fn extents_from(
     ensures { IfOk result (λ r. (r.0 ≡ extents_of base sizes.now) × (r.1 ≡ base + sum sizes.now)) }
 {
     let mut at = base;
-    let mut extents = Items::new(alloc);
+    let mut extents = Items::from_vec(Vec::with_capacity(alloc, sizes.len())?);
     for size in sizes {
         extents.push(Extent {
-            start: at,
-            size: *size,
+            start: at as u32,
+            size: *size as u32,
         })?;
         at += *size;
     }

@@ -115,9 +115,9 @@ pub fn same_kind(a: Kind, b: Kind) -> bool
 /// A token: its kind, its bytes in the text, and the line of the first of them.
 #[derive(Debug, Drop)]
 pub struct Token<'t> {
-    kind: Kind,
     text: &'t [u8],
     line: u32,
+    kind: Kind,
 }
 
 impl<'t> Model for Token<'t> {

@@ -73,7 +73,7 @@ impl<'a> Tokens<'a> {
 fn copies<'a>(alloc: Global, tokens: &[Token<'a>]) -> Result<Items<Token<'a>>, AllocError>
     ensures { IfOk result (λ ts. ts ≡ tokens.now) }
 {
-    let mut found = Items::new(alloc);
+    let mut found = Items::from_vec(Vec::with_capacity(alloc, tokens.len())?);
     for token in tokens {
         found.push(token.copied())?;
     }
