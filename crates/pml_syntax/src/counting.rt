@@ -5,7 +5,7 @@ ghost use Rattle.pml_tree.specs.declared.tree.Action.TheVariants as a;
 ghost use Rattle.pml_tree.specs.declared.tree.Expr.TheVariants as e;
 ghost use Rattle.pml_tree.specs.declared.tree.Basic.TheVariants as b;
 ghost use Rattle.pml_syntax.specs.Grammar as grammar;
-ghost use Rattle.pml_syntax.specs.GrammarOfStatements as grammarofstatements;
+ghost use Rattle.pml_syntax.specs.GrammarOfStatements as loops;
 
 use crate::boxes;
 use crate::range::{Bound, Counter, Range};
@@ -15,6 +15,13 @@ use pml_tree::tokens::Tokens;
 use pml_tree::tree::{Action, Basic, Expr, Infix, Item, Reference, Seq};
 use sqlite_items::{Boxed, Items};
 use std::alloc::{AllocError, Global};
+
+/// An empty list with room for this many, so that no memory is kept beyond need.
+fn room_for<T>(alloc: Global, count: usize) -> Result<Items<T>, AllocError>
+    ensures { IfOk result (λ items. items ≡ []) }
+{
+    Ok(Items::from_vec(Vec::with_capacity(alloc, count)?))
+}
 
 /// Adds copies of these tokens.
 fn add_all<'a>(found: &mut Items<Token<'a>>, tokens: &[Token<'a>]) -> Result<(), AllocError>
@@ -35,7 +42,8 @@ fn around<'a>(
 ) -> Result<Tokens<'a>, AllocError>
     ensures { IfOk result (λ ts. ts ≡ front.now ++ word.entry ∷ back.now) }
 {
-    let mut found = Items::new(alloc);
+    let count = front.len().saturating_add(back.len()).saturating_add(1);
+    let mut found = room_for(alloc, count)?;
     add_all(&mut found, front)?;
     found.push(word)?;
     add_all(&mut found, back)?;
@@ -46,20 +54,23 @@ fn around<'a>(
 pub fn alone<'a>(alloc: Global, item: Item<'a>) -> Result<Items<Item<'a>>, AllocError>
     ensures { IfOk result (λ r. r ≡ item.entry ∷ []) }
 {
-    let mut items = Items::new(alloc);
+    let mut items = room_for(alloc, 1)?;
     items.push(item)?;
     Ok(items)
 }
 
 /// These items, and then those.
 fn joined<'a>(
-    mut items: Items<Item<'a>>,
+    alloc: Global,
+    items: Items<Item<'a>>,
     more: Items<Item<'a>>,
 ) -> Result<Items<Item<'a>>, AllocError>
     ensures { IfOk result (λ r. r ≡ items.entry ++ more.entry) }
 {
-    items.append(more)?;
-    Ok(items)
+    let mut all = room_for(alloc, items.len().saturating_add(more.len()))?;
+    all.append(items)?;
+    all.append(more)?;
+    Ok(all)
 }
 
 /// These options, and then the one of these items.
@@ -81,7 +92,7 @@ fn two_options<'a>(
 ) -> Result<Items<Seq<'a>>, AllocError>
     ensures { IfOk result (λ r. r ≡ grammar.seq_of x.entry ∷ grammar.seq_of y.entry ∷ []) }
 {
-    let first = option_behind(Items::new(alloc), x)?;
+    let first = option_behind(room_for(alloc, 2)?, x)?;
     option_behind(first, y)
 }
 
@@ -116,7 +127,7 @@ fn setting<'a>(
     named: &[Token<'a>],
     first: Bound<'a>,
 ) -> Result<Items<Item<'a>>, AllocError>
-    ensures { IfOk result (λ r. r ≡ grammarofstatements.setting line variable.entry named.now first.entry ∷ []) }
+    ensures { IfOk result (λ r. r ≡ loops.setting line variable.entry named.now first.entry ∷ []) }
 {
     let Bound { value, tokens } = first;
     let action = Boxed::new(alloc, Action::Assign(variable.into_inner(), value))?;
@@ -153,7 +164,7 @@ fn comparing<'a>(
     named: &[Token<'a>],
     last: Bound<'a>,
 ) -> Result<Items<Item<'a>>, AllocError>
-    ensures { IfOk result (λ r. r ≡ grammarofstatements.comparing operator word.entry variable.entry named.now last.entry ∷ []) }
+    ensures { IfOk result (λ r. r ≡ loops.comparing operator word.entry variable.entry named.now last.entry ∷ []) }
 {
     let Bound { value, tokens } = last;
     let action = compared(alloc, operator, variable, value)?;
@@ -168,7 +179,7 @@ fn raising<'a>(
     variable: Boxed<Reference<'a>>,
     named: &[Token<'a>],
 ) -> Result<Items<Item<'a>>, AllocError>
-    ensures { IfOk result (λ r. r ≡ grammarofstatements.raising line variable.entry named.now ∷ []) }
+    ensures { IfOk result (λ r. r ≡ loops.raising line variable.entry named.now ∷ []) }
 {
     let action = Boxed::new(alloc, Action::Increment(variable.into_inner()))?;
     let word = Token::new(Kind::Increment, b"++", line);
@@ -178,7 +189,7 @@ fn raising<'a>(
 
 /// The `else` of a `for`.
 fn otherwise<'a>(alloc: Global, line: u32) -> Result<Items<Item<'a>>, AllocError>
-    ensures { IfOk result (λ r. r ≡ grammarofstatements.otherwise_item line ∷ []) }
+    ensures { IfOk result (λ r. r ≡ loops.otherwise_item line ∷ []) }
 {
     let action = Boxed::new(alloc, Action::Else)?;
     let tokens = around(alloc, &[], Token::new(Kind::Else, b"else", line), &[])?;
@@ -186,7 +197,7 @@ fn otherwise<'a>(alloc: Global, line: u32) -> Result<Items<Item<'a>>, AllocError
 }
 
 fn breaking<'a>(alloc: Global, line: u32) -> Result<Items<Item<'a>>, AllocError>
-    ensures { IfOk result (λ r. r ≡ grammarofstatements.breaking line ∷ []) }
+    ensures { IfOk result (λ r. r ≡ loops.breaking line ∷ []) }
 {
     let tokens = around(alloc, &[], Token::new(Kind::Break, b"break", line), &[])?;
     let basic = boxes::leave(alloc)?;
@@ -200,7 +211,7 @@ fn turning<'a>(
     on: Items<Item<'a>>,
     out: Items<Item<'a>>,
 ) -> Result<Items<Item<'a>>, AllocError>
-    ensures { IfOk result (λ r. r ≡ grammarofstatements.turning line (grammar.seq_of on.entry ∷ grammar.seq_of out.entry ∷ []) ∷ []) }
+    ensures { IfOk result (λ r. r ≡ loops.turning line (grammar.seq_of on.entry ∷ grammar.seq_of out.entry ∷ []) ∷ []) }
 {
     let options = two_options(alloc, on, out)?;
     let tokens = around(alloc, &[], Token::new(Kind::Do, b"do", line), &[])?;
@@ -216,10 +227,10 @@ fn raised_behind<'a>(
     named: &[Token<'a>],
     items: Items<Item<'a>>,
 ) -> Result<Items<Item<'a>>, AllocError>
-    ensures { IfOk result (λ r. r ≡ items.entry ++ grammarofstatements.raising line variable.entry named.now ∷ []) }
+    ensures { IfOk result (λ r. r ≡ items.entry ++ loops.raising line variable.entry named.now ∷ []) }
 {
     let raise = raising(alloc, line, variable, named)?;
-    joined(items, raise)
+    joined(alloc, items, raise)
 }
 
 /// The option that goes on with a `for`: these items, behind the comparison.
@@ -231,20 +242,20 @@ fn for_on<'a>(
     last: Bound<'a>,
     items: Items<Item<'a>>,
 ) -> Result<Items<Item<'a>>, AllocError>
-    ensures { IfOk result (λ r. r ≡ grammarofstatements.at_most line variable.entry named.now last.entry ∷ items.entry) }
+    ensures { IfOk result (λ r. r ≡ loops.at_most line variable.entry named.now last.entry ∷ items.entry) }
 {
     let word = Token::new(Kind::AtMost, b"<=", line);
     let test = comparing(alloc, Infix::AtMost, word, variable, named, last)?;
-    joined(test, items)
+    joined(alloc, test, items)
 }
 
 /// The option that ends a `for`.
 fn for_out<'a>(alloc: Global, line: u32) -> Result<Items<Item<'a>>, AllocError>
-    ensures { IfOk result (λ r. grammar.seq_of r ≡ grammarofstatements.for_out line) }
+    ensures { IfOk result (λ r. grammar.seq_of r ≡ loops.for_out line) }
 {
     let first = otherwise(alloc, line)?;
     let second = breaking(alloc, line)?;
-    joined(first, second)
+    joined(alloc, first, second)
 }
 
 /// The option that goes on with a `select`.
@@ -256,12 +267,12 @@ fn select_on<'a>(
     named: &[Token<'a>],
     last: Bound<'a>,
 ) -> Result<Items<Item<'a>>, AllocError>
-    ensures { IfOk result (λ r. grammar.seq_of r ≡ grammarofstatements.select_on line compared.entry raised.entry named.now last.entry) }
+    ensures { IfOk result (λ r. grammar.seq_of r ≡ loops.select_on line compared.entry raised.entry named.now last.entry) }
 {
     let word = Token::new(Kind::Less, b"<", line);
     let test = comparing(alloc, Infix::Below, word, compared, named, last)?;
     let raise = raising(alloc, line, raised, named)?;
-    joined(test, raise)
+    joined(alloc, test, raise)
 }
 
 /// The first value, and then the `do` over two options, in braces.
@@ -272,10 +283,10 @@ fn counted<'a>(
     on: Items<Item<'a>>,
     out: Items<Item<'a>>,
 ) -> Result<Boxed<Basic<'a>>, AllocError>
-    ensures { IfOk result (λ r. r ≡ b.Block (grammar.seq_of (set.entry ++ grammarofstatements.turning line (grammar.seq_of on.entry ∷ grammar.seq_of out.entry ∷ []) ∷ []))) }
+    ensures { IfOk result (λ r. r ≡ b.Block (grammar.seq_of (set.entry ++ loops.turning line (grammar.seq_of on.entry ∷ grammar.seq_of out.entry ∷ []) ∷ []))) }
 {
     let turns = turning(alloc, line, on, out)?;
-    let items = joined(set, turns)?;
+    let items = joined(alloc, set, turns)?;
     boxes::of_braces(alloc, Opening::Block, items)
 }
 
@@ -285,7 +296,7 @@ pub fn for_of<'a>(
     range: Boxed<Range<'a>>,
     items: Items<Item<'a>>,
 ) -> Result<Boxed<Basic<'a>>, AllocError>
-    ensures { IfOk result (λ r. r ≡ grammarofstatements.for_of range.entry items.entry) }
+    ensures { IfOk result (λ r. r ≡ loops.for_of range.entry items.entry) }
 {
     let Range {
         counter,
@@ -309,7 +320,7 @@ pub fn for_of<'a>(
 
 /// What a `select` stands for.
 pub fn select_of<'a>(alloc: Global, range: Boxed<Range<'a>>) -> Result<Boxed<Basic<'a>>, AllocError>
-    ensures { IfOk result (λ r. r ≡ grammarofstatements.select_of range.entry) }
+    ensures { IfOk result (λ r. r ≡ loops.select_of range.entry) }
 {
     let Range {
         counter,
