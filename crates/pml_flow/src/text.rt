@@ -5,7 +5,7 @@ ghost use Rattle.std.specs.Fmt.{decimal};
 ghost use Rattle.std.specs.Io.{StartsWith};
 ghost use Rattle.std.specs.Option.{option_copied};
 ghost use Rattle.pml_flow.specs.Flow as flow;
-ghost use Rattle.pml_flow.specs.Composed as composed-more;
+ghost use Rattle.pml_flow.specs.Composed as kept-texts;
 
 use crate::lines::first_line;
 use crate::parts::part;
@@ -35,14 +35,14 @@ impl Model for Texts {
 impl Texts {
     /// The text of a statement, by the number of its place.
     pub fn get(&self, statement: usize) -> &[u8]
-        ensures { result.now ≡ composed-more.text_at self.now statement }
+        ensures { result.now ≡ kept-texts.text_at self.now statement }
     {
         part(self.bytes.as_slice(), self.bounds.as_slice(), statement)
     }
 
     /// The line that this text has.
     pub fn line(&self, statement: usize) -> u32
-        ensures { result ≡ composed-more.offer_line_at self.now statement }
+        ensures { result ≡ kept-texts.offer_line_at self.now statement }
     {
         match self.lines.get(statement) {
             Some(line) => *line,
@@ -125,7 +125,7 @@ fn add_offer(text: &mut Vec<u8>, stmt: &Stmt<'_>) -> Result<(), AllocError>
 
 /// Appends the text of a statement that is offered.
 fn add_if(is_offered: bool, text: &mut Vec<u8>, stmt: Option<&Stmt<'_>>) -> Result<(), AllocError>
-    ensures { OnOk result (text.new.items ≡ text.old.items ++ composed-more.text_if is_offered (option_copied stmt.entry)) }
+    ensures { OnOk result (text.new.items ≡ text.old.items ++ kept-texts.text_if is_offered (option_copied stmt.entry)) }
 {
     match stmt {
         Some(stmt) => {
@@ -144,7 +144,7 @@ pub fn all_texts(
     statements: &Statements<'_, '_>,
     offered: &[bool],
 ) -> Result<Texts, AllocError>
-    ensures { IfOk result (λ t. t ≡ composed-more.texts_of statements.now offered.now) }
+    ensures { IfOk result (λ t. t ≡ kept-texts.texts_of statements.now offered.now) }
 {
     let mut bytes = Vec::new(alloc);
     let mut bounds = Vec::new(alloc);

@@ -21,7 +21,7 @@ use Rattle.pml_syntax.specs.declared.opener.Opener.{Opener}
 use Rattle.pml_syntax.specs.declared.range.Bound.{Bound}
 use Rattle.pml_syntax.specs.declared.range.Range.{Range}
 use Rattle.pml_syntax.specs.Grammar as grammar
-use Rattle.pml_syntax.specs.GrammarOfStatements as grammarofstatements
+use Rattle.pml_syntax.specs.GrammarOfStatements as bodies
 use Rattle.pml_syntax.specs.Grammar.{SpellsOpener, SpellsDeclaration, SpellsBasic, SpellsStatement, SpellsItem, SpellsItems, SpellsOptions, item_of, seq_of}
 use Rattle.pml_syntax.specs.GrammarOfStatements.{SpellsRange, SpellsBody, made, setting, comparing, raising, otherwise_item, breaking, turning, for_on, for_out, select_on, select_out, for_of, select_of}
 use Rattle.pml_syntax.proofs.Begins.{action_moves}
@@ -72,7 +72,7 @@ record IsLinedRange (r : Range) : Type 0 where
   pub tokens : AreLined r.counter.tokens
 
 range_lined : {kind : Kind} {r : Range} {from to : List Word} → SpellsRange kind r from to → AreLined from → IsLinedRange r
-range_lined (grammarofstatements.range {c} {from} {first} _ _ _ _ _ _ _ _) h = record { line = h.0; tokens = take_lined (length from - length (c ∷ first)) from h.1.1 }
+range_lined (bodies.range {c} {from} {first} _ _ _ _ _ _ _ _) h = record { line = h.0; tokens = take_lined (length from - length (c ∷ first)) from h.1.1 }
 
 module _ (r : Range) (lined : IsLinedRange r) where
   setting_few : (x : Bound) → tree_item (setting r.counter.line r.counter.set r.counter.tokens x) ≤ 2000001
@@ -139,35 +139,35 @@ references_lead rs = list_leads (λ r from to s. reference_leads s) rs
 
 mutual
   basic_fits : {closed : Bool} {x : Basic} {from to : List Word} → SpellsBasic closed x from to → AreLined from → tree_basic x + 2000000 + 100000000 * length to ≤ 100000000 * length from
-  basic_fits (grammarofstatements.if_fi {options} _ os _) h = omega (arith, if-is options, options_fit os h.1)
-  basic_fits (grammarofstatements.do_od {options} _ os _) h = omega (arith, do-is options, options_fit os h.1)
-  basic_fits (grammarofstatements.block {xs} _ is _) h = omega (arith, block-is (seq_of xs), seq-is xs, items_fit is h.1)
-  basic_fits (grammarofstatements.atomic {xs} _ _ is _) h = omega (arith, atomic-is (seq_of xs), seq-is xs, items_fit is h.1.1)
-  basic_fits (grammarofstatements.d_step {xs} _ _ is _) h = omega (arith, d_step-is (seq_of xs), seq-is xs, items_fit is h.1.1)
-  basic_fits (grammarofstatements.for_loop {r} {xs} head _ is _) h = omega (arith, for_few r (range_lined head h) xs, range_moves head, items_fit is (lined_behind (range_leads head) h).1)
-  basic_fits (grammarofstatements.select {r} head) h = omega (arith, select_few r (range_lined head h), range_moves head)
-  basic_fits (grammarofstatements.goto {n} _ _) h = omega (arith, goto-is n)
-  basic_fits (grammarofstatements.break _) h = omega (arith, break-is)
-  basic_fits (grammarofstatements.action {x} s) h = omega (arith, plain-is x, action_moves s)
+  basic_fits (bodies.if_fi {options} _ os _) h = omega (arith, if-is options, options_fit os h.1)
+  basic_fits (bodies.do_od {options} _ os _) h = omega (arith, do-is options, options_fit os h.1)
+  basic_fits (bodies.block {xs} _ is _) h = omega (arith, block-is (seq_of xs), seq-is xs, items_fit is h.1)
+  basic_fits (bodies.atomic {xs} _ _ is _) h = omega (arith, atomic-is (seq_of xs), seq-is xs, items_fit is h.1.1)
+  basic_fits (bodies.d_step {xs} _ _ is _) h = omega (arith, d_step-is (seq_of xs), seq-is xs, items_fit is h.1.1)
+  basic_fits (bodies.for_loop {r} {xs} head _ is _) h = omega (arith, for_few r (range_lined head h) xs, range_moves head, items_fit is (lined_behind (range_leads head) h).1)
+  basic_fits (bodies.select {r} head) h = omega (arith, select_few r (range_lined head h), range_moves head)
+  basic_fits (bodies.goto {n} _ _) h = omega (arith, goto-is n)
+  basic_fits (bodies.break _) h = omega (arith, break-is)
+  basic_fits (bodies.action {x} s) h = omega (arith, plain-is x, action_moves s)
 
   statement_fits : {closed : Bool} {x : Item} {from to : List Word} → SpellsStatement closed x from to → AreLined from → tree_item x + 100000000 * length to ≤ 100000000 * length from
-  statement_fits (grammarofstatements.statement {labels} {x} {middle} {to} ls s) h =
+  statement_fits (bodies.statement {labels} {x} {middle} {to} ls s) h =
       let m : AreLined middle = lined_behind (labels_lead ls) h in
       omega (arith, item-is labels x (between middle to), first_take (length middle - length to) middle m, basic_fits s m, no_more (labels_lead ls))
 
   item_fits : {step closed : Bool} {x : Item} {from to : List Word} → SpellsItem step closed x from to → AreLined from → tree_item x + 100000000 * length to ≤ 100000000 * length from
-  item_fits (grammarofstatements.declared {vs} {from} {to} d) h = omega (arith, item-is [] (b.Declare vs) (between from to), declare-is vs, first_take (length from - length to) from h, declaration_moves d)
-  item_fits (grammarofstatements.exclusive {w} {rs} {from} {to} _ xs) h =
+  item_fits (bodies.declared {vs} {from} {to} d) h = omega (arith, item-is [] (b.Declare vs) (between from to), declare-is vs, first_take (length from - length to) from h, declaration_moves d)
+  item_fits (bodies.exclusive {w} {rs} {from} {to} _ xs) h =
       omega (arith, item-is [] (b.Exclusive rs) (between (w ∷ from) to), exclusive-is rs, first_take (length (w ∷ from) - length to) (w ∷ from) h, no_more (references_lead xs))
-  item_fits (grammarofstatements.only s) h = statement_fits s h
-  item_fits (grammarofstatements.unless {x} {y} {from} {to} s _ t) h =
-      let lead = item_leads (grammarofstatements.only s) in
+  item_fits (bodies.only s) h = statement_fits s h
+  item_fits (bodies.unless {x} {y} {from} {to} s _ t) h =
+      let lead = item_leads (bodies.only s) in
       omega (arith, item-is [] (b.Unless (seq_of (x ∷ [])) (seq_of (y ∷ []))) (between from to), unless-is (seq_of (x ∷ [])) (seq_of (y ∷ [])), seq-is (x ∷ []), seq-is (y ∷ []), first_take (length from - length to) from h, statement_fits s h, statement_fits t (lined_behind lead h).1)
 
   pub items_fit : {step : Bool} {xs : List Item} {from to : List Word} → SpellsItems step xs from to → AreLined from → total (map tree_item xs) + 100000000 * length to ≤ 100000000 * length from
-  items_fit (grammarofstatements.last_item x s) h = omega (arith, item_fits x h, no_more (separators_lead s))
-  items_fit (grammarofstatements.more_items x g xs) h = omega (arith, item_fits x h, no_more (gap_leads g), items_fit xs (lined_behind (item_leads x then gap_leads g) h))
+  items_fit (bodies.last_item x s) h = omega (arith, item_fits x h, no_more (separators_lead s))
+  items_fit (bodies.more_items x g xs) h = omega (arith, item_fits x h, no_more (gap_leads g), items_fit xs (lined_behind (item_leads x then gap_leads g) h))
 
   options_fit : {os : List Seq} {from to : List Word} → SpellsOptions os from to → AreLined from → total (map tree_seq os) + 100000000 * length to ≤ 100000000 * length from
-  options_fit (grammarofstatements.last_option {xs} _ is) h = omega (arith, seq-is xs, items_fit is h.1)
-  options_fit (grammarofstatements.more_options {xs} _ is os) h = omega (arith, seq-is xs, items_fit is h.1, options_fit os (lined_behind (items_lead is) h.1))
+  options_fit (bodies.last_option {xs} _ is) h = omega (arith, seq-is xs, items_fit is h.1)
+  options_fit (bodies.more_options {xs} _ is os) h = omega (arith, seq-is xs, items_fit is h.1, options_fit os (lined_behind (items_lead is) h.1))

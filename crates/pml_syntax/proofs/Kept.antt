@@ -5,7 +5,7 @@ use Rattle.pml_tree.specs.declared.tree.Basic.{Basic}
 use Rattle.pml_tree.specs.declared.tree.Item.{Item}
 use Rattle.pml_expression.specs.Grammar.{between, SpellsExpr, SpellsList}
 use Rattle.pml_syntax.specs.Grammar as grammar
-use Rattle.pml_syntax.specs.GrammarOfStatements as grammarofstatements
+use Rattle.pml_syntax.specs.GrammarOfStatements as bodies
 use Rattle.pml_syntax.specs.Grammar.{SpellsScalar, SpellsRun, SpellsValues, SpellsAction, SpellsVisibility, SpellsOpener, SpellsInitial, SpellsVariable, SpellsVariables, SpellsDeclaration, SpellsBasic, SpellsStatement, SpellsItem, SpellsItems, SpellsOptions}
 use Rattle.pml_syntax.specs.GrammarOfStatements.{SpellsSeparators, SpellsGap, SpellsLabels}
 use Rattle.pml_expression.proofs.Kept.{Leads, here, past, ◌then◌, step, index_leads, reference_leads, expr_leads, arguments_lead, list_leads, cut}
@@ -70,46 +70,46 @@ pub declaration_leads : {closed : Bool} {vs : _} {from to : List Word} → Spell
 declaration_leads (grammar.declaration v f vs) = visibility_leads v then opener_leads f then variables_lead vs
 
 pub separators_lead : {from to : List Word} → SpellsSeparators from to → Leads from to
-separators_lead grammarofstatements.no_separator = here
-separators_lead (grammarofstatements.one_separator _ s) = past (separators_lead s)
+separators_lead bodies.no_separator = here
+separators_lead (bodies.one_separator _ s) = past (separators_lead s)
 
 pub gap_leads : {closed : Bool} {from to : List Word} → SpellsGap closed from to → Leads from to
-gap_leads (grammarofstatements.separated _ s) = past (separators_lead s)
-gap_leads grammarofstatements.joined = here
+gap_leads (bodies.separated _ s) = past (separators_lead s)
+gap_leads bodies.joined = here
 
 pub labels_lead : {ls from to : List Word} → SpellsLabels ls from to → Leads from to
-labels_lead grammarofstatements.no_label = here
-labels_lead (grammarofstatements.one_label _ _ ls) = past (past (labels_lead ls))
+labels_lead bodies.no_label = here
+labels_lead (bodies.one_label _ _ ls) = past (past (labels_lead ls))
 
 mutual
   basic_leads : {closed : Bool} {x : Basic} {from to : List Word} → SpellsBasic closed x from to → Leads from to
-  basic_leads (grammarofstatements.if_fi _ os _) = past (step (options_lead os))
-  basic_leads (grammarofstatements.do_od _ os _) = past (step (options_lead os))
-  basic_leads (grammarofstatements.block _ xs _) = past (step (items_lead xs))
-  basic_leads (grammarofstatements.atomic _ _ xs _) = past (past (step (items_lead xs)))
-  basic_leads (grammarofstatements.d_step _ _ xs _) = past (past (step (items_lead xs)))
-  basic_leads (grammarofstatements.for_loop r _ xs _) = step (range_leads r) then step (items_lead xs)
-  basic_leads (grammarofstatements.select r) = range_leads r
-  basic_leads (grammarofstatements.goto _ _) = past (past here)
-  basic_leads (grammarofstatements.break _) = past here
-  basic_leads (grammarofstatements.action x) = action_leads x
+  basic_leads (bodies.if_fi _ os _) = past (step (options_lead os))
+  basic_leads (bodies.do_od _ os _) = past (step (options_lead os))
+  basic_leads (bodies.block _ xs _) = past (step (items_lead xs))
+  basic_leads (bodies.atomic _ _ xs _) = past (past (step (items_lead xs)))
+  basic_leads (bodies.d_step _ _ xs _) = past (past (step (items_lead xs)))
+  basic_leads (bodies.for_loop r _ xs _) = step (range_leads r) then step (items_lead xs)
+  basic_leads (bodies.select r) = range_leads r
+  basic_leads (bodies.goto _ _) = past (past here)
+  basic_leads (bodies.break _) = past here
+  basic_leads (bodies.action x) = action_leads x
 
   pub statement_leads : {closed : Bool} {x : Item} {from to : List Word} → SpellsStatement closed x from to → Leads from to
-  statement_leads (grammarofstatements.statement ls x) = labels_lead ls then basic_leads x
+  statement_leads (bodies.statement ls x) = labels_lead ls then basic_leads x
 
   pub item_leads : {s closed : Bool} {x : Item} {from to : List Word} → SpellsItem s closed x from to → Leads from to
-  item_leads (grammarofstatements.declared d) = declaration_leads d
-  item_leads (grammarofstatements.exclusive _ rs) = past (list_leads (λ r from to s. reference_leads s) rs)
-  item_leads (grammarofstatements.only x) = statement_leads x
-  item_leads (grammarofstatements.unless x _ y) = step (statement_leads x) then statement_leads y
+  item_leads (bodies.declared d) = declaration_leads d
+  item_leads (bodies.exclusive _ rs) = past (list_leads (λ r from to s. reference_leads s) rs)
+  item_leads (bodies.only x) = statement_leads x
+  item_leads (bodies.unless x _ y) = step (statement_leads x) then statement_leads y
 
   pub items_lead : {s : Bool} {xs : List Item} {from to : List Word} → SpellsItems s xs from to → Leads from to
-  items_lead (grammarofstatements.last_item x s) = item_leads x then separators_lead s
-  items_lead (grammarofstatements.more_items x g xs) = item_leads x then gap_leads g then items_lead xs
+  items_lead (bodies.last_item x s) = item_leads x then separators_lead s
+  items_lead (bodies.more_items x g xs) = item_leads x then gap_leads g then items_lead xs
 
   pub options_lead : {os : _} {from to : List Word} → SpellsOptions os from to → Leads from to
-  options_lead (grammarofstatements.last_option _ xs) = past (items_lead xs)
-  options_lead (grammarofstatements.more_options _ xs os) = past (items_lead xs then options_lead os)
+  options_lead (bodies.last_option _ xs) = past (items_lead xs)
+  options_lead (bodies.more_options _ xs os) = past (items_lead xs then options_lead os)
 
 -- what a statement keeps as its tokens is what it took from the front
 pub tokens_kept : {closed : Bool} {x : Basic} {from to : List Word} → SpellsBasic closed x from to → from ≡ between from to ++ to

@@ -9,7 +9,7 @@ use Rattle.pml_expression.specs.Grammar.{between, SpellsReference, SpellsExpr}
 use Rattle.pml_syntax.specs.declared.range.Counter.{Counter}
 use Rattle.pml_syntax.specs.declared.range.Bound.{Bound}
 use Rattle.pml_syntax.specs.declared.range.Range.{Range}
-use Rattle.pml_syntax.specs.GrammarOfStatements as grammarofstatements
+use Rattle.pml_syntax.specs.GrammarOfStatements as bodies
 use Rattle.pml_syntax.specs.Grammar.{counter_of, bound_of, range_of}
 use Rattle.pml_syntax.specs.GrammarOfStatements.{SpellsRange}
 use Rattle.pml_expression.specs.Reading.{and_then, next, expr}
@@ -135,18 +135,18 @@ range_found depth kind ts x h =
     let b = bounds_found depth i.0.1 bs.0 bs.1 in
     subst (λ (r : Range × List Word). SpellsRange kind r.0 ts r.1) (ok_is bs.2)
     (range_parts b.dots b.close b.last o.parts o.line_is b.front n.counter_is b.first_is b.last_is
-    (grammarofstatements.range o.is o.opens (subst (λ (to : List Word). SpellsReference n.variable l.0.1 to) b.front n.spells) b.colon_is b.from_spells b.dots_is b.to_spells b.close_is))
+    (bodies.range o.is o.opens (subst (λ (to : List Word). SpellsReference n.variable l.0.1 to) b.front n.spells) b.colon_is b.from_spells b.dots_is b.to_spells b.close_is))
 
 -- ---- what is spelled
 
 pub range_begins : {kind : Kind} {r : Range} {from to : List Word} → SpellsRange kind r from to → next from ≡ kind
-range_begins (grammarofstatements.range is _ _ _ _ _ _ _) = is
+range_begins (bodies.range is _ _ _ _ _ _ _) = is
 
 pub range_moves : {kind : Kind} {r : Range} {from to : List Word} → SpellsRange kind r from to → length to < length from
-range_moves (grammarofstatements.range _ _ i _ x _ y _) = omega (arith, reference_moves i, expr_moves x, expr_moves y)
+range_moves (bodies.range _ _ i _ x _ y _) = omega (arith, reference_moves i, expr_moves x, expr_moves y)
 
 pub range_leads : {kind : Kind} {r : Range} {from to : List Word} → SpellsRange kind r from to → Leads from to
-range_leads (grammarofstatements.range _ _ i _ x _ y _) = past (past (step (reference_leads i) then step (expr_leads x) then step (expr_leads y)))
+range_leads (bodies.range _ _ i _ x _ y _) = past (past (step (reference_leads i) then step (expr_leads x) then step (expr_leads y)))
 
 free_colon : IsFree k.Colon
 free_colon = record { no_index = refl; no_dot = refl }
@@ -156,7 +156,7 @@ quiet_dots = record { no_operator = refl; no_query = refl; free = record { no_in
 
 pub range_again : {kind : Kind} {r : Range} {from to : List Word} → SpellsRange kind r from to → (depth : ℕ) → length from ≤ depth → reading.loop_range depth kind from ≡ Ok (r, to)
 unfolding reading.loop_range reading.opened reading.loop_variable reading.loop_bounds reading.loop_bound and_then
-range_again {kind} (grammarofstatements.range {w} {o} {c} {d} {z} {from} {first} {last} {to} is opened i colon x dots y closed) depth room =
+range_again {kind} (bodies.range {w} {o} {c} {d} {z} {from} {first} {last} {to} is opened i colon x dots y closed) depth room =
     let inner_x = before k.DotDot dots quiet_dots (expr_again x depth 1 (omega (arith, reference_moves i)) (omega arith)) in
     let inner_y = before k.CloseParen closed quiet_paren (expr_again y depth 1 (omega (arith, reference_moves i, expr_moves x)) (omega arith)) in
     rw (

@@ -11,8 +11,8 @@ use Rattle.pml_tree.specs.declared.tree.Seq.{Seq}
 use Rattle.pml_tree.specs.declared.tree.Unit.{Unit as Part}
 use Rattle.pml_tree.specs.declared.tree.Tree.{Tree}
 use Rattle.pml_syntax.specs.declared.range.Range.{Range}
-use Rattle.pml_syntax.specs.GrammarOfStatements as grammarofstatements
-use Rattle.pml_syntax.specs.GrammarOfUnits as grammarofunits
+use Rattle.pml_syntax.specs.GrammarOfStatements as bodies
+use Rattle.pml_syntax.specs.GrammarOfUnits as units
 use Rattle.pml_syntax.specs.Grammar.{SpellsBasic, SpellsStatement, SpellsItem, SpellsItems, SpellsOptions, item_of, seq_of}
 use Rattle.pml_syntax.specs.GrammarOfStatements.{SpellsBody, for_of, select_of, for_on, for_out, select_on, select_out, setting, comparing, raising, otherwise_item, breaking, turning}
 use Rattle.pml_syntax.specs.GrammarOfUnits.{SpellsUnit, SpellsUnits, Spells}
@@ -66,7 +66,7 @@ module _ (r : Range) where
       let i = r.counter in
       let up : Item = raising i.line i.raised i.tokens in
       let up_whole : tree_item up ≡ whole = item_whole [] _ _ (plain-is (a.Increment i.raised)) in
-      let test : Item = grammarofstatements.at_most i.line i.compared i.tokens r.last in
+      let test : Item = bodies.at_most i.line i.compared i.tokens r.last in
       let test_whole : tree_item test ≡ whole = item_whole [] _ _ (plain-is _) in
       let on_good : good (tree_seq (for_on i.line i.compared i.raised i.tokens r.last s)) ≡ true =
       seq_good (test ∷ s ++ up ∷ []) (ap (λ (c : Code). c.0 || has_step (map tree_item (s ++ up ∷ []))) test_whole)
@@ -103,48 +103,48 @@ or_none false = refl
 
 mutual
   basic_spelt : {closed : Bool} {x : Basic} {from to : List Word} → SpellsBasic closed x from to → tree_basic x ≡ whole
-  basic_spelt (grammarofstatements.if_fi {options} _ os _) = if-is options ∙ ap (λ (c : Bool). (true, c)) (options_spelt os)
-  basic_spelt (grammarofstatements.do_od {options} _ os _) = do-is options ∙ ap (λ (c : Bool). (true, c)) (options_spelt os)
-  basic_spelt (grammarofstatements.block {xs} _ is _) = block-is (seq_of xs) ∙ ap (λ (c : Bool). (true, c)) (seq_good xs (items_step is) (items_filled is))
-  basic_spelt (grammarofstatements.atomic {xs} _ _ is _) = atomic-is (seq_of xs) ∙ ap (λ (c : Bool). (true, c)) (seq_good xs (items_step is) (items_filled is))
-  basic_spelt (grammarofstatements.d_step {xs} _ _ is _) = d_step-is (seq_of xs) ∙ ap (λ (c : Bool). (true, c)) (seq_good xs (items_step is) (items_filled is))
-  basic_spelt (grammarofstatements.for_loop {r} {xs} head _ is _) = for_whole r xs (items_filled is)
-  basic_spelt (grammarofstatements.select {r} head) = select_whole r
-  basic_spelt (grammarofstatements.goto {n} _ _) = goto-is n
-  basic_spelt (grammarofstatements.break _) = break-is
-  basic_spelt (grammarofstatements.action {x} s) = plain-is x
+  basic_spelt (bodies.if_fi {options} _ os _) = if-is options ∙ ap (λ (c : Bool). (true, c)) (options_spelt os)
+  basic_spelt (bodies.do_od {options} _ os _) = do-is options ∙ ap (λ (c : Bool). (true, c)) (options_spelt os)
+  basic_spelt (bodies.block {xs} _ is _) = block-is (seq_of xs) ∙ ap (λ (c : Bool). (true, c)) (seq_good xs (items_step is) (items_filled is))
+  basic_spelt (bodies.atomic {xs} _ _ is _) = atomic-is (seq_of xs) ∙ ap (λ (c : Bool). (true, c)) (seq_good xs (items_step is) (items_filled is))
+  basic_spelt (bodies.d_step {xs} _ _ is _) = d_step-is (seq_of xs) ∙ ap (λ (c : Bool). (true, c)) (seq_good xs (items_step is) (items_filled is))
+  basic_spelt (bodies.for_loop {r} {xs} head _ is _) = for_whole r xs (items_filled is)
+  basic_spelt (bodies.select {r} head) = select_whole r
+  basic_spelt (bodies.goto {n} _ _) = goto-is n
+  basic_spelt (bodies.break _) = break-is
+  basic_spelt (bodies.action {x} s) = plain-is x
 
   statement_spelt : {closed : Bool} {x : Item} {from to : List Word} → SpellsStatement closed x from to → tree_item x ≡ whole
-  statement_spelt (grammarofstatements.statement {labels} {x} {middle} {to} ls s) = item_whole labels x _ (basic_spelt s)
+  statement_spelt (bodies.statement {labels} {x} {middle} {to} ls s) = item_whole labels x _ (basic_spelt s)
 
   item_spelt : {step closed : Bool} {x : Item} {from to : List Word} → SpellsItem step closed x from to → tree_item x ≡ (step, true)
-  item_spelt (grammarofstatements.declared {vs} d) = item-is [] (b.Declare vs) _ ∙ declare-is vs
-  item_spelt (grammarofstatements.exclusive {rs} _ xs) = item-is [] (b.Exclusive rs) _ ∙ exclusive-is rs
-  item_spelt (grammarofstatements.only s) = statement_spelt s
-  item_spelt (grammarofstatements.unless {x} {y} s _ t) =
+  item_spelt (bodies.declared {vs} d) = item-is [] (b.Declare vs) _ ∙ declare-is vs
+  item_spelt (bodies.exclusive {rs} _ xs) = item-is [] (b.Exclusive rs) _ ∙ exclusive-is rs
+  item_spelt (bodies.only s) = statement_spelt s
+  item_spelt (bodies.unless {x} {y} s _ t) =
       item-is [] (b.Unless (seq_of (x ∷ [])) (seq_of (y ∷ []))) _ ∙ unless-is (seq_of (x ∷ [])) (seq_of (y ∷ []))
       ∙ ap (λ (c : Bool). (true, c)) (both (good (tree_seq (seq_of (x ∷ [])))) (good (tree_seq (seq_of (y ∷ [])))) (one_good x (statement_spelt s)) (one_good y (statement_spelt t)))
 
   items_step : {step : Bool} {xs : List Item} {from to : List Word} → SpellsItems step xs from to → has_step (map tree_item xs) ≡ step
-  items_step (grammarofstatements.last_item {x} i s) = or_none (tree_item x).0 ∙ ap (λ (c : Code). c.0) (item_spelt i)
-  items_step (grammarofstatements.more_items {step} {x} {xs} i g is) =
+  items_step (bodies.last_item {x} i s) = or_none (tree_item x).0 ∙ ap (λ (c : Code). c.0) (item_spelt i)
+  items_step (bodies.more_items {step} {x} {xs} i g is) =
       ap (λ (c : Code). c.0 || has_step (map tree_item xs)) (item_spelt i) ∙ ap (λ (c : Bool). step || c) (items_step is)
 
   pub items_filled : {step : Bool} {xs : List Item} {from to : List Word} → SpellsItems step xs from to → all_filled (map tree_item xs) ≡ true
-  items_filled (grammarofstatements.last_item {x} i s) = both (tree_item x).1 true (ap (λ (c : Code). c.1) (item_spelt i)) refl
-  items_filled (grammarofstatements.more_items {x} {xs} i g is) = both (tree_item x).1 (all_filled (map tree_item xs)) (ap (λ (c : Code). c.1) (item_spelt i)) (items_filled is)
+  items_filled (bodies.last_item {x} i s) = both (tree_item x).1 true (ap (λ (c : Code). c.1) (item_spelt i)) refl
+  items_filled (bodies.more_items {x} {xs} i g is) = both (tree_item x).1 (all_filled (map tree_item xs)) (ap (λ (c : Code). c.1) (item_spelt i)) (items_filled is)
 
   options_spelt : {os : List Seq} {from to : List Word} → SpellsOptions os from to → some_good (map tree_seq os) ≡ true
-  options_spelt (grammarofstatements.last_option {xs} _ is) = both (good (tree_seq (seq_of xs))) true (seq_good xs (items_step is) (items_filled is)) refl
-  options_spelt (grammarofstatements.more_options {xs} {options} _ is os) = both (good (tree_seq (seq_of xs))) (all_good (map tree_seq options)) (seq_good xs (items_step is) (items_filled is)) (options_all os)
+  options_spelt (bodies.last_option {xs} _ is) = both (good (tree_seq (seq_of xs))) true (seq_good xs (items_step is) (items_filled is)) refl
+  options_spelt (bodies.more_options {xs} {options} _ is os) = both (good (tree_seq (seq_of xs))) (all_good (map tree_seq options)) (seq_good xs (items_step is) (items_filled is)) (options_all os)
 
   options_all : {os : List Seq} {from to : List Word} → SpellsOptions os from to → all_good (map tree_seq os) ≡ true
-  options_all (grammarofstatements.last_option {xs} _ is) = both (good (tree_seq (seq_of xs))) true (seq_good xs (items_step is) (items_filled is)) refl
-  options_all (grammarofstatements.more_options {xs} {options} _ is os) = both (good (tree_seq (seq_of xs))) (all_good (map tree_seq options)) (seq_good xs (items_step is) (items_filled is)) (options_all os)
+  options_all (bodies.last_option {xs} _ is) = both (good (tree_seq (seq_of xs))) true (seq_good xs (items_step is) (items_filled is)) refl
+  options_all (bodies.more_options {xs} {options} _ is os) = both (good (tree_seq (seq_of xs))) (all_good (map tree_seq options)) (seq_good xs (items_step is) (items_filled is)) (options_all os)
 
 body_spelt : {xs : List Item} {from to : List Word} → SpellsBody xs from to → all_filled (map tree_item xs) ≡ true
-body_spelt grammarofstatements.no_item = refl
-body_spelt (grammarofstatements.some_items is) = items_filled is
+body_spelt bodies.no_item = refl
+body_spelt (bodies.some_items is) = items_filled is
 
 -- ---- units
 
@@ -159,17 +159,17 @@ body_code : {xs : List Item} {from to : List Word} → SpellsBody xs from to →
 body_code {xs} s = ap (λ (c : Code). c.1) (seq-is xs) ∙ body_spelt s
 
 unit_spelt : {x : Part} {from to : List Word} → SpellsUnit x from to → IsFilledPart x
-unit_spelt (grammarofunits.variables d) = tt
-unit_spelt (grammarofunits.constants _ _ ns _) = tt
-unit_spelt (grammarofunits.equal_constants _ _ _ ns _) = tt
-unit_spelt (grammarofunits.typedef _ _ _ vs _) = tt
-unit_spelt (grammarofunits.proctype s _ _ _ vs _ _ xs _) = body_code xs
-unit_spelt (grammarofunits.init _ _ xs _) = body_code xs
+unit_spelt (units.variables d) = tt
+unit_spelt (units.constants _ _ ns _) = tt
+unit_spelt (units.equal_constants _ _ _ ns _) = tt
+unit_spelt (units.typedef _ _ _ vs _) = tt
+unit_spelt (units.proctype s _ _ _ vs _ _ xs _) = body_code xs
+unit_spelt (units.init _ _ xs _) = body_code xs
 
 units_spelt : {us : List Part} {from : List Word} → SpellsUnits us from → AllByRecursion IsFilledPart us
-units_spelt grammarofunits.no_unit = tt
-units_spelt (grammarofunits.semicolon _ us) = units_spelt us
-units_spelt (grammarofunits.unit x us) = (unit_spelt x, units_spelt us)
+units_spelt units.no_unit = tt
+units_spelt (units.semicolon _ us) = units_spelt us
+units_spelt (units.unit x us) = (unit_spelt x, units_spelt us)
 
 proctypes_filled : {o : _} {gs zs : Globals} {us : List Part} {cs : List Word} {ts : List Fields} {ps : List Proctype} → StandsUnits o gs us zs cs ts ps → AllByRecursion IsFilledPart us
     → AllByRecursion (λ (q : Proctype). IsFilledBody q.body) ps
@@ -181,4 +181,4 @@ proctypes_filled (stands.proctype {gs} vs x us) h = (body_filled _ x h.0, procty
 
 -- the bodies of the model that a spelled tree stands for
 pub model_filled : {t : Tree} {p : Program} {ws : List Word} → Spells t ws → StandsModel t p → AllByRecursion (λ (q : Proctype). IsFilledBody q.body) p.proctypes
-model_filled (grammarofunits.model us) (stands.model ss) = proctypes_filled ss (units_spelt us)
+model_filled (units.model us) (stands.model ss) = proctypes_filled ss (units_spelt us)
