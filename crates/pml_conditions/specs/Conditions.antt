@@ -22,8 +22,6 @@ use Rattle.pml_names.specs.Meaning.{Naming, is_any, is_pid, is_special, meaning,
 use Rattle.pml_names.specs.Naming.{Before}
 use Rattle.pml_conditions.specs.Ranges.{Labels, mislabelled, out_of_range, too_many}
 
-
-
 -- ---- a name is declared twice, or one that none declares
 abbrev pub twice : Naming → ℕ → What → Bool
 twice names o (what.Declares n d) = is_special n.text || is_some (names o n.text)

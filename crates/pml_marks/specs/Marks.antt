@@ -36,8 +36,6 @@ use Rattle.pml_marks.specs.declared.mark.What.TheVariants as what
 use Rattle.pml_marks.specs.declared.mark.Mark.{Mark}
 use Rattle.pml_marks.specs.Constant.{constant}
 
-
-
 -- by the owner of the names that stand there
 abbrev pub Marked : Type 0
 Marked = ℕ → List Mark

@@ -134,7 +134,7 @@ module _ (means : Means) where
   abbrev pub start-process_begun : Program → ℕ → Begun → Result Begun Fault
   start-process_begun p k b =
       if nat_lt (length b.kinds) MOST_PROCESSES then begin-frame_begun p.typedefs (variables_at p k) (record b { kinds = b.kinds ++ k ∷ [] }) else
-        Ok b
+      Ok b
 
   abbrev pub start-kind_begun : Program → ℕ → ℕ → Begun → Result Begun Fault
   start-kind_begun p k zero b = Ok b
@@ -158,7 +158,7 @@ module _ (means : Means) where
   executable-ready lossy cs r in_d_step (actions.Holds e) = nonzero (means.val e r)
   executable-ready lossy cs r in_d_step (actions.Run q) = Ok (int_lt r.process_count (pos MOST_PROCESSES))
   executable-ready lossy cs r in_d_step (actions.Send t order es) = executable-named cs r t (length es) >>= λ c. can_send lossy in_d_step
-    c.contents (executable-values es r)
+      c.contents (executable-values es r)
   executable-ready lossy cs r in_d_step (actions.Receive t search _ ws) =
       executable-named cs r t (length ws) >>= λ c. can_receive search c.contents (value-asked_by ws r)
   executable-ready lossy cs r in_d_step _ = Ok true
@@ -249,7 +249,7 @@ module _ (means : Means) where
   abbrev pub created-ran : State → Reading → Run → Result State Fault
   created-ran s r q =
       if nat_lt (length s.stands) MOST_PROCESSES then (messages-values q.arguments r >>= created-with_new s q.proctype (slice_get
-        s.program.proctypes q.proctype))
+      s.program.proctypes q.proctype))
       else Ok s
 
   abbrev pub outcome-run_into : State → ℕ → Bool → Option Target → Run → Result State Fault

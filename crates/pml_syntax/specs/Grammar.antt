@@ -37,8 +37,6 @@ use Rattle.pml_syntax.specs.declared.range.Bound.{Bound}
 use Rattle.pml_syntax.specs.declared.range.Range.{Range}
 use Rattle.pml_expression.specs.Grammar.{query, SpellsIndex, SpellsReference, SpellsExpr, SpellsArguments, SpellsList}
 
-
-
 -- ---- what the tokens mean alone
 
 -- `!` or `!!`
