@@ -14,10 +14,29 @@ use Rattle.session.specs.declared.choice.Answer.TheVariants as answer
 use Rattle.session.specs.Events.{Event, front, Part, followed, preceded}
 use Rattle.session.specs.Machine.{Rules, Goes, Faults}
 use Rattle.session.specs.Session.{stepped, step_text, select, answered, story, end_of}
-use Rattle.session.specs.Stands.{MovedBy, Begins, Does, Breaks, CountsBroken}
+use Rattle.session.specs.Stands.{Ends, IsBrokenOff, MovedBy, Begins, Does, Breaks, CountsBroken}
 use Rattle.session.specs.Texts.{noted, fault_line}
 use Rattle.session.specs.declared.form.Stream.{Stream}
 use Rattle.session.specs.declared.form.Version.{Version}
+
+-- the whole part was begun, and the rest is still to do
+pub record Leads {T : Type 0} (before after : Holdings) (steps steps' : ℕ) (part rest : List ℕ → Part T) : Type 0 where
+  pub done : List Event
+  pub moved : MovedBy before after steps steps' done
+  pub is : (left : List ℕ) → after.source left → part (front done ++ left) ≡ preceded done (rest left)
+
+-- the part was done whole, with the outcome that the call answers, or it was broken off
+abbrev pub Plays : {T : Type 0} → Result T Broken → Holdings → Holdings → ℕ → ℕ → (List ℕ → Part T) → Stream → Type 0
+Plays r before after steps steps' part stream =
+    MatchResult r (λ value. Does before after steps steps' part value stream) (λ e. Breaks e before after steps steps' part)
+
+-- the same of a part in which no step is taken
+abbrev pub PlaysQuestion : {T : Type 0} → Result T Broken → Holdings → Holdings → (List ℕ → Part T) → Stream → Type 0
+PlaysQuestion r before after part stream = (steps : ℕ) → Plays r before after steps steps part stream
+
+-- no count has risen where the call succeeds, and else that of the device that broke
+abbrev pub CountsAll : {T : Type 0} → Result T Broken → FailureCounts → FailureCounts → Type 0
+CountsAll r before after = MatchResult r (λ _. after ≡ before) (λ e. CountsBroken e before after)
 
 -- ---- pieces
 
@@ -128,22 +147,3 @@ EndsOwn before after part end = end.status ≢ 6 → Ends before after end.steps
 -- where it is 6 the part was broken off
 abbrev pub EndsBroken : Holdings → Holdings → (List ℕ → Part End) → End → Type 0
 EndsBroken before after part end = end.status ≡ 6 → IsBrokenOff before after part end
-
--- the whole part was begun, and the rest is still to do
-pub record Leads {T : Type 0} (before after : Holdings) (steps steps' : ℕ) (part rest : List ℕ → Part T) : Type 0 where
-  pub done : List Event
-  pub moved : MovedBy before after steps steps' done
-  pub is : (left : List ℕ) → after.source left → part (front done ++ left) ≡ preceded done (rest left)
-
--- the part was done whole, with the outcome that the call answers, or it was broken off
-abbrev pub Plays : {T : Type 0} → Result T Broken → Holdings → Holdings → ℕ → ℕ → (List ℕ → Part T) → Stream → Type 0
-Plays r before after steps steps' part stream =
-    MatchResult r (λ value. Does before after steps steps' part value stream) (λ e. Breaks e before after steps steps' part)
-
--- the same of a part in which no step is taken
-abbrev pub PlaysQuestion : {T : Type 0} → Result T Broken → Holdings → Holdings → (List ℕ → Part T) → Stream → Type 0
-PlaysQuestion r before after part stream = (steps : ℕ) → Plays r before after steps steps part stream
-
--- no count has risen where the call succeeds, and else that of the device that broke
-abbrev pub CountsAll : {T : Type 0} → Result T Broken → FailureCounts → FailureCounts → Type 0
-CountsAll r before after = MatchResult r (λ _. after ≡ before) (λ e. CountsBroken e before after)
