@@ -4,7 +4,7 @@ use Rattle.std.specs.Prelude.{◌≡◌, ◌⊎◌, [], ◌∷◌, Bool, true, f
 use Rattle.pml_program.specs.declared.program.Action.TheVariants as action
 use Rattle.pml_program.specs.declared.program.Seq.{Seq}
 use Rattle.pml_program.specs.declared.program.Basic.{Plain, DStep}
-use Rattle.pml_control.specs.Control.{Place, Control, steps, turn, basic_at, sequence, at, move_on, Comes, IsSettled, settle}
+use Rattle.pml_control.specs.Control.{Todo, InDStep, Place, Control, steps, turn, basic_at, sequence, at, move_on, Comes, IsSettled, settle}
 
 -- settling ends at each place
 abbrev pub SettlesEverywhere : Seq → Type 0
