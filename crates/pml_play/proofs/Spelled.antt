@@ -22,8 +22,8 @@ use Rattle.pml_syntax.specs.declared.range.Bound.{Bound}
 use Rattle.pml_syntax.specs.declared.range.Range.{Range}
 use Rattle.pml_syntax.specs.Grammar as grammar
 use Rattle.pml_syntax.specs.GrammarOfStatements as bodies
-use Rattle.pml_syntax.specs.Grammar.{SpellsOpener, SpellsDeclaration, SpellsBasic, SpellsStatement, SpellsItem, SpellsItems, SpellsOptions, item_of, seq_of}
-use Rattle.pml_syntax.specs.GrammarOfStatements.{SpellsRange, SpellsBody, made, setting, comparing, raising, otherwise_item, breaking, turning, for_on, for_out, select_on, select_out, for_of, select_of}
+use Rattle.pml_syntax.specs.Grammar.{SpellsOpener, SpellsDeclaration, item_of, seq_of}
+use Rattle.pml_syntax.specs.GrammarOfStatements.{SpellsBasic, SpellsStatement, SpellsItem, SpellsItems, SpellsOptions, SpellsRange, SpellsBody, made, setting, comparing, raising, otherwise_item, breaking, turning, for_on, for_out, select_on, select_out, for_of, select_of}
 use Rattle.pml_syntax.proofs.Begins.{action_moves}
 use Rattle.pml_syntax.proofs.Kept.{visibility_leads, variables_lead, separators_lead, labels_lead, gap_leads, item_leads, items_lead}
 use Rattle.pml_syntax.proofs.Ranges.{range_moves, range_leads}

@@ -9,8 +9,8 @@ use Rattle.pml_tree.specs.declared.tree.Item.{Item}
 use Rattle.pml_tree.specs.declared.tree.Seq.{Seq}
 use Rattle.pml_syntax.specs.declared.range.Range.{Range}
 use Rattle.pml_syntax.specs.GrammarOfStatements as bodies
-use Rattle.pml_syntax.specs.Grammar.{is_separator, is_exclusive, seq_of, SpellsBasic, SpellsStatement, SpellsItem, SpellsItems, SpellsOptions}
-use Rattle.pml_syntax.specs.GrammarOfStatements.{SpellsSeparators, SpellsGap, SpellsLabels, SpellsRange}
+use Rattle.pml_syntax.specs.Grammar.{is_separator, is_exclusive, seq_of}
+use Rattle.pml_syntax.specs.GrammarOfStatements.{SpellsBasic, SpellsStatement, SpellsItem, SpellsItems, SpellsOptions, SpellsSeparators, SpellsGap, SpellsLabels, SpellsRange}
 use Rattle.pml_syntax.specs.Starts.{opening, declares, is_end}
 use Rattle.pml_expression.specs.Reading.{Read, and_then, pick, next, sees}
 use Rattle.pml_syntax.specs.ReadingStatements as reading

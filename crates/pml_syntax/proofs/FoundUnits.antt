@@ -20,8 +20,8 @@ use Rattle.pml_syntax.specs.Grammar as grammar
 use Rattle.pml_syntax.specs.GrammarOfStatements as bodies
 use Rattle.pml_syntax.specs.GrammarOfUnits as units
 use Rattle.pml_expression.specs.Grammar.{SpellsIndex, SpellsList}
-use Rattle.pml_syntax.specs.Grammar.{seq_of, proctype_of, SpellsName, SpellsVisibility, SpellsOpener, SpellsDeclaration, SpellsItems}
-use Rattle.pml_syntax.specs.GrammarOfStatements.{SpellsBody}
+use Rattle.pml_syntax.specs.Grammar.{seq_of, proctype_of, SpellsName, SpellsVisibility, SpellsOpener, SpellsDeclaration}
+use Rattle.pml_syntax.specs.GrammarOfStatements.{SpellsItems, SpellsBody}
 use Rattle.pml_syntax.specs.GrammarOfUnits.{SpellsSemicolons, SpellsMembers, SpellsParameter, SpellsMoreParameters, SpellsParameters, SpellsStarts, SpellsUnit, SpellsUnits, Spells}
 use Rattle.pml_syntax.specs.Starts.{head}
 use Rattle.pml_expression.specs.Reading.{pick, next, sees, expect, expr, is_empty}

@@ -6,8 +6,8 @@ use Rattle.pml_tree.specs.declared.tree.Item.{Item}
 use Rattle.pml_expression.specs.Grammar.{between, SpellsExpr, SpellsList}
 use Rattle.pml_syntax.specs.Grammar as grammar
 use Rattle.pml_syntax.specs.GrammarOfStatements as bodies
-use Rattle.pml_syntax.specs.Grammar.{SpellsScalar, SpellsRun, SpellsValues, SpellsAction, SpellsVisibility, SpellsOpener, SpellsInitial, SpellsVariable, SpellsVariables, SpellsDeclaration, SpellsBasic, SpellsStatement, SpellsItem, SpellsItems, SpellsOptions}
-use Rattle.pml_syntax.specs.GrammarOfStatements.{SpellsSeparators, SpellsGap, SpellsLabels}
+use Rattle.pml_syntax.specs.Grammar.{SpellsScalar, SpellsRun, SpellsValues, SpellsAction, SpellsVisibility, SpellsOpener, SpellsInitial, SpellsVariable, SpellsVariables, SpellsDeclaration}
+use Rattle.pml_syntax.specs.GrammarOfStatements.{SpellsBasic, SpellsStatement, SpellsItem, SpellsItems, SpellsOptions, SpellsSeparators, SpellsGap, SpellsLabels}
 use Rattle.pml_expression.proofs.Kept.{Leads, here, past, ◌then◌, step, index_leads, reference_leads, expr_leads, arguments_lead, list_leads, cut}
 use Rattle.pml_syntax.proofs.Ranges.{range_leads}
 

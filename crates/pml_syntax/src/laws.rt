@@ -5,7 +5,7 @@ ghost use Rattle.pml_token.specs.Word.{Word};
 ghost use Rattle.pml_tree.specs.declared.tree.Basic.{Basic};
 ghost use Rattle.pml_tree.specs.declared.tree.Tree.{Tree};
 ghost use Rattle.pml_expression.specs.Grammar.{between};
-ghost use Rattle.pml_syntax.specs.Grammar.{SpellsBasic};
+ghost use Rattle.pml_syntax.specs.GrammarOfStatements.{SpellsBasic};
 ghost use Rattle.pml_syntax.specs.GrammarOfUnits.{Spells};
 
 /// Tokens have one tree at most.

@@ -13,8 +13,8 @@ use Rattle.pml_tree.specs.declared.tree.Tree.{Tree}
 use Rattle.pml_syntax.specs.declared.range.Range.{Range}
 use Rattle.pml_syntax.specs.GrammarOfStatements as bodies
 use Rattle.pml_syntax.specs.GrammarOfUnits as units
-use Rattle.pml_syntax.specs.Grammar.{SpellsBasic, SpellsStatement, SpellsItem, SpellsItems, SpellsOptions, item_of, seq_of}
-use Rattle.pml_syntax.specs.GrammarOfStatements.{SpellsBody, for_of, select_of, for_on, for_out, select_on, select_out, setting, comparing, raising, otherwise_item, breaking, turning}
+use Rattle.pml_syntax.specs.Grammar.{item_of, seq_of}
+use Rattle.pml_syntax.specs.GrammarOfStatements.{SpellsBasic, SpellsStatement, SpellsItem, SpellsItems, SpellsOptions, SpellsBody, for_of, select_of, for_on, for_out, select_on, select_out, setting, comparing, raising, otherwise_item, breaking, turning}
 use Rattle.pml_syntax.specs.GrammarOfUnits.{SpellsUnit, SpellsUnits, Spells}
 use Rattle.pml_program.specs.declared.program.Fields.{Fields}
 use Rattle.pml_program.specs.declared.program.Proctype.{Proctype}
