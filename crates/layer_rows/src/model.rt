@@ -74,9 +74,9 @@ fn value(out: &mut Writer, v: &Expr) {
         Expr::ProcessCount => out.word("_nr_pr"),
         Expr::Timeout => out.word("timeout"),
         Expr::Read(t) => target(out, t),
-        Expr::Ask(fill, t) => named(out, asked(*fill), t),
+        Expr::Ask(fill, t) => named(out, asked(*fill), t.get()),
         Expr::Poll(t, search, ws) => {
-            named(out, polled(*search), t);
+            named(out, polled(*search), t.get());
             wants(out, ws);
         }
         Expr::Unary(op, a) => {

@@ -22,11 +22,11 @@ fn add_expr(globals: &[Slot<'_>], x: &Expr, out: &mut Writer) {
         Expr::Read(target) => add_name(globals, target, out),
         Expr::Ask(_, target) => {
             out.word("ask ");
-            add_name(globals, target, out);
+            add_name(globals, target.get(), out);
         }
         Expr::Poll(target, _, _) => {
             out.word("poll ");
-            add_name(globals, target, out);
+            add_name(globals, target.get(), out);
         }
         Expr::Unary(op, x) => {
             out.word("[");

@@ -40,7 +40,7 @@ fn evaluated<G: Ground>(e: &Expr, ground: &G) -> Result<i32, Fault>
         Expr::ProcessCount => Ok(ground.process_count()),
         Expr::Timeout => Ok(number_of(ground.timeout())),
         Expr::Poll(target, search, arguments) => {
-            let number = read(target, ground)?;
+            let number = read(target.get(), ground)?;
             poll(arguments.as_slice(), *search, number, ground)
         }
         Expr::Unary(op, a) => {
@@ -65,7 +65,7 @@ fn evaluated<G: Ground>(e: &Expr, ground: &G) -> Result<i32, Fault>
         }
         Expr::Read(target) => read(target, ground),
         Expr::Ask(fill, target) => {
-            let number = read(target, ground)?;
+            let number = read(target.get(), ground)?;
             ask(*fill, number, ground)
         }
     }

@@ -107,19 +107,42 @@ fn turn(offset: u32, v: Variable, index: Option<Boxed<Expr>>) -> Turn
     }
 }
 
-/// An expression with its names replaced, in a box. It stands by itself, and goes through operators before an operand by itself, so that a
-/// level of nesting takes little of the stack.
+/// An expression with its names replaced, in a box. It stands by itself, and goes through operators by itself, so that a level of nesting
+/// takes little of the stack.
 #[cycle(expression)]
 #[inline(never)]
 fn boxed(alloc: Global, e: &TreeExpr, within: Scope<'_, '_, '_>) -> Result<Boxed<Expr>, AllocError>
     ensures { IfOk result (λ x. x ≡ numbered e.now (scope_of within.entry)) }
 {
-    if let TreeExpr::Unary(op, a) = e {
-        let x = boxed(alloc, a.get(), within)?;
-        return Ok(Boxed::new(alloc, Expr::Unary(*op, x))?);
+    match e {
+        TreeExpr::Unary(op, a) => {
+            let x = boxed(alloc, a.get(), within)?;
+            Ok(Boxed::new(alloc, Expr::Unary(*op, x))?)
+        }
+        TreeExpr::Binary(op, a, b) => {
+            let x = boxed(alloc, a.get(), within)?;
+            let y = boxed(alloc, b.get(), within)?;
+            Ok(Boxed::new(alloc, Expr::Binary(*op, x, y))?)
+        }
+        _ => {
+            let x = expr(alloc, e, within)?;
+            Ok(Boxed::new(alloc, x)?)
+        }
     }
-    let x = expr(alloc, e, within)?;
-    Ok(Boxed::new(alloc, x)?)
+}
+
+/// The channel of an expression, in a box.
+#[cycle(expression)]
+#[inline(never)]
+fn channel(
+    alloc: Global,
+    r: &Reference,
+    within: Scope<'_, '_, '_>,
+) -> Result<Boxed<Target>, AllocError>
+    ensures { IfOk result (λ t. t ≡ target (numbered_reference r.now (scope_of within.entry))) }
+{
+    let reached = reference(alloc, r, within)?;
+    Ok(Boxed::new(alloc, target(alloc, reached))?)
 }
 
 /// An expression with its names replaced.
@@ -132,14 +155,11 @@ pub fn expr(alloc: Global, e: &TreeExpr, within: Scope<'_, '_, '_>) -> Result<Ex
         TreeExpr::Truth(b) => Ok(Expr::Number(if *b { 1 } else { 0 })),
         TreeExpr::Timeout => Ok(Expr::Timeout),
         TreeExpr::Read(r) => Ok(read(reference(alloc, r, within)?)),
-        TreeExpr::Ask(fill, r) => {
-            let at = reference(alloc, r, within)?;
-            Ok(Expr::Ask(*fill, target(alloc, at)))
-        }
+        TreeExpr::Ask(fill, r) => Ok(Expr::Ask(*fill, channel(alloc, r, within)?)),
         TreeExpr::Poll(r, any, arguments) => {
-            let at = reference(alloc, r, within)?;
+            let at = channel(alloc, r, within)?;
             let wants = wants(alloc, arguments.as_slice(), within)?;
-            Ok(Expr::Poll(target(alloc, at), *any, wants))
+            Ok(Expr::Poll(at, *any, wants))
         }
         TreeExpr::Unary(op, a) => { Ok(Expr::Unary(*op, boxed(alloc, a.get(), within)?)) }
         TreeExpr::Binary(op, a, b) => {

@@ -1,20 +1,22 @@
 //! Bodies, with their names replaced.
 
-ghost use Rattle.std.specs.Prelude.{◌≡◌, ◌++◌, map, IfOk, OnOk};
+ghost use Rattle.std.specs.Prelude.{◌≡◌, ◌++◌, Some, map, IfOk, OnOk};
+ghost use Rattle.pml_program.specs.declared.program.Basic.{Plain};
 ghost use Rattle.pml_names.specs.Totals.{IsTotalled};
 ghost use Rattle.pml_resolve.specs.Declarations.{known};
-ghost use Rattle.pml_resolve.specs.Numbered.{owned};
-ghost use Rattle.pml_resolve.specs.Statements.{each, two, stmts, numbered_basic, numbered_item, numbered_seq};
+ghost use Rattle.pml_resolve.specs.Numbered.{owned, scope_of};
+ghost use Rattle.pml_resolve.specs.Statements.{action, each, two, stmts, numbered_basic, numbered_item, numbered_seq};
 
 use crate::action::action;
 use crate::declare::{Holder, variables};
 use crate::room::room_for;
-use crate::scope::Whose;
+use crate::scope::{Scope, Whose};
 use pml_marks::mark::Role;
 use pml_names::names::Names;
 use pml_program::program::{Basic, Seq, Slot, Stmt};
 use pml_token::token::Token;
-use pml_tree::tree::{Basic as TreeBasic, Item, Seq as TreeSeq};
+use pml_tree::tokens::Tokens;
+use pml_tree::tree::{Action as TreeAction, Basic as TreeBasic, Item, Seq as TreeSeq};
 use sqlite_items::Items;
 use std::alloc::{AllocError, Global};
 
@@ -28,7 +30,38 @@ fn copied<'a>(alloc: Global, labels: &[Token<'a>]) -> Result<Items<Token<'a>>, A
     Ok(copies)
 }
 
+/// A statement that gives no structure. It stands by itself, so that a level of nesting takes little of the stack.
+#[inline(never)]
+fn plain<'a>(
+    alloc: Global,
+    a: &TreeAction<'a>,
+    within: Scope<'_, '_, '_>,
+) -> Result<Option<Basic<'a>>, AllocError>
+    ensures { IfOk result (λ x. x ≡ Some (Plain (action a.now (scope_of within.entry)))) }
+{
+    let x = action(alloc, a, within)?;
+    Ok(Some(Basic::Plain(x)))
+}
+
+/// Adds a statement. It stands by itself for the same reason.
+#[inline(never)]
+fn add<'a>(
+    labels: Items<Token<'a>>,
+    basic: Basic<'a>,
+    tokens: Tokens<'a>,
+    steps: &mut Items<Stmt<'a>>,
+) -> Result<(), AllocError>
+    ensures { OnOk result (steps.new ≡ steps.old ++ stmts labels.entry (Some basic.entry) tokens.entry) }
+{
+    steps.push(Stmt {
+        labels,
+        basic,
+        tokens,
+    })
+}
+
 #[cycle(statement)]
+#[inline(never)]
 fn basic<'a>(
     alloc: Global,
     b: &TreeBasic<'a>,
@@ -51,10 +84,7 @@ fn basic<'a>(
             Ok(None)
         }
         TreeBasic::Exclusive(_) => Ok(None),
-        TreeBasic::Plain(a) => {
-            let x = action(alloc, a.get(), whose.within(&names.table))?;
-            Ok(Some(Basic::Plain(x)))
-        }
+        TreeBasic::Plain(a) => plain(alloc, a.get(), whose.within(&names.table)),
         TreeBasic::Goto(l) => Ok(Some(Basic::Goto(l.copied()))),
         TreeBasic::Break => Ok(Some(Basic::Break)),
         TreeBasic::If(options) => {
@@ -94,11 +124,7 @@ fn item<'a>(
     let tokens = i.tokens.copied(alloc)?;
     match basic(alloc, i.basic.get(), whose, names, slots)? {
         None => Ok(()),
-        Some(basic) => Ok(steps.push(Stmt {
-            labels,
-            basic,
-            tokens,
-        })?),
+        Some(basic) => Ok(add(labels, basic, tokens, steps)?),
     }
 }
 

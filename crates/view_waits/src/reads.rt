@@ -109,9 +109,9 @@ pub fn add_reads(e: &Expr, view: &View<'_>, reads: &mut Reads) {
         Expr::ProcessCount => reads.keep(Read::ProcessCount),
         Expr::Timeout => reads.keep(Read::Timeout),
         Expr::Read(target) => add_target(target, view, reads),
-        Expr::Ask(_, target) => add_length(target, view, reads),
+        Expr::Ask(_, target) => add_length(target.get(), view, reads),
         Expr::Poll(target, _, wants) => {
-            add_length(target, view, reads);
+            add_length(target.get(), view, reads);
             add_wants(wants.as_slice(), view, reads);
         }
         Expr::Unary(_, a) => add_reads(a.get(), view, reads),
