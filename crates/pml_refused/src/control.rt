@@ -1,11 +1,21 @@
 //! Breaks, d_steps and circles of gotos, by the plans of bodies.
 
+ghost use Rattle.std.specs.Prelude.{◌≡◌, IfOk, IfSome, Some};
+ghost use Rattle.pml_tree.specs.declared.tree.Tree.{Tree};
+ghost use Rattle.pml_program.specs.declared.program.Program.{Program};
+ghost use Rattle.pml_syntax.specs.Grammar.{Spells};
+ghost use Rattle.pml_resolve.specs.Model.{numbered_model};
+ghost use Rattle.pml_blamed.specs.Blamed.{IsBlamedStepIn, IsBlamedCircleIn};
+ghost use Rattle.pml_refused.specs.Marks.{breaks_of, all_breaks};
+ghost use Rattle.pml_refused.specs.Control.{IsOfStep, IsOfCircle};
+
+use crate::kept::nowhere;
 use crate::tree::program_of;
 use pml_blamed::body::{BadFirstPoint, Circle as Blamed};
 use pml_blamed::proctypes::{breaks, first_bad_point, first_circle};
 use pml_blamed::site::Label;
 use pml_causes::cause::{Cause, Circle, ControlCause, Finding, Named, Place};
-use pml_causes::place::{at_place, bytes_at, untold};
+use pml_causes::place::bytes_at;
 use pml_program::program::Program;
 use pml_token::token::Token;
 use sqlite_items::Boxed;
@@ -14,7 +24,9 @@ use std::alloc::{AllocError, Global};
 fn breaks_in(
     alloc: Global,
     program: Option<Boxed<Program<'_>>>,
-) -> Result<Vec<Option<u32>>, AllocError> {
+) -> Result<Vec<Option<u32>>, AllocError>
+    ensures { (p : Program) → program.entry ≡ Some p → IfOk result (λ v. v.items ≡ breaks_of p) }
+{
     match program {
         Some(program) => breaks(alloc, program.get().proctypes.as_slice()),
         None => Ok(Vec::new(alloc)),
@@ -22,10 +34,9 @@ fn breaks_in(
 }
 
 /// How many bytes of the text stand before each `break`, in the order of their marks.
-pub fn breaks_of<'a>(
-    alloc: Global,
-    tokens: &'a [Token<'a>],
-) -> Result<Vec<Option<u32>>, AllocError> {
+pub fn breaks_of<'a>(alloc: Global, tokens: &'a [Token<'a>]) -> Result<Vec<Option<u32>>, AllocError>
+    ensures { (t : Tree) → Spells t tokens.now → IfOk result (λ v. v.items ≡ all_breaks t) }
+{
     match program_of(alloc, tokens) {
         Ok(program) => breaks_in(alloc, program),
         Err(AllocError) => Err(AllocError),
@@ -35,7 +46,9 @@ pub fn breaks_of<'a>(
 fn bad_point_in(
     alloc: Global,
     program: Option<Boxed<Program<'_>>>,
-) -> Result<Option<BadFirstPoint>, AllocError> {
+) -> Result<Option<BadFirstPoint>, AllocError>
+    ensures { (p : Program) → program.entry ≡ Some p → IfOk result (λ o. IfSome o (IsBlamedStepIn p.proctypes)) }
+{
     match program {
         Some(program) => first_bad_point(alloc, program.get().proctypes.as_slice()),
         None => Ok(None),
@@ -45,7 +58,9 @@ fn bad_point_in(
 fn bad_point_of<'a>(
     alloc: Global,
     tokens: &'a [Token<'a>],
-) -> Result<Option<BadFirstPoint>, AllocError> {
+) -> Result<Option<BadFirstPoint>, AllocError>
+    ensures { (t : Tree) → Spells t tokens.now → IfOk result (λ o. IfSome o (IsBlamedStepIn (numbered_model t).proctypes)) }
+{
     match program_of(alloc, tokens) {
         Ok(program) => bad_point_in(alloc, program),
         Err(AllocError) => Err(AllocError),
@@ -55,14 +70,18 @@ fn bad_point_of<'a>(
 fn circle_in(
     alloc: Global,
     program: Option<Boxed<Program<'_>>>,
-) -> Result<Option<Blamed>, AllocError> {
+) -> Result<Option<Blamed>, AllocError>
+    ensures { (p : Program) → program.entry ≡ Some p → IfOk result (λ o. IfSome o (IsBlamedCircleIn p.proctypes)) }
+{
     match program {
         Some(program) => first_circle(alloc, program.get().proctypes.as_slice()),
         None => Ok(None),
     }
 }
 
-fn blamed_circle<'a>(alloc: Global, tokens: &'a [Token<'a>]) -> Result<Option<Blamed>, AllocError> {
+fn blamed_circle<'a>(alloc: Global, tokens: &'a [Token<'a>]) -> Result<Option<Blamed>, AllocError>
+    ensures { (t : Tree) → Spells t tokens.now → IfOk result (λ o. IfSome o (IsBlamedCircleIn (numbered_model t).proctypes)) }
+{
     match program_of(alloc, tokens) {
         Ok(program) => circle_in(alloc, program),
         Err(AllocError) => Err(AllocError),
@@ -70,7 +89,9 @@ fn blamed_circle<'a>(alloc: Global, tokens: &'a [Token<'a>]) -> Result<Option<Bl
 }
 
 /// The word at a place of the text.
-fn word_at<'t>(text: &'t [u8], offset: u32, word: &[u8]) -> Named<'t> {
+fn word_at<'t>(text: &'t [u8], offset: u32, word: &[u8]) -> Named<'t>
+    ensures { result.offset ≡ offset }
+{
     let place = Place {
         offset: offset as usize,
         length: word.len(),
@@ -82,7 +103,9 @@ fn word_at<'t>(text: &'t [u8], offset: u32, word: &[u8]) -> Named<'t> {
 }
 
 /// The `goto` or the `break` at a place of the text.
-fn leap_at<'t>(text: &'t [u8], offset: u32) -> Named<'t> {
+fn leap_at<'t>(text: &'t [u8], offset: u32) -> Named<'t>
+    ensures { result.offset ≡ offset }
+{
     let word = word_at(text, offset, b"break");
     if word.name == b"break".as_slice() {
         word
@@ -92,15 +115,22 @@ fn leap_at<'t>(text: &'t [u8], offset: u32) -> Named<'t> {
 }
 
 /// What is found at a word of the text.
-fn at_word<'t>(word: Named<'t>, cause: ControlCause<'t>) -> Finding<'t> {
+fn at_word<'t>(word: Named<'t>, cause: ControlCause<'t>) -> Finding<'t>
+    ensures { IfSome result.place (λ p. p.offset ≡ word.entry.offset) }
+{
     let place = Place {
         offset: word.offset,
         length: word.name.len(),
     };
-    at_place(place, Cause::Control(cause))
+    Finding {
+        place: Some(place),
+        cause: Cause::Control(cause),
+    }
 }
 
-fn told_point<'t>(text: &'t [u8], step: u32, point: u32, is_else: bool) -> Finding<'t> {
+fn told_point<'t>(text: &'t [u8], step: u32, point: u32, is_else: bool) -> Finding<'t>
+    ensures { IfSome result.place (λ p. p.offset ≡ point) }
+{
     let step = word_at(text, step, b"d_step");
     if is_else {
         at_word(word_at(text, point, b"else"), ControlCause::FirstElse(step))
@@ -114,13 +144,15 @@ pub fn of_first_point<'t, 'a>(
     alloc: Global,
     text: &'t [u8],
     tokens: &'a [Token<'a>],
-) -> Result<Finding<'t>, AllocError> {
+) -> Result<Finding<'t>, AllocError>
+    ensures { (t : Tree) → Spells t tokens.now → IfOk result (λ f. IfSome f.place (IsOfStep t)) }
+{
     let Some(bad) = bad_point_of(alloc, tokens)? else {
-        return Ok(untold());
+        return Ok(nowhere());
     };
     match (bad.step, bad.point) {
         (Some(step), Some(point)) => Ok(told_point(text, step, point, bad.is_else)),
-        _ => Ok(untold()),
+        _ => Ok(nowhere()),
     }
 }
 
@@ -138,7 +170,9 @@ fn label_at<'t>(text: &'t [u8], labels: &[Label], at: usize) -> &'t [u8] {
     }
 }
 
-fn told_circle<'t>(text: &'t [u8], goto: u32, labels: &[Label]) -> Finding<'t> {
+fn told_circle<'t>(text: &'t [u8], goto: u32, labels: &[Label]) -> Finding<'t>
+    ensures { IfSome result.place (λ p. p.offset ≡ goto) }
+{
     let circle = Circle {
         count: labels.len(),
         first: label_at(text, labels, 0),
@@ -153,12 +187,14 @@ pub fn of_circle<'t, 'a>(
     alloc: Global,
     text: &'t [u8],
     tokens: &'a [Token<'a>],
-) -> Result<Finding<'t>, AllocError> {
+) -> Result<Finding<'t>, AllocError>
+    ensures { (t : Tree) → Spells t tokens.now → IfOk result (λ f. IfSome f.place (IsOfCircle t)) }
+{
     let Some(circle) = blamed_circle(alloc, tokens)? else {
-        return Ok(untold());
+        return Ok(nowhere());
     };
     match circle.goto {
         Some(goto) => Ok(told_circle(text, goto, &circle.labels)),
-        None => Ok(untold()),
+        None => Ok(nowhere()),
     }
 }

@@ -1,8 +1,21 @@
 //! Why a text is refused, and where.
 
+ghost use Rattle.std.specs.Prelude.{◌≡◌, Bool, true, IfOk, IfSome, MatchOption, Some, drop};
+ghost use Rattle.diagnostics.specs.declared.refusal.Refusal.{Refusal};
+ghost use Rattle.pml_tree.specs.declared.tree.Tree.{Tree};
+ghost use Rattle.pml_syntax.specs.Grammar.{Spells};
+ghost use Rattle.pml_places.specs.Placed.{ArePlaced, IsUnplaced};
+ghost use Rattle.pml_inline.specs.Expansion.{IsLeast};
+ghost use Rattle.pml_marks.specs.Marks.{of_tree};
+ghost use Rattle.pml_conditions.specs.First.{FindsFirst};
+ghost use Rattle.pml_refused.specs.Marks.{condition_of, all_breaks, first_is_told, IsOfMark, NoneBreaks};
+ghost use Rattle.pml_refused.specs.Found.{IsBroken};
+ghost use Rattle.pml_refused.specs.Told.{IsOfWhole, IsOfTree, IsOfExpanded, IsOfTokens, IsTold};
+
 use crate::control::{breaks_of, of_circle, of_first_point};
 use crate::fields::with_fields;
 use crate::initialiser::of_initialiser;
+use crate::kept::{at_break, at_left_out, at_mark, at_stop, nowhere, placeless, there};
 use crate::misused::of_misuse;
 use crate::syntax::of_syntax;
 use crate::tree::marks_of;
@@ -29,7 +42,9 @@ use pml_token::token::Token;
 use std::alloc::{AllocError, Global};
 
 /// The condition on the marks that a refusal is about.
-fn condition_of(refusal: Refusal) -> Option<Condition> {
+fn condition_of(refusal: Refusal) -> Option<Condition>
+    ensures { result ≡ condition_of refusal }
+{
     match refusal {
         Refusal::NameTwice => Some(Condition::Twice),
         Refusal::UnknownName => Some(Condition::Unknown),
@@ -56,7 +71,9 @@ fn first_of(
     alloc: Global,
     condition: Condition,
     marks: &[Mark<'_>],
-) -> Result<Option<usize>, AllocError> {
+) -> Result<Option<usize>, AllocError>
+    ensures { IfOk result (FindsFirst condition marks.now) }
+{
     let all = all_names(alloc, marks)?;
     first_broken(alloc, condition, &all.table, marks)
 }
@@ -66,7 +83,9 @@ fn first_broken_by(
     alloc: Global,
     refusal: Refusal,
     marks: &[Mark<'_>],
-) -> Result<Option<Broken>, AllocError> {
+) -> Result<Option<Broken>, AllocError>
+    ensures { IfOk result (λ o. MatchOption o (NoneBreaks refusal marks.now) (IsBroken refusal marks.now)) }
+{
     let Some(condition) = condition_of(refusal) else {
         return Ok(None);
     };
@@ -83,12 +102,15 @@ fn of_controlled<'t, 'a>(
     text: &'t [u8],
     tokens: &'a [Token<'a>],
     marks: &[Mark<'_>],
-) -> Result<Finding<'t>, AllocError> {
+) -> Result<Finding<'t>, AllocError>
+    ensures { (t : Tree) → Spells t tokens.now → IfOk result (λ f. IfSome f.place (IsOfMark tokens.now (all_breaks t) marks.now broken.at)) }
+{
     let breaks = breaks_of(alloc, tokens)?;
-    match broken.condition {
-        Condition::Step => of_step(alloc, text, tokens, &breaks, marks, broken.at),
-        _ => Ok(of_break(&breaks, marks, broken.at)),
-    }
+    let finding = match broken.condition {
+        Condition::Step => of_step(alloc, text, tokens, &breaks, marks, broken.at)?,
+        _ => of_break(&breaks, marks, broken.at),
+    };
+    Ok(at_break(tokens, &breaks, marks, broken.at, finding))
 }
 
 /// What is found at a name that is not declared.
@@ -105,12 +127,12 @@ fn of_name<'t>(
     }
 }
 
-/// What is found at the mark that breaks a condition.
-fn of_mark<'t, 'a>(
+/// What is found at the mark that breaks a condition on names, kinds, counts or ranges.
+fn found_at<'t>(
     alloc: Global,
     broken: Broken,
     text: &'t [u8],
-    tokens: &'a [Token<'a>],
+    tokens: &[Token<'_>],
     marks: &[Mark<'_>],
 ) -> Result<Finding<'t>, AllocError> {
     let at = broken.at;
@@ -118,8 +140,39 @@ fn of_mark<'t, 'a>(
         Condition::Unknown => of_name(alloc, text, tokens, marks, at),
         Condition::Wrong => of_wrong(alloc, text, tokens, marks, at),
         Condition::Label => of_label(alloc, text, marks, at),
-        Condition::Break | Condition::Step => of_controlled(alloc, broken, text, tokens, marks),
         condition => Ok(of_plain(condition, text, tokens, marks, at)),
+    }
+}
+
+/// The same, whose place is that of the mark.
+fn of_judged<'t>(
+    alloc: Global,
+    broken: Broken,
+    text: &'t [u8],
+    tokens: &[Token<'_>],
+    marks: &[Mark<'_>],
+) -> Result<Finding<'t>, AllocError>
+    ensures { IfOk result (λ f. IfSome f.place (λ p. first_is_told tokens.now (drop broken.at marks.now) p ≡ true)) }
+{
+    match found_at(alloc, broken, text, tokens, marks) {
+        Ok(finding) => Ok(at_mark(tokens, marks, broken.at, finding)),
+        Err(AllocError) => Err(AllocError),
+    }
+}
+
+/// What is found at the mark that breaks a condition.
+fn of_mark<'t, 'a>(
+    alloc: Global,
+    broken: Broken,
+    text: &'t [u8],
+    tokens: &'a [Token<'a>],
+    marks: &[Mark<'_>],
+) -> Result<Finding<'t>, AllocError>
+    ensures { (t : Tree) → Spells t tokens.now → IfOk result (λ f. IfSome f.place (IsOfMark tokens.now (all_breaks t) marks.now broken.at)) }
+{
+    match broken.condition {
+        Condition::Break | Condition::Step => of_controlled(alloc, broken, text, tokens, marks),
+        _ => of_judged(alloc, broken, text, tokens, marks),
     }
 }
 
@@ -147,14 +200,16 @@ fn of_whole<'t, 'a>(
     text: &'t [u8],
     tokens: &'a [Token<'a>],
     marks: &[Mark<'_>],
-) -> Result<Finding<'t>, AllocError> {
+) -> Result<Finding<'t>, AllocError>
+    ensures { (t : Tree) → Spells t tokens.now → IfOk result (λ f. IfSome f.place (IsOfWhole refusal t)) }
+{
     match refusal {
         Refusal::DStep => of_first_point(alloc, text, tokens),
         Refusal::CircleOfGotos => of_circle(alloc, text, tokens),
         Refusal::NoProcess => Ok(of_none(text, marks)),
         Refusal::TooManyAtStart => of_start(alloc, text, marks),
         Refusal::Initialiser => of_initialiser(alloc, text, tokens, marks),
-        _ => Ok(untold()),
+        _ => Ok(nowhere()),
     }
 }
 
@@ -165,7 +220,9 @@ fn of_marks<'t, 'a>(
     text: &'t [u8],
     tokens: &'a [Token<'a>],
     marks: &[Mark<'_>],
-) -> Result<Finding<'t>, AllocError> {
+) -> Result<Finding<'t>, AllocError>
+    ensures { (t : Tree) → Spells t tokens.now → marks.now ≡ of_tree t → IfOk result (λ f. IfSome f.place (IsOfTree refusal tokens.now t)) }
+{
     match first_broken_by(alloc, refusal, marks) {
         Ok(Some(broken)) => of_mark(alloc, broken, text, tokens, marks),
         Ok(None) => of_whole(alloc, refusal, text, tokens, marks),
@@ -174,7 +231,9 @@ fn of_marks<'t, 'a>(
 }
 
 /// The same tokens once more, which a tree may borrow.
-fn copied<'t>(alloc: Global, tokens: &[Token<'t>]) -> Result<Vec<Token<'t>>, AllocError> {
+fn copied<'t>(alloc: Global, tokens: &[Token<'t>]) -> Result<Vec<Token<'t>>, AllocError>
+    ensures { IfOk result (λ v. v.items ≡ tokens.now) }
+{
     let mut list = Vec::with_capacity(alloc, tokens.len())?;
     for token in tokens {
         list.push(token.copied())?;
@@ -189,7 +248,9 @@ fn of_list<'t, 'a>(
     text: &'t [u8],
     originals: &[Token<'t>],
     list: &'a [Token<'a>],
-) -> Result<Finding<'t>, AllocError> {
+) -> Result<Finding<'t>, AllocError>
+    ensures { IfOk result (λ f. IfSome f.place (IsOfExpanded refusal list.now)) }
+{
     match marks_of(alloc, list) {
         Ok(Some(marks)) => of_marks(alloc, refusal, text, list, marks.as_slice()),
         Ok(None) => of_syntax(alloc, text, originals, list),
@@ -204,7 +265,9 @@ fn of_expanded<'t>(
     text: &'t [u8],
     originals: &[Token<'t>],
     tokens: &[Token<'t>],
-) -> Result<Finding<'t>, AllocError> {
+) -> Result<Finding<'t>, AllocError>
+    ensures { IfOk result (λ f. IfSome f.place (IsOfExpanded refusal tokens.now)) }
+{
     match copied(alloc, tokens) {
         Ok(list) => of_list(alloc, refusal, text, originals, &list),
         Err(AllocError) => Err(AllocError),
@@ -224,7 +287,10 @@ fn of_fault<'t>(
     text: &'t [u8],
     tokens: &[Token<'t>],
     fault: InlineFault,
-) -> Result<Finding<'t>, AllocError> {
+) -> Result<Finding<'t>, AllocError>
+    requires { IsLeast tokens.now fault }
+    ensures { (x : Refusal) → IfOk result (λ f. IfSome f.place (IsOfTokens x tokens.now)) }
+{
     match fault {
         InlineFault::Inline(misuse) => Ok(of_misuse(text, tokens, misuse)),
         InlineFault::TooDeep(offset, limit) => Ok(too_deep(tokens, offset, limit_of(limit))),
@@ -238,10 +304,27 @@ fn of_words<'t>(
     refusal: Refusal,
     text: &'t [u8],
     tokens: &[Token<'t>],
-) -> Result<Finding<'t>, AllocError> {
+) -> Result<Finding<'t>, AllocError>
+    ensures { IfOk result (λ f. IfSome f.place (IsOfTokens refusal tokens.now)) }
+{
     match expand(alloc, tokens) {
         Ok(expanded) => of_expanded(alloc, refusal, text, tokens, &expanded),
         Err(fault) => of_fault(text, tokens, fault),
+    }
+}
+
+/// Of the tokens of a text, by how far they are read.
+fn of_read<'t>(
+    alloc: Global,
+    refusal: Refusal,
+    text: &'t [u8],
+    tokens: &[Token<'t>],
+) -> Result<Finding<'t>, AllocError>
+    ensures { IfOk result (λ f. IfSome f.place (IsOfTokens refusal tokens.now)) }
+{
+    match returned(text, tokens).or(left_out(text, tokens)) {
+        Some(finding) => Ok(at_left_out(tokens, finding)),
+        None => of_words(alloc, refusal, text, tokens),
     }
 }
 
@@ -251,19 +334,28 @@ fn of_tokens<'t>(
     refusal: Refusal,
     text: &'t [u8],
     tokens: &[Token<'t>],
-) -> Result<Finding<'t>, AllocError> {
-    match returned(text, tokens).or(left_out(text, tokens)) {
-        Some(finding) => Ok(finding),
-        None => of_words(alloc, refusal, text, tokens),
+) -> Result<Finding<'t>, AllocError>
+    requires { ArePlaced text.now tokens.now }
+    ensures { IfOk result (λ f. IfSome f.place (IsTold text.now refusal)) }
+{
+    match of_read(alloc, refusal, text, tokens) {
+        Ok(finding) => Ok(there(refusal, text, tokens, finding)),
+        Err(AllocError) => Err(AllocError),
     }
 }
 
 /// Of a text that has no tokens.
-fn of_text<'t>(text: &'t [u8], fault: LexFault) -> Result<Finding<'t>, AllocError> {
+fn of_text<'t>(text: &'t [u8], fault: LexFault) -> Result<Finding<'t>, AllocError>
+    requires { IsUnplaced text.now fault }
+    ensures { (x : Refusal) → IfOk result (λ f. IfSome f.place (IsTold text.now x)) }
+{
     match fault {
-        LexFault::TooLong => Ok(too_long(text)),
-        LexFault::Lexical(offset) => Ok(uncut(text, offset as usize)),
-        LexFault::LeftOut(_) => Ok(untold()),
+        LexFault::TooLong => Ok(placeless(too_long(text))),
+        LexFault::Lexical(offset) => {
+            let at = offset as usize;
+            Ok(at_stop(text, at, uncut(text, at)))
+        }
+        LexFault::LeftOut(_) => Ok(nowhere()),
         LexFault::Memory => Err(AllocError),
     }
 }
@@ -273,7 +365,10 @@ pub fn cause_of<'t>(
     alloc: Global,
     text: &'t [u8],
     refusal: Refusal,
-) -> Result<Finding<'t>, AllocError> {
+) -> Result<Finding<'t>, AllocError>
+    // Where a place is told, it is one of those that are told of this refusal of the text.
+    ensures { IfOk result (λ f. IfSome f.place (IsTold text.now refusal)) }
+{
     match placed(alloc, text) {
         Ok(tokens) => of_tokens(alloc, refusal, text, &tokens),
         Err(fault) => of_text(text, fault),

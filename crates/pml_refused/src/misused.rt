@@ -1,5 +1,10 @@
 //! Definitions and calls of inlines that are not right.
 
+ghost use Rattle.std.specs.Prelude.{◌≡◌, Bool, true, IfSome};
+ghost use Rattle.pml_refused.specs.Inlines.{IsOfMisuse};
+
+use crate::inlines::is_of_misuse;
+use crate::kept::placeless;
 use pml_causes::cause::{Cause, Finding, InlineCause, Named};
 use pml_causes::place::{at_token, bytes_of, named, untold};
 use pml_inline::misuse::{Misuse, Rule};
@@ -40,12 +45,23 @@ fn name_at<'t>(text: &'t [u8], tokens: &[Token<'_>], at: usize) -> Named<'t> {
     }
 }
 
-/// Of a definition or a call of an inline that is not right.
-pub fn of_misuse<'t>(text: &'t [u8], tokens: &[Token<'_>], misuse: Misuse) -> Finding<'t> {
+/// What is found at the token that a misuse names.
+fn found<'t>(text: &'t [u8], tokens: &[Token<'_>], misuse: Misuse) -> Finding<'t> {
     let Some(token) = tokens.get(misuse.at) else {
         return untold();
     };
     let definition = name_at(text, tokens, misuse.definition);
     let cause = cause_of(misuse.rule, bytes_of(text, token), definition);
     at_token(token, Cause::Inline(cause))
+}
+
+/// Of a definition or a call of an inline that is not right.
+pub fn of_misuse<'t>(text: &'t [u8], tokens: &[Token<'_>], misuse: Misuse) -> Finding<'t>
+    ensures { IfSome result.place (IsOfMisuse tokens.now misuse) }
+{
+    let finding = found(text, tokens, misuse);
+    match finding.place {
+        Some(place) if is_of_misuse(tokens, misuse, place) => finding,
+        _ => placeless(finding),
+    }
 }

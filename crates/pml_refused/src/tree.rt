@@ -1,5 +1,12 @@
 //! Trees of tokens, and what is asked of them.
 
+ghost use Rattle.std.specs.Prelude.{◌≡◌, IfOk, MatchOption, Some};
+ghost use Rattle.pml_tree.specs.declared.tree.Tree.{Tree};
+ghost use Rattle.pml_syntax.specs.Grammar.{Spells};
+ghost use Rattle.pml_marks.specs.Marks.{of_tree};
+ghost use Rattle.pml_resolve.specs.Model.{numbered_model};
+ghost use Rattle.pml_refused.specs.Told.{NoTree, AreMarks};
+
 use diagnostics::Refusal;
 use pml_check::parsed::Parsed;
 use pml_check::{CheckFault, check};
@@ -14,12 +21,16 @@ use pml_tree::tree::Tree;
 use sqlite_items::{Boxed, Items};
 use std::alloc::{AllocError, Global};
 
-fn marks_in<'a>(alloc: Global, parsed: &Parsed<'a>) -> Result<Items<Mark<'a>>, AllocError> {
+fn marks_in<'a>(alloc: Global, parsed: &Parsed<'a>) -> Result<Items<Mark<'a>>, AllocError>
+    ensures { IfOk result (λ ms. ms ≡ of_tree parsed.now) }
+{
     marks(alloc, parsed.tree())
 }
 
 /// The marks of a tree, which is let go.
-fn marks_of_tree<'a>(alloc: Global, tree: Tree<'a>) -> Result<Items<Mark<'a>>, AllocError> {
+fn marks_of_tree<'a>(alloc: Global, tree: Tree<'a>) -> Result<Items<Mark<'a>>, AllocError>
+    ensures { IfOk result (λ ms. ms ≡ of_tree tree.entry) }
+{
     // Lent from a pattern: where a parameter is lent, the check of its loan does not end.
     match Parsed::new(alloc, tree) {
         Ok(parsed) => marks_in(alloc, &parsed),
@@ -31,7 +42,9 @@ fn marks_of_tree<'a>(alloc: Global, tree: Tree<'a>) -> Result<Items<Mark<'a>>, A
 pub fn marks_of<'a>(
     alloc: Global,
     tokens: &'a [Token<'a>],
-) -> Result<Option<Items<Mark<'a>>>, AllocError> {
+) -> Result<Option<Items<Mark<'a>>>, AllocError>
+    ensures { IfOk result (λ o. MatchOption o (NoTree tokens.now) (AreMarks tokens.now)) }
+{
     match parse(alloc, tokens) {
         Ok(tree) => Ok(Some(marks_of_tree(alloc, tree)?)),
         Err(SyntaxFault::Syntax(_)) => Ok(None),
@@ -40,19 +53,25 @@ pub fn marks_of<'a>(
 }
 
 /// The model that a tree stands for, with its names replaced.
-fn program_in<'a>(alloc: Global, parsed: &Parsed<'a>) -> Result<Program<'a>, AllocError> {
+fn program_in<'a>(alloc: Global, parsed: &Parsed<'a>) -> Result<Program<'a>, AllocError>
+    ensures { IfOk result (λ p. p ≡ numbered_model parsed.now) }
+{
     let tree = parsed.tree();
     let marks = marks(alloc, tree)?;
     let all = all_names(alloc, marks.as_slice())?;
     number(alloc, tree, &all.table)
 }
 
-fn boxed<'a>(alloc: Global, program: Program<'a>) -> Result<Boxed<Program<'a>>, AllocError> {
+fn boxed<'a>(alloc: Global, program: Program<'a>) -> Result<Boxed<Program<'a>>, AllocError>
+    ensures { IfOk result (λ p. p ≡ program.entry) }
+{
     Boxed::new(alloc, program)
 }
 
 /// The same in a place of its own.
-fn boxed_in<'a>(alloc: Global, parsed: &Parsed<'a>) -> Result<Boxed<Program<'a>>, AllocError> {
+fn boxed_in<'a>(alloc: Global, parsed: &Parsed<'a>) -> Result<Boxed<Program<'a>>, AllocError>
+    ensures { IfOk result (λ p. p ≡ numbered_model parsed.now) }
+{
     match program_in(alloc, parsed) {
         Ok(program) => boxed(alloc, program),
         Err(AllocError) => Err(AllocError),
@@ -60,7 +79,9 @@ fn boxed_in<'a>(alloc: Global, parsed: &Parsed<'a>) -> Result<Boxed<Program<'a>>
 }
 
 /// The same of a tree, which is let go.
-fn program_of_tree<'a>(alloc: Global, tree: Tree<'a>) -> Result<Boxed<Program<'a>>, AllocError> {
+fn program_of_tree<'a>(alloc: Global, tree: Tree<'a>) -> Result<Boxed<Program<'a>>, AllocError>
+    ensures { IfOk result (λ p. p ≡ numbered_model tree.entry) }
+{
     match Parsed::new(alloc, tree) {
         Ok(parsed) => boxed_in(alloc, &parsed),
         Err(AllocError) => Err(AllocError),
@@ -71,7 +92,9 @@ fn program_of_tree<'a>(alloc: Global, tree: Tree<'a>) -> Result<Boxed<Program<'a
 pub fn program_of<'a>(
     alloc: Global,
     tokens: &'a [Token<'a>],
-) -> Result<Option<Boxed<Program<'a>>>, AllocError> {
+) -> Result<Option<Boxed<Program<'a>>>, AllocError>
+    ensures { (t : Tree) → Spells t tokens.now → IfOk result (λ o. o ≡ Some (numbered_model t)) }
+{
     match parse(alloc, tokens) {
         Ok(tree) => Ok(Some(program_of_tree(alloc, tree)?)),
         Err(SyntaxFault::Syntax(_)) => Ok(None),

@@ -1,0 +1,10 @@
+use Rattle.std.proofs.Common.{subst}
+use Rattle.pml_inline.specs.declared.fault.InlineFault.{InlineFault}
+use Rattle.pml_inline.specs.Expansion.{IsLeast}
+use Rattle.pml_refused.proofs.Telling.{told_misused}
+use Rattle.pml_refused.proofs.find.of_fault.Goals as goal
+
+pub returns-in-Inline : goal.returns-in-Inline
+returns-in-Inline c = λ x.
+    told_misused c.args.tokens.now c.in-Inline.misuse x c.of_misuse.result.place
+    (subst (λ (f : InlineFault). IsLeast c.args.tokens.now f) c.in-Inline.is c.requires) c.of_misuse.ensures

@@ -1,0 +1,12 @@
+-- What the search for a broken condition answers. No clause of a public function cites it.
+use Rattle.std.specs.Prelude.{◌≡◌, List, Some}
+use Rattle.diagnostics.specs.declared.refusal.Refusal.{Refusal}
+use Rattle.pml_marks.specs.declared.mark.Mark.{Mark}
+use Rattle.pml_conditions.specs.First.{IsFirstBroken}
+use Rattle.pml_refused.specs.declared.find.Broken.{Broken}
+use Rattle.pml_refused.specs.Marks.{condition_of}
+
+-- the mark is the first one that breaks the condition which the refusal is of
+pub record IsBroken (x : Refusal) (ms : List Mark) (b : Broken) : Type 0 where
+  pub of : condition_of x ≡ Some b.condition
+  pub first : IsFirstBroken b.condition ms b.at

@@ -1,0 +1,64 @@
+-- Where it is told that a definition or a call of an inline is not right.
+use Rattle.std.specs.Prelude.{◌≡◌, ℕ, ◌+◌, ◌-◌, nat_le, nat_lt, Bool, true, false, ◌&&◌, ◌||◌, List, [], ◌∷◌, take, drop, slice_index_or}
+use Rattle.std.specs.List.{list_any}
+use Rattle.std.specs.Str.{bytes_eq}
+use Rattle.pml_token.specs.declared.token.Kind.TheVariants as kind
+use Rattle.pml_token.specs.Kinds.{same_kind}
+use Rattle.pml_token.specs.Word.{Word}
+use Rattle.pml_inline.specs.declared.misuse.Rule.{Rule}
+use Rattle.pml_inline.specs.declared.misuse.Rule.TheVariants as rule
+use Rattle.pml_inline.specs.declared.misuse.Misuse.{Misuse}
+use Rattle.pml_causes.specs.declared.cause.Place.{Place}
+use Rattle.pml_refused.specs.Tokens.{is_of}
+
+-- the token behind k others
+abbrev pub token_at : List Word → ℕ → Word
+token_at ts k = slice_index_or ts k (record { kind = kind.End; text = []; line = 0 })
+
+-- the word `inline`
+abbrev pub is_inline : Word → Bool
+is_inline w = same_kind w.kind kind.Inline
+
+-- the token behind k others stands where a definition has its name: behind the word `inline`
+abbrev pub is_defined : List Word → ℕ → Bool
+is_defined ts k = nat_lt 0 k && is_inline (token_at ts (k - 1))
+
+abbrev pub begins_with : List ℕ → List Word → Bool
+begins_with n [] = false
+begins_with n (w ∷ ws) = bytes_eq w.text n
+
+-- some definition among the tokens has this name
+abbrev pub has_definition : List ℕ → List Word → Bool
+has_definition n [] = false
+has_definition n (w ∷ ws) = (is_inline w && begins_with n ws) || has_definition n ws
+
+-- the token behind k others is a name that some definition has
+abbrev pub is_called : List Word → ℕ → Bool
+is_called ts k = same_kind (token_at ts k).kind kind.Name && has_definition (token_at ts k).text ts
+
+-- the same name stands twice: behind k others, and behind d others and one more
+abbrev pub is_repeated : List Word → ℕ → ℕ → Bool
+is_repeated ts k d = list_any (λ w. bytes_eq w.text (token_at ts k).text) (take (k - (d + 1)) (drop (d + 1) ts))
+
+-- two definitions have one name
+abbrev pub has_one_name : List Word → ℕ → ℕ → Bool
+has_one_name ts k d = is_defined ts k && nat_lt d k && bytes_eq (token_at ts k).text (token_at ts d).text
+
+-- Whether the token behind k others is one that can break the rule, where the definition's name stands behind d others: a word `inline` that stands where none
+-- may, a token of a definition, a parameter or a definition that has the name of another one, or a name that is called.
+abbrev pub can_break : Rule → List Word → ℕ → ℕ → Bool
+can_break rule.Outside ts k d = is_inline (token_at ts k)
+can_break rule.Form ts k d = is_defined ts d && nat_le d (k + 1)
+can_break rule.Body ts k d = is_defined ts d && nat_lt d k
+can_break rule.Parameters ts k d = is_defined ts d && is_repeated ts k d
+can_break rule.Names ts k d = is_defined ts d && has_one_name ts k d
+can_break rule.Call ts k d = is_called ts k
+can_break (rule.Arguments given wanted) ts k d = is_called ts k
+can_break rule.Empty ts k d = is_called ts k
+can_break rule.Recursion ts k d = is_called ts k
+can_break rule.Depth ts k d = is_called ts k
+can_break rule.Length ts k d = is_called ts k
+
+-- the place is that of the token which the misuse names, and this is one that can break its rule
+abbrev pub IsOfMisuse : List Word → Misuse → Place → Type 0
+IsOfMisuse ts m p = (is_of p (token_at ts m.at) && can_break m.rule ts m.at m.definition) ≡ true
