@@ -7,9 +7,9 @@ use Rattle.pml_places.specs.Placed.{ArePlaced, StopsAt}
 use Rattle.pml_inline.specs.Expansion.{IsExpanded, IsLeast, GoesTooDeep}
 use Rattle.pml_inline.specs.declared.fault.InlineFault.TheVariants as fault
 use Rattle.pml_inline.specs.declared.misuse.Misuse.{Misuse}
-use Rattle.pml_syntax.specs.Grammar.{Spells}
+use Rattle.pml_syntax.specs.GrammarOfUnits.{Spells}
 use Rattle.pml_marks.specs.declared.mark.Mark.{Mark}
-use Rattle.pml_marks.specs.Marks.{of_tree}
+use Rattle.pml_marks.specs.MarksOfUnits.{of_tree}
 use Rattle.pml_conditions.specs.declared.condition.Condition.{Condition}
 use Rattle.pml_conditions.specs.First.{IsFirstBroken}
 use Rattle.pml_causes.specs.declared.cause.Place.{Place}

@@ -3,8 +3,7 @@ use Rattle.std.specs.Prelude.{◌≡◌, ℕ, ◌+◌, ◌-◌, nat_le, nat_lt, 
 use Rattle.std.specs.List.{list_any}
 use Rattle.std.specs.Str.{bytes_eq}
 use Rattle.pml_token.specs.declared.token.Kind.TheVariants as kind
-use Rattle.pml_token.specs.Kinds.{same_kind}
-use Rattle.pml_token.specs.Word.{Word}
+use Rattle.pml_token.specs.Word.{same_kind, Word}
 use Rattle.pml_inline.specs.declared.misuse.Rule.{Rule}
 use Rattle.pml_inline.specs.declared.misuse.Rule.TheVariants as rule
 use Rattle.pml_inline.specs.declared.misuse.Misuse.{Misuse}

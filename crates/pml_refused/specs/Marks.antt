@@ -4,8 +4,7 @@ use Rattle.std.specs.List.{list_any, flat_map}
 use Rattle.diagnostics.specs.declared.refusal.Refusal.{Refusal}
 use Rattle.diagnostics.specs.declared.refusal.Refusal.TheVariants as r
 use Rattle.pml_token.specs.declared.token.Kind.TheVariants as kind
-use Rattle.pml_token.specs.Kinds.{same_kind}
-use Rattle.pml_token.specs.Word.{Word}
+use Rattle.pml_token.specs.Word.{same_kind, Word}
 use Rattle.pml_tree.specs.declared.tree.Tree.{Tree}
 use Rattle.pml_program.specs.declared.program.Program.{Program}
 use Rattle.pml_marks.specs.declared.mark.What.{What}

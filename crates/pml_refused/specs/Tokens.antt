@@ -4,8 +4,7 @@ use Rattle.std.specs.List.{list_any}
 use Rattle.diagnostics.specs.declared.refusal.Refusal.{Refusal}
 use Rattle.diagnostics.specs.declared.refusal.Refusal.TheVariants as r
 use Rattle.pml_token.specs.declared.token.Kind.TheVariants.{LeftOut}
-use Rattle.pml_token.specs.Kinds.{same_kind}
-use Rattle.pml_token.specs.Word.{Word}
+use Rattle.pml_token.specs.Word.{same_kind, Word}
 use Rattle.pml_causes.specs.declared.cause.Place.{Place}
 
 -- the place begins where the token does

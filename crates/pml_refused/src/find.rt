@@ -3,10 +3,10 @@
 ghost use Rattle.std.specs.Prelude.{◌≡◌, Bool, true, IfOk, IfSome, MatchOption, Some, drop};
 ghost use Rattle.diagnostics.specs.declared.refusal.Refusal.{Refusal};
 ghost use Rattle.pml_tree.specs.declared.tree.Tree.{Tree};
-ghost use Rattle.pml_syntax.specs.Grammar.{Spells};
+ghost use Rattle.pml_syntax.specs.GrammarOfUnits.{Spells};
 ghost use Rattle.pml_places.specs.Placed.{ArePlaced, IsUnplaced};
 ghost use Rattle.pml_inline.specs.Expansion.{IsLeast};
-ghost use Rattle.pml_marks.specs.Marks.{of_tree};
+ghost use Rattle.pml_marks.specs.MarksOfUnits.{of_tree};
 ghost use Rattle.pml_conditions.specs.First.{FindsFirst};
 ghost use Rattle.pml_refused.specs.Marks.{condition_of, all_breaks, first_is_told, IsOfMark, NoneBreaks};
 ghost use Rattle.pml_refused.specs.Found.{IsBroken};

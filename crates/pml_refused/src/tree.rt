@@ -2,8 +2,8 @@
 
 ghost use Rattle.std.specs.Prelude.{◌≡◌, IfOk, MatchOption, Some};
 ghost use Rattle.pml_tree.specs.declared.tree.Tree.{Tree};
-ghost use Rattle.pml_syntax.specs.Grammar.{Spells};
-ghost use Rattle.pml_marks.specs.Marks.{of_tree};
+ghost use Rattle.pml_syntax.specs.GrammarOfUnits.{Spells};
+ghost use Rattle.pml_marks.specs.MarksOfUnits.{of_tree};
 ghost use Rattle.pml_resolve.specs.Model.{numbered_model};
 ghost use Rattle.pml_refused.specs.Told.{NoTree, AreMarks};
 
