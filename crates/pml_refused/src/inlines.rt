@@ -3,7 +3,6 @@
 ghost use Rattle.std.specs.Prelude.{◌≡◌, ◌+◌, ◌-◌, Bool, true, take, drop};
 ghost use Rattle.std.specs.List.{list_any};
 ghost use Rattle.std.specs.Str.{bytes_eq};
-ghost use Rattle.pml_token.specs.Kinds as kinds;
 ghost use Rattle.pml_refused.specs.Inlines.{token_at, is_inline, is_defined, begins_with, has_definition, is_called, is_repeated, has_one_name, can_break, IsOfMisuse};
 
 use crate::there::is_of;
