@@ -15,6 +15,13 @@ use pml_tree::tree::{Action, Basic, Expr, Infix, Item, Reference, Seq};
 use sqlite_items::{Boxed, Items};
 use std::alloc::{AllocError, Global};
 
+/// An empty list with room for this many, so that no memory is kept beyond need.
+fn room_for<T>(alloc: Global, count: usize) -> Result<Items<T>, AllocError>
+    ensures { IfOk result (λ items. items ≡ []) }
+{
+    Ok(Items::from_vec(Vec::with_capacity(alloc, count)?))
+}
+
 /// Adds copies of these tokens.
 fn add_all<'a>(found: &mut Items<Token<'a>>, tokens: &[Token<'a>]) -> Result<(), AllocError>
     ensures { OnOk result (found.new ≡ found.old ++ tokens.now) }
@@ -34,7 +41,8 @@ fn around<'a>(
 ) -> Result<Tokens<'a>, AllocError>
     ensures { IfOk result (λ ts. ts ≡ front.now ++ word.entry ∷ back.now) }
 {
-    let mut found = Items::new(alloc);
+    let count = front.len().saturating_add(back.len()).saturating_add(1);
+    let mut found = room_for(alloc, count)?;
     add_all(&mut found, front)?;
     found.push(word)?;
     add_all(&mut found, back)?;
@@ -45,20 +53,23 @@ fn around<'a>(
 pub fn alone<'a>(alloc: Global, item: Item<'a>) -> Result<Items<Item<'a>>, AllocError>
     ensures { IfOk result (λ r. r ≡ item.entry ∷ []) }
 {
-    let mut items = Items::new(alloc);
+    let mut items = room_for(alloc, 1)?;
     items.push(item)?;
     Ok(items)
 }
 
 /// These items, and then those.
 fn joined<'a>(
-    mut items: Items<Item<'a>>,
+    alloc: Global,
+    items: Items<Item<'a>>,
     more: Items<Item<'a>>,
 ) -> Result<Items<Item<'a>>, AllocError>
     ensures { IfOk result (λ r. r ≡ items.entry ++ more.entry) }
 {
-    items.append(more)?;
-    Ok(items)
+    let mut all = room_for(alloc, items.len().saturating_add(more.len()))?;
+    all.append(items)?;
+    all.append(more)?;
+    Ok(all)
 }
 
 /// These options, and then the one of these items.
@@ -80,7 +91,7 @@ fn two_options<'a>(
 ) -> Result<Items<Seq<'a>>, AllocError>
     ensures { IfOk result (λ r. r ≡ grammar.seq_of x.entry ∷ grammar.seq_of y.entry ∷ []) }
 {
-    let first = option_behind(Items::new(alloc), x)?;
+    let first = option_behind(room_for(alloc, 2)?, x)?;
     option_behind(first, y)
 }
 
@@ -218,7 +229,7 @@ fn raised_behind<'a>(
     ensures { IfOk result (λ r. r ≡ items.entry ++ grammar.raising line variable.entry named.now ∷ []) }
 {
     let raise = raising(alloc, line, variable, named)?;
-    joined(items, raise)
+    joined(alloc, items, raise)
 }
 
 /// The option that goes on with a `for`: these items, behind the comparison.
@@ -234,7 +245,7 @@ fn for_on<'a>(
 {
     let word = Token::new(Kind::AtMost, b"<=", line);
     let test = comparing(alloc, Infix::AtMost, word, variable, named, last)?;
-    joined(test, items)
+    joined(alloc, test, items)
 }
 
 /// The option that ends a `for`.
@@ -243,7 +254,7 @@ fn for_out<'a>(alloc: Global, line: u32) -> Result<Items<Item<'a>>, AllocError>
 {
     let first = otherwise(alloc, line)?;
     let second = breaking(alloc, line)?;
-    joined(first, second)
+    joined(alloc, first, second)
 }
 
 /// The option that goes on with a `select`.
@@ -260,7 +271,7 @@ fn select_on<'a>(
     let word = Token::new(Kind::Less, b"<", line);
     let test = comparing(alloc, Infix::Below, word, compared, named, last)?;
     let raise = raising(alloc, line, raised, named)?;
-    joined(test, raise)
+    joined(alloc, test, raise)
 }
 
 /// The first value, and then the `do` over two options, in braces.
@@ -274,7 +285,7 @@ fn counted<'a>(
     ensures { IfOk result (λ r. r ≡ b.Block (grammar.seq_of (set.entry ++ grammar.turning line (grammar.seq_of on.entry ∷ grammar.seq_of out.entry ∷ []) ∷ []))) }
 {
     let turns = turning(alloc, line, on, out)?;
-    let items = joined(set, turns)?;
+    let items = joined(alloc, set, turns)?;
     boxes::of_braces(alloc, Opening::Block, items)
 }
 
