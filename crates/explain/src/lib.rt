@@ -14,6 +14,8 @@ mod signs;
 mod syntax;
 mod texts;
 
+ghost use Rattle.pml_refused.specs.Told.{IsTold};
+
 use author::seen_in;
 use counts::{of_control, of_count, of_inline, of_label, of_range, of_start};
 use diagnostics::Refusal;
@@ -109,7 +111,9 @@ fn tell_place<'t>(
     refusal: Refusal,
     cause: Cause<'_>,
     place: Place,
-) -> Result<(), AllocError> {
+) -> Result<(), AllocError>
+    requires { IsTold message.old.text.now refusal place }
+{
     let offset = shown_offset(message.text(), place.offset);
     let (line, text) = tell_file(message, name, source, offset)?;
     let seen = seen_in(text, line, offset.saturating_sub(line.start), place.length);

@@ -1,5 +1,7 @@
 //! Texts that are put together of words, names and numbers.
 
+ghost use Rattle.std.specs.Prelude.{◌≡◌};
+
 use crate::included::{Included, included_at};
 use crate::position::{between, line_number};
 use crate::signs::{is_unseen, push_number, push_shown};
@@ -22,7 +24,9 @@ pub struct Message<'t> {
 
 impl<'t> Message<'t> {
     /// An empty one.
-    pub fn new(alloc: Global, text: &'t [u8], lines: &'t [u8]) -> Message<'t> {
+    pub fn new(alloc: Global, text: &'t [u8], lines: &'t [u8]) -> Message<'t>
+        ensures { result.text.now ≡ text.now }
+    {
         Message {
             text,
             lines,
@@ -41,7 +45,9 @@ impl<'t> Message<'t> {
     }
 
     /// The text that it is about.
-    pub fn text(&self) -> &'t [u8] {
+    pub fn text(&self) -> &'t [u8]
+        ensures { result.now ≡ self.now.text.now }
+    {
         self.text
     }
 

@@ -1,6 +1,6 @@
 //! Lines and columns of a text.
 
-ghost use Rattle.std.specs.Prelude.{◌≡◌, ◌≤◌, ◌-◌, length, take, drop};
+ghost use Rattle.std.specs.Prelude.{◌≡◌, ◌≤◌, ◌<◌, ◌-◌, length, take, drop};
 ghost use Rattle.pml_lex.specs.Division.{line_behind};
 
 use std::str;
@@ -14,7 +14,9 @@ pub struct Line<'t> {
 }
 
 /// Where a place is shown: the text's end stands behind its last line that is not empty.
-pub fn shown_offset(text: &[u8], offset: usize) -> usize {
+pub fn shown_offset(text: &[u8], offset: usize) -> usize
+    ensures { offset < length text.now → result ≡ offset }
+{
     if offset < text.len() {
         return offset;
     }
@@ -83,7 +85,9 @@ pub fn between(text: &[u8], from: usize, to: usize) -> &[u8]
 }
 
 /// The line of a place.
-pub fn line_of(text: &[u8], offset: usize) -> Line<'_> {
+pub fn line_of(text: &[u8], offset: usize) -> Line<'_>
+    ensures { offset ≤ length text.now → result.number ≡ line_behind (take offset text.now) }
+{
     let start = line_start(text, offset);
     Line {
         number: line_number(text, offset),

@@ -1,5 +1,5 @@
 -- Where it is told that a definition or a call of an inline is not right.
-use Rattle.std.specs.Prelude.{◌≡◌, ℕ, ◌+◌, ◌-◌, nat_le, nat_lt, Bool, true, false, ◌&&◌, ◌||◌, List, [], ◌∷◌, take, drop, slice_index_or}
+use Rattle.std.specs.Prelude.{◌≡◌, ℕ, ◌+◌, ◌-◌, nat_eq, nat_lt, Bool, true, false, ◌&&◌, ◌||◌, is_some, List, [], ◌∷◌, length, take, drop, slice_index_or, Option}
 use Rattle.std.specs.List.{list_any}
 use Rattle.std.specs.Str.{bytes_eq}
 use Rattle.pml_token.specs.declared.token.Kind.TheVariants as kind
@@ -8,7 +8,10 @@ use Rattle.pml_inline.specs.declared.misuse.Rule.{Rule}
 use Rattle.pml_inline.specs.declared.misuse.Rule.TheVariants as rule
 use Rattle.pml_inline.specs.declared.misuse.Misuse.{Misuse}
 use Rattle.pml_causes.specs.declared.cause.Place.{Place}
+use Rattle.pml_refused.specs.declared.heads.Part.{Part}
+use Rattle.pml_refused.specs.declared.heads.Part.TheVariants as part
 use Rattle.pml_refused.specs.Tokens.{is_of}
+use Rattle.pml_refused.specs.Heads.{head, opens_body, is_unwanted}
 
 -- the token behind k others
 abbrev pub token_at : List Word → ℕ → Word
@@ -43,12 +46,21 @@ is_repeated ts k d = list_any (λ w. bytes_eq w.text (token_at ts k).text) (take
 abbrev pub has_one_name : List Word → ℕ → ℕ → Bool
 has_one_name ts k d = is_defined ts k && nat_lt d k && bytes_eq (token_at ts k).text (token_at ts d).text
 
--- Whether the token behind k others is one that can break the rule, where the definition's name stands behind d others: a word `inline` that stands where none
--- may, a token of a definition, a parameter or a definition that has the name of another one, or a name that is called.
+-- what the head of a definition wants behind k others, where its name stands behind d others
+abbrev pub wanted_at : List Word → ℕ → ℕ → Option Part
+wanted_at ts k d = head (take (k - d) (drop d ts)) part.Name
+
+-- the token behind k others is none that the head wants, or the head goes on to the end of the text
+abbrev pub breaks_form : List Word → ℕ → ℕ → Bool
+breaks_form ts k d =
+    is_unwanted (wanted_at ts k d) (token_at ts k).kind || (nat_eq (k + 1) (length ts) && is_some (head (drop d ts) part.Name))
+
+-- Whether the token behind k others is one that can break the rule, where the definition's name stands behind d others: a word `inline`, a token that the head
+-- of a definition does not want, the `{` of its body, a parameter or a definition that has the name of another one, or a name that is called.
 abbrev pub can_break : Rule → List Word → ℕ → ℕ → Bool
 can_break rule.Outside ts k d = is_inline (token_at ts k)
-can_break rule.Form ts k d = is_defined ts d && nat_le d (k + 1)
-can_break rule.Body ts k d = is_defined ts d && nat_lt d k
+can_break rule.Form ts k d = is_defined ts d && breaks_form ts k d
+can_break rule.Body ts k d = is_defined ts d && opens_body (wanted_at ts k d) (token_at ts k).kind
 can_break rule.Parameters ts k d = is_defined ts d && is_repeated ts k d
 can_break rule.Names ts k d = is_defined ts d && has_one_name ts k d
 can_break rule.Call ts k d = is_called ts k

@@ -1,10 +1,14 @@
 //! Whether a place is that of the token which breaks a rule of inlines.
 
-ghost use Rattle.std.specs.Prelude.{◌≡◌, ◌+◌, ◌-◌, Bool, true, take, drop};
+ghost use Rattle.std.specs.Prelude.{◌≡◌, true, is_some, drop};
 ghost use Rattle.std.specs.List.{list_any};
 ghost use Rattle.std.specs.Str.{bytes_eq};
-ghost use Rattle.pml_refused.specs.Inlines.{token_at, is_inline, is_defined, begins_with, has_definition, is_called, is_repeated, has_one_name, can_break, IsOfMisuse};
+ghost use Rattle.pml_refused.specs.declared.heads.Part.TheVariants as part;
+ghost use Rattle.pml_refused.specs.Heads.{head, opens_body, is_unwanted};
+ghost use Rattle.pml_refused.specs.Inlines.{token_at, is_inline, is_defined, begins_with, has_definition, is_called, is_repeated};
+ghost use Rattle.pml_refused.specs.Inlines.{has_one_name, wanted_at, breaks_form, can_break, IsOfMisuse};
 
+use crate::heads::{Part, head, is_unwanted, opens_body};
 use crate::there::is_of;
 use pml_causes::cause::Place;
 use pml_inline::misuse::{Misuse, Rule};
@@ -100,14 +104,55 @@ fn has_one_name(tokens: &[Token<'_>], at: usize, definition: usize) -> bool
     is_defined(tokens, at) && definition < at && name.text() == first.text()
 }
 
+/// Whether the token behind `at` others is the `{` of the body of the definition whose name stands behind so many.
+fn begins_body(tokens: &[Token<'_>], at: usize, definition: usize) -> bool
+    ensures { result ≡ true → opens_body (wanted_at tokens.now at definition) (token_at tokens.now at).kind ≡ true }
+{
+    if definition <= at && at <= tokens.len() {
+        let part = head(&tokens[definition..at], Part::Name);
+        opens_body(part, token_at(tokens, at).kind())
+    } else {
+        false
+    }
+}
+
+/// Whether the token behind `at` others is none that the head of the definition wants.
+fn is_unwanted_at(tokens: &[Token<'_>], at: usize, definition: usize) -> bool
+    ensures { result ≡ true → is_unwanted (wanted_at tokens.now at definition) (token_at tokens.now at).kind ≡ true }
+{
+    if definition <= at && at <= tokens.len() {
+        let part = head(&tokens[definition..at], Part::Name);
+        is_unwanted(part, token_at(tokens, at).kind())
+    } else {
+        false
+    }
+}
+
+/// Whether the head of the definition goes on to the end of the text.
+fn ends_in_head(tokens: &[Token<'_>], definition: usize) -> bool
+    ensures { result ≡ true → is_some (head (drop definition tokens.now) part.Name) ≡ true }
+{
+    definition <= tokens.len() && head(&tokens[definition..], Part::Name).is_some()
+}
+
+/// Whether the token behind `at` others breaks the form of the definition whose name stands behind so many.
+fn breaks_form(tokens: &[Token<'_>], at: usize, definition: usize) -> bool
+    ensures { result ≡ true → breaks_form tokens.now at definition ≡ true }
+{
+    if at < tokens.len() && at + 1 == tokens.len() && ends_in_head(tokens, definition) {
+        return true;
+    }
+    is_unwanted_at(tokens, at, definition)
+}
+
 /// Whether the token behind `at` others is one that can break the rule.
 fn can_break(rule: Rule, tokens: &[Token<'_>], at: usize, definition: usize) -> bool
     ensures { result ≡ true → can_break rule tokens.now at definition ≡ true }
 {
     match rule {
         Rule::Outside => is_inline(&token_at(tokens, at)),
-        Rule::Form => is_defined(tokens, definition) && definition.saturating_sub(1) <= at,
-        Rule::Body => is_defined(tokens, definition) && definition < at,
+        Rule::Form => is_defined(tokens, definition) && breaks_form(tokens, at, definition),
+        Rule::Body => is_defined(tokens, definition) && begins_body(tokens, at, definition),
         Rule::Parameters => {
             is_defined(tokens, definition) && is_repeated(tokens, at, definition)
         }

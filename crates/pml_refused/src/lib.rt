@@ -8,6 +8,7 @@ mod control;
 mod fields;
 mod find;
 mod forms;
+mod heads;
 mod initialiser;
 mod inlines;
 mod kept;
