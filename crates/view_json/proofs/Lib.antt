@@ -1,3 +1,9 @@
 pub mod Strings
 pub mod Writing
 pub mod Waits
+pub mod Listed
+pub mod Differing
+pub mod Stepped
+pub mod Run
+pub mod Printable
+pub mod Fronts

@@ -1,3 +1,6 @@
 pub mod Printed
 pub mod Objects
 pub mod Lines
+pub mod Shown
+pub mod Steps
+pub mod Run

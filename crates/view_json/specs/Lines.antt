@@ -1,9 +1,10 @@
 -- The tokens of lines: what is told of a step before it is taken, of a fault, and of the end of a run.
-use Rattle.std.specs.Prelude.{ℕ, Bool, ◌||◌, ltb, if◌then◌else◌, List, [], ◌∷◌, ◌++◌, length, Option, Some, None, pos, codes}
+use Rattle.std.specs.Prelude.{◌≡◌, ℕ, Bool, ◌||◌, ltb, if◌then◌else◌, List, [], ◌∷◌, ◌++◌, length, Option, Some, None, pos, codes}
 use Rattle.std.specs.List.{flat_map, range_with_len}
 use Rattle.std.specs.Str.{bytes_eq}
 use Rattle.json.specs.Token.{Token, begin_object, end_object, string}
 use Rattle.json.specs.Print.{print}
+use Rattle.json.specs.Lex.{tokens}
 use Rattle.diagnostics.specs.declared.fault.Fault.{Fault}
 use Rattle.diagnostics.specs.Words.{fault_number, fault_words}
 use Rattle.pml_program.specs.declared.program.Program.{Program}
@@ -105,9 +106,13 @@ end_tokens s steps end ms = ended steps end ++ (stuck_where s (is_own end) ++ (o
 abbrev pub choices : State → List Move → List Token
 choices s ms = if ltb 1 (length ms) then texts s ms else []
 
--- its number, which of how many moves it is, and what they are
+-- its number, and which of how many moves it is
+abbrev pub numbered : ℕ → ℕ → ℕ → List Token
+numbered step choice of = member (codes "step") (count step) ++ (member (codes "choice") (count choice) ++ member (codes "of") (count of))
+
+-- that, and what the moves are
 abbrev pub chosen : State → ℕ → ℕ → List Move → List Token
-chosen s step choice ms = (member (codes "step") (count step) ++ (member (codes "choice") (count choice) ++ member (codes "of") (count (length ms)))) ++ choices s ms
+chosen s step choice ms = numbered step choice (length ms) ++ choices s ms
 
 -- What is told of a step before it is taken.
 abbrev pub front : State → List ℕ → Ahead → Move → List Token
@@ -120,3 +125,7 @@ faulted f = member (codes "fault") (count (fault_number f)) ++ (member (codes "w
 -- a line
 abbrev pub line : List Token → List ℕ
 line ts = print ts ++ codes "\n"
+
+-- what is printed of these tokens is read back as them
+abbrev pub ReadsBack : List Token → Type 0
+ReadsBack ts = tokens (print ts) ≡ ts

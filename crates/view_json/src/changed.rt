@@ -1,40 +1,42 @@
 //! What of a state differs from what was shown last.
 
+ghost use Rattle.std.specs.Prelude.{◌≡◌, ◌<◌, ◌+◌, ◌&&◌, not, ltb, if◌then◌else◌, [], ◌∷◌, true, false, length, ℕ, List, Option, map, slice_get, OnOk, IfOk, codes};
+ghost use Rattle.std.specs.List.{flat_map};
+ghost use Rattle.json.specs.Token.{Token, begin_object};
+ghost use Rattle.json.specs.Print.{print, print_from, ends_value, ArePrintable};
+ghost use Rattle.profile.specs.declared.TheConstants.{MOST_PROCESSES};
+ghost use Rattle.pml_moves.specs.Search.{moves as all_moves};
+ghost use Rattle.view_waits.specs.Waits.{waits};
+ghost use Rattle.view_text.specs.Written.{Adds};
+ghost use Rattle.view_json.specs.Printed.{Writes};
+ghost use Rattle.view_json.specs.Objects.{channel, standing};
+ghost use Rattle.view_json.specs.Shown.{is_text, AreTold, has_changes, changed_cell, changed_cells, locals, with_locals, Lists, ListsMore, if_new, if_changed, new_ones, changed_ones, channels_from, processes_from, listed, ListsChannels, ListsProcesses};
+
 use crate::channel::channel;
+use crate::list::Listing;
 use crate::objects::{all_cells, cell};
 use crate::process::standing;
 use crate::tokens::Json;
 use pml_lines::changed::Change;
 use pml_moves::moves::Move;
 use std::alloc::{AllocError, Global};
+use std::marker::Model;
 use view_cells::picture::Picture;
 use view_text::writer::Writer;
 
-/// What was shown last: the objects of the processes, without their variables, and of the channels.
-#[derive(Drop)]
-pub struct Shown {
-    processes: Vec<Vec<u8>>,
-    channels: Vec<Vec<u8>>,
-}
-
-fn is_at(all: &[Vec<u8>], at: usize, bytes: &[u8]) -> bool {
+fn is_at(all: &[Vec<u8>], at: usize, bytes: &[u8]) -> bool
+    ensures { result ≡ is_text bytes.now (slice_get (map (λ v. v.items) all.now) at) }
+{
     match all.get(at) {
         Some(known) => known.as_slice() == bytes,
         None => false,
     }
 }
 
-fn put(all: &mut Vec<Vec<u8>>, at: usize, bytes: Vec<u8>) -> Result<(), AllocError> {
-    if at < all.len() {
-        all[at] = bytes;
-    } else {
-        all.push(bytes)?;
-    }
-    Ok(())
-}
-
 /// Whether a step changed variables of a frame.
-pub fn has_changes(frame: usize, changes: &[Change]) -> bool {
+pub fn has_changes(frame: usize, changes: &[Change]) -> bool
+    ensures { result ≡ has_changes frame changes.now }
+{
     for change in changes {
         if change.place.frame == frame {
             return true;
@@ -43,77 +45,45 @@ pub fn has_changes(frame: usize, changes: &[Change]) -> bool {
     false
 }
 
+// Writes a variable that a step changed, if it is of this frame.
+fn changed_cell(picture: &Picture<'_, '_, '_>, json: &mut Json, frame: usize, change: Change)
+    ensures { Writes json.old json.new (changed_cell picture.now frame change) }
+{
+    if change.place.frame == frame {
+        cell(picture, json, change.place);
+    }
+}
+
+fn each_changed(picture: &Picture<'_, '_, '_>, json: &mut Json, frame: usize, changes: &[Change])
+    ensures { Writes json.old json.new (flat_map (changed_cell picture.now frame) changes.now) }
+{
+    for change in changes {
+        changed_cell(picture, json, frame, *change);
+    }
+}
+
 /// Writes the variables of a frame that a step changed, as an object.
 pub fn changed_cells(
     picture: &Picture<'_, '_, '_>,
     json: &mut Json,
     frame: usize,
     changes: &[Change],
-) {
+)
+    ensures { Writes json.old json.new (changed_cells picture.now frame changes.now) }
+{
     json.begin_object();
-    for change in changes {
-        if change.place.frame == frame {
-            cell(picture, json, change.place);
-        }
-    }
+    each_changed(picture, json, frame, changes);
     json.end_object();
-}
-
-/// A step that was taken: the present moves, how many of the processes were there before it, and what it changed.
-#[derive(Clone, Copy)]
-pub struct Behind<'s> {
-    pub moves: &'s [Move],
-    pub older: usize,
-    pub changes: &'s [Change],
-}
-
-// A list of objects as a member: the key stands before the first of them.
-#[derive(Drop)]
-struct List {
-    key: &'static str,
-    text: Writer,
-    is_empty: bool,
-}
-
-impl List {
-    fn new(alloc: Global, key: &'static str) -> List {
-        List {
-            key,
-            text: Writer::new(alloc),
-            is_empty: true,
-        }
-    }
-
-    // Where the next object is written.
-    fn next(&mut self) -> &mut Writer {
-        if !self.is_empty {
-            self.text.add(b",");
-        }
-        self.is_empty = false;
-        &mut self.text
-    }
-
-    // Writes the member, if it has an object or is always there.
-    fn end(&self, is_always: bool, out: &mut Writer) {
-        if self.is_empty && !is_always {
-            return;
-        }
-        out.add(b",\"");
-        out.add(self.key.as_bytes());
-        out.add(b"\":[");
-        out.add(self.text.bytes());
-        out.add(b"]");
-        if self.text.is_refused() {
-            out.refuse();
-        }
-    }
 }
 
 fn channel_bytes(
     picture: &Picture<'_, '_, '_>,
     alloc: Global,
     n: usize,
-) -> Result<Vec<u8>, AllocError> {
+) -> Result<Vec<u8>, AllocError>
+    ensures { IfOk result (λ v. (name : Option (List ℕ)) × (v.items ≡ print (channel picture.now n name))
+        × ArePrintable (channel picture.now n name)) }
+{
     let mut json = Json::new(alloc);
     channel(picture, &mut json, n);
     let mut text = Writer::new(alloc);
@@ -126,7 +96,11 @@ fn process_bytes(
     alloc: Global,
     moves: &[Move],
     process: usize,
-) -> Result<Vec<u8>, AllocError> {
+) -> Result<Vec<u8>, AllocError>
+    ensures { IfOk result (λ v. moves.now ≡ all_moves picture.now → (words : List (List ℕ))
+        × (length words ≡ length (waits picture.now process)) × (v.items ≡ print (standing picture.now moves.now process words))
+        × ArePrintable (standing picture.now moves.now process words)) }
+{
     let mut json = Json::new(alloc);
     standing(picture, &mut json, moves, process);
     let mut text = Writer::new(alloc);
@@ -134,101 +108,226 @@ fn process_bytes(
     text.finish()
 }
 
-// Writes the object of a process, with the variables that are to be shown.
+/// A step that was taken: the present moves, how many of the processes were there before it, and what it changed.
+#[derive(Clone, Copy)]
+pub struct Behind<'s> {
+    pub moves: &'s [Move],
+    pub older: usize,
+    pub changes: &'s [Change],
+}
+
+// Writes the variables that are to be shown of a process.
+fn add_locals(picture: &Picture<'_, '_, '_>, json: &mut Json, process: usize, behind: Behind<'_>)
+    requires { process < MOST_PROCESSES }
+    ensures { Writes json.old json.new (locals picture.now behind.entry.older behind.entry.changes.now process) }
+{
+    if process < behind.older {
+        changed_cells(picture, json, process + 1, behind.changes);
+    } else {
+        all_cells(picture, json, process + 1);
+    }
+}
+
+// Writes the object of a process, with these variables.
 fn add_process(
     picture: &Picture<'_, '_, '_>,
     process: usize,
     object: &[u8],
     behind: Behind<'_>,
     out: &mut Writer,
-) {
+)
+    requires { process < MOST_PROCESSES }
+    ensures written { (ts : List Token) → ends_value ts ≡ true → object.now ≡ print ts
+        → Adds out.old out.new (print (with_locals picture.now behind.entry.older behind.entry.changes.now process ts)) }
+    ensures printable { (ts : List Token) → ArePrintable ts → out.new.refused ≡ false
+        → ArePrintable (with_locals picture.now behind.entry.older behind.entry.changes.now process ts) }
+{
+    let mut json = Json::new(out.allocator());
+    add_locals(picture, &mut json, process, behind);
     out.add(object);
     out.add(b",\"locals\":");
-    let mut json = Json::new(out.allocator());
-    let frame = process.saturating_add(1);
-    if process >= behind.older {
-        all_cells(picture, &mut json, frame);
-    } else {
-        changed_cells(picture, &mut json, frame, behind.changes);
-    }
     json.finish(out);
     out.add(b"}");
 }
 
+// Lists the object of a process, with its variables, if it is not the same as before.
+fn list_process(
+    picture: &Picture<'_, '_, '_>,
+    process: usize,
+    object: &[u8],
+    is_same: bool,
+    behind: Behind<'_>,
+    list: &mut Listing,
+)
+    requires { process < MOST_PROCESSES }
+    ensures { (ts : List Token) → object.now ≡ print (begin_object ∷ ts) → ends_value (begin_object ∷ ts) ≡ true
+        → ArePrintable (begin_object ∷ ts)
+        → ListsMore (if is_same then [] else with_locals picture.now behind.entry.older behind.entry.changes.now process (begin_object ∷ ts))
+        list.old list.new }
+{
+    if is_same {
+        return;
+    }
+    list.next();
+    add_process(picture, process, object, behind, &mut list.text);
+}
+
+/// What was shown last: the objects of the processes, without their variables, and of the channels.
+#[derive(Drop)]
+pub struct Shown {
+    processes: Vec<Vec<u8>>,
+    channels: Vec<Vec<u8>>,
+}
+
+impl Model for Shown {
+    ghost use Rattle.std.specs.Prelude.{map};
+    ghost use Rattle.view_json.specs.Shown.{Shown};
+
+    ghost Value = { Shown };
+
+    ghost view = { λ s. record { processes = map (λ v. v.items) s.processes.items; channels = map (λ v. v.items) s.channels.items } };
+}
+
 impl Shown {
     /// Nothing yet.
-    pub fn new(alloc: Global) -> Shown {
+    pub fn new(alloc: Global) -> Shown
+        ensures { result ≡ record { processes = []; channels = [] } }
+    {
         Shown {
             processes: Vec::new(alloc),
             channels: Vec::new(alloc),
         }
     }
 
-    fn add_channel(
-        &mut self,
-        picture: &Picture<'_, '_, '_>,
-        at: usize,
-        list: &mut List,
-    ) -> Result<(), AllocError> {
-        let bytes = channel_bytes(picture, *self.channels.allocator(), at.saturating_add(1))?;
-        if is_at(self.channels.as_slice(), at, bytes.as_slice()) {
-            return Ok(());
-        }
-        list.next().add(bytes.as_slice());
-        put(&mut self.channels, at, bytes)
+    // Whether a channel was shown so at this place.
+    fn is_shown(&self, at: usize, object: &[u8]) -> bool
+        ensures { result ≡ is_text object.now (slice_get self.now.channels at) }
+    {
+        is_at(self.channels.as_slice(), at, object)
     }
 
-    /// Writes the channels that differ.
+    // The object of the channel with this number, which is listed if it was not shown at this place.
+    fn channel(
+        &self,
+        picture: &Picture<'_, '_, '_>,
+        at: usize,
+        n: usize,
+        list: &mut Listing,
+    ) -> Result<Vec<u8>, AllocError>
+        ensures { IfOk result (λ v. (name : Option (List ℕ)) × (v.items ≡ print (channel picture.now n name))
+            × ListsMore (if_new self.now.channels at (channel picture.now n name)) list.old list.new) }
+    {
+        let object = channel_bytes(picture, *self.channels.allocator(), n)?;
+        let is_same = self.is_shown(at, object.as_slice());
+        list.add_unless(is_same, object.as_slice());
+        Ok(object)
+    }
+
+    // The objects of the channels; those that were not shown are listed.
+    fn all_channels(
+        &self,
+        picture: &Picture<'_, '_, '_>,
+        list: &mut Listing,
+    ) -> Result<Vec<Vec<u8>>, AllocError>
+        ensures { IfOk result (λ v. ListsChannels self.now.channels picture.now (map (λ x. x.items) v.items) list.old list.new) }
+    {
+        let mut objects = Vec::new(*self.channels.allocator());
+        for at in 0..picture.channel_count() {
+            let object = self.channel(picture, at, at + 1, list)?;
+            objects.push(object)?;
+        }
+        Ok(objects)
+    }
+
+    /// Writes the channels that were not shown so.
     pub fn add_channels(
         &mut self,
         picture: &Picture<'_, '_, '_>,
         is_always: bool,
         out: &mut Writer,
-    ) -> Result<(), AllocError> {
-        let mut list = List::new(out.allocator(), "channels");
-        let count = picture.channel_count();
-        for at in 0..count {
-            self.add_channel(picture, at, &mut list)?;
-        }
-        self.channels.truncate(count);
-        list.end(is_always, out);
+    ) -> Result<(), AllocError>
+        ensures { OnOk result ((names : List (Option (List ℕ))) × (length names ≡ length picture.now.channels)
+            × (self.new ≡ record self.old { channels = map print (channels_from picture.now 1 names) })
+            × Adds out.old out.new (print_from true (listed is_always (codes "channels")
+            (new_ones self.old.channels 0 (channels_from picture.now 1 names))))
+            × (out.new.refused ≡ false → ArePrintable (listed is_always (codes "channels")
+            (new_ones self.old.channels 0 (channels_from picture.now 1 names))))) }
+    {
+        let mut list = Listing::new(out.allocator());
+        self.channels = self.all_channels(picture, &mut list)?;
+        list.end(b",\"channels\":[", is_always, out);
         Ok(())
     }
 
-    fn add_process(
-        &mut self,
+    // Whether a process was there, none of its variables changed, and it was shown so.
+    fn is_as_shown(&self, process: usize, behind: Behind<'_>, object: &[u8]) -> bool
+        requires { process < MOST_PROCESSES }
+        ensures { result ≡ (ltb process behind.entry.older && not (has_changes (process + 1) behind.entry.changes.now)
+            && is_text object.now (slice_get self.now.processes process)) }
+    {
+        process < behind.older
+            && !has_changes(process + 1, behind.changes)
+            && is_at(self.processes.as_slice(), process, object)
+    }
+
+    // The object of a process, which is listed if it is not as it was shown.
+    fn process(
+        &self,
         picture: &Picture<'_, '_, '_>,
         process: usize,
         behind: Behind<'_>,
-        list: &mut List,
-    ) -> Result<(), AllocError> {
+        list: &mut Listing,
+    ) -> Result<Vec<u8>, AllocError>
+        requires { process < MOST_PROCESSES }
+        ensures { IfOk result (λ v. behind.entry.moves.now ≡ all_moves picture.now → (words : List (List ℕ))
+            × (length words ≡ length (waits picture.now process)) × (v.items ≡ print (standing picture.now behind.entry.moves.now process words))
+            × ListsMore (if_changed picture.now self.now.processes behind.entry.older behind.entry.changes.now process
+            (standing picture.now behind.entry.moves.now process words)) list.old list.new) }
+    {
         let alloc = *self.processes.allocator();
-        let bytes = process_bytes(picture, alloc, behind.moves, process)?;
-        let is_same = process < behind.older
-            && !has_changes(process.saturating_add(1), behind.changes)
-            && is_at(self.processes.as_slice(), process, bytes.as_slice());
-        if is_same {
-            return Ok(());
-        }
-        add_process(picture, process, bytes.as_slice(), behind, list.next());
-        put(&mut self.processes, process, bytes)
+        let object = process_bytes(picture, alloc, behind.moves, process)?;
+        let is_same = self.is_as_shown(process, behind, object.as_slice());
+        list_process(picture, process, object.as_slice(), is_same, behind, list);
+        Ok(object)
     }
 
-    /// Writes the processes that differ.
+    // The objects of the processes; those that are not as they were shown are listed.
+    fn all_processes(
+        &self,
+        picture: &Picture<'_, '_, '_>,
+        behind: Behind<'_>,
+        list: &mut Listing,
+    ) -> Result<Vec<Vec<u8>>, AllocError>
+        ensures { IfOk result (λ v. behind.entry.moves.now ≡ all_moves picture.now → ListsProcesses self.now.processes picture.now behind.entry.moves.now
+            behind.entry.older behind.entry.changes.now (map (λ x. x.items) v.items) list.old list.new) }
+    {
+        let mut objects = Vec::new(*self.processes.allocator());
+        for process in 0..picture.process_count() {
+            let object = self.process(picture, process, behind, list)?;
+            objects.push(object)?;
+        }
+        Ok(objects)
+    }
+
+    /// Writes the processes that are not as they were shown.
     pub fn add_processes(
         &mut self,
         picture: &Picture<'_, '_, '_>,
         behind: Behind<'_>,
         is_always: bool,
         out: &mut Writer,
-    ) -> Result<(), AllocError> {
-        let mut list = List::new(out.allocator(), "processes");
-        let count = picture.process_count();
-        for process in 0..count {
-            self.add_process(picture, process, behind, &mut list)?;
-        }
-        self.processes.truncate(count);
-        list.end(is_always, out);
+    ) -> Result<(), AllocError>
+        ensures { OnOk result (behind.entry.moves.now ≡ all_moves picture.now → (words : List (List (List ℕ)))
+            × (length words ≡ length picture.now.stands) × AreTold picture.now 0 words
+            × (self.new ≡ record self.old { processes = map print (processes_from picture.now behind.entry.moves.now 0 words) })
+            × Adds out.old out.new (print_from true (listed is_always (codes "processes") (changed_ones picture.now self.old.processes
+            behind.entry.older behind.entry.changes.now 0 (processes_from picture.now behind.entry.moves.now 0 words))))
+            × (out.new.refused ≡ false → ArePrintable (listed is_always (codes "processes") (changed_ones picture.now self.old.processes
+            behind.entry.older behind.entry.changes.now 0 (processes_from picture.now behind.entry.moves.now 0 words))))) }
+    {
+        let mut list = Listing::new(out.allocator());
+        self.processes = self.all_processes(picture, behind, &mut list)?;
+        list.end(b",\"processes\":[", is_always, out);
         Ok(())
     }
 }

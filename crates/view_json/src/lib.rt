@@ -3,7 +3,11 @@
 
 mod changed;
 pub mod channel;
+pub mod laws;
 pub mod lines;
+mod list;
 pub mod objects;
 pub mod process;
+pub mod start;
+pub mod steps;
 pub mod tokens;

@@ -8,21 +8,20 @@ ghost use Rattle.pml_texts.specs.Texts.{move_text};
 ghost use Rattle.view_text.specs.Written.{Adds};
 ghost use Rattle.view_json.specs.Printed.{Writes};
 ghost use Rattle.view_json.specs.Objects.{text};
-ghost use Rattle.view_json.specs.Lines.{begun, texts, does_word, mover, addressee, receiver, passed, effect, stuck_by, stuck, all_stuck, open_moves, stuck_where, is_own, ended, end_tokens, choices, chosen, front, faulted, line};
+ghost use Rattle.view_json.specs.Lines.{begun, texts, does_word, mover, addressee, receiver, passed, effect, stuck_by, stuck, all_stuck, open_moves, stuck_where, is_own, ended, end_tokens, choices, chosen, front, faulted, line, ReadsBack};
 
 pub use crate::changed::Shown;
-use crate::changed::{Behind, changed_cells, has_changes};
 use crate::channel::message;
-use crate::objects::{all_cells, number, text, whole, written};
+use crate::objects::{number, text, whole};
 use crate::process::{named, picked};
+pub use crate::start::add_start;
+pub use crate::steps::{Done, add_step};
 use crate::tokens::Json;
 use diagnostics::Fault;
-use pml_lines::changed::Change;
 use pml_moves::moves::{Move, Pick};
-use pml_program::program::Proctype;
 use pml_texts::ends::stuck as pml_stuck;
 use pml_texts::texts::add_move;
-use std::alloc::{AllocError, Global};
+use std::alloc::Global;
 use view_cells::channels::channel_at;
 use view_cells::picture::Picture;
 use view_cells::processes::line_of;
@@ -38,36 +37,8 @@ pub struct Ahead<'s> {
     pub effect: &'s Effect,
 }
 
-/// What a step printed, how many processes there were before it, and what it changed.
-#[derive(Clone, Copy)]
-pub struct Done<'s> {
-    pub printed: &'s [u8],
-    pub older: usize,
-    pub changes: &'s [Change],
-}
-
-fn proctype(json: &mut Json, proctype: &Proctype<'_>) {
-    json.begin_object();
-    let mut name = Writer::new(json.allocator());
-    let mut bytes = name.take();
-    let answer = pml_lines::change::proctype_name(&proctype.name, &mut bytes);
-    name.put(bytes, answer);
-    written(json, "name", &name);
-    number(json, "end", proctype.end.line() as usize);
-    json.end_object();
-}
-
-fn proctypes(picture: &Picture<'_, '_, '_>, json: &mut Json) {
-    json.key("proctypes");
-    json.begin_array();
-    for one in picture.program().proctypes.as_slice() {
-        proctype(json, one);
-    }
-    json.end_array();
-}
-
-// Begins a line that tells of this.
-fn begin(alloc: Global, event: &str) -> Json
+/// Begins a line that tells of this.
+pub fn begin(alloc: Global, event: &str) -> Json
     ensures { result.refused ≡ false → result.tokens ≡ begun event.now }
 {
     let mut json = Json::new(alloc);
@@ -75,36 +46,6 @@ fn begin(alloc: Global, event: &str) -> Json
     json.key("event");
     json.string(event);
     json
-}
-
-/// Writes the line of the first state.
-pub fn add_start(
-    picture: &Picture<'_, '_, '_>,
-    model: &str,
-    is_lossy: bool,
-    moves: &[Move],
-    shown: &mut Shown,
-    out: &mut Writer,
-) -> Result<(), AllocError> {
-    let mut json = begin(out.allocator(), "start");
-    number(&mut json, "format", 1);
-    json.key("model");
-    json.string(model);
-    json.key("lossy");
-    json.boolean(is_lossy);
-    proctypes(picture, &mut json);
-    json.key("globals");
-    all_cells(picture, &mut json, 0);
-    json.finish(out);
-    let behind = Behind {
-        moves,
-        older: 0,
-        changes: &[],
-    };
-    shown.add_channels(picture, true, out)?;
-    shown.add_processes(picture, behind, true, out)?;
-    out.add(b"}\n");
-    Ok(())
 }
 
 // Writes the text of a move.
@@ -244,48 +185,11 @@ pub fn front(
     json
 }
 
-// Writes what a step printed and what it changed of the globals.
-fn changed(picture: &Picture<'_, '_, '_>, json: &mut Json, printed: &[u8], changes: &[Change]) {
-    if !printed.is_empty() {
-        text(json, "printed", printed);
-    }
-    if has_changes(0, changes) {
-        json.key("globals");
-        changed_cells(picture, json, 0, changes);
-    }
-}
-
-/// Writes the line of a step that was taken, from what is told of it before.
-pub fn add_step(
-    picture: &Picture<'_, '_, '_>,
-    front: Json,
-    done: Done<'_>,
-    moves: &[Move],
-    shown: &mut Shown,
-    out: &mut Writer,
-) -> Result<(), AllocError> {
-    let mut json = front;
-    changed(picture, &mut json, done.printed, done.changes);
-    json.finish(out);
-    let behind = Behind {
-        moves,
-        older: done.older.min(picture.process_count()),
-        changes: done.changes,
-    };
-    shown.add_channels(picture, false, out)?;
-    shown.add_processes(picture, behind, false, out)?;
-    out.add(b",\"alive\":");
-    out.number(picture.process_count());
-    out.add(b",\"open\":");
-    out.number(picture.channel_count());
-    out.add(b"}\n");
-    Ok(())
-}
-
 // Writes a line, and that it ends.
 fn end_line(json: Json, out: &mut Writer)
     ensures line { Adds out.old out.new (line json.tokens) }
     ensures refused { json.refused ≡ true → out.new.refused ≡ true }
+    ensures reads_back { ReadsBack json.tokens }
 {
     json.finish(out);
     out.add(b"\n");
@@ -293,7 +197,8 @@ fn end_line(json: Json, out: &mut Writer)
 
 /// Writes the line of a step that came to a fault.
 pub fn add_fault(front: Json, fault: Fault, out: &mut Writer)
-    ensures { Adds out.old out.new (line (front.tokens ++ faulted fault)) }
+    ensures line { Adds out.old out.new (line (front.tokens ++ faulted fault)) }
+    ensures reads_back { out.new.refused ≡ false → ReadsBack (front.tokens ++ faulted fault) }
 {
     let mut json = front;
     number(&mut json, "fault", fault.number() as usize);
@@ -380,7 +285,8 @@ pub fn add_end(
     moves: &[Move],
     out: &mut Writer,
 )
-    ensures { Adds out.old out.new (line (end_tokens picture.now steps end.now moves.now)) }
+    ensures line { Adds out.old out.new (line (end_tokens picture.now steps end.now moves.now)) }
+    ensures reads_back { out.new.refused ≡ false → ReadsBack (end_tokens picture.now steps end.now moves.now) }
 {
     let mut json = ended(out.allocator(), steps, end);
     stuck_where(picture, &mut json, is_own(end));

@@ -5,7 +5,7 @@ ghost use Rattle.std.specs.List.{flat_map};
 ghost use Rattle.std.specs.Fmt.{decimal, signed_decimal};
 ghost use Rattle.std.specs.Str.{IsUtf8};
 ghost use Rattle.json.specs.Token.{begin_object, end_object, begin_array, end_array, key, string, number, boolean, null};
-ghost use Rattle.json.specs.Print.{print};
+ghost use Rattle.json.specs.Print.{print, ArePrintable};
 ghost use Rattle.json.specs.Lex.{tokens};
 ghost use Rattle.view_text.specs.Written.{Adds};
 ghost use Rattle.view_json.specs.Printed.{Writes, mended, string_of};
@@ -30,7 +30,9 @@ impl Model for Json {
 
     ghost view = { λ j. record { tokens = j.tokens.tokens; refused = j.is_refused } };
 
-    ghost invariant = { λ j. j.tokens.before ≡ [] };
+    ghost use Rattle.json.specs.Print.{ArePrintable};
+
+    ghost invariant = { λ j. (j.tokens.before ≡ []) × ArePrintable j.tokens.tokens };
 }
 
 // The character that stands for a byte.
@@ -215,6 +217,7 @@ impl Json {
     pub fn finish(self, out: &mut Writer)
         ensures written { Adds out.old out.new (print self.tokens) }
         ensures refused { self.refused ≡ true → out.new.refused ≡ true }
+        ensures printable { ArePrintable self.tokens }
         ensures reads_back { tokens (print self.tokens) ≡ self.tokens }
         ensures utf8 { IsUtf8 (print self.tokens) }
     {

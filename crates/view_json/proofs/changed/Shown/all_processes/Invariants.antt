@@ -1,0 +1,10 @@
+-- the objects of the processes before the loop's
+use Rattle.std.proofs.Common.{◌≡◌, map}
+use Rattle.pml_moves.specs.Search.{moves}
+use Rattle.view_json.specs.Shown.{ListsOldest}
+use Rattle.view_json.proofs.changed.Shown.all_processes.Given as goal
+
+abbrev pub invariant-loop-process : goal.invariant-loop-process
+invariant-loop-process l =
+    l.behind.moves.now ≡ moves l.picture
+    → ListsOldest l.self.processes l.picture l.behind.moves.now l.behind.older l.behind.changes.now l.process (map (λ x. x.items) l.objects.items) l.initial.list l.list

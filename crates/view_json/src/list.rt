@@ -1,0 +1,67 @@
+//! A list of objects that is written as a member.
+
+ghost use Rattle.std.specs.Prelude.{◌≡◌, [], ◌∷◌, ℕ, List, true, false, if◌then◌else◌, codes};
+ghost use Rattle.json.specs.Token.{Token, begin_object, begin_array, key};
+ghost use Rattle.json.specs.Print.{print, print_from, ends_value, ArePrintable};
+ghost use Rattle.view_text.specs.Written.{Adds};
+ghost use Rattle.view_json.specs.Shown.{Lists, ListsMore, listed};
+
+use std::alloc::Global;
+use view_text::writer::Writer;
+
+/// Objects, one behind another.
+#[derive(Drop)]
+pub struct Listing {
+    pub text: Writer,
+    pub is_empty: bool,
+}
+
+impl Listing {
+    /// None yet.
+    pub fn new(alloc: Global) -> Listing
+        ensures { Lists result [] }
+    {
+        Listing {
+            text: Writer::new(alloc),
+            is_empty: true,
+        }
+    }
+
+    /// The next object is to be written.
+    pub fn next(&mut self)
+        ensures text { Adds self.old.text self.new.text (if self.old.is_empty then [] else codes ",") }
+        ensures some { self.new.is_empty ≡ false }
+    {
+        if !self.is_empty {
+            self.text.add(b",");
+        }
+        self.is_empty = false;
+    }
+
+    /// Writes an object, if it is not the same as before.
+    pub fn add_unless(&mut self, is_same: bool, object: &[u8])
+        ensures { (ts : List Token) → object.now ≡ print (begin_object ∷ ts) → ends_value (begin_object ∷ ts) ≡ true
+            → ArePrintable (begin_object ∷ ts) → ListsMore (if is_same then [] else (begin_object ∷ ts)) self.old self.new }
+    {
+        if is_same {
+            return;
+        }
+        self.next();
+        self.text.add(object);
+    }
+
+    /// Writes the member that begins so, if it has an object or is always there.
+    pub fn end(&self, heading: &[u8], is_always: bool, out: &mut Writer)
+        ensures written { (name : List ℕ) (ts : List Token) → heading.now ≡ print_from true (key name ∷ begin_array ∷ []) → Lists self.now ts
+            → Adds out.old out.new (print_from true (listed is_always name ts)) }
+        ensures printable { (name : List ℕ) (ts : List Token) → Lists self.now ts → out.new.refused ≡ false
+            → ArePrintable (listed is_always name ts) }
+    {
+        if self.is_empty && !is_always {
+            return;
+        }
+        out.add(heading);
+        out.join(&self.text);
+        out.add(b"]");
+    }
+}

@@ -1,0 +1,112 @@
+//! The lines of the first state and of steps.
+
+ghost use Rattle.std.specs.Prelude.{◌≡◌, ◌++◌, true, false, OnOk, codes};
+ghost use Rattle.json.specs.Print.{print_from, ends_value, ArePrintable};
+ghost use Rattle.pml_moves.specs.Search.{moves as all_moves};
+ghost use Rattle.view_text.specs.Written.{Adds};
+ghost use Rattle.view_json.specs.Printed.{Writes};
+ghost use Rattle.view_json.specs.Shown.{Told};
+ghost use Rattle.view_json.specs.Steps.{printed, globals, changed, shown_of, IsTold, told, counts, TellsStep};
+
+use crate::changed::{Behind, Shown, changed_cells, has_changes};
+use crate::objects::{number, text};
+use crate::tokens::Json;
+use pml_lines::changed::Change;
+use pml_moves::moves::Move;
+use std::alloc::AllocError;
+use view_cells::picture::Picture;
+use view_text::writer::Writer;
+
+/// What a step printed, how many processes there were before it, and what it changed.
+#[derive(Clone, Copy)]
+pub struct Done<'s> {
+    pub printed: &'s [u8],
+    pub older: usize,
+    pub changes: &'s [Change],
+}
+
+// Writes what a step printed.
+fn printed(json: &mut Json, bytes: &[u8])
+    ensures { Writes json.old json.new (printed bytes.now) }
+{
+    if !bytes.is_empty() {
+        text(json, "printed", bytes);
+    }
+}
+
+// Writes the globals that a step changed.
+fn globals(picture: &Picture<'_, '_, '_>, json: &mut Json, changes: &[Change])
+    ensures { Writes json.old json.new (globals picture.now changes.now) }
+{
+    if has_changes(0, changes) {
+        json.key("globals");
+        changed_cells(picture, json, 0, changes);
+    }
+}
+
+// Writes what a step printed and what it changed of the globals.
+fn changed(picture: &Picture<'_, '_, '_>, json: &mut Json, bytes: &[u8], changes: &[Change])
+    ensures { Writes json.old json.new (changed picture.now bytes.now changes.now) }
+{
+    printed(json, bytes);
+    globals(picture, json, changes);
+}
+
+/// Writes the channels and the processes that are not as they were shown.
+pub fn add_objects(
+    picture: &Picture<'_, '_, '_>,
+    behind: Behind<'_>,
+    is_always: bool,
+    shown: &mut Shown,
+    out: &mut Writer,
+) -> Result<(), AllocError>
+    ensures { OnOk result (behind.entry.moves.now ≡ all_moves picture.now → (t : Told) × IsTold picture.now t
+        × (shown.new ≡ shown_of picture.now behind.entry.moves.now t) × Adds out.old out.new (print_from true
+        (told is_always picture.now behind.entry.moves.now behind.entry.older behind.entry.changes.now shown.old t))
+        × (out.new.refused ≡ false → ArePrintable
+        (told is_always picture.now behind.entry.moves.now behind.entry.older behind.entry.changes.now shown.old t))) }
+{
+    shown.add_channels(picture, is_always, out)?;
+    shown.add_processes(picture, behind, is_always, out)?;
+    Ok(())
+}
+
+// Writes how many processes and channels there are, and that the line ends.
+fn add_counts(picture: &Picture<'_, '_, '_>, out: &mut Writer)
+    ensures written { Adds out.old out.new (print_from true (counts picture.now) ++ codes "\n") }
+    ensures printable { out.new.refused ≡ false → ArePrintable (counts picture.now) }
+{
+    let mut json = Json::new(out.allocator());
+    number(&mut json, "alive", picture.process_count());
+    number(&mut json, "open", picture.channel_count());
+    json.end_object();
+    out.add(b",");
+    json.finish(out);
+    out.add(b"\n");
+}
+
+/// Writes the line of a step that was taken, from what is told of it before.
+pub fn add_step(
+    picture: &Picture<'_, '_, '_>,
+    front: Json,
+    done: Done<'_>,
+    moves: &[Move],
+    shown: &mut Shown,
+    out: &mut Writer,
+) -> Result<(), AllocError>
+    ensures { OnOk result (moves.now ≡ all_moves picture.now → ends_value front.tokens ≡ true → (t : Told)
+        × TellsStep (record { text = out.old; shown = shown.old }) (record { text = out.new; shown = shown.new }) picture.now moves.now front.tokens
+        (record { printed = done.entry.printed.now; older = done.entry.older; changes = done.entry.changes.now }) t) }
+{
+    let mut json = front;
+    changed(picture, &mut json, done.printed, done.changes);
+    json.finish(out);
+    let behind = Behind {
+        moves,
+        older: done.older,
+        changes: done.changes,
+    };
+    add_objects(picture, behind, false, shown, out)?;
+    add_counts(picture, out);
+    Ok(())
+}
