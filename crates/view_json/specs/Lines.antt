@@ -22,6 +22,7 @@ use Rattle.view_waits.specs.declared.effect.Does.TheVariants as does
 use Rattle.view_waits.specs.declared.effect.Effect.{Effect}
 use Rattle.view_json.specs.declared.lines.Ahead.{Ahead}
 use Rattle.view_json.specs.Objects.{count, text, member, object, array, message, named, offer}
+use Rattle.view_text.specs.Written.{Written}
 
 -- how a line begins that tells of this event
 abbrev pub begun : List ℕ → List Token
@@ -129,3 +130,8 @@ line ts = print ts ++ codes "\n"
 -- what is printed of these tokens is read back as them
 abbrev pub ReadsBack : List Token → Type 0
 ReadsBack ts = tokens (print ts) ≡ ts
+
+
+-- what was written with these tokens reads back as them, unless memory was refused
+abbrev pub CanBeRead : Written → List Token → Type 0
+CanBeRead new ts = new.refused ≡ false → ReadsBack ts

@@ -121,12 +121,16 @@ abbrev pub or_null : Option (List ℕ) → List Token
 or_null None = null ∷ []
 or_null (Some bs) = text bs
 
+-- the types of the fields of a channel
+abbrev pub types_of : List Form → List Token
+types_of types = member (codes "fields") (array (flat_map form_token types))
+
 -- the capacity of a channel, the types of its fields, and its messages, the oldest first
 abbrev pub contents : Program → Option ChannelState → List Token
 contents pr None = []
 contents pr (Some c) =
     member (codes "capacity") (count c.capacity)
-    ++ (member (codes "fields") (array (flat_map form_token c.types)) ++ messages pr c)
+    ++ (types_of c.types ++ messages pr c)
 
 abbrev pub channel_heading : ℕ → Option (List ℕ) → List Token
 channel_heading n name = member (codes "chan") (count n) ++ member (codes "name") (or_null name)

@@ -57,9 +57,13 @@ step_tokens s ms front d before t =
 
 -- ---- the first state
 
+-- the name of a proctype
+abbrev pub named : Proctype → List Token
+named q = member (codes "name") (text (proctype_name q.name))
+
 -- a proctype: its name, and the line of its closing brace
 abbrev pub proctype : Proctype → List Token
-proctype q = object (member (codes "name") (text (proctype_name q.name)) ++ member (codes "end") (count q.end.line))
+proctype q = object (named q ++ member (codes "end") (count q.end.line))
 
 abbrev pub proctypes : Program → List Token
 proctypes pr = member (codes "proctypes") (array (flat_map proctype pr.proctypes))

@@ -11,6 +11,7 @@ ghost use Rattle.view_text.specs.Written.{Adds};
 ghost use Rattle.view_json.specs.Printed.{Writes};
 ghost use Rattle.view_json.specs.Objects.{channel, standing};
 ghost use Rattle.view_json.specs.Shown.{is_text, AreTold, has_changes, changed_cell, changed_cells, locals, with_locals, Lists, ListsMore, if_new, if_changed, new_ones, changed_ones, channels_from, processes_from, listed, ListsChannels, ListsProcesses};
+ghost use Rattle.view_json.specs.Added.{told_variables, told_locals, told_unless, is_kept, telling, AddsProcess, PrintsLocals, PrintsChannel, ListsChannel, ListsObject, PrintsProcess, ListsProcess, ListsBehind, AddsChannels, AddsProcesses};
 
 use crate::channel::channel;
 use crate::list::Listing;
@@ -81,8 +82,7 @@ fn channel_bytes(
     alloc: Global,
     n: usize,
 ) -> Result<Vec<u8>, AllocError>
-    ensures { IfOk result (λ v. (name : Option (List ℕ)) × (v.items ≡ print (channel picture.now n name))
-        × ArePrintable (channel picture.now n name)) }
+    ensures { IfOk result (λ v. PrintsChannel picture.now n v.items) }
 {
     let mut json = Json::new(alloc);
     channel(picture, &mut json, n);
@@ -97,9 +97,7 @@ fn process_bytes(
     moves: &[Move],
     process: usize,
 ) -> Result<Vec<u8>, AllocError>
-    ensures { IfOk result (λ v. moves.now ≡ all_moves picture.now → (words : List (List ℕ))
-        × (length words ≡ length (waits picture.now process)) × (v.items ≡ print (standing picture.now moves.now process words))
-        × ArePrintable (standing picture.now moves.now process words)) }
+    ensures { IfOk result (λ v. PrintsProcess picture.now moves.now process v.items) }
 {
     let mut json = Json::new(alloc);
     standing(picture, &mut json, moves, process);
@@ -119,7 +117,7 @@ pub struct Behind<'s> {
 // Writes the variables that are to be shown of a process.
 fn add_locals(picture: &Picture<'_, '_, '_>, json: &mut Json, process: usize, behind: Behind<'_>)
     requires { process < MOST_PROCESSES }
-    ensures { Writes json.old json.new (locals picture.now behind.entry.older behind.entry.changes.now process) }
+    ensures { Writes json.old json.new (told_variables picture.now behind.entry process) }
 {
     if process < behind.older {
         changed_cells(picture, json, process + 1, behind.changes);
@@ -137,10 +135,8 @@ fn add_process(
     out: &mut Writer,
 )
     requires { process < MOST_PROCESSES }
-    ensures written { (ts : List Token) → ends_value ts ≡ true → object.now ≡ print ts
-        → Adds out.old out.new (print (with_locals picture.now behind.entry.older behind.entry.changes.now process ts)) }
-    ensures printable { (ts : List Token) → ArePrintable ts → out.new.refused ≡ false
-        → ArePrintable (with_locals picture.now behind.entry.older behind.entry.changes.now process ts) }
+    ensures written { AddsProcess picture.now behind.entry process object.now out.old out.new }
+    ensures printable { PrintsLocals picture.now behind.entry process out.new }
 {
     let mut json = Json::new(out.allocator());
     add_locals(picture, &mut json, process, behind);
@@ -160,10 +156,7 @@ fn list_process(
     list: &mut Listing,
 )
     requires { process < MOST_PROCESSES }
-    ensures { (ts : List Token) → object.now ≡ print (begin_object ∷ ts) → ends_value (begin_object ∷ ts) ≡ true
-        → ArePrintable (begin_object ∷ ts)
-        → ListsMore (if is_same then [] else with_locals picture.now behind.entry.older behind.entry.changes.now process (begin_object ∷ ts))
-        list.old list.new }
+    ensures { ListsObject (told_unless is_same picture.now behind.entry process) object.now list.old list.new }
 {
     if is_same {
         return;
@@ -214,8 +207,7 @@ impl Shown {
         n: usize,
         list: &mut Listing,
     ) -> Result<Vec<u8>, AllocError>
-        ensures { IfOk result (λ v. (name : Option (List ℕ)) × (v.items ≡ print (channel picture.now n name))
-            × ListsMore (if_new self.now.channels at (channel picture.now n name)) list.old list.new) }
+        ensures { IfOk result (λ v. ListsChannel self.now.channels picture.now at n v.items list.old list.new) }
     {
         let object = channel_bytes(picture, *self.channels.allocator(), n)?;
         let is_same = self.is_shown(at, object.as_slice());
@@ -246,12 +238,7 @@ impl Shown {
         is_always: bool,
         out: &mut Writer,
     ) -> Result<(), AllocError>
-        ensures { OnOk result ((names : List (Option (List ℕ))) × (length names ≡ length picture.now.channels)
-            × (self.new ≡ record self.old { channels = map print (channels_from picture.now 1 names) })
-            × Adds out.old out.new (print_from true (listed is_always (codes "channels")
-            (new_ones self.old.channels 0 (channels_from picture.now 1 names))))
-            × (out.new.refused ≡ false → ArePrintable (listed is_always (codes "channels")
-            (new_ones self.old.channels 0 (channels_from picture.now 1 names))))) }
+        ensures { OnOk result (AddsChannels is_always picture.now (telling out.old self.old) (telling out.new self.new)) }
     {
         let mut list = Listing::new(out.allocator());
         self.channels = self.all_channels(picture, &mut list)?;
@@ -262,8 +249,7 @@ impl Shown {
     // Whether a process was there, none of its variables changed, and it was shown so.
     fn is_as_shown(&self, process: usize, behind: Behind<'_>, object: &[u8]) -> bool
         requires { process < MOST_PROCESSES }
-        ensures { result ≡ (ltb process behind.entry.older && not (has_changes (process + 1) behind.entry.changes.now)
-            && is_text object.now (slice_get self.now.processes process)) }
+        ensures { result ≡ is_kept self.now.processes behind.entry process object.now }
     {
         process < behind.older
             && !has_changes(process + 1, behind.changes)
@@ -279,10 +265,7 @@ impl Shown {
         list: &mut Listing,
     ) -> Result<Vec<u8>, AllocError>
         requires { process < MOST_PROCESSES }
-        ensures { IfOk result (λ v. behind.entry.moves.now ≡ all_moves picture.now → (words : List (List ℕ))
-            × (length words ≡ length (waits picture.now process)) × (v.items ≡ print (standing picture.now behind.entry.moves.now process words))
-            × ListsMore (if_changed picture.now self.now.processes behind.entry.older behind.entry.changes.now process
-            (standing picture.now behind.entry.moves.now process words)) list.old list.new) }
+        ensures { IfOk result (λ v. ListsProcess self.now.processes picture.now behind.entry process v.items list.old list.new) }
     {
         let alloc = *self.processes.allocator();
         let object = process_bytes(picture, alloc, behind.moves, process)?;
@@ -298,8 +281,8 @@ impl Shown {
         behind: Behind<'_>,
         list: &mut Listing,
     ) -> Result<Vec<Vec<u8>>, AllocError>
-        ensures { IfOk result (λ v. behind.entry.moves.now ≡ all_moves picture.now → ListsProcesses self.now.processes picture.now behind.entry.moves.now
-            behind.entry.older behind.entry.changes.now (map (λ x. x.items) v.items) list.old list.new) }
+        ensures { let before = self.now.processes in
+            IfOk result (λ v. ListsBehind before picture.now behind.entry (map (λ x. x.items) v.items) list.old list.new) }
     {
         let mut objects = Vec::new(*self.processes.allocator());
         for process in 0..picture.process_count() {
@@ -317,13 +300,7 @@ impl Shown {
         is_always: bool,
         out: &mut Writer,
     ) -> Result<(), AllocError>
-        ensures { OnOk result (behind.entry.moves.now ≡ all_moves picture.now → (words : List (List (List ℕ)))
-            × (length words ≡ length picture.now.stands) × AreTold picture.now 0 words
-            × (self.new ≡ record self.old { processes = map print (processes_from picture.now behind.entry.moves.now 0 words) })
-            × Adds out.old out.new (print_from true (listed is_always (codes "processes") (changed_ones picture.now self.old.processes
-            behind.entry.older behind.entry.changes.now 0 (processes_from picture.now behind.entry.moves.now 0 words))))
-            × (out.new.refused ≡ false → ArePrintable (listed is_always (codes "processes") (changed_ones picture.now self.old.processes
-            behind.entry.older behind.entry.changes.now 0 (processes_from picture.now behind.entry.moves.now 0 words))))) }
+        ensures { OnOk result (AddsProcesses is_always picture.now behind.entry (telling out.old self.old) (telling out.new self.new)) }
     {
         let mut list = Listing::new(out.allocator());
         self.processes = self.all_processes(picture, behind, &mut list)?;

@@ -6,7 +6,7 @@ ghost use Rattle.std.specs.Fmt.{decimal};
 ghost use Rattle.pml_program.specs.declared.form.Form.TheVariants as kind;
 ghost use Rattle.pml_value.specs.Reads.{channel_at};
 ghost use Rattle.view_json.specs.Printed.{Writes};
-ghost use Rattle.view_json.specs.Objects.{text, member, array, scalar_name, form_token, field, fields, message, messages, or_null, contents, channel_heading, AddsChannel};
+ghost use Rattle.view_json.specs.Objects.{types_of, text, member, array, scalar_name, form_token, field, fields, message, messages, or_null, contents, channel_heading, AddsChannel};
 
 use crate::objects::{number, value, whole};
 use crate::tokens::Json;
@@ -96,7 +96,7 @@ fn form_names(json: &mut Json, types: &[Form])
 }
 
 fn types(json: &mut Json, types: &[Form])
-    ensures { Writes json.old json.new (member (codes "fields") (array (flat_map form_token types.now))) }
+    ensures { Writes json.old json.new (types_of types.now) }
 {
     json.key("fields");
     json.begin_array();

@@ -8,7 +8,7 @@ ghost use Rattle.pml_texts.specs.Texts.{move_text};
 ghost use Rattle.view_text.specs.Written.{Adds};
 ghost use Rattle.view_json.specs.Printed.{Writes};
 ghost use Rattle.view_json.specs.Objects.{text};
-ghost use Rattle.view_json.specs.Lines.{begun, texts, does_word, mover, addressee, receiver, passed, effect, stuck_by, stuck, all_stuck, open_moves, stuck_where, is_own, ended, end_tokens, choices, chosen, front, faulted, line, ReadsBack};
+ghost use Rattle.view_json.specs.Lines.{begun, texts, does_word, mover, addressee, receiver, passed, effect, stuck_by, stuck, all_stuck, open_moves, stuck_where, is_own, ended, end_tokens, choices, chosen, front, faulted, line, ReadsBack, CanBeRead};
 
 pub use crate::changed::Shown;
 use crate::channel::message;
@@ -198,7 +198,7 @@ fn end_line(json: Json, out: &mut Writer)
 /// Writes the line of a step that came to a fault.
 pub fn add_fault(front: Json, fault: Fault, out: &mut Writer)
     ensures line { Adds out.old out.new (line (front.tokens ++ faulted fault)) }
-    ensures reads_back { out.new.refused ≡ false → ReadsBack (front.tokens ++ faulted fault) }
+    ensures reads_back { CanBeRead out.new (front.tokens ++ faulted fault) }
 {
     let mut json = front;
     number(&mut json, "fault", fault.number() as usize);
@@ -286,7 +286,7 @@ pub fn add_end(
     out: &mut Writer,
 )
     ensures line { Adds out.old out.new (line (end_tokens picture.now steps end.now moves.now)) }
-    ensures reads_back { out.new.refused ≡ false → ReadsBack (end_tokens picture.now steps end.now moves.now) }
+    ensures reads_back { CanBeRead out.new (end_tokens picture.now steps end.now moves.now) }
 {
     let mut json = ended(out.allocator(), steps, end);
     stuck_where(picture, &mut json, is_own(end));

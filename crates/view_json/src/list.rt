@@ -5,6 +5,7 @@ ghost use Rattle.json.specs.Token.{Token, begin_object, begin_array, key};
 ghost use Rattle.json.specs.Print.{print, print_from, ends_value, ArePrintable};
 ghost use Rattle.view_text.specs.Written.{Adds};
 ghost use Rattle.view_json.specs.Shown.{Lists, ListsMore, listed};
+ghost use Rattle.view_json.specs.Added.{ListsObject, begins_list, AddsList, PrintsList};
 
 use std::alloc::Global;
 use view_text::writer::Writer;
@@ -40,8 +41,7 @@ impl Listing {
 
     /// Writes an object, if it is not the same as before.
     pub fn add_unless(&mut self, is_same: bool, object: &[u8])
-        ensures { (ts : List Token) → object.now ≡ print (begin_object ∷ ts) → ends_value (begin_object ∷ ts) ≡ true
-            → ArePrintable (begin_object ∷ ts) → ListsMore (if is_same then [] else (begin_object ∷ ts)) self.old self.new }
+        ensures { ListsObject (λ ts. if is_same then [] else ts) object.now self.old self.new }
     {
         if is_same {
             return;
@@ -52,10 +52,9 @@ impl Listing {
 
     /// Writes the member that begins so, if it has an object or is always there.
     pub fn end(&self, heading: &[u8], is_always: bool, out: &mut Writer)
-        ensures written { (name : List ℕ) (ts : List Token) → heading.now ≡ print_from true (key name ∷ begin_array ∷ []) → Lists self.now ts
-            → Adds out.old out.new (print_from true (listed is_always name ts)) }
-        ensures printable { (name : List ℕ) (ts : List Token) → Lists self.now ts → out.new.refused ≡ false
-            → ArePrintable (listed is_always name ts) }
+        ensures written { (name : List ℕ) (ts : List Token) → heading.now ≡ begins_list name → Lists self.now ts
+            → AddsList is_always name ts out.old out.new }
+        ensures printable { (name : List ℕ) (ts : List Token) → Lists self.now ts → PrintsList is_always name ts out.new }
     {
         if self.is_empty && !is_always {
             return;

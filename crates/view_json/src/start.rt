@@ -7,7 +7,8 @@ ghost use Rattle.pml_moves.specs.Search.{moves as all_moves};
 ghost use Rattle.view_json.specs.Printed.{Writes};
 ghost use Rattle.view_json.specs.Objects.{text, member, cells};
 ghost use Rattle.view_json.specs.Shown.{Told};
-ghost use Rattle.view_json.specs.Steps.{proctype, proctypes, heading, start, TellsStart};
+ghost use Rattle.view_json.specs.Steps.{named, proctype, proctypes, heading, start, TellsStart};
+ghost use Rattle.view_json.specs.Added.{telling, AddsStart};
 
 use crate::changed::{Behind, Shown};
 use crate::lines::begin;
@@ -22,7 +23,7 @@ use view_text::writer::Writer;
 
 // Writes the name of a proctype.
 fn proctype_name(json: &mut Json, proctype: &Proctype<'_>)
-    ensures { Writes json.old json.new (member (codes "name") (text (proctype_name proctype.now.name))) }
+    ensures { Writes json.old json.new (named proctype.now) }
 {
     let mut name = Writer::new(json.allocator());
     let mut bytes = name.take();
@@ -96,9 +97,8 @@ pub fn add_start(
     shown: &mut Shown,
     out: &mut Writer,
 ) -> Result<(), AllocError>
-    ensures { OnOk result (moves.now ≡ all_moves picture.now → (t : Told)
-        × TellsStart (record { text = out.old; shown = shown.old }) (record { text = out.new; shown = shown.new })
-        picture.now moves.now model.now is_lossy t) }
+    ensures { OnOk result (AddsStart (telling out.old shown.old) (telling out.new shown.new)
+        picture.now moves.now model.now is_lossy) }
 {
     start(picture, out.allocator(), model, is_lossy).finish(out);
     let behind = Behind {

@@ -7,6 +7,7 @@ ghost use Rattle.view_text.specs.Written.{Adds};
 ghost use Rattle.view_json.specs.Printed.{Writes};
 ghost use Rattle.view_json.specs.Shown.{Told};
 ghost use Rattle.view_json.specs.Steps.{printed, globals, changed, shown_of, IsTold, told, counts, TellsStep};
+ghost use Rattle.view_json.specs.Added.{telling, deed, AddsObjects, AddsStep};
 
 use crate::changed::{Behind, Shown, changed_cells, has_changes};
 use crate::objects::{number, text};
@@ -60,11 +61,7 @@ pub fn add_objects(
     shown: &mut Shown,
     out: &mut Writer,
 ) -> Result<(), AllocError>
-    ensures { OnOk result (behind.entry.moves.now ≡ all_moves picture.now → (t : Told) × IsTold picture.now t
-        × (shown.new ≡ shown_of picture.now behind.entry.moves.now t) × Adds out.old out.new (print_from true
-        (told is_always picture.now behind.entry.moves.now behind.entry.older behind.entry.changes.now shown.old t))
-        × (out.new.refused ≡ false → ArePrintable
-        (told is_always picture.now behind.entry.moves.now behind.entry.older behind.entry.changes.now shown.old t))) }
+    ensures { OnOk result (AddsObjects is_always picture.now behind.entry (telling out.old shown.old) (telling out.new shown.new)) }
 {
     shown.add_channels(picture, is_always, out)?;
     shown.add_processes(picture, behind, is_always, out)?;
@@ -94,9 +91,8 @@ pub fn add_step(
     shown: &mut Shown,
     out: &mut Writer,
 ) -> Result<(), AllocError>
-    ensures { OnOk result (moves.now ≡ all_moves picture.now → ends_value front.tokens ≡ true → (t : Told)
-        × TellsStep (record { text = out.old; shown = shown.old }) (record { text = out.new; shown = shown.new }) picture.now moves.now front.tokens
-        (record { printed = done.entry.printed.now; older = done.entry.older; changes = done.entry.changes.now }) t) }
+    ensures { OnOk result (AddsStep (telling out.old shown.old) (telling out.new shown.new)
+        picture.now moves.now front.tokens (deed done.entry)) }
 {
     let mut json = front;
     changed(picture, &mut json, done.printed, done.changes);
