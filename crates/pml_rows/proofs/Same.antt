@@ -14,7 +14,7 @@ use Rattle.session.specs.Texts.{digits_of, all_digits}
 use Rattle.pml_program.specs.declared.expr.Expr.{roll-Expr}
 use Rattle.pml_program.specs.declared.expr.Want.{roll-Want}
 use Rattle.pml_program.specs.declared.expr.Target.{roll-Target, out-Target}
-use Rattle.pml_program.specs.declared.expr.Expr.TheBlock.{shape-the_row-Want-0, hidden-the_row-Want-0, shape-the_row-Expr-1, hidden-the_row-Expr-1, shape-the_row-Turn-2, hidden-the_row-Turn-2}
+use Rattle.pml_program.specs.declared.expr.Expr.TheBlock.{shape-the_row-Target-0, hidden-the_row-Target-0, shape-the_row-Want-1, hidden-the_row-Want-1, shape-the_row-Expr-2, hidden-the_row-Expr-2, shape-the_row-Turn-3, hidden-the_row-Turn-3}
 use Rattle.pml_program.specs.declared.program.Program.{Program}
 use Rattle.pml_program.specs.declared.program.Seq.{roll-Seq}
 use Rattle.pml_program.specs.declared.program.Basic.TheBlock.{shape-the_row-Stmt-1, hidden-the_row-Stmt-1, shape-the_row-Seq-0, hidden-the_row-Seq-0}
@@ -69,7 +69,7 @@ unfolding bits_of is_signed int_wrap roll-Expr roll-Want roll-Target out-Target
 expression_computes = tt
 
 unfoldable pub row_computes : Unit {0}
-unfolding shape-the_row-Want-0 hidden-the_row-Want-0 shape-the_row-Expr-1 hidden-the_row-Expr-1 shape-the_row-Turn-2 hidden-the_row-Turn-2
+unfolding shape-the_row-Target-0 hidden-the_row-Target-0 shape-the_row-Want-1 hidden-the_row-Want-1 shape-the_row-Expr-2 hidden-the_row-Expr-2 shape-the_row-Turn-3 hidden-the_row-Turn-3
 row_computes = tt
 
 unfoldable pub body_computes : Unit {0}

@@ -131,7 +131,6 @@ line ts = print ts ++ codes "\n"
 abbrev pub ReadsBack : List Token → Type 0
 ReadsBack ts = tokens (print ts) ≡ ts
 
-
 -- what was written with these tokens reads back as them, unless memory was refused
 abbrev pub CanBeRead : Written → List Token → Type 0
 CanBeRead new ts = new.refused ≡ false → ReadsBack ts
