@@ -1,5 +1,5 @@
 -- The tokens of lines: what is told of a step before it is taken, of a fault, and of the end of a run.
-use Rattle.std.specs.Prelude.{◌≡◌, ℕ, Bool, ◌||◌, ltb, if◌then◌else◌, List, [], ◌∷◌, ◌++◌, length, Option, Some, None, pos, codes}
+use Rattle.std.specs.Prelude.{false, ◌≡◌, ℕ, Bool, ◌||◌, ltb, if◌then◌else◌, List, [], ◌∷◌, ◌++◌, length, Option, Some, None, pos, codes}
 use Rattle.std.specs.List.{flat_map, range_with_len}
 use Rattle.std.specs.Str.{bytes_eq}
 use Rattle.json.specs.Token.{Token, begin_object, end_object, string}
