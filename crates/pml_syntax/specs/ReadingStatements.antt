@@ -23,7 +23,7 @@ use Rattle.pml_tree.specs.declared.tree.Basic.TheVariants as b
 use Rattle.pml_tree.specs.declared.tree.Item.{Item}
 use Rattle.pml_tree.specs.declared.tree.Seq.{Seq}
 use Rattle.pml_expression.specs.Grammar.{between}
-use Rattle.pml_expression.specs.Reading.{Read, when◌then◌else◌, next, sees, refuse, expect, expect_all, expect_name, list_from, values, expr_behind, expr_between, index, reference, arguments, behind, climb, expr}
+use Rattle.pml_expression.specs.Reading.{Read, ◌>>=◌, when◌then◌else◌, next, sees, refuse, expect, expect_all, expect_name, list_from, values, expr_behind, expr_between, index, reference, arguments, behind, climb, expr}
 use Rattle.pml_syntax.specs.declared.opener.Opener.{Opener}
 use Rattle.pml_syntax.specs.declared.opener.Opener.TheVariants as opener
 use Rattle.pml_syntax.specs.declared.starts.Opening.{Opening}
