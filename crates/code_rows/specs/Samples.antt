@@ -1,7 +1,7 @@
 -- Three small machines: a process that sets a variable for some rounds, two processes, and a countdown.
 use Rattle.std.specs.Prelude.{ℕ, ◌+◌, ◌-◌, ◌==◌, ◌&&◌, ◌||◌, not, List, [], ◌∷◌, ◌++◌, Bool, true, false, Option, Some, None, nat_lt, min, if◌then◌else◌, codes}
 use Rattle.diagnostics.specs.declared.fault.Fault.TheVariants as fault
-use Rattle.session.specs.Machine.{Rules, Outcome, Stopped, Goes, Faults}
+use Rattle.promela_session.specs.Session.{Rules, Outcome, Stopped, Goes, Faults}
 use Rattle.code_rows.specs.declared.sample.Rounds.{Rounds}
 use Rattle.code_rows.specs.declared.sample.Pair.{Pair}
 use Rattle.code_rows.specs.declared.sample.Sample.{Sample}

@@ -1,7 +1,7 @@
 //! Lines and columns of a text.
 
 ghost use Rattle.std.specs.Prelude.{◌≡◌, ◌≤◌, ◌<◌, ◌-◌, length, take, drop};
-ghost use Rattle.pml_lex.specs.Division.{line_behind};
+ghost use Rattle.promela_text.specs.Tokens.{line_behind};
 
 use std::str;
 

@@ -9,8 +9,7 @@ use Rattle.pml_token.specs.contracts.token.Kind.{the_type}
 use Rattle.pml_token.specs.declared.token.Kind.{Kind}
 use Rattle.pml_token.specs.declared.token.Kind.TheVariants.{Name, OpenParen, CloseParen, OpenBrace, CloseBrace, Comma}
 use Rattle.pml_token.specs.Word.{same_kind, Word}
-use Rattle.pml_inline.specs.Brackets.{is_name, has_inline, begins, closing}
-use Rattle.pml_inline.specs.Inlines.{Inline, all_differ, and_name, names, parameters, listed, with_end, with_body, with_parameters, definition}
+use Rattle.promela_text.specs.Inlines.{is_name, has_inline, begins, closing, Inline, all_differ, and_name, names, parameters, listed, with_end, with_body, with_parameters, definition}
 use Rattle.pml_inline.proofs.Lists.{closing_within}
 use Rattle.inline_laws.specs.Defined.{Names, last_name, one_name, Parameters, no_parameter, some_parameters, IsDefinition, DefinitionsAreAsWritten}
 

@@ -5,10 +5,8 @@ use Rattle.std.proofs.lemmas.Bool.Decides.{nat_tests}
 use Rattle.profile.specs.declared.TheConstants.{MOST_CALLS, MOST_REPLACED}
 use Rattle.pml_token.specs.declared.token.Kind.TheVariants.{OpenParen, CloseParen}
 use Rattle.pml_token.specs.Word.{Word}
-use Rattle.pml_inline.specs.Brackets.{is_inline, has_inline, is_name, begins, closing}
-use Rattle.pml_inline.specs.Inlines.{Inline, all_differ, and_inline, define, definition, definition_turn, definitions}
-use Rattle.pml_inline.specs.Calls.{Given, join, itself, counted, nothing, callee, calling}
-use Rattle.pml_inline.specs.Expansion.{braces_behind, by_definitions, defined, expansion, limited, outermost, text_turn, texts}
+use Rattle.promela_text.specs.Inlines.{is_inline, has_inline, is_name, begins, closing, Inline, all_differ, and_inline, define, definition, definition_turn, definitions}
+use Rattle.promela_text.specs.Expansion.{Given, join, itself, counted, nothing, callee, calling, braces_behind, by_definitions, defined, expansion, limited, outermost, text_turn, texts}
 use Rattle.pml_inline.proofs.Lists.{definitions_passing, over_call}
 use Rattle.inline_laws.specs.Derived.{inside, body_of}
 use Rattle.inline_laws.specs.Expanded.{Leave, nothing_left, stays, is_called, is_defined, IsLeft, ExpansionsAreDerived, DerivedAreExpansions}

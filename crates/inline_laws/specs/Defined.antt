@@ -2,8 +2,7 @@
 use Rattle.std.specs.Prelude.{◌≡◌, ℕ, ◌+◌, true, false, List, [], ◌∷◌, length, take, drop, Some}
 use Rattle.pml_token.specs.declared.token.Kind.TheVariants.{OpenParen, CloseParen, OpenBrace, CloseBrace, Comma}
 use Rattle.pml_token.specs.Word.{same_kind, Word}
-use Rattle.pml_inline.specs.Brackets.{is_name, has_inline, begins, closing}
-use Rattle.pml_inline.specs.Inlines.{Inline, all_differ, definition}
+use Rattle.promela_text.specs.Inlines.{is_name, has_inline, begins, closing, Inline, all_differ, definition}
 
 -- the tokens are names with commas between them and a `)` behind them, and more
 pub data Names : List Word → List (List ℕ) → List Word → Type 0 where

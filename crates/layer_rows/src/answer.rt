@@ -4,10 +4,10 @@ use crate::tokens::{add_count, add_tokens};
 use crate::tree::of_tokens;
 use crate::words::add_words;
 use pml_inline::expand;
-use pml_inline::fault::InlineFault;
 use pml_lex::cut;
 use pml_lex::fault::LexFault;
 use pml_token::token::Token;
+use promela_text::inline_fault::InlineFault;
 use row_files::{Block, Writer};
 use std::alloc::Global;
 

@@ -2,14 +2,12 @@
 use Rattle.std.proofs.Common.{◌≡◌, ℕ, Bool, true, false, List, [], ◌∷◌, ◌++◌, length, Option, Some, None, refl, sym, ap, subst, ◌∙◌}
 use Rattle.std.proofs.lemmas.Bool.{true≢false}
 use Rattle.std.specs.List.{flat_map}
-use Rattle.session.specs.declared.End.{End}
-use Rattle.session.specs.declared.Cause.{Cause}
-use Rattle.session.specs.declared.Cause.TheVariants as cause
-use Rattle.session.specs.Machine.{Rules}
-use Rattle.session.specs.Events.{Part}
-use Rattle.session.specs.Replay.{is_cut_short}
-use Rattle.session.specs.Session.{final_cause}
-use Rattle.session.specs.Texts.{record_line}
+use Rattle.promela_session.specs.declared.ends.End.{End}
+use Rattle.promela_session.specs.declared.ends.Cause.{Cause}
+use Rattle.promela_session.specs.declared.ends.Cause.TheVariants as cause
+use Rattle.promela_session.specs.Session.{Rules, final_cause}
+use Rattle.promela_session.specs.Events.{Part, record_line}
+use Rattle.promela_session.specs.Replay.{is_cut_short}
 use Rattle.pml_play.specs.Run.{Turn, IsPath, last_state, IsLast, no_move, at_limit, at_fault, at_question, HasRun}
 use Rattle.path_laws.specs.OneRecord.{StandOnce, ListsOnce}
 use Rattle.path_laws.specs.OneRun.{has_failed, FailsAt, IsWholeRun, HasOneRun, RunTheSame, RecordTheSame, RunsAndRecordsAreOneToOne}

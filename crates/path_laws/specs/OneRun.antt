@@ -1,12 +1,12 @@
 -- What is run, with the move at which it fails, and what is recorded of it.
 use Rattle.std.specs.Prelude.{◌≡◌, ℕ, Bool, true, false, List, [], Option, Some, None}
 use Rattle.diagnostics.specs.declared.fault.Fault.{Fault}
-use Rattle.session.specs.declared.End.{End}
-use Rattle.session.specs.declared.Cause.{Cause}
-use Rattle.session.specs.declared.Cause.TheVariants as cause
-use Rattle.session.specs.declared.Options.{Options}
-use Rattle.session.specs.Events.{recorded, Part}
-use Rattle.session.specs.Machine.{Rules, Faults}
+use Rattle.promela_session.specs.declared.ends.End.{End}
+use Rattle.promela_session.specs.declared.ends.Cause.{Cause}
+use Rattle.promela_session.specs.declared.ends.Cause.TheVariants as cause
+use Rattle.promela_session.specs.declared.ends.Options.{Options}
+use Rattle.promela_session.specs.Events.{recorded, Part}
+use Rattle.promela_session.specs.Session.{Rules, Faults}
 use Rattle.pml_sim.specs.World.{Running, rules as rules_of_models}
 use Rattle.pml_play.specs.Plain.{SayTheSame}
 use Rattle.pml_play.specs.Run.{Turn, IsChosen, IsRun, HasRun, IsSessionOver, last_state}

@@ -8,13 +8,12 @@ use Rattle.diagnostics.specs.declared.fault.Fault.{Fault}
 use Rattle.diagnostics.specs.declared.refusal.Refusal.{Refusal}
 use Rattle.diagnostics.specs.declared.refusal.Refusal.TheVariants as r
 use Rattle.pml_tree.specs.declared.tree.Tree.{Tree}
-use Rattle.pml_marks.specs.declared.mark.Mark.{Mark}
-use Rattle.pml_marks.specs.MarksOfUnits.{of_tree}
-use Rattle.pml_conditions.specs.declared.condition.Condition.{Condition}
-use Rattle.pml_conditions.specs.declared.condition.Condition.TheVariants as condition
-use Rattle.pml_conditions.specs.Decided as marks
-use Rattle.pml_conditions.specs.Decided.{Somewhere, Nowhere, broken, breaks_loose, crosses_step, begins_there}
-use Rattle.pml_conditions.specs.Start.{processes, first_channels}
+use Rattle.promela_model.specs.declared.mark.Mark.{Mark}
+use Rattle.promela_model.specs.MarksOfUnits.{of_tree}
+use Rattle.promela_model.specs.declared.condition.Condition.{Condition}
+use Rattle.promela_model.specs.declared.condition.Condition.TheVariants as condition
+use Rattle.promela_model.specs.Decided as marks
+use Rattle.promela_model.specs.Decided.{Somewhere, Nowhere, broken, breaks_loose, crosses_step, begins_there, processes, first_channels}
 use Rattle.pml_control.specs.declared.ends.Ending.{Ending}
 use Rattle.pml_control.specs.declared.ends.Ending.TheVariants as ending
 use Rattle.pml_control.specs.Ends.{ending_of, AreEnds}

@@ -2,11 +2,11 @@
 use Rattle.std.proofs.Common.{◌≡◌, Bool, true, false, arith, List, Some, None, sym, ◌∙◌, inl, inr, Option, Result, Ok, Err}
 use Rattle.diagnostics.specs.declared.refusal.Refusal.{Refusal}
 use Rattle.diagnostics.specs.declared.refusal.Refusal.TheVariants as r
-use Rattle.pml_marks.specs.declared.mark.Mark.{Mark}
-use Rattle.pml_conditions.specs.declared.condition.Condition.{Condition}
-use Rattle.pml_conditions.specs.Decided as marks
-use Rattle.pml_conditions.specs.declared.condition.Condition.TheVariants as condition
-use Rattle.pml_conditions.specs.Decided.{Somewhere, Nowhere, broken, breaks_loose, crosses_step, begins_there}
+use Rattle.promela_model.specs.declared.mark.Mark.{Mark}
+use Rattle.promela_model.specs.declared.condition.Condition.{Condition}
+use Rattle.promela_model.specs.Decided as marks
+use Rattle.promela_model.specs.declared.condition.Condition.TheVariants as condition
+use Rattle.promela_model.specs.Decided.{Somewhere, Nowhere, broken, breaks_loose, crosses_step, begins_there}
 use Rattle.pml_program.specs.declared.program.Seq.{Seq}
 use Rattle.pml_control.specs.Circles.{BadFirstPoint, FirstPointsFit}
 use Rattle.pml_control.proofs.Settling.{circle_not}

@@ -2,10 +2,10 @@
 use Rattle.std.proofs.Common.{◌≡◌, ◌⊎◌, inl, inr, sym, subst}
 use Rattle.diagnostics.specs.declared.refusal.Refusal.{Refusal}
 use Rattle.pml_tree.specs.declared.tree.Tree.{Tree}
-use Rattle.pml_marks.specs.MarksOfUnits.{of_tree}
+use Rattle.promela_model.specs.MarksOfUnits.{of_tree}
 use Rattle.pml_program.specs.declared.program.Program.{Program}
 use Rattle.pml_resolve.specs.Model.{numbered_model}
-use Rattle.pml_stands.specs.StandsModel.{StandsModel}
+use Rattle.promela_model.specs.StandsModel.{StandsModel}
 use Rattle.pml_stands.proofs.Model.{model-stands, one-model}
 use Rattle.pml_check.specs.Judged.{AppliesTo, FitsTo, Applies, Fits}
 use Rattle.pml_check.proofs.Exclusive.{apart}

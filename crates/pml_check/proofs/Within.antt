@@ -4,22 +4,22 @@ use Rattle.std.specs.List.{AllByRecursion}
 use Rattle.profile.specs.declared.TheConstants.{MOST_CELLS}
 use Rattle.diagnostics.specs.declared.refusal.Refusal.TheVariants as r
 use Rattle.pml_tree.specs.declared.tree.Tree.{Tree}
-use Rattle.pml_marks.specs.MarksOfUnits.{of_tree}
-use Rattle.pml_marks.specs.declared.mark.Constant.{Constant}
-use Rattle.pml_marks.specs.declared.mark.Constant.TheVariants as number
-use Rattle.pml_marks.specs.declared.mark.Role.TheVariants as role
-use Rattle.pml_marks.specs.declared.mark.Declared.TheVariants as declared_as
-use Rattle.pml_marks.specs.declared.mark.Mark.{Mark}
-use Rattle.pml_marks.specs.declared.mark.What.{What}
-use Rattle.pml_marks.specs.declared.mark.What.TheVariants as what
+use Rattle.promela_model.specs.MarksOfUnits.{of_tree}
+use Rattle.promela_model.specs.declared.mark.Constant.{Constant}
+use Rattle.promela_model.specs.declared.mark.Constant.TheVariants as number
+use Rattle.promela_model.specs.declared.mark.Role.TheVariants as role
+use Rattle.promela_model.specs.declared.mark.Declared.TheVariants as declared_as
+use Rattle.promela_model.specs.declared.mark.Mark.{Mark}
+use Rattle.promela_model.specs.declared.mark.What.{What}
+use Rattle.promela_model.specs.declared.mark.What.TheVariants as what
 use Rattle.pml_names.specs.Entry.{Entry}
 use Rattle.pml_names.specs.Env.{told, env, env_from}
-use Rattle.pml_names.specs.Naming.{Before}
+use Rattle.promela_model.specs.Names.{Before}
 use Rattle.pml_names.proofs.Firsts.{told-before}
-use Rattle.pml_conditions.specs.declared.condition.Condition.TheVariants as condition
-use Rattle.pml_conditions.specs.Conditions.{judged}
-use Rattle.pml_conditions.specs.Ranges.{capacity, too_many}
-use Rattle.pml_conditions.specs.Decided as marks
+use Rattle.promela_model.specs.declared.condition.Condition.TheVariants as condition
+use Rattle.promela_model.specs.Conditions.{judged}
+use Rattle.promela_model.specs.Ranges.{capacity, too_many}
+use Rattle.promela_model.specs.Decided as marks
 use Rattle.pml_program.specs.declared.program.Initial.{Initial}
 use Rattle.pml_program.specs.declared.program.Initial.TheVariants as i
 use Rattle.pml_program.specs.declared.program.Slot.{Slot}
@@ -28,7 +28,7 @@ use Rattle.pml_program.specs.declared.program.Proctype.{Proctype}
 use Rattle.pml_program.specs.declared.program.Program.{Program}
 use Rattle.pml_resolve.specs.Declarations.{natural}
 use Rattle.pml_resolve.specs.Model.{numbered_model}
-use Rattle.pml_stands.specs.Known.{cells}
+use Rattle.promela_model.specs.Known.{cells}
 use Rattle.pml_stands.proofs.Limits.{Few, AllFew, all-few, room, Rooms}
 use Rattle.pml_stands.proofs.Limited.{IsLimited, model-limited}
 use Rattle.pml_start.specs.Bound.{cells_of, largest, room_by, room_of, room_of_fields, room_of_processes, IsWithin}

@@ -1,7 +1,7 @@
 -- Which conditions are broken on the marks of a tree.
 use Rattle.std.specs.Prelude.{List}
-use Rattle.pml_marks.specs.declared.mark.Mark.{Mark}
-use Rattle.pml_conditions.specs.declared.condition.Condition.TheVariants as condition
+use Rattle.promela_model.specs.declared.mark.Mark.{Mark}
+use Rattle.promela_model.specs.declared.condition.Condition.TheVariants as condition
 use Rattle.pml_conditions.specs.Finds.{AreFound, Decides}
 use Rattle.pml_check.specs.declared.broken.Broken.{Broken}
 

@@ -6,14 +6,14 @@ use Rattle.diagnostics.specs.declared.refusal.Refusal.{Refusal}
 use Rattle.diagnostics.specs.declared.refusal.Refusal.TheVariants as r
 use Rattle.diagnostics.specs.Words.{refusal_number}
 use Rattle.pml_tree.specs.declared.tree.Tree.{Tree}
-use Rattle.pml_marks.specs.declared.mark.Mark.{Mark}
-use Rattle.pml_marks.specs.MarksOfUnits.{of_tree}
-use Rattle.pml_conditions.specs.declared.condition.Condition.{Condition}
-use Rattle.pml_conditions.specs.declared.condition.Condition.TheVariants as condition
-use Rattle.pml_conditions.specs.Decided as marks
+use Rattle.promela_model.specs.declared.mark.Mark.{Mark}
+use Rattle.promela_model.specs.MarksOfUnits.{of_tree}
+use Rattle.promela_model.specs.declared.condition.Condition.{Condition}
+use Rattle.promela_model.specs.declared.condition.Condition.TheVariants as condition
+use Rattle.promela_model.specs.Decided as marks
 use Rattle.pml_program.specs.declared.program.Proctype.{Proctype}
 use Rattle.pml_program.specs.declared.program.Program.{Program}
-use Rattle.pml_stands.specs.StandsModel.{StandsModel}
+use Rattle.promela_model.specs.StandsModel.{StandsModel}
 use Rattle.pml_start.specs.Begin.{Begun}
 use Rattle.pml_start.specs.Start.{first_state}
 use Rattle.pml_control.specs.Circles.{Circle, SettlesEverywhere, BadFirstPoint, FirstPointsFit}

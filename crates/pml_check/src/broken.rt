@@ -4,11 +4,11 @@ ghost use Rattle.std.specs.Prelude.{◌≡◌, IfOk};
 ghost use Rattle.pml_names.specs.Env.{env};
 ghost use Rattle.pml_check.specs.Broken.{AreBroken};
 
-use pml_conditions::condition::Condition;
 use pml_conditions::decide::applies;
 use pml_conditions::find::{Found, find};
-use pml_marks::mark::Mark;
 use pml_names::table::Table;
+use promela_model::condition::Condition;
+use promela_model::mark::Mark;
 use std::alloc::{AllocError, Global};
 
 /// Which conditions are broken on the marks of a tree.

@@ -3,7 +3,7 @@
 ghost use Rattle.std.specs.Prelude.{◌≡◌, IfOk, IfErr, OnOk};
 ghost use Rattle.pml_check.specs.Judged.{IsFit, IsLeast};
 ghost use Rattle.pml_check.specs.Checked.{IsRefused};
-ghost use Rattle.pml_stands.specs.StandsModel.{StandsModel};
+ghost use Rattle.promela_model.specs.StandsModel.{StandsModel};
 
 use crate::control::all_graphs;
 use crate::judge::least_of;

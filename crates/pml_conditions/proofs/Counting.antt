@@ -5,15 +5,14 @@ use Rattle.std.proofs.lemmas.Bool.{cases_lt, cases_Bool, ltb-true, ltb-false}
 use Rattle.std.specs.Prelude.{nat_lt}
 use Rattle.pml_program.specs.declared.form.Form.{Form}
 use Rattle.pml_program.specs.declared.form.Form.TheVariants as kind
-use Rattle.pml_marks.specs.declared.mark.Makes.TheVariants.{Numbers, Channels}
-use Rattle.pml_marks.specs.declared.mark.Declared.TheVariants as declared_as
-use Rattle.pml_marks.specs.declared.mark.What.{What}
-use Rattle.pml_marks.specs.declared.mark.What.TheVariants as what
-use Rattle.pml_marks.specs.declared.mark.Mark.{Mark}
-use Rattle.pml_names.specs.Meaning.{Naming}
-use Rattle.pml_names.specs.Naming.{form, length_of}
-use Rattle.pml_conditions.specs.declared.condition.Condition.TheVariants as condition
-use Rattle.pml_conditions.specs.Start.{channels_of, made, channels, channels_in, started, processes, by_processes}
+use Rattle.promela_model.specs.declared.mark.Makes.TheVariants.{Numbers, Channels}
+use Rattle.promela_model.specs.declared.mark.Declared.TheVariants as declared_as
+use Rattle.promela_model.specs.declared.mark.What.{What}
+use Rattle.promela_model.specs.declared.mark.What.TheVariants as what
+use Rattle.promela_model.specs.declared.mark.Mark.{Mark}
+use Rattle.promela_model.specs.Names.{Naming, form, length_of}
+use Rattle.promela_model.specs.declared.condition.Condition.TheVariants as condition
+use Rattle.promela_model.specs.Decided.{channels_of, made, channels, channels_in, started, processes, by_processes}
 use Rattle.pml_conditions.specs.Finds.{Decides}
 
 large : (n c : ℕ) → 256 < c → min (n * 256) 256 ≡ min (n * c) 256

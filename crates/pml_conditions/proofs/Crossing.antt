@@ -9,13 +9,12 @@ use Rattle.std.proofs.lemmas.Bool.{eq-eqb, eqb-true}
 use Rattle.std.proofs.lemmas.Bool.Decides.{eqb_tells}
 use Rattle.std.proofs.lemmas.Slice.Eq.{bytes_eq-Decides}
 use Rattle.pml_token.specs.Word.{Word}
-use Rattle.pml_marks.specs.Marks.{mark}
-use Rattle.pml_marks.specs.declared.mark.What.{What}
-use Rattle.pml_marks.specs.declared.mark.What.TheVariants as what
-use Rattle.pml_marks.specs.declared.mark.Mark.{Mark}
-use Rattle.pml_conditions.specs.declared.condition.Condition.TheVariants as condition
-use Rattle.pml_conditions.specs.Structure.{opened, innermost_step, round, is_label, first_of, step_there, labelled, labels_in, same_step, elsewhere}
-use Rattle.pml_conditions.specs.Decided.{Applies, crosses_step}
+use Rattle.promela_model.specs.Marks.{mark}
+use Rattle.promela_model.specs.declared.mark.What.{What}
+use Rattle.promela_model.specs.declared.mark.What.TheVariants as what
+use Rattle.promela_model.specs.declared.mark.Mark.{Mark}
+use Rattle.promela_model.specs.declared.condition.Condition.TheVariants as condition
+use Rattle.promela_model.specs.Decided.{opened, innermost_step, round, is_label, first_of, step_there, labelled, labels_in, same_step, elsewhere, Applies, crosses_step}
 use Rattle.pml_conditions.specs.Laws.{IsFirstLabel}
 use Rattle.pml_conditions.proofs.Looking.{back_more}
 

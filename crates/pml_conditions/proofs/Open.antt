@@ -1,14 +1,14 @@
 -- What is open behind one mark more, and that the code's stack says what stands round a place.
 use Rattle.std.proofs.Common.{◌≡◌, ℕ, zero, suc, ◌+◌, ◌<◌, List, [], ◌∷◌, length, take, drop, reverse, get_or, Option, refl, ap, sym, ◌∙◌, arith, add-one}
 use Rattle.std.proofs.lemmas.List.{length-take-le, length-reverse}
-use Rattle.pml_marks.specs.declared.mark.Structure.TheVariants.{Do, DStep}
-use Rattle.pml_marks.specs.declared.mark.What.{What}
-use Rattle.pml_marks.specs.declared.mark.What.TheVariants as what
-use Rattle.pml_marks.specs.declared.mark.Mark.{Mark}
-use Rattle.pml_conditions.specs.declared.round.Round.{Round}
+use Rattle.promela_model.specs.declared.mark.Structure.TheVariants.{Do, DStep}
+use Rattle.promela_model.specs.declared.mark.What.{What}
+use Rattle.promela_model.specs.declared.mark.What.TheVariants as what
+use Rattle.promela_model.specs.declared.mark.Mark.{Mark}
+use Rattle.promela_model.specs.declared.round.Round.{Round}
 use Rattle.pml_names.specs.declared.places.Places.{Places}
 use Rattle.pml_names.specs.Places.{stands}
-use Rattle.pml_conditions.specs.Structure.{Open, entered, opened, round_of, round, first_of, step_there, labelled, labels_in}
+use Rattle.promela_model.specs.Decided.{Open, entered, opened, round_of, round, first_of, step_there, labelled, labels_in}
 use Rattle.pml_conditions.specs.Open.{in_loop, in_step, passed, rounds, top, AreSteps}
 use Rattle.pml_conditions.proofs.Looking.{back_more}
 

@@ -2,12 +2,12 @@
 use Rattle.std.proofs.Common.{◌≡◌, ℕ, Bool, true, false, List, [], ◌∷◌, take, get_or, refl}
 use Rattle.pml_token.specs.Word.{Word}
 use Rattle.pml_token.specs.declared.token.Kind.TheVariants as kind
-use Rattle.pml_marks.specs.Marks.{mark}
-use Rattle.pml_marks.specs.declared.mark.Structure.TheVariants.{Do, DStep}
-use Rattle.pml_marks.specs.declared.mark.What.{What}
-use Rattle.pml_marks.specs.declared.mark.What.TheVariants as what
-use Rattle.pml_marks.specs.declared.mark.Mark.{Mark}
-use Rattle.pml_conditions.specs.Decided.{breaks_loose, crosses_step}
+use Rattle.promela_model.specs.Marks.{mark}
+use Rattle.promela_model.specs.declared.mark.Structure.TheVariants.{Do, DStep}
+use Rattle.promela_model.specs.declared.mark.What.{What}
+use Rattle.promela_model.specs.declared.mark.What.TheVariants as what
+use Rattle.promela_model.specs.declared.mark.Mark.{Mark}
+use Rattle.promela_model.specs.Decided.{breaks_loose, crosses_step}
 
 -- marks of the first unit
 abbrev body : List What → List Mark

@@ -2,13 +2,13 @@
 use Rattle.std.proofs.Common.{◌≡◌, ℕ, ◌<◌, true, false, List, take, get_or, length, Some, refl, ap, sym, subst, ◌∙◌}
 use Rattle.std.specs.Prelude.{slice_get, ◌≢◌}
 use Rattle.std.proofs.lemmas.Option.{slice_get_read}
-use Rattle.pml_marks.specs.declared.mark.Mark.{Mark}
-use Rattle.pml_marks.specs.declared.mark.What.{What}
-use Rattle.pml_conditions.specs.declared.condition.Condition.{Condition}
-use Rattle.pml_conditions.specs.declared.condition.Condition.TheVariants as condition
+use Rattle.promela_model.specs.declared.mark.Mark.{Mark}
+use Rattle.promela_model.specs.declared.mark.What.{What}
+use Rattle.promela_model.specs.declared.condition.Condition.{Condition}
+use Rattle.promela_model.specs.declared.condition.Condition.TheVariants as condition
 use Rattle.pml_conditions.specs.declared.find.Found.{Found}
-use Rattle.pml_conditions.specs.Conditions.{Around, judged}
-use Rattle.pml_conditions.specs.Decided.{broken, around}
+use Rattle.promela_model.specs.Conditions.{Around, judged}
+use Rattle.promela_model.specs.Decided.{broken, around}
 use Rattle.pml_conditions.specs.First.{broken_at, found_of, IsFirstBroken}
 
 -- what was found at a mark

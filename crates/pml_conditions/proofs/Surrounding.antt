@@ -1,17 +1,15 @@
 -- The tables of the code say what stands round a mark.
 use Rattle.std.proofs.Common.{◌≡◌, ℕ, ◌+◌, ◌<◌, Bool, true, false, ◌||◌, List, [], ◌∷◌, ◌++◌, length, take, get_or, refl, ap, sym, ◌∙◌}
 use Rattle.std.proofs.lemmas.List.{take_more}
-use Rattle.pml_marks.specs.declared.mark.Mark.{Mark}
+use Rattle.promela_model.specs.declared.mark.Mark.{Mark}
 use Rattle.pml_names.specs.declared.places.Places.{Places}
 use Rattle.pml_names.specs.Entry.{Entry, found}
 use Rattle.pml_names.specs.Env.{env, told}
-use Rattle.pml_names.specs.Meaning.{Naming}
-use Rattle.pml_names.specs.Naming.{Before, before}
+use Rattle.promela_model.specs.Names.{Naming, Before, before}
 use Rattle.pml_names.proofs.Firsts.{told-before}
-use Rattle.pml_conditions.specs.Conditions.{Around}
-use Rattle.pml_conditions.specs.Ranges.{Labels}
-use Rattle.pml_conditions.specs.Decided.{has_label, around}
-use Rattle.pml_conditions.specs.Structure.{is_label}
+use Rattle.promela_model.specs.Conditions.{Around}
+use Rattle.promela_model.specs.Ranges.{Labels}
+use Rattle.promela_model.specs.Decided.{has_label, around, is_label}
 use Rattle.pml_conditions.specs.Labels.{labels_of, told_around}
 
 -- ---- labels

@@ -1,10 +1,10 @@
 -- What finding the conditions that a model breaks answers.
 use Rattle.std.specs.Prelude.{Bool, true, false, List}
-use Rattle.pml_marks.specs.declared.mark.Mark.{Mark}
+use Rattle.promela_model.specs.declared.mark.Mark.{Mark}
 use Rattle.pml_conditions.specs.declared.find.Found.{Found}
-use Rattle.pml_conditions.specs.declared.condition.Condition.{Condition}
-use Rattle.pml_conditions.specs.declared.condition.Condition.TheVariants as condition
-use Rattle.pml_conditions.specs.Decided.{Somewhere, Nowhere, broken, Applies, Fits}
+use Rattle.promela_model.specs.declared.condition.Condition.{Condition}
+use Rattle.promela_model.specs.declared.condition.Condition.TheVariants as condition
+use Rattle.promela_model.specs.Decided.{Somewhere, Nowhere, broken, Applies, Fits}
 
 abbrev pub Decides : Bool → Condition → List Mark → Type 0
 Decides true r ms = Applies r ms

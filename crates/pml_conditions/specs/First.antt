@@ -1,10 +1,10 @@
 -- The first mark at which a condition is broken.
 use Rattle.std.specs.Prelude.{◌≡◌, ℕ, ◌<◌, Bool, true, false, List, take, slice_get, Option, Some, None}
-use Rattle.pml_marks.specs.declared.mark.Mark.{Mark}
-use Rattle.pml_conditions.specs.declared.condition.Condition.{Condition}
-use Rattle.pml_conditions.specs.declared.condition.Condition.TheVariants as condition
+use Rattle.promela_model.specs.declared.mark.Mark.{Mark}
+use Rattle.promela_model.specs.declared.condition.Condition.{Condition}
+use Rattle.promela_model.specs.declared.condition.Condition.TheVariants as condition
 use Rattle.pml_conditions.specs.declared.find.Found.{Found}
-use Rattle.pml_conditions.specs.Decided.{broken, breaks_loose, crosses_step, Nowhere}
+use Rattle.promela_model.specs.Decided.{broken, breaks_loose, crosses_step, Nowhere}
 
 -- whether a mark breaks a condition, among these marks and behind those that stand first; the conditions on the first state are broken at no mark
 abbrev pub broken_at : Condition → List Mark → List Mark → Mark → Bool

@@ -1,13 +1,13 @@
 -- What the tables of the code say of a mark; Decided.antt says it by the marks alone.
 use Rattle.std.specs.Prelude.{◌≡◌, ℕ, is_some, List}
-use Rattle.pml_marks.specs.declared.mark.Mark.{Mark}
+use Rattle.promela_model.specs.declared.mark.Mark.{Mark}
 use Rattle.pml_names.specs.declared.places.Places.{Places}
 use Rattle.pml_names.specs.Places.{IsKept, stands}
 use Rattle.pml_names.specs.Entry.{Entry, found}
 use Rattle.pml_names.specs.Env.{told}
-use Rattle.pml_conditions.specs.Conditions.{Around}
-use Rattle.pml_conditions.specs.Ranges.{Labels}
-use Rattle.pml_conditions.specs.Decided.{has_label}
+use Rattle.promela_model.specs.Conditions.{Around}
+use Rattle.promela_model.specs.Ranges.{Labels}
+use Rattle.promela_model.specs.Decided.{has_label}
 
 abbrev pub labels_of : Places ℕ → Labels
 labels_of ps o n = is_some (stands ps.numbers ps.places o n)

@@ -1,13 +1,12 @@
 -- What holds of the definitions alone.
 use Rattle.std.specs.Prelude.{◌≡◌, ◌≢◌, ℕ, ◌<◌, true, List, take, slice_get, Some}
 use Rattle.pml_token.specs.Word.{Word}
-use Rattle.pml_marks.specs.Marks.{mark}
-use Rattle.pml_marks.specs.declared.mark.What.TheVariants as what
-use Rattle.pml_marks.specs.declared.mark.Mark.{Mark}
-use Rattle.pml_conditions.specs.declared.condition.Condition.{Condition}
-use Rattle.pml_conditions.specs.declared.condition.Condition.TheVariants as condition
-use Rattle.pml_conditions.specs.Structure.{round}
-use Rattle.pml_conditions.specs.Decided.{Applies, Fits, crosses_step}
+use Rattle.promela_model.specs.Marks.{mark}
+use Rattle.promela_model.specs.declared.mark.What.TheVariants as what
+use Rattle.promela_model.specs.declared.mark.Mark.{Mark}
+use Rattle.promela_model.specs.declared.condition.Condition.{Condition}
+use Rattle.promela_model.specs.declared.condition.Condition.TheVariants as condition
+use Rattle.promela_model.specs.Decided.{round, Applies, Fits, crosses_step}
 
 -- no condition both applies and fits
 abbrev pub Exclude : Type 0

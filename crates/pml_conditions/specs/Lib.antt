@@ -1,10 +1,6 @@
-pub mod Ranges
-pub mod Conditions
-pub mod Structure
 pub mod Open
-pub mod Start
-pub mod Decided
 pub mod Finds
 pub mod First
 pub mod Labels
 pub mod Laws
+pub mod Step

@@ -1,13 +1,13 @@
 -- What the code keeps of what is open: no public contract speaks of it, and Structure.antt says it by the marks alone.
 use Rattle.std.specs.Prelude.{◌≡◌, ℕ, true, false, List, [], ◌∷◌, length, drop, slice_index_or, Option, Some, None}
-use Rattle.pml_marks.specs.declared.mark.Structure.TheVariants.{Do, DStep}
-use Rattle.pml_marks.specs.declared.mark.What.{What}
-use Rattle.pml_marks.specs.declared.mark.What.TheVariants as what
-use Rattle.pml_marks.specs.declared.mark.Mark.{Mark}
+use Rattle.promela_model.specs.declared.mark.Structure.TheVariants.{Do, DStep}
+use Rattle.promela_model.specs.declared.mark.What.{What}
+use Rattle.promela_model.specs.declared.mark.What.TheVariants as what
+use Rattle.promela_model.specs.declared.mark.Mark.{Mark}
 use Rattle.pml_names.specs.declared.places.Places.{Places}
 use Rattle.pml_names.specs.Places.{IsKept, stands}
-use Rattle.pml_conditions.specs.declared.round.Round.{Round}
-use Rattle.pml_conditions.specs.Structure.{labelled}
+use Rattle.promela_model.specs.declared.round.Round.{Round}
+use Rattle.promela_model.specs.Decided.{labelled}
 
 -- nothing, a do, the d_step whose mark has k marks before it
 abbrev pub outside : Round

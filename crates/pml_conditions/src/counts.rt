@@ -2,22 +2,22 @@
 
 ghost use Rattle.std.specs.Prelude.{◌≡◌, ◌+◌, ◌*◌, ◌<◌, ◌^◌, nat_lt, ℕ, pos};
 ghost use Rattle.pml_conditions.specs.Labels.{labels_of};
-ghost use Rattle.pml_conditions.specs.Conditions.{twice, conversions, is_conversion, inside, other_count};
-ghost use Rattle.pml_conditions.specs.Ranges.{mislabelled, is_outside, out_of, out_of_range, capacity, too_many};
+ghost use Rattle.promela_model.specs.Conditions.{twice, conversions, is_conversion, inside, other_count};
+ghost use Rattle.promela_model.specs.Ranges.{mislabelled, is_outside, out_of, out_of_range, capacity, too_many};
 ghost use Rattle.pml_names.specs.Entry.{found};
 ghost use Rattle.pml_names.specs.Env.{told};
-ghost use Rattle.pml_names.specs.Naming.{stride, length_of};
+ghost use Rattle.promela_model.specs.Names.{stride, length_of};
 ghost use Rattle.pml_names.specs.Totals.{IsTotalled};
 
 use pml_marks::arithmetic::read;
-use pml_marks::mark::{Constant, Declared, Role, What};
 use pml_names::meaning::{is_special, meaning};
 use pml_names::names::{Names, length_of, stride};
 use pml_names::places::Places;
 use pml_names::table::Table;
-use pml_names::thing::Thing;
 use pml_names::totals::at;
 use profile::{MOST_BITS, MOST_CELLS, MOST_CONSTANTS, MOST_FIELDS, MOST_MESSAGES, MOST_PROCESSES};
+use promela_model::mark::{Constant, Declared, Role, What};
+use promela_model::thing::Thing;
 
 /// Whether a name is declared twice, or one that no text declares.
 pub fn twice(table: &Table, owner: usize, what: &What) -> bool

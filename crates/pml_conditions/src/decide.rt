@@ -4,12 +4,12 @@ ghost use Rattle.std.specs.Prelude.{◌≡◌, IfOk};
 ghost use Rattle.pml_names.specs.Env.{env};
 ghost use Rattle.pml_conditions.specs.Finds.{AreFound, Decides};
 
-use crate::condition::Condition;
 use crate::find::Found;
 use crate::start::{begins_somewhere, starts_too_many};
 use crate::structure::{breaks_loose, crosses_step};
-use pml_marks::mark::Mark;
 use pml_names::table::Table;
+use promela_model::condition::Condition;
+use promela_model::mark::Mark;
 use std::alloc::{AllocError, Global};
 
 /// Whether a condition refuses the model with these marks, where `all` has the names of all of them, and `found` is what was found of them.

@@ -3,8 +3,8 @@
 ghost use Rattle.std.specs.Prelude.{◌≡◌, ◌||◌, false, IfOk};
 ghost use Rattle.pml_names.specs.Env.{env};
 ghost use Rattle.pml_names.specs.Totals.{IsTotalled};
-ghost use Rattle.pml_conditions.specs.declared.condition.Condition.TheVariants as condition;
-ghost use Rattle.pml_conditions.specs.Conditions.{judged};
+ghost use Rattle.promela_model.specs.declared.condition.Condition.TheVariants as condition;
+ghost use Rattle.promela_model.specs.Conditions.{judged};
 ghost use Rattle.pml_conditions.specs.Labels.{told_around};
 ghost use Rattle.pml_conditions.specs.Finds.{AreFound};
 
@@ -12,10 +12,10 @@ use crate::counts::{mislabelled, other_count, out_of_range, too_many, twice};
 use crate::labels::{add_label, all_labels};
 use crate::unknown::unknown;
 use crate::wrong::wrong;
-use pml_marks::mark::{Mark, What};
 use pml_names::names::Names;
 use pml_names::places::Places;
 use pml_names::table::Table;
+use promela_model::mark::{Mark, What};
 use std::alloc::{AllocError, Global};
 
 /// Which of these conditions are broken: at one mark, or somewhere in a text.
@@ -31,7 +31,7 @@ pub struct Found {
 }
 
 /// Which are broken at a mark, among the names and labels of all marks and behind those of the marks before it.
-#[tactic(auto, unfolding(crate::specs::Conditions::judged))]
+#[tactic(auto, unfolding(promela_model::specs::Conditions::judged))]
 pub(crate) fn at_mark(
     all: &Table,
     every: &Places<usize>,

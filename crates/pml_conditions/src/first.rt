@@ -3,16 +3,16 @@
 ghost use Rattle.std.specs.Prelude.{◌≡◌, ◌≢◌, IfOk};
 ghost use Rattle.pml_names.specs.Env.{env};
 ghost use Rattle.pml_conditions.specs.First.{FindsFirst, found_of};
-ghost use Rattle.pml_conditions.specs.declared.condition.Condition.TheVariants as r;
+ghost use Rattle.promela_model.specs.declared.condition.Condition.TheVariants as r;
 
-use crate::condition::Condition;
 use crate::find::{Found, at_mark};
 use crate::first_crossed::{first_crossing, first_loose};
 use crate::labels::{add_label, all_labels};
-use pml_marks::mark::Mark;
 use pml_names::names::Names;
 use pml_names::places::Places;
 use pml_names::table::Table;
+use promela_model::condition::Condition;
+use promela_model::mark::Mark;
 use std::alloc::{AllocError, Global};
 
 /// What was found of a condition.

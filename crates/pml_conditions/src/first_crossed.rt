@@ -2,12 +2,12 @@
 
 ghost use Rattle.std.specs.Prelude.{IfOk};
 ghost use Rattle.pml_conditions.specs.First.{FindsFirst};
-ghost use Rattle.pml_conditions.specs.declared.condition.Condition.TheVariants as r;
+ghost use Rattle.promela_model.specs.declared.condition.Condition.TheVariants as r;
 
 use crate::labels::label_steps;
 use crate::round::Rounds;
 use crate::structure::{crosses, loose};
-use pml_marks::mark::Mark;
+use promela_model::mark::Mark;
 use std::alloc::{AllocError, Global};
 
 /// The first break that no `do` is round.

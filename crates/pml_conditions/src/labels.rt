@@ -2,13 +2,15 @@
 
 ghost use Rattle.std.specs.Prelude.{◌≡◌, ◌||◌, ℕ, List, reverse, OnOk, IfOk};
 ghost use Rattle.pml_names.specs.Places.{IsKept, stands};
-ghost use Rattle.pml_conditions.specs.Structure.{AddsStep, is_label};
+ghost use Rattle.pml_conditions.specs.Step.{AddsStep};
+ghost use Rattle.promela_model.specs.Decided.{is_label};
 ghost use Rattle.pml_conditions.specs.Labels.{labels_of, AreLabels};
 ghost use Rattle.pml_conditions.specs.Open.{AreSteps};
 
-use crate::round::{Round, Rounds};
-use pml_marks::mark::{Mark, What};
+use crate::round::Rounds;
 use pml_names::places::Places;
+use promela_model::mark::{Mark, What};
+use promela_model::round::Round;
 use std::alloc::{AllocError, Global};
 
 /// Adds the label that a mark is.

@@ -1,7 +1,6 @@
 //! The conditions that refuse a model, as far as they are decided on its marks.
 #![tactic(auto)]
 
-pub mod condition;
 mod counts;
 pub mod decide;
 pub mod find;

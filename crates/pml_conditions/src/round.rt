@@ -3,21 +3,11 @@
 ghost use Rattle.std.specs.Prelude.{◌≡◌, [], slice_index_or, OnOk};
 ghost use Rattle.pml_conditions.specs.Open.{outside, in_loop, in_step, top, passed};
 
-use pml_marks::mark::{Structure, What};
+use promela_model::mark::{Structure, What};
+use promela_model::round::Round;
 use sqlite_items::Items;
 use std::alloc::{AllocError, Global};
 use std::marker::Model;
-
-/// What stands round a place of a body.
-#[derive(Clone, Copy, Debug, PartialEq, Eq)]
-pub struct Round {
-    /// Whether a `do` does.
-    pub looped: bool,
-    /// Whether the innermost `do` or d_step is a d_step, so that a `break` would leave it.
-    pub cut: bool,
-    /// The innermost d_step, by how many marks stand before its own.
-    pub step: Option<usize>,
-}
 
 /// Nothing.
 pub fn outside() -> Round
@@ -67,7 +57,7 @@ pub struct Rounds {
 
 impl Model for Rounds {
     ghost use Rattle.std.specs.Prelude.{List, reverse};
-    ghost use Rattle.pml_conditions.specs.declared.round.Round.{Round};
+    ghost use Rattle.promela_model.specs.declared.round.Round.{Round};
 
     ghost Value = { List Round };
 

@@ -3,17 +3,17 @@
 ghost use Rattle.std.specs.Prelude.{◌≡◌, ℕ, ◌+◌, ◌^◌, ◌<◌, ◌≤◌, min, nat_eq, if◌then◌else◌, length, slice_index_or, IfOk, OnOk};
 ghost use Rattle.pml_names.specs.Entry.{found};
 ghost use Rattle.pml_names.specs.Env.{env};
-ghost use Rattle.pml_conditions.specs.Start.{begins, started, processes, channels_of, made, by_processes, channels_in, first_channels, raised};
-ghost use Rattle.pml_conditions.specs.Decided.{begins_there};
+ghost use Rattle.promela_model.specs.Decided.{begins, started, processes, channels_of, made, by_processes, channels_in, first_channels, begins_there};
+ghost use Rattle.pml_conditions.specs.Step.{raised};
 ghost use Rattle.pml_conditions.specs.Finds.{Finds, Decides};
-ghost use Rattle.pml_conditions.specs.declared.condition.Condition.TheVariants as condition;
+ghost use Rattle.promela_model.specs.declared.condition.Condition.TheVariants as condition;
 
 use crate::counts::capacity;
-use pml_marks::mark::{Declared, Makes, Mark, What};
 use pml_names::names::{form, length_of};
 use pml_names::table::Table;
 use pml_program::form::Form;
 use profile::{MOST_CHANNELS, MOST_PROCESSES};
+use promela_model::mark::{Declared, Makes, Mark, What};
 use sqlite_items::Items;
 use std::alloc::{AllocError, Global};
 

@@ -2,14 +2,14 @@
 
 ghost use Rattle.std.specs.Prelude.{◌≡◌, IfOk};
 ghost use Rattle.pml_names.specs.Places.{stands};
-ghost use Rattle.pml_conditions.specs.Structure.{loose, same_step, elsewhere, crosses};
-ghost use Rattle.pml_conditions.specs.Decided.{breaks_loose, crosses_step};
+ghost use Rattle.promela_model.specs.Decided.{loose, same_step, elsewhere, crosses, breaks_loose, crosses_step};
 ghost use Rattle.pml_conditions.specs.Finds.{Finds};
 
 use crate::labels::label_steps;
-use crate::round::{Round, Rounds};
-use pml_marks::mark::{Mark, What};
+use crate::round::Rounds;
 use pml_names::places::Places;
+use promela_model::mark::{Mark, What};
+use promela_model::round::Round;
 use std::alloc::{AllocError, Global};
 
 pub(crate) fn loose(round: Round, what: &What) -> bool

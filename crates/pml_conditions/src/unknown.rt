@@ -2,13 +2,13 @@
 
 ghost use Rattle.std.specs.Prelude.{◌≡◌};
 ghost use Rattle.pml_names.specs.Entry.{found as names_of};
-ghost use Rattle.pml_conditions.specs.Conditions.{lacks, lost, unknown_in, unknown_name, unknown};
+ghost use Rattle.promela_model.specs.Conditions.{lacks, lost, unknown_in, unknown_name, unknown};
 
-use pml_marks::mark::{Shape, What};
 use pml_names::meaning::{field, is_special, meaning};
 use pml_names::table::Table;
-use pml_names::thing::Thing;
 use pml_program::form::Form;
+use promela_model::mark::{Shape, What};
+use promela_model::thing::Thing;
 
 fn lacks(table: &Table, form: Form, steps: &[Shape]) -> bool
     ensures { result ≡ lacks (names_of table.now) form steps.now }

@@ -3,14 +3,14 @@
 ghost use Rattle.std.specs.Prelude.{◌≡◌, not};
 ghost use mathlib.Core.Bool.{beq};
 ghost use Rattle.pml_names.specs.Entry.{found as names_of};
-ghost use Rattle.pml_conditions.specs.Conditions.{is_plain, is_compared, is_stored, is_preset, is_unknown, misused, misfits, wrong_thing, wrong_special, wrong_in, wrong};
+ghost use Rattle.promela_model.specs.Conditions.{is_plain, is_compared, is_stored, is_preset, is_unknown, misused, misfits, wrong_thing, wrong_special, wrong_in, wrong};
 
-use pml_marks::mark::{Constant, Holder, Shape, Use, What};
 use pml_names::meaning::{field, is_any, is_pid, is_special, meaning};
 use pml_names::table::Table;
-use pml_names::thing::Thing;
 use pml_program::form::Form;
 use pml_tree::tree::Scalar;
+use promela_model::mark::{Constant, Holder, Shape, Use, What};
+use promela_model::thing::Thing;
 
 fn is_plain(first: &Shape, rest: &[Shape]) -> bool
     ensures { result ≡ is_plain first.now rest.now }

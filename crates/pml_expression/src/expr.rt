@@ -1,7 +1,7 @@
 //! Expressions, by precedence climbing.
 
 ghost use Rattle.std.specs.Prelude.{length};
-ghost use Rattle.pml_expression.specs.Grammar.{prefix_level};
+ghost use Rattle.promela_model.specs.GrammarOfExpressions.{prefix_level};
 ghost use Rattle.pml_expression.specs.Reading as reading;
 ghost use Rattle.pml_expression.specs.Reading.{Reads};
 

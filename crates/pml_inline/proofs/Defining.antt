@@ -3,8 +3,7 @@ use Rattle.std.proofs.Common.{◌≡◌, ℕ, ◌+◌, ◌-◌, ◌*◌, ◌≤�
 use Rattle.std.proofs.lemmas.List.{drop-drop, drop_all, get_or_past, drop-map, take-map, take_rest}
 use Rattle.pml_token.specs.declared.token.Kind.TheVariants.{Name, OpenParen, OpenBrace, CloseBrace}
 use Rattle.pml_token.specs.Word.{same_kind, Word}
-use Rattle.pml_inline.specs.Brackets.{has_inline, closing}
-use Rattle.pml_inline.specs.Inlines.{Inline, parameters, listed, with_end, with_body, with_parameters, definition, all_differ}
+use Rattle.promela_text.specs.Inlines.{has_inline, closing, Inline, parameters, listed, with_end, with_body, with_parameters, definition, all_differ}
 use Rattle.pml_inline.specs.Places.{no_word, word_at, words_of}
 use Rattle.pml_inline.proofs.Lists.{begins_at, definition_is}
 

@@ -3,8 +3,7 @@ use Rattle.std.proofs.Common.{◌≡◌, ℕ, ◌+◌, ◌<◌, ◌≤◌, Bool,
 use Rattle.std.proofs.lemmas.Bool.{lt-leb, le-leb}
 use Rattle.pml_token.specs.Word.{Word}
 use Rattle.profile.specs.declared.TheConstants.{MOST_REPLACED}
-use Rattle.pml_inline.specs.Calls.{Given, join, nothing, itself}
-use Rattle.pml_inline.specs.Expansion.{limited}
+use Rattle.promela_text.specs.Expansion.{Given, join, nothing, itself, limited}
 use Rattle.pml_inline.specs.Texts.{IsPast}
 
 abbrev given : List Word → ℕ → Given

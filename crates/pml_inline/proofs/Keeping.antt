@@ -7,10 +7,8 @@ use Rattle.std.proofs.lemmas.List.Elements.{All-nil, All-cons, All-head, All-tai
 use Rattle.pml_token.specs.declared.token.Kind.TheVariants.{OpenParen, CloseParen, OpenBrace, CloseBrace, Comma}
 use Rattle.pml_token.specs.Word.{same_kind, Word}
 use Rattle.profile.specs.declared.TheConstants.{MOST_CALLS, MOST_REPLACED}
-use Rattle.pml_inline.specs.Brackets.{is_name, is_inline, has_inline, begins, closing, put, part_turn, parts, arguments, level_behind}
-use Rattle.pml_inline.specs.Inlines.{Inline, is_among, parameters, listed, with_end, with_parameters, definition, and_inline, definition_turn, definitions, all_differ}
-use Rattle.pml_inline.specs.Calls.{Given, join, itself, counted, parameter, unwrap_list, instead, replaced, fits, callee, enclosed, turn, reading, where_right, calling}
-use Rattle.pml_inline.specs.Expansion.{braces_behind, outermost, defined, text_turn, texts, limited, by_definitions, expansion, Expands}
+use Rattle.promela_text.specs.Inlines.{is_name, is_inline, has_inline, begins, closing, put, part_turn, parts, arguments, level_behind, Inline, is_among, parameters, listed, with_end, with_parameters, definition, and_inline, definition_turn, definitions, all_differ}
+use Rattle.promela_text.specs.Expansion.{Given, join, itself, counted, parameter, unwrap_list, instead, replaced, fits, callee, enclosed, turn, reading, where_right, calling, braces_behind, outermost, defined, text_turn, texts, limited, by_definitions, expansion, Expands}
 
 module _ (P : Word → Type 0) where
   abbrev Of : List Word → Type 0

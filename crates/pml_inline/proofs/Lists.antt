@@ -7,8 +7,7 @@ use denote.Enum.Bare.{same_true}
 use Rattle.pml_token.specs.contracts.token.Kind.{the_type}
 use Rattle.pml_token.specs.declared.token.Kind.TheVariants.{Name, Inline as InlineWord, OpenParen, CloseParen, Comma, End}
 use Rattle.pml_token.specs.Word.{same_kind, Word}
-use Rattle.pml_inline.specs.Brackets.{is_inline, has_inline, is_name, begins, one_more, to_closing, closing, level_behind, put, part_turn, parts}
-use Rattle.pml_inline.specs.Inlines.{Inline, and_name, names, parameters, with_parameters, definition, and_inline, define, definition_turn, definitions}
+use Rattle.promela_text.specs.Inlines.{is_inline, has_inline, is_name, begins, one_more, to_closing, closing, level_behind, put, part_turn, parts, Inline, and_name, names, parameters, with_parameters, definition, and_inline, define, definition_turn, definitions}
 use Rattle.pml_inline.specs.Places.{no_word, word_at, words_of, places_from}
 use Rattle.std.specs.Borrow.{Bor}
 use Rattle.pml_inline.specs.declared.definitions.Part.{Part}

@@ -9,9 +9,8 @@ use Rattle.std.proofs.lemmas.List.{map-append, take_more, take-append-drop, leng
 use Rattle.std.proofs.lemmas.List.Elements.{All-head, All-tail}
 use Rattle.pml_token.specs.Word.{Word, same_kind}
 use Rattle.pml_token.specs.declared.token.Kind.TheVariants.{OpenParen}
-use Rattle.pml_inline.specs.Brackets.{is_name, begins, one_more}
-use Rattle.pml_inline.specs.Inlines.{Inline, is_among, all_differ}
-use Rattle.pml_inline.specs.Calls.{place_of, callee}
+use Rattle.promela_text.specs.Inlines.{is_name, begins, one_more, Inline, is_among, all_differ}
+use Rattle.promela_text.specs.Expansion.{place_of, callee}
 use Rattle.pml_inline.specs.Places.{word_at, words_of}
 use Rattle.std.specs.Borrow.{Bor}
 use Rattle.pml_inline.specs.declared.definitions.Definition.{Definition}

@@ -9,9 +9,8 @@ use Rattle.pml_token.specs.Word.{Word}
 use Rattle.profile.specs.declared.TheConstants.{MOST_CALLS}
 use Rattle.pml_inline.specs.declared.calls.Text.{Text}
 use Rattle.pml_inline.specs.declared.definitions.Definition.{Definition}
-use Rattle.pml_inline.specs.Brackets.{arguments}
-use Rattle.pml_inline.specs.Inlines.{Inline, is_among}
-use Rattle.pml_inline.specs.Calls.{Given, join, is_empty, fits, replaced, reading, calling}
+use Rattle.promela_text.specs.Inlines.{arguments, Inline, is_among}
+use Rattle.promela_text.specs.Expansion.{Given, join, is_empty, fits, replaced, reading, calling}
 use Rattle.pml_inline.specs.Places.{word_at, words_of}
 use Rattle.pml_inline.specs.Parts.{inline_of, inlines_of, is_bare, lists_of, places_replaced, IsMarked}
 use Rattle.pml_inline.specs.Texts.{inlines, IsText, name_of, around, AreNumbers, call_within, read_within, IsReplaced, IsNotReplaced}

@@ -5,9 +5,8 @@ use Rattle.std.proofs.lemmas.List.{map-append}
 use Rattle.std.proofs.lemmas.List.Elements.{All-head, All-tail}
 use Rattle.pml_token.specs.Word.{Word}
 use Rattle.pml_inline.specs.declared.definitions.Part.{Part}
-use Rattle.pml_inline.specs.Brackets.{arguments}
-use Rattle.pml_inline.specs.Inlines.{Inline, is_among}
-use Rattle.pml_inline.specs.Calls.{Given, join, counted, parameter, unwrap_list, instead, replaced, is_empty, fits, where_right, reading, calling}
+use Rattle.promela_text.specs.Inlines.{arguments, Inline, is_among}
+use Rattle.promela_text.specs.Expansion.{Given, join, counted, parameter, unwrap_list, instead, replaced, is_empty, fits, where_right, reading, calling}
 use Rattle.pml_inline.specs.Places.{word_at, words_of}
 use Rattle.pml_inline.specs.Parts.{places_of, AreMarked, unwrap_places, places_instead, places_replaced, is_bare}
 

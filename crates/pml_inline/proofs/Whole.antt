@@ -1,13 +1,13 @@
 -- The expansion, from its parts.
 use Rattle.std.proofs.Common.{◌≡◌, ℕ, Bool, true, false, cond, List, [], map, Option, Some, None, refl, ap, sym, subst, ◌∙◌}
 use Rattle.pml_token.specs.Word.{Word}
-use Rattle.pml_lex.specs.Limits.{IsTooDeep}
-use Rattle.pml_inline.specs.declared.fault.InlineFault.{InlineFault}
-use Rattle.pml_inline.specs.declared.fault.InlineFault.TheVariants.{Memory, Inline as Misused, TooDeep}
-use Rattle.pml_inline.specs.Inlines.{Inline, all_differ, definitions}
-use Rattle.pml_inline.specs.Expansion.{texts, limited, by_definitions, expansion, Expands, IsExpanded, IsLeast, IsFaultOnLine}
+use Rattle.promela_text.specs.Tokens.{IsTooDeep}
+use Rattle.promela_text.specs.declared.inline_fault.InlineFault.{InlineFault}
+use Rattle.promela_text.specs.declared.inline_fault.InlineFault.TheVariants.{Memory, Inline as Misused, TooDeep}
+use Rattle.promela_text.specs.Inlines.{Inline, all_differ, definitions}
+use Rattle.promela_text.specs.Expansion.{texts, limited, by_definitions, expansion, Expands, IsExpanded, Given}
+use Rattle.pml_inline.specs.Least.{IsLeast, IsFaultOnLine}
 use Rattle.pml_inline.specs.Parts.{IsUndefined, IsRepeated}
-use Rattle.pml_inline.specs.Calls.{Given}
 use Rattle.pml_inline.specs.Texts.{IsMisread}
 
 pub expansion_is : (ts : List Word) (ds : List Inline) → definitions ts 0 ≡ Some ds → all_differ (map (λ d. d.name) ds) ≡ true → expansion ts ≡ limited (texts ts [] ds 0 0)

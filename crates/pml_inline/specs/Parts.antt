@@ -9,10 +9,10 @@ use Rattle.pml_token.specs.Word.{Word}
 use Rattle.pml_inline.specs.declared.definitions.Part.{Part}
 use Rattle.pml_inline.specs.declared.definitions.Definition.{Definition}
 use Rattle.pml_inline.specs.Places.{word_at, words_of}
-use Rattle.pml_inline.specs.declared.fault.InlineFault.{InlineFault}
-use Rattle.pml_inline.specs.declared.fault.InlineFault.TheVariants.{Memory, Inline as Misused, TooDeep}
-use Rattle.pml_inline.specs.Inlines.{Inline, all_differ, definition, definitions}
-use Rattle.pml_inline.specs.Calls.{parameter, place_of}
+use Rattle.promela_text.specs.declared.inline_fault.InlineFault.{InlineFault}
+use Rattle.promela_text.specs.declared.inline_fault.InlineFault.TheVariants.{Memory, Inline as Misused, TooDeep}
+use Rattle.promela_text.specs.Inlines.{Inline, all_differ, definition, definitions}
+use Rattle.promela_text.specs.Expansion.{parameter, place_of}
 
 abbrev pub texts_of : List (Bor (List ℕ)) → List (List ℕ)
 texts_of ns = map (λ n. n.now) ns

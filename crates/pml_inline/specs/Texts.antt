@@ -5,14 +5,12 @@ use Rattle.pml_token.specs.Word.{Word}
 use Rattle.profile.specs.declared.TheConstants.{MOST_CALLS, MOST_REPLACED}
 use Rattle.pml_inline.specs.declared.calls.Text.{Text}
 use Rattle.pml_inline.specs.declared.calls.Given as code
-use Rattle.pml_inline.specs.declared.fault.InlineFault.{InlineFault}
-use Rattle.pml_inline.specs.declared.fault.InlineFault.TheVariants.{Memory, Inline as Misused, TooDeep}
-use Rattle.pml_inline.specs.Brackets.{is_inline}
-use Rattle.pml_inline.specs.Inlines.{Inline, all_differ, definitions}
+use Rattle.promela_text.specs.declared.inline_fault.InlineFault.{InlineFault}
+use Rattle.promela_text.specs.declared.inline_fault.InlineFault.TheVariants.{Memory, Inline as Misused, TooDeep}
+use Rattle.promela_text.specs.Inlines.{is_inline, Inline, all_differ, definitions}
 use Rattle.pml_inline.specs.Places.{word_at, words_of}
 use Rattle.pml_inline.specs.Parts.{inlines_of, AreAllMarked, AreShort, number_of}
-use Rattle.pml_inline.specs.Calls.{Given, join, callee, calling, reading}
-use Rattle.pml_inline.specs.Expansion.{texts, limited}
+use Rattle.promela_text.specs.Expansion.{Given, join, callee, calling, reading, texts, limited}
 
 abbrev pub inlines : Text → List Inline
 inlines t = inlines_of t.tokens.now t.definitions.now

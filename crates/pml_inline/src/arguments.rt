@@ -3,7 +3,7 @@
 ghost use Rattle.std.specs.Prelude.{◌≡◌, ◌<◌, ◌≤◌, ◌-◌, ◌+◌, ◌++◌, ◌^◌, List, length, map, IfOk, OnOk, MatchOption};
 ghost use Rattle.std.specs.List.{list_any};
 ghost use Rattle.pml_inline.specs.Places.{words_of};
-ghost use Rattle.pml_inline.specs.Brackets as brackets;
+ghost use Rattle.promela_text.specs.Inlines as brackets;
 ghost use Rattle.pml_inline.specs.Parts.{IsWithin, places_replaced, places_instead, is_bare, lists_of};
 
 use crate::definitions::Part;

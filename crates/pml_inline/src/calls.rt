@@ -4,15 +4,16 @@ ghost use Rattle.std.specs.Prelude.{◌≡◌, ◌<◌, ◌≤◌, ◌+◌, ◌-
 ghost use Rattle.std.specs.List.{list_any};
 ghost use Rattle.pml_inline.specs.Parts.{is_bare, lists_of};
 ghost use Rattle.std.specs.Bool.{OnTrue};
-ghost use Rattle.pml_inline.specs.Calls as calls;
+ghost use Rattle.promela_text.specs.Expansion as calls;
 ghost use Rattle.pml_inline.specs.Texts.{IsText, IsCalled, AnswersCall, below, AreNumbers, IsRead, read_within, given_of};
 
 use crate::arguments::{arguments, has_empty, replaced};
 use crate::definitions::Definition;
-use crate::misuse::{Call, Misuse, of_call, of_open};
+use crate::misuse::{Call, of_call, of_open};
 use crate::places::{closing, kind_at, token_at};
 use pml_token::token::{Kind, Token, same_kind};
 use profile::{MOST_CALLS, MOST_REPLACED};
+use promela_text::misuse::Misuse;
 use std::alloc::{AllocError, Global};
 
 /// A text with its definitions.

@@ -3,15 +3,15 @@
 ghost use Rattle.std.specs.Prelude.{◌≡◌, ◌==◌, ◌*◌, if◌then◌else◌, ◌<◌, ◌≤◌, ◌+◌, ◌^◌, ℕ, List, None, Some, false, true, drop, length, map, IfOk, IfErr, IfSome, MatchOption, MatchResult, All};
 ghost use Rattle.pml_token.specs.Word.{Word};
 ghost use Rattle.pml_inline.specs.Places.{words_of, word_at};
-ghost use Rattle.pml_inline.specs.Inlines as inlines;
-ghost use Rattle.pml_inline.specs.Calls as calls;
+ghost use Rattle.promela_text.specs.Inlines as inlines;
+ghost use Rattle.promela_text.specs.Expansion as calls;
 ghost use Rattle.pml_inline.specs.Parts.{AreNumbered, texts_of, places_of, AreMarked, IsDefinition, inlines_of, AreAllMarked, AreShort, number_of, IsUndefined, IsRepeated};
 
-use crate::fault::InlineFault;
 use crate::misuse::{of_definition, of_names};
 use crate::names::{Names, numbered};
 use crate::places::{closing, has_inline, is_inline, kind_at, text_at};
 use pml_token::token::{Kind, Token, same_kind};
+use promela_text::inline_fault::InlineFault;
 use std::alloc::{AllocError, Global};
 
 /// A token of a body: where it stands in the text, and the parameter that it names.

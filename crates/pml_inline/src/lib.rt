@@ -4,7 +4,6 @@
 mod arguments;
 mod calls;
 mod definitions;
-pub mod fault;
 pub mod laws;
 pub mod misuse;
 mod names;
@@ -14,12 +13,13 @@ mod texts;
 ghost use Rattle.std.specs.Prelude.{◌≡◌, ℕ, List, IfOk, IfErr, MatchResult};
 ghost use Rattle.pml_lex.specs.Rows.{AreOnLines};
 ghost use Rattle.pml_token.specs.Word.{Word};
-ghost use Rattle.pml_inline.specs.Expansion.{IsExpanded, IsLeast, IsFaultOnLine};
+ghost use Rattle.promela_text.specs.Expansion.{IsExpanded};
+ghost use Rattle.pml_inline.specs.Least.{IsLeast, IsFaultOnLine};
 
-use fault::InlineFault;
 use misuse::passed;
 use pml_lex::limits::first_too_deep;
 use pml_token::token::Token;
+use promela_text::inline_fault::InlineFault;
 use std::alloc::Global;
 
 /// The tokens of a text, with its definitions of inlines taken out and each call of one replaced.

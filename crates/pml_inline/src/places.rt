@@ -2,7 +2,7 @@
 
 ghost use Rattle.std.specs.Prelude.{◌≡◌, ◌<◌, IfOk, IfSome, length};
 ghost use Rattle.pml_inline.specs.Places.{word_at, words_of, places_from};
-ghost use Rattle.pml_inline.specs.Brackets as brackets;
+ghost use Rattle.promela_text.specs.Inlines as brackets;
 
 use pml_token::token::{Kind, Token, same_kind};
 use std::alloc::{AllocError, Global};
@@ -52,7 +52,7 @@ pub(crate) fn text_at<'t>(tokens: &[Token<'t>], place: usize) -> &'t [u8]
 }
 
 /// Whether a token is the word `inline`.
-#[tactic(auto, unfolding(crate::specs::Brackets::is_inline))]
+#[tactic(auto, unfolding(promela_text::specs::Inlines::is_inline))]
 pub(crate) fn is_inline(token: &Token<'_>) -> bool
     ensures { result ≡ brackets.is_inline token.now }
 {

@@ -2,16 +2,17 @@
 
 ghost use Rattle.std.specs.Prelude.{◌≡◌, ◌<◌, ◌≤◌, ◌+◌, ◌^◌, ◌-◌, [], Some, IfOk, IfErr};
 ghost use Rattle.pml_token.specs.Word.{Word};
-ghost use Rattle.pml_inline.specs.Inlines.{definitions};
-ghost use Rattle.pml_inline.specs.Expansion as expansion;
+ghost use Rattle.promela_text.specs.Inlines.{definitions};
+ghost use Rattle.promela_text.specs.Expansion as expansion;
 ghost use Rattle.pml_inline.specs.Texts.{IsText, ReadsCall, inlines, given_of, IsCall, IsMisread};
 
 use crate::calls::{Given, Text, callee, read};
-use crate::fault::InlineFault;
-use crate::misuse::{Misuse, of_inner, of_open};
+use crate::misuse::{of_inner, of_open};
 use crate::places::{closing, has_inline, is_inline};
 use pml_token::token::{Kind, Token, same_kind};
 use profile::MOST_REPLACED;
+use promela_text::inline_fault::InlineFault;
+use promela_text::misuse::Misuse;
 use std::alloc::{AllocError, Global};
 
 /// How many braces are open behind a token.

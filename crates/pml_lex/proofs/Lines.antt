@@ -4,12 +4,10 @@ use Rattle.std.specs.Prelude.{count_by}
 use Rattle.std.specs.List.{concat}
 use Rattle.std.proofs.lemmas.List.Sums.{sum_by-append}
 use Rattle.std.proofs.lemmas.List.Elements.{All-append, All-nil, All-cons}
-use Rattle.pml_lex.specs.declared.piece.Piece.{Piece}
-use Rattle.pml_lex.specs.declared.piece.Piece.TheVariants.{Skipped, Token}
+use Rattle.promela_text.specs.declared.piece.Piece.{Piece}
+use Rattle.promela_text.specs.declared.piece.Piece.TheVariants.{Skipped, Token}
 use Rattle.pml_token.specs.Word.{Word}
-use Rattle.pml_lex.specs.Pieces.{piece}
-use Rattle.pml_lex.specs.Division.{IsCut, is_line_feed, line_behind, is_fresh, word, words}
-use Rattle.pml_lex.specs.Limits.{IsOnLine}
+use Rattle.promela_text.specs.Tokens.{piece, IsCut, is_line_feed, line_behind, is_fresh, word, words, IsOnLine}
 use Rattle.pml_lex.specs.Rows.{AreOnLines}
 
 pub line_on : (before rest text : List ℕ) → before ++ rest ≡ text → IsOnLine (line_behind text) (line_behind before)

@@ -1,11 +1,10 @@
 -- The tokens of a division stand in its text, in order.
 use Rattle.std.proofs.Common.{ℕ, List, [], ◌∷◌, ◌++◌, Option, Some, None, sym, refl, ap, ◌∙◌, subst, append_assoc, append-nil}
 use Rattle.std.specs.List.{concat}
-use Rattle.pml_lex.specs.declared.piece.Piece.{Piece}
-use Rattle.pml_lex.specs.declared.piece.Piece.TheVariants.{Skipped, Token}
+use Rattle.promela_text.specs.declared.piece.Piece.{Piece}
+use Rattle.promela_text.specs.declared.piece.Piece.TheVariants.{Skipped, Token}
 use Rattle.pml_token.specs.Word.{Word}
-use Rattle.pml_lex.specs.Pieces.{piece}
-use Rattle.pml_lex.specs.Division.{IsCut, word, words, line_behind, is_fresh}
+use Rattle.promela_text.specs.Tokens.{piece, IsCut, word, words, line_behind, is_fresh}
 use Rattle.pml_lex.specs.Laws.{StandsNext, StandInOrder}
 
 -- what is skipped belongs to the gap before the next token

@@ -4,9 +4,8 @@ use Rattle.profile.specs.declared.TheConstants.{MOST_TEXT_BYTES}
 use Rattle.pml_lex.specs.declared.fault.LexFault.{LexFault}
 use Rattle.pml_lex.specs.declared.fault.LexFault.TheVariants.{Memory, TooLong, Lexical, LeftOut}
 use Rattle.pml_token.specs.Word.{Word}
-use Rattle.pml_lex.specs.Division.{line_behind, IsCut}
+use Rattle.promela_text.specs.Tokens.{line_behind, IsCut, CannotBeCut, HoldsLeftOut}
 use Rattle.pml_lex.specs.Rows.{AreOnLines}
-use Rattle.pml_lex.specs.Cut.{CannotBeCut, HoldsLeftOut}
 
 -- the fault is the least that applies
 abbrev pub IsLeast : List ℕ → LexFault → Type 0

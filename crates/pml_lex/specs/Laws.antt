@@ -3,8 +3,7 @@ use Rattle.std.specs.Prelude.{◌≡◌, ℕ, true, false, List, [], ◌∷◌, 
 use Rattle.std.specs.List.{list_all, list_any}
 use Rattle.profile.specs.Characters.{line_feed}
 use Rattle.pml_token.specs.Word.{Word}
-use Rattle.pml_lex.specs.Pieces.{is_blank}
-use Rattle.pml_lex.specs.Division.{is_line_feed, line_behind}
+use Rattle.promela_text.specs.Tokens.{is_blank, is_line_feed, line_behind}
 
 -- the text is its lines above, which are none or end with a line feed, and blanks
 pub record LastLineIsBlank (text : List ℕ) : Type 0 where

@@ -3,7 +3,7 @@ use Rattle.std.specs.Prelude.{◌<◌, ℕ, ◌+◌, List, take, fold, All, if�
 use Rattle.profile.specs.declared.TheConstants.{MOST_IN_A_ROW, MOST_OPEN}
 use Rattle.pml_token.specs.declared.token.Kind.{Kind}
 use Rattle.pml_token.specs.Word.{Word}
-use Rattle.pml_lex.specs.Limits.{IsOnLine, breaks, depth_behind}
+use Rattle.promela_text.specs.Tokens.{IsOnLine, breaks, depth_behind}
 
 -- each token is on one of the lines from 1 to `most`
 abbrev pub AreOnLines : ℕ → List Word → Type 0

@@ -3,7 +3,7 @@
 ghost use Rattle.std.specs.Prelude.{◌≡◌, ◌++◌, ◌∷◌, [], List, ℕ, true};
 ghost use Rattle.std.specs.List.{concat};
 ghost use Rattle.pml_token.specs.Word.{Word};
-ghost use Rattle.pml_lex.specs.Division.{IsDivision, IsCut, is_fresh, line_behind};
+ghost use Rattle.promela_text.specs.Tokens.{IsDivision, IsCut, is_fresh, line_behind};
 ghost use Rattle.pml_lex.specs.Rows.{AreOnLines};
 ghost use Rattle.pml_lex.specs.Laws.{LastLineIsBlank, StandInOrder};
 

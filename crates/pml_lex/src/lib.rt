@@ -9,16 +9,16 @@ mod words;
 
 ghost use Rattle.std.specs.Prelude.{◌≡◌, ◌≤◌, ◌<◌, ◌+◌, ◌^◌, ℕ, List, length, count_by, MatchResult, IfOk, IfErr, IfSome};
 ghost use Rattle.pml_token.specs.Word.{Word};
-ghost use Rattle.pml_lex.specs.Division.{is_line_feed, fresh_from};
-ghost use Rattle.pml_lex.specs.Cut.{AreTokens};
+ghost use Rattle.promela_text.specs.Tokens.{is_line_feed, fresh_from, AreTokens};
 ghost use Rattle.pml_lex.specs.Divided.{IsLeast, IsUncut, IsDivided};
 ghost use Rattle.profile.specs.declared.TheConstants.{MOST_TEXT_BYTES};
 
 use fault::LexFault;
 use limits::first_left_out;
-use piece::{Piece, is_blank, next};
+use piece::{is_blank, next};
 use pml_token::token::Token;
 use profile::MOST_TEXT_BYTES;
+use promela_text::piece::Piece;
 use std::alloc::Global;
 
 /// What a text that is skipped leads to.

@@ -1,9 +1,9 @@
 //! What a list of tokens may not hold.
 
 ghost use Rattle.std.specs.Prelude.{◌≡◌, ◌≤◌, ◌<◌, ◌+◌, ◌^◌, ◌-◌, ℕ, true, false, All, MatchOption, length, take, ⊤};
-ghost use Rattle.pml_lex.specs.Limits as limits;
+ghost use Rattle.promela_text.specs.Tokens as limits;
 ghost use Rattle.pml_lex.specs.Rows as rows;
-ghost use Rattle.pml_lex.specs.Limits.{IsOnLine};
+ghost use Rattle.promela_text.specs.Tokens.{IsOnLine};
 ghost use Rattle.pml_lex.specs.Rows.{AreOnLines};
 ghost use Rattle.pml_token.specs.Word.{Word};
 

@@ -2,39 +2,12 @@
 
 ghost use Rattle.std.specs.Prelude.{◌≡◌, ◌<◌, ◌≤◌, ◌+◌, length, drop, false, IfSome};
 ghost use Rattle.std.specs.List.{prefix_len};
-ghost use Rattle.pml_lex.specs.Pieces as pieces;
+ghost use Rattle.promela_text.specs.Tokens as pieces;
 ghost use Rattle.pml_lex.specs.Scanning as scanning;
 
 use crate::words::{sign_of_one, sign_of_two, word_kind};
 use pml_token::token::Kind;
-
-/// What a byte begins.
-#[derive(Clone, Copy, Debug, PartialEq, Eq)]
-pub enum Class {
-    /// A blank, which is a piece by itself.
-    Blank,
-    /// A word: a letter or `_`.
-    Letter,
-    /// A number.
-    Digit,
-    /// A string.
-    Quote,
-    /// A comment, or the sign `/`.
-    Slash,
-    /// A `#` line.
-    Hash,
-    /// Another sign, or nothing.
-    Other,
-}
-
-/// What a piece of a text is.
-#[derive(Clone, Copy, Debug, PartialEq, Eq)]
-pub enum Piece {
-    /// A blank, a comment or a `#` line that a preprocessor left.
-    Skipped,
-    /// A token of this kind.
-    Token(Kind),
-}
+use promela_text::piece::{Class, Piece};
 
 /// Whether a byte is a blank: a space, or one from the tab to the carriage return.
 pub fn is_blank(b: u8) -> bool

@@ -1,7 +1,7 @@
 //! The kinds of words and signs.
 
 ghost use Rattle.std.specs.Prelude.{◌≡◌, map, None, unwrap_or};
-ghost use Rattle.pml_lex.specs.Tables as tables;
+ghost use Rattle.promela_text.specs.Tables as tables;
 
 use pml_token::token::Kind;
 

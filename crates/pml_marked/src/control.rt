@@ -4,8 +4,8 @@ use crate::sign::{Matter, Sign, Sought, first_name, front, place_of_name, sign_a
 use pml_causes::brackets::closing;
 use pml_causes::cause::{Cause, ControlCause, Finding, Named, Place};
 use pml_causes::place::{place_of, untold};
-use pml_marks::mark::{Mark, What};
 use pml_token::token::{Kind, Token, same_kind};
+use promela_model::mark::{Mark, What};
 use std::alloc::{AllocError, Global};
 
 /// How many breaks these marks are.

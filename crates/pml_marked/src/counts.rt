@@ -4,7 +4,7 @@ use crate::near::{Wish, nearest};
 use crate::sign::{Matter, Sign, Sought, first, first_name, front, place_of_name, sign_at};
 use pml_causes::cause::{Cause, CountCause, Finding, LabelCause, Named, Place, Sort};
 use pml_causes::place::{at_place, untold};
-use pml_marks::mark::Mark;
+use promela_model::mark::Mark;
 use std::alloc::{AllocError, Global};
 
 /// A wrong number, and where it shows.

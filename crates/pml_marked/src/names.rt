@@ -10,8 +10,8 @@ use pml_causes::cause::{Cause, Finding, Named, Sort, TwiceCause, UnknownCause};
 use pml_causes::foreign::Foreign;
 use pml_causes::place::{at_place, untold};
 use pml_causes::words::foreign_word;
-use pml_marks::mark::{Mark, Shape};
 use pml_names::meaning::is_special;
+use promela_model::mark::{Mark, Shape};
 use std::alloc::{AllocError, Global};
 
 /// Of a name that is declared before already.

@@ -2,7 +2,7 @@
 
 use crate::sign::{Matter, Sign, sign_of};
 use pml_causes::cause::{Named, Sort};
-use pml_marks::mark::Mark;
+use promela_model::mark::Mark;
 use std::alloc::{AllocError, Global};
 use std::str;
 use strsim::osa_distance;

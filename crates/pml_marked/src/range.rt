@@ -6,9 +6,9 @@ use crate::sign::{
 use crate::spans::{Part, place_in};
 use pml_causes::cause::{Cause, Finding, Named, Place, RangeCause};
 use pml_causes::place::{at_place, untold};
-use pml_marks::mark::{Constant, Mark};
 use pml_token::token::Token;
 use profile::MOST_FIELDS;
+use promela_model::mark::{Constant, Mark};
 
 /// A number that is out of range, and where it shows.
 #[derive(Clone, Copy)]

@@ -2,7 +2,7 @@
 
 use pml_causes::cause::{Named, Place};
 use pml_causes::place::named;
-use pml_marks::mark::{Constant, Declared, Holder, Mark, Role, Shape, Structure, Use, What};
+use promela_model::mark::{Constant, Declared, Holder, Mark, Role, Shape, Structure, Use, What};
 
 /// What a mark says.
 #[derive(Clone, Copy)]

@@ -6,13 +6,13 @@ ghost use Rattle.pml_names.specs.Env.{env};
 use crate::sign::{behind, front, last_proctype, next_name, place_of_name};
 use pml_causes::cause::{Cause, Finding, Named, StartCause};
 use pml_causes::place::{at_place, end_of, untold};
-use pml_conditions::condition::Condition;
 use pml_conditions::decide::applies;
 use pml_conditions::find::find;
-use pml_marks::mark::{Constant, Mark, What};
 use pml_names::names::all_names;
 use pml_names::table::Table;
 use profile::MOST_PROCESSES;
+use promela_model::condition::Condition;
+use promela_model::mark::{Constant, Mark, What};
 use std::alloc::{AllocError, Global};
 
 /// Of a text in which no process begins.

@@ -3,12 +3,12 @@
 use crate::sign::nameless;
 use pml_causes::cause::Named;
 use pml_causes::place::named;
-use pml_marks::mark::{Mark, Shape};
 use pml_names::meaning::{field, visible};
 use pml_names::names::all_names;
 use pml_names::table::Table;
-use pml_names::thing::Thing;
 use pml_program::form::Form;
+use promela_model::mark::{Mark, Shape};
+use promela_model::thing::Thing;
 use std::alloc::{AllocError, Global};
 
 /// How far a reference leads. Its names are counted from 0.

@@ -8,11 +8,11 @@ use crate::spans::{Part, place_in};
 use crate::walk::{End, Index, Walk, name_at, walk_behind};
 use pml_causes::cause::{Cause, Finding, Named, Place, Sort, WrongCause};
 use pml_causes::place::{at_place, untold};
-use pml_marks::mark::{Constant, Mark, Shape, Use};
 use pml_names::meaning::{is_any, is_pid, is_special};
 use pml_program::form::Form;
 use pml_token::token::Token;
 use pml_tree::tree::Scalar;
+use promela_model::mark::{Constant, Mark, Shape, Use};
 use std::alloc::{AllocError, Global};
 
 /// What is wrong, and where.

@@ -1,10 +1,10 @@
 //! Numbers of the text, and constant arithmetic.
 
 ghost use Rattle.std.specs.Prelude.{◌≡◌};
-ghost use Rattle.pml_marks.specs.Constant.{numeral, number, joined, applied, negated};
+ghost use Rattle.promela_model.specs.Constant.{numeral, number, joined, applied, negated};
 
-use crate::mark::Constant;
 use pml_tree::tree::Infix;
+use promela_model::mark::Constant;
 
 /// The number that these digits spell, if it has 32 bits.
 pub fn read(digits: &[u8]) -> Option<u32>

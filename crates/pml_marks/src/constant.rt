@@ -1,11 +1,11 @@
 //! Constant expressions.
 
 ghost use Rattle.std.specs.Prelude.{◌≡◌};
-ghost use Rattle.pml_marks.specs.Constant.{constant, is_constant};
+ghost use Rattle.promela_model.specs.Constant.{constant, is_constant};
 
 use crate::arithmetic::{join, negative, value};
-use crate::mark::Constant;
 use pml_tree::tree::{Expr, Infix, Prefix};
+use promela_model::mark::Constant;
 
 /// What an expression gives as a constant expression.
 pub fn constant(e: &Expr) -> Constant

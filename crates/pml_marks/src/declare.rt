@@ -1,13 +1,13 @@
 //! The marks of declarations.
 
 ghost use Rattle.std.specs.Prelude.{◌≡◌, ◌++◌, OnOk, IfOk};
-ghost use Rattle.pml_marks.specs.Marks.{of_sort, of_size, size_of, of_initial, made_by, holder, of_variable, of_variables, preset_layer};
+ghost use Rattle.promela_model.specs.Marks.{of_sort, of_size, size_of, of_initial, made_by, holder, of_variable, of_variables, preset_layer};
 ghost use Rattle.pml_tree.specs.declared.tree.Expr.{out-Expr};
 
 use crate::constant::constant;
 use crate::expr::{add, expr, reference};
-use crate::mark::{Constant, Declared, Holder, Makes, Mark, Role, Use, What};
 use pml_tree::tree::{Expr, Initial, Scalar, Sort, Variable};
+use promela_model::mark::{Constant, Declared, Holder, Makes, Mark, Role, Use, What};
 use sqlite_items::{Boxed, Items};
 use std::alloc::{AllocError, Global};
 

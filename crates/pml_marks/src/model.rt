@@ -1,15 +1,15 @@
 //! The marks of a model.
 
 ghost use Rattle.std.specs.Prelude.{◌≡◌, ◌++◌, OnOk, IfOk};
-ghost use Rattle.pml_marks.specs.MarksOfUnits.{of_starts, of_constants, of_process, of_unit, of_units, of_tree};
+ghost use Rattle.promela_model.specs.MarksOfUnits.{of_starts, of_constants, of_process, of_unit, of_units, of_tree};
 
 use crate::constant::constant;
 use crate::declare::variables;
 use crate::expr::{add, expr};
-use crate::mark::{Constant, Declared, Mark, Role, What};
 use crate::statement::seq;
 use pml_token::token::Token;
 use pml_tree::tree::{Proctype, Starts, Tree, Unit};
+use promela_model::mark::{Constant, Declared, Mark, Role, What};
 use sqlite_items::Items;
 use std::alloc::{AllocError, Global};
 

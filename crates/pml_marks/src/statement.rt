@@ -1,13 +1,13 @@
 //! The marks of statements.
 
 ghost use Rattle.std.specs.Prelude.{◌≡◌, ◌++◌, map, OnOk, IfOk};
-ghost use Rattle.pml_marks.specs.Marks.{of_run, of_action, of_references, of_basic, of_labels, of_item, of_seq, all_marks};
+ghost use Rattle.promela_model.specs.Marks.{of_run, of_action, of_references, of_basic, of_labels, of_item, of_seq, all_marks};
 
 use crate::declare::variables;
 use crate::expr::{add, arguments, expr, exprs, reference};
-use crate::mark::{Mark, Role, Structure, Use, What};
 use pml_token::token::Token;
 use pml_tree::tree::{Action, Basic, Item, Reference, Run, Seq};
+use promela_model::mark::{Mark, Role, Structure, Use, What};
 use sqlite_items::Items;
 use std::alloc::{AllocError, Global};
 

@@ -5,17 +5,16 @@ use Rattle.std.specs.Str.{bytes_eq}
 use Rattle.std.proofs.lemmas.List.{reverse-append}
 use Rattle.std.proofs.lemmas.Bool.{eqb-true}
 use Rattle.std.proofs.lemmas.Slice.Eq.{bytes_eq-Decides}
-use Rattle.pml_marks.specs.declared.mark.Declared.{Declared}
-use Rattle.pml_marks.specs.declared.mark.What.{What}
-use Rattle.pml_marks.specs.declared.mark.What.TheVariants as what
-use Rattle.pml_marks.specs.declared.mark.Mark.{Mark}
+use Rattle.promela_model.specs.declared.mark.Declared.{Declared}
+use Rattle.promela_model.specs.declared.mark.What.{What}
+use Rattle.promela_model.specs.declared.mark.What.TheVariants as what
+use Rattle.promela_model.specs.declared.mark.Mark.{Mark}
 use Rattle.pml_token.specs.Word.{Word}
-use Rattle.pml_names.specs.declared.thing.Thing.{Thing}
+use Rattle.promela_model.specs.declared.thing.Thing.{Thing}
 use Rattle.pml_names.specs.Entry.{Entry, entry, is_named, found}
 use Rattle.pml_names.specs.Env as table
 use Rattle.pml_names.specs.Env.{held, told, add, after, env, env_from}
-use Rattle.pml_names.specs.Meaning.{Naming, or_else}
-use Rattle.pml_names.specs.Naming.{Before, known, declares, newly, in_it, cells_in, variables_in, constants_in, declared, cells, variables, constants, before}
+use Rattle.promela_model.specs.Names.{Naming, or_else, Before, known, declares, newly, in_it, cells_in, variables_in, constants_in, declared, cells, variables, constants, before}
 use Rattle.pml_names.proofs.Totalling.{held-more, variables-more, constants-more}
 
 -- ---- one mark more

@@ -2,10 +2,10 @@
 use Rattle.std.proofs.Common.{◌≡◌, ℕ, ◌+◌, ◌≤◌, ◌<◌, Bool, true, false, cond, List, [], ◌∷◌, ◌++◌, length, take, get_or, refl, ap, sym, ◌∙◌, arith}
 use Rattle.std.specs.Option.{is_some}
 use Rattle.std.proofs.lemmas.List.{take_more}
-use Rattle.pml_marks.specs.declared.mark.What.{What}
-use Rattle.pml_marks.specs.declared.mark.What.TheVariants as what
-use Rattle.pml_marks.specs.declared.mark.Mark.{Mark}
-use Rattle.pml_names.specs.declared.thing.Thing.{Thing}
+use Rattle.promela_model.specs.declared.mark.What.{What}
+use Rattle.promela_model.specs.declared.mark.What.TheVariants as what
+use Rattle.promela_model.specs.declared.mark.Mark.{Mark}
+use Rattle.promela_model.specs.declared.thing.Thing.{Thing}
 use Rattle.pml_names.specs.Entry.{Entry, entry, found}
 use Rattle.pml_names.specs.Env.{env, env_from, after, add, thing_of}
 

@@ -4,10 +4,10 @@ use Rattle.std.proofs.Math.ListN.{set}
 use Rattle.std.proofs.lemmas.List.{get_or-set_same, get_or-set_other}
 use Rattle.std.proofs.lemmas.Bool.Decides.{eqb_tells}
 use Rattle.pml_names.specs.declared.totals.Total.{Total}
-use Rattle.pml_names.specs.declared.thing.Thing.{Thing}
-use Rattle.pml_names.specs.declared.thing.Thing.TheVariants as thing
+use Rattle.promela_model.specs.declared.thing.Thing.{Thing}
+use Rattle.promela_model.specs.declared.thing.Thing.TheVariants as thing
 use Rattle.pml_names.specs.Entry.{Entry, entry}
-use Rattle.pml_names.specs.Naming.{most_cells, cells_in, variables_in, constants_in}
+use Rattle.promela_model.specs.Names.{most_cells, cells_in, variables_in, constants_in}
 use Rattle.pml_names.specs.Env.{held, variables, constants}
 use Rattle.pml_names.specs.Totals.{none, grown, total_at, IsTotalled}
 

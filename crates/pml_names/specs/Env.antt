@@ -1,12 +1,12 @@
 -- The table of names that the code fills, mark by mark. The contracts of code speak of it; what it comes to is `before` of Naming.antt.
 use Rattle.std.specs.Prelude.{ℕ, ◌+◌, nat_eq, if◌then◌else◌, is_some, List, [], ◌∷◌, ◌++◌}
-use Rattle.pml_marks.specs.declared.mark.Declared.{Declared}
-use Rattle.pml_marks.specs.declared.mark.What.{What}
-use Rattle.pml_marks.specs.declared.mark.What.TheVariants as what
-use Rattle.pml_marks.specs.declared.mark.Mark.{Mark}
-use Rattle.pml_names.specs.declared.thing.Thing.{Thing}
-use Rattle.pml_names.specs.Naming.{Before, known, cells_in, variables_in, constants_in}
-use Rattle.pml_names.specs.Naming as first
+use Rattle.promela_model.specs.declared.mark.Declared.{Declared}
+use Rattle.promela_model.specs.declared.mark.What.{What}
+use Rattle.promela_model.specs.declared.mark.What.TheVariants as what
+use Rattle.promela_model.specs.declared.mark.Mark.{Mark}
+use Rattle.promela_model.specs.declared.thing.Thing.{Thing}
+use Rattle.promela_model.specs.Names.{Before, known, cells_in, variables_in, constants_in}
+use Rattle.promela_model.specs.Names as first
 use Rattle.pml_names.specs.Entry.{Entry, entry, found}
 
 -- the cells of an owner's variables

@@ -1,6 +1,4 @@
 pub mod Entry
 pub mod Env
-pub mod Meaning
-pub mod Naming
 pub mod Places
 pub mod Totals

@@ -1,9 +1,9 @@
 -- Running totals of what is declared.
 use Rattle.std.specs.Prelude.{◌≡◌, ℕ, ◌+◌, min, List, slice_index_or}
 use Rattle.pml_names.specs.declared.totals.Total.{Total}
-use Rattle.pml_names.specs.declared.thing.Thing.{Thing}
+use Rattle.promela_model.specs.declared.thing.Thing.{Thing}
 use Rattle.pml_names.specs.Entry.{Entry}
-use Rattle.pml_names.specs.Naming.{most_cells, cells_in, variables_in}
+use Rattle.promela_model.specs.Names.{most_cells, cells_in, variables_in}
 use Rattle.pml_names.specs.Env.{held, variables, constants}
 
 abbrev pub none : Total

@@ -5,5 +5,4 @@ pub mod meaning;
 pub mod names;
 pub mod places;
 pub mod table;
-pub mod thing;
 pub mod totals;

@@ -1,15 +1,15 @@
 //! What names stand for.
 
 ghost use Rattle.std.specs.Prelude.{◌≡◌, Some, option_map};
-ghost use Rattle.pml_names.specs.Meaning.{is_any, is_pid, is_count, is_special, only_process, visible, meaning, field};
+ghost use Rattle.promela_model.specs.Names.{is_any, is_pid, is_count, is_special, only_process, visible, meaning, field};
 ghost use Rattle.pml_names.specs.Entry.{found};
 
 use crate::table::Table;
-use crate::thing::Thing;
 use pml_program::form::Form;
+use promela_model::thing::Thing;
 
 /// `_`.
-#[tactic(auto, unfolding(crate::specs::Meaning::is_any))]
+#[tactic(auto, unfolding(promela_model::specs::Names::is_any))]
 pub fn is_any(name: &[u8]) -> bool
     ensures { result ≡ is_any name.now }
 {
@@ -17,7 +17,7 @@ pub fn is_any(name: &[u8]) -> bool
 }
 
 /// `_pid`.
-#[tactic(auto, unfolding(crate::specs::Meaning::is_pid))]
+#[tactic(auto, unfolding(promela_model::specs::Names::is_pid))]
 pub fn is_pid(name: &[u8]) -> bool
     ensures { result ≡ is_pid name.now }
 {
@@ -25,7 +25,7 @@ pub fn is_pid(name: &[u8]) -> bool
 }
 
 /// `_nr_pr`.
-#[tactic(auto, unfolding(crate::specs::Meaning::is_count))]
+#[tactic(auto, unfolding(promela_model::specs::Names::is_count))]
 pub fn is_count(name: &[u8]) -> bool
     ensures { result ≡ is_count name.now }
 {

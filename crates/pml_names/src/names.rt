@@ -1,20 +1,20 @@
 //! The names that are declared so far.
 
 ghost use Rattle.std.specs.Prelude.{◌≡◌, [], ◌+◌, ◌<◌, ◌^◌, None, length, OnOk, IfOk};
-ghost use Rattle.pml_names.specs.Naming.{form, stride, user, form_of, stride_of, length_of, constants_in};
+ghost use Rattle.promela_model.specs.Names.{form, stride, user, form_of, stride_of, length_of, constants_in};
 ghost use Rattle.pml_names.specs.Env.{thing_of, add, after, env};
 ghost use Rattle.pml_names.specs.Entry.{found};
 ghost use Rattle.pml_names.specs.Totals.{IsTotalled};
 
 use crate::meaning::visible;
 use crate::table::Table;
-use crate::thing::{Thing, Variable};
 use crate::totals::{Total, at, grow, grown};
 use pml_marks::arithmetic::read;
-use pml_marks::mark::{Constant, Declared, Mark, Role, What};
 use pml_program::form::Form;
 use pml_tree::tree::Sort;
 use profile::MOST_CELLS;
+use promela_model::mark::{Constant, Declared, Mark, Role, What};
+use promela_model::thing::{Thing, Variable};
 use sqlite_items::Items;
 use std::alloc::{AllocError, Global};
 

@@ -4,8 +4,8 @@ ghost use Rattle.std.specs.Prelude.{◌≡◌, ◌++◌, ◌∷◌, ◌<◌, ◌
 ghost use Rattle.pml_names.specs.Places.{thing_in};
 
 use crate::places::Places;
-use crate::thing::Thing;
 use indexmap::IndexMap;
+use promela_model::thing::Thing;
 use std::alloc::{AllocError, Global};
 use std::marker::Model;
 

@@ -3,8 +3,8 @@
 ghost use Rattle.std.specs.Prelude.{◌≡◌, ℕ, ◌+◌, ◌<◌, ◌^◌, length, slice_set, OnOk};
 ghost use Rattle.pml_names.specs.Totals.{none, grown, total_at};
 
-use crate::thing::Thing;
 use profile::MOST_CELLS;
+use promela_model::thing::Thing;
 use sqlite_items::Items;
 use std::alloc::AllocError;
 

@@ -8,9 +8,9 @@ use Rattle.pml_program.specs.declared.program.Slot.{Slot}
 use Rattle.pml_program.specs.declared.program.Program.{Program}
 use Rattle.pml_eval.specs.Value.{Reading}
 use Rattle.pml_lines.specs.Places.{element, fields_path, path}
-use Rattle.pml_stands.specs.Known.{Globals}
-use Rattle.pml_stands.specs.Stands.{Place, StandsReference}
-use Rattle.pml_stands.specs.StandsModel.{StandsModel}
+use Rattle.promela_model.specs.Known.{Globals}
+use Rattle.promela_model.specs.Stands.{Place, StandsReference}
+use Rattle.promela_model.specs.StandsModel.{StandsModel}
 use Rattle.pml_stands.specs.Tiled as tiled
 use Rattle.pml_stands.specs.Tiled.{fields_at, Tile, IsTiled, Leads, IsOwner, reached, variables_of, fields_under, names_along, first_of, LeadsOn}
 use Rattle.pml_stands.proofs.Tiling.{model-tiled}

@@ -10,8 +10,8 @@ use Rattle.pml_program.specs.declared.program.Program.{Program}
 use Rattle.pml_store.specs.declared.place.Place.{Place}
 use Rattle.pml_eval.specs.Value.{Reading, val, place}
 use Rattle.pml_lines.specs.Places.{index, path}
-use Rattle.pml_stands.specs.Known.{Globals}
-use Rattle.pml_stands.specs.Stands.{Place as Meant, StandsReference}
+use Rattle.promela_model.specs.Known.{Globals}
+use Rattle.promela_model.specs.Stands.{Place as Meant, StandsReference}
 use Rattle.pml_stands.specs.Tiled.{is_struct, Leads, AreWithin, AreAmong, variables_of, fields_under, names_along, indices_along, names_of}
 
 -- what is behind a step of a path: nothing more, or a dot and the next

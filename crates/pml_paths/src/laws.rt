@@ -4,7 +4,7 @@ ghost use Rattle.std.specs.Prelude.{List};
 ghost use Rattle.pml_tree.specs.declared.tree.Tree.{Tree};
 ghost use Rattle.pml_program.specs.declared.program.Slot.{Slot};
 ghost use Rattle.pml_program.specs.declared.program.Program.{Program};
-ghost use Rattle.pml_stands.specs.StandsModel.{StandsModel};
+ghost use Rattle.promela_model.specs.StandsModel.{StandsModel};
 ghost use Rattle.pml_stands.specs.Tiled.{IsOwner};
 ghost use Rattle.pml_paths.specs.Paths.{ArePrinted, AreReadBack};
 

@@ -6,12 +6,11 @@ use Rattle.std.proofs.Math.Seq.{take-nil, drop-append_seam, take-append_seam}
 use Rattle.std.proofs.lemmas.List.{length-append}
 use Rattle.std.proofs.lemmas.List.Folds.{concat-append}
 use Rattle.std.specs.List.{concat}
-use Rattle.pml_lex.specs.declared.piece.Piece.{Piece}
-use Rattle.pml_lex.specs.declared.piece.Piece.TheVariants.{Skipped, Token}
+use Rattle.promela_text.specs.declared.piece.Piece.{Piece}
+use Rattle.promela_text.specs.declared.piece.Piece.TheVariants.{Skipped, Token}
 use Rattle.pml_token.specs.declared.token.Kind.{Kind}
 use Rattle.pml_token.specs.Word.{Word}
-use Rattle.pml_lex.specs.Pieces.{piece}
-use Rattle.pml_lex.specs.Division.{CanStand, IsLongest, IsDivision, IsCut, word, fresh_from, is_fresh}
+use Rattle.promela_text.specs.Tokens.{piece, CanStand, IsLongest, IsDivision, IsCut, word, fresh_from, is_fresh}
 use Rattle.pml_lex.proofs.Wholes.{Divides, to_whole, from_whole}
 use Rattle.pml_lex.proofs.Places.{token_place}
 use Rattle.pml_lex.proofs.Longest.{IsNextAt}

@@ -3,11 +3,10 @@ use Rattle.std.proofs.Common.{◌≡◌, ℕ, List, [], ◌∷◌, ◌++◌, len
 use Rattle.std.specs.List.{concat}
 use Rattle.std.proofs.Math.Seq.{drop-append_seam, take-append_seam}
 use Rattle.std.proofs.lemmas.List.Elements.{All-append, All-nil, All-cons}
-use Rattle.pml_lex.specs.declared.piece.Piece.{Piece}
-use Rattle.pml_lex.specs.declared.piece.Piece.TheVariants.{Skipped, Token}
+use Rattle.promela_text.specs.declared.piece.Piece.{Piece}
+use Rattle.promela_text.specs.declared.piece.Piece.TheVariants.{Skipped, Token}
 use Rattle.pml_token.specs.Word.{Word}
-use Rattle.pml_lex.specs.Pieces.{piece}
-use Rattle.pml_lex.specs.Division.{IsCut, word, words, is_fresh, line_behind}
+use Rattle.promela_text.specs.Tokens.{piece, IsCut, word, words, is_fresh, line_behind}
 use Rattle.pml_lex.proofs.Steps.{one_whole}
 use Rattle.pml_places.specs.Placed.{placed_words, ArePlaced, AreSame, StandsThere}
 

@@ -6,8 +6,7 @@ use Rattle.pml_lex.specs.declared.fault.LexFault.{LexFault}
 use Rattle.pml_lex.specs.declared.fault.LexFault.TheVariants.{Memory, TooLong, Lexical, LeftOut}
 use Rattle.pml_token.specs.declared.token.Kind.{Kind}
 use Rattle.pml_token.specs.Word.{Word}
-use Rattle.pml_lex.specs.Pieces.{piece}
-use Rattle.pml_lex.specs.Division.{CanStand, IsLongest, IsDivision, IsCut, is_fresh, word}
+use Rattle.promela_text.specs.Tokens.{piece, CanStand, IsLongest, IsDivision, IsCut, is_fresh, word}
 
 -- the tokens among pieces, each with how many bytes stand before it in place of its line
 abbrev pub placed_words : List ℕ → List (List ℕ) → List Word

@@ -2,7 +2,7 @@
 
 ghost use Rattle.std.specs.Prelude.{ℕ, List, All};
 ghost use Rattle.pml_token.specs.Word.{Word};
-ghost use Rattle.pml_lex.specs.Division.{IsCut};
+ghost use Rattle.promela_text.specs.Tokens.{IsCut};
 ghost use Rattle.pml_places.specs.Placed.{ArePlaced, AreSame, StandsThere};
 
 /// The tokens with their places are those of the text, kind by kind and byte by byte.

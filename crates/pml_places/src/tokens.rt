@@ -1,13 +1,14 @@
 //! The tokens of a text with their places.
 
 ghost use Rattle.std.specs.Prelude.{◌≡◌, ◌≤◌, ◌<◌, ◌+◌, length, IfOk, IfErr};
-ghost use Rattle.pml_lex.specs.Division.{fresh_from};
+ghost use Rattle.promela_text.specs.Tokens.{fresh_from};
 ghost use Rattle.pml_places.specs.Placed.{ArePlaced, IsUnplaced};
 
 use pml_lex::fault::LexFault;
-use pml_lex::piece::{Piece, is_blank, next};
+use pml_lex::piece::{is_blank, next};
 use pml_token::token::Token;
 use profile::MOST_TEXT_BYTES;
+use promela_text::piece::Piece;
 use std::alloc::Global;
 
 /// Whether the line that a text ends in has only blanks, where `fresh` says the same of what stands before it.

@@ -2,15 +2,15 @@
 use Rattle.std.proofs.Common.{◌≡◌, ◌≢◌, ℕ, List, [], Option, None, refl}
 use Rattle.devices.specs.Holdings.{Holdings}
 use Rattle.devices.specs.Doing.{holding}
-use Rattle.session.specs.declared.Options.{Options}
-use Rattle.session.specs.declared.End.{End}
-use Rattle.session.specs.declared.Cause.TheVariants as cause
-use Rattle.session.specs.declared.Broken.TheVariants as broken
-use Rattle.session.specs.declared.form.Stream.TheVariants.{Unread}
-use Rattle.session.specs.Convert.{converted, IsConvertedBy}
-use Rattle.session.specs.Events.{Part}
-use Rattle.session.specs.Session.{only, end_of, refused, transcript}
-use Rattle.session.specs.Stands.{Ends, IsBrokenOff}
+use Rattle.promela_session.specs.declared.ends.Options.{Options}
+use Rattle.promela_session.specs.declared.ends.End.{End}
+use Rattle.promela_session.specs.declared.ends.Cause.TheVariants as cause
+use Rattle.promela_session.specs.declared.ends.Broken.TheVariants as broken
+use Rattle.promela_session.specs.declared.form.Stream.TheVariants.{Unread}
+use Rattle.promela_session.specs.Replay.{converted, IsConvertedBy}
+use Rattle.promela_session.specs.Events.{Part}
+use Rattle.promela_session.specs.Session.{only, end_of, refused, transcript}
+use Rattle.promela_session.specs.Devices.{Ends, IsBrokenOff}
 use Rattle.session.proofs.Moving.{Moved-nil}
 use Rattle.session.proofs.Parts.{memory_breaks, only_does}
 use Rattle.session.proofs.Placing.{refused_can_be_converted}

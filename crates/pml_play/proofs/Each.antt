@@ -4,23 +4,21 @@ use Rattle.std.proofs.lemmas.Bool.{cases_eq, cases_lt}
 use Rattle.profile.specs.declared.TheConstants.{MOST_IN_A_ROW, MOST_OPEN, MOST_TEXT_BYTES}
 use Rattle.diagnostics.specs.declared.refusal.Refusal.{Refusal}
 use Rattle.diagnostics.specs.declared.refusal.Refusal.TheVariants as r
-use Rattle.session.specs.declared.Options.{Options}
-use Rattle.session.specs.declared.End.{End}
-use Rattle.session.specs.Events.{Part}
-use Rattle.session.specs.Session.{refused, transcript}
+use Rattle.promela_session.specs.declared.ends.Options.{Options}
+use Rattle.promela_session.specs.declared.ends.End.{End}
+use Rattle.promela_session.specs.Events.{Part}
+use Rattle.promela_session.specs.Session.{refused, transcript}
 use Rattle.pml_token.specs.Word.{Word}
 use Rattle.pml_lex.specs.Scanning.{Found, next}
-use Rattle.pml_lex.specs.Division.{IsCut}
-use Rattle.pml_lex.specs.Limits.{has_left_out, depth_behind, IsTooDeep}
+use Rattle.promela_text.specs.Tokens.{IsCut, has_left_out, depth_behind, IsTooDeep, IsLine, AreTokens}
 use Rattle.pml_lex.specs.Rows.{row_behind, IsPast}
-use Rattle.pml_lex.specs.Cut.{IsLine, AreTokens}
-use Rattle.pml_inline.specs.Expansion.{expansion, Expands}
+use Rattle.promela_text.specs.Expansion.{expansion, Expands}
 use Rattle.pml_lex.proofs.Longest.{IsNext}
 use Rattle.pml_lex.proofs.Scan.{next_is}
 use Rattle.pml_lex.proofs.Steps.{Reached, reached_start, reached_more, reached_end, reached_none}
 use Rattle.pml_lex.proofs.Rows.{too_deep_from, too_deep_is, none_at_all}
 use Rattle.pml_tree.specs.declared.tree.Tree.{Tree}
-use Rattle.pml_syntax.specs.GrammarOfUnits.{Spells}
+use Rattle.promela_model.specs.GrammarOfModels.{Spells}
 use Rattle.pml_syntax.specs.ReadingUnits as reading
 use Rattle.pml_syntax.proofs.Whole.{is_found, is_none}
 use Rattle.pml_resolve.specs.Model.{numbered_model}
@@ -30,7 +28,7 @@ use Rattle.pml_check.proofs.Standing.{fitted}
 use Rattle.pml_check.proofs.Deciding.{judge}
 use Rattle.pml_sim.specs.World.{first, rules}
 use Rattle.pml_play.specs.Transcript.{AreExpanded, IsSpelled, IsRefused, too_long, lexical, left_out, inline, too_deep, unspelled, unfit, IsTranscript, of_refusal, of_model}
-use Rattle.session.specs.declared.form.Stream.TheVariants.{Unread}
+use Rattle.promela_session.specs.declared.form.Stream.TheVariants.{Unread}
 
 -- ---- the tokens
 

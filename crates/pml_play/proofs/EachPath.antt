@@ -3,21 +3,19 @@ use Rattle.std.proofs.Common.{◌≡◌, ℕ, zero, suc, ◌+◌, ◌-◌, ◌<�
 use Rattle.std.proofs.lemmas.Grind.{flat_map-append}
 use Rattle.std.proofs.lemmas.Option.{slice_get_within, get_or_from_slice_get}
 use Rattle.std.specs.List.{flat_map}
-use Rattle.session.specs.declared.Options.{Options}
-use Rattle.session.specs.declared.End.{End}
-use Rattle.session.specs.declared.form.Stream.{Stream}
-use Rattle.session.specs.declared.form.Stream.TheVariants.{Unread, Known}
-use Rattle.session.specs.declared.form.Version.TheVariants.{First}
-use Rattle.session.specs.Events.{Event, Put, Told, Recorded, Stepped, asks, recorded, Part, preceded}
-use Rattle.session.specs.Lines.{most_line_bytes}
-use Rattle.session.specs.Machine.{Rules, Goes}
-use Rattle.session.specs.Session.{place_of, select, stepped, step_text, answered, story, transcript}
-use Rattle.session.specs.Texts.{record_line, all_digits, placed_line, prompt, list_from}
+use Rattle.promela_session.specs.declared.ends.Options.{Options}
+use Rattle.promela_session.specs.declared.ends.End.{End}
+use Rattle.promela_session.specs.declared.form.Stream.{Stream}
+use Rattle.promela_session.specs.declared.form.Stream.TheVariants.{Unread, Known}
+use Rattle.promela_session.specs.declared.form.Version.TheVariants.{First}
+use Rattle.promela_session.specs.Events.{Event, Put, Told, Recorded, Stepped, asks, recorded, Part, preceded, record_line, all_digits, placed_line, prompt, list_from}
+use Rattle.promela_session.specs.Lines.{most_line_bytes}
+use Rattle.promela_session.specs.Session.{Rules, Goes, place_of, select, stepped, step_text, answered, story, transcript}
 use Rattle.session.proofs.Parts.{recorded-append, recorded-asks}
 use Rattle.session.proofs.Records.{IsPlain}
 use Rattle.session.proofs.Replay.{picked_again}
 use Rattle.session.proofs.Turns.{story_some}
-use Rattle.session.specs.declared.Cause.{Cause}
+use Rattle.promela_session.specs.declared.ends.Cause.{Cause}
 use Rattle.pml_sim.specs.World.{Running, rules}
 use Rattle.pml_sim.proofs.Short.{IsLightHere, goes_light, number_fits}
 use Rattle.pml_play.specs.Run.{Turn, IsChosen, IsStep, IsPath, IsLast, no_move, at_limit, at_fault, at_question, last_state, IsRun, PlaysEachPath, PlaysJustThePath}

@@ -7,22 +7,20 @@ use Rattle.pml_tree.specs.declared.tree.Variable.{Variable}
 use Rattle.pml_tree.specs.declared.tree.Starts.{Starts}
 use Rattle.pml_tree.specs.declared.tree.Unit.{Unit as Part}
 use Rattle.pml_tree.specs.declared.tree.Tree.{Tree}
-use Rattle.pml_expression.specs.Grammar.{SpellsList}
+use Rattle.promela_model.specs.GrammarOfExpressions.{SpellsList}
 use Rattle.pml_expression.proofs.Kept.{Leads, here, past, ◌then◌, step, expr_leads, list_leads}
-use Rattle.pml_syntax.specs.declared.opener.Opener.{Opener}
-use Rattle.pml_syntax.specs.Grammar as grammar
-use Rattle.pml_syntax.specs.GrammarOfStatements as loops
-use Rattle.pml_syntax.specs.GrammarOfUnits as models
-use Rattle.pml_syntax.specs.Grammar.{SpellsName, seq_of}
-use Rattle.pml_syntax.specs.GrammarOfStatements.{SpellsBody}
-use Rattle.pml_syntax.specs.GrammarOfUnits.{SpellsParameter, SpellsMoreParameters, SpellsParameters, SpellsStarts, SpellsSemicolons, SpellsMembers, SpellsUnit, SpellsUnits, Spells}
+use Rattle.promela_model.specs.declared.opener.Opener.{Opener}
+use Rattle.promela_model.specs.GrammarOfActions as grammar
+use Rattle.promela_model.specs.GrammarOfModels as loops
+use Rattle.promela_model.specs.GrammarOfActions.{SpellsName, seq_of}
+use Rattle.promela_model.specs.GrammarOfModels.{SpellsBody, SpellsParameter, SpellsMoreParameters, SpellsParameters, SpellsStarts, SpellsSemicolons, SpellsMembers, SpellsUnit, SpellsUnits, Spells}
 use Rattle.pml_syntax.proofs.Kept.{visibility_leads, opener_leads, declaration_leads, items_lead}
 use Rattle.pml_program.specs.declared.program.Fields.{Fields}
 use Rattle.pml_program.specs.declared.program.Proctype.{Proctype}
 use Rattle.pml_program.specs.declared.program.Program.{Program}
-use Rattle.pml_stands.specs.Known.{Globals}
-use Rattle.pml_stands.specs.StandsModel as stands
-use Rattle.pml_stands.specs.StandsModel.{StandsUnits, StandsModel}
+use Rattle.promela_model.specs.Known.{Globals}
+use Rattle.promela_model.specs.StandsModel as stands
+use Rattle.promela_model.specs.StandsModel.{StandsUnits, StandsModel}
 use Rattle.pml_sim.specs.World.{Running}
 use Rattle.pml_sim.proofs.Crowding.{IsLightProctype, IsLightState}
 use Rattle.pml_sim.proofs.Short.{most, first_is_light}
@@ -34,31 +32,31 @@ use Rattle.pml_play.specs.Transcript.{IsModel}
 -- ---- what the units of a text take
 
 parameter_leads : {f : Opener} {v : Variable} {from to : List Word} → SpellsParameter f v from to → Leads from to
-parameter_leads (models.plain_parameter _) = past here
-parameter_leads (models.packed_parameter _ _ _) = past (past (past here))
+parameter_leads (loops.plain_parameter _) = past here
+parameter_leads (loops.packed_parameter _ _ _) = past (past (past here))
 
 more_lead : {f : Opener} {vs : List Variable} {from to : List Word} → SpellsMoreParameters f vs from to → Leads from to
-more_lead models.no_more_parameters = here
-more_lead (models.same_type _ v vs) = past (parameter_leads v then more_lead vs)
-more_lead (models.comma_parameter _ s f v vs) = past (visibility_leads s then opener_leads f then parameter_leads v then more_lead vs)
-more_lead (models.semicolon_parameter _ s f v vs) = past (visibility_leads s then opener_leads f then parameter_leads v then more_lead vs)
+more_lead loops.no_more_parameters = here
+more_lead (loops.same_type _ v vs) = past (parameter_leads v then more_lead vs)
+more_lead (loops.comma_parameter _ s f v vs) = past (visibility_leads s then opener_leads f then parameter_leads v then more_lead vs)
+more_lead (loops.semicolon_parameter _ s f v vs) = past (visibility_leads s then opener_leads f then parameter_leads v then more_lead vs)
 
 parameters_lead : {vs : List Variable} {from to : List Word} → SpellsParameters vs from to → Leads from to
-parameters_lead models.no_parameters = here
-parameters_lead (models.parameters s f v vs) = visibility_leads s then opener_leads f then parameter_leads v then more_lead vs
+parameters_lead loops.no_parameters = here
+parameters_lead (loops.parameters s f v vs) = visibility_leads s then opener_leads f then parameter_leads v then more_lead vs
 
 starts_leads : {s : Starts} {from to : List Word} → SpellsStarts s from to → Leads from to
-starts_leads models.never = here
-starts_leads (models.once _) = past here
-starts_leads (models.times _ _ x _) = past (past (step (expr_leads x)))
+starts_leads loops.never = here
+starts_leads (loops.once _) = past here
+starts_leads (loops.times _ _ x _) = past (past (step (expr_leads x)))
 
 semicolons_lead : {from to : List Word} → SpellsSemicolons from to → Leads from to
-semicolons_lead models.no_semicolon = here
-semicolons_lead (models.one_semicolon _ s) = past (semicolons_lead s)
+semicolons_lead loops.no_semicolon = here
+semicolons_lead (loops.one_semicolon _ s) = past (semicolons_lead s)
 
 members_lead : {vs : List Variable} {from to : List Word} → SpellsMembers vs from to → Leads from to
-members_lead (models.last_members d s) = declaration_leads d then semicolons_lead s
-members_lead (models.more_members d _ s m) = step (declaration_leads d) then semicolons_lead s then members_lead m
+members_lead (loops.last_members d s) = declaration_leads d then semicolons_lead s
+members_lead (loops.more_members d _ s m) = step (declaration_leads d) then semicolons_lead s then members_lead m
 
 name_leads : (n : Word) (from to : List Word) → SpellsName n from to → Leads from to
 name_leads n from to (grammar.name _) = past here
@@ -71,12 +69,12 @@ body_leads loops.no_item = here
 body_leads (loops.some_items is) = items_lead is
 
 unit_leads : {x : Part} {from to : List Word} → SpellsUnit x from to → Leads from to
-unit_leads (models.variables d) = declaration_leads d
-unit_leads (models.constants _ _ ns _) = past (past (step (names_lead ns)))
-unit_leads (models.equal_constants _ _ _ ns _) = past (past (past (step (names_lead ns))))
-unit_leads (models.typedef _ _ _ vs _) = past (past (past (step (members_lead vs))))
-unit_leads (models.proctype s _ _ _ vs _ _ xs _) = step (step (step (starts_leads s))) then step (step (parameters_lead vs)) then step (body_leads xs)
-unit_leads (models.init _ _ xs _) = past (past (step (body_leads xs)))
+unit_leads (loops.variables d) = declaration_leads d
+unit_leads (loops.constants _ _ ns _) = past (past (step (names_lead ns)))
+unit_leads (loops.equal_constants _ _ _ ns _) = past (past (past (step (names_lead ns))))
+unit_leads (loops.typedef _ _ _ vs _) = past (past (past (step (members_lead vs))))
+unit_leads (loops.proctype s _ _ _ vs _ _ xs _) = step (step (step (starts_leads s))) then step (step (parameters_lead vs)) then step (body_leads xs)
+unit_leads (loops.init _ _ xs _) = past (past (step (body_leads xs)))
 
 -- ---- what they weigh
 
@@ -95,20 +93,20 @@ light_body : {xs : List Item} {z : Word} {from to : List Word} → SpellsBody xs
 light_body {xs} s h few = let l = (lined_behind (body_leads s) h).0 in omega (arith, seq-is xs, body_fits s h, few, l)
 
 unit_light : {x : Part} {from to : List Word} → SpellsUnit x from to → AreLined from → length from ≤ 1300000 → IsLightPart x
-unit_light (models.variables d) h few = tt
-unit_light (models.constants _ _ ns _) h few = tt
-unit_light (models.equal_constants _ _ _ ns _) h few = tt
-unit_light (models.typedef _ _ _ vs _) h few = tt
-unit_light (models.proctype s _ _ _ vs _ _ xs _) h few =
+unit_light (loops.variables d) h few = tt
+unit_light (loops.constants _ _ ns _) h few = tt
+unit_light (loops.equal_constants _ _ _ ns _) h few = tt
+unit_light (loops.typedef _ _ _ vs _) h few = tt
+unit_light (loops.proctype s _ _ _ vs _ _ xs _) h few =
     let l = step (step (step (starts_leads s))) then step (step (parameters_lead vs)) in
     let fewer = no_more l in
     light_body xs (lined_behind l h) (omega (arith, fewer, few))
-unit_light (models.init _ _ xs _) h few = light_body xs h.1.1 (omega (arith, few))
+unit_light (loops.init _ _ xs _) h few = light_body xs h.1.1 (omega (arith, few))
 
 units_light : {us : List Part} {from : List Word} → SpellsUnits us from → AreLined from → length from ≤ 1300000 → AllByRecursion IsLightPart us
-units_light models.no_unit h few = tt
-units_light (models.semicolon _ us) h few = units_light us h.1 (omega (arith, few))
-units_light (models.unit x us) h few =
+units_light loops.no_unit h few = tt
+units_light (loops.semicolon _ us) h few = units_light us h.1 (omega (arith, few))
+units_light (loops.unit x us) h few =
     let l = unit_leads x in
     let fewer = no_more l in
     (unit_light x h few, units_light us (lined_behind l h) (omega (arith, fewer, few)))
@@ -126,7 +124,7 @@ program_light : {t : Tree} {p : Program} → StandsModel t p → AllByRecursion 
 program_light (stands.model us) h = proctypes_light us h
 
 tree_light : {t : Tree} {from : List Word} → Spells t from → AreLined from → length from ≤ 1300000 → AllByRecursion IsLightPart t.units
-tree_light (models.model us) h few = units_light us h few
+tree_light (loops.model us) h few = units_light us h few
 
 model_light : {t : Tree} {p : Program} {ws : List Word} → Spells t ws → StandsModel t p → AreLined ws → length ws ≤ 1300000 → AllByRecursion (IsLightProctype most) p.proctypes
 model_light s m h few = program_light m (tree_light s h few)

@@ -15,9 +15,9 @@ use Rattle.pml_program.specs.declared.program.Basic.TheBlock.{shape-the_row-Stmt
 use Rattle.pml_program.specs.declared.program.Stmt.{Stmt}
 use Rattle.pml_program.specs.declared.program.Seq.{Seq, roll-Seq, items_hidden-the_row-Stmt-1}
 use Rattle.pml_flow.specs.Flow.{first_line}
-use Rattle.pml_stands.specs.Known.{Globals}
-use Rattle.pml_stands.specs.StandsStatements as stands
-use Rattle.pml_stands.specs.StandsStatements.{item_of, items_of, StandsBasic, StandsItems, StandsSeq, StandsOptions}
+use Rattle.promela_model.specs.Known.{Globals}
+use Rattle.promela_model.specs.StandsModel as stands
+use Rattle.promela_model.specs.StandsModel.{item_of, items_of, StandsBasic, StandsItems, StandsSeq, StandsOptions}
 use Rattle.pml_sim.proofs.Weight.{weight_in, weight_part, weight_list, weight_parts, weight_if, weight_do, part_list}
 
 abbrev pub total : List ℕ → ℕ

@@ -2,35 +2,34 @@
 use Rattle.std.proofs.Common.{◌≡◌, ℕ, ◌<◌, Bool, true, false, List, length, refl, sym, ap, ◌∙◌, subst, arith, inl, inr, Result, Ok}
 use Rattle.diagnostics.specs.declared.refusal.Refusal.{Refusal}
 use Rattle.diagnostics.specs.declared.refusal.Refusal.TheVariants as r
-use Rattle.session.specs.declared.Options.{Options}
-use Rattle.session.specs.declared.End.{End}
-use Rattle.session.specs.Events.{Part}
-use Rattle.session.specs.Session.{refused, transcript}
+use Rattle.promela_session.specs.declared.ends.Options.{Options}
+use Rattle.promela_session.specs.declared.ends.End.{End}
+use Rattle.promela_session.specs.Events.{Part}
+use Rattle.promela_session.specs.Session.{refused, transcript}
 use Rattle.pml_token.specs.Word.{Word}
-use Rattle.pml_lex.specs.Limits.{has_left_out, IsTooDeep}
+use Rattle.promela_text.specs.Tokens.{has_left_out, IsTooDeep, AreTokens, CannotBeCut, HoldsLeftOut}
 use Rattle.profile.specs.declared.TheConstants.{MOST_TEXT_BYTES}
-use Rattle.pml_lex.specs.Cut.{AreTokens, CannotBeCut, HoldsLeftOut}
 use Rattle.pml_lex.proofs.Steps.{one_list}
-use Rattle.pml_inline.specs.Expansion.{Expands}
+use Rattle.promela_text.specs.Expansion.{Expands}
 use Rattle.pml_inline.proofs.Whole.{one_result}
 use Rattle.pml_tree.specs.declared.tree.Tree.{Tree}
-use Rattle.pml_syntax.specs.GrammarOfUnits.{Spells}
+use Rattle.promela_model.specs.GrammarOfModels.{Spells}
 use Rattle.pml_syntax.proofs.Whole as trees
 use Rattle.pml_program.specs.declared.program.Program.{Program}
-use Rattle.pml_stands.specs.StandsModel.{StandsModel}
+use Rattle.promela_model.specs.StandsModel.{StandsModel}
 use Rattle.pml_stands.proofs.Model.{one-model}
-use Rattle.pml_marks.specs.declared.mark.Mark.{Mark}
+use Rattle.promela_model.specs.declared.mark.Mark.{Mark}
 use Rattle.pml_check.specs.Judged.{AppliesTo, IsFit, IsLeast}
 use Rattle.pml_check.proofs.Least.{one_least, fit_has_none}
 use Rattle.diagnostics.specs.declared.fault.Fault.{Fault}
 use Rattle.pml_start.specs.Begin.{Begun}
 use Rattle.pml_start.specs.Start.{first_state}
 use Rattle.pml_sim.specs.World.{Running, first, rules}
-use Rattle.session.specs.Replay.{CanBeReplayed}
+use Rattle.promela_session.specs.Replay.{CanBeReplayed}
 use Rattle.session.proofs.CutShort.{can_be_replayed, refused_can_be_replayed}
 use Rattle.pml_play.specs.Transcript.{AreExpanded, IsSpelled, IsModel, HasNoExpansion, ExpandsTooDeep, IsUnspelled, IsRefused, too_long, lexical, left_out, inline, too_deep, unspelled, unfit, IsTranscript, of_refusal, of_model}
 use Rattle.pml_play.specs.Outcomes.{HasLine}
-use Rattle.session.specs.declared.form.Stream.TheVariants.{Unread}
+use Rattle.promela_session.specs.declared.form.Stream.TheVariants.{Unread}
 
 ok_is : {x y : Begun} → ◌≡◌ {A = Result Begun Fault} (Ok x) (Ok y) → x ≡ y
 ok_is h = cc

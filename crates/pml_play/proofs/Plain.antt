@@ -3,16 +3,15 @@ use Rattle.std.proofs.Common.{◌≡◌, ℕ, List, inl, inr, refl, sym, subst}
 use Rattle.diagnostics.specs.declared.refusal.Refusal.{Refusal}
 use Rattle.diagnostics.specs.declared.refusal.Refusal.TheVariants as r
 use Rattle.pml_token.specs.Word.{Word}
-use Rattle.pml_lex.specs.Limits.{IsTooDeep}
-use Rattle.pml_lex.specs.Cut.{IsLine, AreTokens}
+use Rattle.promela_text.specs.Tokens.{IsTooDeep, IsLine, AreTokens}
 use Rattle.pml_lex.proofs.Steps.{one_list}
-use Rattle.pml_inline.specs.Expansion.{Expands}
+use Rattle.promela_text.specs.Expansion.{Expands}
 use Rattle.pml_inline.proofs.Whole.{one_result}
 use Rattle.pml_inline.proofs.Unchanged.{own_expansion}
 use Rattle.pml_tree.specs.declared.tree.Tree.{Tree}
-use Rattle.pml_marks.specs.declared.mark.Mark.{Mark}
+use Rattle.promela_model.specs.declared.mark.Mark.{Mark}
 use Rattle.pml_program.specs.declared.program.Program.{Program}
-use Rattle.pml_syntax.specs.GrammarOfUnits.{Spells}
+use Rattle.promela_model.specs.GrammarOfModels.{Spells}
 use Rattle.pml_check.specs.Judged.{AppliesTo}
 use Rattle.pml_play.specs.Transcript.{AreExpanded, IsSpelled, IsRefused, too_long, lexical, left_out, inline, too_deep, unspelled, unfit}
 use Rattle.pml_play.specs.Plain.{ArePlain, SpellItself, SpellNothing, SayTheSame}

@@ -2,40 +2,38 @@
 use Rattle.std.proofs.Common.{◌≡◌, ℕ, ◌≤◌, Bool, List, Result, Ok, Err, refl, sym, subst, arith}
 use Rattle.std.specs.Prelude.{All}
 use Rattle.devices.specs.Holdings.{Holdings}
-use Rattle.session.specs.declared.Options.{Options}
-use Rattle.session.specs.declared.End.{End}
-use Rattle.session.specs.declared.Cause.TheVariants as cause
-use Rattle.session.specs.declared.Broken.{Broken}
-use Rattle.session.specs.declared.Broken.TheVariants as broken
-use Rattle.session.specs.Session.{only, end_of, refused, transcript}
-use Rattle.session.specs.Stands.{Breaks}
-use Rattle.session.specs.Texts.{refusal_line}
+use Rattle.promela_session.specs.declared.ends.Options.{Options}
+use Rattle.promela_session.specs.declared.ends.End.{End}
+use Rattle.promela_session.specs.declared.ends.Cause.TheVariants as cause
+use Rattle.promela_session.specs.declared.ends.Broken.{Broken}
+use Rattle.promela_session.specs.declared.ends.Broken.TheVariants as broken
+use Rattle.promela_session.specs.Session.{only, end_of, refused, transcript}
+use Rattle.promela_session.specs.Devices.{Breaks}
+use Rattle.promela_session.specs.Events.{refusal_line}
 use Rattle.session.specs.Writes.{Runs}
 use Rattle.session.proofs.Parts.{Leads-does, puts, memory_breaks, only_does}
 use Rattle.session.proofs.Turns.{write_breaks}
 use Rattle.pml_token.specs.Word.{Word}
-use Rattle.pml_lex.specs.Division.{line_behind}
-use Rattle.pml_lex.specs.Limits.{IsOnLine}
+use Rattle.promela_text.specs.Tokens.{line_behind, IsOnLine, AreTokens}
 use Rattle.pml_lex.specs.Rows.{AreOnLines}
-use Rattle.pml_lex.specs.Cut.{AreTokens}
 use Rattle.pml_lex.specs.Divided.{IsLeast}
 use Rattle.pml_lex.specs.declared.fault.LexFault.{LexFault}
 use Rattle.pml_lex.specs.declared.fault.LexFault.TheVariants as lex
-use Rattle.pml_inline.specs.declared.fault.InlineFault.{InlineFault}
-use Rattle.pml_inline.specs.declared.fault.InlineFault.TheVariants as inlines
-use Rattle.pml_inline.specs.Expansion.{IsLeast as inline_least, IsFaultOnLine}
+use Rattle.promela_text.specs.declared.inline_fault.InlineFault.{InlineFault}
+use Rattle.promela_text.specs.declared.inline_fault.InlineFault.TheVariants as inlines
+use Rattle.pml_inline.specs.Least.{IsLeast as inline_least, IsFaultOnLine}
 use Rattle.pml_inline.proofs.Keeping.{kept}
 use Rattle.pml_tree.specs.declared.tree.Tree.{Tree}
 use Rattle.pml_syntax.specs.declared.program.SyntaxFault.{SyntaxFault}
 use Rattle.pml_syntax.specs.declared.program.SyntaxFault.TheVariants as syntax
-use Rattle.pml_syntax.specs.GrammarOfUnits.{Spells}
+use Rattle.promela_model.specs.GrammarOfModels.{Spells}
 use Rattle.pml_syntax.specs.Answer.{Answers}
 use Rattle.pml_check.specs.declared.checked.CheckFault.{CheckFault}
 use Rattle.pml_check.specs.declared.checked.CheckFault.TheVariants as check
 use Rattle.pml_check.specs.Checked.{IsRefused}
 use Rattle.pml_check.specs.Judged.{IsFit}
 use Rattle.pml_program.specs.declared.program.Program.{Program}
-use Rattle.pml_stands.specs.StandsModel.{StandsModel}
+use Rattle.promela_model.specs.StandsModel.{StandsModel}
 use Rattle.pml_play.specs.declared.whole.Rejection.{Rejection}
 use Rattle.pml_play.specs.declared.whole.Rejection.TheVariants.{Memory, Refused}
 use Rattle.pml_sim.specs.World.{Running, rules}
@@ -44,7 +42,7 @@ use Rattle.pml_play.specs.Transcript.{AreExpanded, IsSpelled, IsModel, too_long,
 use Rattle.pml_play.specs.Parts.{IsReady, IsRejected, of_lexical, of_inline, of_syntax, of_check, Rejects, PlaysText}
 use Rattle.pml_lex.proofs.Lines.{token_lines}
 use Rattle.pml_play.proofs.Each.{has_transcript}
-use Rattle.session.specs.declared.form.Stream.TheVariants.{Unread}
+use Rattle.promela_session.specs.declared.form.Stream.TheVariants.{Unread}
 
 -- ---- reading
 

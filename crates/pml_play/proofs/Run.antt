@@ -5,19 +5,18 @@ use Rattle.std.proofs.lemmas.Bool.{true≢false}
 use Rattle.std.proofs.lemmas.Grind.{flat_map-append}
 use Rattle.std.proofs.lemmas.Option.{slice_get-get_or}
 use Rattle.std.specs.List.{list_all, flat_map, Contains}
-use Rattle.session.specs.declared.Options.{Options}
-use Rattle.session.specs.declared.End.{End}
-use Rattle.session.specs.declared.Cause.{Cause}
-use Rattle.session.specs.declared.choice.Answer.{Answer}
-use Rattle.session.specs.declared.choice.Answer.TheVariants as answer
-use Rattle.session.specs.declared.form.Stream.{Stream}
-use Rattle.session.specs.declared.form.Stream.TheVariants.{Unread}
-use Rattle.session.specs.declared.form.Version.TheVariants.{First}
-use Rattle.session.specs.Events.{Event, recorded, Part}
-use Rattle.session.specs.Lines.{most_bad_lines, is_digit, number_of, IsPickUpTo}
-use Rattle.session.specs.Machine.{Rules, Outcome, Goes, Faults}
-use Rattle.session.specs.Session.{ask, place_of, select, finished, stepped, answered, story, transcript, final_cause}
-use Rattle.session.specs.Texts.{record_line, all_digits}
+use Rattle.promela_session.specs.declared.ends.Options.{Options}
+use Rattle.promela_session.specs.declared.ends.End.{End}
+use Rattle.promela_session.specs.declared.ends.Cause.{Cause}
+use Rattle.promela_session.specs.declared.choice.Answer.{Answer}
+use Rattle.promela_session.specs.declared.choice.Answer.TheVariants as answer
+use Rattle.promela_session.specs.declared.form.Stream.{Stream}
+use Rattle.promela_session.specs.declared.form.Stream.TheVariants.{Unread}
+use Rattle.promela_session.specs.declared.form.Version.TheVariants.{First}
+use Rattle.promela_session.specs.Events.{Event, recorded, Part, record_line, all_digits}
+use Rattle.promela_session.specs.Lines.{most_bad_lines, is_digit, number_of}
+use Rattle.session.specs.Answers.{IsPickUpTo}
+use Rattle.promela_session.specs.Session.{Rules, Outcome, Goes, Faults, ask, place_of, select, finished, stepped, answered, story, transcript, final_cause}
 use Rattle.session.proofs.Parts.{recorded-append}
 use Rattle.session.proofs.Replay.{Silent, ask_silent, ask_range, picked_is_there, chosen, recorded_chosen}
 use Rattle.session.proofs.Turns.{story_none, story_limit, story_some, answer_part}

@@ -3,16 +3,14 @@ use Rattle.std.proofs.Common.{◌≡◌, ℕ, zero, suc, ◌+◌, ◌-◌, ◌<�
 use Rattle.std.proofs.lemmas.Grind.{flat_map-append}
 use Rattle.std.proofs.lemmas.Option.{slice_get_within, get_or_from_slice_get}
 use Rattle.std.specs.List.{flat_map}
-use Rattle.session.specs.declared.Options.{Options}
-use Rattle.session.specs.declared.End.{End}
-use Rattle.session.specs.declared.form.Stream.{Stream}
-use Rattle.session.specs.declared.form.Stream.TheVariants.{Unread, Known}
-use Rattle.session.specs.declared.form.Version.TheVariants.{First}
-use Rattle.session.specs.Events.{Put, Told, Stepped, Part, preceded}
-use Rattle.session.specs.Lines.{most_line_bytes}
-use Rattle.session.specs.Machine.{Rules, Goes}
-use Rattle.session.specs.Session.{step_text, story, transcript}
-use Rattle.session.specs.Texts.{record_line, all_digits}
+use Rattle.promela_session.specs.declared.ends.Options.{Options}
+use Rattle.promela_session.specs.declared.ends.End.{End}
+use Rattle.promela_session.specs.declared.form.Stream.{Stream}
+use Rattle.promela_session.specs.declared.form.Stream.TheVariants.{Unread, Known}
+use Rattle.promela_session.specs.declared.form.Version.TheVariants.{First}
+use Rattle.promela_session.specs.Events.{Put, Told, Stepped, Part, preceded, record_line, all_digits}
+use Rattle.promela_session.specs.Lines.{most_line_bytes}
+use Rattle.promela_session.specs.Session.{Rules, Goes, step_text, story, transcript}
 use Rattle.session.proofs.Records.{IsPlain}
 use Rattle.pml_sim.specs.World.{Running, rules}
 use Rattle.pml_sim.proofs.Short.{IsLightHere, goes_light, number_fits}

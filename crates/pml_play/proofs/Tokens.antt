@@ -6,19 +6,13 @@ use Rattle.std.proofs.lemmas.List.Elements.{All-head, All-tail}
 use Rattle.std.proofs.lemmas.List.Sums.{count_by-le-length}
 use Rattle.profile.specs.declared.TheConstants.{MOST_CALLS, MOST_REPLACED}
 use Rattle.pml_token.specs.declared.token.Kind.TheVariants.{OpenParen, CloseParen}
-use Rattle.pml_lex.specs.declared.piece.Piece.{Piece}
-use Rattle.pml_lex.specs.declared.piece.Piece.TheVariants.{Skipped, Token}
+use Rattle.promela_text.specs.declared.piece.Piece.{Piece}
+use Rattle.promela_text.specs.declared.piece.Piece.TheVariants.{Skipped, Token}
 use Rattle.pml_token.specs.Word.{Word}
-use Rattle.pml_lex.specs.Pieces.{piece}
-use Rattle.pml_lex.specs.Division.{IsCut, is_line_feed, line_behind, is_fresh, word, words}
-use Rattle.pml_lex.specs.Limits.{IsOnLine}
-use Rattle.pml_lex.specs.Cut.{AreTokens}
+use Rattle.promela_text.specs.Tokens.{piece, IsCut, is_line_feed, line_behind, is_fresh, word, words, IsOnLine, AreTokens}
 use Rattle.pml_lex.proofs.Lines.{token_lines}
-use Rattle.pml_inline.specs.Brackets.{is_inline, has_inline, closing}
-use Rattle.pml_inline.specs.Inlines.{Inline, is_among, definitions, all_differ}
-use Rattle.pml_inline.specs.Brackets.{arguments}
-use Rattle.pml_inline.specs.Calls.{Given, join, itself, counted, replaced, fits, callee, enclosed, turn, reading, where_right, calling}
-use Rattle.pml_inline.specs.Expansion.{braces_behind, outermost, defined, text_turn, texts, limited, by_definitions, expansion, Expands}
+use Rattle.promela_text.specs.Inlines.{is_inline, has_inline, closing, Inline, is_among, definitions, all_differ, arguments}
+use Rattle.promela_text.specs.Expansion.{Given, join, itself, counted, replaced, fits, callee, enclosed, turn, reading, where_right, calling, braces_behind, outermost, defined, text_turn, texts, limited, by_definitions, expansion, Expands}
 use Rattle.pml_inline.proofs.Keeping.{kept}
 
 -- ---- the tokens of a text

@@ -1,10 +1,10 @@
 -- What the parts of converting the choices of a text answer.
 use Rattle.std.specs.Prelude.{ℕ, List}
 use Rattle.devices.specs.Holdings.{Holdings}
-use Rattle.session.specs.declared.Options.{Options}
-use Rattle.session.specs.declared.End.{End}
-use Rattle.session.specs.declared.Cause.{Cause}
-use Rattle.session.specs.declared.Cause.TheVariants as cause
+use Rattle.promela_session.specs.declared.ends.Options.{Options}
+use Rattle.promela_session.specs.declared.ends.End.{End}
+use Rattle.promela_session.specs.declared.ends.Cause.{Cause}
+use Rattle.promela_session.specs.declared.ends.Cause.TheVariants as cause
 use Rattle.pml_sim.specs.World.{Running}
 use Rattle.pml_play.specs.declared.whole.Rejection.{Rejection}
 use Rattle.pml_play.specs.declared.whole.Rejection.TheVariants.{Memory, Refused}

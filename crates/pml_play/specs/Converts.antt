@@ -3,14 +3,14 @@
 use Rattle.std.specs.Prelude.{◌≡◌, ◌≢◌, ℕ, List}
 use Rattle.devices.specs.Holdings.{Holdings}
 use Rattle.diagnostics.specs.declared.refusal.Refusal.{Refusal}
-use Rattle.session.specs.declared.Options.{Options}
-use Rattle.session.specs.declared.End.{End}
-use Rattle.session.specs.declared.Cause.TheVariants as cause
-use Rattle.session.specs.declared.form.Stream.TheVariants.{Unread}
-use Rattle.session.specs.Convert.{converted, IsConvertedBy, StandsForRecord}
-use Rattle.session.specs.Events.{Part}
-use Rattle.session.specs.Session.{only, end_of, transcript}
-use Rattle.session.specs.Stands.{Ends, IsBrokenOff}
+use Rattle.promela_session.specs.declared.ends.Options.{Options}
+use Rattle.promela_session.specs.declared.ends.End.{End}
+use Rattle.promela_session.specs.declared.ends.Cause.TheVariants as cause
+use Rattle.promela_session.specs.declared.form.Stream.TheVariants.{Unread}
+use Rattle.promela_session.specs.Replay.{converted, IsConvertedBy, StandsForRecord}
+use Rattle.promela_session.specs.Events.{Part}
+use Rattle.promela_session.specs.Session.{only, end_of, transcript}
+use Rattle.promela_session.specs.Devices.{Ends, IsBrokenOff}
 use Rattle.pml_sim.specs.World.{Running, rules}
 use Rattle.pml_play.specs.Transcript.{IsModel, IsRefused, IsTranscript}
 

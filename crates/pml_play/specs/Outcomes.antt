@@ -2,10 +2,10 @@
 use Rattle.std.specs.Prelude.{◌≡◌, ℕ, Bool, List}
 use Rattle.diagnostics.specs.declared.refusal.Refusal.{Refusal}
 use Rattle.diagnostics.specs.declared.refusal.Refusal.TheVariants as r
-use Rattle.session.specs.declared.Options.{Options}
-use Rattle.session.specs.declared.End.{End}
-use Rattle.session.specs.Events.{Part}
-use Rattle.pml_lex.specs.Cut.{IsLine}
+use Rattle.promela_session.specs.declared.ends.Options.{Options}
+use Rattle.promela_session.specs.declared.ends.End.{End}
+use Rattle.promela_session.specs.Events.{Part}
+use Rattle.promela_text.specs.Tokens.{IsLine}
 use Rattle.pml_sim.specs.World.{Running}
 use Rattle.pml_play.specs.Transcript.{IsModel, IsRefused, IsTranscript}
 

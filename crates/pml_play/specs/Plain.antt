@@ -2,11 +2,10 @@
 use Rattle.std.specs.Prelude.{◌≡◌, ℕ, false, List}
 use Rattle.pml_token.specs.Word.{Word}
 use Rattle.diagnostics.specs.declared.refusal.Refusal.{Refusal}
-use Rattle.pml_lex.specs.Cut.{AreTokens, IsLine}
-use Rattle.pml_lex.specs.Limits.{IsTooDeep}
-use Rattle.pml_inline.specs.Brackets.{has_inline}
+use Rattle.promela_text.specs.Tokens.{AreTokens, IsLine, IsTooDeep}
+use Rattle.promela_text.specs.Inlines.{has_inline}
 use Rattle.pml_tree.specs.declared.tree.Tree.{Tree}
-use Rattle.pml_syntax.specs.GrammarOfUnits.{Spells}
+use Rattle.promela_model.specs.GrammarOfModels.{Spells}
 use Rattle.pml_play.specs.Transcript.{IsRefused, IsSpelled}
 
 -- the text's tokens, and no word `inline` is among them

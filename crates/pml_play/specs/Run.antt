@@ -2,15 +2,13 @@
 use Rattle.std.specs.Prelude.{◌≡◌, ◌≢◌, ◌<◌, ◌≤◌, ℕ, ◌+◌, List, [], ◌∷◌, ◌++◌, length, slice_get, Some, true}
 use Rattle.std.specs.List.{Contains, flat_map}
 use Rattle.diagnostics.specs.declared.fault.Fault.{Fault}
-use Rattle.session.specs.declared.End.{End}
-use Rattle.session.specs.declared.Cause.{Cause}
-use Rattle.session.specs.declared.Cause.TheVariants as cause
-use Rattle.session.specs.Events.{recorded, Part}
-use Rattle.session.specs.Machine.{Rules, Goes, Faults}
-use Rattle.session.specs.Replay.{is_cut_short}
-use Rattle.session.specs.Session.{final_cause}
-use Rattle.session.specs.Texts.{record_line}
-use Rattle.session.specs.declared.Options.{Options}
+use Rattle.promela_session.specs.declared.ends.End.{End}
+use Rattle.promela_session.specs.declared.ends.Cause.{Cause}
+use Rattle.promela_session.specs.declared.ends.Cause.TheVariants as cause
+use Rattle.promela_session.specs.Events.{recorded, Part, record_line}
+use Rattle.promela_session.specs.Session.{Rules, Goes, Faults, final_cause}
+use Rattle.promela_session.specs.Replay.{is_cut_short}
+use Rattle.promela_session.specs.declared.ends.Options.{Options}
 use Rattle.pml_sim.specs.World.{Running}
 use Rattle.pml_play.specs.Transcript.{IsModel, IsTranscript}
 

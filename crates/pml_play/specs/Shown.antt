@@ -1,12 +1,10 @@
 -- What a session shows along a path, and which states it comes to.
 use Rattle.std.specs.Prelude.{◌≡◌, ◌≤◌, ℕ, ◌+◌, Bool, false, List, [], ◌∷◌, ◌++◌, length}
 use Rattle.std.specs.List.{flat_map}
-use Rattle.session.specs.declared.Options.{Options}
-use Rattle.session.specs.declared.End.{End}
-use Rattle.session.specs.Events.{Event, Put, Told, Recorded, Stepped, asks, Part, preceded}
-use Rattle.session.specs.Machine.{Rules, Outcome, Goes, Faults}
-use Rattle.session.specs.Session.{place_of, step_text}
-use Rattle.session.specs.Texts.{record_line, placed_line, prompt, list_from}
+use Rattle.promela_session.specs.declared.ends.Options.{Options}
+use Rattle.promela_session.specs.declared.ends.End.{End}
+use Rattle.promela_session.specs.Events.{Event, Put, Told, Recorded, Stepped, asks, Part, preceded, record_line, placed_line, prompt, list_from}
+use Rattle.promela_session.specs.Session.{Rules, Outcome, Goes, Faults, place_of, step_text}
 use Rattle.pml_moves.specs.declared.moves.Move.{Move}
 use Rattle.pml_sim.specs.World.{Running, rules as rules_of_models}
 use Rattle.pml_play.specs.Plain.{SayTheSame}

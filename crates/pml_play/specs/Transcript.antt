@@ -2,27 +2,27 @@
 -- Hold it against docs/FORMATS.md; docs/REFUSALS.md.
 use Rattle.std.specs.Prelude.{◌≡◌, ℕ, List, ◌<◌, Bool, length, Ok}
 use Rattle.devices.specs.Holdings.{Holdings}
-use Rattle.session.specs.declared.Options.{Options}
-use Rattle.session.specs.declared.End.{End}
-use Rattle.session.specs.declared.Broken.{Broken}
-use Rattle.session.specs.Events.{Part}
-use Rattle.session.specs.Stands.{Breaks, CountsBroken, Ends, failure_of}
+use Rattle.promela_session.specs.declared.ends.Options.{Options}
+use Rattle.promela_session.specs.declared.ends.End.{End}
+use Rattle.promela_session.specs.declared.ends.Broken.{Broken}
+use Rattle.promela_session.specs.Events.{Part}
+use Rattle.promela_session.specs.Devices.{Breaks, CountsBroken, Ends, failure_of}
 use Rattle.diagnostics.specs.declared.refusal.Refusal.{Refusal}
 use Rattle.diagnostics.specs.declared.refusal.Refusal.TheVariants as r
-use Rattle.session.specs.Session.{refused, transcript}
+use Rattle.promela_session.specs.Session.{refused, transcript}
 use Rattle.pml_token.specs.Word.{Word}
 use Rattle.profile.specs.declared.TheConstants.{MOST_TEXT_BYTES}
-use Rattle.pml_lex.specs.Cut.{IsLine, AreTokens, CannotBeCut, HoldsLeftOut}
-use Rattle.pml_inline.specs.Expansion.{Expands, IsExpanded, GoesTooDeep}
+use Rattle.promela_text.specs.Tokens.{IsLine, AreTokens, CannotBeCut, HoldsLeftOut}
+use Rattle.promela_text.specs.Expansion.{Expands, IsExpanded, GoesTooDeep}
 use Rattle.pml_tree.specs.declared.tree.Tree.{Tree}
-use Rattle.pml_syntax.specs.GrammarOfUnits.{Spells}
-use Rattle.pml_stands.specs.StandsModel.{StandsModel}
+use Rattle.promela_model.specs.GrammarOfModels.{Spells}
+use Rattle.promela_model.specs.StandsModel.{StandsModel}
 use Rattle.pml_check.specs.Judged.{IsFit, IsLeast}
 use Rattle.pml_program.specs.declared.program.Program.{Program}
 use Rattle.pml_start.specs.Begin.{Begun}
 use Rattle.pml_start.specs.Start.{first_state}
 use Rattle.pml_sim.specs.World.{Running, first, rules}
-use Rattle.session.specs.declared.form.Stream.TheVariants.{Unread}
+use Rattle.promela_session.specs.declared.form.Stream.TheVariants.{Unread}
 
 -- These come of the text's tokens, where the calls of inlines are replaced, and they are not too deep.
 pub record AreExpanded (text : List ℕ) (expanded : List Word) : Type 0 where

@@ -1,9 +1,9 @@
 //! The conversion of the choices of a session over a text.
 
 ghost use Rattle.std.specs.Prelude.{◌≡◌, ℕ, List};
-ghost use Rattle.session.specs.declared.End.{End};
-ghost use Rattle.session.specs.Events.{Part};
-ghost use Rattle.session.specs.Session.{end_of};
+ghost use Rattle.promela_session.specs.declared.ends.End.{End};
+ghost use Rattle.promela_session.specs.Events.{Part};
+ghost use Rattle.promela_session.specs.Session.{end_of};
 ghost use Rattle.pml_play.specs.Converts.{Converts, IsAlwaysConverted};
 ghost use Rattle.pml_play.specs.Converting.{ConvertsModel, ConvertsReady, cause_rejected};
 ghost use Rattle.pml_play.specs.Transcript.{IsTranscript};

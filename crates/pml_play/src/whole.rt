@@ -1,14 +1,14 @@
 //! The session over a text.
 
 ghost use Rattle.std.specs.Prelude.{◌≡◌, ◌≢◌, ◌<◌, ℕ, List, Err, IfOk, IfErr, OnOk};
-ghost use Rattle.session.specs.declared.End.{End};
-ghost use Rattle.session.specs.Events.{Part};
-ghost use Rattle.session.specs.Replay.{CanBeReplayed};
-ghost use Rattle.session.specs.Session.{end_of, transcript};
+ghost use Rattle.promela_session.specs.declared.ends.End.{End};
+ghost use Rattle.promela_session.specs.Events.{Part};
+ghost use Rattle.promela_session.specs.Replay.{CanBeReplayed};
+ghost use Rattle.promela_session.specs.Session.{end_of, transcript};
 ghost use Rattle.pml_sim.specs.World.{rules};
 ghost use Rattle.session.specs.Writes.{CountsAll, IsOwnEnd, Runs};
-ghost use Rattle.pml_lex.specs.Cut.{AreTokens};
-ghost use Rattle.pml_syntax.specs.GrammarOfUnits.{Spells};
+ghost use Rattle.promela_text.specs.Tokens.{AreTokens};
+ghost use Rattle.promela_model.specs.GrammarOfModels.{Spells};
 ghost use Rattle.pml_play.specs.Transcript.{AreExpanded, IsModel, IsSpelled, IsTranscript, PlaysWhole, PlaysBroken};
 ghost use Rattle.pml_play.specs.Parts as parts;
 ghost use Rattle.pml_play.specs.Parts.{IsReady, IsRejected, Rejects, PlaysText};
@@ -17,13 +17,13 @@ use devices::Devices;
 use diagnostics::Refusal;
 use pml_check::{CheckFault, Checked, check};
 use pml_inline::expand;
-use pml_inline::fault::InlineFault;
 use pml_lex::cut;
 use pml_lex::fault::LexFault;
 use pml_sim::world::World;
 use pml_syntax::{SyntaxFault, parse};
 use pml_token::token::Token;
 use pml_tree::tree::Tree;
+use promela_text::inline_fault::InlineFault;
 use session::{Broken, End, Options, Version, end_of, failure, refuse, run};
 use std::alloc::{AllocError, Global};
 

@@ -4,13 +4,14 @@ use Rattle.diagnostics.specs.declared.refusal.Refusal.{Refusal}
 use Rattle.pml_token.specs.Word.{Word}
 use Rattle.pml_tree.specs.declared.tree.Tree.{Tree}
 use Rattle.pml_places.specs.Placed.{ArePlaced, StopsAt}
-use Rattle.pml_inline.specs.Expansion.{IsExpanded, IsLeast, GoesTooDeep}
-use Rattle.pml_inline.specs.declared.fault.InlineFault.TheVariants as fault
-use Rattle.pml_inline.specs.declared.misuse.Misuse.{Misuse}
-use Rattle.pml_syntax.specs.GrammarOfUnits.{Spells}
-use Rattle.pml_marks.specs.declared.mark.Mark.{Mark}
-use Rattle.pml_marks.specs.MarksOfUnits.{of_tree}
-use Rattle.pml_conditions.specs.declared.condition.Condition.{Condition}
+use Rattle.promela_text.specs.Expansion.{IsExpanded, GoesTooDeep}
+use Rattle.pml_inline.specs.Least.{IsLeast}
+use Rattle.promela_text.specs.declared.inline_fault.InlineFault.TheVariants as fault
+use Rattle.promela_text.specs.declared.misuse.Misuse.{Misuse}
+use Rattle.promela_model.specs.GrammarOfModels.{Spells}
+use Rattle.promela_model.specs.declared.mark.Mark.{Mark}
+use Rattle.promela_model.specs.MarksOfUnits.{of_tree}
+use Rattle.promela_model.specs.declared.condition.Condition.{Condition}
 use Rattle.pml_conditions.specs.First.{IsFirstBroken}
 use Rattle.pml_causes.specs.declared.cause.Place.{Place}
 use Rattle.pml_causes.specs.declared.cause.Finding.{Finding}

@@ -1,7 +1,7 @@
 -- What the search for a broken condition answers. No clause of a public function cites it.
 use Rattle.std.specs.Prelude.{◌≡◌, List, Some}
 use Rattle.diagnostics.specs.declared.refusal.Refusal.{Refusal}
-use Rattle.pml_marks.specs.declared.mark.Mark.{Mark}
+use Rattle.promela_model.specs.declared.mark.Mark.{Mark}
 use Rattle.pml_conditions.specs.First.{IsFirstBroken}
 use Rattle.pml_refused.specs.declared.find.Broken.{Broken}
 use Rattle.pml_refused.specs.Marks.{condition_of}

@@ -4,9 +4,9 @@ use Rattle.std.specs.List.{list_any}
 use Rattle.std.specs.Str.{bytes_eq}
 use Rattle.pml_token.specs.declared.token.Kind.TheVariants as kind
 use Rattle.pml_token.specs.Word.{same_kind, Word}
-use Rattle.pml_inline.specs.declared.misuse.Rule.{Rule}
-use Rattle.pml_inline.specs.declared.misuse.Rule.TheVariants as rule
-use Rattle.pml_inline.specs.declared.misuse.Misuse.{Misuse}
+use Rattle.promela_text.specs.declared.misuse.Rule.{Rule}
+use Rattle.promela_text.specs.declared.misuse.Rule.TheVariants as rule
+use Rattle.promela_text.specs.declared.misuse.Misuse.{Misuse}
 use Rattle.pml_causes.specs.declared.cause.Place.{Place}
 use Rattle.pml_refused.specs.declared.heads.Part.{Part}
 use Rattle.pml_refused.specs.declared.heads.Part.TheVariants as part

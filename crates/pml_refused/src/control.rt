@@ -3,7 +3,7 @@
 ghost use Rattle.std.specs.Prelude.{◌≡◌, IfOk, IfSome, Some};
 ghost use Rattle.pml_tree.specs.declared.tree.Tree.{Tree};
 ghost use Rattle.pml_program.specs.declared.program.Program.{Program};
-ghost use Rattle.pml_syntax.specs.GrammarOfUnits.{Spells};
+ghost use Rattle.promela_model.specs.GrammarOfModels.{Spells};
 ghost use Rattle.pml_resolve.specs.Model.{numbered_model};
 ghost use Rattle.pml_blamed.specs.Blamed.{IsBlamedStepIn, IsBlamedCircleIn};
 ghost use Rattle.pml_refused.specs.Marks.{breaks_of, all_breaks};

@@ -5,8 +5,8 @@ use crate::tree::is_refused_at_start;
 use pml_causes::cause::{Cause, Fault, Finding, Place, StartCause};
 use pml_causes::place::{at_place, between, bytes_of, from, is_at, kind_at, place_of, untold};
 use pml_marked::spans::{assign_of, end_of_initialiser, initialiser_place};
-use pml_marks::mark::{Declared, Mark, Role, What};
 use pml_token::token::{Kind, Token};
+use promela_model::mark::{Declared, Mark, Role, What};
 use std::alloc::{AllocError, Global};
 
 /// An initialiser: the name that it is of, its `=`, and the token behind it.

@@ -11,8 +11,8 @@ ghost use Rattle.pml_refused.specs.Inlines.{has_one_name, wanted_at, breaks_form
 use crate::heads::{Part, head, is_unwanted, opens_body};
 use crate::there::is_of;
 use pml_causes::cause::Place;
-use pml_inline::misuse::{Misuse, Rule};
 use pml_token::token::{Kind, Token, same_kind};
+use promela_text::misuse::{Misuse, Rule};
 
 /// The token behind so many others.
 fn token_at<'t>(tokens: &[Token<'t>], at: usize) -> Token<'t>

@@ -10,8 +10,8 @@ use crate::there::{at_first_left_out, lies};
 use diagnostics::Refusal;
 use pml_causes::cause::{Finding, Place};
 use pml_causes::place::untold;
-use pml_marks::mark::Mark;
 use pml_token::token::Token;
+use promela_model::mark::Mark;
 
 /// The same finding without its place.
 pub fn placeless(finding: Finding<'_>) -> Finding<'_>

@@ -7,8 +7,8 @@ ghost use Rattle.pml_refused.specs.Marks.{first_declared, begins_from, begins_be
 
 use crate::there::{begins_any, is_of, touches};
 use pml_causes::cause::Place;
-use pml_marks::mark::{Mark, Shape, What};
 use pml_token::token::{Kind, Token, same_kind};
+use promela_model::mark::{Mark, Shape, What};
 
 /// The place of the token that the first declaration among these marks names.
 fn first_declared(marks: &[Mark<'_>]) -> Option<u32>

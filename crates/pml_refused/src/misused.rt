@@ -7,8 +7,8 @@ use crate::inlines::is_of_misuse;
 use crate::kept::placeless;
 use pml_causes::cause::{Cause, Finding, InlineCause, Named};
 use pml_causes::place::{at_token, bytes_of, named, untold};
-use pml_inline::misuse::{Misuse, Rule};
 use pml_token::token::Token;
+use promela_text::misuse::{Misuse, Rule};
 
 /// What is told of a definition.
 fn of_definition<'t>(rule: Rule, name: &'t [u8], definition: Named<'t>) -> InlineCause<'t> {

@@ -2,15 +2,14 @@
 
 ghost use Rattle.std.specs.Prelude.{◌≡◌, IfOk, MatchOption, Some};
 ghost use Rattle.pml_tree.specs.declared.tree.Tree.{Tree};
-ghost use Rattle.pml_syntax.specs.GrammarOfUnits.{Spells};
-ghost use Rattle.pml_marks.specs.MarksOfUnits.{of_tree};
+ghost use Rattle.promela_model.specs.GrammarOfModels.{Spells};
+ghost use Rattle.promela_model.specs.MarksOfUnits.{of_tree};
 ghost use Rattle.pml_resolve.specs.Model.{numbered_model};
 ghost use Rattle.pml_refused.specs.Told.{NoTree, AreMarks};
 
 use diagnostics::Refusal;
 use pml_check::parsed::Parsed;
 use pml_check::{CheckFault, check};
-use pml_marks::mark::Mark;
 use pml_marks::model::marks;
 use pml_names::names::all_names;
 use pml_program::program::Program;
@@ -18,6 +17,7 @@ use pml_resolve::model::number;
 use pml_syntax::{SyntaxFault, parse};
 use pml_token::token::Token;
 use pml_tree::tree::Tree;
+use promela_model::mark::Mark;
 use sqlite_items::{Boxed, Items};
 use std::alloc::{AllocError, Global};
 

@@ -5,18 +5,18 @@ use Rattle.pml_tree.specs.declared.tree.Scalar.{Scalar}
 use Rattle.pml_tree.specs.declared.tree.Initial.{Initial as TreeInitial}
 use Rattle.pml_tree.specs.declared.tree.Initial.TheVariants as t
 use Rattle.pml_tree.specs.declared.tree.Variable.{Variable}
-use Rattle.pml_marks.specs.Constant.{constant}
-use Rattle.pml_marks.specs.Marks.{size_of, made_by}
-use Rattle.pml_marks.specs.declared.mark.Constant.{Constant}
-use Rattle.pml_marks.specs.declared.mark.Constant.TheVariants.{Is}
-use Rattle.pml_marks.specs.declared.mark.Role.{Role}
-use Rattle.pml_marks.specs.declared.mark.Declared.TheVariants as declared_as
-use Rattle.pml_marks.specs.declared.mark.What.{What}
-use Rattle.pml_marks.specs.declared.mark.What.TheVariants as what
-use Rattle.pml_names.specs.declared.thing.Thing.{Thing}
-use Rattle.pml_names.specs.declared.thing.Thing.TheVariants as thing
+use Rattle.promela_model.specs.Constant.{constant}
+use Rattle.promela_model.specs.Marks.{size_of, made_by}
+use Rattle.promela_model.specs.declared.mark.Constant.{Constant}
+use Rattle.promela_model.specs.declared.mark.Constant.TheVariants.{Is}
+use Rattle.promela_model.specs.declared.mark.Role.{Role}
+use Rattle.promela_model.specs.declared.mark.Declared.TheVariants as declared_as
+use Rattle.promela_model.specs.declared.mark.What.{What}
+use Rattle.promela_model.specs.declared.mark.What.TheVariants as what
+use Rattle.promela_model.specs.declared.thing.Thing.{Thing}
+use Rattle.promela_model.specs.declared.thing.Thing.TheVariants as thing
 use Rattle.pml_names.specs.Entry.{Entry, found}
-use Rattle.pml_names.specs.Naming.{user}
+use Rattle.promela_model.specs.Names.{user}
 use Rattle.pml_names.specs.Env.{after}
 use Rattle.pml_program.specs.declared.form.Form.{Form}
 use Rattle.pml_program.specs.declared.form.Form.TheVariants as kind

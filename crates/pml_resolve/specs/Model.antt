@@ -6,11 +6,11 @@ use Rattle.pml_tree.specs.declared.tree.Proctype.{Proctype as TreeProctype}
 use Rattle.pml_tree.specs.declared.tree.Unit.{Unit as Part}
 use Rattle.pml_tree.specs.declared.tree.Unit.TheVariants as part
 use Rattle.pml_tree.specs.declared.tree.Tree.{Tree}
-use Rattle.pml_marks.specs.Constant.{constant}
-use Rattle.pml_marks.specs.MarksOfUnits.{of_constants, of_tree}
-use Rattle.pml_marks.specs.declared.mark.Declared.TheVariants as declared_as
-use Rattle.pml_marks.specs.declared.mark.What.TheVariants as what
-use Rattle.pml_marks.specs.declared.mark.Role.TheVariants as role
+use Rattle.promela_model.specs.Constant.{constant}
+use Rattle.promela_model.specs.MarksOfUnits.{of_constants, of_tree}
+use Rattle.promela_model.specs.declared.mark.Declared.TheVariants as declared_as
+use Rattle.promela_model.specs.declared.mark.What.TheVariants as what
+use Rattle.promela_model.specs.declared.mark.Role.TheVariants as role
 use Rattle.pml_names.specs.Entry.{Entry}
 use Rattle.pml_names.specs.Env.{after, env, env_from}
 use Rattle.pml_program.specs.declared.program.Proctype.{Proctype}

@@ -7,16 +7,16 @@ use Rattle.pml_tree.specs.declared.tree.Sign.TheVariants.{Plus, Minus}
 use Rattle.pml_tree.specs.declared.tree.Argument.{Argument, Argument-F, fold-Argument}
 use Rattle.pml_tree.specs.declared.tree.Reference.{Reference, Reference-F, fold-Reference, out-Reference}
 use Rattle.pml_tree.specs.declared.tree.Step.{Step, Step-F, fold-Step}
-use Rattle.pml_marks.specs.Constant.{number, negated}
-use Rattle.pml_marks.specs.declared.mark.Constant.{Constant}
-use Rattle.pml_marks.specs.declared.mark.Constant.TheVariants.{Is}
+use Rattle.promela_model.specs.Constant.{number, negated}
+use Rattle.promela_model.specs.declared.mark.Constant.{Constant}
+use Rattle.promela_model.specs.declared.mark.Constant.TheVariants.{Is}
 use Rattle.pml_program.specs.declared.form.Form.{Form}
 use Rattle.pml_program.specs.declared.form.Form.TheVariants as kind
-use Rattle.pml_names.specs.declared.thing.Variable.{Variable}
-use Rattle.pml_names.specs.declared.thing.Thing.{Thing}
-use Rattle.pml_names.specs.declared.thing.Thing.TheVariants as thing
+use Rattle.promela_model.specs.declared.thing.Variable.{Variable}
+use Rattle.promela_model.specs.declared.thing.Thing.{Thing}
+use Rattle.promela_model.specs.declared.thing.Thing.TheVariants as thing
 use Rattle.pml_names.specs.Entry.{Entry, found}
-use Rattle.pml_names.specs.Meaning.{is_any, is_pid, is_count, field, meaning}
+use Rattle.promela_model.specs.Names.{is_any, is_pid, is_count, field, meaning}
 use Rattle.pml_program.specs.declared.expr.Expr.{Expr}
 use Rattle.pml_program.specs.declared.expr.Expr.TheVariants as v
 use Rattle.pml_program.specs.declared.expr.Want.{Want}

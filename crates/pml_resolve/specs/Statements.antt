@@ -9,11 +9,11 @@ use Rattle.pml_tree.specs.declared.tree.Action.TheVariants as t
 use Rattle.pml_tree.specs.declared.tree.Basic.{Basic as TreeBasic, Basic-F, fold-Basic}
 use Rattle.pml_tree.specs.declared.tree.Item.{Item, Item-F, fold-Item}
 use Rattle.pml_tree.specs.declared.tree.Seq.{Seq as TreeSeq, Seq-F, fold-Seq}
-use Rattle.pml_marks.specs.declared.mark.Role.TheVariants as role
-use Rattle.pml_names.specs.declared.thing.Thing.{Thing}
-use Rattle.pml_names.specs.declared.thing.Thing.TheVariants as thing
+use Rattle.promela_model.specs.declared.mark.Role.TheVariants as role
+use Rattle.promela_model.specs.declared.thing.Thing.{Thing}
+use Rattle.promela_model.specs.declared.thing.Thing.TheVariants as thing
 use Rattle.pml_names.specs.Entry.{Entry, found}
-use Rattle.pml_names.specs.Meaning.{meaning}
+use Rattle.promela_model.specs.Names.{meaning}
 use Rattle.pml_program.specs.declared.expr.Expr.{Expr}
 use Rattle.pml_program.specs.declared.expr.Target.{Target}
 use Rattle.pml_program.specs.declared.program.Run.{Run}

@@ -9,10 +9,10 @@ use crate::reached::Reached;
 use crate::room::room_for;
 use crate::scope::Scope;
 use pml_names::meaning::meaning;
-use pml_names::thing::Thing;
 use pml_program::expr::{Expr, Target};
 use pml_program::program::{Action, Run};
 use pml_tree::tree::{Action as TreeAction, Expr as TreeExpr, Reference, Run as TreeRun};
+use promela_model::thing::Thing;
 use sqlite_items::Items;
 use std::alloc::{AllocError, Global};
 

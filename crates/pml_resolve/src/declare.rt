@@ -1,7 +1,7 @@
 //! Variables, and what they begin with.
 
 ghost use Rattle.std.specs.Prelude.{◌≡◌, map, OnOk, IfOk};
-ghost use Rattle.pml_marks.specs.Marks.{size_of, made_by};
+ghost use Rattle.promela_model.specs.Marks.{size_of, made_by};
 ghost use Rattle.pml_names.specs.Env.{after};
 ghost use Rattle.pml_names.specs.Totals.{IsTotalled};
 ghost use Rattle.pml_resolve.specs.Numbered.{scope_of};
@@ -11,14 +11,14 @@ use crate::expression::expr;
 use crate::room::room_for;
 use crate::scope::Scope;
 use pml_marks::constant::constant;
-use pml_marks::mark::{Constant, Declared, Makes, Role, What};
 use pml_names::names::Names;
 use pml_names::table::Table;
-use pml_names::thing::Thing;
 use pml_program::form::Form;
 use pml_program::program::{Initial, Slot};
 use pml_token::token::Token;
 use pml_tree::tree::{Expr as TreeExpr, Initial as TreeInitial, Scalar, Sort, Variable};
+use promela_model::mark::{Constant, Declared, Makes, Role, What};
+use promela_model::thing::Thing;
 use sqlite_items::{Boxed, Items};
 use std::alloc::{AllocError, Global};
 

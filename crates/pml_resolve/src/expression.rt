@@ -8,14 +8,14 @@ use crate::reached::Reached;
 use crate::room::room_for;
 use crate::scope::Scope;
 use pml_marks::arithmetic::{negative, value as number_value};
-use pml_marks::mark::Constant;
 use pml_names::meaning::{field, is_any, is_count, is_pid, meaning};
 use pml_names::table::Table;
-use pml_names::thing::{Thing, Variable};
 use pml_program::expr::{Expr, Target, Turn, Want};
 use pml_program::form::Form;
 use pml_tree::tree::{Argument, Expr as TreeExpr, Reference, Sign, Step};
 use profile::MOST_CONSTANTS;
+use promela_model::mark::Constant;
+use promela_model::thing::{Thing, Variable};
 use sqlite_items::{Boxed, Items};
 use std::alloc::{AllocError, Global};
 

@@ -2,7 +2,7 @@
 
 ghost use Rattle.std.specs.Prelude.{◌≡◌, ◌++◌, reverse, OnOk, IfOk};
 ghost use Rattle.pml_tree.specs.declared.tree.Unit.TheVariants as part;
-ghost use Rattle.pml_marks.specs.MarksOfUnits.{of_constants, of_tree};
+ghost use Rattle.promela_model.specs.MarksOfUnits.{of_constants, of_tree};
 ghost use Rattle.pml_names.specs.Env.{env, env_from};
 ghost use Rattle.pml_names.specs.Totals.{IsTotalled};
 ghost use Rattle.pml_resolve.specs.Numbered.{owned};
@@ -12,12 +12,12 @@ use crate::declare::{Holder, declare, natural, variables};
 use crate::scope::Whose;
 use crate::statement::seq;
 use pml_marks::constant::constant;
-use pml_marks::mark::{Declared, Role, What};
 use pml_names::names::Names;
 use pml_names::table::Table;
 use pml_program::program::{Fields, Proctype, Program};
 use pml_token::token::Token;
 use pml_tree::tree::{Proctype as TreeProctype, Starts, Tree, Unit, Variable};
+use promela_model::mark::{Declared, Role, What};
 use sqlite_items::Items;
 use std::alloc::{AllocError, Global};
 

@@ -11,12 +11,12 @@ use crate::action::action;
 use crate::declare::{Holder, variables};
 use crate::room::room_for;
 use crate::scope::{Scope, Whose};
-use pml_marks::mark::Role;
 use pml_names::names::Names;
 use pml_program::program::{Basic, Seq, Slot, Stmt};
 use pml_token::token::Token;
 use pml_tree::tokens::Tokens;
 use pml_tree::tree::{Action as TreeAction, Basic as TreeBasic, Item, Seq as TreeSeq};
+use promela_model::mark::Role;
 use sqlite_items::Items;
 use std::alloc::{AllocError, Global};
 

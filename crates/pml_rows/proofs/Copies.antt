@@ -44,7 +44,7 @@ use Rattle.pml_value.specs.Reads.{channel_at}
 use Rattle.pml_value.specs.declared.live_channel.LiveChannel.{LiveChannel}
 use Rattle.pml_value.specs.declared.statement.Goes.{Goes}
 use Rattle.profile.specs.declared.TheConstants.{MOST_CHANNELS, MOST_DSTEP_STATEMENTS, MOST_PROCESSES}
-use Rattle.session.specs.Machine.{Outcome, Rules}
+use Rattle.promela_session.specs.Session.{Outcome, Rules}
 use Rattle.std.specs.List.{filter}
 use Rattle.std.specs.Prelude.{Bool, Err, List, None, Ok, Option, Result, Some, [], false, if◌then◌else◌, int_lt, length, map, nat_eq, nat_lt, negsuc, not, pos, slice_get, suc, true, zero, ℕ, ℤ, ◌&&◌, ◌*◌, ◌++◌, ◌+ℤ◌, ◌+◌, ◌-◌, ◌==◌, ◌||◌, ◌∷◌, ◌≡◌}
 use Rattle.pml_program.specs.declared.program.Action.TheVariants as actions

@@ -2,7 +2,7 @@
 use Rattle.std.proofs.Common.{ℕ, ◌-◌, Bool, true, false, List, [], ◌∷◌, ◌++◌, map, take, Option, Some, None}
 use Rattle.std.specs.Prelude.{codes, drop, pos, slice_index_or}
 use Prim.Native.String.{String}
-use Rattle.session.specs.declared.Options.{Options}
+use Rattle.promela_session.specs.declared.ends.Options.{Options}
 use Rattle.pml_token.specs.Word.{Word}
 use Rattle.pml_token.specs.declared.token.Kind.{Kind}
 use Rattle.pml_token.specs.declared.token.Kind.TheVariants as kind

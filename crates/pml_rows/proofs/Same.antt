@@ -5,12 +5,11 @@ use Rattle.std.specs.Int.{int_wrap}
 use Rattle.std.specs.Fmt.{digits}
 use denote.Hole.Carrier.{roll, out, hidden}
 use Rattle.diagnostics.specs.declared.fault.Fault.{Fault}
-use Rattle.session.specs.declared.Options.{Options}
-use Rattle.session.specs.declared.End.{End}
-use Rattle.session.specs.Lines.{line_within, number_up_to, reply_of, placed_answer, placed_reply, is_header}
-use Rattle.session.specs.Events.{Part}
-use Rattle.session.specs.Session.{transcript, story, select, answered, stepped, ask, one_line, next_line, one_reply}
-use Rattle.session.specs.Texts.{digits_of, all_digits}
+use Rattle.promela_session.specs.declared.ends.Options.{Options}
+use Rattle.promela_session.specs.declared.ends.End.{End}
+use Rattle.promela_session.specs.Lines.{line_within, number_up_to, reply_of, placed_answer, placed_reply, is_header}
+use Rattle.promela_session.specs.Events.{Part, digits_of, all_digits}
+use Rattle.promela_session.specs.Session.{transcript, story, select, answered, stepped, ask, one_line, next_line, one_reply}
 use Rattle.pml_program.specs.declared.expr.Expr.{roll-Expr}
 use Rattle.pml_program.specs.declared.expr.Want.{roll-Want}
 use Rattle.pml_program.specs.declared.expr.Target.{roll-Target, out-Target}

@@ -1,10 +1,10 @@
 -- What is seen of a session over a checked model.
 use Rattle.std.specs.Prelude.{ℕ, List, length, Option, Some, None, option_map, Result, Ok, Err}
 use Rattle.diagnostics.specs.declared.fault.Fault.{Fault}
-use Rattle.session.specs.declared.Options.{Options}
-use Rattle.session.specs.declared.End.{End}
-use Rattle.session.specs.Events.{output, recorded, front, Part}
-use Rattle.session.specs.Session.{transcript}
+use Rattle.promela_session.specs.declared.ends.Options.{Options}
+use Rattle.promela_session.specs.declared.ends.End.{End}
+use Rattle.promela_session.specs.Events.{output, recorded, front, Part}
+use Rattle.promela_session.specs.Session.{transcript}
 use Rattle.pml_program.specs.declared.program.Program.{Program}
 use Rattle.pml_start.specs.Begin.{Begun}
 use Rattle.pml_start.specs.Start.{first_state}

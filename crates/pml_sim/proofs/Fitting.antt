@@ -3,21 +3,20 @@ use Rattle.std.proofs.Common.{◌≡◌, ℕ, zero, suc, ◌+◌, ◌-◌, ◌<�
 use Rattle.std.proofs.lemmas.Bool.{le-leb}
 use Rattle.std.proofs.lemmas.List.Folds.{list_all-append}
 use Rattle.std.specs.List.{list_all}
-use Rattle.session.specs.declared.Options.{Options}
-use Rattle.session.specs.declared.End.{End}
-use Rattle.session.specs.declared.Cause.TheVariants as cause
-use Rattle.session.specs.declared.choice.Answer.{Answer}
-use Rattle.session.specs.declared.choice.Answer.TheVariants as answer
-use Rattle.session.specs.declared.form.Stream.{Stream}
-use Rattle.session.specs.declared.form.Stream.TheVariants.{Unread, Known, Over}
-use Rattle.session.specs.declared.form.Version.{Version}
-use Rattle.session.specs.declared.form.Version.TheVariants.{First, Second}
+use Rattle.promela_session.specs.declared.ends.Options.{Options}
+use Rattle.promela_session.specs.declared.ends.End.{End}
+use Rattle.promela_session.specs.declared.ends.Cause.TheVariants as cause
+use Rattle.promela_session.specs.declared.choice.Answer.{Answer}
+use Rattle.promela_session.specs.declared.choice.Answer.TheVariants as answer
+use Rattle.promela_session.specs.declared.form.Stream.{Stream}
+use Rattle.promela_session.specs.declared.form.Stream.TheVariants.{Unread, Known, Over}
+use Rattle.promela_session.specs.declared.form.Version.{Version}
+use Rattle.promela_session.specs.declared.form.Version.TheVariants.{First, Second}
 use Rattle.session.specs.Converting.{fits_line}
-use Rattle.session.specs.Events.{Event, asks, Part, preceded}
-use Rattle.session.specs.Lines.{most_line_bytes, most_bad_lines, Line, line_within, read_of, saw_end, IsPickUpTo}
-use Rattle.session.specs.Machine.{Rules, Outcome, Goes, Faults}
-use Rattle.session.specs.Session.{one_line, next_line, one_reply, begins_second, stream_behind, only, after_line, ask, kept, place_of, select, stopped, finished, stepped, answered, story, transcript}
-use Rattle.session.specs.Texts.{placed_line}
+use Rattle.promela_session.specs.Events.{Event, asks, Part, preceded, placed_line}
+use Rattle.promela_session.specs.Lines.{most_line_bytes, most_bad_lines, Line, line_within, read_of, saw_end}
+use Rattle.session.specs.Answers.{IsPickUpTo}
+use Rattle.promela_session.specs.Session.{Rules, Outcome, Goes, Faults, one_line, next_line, one_reply, begins_second, stream_behind, only, after_line, ask, kept, place_of, select, stopped, finished, stepped, answered, story, transcript}
 use Rattle.session.proofs.Replay.{ask_range}
 use Rattle.session.proofs.Turns.{story_none, story_limit, story_some, answer_part}
 

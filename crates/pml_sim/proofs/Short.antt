@@ -5,12 +5,11 @@ use Rattle.std.specs.List.{AllByRecursion, Contains}
 use Rattle.std.proofs.lemmas.List.{length-take, length-map}
 use Rattle.std.proofs.lemmas.Option.{slice_get-get_or}
 use Rattle.diagnostics.specs.declared.fault.Fault.{Fault}
-use Rattle.session.specs.declared.Options.{Options}
-use Rattle.session.specs.Convert.{StandsForRecord}
-use Rattle.session.specs.Lines.{most_line_bytes}
-use Rattle.session.specs.Machine.{Goes}
-use Rattle.session.specs.Session.{place_of, transcript}
-use Rattle.session.specs.Texts.{all_digits, placed_line}
+use Rattle.promela_session.specs.declared.ends.Options.{Options}
+use Rattle.promela_session.specs.Replay.{StandsForRecord}
+use Rattle.promela_session.specs.Lines.{most_line_bytes}
+use Rattle.promela_session.specs.Session.{Goes, place_of, transcript}
+use Rattle.promela_session.specs.Events.{all_digits, placed_line}
 use Rattle.session.proofs.Placing.{can_be_converted}
 use Rattle.session.proofs.Replay.{picked_is_there}
 use Rattle.session.proofs.Written.{few_digits}

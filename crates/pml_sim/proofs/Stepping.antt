@@ -4,7 +4,7 @@ use Rattle.std.specs.List.{Contains}
 use Rattle.diagnostics.specs.declared.fault.Fault.{Fault}
 use Rattle.diagnostics.specs.declared.stop.Stop.{Stop}
 use Rattle.diagnostics.specs.declared.stop.Stop.TheVariants as stop
-use Rattle.session.specs.Machine.{Goes, Faults, Stopped}
+use Rattle.promela_session.specs.Session.{Goes, Faults, Stopped}
 use Rattle.session.specs.Takes.{CanBeTaken, IsReason}
 use Rattle.pml_program.specs.declared.program.Program.{Program}
 use Rattle.pml_store.specs.Store.{Frame}

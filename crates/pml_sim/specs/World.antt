@@ -2,7 +2,7 @@
 -- Hold it against chapter 7 of the book.
 use Rattle.std.specs.Prelude.{ℕ, Bool, List, [], length, take, Option, Some, None, Result, Ok, Err}
 use Rattle.diagnostics.specs.declared.fault.Fault.{Fault}
-use Rattle.session.specs.Machine.{Rules, Outcome, Stopped, Goes, Faults}
+use Rattle.promela_session.specs.Session.{Rules, Outcome, Stopped, Goes, Faults}
 use Rattle.pml_program.specs.declared.program.Program.{Program}
 use Rattle.pml_store.specs.Store.{Frame}
 use Rattle.pml_start.specs.Begin.{Begun}

@@ -2,7 +2,7 @@
 
 ghost use Rattle.std.specs.Prelude.{◌≡◌, Bool, List, [], ℕ, length, take};
 ghost use Rattle.std.specs.List.{flat_map};
-ghost use Rattle.session.specs.Machine.{Goes};
+ghost use Rattle.promela_session.specs.Session.{Goes};
 ghost use Rattle.pml_program.specs.declared.program.Program.{Program};
 ghost use Rattle.pml_start.specs.Begin.{Begun};
 ghost use Rattle.pml_lines.specs.Changed.{wanted_changes};

@@ -7,9 +7,9 @@ use Rattle.pml_tree.specs.declared.tree.Reference.{Reference}
 use Rattle.pml_tree.specs.declared.tree.Run.{Run as TreeRun}
 use Rattle.pml_tree.specs.declared.tree.Action.{Action as TreeAction}
 use Rattle.pml_tree.specs.declared.tree.Action.TheVariants as t
-use Rattle.pml_names.specs.declared.thing.Thing.{Thing}
+use Rattle.promela_model.specs.declared.thing.Thing.{Thing}
 use Rattle.pml_names.specs.Entry.{found}
-use Rattle.pml_names.specs.Meaning.{meaning, or_else, only_process}
+use Rattle.promela_model.specs.Names.{meaning, or_else, only_process}
 use Rattle.pml_program.specs.declared.expr.Expr.{Expr}
 use Rattle.pml_program.specs.declared.expr.Target.{Target}
 use Rattle.pml_program.specs.declared.program.Slot.{Slot}
@@ -20,11 +20,11 @@ use Rattle.pml_resolve.specs.declared.reached.Reached.{Reached}
 use Rattle.pml_resolve.specs.declared.reached.Reached.TheVariants as r
 use Rattle.pml_resolve.specs.Numbered.{Scope, at_scope, numbered, numbered_argument, numbered_reference}
 use Rattle.pml_resolve.specs.Statements.{values, store, at, run, action, proctype_of as numbered_proctype}
-use Rattle.pml_stands.specs.Known.{Globals, variable_named, proctype_named}
-use Rattle.pml_stands.specs.Stands.{Meaning, as_place, StandsReference, StandsExpr, StandsArguments}
-use Rattle.pml_stands.specs.Stands as parts
-use Rattle.pml_stands.specs.StandsStatements as stands
-use Rattle.pml_stands.specs.StandsStatements.{as_store, or_none, proctype_of, StandsExprs, StandsRun, StandsAction}
+use Rattle.promela_model.specs.Known.{Globals, variable_named, proctype_named}
+use Rattle.promela_model.specs.Stands.{Meaning, as_place, StandsReference, StandsExpr, StandsArguments}
+use Rattle.promela_model.specs.Stands as parts
+use Rattle.promela_model.specs.StandsModel as stands
+use Rattle.promela_model.specs.StandsModel.{as_store, or_none, proctype_of, StandsExprs, StandsRun, StandsAction}
 use Rattle.pml_stands.proofs.Agreeing.{Sees, meaning_of, own-local, own-none}
 use Rattle.pml_stands.proofs.Layers.{target-is}
 use Rattle.pml_stands.proofs.Standing.{expr-stands, argument-stands, reference-stands}

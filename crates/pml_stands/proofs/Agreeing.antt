@@ -5,11 +5,11 @@ use Rattle.std.specs.List.{AllByRecursion}
 use Rattle.std.specs.Option.{is_some}
 use Rattle.std.specs.Str.{bytes_eq}
 use Rattle.std.proofs.lemmas.Bool.{lt-ltb, le-ltb}
-use Rattle.pml_names.specs.declared.thing.Thing.{Thing}
-use Rattle.pml_names.specs.declared.thing.Thing.TheVariants as thing
-use Rattle.pml_names.specs.declared.thing.Variable.{Variable}
+use Rattle.promela_model.specs.declared.thing.Thing.{Thing}
+use Rattle.promela_model.specs.declared.thing.Thing.TheVariants as thing
+use Rattle.promela_model.specs.declared.thing.Variable.{Variable}
 use Rattle.pml_names.specs.Entry.{Entry, found}
-use Rattle.pml_names.specs.Meaning.{is_any, is_pid, is_count, meaning, or_else, only_process, field as field_of}
+use Rattle.promela_model.specs.Names.{is_any, is_pid, is_count, meaning, or_else, only_process, field as field_of}
 use Rattle.pml_program.specs.declared.form.Form.{Form}
 use Rattle.pml_program.specs.declared.form.Form.TheVariants as kind
 use Rattle.pml_program.specs.declared.expr.Expr.{Expr}
@@ -17,9 +17,9 @@ use Rattle.pml_program.specs.declared.program.Slot.{Slot}
 use Rattle.pml_resolve.specs.declared.reached.Reached.{Reached}
 use Rattle.pml_resolve.specs.declared.reached.Reached.TheVariants as r
 use Rattle.pml_resolve.specs.Numbered.{Scope, Path, Stepped, reached, stands_for, is_local, into, through, with_turn}
-use Rattle.pml_stands.specs.Known.{Structure, Globals, one_behind, variable_named, constant_named, typedef_named, fields_of, fields_in}
+use Rattle.promela_model.specs.Known.{Structure, Globals, one_behind, variable_named, constant_named, typedef_named, fields_of, fields_in}
 use Rattle.pml_stands.proofs.Things.{variable_of, as_variable, as_thing, as_typedef, in_variable, in_constant, in_typedef, has_number, IsKnown, AreKnown}
-use Rattle.pml_stands.specs.Stands.{Meaning, Place, Mtype, Pid, Count, Anything, Nothing, special, turn_to, target_at}
+use Rattle.promela_model.specs.Stands.{Meaning, Place, Mtype, Pid, Count, Anything, Nothing, special, turn_to, target_at}
 
 -- the names so far are found as what is declared globally has them
 pub record Agrees (gs : Globals) (es : List Entry) : Type 0 where

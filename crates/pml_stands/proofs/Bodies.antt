@@ -5,10 +5,10 @@ use Rattle.pml_tree.specs.declared.tree.Basic.{Basic as TreeBasic, Basic-F, map-
 use Rattle.pml_tree.specs.declared.tree.Basic.TheVariants as form
 use Rattle.pml_tree.specs.declared.tree.Item.{Item, Item-F, map-Item, roll-Item, fold-roll-Item}
 use Rattle.pml_tree.specs.declared.tree.Seq.{Seq as TreeSeq, Seq-F, map-Seq, roll-Seq as tree-Seq, fold-roll-Seq, ind-Seq}
-use Rattle.pml_marks.specs.declared.mark.Role.TheVariants as role
-use Rattle.pml_names.specs.declared.thing.Thing.{Thing}
+use Rattle.promela_model.specs.declared.mark.Role.TheVariants as role
+use Rattle.promela_model.specs.declared.thing.Thing.{Thing}
 use Rattle.pml_names.specs.Entry.{Entry, found}
-use Rattle.pml_names.specs.Meaning.{or_else, only_process}
+use Rattle.promela_model.specs.Names.{or_else, only_process}
 use Rattle.pml_program.specs.declared.program.Slot.{Slot}
 use Rattle.pml_program.specs.declared.program.Basic.{Basic}
 use Rattle.pml_program.specs.declared.program.Basic.TheVariants as b
@@ -17,9 +17,9 @@ use Rattle.pml_program.specs.declared.program.Seq.{Seq}
 use Rattle.pml_resolve.specs.Numbered.{scope}
 use Rattle.pml_resolve.specs.Declarations.{Known}
 use Rattle.pml_resolve.specs.Statements.{Threaded, each, stmts, joined, basic_layer, item_layer, seq_layer, numbered_basic, numbered_item, numbered_seq, proctype_of}
-use Rattle.pml_stands.specs.Known.{Globals}
-use Rattle.pml_stands.specs.StandsStatements as stands
-use Rattle.pml_stands.specs.StandsStatements.{item_of, items_of, stmt_of, steps_of, StandsBasic, StandsItems, StandsSeq, StandsOptions}
+use Rattle.promela_model.specs.Known.{Globals}
+use Rattle.promela_model.specs.StandsModel as stands
+use Rattle.promela_model.specs.StandsModel.{item_of, items_of, stmt_of, steps_of, StandsBasic, StandsItems, StandsSeq, StandsOptions}
 use Rattle.pml_stands.proofs.Declaring.{Runs, Ready, sees-of, variables-ready, variables-stand, only_variables}
 use Rattle.pml_stands.proofs.Acting.{action-stands, only_action}
 

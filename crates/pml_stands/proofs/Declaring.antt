@@ -10,20 +10,18 @@ use Rattle.pml_tree.specs.declared.tree.Initial.{Initial as TreeInitial}
 use Rattle.pml_tree.specs.declared.tree.Initial.TheVariants as begin
 use Rattle.pml_tree.specs.declared.tree.Variable.{Variable as TreeVariable}
 use Rattle.pml_tree.specs.declared.tree.Expr.{Expr as TreeExpr}
-use Rattle.pml_marks.specs.Constant.{constant, numeral}
-use Rattle.pml_marks.specs.Marks.{size_of as mark_size, made_by}
-use Rattle.pml_marks.specs.declared.mark.Constant.{Constant}
-use Rattle.pml_marks.specs.declared.mark.Constant.TheVariants as number
-use Rattle.pml_marks.specs.declared.mark.Declared.TheVariants as declared_as
-use Rattle.pml_marks.specs.declared.mark.Role.{Role}
-use Rattle.pml_marks.specs.declared.mark.Role.TheVariants as role
-use Rattle.pml_names.specs.declared.thing.Thing.{Thing}
-use Rattle.pml_names.specs.declared.thing.Thing.TheVariants as thing
+use Rattle.promela_model.specs.Constant.{constant, numeral}
+use Rattle.promela_model.specs.Marks.{size_of as mark_size, made_by}
+use Rattle.promela_model.specs.declared.mark.Constant.{Constant}
+use Rattle.promela_model.specs.declared.mark.Constant.TheVariants as number
+use Rattle.promela_model.specs.declared.mark.Declared.TheVariants as declared_as
+use Rattle.promela_model.specs.declared.mark.Role.{Role}
+use Rattle.promela_model.specs.declared.mark.Role.TheVariants as role
+use Rattle.promela_model.specs.declared.thing.Thing.{Thing}
+use Rattle.promela_model.specs.declared.thing.Thing.TheVariants as thing
 use Rattle.pml_names.specs.Entry.{Entry, entry, found}
-use Rattle.pml_names.specs.Meaning.{visible}
-use Rattle.pml_names.specs.Naming.{constants_in, most_cells, form, stride, form_of, stride_of, width_of, length_of, user}
+use Rattle.promela_model.specs.Names.{visible, constants_in, most_cells, form, stride, form_of, stride_of, width_of, length_of, user, or_else, only_process}
 use Rattle.pml_names.specs.Env.{held, variables, constants, thing_of, after}
-use Rattle.pml_names.specs.Meaning.{or_else, only_process}
 use Rattle.pml_program.specs.declared.form.Form.{Form}
 use Rattle.pml_program.specs.declared.form.Form.TheVariants as kind
 use Rattle.pml_program.specs.declared.program.Initial.{Initial}
@@ -32,9 +30,9 @@ use Rattle.pml_program.specs.declared.program.Slot.{Slot}
 use Rattle.pml_resolve.specs.Numbered.{Scope, scope}
 use Rattle.pml_resolve.specs.Declarations.{Known, known, natural, initial, slot, declares, added_variable, with_variable, with_variables}
 use Rattle.pml_resolve.specs.Statements.{proctype_of}
-use Rattle.pml_stands.specs.Known.{Structure, Globals, variable_named, typedef_named, is_declared, proctype_named, cells, counted}
-use Rattle.pml_stands.specs.StandsStatements as stands
-use Rattle.pml_stands.specs.StandsStatements.{or_none, count_of, size_of, elements, seen, StandsSort, StandsInitial, StandsVariable, StandsVariables}
+use Rattle.promela_model.specs.Known.{Structure, Globals, variable_named, typedef_named, is_declared, proctype_named, cells, counted}
+use Rattle.promela_model.specs.StandsModel as stands
+use Rattle.promela_model.specs.StandsModel.{or_none, count_of, size_of, elements, seen, StandsSort, StandsInitial, StandsVariable, StandsVariables}
 use Rattle.pml_stands.proofs.Things.{variable_of, as_thing, as_typedef, in_variable, in_constant, in_typedef, has_number, IsKnown, AreKnown}
 use Rattle.pml_stands.proofs.Agreeing.{Agrees, Sees, own-local, own-none}
 use Rattle.pml_stands.proofs.Growing.{if_so, owner-same, found-own, found-other, after-new, name-same, constants-more, variables-own, held-own, variables-other, held-other, Below, below-more, variable-more, thing-or, cells-more, known-more}

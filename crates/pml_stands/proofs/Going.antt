@@ -13,10 +13,10 @@ use Rattle.pml_program.specs.declared.expr.Target.{out-roll-Target}
 use Rattle.pml_program.specs.declared.expr.Turn.{Turn}
 use Rattle.pml_program.specs.declared.program.Slot.{Slot}
 use Rattle.pml_program.specs.declared.program.Fields.{Fields}
-use Rattle.pml_stands.specs.Known.{Structure, Globals, one_behind, variable_named, fields_of, fields_in}
-use Rattle.pml_stands.specs.Stands as stands
+use Rattle.promela_model.specs.Known.{Structure, Globals, one_behind, variable_named, fields_of, fields_in}
+use Rattle.promela_model.specs.Stands as stands
 use Rattle.pml_program.specs.declared.expr.Expr.{Expr}
-use Rattle.pml_stands.specs.Stands.{Meaning, Place, Pid, Count, Anything, special, reference_of, turn_to, target_at, StandsStep, StandsFields, StandsReference}
+use Rattle.promela_model.specs.Stands.{Meaning, Place, Pid, Count, Anything, special, reference_of, turn_to, target_at, StandsStep, StandsFields, StandsReference}
 use Rattle.pml_stands.specs.Tiled as tiled
 use Rattle.pml_stands.specs.Tiled.{fields_at, listed, is_struct, Leads, reached, AreWithin, AreAmong, variables_of, fields_under, names_along, first_of, indices_along, name_of, names_of, LeadsOn, TargetLeads, LeadsAs}
 use Rattle.pml_stands.proofs.Growing.{same-name}

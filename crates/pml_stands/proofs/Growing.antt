@@ -6,15 +6,14 @@ use Rattle.std.specs.Str.{bytes_eq}
 use Rattle.std.proofs.lemmas.Bool.Decides.{eqb_tells}
 use Rattle.std.proofs.lemmas.Slice.Eq.{bytes_eq-Decides}
 use Rattle.pml_token.specs.Word.{Word}
-use Rattle.pml_marks.specs.declared.mark.Declared.{Declared}
-use Rattle.pml_marks.specs.declared.mark.What.TheVariants as what
-use Rattle.pml_names.specs.declared.thing.Thing.{Thing}
+use Rattle.promela_model.specs.declared.mark.Declared.{Declared}
+use Rattle.promela_model.specs.declared.mark.What.TheVariants as what
+use Rattle.promela_model.specs.declared.thing.Thing.{Thing}
 use Rattle.pml_names.specs.Entry.{Entry, entry, found, is_named}
-use Rattle.pml_names.specs.Naming.{variables_in, cells_in, constants_in}
+use Rattle.promela_model.specs.Names.{variables_in, cells_in, constants_in, or_else}
 use Rattle.pml_names.specs.Env.{variables, held, constants, after, add, thing_of}
-use Rattle.pml_names.specs.Meaning.{or_else}
 use Rattle.pml_program.specs.declared.program.Slot.{Slot}
-use Rattle.pml_stands.specs.Known.{Structure, one_behind, one_more, variable_named, constant_named, typedef_named, has_name, cells}
+use Rattle.promela_model.specs.Known.{Structure, one_behind, one_more, variable_named, constant_named, typedef_named, has_name, cells}
 use Rattle.pml_stands.proofs.Things.{as_thing, IsKnown, AreKnown}
 
 -- the first of two that is one

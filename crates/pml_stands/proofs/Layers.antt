@@ -13,16 +13,16 @@ use Rattle.pml_tree.specs.declared.tree.Expr.{Expr as TreeExpr, Expr-F, map-Expr
 use Rattle.pml_tree.specs.declared.tree.Expr.TheVariants as e
 use Rattle.pml_tree.specs.declared.tree.Reference.{Reference, fold-roll-Reference}
 use Rattle.pml_tree.specs.declared.tree.Step.{Step, fold-roll-Step}
-use Rattle.pml_marks.specs.Constant.{number as number_of}
-use Rattle.pml_marks.specs.declared.mark.Constant.{Constant}
-use Rattle.pml_marks.specs.declared.mark.Constant.TheVariants as constant
+use Rattle.promela_model.specs.Constant.{number as number_of}
+use Rattle.promela_model.specs.declared.mark.Constant.{Constant}
+use Rattle.promela_model.specs.declared.mark.Constant.TheVariants as constant
 use Rattle.pml_program.specs.declared.expr.Expr.{Expr}
 use Rattle.pml_program.specs.declared.expr.Expr.TheVariants as v
 use Rattle.pml_program.specs.declared.expr.Want.TheVariants as w
 use Rattle.pml_resolve.specs.declared.reached.Reached.{Reached}
 use Rattle.pml_resolve.specs.declared.reached.Reached.TheVariants as r
 use Rattle.pml_resolve.specs.Numbered.{Scope, Stepped, Valued, Wanted, Reaching, reached, literal, truth, signed, read, target, received, at_scope, argument_layer, expr_layer, reference_layer, step_layer, numbered, numbered_argument, numbered_reference, numbered_step}
-use Rattle.pml_stands.specs.Stands.{step_of, reference_of, value_of, truth_of, with_sign, as_value, as_place, as_wanted}
+use Rattle.promela_model.specs.Stands.{step_of, reference_of, value_of, truth_of, with_sign, as_value, as_place, as_wanted}
 use Rattle.pml_stands.proofs.Agreeing.{meaning_of}
 
 -- ---- the words of the numbering are those of the relation

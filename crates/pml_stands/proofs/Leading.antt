@@ -12,12 +12,12 @@ use Rattle.pml_program.specs.declared.program.Slot.{Slot}
 use Rattle.pml_program.specs.declared.program.Fields.{Fields}
 use Rattle.pml_program.specs.declared.program.Proctype.{Proctype}
 use Rattle.pml_program.specs.declared.program.Program.{Program}
-use Rattle.pml_stands.specs.Known.{cells, counted}
+use Rattle.promela_model.specs.Known.{cells, counted}
 use Rattle.pml_stands.specs.Tiled as tiled
 use Rattle.pml_stands.specs.Tiled.{fields_at, HasWidth, Begins, Tile, TypedefsTile, IsTiled, is_struct, Leads, HasPaths, IsOwner}
 use Rattle.pml_stands.proofs.Tiling.{tile-still, fields-still, model-tiled}
 use Rattle.pml_tree.specs.declared.tree.Tree.{Tree}
-use Rattle.pml_stands.specs.StandsModel.{StandsModel}
+use Rattle.promela_model.specs.StandsModel.{StandsModel}
 
 -- where a variable lies
 pub record Lies (ts : List Fields) (at most : ℕ) (s : Slot) : Type 0 where

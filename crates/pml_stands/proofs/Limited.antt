@@ -5,14 +5,14 @@ use Rattle.profile.specs.declared.TheConstants.{MOST_CELLS}
 use Rattle.pml_tree.specs.declared.tree.Unit.{Unit as Part}
 use Rattle.pml_tree.specs.declared.tree.Unit.TheVariants as part
 use Rattle.pml_tree.specs.declared.tree.Tree.{Tree}
-use Rattle.pml_marks.specs.Marks.{one, of_variables}
-use Rattle.pml_marks.specs.MarksOfUnits.{of_unit, of_units, of_tree, proctypes_past}
-use Rattle.pml_marks.specs.declared.mark.Mark.{Mark}
-use Rattle.pml_marks.specs.declared.mark.Declared.TheVariants as declared_as
-use Rattle.pml_marks.specs.declared.mark.Role.{Role}
-use Rattle.pml_marks.specs.declared.mark.Role.TheVariants as role
-use Rattle.pml_marks.specs.declared.mark.What.{What}
-use Rattle.pml_marks.specs.declared.mark.What.TheVariants as what
+use Rattle.promela_model.specs.Marks.{one, of_variables}
+use Rattle.promela_model.specs.MarksOfUnits.{of_unit, of_units, of_tree, proctypes_past}
+use Rattle.promela_model.specs.declared.mark.Mark.{Mark}
+use Rattle.promela_model.specs.declared.mark.Declared.TheVariants as declared_as
+use Rattle.promela_model.specs.declared.mark.Role.{Role}
+use Rattle.promela_model.specs.declared.mark.Role.TheVariants as role
+use Rattle.promela_model.specs.declared.mark.What.{What}
+use Rattle.promela_model.specs.declared.mark.What.TheVariants as what
 use Rattle.pml_names.specs.Entry.{Entry}
 use Rattle.pml_names.specs.Env.{after, env, env_from}
 use Rattle.pml_program.specs.declared.program.Fields.{Fields}
@@ -20,7 +20,7 @@ use Rattle.pml_program.specs.declared.program.Proctype.{Proctype}
 use Rattle.pml_program.specs.declared.program.Program.{Program}
 use Rattle.pml_resolve.specs.Declarations.{Known, known, with_variables}
 use Rattle.pml_resolve.specs.Model.{Made, made, no_program, with_unit, with_units, numbered_model}
-use Rattle.pml_stands.specs.Known.{Globals, cells, nothing_of}
+use Rattle.promela_model.specs.Known.{Globals, cells, nothing_of}
 use Rattle.pml_stands.proofs.Growing.{Below, variables-below, held-below}
 use Rattle.pml_stands.proofs.Reading.{ReadsAll}
 use Rattle.pml_stands.proofs.Quiet.{env-append, quiet-begins}

@@ -12,19 +12,19 @@ use Rattle.pml_tree.specs.declared.tree.Variable.{Variable}
 use Rattle.pml_tree.specs.declared.tree.Basic.{Basic as TreeBasic, Basic-F, map-Basic, roll-Basic, fold-roll-Basic}
 use Rattle.pml_tree.specs.declared.tree.Item.{Item, Item-F, map-Item, roll-Item, fold-roll-Item}
 use Rattle.pml_tree.specs.declared.tree.Seq.{Seq as TreeSeq, Seq-F, map-Seq, roll-Seq, fold-roll-Seq, ind-Seq}
-use Rattle.pml_marks.specs.Marks as marked
-use Rattle.pml_marks.specs.Marks.{Marked, all_marks, of_basic, of_item, of_seq, of_expr, of_sort, of_size, of_initial, of_variable, of_variables, one, size_of}
-use Rattle.pml_marks.specs.Constant.{constant}
-use Rattle.pml_marks.specs.declared.mark.Mark.{Mark}
-use Rattle.pml_marks.specs.declared.mark.Role.{Role}
-use Rattle.pml_marks.specs.declared.mark.Role.TheVariants as role
-use Rattle.pml_marks.specs.declared.mark.Declared.TheVariants as declared_as
-use Rattle.pml_marks.specs.declared.mark.What.{What}
-use Rattle.pml_marks.specs.declared.mark.What.TheVariants as what
-use Rattle.pml_names.specs.declared.thing.Thing.{Thing}
+use Rattle.promela_model.specs.Marks as marked
+use Rattle.promela_model.specs.Marks.{Marked, all_marks, of_basic, of_item, of_seq, of_expr, of_sort, of_size, of_initial, of_variable, of_variables, one, size_of}
+use Rattle.promela_model.specs.Constant.{constant}
+use Rattle.promela_model.specs.declared.mark.Mark.{Mark}
+use Rattle.promela_model.specs.declared.mark.Role.{Role}
+use Rattle.promela_model.specs.declared.mark.Role.TheVariants as role
+use Rattle.promela_model.specs.declared.mark.Declared.TheVariants as declared_as
+use Rattle.promela_model.specs.declared.mark.What.{What}
+use Rattle.promela_model.specs.declared.mark.What.TheVariants as what
+use Rattle.promela_model.specs.declared.thing.Thing.{Thing}
 use Rattle.pml_names.specs.Entry.{Entry, entry, found}
 use Rattle.pml_names.specs.Env.{held, variables, after, env_from}
-use Rattle.pml_names.specs.Naming.{length_of, stride, user}
+use Rattle.promela_model.specs.Names.{length_of, stride, user}
 use Rattle.pml_program.specs.declared.program.Initial.{Initial}
 use Rattle.pml_program.specs.declared.program.Initial.TheVariants as i
 use Rattle.pml_program.specs.declared.program.Slot.{Slot}
@@ -35,7 +35,7 @@ use Rattle.pml_resolve.specs.Numbered.{Scope}
 use Rattle.pml_resolve.specs.Statements as numbered
 use Rattle.pml_resolve.specs.Statements.{Threaded, each, numbered_basic, numbered_item, numbered_seq}
 use Rattle.pml_resolve.specs.Declarations.{Known, natural, plain, initial, declares, added_variable, with_variable, with_variables}
-use Rattle.pml_stands.specs.Known.{cells}
+use Rattle.promela_model.specs.Known.{cells}
 use Rattle.pml_stands.proofs.Growing.{after-old, variables-own, held-own, cells-more}
 use Rattle.pml_stands.proofs.Quiet.{env-append, IsQuiet, quiet-sort, quiet-sized, quiet-initial, variable-declares, nothing, quiet-action, quiet-references, quiet-labels, quiet-goto, quiet-break, quiet-unless, quiet-enter, quiet-leave}
 use Rattle.pml_stands.proofs.Declaring.{new, new_thing, added-is}

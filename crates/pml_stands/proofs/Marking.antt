@@ -9,18 +9,18 @@ use Rattle.pml_tree.specs.declared.tree.Seq.{Seq, roll-Seq, fold-roll-Seq, ind-S
 use Rattle.pml_tree.specs.declared.tree.Unit.{Unit as Part}
 use Rattle.pml_tree.specs.declared.tree.Unit.TheVariants as part
 use Rattle.pml_tree.specs.declared.tree.Tree.{Tree}
-use Rattle.pml_marks.specs.Marks.{Marked, one, all_marks, size_of, made_by, of_variable, of_variables, basic_layer, item_layer, seq_layer, of_basic, of_item, of_seq}
-use Rattle.pml_marks.specs.MarksOfUnits.{of_starts, of_unit, of_units, of_tree, proctypes_past}
-use Rattle.pml_marks.specs.declared.mark.Mark.{Mark}
-use Rattle.pml_marks.specs.declared.mark.Role.{Role}
-use Rattle.pml_marks.specs.declared.mark.Role.TheVariants as role
-use Rattle.pml_marks.specs.declared.mark.Declared.{Declared}
-use Rattle.pml_marks.specs.declared.mark.Declared.TheVariants as declared_as
-use Rattle.pml_marks.specs.declared.mark.What.TheVariants as what
-use Rattle.pml_names.specs.declared.thing.Thing.{Thing}
+use Rattle.promela_model.specs.Marks.{Marked, one, all_marks, size_of, made_by, of_variable, of_variables, basic_layer, item_layer, seq_layer, of_basic, of_item, of_seq}
+use Rattle.promela_model.specs.MarksOfUnits.{of_starts, of_unit, of_units, of_tree, proctypes_past}
+use Rattle.promela_model.specs.declared.mark.Mark.{Mark}
+use Rattle.promela_model.specs.declared.mark.Role.{Role}
+use Rattle.promela_model.specs.declared.mark.Role.TheVariants as role
+use Rattle.promela_model.specs.declared.mark.Declared.{Declared}
+use Rattle.promela_model.specs.declared.mark.Declared.TheVariants as declared_as
+use Rattle.promela_model.specs.declared.mark.What.TheVariants as what
+use Rattle.promela_model.specs.declared.thing.Thing.{Thing}
 use Rattle.pml_names.specs.Entry.{Entry, found}
 use Rattle.pml_names.specs.Env.{after, env, env_from, thing_of}
-use Rattle.pml_stands.specs.Known.{has_name, names_of, declares, is_proctype, proctype_named}
+use Rattle.promela_model.specs.Known.{has_name, names_of, declares, is_proctype, proctype_named}
 use Rattle.pml_stands.proofs.Growing.{found-other, after-new, after-old}
 use Rattle.pml_stands.proofs.Reading.{ReadsAll, or_process, after-read, constants-read, cond-or, name-reversed}
 use Rattle.pml_stands.proofs.Quiet.{env-append, IsQuiet, variable-declares, quiet-action, quiet-references, quiet-labels, quiet-begins, quiet-goto, quiet-break, quiet-unless, quiet-enter, quiet-leave}

@@ -2,13 +2,13 @@
 use Rattle.std.proofs.Common.{◌≡◌, List, [], refl, sym, subst, ◌∙◌, arith}
 use Rattle.pml_tree.specs.declared.tree.Unit.{Unit as Part}
 use Rattle.pml_tree.specs.declared.tree.Tree.{Tree}
-use Rattle.pml_marks.specs.MarksOfUnits.{of_tree}
+use Rattle.promela_model.specs.MarksOfUnits.{of_tree}
 use Rattle.pml_names.specs.Env.{env}
 use Rattle.pml_program.specs.declared.program.Program.{Program}
 use Rattle.pml_resolve.specs.Model.{made, no_program, numbered_model}
-use Rattle.pml_stands.specs.Known.{nothing_of}
-use Rattle.pml_stands.specs.StandsModel as stands
-use Rattle.pml_stands.specs.StandsModel.{StandsModel}
+use Rattle.promela_model.specs.Known.{nothing_of}
+use Rattle.promela_model.specs.StandsModel as stands
+use Rattle.promela_model.specs.StandsModel.{StandsModel}
 use Rattle.pml_stands.proofs.Declaring.{Base}
 use Rattle.pml_stands.proofs.Units.{Whole, units-stand, only_units}
 use Rattle.pml_stands.proofs.Marking.{tree-marked}

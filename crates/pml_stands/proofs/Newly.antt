@@ -6,17 +6,16 @@ use Rattle.std.specs.Str.{bytes_eq}
 use Rattle.std.proofs.lemmas.List.{length-append}
 use Rattle.std.proofs.lemmas.Bool.Decides.{eqb_tells}
 use Rattle.pml_token.specs.Word.{Word}
-use Rattle.pml_names.specs.declared.thing.Thing.{Thing}
-use Rattle.pml_names.specs.declared.thing.Thing.TheVariants as thing
+use Rattle.promela_model.specs.declared.thing.Thing.{Thing}
+use Rattle.promela_model.specs.declared.thing.Thing.TheVariants as thing
 use Rattle.pml_names.specs.Entry.{Entry, entry, found}
-use Rattle.pml_names.specs.Naming.{most_cells}
+use Rattle.promela_model.specs.Names.{most_cells, or_else}
 use Rattle.pml_names.specs.Env.{held, constants}
-use Rattle.pml_names.specs.Meaning.{or_else}
 use Rattle.pml_program.specs.declared.form.Form.{Form}
 use Rattle.pml_program.specs.declared.form.Form.TheVariants as kind
 use Rattle.pml_program.specs.declared.program.Slot.{Slot}
-use Rattle.pml_stands.specs.Known.{Structure, Globals, variable_named, typedef_named, constant_named, has_name, fields_of, is_declared, cells, counted}
-use Rattle.pml_stands.specs.StandsModel.{with_variables}
+use Rattle.promela_model.specs.Known.{Structure, Globals, variable_named, typedef_named, constant_named, has_name, fields_of, is_declared, cells, counted}
+use Rattle.promela_model.specs.StandsModel.{with_variables}
 use Rattle.pml_stands.proofs.Things.{variable_of, as_variable, as_thing, as_typedef, in_variable, in_constant, in_typedef, has_number, IsKnown, AreKnown}
 use Rattle.pml_stands.proofs.Growing.{or, if_so, found-own, found-other, same-name, constants-more, variables-own, held-own, variable-more, constant-more, typedef-more, name-more, cells-more, known-more, kind-more}
 use Rattle.pml_stands.proofs.Declaring.{Base}

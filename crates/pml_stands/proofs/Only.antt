@@ -12,9 +12,9 @@ use Rattle.pml_program.specs.declared.expr.Want.{Want}
 use Rattle.pml_program.specs.declared.expr.Want.TheVariants as w
 use Rattle.pml_program.specs.declared.expr.Turn.{Turn}
 use Rattle.pml_resolve.specs.Numbered.{Scope, Path, through, at_scope, numbered, numbered_argument, numbered_reference, numbered_step}
-use Rattle.pml_stands.specs.Known.{Globals}
-use Rattle.pml_stands.specs.Stands as stands
-use Rattle.pml_stands.specs.Stands.{Meaning, Place, as_value, as_place, as_wanted, target_at, turn_to, StandsIndex, StandsStep, StandsFields, StandsReference, StandsExpr, StandsArgument, StandsArguments}
+use Rattle.promela_model.specs.Known.{Globals}
+use Rattle.promela_model.specs.Stands as stands
+use Rattle.promela_model.specs.Stands.{Meaning, Place, as_value, as_place, as_wanted, target_at, turn_to, StandsIndex, StandsStep, StandsFields, StandsReference, StandsExpr, StandsArgument, StandsArguments}
 use Rattle.pml_stands.proofs.Things.{IsKnown}
 use Rattle.pml_stands.proofs.Agreeing.{Sees, meaning_of, known-at, field-known, through-field, through-lost, reached-special, reached-local, reached-global, reached-mtype, reached-nothing}
 use Rattle.pml_stands.proofs.Layers.{indexed, number-is, truth-value-is, timeout-is, reading-is, ask-is, poll-is, unary-is, binary-is, choice-is, exactly-is, fixed-is, equal-is, into-is, reference-is, step-is}

@@ -15,18 +15,18 @@ use Rattle.pml_tree.specs.declared.tree.Action.{Action}
 use Rattle.pml_tree.specs.declared.tree.Action.TheVariants as action
 use Rattle.pml_tree.specs.declared.tree.Starts.{Starts}
 use Rattle.pml_tree.specs.declared.tree.Starts.TheVariants as starts
-use Rattle.pml_marks.specs.Marks.{Marked, Referred, Stepped, one, all_marks, steps_marks, expr_layer, argument_layer, reference_layer, step_layer, of_expr, of_argument, of_reference, of_step, of_exprs, of_arguments, of_sort, of_size, preset_layer, of_initial, of_variable, of_run, of_action, of_references, of_labels}
-use Rattle.pml_marks.specs.MarksOfUnits.{of_starts}
-use Rattle.pml_marks.specs.declared.mark.Mark.{Mark}
-use Rattle.pml_marks.specs.declared.mark.Use.{Use}
-use Rattle.pml_marks.specs.declared.mark.Use.TheVariants as use_of
-use Rattle.pml_marks.specs.declared.mark.Shape.{Shape}
-use Rattle.pml_marks.specs.declared.mark.Constant.{Constant}
-use Rattle.pml_marks.specs.declared.mark.Holder.{Holder}
-use Rattle.pml_marks.specs.declared.mark.Structure.{Structure}
-use Rattle.pml_marks.specs.declared.mark.Role.{Role}
-use Rattle.pml_marks.specs.declared.mark.Role.TheVariants as role
-use Rattle.pml_marks.specs.declared.mark.What.TheVariants as what
+use Rattle.promela_model.specs.Marks.{Marked, Referred, Stepped, one, all_marks, steps_marks, expr_layer, argument_layer, reference_layer, step_layer, of_expr, of_argument, of_reference, of_step, of_exprs, of_arguments, of_sort, of_size, preset_layer, of_initial, of_variable, of_run, of_action, of_references, of_labels}
+use Rattle.promela_model.specs.MarksOfUnits.{of_starts}
+use Rattle.promela_model.specs.declared.mark.Mark.{Mark}
+use Rattle.promela_model.specs.declared.mark.Use.{Use}
+use Rattle.promela_model.specs.declared.mark.Use.TheVariants as use_of
+use Rattle.promela_model.specs.declared.mark.Shape.{Shape}
+use Rattle.promela_model.specs.declared.mark.Constant.{Constant}
+use Rattle.promela_model.specs.declared.mark.Holder.{Holder}
+use Rattle.promela_model.specs.declared.mark.Structure.{Structure}
+use Rattle.promela_model.specs.declared.mark.Role.{Role}
+use Rattle.promela_model.specs.declared.mark.Role.TheVariants as role
+use Rattle.promela_model.specs.declared.mark.What.TheVariants as what
 use Rattle.pml_names.specs.Entry.{Entry}
 use Rattle.pml_names.specs.Env.{after, env_from}
 use Rattle.pml_resolve.specs.Declarations.{declares}

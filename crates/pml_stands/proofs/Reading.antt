@@ -6,21 +6,21 @@ use Rattle.std.proofs.lemmas.List.{reverse-append}
 use Rattle.pml_token.specs.Word.{Word}
 use Rattle.pml_tree.specs.declared.tree.Variable.{Variable as TreeVariable}
 use Rattle.pml_tree.specs.declared.tree.Unit.{Unit as Part}
-use Rattle.pml_marks.specs.MarksOfUnits.{constant_mark}
-use Rattle.pml_marks.specs.declared.mark.Declared.{Declared}
-use Rattle.pml_marks.specs.declared.mark.Declared.TheVariants as declared_as
-use Rattle.pml_marks.specs.declared.mark.What.TheVariants as what
-use Rattle.pml_marks.specs.declared.mark.Role.{Role}
-use Rattle.pml_marks.specs.declared.mark.Role.TheVariants as role
-use Rattle.pml_names.specs.declared.thing.Thing.{Thing}
-use Rattle.pml_names.specs.declared.thing.Thing.TheVariants as thing
+use Rattle.promela_model.specs.MarksOfUnits.{constant_mark}
+use Rattle.promela_model.specs.declared.mark.Declared.{Declared}
+use Rattle.promela_model.specs.declared.mark.Declared.TheVariants as declared_as
+use Rattle.promela_model.specs.declared.mark.What.TheVariants as what
+use Rattle.promela_model.specs.declared.mark.Role.{Role}
+use Rattle.promela_model.specs.declared.mark.Role.TheVariants as role
+use Rattle.promela_model.specs.declared.thing.Thing.{Thing}
+use Rattle.promela_model.specs.declared.thing.Thing.TheVariants as thing
 use Rattle.pml_names.specs.Entry.{Entry, found}
 use Rattle.pml_names.specs.Env.{after, env_from, thing_of}
-use Rattle.pml_names.specs.Meaning.{or_else, only_process}
+use Rattle.promela_model.specs.Names.{or_else, only_process}
 use Rattle.pml_resolve.specs.Declarations.{Known, declares as variable_declares, added_variable, with_variable, with_variables}
 use Rattle.pml_resolve.specs.Statements.{proctype_of}
-use Rattle.pml_stands.specs.Known.{Globals, has_name, names_of, proctype_named}
-use Rattle.pml_stands.specs.StandsStatements.{or_none}
+use Rattle.promela_model.specs.Known.{Globals, has_name, names_of, proctype_named}
+use Rattle.promela_model.specs.StandsModel.{or_none}
 use Rattle.pml_stands.proofs.Growing.{if_so, found-own, after-new, after-old, same-name, name-more}
 use Rattle.pml_stands.proofs.Declaring.{Runs}
 

@@ -27,7 +27,7 @@ use Rattle.pml_tree.specs.declared.tree.Basic.TheVariants as form
 use Rattle.pml_tree.specs.declared.tree.Seq.{Seq as TreeSeq}
 use Rattle.pml_tree.specs.declared.tree.Proctype.{Proctype as TreeProctype}
 use Rattle.pml_tree.specs.declared.tree.Unit.TheVariants as part
-use Rattle.pml_marks.specs.declared.mark.Role.TheVariants as role
+use Rattle.promela_model.specs.declared.mark.Role.TheVariants as role
 use Rattle.pml_program.specs.declared.form.Form.{Form}
 use Rattle.pml_program.specs.declared.form.Form.TheVariants as kind
 use Rattle.pml_program.specs.declared.program.Initial.TheVariants as i
@@ -39,13 +39,11 @@ use Rattle.pml_program.specs.declared.program.Seq.{Seq}
 use Rattle.pml_program.specs.declared.expr.Expr.TheVariants as v
 use Rattle.pml_program.specs.declared.expr.Want.TheVariants as w
 use Rattle.pml_program.specs.declared.expr.Target.{Target}
-use Rattle.pml_stands.specs.Known.{Globals, constant_named, with_constants, nothing_of}
-use Rattle.pml_stands.specs.Stands
-use Rattle.pml_stands.specs.Stands.{Place, Mtype, Pid, Count, Anything, Nothing, step_of, reference_of, turn_to, target_at, StandsExpr, StandsReference, StandsArgument}
-use Rattle.pml_stands.specs.StandsStatements as statement
-use Rattle.pml_stands.specs.StandsModel as units
-use Rattle.pml_stands.specs.StandsModel.{program_of, StandsModel}
-use Rattle.pml_stands.specs.StandsStatements.{item_of, items_of, stmt_of, steps_of, StandsAction, StandsBasic, StandsItems, StandsSeq, StandsVariables, StandsVariable, StandsRun}
+use Rattle.promela_model.specs.Known.{Globals, constant_named, with_constants, nothing_of}
+use Rattle.promela_model.specs.Stands
+use Rattle.promela_model.specs.Stands.{Place, Mtype, Pid, Count, Anything, Nothing, step_of, reference_of, turn_to, target_at, StandsExpr, StandsReference, StandsArgument}
+use Rattle.promela_model.specs.StandsModel as statement
+use Rattle.promela_model.specs.StandsModel.{program_of, StandsModel, item_of, items_of, stmt_of, steps_of, StandsAction, StandsBasic, StandsItems, StandsSeq, StandsVariables, StandsVariable, StandsRun}
 
 abbrev named : List ℕ → Word
 named n = record { kind = word.Name; text = n; line = 1 }
@@ -290,6 +288,6 @@ whole : StandsModel (record { units = part.Variables (variable (codes "x") None 
     (program_of (global_x ∷ []) [] []
     (record { name = named (codes "init"); owner = 2; starts = 1; parameters = 0; variables = []; body = step_only (a.Increment (target_at false 0 byte (turn_to 0 global_x None ∷ []))); end = named (codes "}") } ∷ []))
 whole =
-    units.model (units.variables (units.new_global refl (statement.variable (statement.plain_sort scalar.Byte) statement.no_initial) units.no_global)
-    (units.proctype statement.no_variable
-    (statement.sequence (statement.one_step (statement.plain (statement.increment (Stands.global_variable (Stands.step Stands.no_index) refl refl refl Stands.no_field))) statement.no_item)) units.no_unit))
+    statement.model (statement.variables (statement.new_global refl (statement.variable (statement.plain_sort scalar.Byte) statement.no_initial) statement.no_global)
+    (statement.proctype statement.no_variable
+    (statement.sequence (statement.one_step (statement.plain (statement.increment (Stands.global_variable (Stands.step Stands.no_index) refl refl refl Stands.no_field))) statement.no_item)) statement.no_unit))

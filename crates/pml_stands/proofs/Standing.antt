@@ -12,9 +12,9 @@ use Rattle.pml_program.specs.declared.program.Slot.{Slot}
 use Rattle.pml_program.specs.declared.expr.Expr.{Expr}
 use Rattle.pml_program.specs.declared.expr.Want.{Want}
 use Rattle.pml_resolve.specs.Numbered.{Scope, Path, through, at_scope, numbered, numbered_argument, numbered_reference, numbered_step}
-use Rattle.pml_stands.specs.Known.{Globals, variable_named, constant_named, fields_in}
-use Rattle.pml_stands.specs.Stands as stands
-use Rattle.pml_stands.specs.Stands.{Meaning, special, step_of, reference_of, turn_to, StandsIndex, StandsStep, StandsFields, StandsReference, StandsExpr, StandsArgument, StandsArguments}
+use Rattle.promela_model.specs.Known.{Globals, variable_named, constant_named, fields_in}
+use Rattle.promela_model.specs.Stands as stands
+use Rattle.promela_model.specs.Stands.{Meaning, special, step_of, reference_of, turn_to, StandsIndex, StandsStep, StandsFields, StandsReference, StandsExpr, StandsArgument, StandsArguments}
 use Rattle.pml_stands.proofs.Things.{IsKnown}
 use Rattle.pml_stands.proofs.Agreeing.{Sees, meaning_of, known-at, field-known, through-field, through-lost, reached-special, reached-local, reached-global, reached-mtype, reached-nothing}
 use Rattle.pml_stands.proofs.Layers.{indexed, number-is, truth-value-is, timeout-is, reading-is, ask-is, poll-is, unary-is, binary-is, choice-is, exactly-is, fixed-is, equal-is, into-is, reference-is, step-is}

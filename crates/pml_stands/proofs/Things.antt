@@ -1,13 +1,13 @@
 -- Slots as what names stand for.
 use Rattle.std.proofs.Common.{◌≡◌, ℕ, Bool, true, false, ◌||◌, nat_eq, List, [], ◌∷◌, Option, Some, None}
 use Rattle.std.specs.List.{AllByRecursion}
-use Rattle.pml_names.specs.declared.thing.Thing.{Thing}
-use Rattle.pml_names.specs.declared.thing.Thing.TheVariants as thing
-use Rattle.pml_names.specs.declared.thing.Variable.{Variable}
+use Rattle.promela_model.specs.declared.thing.Thing.{Thing}
+use Rattle.promela_model.specs.declared.thing.Thing.TheVariants as thing
+use Rattle.promela_model.specs.declared.thing.Variable.{Variable}
 use Rattle.pml_program.specs.declared.form.Form.{Form}
 use Rattle.pml_program.specs.declared.form.Form.TheVariants as kind
 use Rattle.pml_program.specs.declared.program.Slot.{Slot}
-use Rattle.pml_stands.specs.Known.{Structure, cells, counted}
+use Rattle.promela_model.specs.Known.{Structure, cells, counted}
 
 -- ---- what a variable's slot is as a name's
 

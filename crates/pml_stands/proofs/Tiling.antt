@@ -14,10 +14,10 @@ use Rattle.pml_tree.specs.declared.tree.Seq.{Seq as TreeSeq}
 use Rattle.pml_tree.specs.declared.tree.Variable.{Variable}
 use Rattle.pml_tree.specs.declared.tree.Unit.{Unit as Part}
 use Rattle.pml_tree.specs.declared.tree.Tree.{Tree}
-use Rattle.pml_marks.specs.Constant.{constant}
-use Rattle.pml_marks.specs.declared.mark.Role.{Role}
-use Rattle.pml_marks.specs.declared.mark.Constant.{Constant}
-use Rattle.pml_marks.specs.declared.mark.Constant.TheVariants as number
+use Rattle.promela_model.specs.Constant.{constant}
+use Rattle.promela_model.specs.declared.mark.Role.{Role}
+use Rattle.promela_model.specs.declared.mark.Constant.{Constant}
+use Rattle.promela_model.specs.declared.mark.Constant.TheVariants as number
 use Rattle.pml_program.specs.declared.form.Form.{Form}
 use Rattle.pml_program.specs.declared.form.Form.TheVariants as kind
 use Rattle.pml_program.specs.declared.program.Basic.{Basic}
@@ -27,11 +27,9 @@ use Rattle.pml_program.specs.declared.program.Stmt.{Stmt}
 use Rattle.pml_program.specs.declared.program.Fields.{Fields}
 use Rattle.pml_program.specs.declared.program.Proctype.{Proctype}
 use Rattle.pml_program.specs.declared.program.Program.{Program}
-use Rattle.pml_stands.specs.Known.{Structure, Globals, typedef_named, is_declared, with_constant, with_constants, with_proctype, cells, counted}
-use Rattle.pml_stands.specs.StandsStatements as stands
-use Rattle.pml_stands.specs.StandsStatements.{size_of, elements, StandsSort, StandsVariable, StandsVariables, StandsBasic, StandsItems, StandsSeq, StandsOptions}
-use Rattle.pml_stands.specs.StandsModel as units
-use Rattle.pml_stands.specs.StandsModel.{structure, fields_with, StandsGlobals, StandsUnits, StandsModel}
+use Rattle.promela_model.specs.Known.{Structure, Globals, typedef_named, is_declared, with_constant, with_constants, with_proctype, cells, counted}
+use Rattle.promela_model.specs.StandsModel as stands
+use Rattle.promela_model.specs.StandsModel.{size_of, elements, StandsSort, StandsVariable, StandsVariables, StandsBasic, StandsItems, StandsSeq, StandsOptions, structure, fields_with, StandsGlobals, StandsUnits, StandsModel}
 use Rattle.pml_stands.specs.Tiled.{fields_at, HasWidth, Begins, Tile, TypedefsTile, OwnersFrom, IsTiled}
 
 -- ---- one more
@@ -178,9 +176,9 @@ record Spread (ts : List Fields) (gs : Globals) : Type 0 where
   tile : Tile ts 0 gs.variables
 
 globals-tile : (ts : List Fields) {gs zs : Globals} {vs : List Variable} → StandsGlobals gs vs zs → Spread ts gs → Spread ts zs
-globals-tile ts units.no_global h = h
-globals-tile ts (units.new_global {gs} {s} none one rest) h = globals-tile ts rest (record { covers = h.covers; tile = variable-tiles gs ts h.covers gs.variables s one h.tile })
-globals-tile ts (units.old_global is rest) h = globals-tile ts rest h
+globals-tile ts stands.no_global h = h
+globals-tile ts (stands.new_global {gs} {s} none one rest) h = globals-tile ts rest (record { covers = h.covers; tile = variable-tiles gs ts h.covers gs.variables s one h.tile })
+globals-tile ts (stands.old_global is rest) h = globals-tile ts rest h
 
 -- ---- units
 
@@ -199,12 +197,12 @@ record UnitsTile (before : List Fields) (zs : Globals) (ts : List Fields) (ps : 
 
 units-tile : {o : ℕ} {gs zs : Globals} {us : List Part} {cs : List Word} {ts : List Fields} {ps : List Proctype} → StandsUnits o gs us zs cs ts ps
     → (before : List Fields) → OwnersBelow o before → Spread before gs → UnitsTile before zs ts ps
-units-tile (units.no_unit {gs}) before below h = record { typedefs = tt; globals = tile-still before [] 0 gs.variables h.tile; proctypes = tt }
-units-tile (units.variables {o} g rest) before below h = units-tile rest before (owners-later o before below) (globals-tile before g h)
-units-tile (units.constants {o} {gs} {ns} rest) before below h =
+units-tile (stands.no_unit {gs}) before below h = record { typedefs = tt; globals = tile-still before [] 0 gs.variables h.tile; proctypes = tt }
+units-tile (stands.variables {o} g rest) before below h = units-tile rest before (owners-later o before below) (globals-tile before g h)
+units-tile (stands.constants {o} {gs} {ns} rest) before below h =
     let r = units-tile rest before (owners-later o before below) (constants-spread before (reverse ns) gs h) in
     record { typedefs = r.typedefs; globals = r.globals; proctypes = r.proctypes }
-units-tile (units.typedef {o} {gs} {zs} {t} {fs} {ts} {ps} g rest) before below h =
+units-tile (stands.typedef {o} {gs} {zs} {t} {fs} {ts} {ps} g rest) before below h =
     let f : Fields = fields_with o fs in
     let fields : Tile before 0 fs = variables-tile gs before h.covers g tt in
     let now : List Fields = before ++ f ∷ [] in
@@ -217,7 +215,7 @@ units-tile (units.typedef {o} {gs} {zs} {t} {fs} {ts} {ps} g rest) before below 
       globals = subst (λ (us : List Fields). Tile us 0 zs.variables) same r.globals;
       proctypes = subst (λ (us : List Fields). AllByRecursion (λ (q : Proctype). Tile us 0 q.variables) ps) same r.proctypes;
     }
-units-tile (units.proctype {o} {gs} {p} {ls} {ts} g k rest) before below h =
+units-tile (stands.proctype {o} {gs} {p} {ls} {ts} g k rest) before below h =
     let hs : Globals = with_proctype gs p.name in
     let s : Spread before hs = spread-if before (is_declared gs p.name.text) gs (record gs { proctypes = gs.proctypes ++ p.name ∷ [] }) h (record { covers = h.covers; tile = h.tile }) in
     let own : Tile before 0 ls = seq-tiles hs before s.covers k (variables-tile hs before s.covers g tt) in
@@ -231,13 +229,13 @@ owners-sooner o [] h = tt
 owners-sooner o (f ∷ ts) h = (omega (arith, h.0), h.1)
 
 units-owners : {o : ℕ} {gs zs : Globals} {us : List Part} {cs : List Word} {ts : List Fields} {ps : List Proctype} → StandsUnits o gs us zs cs ts ps → OwnersFrom o ts
-units-owners units.no_unit = tt
-units-owners (units.variables {o} {ts} g rest) = owners-sooner o ts (units-owners rest)
-units-owners (units.constants {o} {ts} rest) = owners-sooner o ts (units-owners rest)
-units-owners (units.typedef g rest) = (omega arith, units-owners rest)
-units-owners (units.proctype {o} {ts} g k rest) = owners-sooner o ts (units-owners rest)
+units-owners stands.no_unit = tt
+units-owners (stands.variables {o} {ts} g rest) = owners-sooner o ts (units-owners rest)
+units-owners (stands.constants {o} {ts} rest) = owners-sooner o ts (units-owners rest)
+units-owners (stands.typedef g rest) = (omega arith, units-owners rest)
+units-owners (stands.proctype {o} {ts} g k rest) = owners-sooner o ts (units-owners rest)
 
 pub model-tiled : (t : Tree) (p : Program) → StandsModel t p → IsTiled p
-model-tiled t p (units.model h) =
+model-tiled t p (stands.model h) =
     let r = units-tile h [] tt (record { covers = tt; tile = tt }) in
     record { owners = units-owners h; globals = r.globals; typedefs = r.typedefs; proctypes = r.proctypes }

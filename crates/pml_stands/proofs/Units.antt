@@ -9,13 +9,13 @@ use Rattle.pml_tree.specs.declared.tree.Starts.TheVariants as starts
 use Rattle.pml_tree.specs.declared.tree.Proctype.{Proctype as TreeProctype}
 use Rattle.pml_tree.specs.declared.tree.Unit.{Unit as Part}
 use Rattle.pml_tree.specs.declared.tree.Unit.TheVariants as part
-use Rattle.pml_marks.specs.Constant.{constant}
-use Rattle.pml_marks.specs.MarksOfUnits.{constant_mark}
-use Rattle.pml_marks.specs.declared.mark.Declared.TheVariants as declared_as
-use Rattle.pml_marks.specs.declared.mark.What.TheVariants as what
-use Rattle.pml_marks.specs.declared.mark.Role.TheVariants as role
-use Rattle.pml_names.specs.declared.thing.Thing.{Thing}
-use Rattle.pml_names.specs.declared.thing.Thing.TheVariants as thing
+use Rattle.promela_model.specs.Constant.{constant}
+use Rattle.promela_model.specs.MarksOfUnits.{constant_mark}
+use Rattle.promela_model.specs.declared.mark.Declared.TheVariants as declared_as
+use Rattle.promela_model.specs.declared.mark.What.TheVariants as what
+use Rattle.promela_model.specs.declared.mark.Role.TheVariants as role
+use Rattle.promela_model.specs.declared.thing.Thing.{Thing}
+use Rattle.promela_model.specs.declared.thing.Thing.TheVariants as thing
 use Rattle.pml_names.specs.Entry.{Entry, entry, found}
 use Rattle.pml_names.specs.Env.{after, env_from, thing_of}
 use Rattle.pml_program.specs.declared.program.Slot.{Slot}
@@ -27,10 +27,9 @@ use Rattle.pml_resolve.specs.Numbered.{scope}
 use Rattle.pml_resolve.specs.Declarations.{Known, known, added_variable, with_variable, with_variables}
 use Rattle.pml_resolve.specs.Statements.{numbered_seq}
 use Rattle.pml_resolve.specs.Model.{Made, made, count, with_unit, with_units}
-use Rattle.pml_stands.specs.Known.{Globals, is_declared, with_constant, with_constants, with_typedef, with_proctype, declares, proctype_named}
-use Rattle.pml_stands.specs.StandsStatements.{StandsVariables, StandsSeq}
-use Rattle.pml_stands.specs.StandsModel as stands
-use Rattle.pml_stands.specs.StandsModel.{with_variables as with_slots, beginning, fields_with, structure, proctype_with, program_of, StandsGlobals, StandsUnits}
+use Rattle.promela_model.specs.Known.{Globals, is_declared, with_constant, with_constants, with_typedef, with_proctype, declares, proctype_named}
+use Rattle.promela_model.specs.StandsModel.{StandsVariables, StandsSeq, with_variables as with_slots, beginning, fields_with, structure, proctype_with, program_of, StandsGlobals, StandsUnits}
+use Rattle.promela_model.specs.StandsModel as stands
 use Rattle.pml_stands.proofs.Things.{variable_of}
 use Rattle.pml_stands.proofs.Agreeing.{Sees}
 use Rattle.pml_stands.proofs.Growing.{after-new, after-old, Below, below-more, below-later, found-below, variables-below, held-below}

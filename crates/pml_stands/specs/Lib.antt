@@ -1,5 +1,1 @@
-pub mod Known
-pub mod Stands
-pub mod StandsStatements
-pub mod StandsModel
 pub mod Tiled

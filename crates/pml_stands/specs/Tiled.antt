@@ -14,8 +14,8 @@ use Rattle.pml_program.specs.declared.expr.Turn.{Turn, out-Turn}
 use Rattle.pml_program.specs.declared.expr.Target.{Target, Target-F, out-Target}
 use Rattle.pml_program.specs.declared.expr.Expr.{Expr}
 use Rattle.pml_program.specs.declared.expr.Want.{Want}
-use Rattle.pml_stands.specs.Known.{Structure, Globals, cells, counted}
-use Rattle.pml_stands.specs.Stands.{Meaning, Place, StandsReference}
+use Rattle.promela_model.specs.Known.{Structure, Globals, cells, counted}
+use Rattle.promela_model.specs.Stands.{Meaning, Place, StandsReference}
 
 -- the fields of the typedef whose owner this is
 abbrev pub fields_at : List Fields → ℕ → Option (List Slot)

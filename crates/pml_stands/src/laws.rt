@@ -5,8 +5,8 @@ ghost use Rattle.pml_tree.specs.declared.tree.Tree.{Tree};
 ghost use Rattle.pml_program.specs.declared.program.Slot.{Slot};
 ghost use Rattle.pml_program.specs.declared.program.Program.{Program};
 ghost use Rattle.pml_resolve.specs.Model.{numbered_model};
-ghost use Rattle.pml_stands.specs.StandsModel.{StandsModel};
-ghost use Rattle.pml_stands.specs.Known.{Globals};
+ghost use Rattle.promela_model.specs.StandsModel.{StandsModel};
+ghost use Rattle.promela_model.specs.Known.{Globals};
 ghost use Rattle.pml_stands.specs.Tiled.{IsTiled, IsOwner, HasPaths, AreAmong, ReferencesLead};
 ghost use Rattle.pml_program.specs.declared.program.Fields.{Fields};
 

@@ -17,10 +17,10 @@ use Rattle.pml_syntax.specs.declared.starts.Deed.{Deed}
 use Rattle.pml_syntax.specs.declared.starts.Deed.TheVariants as d
 use Rattle.pml_syntax.specs.declared.starts.Change.{Change}
 use Rattle.pml_syntax.specs.declared.starts.Change.TheVariants as c
-use Rattle.pml_expression.specs.Grammar as terms
-use Rattle.pml_syntax.specs.Grammar as grammar
-use Rattle.pml_expression.specs.Grammar.{operator, truth, query, SpellsReference, SpellsExpr, SpellsArgument, SpellsArgumentList, SpellsArguments, SpellsList}
-use Rattle.pml_syntax.specs.Grammar.{bang, SpellsRun, SpellsValues, SpellsAction}
+use Rattle.promela_model.specs.GrammarOfExpressions as terms
+use Rattle.promela_model.specs.GrammarOfActions as grammar
+use Rattle.promela_model.specs.GrammarOfExpressions.{operator, truth, query, SpellsReference, SpellsExpr, SpellsArgument, SpellsArgumentList, SpellsArguments, SpellsList}
+use Rattle.promela_model.specs.GrammarOfActions.{bang, SpellsRun, SpellsValues, SpellsAction}
 use Rattle.pml_expression.specs.Starts.{start}
 use Rattle.pml_syntax.specs.Starts.{deed, change}
 use Rattle.pml_expression.specs.Reading as expressions

@@ -10,15 +10,13 @@ use Rattle.pml_tree.specs.declared.tree.Item.{Item}
 use Rattle.pml_tree.specs.declared.tree.Starts.{Starts}
 use Rattle.pml_tree.specs.declared.tree.Unit.{Unit as ModelUnit}
 use Rattle.pml_tree.specs.declared.tree.Tree.{Tree}
-use Rattle.pml_syntax.specs.declared.opener.Opener.{Opener}
+use Rattle.promela_model.specs.declared.opener.Opener.{Opener}
 use Rattle.pml_syntax.specs.declared.starts.Head.TheVariants as h
-use Rattle.pml_syntax.specs.Grammar as grammar
-use Rattle.pml_syntax.specs.GrammarOfStatements as bodies
-use Rattle.pml_syntax.specs.GrammarOfUnits as units
-use Rattle.pml_expression.specs.Grammar.{operator, query, SpellsList}
-use Rattle.pml_syntax.specs.Grammar.{scalar, is_visibility, SpellsName, SpellsVisibility, SpellsOpener, SpellsVariables, SpellsDeclaration}
-use Rattle.pml_syntax.specs.GrammarOfStatements.{SpellsBody}
-use Rattle.pml_syntax.specs.GrammarOfUnits.{SpellsSemicolons, SpellsMembers, SpellsParameter, SpellsMoreParameters, SpellsParameters, SpellsStarts, SpellsUnit, SpellsUnits, Spells}
+use Rattle.promela_model.specs.GrammarOfActions as grammar
+use Rattle.promela_model.specs.GrammarOfModels as bodies
+use Rattle.promela_model.specs.GrammarOfExpressions.{operator, query, SpellsList}
+use Rattle.promela_model.specs.GrammarOfActions.{scalar, is_visibility, SpellsName, SpellsVisibility, SpellsOpener, SpellsVariables, SpellsDeclaration}
+use Rattle.promela_model.specs.GrammarOfModels.{SpellsBody, SpellsSemicolons, SpellsMembers, SpellsParameter, SpellsMoreParameters, SpellsParameters, SpellsStarts, SpellsUnit, SpellsUnits, Spells}
 use Rattle.pml_syntax.specs.Starts.{declares, head, is_end}
 use Rattle.pml_expression.specs.Reading as expressions
 use Rattle.pml_expression.specs.Reading.{Read, and_then, pick, next, sees, expect, expect_name, expr, is_empty}
@@ -87,50 +85,50 @@ declaration_unit (grammar.declaration grammar.no_visibility (grammar.of_unsigned
 declaration_unit (grammar.declaration grammar.no_visibility (grammar.of_typedef is) vs) = at (λ x. begins_unit x ≡ true) is refl
 
 unit_begins : {x : ModelUnit} {from to : List Word} → SpellsUnit x from to → begins_unit (next from) ≡ true
-unit_begins (units.variables d) = declaration_unit d
-unit_begins (units.constants is _ _ _) = at (λ x. begins_unit x ≡ true) is refl
-unit_begins (units.equal_constants is _ _ _ _) = at (λ x. begins_unit x ≡ true) is refl
-unit_begins (units.typedef is _ _ _ _) = at (λ x. begins_unit x ≡ true) is refl
-unit_begins (units.proctype units.never is _ _ _ _ _ _ _) = at (λ x. begins_unit x ≡ true) is refl
-unit_begins (units.proctype (units.once is) _ _ _ _ _ _ _ _) = at (λ x. begins_unit x ≡ true) is refl
-unit_begins (units.proctype (units.times is _ _ _) _ _ _ _ _ _ _ _) = at (λ x. begins_unit x ≡ true) is refl
-unit_begins (units.init is _ _ _) = at (λ x. begins_unit x ≡ true) is refl
+unit_begins (bodies.variables d) = declaration_unit d
+unit_begins (bodies.constants is _ _ _) = at (λ x. begins_unit x ≡ true) is refl
+unit_begins (bodies.equal_constants is _ _ _ _) = at (λ x. begins_unit x ≡ true) is refl
+unit_begins (bodies.typedef is _ _ _ _) = at (λ x. begins_unit x ≡ true) is refl
+unit_begins (bodies.proctype bodies.never is _ _ _ _ _ _ _) = at (λ x. begins_unit x ≡ true) is refl
+unit_begins (bodies.proctype (bodies.once is) _ _ _ _ _ _ _ _) = at (λ x. begins_unit x ≡ true) is refl
+unit_begins (bodies.proctype (bodies.times is _ _ _) _ _ _ _ _ _ _ _) = at (λ x. begins_unit x ≡ true) is refl
+unit_begins (bodies.init is _ _ _) = at (λ x. begins_unit x ≡ true) is refl
 
 units_stop : {us : List ModelUnit} {from : List Word} → SpellsUnits us from → Stops (next from)
-units_stop units.no_unit = stop_none k.End refl refl refl refl refl refl refl
-units_stop (units.semicolon is _) = at Stops is (stop_none k.Semicolon refl refl refl refl refl refl refl)
-units_stop (units.unit {from} x _) = (unit_kind (next from) (unit_begins x)).stops
+units_stop bodies.no_unit = stop_none k.End refl refl refl refl refl refl refl
+units_stop (bodies.semicolon is _) = at Stops is (stop_none k.Semicolon refl refl refl refl refl refl refl)
+units_stop (bodies.unit {from} x _) = (unit_kind (next from) (unit_begins x)).stops
 
 -- ---- semicolons
 
 semicolons_again : {from to : List Word} → SpellsSemicolons from to → same_kind (next to) k.Semicolon ≡ false → skip_semicolons from ≡ to
 unfolding skip_semicolons sees pick
-semicolons_again (units.no_semicolon {to = []}) none = refl
-semicolons_again (units.no_semicolon {to = w ∷ ws}) none = rw none refl
-semicolons_again (units.one_semicolon {s} is rest) none = rw (is_kind s.kind k.Semicolon is) (semicolons_again rest none)
+semicolons_again (bodies.no_semicolon {to = []}) none = refl
+semicolons_again (bodies.no_semicolon {to = w ∷ ws}) none = rw none refl
+semicolons_again (bodies.one_semicolon {s} is rest) none = rw (is_kind s.kind k.Semicolon is) (semicolons_again rest none)
 
 skip_one : (s : Word) (ts : List Word) → s.kind ≡ k.Semicolon → skip_semicolons (s ∷ ts) ≡ skip_semicolons ts
 unfolding skip_semicolons sees pick
 skip_one s ts is = rw (is_kind s.kind k.Semicolon is) refl
 
 semicolons_move : {from to : List Word} → SpellsSemicolons from to → length to ≤ length from
-semicolons_move units.no_semicolon = omega arith
-semicolons_move (units.one_semicolon _ rest) = omega (arith, semicolons_move rest)
+semicolons_move bodies.no_semicolon = omega arith
+semicolons_move (bodies.one_semicolon _ rest) = omega (arith, semicolons_move rest)
 
 -- ---- parameters
 
 parameter_again : {f : Opener} {v : Variable} {from to : List Word} → SpellsParameter f v from to → reading.parameter_by f from ≡ Ok (v, to)
 unfolding reading.plain_parameter reading.packed_parameter and_then
-parameter_again (units.plain_parameter {n} {to} is) = rw (expect_again k.Name n to is) refl
-parameter_again (units.packed_parameter {n} {c} {w} {to} is colon wide) = rw (expect_again k.Name n (c ∷ w ∷ to) is, expect_again k.Colon c (w ∷ to) colon, expect_again k.Number w to wide) refl
+parameter_again (bodies.plain_parameter {n} {to} is) = rw (expect_again k.Name n to is) refl
+parameter_again (bodies.packed_parameter {n} {c} {w} {to} is colon wide) = rw (expect_again k.Name n (c ∷ w ∷ to) is, expect_again k.Colon c (w ∷ to) colon, expect_again k.Number w to wide) refl
 
 parameter_moves : {f : Opener} {v : Variable} {from to : List Word} → SpellsParameter f v from to → length to < length from
-parameter_moves (units.plain_parameter _) = omega arith
-parameter_moves (units.packed_parameter _ _ _) = omega arith
+parameter_moves (bodies.plain_parameter _) = omega arith
+parameter_moves (bodies.packed_parameter _ _ _) = omega arith
 
 parameter_begins : {f : Opener} {v : Variable} {from to : List Word} → SpellsParameter f v from to → next from ≡ k.Name
-parameter_begins (units.plain_parameter is) = is
-parameter_begins (units.packed_parameter is _ _) = is
+parameter_begins (bodies.plain_parameter is) = is
+parameter_begins (bodies.packed_parameter is _ _) = is
 
 typed_parameter_again : {f : Opener} {v : Variable} {from typed named to : List Word} → SpellsVisibility from typed → SpellsOpener f typed named → SpellsParameter f v named to → reading.typed_parameter from ≡ Ok ((v, f), to)
 unfolding reading.typed_parameter and_then
@@ -142,26 +140,26 @@ typed_declares grammar.no_visibility (grammar.of_scalar {w} {s} is) v = scalar_d
 typed_declares grammar.no_visibility (grammar.of_unsigned is) v = at (λ x. declares x ≡ true) is refl
 typed_declares grammar.no_visibility (grammar.of_typedef is) v = absurd (named_none v)
   where
-    named_none : {w : Word} {v : Variable} {from to : List Word} → SpellsParameter (Rattle.pml_syntax.specs.declared.opener.Opener.TheVariants.Named w) v from to → ⊥
+    named_none : {w : Word} {v : Variable} {from to : List Word} → SpellsParameter (Rattle.promela_model.specs.declared.opener.Opener.TheVariants.Named w) v from to → ⊥
     named_none v = elim v [ ]
 
 more_parameters_again : {f : Opener} {vs : List Variable} {from to : List Word} → SpellsMoreParameters f vs from to → (turns : ℕ) → length from ≤ turns → parts_parameters (next to) ≡ false → (found : List Variable) → reading.parameters_from turns f found from ≡ Ok (found ++ vs, to)
 unfolding reading.parameters_from reading.more_parameter reading.next_parameter sees and_then pick
-more_parameters_again (units.no_more_parameters {to}) zero room ends found = ap (λ (r : List Variable). Ok (r, to)) (sym (append-nil found))
-more_parameters_again (units.no_more_parameters {to}) (suc n) room ends found = rw ends (ap (λ (r : List Variable). Ok (r, to)) (sym (append-nil found)))
-more_parameters_again (units.same_type is v vs) zero room ends found = absurd (omega arith)
-more_parameters_again (units.same_type {c} {v = x} {vs = xs} {from} {to} is v vs) (suc n) room ends found =
+more_parameters_again (bodies.no_more_parameters {to}) zero room ends found = ap (λ (r : List Variable). Ok (r, to)) (sym (append-nil found))
+more_parameters_again (bodies.no_more_parameters {to}) (suc n) room ends found = rw ends (ap (λ (r : List Variable). Ok (r, to)) (sym (append-nil found)))
+more_parameters_again (bodies.same_type is v vs) zero room ends found = absurd (omega arith)
+more_parameters_again (bodies.same_type {c} {v = x} {vs = xs} {from} {to} is v vs) (suc n) room ends found =
     let parts : parts_parameters c.kind ≡ true = at (λ z. parts_parameters z ≡ true) is refl in
     let bare : declares (next from) ≡ false = at (λ z. declares z ≡ false) (parameter_begins v) refl in
     rw (parts, not_kind c.kind k.Comma k.Semicolon is refl, bare, parameter_again v, more_parameters_again vs n (omega (arith, parameter_moves v)) ends (found ++ x ∷ []))
     (ap (λ (r : List Variable). Ok (r, to)) (append_assoc found (x ∷ []) xs))
-more_parameters_again (units.comma_parameter is vis t v vs) zero room ends found = absurd (omega arith)
-more_parameters_again (units.comma_parameter {c} {v = x} {vs = xs} {to} is vis t v vs) (suc n) room ends found =
+more_parameters_again (bodies.comma_parameter is vis t v vs) zero room ends found = absurd (omega arith)
+more_parameters_again (bodies.comma_parameter {c} {v = x} {vs = xs} {to} is vis t v vs) (suc n) room ends found =
     let parts : parts_parameters c.kind ≡ true = at (λ z. parts_parameters z ≡ true) is refl in
     rw (parts, not_kind c.kind k.Comma k.Semicolon is refl, typed_declares vis t v, typed_parameter_again vis t v, more_parameters_again vs n (omega (arith, visibility_moves vis, opener_moves t, parameter_moves v)) ends (found ++ x ∷ []))
     (ap (λ (r : List Variable). Ok (r, to)) (append_assoc found (x ∷ []) xs))
-more_parameters_again (units.semicolon_parameter is vis t v vs) zero room ends found = absurd (omega arith)
-more_parameters_again (units.semicolon_parameter {c} {v = x} {vs = xs} {to} is vis t v vs) (suc n) room ends found =
+more_parameters_again (bodies.semicolon_parameter is vis t v vs) zero room ends found = absurd (omega arith)
+more_parameters_again (bodies.semicolon_parameter {c} {v = x} {vs = xs} {to} is vis t v vs) (suc n) room ends found =
     let parts : parts_parameters c.kind ≡ true = at (λ z. parts_parameters z ≡ true) is refl in
     rw (parts, is_kind c.kind k.Semicolon is, typed_parameter_again vis t v, more_parameters_again vs n (omega (arith, visibility_moves vis, opener_moves t, parameter_moves v)) ends (found ++ x ∷ []))
     (ap (λ (r : List Variable). Ok (r, to)) (append_assoc found (x ∷ []) xs))
@@ -172,19 +170,19 @@ declares_no_close _ is = refl
 
 parameters_again : {vs : List Variable} {from to : List Word} → SpellsParameters vs from to → next to ≡ k.CloseParen → reading.parameters from ≡ Ok (vs, to)
 unfolding reading.parameters sees and_then pick
-parameters_again (units.no_parameters {to}) close = rw (is_kind (next to) k.CloseParen close) refl
-parameters_again (units.parameters {v = x} {from} {middle} {to} vis t v vs) close =
+parameters_again (bodies.no_parameters {to}) close = rw (is_kind (next to) k.CloseParen close) refl
+parameters_again (bodies.parameters {v = x} {from} {middle} {to} vis t v vs) close =
     rw (declares_no_close (next from) (typed_declares vis t v), typed_parameter_again vis t v, more_parameters_again vs (length middle) (omega arith) (at (λ z. parts_parameters z ≡ false) close refl) (x ∷ [])) refl
 
 more_parameters_move : {f : Opener} {vs : List Variable} {from to : List Word} → SpellsMoreParameters f vs from to → length to ≤ length from
-more_parameters_move units.no_more_parameters = omega arith
-more_parameters_move (units.same_type _ v vs) = omega (arith, parameter_moves v, more_parameters_move vs)
-more_parameters_move (units.comma_parameter _ vis t v vs) = omega (arith, visibility_moves vis, opener_moves t, parameter_moves v, more_parameters_move vs)
-more_parameters_move (units.semicolon_parameter _ vis t v vs) = omega (arith, visibility_moves vis, opener_moves t, parameter_moves v, more_parameters_move vs)
+more_parameters_move bodies.no_more_parameters = omega arith
+more_parameters_move (bodies.same_type _ v vs) = omega (arith, parameter_moves v, more_parameters_move vs)
+more_parameters_move (bodies.comma_parameter _ vis t v vs) = omega (arith, visibility_moves vis, opener_moves t, parameter_moves v, more_parameters_move vs)
+more_parameters_move (bodies.semicolon_parameter _ vis t v vs) = omega (arith, visibility_moves vis, opener_moves t, parameter_moves v, more_parameters_move vs)
 
 parameters_move : {vs : List Variable} {from to : List Word} → SpellsParameters vs from to → length to ≤ length from
-parameters_move units.no_parameters = omega arith
-parameters_move (units.parameters vis t v vs) = omega (arith, visibility_moves vis, opener_moves t, parameter_moves v, more_parameters_move vs)
+parameters_move bodies.no_parameters = omega arith
+parameters_move (bodies.parameters vis t v vs) = omega (arith, visibility_moves vis, opener_moves t, parameter_moves v, more_parameters_move vs)
 
 -- ---- parts of units
 
@@ -202,15 +200,15 @@ names_again o c {from} {to} opened ns closed =
 
 starts_again : {s : Starts} {from to : List Word} → SpellsStarts s from to → (depth : ℕ) → length from ≤ depth → next to ≡ k.Proctype → reading.starts depth from ≡ Ok (s, to)
 unfolding reading.starts expressions.index expressions.expr_between expressions.expr_behind expressions.closing sees and_then pick
-starts_again (units.never {to}) depth room word = rw (not_kind (next to) k.Proctype k.Active word refl) refl
-starts_again (units.once {w} {to} is) depth room word = rw (is_kind w.kind k.Active is, expect_again k.Active w to is, not_kind (next to) k.Proctype k.OpenBracket word refl) refl
-starts_again (units.times {w} {o} {c} {x} {from} {to} is opened h closed) depth room word =
+starts_again (bodies.never {to}) depth room word = rw (not_kind (next to) k.Proctype k.Active word refl) refl
+starts_again (bodies.once {w} {to} is) depth room word = rw (is_kind w.kind k.Active is, expect_again k.Active w to is, not_kind (next to) k.Proctype k.OpenBracket word refl) refl
+starts_again (bodies.times {w} {o} {c} {x} {from} {to} is opened h closed) depth room word =
     rw (is_kind w.kind k.Active is, expect_again k.Active w (o ∷ from) is, is_kind o.kind k.OpenBracket opened, expect_again k.OpenBracket o from opened, expr_whole h depth (omega arith) (at IsQuiet closed quiet_bracket), expect_again k.CloseBracket c to closed) refl
 
 starts_move : {s : Starts} {from to : List Word} → SpellsStarts s from to → length to ≤ length from
-starts_move units.never = omega arith
-starts_move (units.once _) = omega arith
-starts_move (units.times _ _ x _) = omega (arith, expr_moves x)
+starts_move bodies.never = omega arith
+starts_move (bodies.once _) = omega arith
+starts_move (bodies.times _ _ x _) = omega (arith, expr_moves x)
 
 -- what comes behind the declarations of a typedef
 record EndsMember (kind : Kind) : Type 0 where
@@ -224,8 +222,8 @@ ends_brace : EndsMember k.CloseBrace
 ends_brace = let s = stop_none k.CloseBrace refl refl refl refl refl refl refl in record { settles = stops_settles s; no_comma = s.last.no_comma }
 
 semicolons_end : {from to : List Word} → SpellsSemicolons from to → next to ≡ k.CloseBrace → EndsMember (next from)
-semicolons_end units.no_semicolon close = at EndsMember close ends_brace
-semicolons_end (units.one_semicolon is _) close = at EndsMember is ends_semicolon
+semicolons_end bodies.no_semicolon close = at EndsMember close ends_brace
+semicolons_end (bodies.one_semicolon is _) close = at EndsMember is ends_semicolon
 
 record BeginsMember (kind : Kind) : Type 0 where
   no_close : same_kind kind k.CloseBrace ≡ false
@@ -237,21 +235,21 @@ begins_member k.Semicolon none = absurd cc
 begins_member _ none = record { no_close = refl; no_semicolon = refl }
 
 members_begin : {vs : List Variable} {from to : List Word} → SpellsMembers vs from to → BeginsMember (next from)
-members_begin (units.last_members d _) = begins_member _ (declaration_begins d).no_follow
-members_begin (units.more_members d _ _ _) = begins_member _ (declaration_begins d).no_follow
+members_begin (bodies.last_members d _) = begins_member _ (declaration_begins d).no_follow
+members_begin (bodies.more_members d _ _ _) = begins_member _ (declaration_begins d).no_follow
 
 members_move : {vs : List Variable} {from to : List Word} → SpellsMembers vs from to → length to < length from
-members_move (units.last_members d s) = omega (arith, declaration_moves d, semicolons_move s)
-members_move (units.more_members d _ s vs) = omega (arith, declaration_moves d, semicolons_move s, members_move vs)
+members_move (bodies.last_members d s) = omega (arith, declaration_moves d, semicolons_move s)
+members_move (bodies.more_members d _ s vs) = omega (arith, declaration_moves d, semicolons_move s, members_move vs)
 
 members_again : {vs : List Variable} {from to : List Word} → SpellsMembers vs from to → (depth turns : ℕ) → length from ≤ depth → length from ≤ turns → next to ≡ k.CloseBrace → (found : List Variable) → reading.members_from depth turns found from ≡ Ok (found ++ vs, to)
 unfolding reading.members_from sees and_then pick
-members_again (units.last_members d s) depth zero room enough close found = absurd (omega (arith, declaration_moves d))
-members_again (units.last_members {to} d s) depth (suc n) room enough close found =
+members_again (bodies.last_members d s) depth zero room enough close found = absurd (omega (arith, declaration_moves d))
+members_again (bodies.last_members {to} d s) depth (suc n) room enough close found =
     let ends = semicolons_end s close in
     rw (declaration_again d depth room (λ _. ends.settles) ends.no_comma found, semicolons_again s (not_kind (next to) k.CloseBrace k.Semicolon close refl), is_kind (next to) k.CloseBrace close) refl
-members_again (units.more_members d is s rest) depth zero room enough close found = absurd (omega (arith, declaration_moves d))
-members_again (units.more_members {s = w} {vs} {ws} {middle} {later} {to} d is s rest) depth (suc n) room enough close found =
+members_again (bodies.more_members d is s rest) depth zero room enough close found = absurd (omega (arith, declaration_moves d))
+members_again (bodies.more_members {s = w} {vs} {ws} {middle} {later} {to} d is s rest) depth (suc n) room enough close found =
     let begins = members_begin rest in
     let ends = at EndsMember is ends_semicolon in
     let skipped : skip_semicolons (w ∷ middle) ≡ later = skip_one w middle is ∙ semicolons_again s begins.no_semicolon in
@@ -314,15 +312,15 @@ declared_unit (grammar.declaration grammar.no_visibility (grammar.of_typedef {w}
 
 unit_again : {x : ModelUnit} {from to : List Word} → SpellsUnit x from to → (depth : ℕ) → length from ≤ depth → Stops (next to) → reading.unit depth from ≡ Ok (x, to)
 unfolding reading.variables reading.constants reading.typedef reading.proctype reading.process reading.signature reading.init expect_name sees and_then pick
-unit_again (units.variables d) depth room s = declared_unit d depth _ (rw (declaration_again d depth room (λ _. stops_settles s) s.last.no_comma []) refl)
-unit_again (units.constants {w} {o} {c} {from} is opened ns closed) depth room s =
+unit_again (bodies.variables d) depth room s = declared_unit d depth _ (rw (declaration_again d depth room (λ _. stops_settles s) s.last.no_comma []) refl)
+unit_again (bodies.constants {w} {o} {c} {from} is opened ns closed) depth room s =
     unit_at depth (w ∷ o ∷ from) _ is (rw (not_kind o.kind k.OpenBrace k.Name opened refl, not_kind o.kind k.OpenBrace k.Assign opened refl, names_again o c opened ns closed) refl)
-unit_again (units.equal_constants {w} {q} {o} {c} {from} is sign opened ns closed) depth room s =
+unit_again (bodies.equal_constants {w} {q} {o} {c} {from} is sign opened ns closed) depth room s =
     unit_at depth (w ∷ q ∷ o ∷ from) _ is (rw (not_kind q.kind k.Assign k.Name sign refl, is_kind q.kind k.Assign sign, expect_again k.Assign q (o ∷ from) sign, names_again o c opened ns closed) refl)
-unit_again (units.typedef {w} {n} {o} {c} {from} {to} is named opened vs closed) depth room s =
+unit_again (bodies.typedef {w} {n} {o} {c} {from} {to} is named opened vs closed) depth room s =
     unit_at depth (w ∷ n ∷ o ∷ from) _ is
     (rw (expect_again k.Typedef w (n ∷ o ∷ from) is, expect_again k.Name n (o ∷ from) named, expect_again k.OpenBrace o from opened, members_again vs depth (length from) (omega arith) (omega arith) closed [], expect_again k.CloseBrace c to closed) refl)
-unit_again (units.proctype {s = st} {p} {n} {o} {c} {d} {z} {from} {inner} {body} first is named opened ps closed brace xs last) depth room s =
+unit_again (bodies.proctype {s = st} {p} {n} {o} {c} {d} {z} {from} {inner} {body} first is named opened ps closed brace xs last) depth room s =
     let whole : reading.proctype depth from ≡ Ok (_, _) = rw (
       starts_again first depth room is,
       expect_again k.Proctype p (n ∷ o ∷ inner) is,
@@ -335,41 +333,41 @@ unit_again (units.proctype {s = st} {p} {n} {o} {c} {d} {z} {from} {inner} {body
     proctype_unit first is depth _ whole
   where
     proctype_unit : {st : Starts} {from to : List Word} → SpellsStarts st from to → next to ≡ k.Proctype → (depth : ℕ) (r : Read ModelUnit) → reading.proctype depth from ≡ r → reading.unit depth from ≡ r
-    proctype_unit units.never is depth r g = unit_at depth _ r is g
-    proctype_unit (units.once is) word depth r g = unit_at depth _ r is g
-    proctype_unit (units.times is _ _ _) word depth r g = unit_at depth _ r is g
-unit_again (units.init {w} {o} {c} {from} is opened xs closed) depth room s =
+    proctype_unit bodies.never is depth r g = unit_at depth _ r is g
+    proctype_unit (bodies.once is) word depth r g = unit_at depth _ r is g
+    proctype_unit (bodies.times is _ _ _) word depth r g = unit_at depth _ r is g
+unit_again (bodies.init {w} {o} {c} {from} is opened xs closed) depth room s =
     unit_at depth (w ∷ o ∷ from) _ is (rw (expect_again k.Init w (o ∷ from) is, body_again o c opened xs closed depth (omega arith)) refl)
 
 list_of_names_moves : {ns from to : List Word} → SpellsList SpellsName ns from to → length to < length from
 list_of_names_moves ns = list_moves name_moves ns
 
 unit_moves : {x : ModelUnit} {from to : List Word} → SpellsUnit x from to → length to < length from
-unit_moves (units.variables d) = declaration_moves d
-unit_moves (units.constants _ _ ns _) = omega (arith, list_of_names_moves ns)
-unit_moves (units.equal_constants _ _ _ ns _) = omega (arith, list_of_names_moves ns)
-unit_moves (units.typedef _ _ _ vs _) = omega (arith, members_move vs)
-unit_moves (units.proctype first _ _ _ ps _ _ xs _) = omega (arith, starts_move first, parameters_move ps, body_moves xs)
-unit_moves (units.init _ _ xs _) = omega (arith, body_moves xs)
+unit_moves (bodies.variables d) = declaration_moves d
+unit_moves (bodies.constants _ _ ns _) = omega (arith, list_of_names_moves ns)
+unit_moves (bodies.equal_constants _ _ _ ns _) = omega (arith, list_of_names_moves ns)
+unit_moves (bodies.typedef _ _ _ vs _) = omega (arith, members_move vs)
+unit_moves (bodies.proctype first _ _ _ ps _ _ xs _) = omega (arith, starts_move first, parameters_move ps, body_moves xs)
+unit_moves (bodies.init _ _ xs _) = omega (arith, body_moves xs)
 
 not_empty : (ts : List Word) → 1 ≤ length ts → is_empty ts ≡ false
 not_empty [] some = absurd (omega arith)
 not_empty (w ∷ ws) some = refl
 
 skip_none : (ts : List Word) → same_kind (next ts) k.Semicolon ≡ false → skip_semicolons ts ≡ ts
-skip_none ts none = semicolons_again units.no_semicolon none
+skip_none ts none = semicolons_again bodies.no_semicolon none
 
 units_again : {us : List ModelUnit} {from : List Word} → SpellsUnits us from → (depth turns : ℕ) → length from ≤ depth → length from ≤ turns → (found : List ModelUnit) → reading.units_from depth turns found from ≡ Ok (found ++ us, [])
 unfolding reading.units_from and_then pick
-units_again units.no_unit depth zero room enough found = rw (skip_none [] refl) (ap (λ (r : List ModelUnit). Ok (r, [])) (sym (append-nil found)))
-units_again units.no_unit depth (suc n) room enough found = rw (skip_none [] refl) (ap (λ (r : List ModelUnit). Ok (r, [])) (sym (append-nil found)))
-units_again (units.semicolon is us) depth zero room enough found = absurd (omega arith)
-units_again (units.semicolon {s} {from} is us) depth (suc n) room enough found = rw (skip_one s from is) (units_again us depth (suc n) (omega arith) (omega arith) found)
-units_again (units.unit x us) depth zero room enough found = absurd (omega (arith, unit_moves x))
-units_again (units.unit {x = y} {us = ys} {from} {to} x us) depth (suc n) room enough found =
+units_again bodies.no_unit depth zero room enough found = rw (skip_none [] refl) (ap (λ (r : List ModelUnit). Ok (r, [])) (sym (append-nil found)))
+units_again bodies.no_unit depth (suc n) room enough found = rw (skip_none [] refl) (ap (λ (r : List ModelUnit). Ok (r, [])) (sym (append-nil found)))
+units_again (bodies.semicolon is us) depth zero room enough found = absurd (omega arith)
+units_again (bodies.semicolon {s} {from} is us) depth (suc n) room enough found = rw (skip_one s from is) (units_again us depth (suc n) (omega arith) (omega arith) found)
+units_again (bodies.unit x us) depth zero room enough found = absurd (omega (arith, unit_moves x))
+units_again (bodies.unit {x = y} {us = ys} {from} {to} x us) depth (suc n) room enough found =
     rw (skip_none from (unit_kind (next from) (unit_begins x)).no_semicolon, not_empty from (omega (arith, unit_moves x)), unit_again x depth room (units_stop us), units_again us depth n (omega (arith, unit_moves x)) (omega (arith, unit_moves x)) (found ++ y ∷ []))
     (ap (λ (r : List ModelUnit). Ok (r, [])) (append_assoc found (y ∷ []) ys))
 
 pub model_again : {t : Tree} {ts : List Word} → Spells t ts → (depth : ℕ) → length ts ≤ depth → reading.model depth ts ≡ Ok (t, [])
 unfolding reading.model and_then
-model_again (units.model {from} us) depth room = rw (units_again us depth (length from) room (omega arith) []) refl
+model_again (bodies.model {from} us) depth room = rw (units_again us depth (length from) room (omega arith) []) refl

@@ -11,18 +11,16 @@ use Rattle.pml_tree.specs.declared.tree.Starts.TheVariants as starting
 use Rattle.pml_tree.specs.declared.tree.Unit.{Unit as ModelUnit}
 use Rattle.pml_tree.specs.declared.tree.Unit.TheVariants as u
 use Rattle.pml_tree.specs.declared.tree.Tree.{Tree}
-use Rattle.pml_syntax.specs.declared.opener.Opener.{Opener}
-use Rattle.pml_syntax.specs.declared.opener.Opener.TheVariants as opener
+use Rattle.promela_model.specs.declared.opener.Opener.{Opener}
+use Rattle.promela_model.specs.declared.opener.Opener.TheVariants as opener
 use Rattle.pml_syntax.specs.declared.starts.Head.{Head}
 use Rattle.pml_syntax.specs.declared.starts.Head.TheVariants as h
-use Rattle.pml_expression.specs.Grammar as terms
-use Rattle.pml_syntax.specs.Grammar as grammar
-use Rattle.pml_syntax.specs.GrammarOfStatements as bodies
-use Rattle.pml_syntax.specs.GrammarOfUnits as units
-use Rattle.pml_expression.specs.Grammar.{SpellsIndex, SpellsList}
-use Rattle.pml_syntax.specs.Grammar.{seq_of, proctype_of, SpellsName, SpellsVisibility, SpellsOpener, SpellsDeclaration}
-use Rattle.pml_syntax.specs.GrammarOfStatements.{SpellsItems, SpellsBody}
-use Rattle.pml_syntax.specs.GrammarOfUnits.{SpellsSemicolons, SpellsMembers, SpellsParameter, SpellsMoreParameters, SpellsParameters, SpellsStarts, SpellsUnit, SpellsUnits, Spells}
+use Rattle.promela_model.specs.GrammarOfExpressions as terms
+use Rattle.promela_model.specs.GrammarOfActions as grammar
+use Rattle.promela_model.specs.GrammarOfModels as bodies
+use Rattle.promela_model.specs.GrammarOfExpressions.{SpellsIndex, SpellsList}
+use Rattle.promela_model.specs.GrammarOfActions.{seq_of, proctype_of, SpellsName, SpellsVisibility, SpellsOpener, SpellsDeclaration}
+use Rattle.promela_model.specs.GrammarOfModels.{SpellsItems, SpellsBody, SpellsSemicolons, SpellsMembers, SpellsParameter, SpellsMoreParameters, SpellsParameters, SpellsStarts, SpellsUnit, SpellsUnits, Spells}
 use Rattle.pml_syntax.specs.Starts.{head}
 use Rattle.pml_expression.specs.Reading.{pick, next, sees, expect, expr, is_empty}
 use Rattle.pml_syntax.specs.ReadingStatements.{skip_visibility}
@@ -38,12 +36,12 @@ use Rattle.pml_syntax.proofs.FoundBodies.{items_found}
 
 semicolons_by : (b : Bool) (w : Word) (ws : List Word) → same_kind w.kind k.Semicolon ≡ b → SpellsSemicolons ws (skip_semicolons ws) → SpellsSemicolons (w ∷ ws) (pick b (skip_semicolons ws) (w ∷ ws))
 unfolding pick
-semicolons_by true w ws h rest = units.one_semicolon (kind_is w.kind k.Semicolon h) rest
-semicolons_by false w ws h rest = units.no_semicolon
+semicolons_by true w ws h rest = bodies.one_semicolon (kind_is w.kind k.Semicolon h) rest
+semicolons_by false w ws h rest = bodies.no_semicolon
 
 semicolons_found : (ts : List Word) → SpellsSemicolons ts (skip_semicolons ts)
 unfolding skip_semicolons sees
-semicolons_found [] = units.no_semicolon
+semicolons_found [] = bodies.no_semicolon
 semicolons_found (w ∷ ws) = semicolons_by (same_kind w.kind k.Semicolon) w ws refl (semicolons_found ws)
 
 -- a semicolon at the front
@@ -66,7 +64,7 @@ unfolding reading.plain_parameter reading.packed_parameter
 parameter_found (opener.Plain s) ts x h =
     let n = bind_ok h in
     let t = expect_ok n.1 in
-    done (SpellsParameter (opener.Plain s)) n.2 (fronted (SpellsParameter (opener.Plain s)) t (units.plain_parameter t.is))
+    done (SpellsParameter (opener.Plain s)) n.2 (fronted (SpellsParameter (opener.Plain s)) t (bodies.plain_parameter t.is))
 parameter_found opener.Unsigned ts x h =
     let n = bind_ok h in
     let t = expect_ok n.1 in
@@ -74,7 +72,7 @@ parameter_found opener.Unsigned ts x h =
     let v = expect_ok c.1 in
     let w = bind_ok c.2 in
     let z = expect_ok w.1 in
-    done (SpellsParameter opener.Unsigned) w.2 (fronted3 (SpellsParameter opener.Unsigned) t v z (units.packed_parameter t.is v.is z.is))
+    done (SpellsParameter opener.Unsigned) w.2 (fronted3 (SpellsParameter opener.Unsigned) t v z (bodies.packed_parameter t.is v.is z.is))
 parameter_found (opener.Named w) ts x h = absurd cc
 
 record Typed (ts : List Word) (x : (Variable × Opener) × List Word) : Type 0 where
@@ -104,36 +102,36 @@ more_found : (f : Opener) (ts : List Word) (x : (Variable × Opener) × List Wor
 unfolding reading.more_parameter reading.next_parameter sees
 more_found f [] x is h = absurd cc
 more_found f (w ∷ ws) x is h = elim (chosen h) [
-  | inl p ↦ let t = typed_found ws x p.1 in λ vs to rest. units.semicolon_parameter (kind_is w.kind k.Semicolon p.0) t.visible t.opens t.parameter rest
+  | inl p ↦ let t = typed_found ws x p.1 in λ vs to rest. bodies.semicolon_parameter (kind_is w.kind k.Semicolon p.0) t.visible t.opens t.parameter rest
   | inr p ↦
       let comma = comma_is w.kind is p.0 in
       elim (chosen p.1) [
-        | inl q ↦ let t = typed_found ws x q.1 in λ vs to rest. units.comma_parameter comma t.visible t.opens t.parameter rest
+        | inl q ↦ let t = typed_found ws x q.1 in λ vs to rest. bodies.comma_parameter comma t.visible t.opens t.parameter rest
         | inr q ↦
             let v = bind_ok q.1 in
-            subst (GoesBefore f (w ∷ ws)) (ok_is v.2) (λ vs to rest. units.same_type comma (parameter_found f ws v.0 v.1) rest)
+            subst (GoesBefore f (w ∷ ws)) (ok_is v.2) (λ vs to rest. bodies.same_type comma (parameter_found f ws v.0 v.1) rest)
       ]
 ]
 
 parameters_from_found : (turns : ℕ) (f : Opener) (found : List Variable) (ts : List Word) (x : List Variable × List Word) → reading.parameters_from turns f found ts ≡ Ok x → GoesOn (λ vs. SpellsMoreParameters f vs ts x.1) found x.0
 unfolding reading.parameters_from
-parameters_from_found zero f found ts x h = subst (λ (r : List Variable × List Word). GoesOn (λ vs. SpellsMoreParameters f vs ts r.1) found r.0) (ok_is h) (none_more found units.no_more_parameters)
+parameters_from_found zero f found ts x h = subst (λ (r : List Variable × List Word). GoesOn (λ vs. SpellsMoreParameters f vs ts r.1) found r.0) (ok_is h) (none_more found bodies.no_more_parameters)
 parameters_from_found (suc n) f found ts x h = elim (chosen h) [
   | inl p ↦
       let v = bind_ok p.1 in
       one_more {Spell = λ vs. SpellsMoreParameters v.0.0.1 vs v.0.1 x.1} found x.0 v.0.0.0 (λ vs s. more_found f ts v.0 p.0 v.1 vs x.1 s) (parameters_from_found n v.0.0.1 (found ++ v.0.0.0 ∷ []) v.0.1 x v.2)
-  | inr p ↦ subst (λ (r : List Variable × List Word). GoesOn (λ vs. SpellsMoreParameters f vs ts r.1) found r.0) (ok_is p.1) (none_more found units.no_more_parameters)
+  | inr p ↦ subst (λ (r : List Variable × List Word). GoesOn (λ vs. SpellsMoreParameters f vs ts r.1) found r.0) (ok_is p.1) (none_more found bodies.no_more_parameters)
 ]
 
 parameters_found : (ts : List Word) (x : List Variable × List Word) → reading.parameters ts ≡ Ok x → SpellsParameters x.0 ts x.1
 unfolding reading.parameters
 parameters_found ts x h = elim (chosen h) [
-  | inl p ↦ done SpellsParameters p.1 units.no_parameters
+  | inl p ↦ done SpellsParameters p.1 bodies.no_parameters
   | inr p ↦
       let v = bind_ok p.1 in
       let t = typed_found ts v.0 v.1 in
       let g = parameters_from_found (length v.0.1) v.0.0.1 (v.0.0.0 ∷ []) v.0.1 x v.2 in
-      subst (λ (all : List Variable). SpellsParameters all ts x.1) (sym g.whole_is) (units.parameters t.visible t.opens t.parameter g.spells)
+      subst (λ (all : List Variable). SpellsParameters all ts x.1) (sym g.whole_is) (bodies.parameters t.visible t.opens t.parameter g.spells)
 ]
 
 -- ---- units
@@ -170,24 +168,24 @@ constants_found w ts x is h = elim (chosen h) [
       let ns = bind_ok q.2 in
       let l = names_found q.0.1 ns.0 ns.1 in
       done SpellsUnit ns.2 (subst (λ (from : List Word). SpellsUnit (u.Constants ns.0.0) (w ∷ from) ns.0.1) (sym t.front)
-      (subst (λ (from : List Word). SpellsUnit (u.Constants ns.0.0) (w ∷ q.0.0 ∷ from) ns.0.1) (sym l.front) (units.equal_constants is t.is l.opens l.spells l.closes)))
+      (subst (λ (from : List Word). SpellsUnit (u.Constants ns.0.0) (w ∷ q.0.0 ∷ from) ns.0.1) (sym l.front) (bodies.equal_constants is t.is l.opens l.spells l.closes)))
   | inr p ↦
       let ns = bind_ok p.1 in
       let l = names_found ts ns.0 ns.1 in
-      done SpellsUnit ns.2 (subst (λ (from : List Word). SpellsUnit (u.Constants ns.0.0) (w ∷ from) ns.0.1) (sym l.front) (units.constants is l.opens l.spells l.closes))
+      done SpellsUnit ns.2 (subst (λ (from : List Word). SpellsUnit (u.Constants ns.0.0) (w ∷ from) ns.0.1) (sym l.front) (bodies.constants is l.opens l.spells l.closes))
 ]
 
 starts_index : {i : Option Expr} {w : Word} {from to : List Word} → w.kind ≡ k.Active → SpellsIndex i from to → SpellsStarts (starts_of i) (w ∷ from) to
-starts_index is terms.no_index = units.once is
-starts_index is (terms.index opened x closed) = units.times is opened x closed
+starts_index is terms.no_index = bodies.once is
+starts_index is (terms.index opened x closed) = bodies.times is opened x closed
 
 all_read : (ts : List Word) → is_empty ts ≡ true → ts ≡ []
 all_read [] h = refl
 all_read (w ∷ ws) h = absurd cc
 
 semicolons_before : {us : List ModelUnit} {from to : List Word} → SpellsSemicolons from to → SpellsUnits us to → SpellsUnits us from
-semicolons_before units.no_semicolon us = us
-semicolons_before (units.one_semicolon is s) us = units.semicolon is (semicolons_before s us)
+semicolons_before bodies.no_semicolon us = us
+semicolons_before (bodies.one_semicolon is s) us = bodies.semicolon is (semicolons_before s us)
 
 head_mtype : (kind : Kind) → head kind ≡ h.Mtype → kind ≡ k.Mtype
 head_mtype k.Mtype is = refl
@@ -202,7 +200,7 @@ module _ (depth : ℕ) where
         let t = expect_ok w.1 in
         let i = bind_ok w.2 in
         done SpellsStarts i.2 (fronted SpellsStarts t (starts_index t.is (index_found (expr depth) (expr_found depth) w.0.1 i.0 i.1)))
-    | inr p ↦ done SpellsStarts p.1 units.never
+    | inr p ↦ done SpellsStarts p.1 bodies.never
   ]
 
   members_found : (turns : ℕ) (found : List Variable) (ts : List Word) (x : List Variable × List Word) → reading.members_from depth turns found ts ≡ Ok x → GoesOn (λ vs. SpellsMembers vs ts x.1) found x.0
@@ -213,7 +211,7 @@ module _ (depth : ℕ) where
       let d = declaration_found depth found ts vs.0 vs.1 in
       elim (chosen vs.2) [
         | inl p ↦ subst (λ (r : List Variable × List Word). GoesOn (λ vs. SpellsMembers vs ts r.1) found r.0) (ok_is p.1)
-            (record { more = d.more; whole_is = d.whole_is; spells = units.last_members d.spells (semicolons_found vs.0.1) })
+            (record { more = d.more; whole_is = d.whole_is; spells = bodies.last_members d.spells (semicolons_found vs.0.1) })
         | inr p ↦ elim (chosen p.1) [
           | inl q ↦
               let m = parted vs.0.1 q.0 in
@@ -221,7 +219,7 @@ module _ (depth : ℕ) where
               record {
                 more = d.more ++ g.more;
                 whole_is = g.whole_is ∙ ap (λ (all : List Variable). all ++ g.more) d.whole_is ∙ append_assoc found d.more g.more;
-                spells = units.more_members (subst (λ (to : List Word). SpellsDeclaration vs.0.0.1 d.more ts to) m.front d.spells) m.is m.rest g.spells;
+                spells = bodies.more_members (subst (λ (to : List Word). SpellsDeclaration vs.0.0.1 d.more ts to) m.front d.spells) m.is m.rest g.spells;
               }
           | inr q ↦ absurd cc
         ]
@@ -236,7 +234,7 @@ module _ (depth : ℕ) where
       let c = bind_ok vs.2 in
       let y = expect_ok c.1 in
       let all = all_found {Spell = λ all. SpellsMembers all n.0.1 vs.0.1} (members_found (length n.0.1) [] n.0.1 vs.0 vs.1) in
-      done SpellsUnit c.2 (from_name SpellsUnit t (units.typedef t.is t.named t.ends (closed_by SpellsMembers y all) y.is))
+      done SpellsUnit c.2 (from_name SpellsUnit t (bodies.typedef t.is t.named t.ends (closed_by SpellsMembers y all) y.is))
 
   -- a body in its braces
   record Braced (ts : List Word) (x : (List Item × Word) × List Word) : Type 0 where
@@ -298,7 +296,7 @@ module _ (depth : ℕ) where
       let signed = signature_found s.0.1 m.0 m.1 in
       let braced = body_found m.0.1 y.0 y.1 in
       done SpellsUnit y.2
-      (units.proctype (subst (λ (to : List Word). SpellsStarts s.0.0 ts to) signed.front first) signed.is signed.named signed.opens
+      (bodies.proctype (subst (λ (to : List Word). SpellsStarts s.0.0 ts to) signed.front first) signed.is signed.named signed.opens
       (subst (λ (to : List Word). SpellsParameters m.0.0.1 signed.inside (signed.close ∷ to)) braced.front signed.spells) signed.closes braced.opens braced.spells braced.closes)
 
   init_found : (ts : List Word) (x : ModelUnit × List Word) → reading.init depth ts ≡ Ok x → SpellsUnit x.0 ts x.1
@@ -308,14 +306,14 @@ module _ (depth : ℕ) where
       let t = expect_ok w.1 in
       let y = bind_ok w.2 in
       let braced = body_found w.0.1 y.0 y.1 in
-      done SpellsUnit y.2 (fronted SpellsUnit t (subst (λ (from : List Word). SpellsUnit (u.Proctype (proctype_of starting.Once w.0.0 [] (seq_of y.0.0.0) y.0.0.1)) (w.0.0 ∷ from) y.0.1) (sym braced.front) (units.init t.is braced.opens braced.spells braced.closes)))
+      done SpellsUnit y.2 (fronted SpellsUnit t (subst (λ (from : List Word). SpellsUnit (u.Proctype (proctype_of starting.Once w.0.0 [] (seq_of y.0.0.0) y.0.0.1)) (w.0.0 ∷ from) y.0.1) (sym braced.front) (bodies.init t.is braced.opens braced.spells braced.closes)))
 
   variables_found : (ts : List Word) (x : ModelUnit × List Word) → reading.variables depth ts ≡ Ok x → SpellsUnit x.0 ts x.1
   unfolding reading.variables
   variables_found ts x h =
       let vs = bind_ok h in
       let d = all_found {Spell = λ all. SpellsDeclaration vs.0.0.1 all ts vs.0.1} (declaration_found depth [] ts vs.0 vs.1) in
-      done SpellsUnit vs.2 (units.variables d)
+      done SpellsUnit vs.2 (bodies.variables d)
 
   unit_by_found : (start : Head) (ts : List Word) (x : ModelUnit × List Word) → head (next ts) ≡ start → reading.unit_by depth start ts ≡ Ok x → SpellsUnit x.0 ts x.1
   unit_by_found h.Mtype [] x is g = absurd cc
@@ -336,15 +334,15 @@ module _ (depth : ℕ) where
   unfolding reading.units_from
   units_found zero found ts x g = elim (chosen g) [
     | inl p ↦ subst (λ (r : List ModelUnit × List Word). GoesOn (λ us. SpellsUnits us ts) found r.0) (ok_is p.1)
-        (none_more found (semicolons_before (semicolons_found ts) (subst (λ (to : List Word). SpellsUnits [] to) (sym (all_read (skip_semicolons ts) p.0)) units.no_unit)))
+        (none_more found (semicolons_before (semicolons_found ts) (subst (λ (to : List Word). SpellsUnits [] to) (sym (all_read (skip_semicolons ts) p.0)) bodies.no_unit)))
     | inr p ↦ absurd cc
   ]
   units_found (suc n) found ts x g = elim (chosen g) [
     | inl p ↦ subst (λ (r : List ModelUnit × List Word). GoesOn (λ us. SpellsUnits us ts) found r.0) (ok_is p.1)
-        (none_more found (semicolons_before (semicolons_found ts) (subst (λ (to : List Word). SpellsUnits [] to) (sym (all_read (skip_semicolons ts) p.0)) units.no_unit)))
+        (none_more found (semicolons_before (semicolons_found ts) (subst (λ (to : List Word). SpellsUnits [] to) (sym (all_read (skip_semicolons ts) p.0)) bodies.no_unit)))
     | inr p ↦
         let y = bind_ok p.1 in
-        one_more {Spell = λ us. SpellsUnits us y.0.1} found x.0 y.0.0 (λ us s. semicolons_before (semicolons_found ts) (units.unit (unit_found (skip_semicolons ts) y.0 y.1) s)) (units_found n (found ++ y.0.0 ∷ []) y.0.1 x y.2)
+        one_more {Spell = λ us. SpellsUnits us y.0.1} found x.0 y.0.0 (λ us s. semicolons_before (semicolons_found ts) (bodies.unit (unit_found (skip_semicolons ts) y.0 y.1) s)) (units_found n (found ++ y.0.0 ∷ []) y.0.1 x y.2)
   ]
 
   pub model_found : (ts : List Word) (x : Tree × List Word) → reading.model depth ts ≡ Ok x → Spells x.0 ts
@@ -352,4 +350,4 @@ module _ (depth : ℕ) where
   model_found ts x g =
       let us = bind_ok g in
       let all = all_found {Spell = λ all. SpellsUnits all ts} (units_found (length ts) [] ts us.0 us.1) in
-      subst (λ (r : Tree × List Word). Spells r.0 ts) (ok_is us.2) (units.model all)
+      subst (λ (r : Tree × List Word). Spells r.0 ts) (ok_is us.2) (bodies.model all)

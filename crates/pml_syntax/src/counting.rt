@@ -4,15 +4,15 @@ ghost use Rattle.std.specs.Prelude.{◌≡◌, ◌++◌, ◌∷◌, [], IfOk, On
 ghost use Rattle.pml_tree.specs.declared.tree.Action.TheVariants as a;
 ghost use Rattle.pml_tree.specs.declared.tree.Expr.TheVariants as e;
 ghost use Rattle.pml_tree.specs.declared.tree.Basic.TheVariants as b;
-ghost use Rattle.pml_syntax.specs.Grammar as grammar;
-ghost use Rattle.pml_syntax.specs.GrammarOfStatements as loops;
+ghost use Rattle.promela_model.specs.GrammarOfActions as grammar;
+ghost use Rattle.promela_model.specs.GrammarOfModels as loops;
 
 use crate::boxes;
-use crate::range::{Bound, Counter, Range};
 use crate::starts::Opening;
 use pml_token::token::{Kind, Token};
 use pml_tree::tokens::Tokens;
 use pml_tree::tree::{Action, Basic, Expr, Infix, Item, Reference, Seq};
+use promela_model::range::{Bound, Counter, Range};
 use sqlite_items::{Boxed, Items};
 use std::alloc::{AllocError, Global};
 

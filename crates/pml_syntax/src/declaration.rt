@@ -6,7 +6,6 @@ ghost use Rattle.pml_expression.specs.Reading.{Reads};
 ghost use Rattle.pml_syntax.specs.ReadingStatements as reading;
 
 use crate::ahead::skip_visibility;
-use crate::opener::Opener;
 use crate::starts::scalar;
 use pml_expression::cursor::Cursor;
 use pml_expression::expr::{boxed_expr, expr_behind};
@@ -14,6 +13,7 @@ use pml_expression::fault::ReadFault;
 use pml_expression::references::{index, reference};
 use pml_token::token::{Kind, Token};
 use pml_tree::tree::{Expr, Initial, Reference, Scalar, Sort, Variable};
+use promela_model::opener::Opener;
 use sqlite_items::{Boxed, Items};
 use std::alloc::Global;
 

@@ -8,7 +8,6 @@ mod boxes;
 mod counting;
 mod declaration;
 pub mod laws;
-mod opener;
 mod program;
 mod range;
 mod starts;

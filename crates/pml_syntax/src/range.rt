@@ -13,37 +13,9 @@ use pml_expression::fault::ReadFault;
 use pml_token::token::{Kind, Token};
 use pml_tree::tokens::Tokens;
 use pml_tree::tree::{Expr, Reference};
+use promela_model::range::{Bound, Counter, Range};
 use sqlite_items::Boxed;
 use std::alloc::Global;
-
-/// The variable, which stands in three statements.
-#[derive(Drop)]
-pub struct Counter<'a> {
-    /// The line of the word before it.
-    pub line: u32,
-    /// Where it is set.
-    pub set: Boxed<Reference<'a>>,
-    /// Where it is compared.
-    pub compared: Boxed<Reference<'a>>,
-    /// Where it is raised.
-    pub raised: Boxed<Reference<'a>>,
-    pub tokens: Tokens<'a>,
-}
-
-/// The first or the last value.
-#[derive(Drop)]
-pub struct Bound<'a> {
-    pub value: Boxed<Expr<'a>>,
-    pub tokens: Tokens<'a>,
-}
-
-/// What a `for` or a `select` counts over.
-#[derive(Drop)]
-pub struct Range<'a> {
-    pub counter: Counter<'a>,
-    pub first: Bound<'a>,
-    pub last: Bound<'a>,
-}
 
 /// The word, which is to be of this kind, and the parenthesis behind it. Answers the line of the word.
 #[tactic(auto, unfolding(crate::specs::ReadingStatements::opened, pml_expression::specs::Reading::and_then))]

@@ -1,7 +1,7 @@
 //! Units of a model.
 
 ghost use Rattle.std.specs.Prelude.{◌≡◌, IfOk, length, []};
-ghost use Rattle.pml_syntax.specs.Grammar as grammar;
+ghost use Rattle.promela_model.specs.GrammarOfActions as grammar;
 ghost use Rattle.pml_expression.specs.Reading as expressions;
 ghost use Rattle.pml_expression.specs.Reading.{Reads};
 ghost use Rattle.pml_syntax.specs.ReadingUnits as reading;
@@ -9,13 +9,13 @@ ghost use Rattle.pml_syntax.specs.ReadingUnits as reading;
 use crate::ahead::{skip_semicolons, skip_visibility};
 use crate::body::body;
 use crate::declaration::{declaration, opener_of};
-use crate::opener::Opener;
 use crate::starts::{Head, declares, head_of, parts_parameters};
 use pml_expression::cursor::Cursor;
 use pml_expression::fault::ReadFault;
 use pml_expression::references::index;
 use pml_token::token::{Kind, Token};
 use pml_tree::tree::{Item, Proctype, Scalar, Seq, Sort, Starts, Tree, Unit, Variable};
+use promela_model::opener::Opener;
 use sqlite_items::{Boxed, Items};
 use std::alloc::Global;
 

@@ -9,15 +9,14 @@ use Rattle.std.proofs.lemmas.Bool.{false≢true}
 use Rattle.std.proofs.lemmas.Bool.Decides.{nat_tests}
 use Rattle.std.proofs.lemmas.Slice.Eq.{bytes_eq-Decides}
 use Rattle.std.proofs.Math.Seq.{take-append_seam, drop-append_seam}
-use Rattle.pml_lex.specs.declared.piece.Piece.{Piece}
-use Rattle.pml_lex.specs.declared.piece.Piece.TheVariants.{Skipped, Token}
+use Rattle.promela_text.specs.declared.piece.Piece.{Piece}
+use Rattle.promela_text.specs.declared.piece.Piece.TheVariants.{Skipped, Token}
 use Rattle.pml_token.specs.declared.token.Kind.{Kind}
 use Rattle.pml_token.specs.declared.token.Kind.TheVariants as kind
 use Rattle.pml_token.specs.Word.{same_kind, Word}
-use Rattle.pml_lex.specs.Tables.{word_kind}
-use Rattle.pml_lex.specs.Pieces.{piece, is_blank, is_name_byte}
+use Rattle.promela_text.specs.Tables.{word_kind}
+use Rattle.promela_text.specs.Tokens.{piece, is_blank, is_name_byte, IsLongest, IsCut, fresh_from, is_fresh, is_line_feed, line_behind, word, words}
 use Rattle.pml_lex.specs.Scanning.{Found, next}
-use Rattle.pml_lex.specs.Division.{IsLongest, IsCut, fresh_from, is_fresh, is_line_feed, line_behind, word, words}
 use Rattle.pml_lex.proofs.Longest.{IsNext, IsNextAt}
 use Rattle.pml_lex.proofs.Scan.{next_is}
 use Rattle.pml_lex.proofs.Places.{token_place}

@@ -5,7 +5,7 @@ use Rattle.std.specs.Fmt.{decimal}
 use Rattle.std.proofs.lemmas.Bool.{false≢true}
 use Rattle.std.proofs.lemmas.Fmt.{decimal_by_steps}
 use lib.Chars.{codes}
-use Rattle.pml_lex.specs.Division.{is_line_feed}
+use Rattle.promela_text.specs.Tokens.{is_line_feed}
 use Rattle.prepare.specs.declared.marks.TheConstants.{MOST_LINE}
 use Rattle.prepare.specs.declared.changes.Head.{Head}
 use Rattle.prepare.specs.declared.changes.Head.TheVariants as head

@@ -1,7 +1,7 @@
 -- The loop over the pieces of a text, whose character constants become numbers.
 use Rattle.std.proofs.Common.{◌≡◌, ℕ, zero, suc, ◌-◌, ◌<◌, ◌≤◌, Bool, true, false, ◌||◌, List, [], ◌∷◌, ◌++◌, length, take, drop, sym, refl, ap, ◌∙◌, append_assoc, append-nil, take-append-drop, length-drop, arith}
 use Rattle.std.proofs.lemmas.Bool.{false≢true}
-use Rattle.pml_lex.specs.Division.{fresh_from}
+use Rattle.promela_text.specs.Tokens.{fresh_from}
 use Rattle.prepare.specs.Coding.{is_coded, front_length, written, coded_by, coded, has_character_by}
 
 -- out: what the pieces before `rest` gave

@@ -4,7 +4,7 @@ use Rattle.std.specs.Prelude.{◌==◌}
 use Rattle.std.specs.List.{filter, list_any, flat_map}
 use lib.Chars.{codes}
 use Rattle.std.proofs.lemmas.Bool.Decides.{nat_tests}
-use Rattle.pml_lex.specs.Division.{is_line_feed}
+use Rattle.promela_text.specs.Tokens.{is_line_feed}
 use Rattle.prepare.specs.Spelling.{begins_feed, is_break, unless_break, escapes, unbroken, joined}
 use Rattle.prepare.specs.Strings.{Line, IsLineEnd, AreStringLines, IsJoined}
 

@@ -7,7 +7,7 @@ use Rattle.std.proofs.lemmas.List.Sums.{sum_by-append}
 use Rattle.std.proofs.lemmas.List.Folds.{sum_by-replicate}
 use lib.Chars.{codes}
 use Rattle.profile.specs.Characters.{line_feed, zero_digit}
-use Rattle.pml_lex.specs.Division.{is_line_feed, fresh_from}
+use Rattle.promela_text.specs.Tokens.{is_line_feed, fresh_from}
 use Rattle.prepare.specs.declared.TheConstants.{FORM_FEED}
 use Rattle.prepare.specs.declared.place.Supply.{Supply}
 use Rattle.prepare.specs.declared.place.Supply.TheVariants as supply

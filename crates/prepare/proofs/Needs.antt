@@ -7,15 +7,13 @@ use lib.Chars.{codes}
 use Rattle.std.proofs.lemmas.Bool.{false≢true}
 use Rattle.std.proofs.lemmas.Slice.Eq.{bytes_eq-Decides}
 use Rattle.std.proofs.lemmas.List.Sums.{sum_by-append}
-use Rattle.pml_lex.specs.declared.piece.Piece.{Piece}
-use Rattle.pml_lex.specs.declared.piece.Piece.TheVariants.{Skipped, Token}
+use Rattle.promela_text.specs.declared.piece.Piece.{Piece}
+use Rattle.promela_text.specs.declared.piece.Piece.TheVariants.{Skipped, Token}
 use Rattle.pml_token.specs.declared.token.Kind.{Kind}
 use Rattle.pml_token.specs.declared.token.Kind.TheVariants.{LeftOut}
 use Rattle.pml_token.specs.Word.{same_kind, Word}
-use Rattle.pml_lex.specs.Tables.{reserved, word_kind}
-use Rattle.pml_lex.specs.Pieces.{piece}
-use Rattle.pml_lex.specs.Limits.{has_left_out}
-use Rattle.pml_lex.specs.Division.{IsCut, is_line_feed, fresh_from, is_fresh, line_behind, word, words}
+use Rattle.promela_text.specs.Tables.{reserved, word_kind}
+use Rattle.promela_text.specs.Tokens.{piece, has_left_out, IsCut, is_line_feed, fresh_from, is_fresh, line_behind, word, words}
 use Rattle.pml_lex.proofs.Places.{token_place}
 use Rattle.pml_lex.proofs.Steps.{fresh_from-append}
 use Rattle.pml_lex.proofs.Wholes.{Divides, from_whole}

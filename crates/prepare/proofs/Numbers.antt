@@ -4,7 +4,7 @@ use Rattle.std.specs.Prelude.{nat_lt, ◌⊎◌, ◌==◌}
 use Rattle.std.specs.List.{filter}
 use Rattle.std.proofs.lemmas.Bool.{false≢true}
 use Rattle.std.proofs.lemmas.Bool.Decides.{nat_tests}
-use Rattle.pml_lex.specs.Division.{fresh_from, is_line_feed}
+use Rattle.promela_text.specs.Tokens.{fresh_from, is_line_feed}
 use Rattle.prepare.specs.Character.{is_seen, ended, seen_and_ended, length_behind, character_length, number}
 use Rattle.prepare.specs.Coding.{is_coded, front_length, written, coded_by, coded}
 use Rattle.prepare.specs.OwnLines.{Part, olds, news, IsConstant, IsNumbered, AreNumbered, HasNumbers}

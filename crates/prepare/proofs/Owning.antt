@@ -7,8 +7,7 @@ use Rattle.std.proofs.lemmas.Bool.{false≢true}
 use Rattle.std.proofs.lemmas.Slice.Eq.{bytes_eq-Decides}
 use Rattle.std.proofs.Math.Seq.{take-append_seam, drop-append_seam}
 use Rattle.profile.specs.Characters.{line_feed}
-use Rattle.pml_lex.specs.Pieces.{is_in_line}
-use Rattle.pml_lex.specs.Division.{is_line_feed, line_behind}
+use Rattle.promela_text.specs.Tokens.{is_in_line, is_line_feed, line_behind}
 use Rattle.prepare.specs.Standing.{Standing}
 use Rattle.prepare.specs.Mark.{Mark}
 use Rattle.prepare.specs.Marks.{mark}

@@ -3,7 +3,7 @@ use Rattle.std.proofs.Common.{◌≡◌, ℕ, true, false, List, [], ◌∷◌, 
 use Rattle.std.specs.Fmt.{digits}
 use Rattle.std.specs.List.{flat_map}
 use lib.Chars.{codes}
-use Rattle.pml_lex.specs.Tables.{reserved, word_kind}
+use Rattle.promela_text.specs.Tables.{reserved, word_kind}
 use Rattle.pml_lex.specs.Scanning.{next, comment_end, quote_end}
 use Rattle.prepare.specs.Turns.{piece_at, string_end, turn, turns_by}
 use Rattle.prepare.specs.Spelling.{unbroken}

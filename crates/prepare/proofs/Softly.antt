@@ -5,16 +5,15 @@ use Rattle.std.specs.List.{prefix_len}
 use Rattle.std.specs.Option.{option_map}
 use Rattle.std.proofs.lemmas.Bool.{false≢true}
 use Rattle.std.proofs.lemmas.Bool.Decides.{nat_tests}
-use Rattle.pml_lex.specs.declared.piece.Class.{Class}
-use Rattle.pml_lex.specs.declared.piece.Class.TheVariants as class
-use Rattle.pml_lex.specs.declared.piece.Piece.{Piece}
-use Rattle.pml_lex.specs.declared.piece.Piece.TheVariants.{Skipped, Token}
+use Rattle.promela_text.specs.declared.piece.Class.{Class}
+use Rattle.promela_text.specs.declared.piece.Class.TheVariants as class
+use Rattle.promela_text.specs.declared.piece.Piece.{Piece}
+use Rattle.promela_text.specs.declared.piece.Piece.TheVariants.{Skipped, Token}
 use Rattle.pml_token.specs.declared.token.Kind.{Kind}
 use Rattle.pml_token.specs.declared.token.Kind.TheVariants as kind
-use Rattle.pml_lex.specs.Tables.{word_kind, sign_of_one, sign_of_two}
-use Rattle.pml_lex.specs.Pieces.{is_blank, is_letter, is_digit, is_name_byte, is_in_line, class_of}
+use Rattle.promela_text.specs.Tables.{word_kind, sign_of_one, sign_of_two}
+use Rattle.promela_text.specs.Tokens.{is_blank, is_letter, is_digit, is_name_byte, is_in_line, class_of, fresh_from, is_line_feed}
 use Rattle.pml_lex.specs.Scanning.{comment_end, quote_end, slash, sign, hash, long_or_short, next_by, next}
-use Rattle.pml_lex.specs.Division.{fresh_from, is_line_feed}
 use Rattle.pml_lex.proofs.Ends.{IsWithin, comment_within}
 use Rattle.prepare.proofs.Stays.{head, Stops, size, what, stops, comment_stays, end_of, next_stays}
 

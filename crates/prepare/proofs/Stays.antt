@@ -7,15 +7,15 @@ use Rattle.std.specs.Str.{bytes_eq}
 use Rattle.std.proofs.lemmas.Slice.Eq.{bytes_eq-Decides}
 use Rattle.std.proofs.lemmas.Bool.{false≢true}
 use Rattle.std.proofs.Math.Seq.{take-append_seam}
-use Rattle.pml_lex.specs.declared.piece.Class.{Class}
-use Rattle.pml_lex.specs.declared.piece.Class.TheVariants as class
-use Rattle.pml_lex.specs.declared.piece.Piece.{Piece}
-use Rattle.pml_lex.specs.declared.piece.Piece.TheVariants.{Skipped, Token}
+use Rattle.promela_text.specs.declared.piece.Class.{Class}
+use Rattle.promela_text.specs.declared.piece.Class.TheVariants as class
+use Rattle.promela_text.specs.declared.piece.Piece.{Piece}
+use Rattle.promela_text.specs.declared.piece.Piece.TheVariants.{Skipped, Token}
 use Rattle.pml_token.specs.declared.token.Kind.{Kind}
 use Rattle.pml_token.specs.declared.token.Kind.TheVariants as kind
 use Rattle.pml_token.specs.Word.{same_kind}
-use Rattle.pml_lex.specs.Tables.{word_kind, sign_of_one, sign_of_two}
-use Rattle.pml_lex.specs.Pieces.{is_digit, is_name_byte, is_in_line, is_line_mark, class_of}
+use Rattle.promela_text.specs.Tables.{word_kind, sign_of_one, sign_of_two}
+use Rattle.promela_text.specs.Tokens.{is_digit, is_name_byte, is_in_line, is_line_mark, class_of}
 use Rattle.pml_lex.specs.Scanning.{Found, comment_end, quote_end, slash, sign, hash, long_or_short, next_by, next}
 use Rattle.pml_lex.proofs.Ends.{IsWithin, comment_within, quote_within}
 

@@ -6,7 +6,7 @@ use lib.Chars.{codes}
 use Rattle.pml_token.specs.declared.token.Kind.{Kind}
 use Rattle.pml_token.specs.declared.token.Kind.TheVariants as kind
 use Rattle.pml_token.specs.Word.{same_kind}
-use Rattle.pml_lex.specs.Division.{is_line_feed}
+use Rattle.promela_text.specs.Tokens.{is_line_feed}
 use Rattle.prepare.specs.declared.marks.TheConstants.{MOST_LINE}
 use Rattle.prepare.specs.declared.changes.Head.{Head}
 use Rattle.prepare.specs.declared.changes.Head.TheVariants as head

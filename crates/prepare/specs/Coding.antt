@@ -1,7 +1,7 @@
 -- A text with numbers in place of its character constants.
 use Rattle.std.specs.Prelude.{ℕ, zero, suc, Bool, true, false, ◌||◌, nat_lt, if◌then◌else◌, List, [], ◌∷◌, ◌++◌, length, take, drop}
 use Rattle.std.specs.List.{filter}
-use Rattle.pml_lex.specs.Division.{fresh_from, is_line_feed}
+use Rattle.promela_text.specs.Tokens.{fresh_from, is_line_feed}
 use Rattle.prepare.specs.Character.{character_length, number}
 use Rattle.prepare.specs.Turns.{piece_at}
 

@@ -4,8 +4,7 @@ use Rattle.std.specs.List.{list_all, list_any, flat_map}
 use lib.Chars.{codes}
 use Rattle.pml_token.specs.declared.token.Kind.TheVariants.{LeftOut}
 use Rattle.pml_token.specs.Word.{same_kind, Word}
-use Rattle.pml_lex.specs.Division.{is_line_feed, IsCut}
-use Rattle.pml_lex.specs.Limits.{has_left_out}
+use Rattle.promela_text.specs.Tokens.{is_line_feed, IsCut, has_left_out}
 use Rattle.prepare.specs.declared.place.Supply.{Supply}
 use Rattle.prepare.specs.declared.place.Supply.TheVariants as as_supply
 use Rattle.prepare.specs.declared.turn.Form.{Form}

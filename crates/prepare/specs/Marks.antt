@@ -3,7 +3,7 @@ use Rattle.std.specs.Prelude.{ℕ, ◌+◌, ◌-◌, ◌*◌, Bool, not, ◌==�
 use Rattle.std.specs.List.{prefix_len, starts_with}
 use lib.Chars.{codes}
 use Rattle.profile.specs.Characters.{hash, quote, zero_digit}
-use Rattle.pml_lex.specs.Pieces.{is_digit, is_space}
+use Rattle.promela_text.specs.Tokens.{is_digit, is_space}
 use Rattle.prepare.specs.declared.marks.TheConstants.{MOST_LINE}
 use Rattle.prepare.specs.Mark.{Mark}
 

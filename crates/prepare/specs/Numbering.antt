@@ -4,8 +4,7 @@ use Rattle.std.specs.Str.{bytes_eq}
 use Rattle.std.specs.List.{prefix_len, starts_with}
 use Rattle.profile.specs.Characters.{line_feed}
 use Rattle.prepare.specs.declared.TheConstants.{FORM_FEED}
-use Rattle.pml_lex.specs.Pieces.{is_in_line}
-use Rattle.pml_lex.specs.Division.{is_line_feed}
+use Rattle.promela_text.specs.Tokens.{is_in_line, is_line_feed}
 use Rattle.prepare.specs.Mark.{Mark}
 use Rattle.prepare.specs.Marks.{mark}
 use Rattle.prepare.specs.Standing.{Standing}

@@ -2,7 +2,7 @@
 use Rattle.std.specs.Prelude.{◌≡◌, ◌<◌, ℕ, zero, suc, false, List, [], ◌∷◌, ◌++◌, length, drop, max, count_by, ◌⊎◌, Option, None, Some}
 use Rattle.std.specs.List.{filter, flat_map, list_any}
 use Rattle.profile.specs.Characters.{line_feed}
-use Rattle.pml_lex.specs.Division.{is_line_feed, line_behind}
+use Rattle.promela_text.specs.Tokens.{is_line_feed, line_behind}
 use Rattle.prepare.specs.Mark.{Mark}
 use Rattle.prepare.specs.Marks.{mark}
 use Rattle.prepare.specs.Numbering.{first_line, line_length, numbered, has_mark}

@@ -4,7 +4,7 @@ use Rattle.std.specs.List.{filter, flat_map}
 use lib.Chars.{codes}
 use Rattle.profile.specs.Characters.{line_feed, space, backslash}
 use Rattle.prepare.specs.declared.TheConstants.{FORM_FEED}
-use Rattle.pml_lex.specs.Division.{is_line_feed}
+use Rattle.promela_text.specs.Tokens.{is_line_feed}
 use Rattle.prepare.specs.declared.place.Supply.{Supply}
 use Rattle.prepare.specs.declared.place.Supply.TheVariants as as_supply
 use Rattle.prepare.specs.declared.turn.Form.{Form}

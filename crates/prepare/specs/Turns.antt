@@ -3,12 +3,12 @@ use Rattle.std.specs.Prelude.{ℕ, zero, suc, ◌+◌, Bool, true, false, ◌||�
 use Rattle.std.specs.List.{list_any}
 use Rattle.profile.specs.Characters.{line_feed, quote, slash, backslash}
 use Rattle.prepare.specs.declared.TheConstants.{FORM_FEED}
-use Rattle.pml_lex.specs.declared.piece.Piece.{Piece}
-use Rattle.pml_lex.specs.declared.piece.Piece.TheVariants.{Skipped, Token}
+use Rattle.promela_text.specs.declared.piece.Piece.{Piece}
+use Rattle.promela_text.specs.declared.piece.Piece.TheVariants.{Skipped, Token}
 use Rattle.pml_token.specs.declared.token.Kind.{Kind}
 use Rattle.pml_token.specs.declared.token.Kind.TheVariants as kind
 use Rattle.pml_lex.specs.Scanning.{Found, next}
-use Rattle.pml_lex.specs.Division.{fresh_from}
+use Rattle.promela_text.specs.Tokens.{fresh_from}
 use Rattle.prepare.specs.declared.roles.Role.{Role}
 use Rattle.prepare.specs.declared.roles.Role.TheVariants as as_role
 use Rattle.prepare.specs.declared.place.Last.{Last}

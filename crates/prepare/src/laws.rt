@@ -2,7 +2,7 @@
 
 ghost use Rattle.std.specs.Prelude.{◌≡◌, ◌++◌, ◌∷◌, [], List, ℕ, true, false, All};
 ghost use Rattle.pml_token.specs.Word.{Word};
-ghost use Rattle.pml_lex.specs.Division.{line_behind, IsCut};
+ghost use Rattle.promela_text.specs.Tokens.{line_behind, IsCut};
 ghost use Rattle.prepare.specs.declared.TheConstants.{MOST_BYTES, FORM_FEED};
 ghost use Rattle.prepare.specs.declared.marks.TheConstants.{MOST_LINE};
 ghost use Rattle.prepare.specs.declared.place.TheConstants.{MOST_DEPTH};

@@ -2,7 +2,7 @@
 
 ghost use Rattle.std.specs.Prelude.{◌≡◌, ◌≤◌, ◌<◌, ◌+◌, ◌-◌, ◌++◌, max, length, map, replicate, count_by, IfOk, OnOk};
 ghost use Rattle.profile.specs.Characters.{line_feed};
-ghost use Rattle.pml_lex.specs.Division.{is_line_feed};
+ghost use Rattle.promela_text.specs.Tokens.{is_line_feed};
 ghost use Rattle.prepare.specs.Marks.{mark};
 ghost use Rattle.prepare.specs.Numbering as numbering;
 

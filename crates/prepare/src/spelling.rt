@@ -2,7 +2,7 @@
 
 ghost use Rattle.std.specs.Prelude.{◌≡◌, ◌++◌, [], false, map, IfOk, OnOk};
 ghost use Rattle.std.specs.List.{filter};
-ghost use Rattle.pml_lex.specs.Division.{is_line_feed};
+ghost use Rattle.promela_text.specs.Tokens.{is_line_feed};
 ghost use Rattle.prepare.specs.Places.{written};
 ghost use Rattle.prepare.specs.Spelling as spelling;
 

@@ -1,14 +1,15 @@
 //! Divides a text into turns.
 
 ghost use Rattle.std.specs.Prelude.{◌≡◌, ◌≤◌, ◌<◌, ◌+◌, false, length, drop, IfOk, IfSome};
-ghost use Rattle.pml_lex.specs.Division.{fresh_from};
+ghost use Rattle.promela_text.specs.Tokens.{fresh_from};
 ghost use Rattle.prepare.specs.Turns as turns;
 
 use crate::place::Place;
 use crate::roles::role_of;
 use crate::turn::Turn;
-use pml_lex::piece::{Piece, is_blank, next};
+use pml_lex::piece::{is_blank, next};
 use pml_token::token::Kind;
+use promela_text::piece::Piece;
 use std::alloc::{AllocError, Global};
 
 /// Whether only blanks stand on a line behind a text, where `fresh` says so of what is before it.

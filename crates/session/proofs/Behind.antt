@@ -1,21 +1,19 @@
 -- What lies behind the choices that a run reads changes nothing of it.
 use Rattle.std.proofs.Common.{◌≡◌, ℕ, zero, suc, ◌+◌, ◌-◌, List, [], ◌∷◌, ◌++◌, length, Bool, true, false, eqb, ◌||◌, Option, Some, None, refl, ap}
 use Rattle.std.specs.Prelude.{slice_index_or, if◌then◌else◌}
-use Rattle.session.specs.declared.Options.{Options}
-use Rattle.session.specs.declared.End.{End}
-use Rattle.session.specs.declared.Cause.TheVariants as cause
-use Rattle.session.specs.declared.choice.Answer.{Answer}
-use Rattle.session.specs.declared.choice.Answer.TheVariants as answer
-use Rattle.session.specs.Events.{Event, Put, Told, Corrected, Stepped, asks, Part, preceded, followed}
-use Rattle.session.specs.Lines.{most_line_bytes, most_bad_lines, Line, line_within, lengthened, read_of, saw_end}
-use Rattle.session.specs.Machine.{Rules, Outcome, Goes, Faults}
-use Rattle.session.specs.Session.{one_line, next_line, one_reply, begins_second, stream_behind, ask, after_line, only, kept, question, choose, place_of, select, stopped, finished, stepped, answered, at_moves, story, step_text}
-use Rattle.session.specs.Texts.{prompt, bad_line, list_from}
+use Rattle.promela_session.specs.declared.ends.Options.{Options}
+use Rattle.promela_session.specs.declared.ends.End.{End}
+use Rattle.promela_session.specs.declared.ends.Cause.TheVariants as cause
+use Rattle.promela_session.specs.declared.choice.Answer.{Answer}
+use Rattle.promela_session.specs.declared.choice.Answer.TheVariants as answer
+use Rattle.promela_session.specs.Events.{Event, Put, Told, Corrected, Stepped, asks, Part, preceded, followed, prompt, bad_line, list_from}
+use Rattle.promela_session.specs.Lines.{most_line_bytes, most_bad_lines, Line, line_within, lengthened, read_of, saw_end}
+use Rattle.promela_session.specs.Session.{Rules, Outcome, Goes, Faults, one_line, next_line, one_reply, begins_second, stream_behind, ask, after_line, only, kept, question, choose, place_of, select, stopped, finished, stepped, answered, at_moves, story, step_text}
 use Rattle.session.specs.Laws.{is_asked_end, meets_the_end, with_more_left, WhatIsBehindChangesNothing}
-use Rattle.session.specs.declared.form.Stream.{Stream}
-use Rattle.session.specs.declared.form.Stream.TheVariants.{Unread, Known, Over}
-use Rattle.session.specs.declared.form.Version.{Version}
-use Rattle.session.specs.declared.form.Version.TheVariants.{First, Second}
+use Rattle.promela_session.specs.declared.form.Stream.{Stream}
+use Rattle.promela_session.specs.declared.form.Stream.TheVariants.{Unread, Known, Over}
+use Rattle.promela_session.specs.declared.form.Version.{Version}
+use Rattle.promela_session.specs.declared.form.Version.TheVariants.{First, Second}
 
 -- ---- the end is not met in what is part of events that do not meet it
 

@@ -7,24 +7,22 @@ use Rattle.std.proofs.lemmas.List.Sums.{sum_by-cons}
 use Rattle.std.proofs.KnownBytes.{Appends-nil}
 use Rattle.devices.specs.Holdings.{Holdings, Moved}
 use Rattle.devices.specs.Doing.{RecordsPart, holding}
-use Rattle.session.specs.declared.Options.{Options}
-use Rattle.session.specs.declared.End.{End}
-use Rattle.session.specs.declared.Cause.TheVariants as cause
-use Rattle.session.specs.declared.Broken.{Broken}
-use Rattle.session.specs.declared.Broken.TheVariants as broken
-use Rattle.session.specs.declared.choice.Answer.{Answer}
-use Rattle.session.specs.declared.choice.Answer.TheVariants as answer
-use Rattle.session.specs.declared.form.Stream.{Stream}
-use Rattle.session.specs.declared.form.Stream.TheVariants.{Unread}
-use Rattle.session.specs.declared.form.Version.TheVariants.{First, Second}
-use Rattle.session.specs.Convert.{IsConvertedBy, converted_event, converted_events, converted}
+use Rattle.promela_session.specs.declared.ends.Options.{Options}
+use Rattle.promela_session.specs.declared.ends.End.{End}
+use Rattle.promela_session.specs.declared.ends.Cause.TheVariants as cause
+use Rattle.promela_session.specs.declared.ends.Broken.{Broken}
+use Rattle.promela_session.specs.declared.ends.Broken.TheVariants as broken
+use Rattle.promela_session.specs.declared.choice.Answer.{Answer}
+use Rattle.promela_session.specs.declared.choice.Answer.TheVariants as answer
+use Rattle.promela_session.specs.declared.form.Stream.{Stream}
+use Rattle.promela_session.specs.declared.form.Stream.TheVariants.{Unread}
+use Rattle.promela_session.specs.declared.form.Version.TheVariants.{First, Second}
+use Rattle.promela_session.specs.Replay.{IsConvertedBy, converted_event, converted_events, converted}
 use Rattle.session.specs.Converting.{fits_line, told_event, told_events, noting, quiet, told, failure_converting}
-use Rattle.session.specs.Events.{Event, Put, Told, Asked, AskedEnd, Recorded, Stepped, IsAsk, output, front, recorded, steps_in, step_of, Part, preceded, followed}
-use Rattle.session.specs.Lines.{most_bad_lines, most_line_bytes}
-use Rattle.session.specs.Machine.{Rules, Outcome, Goes, Faults}
-use Rattle.session.specs.Session.{kept, question, choose, place_of, select, stopped, stepped, answered, at_moves, story, transcript, transcript_noting, step_text, end_of}
-use Rattle.session.specs.Stands.{is_readable, AreReadable, MovedBy, Begins, Does, Breaks, CountsBroken, Ends, IsBrokenOff}
-use Rattle.session.specs.Texts.{header_line, list_from, prompt}
+use Rattle.promela_session.specs.Events.{Event, Put, Told, Asked, AskedEnd, Recorded, Stepped, IsAsk, output, front, recorded, steps_in, step_of, Part, preceded, followed, header_line, list_from, prompt}
+use Rattle.promela_session.specs.Lines.{most_bad_lines, most_line_bytes}
+use Rattle.promela_session.specs.Session.{Rules, Outcome, Goes, Faults, kept, question, choose, place_of, select, stopped, stepped, answered, at_moves, story, transcript, transcript_noting, step_text, end_of}
+use Rattle.promela_session.specs.Devices.{is_readable, AreReadable, MovedBy, Begins, Does, Breaks, CountsBroken, Ends, IsBrokenOff}
 use Rattle.session.specs.Writes.{Runs}
 use Rattle.session.proofs.Parts.{records, record_breaks, Leads-does, Leads-breaks}
 use Rattle.session.proofs.Replay.{ask_silent, silent_told}

@@ -2,19 +2,18 @@
 use Rattle.std.proofs.Common.{◌≡◌, ℕ, zero, suc, ◌+◌, List, [], ◌∷◌, refl, sym, subst}
 use Rattle.std.specs.Prelude.{slice_index_or, ◌-◌}
 use Rattle.std.proofs.lemmas.List.Elements.{filter-append}
-use Rattle.session.specs.declared.Options.{Options}
-use Rattle.session.specs.declared.End.{End}
-use Rattle.session.specs.declared.Cause.TheVariants as cause
-use Rattle.session.specs.declared.choice.Answer.{Answer}
-use Rattle.session.specs.declared.choice.Answer.TheVariants as answer
-use Rattle.session.specs.Events.{Event, Put, Told, Stepped, Part, preceded, followed}
-use Rattle.session.specs.Machine.{Rules, Outcome, Goes, Faults}
-use Rattle.session.specs.Session.{select, stopped, stepped, answered, at_moves, story, transcript, step_text}
+use Rattle.promela_session.specs.declared.ends.Options.{Options}
+use Rattle.promela_session.specs.declared.ends.End.{End}
+use Rattle.promela_session.specs.declared.ends.Cause.TheVariants as cause
+use Rattle.promela_session.specs.declared.choice.Answer.{Answer}
+use Rattle.promela_session.specs.declared.choice.Answer.TheVariants as answer
+use Rattle.promela_session.specs.Events.{Event, Put, Told, Stepped, Part, preceded, followed}
+use Rattle.promela_session.specs.Session.{Rules, Outcome, Goes, Faults, select, stopped, stepped, answered, at_moves, story, transcript, step_text}
 use Rattle.session.specs.Laws.{is_no_piece, beside_output, IsSameCourse, ShowingChangesNothing}
-use Rattle.session.specs.declared.form.Stream.{Stream}
-use Rattle.session.specs.declared.form.Stream.TheVariants.{Unread}
-use Rattle.session.specs.declared.form.Version.{Version}
-use Rattle.session.specs.declared.form.Version.TheVariants.{First}
+use Rattle.promela_session.specs.declared.form.Stream.{Stream}
+use Rattle.promela_session.specs.declared.form.Stream.TheVariants.{Unread}
+use Rattle.promela_session.specs.declared.form.Version.{Version}
+use Rattle.promela_session.specs.declared.form.Version.TheVariants.{First}
 
 same : {T : Type 0} (part : Part T) → IsSameCourse part part
 same part = record { ends = refl; does = refl; leaves = refl }

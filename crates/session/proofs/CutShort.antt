@@ -3,27 +3,26 @@ use Rattle.std.proofs.Common.{◌≡◌, ℕ, zero, suc, ◌+◌, ◌-◌, ◌<�
 use Rattle.std.proofs.lemmas.Bool.{true≢false}
 use Rattle.std.specs.List.{Contains}
 use Rattle.diagnostics.specs.declared.refusal.Refusal.{Refusal}
-use Rattle.session.specs.declared.Options.{Options}
-use Rattle.session.specs.declared.End.{End}
-use Rattle.session.specs.declared.Cause.TheVariants as cause
-use Rattle.session.specs.declared.choice.Answer.{Answer}
-use Rattle.session.specs.declared.choice.Answer.TheVariants as answer
-use Rattle.session.specs.Events.{Event, Put, Told, AskedEnd, Recorded, Stepped, asks, front, recorded, Part, preceded, followed}
-use Rattle.session.specs.Lines.{most_line_bytes, most_bad_lines, IsPickUpTo, is_header}
-use Rattle.session.specs.Machine.{Rules, Outcome, Goes, Faults}
-use Rattle.session.specs.Session.{one_line, next_line, one_reply, ask, only, kept, choose, place_of, select, stopped, finished, stepped, answered, story, transcript, refused, end_of, step_text}
-use Rattle.session.specs.Texts.{record_line, placed_line, list_from, prompt}
-use Rattle.session.specs.Replay.{is_cut_short, IsSameBeginning, CanBeReplayed}
+use Rattle.promela_session.specs.declared.ends.Options.{Options}
+use Rattle.promela_session.specs.declared.ends.End.{End}
+use Rattle.promela_session.specs.declared.ends.Cause.TheVariants as cause
+use Rattle.promela_session.specs.declared.choice.Answer.{Answer}
+use Rattle.promela_session.specs.declared.choice.Answer.TheVariants as answer
+use Rattle.promela_session.specs.Events.{Event, Put, Told, AskedEnd, Recorded, Stepped, asks, front, recorded, Part, preceded, followed, record_line, placed_line, list_from, prompt}
+use Rattle.promela_session.specs.Lines.{most_line_bytes, most_bad_lines, is_header}
+use Rattle.session.specs.Answers.{IsPickUpTo}
+use Rattle.promela_session.specs.Session.{Rules, Outcome, Goes, Faults, one_line, next_line, one_reply, ask, only, kept, choose, place_of, select, stopped, finished, stepped, answered, story, transcript, refused, end_of, step_text}
+use Rattle.promela_session.specs.Replay.{is_cut_short, IsSameBeginning, CanBeReplayed}
 use Rattle.session.proofs.LineReading.{line_end}
 use Rattle.session.proofs.Parts.{front-append, recorded-append, front-asks, recorded-asks}
 use Rattle.session.proofs.Written.{IsShort, ask_short}
 use Rattle.session.proofs.Records.{IsPlain}
 use Rattle.session.proofs.Replay.{picked_is_there, Silent, chosen, recorded_chosen, picked_again, ask_silent, ask_range, story_again, same_run}
 use Rattle.session.proofs.Turns.{story_none, story_limit, story_some, answer_part}
-use Rattle.session.specs.declared.form.Stream.{Stream}
-use Rattle.session.specs.declared.form.Stream.TheVariants.{Unread, Known, Over}
-use Rattle.session.specs.declared.form.Version.{Version}
-use Rattle.session.specs.declared.form.Version.TheVariants.{First}
+use Rattle.promela_session.specs.declared.form.Stream.{Stream}
+use Rattle.promela_session.specs.declared.form.Stream.TheVariants.{Unread, Known, Over}
+use Rattle.promela_session.specs.declared.form.Version.{Version}
+use Rattle.promela_session.specs.declared.form.Version.TheVariants.{First}
 
 -- Where the choices cut this part short, it begins so when it is played again.
 abbrev pub BeginsAgain : (Stream → List ℕ → Part End) → Type 0

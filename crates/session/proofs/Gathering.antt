@@ -5,22 +5,21 @@ use Rattle.std.proofs.lemmas.List.{length-append, take-append-le}
 use Rattle.std.proofs.lemmas.List.Sums.{sum_by-cons}
 use Rattle.std.proofs.Math.Seq.{take-append-add, drop-append_seam}
 use Rattle.devices.specs.Holdings.{Holdings, FailureCounts, Moved, OutFails}
-use Rattle.session.specs.declared.End.{End}
-use Rattle.session.specs.declared.Broken.{Broken}
-use Rattle.session.specs.declared.Broken.TheVariants as broken
-use Rattle.session.specs.Events.{Event, Put, Told, Stepped, output, front, recorded, steps_in, step_of, Part, preceded}
-use Rattle.session.specs.Stands.{AreReadable, MovedBy, Breaks, CountsBroken}
+use Rattle.promela_session.specs.declared.ends.End.{End}
+use Rattle.promela_session.specs.declared.ends.Broken.{Broken}
+use Rattle.promela_session.specs.declared.ends.Broken.TheVariants as broken
+use Rattle.promela_session.specs.Events.{Event, Put, Told, Stepped, output, front, recorded, steps_in, step_of, Part, preceded}
+use Rattle.promela_session.specs.Devices.{AreReadable, MovedBy, Breaks, CountsBroken}
 use Rattle.session.specs.Writes.{Leads, Continues, story_after}
 use Rattle.session.specs.declared.course.Course.{Course}
 use Rattle.session.specs.Gathered.{told_steps, begins_from, later, AddsText, CutsTexts, AreGathered, behind, Waits, BreaksBare, Halts, GoesFurther, Advances, TurnsOn}
-use Rattle.session.specs.declared.Options.{Options}
-use Rattle.session.specs.Machine.{Rules, Goes}
-use Rattle.session.specs.Session.{stepped, step_text, story, select, answered}
+use Rattle.promela_session.specs.declared.ends.Options.{Options}
+use Rattle.promela_session.specs.Session.{Rules, Goes, stepped, step_text, story, select, answered}
 use Rattle.session.proofs.Turns.{step_part, step_leads}
 use Rattle.session.proofs.Moving.{Moved-nil, Moved-still}
 use Rattle.session.proofs.Parts.{Leads-nil, preceded-preceded, Leads-same, Leads-trans, Leads-does, Leads-breaks, output-append}
-use Rattle.session.specs.declared.form.Stream.{Stream}
-use Rattle.session.specs.declared.form.Version.{Version}
+use Rattle.promela_session.specs.declared.form.Stream.{Stream}
+use Rattle.promela_session.specs.declared.form.Version.{Version}
 
 -- ---- what is gathered, as events
 

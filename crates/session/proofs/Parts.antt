@@ -7,16 +7,16 @@ use Rattle.std.proofs.lemmas.List.{length-take}
 use Rattle.std.proofs.lemmas.Bool.{le-leb}
 use Rattle.devices.specs.Holdings.{Holdings, Moved}
 use Rattle.devices.specs.Doing.{WritesPart, RecordsPart}
-use Rattle.session.specs.declared.Broken.{Broken}
-use Rattle.session.specs.declared.Broken.TheVariants as broken
-use Rattle.session.specs.Events.{Event, Role, Put, Recorded, asks, output, front, recorded, steps_in, output_of, bytes_of, record_of, step_of, Part, preceded, followed}
-use Rattle.session.specs.Lines.{most_line_bytes}
-use Rattle.session.specs.Stands.{is_readable, AreReadable, MovedBy, Begins, Does, Breaks}
+use Rattle.promela_session.specs.declared.ends.Broken.{Broken}
+use Rattle.promela_session.specs.declared.ends.Broken.TheVariants as broken
+use Rattle.promela_session.specs.Events.{Event, Role, Put, Recorded, asks, output, front, recorded, steps_in, output_of, bytes_of, record_of, step_of, Part, preceded, followed}
+use Rattle.promela_session.specs.Lines.{most_line_bytes}
+use Rattle.promela_session.specs.Devices.{is_readable, AreReadable, MovedBy, Begins, Does, Breaks}
 use Rattle.session.specs.Writes.{Leads}
-use Rattle.session.specs.Session.{only}
+use Rattle.promela_session.specs.Session.{only}
 use Rattle.session.specs.Reads.{AsksPart, AsksBroken}
 use Rattle.session.proofs.Moving.{Moved-nil, Moved-trans, Moved-piece, Moved-line}
-use Rattle.session.specs.declared.form.Stream.{Stream}
+use Rattle.promela_session.specs.declared.form.Stream.{Stream}
 
 -- ---- what the devices see
 

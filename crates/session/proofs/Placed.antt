@@ -5,14 +5,13 @@ use Rattle.std.proofs.lemmas.Bool.Decides.{nat_tests}
 use Rattle.std.proofs.lemmas.List.Folds.{list_all-append}
 use Rattle.std.specs.List.{list_all}
 use Rattle.std.specs.Prelude.{not}
-use Rattle.session.specs.declared.line.LineEnd.TheVariants.{Whole}
-use Rattle.session.specs.declared.choice.Answer.TheVariants as answer
-use Rattle.session.specs.declared.form.Stream.TheVariants.{Unread, Known}
-use Rattle.session.specs.declared.form.Version.TheVariants.{Second}
-use Rattle.session.specs.Events.{asks, preceded}
-use Rattle.session.specs.Lines.{most_line_bytes, line_within, lengthened, is_blank, is_digit, is_gap, front_trimmed, end_trimmed, trimmed, is_quit, is_header, first_word, behind_word, gap_trimmed, number_up_to, writes, placed_answer, placed_reply}
-use Rattle.session.specs.Session.{one_line, next_line, one_reply, ask}
-use Rattle.session.specs.Texts.{all_digits, placed_line, header, header_line}
+use Rattle.promela_session.specs.declared.line.LineEnd.TheVariants.{Whole}
+use Rattle.promela_session.specs.declared.choice.Answer.TheVariants as answer
+use Rattle.promela_session.specs.declared.form.Stream.TheVariants.{Unread, Known}
+use Rattle.promela_session.specs.declared.form.Version.TheVariants.{Second}
+use Rattle.promela_session.specs.Events.{asks, preceded, all_digits, placed_line, header, header_line}
+use Rattle.promela_session.specs.Lines.{most_line_bytes, line_within, lengthened, is_blank, is_digit, is_gap, front_trimmed, end_trimmed, trimmed, is_quit, is_header, first_word, behind_word, gap_trimmed, number_up_to, writes, placed_answer, placed_reply}
+use Rattle.promela_session.specs.Session.{one_line, next_line, one_reply, ask}
 use Rattle.session.proofs.LineReading.{line_feed, line_byte}
 use Rattle.session.proofs.Written.{all_are_digits, number_is, by_digits}
 

@@ -7,23 +7,22 @@ use Rattle.std.proofs.lemmas.List.Folds.{list_all-append, list_any-append}
 use Rattle.std.specs.List.{list_all, list_any}
 use Rattle.std.specs.Prelude.{filter, if◌then◌else◌}
 use Rattle.diagnostics.specs.declared.refusal.Refusal.{Refusal}
-use Rattle.session.specs.declared.Options.{Options}
-use Rattle.session.specs.declared.End.{End}
-use Rattle.session.specs.declared.Cause.TheVariants as cause
-use Rattle.session.specs.declared.choice.Answer.{Answer}
-use Rattle.session.specs.declared.choice.Answer.TheVariants as answer
-use Rattle.session.specs.declared.form.Stream.{Stream}
-use Rattle.session.specs.declared.form.Stream.TheVariants.{Unread, Known, Over}
-use Rattle.session.specs.declared.form.Version.{Version}
-use Rattle.session.specs.declared.form.Version.TheVariants.{First, Second}
-use Rattle.session.specs.Convert.{converted_event, converted_events, placed_lines, second, is_no_ask, is_ask, IsSameReading, StandsForRecord}
+use Rattle.promela_session.specs.declared.ends.Options.{Options}
+use Rattle.promela_session.specs.declared.ends.End.{End}
+use Rattle.promela_session.specs.declared.ends.Cause.TheVariants as cause
+use Rattle.promela_session.specs.declared.choice.Answer.{Answer}
+use Rattle.promela_session.specs.declared.choice.Answer.TheVariants as answer
+use Rattle.promela_session.specs.declared.form.Stream.{Stream}
+use Rattle.promela_session.specs.declared.form.Stream.TheVariants.{Unread, Known, Over}
+use Rattle.promela_session.specs.declared.form.Version.{Version}
+use Rattle.promela_session.specs.declared.form.Version.TheVariants.{First, Second}
+use Rattle.promela_session.specs.Replay.{converted_event, converted_events, placed_lines, second, is_no_ask, is_ask, IsSameReading, StandsForRecord}
 use Rattle.session.specs.Converting.{fits_line, CanBeConverted}
-use Rattle.session.specs.Events.{Event, Put, Told, Asked, AskedEnd, Recorded, Stepped, IsAsk, asks, output, front, recorded, Part, preceded, followed}
-use Rattle.session.specs.Lines.{most_line_bytes, most_bad_lines, line_within, read_of, saw_end, IsPickUpTo}
-use Rattle.session.specs.Machine.{Rules, Outcome, Goes, Faults}
+use Rattle.promela_session.specs.Events.{Event, Put, Told, Asked, AskedEnd, Recorded, Stepped, IsAsk, asks, output, front, recorded, Part, preceded, followed, record_line, placed_line, header_line, list_from, prompt}
+use Rattle.promela_session.specs.Lines.{most_line_bytes, most_bad_lines, line_within, read_of, saw_end}
+use Rattle.session.specs.Answers.{IsPickUpTo}
+use Rattle.promela_session.specs.Session.{Rules, Outcome, Goes, Faults, one_line, next_line, one_reply, begins_second, stream_behind, ask, only, kept, choose, place_of, select, stopped, finished, stepped, answered, story, transcript, step_text, refused}
 use Rattle.session.specs.Reads.{line_asks}
-use Rattle.session.specs.Session.{one_line, next_line, one_reply, begins_second, stream_behind, ask, only, kept, choose, place_of, select, stopped, finished, stepped, answered, story, transcript, step_text, refused}
-use Rattle.session.specs.Texts.{record_line, placed_line, header_line, list_from, prompt}
 use Rattle.session.proofs.LineReading.{AsksFirst, asks_first}
 use Rattle.session.proofs.Parts.{front-append, output-append, recorded-append, front-asks}
 use Rattle.session.proofs.Written.{IsShort, ask_short}

@@ -1,17 +1,16 @@
 -- The turns of a question.
 use Rattle.std.proofs.Common.{◌≡◌, ℕ, zero, suc, ◌-◌, List, [], ◌∷◌, Some, None, refl, sub-one}
-use Rattle.session.specs.declared.Broken.TheVariants as broken
-use Rattle.session.specs.declared.choice.Answer.{Answer}
-use Rattle.session.specs.declared.choice.Answer.TheVariants as answer
-use Rattle.session.specs.Events.{Put, Corrected, Part, preceded, followed}
-use Rattle.session.specs.Texts.{prompt, bad_line}
-use Rattle.session.specs.Session.{one_reply, ask, after_line, only}
+use Rattle.promela_session.specs.declared.ends.Broken.TheVariants as broken
+use Rattle.promela_session.specs.declared.choice.Answer.{Answer}
+use Rattle.promela_session.specs.declared.choice.Answer.TheVariants as answer
+use Rattle.promela_session.specs.Events.{Put, Corrected, Part, preceded, followed, prompt, bad_line}
+use Rattle.promela_session.specs.Session.{one_reply, ask, after_line, only}
 use Rattle.devices.specs.Holdings.{Holdings}
-use Rattle.session.specs.Stands.{Does, Breaks}
+use Rattle.promela_session.specs.Devices.{Does, Breaks}
 use Rattle.session.specs.Writes.{Leads}
 use Rattle.session.specs.Reads.{AsksPart, AsksBroken}
 use Rattle.session.proofs.Parts.{Leads-trans, Leads-does, Leads-breaks, Does-then, Breaks-then, asks_does, ask_breaks, only_does}
-use Rattle.session.specs.declared.form.Stream.{Stream}
+use Rattle.promela_session.specs.declared.form.Stream.{Stream}
 
 -- what follows the answer to a bad line
 pub after_bad : ℕ → (ℕ → ℕ × ℕ) → ℕ → Stream → List ℕ → Part Answer

@@ -3,17 +3,16 @@ use Rattle.std.proofs.Common.{◌≡◌, ℕ, zero, suc, ◌+◌, ◌<◌, ◌�
 use Rattle.std.proofs.lemmas.Bool.Decides.{nat_tests}
 use Rattle.std.proofs.lemmas.Bool.{true≢false}
 use Rattle.std.specs.List.{list_all}
-use Rattle.session.specs.declared.line.LineEnd.TheVariants.{Whole}
-use Rattle.session.specs.declared.choice.Answer.TheVariants as answer
-use Rattle.session.specs.Events.{asks}
-use Rattle.session.specs.declared.form.Stream.{Stream}
-use Rattle.session.specs.declared.form.Stream.TheVariants.{Unread, Known, Over}
-use Rattle.session.specs.declared.form.Version.TheVariants.{First}
-use Rattle.session.specs.Lines.{most_line_bytes, line_within, lengthened, is_blank, is_digit, front_trimmed, end_trimmed, trimmed, number_up_to, is_quit, is_header, picked, reply_of}
-use Rattle.session.specs.Session.{one_line, next_line, one_reply, ask}
+use Rattle.promela_session.specs.declared.line.LineEnd.TheVariants.{Whole}
+use Rattle.promela_session.specs.declared.choice.Answer.TheVariants as answer
+use Rattle.promela_session.specs.Events.{asks, record_line, all_digits, header}
+use Rattle.promela_session.specs.declared.form.Stream.{Stream}
+use Rattle.promela_session.specs.declared.form.Stream.TheVariants.{Unread, Known, Over}
+use Rattle.promela_session.specs.declared.form.Version.TheVariants.{First}
+use Rattle.promela_session.specs.Lines.{most_line_bytes, line_within, lengthened, is_blank, is_digit, front_trimmed, end_trimmed, trimmed, number_up_to, is_quit, is_header, picked, reply_of}
+use Rattle.promela_session.specs.Session.{one_line, next_line, one_reply, ask}
 use Rattle.std.specs.Prelude.{⊤}
 use Rattle.std.specs.Str.{bytes_eq}
-use Rattle.session.specs.Texts.{record_line, all_digits, header}
 use Rattle.session.proofs.LineReading.{line_feed, line_byte}
 use Rattle.session.proofs.Written.{all_are_digits, number_is}
 

@@ -4,29 +4,27 @@ use Rattle.std.proofs.lemmas.Grind.{flat_map-append}
 use Rattle.std.proofs.lemmas.Bool.{true≢false}
 use Rattle.std.proofs.lemmas.List.Elements.{Contains-get_or}
 use Rattle.std.specs.List.{list_all, flat_map, Contains}
-use Rattle.session.specs.declared.Options.{Options}
-use Rattle.session.specs.declared.End.{End}
-use Rattle.session.specs.declared.Cause.TheVariants as cause
-use Rattle.session.specs.declared.line.LineEnd.{LineEnd}
-use Rattle.session.specs.declared.line.LineEnd.TheVariants.{Whole, Last, TooLong}
-use Rattle.session.specs.declared.choice.Answer.{Answer}
-use Rattle.session.specs.declared.choice.Answer.TheVariants as answer
-use Rattle.session.specs.Events.{Event, Put, Told, Corrected, Asked, AskedEnd, Recorded, Stepped, asks, output, front, recorded, Part, preceded, followed}
-use Rattle.session.specs.Lines.{most_line_bytes, most_bad_lines, Line, line_within, read_of, saw_end, reply_of, reply_in, number_of, number_up_to, is_digit, is_quit, trimmed, first_word, behind_word, writes, picked, picked_at, placed_answer, placed_reply, IsPickUpTo}
-use Rattle.session.specs.Machine.{Rules, Outcome, Goes, Faults}
-use Rattle.session.specs.Session.{one_line, next_line, one_reply, begins_second, stream_behind, reply_at, ask, after_line, only, kept, choose, place_of, select, stopped, finished, stepped, answered, story, step_text}
-use Rattle.session.specs.Texts.{record_line, placed_line, list_from, prompt}
-use Rattle.session.specs.Convert.{converted_events, placed_lines}
+use Rattle.promela_session.specs.declared.ends.Options.{Options}
+use Rattle.promela_session.specs.declared.ends.End.{End}
+use Rattle.promela_session.specs.declared.ends.Cause.TheVariants as cause
+use Rattle.promela_session.specs.declared.line.LineEnd.{LineEnd}
+use Rattle.promela_session.specs.declared.line.LineEnd.TheVariants.{Whole, Last, TooLong}
+use Rattle.promela_session.specs.declared.choice.Answer.{Answer}
+use Rattle.promela_session.specs.declared.choice.Answer.TheVariants as answer
+use Rattle.promela_session.specs.Events.{Event, Put, Told, Corrected, Asked, AskedEnd, Recorded, Stepped, asks, output, front, recorded, Part, preceded, followed, record_line, placed_line, list_from, prompt}
+use Rattle.promela_session.specs.Lines.{most_line_bytes, most_bad_lines, Line, line_within, read_of, saw_end, reply_of, reply_in, number_of, number_up_to, is_digit, is_quit, trimmed, first_word, behind_word, writes, picked, picked_at, placed_answer, placed_reply}
+use Rattle.session.specs.Answers.{IsPickUpTo}
+use Rattle.promela_session.specs.Session.{Rules, Outcome, Goes, Faults, one_line, next_line, one_reply, begins_second, stream_behind, reply_at, ask, after_line, only, kept, choose, place_of, select, stopped, finished, stepped, answered, story, step_text}
+use Rattle.promela_session.specs.Replay.{converted_events, placed_lines, without_corrections, is_complete, IsSameRun}
 use Rattle.session.specs.Converting.{told_events}
-use Rattle.session.specs.Replay.{without_corrections, is_complete, IsSameRun}
 use Rattle.session.proofs.Parts.{front-append, output-append, recorded-append, front-asks, output-asks, recorded-asks}
 use Rattle.session.proofs.Records.{IsPlain, record_asked}
 use Rattle.session.proofs.Written.{IsShort, ask_short}
 use Rattle.session.proofs.Turns.{story_none, story_limit, story_some, answer_part}
-use Rattle.session.specs.declared.form.Stream.{Stream}
-use Rattle.session.specs.declared.form.Stream.TheVariants.{Unread, Known, Over}
-use Rattle.session.specs.declared.form.Version.{Version}
-use Rattle.session.specs.declared.form.Version.TheVariants.{First, Second}
+use Rattle.promela_session.specs.declared.form.Stream.{Stream}
+use Rattle.promela_session.specs.declared.form.Stream.TheVariants.{Unread, Known, Over}
+use Rattle.promela_session.specs.declared.form.Version.{Version}
+use Rattle.promela_session.specs.declared.form.Version.TheVariants.{First, Second}
 
 -- ---- what becomes of events
 

@@ -2,13 +2,11 @@
 use Rattle.std.proofs.Common.{◌≡◌, ℕ, ◌+◌, List, [], ◌∷◌, take, Result, refl, sym, add-zero}
 use Rattle.devices.specs.Holdings.{Holdings, Moved}
 use Rattle.diagnostics.specs.declared.fault.Fault.{Fault}
-use Rattle.session.specs.declared.Options.{Options}
-use Rattle.session.specs.declared.Broken.{Broken}
-use Rattle.session.specs.declared.Broken.TheVariants as broken
-use Rattle.session.specs.Events.{Put, Told, Stepped}
-use Rattle.session.specs.Machine.{Rules, Goes, Faults}
-use Rattle.session.specs.Session.{stepped, step_text}
-use Rattle.session.specs.Texts.{fault_line}
+use Rattle.promela_session.specs.declared.ends.Options.{Options}
+use Rattle.promela_session.specs.declared.ends.Broken.{Broken}
+use Rattle.promela_session.specs.declared.ends.Broken.TheVariants as broken
+use Rattle.promela_session.specs.Events.{Put, Told, Stepped, fault_line}
+use Rattle.promela_session.specs.Session.{Rules, Goes, Faults, stepped, step_text}
 use Rattle.session.specs.Writes.{Writes, WriteBreaks, StepBreaks}
 use Rattle.session.proofs.Moving.{Moved-piece}
 

@@ -5,10 +5,10 @@ use Rattle.std.proofs.lemmas.List.{length-append, take-append-le}
 use Rattle.std.proofs.Math.Seq.{take-append-add}
 use Rattle.devices.specs.Holdings.{Holdings, Moved}
 use Rattle.devices.specs.Doing.{WritesPart}
-use Rattle.session.specs.declared.Broken.{Broken}
-use Rattle.session.specs.declared.Broken.TheVariants as broken
-use Rattle.session.specs.Events.{Role, Put, Part, preceded}
-use Rattle.session.specs.Stands.{Breaks}
+use Rattle.promela_session.specs.declared.ends.Broken.{Broken}
+use Rattle.promela_session.specs.declared.ends.Broken.TheVariants as broken
+use Rattle.promela_session.specs.Events.{Role, Put, Part, preceded}
+use Rattle.promela_session.specs.Devices.{Breaks}
 use Rattle.session.specs.Writes.{Leads, WriteBreaks}
 use Rattle.session.proofs.Parts.{MovedBy-put, memory_breaks}
 

@@ -2,24 +2,23 @@
 use Rattle.std.proofs.Common.{◌≡◌, ℕ, zero, suc, ◌+◌, ◌-◌, ◌<◌, List, [], ◌∷◌, length, get_or, Option, Some, None, Result, Ok, Err, IfOk, IfNone, refl, sym, subst, ◌∙◌, add-zero, arith}
 use Rattle.devices.specs.Holdings.{Holdings, Moved}
 use Rattle.diagnostics.specs.declared.fault.Fault.{Fault}
-use Rattle.session.specs.declared.Options.{Options}
+use Rattle.promela_session.specs.declared.ends.Options.{Options}
 use Rattle.session.specs.declared.course.Course.{Course}
-use Rattle.session.specs.declared.End.{End}
-use Rattle.session.specs.declared.Cause.TheVariants as cause
-use Rattle.session.specs.declared.Broken.{Broken}
-use Rattle.session.specs.declared.Broken.TheVariants as broken
-use Rattle.session.specs.declared.choice.Answer.{Answer}
-use Rattle.session.specs.declared.choice.Answer.TheVariants as answer
-use Rattle.session.specs.Events.{Role, Put, Told, Stepped, Part, preceded, followed}
-use Rattle.session.specs.Machine.{Rules, Goes, Faults}
-use Rattle.session.specs.Session.{only, kept, choose, place_of, select, stopped, finished, end_of, cause_of, stepped, step_text, answered, story}
-use Rattle.session.specs.Stands.{Does, Breaks}
+use Rattle.promela_session.specs.declared.ends.End.{End}
+use Rattle.promela_session.specs.declared.ends.Cause.TheVariants as cause
+use Rattle.promela_session.specs.declared.ends.Broken.{Broken}
+use Rattle.promela_session.specs.declared.ends.Broken.TheVariants as broken
+use Rattle.promela_session.specs.declared.choice.Answer.{Answer}
+use Rattle.promela_session.specs.declared.choice.Answer.TheVariants as answer
+use Rattle.promela_session.specs.Events.{Role, Put, Told, Stepped, Part, preceded, followed, noted, placed_line, fault_line}
+use Rattle.promela_session.specs.Session.{Rules, Goes, Faults, only, kept, choose, place_of, select, stopped, finished, end_of, stepped, step_text, answered, story}
+use Rattle.session.specs.Answers.{cause_of}
+use Rattle.promela_session.specs.Devices.{Does, Breaks}
 use Rattle.session.specs.Writes.{Leads, PlaysQuestion, WriteBreaks, RecordBreaks, kept_text, StepBreaks, Continues, Acts, Turns, acted, story_after}
-use Rattle.session.specs.Texts.{noted, placed_line, fault_line}
 use Rattle.session.proofs.Moving.{Moved-piece}
 use Rattle.session.proofs.Parts.{IsReadable, Leads-nil, Leads-same, Leads-trans, Leads-does, Leads-breaks, puts, put_breaks, records, record_breaks, memory_breaks, only_moves, only_does}
-use Rattle.session.specs.declared.form.Stream.{Stream}
-use Rattle.session.specs.declared.form.Version.{Version}
+use Rattle.promela_session.specs.declared.form.Stream.{Stream}
+use Rattle.promela_session.specs.declared.form.Version.{Version}
 
 -- ---- pieces and records
 

@@ -1,10 +1,9 @@
 -- What a line of the second version says.
 use Rattle.std.proofs.Common.{◌≡◌, ℕ, ◌-◌, ◌<◌, ◌≤◌, List, length, get_or, Bool, true, false, cond, ◌&&◌, Some, None, refl, sym, ap, ◌∙◌, arith}
 use Rattle.std.proofs.lemmas.Option.{slice_get_read}
-use Rattle.session.specs.declared.choice.Answer.TheVariants as answer
-use Rattle.session.specs.Lines.{is_quit, trimmed, first_word, behind_word, number_up_to, writes, placed_answer, placed_reply}
-use Rattle.session.specs.Machine.{Rules}
-use Rattle.session.specs.Session.{known_origin, place_of}
+use Rattle.promela_session.specs.declared.choice.Answer.TheVariants as answer
+use Rattle.promela_session.specs.Lines.{is_quit, trimmed, first_word, behind_word, number_up_to, writes, placed_answer, placed_reply}
+use Rattle.promela_session.specs.Session.{Rules, known_origin, place_of}
 
 -- ---- what a line says
 

@@ -6,18 +6,17 @@ use Rattle.std.proofs.lemmas.Fmt.{decimal_by_steps}
 use Rattle.std.specs.Fmt.{decimal}
 use Rattle.std.specs.List.{list_all}
 use Rattle.std.specs.Prelude.{⊤, if◌then◌else◌, codes}
-use Rattle.session.specs.declared.line.LineEnd.{LineEnd}
-use Rattle.session.specs.declared.line.LineEnd.TheVariants.{Whole, Last, TooLong}
-use Rattle.session.specs.declared.choice.Answer.{Answer}
-use Rattle.session.specs.declared.choice.Answer.TheVariants as answer
-use Rattle.session.specs.Lines.{most_line_bytes, Line, line_within, lengthened, is_blank, is_digit, number_of, number_up_to, is_quit, is_gap, front_trimmed, end_trimmed, trimmed, first_word, behind_word, writes, picked, picked_at, placed_answer, placed_reply, reply_of, reply_in, read_of, saw_end}
-use Rattle.session.specs.Events.{asks, Part, preceded}
-use Rattle.session.specs.Session.{one_line, next_line, one_reply, begins_second, stream_behind, reply_at, ask, after_line, only}
-use Rattle.session.specs.Texts.{digits_of, all_digits, record_line, placed_line}
-use Rattle.session.specs.declared.form.Stream.{Stream}
-use Rattle.session.specs.declared.form.Stream.TheVariants.{Unread, Known, Over}
-use Rattle.session.specs.declared.form.Version.{Version}
-use Rattle.session.specs.declared.form.Version.TheVariants.{First, Second}
+use Rattle.promela_session.specs.declared.line.LineEnd.{LineEnd}
+use Rattle.promela_session.specs.declared.line.LineEnd.TheVariants.{Whole, Last, TooLong}
+use Rattle.promela_session.specs.declared.choice.Answer.{Answer}
+use Rattle.promela_session.specs.declared.choice.Answer.TheVariants as answer
+use Rattle.promela_session.specs.Lines.{most_line_bytes, Line, line_within, lengthened, is_blank, is_digit, number_of, number_up_to, is_quit, is_gap, front_trimmed, end_trimmed, trimmed, first_word, behind_word, writes, picked, picked_at, placed_answer, placed_reply, reply_of, reply_in, read_of, saw_end}
+use Rattle.promela_session.specs.Events.{asks, Part, preceded, digits_of, all_digits, record_line, placed_line}
+use Rattle.promela_session.specs.Session.{one_line, next_line, one_reply, begins_second, stream_behind, reply_at, ask, after_line, only}
+use Rattle.promela_session.specs.declared.form.Stream.{Stream}
+use Rattle.promela_session.specs.declared.form.Stream.TheVariants.{Unread, Known, Over}
+use Rattle.promela_session.specs.declared.form.Version.{Version}
+use Rattle.promela_session.specs.declared.form.Version.TheVariants.{First, Second}
 
 -- ---- one digit, and one more
 

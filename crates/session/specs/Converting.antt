@@ -1,19 +1,17 @@
 -- What a conversion tells, and what its parts do.
 use Rattle.std.specs.Prelude.{◌≡◌, ◌≢◌, ℕ, ◌+◌, List, [], ◌∷◌, length, nat_le, Bool, true, false}
 use Rattle.std.specs.List.{flat_map, list_all}
-use Rattle.session.specs.declared.Options.{Options}
-use Rattle.session.specs.declared.End.{End}
-use Rattle.session.specs.declared.Cause.{Cause}
-use Rattle.session.specs.declared.Cause.TheVariants as cause
-use Rattle.session.specs.declared.Broken.{Broken}
-use Rattle.session.specs.declared.Broken.TheVariants as broken
-use Rattle.session.specs.declared.form.Version.TheVariants.{Second}
-use Rattle.session.specs.Events.{Event, Put, Told, Asked, AskedEnd, Recorded, Stepped, Part, preceded}
-use Rattle.session.specs.Lines.{most_line_bytes}
-use Rattle.session.specs.Machine.{Rules}
-use Rattle.session.specs.Session.{transcript, transcript_noting}
-use Rattle.session.specs.Texts.{header_line}
-use Rattle.session.specs.Convert.{converted, StandsForRecord, IsConvertedBy}
+use Rattle.promela_session.specs.declared.ends.Options.{Options}
+use Rattle.promela_session.specs.declared.ends.End.{End}
+use Rattle.promela_session.specs.declared.ends.Cause.{Cause}
+use Rattle.promela_session.specs.declared.ends.Cause.TheVariants as cause
+use Rattle.promela_session.specs.declared.ends.Broken.{Broken}
+use Rattle.promela_session.specs.declared.ends.Broken.TheVariants as broken
+use Rattle.promela_session.specs.declared.form.Version.TheVariants.{Second}
+use Rattle.promela_session.specs.Events.{Event, Put, Told, Asked, AskedEnd, Recorded, Stepped, Part, preceded, header_line}
+use Rattle.promela_session.specs.Lines.{most_line_bytes}
+use Rattle.promela_session.specs.Session.{Rules, transcript, transcript_noting}
+use Rattle.promela_session.specs.Replay.{converted, StandsForRecord, IsConvertedBy}
 
 -- the session of a machine where its choices are converted
 abbrev pub conversion : {S M : Type 0} → Rules S M → Options → S → List ℕ → Part End

@@ -2,17 +2,16 @@
 use Rattle.std.specs.Prelude.{◌≡◌, ◌⊎◌, ℕ, ◌+◌, ◌-◌, ◌<◌, Bool, false, ◌||◌, List, [], ◌∷◌, ◌++◌, length, take, nat_le, nat_lt, Option, Some, None, Result, MatchResult}
 use Rattle.std.specs.List.{count_by}
 use Rattle.devices.specs.Holdings.{Holdings, Moved}
-use Rattle.session.specs.declared.End.{End}
-use Rattle.session.specs.declared.Broken.{Broken}
-use Rattle.session.specs.declared.Broken.TheVariants as broken
-use Rattle.session.specs.Events.{Event, Put, Told, Stepped, output, Part, preceded}
-use Rattle.session.specs.Machine.{Rules}
-use Rattle.session.specs.Session.{stepped}
-use Rattle.session.specs.Stands.{Does, Breaks}
+use Rattle.promela_session.specs.declared.ends.End.{End}
+use Rattle.promela_session.specs.declared.ends.Broken.{Broken}
+use Rattle.promela_session.specs.declared.ends.Broken.TheVariants as broken
+use Rattle.promela_session.specs.Events.{Event, Put, Told, Stepped, output, Part, preceded}
+use Rattle.promela_session.specs.Session.{Rules, stepped}
+use Rattle.promela_session.specs.Devices.{Does, Breaks}
 use Rattle.session.specs.Writes.{Leads, story_after}
 use Rattle.session.specs.declared.course.Terms.{Terms}
 use Rattle.session.specs.declared.course.Course.{Course}
-use Rattle.session.specs.declared.form.Stream.{Stream}
+use Rattle.promela_session.specs.declared.form.Stream.{Stream}
 use Rattle.session.specs.declared.gathered.TheConstants.{ENOUGH_BYTES, ENOUGH_TEXTS}
 
 -- what a session does in steps with these texts

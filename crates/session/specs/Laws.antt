@@ -1,10 +1,9 @@
 -- What is said of all sessions of a machine.
 use Rattle.std.specs.Prelude.{◌≡◌, ℕ, List, ◌++◌, filter, Bool, true, false}
 use Rattle.std.specs.List.{list_any}
-use Rattle.session.specs.declared.Options.{Options}
-use Rattle.session.specs.Events.{Event, Put, Asked, AskedEnd, Recorded, Stepped, Part}
-use Rattle.session.specs.Machine.{Rules}
-use Rattle.session.specs.Session.{transcript}
+use Rattle.promela_session.specs.declared.ends.Options.{Options}
+use Rattle.promela_session.specs.Events.{Event, Put, Asked, AskedEnd, Recorded, Stepped, Part}
+use Rattle.promela_session.specs.Session.{Rules, transcript}
 
 -- an event that writes nothing to the output: a byte that is asked for, a line of the record, a step
 abbrev pub is_no_piece : Event → Bool

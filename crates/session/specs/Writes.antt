@@ -3,21 +3,19 @@ use Rattle.std.specs.Prelude.{◌≡◌, ◌≢◌, ℕ, ◌+◌, ◌-◌, ◌<�
 use Rattle.devices.specs.Holdings.{Holdings, Moved, FailureCounts}
 use Rattle.devices.specs.Doing.{WritesPart, RecordsPart}
 use Rattle.diagnostics.specs.declared.fault.Fault.{Fault}
-use Rattle.session.specs.declared.Options.{Options}
+use Rattle.promela_session.specs.declared.ends.Options.{Options}
 use Rattle.session.specs.declared.course.Course.{Course}
 use Rattle.session.specs.declared.course.Terms.{Terms}
-use Rattle.session.specs.declared.End.{End}
-use Rattle.session.specs.declared.Broken.{Broken}
-use Rattle.session.specs.declared.Broken.TheVariants as broken
-use Rattle.session.specs.declared.choice.Answer.{Answer}
-use Rattle.session.specs.declared.choice.Answer.TheVariants as answer
-use Rattle.session.specs.Events.{Event, front, Part, followed, preceded}
-use Rattle.session.specs.Machine.{Rules, Goes, Faults}
-use Rattle.session.specs.Session.{stepped, step_text, select, answered, story, end_of}
-use Rattle.session.specs.Stands.{Ends, IsBrokenOff, MovedBy, Begins, Does, Breaks, CountsBroken}
-use Rattle.session.specs.Texts.{noted, fault_line}
-use Rattle.session.specs.declared.form.Stream.{Stream}
-use Rattle.session.specs.declared.form.Version.{Version}
+use Rattle.promela_session.specs.declared.ends.End.{End}
+use Rattle.promela_session.specs.declared.ends.Broken.{Broken}
+use Rattle.promela_session.specs.declared.ends.Broken.TheVariants as broken
+use Rattle.promela_session.specs.declared.choice.Answer.{Answer}
+use Rattle.promela_session.specs.declared.choice.Answer.TheVariants as answer
+use Rattle.promela_session.specs.Events.{Event, front, Part, followed, preceded, noted, fault_line}
+use Rattle.promela_session.specs.Session.{Rules, Goes, Faults, stepped, step_text, select, answered, story, end_of}
+use Rattle.promela_session.specs.Devices.{Ends, IsBrokenOff, MovedBy, Begins, Does, Breaks, CountsBroken}
+use Rattle.promela_session.specs.declared.form.Stream.{Stream}
+use Rattle.promela_session.specs.declared.form.Version.{Version}
 
 -- the whole part was begun, and the rest is still to do
 pub record Leads {T : Type 0} (before after : Holdings) (steps steps' : ℕ) (part rest : List ℕ → Part T) : Type 0 where

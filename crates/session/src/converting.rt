@@ -1,7 +1,7 @@
 //! The session whose choices are converted to the second version.
 ghost use Rattle.std.specs.Prelude.{◌≡◌, ◌≢◌, ◌<◌, List, ℕ, IfOk};
 ghost use Rattle.session.specs.Converting.{conversion, noting, quiet, failure_converting, CanBeConverted, StandsOwn};
-ghost use Rattle.session.specs.Session.{end_of, transcript};
+ghost use Rattle.promela_session.specs.Session.{end_of, transcript};
 ghost use Rattle.session.specs.Writes.{CountsAll, Runs, EndsOwn, EndsBroken, IsOwnEnd};
 
 use crate::whole::{end_of, run};

@@ -1,6 +1,6 @@
 //! What a session is played with, and how far it has come.
 ghost use Rattle.std.specs.Prelude.{◌≡◌, []};
-ghost use Rattle.session.specs.declared.form.Stream.TheVariants.{Unread};
+ghost use Rattle.promela_session.specs.declared.form.Stream.TheVariants.{Unread};
 
 use crate::draft::Draft;
 use crate::gathered::Gathered;

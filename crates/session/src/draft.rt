@@ -1,9 +1,9 @@
 //! The texts of a session, composed in buffers that are kept.
 ghost use Rattle.std.specs.Prelude.{◌≡◌, ◌+◌, ◌++◌, ◌<◌, ◌≤◌, ◌^◌, [], ◌∷◌, length, IfOk, OnOk, if◌then◌else◌, codes};
 ghost use Rattle.std.specs.Fmt.{decimal};
-ghost use Rattle.session.specs.Lines.{most_line_bytes};
+ghost use Rattle.promela_session.specs.Lines.{most_line_bytes};
 ghost use Rattle.session.specs.Takes.{CanBeShown};
-ghost use Rattle.session.specs.Texts.{list_from, prompt, record_line, placed_line, last_words, last_line, step_line, fault_line, refusal_line};
+ghost use Rattle.promela_session.specs.Events.{list_from, prompt, record_line, placed_line, last_words, last_line, step_line, fault_line, refusal_line};
 
 use crate::{Cause, Machine};
 use diagnostics::{Fault, Refusal};

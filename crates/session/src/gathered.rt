@@ -1,6 +1,6 @@
 //! The texts of steps that are done and still to be written.
 ghost use Rattle.std.specs.Prelude.{◌≡◌, ◌-◌, ◌++◌, ◌∷◌, [], length, IfErr, OnOk, OnErr};
-ghost use Rattle.session.specs.declared.Broken.TheVariants.{Out};
+ghost use Rattle.promela_session.specs.declared.ends.Broken.TheVariants.{Out};
 ghost use Rattle.session.specs.Gathered.{are_enough, later, AddsText, CutsTexts};
 ghost use Rattle.session.specs.Writes.{CountsAll};
 ghost use Rattle.devices.specs.Holdings.{Moved};

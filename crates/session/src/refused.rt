@@ -1,8 +1,8 @@
 //! The session of a model that is refused.
 ghost use Rattle.std.specs.Prelude.{◌≡◌, IfOk};
-ghost use Rattle.session.specs.Session.{end_of};
+ghost use Rattle.promela_session.specs.Session.{end_of};
 ghost use Rattle.session.specs.Writes.{CountsAll, Writes, IsOwnEnd};
-ghost use Rattle.session.specs.Texts.{refusal_line};
+ghost use Rattle.promela_session.specs.Events.{refusal_line};
 
 use crate::draft::draft_refusal;
 use crate::question::put_out;

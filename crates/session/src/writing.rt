@@ -1,11 +1,12 @@
 //! Functions that compose a piece and hand it over.
 ghost use Rattle.std.specs.Prelude.{◌≡◌, ◌+◌, ◌<◌, ◌≤◌, ◌^◌, ◌++◌, IfOk, IfErr, OnOk, length};
 ghost use Rattle.std.specs.List.{Contains};
-ghost use Rattle.session.specs.declared.Broken.TheVariants.{Memory};
+ghost use Rattle.promela_session.specs.declared.ends.Broken.TheVariants.{Memory};
 ghost use Rattle.session.specs.Writes.{CountsAll, Writes, kept_text, RecordsAnswer, Composes, Steps};
-ghost use Rattle.session.specs.Lines.{most_line_bytes, IsPickUpTo};
-ghost use Rattle.session.specs.Session.{place_of, final_lines};
-ghost use Rattle.session.specs.Texts.{list_from, prompt, last_line, noted};
+ghost use Rattle.promela_session.specs.Lines.{most_line_bytes};
+ghost use Rattle.session.specs.Answers.{IsPickUpTo};
+ghost use Rattle.promela_session.specs.Session.{place_of, final_lines};
+ghost use Rattle.promela_session.specs.Events.{list_from, prompt, last_line, noted};
 
 use crate::draft::{
     Draft, draft_fault, draft_last, draft_list, draft_placed, draft_prompt, draft_record,

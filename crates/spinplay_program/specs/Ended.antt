@@ -6,7 +6,7 @@ use Rattle.clap.specs.Words.{Text, kind_of, matches_of}
 use Rattle.command_line.specs.Matched.{IsReadFrom}
 use Rattle.command_line.specs.CommandLine.{command_line}
 use Rattle.command_line.specs.declared.options.Arguments.{Arguments}
-use Rattle.session.specs.declared.End.{End}
+use Rattle.promela_session.specs.declared.ends.End.{End}
 use Rattle.streams.specs.Streams.{EndsOver, Known}
 use Rattle.spinplay_program.specs.declared.stop.NoRun.{NoRun}
 use Rattle.spinplay_program.specs.declared.stop.NoRun.TheVariants as no

@@ -2,8 +2,8 @@
 use Rattle.std.specs.Prelude.{◌≡◌, ◌≢◌, ℕ, Bool, false, List, Option, None, Some, MatchBool}
 use Rattle.devices.specs.Holdings.{FailureCounts, Holdings}
 use Rattle.devices.specs.Left.{MayBeLeft}
-use Rattle.session.specs.declared.Options.{Options}
-use Rattle.session.specs.declared.End.{End}
+use Rattle.promela_session.specs.declared.ends.Options.{Options}
+use Rattle.promela_session.specs.declared.ends.End.{End}
 use Rattle.pml_play.specs.Transcript.{PlaysWhole, PlaysBroken}
 use Rattle.pml_play.specs.Converts.{Converts}
 use Rattle.streams.specs.declared.over.Streams.{Streams}

@@ -18,9 +18,9 @@ use Rattle.pml_program.specs.declared.program.Basic.TheBlock.{shape-the_row-Stmt
 use Rattle.pml_program.specs.declared.program.Stmt.{Stmt}
 use Rattle.pml_program.specs.declared.program.Seq.{Seq, Seq', Row_of-Stmt, end_of-Stmt, more_of-Stmt, items-the_row-Stmt, roll-Seq, items_hidden-the_row-Stmt-1}
 use Rattle.pml_control.specs.Control.{steps}
-use Rattle.pml_stands.specs.Known.{Globals}
-use Rattle.pml_stands.specs.StandsStatements as stands
-use Rattle.pml_stands.specs.StandsStatements.{item_of, items_of, StandsBasic, StandsItems, StandsSeq, StandsOptions}
+use Rattle.promela_model.specs.Known.{Globals}
+use Rattle.promela_model.specs.StandsModel as stands
+use Rattle.promela_model.specs.StandsModel.{item_of, items_of, StandsBasic, StandsItems, StandsSeq, StandsOptions}
 use Rattle.view_waits.specs.Filled.{IsFilled, HasSteps, SomeSteps, EachStep, HasOptions, EachOption, IsFilledBody}
 
 -- ---- a tree

@@ -10,18 +10,16 @@ use Rattle.pml_tree.specs.declared.tree.Item.{Item}
 use Rattle.pml_tree.specs.declared.tree.Seq.{Seq}
 use Rattle.pml_tree.specs.declared.tree.Unit.{Unit as Part}
 use Rattle.pml_tree.specs.declared.tree.Tree.{Tree}
-use Rattle.pml_syntax.specs.declared.range.Range.{Range}
-use Rattle.pml_syntax.specs.GrammarOfStatements as bodies
-use Rattle.pml_syntax.specs.GrammarOfUnits as units
-use Rattle.pml_syntax.specs.Grammar.{item_of, seq_of}
-use Rattle.pml_syntax.specs.GrammarOfStatements.{SpellsBasic, SpellsStatement, SpellsItem, SpellsItems, SpellsOptions, SpellsBody, for_of, select_of, for_on, for_out, select_on, select_out, setting, comparing, raising, otherwise_item, breaking, turning}
-use Rattle.pml_syntax.specs.GrammarOfUnits.{SpellsUnit, SpellsUnits, Spells}
+use Rattle.promela_model.specs.declared.range.Range.{Range}
+use Rattle.promela_model.specs.GrammarOfModels as bodies
+use Rattle.promela_model.specs.GrammarOfActions.{item_of, seq_of}
+use Rattle.promela_model.specs.GrammarOfModels.{SpellsBasic, SpellsStatement, SpellsItem, SpellsItems, SpellsOptions, SpellsBody, for_of, select_of, for_on, for_out, select_on, select_out, setting, comparing, raising, otherwise_item, breaking, turning, SpellsUnit, SpellsUnits, Spells}
 use Rattle.pml_program.specs.declared.program.Fields.{Fields}
 use Rattle.pml_program.specs.declared.program.Proctype.{Proctype}
 use Rattle.pml_program.specs.declared.program.Program.{Program}
-use Rattle.pml_stands.specs.Known.{Globals}
-use Rattle.pml_stands.specs.StandsModel as stands
-use Rattle.pml_stands.specs.StandsModel.{StandsUnits, StandsModel}
+use Rattle.promela_model.specs.Known.{Globals}
+use Rattle.promela_model.specs.StandsModel as stands
+use Rattle.promela_model.specs.StandsModel.{StandsUnits, StandsModel}
 use Rattle.view_waits.specs.Filled.{IsFilledBody}
 use Rattle.view_laws.proofs.Coded.{Code, good, has_step, all_filled, all_good, some_good, tree_basic, tree_item, tree_seq, item-is, seq-is, declare-is, exclusive-is, plain-is, goto-is, break-is, if-is, do-is, block-is, atomic-is, d_step-is, unless-is, body_filled}
 
@@ -159,17 +157,17 @@ body_code : {xs : List Item} {from to : List Word} → SpellsBody xs from to →
 body_code {xs} s = ap (λ (c : Code). c.1) (seq-is xs) ∙ body_spelt s
 
 unit_spelt : {x : Part} {from to : List Word} → SpellsUnit x from to → IsFilledPart x
-unit_spelt (units.variables d) = tt
-unit_spelt (units.constants _ _ ns _) = tt
-unit_spelt (units.equal_constants _ _ _ ns _) = tt
-unit_spelt (units.typedef _ _ _ vs _) = tt
-unit_spelt (units.proctype s _ _ _ vs _ _ xs _) = body_code xs
-unit_spelt (units.init _ _ xs _) = body_code xs
+unit_spelt (bodies.variables d) = tt
+unit_spelt (bodies.constants _ _ ns _) = tt
+unit_spelt (bodies.equal_constants _ _ _ ns _) = tt
+unit_spelt (bodies.typedef _ _ _ vs _) = tt
+unit_spelt (bodies.proctype s _ _ _ vs _ _ xs _) = body_code xs
+unit_spelt (bodies.init _ _ xs _) = body_code xs
 
 units_spelt : {us : List Part} {from : List Word} → SpellsUnits us from → AllByRecursion IsFilledPart us
-units_spelt units.no_unit = tt
-units_spelt (units.semicolon _ us) = units_spelt us
-units_spelt (units.unit x us) = (unit_spelt x, units_spelt us)
+units_spelt bodies.no_unit = tt
+units_spelt (bodies.semicolon _ us) = units_spelt us
+units_spelt (bodies.unit x us) = (unit_spelt x, units_spelt us)
 
 proctypes_filled : {o : _} {gs zs : Globals} {us : List Part} {cs : List Word} {ts : List Fields} {ps : List Proctype} → StandsUnits o gs us zs cs ts ps → AllByRecursion IsFilledPart us
     → AllByRecursion (λ (q : Proctype). IsFilledBody q.body) ps
@@ -181,4 +179,4 @@ proctypes_filled (stands.proctype {gs} vs x us) h = (body_filled _ x h.0, procty
 
 -- the bodies of the model that a spelled tree stands for
 pub model_filled : {t : Tree} {p : Program} {ws : List Word} → Spells t ws → StandsModel t p → AllByRecursion (λ (q : Proctype). IsFilledBody q.body) p.proctypes
-model_filled (units.model us) (stands.model ss) = proctypes_filled ss (units_spelt us)
+model_filled (bodies.model us) (stands.model ss) = proctypes_filled ss (units_spelt us)

@@ -1,6 +1,6 @@
 -- The path of a walk.
 use Rattle.std.specs.Prelude.{◌≡◌, ℕ, false, List, length, take, Some}
-use Rattle.session.specs.Machine.{Rules}
+use Rattle.promela_session.specs.Session.{Rules}
 use Rattle.pml_moves.specs.declared.moves.Move.{Move}
 use Rattle.pml_sim.specs.World.{Running, rules as rules_of_models}
 use Rattle.pml_sim.specs.Lent.{IsFirst}

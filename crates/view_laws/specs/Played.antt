@@ -1,8 +1,8 @@
 -- The sessions that go along a walk.
 use Rattle.std.specs.Prelude.{◌≡◌, ◌≤◌, ℕ, false, List, ◌++◌, length, take}
-use Rattle.session.specs.Events.{Part}
-use Rattle.session.specs.declared.End.{End}
-use Rattle.session.specs.declared.Options.{Options}
+use Rattle.promela_session.specs.Events.{Part}
+use Rattle.promela_session.specs.declared.ends.End.{End}
+use Rattle.promela_session.specs.declared.ends.Options.{Options}
 use Rattle.pml_moves.specs.declared.moves.Move.{Move}
 use Rattle.pml_sim.specs.World.{Running, rules}
 use Rattle.pml_play.specs.Parts.{IsReady}

@@ -1,9 +1,9 @@
 //! Laws of walks, which functions without a body state.
 
 ghost use Rattle.std.specs.Prelude.{ℕ, List};
-ghost use Rattle.session.specs.Events.{Part};
-ghost use Rattle.session.specs.declared.End.{End};
-ghost use Rattle.session.specs.declared.Options.{Options};
+ghost use Rattle.promela_session.specs.Events.{Part};
+ghost use Rattle.promela_session.specs.declared.ends.End.{End};
+ghost use Rattle.promela_session.specs.declared.ends.Options.{Options};
 ghost use Rattle.view_walk.specs.Walks.{IsWalk, Walked};
 ghost use Rattle.view_laws.specs.Along.{HasPath};
 ghost use Rattle.view_laws.specs.Played.{GoesAlong, IsSessionOn};

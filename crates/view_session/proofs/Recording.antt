@@ -5,7 +5,7 @@ use Rattle.std.proofs.lemmas.Bool.{true≢false}
 use Rattle.std.proofs.lemmas.Grind.{flat_map-append}
 use Rattle.std.proofs.Math.Seq.{take-suc}
 use Rattle.std.specs.List.{flat_map}
-use Rattle.session.specs.Texts.{record_line}
+use Rattle.promela_session.specs.Events.{record_line}
 use Rattle.session.proofs.Written.{decimal_is}
 use Rattle.view_text.specs.Written.{Written, Adds, Stays}
 use Rattle.view_walk.specs.declared.turn.Turn.{Turn}

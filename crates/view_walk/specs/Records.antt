@@ -1,7 +1,7 @@
 -- What a record keeps of the choices of a walk.
 use Rattle.std.specs.Prelude.{ℕ, nat_lt, if◌then◌else◌, List, ◌∷◌, []}
 use Rattle.std.specs.List.{flat_map}
-use Rattle.session.specs.Texts.{record_line}
+use Rattle.promela_session.specs.Events.{record_line}
 use Rattle.view_walk.specs.declared.turn.Turn.{Turn}
 
 -- the number of a choice that is one of several; of the only move there is none

@@ -1,11 +1,12 @@
 use Rattle.std.proofs.Common.{[], ◌≡◌, ◌≤◌, ◌∙◌, true, List, Some, ap, sym, subst, length, map}
 use Rattle.std.proofs.lemmas.Result.{err_from_is_err_and}
 use Rattle.std.proofs.lemmas.List.Elements.{All-same}
-use Rattle.pml_lex.specs.Limits.{IsTooDeep, IsOnLine}
+use Rattle.promela_text.specs.Tokens.{IsTooDeep, IsOnLine}
 use Rattle.pml_lex.specs.Rows.{AreOnLines}
 use Rattle.pml_token.specs.Word.{Word}
-use Rattle.pml_inline.specs.Inlines.{all_differ, definitions}
-use Rattle.pml_inline.specs.Expansion.{IsLeast, IsFaultOnLine, texts}
+use Rattle.promela_text.specs.Inlines.{all_differ, definitions}
+use Rattle.pml_inline.specs.Least.{IsLeast, IsFaultOnLine}
+use Rattle.promela_text.specs.Expansion.{texts}
 use Rattle.pml_inline.specs.Places.{words_of}
 use Rattle.pml_inline.specs.Parts.{inlines_of, IsMarked, number_of}
 use Rattle.pml_inline.proofs.Lists.{words-whole, length-places}

@@ -1,5 +1,5 @@
 use Rattle.std.proofs.Common.{◌≡◌, ◌≤◌, drop, take, count_by}
-use Rattle.pml_lex.specs.Division.{is_line_feed, fresh_from}
+use Rattle.promela_text.specs.Tokens.{is_line_feed, fresh_from}
 use Rattle.pml_lex.proofs.behind.Given as goal
 
 abbrev pub invariant-loop-b : goal.invariant-loop-b

@@ -1,5 +1,5 @@
 use Rattle.std.proofs.Common.{ℕ, Result, Ok, Err, IfOk, sym, subst}
-use Rattle.session.specs.declared.End.{End}
+use Rattle.promela_session.specs.declared.ends.End.{End}
 use Rattle.spinplay_program.specs.declared.stop.Unplayed.{Unplayed}
 use Rattle.spinplay_program.specs.Ended.{IsEnd, IsStatus, IsStatusOf, of_end, of_stop}
 use Rattle.spinplay_program.proofs.ended.Goals as goal

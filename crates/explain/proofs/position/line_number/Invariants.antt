@@ -1,6 +1,6 @@
 use Rattle.std.proofs.Common.{◌≡◌, ◌≤◌, ◌+◌, take}
 use Rattle.std.specs.Prelude.{count_by}
-use Rattle.pml_lex.specs.Division.{is_line_feed}
+use Rattle.promela_text.specs.Tokens.{is_line_feed}
 use Rattle.explain.proofs.position.line_number.Given as goal
 
 abbrev pub invariant-loop-byte : goal.invariant-loop-byte

@@ -1,5 +1,5 @@
 use Rattle.std.proofs.Common.{◌≡◌, ◌+◌, ◌≤◌, length}
-use Rattle.pml_conditions.specs.Conditions.{conversions}
+use Rattle.promela_model.specs.Conditions.{conversions}
 use Rattle.pml_conditions.proofs.Conversions.{with_rest}
 use Rattle.pml_conditions.proofs.counts.conversions.Given as goal
 

@@ -1,12 +1,11 @@
 use Rattle.std.proofs.Common.{◌≡◌, ◌∙◌, ◌||◌, Bool, sym, ap, arith, length, take}
 use Rattle.pml_names.specs.Env.{after}
 use Rattle.pml_names.proofs.Looking.{env-empty, env-more, after-length}
-use Rattle.pml_conditions.specs.declared.condition.Condition.{Condition}
-use Rattle.pml_conditions.specs.declared.condition.Condition.TheVariants as condition
-use Rattle.pml_conditions.specs.Conditions.{judged}
+use Rattle.promela_model.specs.declared.condition.Condition.{Condition}
+use Rattle.promela_model.specs.declared.condition.Condition.TheVariants as condition
+use Rattle.promela_model.specs.Conditions.{judged}
 use Rattle.std.specs.Option.{is_some}
-use Rattle.pml_conditions.specs.Structure.{is_label}
-use Rattle.pml_conditions.specs.Decided.{broken}
+use Rattle.promela_model.specs.Decided.{is_label, broken}
 use Rattle.pml_conditions.specs.Labels.{told_around}
 use Rattle.pml_conditions.proofs.Surrounding.{label-more, around-is}
 use Rattle.pml_conditions.proofs.Looking.{so_far-none, so_far-more, so_far-whole}

@@ -1,8 +1,8 @@
 use Rattle.std.proofs.Common.{◌≡◌, ◌≤◌, length, take}
 use Rattle.pml_names.specs.Env.{env}
 use Rattle.pml_names.specs.Totals.{IsTotalled}
-use Rattle.pml_conditions.specs.declared.condition.Condition.TheVariants as condition
-use Rattle.pml_conditions.specs.Decided.{broken}
+use Rattle.promela_model.specs.declared.condition.Condition.TheVariants as condition
+use Rattle.promela_model.specs.Decided.{broken}
 use Rattle.pml_conditions.specs.Labels.{AreLabels}
 use Rattle.pml_conditions.proofs.Looking.{SoFar}
 use Rattle.pml_conditions.proofs.find.find.Given as goal

@@ -3,11 +3,10 @@ use Rattle.std.proofs.lemmas.Option.{slice_get_within}
 use Rattle.std.specs.Option.{is_some}
 use Rattle.pml_names.specs.Env.{after}
 use Rattle.pml_names.proofs.Looking.{env-empty, env-more, after-length}
-use Rattle.pml_conditions.specs.declared.condition.Condition.{Condition}
-use Rattle.pml_conditions.specs.declared.condition.Condition.TheVariants as condition
-use Rattle.pml_conditions.specs.Conditions.{judged}
-use Rattle.pml_conditions.specs.Structure.{is_label}
-use Rattle.pml_conditions.specs.Decided.{around}
+use Rattle.promela_model.specs.declared.condition.Condition.{Condition}
+use Rattle.promela_model.specs.declared.condition.Condition.TheVariants as condition
+use Rattle.promela_model.specs.Conditions.{judged}
+use Rattle.promela_model.specs.Decided.{is_label, around}
 use Rattle.pml_conditions.specs.First.{broken_at, found_of}
 use Rattle.pml_conditions.specs.Labels.{told_around}
 use Rattle.pml_conditions.proofs.Surrounding.{label-more, around-is}

@@ -1,6 +1,6 @@
 use Rattle.std.proofs.Common.{◌≡◌, ◌≤◌, ◌<◌, ℕ, Some, false, length, take}
 use Rattle.std.specs.Prelude.{slice_get}
-use Rattle.pml_marks.specs.declared.mark.Mark.{Mark}
+use Rattle.promela_model.specs.declared.mark.Mark.{Mark}
 use Rattle.pml_names.specs.Env.{env}
 use Rattle.pml_names.specs.Totals.{IsTotalled}
 use Rattle.pml_conditions.specs.First.{broken_at}

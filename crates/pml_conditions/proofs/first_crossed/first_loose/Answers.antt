@@ -1,9 +1,8 @@
 use Rattle.std.proofs.Common.{◌≡◌, ◌<◌, ◌∙◌, sym, ap, arith, length, false, take}
 use Rattle.std.proofs.lemmas.Option.{slice_get_within}
-use Rattle.pml_conditions.specs.Structure.{loose}
+use Rattle.promela_model.specs.Decided.{loose, breaks_loose}
 use Rattle.pml_conditions.specs.Open.{passed, top}
-use Rattle.pml_conditions.specs.Decided.{breaks_loose}
-use Rattle.pml_conditions.specs.declared.condition.Condition.TheVariants as condition
+use Rattle.promela_model.specs.declared.condition.Condition.TheVariants as condition
 use Rattle.pml_conditions.proofs.Looking.{none_more}
 use Rattle.pml_conditions.proofs.Stopping.{first_here}
 use Rattle.pml_conditions.proofs.Open.{rounds_more, here_round}

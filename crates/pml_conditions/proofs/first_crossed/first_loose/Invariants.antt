@@ -1,8 +1,8 @@
 use Rattle.std.proofs.Common.{◌≡◌, ◌<◌, ℕ, take, reverse, Some, false}
 use Rattle.std.specs.Prelude.{slice_get}
-use Rattle.pml_marks.specs.declared.mark.Mark.{Mark}
+use Rattle.promela_model.specs.declared.mark.Mark.{Mark}
 use Rattle.pml_conditions.specs.Open.{rounds}
-use Rattle.pml_conditions.specs.Decided.{breaks_loose}
+use Rattle.promela_model.specs.Decided.{breaks_loose}
 use Rattle.pml_conditions.proofs.first_crossed.first_loose.Given as goal
 
 abbrev pub invariant-loop-i : goal.invariant-loop-i

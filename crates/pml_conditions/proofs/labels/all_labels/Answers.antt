@@ -1,6 +1,6 @@
 use Rattle.std.proofs.Common.{◌∙◌, ◌||◌, Bool, ap, sym}
 use Rattle.std.specs.Option.{is_some}
-use Rattle.pml_conditions.specs.Structure.{is_label}
+use Rattle.promela_model.specs.Decided.{is_label}
 use Rattle.pml_conditions.proofs.Surrounding.{label-more}
 use Rattle.pml_conditions.proofs.labels.all_labels.Goals as goal
 

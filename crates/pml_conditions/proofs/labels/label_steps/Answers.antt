@@ -1,5 +1,5 @@
 use Rattle.std.proofs.Common.{◌∙◌, sym, ap}
-use Rattle.pml_conditions.specs.Structure.{first_of, step_there}
+use Rattle.promela_model.specs.Decided.{first_of, step_there}
 use Rattle.pml_conditions.specs.Open.{passed, top}
 use Rattle.pml_conditions.proofs.Open.{rounds_more, labelled_more}
 use Rattle.pml_conditions.proofs.labels.label_steps.Goals as goal

@@ -1,7 +1,7 @@
 use Rattle.std.proofs.Common.{◌≡◌, ◌<◌, ℕ, take, Some, false}
 use Rattle.std.specs.Prelude.{slice_get}
-use Rattle.pml_marks.specs.declared.mark.Mark.{Mark}
-use Rattle.pml_conditions.specs.Decided.{begins_there}
+use Rattle.promela_model.specs.declared.mark.Mark.{Mark}
+use Rattle.promela_model.specs.Decided.{begins_there}
 use Rattle.pml_conditions.proofs.start.begins_somewhere.Given as goal
 
 abbrev pub invariant-loop-mark : goal.invariant-loop-mark

@@ -1,6 +1,6 @@
 use Rattle.std.proofs.Common.{◌≡◌, ◌+◌, ◌≤◌, min, drop}
 use Rattle.std.specs.Prelude.{slice_index_or}
-use Rattle.pml_conditions.specs.Start.{by_processes}
+use Rattle.promela_model.specs.Decided.{by_processes}
 use Rattle.pml_conditions.proofs.start.by_processes.Given as goal
 
 abbrev pub invariant-loop-mark : goal.invariant-loop-mark

@@ -1,12 +1,11 @@
 use Rattle.std.proofs.Common.{◌≡◌, ◌∙◌, List, sym, ap, min, take, reverse}
 use Rattle.std.proofs.lemmas.List.{take_all}
-use Rattle.pml_marks.specs.declared.mark.Mark.{Mark}
+use Rattle.promela_model.specs.declared.mark.Mark.{Mark}
 use Rattle.std.specs.Prelude.{slice_index_or}
 use Rattle.pml_names.specs.Entry.{found}
-use Rattle.pml_names.specs.Meaning.{Naming}
-use Rattle.pml_names.specs.Naming.{Before, before}
+use Rattle.promela_model.specs.Names.{Naming, Before, before}
 use Rattle.pml_names.proofs.Firsts.{told-before}
-use Rattle.pml_conditions.specs.Start.{made, channels}
+use Rattle.promela_model.specs.Decided.{made, channels}
 use Rattle.pml_conditions.proofs.Looking.{back_more}
 use Rattle.pml_conditions.proofs.Counting.{channels_more}
 use Rattle.pml_conditions.proofs.start.channels.Goals as goal

@@ -1,7 +1,7 @@
 use Rattle.std.proofs.Common.{◌≡◌, ℕ, min, take, reverse}
 use Rattle.std.specs.Prelude.{slice_index_or}
 use Rattle.pml_names.specs.Entry.{found}
-use Rattle.pml_conditions.specs.Start.{channels}
+use Rattle.promela_model.specs.Decided.{channels}
 use Rattle.pml_conditions.proofs.start.channels.Given as goal
 
 abbrev pub invariant-loop-mark : goal.invariant-loop-mark

@@ -1,5 +1,5 @@
 use Rattle.std.proofs.Common.{◌≡◌, ◌+◌, ◌≤◌, min, drop}
-use Rattle.pml_conditions.specs.Start.{processes}
+use Rattle.promela_model.specs.Decided.{processes}
 use Rattle.pml_conditions.proofs.start.processes.Given as goal
 
 abbrev pub invariant-loop-mark : goal.invariant-loop-mark

@@ -1,6 +1,6 @@
 use Rattle.std.proofs.Common.{◌≡◌, ◌∙◌, ap, refl, min, arith}
 use Rattle.std.specs.Prelude.{slice_index_or}
-use Rattle.pml_conditions.specs.Start.{by_processes}
+use Rattle.promela_model.specs.Decided.{by_processes}
 use Rattle.pml_conditions.proofs.Counting.{decided}
 use Rattle.pml_conditions.proofs.start.starts_too_many.Goals as goal
 

@@ -1,9 +1,8 @@
 use Rattle.std.proofs.Common.{◌≡◌, ◌<◌, ◌∙◌, sym, ap, arith, length, false, take}
 use Rattle.std.proofs.lemmas.Option.{slice_get_within}
-use Rattle.pml_conditions.specs.Structure.{crosses, round}
+use Rattle.promela_model.specs.Decided.{crosses, round, crosses_step}
 use Rattle.pml_conditions.specs.Open.{passed, top}
 use Rattle.pml_names.specs.Places.{stands}
-use Rattle.pml_conditions.specs.Decided.{crosses_step}
 use Rattle.pml_conditions.proofs.Looking.{here, none_more}
 use Rattle.pml_conditions.proofs.Open.{rounds_more, here_round, labels_same}
 use Rattle.pml_conditions.proofs.structure.crosses_step.Goals as goal

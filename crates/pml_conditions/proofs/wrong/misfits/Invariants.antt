@@ -1,6 +1,6 @@
 use Rattle.std.proofs.Common.{◌≡◌, drop}
 use Rattle.pml_names.specs.Entry.{found}
-use Rattle.pml_conditions.specs.Conditions.{misfits}
+use Rattle.promela_model.specs.Conditions.{misfits}
 use Rattle.pml_conditions.proofs.wrong.misfits.Given as goal
 
 abbrev pub invariant-loop-step : goal.invariant-loop-step

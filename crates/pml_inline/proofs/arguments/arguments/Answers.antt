@@ -3,7 +3,7 @@ use Rattle.std.proofs.lemmas.Bool.{ne_eqb, and_left, and_right}
 use Rattle.pml_token.specs.declared.token.Kind.{Kind}
 use Rattle.pml_token.specs.declared.token.Kind.TheVariants.{Comma}
 use Rattle.pml_token.specs.Word.{same_kind, Word}
-use Rattle.pml_inline.specs.Brackets.{parts, level_behind}
+use Rattle.promela_text.specs.Inlines.{parts, level_behind}
 use Rattle.pml_inline.specs.Places.{word_at, words_of}
 use Rattle.pml_inline.specs.Parts.{lists_of}
 use Rattle.pml_inline.proofs.Lists.{in_front, front-nil, lists-more, part_ends, part_goes_on}

@@ -1,5 +1,5 @@
 use Rattle.std.proofs.Common.{◌≡◌, ◌≤◌, ◌-◌, drop, take, map, ◌++◌}
-use Rattle.pml_inline.specs.Brackets.{parts}
+use Rattle.promela_text.specs.Inlines.{parts}
 use Rattle.pml_inline.specs.Places.{words_of}
 use Rattle.pml_inline.specs.Parts.{lists_of}
 use Rattle.pml_inline.proofs.Lists.{in_front}

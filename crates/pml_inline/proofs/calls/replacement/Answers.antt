@@ -1,6 +1,6 @@
 use Rattle.std.proofs.Common.{rules, ◌≡◌, ◌∙◌, ◌<◌, ℕ, true, false, length, get_or, ap, sym, arith, Vec, Global}
 use Rattle.std.proofs.lemmas.List.{length-map}
-use Rattle.pml_inline.specs.Brackets.{arguments}
+use Rattle.promela_text.specs.Inlines.{arguments}
 use Rattle.pml_inline.specs.Places.{words_of}
 use Rattle.pml_inline.specs.Parts.{inline_of, lists_of, places_replaced, IsMarked}
 use Rattle.pml_inline.specs.Texts.{inlines}

@@ -2,8 +2,7 @@ use Rattle.std.proofs.Common.{◌≡◌, ◌∙◌, ◌+◌, ◌≤◌, ◌<◌,
 use Rattle.std.proofs.lemmas.List.{map-append, get_or_default}
 use Rattle.std.proofs.lemmas.List.Elements.{All-same, All-push}
 use Rattle.pml_inline.specs.declared.definitions.Definition.{Definition}
-use Rattle.pml_inline.specs.Brackets.{is_inline}
-use Rattle.pml_inline.specs.Inlines.{Inline, definitions}
+use Rattle.promela_text.specs.Inlines.{is_inline, Inline, definitions}
 use Rattle.pml_inline.specs.Places.{no_word, word_at}
 use Rattle.pml_inline.specs.Parts.{inline_of, inlines_of, IsMarked, IsDefinition}
 use Rattle.pml_inline.proofs.Lists.{after_inlines, defined_at}

@@ -4,8 +4,7 @@ use Rattle.std.specs.Borrow.{Bor}
 use Rattle.pml_token.specs.declared.token.Kind.{Kind}
 use Rattle.pml_token.specs.declared.token.Kind.TheVariants.{Name, OpenParen, OpenBrace, CloseBrace}
 use Rattle.pml_token.specs.Word.{same_kind}
-use Rattle.pml_inline.specs.Brackets.{has_inline, closing}
-use Rattle.pml_inline.specs.Inlines.{parameters, listed, all_differ}
+use Rattle.promela_text.specs.Inlines.{has_inline, closing, parameters, listed, all_differ}
 use Rattle.pml_inline.specs.Places.{word_at, words_of}
 use Rattle.pml_inline.specs.Parts.{texts_of, places_of, AreNumbered}
 use Rattle.pml_inline.proofs.Steps.{none_of, some_of}

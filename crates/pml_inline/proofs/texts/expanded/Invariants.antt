@@ -1,8 +1,7 @@
 use Rattle.std.proofs.Common.{◌≡◌, ◌≤◌, ◌-◌, length, drop, take, Some, []}
 use Rattle.profile.specs.declared.TheConstants.{MOST_REPLACED}
-use Rattle.pml_inline.specs.Inlines.{definitions}
-use Rattle.pml_inline.specs.Calls.{join}
-use Rattle.pml_inline.specs.Expansion.{texts}
+use Rattle.promela_text.specs.Inlines.{definitions}
+use Rattle.promela_text.specs.Expansion.{join, texts}
 use Rattle.pml_inline.specs.Texts.{inlines, given_of}
 use Rattle.pml_inline.proofs.texts.expanded.Given as goal
 

@@ -1,5 +1,5 @@
 use Rattle.std.proofs.Common.{◌≡◌, ◌++◌, drop}
-use Rattle.pml_marks.specs.Marks.{of_exprs}
+use Rattle.promela_model.specs.Marks.{of_exprs}
 use Rattle.pml_marks.proofs.expr.exprs.Given as goal
 
 abbrev pub invariant-loop-e : goal.invariant-loop-e

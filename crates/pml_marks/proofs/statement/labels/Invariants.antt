@@ -1,5 +1,5 @@
 use Rattle.std.proofs.Common.{◌≡◌, ◌++◌, drop}
-use Rattle.pml_marks.specs.Marks.{of_labels}
+use Rattle.promela_model.specs.Marks.{of_labels}
 use Rattle.pml_marks.proofs.statement.labels.Given as goal
 
 abbrev pub invariant-loop-one : goal.invariant-loop-one

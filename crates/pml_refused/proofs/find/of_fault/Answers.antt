@@ -1,6 +1,6 @@
 use Rattle.std.proofs.Common.{subst}
-use Rattle.pml_inline.specs.declared.fault.InlineFault.{InlineFault}
-use Rattle.pml_inline.specs.Expansion.{IsLeast}
+use Rattle.promela_text.specs.declared.inline_fault.InlineFault.{InlineFault}
+use Rattle.pml_inline.specs.Least.{IsLeast}
 use Rattle.pml_refused.proofs.Telling.{told_misused}
 use Rattle.pml_refused.proofs.find.of_fault.Goals as goal
 

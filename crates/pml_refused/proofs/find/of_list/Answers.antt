@@ -1,5 +1,5 @@
 use Rattle.std.proofs.Common.{List, sym, subst}
-use Rattle.pml_marks.specs.declared.mark.Mark.{Mark}
+use Rattle.promela_model.specs.declared.mark.Mark.{Mark}
 use Rattle.pml_refused.specs.Told.{AreMarks}
 use Rattle.pml_refused.proofs.Telling.{some_of, told_list}
 use Rattle.pml_refused.proofs.find.of_list.Goals as goal

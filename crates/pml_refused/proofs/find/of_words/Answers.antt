@@ -1,6 +1,6 @@
 use Rattle.std.proofs.Common.{List, sym, subst}
 use Rattle.pml_token.specs.Word.{Word}
-use Rattle.pml_inline.specs.Expansion.{IsExpanded}
+use Rattle.promela_text.specs.Expansion.{IsExpanded}
 use Rattle.pml_refused.proofs.Telling.{told_words}
 use Rattle.pml_refused.proofs.find.of_words.Goals as goal
 

@@ -1,8 +1,8 @@
 use Rattle.std.proofs.Common.{List, reverse, ◌≡◌, ◌≤◌, length, ◌++◌, ◌∷◌, [], ◌-◌, drop, ap, sym, ◌∙◌, append_assoc, arith}
 use Rattle.pml_token.specs.Word.{Word}
-use Rattle.pml_marks.specs.MarksOfUnits.{of_constants}
-use Rattle.pml_marks.specs.declared.mark.Declared.TheVariants as declared_as
-use Rattle.pml_marks.specs.declared.mark.What.TheVariants as what
+use Rattle.promela_model.specs.MarksOfUnits.{of_constants}
+use Rattle.promela_model.specs.declared.mark.Declared.TheVariants as declared_as
+use Rattle.promela_model.specs.declared.mark.What.TheVariants as what
 use Rattle.pml_names.specs.Entry.{Entry}
 use Rattle.pml_names.specs.Env.{after, env_from}
 use Rattle.pml_resolve.proofs.Declared.{constants-from_before, tokens-from_before}

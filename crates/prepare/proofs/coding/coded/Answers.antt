@@ -1,7 +1,7 @@
 use Rattle.std.proofs.Common.{◌≡◌, ℕ, ◌<◌, ◌++◌, List, take, drop, length, arith, ap, ◌∙◌, subst}
 use Rattle.std.specs.Prelude.{nat_lt}
 use Rattle.std.proofs.lemmas.Bool.Decides.{nat_tests}
-use Rattle.pml_lex.specs.Division.{fresh_from}
+use Rattle.promela_text.specs.Tokens.{fresh_from}
 use Rattle.prepare.specs.Coding.{is_coded, front_length, written}
 use Rattle.prepare.proofs.Fronts.{reached_front, reached_end}
 use Rattle.prepare.proofs.coding.coded.Goals as goal

@@ -1,6 +1,6 @@
 use Rattle.std.proofs.Common.{ℕ, ◌+◌, [], ap, ◌∙◌, length, true}
 use Rattle.std.specs.Prelude.{count_by}
-use Rattle.pml_lex.specs.Division.{is_line_feed}
+use Rattle.promela_text.specs.Tokens.{is_line_feed}
 use Rattle.prepare.specs.Places.{start}
 use Rattle.prepare.specs.Turns.{turns}
 use Rattle.prepare.specs.Spelling.{spelled}

@@ -1,5 +1,5 @@
 use Rattle.std.proofs.Common.{◌≡◌, ◌≤◌, take, count_by}
-use Rattle.pml_lex.specs.Division.{is_line_feed}
+use Rattle.promela_text.specs.Tokens.{is_line_feed}
 use Rattle.prepare.proofs.numbering.feeds.Given as goal
 
 abbrev pub invariant-loop-b : goal.invariant-loop-b

@@ -1,6 +1,6 @@
 use Rattle.std.proofs.Common.{◌≡◌, ◌++◌, take}
 use Rattle.std.specs.List.{filter}
-use Rattle.pml_lex.specs.Division.{is_line_feed}
+use Rattle.promela_text.specs.Tokens.{is_line_feed}
 use Rattle.prepare.proofs.spelling.add_feeds.Given as goal
 
 abbrev pub invariant-loop-b : goal.invariant-loop-b

@@ -1,5 +1,5 @@
 use Rattle.std.proofs.Common.{◌≡◌, drop}
-use Rattle.pml_lex.specs.Division.{fresh_from}
+use Rattle.promela_text.specs.Tokens.{fresh_from}
 use Rattle.prepare.proofs.turns.fresh_behind.Given as goal
 
 abbrev pub invariant-loop-b : goal.invariant-loop-b

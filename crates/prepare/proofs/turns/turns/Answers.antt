@@ -1,7 +1,7 @@
 use Rattle.std.proofs.Common.{◌≡◌, ℕ, ◌∷◌, ◌++◌, [], List, take, drop, arith, sym, ap, ◌∙◌}
-use Rattle.pml_lex.specs.declared.piece.Piece.{Piece}
-use Rattle.pml_lex.specs.declared.piece.Piece.TheVariants.{Skipped, Token}
-use Rattle.pml_lex.specs.Division.{fresh_from}
+use Rattle.promela_text.specs.declared.piece.Piece.{Piece}
+use Rattle.promela_text.specs.declared.piece.Piece.TheVariants.{Skipped, Token}
+use Rattle.promela_text.specs.Tokens.{fresh_from}
 use Rattle.prepare.specs.Written.{Written}
 use Rattle.prepare.specs.Turns.{piece_at, turn}
 use Rattle.prepare.specs.Places.{behind}

@@ -1,5 +1,5 @@
 use Rattle.std.proofs.Common.{◌≡◌, length}
-use Rattle.session.specs.Lines.{behind_word}
+use Rattle.promela_session.specs.Lines.{behind_word}
 use Rattle.session.proofs.choice.behind_word.Given as goal
 
 abbrev pub invariant-loop-rest : goal.invariant-loop-rest

@@ -1,5 +1,5 @@
 use Rattle.std.proofs.Common.{◌≡◌, ◌≤◌, ◌-◌, ◌++◌, length, take, drop}
-use Rattle.session.specs.Lines.{first_word}
+use Rattle.promela_session.specs.Lines.{first_word}
 use Rattle.session.proofs.choice.first_word.Given as goal
 
 abbrev pub invariant-loop-end : goal.invariant-loop-end

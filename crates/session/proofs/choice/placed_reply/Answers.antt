@@ -1,6 +1,6 @@
 use Rattle.std.proofs.Common.{◌≡◌, refl, length, ap, sym, ◌∙◌, true, false, rules}
-use Rattle.session.specs.Lines.{trimmed, is_quit, first_word, behind_word, number_up_to}
-use Rattle.session.specs.Session.{place_of}
+use Rattle.promela_session.specs.Lines.{trimmed, is_quit, first_word, behind_word, number_up_to}
+use Rattle.promela_session.specs.Session.{place_of}
 use Rattle.session.proofs.WordParts.{reply_quit, reply_none, reply_some, place_is, both_are, first_not, second_not}
 use Rattle.session.proofs.choice.placed_reply.Goals as goal
 use Rattle.session.proofs.choice.placed_reply.Goals.{else-writes-via-then-writes+else-writes-2, else-writes-via-else-writes}

@@ -1,5 +1,5 @@
 use Rattle.std.proofs.Common.{◌≡◌, length}
-use Rattle.session.specs.Lines.{gap_trimmed}
+use Rattle.promela_session.specs.Lines.{gap_trimmed}
 use Rattle.session.proofs.choice.trim_gap.Given as goal
 
 abbrev pub invariant-loop-rest : goal.invariant-loop-rest

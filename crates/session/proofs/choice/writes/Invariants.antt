@@ -1,6 +1,6 @@
 use Rattle.std.proofs.Common.{◌≡◌, ◌+◌, min, take, true}
 use Rattle.std.specs.List.{list_all}
-use Rattle.session.specs.Lines.{is_digit, number_of}
+use Rattle.promela_session.specs.Lines.{is_digit, number_of}
 use Rattle.session.proofs.choice.writes.Given as goal
 
 abbrev pub invariant-loop-b : goal.invariant-loop-b

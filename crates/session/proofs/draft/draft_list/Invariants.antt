@@ -1,5 +1,5 @@
 use Rattle.std.proofs.Common.{◌≡◌, ◌+◌, ◌++◌, drop}
-use Rattle.session.specs.Texts.{list_from}
+use Rattle.promela_session.specs.Events.{list_from}
 use Rattle.session.proofs.draft.draft_list.Given as goal
 
 abbrev pub invariant-loop-i : goal.invariant-loop-i

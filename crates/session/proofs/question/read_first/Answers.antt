@@ -1,7 +1,7 @@
 use Rattle.std.proofs.Common.{◌≡◌, length, ap, sym, ◌∙◌, true, false}
 use Rattle.std.proofs.lemmas.Result.{err_from_is_err_and}
-use Rattle.session.specs.declared.form.Version.TheVariants.{First}
-use Rattle.session.specs.Session.{place_of, reply_at, begins_second}
+use Rattle.promela_session.specs.declared.form.Version.TheVariants.{First}
+use Rattle.promela_session.specs.Session.{place_of, reply_at, begins_second}
 use Rattle.session.proofs.Asking.{plain_asked, header_last, first_broken, header_asked, header_broken, header_whole, ok_then, err_then}
 use Rattle.session.proofs.question.read_first.Goals as goal
 

@@ -1,4 +1,4 @@
-use Rattle.session.specs.Session.{next_line, place_of}
+use Rattle.promela_session.specs.Session.{next_line, place_of}
 use Rattle.std.proofs.Common.{length}
 use Rattle.session.proofs.Asking.{over_asked}
 use Rattle.session.proofs.question.read_next.Goals as goal

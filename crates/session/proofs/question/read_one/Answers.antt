@@ -1,6 +1,6 @@
 use Rattle.std.proofs.Common.{length, ap, ◌∙◌}
 use Rattle.std.proofs.lemmas.Result.{err_from_is_err_and}
-use Rattle.session.specs.Session.{place_of, reply_at}
+use Rattle.promela_session.specs.Session.{place_of, reply_at}
 use Rattle.session.proofs.Asking.{line_asked, line_broken}
 use Rattle.session.proofs.question.read_one.Goals as goal
 

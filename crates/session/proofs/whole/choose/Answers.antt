@@ -1,5 +1,5 @@
 use Rattle.std.proofs.lemmas.Result.{err_from_is_err_and}
-use Rattle.session.specs.Session.{kept, place_of}
+use Rattle.promela_session.specs.Session.{kept, place_of}
 use Rattle.session.proofs.Parts.{Leads-does, Leads-breaks, Does-then, Breaks-then}
 use Rattle.session.proofs.Together.{both_written, both_broken}
 use Rattle.session.proofs.Turns.{keep_does, keep_breaks}

@@ -1,5 +1,5 @@
 use Rattle.std.proofs.Common.{◌≡◌, ◌≤◌, ◌-◌}
-use Rattle.session.specs.Session.{transcript_noting}
+use Rattle.promela_session.specs.Session.{transcript_noting}
 use Rattle.session.specs.Gathered.{Waits}
 use Rattle.session.specs.Writes.{story_after}
 use Rattle.session.proofs.whole.run.Given as goal

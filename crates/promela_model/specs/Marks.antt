@@ -1,0 +1,253 @@
+-- The marks of a model, in the order of the text.
+-- Hold it against docs/REFUSALS.md, M6 to M17.
+use Rattle.std.specs.Prelude.{ℕ, ◌+◌, Bool, true, false, List, [], ◌∷◌, ◌++◌, length, map, Option, Some, None}
+use Rattle.pml_token.specs.Word.{Word}
+use Rattle.pml_tree.specs.declared.tree.Scalar.TheVariants.{Chan}
+use Rattle.pml_tree.specs.declared.tree.Expr.{Expr, Expr-F, fold-Expr, out-Expr}
+use Rattle.pml_tree.specs.declared.tree.Argument.{Argument, Argument-F, fold-Argument}
+use Rattle.pml_tree.specs.declared.tree.Reference.{Reference, Reference-F, fold-Reference}
+use Rattle.pml_tree.specs.declared.tree.Step.{Step, Step-F, fold-Step}
+use Rattle.pml_tree.specs.declared.tree.Sort.{Sort}
+use Rattle.pml_tree.specs.declared.tree.Sort.TheVariants as sort
+use Rattle.pml_tree.specs.declared.tree.Initial.{Initial}
+use Rattle.pml_tree.specs.declared.tree.Initial.TheVariants as initial
+use Rattle.pml_tree.specs.declared.tree.Variable.{Variable}
+use Rattle.pml_tree.specs.declared.tree.Run.{Run}
+use Rattle.pml_tree.specs.declared.tree.Action.{Action}
+use Rattle.pml_tree.specs.declared.tree.Action.TheVariants as action
+use Rattle.pml_tree.specs.declared.tree.Basic.{Basic, Basic-F, fold-Basic}
+use Rattle.pml_tree.specs.declared.tree.Item.{Item, Item-F, fold-Item}
+use Rattle.pml_tree.specs.declared.tree.Seq.{Seq, Seq-F, fold-Seq}
+use Rattle.promela_model.specs.declared.mark.Constant.{Constant}
+use Rattle.promela_model.specs.declared.mark.Use.{Use}
+use Rattle.promela_model.specs.declared.mark.Use.TheVariants.{Read, Store, Update, Receive, Channel}
+use Rattle.promela_model.specs.declared.mark.Use.TheVariants as use_of
+use Rattle.promela_model.specs.declared.mark.Shape.{Shape}
+use Rattle.promela_model.specs.declared.mark.Role.{Role}
+use Rattle.promela_model.specs.declared.mark.Role.TheVariants as role
+use Rattle.promela_model.specs.declared.mark.Makes.{Makes}
+use Rattle.promela_model.specs.declared.mark.Makes.TheVariants.{Numbers, Channels}
+use Rattle.promela_model.specs.declared.mark.Holder.{Holder}
+use Rattle.promela_model.specs.declared.mark.Holder.TheVariants as holder_of
+use Rattle.promela_model.specs.declared.mark.Structure.TheVariants.{Do, DStep}
+use Rattle.promela_model.specs.declared.mark.Declared.TheVariants as declared_as
+use Rattle.promela_model.specs.declared.mark.What.{What}
+use Rattle.promela_model.specs.declared.mark.What.TheVariants as what
+use Rattle.promela_model.specs.declared.mark.Mark.{Mark}
+use Rattle.promela_model.specs.Constant.{constant}
+
+-- by the owner of the names that stand there
+abbrev pub Marked : Type 0
+Marked = ℕ → List Mark
+
+-- a mark of an owner
+abbrev pub mark : ℕ → What → Mark
+mark o w = record { owner = o; what = w }
+
+-- a single mark
+abbrev pub one : What → Marked
+one w o = mark o w ∷ []
+
+-- ---- expressions
+
+-- a step of a reference: its name and whether it has an index, and the marks of that index
+pub record Stepped : Type 0 where
+  pub shape : Shape
+  pub marks : Marked
+
+-- the marks of a reference, by how it is used
+abbrev pub Referred : Type 0
+Referred = Use → Marked
+
+-- one after the other
+abbrev pub all_marks : List Marked → Marked
+all_marks [] o = []
+all_marks (m ∷ ms) o = m o ++ all_marks ms o
+
+-- the marks of an expression by those of its parts
+abbrev pub expr_layer : Expr-F Marked Marked Referred Stepped → Marked
+expr_layer (Expr-F.Number n) o = one (what.Number n) o
+expr_layer (Expr-F.Truth b) o = []
+expr_layer Expr-F.Timeout o = []
+expr_layer (Expr-F.Read r) o = r Read o
+expr_layer (Expr-F.Ask f r) o = r Channel o
+expr_layer (Expr-F.Poll r search ms) o = r Channel o ++ all_marks ms o
+expr_layer (Expr-F.Unary op a) o = a o
+expr_layer (Expr-F.Binary op a b) o = a o ++ b o
+expr_layer (Expr-F.Choice a b c) o = a o ++ (b o ++ c o)
+
+-- the marks of what a receive asks by those of its parts
+abbrev pub argument_layer : Argument-F Marked Marked Referred Stepped → Marked
+argument_layer (Argument-F.Exactly sign n) o = one (what.Number n) o
+argument_layer (Argument-F.Fixed b) o = []
+argument_layer (Argument-F.Eval a) o = a o
+argument_layer (Argument-F.Into r) o = r Receive o
+
+-- the names of a reference, each with whether it has an index
+abbrev pub shapes : List Stepped → List Shape
+shapes [] = []
+shapes (s ∷ ss) = s.shape ∷ shapes ss
+
+-- the marks of the indices, one after the other
+abbrev pub steps_marks : List Stepped → Marked
+steps_marks [] o = []
+steps_marks (s ∷ ss) o = s.marks o ++ steps_marks ss o
+
+-- the marks of the indices, and then that of the reference
+abbrev pub reference_layer : Reference-F Marked Marked Referred Stepped → Referred
+reference_layer r u o =
+    r.first.marks o ++ (steps_marks r.fields o ++ one (what.Uses u (r.first.shape ∷ shapes r.fields)) o)
+
+-- the marks of an index, if there is one
+abbrev pub index_marks : Option Marked → Marked
+index_marks None o = []
+index_marks (Some m) o = m o
+
+-- there is an index
+abbrev pub has_index : Option Marked → Bool
+has_index None = false
+has_index (Some m) = true
+
+-- a name of a reference: whether it has an index, and the marks of that
+abbrev pub step_layer : Step-F Marked Marked Referred Stepped → Stepped
+step_layer s = record { shape = record { name = s.name; indexed = has_index s.index }; marks = index_marks s.index }
+
+-- the marks of an expression
+abbrev pub of_expr : Expr → Marked
+of_expr = fold-Expr Marked Marked Referred Stepped argument_layer expr_layer reference_layer step_layer
+
+-- the marks of what a receive asks
+abbrev pub of_argument : Argument → Marked
+of_argument = fold-Argument Marked Marked Referred Stepped argument_layer expr_layer reference_layer step_layer
+
+-- the marks of a reference, by how it is used
+abbrev pub of_reference : Reference → Referred
+of_reference = fold-Reference Marked Marked Referred Stepped argument_layer expr_layer reference_layer step_layer
+
+-- a name of a reference, and the marks of its index
+abbrev pub of_step : Step → Stepped
+of_step = fold-Step Marked Marked Referred Stepped argument_layer expr_layer reference_layer step_layer
+
+-- the marks of expressions, one after the other
+abbrev pub of_exprs : List Expr → Marked
+of_exprs es = all_marks (map of_expr es)
+
+-- the marks of what a receive asks, one after the other
+abbrev pub of_arguments : List Argument → Marked
+of_arguments rs = all_marks (map of_argument rs)
+
+-- ---- declarations
+
+-- a width is a number too, and a typedef's name is wanted
+abbrev pub of_sort : Sort → Marked
+of_sort (sort.Plain t) o = []
+of_sort (sort.Unsigned n) o = one (what.Number n) o ++ one (what.Width n) o
+of_sort (sort.Named t) o = one (what.Typedef t) o
+
+-- the marks of a size in brackets, and then the size itself
+abbrev pub of_size : Option Expr → Marked
+of_size None o = []
+of_size (Some e) o = of_expr e o ++ one (what.Size (constant e)) o
+
+-- the size in brackets, if there is one
+abbrev pub size_of : Option Expr → Option Constant
+size_of None = None
+size_of (Some e) = Some (constant e)
+
+-- what a channel initialiser stands behind
+abbrev pub holder : Sort → Holder
+holder (sort.Plain Chan) = holder_of.Chan
+holder _ = holder_of.Other
+
+-- the initialiser of a typedef's field: a name alone is to be an mtype name
+abbrev pub preset_layer : Expr → Expr-F Argument Expr Reference Step → Marked
+preset_layer e (Expr-F.Read r) o = of_reference r use_of.Preset o
+preset_layer e _ o = of_expr e o ++ one (what.Preset (constant e)) o
+
+-- the marks of an initialiser
+abbrev pub of_initial : Role → Sort → Option Initial → Marked
+of_initial x s None o = []
+of_initial role.Field s (Some (initial.Value e)) o = preset_layer e (out-Expr e) o
+of_initial role.Variable s (Some (initial.Value e)) o = of_expr e o
+of_initial x s (Some (initial.Channel e ts)) o = of_expr e o ++ one (what.Channel (holder s) (constant e) (length ts)) o
+
+-- what an initialiser makes
+abbrev pub made_by : Option Initial → Makes
+made_by (Some (initial.Channel e ts)) = Channels
+made_by _ = Numbers
+
+-- What is used stands for o, and what is declared is p's; it is declared behind its initialiser.
+abbrev pub of_variable : Role → ℕ → Variable → Marked
+of_variable x p v o =
+    of_sort v.sort o ++ (of_size v.size o ++ (of_initial x v.sort v.initial o
+    ++ one (what.Declares v.name (declared_as.Variable x v.sort (size_of v.size) (made_by v.initial))) p))
+
+-- the marks of variables, one after the other
+abbrev pub of_variables : Role → ℕ → List Variable → Marked
+of_variables x p [] o = []
+of_variables x p (v ∷ vs) o = of_variable x p v o ++ of_variables x p vs o
+
+-- ---- statements
+
+-- the marks of the arguments of a `run`, and then that of the proctype's name
+abbrev pub of_run : Run → Marked
+of_run r o = of_exprs r.arguments o ++ one (what.Runs r.name (length r.arguments)) o
+
+-- the marks of a statement without a structure
+abbrev pub of_action : Action → Marked
+of_action action.Else o = []
+of_action (action.Assign r e) o = of_reference r Store o ++ of_expr e o
+of_action (action.AssignRun r p) o = of_reference r Store o ++ of_run p o
+of_action (action.Increment r) o = of_reference r Update o
+of_action (action.Decrement r) o = of_reference r Update o
+of_action (action.Run p) o = of_run p o
+of_action (action.Send r order es) o = of_reference r Channel o ++ of_exprs es o
+of_action (action.Receive r search how rs) o = of_reference r Channel o ++ of_arguments rs o
+of_action (action.Printf t es) o = of_exprs es o ++ one (what.Prints t (length es)) o
+of_action (action.Printm e) o = of_expr e o
+of_action (action.Assert e) o = of_expr e o
+of_action (action.Holds e) o = of_expr e o
+
+-- the marks of the channels of an `xr` or `xs`, one after the other
+abbrev pub of_references : List Reference → Marked
+of_references [] o = []
+of_references (r ∷ rs) o = of_reference r Channel o ++ of_references rs o
+
+-- the marks of a statement by those of its parts
+abbrev pub basic_layer : Basic-F Marked Marked Marked → Marked
+basic_layer (Basic-F.Declare vs) o = of_variables role.Variable o vs o
+basic_layer (Basic-F.Exclusive rs) o = of_references rs o
+basic_layer (Basic-F.Plain a) o = of_action a o
+basic_layer (Basic-F.Goto l) o = one (what.Goto l) o
+basic_layer Basic-F.Break o = one what.Break o
+basic_layer (Basic-F.If ms) o = all_marks ms o
+basic_layer (Basic-F.Do ms) o = one (what.Enter Do) o ++ (all_marks ms o ++ one what.Leave o)
+basic_layer (Basic-F.Block m) o = m o
+basic_layer (Basic-F.Atomic m) o = m o
+basic_layer (Basic-F.DStep m) o = one (what.Enter DStep) o ++ (m o ++ one what.Leave o)
+basic_layer (Basic-F.Unless m e) o = one what.Unless o ++ (m o ++ e o)
+
+-- a mark for each label
+abbrev pub of_labels : List Word → Marked
+of_labels [] o = []
+of_labels (l ∷ ls) o = one (what.Label l) o ++ of_labels ls o
+
+-- the marks of the labels, and then of the statement
+abbrev pub item_layer : Item-F Marked Marked Marked → Marked
+item_layer i o = of_labels i.labels o ++ i.basic o
+
+-- the marks of statements, one after the other
+abbrev pub seq_layer : Seq-F Marked Marked Marked → Marked
+seq_layer s o = all_marks s.items o
+
+-- the marks of a statement
+abbrev pub of_basic : Basic → Marked
+of_basic = fold-Basic Marked Marked Marked basic_layer item_layer seq_layer
+
+-- the marks of a statement with its labels
+abbrev pub of_item : Item → Marked
+of_item = fold-Item Marked Marked Marked basic_layer item_layer seq_layer
+
+-- the marks of statements one behind another
+abbrev pub of_seq : Seq → Marked
+of_seq = fold-Seq Marked Marked Marked basic_layer item_layer seq_layer

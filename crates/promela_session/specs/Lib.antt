@@ -1,0 +1,5 @@
+pub mod Events
+pub mod Lines
+pub mod Session
+pub mod Devices
+pub mod Replay

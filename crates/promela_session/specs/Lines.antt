@@ -1,0 +1,148 @@
+-- The lines of the choices, how long they may be, and what one says.
+-- Hold it against docs/FORMATS.md, 'Choices'.
+use Rattle.std.specs.Prelude.{ℕ, ◌+◌, ◌-◌, ◌*◌, ◌==◌, nat_lt, nat_le, Bool, true, false, ◌&&◌, ◌||◌, if◌then◌else◌, List, [], ◌∷◌, ◌++◌, fold, length, Option, Some, None}
+use Rattle.profile.specs.declared.TheConstants.{BAD_LINES, LINE_BYTES}
+use Prim.Native.Nat.{zero, suc}
+use Rattle.std.specs.List.{list_all}
+use Rattle.std.specs.Str.{bytes_eq}
+use Rattle.promela_session.specs.declared.form.Version.{Version}
+use Rattle.promela_session.specs.declared.form.Version.TheVariants.{First, Second}
+use Rattle.promela_session.specs.Events.{header}
+use Rattle.promela_session.specs.declared.line.LineEnd.{LineEnd}
+use Rattle.promela_session.specs.declared.line.LineEnd.TheVariants.{Whole, Last, TooLong}
+use Rattle.promela_session.specs.declared.choice.Answer.{Answer}
+use Rattle.promela_session.specs.declared.choice.Answer.TheVariants as answer
+use Rattle.profile.specs.Characters.{line_feed, tab, carriage_return, space, zero_digit, nine_digit, letter_q}
+
+-- a line of the choices: how it ends, its bytes without a line feed, and the bytes behind it
+pub record Line : Type 0 where
+  pub ends : LineEnd
+  pub bytes : List ℕ
+  pub left : List ℕ
+
+-- the same line with more bytes in front
+abbrev pub lengthened : List ℕ → Line → Line
+lengthened bs line = record { ends = line.ends; bytes = bs ++ line.bytes; left = line.left }
+
+-- The first line of these bytes, where there is room for so many: up to a line feed, or to the end, or too long.
+unfoldable pub line_within : ℕ → List ℕ → Line
+line_within zero rest = record { ends = TooLong; bytes = []; left = rest }
+line_within (suc room) [] = record { ends = Last; bytes = []; left = [] }
+line_within (suc room) (b ∷ rest) =
+    if b == line_feed then record { ends = Whole; bytes = []; left = rest } else lengthened (b ∷ []) (line_within room rest)
+
+-- the bytes that are read for a line
+abbrev pub read_of : LineEnd → List ℕ → List ℕ
+read_of Whole bytes = bytes ++ line_feed ∷ []
+read_of Last bytes = bytes
+read_of TooLong bytes = bytes
+
+-- whether the end was seen
+abbrev pub saw_end : LineEnd → Bool
+saw_end Whole = false
+saw_end Last = true
+saw_end TooLong = false
+
+-- a space, a tab or a carriage return
+abbrev pub is_blank : ℕ → Bool
+is_blank b = b == space || (b == tab || b == carriage_return)
+
+-- a word without the blanks at its front
+abbrev pub front_trimmed : List ℕ → List ℕ
+front_trimmed [] = []
+front_trimmed (b ∷ bs) = if is_blank b then front_trimmed bs else b ∷ bs
+
+-- a word without the blanks at its end
+abbrev pub end_trimmed : List ℕ → List ℕ
+end_trimmed [] = []
+end_trimmed (b ∷ bs) = if list_all is_blank (b ∷ bs) then [] else b ∷ end_trimmed bs
+
+-- and at both
+abbrev pub trimmed : List ℕ → List ℕ
+trimmed line = end_trimmed (front_trimmed line)
+
+-- from `0` to `9`
+abbrev pub is_digit : ℕ → Bool
+is_digit b = nat_le zero_digit b && nat_le b nine_digit
+
+-- the number that digits write
+abbrev pub number_of : List ℕ → ℕ
+number_of digits = fold (λ n b. 10 * n + (b - zero_digit)) 0 digits
+
+-- the number of a word of digits, where it is from 1 to most
+unfoldable pub number_up_to : ℕ → List ℕ → Option ℕ
+number_up_to most word =
+    if list_all is_digit word && (nat_lt 0 (number_of word) && nat_le (number_of word) most) then Some (number_of word) else None
+
+-- the word `q`
+abbrev pub is_quit : List ℕ → Bool
+is_quit [] = false
+is_quit (c ∷ []) = c == letter_q
+is_quit (c ∷ d ∷ rest) = false
+
+-- a number picks its move
+abbrev pub picked : Option ℕ → Option Answer
+picked None = None
+picked (Some n) = Some (answer.Pick n)
+
+-- what a line says to a question with so many moves, or `None` for a bad line
+unfoldable pub reply_of : ℕ → List ℕ → Option Answer
+reply_of most line = if is_quit (trimmed line) then Some answer.Quit else picked (number_up_to most (trimmed line))
+
+-- ---- the second version
+
+-- a space or a tab
+abbrev pub is_gap : ℕ → Bool
+is_gap b = b == space || b == tab
+
+-- a line up to its first gap
+abbrev pub first_word : List ℕ → List ℕ
+first_word [] = []
+first_word (b ∷ bs) = if is_gap b then [] else b ∷ first_word bs
+
+-- a line without the gap at its front
+abbrev pub gap_trimmed : List ℕ → List ℕ
+gap_trimmed [] = []
+gap_trimmed (b ∷ bs) = if is_gap b then gap_trimmed bs else b ∷ bs
+
+-- what is behind the first word and the gap that follows it
+abbrev pub behind_word : List ℕ → List ℕ
+behind_word [] = []
+behind_word (b ∷ bs) = if is_gap b then gap_trimmed bs else behind_word bs
+
+-- the word is not empty, has digits alone, and they write this number
+abbrev pub writes : List ℕ → ℕ → Bool
+writes word n = nat_lt 0 (length word) && (list_all is_digit word && number_of word == n)
+
+-- a number picks its move where two words write the process and the line of that move
+abbrev pub picked_at : (ℕ → ℕ × ℕ) → List ℕ → List ℕ → Option ℕ → Answer
+picked_at place process line None = answer.Misfit
+picked_at place process line (Some n) = if writes process (place n).0 && writes line (place n).1 then answer.Pick n else answer.Misfit
+
+-- what three words say to a question with so many moves, each with its process and its line
+unfoldable pub placed_answer : ℕ → (ℕ → ℕ × ℕ) → List ℕ → Answer
+placed_answer most place word =
+    picked_at place (first_word (behind_word word)) (behind_word (behind_word word)) (number_up_to most (first_word word))
+
+-- what a line says
+unfoldable pub placed_reply : ℕ → (ℕ → ℕ × ℕ) → List ℕ → Answer
+placed_reply most place line = if is_quit (trimmed line) then answer.Quit else placed_answer most place (trimmed line)
+
+-- what a line of this version says, or `None` for a bad line
+abbrev pub reply_in : Version → ℕ → (ℕ → ℕ × ℕ) → List ℕ → Option Answer
+reply_in First most place line = reply_of most line
+reply_in Second most place line = Some (placed_reply most place line)
+
+-- a line without its blanks is the first line of choices of the second version
+unfoldable pub is_header : List ℕ → Bool
+is_header line = bytes_eq (trimmed line) header
+
+-- ----
+
+-- the most bytes of a line of the choices, without its line feed
+abbrev pub most_line_bytes : ℕ
+most_line_bytes = LINE_BYTES
+
+-- the most lines that answer one question badly: the last of them ends the session
+abbrev pub most_bad_lines : ℕ
+most_bad_lines = BAD_LINES

@@ -1,0 +1,4 @@
+pub mod Tables
+pub mod Tokens
+pub mod Inlines
+pub mod Expansion
