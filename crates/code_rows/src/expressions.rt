@@ -5,9 +5,9 @@ use diagnostics::Fault;
 use pml_eval::clip::clip;
 use pml_eval::eval::place;
 use pml_program::form::Form;
-use pml_store::place::Place;
 use pml_store::store::Store;
 use pml_value::view::View;
+use promela_process::place::Place;
 use std::alloc::Global;
 use std::process::Abort;
 

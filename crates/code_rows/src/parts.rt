@@ -8,12 +8,12 @@ use pml_channel::channel::Channel;
 use pml_program::expr::{Expr, Target, Turn};
 use pml_program::form::Form;
 use pml_program::program::{Initial, Slot};
-use pml_store::place::Place;
 use pml_store::store::Store;
 use pml_token::token::{Kind, Token};
 use pml_tree::tree::{Infix, Scalar};
-use pml_value::live_channel::LiveChannel;
 use pml_value::view::Taker;
+use promela_process::place::Place;
+use promela_run::live_channel::LiveChannel;
 use sqlite_items::{Boxed, Items};
 use std::alloc::{AllocError, Global};
 

@@ -1,7 +1,7 @@
 //! The numbers of variables, by place.
 use crate::compare::same;
-use pml_store::place::Place;
 use pml_store::store::Store;
+use promela_process::place::Place;
 use std::process::Abort;
 
 const NAME: &str = "frames";

@@ -16,12 +16,12 @@ use pml_program::expr::Expr;
 use pml_program::program::{Action, Basic, Program, Stmt};
 use pml_start::started::Started;
 use pml_token::token::Token;
-use pml_value::live_channel::LiveChannel;
 use pml_value::message::{assert, send, values};
 use pml_value::receive::{Reception, receive};
 use pml_value::statement::take;
 use pml_value::view::{Taker, View as Seen};
 use profile::MOST_FIELDS;
+use promela_run::live_channel::LiveChannel;
 use row_files::{Block, Writer};
 use std::alloc::Global;
 

@@ -6,8 +6,8 @@ use crate::numbers::{cells, indices, number};
 use pml_lines::change::{Wanted, logged_lines, value_lines};
 use pml_lines::tables::Tables;
 use pml_program::program::Program;
-use pml_store::place::Place;
 use pml_store::store::Store;
+use promela_process::place::Place;
 use row_files::{Block, Pair, Writer, pairs};
 use std::alloc::{AllocError, Global};
 

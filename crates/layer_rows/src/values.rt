@@ -16,7 +16,7 @@ use pml_start::Beginnings;
 use pml_start::create::create;
 use pml_start::started::Started;
 use pml_store::store::Store;
-use pml_value::live_channel::LiveChannel;
+use promela_run::live_channel::LiveChannel;
 use row_files::{Block, Writer};
 use std::alloc::{AllocError, Global};
 

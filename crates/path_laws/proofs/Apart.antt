@@ -1,7 +1,7 @@
 -- Lists of moves in which none stands twice.
 use Rattle.std.proofs.Common.{◌≡◌, ℕ, zero, suc, ◌+◌, ◌<◌, Bool, true, false, List, [], ◌∷◌, ◌++◌, Some, slice_get, refl, sym, ap, ◌∙◌, arith}
-use Rattle.pml_moves.specs.declared.moves.Move.{Move}
-use Rattle.pml_moves.specs.Search.{or_else, each, last, only_if}
+use Rattle.promela_run.specs.declared.moves.Move.{Move}
+use Rattle.promela_run.specs.Moves.{or_else, each, last, only_if}
 use Rattle.pml_moves.specs.Laws.{Each}
 use Rattle.path_laws.specs.OneRecord.{StandOnce}
 

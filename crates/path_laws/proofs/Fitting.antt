@@ -4,8 +4,8 @@ use Rattle.std.specs.Prelude.{slice_get}
 use Rattle.pml_program.specs.declared.program.Stmt.{Stmt}
 use Rattle.pml_program.specs.declared.program.Seq.{Seq, Seq', Row_of-Stmt, end_of-Stmt, more_of-Stmt, items-the_row-Stmt}
 use Rattle.pml_program.specs.declared.program.Basic.{Basic, Plain, Goto, Break, If', Do', Block, Atomic, DStep, Unless, Row_of-Seq, end_of-Seq, more_of-Seq, items-the_row-Seq}
-use Rattle.pml_control.specs.Control.{Place, Turn, Control, Todo, Back, Under, InAtomic, InDStep, steps, steps_of, part, turn, todos, behind, behind_of, into, basic_of, basic_at, sequence, beyond, at, all_of, place_of, at_place, broken, in_d_step, move_on, go_on, settle_within, settle, most_moves}
-use Rattle.pml_control.specs.Offers.{Edge, Levels, one, join, begins, begins_seq, begins_row, begins_any, escapes, offers}
+use Rattle.promela_process.specs.Control.{Place, Turn, Control, Todo, Back, Under, InAtomic, InDStep, steps, steps_of, part, turn, todos, behind, behind_of, into, basic_of, basic_at, sequence, beyond, at, all_of, place_of, at_place, broken, in_d_step, move_on, go_on, settle_within, settle, most_moves}
+use Rattle.promela_process.specs.Offers.{Edge, Levels, one, join, begins, begins_seq, begins_row, begins_any, escapes, offers}
 use Rattle.pml_control.proofs.Places.{part_there}
 use Rattle.pml_control.proofs.Reaching.{first_of, rest_of, zero_plus, plus_zero, plus_one}
 

@@ -11,18 +11,15 @@ use Rattle.pml_program.specs.declared.program.Action.TheVariants as a
 use Rattle.pml_program.specs.declared.program.Proctype.{Proctype}
 use Rattle.pml_program.specs.declared.program.Program.{Program}
 use Rattle.pml_program.specs.declared.program.Run.{Run}
-use Rattle.pml_control.specs.Control.{Control, at, steps}
-use Rattle.pml_flow.specs.Flow.{Offer}
-use Rattle.pml_eval.specs.Value.{Reading, val, ◌>>=◌}
-use Rattle.pml_value.specs.declared.statement.Goes.{Goes as Stored}
-use Rattle.pml_value.specs.Statement.{outcome, goes_to}
-use Rattle.pml_value.specs.Messages.{sent, received, values, asserted}
-use Rattle.pml_start.specs.Begin.{Begun}
+use Rattle.promela_process.specs.Control.{Control, at, steps}
+use Rattle.promela_process.specs.Offers.{Offer}
+use Rattle.promela_process.specs.Expressions.{Reading, val, ◌>>=◌}
+use Rattle.promela_run.specs.declared.goes.Goes.{Goes as Stored}
+use Rattle.promela_run.specs.Statements.{outcome, goes_to, sent, received, values, asserted}
+use Rattle.promela_run.specs.State.{Begun, Stand, State, reads, body_of, levels, first_control}
 use Rattle.pml_start.proofs.Chaining.{chain, chain_any}
-use Rattle.pml_moves.specs.State.{Stand, State, reads, body_of, levels, first_control}
-use Rattle.pml_moves.specs.Search.{choices}
-use Rattle.pml_steps.specs.Change.{put, put_if, put_by, put_all, with_sent, with_received, with_new, joined_by, ran, run_number}
-use Rattle.pml_steps.specs.Outcome.{Done, quiet, run_into, does, effect, behind, first_of, onward, within, within_from, taken}
+use Rattle.promela_run.specs.Moves.{choices}
+use Rattle.promela_run.specs.Steps.{put, put_if, put_by, put_all, with_sent, with_received, with_new, joined_by, ran, run_number, Done, quiet, run_into, does, effect, behind, first_of, onward, within, within_from, taken}
 use Rattle.path_laws.proofs.Fitting.{Fits, at_fits, settle_fits}
 
 -- ---- lists

@@ -1,17 +1,17 @@
 -- The search lists each move once.
 use Rattle.std.proofs.Common.{◌≡◌, ℕ, ◌+◌, Bool, true, false, if◌then◌else◌, List, [], ◌∷◌, length, Option, Some, None, slice_get, nat_eq, refl}
 use Rattle.pml_program.specs.declared.program.Seq.{Seq}
-use Rattle.pml_control.specs.Control.{Control}
-use Rattle.pml_flow.specs.Flow.{Offer}
-use Rattle.pml_moves.specs.declared.moves.Pick.{Pick}
-use Rattle.pml_moves.specs.declared.moves.Move.{Move}
-use Rattle.pml_moves.specs.declared.moves.Move.TheVariants.{Death, Alone, Pair}
-use Rattle.pml_moves.specs.State.{Stand, State, reads, body_of, levels, levels_in}
-use Rattle.pml_moves.specs.Search.{or_else, last, only_if, is_else, can_alone, Message, message, accepts, pick, pairs_on, pairs_with, pairs, moves_by, plain_moves, else_moves, moves_on, moves_of, moves_at, moves_under, moves_if, moves_held, moves}
+use Rattle.promela_process.specs.Control.{Control}
+use Rattle.promela_process.specs.Offers.{Offer}
+use Rattle.promela_run.specs.declared.moves.Pick.{Pick}
+use Rattle.promela_run.specs.declared.moves.Move.{Move}
+use Rattle.promela_run.specs.declared.moves.Move.TheVariants.{Death, Alone, Pair}
+use Rattle.promela_run.specs.State.{Stand, State, reads, body_of, levels, levels_in}
+use Rattle.promela_run.specs.Moves.{or_else, last, only_if, is_else, can_alone, Message, message, accepts, pick, pairs_on, pairs_with, pairs, moves_by, plain_moves, else_moves, moves_on, moves_of, moves_at, moves_under, moves_if, moves_held, moves}
 use Rattle.pml_moves.specs.Laws.{Each, taker}
 use Rattle.pml_moves.proofs.EachMove.{at_each}
-use Rattle.pml_sim.specs.World.{unless_stopped, rules}
-use Rattle.pml_sim.specs.declared.halt.Halt.{Halt}
+use Rattle.promela_run.specs.World.{unless_stopped, rules}
+use Rattle.promela_run.specs.declared.halt.Halt.{Halt}
 use Rattle.path_laws.specs.OneRecord.{StandOnce, ListsOnce}
 use Rattle.path_laws.proofs.Apart.{Apart, stand_once, each_apart, or_holds, last_holds, each_holds, only_holds, only_apart, one_apart}
 

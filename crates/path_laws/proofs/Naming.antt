@@ -6,21 +6,20 @@ use Rattle.std.specs.List.{AllByRecursion, Contains}
 use Rattle.pml_program.specs.declared.program.Stmt.{Stmt}
 use Rattle.pml_program.specs.declared.program.Seq.{Seq}
 use Rattle.pml_program.specs.declared.program.Proctype.{Proctype}
-use Rattle.pml_control.specs.Control.{Control}
-use Rattle.pml_control.specs.Offers.{Edge, Levels, offers}
+use Rattle.promela_process.specs.Control.{Control}
+use Rattle.promela_process.specs.Offers.{Edge, Levels, offers, Offer, offer_of, statement_at, action, text_by, line_by}
 use Rattle.pml_control.proofs.Reaching.{zero_plus, plus_zero, plus_one}
-use Rattle.pml_flow.specs.Flow.{Offer, offer_of, statement_at, action, text_by, line_by}
-use Rattle.pml_lines.specs.Changes.{proctype_name}
-use Rattle.pml_moves.specs.declared.moves.Pick.{Pick}
-use Rattle.pml_moves.specs.declared.moves.Move.{Move}
-use Rattle.pml_moves.specs.declared.moves.Move.TheVariants.{Death, Alone, Pair}
-use Rattle.pml_moves.specs.State.{Stand, State, reads, body_of, levels, levels_in, offer_on, offer_at, picked}
-use Rattle.pml_moves.specs.Search.{or_else, each, last, only_if, is_else, can_alone, Message, message, accepts, pick, pairs_on, pairs_with, pairs, moves_by, plain_moves, else_moves, moves_on, moves_of, moves_at, moves_under, moves_if, moves_held, moves}
+use Rattle.promela_run.specs.Lines.{proctype_name}
+use Rattle.promela_run.specs.declared.moves.Pick.{Pick}
+use Rattle.promela_run.specs.declared.moves.Move.{Move}
+use Rattle.promela_run.specs.declared.moves.Move.TheVariants.{Death, Alone, Pair}
+use Rattle.promela_run.specs.State.{Stand, State, reads, body_of, levels, levels_in, offer_on, offer_at, picked}
+use Rattle.promela_run.specs.Moves.{or_else, each, last, only_if, is_else, can_alone, Message, message, accepts, pick, pairs_on, pairs_with, pairs, moves_by, plain_moves, else_moves, moves_on, moves_of, moves_at, moves_under, moves_if, moves_held, moves}
 use Rattle.pml_moves.specs.Laws.{Each}
-use Rattle.pml_texts.specs.Texts.{kind_of, proctype_of, heading, offer_text, pick_text, death_text, line_in, brace_of}
-use Rattle.pml_sim.specs.declared.halt.Halt.{Halt}
+use Rattle.promela_run.specs.Texts.{kind_of, proctype_of, heading, offer_text, pick_text, death_text, line_in, brace_of}
+use Rattle.promela_run.specs.declared.halt.Halt.{Halt}
 use Rattle.pml_sim.specs.Origins.{IsOffered, IsThere}
-use Rattle.pml_sim.specs.World.{unless_stopped}
+use Rattle.promela_run.specs.World.{unless_stopped}
 use Rattle.path_laws.specs.Origins.{NamesPlace, NamesReceiver, TextsNamePlaces, ListedMovesHaveOrigins}
 use Rattle.path_laws.proofs.Apart.{or_holds, only_holds}
 use Rattle.path_laws.proofs.Growing.{IsFitStand, IsFitState, all_got}

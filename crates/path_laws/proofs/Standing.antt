@@ -10,24 +10,20 @@ use Rattle.pml_program.specs.declared.program.Seq.{Seq}
 use Rattle.pml_program.specs.declared.program.Action.TheVariants as a
 use Rattle.pml_program.specs.declared.program.Proctype.{Proctype}
 use Rattle.pml_program.specs.declared.program.Program.{Program}
-use Rattle.pml_control.specs.Control.{Control, at, steps, sequence}
-use Rattle.pml_control.specs.Offers.{Edge, Levels, offers}
+use Rattle.promela_process.specs.Control.{Control, at, steps, sequence}
+use Rattle.promela_process.specs.Offers.{Edge, Levels, offers, Offer, offer_of, statement_at, text_by}
 use Rattle.pml_control.proofs.Places.{found}
-use Rattle.pml_flow.specs.Flow.{Offer, offer_of, statement_at, text_by}
-use Rattle.pml_store.specs.Store.{Frame}
-use Rattle.pml_start.specs.Begin.{Begun}
-use Rattle.pml_start.specs.Start.{first_state}
+use Rattle.promela_process.specs.Store.{Frame}
+use Rattle.promela_run.specs.State.{Begun, first_state, Stand, State, reads, body_of, levels_in, begins_by, begins_at, offer_on, offer_at, picked}
 use Rattle.pml_start.specs.Starting.{starting}
 use Rattle.pml_start.proofs.Chaining.{chain, chain_any}
 use Rattle.pml_start.proofs.Living.{living_are}
-use Rattle.pml_moves.specs.declared.moves.Pick.{Pick}
-use Rattle.pml_moves.specs.declared.moves.Move.{Move}
-use Rattle.pml_moves.specs.declared.moves.Move.TheVariants.{Death, Alone, Pair}
-use Rattle.pml_moves.specs.State.{Stand, State, reads, body_of, levels_in, begins_by, begins_at, offer_on, offer_at, picked}
-use Rattle.pml_moves.specs.Search.{message}
-use Rattle.pml_steps.specs.Change.{put_all, moved_to, go_to, went}
-use Rattle.pml_steps.specs.Outcome.{Done, taken, body_by, moved, alone, both_on, paired, passed, step}
-use Rattle.pml_sim.specs.World.{Running, first, led_to, rules}
+use Rattle.promela_run.specs.declared.moves.Pick.{Pick}
+use Rattle.promela_run.specs.declared.moves.Move.{Move}
+use Rattle.promela_run.specs.declared.moves.Move.TheVariants.{Death, Alone, Pair}
+use Rattle.promela_run.specs.Moves.{message}
+use Rattle.promela_run.specs.Steps.{put_all, moved_to, go_to, went, Done, taken, body_by, moved, alone, both_on, paired, passed, step}
+use Rattle.promela_run.specs.World.{Running, first, led_to, rules}
 use Rattle.pml_play.specs.Run.{Turn, IsPath, last_state}
 use Rattle.pml_play.specs.Shown.{PathLeads}
 use Rattle.pml_play.specs.Transcript.{IsModel}

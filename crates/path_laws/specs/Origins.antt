@@ -2,12 +2,12 @@
 use Rattle.std.specs.Prelude.{◌≡◌, ℕ, Bool, List, ◌++◌, codes}
 use Rattle.std.specs.Fmt.{decimal}
 use Rattle.std.specs.List.{Contains}
-use Rattle.pml_moves.specs.declared.moves.Move.{Move}
-use Rattle.pml_moves.specs.declared.moves.Move.TheVariants.{Death, Alone, Pair}
-use Rattle.pml_moves.specs.State.{picked, State}
-use Rattle.pml_texts.specs.Texts.{line_in, origin_of, move_text, pick_text}
+use Rattle.promela_run.specs.declared.moves.Move.{Move}
+use Rattle.promela_run.specs.declared.moves.Move.TheVariants.{Death, Alone, Pair}
+use Rattle.promela_run.specs.State.{picked, State}
+use Rattle.promela_run.specs.Texts.{line_in, origin_of, move_text, pick_text}
 use Rattle.pml_sim.specs.Origins.{IsThere}
-use Rattle.pml_sim.specs.World.{Running, rules}
+use Rattle.promela_run.specs.World.{Running, rules}
 use Rattle.pml_play.specs.Shown.{PathLeads}
 use Rattle.pml_play.specs.Transcript.{IsModel}
 

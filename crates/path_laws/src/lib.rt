@@ -1,10 +1,10 @@
 //! Laws of paths and of what is recorded along them. Nothing here is run.
 #![tactic(auto)]
 
-ghost use Rattle.pml_moves.specs.Search.{moves};
-ghost use Rattle.pml_moves.specs.State.{State};
+ghost use Rattle.promela_run.specs.Moves.{moves};
+ghost use Rattle.promela_run.specs.State.{State};
 ghost use Rattle.pml_play.specs.Run.{OfEachSession};
-ghost use Rattle.pml_sim.specs.World.{rules};
+ghost use Rattle.promela_run.specs.World.{rules};
 ghost use Rattle.path_laws.specs.GoesOn.{PathsGoOnByMoves};
 ghost use Rattle.path_laws.specs.OneRecord.{PathsAndRecordsAreOneToOne, PathsHaveOneRecord, StandOnce, ListsOnce};
 ghost use Rattle.path_laws.specs.Origins.{ListedMovesHaveOrigins, TextsNamePlaces};

@@ -4,7 +4,7 @@ use mathlib.Core.Former.{Count}
 use Rattle.pml_program.specs.declared.program.Stmt.{Stmt}
 use Rattle.pml_program.specs.declared.program.Seq.{Seq, Seq', out-Seq, Row_of-Stmt, end_of-Stmt, more_of-Stmt, items-the_row-Stmt}
 use Rattle.pml_program.specs.declared.program.Basic.{Basic, If, If', Do, Do', Row_of-Seq, end_of-Seq, more_of-Seq, items-the_row-Seq, items_hidden-the_row-Seq-0}
-use Rattle.pml_control.specs.Control.{steps}
+use Rattle.promela_process.specs.Control.{steps}
 use Rattle.pml_control.proofs.Rows.{steps_out}
 use Rattle.pml_blamed.specs.declared.site.Matter.TheVariants as matter
 use Rattle.pml_blamed.specs.declared.site.Site.{Site}

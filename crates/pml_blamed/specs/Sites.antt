@@ -6,7 +6,7 @@ use Rattle.pml_program.specs.declared.program.Action.TheVariants as action
 use Rattle.pml_program.specs.declared.program.Stmt.{Stmt}
 use Rattle.pml_program.specs.declared.program.Seq.{Seq, Seq', Row_of-Stmt, end_of-Stmt, more_of-Stmt}
 use Rattle.pml_program.specs.declared.program.Basic.{Basic, Plain, Goto, Break, If', Do', Block, Atomic, DStep, Unless, Row_of-Seq, end_of-Seq, more_of-Seq}
-use Rattle.pml_control.specs.Control.{steps}
+use Rattle.promela_process.specs.Control.{steps}
 use Rattle.pml_blamed.specs.declared.site.Matter.{Matter}
 use Rattle.pml_blamed.specs.declared.site.Matter.TheVariants as matter
 use Rattle.pml_blamed.specs.declared.site.Site.{Site}

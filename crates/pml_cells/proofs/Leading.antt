@@ -3,7 +3,7 @@ use Rattle.std.proofs.Common.{◌≡◌, ℕ, zero, suc, ◌%◌, List, Option, 
 use Rattle.pml_program.specs.declared.form.Form.{Form}
 use Rattle.pml_program.specs.declared.program.Slot.{Slot}
 use Rattle.pml_program.specs.declared.program.Fields.{Fields}
-use Rattle.pml_cells.specs.Cells.{slot_of, cell_of, fields_of, last_field}
+use Rattle.promela_run.specs.State.{slot_of, cell_of, fields_of, last_field}
 
 -- the way from what is found on
 abbrev on : List Fields → ℕ → Slot → ℕ → Option Slot → Slot

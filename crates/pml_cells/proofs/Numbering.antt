@@ -7,7 +7,7 @@ use Rattle.std.specs.Ordering.{nat_cmp, is_eq}
 use Rattle.std.specs.Cmp.{nat_cmp_is}
 use Rattle.std.specs.BTreeMap.{BTreeMap, get, Updates}
 use Rattle.pml_program.specs.declared.program.Fields.{Fields}
-use Rattle.pml_cells.specs.Cells.{fields_at}
+use Rattle.promela_run.specs.State.{fields_at}
 use Rattle.pml_cells.specs.Tables.{fields_in, fields_by, AreNumbers}
 
 apart : (k o : ℕ) → (k ≡ o → ⊥) → is_eq (nat_cmp k o) ≡ false

@@ -4,7 +4,8 @@ use Rattle.std.proofs.lemmas.Bool.{lt-ltb, le-ltb}
 use Rattle.std.proofs.lemmas.List.{drop_more}
 use Rattle.std.proofs.lemmas.Option.{slice_get_past, slice_get_read}
 use Rattle.pml_program.specs.declared.program.Slot.{Slot}
-use Rattle.pml_cells.specs.Cells.{size, slot_of, cell_of, number_of}
+use Rattle.promela_run.specs.State.{size, slot_of, cell_of}
+use Rattle.pml_cells.specs.Numbers.{number_of}
 use Rattle.pml_cells.specs.Tables.{AreStarts}
 
 -- one place more

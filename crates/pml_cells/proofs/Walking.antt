@@ -7,7 +7,7 @@ use Rattle.pml_program.specs.declared.form.Form.{Form}
 use Rattle.pml_program.specs.declared.program.Slot.{Slot}
 use Rattle.pml_program.specs.declared.program.Fields.{Fields}
 use Rattle.pml_cells.specs.declared.walk.Stage.{Stage}
-use Rattle.pml_cells.specs.Cells.{size, slot_of, cell_of, fields_of, last_field, leaf}
+use Rattle.promela_run.specs.State.{size, slot_of, cell_of, fields_of, last_field, leaf}
 use Rattle.pml_cells.specs.Tables.{fields_in, field_by, slot_or}
 use Rattle.pml_cells.specs.Walk.{offset, IsOnWay}
 use Rattle.pml_cells.proofs.Leading.{stays, goes_on}

@@ -1,3 +1,3 @@
-pub mod Cells
 pub mod Tables
 pub mod Walk
+pub mod Numbers

@@ -4,7 +4,7 @@ use Rattle.std.specs.Ordering.{nat_cmp}
 use Rattle.std.specs.BTreeMap.{BTreeMap, get}
 use Rattle.pml_program.specs.declared.program.Slot.{Slot}
 use Rattle.pml_program.specs.declared.program.Fields.{Fields}
-use Rattle.pml_cells.specs.Cells.{size, fields_at}
+use Rattle.promela_run.specs.State.{size, fields_at}
 
 -- where variables begin, the first of them here, as far as a machine word counts
 abbrev pub AreStarts : ℕ → List Slot → List ℕ → Type 0

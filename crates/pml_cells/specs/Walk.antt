@@ -3,7 +3,7 @@ use Rattle.std.specs.Prelude.{◌≡◌, ℕ, ◌+◌, ◌-◌, ◌<◌, ◌≤�
 use Rattle.pml_program.specs.declared.program.Slot.{Slot}
 use Rattle.pml_program.specs.declared.program.Fields.{Fields}
 use Rattle.pml_cells.specs.declared.walk.Stage.{Stage}
-use Rattle.pml_cells.specs.Cells.{last_field, leaf}
+use Rattle.promela_run.specs.State.{last_field, leaf}
 use Rattle.pml_cells.specs.Tables.{field_by}
 
 -- the typedefs and the variable whose cells are walked over

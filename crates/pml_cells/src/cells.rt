@@ -1,7 +1,7 @@
 //! What the cells of one variable or field are.
 
 ghost use Rattle.std.specs.Prelude.{◌≡◌, ◌%◌};
-ghost use Rattle.pml_cells.specs.Cells.{size};
+ghost use Rattle.promela_run.specs.State.{size};
 
 use pml_program::program::Slot;
 

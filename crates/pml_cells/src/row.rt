@@ -2,7 +2,8 @@
 
 ghost use Rattle.std.specs.Prelude.{◌≡◌, ◌≤◌, ◌<◌, ◌+◌, IfOk, length, slice_get, slice_index_or};
 ghost use Rattle.std.specs.Option.{option_copied};
-ghost use Rattle.pml_cells.specs.Cells.{slot_of, cell_of, number_of, number_in};
+ghost use Rattle.promela_run.specs.State.{slot_of, cell_of};
+ghost use Rattle.pml_cells.specs.Numbers.{number_of, number_in};
 ghost use Rattle.pml_cells.specs.Tables.{AreStarts};
 
 use crate::cells::size;

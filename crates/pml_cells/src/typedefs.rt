@@ -2,7 +2,7 @@
 
 ghost use Rattle.std.specs.Prelude.{◌≡◌, IfOk, slice_get, length, map};
 ghost use Rattle.std.specs.Option.{option_copied};
-ghost use Rattle.pml_cells.specs.Cells.{slot_of, cell_of, fields_of, leaf};
+ghost use Rattle.promela_run.specs.State.{slot_of, cell_of, fields_of, leaf};
 ghost use Rattle.pml_cells.specs.Tables.{AreNumbers, fields, fields_in, field_by};
 
 use crate::cells::remainder;

@@ -1,7 +1,7 @@
 //! The ways to the cells of a variable, each from where it parts from the one before.
 
 ghost use Rattle.std.specs.Prelude.{◌≡◌, ◌≤◌, ◌<◌, ◌-◌, ◌^◌, IfOk, IfNone, IfSome};
-ghost use Rattle.pml_cells.specs.Cells.{leaf};
+ghost use Rattle.promela_run.specs.State.{leaf};
 ghost use Rattle.pml_cells.specs.Tables.{field_by};
 ghost use Rattle.pml_cells.specs.Walk.{IsOnWay};
 

@@ -4,8 +4,8 @@ use Rattle.std.specs.Prelude.{slice_get, remove, insert}
 use Rattle.pml_program.specs.declared.form.Form.{Form}
 use Rattle.pml_program.specs.declared.form.Form.TheVariants.{Plain}
 use Rattle.pml_tree.specs.declared.tree.Scalar.TheVariants.{Bit}
-use Rattle.pml_eval.specs.Clip.{clipped}
-use Rattle.pml_channel.specs.State.{cut, is_greater, sorted_in}
+use Rattle.promela_process.specs.Numbers.{clipped}
+use Rattle.promela_process.specs.Store.{cut, is_greater, sorted_in}
 use Rattle.pml_channel.specs.Laid.{messages_in, rotated, numbers_in}
 use Rattle.std.proofs.lemmas.List.{length_push, at_drop_more, take-append-le, drop-append-le, length-append, length-drop, length-take-le, drop-drop, nil_from_length, take_at, drop_at, take-append-drop, append-nil, same_from_push, take-take, drop-take, take_all, take_more, drop_more, get_or_push, get_or_append_left}
 use Rattle.std.proofs.lemmas.Option.{get_or_from_slice_get}

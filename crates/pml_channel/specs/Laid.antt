@@ -1,6 +1,6 @@
 -- How the numbers of messages lie one behind another, and where a message belongs.
 use Rattle.std.specs.Prelude.{◌≡◌, ℕ, zero, suc, ◌+◌, ◌-◌, ◌*◌, ◌≤◌, List, [], ◌∷◌, ◌++◌, take, drop, length, insert, ℤ}
-use Rattle.pml_channel.specs.State.{ChannelState, sorted_in}
+use Rattle.promela_process.specs.Store.{ChannelState, sorted_in}
 
 -- so many messages of so many fields each, one behind another
 abbrev pub messages_in : ℕ → ℕ → List ℤ → List (List ℤ)

@@ -2,13 +2,14 @@
 
 ghost use Rattle.std.specs.Prelude.{◌≡◌, ◌+◌, ◌*◌, ◌<◌, ◌≤◌, ◌++◌, ◌∷◌, List, ℤ, [], length, take, drop, vec_len, IfSome, OnOk, OnErr, remove, slice_get, Some};
 ghost use Rattle.std.specs.List.{position_from};
-ghost use Rattle.pml_eval.specs.Value.{matched};
-ghost use Rattle.pml_channel.specs.State.{cut, sorted_in, is_greater};
+ghost use Rattle.promela_process.specs.Expressions.{matched};
+ghost use Rattle.promela_process.specs.Store.{cut, sorted_in, is_greater};
 ghost use Rattle.pml_channel.specs.Laid.{Belongs, MovesLast, rotated, numbers_in};
 
 use pml_eval::clip::clip;
-use pml_eval::pattern::{Sought, matches};
+use pml_eval::pattern::matches;
 use pml_program::form::Form;
+use promela_process::sought::Sought;
 use sqlite_items::Items;
 use std::alloc::{AllocError, Global};
 use std::marker::Model;
@@ -28,7 +29,7 @@ pub struct Channel {
 
 impl Model for Channel {
     ghost use Rattle.std.specs.Prelude.{drop, length};
-    ghost use Rattle.pml_channel.specs.State.{ChannelState};
+    ghost use Rattle.promela_process.specs.Store.{ChannelState};
     ghost use Rattle.pml_channel.specs.Laid.{IsLaid, messages_in};
 
     ghost Value = { ChannelState };

@@ -18,16 +18,15 @@ use Rattle.pml_control.specs.declared.ends.Ending.{Ending}
 use Rattle.pml_control.specs.declared.ends.Ending.TheVariants as ending
 use Rattle.pml_control.specs.Ends.{ending_of, AreEnds}
 use Rattle.pml_control.specs.Graph.{nodes_of, nexts, bad_step, spot_of}
-use Rattle.pml_control.specs.Circles.{Circle, SettlesEverywhere, BadFirstPoint, FirstPointsFit}
+use Rattle.promela_process.specs.Circles.{Circle, SettlesEverywhere, BadFirstPoint, FirstPointsFit}
 use Rattle.pml_control.proofs.Circling.{stays_within, decides}
 use Rattle.pml_control.proofs.First.{decides_first}
 use Rattle.pml_program.specs.declared.program.Seq.{Seq}
 use Rattle.pml_program.specs.declared.program.Proctype.{Proctype}
 use Rattle.pml_program.specs.declared.program.Program.{Program}
 use Rattle.pml_resolve.specs.Model.{numbered_model}
-use Rattle.pml_start.specs.Begin.{Begun}
-use Rattle.pml_start.specs.Start.{first_state}
-use Rattle.pml_check.specs.Judged.{condition_of, BreaksCondition, KeepsCondition, BreaksModel, KeepsModel, HasBadStart, HasGoodStart, AppliesTo, FitsTo, Applies, Fits, IsFit, IsLeast}
+use Rattle.promela_run.specs.State.{Begun, first_state}
+use Rattle.promela_run.specs.Judged.{condition_of, BreaksCondition, KeepsCondition, BreaksModel, KeepsModel, HasBadStart, HasGoodStart, AppliesTo, FitsTo, Applies, Fits, IsFit, IsLeast}
 use Rattle.pml_check.specs.Decided.{all_judged, FitsAll, IsFirst}
 use Rattle.pml_check.proofs.Seeking.{OneBelow, NoneBelow, below, of_list}
 use Rattle.pml_check.proofs.Ends.{are_ends}

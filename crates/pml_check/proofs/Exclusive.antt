@@ -8,11 +8,11 @@ use Rattle.promela_model.specs.Decided as marks
 use Rattle.promela_model.specs.declared.condition.Condition.TheVariants as condition
 use Rattle.promela_model.specs.Decided.{Somewhere, Nowhere, broken, breaks_loose, crosses_step, begins_there}
 use Rattle.pml_program.specs.declared.program.Seq.{Seq}
-use Rattle.pml_control.specs.Circles.{BadFirstPoint, FirstPointsFit}
+use Rattle.promela_process.specs.Circles.{BadFirstPoint, FirstPointsFit}
 use Rattle.pml_control.proofs.Settling.{circle_not}
 use Rattle.pml_program.specs.declared.program.Proctype.{Proctype}
 use Rattle.pml_program.specs.declared.program.Program.{Program}
-use Rattle.pml_check.specs.Judged.{condition_of, BreaksCondition, KeepsCondition, BreaksModel, KeepsModel, HasCircle, SettleEverywhere, HasBadStep, HaveGoodSteps, HasBadStart, HasGoodStart, AppliesTo, FitsTo}
+use Rattle.promela_run.specs.Judged.{condition_of, BreaksCondition, KeepsCondition, BreaksModel, KeepsModel, HasCircle, SettleEverywhere, HasBadStep, HaveGoodSteps, HasBadStart, HasGoodStart, AppliesTo, FitsTo}
 
 some_none : (p : List Mark → Mark → Bool) (ms : List Mark) → Somewhere p ms → Nowhere p ms → ⊥
 some_none p ms h f = let e : true ≡ false = sym h.3 ∙ f h.0 h.1 h.2 in absurd cc

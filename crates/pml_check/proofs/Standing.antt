@@ -7,7 +7,7 @@ use Rattle.pml_program.specs.declared.program.Program.{Program}
 use Rattle.pml_resolve.specs.Model.{numbered_model}
 use Rattle.promela_model.specs.StandsModel.{StandsModel}
 use Rattle.pml_stands.proofs.Model.{model-stands, one-model}
-use Rattle.pml_check.specs.Judged.{AppliesTo, FitsTo, Applies, Fits}
+use Rattle.promela_run.specs.Judged.{AppliesTo, FitsTo, Applies, Fits}
 use Rattle.pml_check.proofs.Exclusive.{apart}
 
 pub is_numbered : (t : Tree) (p : Program) → StandsModel t p → p ≡ numbered_model t

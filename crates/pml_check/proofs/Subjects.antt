@@ -6,7 +6,7 @@ use Rattle.promela_model.specs.declared.mark.Mark.{Mark}
 use Rattle.promela_model.specs.MarksOfUnits.{of_tree}
 use Rattle.pml_program.specs.declared.program.Program.{Program}
 use Rattle.pml_resolve.specs.Model.{numbered_model}
-use Rattle.pml_check.specs.Judged.{FitsTo, SettleEverywhere}
+use Rattle.promela_run.specs.Judged.{FitsTo, SettleEverywhere}
 use Rattle.pml_check.specs.Decided.{all_judged, Finds}
 
 -- found is what an answer says

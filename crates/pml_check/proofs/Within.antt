@@ -32,7 +32,7 @@ use Rattle.promela_model.specs.Known.{cells}
 use Rattle.pml_stands.proofs.Limits.{Few, AllFew, all-few, room, Rooms}
 use Rattle.pml_stands.proofs.Limited.{IsLimited, model-limited}
 use Rattle.pml_start.specs.Bound.{cells_of, largest, room_by, room_of, room_of_fields, room_of_processes, IsWithin}
-use Rattle.pml_check.specs.Judged.{FitsTo}
+use Rattle.promela_run.specs.Judged.{FitsTo}
 use Rattle.pml_check.specs.Decided.{all_judged, FitsAll}
 
 -- ---- the marks

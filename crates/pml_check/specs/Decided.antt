@@ -6,7 +6,7 @@ use Rattle.promela_model.specs.declared.mark.Mark.{Mark}
 use Rattle.promela_model.specs.declared.condition.Condition.{Condition}
 use Rattle.pml_program.specs.declared.program.Proctype.{Proctype}
 use Rattle.pml_program.specs.declared.program.Program.{Program}
-use Rattle.pml_check.specs.Judged.{HasCircle, SettleEverywhere, HasBadStep, HaveGoodSteps, HasBadStart, HasGoodStart, BreaksCondition, KeepsCondition, BreaksModel, KeepsModel, AppliesTo, FitsTo}
+use Rattle.promela_run.specs.Judged.{HasCircle, SettleEverywhere, HasBadStep, HaveGoodSteps, HasBadStart, HasGoodStart, BreaksCondition, KeepsCondition, BreaksModel, KeepsModel, AppliesTo, FitsTo}
 
 abbrev pub DecidesCircles : Bool → List Proctype → Type 0
 DecidesCircles true ps = HasCircle ps

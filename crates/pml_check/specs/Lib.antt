@@ -1,4 +1,3 @@
-pub mod Judged
 pub mod Decided
 pub mod Broken
 pub mod Subject

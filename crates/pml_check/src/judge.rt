@@ -8,7 +8,7 @@ ghost use Rattle.promela_model.specs.declared.mark.Mark.{Mark};
 ghost use Rattle.promela_model.specs.MarksOfUnits.{of_tree};
 ghost use Rattle.pml_program.specs.declared.program.Program.{Program};
 ghost use Rattle.pml_resolve.specs.Model.{numbered_model};
-ghost use Rattle.pml_check.specs.Judged.{condition_of};
+ghost use Rattle.promela_run.specs.Judged.{condition_of};
 ghost use Rattle.pml_check.specs.Decided.{DecidesCircles, DecidesSteps, DecidesCondition, DecidesModel, Decides, Finds, all_judged};
 ghost use Rattle.pml_check.specs.Broken.{AreBroken};
 ghost use Rattle.pml_check.specs.Subject.{IsSubject};
@@ -53,7 +53,7 @@ fn breaks_control(refusal: Refusal, control: Findings) -> bool
 }
 
 /// Whether a refusal applies: any but that of the first state.
-#[tactic(auto, unfolding(crate::specs::Judged::AppliesTo, crate::specs::Judged::FitsTo))]
+#[tactic(auto, unfolding(promela_run::specs::Judged::AppliesTo, promela_run::specs::Judged::FitsTo))]
 fn refuses(refusal: Refusal, subject: &Subject) -> bool
     requires other { refusal ≢ r.Initialiser }
     ensures { (t : Tree) → IsSubject t subject.now → Decides result refusal (of_tree t) (numbered_model t) }

@@ -9,7 +9,7 @@ use Rattle.pml_program.specs.declared.program.Basic.{Basic, Plain, Goto, Break, 
 use Rattle.pml_control.specs.declared.ends.Ending.{Ending}
 use Rattle.pml_control.specs.declared.ends.Ending.TheVariants as ending
 use Rattle.pml_control.specs.Ends.{ending_of}
-use Rattle.pml_control.specs.Control.{is_among, steps}
+use Rattle.promela_process.specs.Control.{is_among, steps}
 
 -- A node: a statement with its labels, or the end of a sequence. It goes on to a label, to another node, or stays.
 -- Of a d_step it has the least number inside, and that of its first statement, which is the greatest.

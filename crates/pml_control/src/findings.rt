@@ -1,7 +1,7 @@
 //! The plan of a body: its places by numbers, and what is found of its control.
 
 ghost use Rattle.std.specs.Prelude.{◌≡◌, IfOk};
-ghost use Rattle.pml_control.specs.Circles.{DecidesCircle, DecidesFirstPoint};
+ghost use Rattle.pml_control.specs.Decides.{DecidesCircle, DecidesFirstPoint};
 ghost use Rattle.pml_control.specs.Plan.{IsPlan};
 
 use crate::circle::any_circles;

@@ -5,8 +5,8 @@ use Rattle.diagnostics.specs.declared.fault.Fault.{Fault}
 use Rattle.pml_tree.specs.declared.tree.Search.{Search}
 use Rattle.pml_tree.specs.declared.tree.Search.TheVariants.{Matching}
 use Rattle.pml_program.specs.declared.expr.Want.{Want}
-use Rattle.pml_eval.specs.declared.pattern.Sought.{Sought}
-use Rattle.pml_eval.specs.Value.{matched, taken, Reading, Wanted, want, wants_of, is_match, ◌>>=◌}
+use Rattle.promela_process.specs.declared.sought.Sought.{Sought}
+use Rattle.promela_process.specs.Expressions.{matched, taken, Reading, Wanted, want, wants_of, is_match, ◌>>=◌}
 
 -- where all ask ws, the rest asks something that the rest of the fields is where all fields are ws
 abbrev pub Rest : ℕ → List Want → List ℤ → Reading → List Sought → Type 0

@@ -9,7 +9,7 @@ use Rattle.pml_program.specs.declared.form.Form.{Form}
 use Rattle.pml_program.specs.declared.form.Form.TheVariants.{Plain, Unsigned, Struct, Unknown}
 use Rattle.pml_tree.specs.declared.tree.Scalar.{Scalar}
 use Rattle.pml_tree.specs.declared.tree.Scalar.TheVariants as word
-use Rattle.pml_eval.specs.Clip.{bits_of, bits_of_word, is_signed, residue, placed, clipped}
+use Rattle.promela_process.specs.Numbers.{bits_of, bits_of_word, is_signed, residue, placed, clipped}
 use Rattle.pml_eval.specs.Range.{InBits, Differ, IsClip}
 
 -- ---- it is there

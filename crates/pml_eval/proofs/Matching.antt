@@ -1,7 +1,7 @@
 -- Lists of different lengths do not match.
 use Rattle.std.proofs.Common.{◌≡◌, suc, Bool, true, false, ◌&&◌, List, [], ◌∷◌, length, ℤ, refl, ap, ◌∙◌}
-use Rattle.pml_eval.specs.declared.pattern.Sought.{Sought}
-use Rattle.pml_eval.specs.Value.{matched, taken}
+use Rattle.promela_process.specs.declared.sought.Sought.{Sought}
+use Rattle.promela_process.specs.Expressions.{matched, taken}
 
 and_false : (b : Bool) → (b && false) ≡ false
 and_false true = refl

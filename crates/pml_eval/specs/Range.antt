@@ -1,7 +1,7 @@
 -- What is kept of a number, by the range of its type.
 use Rattle.std.specs.Prelude.{◌≡◌, ℕ, ◌-◌, ◌*◌, ◌^◌, Bool, true, false, ℤ, pos, ◌+ℤ◌, ◌≤ℤ◌, ◌<ℤ◌, neg_ℤ}
 use Rattle.pml_program.specs.declared.form.Form.{Form}
-use Rattle.pml_eval.specs.Clip.{bits_of, is_signed}
+use Rattle.promela_process.specs.Numbers.{bits_of, is_signed}
 
 -- the numbers of n bits, with a sign or without
 abbrev pub InBits : Bool → ℕ → ℤ → Type 0

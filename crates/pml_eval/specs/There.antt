@@ -1,8 +1,8 @@
 -- Where the places that a receive asks for are cells.
 use Rattle.std.specs.Prelude.{ℕ, ◌<◌, List}
 use Rattle.std.specs.List.{AllByRecursion}
-use Rattle.pml_eval.specs.declared.pattern.Sought.{Sought}
-use Rattle.pml_eval.specs.declared.pattern.Sought.TheVariants.{Exactly, Into, Anything}
+use Rattle.promela_process.specs.declared.sought.Sought.{Sought}
+use Rattle.promela_process.specs.declared.sought.Sought.TheVariants.{Exactly, Into, Anything}
 
 -- a place that is asked for is a cell of its variable, which has so many
 abbrev pub IsThere : (ℕ → ℕ → ℕ) → Sought → Type 0

@@ -2,7 +2,7 @@
 
 ghost use Rattle.std.specs.Prelude.{◌≡◌, ◌≤◌, ◌<◌, ◌^◌, true, false, pos, ℤ};
 ghost use Rattle.pml_program.specs.declared.form.Form.{Form};
-ghost use Rattle.pml_eval.specs.Clip.{bits_of, bits_of_word, is_signed, is_word_signed, residue, placed, clipped};
+ghost use Rattle.promela_process.specs.Numbers.{bits_of, bits_of_word, is_signed, is_word_signed, residue, placed, clipped};
 ghost use Rattle.pml_eval.specs.Range.{InBits, IsClip};
 
 use pml_program::form::Form;
@@ -22,7 +22,7 @@ pub fn clip(form: Form, v: i32) -> i32
 
 /// Whether a number is in the range of a byte or of an int: most variables are of these two, and most numbers are kept as they are.
 #[inline(always)]
-#[tactic(auto, unfolding(crate::specs::Clip::bits_of, crate::specs::Clip::is_signed))]
+#[tactic(auto, unfolding(promela_process::specs::Numbers::bits_of, promela_process::specs::Numbers::is_signed))]
 fn is_small(form: Form, v: i32) -> bool
     ensures { result ≡ true → InBits (is_signed form) (bits_of form) v }
 {
@@ -93,7 +93,7 @@ fn word_bits(word: Scalar) -> u32
 }
 
 #[inline(always)]
-#[tactic(auto, unfolding(crate::specs::Clip::bits_of, crate::specs::Clip::is_signed))]
+#[tactic(auto, unfolding(promela_process::specs::Numbers::bits_of, promela_process::specs::Numbers::is_signed))]
 fn bits(form: Form) -> u32
     ensures value { result ≡ bits_of form }
     ensures narrow { is_signed form ≡ false → result < 32 }
@@ -118,7 +118,7 @@ fn is_word_signed(word: Scalar) -> bool
 }
 
 #[inline(always)]
-#[tactic(auto, unfolding(crate::specs::Clip::is_signed))]
+#[tactic(auto, unfolding(promela_process::specs::Numbers::is_signed))]
 fn is_signed(form: Form) -> bool
     ensures { result ≡ is_signed form }
 {

@@ -3,17 +3,19 @@
 ghost use Rattle.std.specs.Prelude.{◌≡◌, ◌+◌, ◌*◌, ◌<◌, ◌≤◌, IfOk, IfSome, List, Some, Ok, length, map};
 ghost use Rattle.profile.specs.declared.TheConstants.{MOST_FIELDS};
 ghost use Rattle.pml_program.specs.declared.expr.Expr.TheVariants.{Read};
-ghost use Rattle.pml_eval.specs.declared.pattern.Sought.{Sought};
-ghost use Rattle.pml_eval.specs.Value.{val, place, cells, cells_of, want, asked, asked_by, has_match, within, inside, index_of, polled, is_match, messages_at, settled, matched};
+ghost use Rattle.promela_process.specs.declared.sought.Sought.{Sought};
+ghost use Rattle.promela_process.specs.Expressions.{val, place, cells, cells_of, want, asked, asked_by, within, inside, index_of, polled, is_match, matched};
+ghost use Rattle.pml_eval.specs.Asking.{has_match, messages_at, settled};
 ghost use Rattle.pml_eval.specs.There.{IsThere, AreThere};
 
 use crate::ground::Ground;
 use crate::operators::{decide, infix, number_of, prefix};
-use crate::pattern::{Pattern, Sought, takes};
+use crate::pattern::{Pattern, takes};
 use diagnostics::Fault;
 use pml_program::expr::{Expr, Target, Turn, Want};
-use pml_store::place::Place;
 use pml_tree::tree::{Fill, Search};
+use promela_process::place::Place;
+use promela_process::sought::Sought;
 
 /// The value of an expression, or the first fault from the left. A number or a variable, as most are, is evaluated at once.
 #[cycle(eval)]

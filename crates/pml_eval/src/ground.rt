@@ -1,6 +1,6 @@
 //! What an expression may read.
 
-use pml_store::place::Place;
+use promela_process::place::Place;
 
 /// How full a channel is.
 #[derive(Clone, Copy, PartialEq, Eq, Debug)]
@@ -13,7 +13,8 @@ pub struct Filled {
 /// Where the evaluator reads: a state as one process sees it, under a value of `timeout`.
 pub trait Ground {
     ghost use Rattle.std.specs.Prelude.{◌≡◌, ◌<◌, [], length, option_map, slice_index_or};
-    ghost use Rattle.pml_eval.specs.Value.{Reading, messages_of};
+    ghost use Rattle.promela_process.specs.Expressions.{Reading};
+    ghost use Rattle.pml_eval.specs.Asking.{messages_of};
     ghost use Rattle.pml_eval.specs.Ground.{shown};
 
     ghost reading: { Self → Reading };

@@ -2,7 +2,7 @@
 
 ghost use Rattle.std.specs.Prelude.{◌≡◌};
 ghost use Rattle.pml_tree.specs.declared.tree.Infix.TheVariants as op;
-ghost use Rattle.pml_eval.specs.Operators.{prefixed, infixed, decided, shifted_left, shifted_right, truth};
+ghost use Rattle.promela_process.specs.Numbers.{prefixed, infixed, decided, shifted_left, shifted_right, truth};
 
 use diagnostics::Fault;
 use pml_tree::tree::{Infix, Prefix};

@@ -2,22 +2,13 @@
 
 ghost use Rattle.std.specs.Prelude.{◌≡◌, ◌<◌, ◌++◌, ◌∷◌, [], length};
 ghost use Rattle.profile.specs.declared.TheConstants.{MOST_FIELDS};
-ghost use Rattle.pml_eval.specs.Value.{matched, taken};
+ghost use Rattle.promela_process.specs.Expressions.{matched, taken};
 
 use pml_program::form::Form;
-use pml_store::place::Place;
 use profile::MOST_FIELDS;
+use promela_process::place::Place;
+use promela_process::sought::Sought;
 use std::marker::Model;
-
-/// What a receive asks of one field.
-#[derive(Clone, Copy, PartialEq, Eq, Debug)]
-pub enum Sought {
-    /// This number.
-    Exactly(i32),
-    /// Any number, of which this place stores what its type keeps.
-    Into(Place, Form),
-    Anything,
-}
 
 /// What a receive asks of the fields of a message, in order.
 #[derive(Drop)]
@@ -29,7 +20,7 @@ pub struct Pattern {
 impl Model for Pattern {
     ghost use Rattle.std.specs.Prelude.{List, ◌≤◌, take};
     ghost use Rattle.profile.specs.declared.TheConstants.{MOST_FIELDS};
-    ghost use Rattle.pml_eval.specs.declared.pattern.Sought.{Sought};
+    ghost use Rattle.promela_process.specs.declared.sought.Sought.{Sought};
 
     ghost Value = { List Sought };
 

@@ -4,10 +4,10 @@ use Rattle.std.specs.Prelude.{slice_get}
 use Rattle.pml_program.specs.declared.program.Stmt.{Stmt}
 use Rattle.pml_program.specs.declared.program.Seq.{Seq}
 use Rattle.pml_program.specs.declared.program.Basic.{Basic, Plain, Goto, Break, If', Do', Block, Atomic, DStep, Unless}
-use Rattle.pml_control.specs.Control.{Turn, Place, Todo, Control, steps, basic_of, basic_at, sequence, beyond, behind, behind_of, at, into, todos, settle}
+use Rattle.promela_process.specs.Control.{Turn, Place, Todo, Control, steps, basic_of, basic_at, sequence, beyond, behind, behind_of, at, into, todos, settle}
 use Rattle.pml_control.proofs.Places.{stands, entered}
 use Rattle.pml_control.proofs.Reaching.{IsAt, first_of}
-use Rattle.pml_flow.specs.Flow.{entry_of}
+use Rattle.promela_process.specs.Offers.{entry_of}
 use Rattle.pml_flow.specs.Graph.{first_place, maybe}
 use Rattle.pml_flow.proofs.Beginning.{enters}
 

@@ -4,15 +4,15 @@ use Rattle.std.specs.Prelude.{slice_get, slice_index_or, slice_set, nat_lt}
 use Rattle.std.proofs.lemmas.Bool.Decides.{nat_tests}
 use Rattle.pml_program.specs.declared.program.Stmt.{Stmt}
 use Rattle.pml_program.specs.declared.program.Seq.{Seq}
-use Rattle.pml_control.specs.Control.{Control, Todo, Back, Under, InAtomic, InDStep, at, settle, steps, sequence, basic_of, basic_at}
-use Rattle.pml_control.specs.Told.{told_of}
+use Rattle.promela_process.specs.Control.{Control, Todo, Back, Under, InAtomic, InDStep, at, settle, steps, sequence, basic_of, basic_at}
+use Rattle.promela_process.specs.Circles.{told_of}
 use Rattle.pml_control.proofs.Reaching.{IsAt, all_at-get, at_part, zero_plus, plus_zero, plus_one}
 use Rattle.pml_control.proofs.Places.{stands}
 use Rattle.pml_control.proofs.Telling.{Holds}
 use Rattle.pml_control.proofs.Covering.{covered_at}
 use Rattle.pml_control.proofs.Circling.{got, within, same_some as same}
 use Rattle.pml_flow.specs.Points.{points_of}
-use Rattle.pml_flow.specs.Flow.{statement_at, stated, line_of, line_at, has_end}
+use Rattle.promela_process.specs.Offers.{statement_at, stated, line_of, line_at, has_end}
 use Rattle.pml_flow.specs.Marked.{IsValidEnd, at_end, by_label, lines_from, mark, mark_if, marked}
 use Rattle.pml_flow.specs.Graph.{kept, rank, is_end_at}
 use Rattle.pml_flow.proofs.Beginning.{read}

@@ -5,12 +5,12 @@ use Rattle.std.proofs.lemmas.List.{drop_more}
 use Rattle.pml_program.specs.declared.program.Stmt.{Stmt}
 use Rattle.pml_program.specs.declared.program.Seq.{Seq, Seq', out-Seq, Row_of-Stmt, end_of-Stmt, more_of-Stmt, items-the_row-Stmt}
 use Rattle.pml_program.specs.declared.program.Basic.{Basic, Plain, Goto, Break, If, If', Do, Do', Block, Atomic, DStep, Unless, Row_of-Seq, end_of-Seq, more_of-Seq, items-the_row-Seq, items_hidden-the_row-Seq-0}
-use Rattle.pml_control.specs.Control.{Turn, Place, Todo, Back, Under, InAtomic, InDStep, Control, steps, steps_of, basic_of, basic_at, sequence, turn, todos}
-use Rattle.pml_control.specs.Told.{told_in, told_part, told_row, told_options, told_of}
+use Rattle.promela_process.specs.Control.{Turn, Place, Todo, Back, Under, InAtomic, InDStep, Control, steps, steps_of, basic_of, basic_at, sequence, turn, todos}
+use Rattle.promela_process.specs.Circles.{told_in, told_part, told_row, told_options, told_of}
 use Rattle.pml_control.proofs.Places.{part_there}
 use Rattle.pml_control.proofs.Reaching.{first_of, rest_of, zero_plus, plus_zero, plus_one}
 use Rattle.pml_control.proofs.Rows.{steps_out}
-use Rattle.pml_flow.specs.Flow.{statement_at, stated}
+use Rattle.promela_process.specs.Offers.{statement_at, stated}
 use Rattle.pml_flow.specs.Inside.{either, first_or, inner_in, inner_part, inner_row, inner_options, inner_list, inner_parts}
 
 map_append : {X Y : Type 0} (f : X → Y) (xs ys : List X) → map f (xs ++ ys) ≡ map f xs ++ map f ys

@@ -3,14 +3,14 @@ use Rattle.std.proofs.Common.{◌≡◌, ℕ, zero, suc, ◌+◌, ◌<◌, Bool,
 use Rattle.std.specs.Prelude.{slice_index_or}
 use Rattle.pml_program.specs.declared.program.Stmt.{Stmt}
 use Rattle.pml_program.specs.declared.program.Seq.{Seq}
-use Rattle.pml_control.specs.Control.{Control, Todo}
+use Rattle.promela_process.specs.Control.{Control, Todo}
 use Rattle.pml_control.proofs.Reaching.{zero_plus, plus_zero, plus_one}
 use Rattle.pml_control.proofs.Circling.{within}
 use Rattle.pml_flow.specs.declared.level.Way.{Way}
 use Rattle.pml_flow.specs.declared.edge.Edge.{Edge}
 use Rattle.pml_flow.specs.Ways.{Ways, Site}
 use Rattle.pml_flow.specs.Parts.{all_of}
-use Rattle.pml_flow.specs.Flow.{statement_at, stated, text_by, line_by}
+use Rattle.promela_process.specs.Offers.{statement_at, stated, text_by, line_by}
 use Rattle.pml_flow.specs.Marked.{mark}
 use Rattle.pml_flow.specs.Composed.{text_if, text_at, offer_line_at, texts_from, offer_lines_from, texts_of}
 use Rattle.pml_flow.specs.Graph.{first_place, numbered_at, is_end_at, Tables, edge, edges_level, own_levels, site_of, mark_edges}

@@ -2,7 +2,7 @@
 use Rattle.std.specs.Prelude.{ℕ, ◌+◌, List, [], ◌∷◌, Bool, true, false, Option, None, slice_index_or}
 use Rattle.pml_program.specs.declared.program.Stmt.{Stmt}
 use Rattle.pml_flow.specs.Parts.{all_of, bounds_from, part}
-use Rattle.pml_flow.specs.Flow.{text_by, line_by}
+use Rattle.promela_process.specs.Offers.{text_by, line_by}
 
 -- ---- those of a graph
 

@@ -2,10 +2,10 @@
 use Rattle.std.specs.Prelude.{◌≡◌, MatchBool, ℕ, zero, suc, ◌+◌, ◌-◌, ◌<◌, List, [], ◌∷◌, ◌++◌, length, map, Bool, false, nat_eq, Option, Some, None, slice_get, slice_index_or}
 use Rattle.pml_program.specs.declared.program.Seq.{Seq}
 use Rattle.pml_program.specs.declared.program.Proctype.{Proctype}
-use Rattle.pml_control.specs.Control.{Place, Control, Todo, InAtomic, settle, at, basic_of, steps}
-use Rattle.pml_control.specs.Told.{told_of}
-use Rattle.pml_control.specs.Offers as control
-use Rattle.pml_control.specs.Offers.{Levels, offers, outermost, IsPoint}
+use Rattle.promela_process.specs.Control.{Place, Control, Todo, InAtomic, settle, at, basic_of, steps}
+use Rattle.promela_process.specs.Circles.{told_of}
+use Rattle.promela_process.specs.Offers as control
+use Rattle.promela_process.specs.Offers.{Levels, offers, outermost, IsPoint, stated, line_at, Offer, offer_of}
 use Rattle.pml_control.specs.declared.ends.Ending.{Ending}
 use Rattle.pml_control.specs.declared.ends.Ending.TheVariants as ending
 use Rattle.pml_control.specs.Ends.{ending_of}
@@ -14,7 +14,6 @@ use Rattle.pml_flow.specs.declared.edge.Edge.{Edge}
 use Rattle.pml_flow.specs.Ways.{Ways, Site, bare}
 use Rattle.pml_flow.specs.Points.{points_of, point_at}
 use Rattle.pml_flow.specs.Parts.{all_of, bounds_from, begin_of, part}
-use Rattle.pml_flow.specs.Flow.{stated, line_at, Offer, offer_of}
 use Rattle.pml_flow.specs.Marked.{mark, IsValidEnd}
 use Rattle.pml_flow.specs.Composed.{Texts, text_at, offer_line_at}
 

@@ -2,8 +2,8 @@
 use Rattle.std.specs.Prelude.{◌≡◌, ℕ, ◌+◌, Bool, true, false, if◌then◌else◌, nat_lt, List, [], ◌∷◌, length, Option, Some, None, slice_set, slice_index_or}
 use Rattle.pml_program.specs.declared.program.Stmt.{Stmt}
 use Rattle.pml_program.specs.declared.program.Seq.{Seq}
-use Rattle.pml_control.specs.Control.{Place, Control, at, settle, steps}
-use Rattle.pml_flow.specs.Flow.{statement_at, line_of, has_end}
+use Rattle.promela_process.specs.Control.{Place, Control, at, settle, steps}
+use Rattle.promela_process.specs.Offers.{statement_at, line_of, has_end}
 
 -- A valid end point: nothing is left, or a label that begins with `end` leads there without a step.
 pub data IsValidEnd (b : Seq) (c : Control) : Type 0 where

@@ -2,7 +2,7 @@
 
 ghost use Rattle.std.specs.Prelude.{◌≡◌, ℕ, ◌<◌, ◌-◌, ◌++◌, ◌∷◌, [], false, IfOk, IfSome, OnOk, length, map, replicate, slice_get, slice_index_or};
 ghost use Rattle.std.specs.Option.{option_copied};
-ghost use Rattle.pml_control.specs.Circles.{SettlesEverywhere};
+ghost use Rattle.promela_process.specs.Circles.{SettlesEverywhere};
 ghost use Rattle.pml_control.specs.Plan.{IsPlan};
 ghost use Rattle.pml_flow.specs.Parts.{all_of, bounds_from};
 ghost use Rattle.pml_flow.specs.Composed.{text_at, offer_line_at};

@@ -2,7 +2,7 @@
 
 ghost use Rattle.std.specs.Prelude.{◌≡◌, IfOk};
 ghost use Rattle.std.specs.Option.{option_copied};
-ghost use Rattle.pml_flow.specs.Flow.{first_line, line_of};
+ghost use Rattle.promela_process.specs.Offers.{first_line, line_of};
 ghost use Rattle.pml_flow.specs.Marked.{lines_from};
 
 use crate::statements::Statements;

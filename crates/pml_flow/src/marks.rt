@@ -2,7 +2,7 @@
 
 ghost use Rattle.std.specs.Prelude.{◌≡◌, false, IfOk, replicate};
 ghost use Rattle.std.specs.Option.{option_copied};
-ghost use Rattle.pml_flow.specs.Flow.{is_end, any_end, has_end};
+ghost use Rattle.promela_process.specs.Offers.{is_end, any_end, has_end};
 ghost use Rattle.pml_flow.specs.Marked.{mark, mark_if, marked};
 
 use crate::statements::Statements;

@@ -2,8 +2,8 @@
 
 ghost use Rattle.std.specs.Prelude.{◌≡◌, ℕ, ◌++◌, ◌∷◌, [], None, List, Option, IfOk, OnOk, map, slice_get, slice_index_or};
 ghost use Rattle.std.specs.Option.{option_copied};
-ghost use Rattle.pml_control.specs.Told.{told_of};
-ghost use Rattle.pml_flow.specs.Flow.{stated};
+ghost use Rattle.promela_process.specs.Circles.{told_of};
+ghost use Rattle.promela_process.specs.Offers.{stated};
 ghost use Rattle.pml_flow.specs.Inside.{either, inner_in, inner_part, inner_list, inner_parts};
 
 use pml_program::program::{Basic, Seq, Stmt};

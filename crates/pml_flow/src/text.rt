@@ -4,7 +4,7 @@ ghost use Rattle.std.specs.Prelude.{◌≡◌, ◌++◌, IfOk, OnOk, OnErr};
 ghost use Rattle.std.specs.Fmt.{decimal};
 ghost use Rattle.std.specs.Io.{StartsWith};
 ghost use Rattle.std.specs.Option.{option_copied};
-ghost use Rattle.pml_flow.specs.Flow as flow;
+ghost use Rattle.promela_process.specs.Offers as flow;
 ghost use Rattle.pml_flow.specs.Composed as kept-texts;
 
 use crate::lines::first_line;

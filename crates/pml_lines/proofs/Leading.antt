@@ -4,8 +4,8 @@ use Rattle.std.specs.Prelude.{codes}
 use Rattle.pml_program.specs.declared.form.Form.{Form}
 use Rattle.pml_program.specs.declared.program.Slot.{Slot}
 use Rattle.pml_program.specs.declared.program.Fields.{Fields}
-use Rattle.pml_cells.specs.Cells.{slot_of, cell_of, fields_of}
-use Rattle.pml_lines.specs.Places.{element, fields_path}
+use Rattle.promela_run.specs.State.{slot_of, cell_of, fields_of}
+use Rattle.promela_run.specs.Lines.{element, fields_path}
 
 -- the path from what is found on
 abbrev on : List Fields → ℕ → ℕ → Option Slot → List ℕ

@@ -3,12 +3,13 @@ use Rattle.std.proofs.Common.{◌≡◌, ◌⊎◌, inl, inr, ℕ, suc, ◌+◌,
 use Rattle.std.proofs.lemmas.Bool.{lt-ltb, le-ltb, cases_lt}
 use Rattle.pml_program.specs.declared.program.Slot.{Slot}
 use Rattle.pml_program.specs.declared.program.Program.{Program}
-use Rattle.pml_store.specs.declared.place.Place.{Place}
-use Rattle.pml_store.specs.Store.{Frame}
+use Rattle.promela_process.specs.declared.place.Place.{Place}
+use Rattle.promela_process.specs.Store.{Frame}
 use Rattle.pml_store.specs.Writing.{flat, joined}
-use Rattle.pml_cells.specs.Cells.{size, cell_of, number_of, number_in}
+use Rattle.promela_run.specs.State.{size, cell_of}
+use Rattle.pml_cells.specs.Numbers.{number_of, number_in}
 use Rattle.pml_lines.specs.declared.changed.Change.{Change}
-use Rattle.pml_lines.specs.Changes.{Owner, each_change, process_owners, owners}
+use Rattle.promela_run.specs.Lines.{Owner, each_change, process_owners, owners}
 use Rattle.pml_lines.specs.Written.{IsFrame, AreFrames, AreDeclared}
 use Rattle.pml_lines.specs.Changed.{change, variable_changes, frame_changes, changes}
 use Rattle.pml_lines.specs.Placed.{place_at, changed_from, changed_at}

@@ -1,6 +1,6 @@
 -- The changes of small states.
 use Rattle.std.proofs.Common.{◌≡◌, List, [], ◌∷◌, pos, negsuc, refl}
-use Rattle.pml_store.specs.Store.{Frame}
+use Rattle.promela_process.specs.Store.{Frame}
 use Rattle.pml_lines.specs.Changed.{change, changes, wanted_changes}
 use Rattle.std.specs.Prelude.{true, false}
 

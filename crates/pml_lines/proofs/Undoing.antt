@@ -6,10 +6,10 @@ use Rattle.std.specs.Ordering.{int_eq, nat_cmp, match_ordering, MatchOrdering}
 use Rattle.std.specs.declared.cmp.Ordering.TheVariants.{Less, Equal, Greater}
 use Rattle.std.specs.BTreeMap.{insert_entry}
 use Rattle.pml_program.specs.declared.program.Program.{Program}
-use Rattle.pml_store.specs.Store.{Frame}
+use Rattle.promela_process.specs.Store.{Frame}
 use Rattle.pml_store.specs.Writing.{Contents, joined, undone, before}
 use Rattle.pml_store.proofs.Back.{joined_with, before_shape}
-use Rattle.pml_lines.specs.Changes.{Owner, each_change, owners, value_lines}
+use Rattle.promela_run.specs.Lines.{Owner, each_change, owners, value_lines}
 use Rattle.pml_lines.specs.Written.{line_at, oldest, if_changed, each_write, AreFrames, AreDeclared}
 use Rattle.pml_lines.specs.Changed.{step_changes}
 use Rattle.pml_lines.specs.Placed.{changed_at}

@@ -1,5 +1,3 @@
-pub mod Places
-pub mod Changes
 pub mod Written
 pub mod Changed
 pub mod Placed

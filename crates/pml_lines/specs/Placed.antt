@@ -2,10 +2,11 @@
 use Rattle.std.specs.Prelude.{ℕ, ◌+◌, if◌then◌else◌, true, List, [], ◌∷◌, Option, Some, None, ℤ}
 use Rattle.std.specs.Ordering.{int_eq}
 use Rattle.pml_program.specs.declared.program.Program.{Program}
-use Rattle.pml_cells.specs.Cells.{cell_of, number_in}
-use Rattle.pml_store.specs.declared.place.Place.{Place}
+use Rattle.promela_run.specs.State.{cell_of}
+use Rattle.pml_cells.specs.Numbers.{number_in}
+use Rattle.promela_process.specs.declared.place.Place.{Place}
 use Rattle.pml_lines.specs.declared.changed.Change.{Change}
-use Rattle.pml_lines.specs.Changes.{Owner, owners}
+use Rattle.promela_run.specs.Lines.{Owner, owners}
 
 -- the place of the cell with this index, where the first owner's frame has the number f
 abbrev pub place_at : ℕ → List Owner → ℕ → Option Place

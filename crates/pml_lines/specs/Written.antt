@@ -4,12 +4,11 @@ use Rattle.std.specs.Ordering.{int_eq, nat_cmp}
 use Rattle.std.specs.BTreeMap.{insert_entry}
 use Rattle.pml_program.specs.declared.program.Slot.{Slot}
 use Rattle.pml_program.specs.declared.program.Program.{Program}
-use Rattle.pml_cells.specs.Cells.{size, slot_of, cell_of}
-use Rattle.pml_store.specs.Store.{Cells, Frame}
+use Rattle.promela_run.specs.State.{size, slot_of, cell_of}
+use Rattle.promela_process.specs.Store.{Cells, Frame}
 use Rattle.pml_store.specs.Writing.{Contents, joined, before}
 use Rattle.pml_lines.specs.declared.change.Wanted.{Wanted}
-use Rattle.pml_lines.specs.Places.{place_line}
-use Rattle.pml_lines.specs.Changes.{Owner, heading_of, owners, line, value_lines}
+use Rattle.promela_run.specs.Lines.{place_line, Owner, heading_of, owners, line, value_lines}
 
 -- the line of a cell of a variable of the process i
 abbrev pub local_line : Program → ℕ → ℕ → Slot → ℕ → ℤ → List ℕ

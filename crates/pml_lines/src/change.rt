@@ -3,8 +3,7 @@
 ghost use Rattle.std.specs.Prelude.{◌≡◌, ◌++◌, true, slice_get, OnOk, OnErr, IfOk, codes};
 ghost use Rattle.std.specs.Io.{StartsWith};
 ghost use Rattle.std.specs.Fmt.{decimal};
-ghost use Rattle.pml_lines.specs.Places.{place_line};
-ghost use Rattle.pml_lines.specs.Changes.{proctype_name, local_heading, heading_of, process_owners, each_change};
+ghost use Rattle.promela_run.specs.Lines.{place_line, proctype_name, local_heading, heading_of, process_owners, each_change};
 ghost use Rattle.pml_lines.specs.Written.{local_line, line_at, wanted_line, changed_line, AddsChanges, AddsStep, oldest, if_changed, each_write};
 
 use crate::place::place_line;

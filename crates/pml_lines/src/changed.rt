@@ -3,7 +3,7 @@
 ghost use Rattle.std.specs.Prelude.{◌≡◌, ◌++◌, [], true, None, Some, slice_get, OnOk, OnErr, IfOk};
 ghost use Rattle.std.specs.Io.{StartsWith};
 ghost use Rattle.std.specs.Option.{option_copied};
-ghost use Rattle.pml_lines.specs.Changes.{process_owners, owners};
+ghost use Rattle.promela_run.specs.Lines.{process_owners, owners};
 ghost use Rattle.pml_lines.specs.Written.{if_changed, each_write, AreDeclared};
 ghost use Rattle.pml_lines.specs.Changed.{process_in, owner_line, kind_line, value_line, step_changes, LinesOfChanges};
 ghost use Rattle.pml_lines.specs.Placed.{place_at, changed_at, changed_number};
@@ -11,8 +11,8 @@ ghost use Rattle.pml_lines.specs.Placed.{place_at, changed_at, changed_number};
 use crate::change::{Living, global_line, local_line, oldest};
 use crate::tables::Tables;
 use pml_program::program::{Proctype, Program, Slot};
-use pml_store::place::Place;
 use pml_store::store::Store;
+use promela_process::place::Place;
 use std::alloc::{AllocError, Global};
 use std::collections::BTreeMap;
 

@@ -3,7 +3,7 @@
 ghost use Rattle.std.specs.Prelude.{◌≡◌, ◌/◌, ◌++◌, length, OnOk, OnErr};
 ghost use Rattle.std.specs.Io.{StartsWith};
 ghost use Rattle.std.specs.Fmt.{decimal, signed_decimal};
-ghost use Rattle.pml_lines.specs.Places.{named, worth, element, fields_path, path, place_line};
+ghost use Rattle.promela_run.specs.Lines.{named, worth, element, fields_path, path, place_line};
 
 use crate::tables::Tables;
 use itoa::Buffer;

@@ -2,8 +2,9 @@
 
 ghost use Rattle.std.specs.Prelude.{◌≡◌, IfOk, map, slice_get};
 ghost use Rattle.std.specs.Option.{option_copied};
-ghost use Rattle.pml_cells.specs.Cells.{slot_of, cell_of, number_in};
-ghost use Rattle.pml_lines.specs.Changes.{slots_of};
+ghost use Rattle.promela_run.specs.State.{slot_of, cell_of};
+ghost use Rattle.pml_cells.specs.Numbers.{number_in};
+ghost use Rattle.promela_run.specs.Lines.{slots_of};
 ghost use Rattle.pml_lines.specs.Tables.{variables};
 
 use pml_cells::row::Row;

@@ -1,13 +1,13 @@
 -- What is so of each move of a process is so of each move that the search finds.
 use Rattle.std.proofs.Common.{◌≡◌, ℕ, ◌+◌, Bool, true, false, if◌then◌else◌, List, [], ◌∷◌, ◌++◌, length, Option, Some, None, slice_get, nat_eq, refl, arith}
 use Rattle.pml_program.specs.declared.program.Seq.{Seq}
-use Rattle.pml_control.specs.Control.{Control}
-use Rattle.pml_flow.specs.Flow.{Offer}
-use Rattle.pml_moves.specs.declared.moves.Pick.{Pick}
-use Rattle.pml_moves.specs.declared.moves.Move.{Move}
-use Rattle.pml_moves.specs.declared.moves.Move.TheVariants.{Death, Alone, Pair}
-use Rattle.pml_moves.specs.State.{Stand, State, reads, body_of, levels, levels_in}
-use Rattle.pml_moves.specs.Search.{or_else, each, last, only_if, is_some, is_else, can_alone, Message, message, accepts, pick, pairs_on, pairs_with, pairs, moves_by, plain_moves, else_moves, moves_on, moves_of, moves_at, moves_under, moves_if, moves_held}
+use Rattle.promela_process.specs.Control.{Control}
+use Rattle.promela_process.specs.Offers.{Offer}
+use Rattle.promela_run.specs.declared.moves.Pick.{Pick}
+use Rattle.promela_run.specs.declared.moves.Move.{Move}
+use Rattle.promela_run.specs.declared.moves.Move.TheVariants.{Death, Alone, Pair}
+use Rattle.promela_run.specs.State.{Stand, State, reads, body_of, levels, levels_in}
+use Rattle.promela_run.specs.Moves.{or_else, each, last, only_if, is_some, is_else, can_alone, Message, message, accepts, pick, pairs_on, pairs_with, pairs, moves_by, plain_moves, else_moves, moves_on, moves_of, moves_at, moves_under, moves_if, moves_held}
 use Rattle.pml_moves.specs.Laws.{Each, IsOfTheYoungest, TheYoungestDiesFirst, taker, TheHolderGoesOn}
 
 -- ---- the words of the search

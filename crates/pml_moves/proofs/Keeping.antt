@@ -1,6 +1,6 @@
 -- What was there stays at the front.
 use Rattle.std.proofs.Common.{◌≡◌, List, [], ◌∷◌, ◌++◌, append-nil, append_assoc, sym, ap, ◌∙◌}
-use Rattle.pml_moves.specs.declared.moves.Move.{Move}
+use Rattle.promela_run.specs.declared.moves.Move.{Move}
 use Rattle.pml_moves.specs.Kept.{Extends}
 
 pub kept_same : (new old : List Move) → new ≡ old → Extends new old

@@ -6,15 +6,15 @@ use Rattle.std.proofs.lemmas.Int.{ints}
 use Rattle.std.proofs.lemmas.Bool.{cases_lt}
 use Rattle.std.proofs.lemmas.List.{drop_all}
 use Rattle.std.proofs.lemmas.Bool.Decides.{nat_tests}
-use Rattle.pml_moves.specs.declared.moves.Pick.{Pick}
-use Rattle.pml_moves.specs.declared.moves.Move.{Move}
+use Rattle.promela_run.specs.declared.moves.Pick.{Pick}
+use Rattle.promela_run.specs.declared.moves.Move.{Move}
 use Rattle.pml_moves.specs.declared.scene.Seat.{Seat}
 use Rattle.pml_moves.specs.declared.waits.Wait.{Wait}
 use Rattle.pml_moves.specs.declared.waits.Wait.TheVariants.{Nothing, Channel, Number, Anything}
 use Rattle.pml_moves.specs.declared.listeners.Span.{Span}
 use Rattle.pml_moves.specs.declared.listeners.Known.{Known}
-use Rattle.pml_moves.specs.State.{State, Stand}
-use Rattle.pml_moves.specs.Search.{Message, each, pairs_with}
+use Rattle.promela_run.specs.State.{State, Stand}
+use Rattle.promela_run.specs.Moves.{Message, each, pairs_with}
 use Rattle.pml_moves.specs.Waits.{may_take, begins_with, AreWaits}
 use Rattle.pml_moves.specs.Listeners.{place_of, with_one, joined, widened, spans_with, any_with, LiesIn, Hears, AreHeard, AreKnown}
 use Rattle.pml_moves.specs.Scene.{stand_of}

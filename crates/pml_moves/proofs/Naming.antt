@@ -4,12 +4,12 @@ use Rattle.std.specs.Prelude.{if◌then◌else◌, nat_eq, length}
 use Rattle.diagnostics.specs.declared.fault.Fault.{Fault}
 use Rattle.diagnostics.specs.declared.fault.Fault.TheVariants.{WrongNumberOfFields}
 use Rattle.pml_program.specs.declared.expr.Target.{Target}
-use Rattle.pml_store.specs.declared.place.Place.{Place}
-use Rattle.pml_eval.specs.Value.{Reading, place, ◌>>=◌}
-use Rattle.pml_channel.specs.State.{ChannelState}
-use Rattle.pml_value.specs.declared.live_channel.LiveChannel.{LiveChannel}
-use Rattle.pml_value.specs.Reads.{channel_at}
-use Rattle.pml_moves.specs.Executable.{Named, named, with_fields}
+use Rattle.promela_process.specs.declared.place.Place.{Place}
+use Rattle.promela_process.specs.Expressions.{Reading, place, ◌>>=◌}
+use Rattle.promela_process.specs.Store.{ChannelState}
+use Rattle.promela_run.specs.declared.live_channel.LiveChannel.{LiveChannel}
+use Rattle.promela_run.specs.State.{channel_at}
+use Rattle.promela_run.specs.Moves.{Named, named, with_fields}
 
 -- a channel that is named stands at its number
 abbrev IsAt : List LiveChannel → Result Named Fault → Type 0

@@ -6,16 +6,15 @@ use Rattle.diagnostics.specs.declared.fault.Fault.TheVariants.{WrongNumberOfFiel
 use Rattle.pml_program.specs.declared.form.Form.{Form}
 use Rattle.pml_program.specs.declared.expr.Expr.{Expr}
 use Rattle.pml_program.specs.declared.expr.Target.{Target}
-use Rattle.pml_store.specs.declared.place.Place.{Place}
-use Rattle.pml_eval.specs.Clip.{clipped}
-use Rattle.pml_eval.specs.Value.{Reading, val, place, ◌>>=◌}
-use Rattle.pml_channel.specs.State.{ChannelState, cut}
+use Rattle.promela_process.specs.declared.place.Place.{Place}
+use Rattle.promela_process.specs.Numbers.{clipped}
+use Rattle.promela_process.specs.Expressions.{Reading, val, place, ◌>>=◌}
+use Rattle.promela_process.specs.Store.{ChannelState, cut}
 use Rattle.pml_channel.proofs.Keeping.{length-cut}
-use Rattle.pml_value.specs.declared.live_channel.LiveChannel.{LiveChannel}
-use Rattle.pml_value.specs.Reads.{channel_at}
-use Rattle.pml_moves.specs.Executable.{Named, named, with_fields, values, is_rendezvous}
+use Rattle.promela_run.specs.declared.live_channel.LiveChannel.{LiveChannel}
+use Rattle.promela_run.specs.State.{channel_at}
+use Rattle.promela_run.specs.Moves.{Named, named, with_fields, values, is_rendezvous, message_of, message_on}
 use Rattle.pml_moves.specs.Fields.{worth, worths, evaluated}
-use Rattle.pml_moves.specs.Search.{message_of, message_on}
 
 -- where all have a value, they are worth it
 pub values_are : (es : List Expr) (r : Reading) → evaluated (values es r) ≡ Ok tt → values es r ≡ Ok (worths es r)

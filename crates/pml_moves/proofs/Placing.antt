@@ -9,19 +9,19 @@ use Rattle.pml_program.specs.declared.program.Seq.{Seq}
 use Rattle.pml_program.specs.declared.program.Fields.{Fields}
 use Rattle.pml_program.specs.declared.program.Proctype.{Proctype}
 use Rattle.pml_program.specs.declared.program.Program.{Program}
-use Rattle.pml_control.specs.Control.{Control, basic_of}
-use Rattle.pml_control.specs.Told.{told_of}
+use Rattle.promela_process.specs.Control.{Control, basic_of}
+use Rattle.promela_process.specs.Circles.{told_of}
 use Rattle.pml_flow.specs.declared.edge.Edge.{Edge}
 use Rattle.pml_flow.specs.Points.{points_of, point_at}
-use Rattle.pml_flow.specs.Flow.{stated, Offer}
+use Rattle.promela_process.specs.Offers.{stated, Offer}
 use Rattle.pml_flow.specs.Graph.{Node, Graph, AreGraphs, levels_of}
 use Rattle.pml_flow.proofs.Differing.{one_node}
-use Rattle.pml_moves.specs.declared.moves.Move.TheVariants.{Death}
-use Rattle.pml_moves.specs.declared.moves.Pick.{Pick}
+use Rattle.promela_run.specs.declared.moves.Move.TheVariants.{Death}
+use Rattle.promela_run.specs.declared.moves.Pick.{Pick}
 use Rattle.pml_moves.specs.declared.scene.Seat.{Seat}
 use Rattle.pml_moves.specs.declared.scene.Body.{Body}
-use Rattle.pml_moves.specs.State.{State, Stand, body_of, levels, levels_in, first_control, begins_by, begins_at, offer_on, offer_at, picked}
-use Rattle.pml_moves.specs.Search.{Message, last, only_if, pairs_on, pairs_with, moves_on, moves_of, moves_at, moves_if, moves_held}
+use Rattle.promela_run.specs.State.{State, Stand, body_of, levels, levels_in, first_control, begins_by, begins_at, offer_on, offer_at, picked}
+use Rattle.promela_run.specs.Moves.{Message, last, only_if, pairs_on, pairs_with, moves_on, moves_of, moves_at, moves_if, moves_held}
 use Rattle.pml_moves.specs.Scene.{control_at, stand_of, statements_of, IsPlayed, IsBody, StandsIn, shows, edges_at}
 use Rattle.pml_moves.proofs.Searching.{index_map, index_total, got, got_none, there, past, within, at_end}
 

@@ -5,10 +5,10 @@ use Rattle.pml_tree.specs.declared.tree.Search.TheVariants.{First, Matching}
 use Rattle.pml_program.specs.declared.program.Seq.{roll-Seq}
 use Rattle.pml_program.specs.declared.program.Basic.{If, Unless, DStep}
 use Rattle.pml_program.specs.declared.program.Basic.TheBlock.{shape-the_row-Stmt-1, hidden-the_row-Stmt-1, shape-the_row-Seq-0, hidden-the_row-Seq-0}
-use Rattle.pml_control.specs.Control.{settle}
-use Rattle.pml_eval.specs.Clip.{bits_of, is_signed}
-use Rattle.pml_moves.specs.declared.moves.Move.TheVariants.{Death, Alone, Pair}
-use Rattle.pml_moves.specs.Search.{pick, moves}
+use Rattle.promela_process.specs.Control.{settle}
+use Rattle.promela_process.specs.Numbers.{bits_of, is_signed}
+use Rattle.promela_run.specs.declared.moves.Move.TheVariants.{Death, Alone, Pair}
+use Rattle.promela_run.specs.Moves.{pick, moves}
 use Rattle.pml_moves.proofs.Samples.{body, only, yes, no, timeout, otherwise, sends, receives, polls, channel, state, held_by, at_braces, number_is, timeout_is, exactly_is, global_is, poll_is}
 
 -- a condition that does not hold

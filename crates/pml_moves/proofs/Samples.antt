@@ -18,12 +18,12 @@ use Rattle.pml_program.specs.declared.program.Stmt.{Stmt}
 use Rattle.pml_program.specs.declared.program.Seq.{Seq, roll-Seq}
 use Rattle.pml_program.specs.declared.program.Basic.{Basic, Plain}
 use Rattle.pml_program.specs.declared.program.Proctype.{Proctype}
-use Rattle.pml_control.specs.Control.{Control, settle, at, steps}
-use Rattle.pml_eval.specs.Operators.{truth}
-use Rattle.pml_eval.specs.declared.pattern.Sought.TheVariants as sought
-use Rattle.pml_eval.specs.Value.{Reading, Valued, Wanted, Placed, Turned, val, want as asks, place, polled, inside, value_step, want_step, target_step, turn_step, ◌>>=◌}
-use Rattle.pml_value.specs.declared.live_channel.LiveChannel.{LiveChannel}
-use Rattle.pml_moves.specs.State.{Stand, State}
+use Rattle.promela_process.specs.Control.{Control, settle, at, steps}
+use Rattle.promela_process.specs.Numbers.{truth}
+use Rattle.promela_process.specs.declared.sought.Sought.TheVariants as sought
+use Rattle.promela_process.specs.Expressions.{Reading, Valued, Wanted, Placed, Turned, val, want as asks, place, polled, inside, value_step, want_step, target_step, turn_step, ◌>>=◌}
+use Rattle.promela_run.specs.declared.live_channel.LiveChannel.{LiveChannel}
+use Rattle.promela_run.specs.State.{Stand, State}
 
 -- ---- bodies
 

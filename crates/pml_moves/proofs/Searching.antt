@@ -1,7 +1,7 @@
 -- The last that gives anything, met from the end.
 use Rattle.std.proofs.Common.{zero, suc, get_or, ◌++◌, ◌<◌, ◌≤◌, length, length-append, append-nil, ◌≡◌, ℕ, ◌+◌, List, [], ◌∷◌, drop, map, refl, sym, ap, ◌∙◌, arith, Some, None}
 use Rattle.std.specs.Prelude.{slice_get, slice_index_or}
-use Rattle.pml_moves.specs.Search.{or_else, last}
+use Rattle.promela_run.specs.Moves.{or_else, last}
 
 or_else_none : {A : Type 0} → (xs ys : List A) → xs ≡ [] → or_else xs ys ≡ ys
 or_else_none [] ys h = refl

@@ -3,15 +3,15 @@ use Rattle.std.proofs.Common.{◌≡◌, ◌⊎◌, inl, inr, ℕ, zero, suc, �
 use Rattle.std.specs.Prelude.{slice_get, slice_index_or}
 use Rattle.std.proofs.lemmas.List.{drop_all}
 use Rattle.pml_flow.specs.declared.edge.Edge.{Edge}
-use Rattle.pml_flow.specs.Flow.{Offer}
-use Rattle.pml_moves.specs.declared.moves.Pick.{Pick}
-use Rattle.pml_moves.specs.declared.moves.Move.{Move}
+use Rattle.promela_process.specs.Offers.{Offer}
+use Rattle.promela_run.specs.declared.moves.Pick.{Pick}
+use Rattle.promela_run.specs.declared.moves.Move.{Move}
 use Rattle.pml_moves.specs.declared.scene.Seat.{Seat}
 use Rattle.pml_moves.specs.declared.scene.Body.{Body}
 use Rattle.pml_moves.specs.declared.waits.Wait.{Wait}
-use Rattle.pml_moves.specs.State.{State, Stand, body_of, levels_in}
+use Rattle.promela_run.specs.State.{State, Stand, body_of, levels_in}
 use Rattle.pml_moves.specs.Scene.{stand_of, StandsIn, shows, edges_at}
-use Rattle.pml_moves.specs.Search.{Message, or_else, each, last, pairs_on, pairs_with}
+use Rattle.promela_run.specs.Moves.{Message, or_else, each, last, pairs_on, pairs_with}
 use Rattle.pml_moves.specs.Waits.{may_take, may_at, WaitsFor, AreWaits}
 use Rattle.pml_moves.proofs.Searching.{opens, opens_at, held}
 use Rattle.pml_moves.proofs.Placing.{pairs_in, pairs_closed}

@@ -2,7 +2,7 @@
 use Rattle.std.specs.Prelude.{map, List, ℤ, pos, Result, Ok, Err}
 use Rattle.diagnostics.specs.declared.fault.Fault.{Fault}
 use Rattle.pml_program.specs.declared.expr.Expr.{Expr}
-use Rattle.pml_eval.specs.Value.{Reading, val}
+use Rattle.promela_process.specs.Expressions.{Reading, val}
 
 -- a value, or 0 where there is none
 abbrev pub worth : Result ℤ Fault → ℤ

@@ -1,9 +1,9 @@
 -- What is said of the moves of every state.
 use Rattle.std.specs.Prelude.{◌≡◌, ℕ, ◌+◌, true, List, [], ◌∷◌, length, Some}
-use Rattle.pml_moves.specs.declared.moves.Move.{Move}
-use Rattle.pml_moves.specs.declared.moves.Move.TheVariants.{Death, Alone, Pair}
-use Rattle.pml_moves.specs.State.{State}
-use Rattle.pml_moves.specs.Search.{is_some, moves, moves_held}
+use Rattle.promela_run.specs.declared.moves.Move.{Move}
+use Rattle.promela_run.specs.declared.moves.Move.TheVariants.{Death, Alone, Pair}
+use Rattle.promela_run.specs.State.{State}
+use Rattle.promela_run.specs.Moves.{is_some, moves, moves_held}
 
 -- so it is with each of these moves
 abbrev pub Each : (Move → Type 0) → List Move → Type 0

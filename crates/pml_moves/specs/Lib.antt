@@ -1,7 +1,4 @@
-pub mod State
-pub mod Executable
 pub mod Fields
-pub mod Search
 pub mod Waits
 pub mod Listeners
 pub mod Scene
@@ -9,3 +6,4 @@ pub mod Round
 pub mod Paired
 pub mod Kept
 pub mod Laws
+pub mod Viewed

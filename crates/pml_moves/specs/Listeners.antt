@@ -1,12 +1,12 @@
 -- Between which processes those lie that may receive on a channel.
 use Rattle.std.specs.Prelude.{◌≡◌, ℕ, zero, suc, ◌<◌, ◌≤◌, ◌⊎◌, Bool, true, if◌then◌else◌, nat_lt, List, [], length, ℤ, pos, negsuc, Option, Some, None, slice_get, slice_set, slice_index_or}
-use Rattle.pml_moves.specs.declared.moves.Pick.{Pick}
+use Rattle.promela_run.specs.declared.moves.Pick.{Pick}
 use Rattle.pml_moves.specs.declared.waits.Wait.{Wait}
 use Rattle.pml_moves.specs.declared.waits.Wait.TheVariants.{Nothing, Channel, Number, Anything}
 use Rattle.pml_moves.specs.declared.listeners.Span.{Span}
 use Rattle.pml_moves.specs.declared.listeners.Known.{Known}
-use Rattle.pml_moves.specs.State.{Stand, State}
-use Rattle.pml_moves.specs.Search.{Message, pairs_with}
+use Rattle.promela_run.specs.State.{Stand, State}
+use Rattle.promela_run.specs.Moves.{Message, pairs_with}
 use Rattle.pml_moves.specs.Waits.{may_take, AreWaits}
 
 -- where the span of a channel stands

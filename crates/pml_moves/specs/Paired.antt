@@ -2,16 +2,16 @@
 use Rattle.std.specs.Prelude.{ℕ, List, map, Option, Some}
 use Rattle.pml_program.specs.declared.program.Basic.{Basic}
 use Rattle.pml_flow.specs.declared.edge.Edge.{Edge}
-use Rattle.pml_moves.specs.declared.moves.Pick.{Pick}
-use Rattle.pml_moves.specs.declared.moves.Move.{Move}
-use Rattle.pml_moves.specs.declared.moves.Move.TheVariants.{Pair}
+use Rattle.promela_run.specs.declared.moves.Pick.{Pick}
+use Rattle.promela_run.specs.declared.moves.Move.{Move}
+use Rattle.promela_run.specs.declared.moves.Move.TheVariants.{Pair}
 use Rattle.pml_moves.specs.declared.rendezvous.Sending.{Sending}
 use Rattle.pml_moves.specs.declared.scene.Body.{Body}
 use Rattle.pml_moves.specs.declared.scene.Seat.{Seat}
 use Rattle.pml_moves.specs.declared.tier.Tier.{Tier}
-use Rattle.pml_moves.specs.State.{State, reads}
+use Rattle.promela_run.specs.State.{State, reads}
 use Rattle.pml_moves.specs.Scene.{stand_of, shows, offers_at}
-use Rattle.pml_moves.specs.Search.{only_if, accepts, last, pairs_on, pairs_with, pairs}
+use Rattle.promela_run.specs.Moves.{only_if, accepts, last, pairs_on, pairs_with, pairs}
 
 -- with a receive, where that takes it
 abbrev pub pair_by : State → Sending → Pick → Option Basic → List Move

@@ -1,14 +1,15 @@
 -- A round of the search: the moves that it finds.
 use Rattle.std.specs.Prelude.{ℕ, Bool, if◌then◌else◌, List, [], map, Option}
 use Rattle.pml_flow.specs.declared.edge.Edge.{Edge}
-use Rattle.pml_moves.specs.declared.moves.Pick.{Pick}
-use Rattle.pml_moves.specs.declared.moves.Move.{Move}
+use Rattle.promela_run.specs.declared.moves.Pick.{Pick}
+use Rattle.promela_run.specs.declared.moves.Move.{Move}
 use Rattle.pml_moves.specs.declared.scene.Body.{Body}
 use Rattle.pml_moves.specs.declared.scene.Seat.{Seat}
 use Rattle.pml_moves.specs.declared.search.Round.{Round}
 use Rattle.pml_moves.specs.declared.tier.Tier.{Tier}
 use Rattle.pml_moves.specs.Scene.{stand_of, shows, offers_at, seq_of}
-use Rattle.pml_moves.specs.Search.{Message, is_else, last, pairs, moves_for, plain_moves, else_moves, moves_on, moves_at, moves_under}
+use Rattle.promela_run.specs.Moves.{Message, is_else, last, pairs, plain_moves, else_moves, moves_on, moves_at, moves_under}
+use Rattle.pml_moves.specs.Viewed.{moves_for}
 use Rattle.pml_moves.specs.Listeners.{AreKnown}
 
 -- what it knows is so

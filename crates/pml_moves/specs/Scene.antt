@@ -5,17 +5,17 @@ use Rattle.pml_program.specs.declared.program.Seq.{Seq}
 use Rattle.pml_program.specs.declared.program.Fields.{Fields}
 use Rattle.pml_program.specs.declared.program.Proctype.{Proctype}
 use Rattle.pml_program.specs.declared.program.Program.{Program}
-use Rattle.pml_control.specs.Control.{Control}
-use Rattle.pml_control.specs.Told.{told_of}
+use Rattle.promela_process.specs.Control.{Control}
+use Rattle.promela_process.specs.Circles.{told_of}
 use Rattle.pml_flow.specs.declared.edge.Edge.{Edge}
 use Rattle.pml_flow.specs.Points.{point_at}
-use Rattle.pml_flow.specs.Flow.{stated, Offer}
+use Rattle.promela_process.specs.Offers.{stated, Offer}
 use Rattle.pml_flow.specs.Graph.{Graph, levels_of, shown, IsGraph, AreGraphs}
 use Rattle.pml_moves.specs.declared.scene.Seat.{Seat}
 use Rattle.pml_moves.specs.declared.scene.Body.{Body}
 use Rattle.pml_moves.specs.declared.state.State.{State as Kept}
-use Rattle.pml_moves.specs.declared.moves.Pick.{Pick}
-use Rattle.pml_moves.specs.State.{Stand, State, body_of}
+use Rattle.promela_run.specs.declared.moves.Pick.{Pick}
+use Rattle.promela_run.specs.State.{Stand, State, body_of}
 
 -- what is to do at a node; nothing, where there is none
 abbrev pub control_at : Option Seq → ℕ → Control

@@ -1,12 +1,12 @@
 -- What a process waits for, and which messages it may receive so.
 use Rattle.std.specs.Prelude.{◌≡◌, ℕ, Bool, true, false, ◌&&◌, List, [], ◌∷◌, ℤ, Option, Some, None, slice_get}
 use Rattle.std.specs.Ordering.{int_eq}
-use Rattle.pml_flow.specs.Flow.{Offer}
-use Rattle.pml_moves.specs.declared.moves.Pick.{Pick}
+use Rattle.promela_process.specs.Offers.{Offer}
+use Rattle.promela_run.specs.declared.moves.Pick.{Pick}
 use Rattle.pml_moves.specs.declared.waits.Wait.{Wait}
 use Rattle.pml_moves.specs.declared.waits.Wait.TheVariants.{Nothing, Channel, Number, Anything}
-use Rattle.pml_moves.specs.State.{Stand, State}
-use Rattle.pml_moves.specs.Search.{Message, last, pairs_on, pairs_with}
+use Rattle.promela_run.specs.State.{Stand, State}
+use Rattle.promela_run.specs.Moves.{Message, last, pairs_on, pairs_with}
 
 abbrev pub begins_with : ℤ → List ℤ → Bool
 begins_with n [] = false

@@ -4,7 +4,8 @@ ghost use Rattle.std.specs.Prelude.{◌≡◌, true, false};
 ghost use Rattle.std.specs.Option.{option_copied};
 ghost use Rattle.pml_value.specs.Seen.{seen};
 ghost use Rattle.pml_moves.specs.Scene.{IsBody, shows, seq_of};
-ghost use Rattle.pml_moves.specs.Search.{is_else as else_of, can_alone, NeedsNothing};
+ghost use Rattle.promela_run.specs.Moves.{is_else as else_of, can_alone};
+ghost use Rattle.pml_moves.specs.Viewed.{NeedsNothing};
 
 use crate::d_step::can_begin;
 use crate::executable::can_be_taken;

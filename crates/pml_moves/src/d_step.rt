@@ -6,9 +6,10 @@ ghost use Rattle.std.specs.Option.{option_copied};
 ghost use Rattle.pml_flow.specs.Graph.{maybe};
 ghost use Rattle.pml_flow.specs.Points.{point_at};
 ghost use Rattle.pml_value.specs.Seen.{seen};
-ghost use Rattle.pml_moves.specs.State.{levels_from};
+ghost use Rattle.promela_run.specs.State.{levels_from};
 ghost use Rattle.pml_moves.specs.Scene.{IsBody, shows, edges_at, offers_at, seq_of};
-ghost use Rattle.pml_moves.specs.Search.{is_else as else_of, can_inside, is_choice, is_other, choices, first, is_some};
+ghost use Rattle.promela_run.specs.Moves.{is_else as else_of, can_inside, is_choice, is_other, choices, is_some};
+ghost use Rattle.pml_moves.specs.Viewed.{first};
 
 use crate::executable::can_be_taken;
 use crate::scene::Body;

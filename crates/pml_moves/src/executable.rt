@@ -4,11 +4,12 @@ ghost use Rattle.std.specs.Prelude.{◌≡◌, Bool, IfOk, IfErr, Ok, Err, Some,
 ghost use Rattle.pml_tree.specs.declared.tree.SendOrder.{SendOrder};
 ghost use Rattle.pml_tree.specs.declared.tree.Removal.{Removal};
 ghost use Rattle.pml_program.specs.declared.program.Action.TheVariants.{Send, Receive};
-ghost use Rattle.pml_eval.specs.Value.{val, asked_by};
-ghost use Rattle.pml_value.specs.Reads.{channel_at as numbered_at};
+ghost use Rattle.promela_process.specs.Expressions.{val, asked_by};
+ghost use Rattle.promela_run.specs.State.{channel_at as numbered_at};
 ghost use Rattle.pml_value.specs.Seen.{seen};
 ghost use Rattle.pml_moves.specs.Fields.{evaluated};
-ghost use Rattle.pml_moves.specs.Executable.{named as names, values, nonzero, or_fault, can_by, can_send as sends, can_receive as receives};
+ghost use Rattle.promela_run.specs.Moves.{named as names, values, nonzero, or_fault, can_send as sends, can_receive as receives};
+ghost use Rattle.pml_moves.specs.Viewed.{can_by};
 
 use diagnostics::Fault;
 use pml_channel::channel::Channel;

@@ -7,7 +7,6 @@ pub mod executable;
 pub mod laws;
 pub mod listeners;
 pub mod message;
-pub mod moves;
 pub mod picked;
 pub mod played;
 pub mod rendezvous;

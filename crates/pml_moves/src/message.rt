@@ -2,13 +2,13 @@
 
 ghost use Rattle.std.specs.Prelude.{◌≡◌, ◌<◌, List, Ok, length, pos, get_or};
 ghost use Rattle.std.specs.Option.{option_copied};
-ghost use Rattle.pml_eval.specs.declared.pattern.Sought.{Sought};
-ghost use Rattle.pml_eval.specs.Value.{matched, val, asked_by};
+ghost use Rattle.promela_process.specs.declared.sought.Sought.{Sought};
+ghost use Rattle.promela_process.specs.Expressions.{matched, val, asked_by};
 ghost use Rattle.pml_value.specs.Seen.{seen};
-ghost use Rattle.pml_moves.specs.Executable.{named as names, values};
+ghost use Rattle.promela_run.specs.Moves.{named as names, values, message_on, does_match, accepts};
 ghost use Rattle.pml_moves.specs.Fields.{worth, worths};
-ghost use Rattle.pml_channel.specs.State.{cut};
-ghost use Rattle.pml_moves.specs.Search.{message_in, message_on, does_match, accepts};
+ghost use Rattle.promela_process.specs.Store.{cut};
+ghost use Rattle.pml_moves.specs.Viewed.{message_in};
 
 use crate::executable::{first_fault_of, named};
 use diagnostics::Fault;
@@ -35,10 +35,10 @@ impl<'w, 'p> Model for Message<'w, 'p> {
     ghost use Rattle.std.specs.Prelude.{◌≡◌, length};
     ghost use Rattle.std.specs.Coded.{codes};
     ghost use Rattle.pml_program.specs.contracts.expr.Expr as worth;
-    ghost use Rattle.pml_channel.specs.State.{cut};
+    ghost use Rattle.promela_process.specs.Store.{cut};
     ghost use Rattle.pml_value.specs.Seen.{seen};
     ghost use Rattle.pml_moves.specs.Fields.{worths};
-    ghost use Rattle.pml_moves.specs.Search.{Message};
+    ghost use Rattle.promela_run.specs.Moves.{Message};
 
     ghost Value = { Message };
 

@@ -3,11 +3,11 @@
 ghost use Rattle.std.specs.Prelude.{◌≡◌, ◌<◌, IfSome, length, map, option_map, slice_get};
 ghost use Rattle.std.specs.Option.{option_copied};
 ghost use Rattle.pml_moves.specs.Scene.{IsBody, shows, offers_at, IsPicked};
-ghost use Rattle.pml_moves.specs.State.{offer_on, picked as picks};
+ghost use Rattle.promela_run.specs.State.{offer_on, picked as picks};
 
-use crate::moves::Pick;
 use crate::scene::{Body, Scene, seat_at};
 use pml_flow::edge::Edge;
+use promela_run::moves::Pick;
 
 /// An offer: the body in which its process stands, and its edge.
 #[derive(Drop)]

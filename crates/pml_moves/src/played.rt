@@ -3,7 +3,7 @@
 ghost use Rattle.std.specs.Prelude.{◌≡◌, IfOk, IfSome, map, option_map, slice_get};
 ghost use Rattle.std.specs.Option.{option_copied};
 ghost use Rattle.pml_flow.specs.Graph.{AreGraphs};
-ghost use Rattle.pml_moves.specs.State.{body_of, begins_at};
+ghost use Rattle.promela_run.specs.State.{body_of, begins_at};
 ghost use Rattle.pml_moves.specs.Scene.{stand_of, statements_of, IsBody};
 
 use crate::scene::{Body, Seat};

@@ -5,23 +5,23 @@
 
 ghost use Rattle.std.specs.Prelude.{◌≡◌, ◌++◌, ◌<◌, false, List, [], OnOk, length, slice_get};
 ghost use Rattle.std.specs.Option.{option_copied};
-ghost use Rattle.pml_eval.specs.Value.{Reading};
-ghost use Rattle.pml_value.specs.declared.live_channel.LiveChannel.{LiveChannel};
+ghost use Rattle.promela_process.specs.Expressions.{Reading};
+ghost use Rattle.promela_run.specs.declared.live_channel.LiveChannel.{LiveChannel};
 ghost use Rattle.pml_moves.specs.Kept.{Extends};
 ghost use Rattle.pml_moves.specs.Scene.{IsBody, shows};
 ghost use Rattle.pml_moves.specs.Paired.{pair_by, paired_on, paired_down, paired_with, paired_by};
-ghost use Rattle.pml_moves.specs.Search.{Message as Sent, accepts};
+ghost use Rattle.promela_run.specs.Moves.{Message as Sent, accepts};
 ghost use Rattle.pml_moves.specs.Waits.{may_at};
 ghost use Rattle.pml_moves.specs.Listeners.{AreKnown};
 
 use crate::listeners::Known;
 use crate::message::{Message, is_received};
-use crate::moves::{Move, Pick};
 use crate::scene::{Body, Scene, Seat};
 use crate::tier::Tier;
 use crate::waits::{Wait, may_receive};
 use pml_flow::edge::Edge;
 use pml_program::program::{Action, Basic};
+use promela_run::moves::{Move, Pick};
 use std::alloc::AllocError;
 
 /// A message, by which offer it is sent, and under which value of `timeout`.

@@ -4,7 +4,7 @@ ghost use Rattle.std.specs.Prelude.{◌≡◌, ◌<◌, ◌≤◌, true, false, 
 ghost use Rattle.std.specs.Option.{option_copied};
 ghost use Rattle.profile.specs.declared.TheConstants.{MOST_PROCESSES};
 ghost use Rattle.pml_value.specs.Seen.{seen};
-ghost use Rattle.pml_moves.specs.State.{reads, body_of};
+ghost use Rattle.promela_run.specs.State.{reads, body_of};
 ghost use Rattle.pml_moves.specs.Scene.{state_of, stand_of, IsBody, StandsIn, shows};
 
 use crate::played::Played;
@@ -13,8 +13,8 @@ use pml_flow::edge::Edge;
 use pml_flow::graph::Graph;
 use pml_flow::statements::Statements;
 use pml_program::program::{Basic, Proctype, Program};
-use pml_value::live_channel::LiveChannel;
 use pml_value::view::{Taker, View};
+use promela_run::live_channel::LiveChannel;
 use std::marker::Model;
 
 /// A process: the number of its proctype in the model, and the node of its graph where it stands.
@@ -46,7 +46,7 @@ impl<'w, 'p, 'a> Model for Scene<'w, 'p, 'a> {
     ghost use Rattle.pml_program.specs.contracts.expr.Expr as worth;
     ghost use Rattle.pml_program.specs.contracts.program.Seq as seq;
     ghost use Rattle.pml_program.specs.contracts.program.Basic as basic;
-    ghost use Rattle.pml_moves.specs.State.{State};
+    ghost use Rattle.promela_run.specs.State.{State};
     ghost use Rattle.pml_moves.specs.Scene.{state_of};
 
     ghost Value = { State };

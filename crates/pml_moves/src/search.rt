@@ -7,15 +7,15 @@ ghost use Rattle.std.specs.Prelude.{◌≡◌, ◌++◌, ◌<◌, false, [], OnO
 ghost use Rattle.std.specs.Option.{option_copied};
 ghost use Rattle.pml_moves.specs.Kept.{Extends};
 ghost use Rattle.pml_moves.specs.Scene.{IsBody, shows};
-ghost use Rattle.pml_moves.specs.Search.{message_in, is_else as else_of, moves_under, moves_held, moves as all_moves, only_if};
+ghost use Rattle.pml_moves.specs.Viewed.{message_in};
+ghost use Rattle.promela_run.specs.Moves.{is_else as else_of, moves_under, moves_held, moves as all_moves, only_if};
 ghost use Rattle.pml_moves.specs.Round.{IsKnown, round_pairs, round_for, round_plain_for, round_plain, else_on, round_on, round_down, round_at, round_under};
-ghost use Rattle.pml_moves.specs.declared.moves.Move.TheVariants.{Alone};
+ghost use Rattle.promela_run.specs.declared.moves.Move.TheVariants.{Alone};
 
 use crate::alone::{can_be_alone, needs_nothing};
 use crate::d_step::is_else;
 use crate::listeners::{Known, NOBODY, Span, all_listeners};
 use crate::message::offered;
-use crate::moves::{Move, Pick};
 use crate::rendezvous::{Sending, add_pairs};
 use crate::scene::{Body, Scene, Seat};
 use crate::tier::Tier;
@@ -23,6 +23,7 @@ use crate::waits::{Wait, all_waits, are_worth_knowing};
 use pml_flow::edge::Edge;
 use pml_program::program::Basic;
 use pml_value::view::View;
+use promela_run::moves::{Move, Pick};
 use std::alloc::AllocError;
 
 /// A round of the search: over which state, under which value of `timeout`, and what is known of what processes wait for.

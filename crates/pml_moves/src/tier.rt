@@ -1,9 +1,9 @@
 //! A level of what a process is offered.
 
 ghost use Rattle.std.specs.Prelude.{◌≡◌};
-ghost use Rattle.pml_moves.specs.Search.{pick};
+ghost use Rattle.promela_run.specs.Moves.{pick};
 
-use crate::moves::Pick;
+use promela_run::moves::Pick;
 
 /// A level of what a process is offered.
 #[derive(Clone, Copy)]

@@ -3,11 +3,11 @@
 ghost use Rattle.std.specs.Prelude.{◌≡◌, ◌<◌, ◌&&◌, false, IfOk, length, map, slice_get};
 ghost use Rattle.std.specs.Option.{option_copied};
 ghost use Rattle.std.specs.Ordering.{int_eq};
-ghost use Rattle.pml_eval.specs.Value.{Reading, asked_by};
+ghost use Rattle.promela_process.specs.Expressions.{Reading, asked_by};
 ghost use Rattle.pml_value.specs.Seen.{seen};
-ghost use Rattle.pml_moves.specs.State.{reads};
+ghost use Rattle.promela_run.specs.State.{reads};
 ghost use Rattle.pml_moves.specs.Scene.{stand_of, IsBody, shows, offers_at};
-ghost use Rattle.pml_moves.specs.Search.{Message as Sent, accepts, does_match};
+ghost use Rattle.promela_run.specs.Moves.{Message as Sent, accepts, does_match};
 ghost use Rattle.pml_moves.specs.Waits.{begins_with, may_take, may_at, WaitsOn, WaitsDown, WaitsFor, AreWaits};
 
 use crate::executable::named;
@@ -16,8 +16,8 @@ use crate::scene::{Body, Scene, Seat};
 use pml_flow::edge::Edge;
 use pml_program::expr::Want;
 use pml_program::program::{Action, Basic};
-use pml_value::live_channel::LiveChannel;
 use pml_value::view::View;
+use promela_run::live_channel::LiveChannel;
 use std::alloc::{AllocError, Global};
 
 /// As many processes are enough to look beforehand what each waits for.

@@ -8,7 +8,7 @@ use Rattle.pml_program.specs.declared.expr.Expr.{Expr}
 use Rattle.pml_program.specs.declared.expr.Want.{Want}
 use Rattle.pml_program.specs.declared.expr.Turn.{Turn, Turn-F, map-Turn, out-Turn, fold-roll-Turn, roll-out-Turn}
 use Rattle.pml_program.specs.declared.expr.Target.{Target, out-Target, fold-roll-Target, roll-out-Target}
-use Rattle.pml_eval.specs.Value.{Reading, Valued, Wanted, Placed, Turned, val, want, placed, place, cells, cells_of, inside, within, index_of, value_step, want_step, target_step, turn_step, ◌>>=◌}
+use Rattle.promela_process.specs.Expressions.{Reading, Valued, Wanted, Placed, Turned, val, want, placed, place, cells, cells_of, inside, within, index_of, value_step, want_step, target_step, turn_step, ◌>>=◌}
 use Rattle.pml_stands.specs.Tiled.{reached, AreWithin}
 use Rattle.pml_paths.specs.Paths.{IsWorth, AreWorth, cell_at}
 

@@ -10,8 +10,8 @@ use Rattle.pml_program.specs.declared.form.Form.{Form}
 use Rattle.pml_program.specs.declared.form.Form.TheVariants as kind
 use Rattle.pml_program.specs.declared.program.Slot.{Slot}
 use Rattle.pml_program.specs.declared.program.Fields.{Fields}
-use Rattle.pml_cells.specs.Cells.{slot_of, cell_of, fields_at as listed_at, fields_of}
-use Rattle.pml_lines.specs.Places.{index, element, fields_path}
+use Rattle.promela_run.specs.State.{slot_of, cell_of, fields_at as listed_at, fields_of}
+use Rattle.promela_run.specs.Lines.{index, element, fields_path}
 use Rattle.promela_model.specs.Known.{cells}
 use Rattle.pml_stands.specs.Tiled as tiled
 use Rattle.pml_stands.specs.Tiled.{fields_at, listed, HasWidth, Tile, TypedefsTile, OwnersFrom, is_struct, Leads, fields_under, first_of}

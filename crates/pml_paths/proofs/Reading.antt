@@ -6,8 +6,8 @@ use Rattle.pml_tree.specs.declared.tree.Reference.{Reference}
 use Rattle.pml_program.specs.declared.expr.Target.{Target, out-Target}
 use Rattle.pml_program.specs.declared.program.Slot.{Slot}
 use Rattle.pml_program.specs.declared.program.Program.{Program}
-use Rattle.pml_eval.specs.Value.{Reading}
-use Rattle.pml_lines.specs.Places.{element, fields_path, path}
+use Rattle.promela_process.specs.Expressions.{Reading}
+use Rattle.promela_run.specs.Lines.{element, fields_path, path}
 use Rattle.promela_model.specs.Known.{Globals}
 use Rattle.promela_model.specs.Stands.{Place, StandsReference}
 use Rattle.promela_model.specs.StandsModel.{StandsModel}

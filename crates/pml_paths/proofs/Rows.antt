@@ -10,7 +10,7 @@ use Rattle.pml_program.specs.declared.form.Form.TheVariants as kind
 use Rattle.pml_program.specs.declared.program.Initial.TheVariants as i
 use Rattle.pml_program.specs.declared.program.Slot.{Slot}
 use Rattle.pml_program.specs.declared.program.Program.{Program}
-use Rattle.pml_lines.specs.Places.{path}
+use Rattle.promela_run.specs.Lines.{path}
 use Rattle.pml_stands.specs.Tiled.{names_along, indices_along}
 use Rattle.pml_paths.specs.Paths.{spelled}
 

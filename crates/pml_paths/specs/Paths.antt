@@ -7,9 +7,9 @@ use Rattle.pml_program.specs.declared.expr.Target.{Target, out-Target}
 use Rattle.pml_program.specs.declared.program.Slot.{Slot}
 use Rattle.pml_program.specs.declared.program.Fields.{Fields}
 use Rattle.pml_program.specs.declared.program.Program.{Program}
-use Rattle.pml_store.specs.declared.place.Place.{Place}
-use Rattle.pml_eval.specs.Value.{Reading, val, place}
-use Rattle.pml_lines.specs.Places.{index, path}
+use Rattle.promela_process.specs.declared.place.Place.{Place}
+use Rattle.promela_process.specs.Expressions.{Reading, val, place}
+use Rattle.promela_run.specs.Lines.{index, path}
 use Rattle.promela_model.specs.Known.{Globals}
 use Rattle.promela_model.specs.Stands.{Place as Meant, StandsReference}
 use Rattle.pml_stands.specs.Tiled.{is_struct, Leads, AreWithin, AreAmong, variables_of, fields_under, names_along, indices_along, names_of}

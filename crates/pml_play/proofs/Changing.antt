@@ -14,7 +14,7 @@ use Rattle.promela_session.specs.Devices.{Ends, IsBrokenOff}
 use Rattle.session.proofs.Moving.{Moved-nil}
 use Rattle.session.proofs.Parts.{memory_breaks, only_does}
 use Rattle.session.proofs.Placing.{refused_can_be_converted}
-use Rattle.pml_sim.specs.World.{Running, rules}
+use Rattle.promela_run.specs.World.{Running, rules}
 use Rattle.pml_play.specs.declared.whole.Rejection.{Rejection}
 use Rattle.pml_play.specs.declared.whole.Rejection.TheVariants.{Memory, Refused}
 use Rattle.pml_play.specs.Transcript.{IsModel, IsTranscript, of_refusal, of_model}

@@ -23,10 +23,10 @@ use Rattle.pml_syntax.specs.ReadingUnits as reading
 use Rattle.pml_syntax.proofs.Whole.{is_found, is_none}
 use Rattle.pml_resolve.specs.Model.{numbered_model}
 use Rattle.pml_stands.proofs.Model.{model-stands}
-use Rattle.pml_check.specs.Judged.{FitsTo, HasGoodStart, IsFit, IsLeast}
+use Rattle.promela_run.specs.Judged.{FitsTo, HasGoodStart, IsFit, IsLeast}
 use Rattle.pml_check.proofs.Standing.{fitted}
 use Rattle.pml_check.proofs.Deciding.{judge}
-use Rattle.pml_sim.specs.World.{first, rules}
+use Rattle.promela_run.specs.World.{first, rules}
 use Rattle.pml_play.specs.Transcript.{AreExpanded, IsSpelled, IsRefused, too_long, lexical, left_out, inline, too_deep, unspelled, unfit, IsTranscript, of_refusal, of_model}
 use Rattle.promela_session.specs.declared.form.Stream.TheVariants.{Unread}
 

@@ -16,7 +16,7 @@ use Rattle.session.proofs.Records.{IsPlain}
 use Rattle.session.proofs.Replay.{picked_again}
 use Rattle.session.proofs.Turns.{story_some}
 use Rattle.promela_session.specs.declared.ends.Cause.{Cause}
-use Rattle.pml_sim.specs.World.{Running, rules}
+use Rattle.promela_run.specs.World.{Running, rules}
 use Rattle.pml_sim.proofs.Short.{IsLightHere, goes_light, number_fits}
 use Rattle.pml_play.specs.Run.{Turn, IsChosen, IsStep, IsPath, IsLast, no_move, at_limit, at_fault, at_question, last_state, IsRun, PlaysEachPath, PlaysJustThePath}
 use Rattle.pml_play.specs.Transcript.{IsModel, IsTranscript}

@@ -21,7 +21,7 @@ use Rattle.pml_program.specs.declared.program.Program.{Program}
 use Rattle.promela_model.specs.Known.{Globals}
 use Rattle.promela_model.specs.StandsModel as stands
 use Rattle.promela_model.specs.StandsModel.{StandsUnits, StandsModel}
-use Rattle.pml_sim.specs.World.{Running}
+use Rattle.promela_run.specs.World.{Running}
 use Rattle.pml_sim.proofs.Crowding.{IsLightProctype, IsLightState}
 use Rattle.pml_sim.proofs.Short.{most, first_is_light}
 use Rattle.pml_play.proofs.Measured.{total, tree_item, tree_seq, seq-is, seq_weighs}

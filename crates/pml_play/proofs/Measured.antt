@@ -14,7 +14,7 @@ use Rattle.pml_program.specs.declared.program.Basic.{Basic}
 use Rattle.pml_program.specs.declared.program.Basic.TheBlock.{shape-the_row-Stmt-1}
 use Rattle.pml_program.specs.declared.program.Stmt.{Stmt}
 use Rattle.pml_program.specs.declared.program.Seq.{Seq, roll-Seq, items_hidden-the_row-Stmt-1}
-use Rattle.pml_flow.specs.Flow.{first_line}
+use Rattle.promela_process.specs.Offers.{first_line}
 use Rattle.promela_model.specs.Known.{Globals}
 use Rattle.promela_model.specs.StandsModel as stands
 use Rattle.promela_model.specs.StandsModel.{item_of, items_of, StandsBasic, StandsItems, StandsSeq, StandsOptions}

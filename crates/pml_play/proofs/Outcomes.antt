@@ -19,12 +19,11 @@ use Rattle.pml_program.specs.declared.program.Program.{Program}
 use Rattle.promela_model.specs.StandsModel.{StandsModel}
 use Rattle.pml_stands.proofs.Model.{one-model}
 use Rattle.promela_model.specs.declared.mark.Mark.{Mark}
-use Rattle.pml_check.specs.Judged.{AppliesTo, IsFit, IsLeast}
+use Rattle.promela_run.specs.Judged.{AppliesTo, IsFit, IsLeast}
 use Rattle.pml_check.proofs.Least.{one_least, fit_has_none}
 use Rattle.diagnostics.specs.declared.fault.Fault.{Fault}
-use Rattle.pml_start.specs.Begin.{Begun}
-use Rattle.pml_start.specs.Start.{first_state}
-use Rattle.pml_sim.specs.World.{Running, first, rules}
+use Rattle.promela_run.specs.State.{Begun, first_state}
+use Rattle.promela_run.specs.World.{Running, first, rules}
 use Rattle.promela_session.specs.Replay.{CanBeReplayed}
 use Rattle.session.proofs.CutShort.{can_be_replayed, refused_can_be_replayed}
 use Rattle.pml_play.specs.Transcript.{AreExpanded, IsSpelled, IsModel, HasNoExpansion, ExpandsTooDeep, IsUnspelled, IsRefused, too_long, lexical, left_out, inline, too_deep, unspelled, unfit, IsTranscript, of_refusal, of_model}

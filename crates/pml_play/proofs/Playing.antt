@@ -31,12 +31,12 @@ use Rattle.pml_syntax.specs.Answer.{Answers}
 use Rattle.pml_check.specs.declared.checked.CheckFault.{CheckFault}
 use Rattle.pml_check.specs.declared.checked.CheckFault.TheVariants as check
 use Rattle.pml_check.specs.Checked.{IsRefused}
-use Rattle.pml_check.specs.Judged.{IsFit}
+use Rattle.promela_run.specs.Judged.{IsFit}
 use Rattle.pml_program.specs.declared.program.Program.{Program}
 use Rattle.promela_model.specs.StandsModel.{StandsModel}
 use Rattle.pml_play.specs.declared.whole.Rejection.{Rejection}
 use Rattle.pml_play.specs.declared.whole.Rejection.TheVariants.{Memory, Refused}
-use Rattle.pml_sim.specs.World.{Running, rules}
+use Rattle.promela_run.specs.World.{Running, rules}
 use Rattle.pml_sim.specs.Lent.{IsFirst}
 use Rattle.pml_play.specs.Transcript.{AreExpanded, IsSpelled, IsModel, too_long, lexical, left_out, inline, too_deep, unspelled, unfit, of_refusal, of_model, PlaysWhole}
 use Rattle.pml_play.specs.Parts.{IsReady, IsRejected, of_lexical, of_inline, of_syntax, of_check, Rejects, PlaysText}

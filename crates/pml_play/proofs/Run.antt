@@ -21,7 +21,7 @@ use Rattle.session.proofs.Parts.{recorded-append}
 use Rattle.session.proofs.Replay.{Silent, ask_silent, ask_range, picked_is_there, chosen, recorded_chosen}
 use Rattle.session.proofs.Turns.{story_none, story_limit, story_some, answer_part}
 use Rattle.session.proofs.Written.{all_are_digits, number_is}
-use Rattle.pml_sim.specs.World.{Running, rules}
+use Rattle.promela_run.specs.World.{Running, rules}
 use Rattle.pml_play.specs.Transcript.{IsModel, IsTranscript}
 use Rattle.pml_play.specs.Run.{Turn, IsChosen, IsStep, IsPath, last_state, IsLast, no_move, at_limit, at_fault, at_question, HasRun, RecordGivesRun}
 use Rattle.pml_play.proofs.Outcomes.{when_modelled}

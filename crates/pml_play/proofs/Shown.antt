@@ -12,7 +12,7 @@ use Rattle.promela_session.specs.Events.{Put, Told, Stepped, Part, preceded, rec
 use Rattle.promela_session.specs.Lines.{most_line_bytes}
 use Rattle.promela_session.specs.Session.{Rules, Goes, step_text, story, transcript}
 use Rattle.session.proofs.Records.{IsPlain}
-use Rattle.pml_sim.specs.World.{Running, rules}
+use Rattle.promela_run.specs.World.{Running, rules}
 use Rattle.pml_sim.proofs.Short.{IsLightHere, goes_light, number_fits}
 use Rattle.pml_play.specs.Run.{Turn, IsChosen, IsStep, IsPath, last_state}
 use Rattle.pml_play.specs.Shown.{printed_by, question_for, numbers_behind, step_done, along, ShowsEachPath, PathLeads, ComesTo}

@@ -14,7 +14,7 @@ use Rattle.pml_tree.specs.declared.tree.Expr.TheVariants as e
 use Rattle.pml_tree.specs.declared.tree.Item.{Item}
 use Rattle.pml_tree.specs.declared.tree.Reference.{Reference}
 use Rattle.pml_tree.specs.declared.tree.Seq.{Seq}
-use Rattle.pml_flow.specs.Flow.{first_line}
+use Rattle.promela_process.specs.Offers.{first_line}
 use Rattle.promela_model.specs.GrammarOfExpressions.{between, SpellsReference, SpellsList}
 use Rattle.pml_expression.proofs.Kept.{Leads, ◌then◌, reference_leads, list_leads}
 use Rattle.promela_model.specs.declared.opener.Opener.{Opener}

@@ -5,7 +5,7 @@ use Rattle.promela_session.specs.declared.ends.Options.{Options}
 use Rattle.promela_session.specs.declared.ends.End.{End}
 use Rattle.promela_session.specs.declared.ends.Cause.{Cause}
 use Rattle.promela_session.specs.declared.ends.Cause.TheVariants as cause
-use Rattle.pml_sim.specs.World.{Running}
+use Rattle.promela_run.specs.World.{Running}
 use Rattle.pml_play.specs.declared.whole.Rejection.{Rejection}
 use Rattle.pml_play.specs.declared.whole.Rejection.TheVariants.{Memory, Refused}
 use Rattle.pml_program.specs.declared.program.Program.{Program}

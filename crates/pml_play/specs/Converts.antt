@@ -11,7 +11,7 @@ use Rattle.promela_session.specs.Replay.{converted, IsConvertedBy, StandsForReco
 use Rattle.promela_session.specs.Events.{Part}
 use Rattle.promela_session.specs.Session.{only, end_of, transcript}
 use Rattle.promela_session.specs.Devices.{Ends, IsBrokenOff}
-use Rattle.pml_sim.specs.World.{Running, rules}
+use Rattle.promela_run.specs.World.{Running, rules}
 use Rattle.pml_play.specs.Transcript.{IsModel, IsRefused, IsTranscript}
 
 -- The conversion of the choices of a session over a text: nothing is done where it is refused, and else that of the model.

@@ -6,7 +6,7 @@ use Rattle.promela_session.specs.declared.ends.Options.{Options}
 use Rattle.promela_session.specs.declared.ends.End.{End}
 use Rattle.promela_session.specs.Events.{Part}
 use Rattle.promela_text.specs.Tokens.{IsLine}
-use Rattle.pml_sim.specs.World.{Running}
+use Rattle.promela_run.specs.World.{Running}
 use Rattle.pml_play.specs.Transcript.{IsModel, IsRefused, IsTranscript}
 
 -- a line of the text, or 0 where the refusal has none

@@ -9,7 +9,7 @@ use Rattle.promela_session.specs.Events.{recorded, Part, record_line}
 use Rattle.promela_session.specs.Session.{Rules, Goes, Faults, final_cause}
 use Rattle.promela_session.specs.Replay.{is_cut_short}
 use Rattle.promela_session.specs.declared.ends.Options.{Options}
-use Rattle.pml_sim.specs.World.{Running}
+use Rattle.promela_run.specs.World.{Running}
 use Rattle.pml_play.specs.Transcript.{IsModel, IsTranscript}
 
 -- one step of a run: the move that is taken, and the state that it leads to

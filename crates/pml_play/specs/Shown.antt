@@ -5,8 +5,8 @@ use Rattle.promela_session.specs.declared.ends.Options.{Options}
 use Rattle.promela_session.specs.declared.ends.End.{End}
 use Rattle.promela_session.specs.Events.{Event, Put, Told, Recorded, Stepped, asks, Part, preceded, record_line, placed_line, prompt, list_from}
 use Rattle.promela_session.specs.Session.{Rules, Outcome, Goes, Faults, place_of, step_text}
-use Rattle.pml_moves.specs.declared.moves.Move.{Move}
-use Rattle.pml_sim.specs.World.{Running, rules as rules_of_models}
+use Rattle.promela_run.specs.declared.moves.Move.{Move}
+use Rattle.promela_run.specs.World.{Running, rules as rules_of_models}
 use Rattle.pml_play.specs.Plain.{SayTheSame}
 use Rattle.pml_play.specs.Run.{Turn, IsPath, IsRun, last_state}
 use Rattle.pml_play.specs.Transcript.{IsTranscript}

@@ -17,11 +17,10 @@ use Rattle.promela_text.specs.Expansion.{Expands, IsExpanded, GoesTooDeep}
 use Rattle.pml_tree.specs.declared.tree.Tree.{Tree}
 use Rattle.promela_model.specs.GrammarOfModels.{Spells}
 use Rattle.promela_model.specs.StandsModel.{StandsModel}
-use Rattle.pml_check.specs.Judged.{IsFit, IsLeast}
+use Rattle.promela_run.specs.Judged.{IsFit, IsLeast}
 use Rattle.pml_program.specs.declared.program.Program.{Program}
-use Rattle.pml_start.specs.Begin.{Begun}
-use Rattle.pml_start.specs.Start.{first_state}
-use Rattle.pml_sim.specs.World.{Running, first, rules}
+use Rattle.promela_run.specs.State.{Begun, first_state}
+use Rattle.promela_run.specs.World.{Running, first, rules}
 use Rattle.promela_session.specs.declared.form.Stream.TheVariants.{Unread}
 
 -- These come of the text's tokens, where the calls of inlines are replaced, and they are not too deep.

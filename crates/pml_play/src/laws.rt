@@ -3,7 +3,7 @@
 ghost use Rattle.std.specs.Prelude.{ℕ, Bool, List};
 ghost use Rattle.diagnostics.specs.declared.refusal.Refusal.TheVariants as r;
 ghost use Rattle.promela_text.specs.Tokens.{IsTooDeep};
-ghost use Rattle.pml_sim.specs.World.{Running, rules};
+ghost use Rattle.promela_run.specs.World.{Running, rules};
 ghost use Rattle.promela_session.specs.declared.ends.Options.{Options};
 ghost use Rattle.pml_play.specs.Plain.{IsNeverRefused, IsRefusedWhere, OfEachPlain, SpellNothing, SpellTheSame};
 ghost use Rattle.pml_play.specs.Run.{OfEachSession, PlaysEachPath, PlaysJustThePath, RecordGivesRun, RunsThroughPaths};

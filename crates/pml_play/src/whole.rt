@@ -5,7 +5,7 @@ ghost use Rattle.promela_session.specs.declared.ends.End.{End};
 ghost use Rattle.promela_session.specs.Events.{Part};
 ghost use Rattle.promela_session.specs.Replay.{CanBeReplayed};
 ghost use Rattle.promela_session.specs.Session.{end_of, transcript};
-ghost use Rattle.pml_sim.specs.World.{rules};
+ghost use Rattle.promela_run.specs.World.{rules};
 ghost use Rattle.session.specs.Writes.{CountsAll, IsOwnEnd, Runs};
 ghost use Rattle.promela_text.specs.Tokens.{AreTokens};
 ghost use Rattle.promela_model.specs.GrammarOfModels.{Spells};

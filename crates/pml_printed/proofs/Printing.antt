@@ -1,8 +1,8 @@
 -- A string is gone through byte by byte.
 use Rattle.std.proofs.Common.{◌≡◌, ℕ, ◌+◌, ◌<◌, true, false, List, ◌++◌, length, get_or, drop, ℤ, refl, sym, ap, ◌∙◌, append_assoc, add-one, drop-cons, drop-drop}
 use Rattle.pml_token.specs.Word.{Word}
-use Rattle.pml_printed.specs.declared.string.Before.{Before}
-use Rattle.pml_printed.specs.Printed.{printed_byte, printed_from, before_next, takes_value, first_of, values_left}
+use Rattle.promela_run.specs.declared.before.Before.{Before}
+use Rattle.promela_run.specs.Lines.{printed_byte, printed_from, before_next, takes_value, first_of, values_left}
 
 -- the next byte, and what is behind it
 next_byte : (names : List Word) (before : Before) (bytes : List ℕ) (i : ℕ) (values : List ℤ) → i < length bytes →

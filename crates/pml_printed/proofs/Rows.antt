@@ -5,8 +5,7 @@ use Rattle.std.specs.Fmt.{digits}
 use Rattle.profile.specs.Characters.{quote, tab, line_feed, backslash}
 use Rattle.pml_token.specs.Word.{Word}
 use Rattle.pml_token.specs.declared.token.Kind.TheVariants.{Name}
-use Rattle.pml_printed.specs.Printed.{printed}
-use Rattle.pml_lines.specs.Places.{named}
+use Rattle.promela_run.specs.Lines.{printed, named}
 
 abbrev name : List ℕ → Word
 name text = record { kind = Name; text = text; line = 1 }

@@ -2,22 +2,15 @@
 
 ghost use Rattle.std.specs.Prelude.{◌≡◌, ◌++◌, OnOk, OnErr, drop};
 ghost use Rattle.std.specs.Io.{StartsWith};
-ghost use Rattle.pml_eval.specs.Clip.{residue};
-ghost use Rattle.pml_printed.specs.Printed.{converted, escaped, printed_byte, before_next, takes_value, first_of, printed, inside};
+ghost use Rattle.promela_process.specs.Numbers.{residue};
+ghost use Rattle.promela_run.specs.Lines.{converted, escaped, printed_byte, before_next, takes_value, first_of, printed, inside};
 
 use crate::digits::add_digits;
 use itoa::Buffer;
 use pml_lines::place::named;
 use pml_token::token::Token;
+use promela_run::before::Before;
 use std::alloc::AllocError;
-
-/// What stands before a byte of a string and says how it is read.
-#[derive(Clone, Copy)]
-enum Before {
-    Nothing,
-    Percent,
-    Backslash,
-}
 
 /// The byte of the lowest 8 bits.
 fn low_byte(value: i32) -> u8

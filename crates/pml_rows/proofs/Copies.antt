@@ -2,19 +2,16 @@
 -- Made by `tools/copy-definitions`; `Same.antt` proves that these are the definitions.
 use Rattle.diagnostics.specs.declared.fault.Fault.{Fault}
 use Rattle.diagnostics.specs.declared.fault.Fault.TheVariants.{AssertionViolated, DStepTooLong, TooManyChannels}
-use Rattle.pml_cells.specs.Cells.{leaf, size}
-use Rattle.pml_control.specs.Control.{Control}
-use Rattle.pml_eval.specs.Clip.{clipped}
-use Rattle.pml_eval.specs.Operators.{is_zero, wrapped}
-use Rattle.pml_eval.specs.Value.{Reading, wants_of, ◌>>=◌}
-use Rattle.pml_eval.specs.declared.pattern.Sought.{Sought}
-use Rattle.pml_flow.specs.Flow.{Offer}
-use Rattle.pml_moves.specs.Executable.{Named, can_receive, can_send, nonzero, or_fault, with_fields as executable-with_fields}
-use Rattle.pml_moves.specs.State.{picked, Stand, State, body_of, levels, levels_from, levels_in, reads}
-use Rattle.pml_moves.specs.Search.{Message, accepts_on, each, else_moves, is_else, is_other, is_some, last, message_on, only_if, or_else, pick}
-use Rattle.pml_moves.specs.declared.moves.Move.{Move}
-use Rattle.pml_moves.specs.declared.moves.Move.TheVariants.{Alone, Death, Pair}
-use Rattle.pml_moves.specs.declared.moves.Pick.{Pick}
+use Rattle.promela_run.specs.State.{leaf, size, picked, Stand, State, body_of, levels, levels_from, levels_in, reads, Begun, empty_channel, nothing, read_in, with_channel, with_frame, with_value, with_values, variables_at, channel_at}
+use Rattle.promela_process.specs.Control.{Control}
+use Rattle.promela_process.specs.Numbers.{clipped, is_zero, wrapped}
+use Rattle.promela_process.specs.Expressions.{Reading, wants_of, ◌>>=◌}
+use Rattle.promela_process.specs.declared.sought.Sought.{Sought}
+use Rattle.promela_process.specs.Offers.{Offer}
+use Rattle.promela_run.specs.Moves.{Named, can_receive, can_send, nonzero, or_fault, with_fields as executable-with_fields, Message, accepts_on, each, else_moves, is_else, is_other, is_some, last, message_on, only_if, or_else, pick}
+use Rattle.promela_run.specs.declared.moves.Move.{Move}
+use Rattle.promela_run.specs.declared.moves.Move.TheVariants.{Alone, Death, Pair}
+use Rattle.promela_run.specs.declared.moves.Pick.{Pick}
 use Rattle.pml_program.specs.declared.expr.Expr.{Expr}
 use Rattle.pml_program.specs.declared.expr.Target.{Target, out-Target}
 use Rattle.pml_program.specs.declared.expr.Want.{Want}
@@ -28,21 +25,15 @@ use Rattle.pml_program.specs.declared.program.Program.{Program}
 use Rattle.pml_program.specs.declared.program.Run.{Run}
 use Rattle.pml_program.specs.declared.program.Seq.{Seq}
 use Rattle.pml_program.specs.declared.program.Slot.{Slot}
-use Rattle.pml_sim.specs.World.{Running, changed_lines, led_to, stopped, unless_stopped}
-use Rattle.pml_start.specs.Begin.{Begun, empty_channel, nothing, read_in, with_channel, with_frame, with_value, with_values}
-use Rattle.pml_start.specs.Created.{channels_of, with_arguments, with_process}
-use Rattle.pml_start.specs.Start.{variables_at}
-use Rattle.pml_steps.specs.Change.{put_by, with_received, with_sent, without_youngest, joined_by, run_number, there}
-use Rattle.pml_steps.specs.Outcome.{Done, behind, body_by, both_on, first_of, moved, onward, prints_name, prints_string, quiet}
-use Rattle.pml_texts.specs.Ends.{is_valid}
-use Rattle.pml_texts.specs.Texts.{move_text, origin_of, stuck}
+use Rattle.promela_run.specs.World.{Running, changed_lines, led_to, stopped, unless_stopped}
+use Rattle.promela_run.specs.Statements.{channels_of, with_arguments, with_process, Received, changed, stores, taken_at, with_fields, with_message}
+use Rattle.promela_run.specs.Steps.{put_by, with_received, with_sent, without_youngest, joined_by, run_number, there, Done, behind, body_by, both_on, first_of, moved, onward, prints_name, prints_string, quiet}
+use Rattle.promela_run.specs.Texts.{is_valid, move_text, origin_of, stuck}
 use Rattle.pml_tree.specs.declared.tree.Removal.{Removal}
 use Rattle.pml_tree.specs.declared.tree.Search.{Search}
 use Rattle.pml_tree.specs.declared.tree.SendOrder.{SendOrder}
-use Rattle.pml_value.specs.Messages.{Received, changed, stores, taken_at, with_fields, with_message}
-use Rattle.pml_value.specs.Reads.{channel_at}
-use Rattle.pml_value.specs.declared.live_channel.LiveChannel.{LiveChannel}
-use Rattle.pml_value.specs.declared.statement.Goes.{Goes}
+use Rattle.promela_run.specs.declared.live_channel.LiveChannel.{LiveChannel}
+use Rattle.promela_run.specs.declared.goes.Goes.{Goes}
 use Rattle.profile.specs.declared.TheConstants.{MOST_CHANNELS, MOST_DSTEP_STATEMENTS, MOST_PROCESSES}
 use Rattle.promela_session.specs.Session.{Outcome, Rules}
 use Rattle.std.specs.List.{filter}

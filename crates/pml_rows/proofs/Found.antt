@@ -5,8 +5,8 @@ use Rattle.pml_token.specs.declared.token.Kind.TheVariants as kind
 use Rattle.pml_program.specs.declared.program.Seq.{Seq}
 use Rattle.pml_program.specs.declared.program.Basic.{Goto}
 use Rattle.pml_program.specs.declared.program.Action.TheVariants as action
-use Rattle.pml_control.specs.Control.{Comes, at, steps}
-use Rattle.pml_control.specs.Circles.{Circle, BadFirstPoint}
+use Rattle.promela_process.specs.Control.{Comes, at, steps}
+use Rattle.promela_process.specs.Circles.{Circle, BadFirstPoint}
 use Rattle.pml_rows.proofs.Same.{body_computes}
 use Rattle.pml_rows.proofs.Models.{on, stmt, seq, plain, labelled, block, d_step}
 

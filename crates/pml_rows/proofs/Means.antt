@@ -4,8 +4,8 @@ use Rattle.diagnostics.specs.declared.fault.Fault.{Fault}
 use Rattle.pml_program.specs.declared.expr.Expr.{Expr}
 use Rattle.pml_program.specs.declared.expr.Target.{Target}
 use Rattle.pml_program.specs.declared.expr.Want.{Want}
-use Rattle.pml_store.specs.declared.place.Place.{Place}
-use Rattle.pml_eval.specs.Value.{Reading, Valued, Wanted, Placed, Turned, value_step, want_step, target_step, turn_step, val, place, want}
+use Rattle.promela_process.specs.declared.place.Place.{Place}
+use Rattle.promela_process.specs.Expressions.{Reading, Valued, Wanted, Placed, Turned, value_step, want_step, target_step, turn_step, val, place, want}
 use Rattle.pml_rows.proofs.Folds.{value_of, want_of, target_of, value-is, want-is, target-is}
 
 pub record Means : Type 0 where

@@ -17,11 +17,10 @@ use Rattle.pml_program.specs.declared.expr.Expr.TheBlock.{shape-the_row-Target-0
 use Rattle.pml_program.specs.declared.program.Program.{Program}
 use Rattle.pml_program.specs.declared.program.Seq.{roll-Seq}
 use Rattle.pml_program.specs.declared.program.Basic.TheBlock.{shape-the_row-Stmt-1, hidden-the_row-Stmt-1, shape-the_row-Seq-0, hidden-the_row-Seq-0}
-use Rattle.pml_control.specs.Control.{settle}
-use Rattle.pml_eval.specs.Clip.{bits_of, is_signed}
-use Rattle.pml_start.specs.Begin.{Begun}
-use Rattle.pml_start.specs.Start.{first_state}
-use Rattle.pml_sim.specs.World.{first, rules}
+use Rattle.promela_process.specs.Control.{settle}
+use Rattle.promela_process.specs.Numbers.{bits_of, is_signed}
+use Rattle.promela_run.specs.State.{Begun, first_state}
+use Rattle.promela_run.specs.World.{first, rules}
 use Rattle.pml_rows.specs.Seen.{Seen, seen_of, played, seen}
 use Rattle.pml_rows.proofs.Means.{Means, stated, computing, means-are}
 use Rattle.pml_rows.proofs.Copies.{start-first_state, world-rules}

@@ -6,9 +6,8 @@ use Rattle.promela_session.specs.declared.ends.End.{End}
 use Rattle.promela_session.specs.Events.{output, recorded, front, Part}
 use Rattle.promela_session.specs.Session.{transcript}
 use Rattle.pml_program.specs.declared.program.Program.{Program}
-use Rattle.pml_start.specs.Begin.{Begun}
-use Rattle.pml_start.specs.Start.{first_state}
-use Rattle.pml_sim.specs.World.{first, rules}
+use Rattle.promela_run.specs.State.{Begun, first_state}
+use Rattle.promela_run.specs.World.{first, rules}
 
 -- the transcript from a first state
 abbrev pub played_from : Options → Program → List ℕ → Result Begun Fault → Option (Part End)

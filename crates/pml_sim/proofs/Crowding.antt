@@ -7,14 +7,13 @@ use Rattle.std.proofs.lemmas.List.{length-map}
 use Rattle.profile.specs.declared.TheConstants.{MOST_PROCESSES}
 use Rattle.pml_program.specs.declared.program.Seq.{Seq}
 use Rattle.pml_program.specs.declared.program.Proctype.{Proctype}
-use Rattle.pml_control.specs.Control.{Control}
-use Rattle.pml_control.specs.Offers.{Levels, offers}
-use Rattle.pml_flow.specs.Flow.{Offer, offer_of}
-use Rattle.pml_moves.specs.declared.moves.Pick.{Pick}
-use Rattle.pml_moves.specs.declared.moves.Move.{Move}
-use Rattle.pml_moves.specs.declared.moves.Move.TheVariants.{Death, Alone, Pair}
-use Rattle.pml_moves.specs.State.{Stand, State, body_of, levels, levels_in, reads}
-use Rattle.pml_moves.specs.Search.{or_else, each, last, only_if, is_else, can_alone, accepts, Message, message, pick, pairs_on, pairs_with, pairs, moves_by, plain_moves, else_moves, moves_on, moves_of, moves_at, moves_under, moves_if, moves_held, moves}
+use Rattle.promela_process.specs.Control.{Control}
+use Rattle.promela_process.specs.Offers.{Levels, offers, Offer, offer_of}
+use Rattle.promela_run.specs.declared.moves.Pick.{Pick}
+use Rattle.promela_run.specs.declared.moves.Move.{Move}
+use Rattle.promela_run.specs.declared.moves.Move.TheVariants.{Death, Alone, Pair}
+use Rattle.promela_run.specs.State.{Stand, State, body_of, levels, levels_in, reads}
+use Rattle.promela_run.specs.Moves.{or_else, each, last, only_if, is_else, can_alone, accepts, Message, message, pick, pairs_on, pairs_with, pairs, moves_by, plain_moves, else_moves, moves_on, moves_of, moves_at, moves_under, moves_if, moves_held, moves}
 use Rattle.pml_sim.proofs.Weight.{weight_part, IsLight, light_steps}
 use Rattle.pml_sim.proofs.Settling.{AreFew, few_offers}
 

@@ -14,23 +14,19 @@ use Rattle.pml_program.specs.declared.program.Action.TheVariants as a
 use Rattle.pml_program.specs.declared.program.Proctype.{Proctype}
 use Rattle.pml_program.specs.declared.program.Program.{Program}
 use Rattle.pml_program.specs.declared.program.Run.{Run}
-use Rattle.pml_control.specs.Control.{Place, Control, at, steps, turn, sequence, basic_at}
-use Rattle.pml_control.specs.Offers.{Edge, Levels, offers}
-use Rattle.pml_flow.specs.Flow.{Offer, offer_of, entry_of, line_by}
-use Rattle.pml_eval.specs.Value.{Reading, val, ◌>>=◌}
-use Rattle.pml_value.specs.declared.statement.Goes.{Goes}
-use Rattle.pml_value.specs.declared.live_channel.LiveChannel.{LiveChannel}
-use Rattle.pml_value.specs.Statement.{outcome, goes_to}
-use Rattle.pml_value.specs.Messages.{sent, received, values, asserted}
-use Rattle.pml_start.specs.Begin.{Begun}
+use Rattle.promela_process.specs.Control.{Place, Control, at, steps, turn, sequence, basic_at}
+use Rattle.promela_process.specs.Offers.{Edge, Levels, offers, Offer, offer_of, entry_of, line_by}
+use Rattle.promela_process.specs.Expressions.{Reading, val, ◌>>=◌}
+use Rattle.promela_run.specs.declared.goes.Goes.{Goes}
+use Rattle.promela_run.specs.declared.live_channel.LiveChannel.{LiveChannel}
+use Rattle.promela_run.specs.Statements.{outcome, goes_to, sent, received, values, asserted}
+use Rattle.promela_run.specs.State.{Begun, Stand, State, reads, body_of, levels, levels_in, first_control, offer_on, offer_at, picked}
 use Rattle.pml_start.proofs.Chaining.{chain, chain_any}
-use Rattle.pml_moves.specs.declared.moves.Pick.{Pick}
-use Rattle.pml_moves.specs.declared.moves.Move.{Move}
-use Rattle.pml_moves.specs.declared.moves.Move.TheVariants.{Death, Alone, Pair}
-use Rattle.pml_moves.specs.State.{Stand, State, reads, body_of, levels, levels_in, first_control, offer_on, offer_at, picked}
-use Rattle.pml_moves.specs.Search.{or_else, choices, is_choice, is_other, message}
-use Rattle.pml_steps.specs.Change.{put, put_if, put_by, put_all, with_sent, with_received, moved_to, go_to, went, without_youngest, with_new, joined_by, ran, run_number}
-use Rattle.pml_steps.specs.Outcome.{Done, quiet, run_into, does, effect, behind, first_of, onward, within, within_from, taken, body_by, moved, alone, both_on, paired, passed, step}
+use Rattle.promela_run.specs.declared.moves.Pick.{Pick}
+use Rattle.promela_run.specs.declared.moves.Move.{Move}
+use Rattle.promela_run.specs.declared.moves.Move.TheVariants.{Death, Alone, Pair}
+use Rattle.promela_run.specs.Moves.{or_else, choices, is_choice, is_other, message}
+use Rattle.promela_run.specs.Steps.{put, put_if, put_by, put_all, with_sent, with_received, moved_to, go_to, went, without_youngest, with_new, joined_by, ran, run_number, Done, quiet, run_into, does, effect, behind, first_of, onward, within, within_from, taken, body_by, moved, alone, both_on, paired, passed, step}
 use Rattle.pml_sim.proofs.Weight.{weight_part, AreLight, IsLight, light_steps, light_sequence, light_at}
 use Rattle.pml_sim.proofs.Settling.{GoOn, AreFew, few_offers, light_settled}
 use Rattle.pml_sim.proofs.Crowding.{IsLightProctype, IsLightStand, IsLightState}

@@ -4,18 +4,18 @@ use Rattle.std.proofs.lemmas.List.{take_all, take-append-le}
 use Rattle.std.proofs.lemmas.Bool.{cases_lt}
 use Rattle.diagnostics.specs.declared.fault.Fault.{Fault}
 use Rattle.promela_session.specs.Session.{Outcome, Goes, Faults}
-use Rattle.pml_store.specs.Store.{Frame}
+use Rattle.promela_process.specs.Store.{Frame}
 use Rattle.pml_store.specs.Writing.{undone}
 use Rattle.diagnostics.specs.declared.stop.Stop.{Stop}
 use Rattle.diagnostics.specs.declared.stop.Stop.TheVariants as stop
-use Rattle.pml_moves.specs.declared.moves.Move.{Move}
-use Rattle.pml_moves.specs.declared.moves.Move.TheVariants.{Death, Alone, Pair}
-use Rattle.pml_moves.specs.State.{State}
+use Rattle.promela_run.specs.declared.moves.Move.{Move}
+use Rattle.promela_run.specs.declared.moves.Move.TheVariants.{Death, Alone, Pair}
+use Rattle.promela_run.specs.State.{State}
 use Rattle.profile.specs.declared.TheConstants.{MOST_DSTEP_STATEMENTS}
-use Rattle.pml_steps.specs.Outcome.{Done, step}
+use Rattle.promela_run.specs.Steps.{Done, step}
 use Rattle.pml_steps.specs.Live.{Live, Does, past as past_of}
 use Rattle.pml_steps.specs.Taking.{PastBy}
-use Rattle.pml_sim.specs.World.{Running, led_to}
+use Rattle.promela_run.specs.World.{Running, led_to}
 
 goes_is : {s t : Running} {xs ys : List ℕ} → ◌≡◌ {A = Outcome Running} (Goes s xs) (Goes t ys) → s ≡ t
 goes_is h = cc

@@ -6,14 +6,13 @@ use Rattle.std.specs.List.{AllByRecursion}
 use Rattle.pml_program.specs.declared.program.Stmt.{Stmt}
 use Rattle.pml_program.specs.declared.program.Seq.{Seq}
 use Rattle.pml_program.specs.declared.program.Proctype.{Proctype}
-use Rattle.pml_control.specs.Control.{Control}
-use Rattle.pml_control.specs.Offers.{Edge, Levels, offers}
-use Rattle.pml_flow.specs.Flow.{Offer, offer_of, statement_at, action, text_by, line_by}
-use Rattle.pml_lines.specs.Changes.{proctype_name}
-use Rattle.pml_moves.specs.declared.moves.Pick.{Pick}
-use Rattle.pml_moves.specs.declared.moves.Move.TheVariants.{Death, Alone, Pair}
-use Rattle.pml_moves.specs.State.{Stand, State, body_of, levels_in, offer_on, offer_at, picked}
-use Rattle.pml_texts.specs.Texts.{kind_of, proctype_of, heading, offer_text, pick_text, death_text, line_in, brace_of}
+use Rattle.promela_process.specs.Control.{Control}
+use Rattle.promela_process.specs.Offers.{Edge, Levels, offers, Offer, offer_of, statement_at, action, text_by, line_by}
+use Rattle.promela_run.specs.Lines.{proctype_name}
+use Rattle.promela_run.specs.declared.moves.Pick.{Pick}
+use Rattle.promela_run.specs.declared.moves.Move.TheVariants.{Death, Alone, Pair}
+use Rattle.promela_run.specs.State.{Stand, State, body_of, levels_in, offer_on, offer_at, picked}
+use Rattle.promela_run.specs.Texts.{kind_of, proctype_of, heading, offer_text, pick_text, death_text, line_in, brace_of}
 use Rattle.pml_sim.specs.Origins.{Names, IsOffered, TextsNameOrigins}
 use Rattle.pml_sim.proofs.Lasting.{get_light}
 

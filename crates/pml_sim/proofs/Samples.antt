@@ -11,10 +11,10 @@ use Rattle.pml_program.specs.declared.program.Slot.{Slot}
 use Rattle.pml_program.specs.declared.program.Seq.{roll-Seq}
 use Rattle.pml_program.specs.declared.program.Proctype.{Proctype}
 use Rattle.pml_program.specs.declared.program.Program.{Program}
-use Rattle.pml_store.specs.Store.{Frame}
-use Rattle.pml_value.specs.declared.live_channel.LiveChannel.{LiveChannel}
+use Rattle.promela_process.specs.Store.{Frame}
+use Rattle.promela_run.specs.declared.live_channel.LiveChannel.{LiveChannel}
 use Rattle.pml_start.specs.Bound.{bound}
-use Rattle.pml_moves.specs.State.{Stand, State}
+use Rattle.promela_run.specs.State.{Stand, State}
 use Rattle.pml_steps.specs.Footprint.{held}
 
 word : Word

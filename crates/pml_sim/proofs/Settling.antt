@@ -2,8 +2,8 @@
 use Rattle.std.proofs.Common.{ℕ, zero, suc, ◌+◌, ◌≤◌, List, [], ◌∷◌, ◌++◌, length, Bool, true, false, Option, Some, None, arith, length-append, if◌then◌else◌}
 use Rattle.pml_program.specs.declared.program.Seq.{Seq, Seq', Row_of-Stmt, end_of-Stmt, more_of-Stmt, items-the_row-Stmt}
 use Rattle.pml_program.specs.declared.program.Basic.{Basic, Plain, Goto, Break, If', Do', Block, Atomic, DStep, Unless, Row_of-Seq, end_of-Seq, more_of-Seq}
-use Rattle.pml_control.specs.Control.{Place, Turn, Control, Todo, Back, Under, InAtomic, InDStep, steps, turn, todos, into, all_of, place_of, at_place, broken, in_d_step, move_on, go_on, settle_within, settle, most_moves}
-use Rattle.pml_control.specs.Offers.{Edge, Levels, one, join, begins, begins_seq, begins_row, begins_any, escapes, offers}
+use Rattle.promela_process.specs.Control.{Place, Turn, Control, Todo, Back, Under, InAtomic, InDStep, steps, turn, todos, into, all_of, place_of, at_place, broken, in_d_step, move_on, go_on, settle_within, settle, most_moves}
+use Rattle.promela_process.specs.Offers.{Edge, Levels, one, join, begins, begins_seq, begins_row, begins_any, escapes, offers}
 use Rattle.pml_sim.proofs.Weight.{weight_in, weight_part, weight_row, weight_options, AreLight, IsLight, light_row, light_todos, light_at, light_into}
 
 module _ (most : ℕ) (b : Seq) (all : AreLight most (steps b)) where

@@ -16,23 +16,21 @@ use Rattle.session.proofs.Written.{few_digits}
 use Rattle.pml_program.specs.declared.program.Seq.{Seq}
 use Rattle.pml_program.specs.declared.program.Proctype.{Proctype}
 use Rattle.pml_program.specs.declared.program.Program.{Program}
-use Rattle.pml_flow.specs.Flow.{Offer}
-use Rattle.pml_store.specs.Store.{Frame}
-use Rattle.pml_start.specs.Begin.{Begun}
-use Rattle.pml_start.specs.Start.{first_state}
+use Rattle.promela_process.specs.Offers.{Offer}
+use Rattle.promela_process.specs.Store.{Frame}
+use Rattle.promela_run.specs.State.{Begun, first_state, Stand, State, body_of, begins_by, begins_at, picked}
 use Rattle.pml_start.specs.Starting.{starting}
 use Rattle.pml_start.proofs.Living.{living_are}
-use Rattle.pml_moves.specs.declared.moves.Move.{Move}
-use Rattle.pml_moves.specs.declared.moves.Move.TheVariants.{Death, Alone, Pair}
-use Rattle.pml_moves.specs.State.{Stand, State, body_of, begins_by, begins_at, picked}
-use Rattle.pml_moves.specs.Search as search
+use Rattle.promela_run.specs.declared.moves.Move.{Move}
+use Rattle.promela_run.specs.declared.moves.Move.TheVariants.{Death, Alone, Pair}
+use Rattle.promela_run.specs.Moves as search
 use Rattle.profile.specs.declared.TheConstants.{MOST_DSTEP_STATEMENTS}
-use Rattle.pml_steps.specs.Outcome.{Done}
-use Rattle.pml_steps.specs.Outcome as outcome
-use Rattle.pml_texts.specs.Texts.{kind_of, line_in, brace_of, origin_of}
+use Rattle.promela_run.specs.Steps.{Done}
+use Rattle.promela_run.specs.Steps as outcome
+use Rattle.promela_run.specs.Texts.{kind_of, line_in, brace_of, origin_of}
 use Rattle.pml_texts.specs.Staying.{IsWithin}
-use Rattle.pml_sim.specs.declared.halt.Halt.{Halt}
-use Rattle.pml_sim.specs.World.{Running, first, unless_stopped, moves, led_to, step, rules}
+use Rattle.promela_run.specs.declared.halt.Halt.{Halt}
+use Rattle.promela_run.specs.World.{Running, first, unless_stopped, moves, led_to, step, rules}
 use Rattle.pml_sim.proofs.Weight.{weight_part}
 use Rattle.pml_sim.proofs.Crowding.{IsLightProctype, IsLightStand, IsLightState, moves_few}
 use Rattle.pml_sim.proofs.Lasting.{IsLightOffer, first_light, get_light, picked_light, step_light, body_weighs}

@@ -7,35 +7,32 @@ use Rattle.diagnostics.specs.declared.stop.Stop.TheVariants as stop
 use Rattle.promela_session.specs.Session.{Goes, Faults, Stopped}
 use Rattle.session.specs.Takes.{CanBeTaken, IsReason}
 use Rattle.pml_program.specs.declared.program.Program.{Program}
-use Rattle.pml_store.specs.Store.{Frame}
+use Rattle.promela_process.specs.Store.{Frame}
 use Rattle.pml_store.specs.Writing.{Contents}
 use Rattle.pml_start.specs.Bound.{most_cells}
-use Rattle.pml_start.specs.Begin.{Begun}
+use Rattle.promela_run.specs.State.{Begun, first_state as begin, State}
 use Rattle.pml_start.specs.Shown.{shown}
 use Rattle.pml_start.specs.declared.started.Started.{Started}
-use Rattle.pml_start.specs.Start.{first_state as begin}
 use Rattle.pml_start.specs.Starting.{IsDeclared, Starts}
-use Rattle.pml_check.specs.Judged.{HasGoodStart}
+use Rattle.promela_run.specs.Judged.{HasGoodStart}
 use Rattle.pml_lines.specs.declared.change.Wanted.{Wanted}
 use Rattle.pml_lines.specs.Changed.{changes as changed, step_changes}
-use Rattle.pml_lines.specs.Changes.{value_lines}
+use Rattle.promela_run.specs.Lines.{value_lines}
 use Rattle.pml_lines.specs.Written.{AreDeclared, step_lines}
-use Rattle.pml_moves.specs.declared.moves.Move.{Move}
-use Rattle.pml_moves.specs.declared.moves.Move.TheVariants.{Death, Alone, Pair}
-use Rattle.pml_moves.specs.State.{State}
-use Rattle.pml_moves.specs.Search as search
+use Rattle.promela_run.specs.declared.moves.Move.{Move}
+use Rattle.promela_run.specs.declared.moves.Move.TheVariants.{Death, Alone, Pair}
+use Rattle.promela_run.specs.Moves as search
 use Rattle.profile.specs.declared.TheConstants.{MOST_DSTEP_STATEMENTS}
-use Rattle.pml_steps.specs.Change.{kinds, there}
-use Rattle.pml_steps.specs.Outcome.{Done, step}
+use Rattle.promela_run.specs.Steps.{kinds, there, Done, step}
 use Rattle.pml_steps.specs.Live.{Live, Does, Joins, past as past_of}
 use Rattle.pml_steps.specs.Taking.{CanDie, PastBy}
-use Rattle.pml_texts.specs.Texts.{move_text}
+use Rattle.promela_run.specs.Texts.{move_text}
 use Rattle.pml_texts.specs.Staying.{IsWithin}
 use Rattle.pml_texts.proofs.Staying.{text_stays}
-use Rattle.pml_sim.specs.declared.halt.Halt.{Halt}
-use Rattle.pml_sim.specs.World.{Running, rules, unless_stopped, stopped, changed_lines, led_to}
+use Rattle.promela_run.specs.declared.halt.Halt.{Halt}
+use Rattle.promela_run.specs.World.{Running, rules, unless_stopped, stopped, changed_lines, led_to}
 use Rattle.pml_sim.specs.Lent.{IsFirst}
-use Rattle.pml_sim.specs.World as world
+use Rattle.promela_run.specs.World as world
 use Rattle.pml_sim.specs.Lent as lends
 use Rattle.pml_sim.proofs.Living.{moves_within}
 use Rattle.pml_sim.proofs.Leading.{past_by, went, failed}

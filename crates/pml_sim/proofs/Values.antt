@@ -6,19 +6,17 @@ use Rattle.std.proofs.lemmas.Bool.{cases_lt}
 use Rattle.pml_program.specs.declared.program.Program.{Program}
 use Rattle.pml_program.specs.declared.program.Proctype.{Proctype}
 use Rattle.pml_program.specs.declared.program.Slot.{Slot}
-use Rattle.pml_store.specs.Store.{Frame}
+use Rattle.promela_process.specs.Store.{Frame}
 use Rattle.pml_store.specs.Writing.{Contents, before}
 use Rattle.pml_store.proofs.Back.{before_shape}
-use Rattle.pml_cells.specs.Cells.{size}
-use Rattle.pml_start.specs.Begin.{Begun}
+use Rattle.promela_run.specs.State.{size, Begun, variables_of, variables_at}
 use Rattle.pml_start.specs.Shown.{shape}
-use Rattle.pml_start.specs.Start.{variables_of, variables_at}
 use Rattle.pml_start.specs.Starting.{IsDeclared}
 use Rattle.pml_lines.specs.declared.change.Wanted.{Wanted}
 use Rattle.pml_lines.specs.declared.changed.Change.{Change}
 use Rattle.pml_lines.specs.Changed.{change, changes, frame_changes, step_changes, variable_changes}
 use Rattle.pml_lines.proofs.Undoing.{lines-same}
-use Rattle.pml_lines.specs.Changes.{Owner, process_owners, process_owner, owners, global_owner, owner_lines, variable_lines, line, slots_of, value_lines}
+use Rattle.promela_run.specs.Lines.{Owner, process_owners, process_owner, owners, global_owner, owner_lines, variable_lines, line, slots_of, value_lines}
 use Rattle.pml_lines.specs.Written.{AreFrames, AreDeclared, step_lines}
 
 head_is : {A : Type 0} {x y : A} {xs ys : List A} → x ∷ xs ≡ y ∷ ys → x ≡ y

@@ -4,8 +4,8 @@ use mathlib.Core.Former.{Count}
 use Rattle.pml_program.specs.declared.program.Stmt.{Stmt}
 use Rattle.pml_program.specs.declared.program.Seq.{Seq, Seq', Row_of-Stmt, end_of-Stmt, more_of-Stmt, items-the_row-Stmt}
 use Rattle.pml_program.specs.declared.program.Basic.{Basic, Plain, Goto, Break, If, If', Do, Do', Block, Atomic, DStep, Unless, Row_of-Seq, end_of-Seq, more_of-Seq, items-the_row-Seq, items_hidden-the_row-Seq-0}
-use Rattle.pml_control.specs.Control.{Place, Turn, Control, Todo, Back, Under, InAtomic, InDStep, steps, steps_of, part, turn, todos, behind, into, part_of, behind_of, sequence, beyond, at}
-use Rattle.pml_flow.specs.Flow.{first_line}
+use Rattle.promela_process.specs.Control.{Place, Turn, Control, Todo, Back, Under, InAtomic, InDStep, steps, steps_of, part, turn, todos, behind, into, part_of, behind_of, sequence, beyond, at}
+use Rattle.promela_process.specs.Offers.{first_line}
 
 -- one for each statement, and its line
 abbrev mutual

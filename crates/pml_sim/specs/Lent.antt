@@ -1,15 +1,14 @@
 -- What a world lends to look at: its first state, its changes and its end.
 use Rattle.std.specs.Prelude.{◌≡◌, ℕ, Bool, if◌then◌else◌, List, Ok}
 use Rattle.pml_program.specs.declared.program.Program.{Program}
-use Rattle.pml_start.specs.Begin.{Begun}
-use Rattle.pml_start.specs.Start.{first_state as begin}
+use Rattle.promela_run.specs.State.{Begun, first_state as begin}
 use Rattle.pml_lines.specs.declared.changed.Change.{Change}
 use Rattle.pml_lines.specs.Changed.{changes as changed, value_line as line_of}
-use Rattle.pml_steps.specs.Change.{kinds}
-use Rattle.pml_texts.specs.Ends as ends
+use Rattle.promela_run.specs.Steps.{kinds}
+use Rattle.promela_run.specs.Texts as ends
 use Rattle.pml_sim.specs.declared.ending.Ending.{Ending}
 use Rattle.pml_sim.specs.declared.ending.Ending.TheVariants.{Valid, Invalid}
-use Rattle.pml_sim.specs.World.{Running, first}
+use Rattle.promela_run.specs.World.{Running, first}
 
 -- the first state of a model, whose initialisers have no fault
 pub record IsFirst (p : Program) (lossy : Bool) (w : Running) : Type 0 where

@@ -1,3 +1,2 @@
-pub mod World
 pub mod Lent
 pub mod Origins

@@ -1,11 +1,11 @@
 -- That the text of a move names where the move comes from.
 use Rattle.std.specs.Prelude.{◌≡◌, ◌≢◌, ℕ, List, [], ◌++◌, Option, Some, None, IsSome, codes}
 use Rattle.std.specs.Fmt.{decimal}
-use Rattle.pml_flow.specs.Flow.{Offer}
-use Rattle.pml_moves.specs.declared.moves.Move.{Move}
-use Rattle.pml_moves.specs.declared.moves.Move.TheVariants.{Death, Alone, Pair}
-use Rattle.pml_moves.specs.State.{State, picked}
-use Rattle.pml_texts.specs.Texts.{proctype_of, origin_of, move_text}
+use Rattle.promela_process.specs.Offers.{Offer}
+use Rattle.promela_run.specs.declared.moves.Move.{Move}
+use Rattle.promela_run.specs.declared.moves.Move.TheVariants.{Death, Alone, Pair}
+use Rattle.promela_run.specs.State.{State, picked}
+use Rattle.promela_run.specs.Texts.{proctype_of, origin_of, move_text}
 
 -- `proc P (NAME) line L`, and more
 pub record Names (place : ℕ × ℕ) (text : List ℕ) : Type 0 where

@@ -4,11 +4,11 @@ ghost use Rattle.std.specs.Prelude.{◌≡◌, Bool, List, [], ℕ, length, take
 ghost use Rattle.std.specs.List.{flat_map};
 ghost use Rattle.promela_session.specs.Session.{Goes};
 ghost use Rattle.pml_program.specs.declared.program.Program.{Program};
-ghost use Rattle.pml_start.specs.Begin.{Begun};
+ghost use Rattle.promela_run.specs.State.{Begun};
 ghost use Rattle.pml_lines.specs.Changed.{wanted_changes};
-ghost use Rattle.pml_moves.specs.declared.moves.Move.{Move};
+ghost use Rattle.promela_run.specs.declared.moves.Move.{Move};
 ghost use Rattle.pml_sim.specs.Origins.{TextsNameOrigins};
-ghost use Rattle.pml_sim.specs.World.{Running, changed_lines, first, step};
+ghost use Rattle.promela_run.specs.World.{Running, changed_lines, first, step};
 ghost use Rattle.pml_sim.specs.Lent.{changes, value_line};
 
 /// The numbers before the last step are those of the state before it, as far as its variables are still there.

@@ -3,6 +3,5 @@
 #![tactic(auto)]
 
 pub mod ending;
-pub mod halt;
 pub mod laws;
 pub mod world;

@@ -9,25 +9,22 @@ ghost use Rattle.session.specs.Takes.{CanBeTaken, StaysStopped, TakesStep};
 ghost use Rattle.pml_start.specs.Shown.{shown};
 ghost use Rattle.pml_start.specs.Bound.{bound, IsBounded};
 ghost use Rattle.pml_start.specs.Starting.{IsDeclared};
-ghost use Rattle.pml_value.specs.Reads.{channel_at};
+ghost use Rattle.promela_run.specs.State.{channel_at};
 ghost use Rattle.pml_steps.specs.Footprint.{held};
 ghost use Rattle.pml_texts.specs.Charts.{told};
-ghost use Rattle.pml_texts.specs.Ends as ends;
-ghost use Rattle.pml_texts.specs.Texts as texts;
+ghost use Rattle.promela_run.specs.Texts as texts;
 ghost use Rattle.pml_texts.specs.Staying as staying;
-ghost use Rattle.pml_sim.specs.World as world;
+ghost use Rattle.promela_run.specs.World as world;
 ghost use Rattle.pml_sim.specs.Lent as lends;
 ghost use Rattle.pml_sim.specs.Lent.{IsFirst};
 
 use crate::ending::Ending;
-use crate::halt::Halt;
 use diagnostics::Stop;
 use pml_channel::channel::Channel;
 use pml_check::Checked;
 use pml_lines::change::{Wanted, logged_lines};
 use pml_lines::changed::{Change, logged_changes, value_line};
 use pml_lines::tables::Tables;
-use pml_moves::moves::Move;
 use pml_moves::played::Played;
 use pml_moves::scene::Scene;
 use pml_moves::search::add_moves;
@@ -39,6 +36,8 @@ use pml_store::store::Store;
 use pml_texts::ends::{add_stuck, is_valid, stuck};
 use pml_texts::texts::{add_move, origin};
 use pml_value::view::named;
+use promela_run::halt::Halt;
+use promela_run::moves::Move;
 use session::{Machine, Report};
 use std::alloc::{AllocError, Global};
 use std::marker::Model;
@@ -61,7 +60,7 @@ impl<'p, 'a> Model for World<'p, 'a> {
     ghost use Rattle.pml_program.specs.contracts.program.Seq as seq;
     ghost use Rattle.pml_program.specs.contracts.program.Basic as basic;
     ghost use Rattle.pml_steps.specs.Live.{past};
-    ghost use Rattle.pml_sim.specs.World.{Running};
+    ghost use Rattle.promela_run.specs.World.{Running};
 
     ghost Value = { Running };
 
@@ -283,7 +282,7 @@ impl<'p, 'a> World<'p, 'a> {
 
     /// Appends a line for each process that may not end where it stands, and answers whether each may.
     fn add_ending(&self, text: &mut Vec<u8>) -> Result<bool, AllocError>
-        ensures valid { IfOk result (λ valid. valid ≡ ends.is_valid self.now.state) }
+        ensures valid { IfOk result (λ valid. valid ≡ texts.is_valid self.now.state) }
         ensures added { OnOk result (text.new.items ≡ text.old.items ++ texts.stuck self.now.state) }
         ensures kept { OnErr result (StartsWith text.new.items text.old.items) }
     {

@@ -17,16 +17,13 @@ use Rattle.pml_program.specs.declared.program.Slot.{Slot}
 use Rattle.pml_program.specs.declared.program.Fields.{Fields}
 use Rattle.pml_program.specs.declared.program.Proctype.{Proctype}
 use Rattle.pml_program.specs.declared.program.Program.{Program}
-use Rattle.pml_store.specs.Store.{Frame, with_number}
+use Rattle.promela_process.specs.Store.{Frame, with_number, ChannelState}
 use Rattle.pml_store.specs.Writing.{flat, joined}
-use Rattle.pml_channel.specs.State.{ChannelState}
-use Rattle.pml_cells.specs.Cells.{size, slot_of, cell_of, fields_at, fields_of, last_field, leaf}
-use Rattle.pml_value.specs.declared.live_channel.LiveChannel.{LiveChannel}
-use Rattle.pml_start.specs.Begin.{Begun, nothing, cell_in, initial_value, with_value, with_values, with_channel, empty_channel, cell_begun, fields_begun, variable_begun, variables_begun, with_frame, frame_begun}
+use Rattle.promela_run.specs.State.{size, slot_of, cell_of, fields_at, fields_of, last_field, leaf, Begun, nothing, cell_in, initial_value, with_value, with_values, with_channel, empty_channel, cell_begun, fields_begun, variable_begun, variables_begun, with_frame, frame_begun, variables_of, variables_at, process_begun, kind_begun, kinds_begun, first_state}
+use Rattle.promela_run.specs.declared.live_channel.LiveChannel.{LiveChannel}
 use Rattle.pml_start.specs.Shown.{Begins, shape}
 use Rattle.pml_start.specs.Bound.{cells_of, largest, most_cells, room_by, room_of, room_of_fields, room_of_processes, most_room, room, AreBounded}
-use Rattle.pml_start.specs.Created.{channels_of, with_arguments, begun_with, with_process, created}
-use Rattle.pml_start.specs.Start.{variables_of, variables_at, process_begun, kind_begun, kinds_begun, first_state}
+use Rattle.promela_run.specs.Statements.{channels_of, with_arguments, begun_with, with_process, created}
 use Rattle.pml_start.specs.Starting.{IsDeclared}
 use Rattle.pml_start.proofs.Chaining.{chain, chain_any}
 

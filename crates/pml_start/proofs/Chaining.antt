@@ -1,7 +1,7 @@
 -- Steps one after the other.
 use Rattle.std.proofs.Common.{Result, Ok, Err, IfOk}
 use Rattle.diagnostics.specs.declared.fault.Fault.{Fault}
-use Rattle.pml_eval.specs.Value.{◌>>=◌}
+use Rattle.promela_process.specs.Expressions.{◌>>=◌}
 
 -- a step and another
 pub chain : {A B : Type 0} (P : A → Type 0) (Q : B → Type 0) (x : Result A Fault) (rest : A → Result B Fault) → IfOk x P → ((a : A) → P a → IfOk (rest a) Q) → IfOk (x >>= rest) Q

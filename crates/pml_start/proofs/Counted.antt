@@ -9,11 +9,11 @@ use Rattle.pml_program.specs.declared.program.Initial.{Initial}
 use Rattle.pml_program.specs.declared.program.Initial.TheVariants as i
 use Rattle.pml_program.specs.declared.program.Slot.{Slot}
 use Rattle.pml_program.specs.declared.program.Fields.{Fields}
-use Rattle.pml_cells.specs.Cells.{leaf}
-use Rattle.pml_start.specs.declared.beginnings.Beginning.{Beginning}
-use Rattle.pml_start.specs.Begin.{nothing, initial_value}
+use Rattle.promela_run.specs.State.{leaf, nothing, initial_value}
+use Rattle.promela_run.specs.declared.beginning.Beginning.{Beginning}
 use Rattle.pml_start.specs.Known.{is_zero, have_no_initials, known, known_of, value_known}
-use Rattle.pml_start.specs.Created.{is_channel, channels_at, channels_in, channels_by, channels_of}
+use Rattle.promela_run.specs.Statements.{is_channel, channels_in, channels_by, channels_of}
+use Rattle.pml_start.specs.Channels.{channels_at}
 use Rattle.pml_start.proofs.Zeroed.{leaf_none}
 
 -- where nothing has an initialiser, no channel is made

@@ -5,16 +5,15 @@ use Rattle.std.proofs.Math.Logic.{⊎_elim}
 use Rattle.std.proofs.lemmas.List.{set-get_or, drop_more, length_push, length-map}
 use Rattle.std.proofs.Math.Seq.{take-append_seam}
 use Rattle.pml_program.specs.declared.program.Slot.{Slot}
-use Rattle.pml_store.specs.declared.place.Place.{Place}
-use Rattle.pml_store.specs.Store.{Frame, Cells, frame_at, cells_at, with_number, zeros}
+use Rattle.promela_process.specs.declared.place.Place.{Place}
+use Rattle.promela_process.specs.Store.{Frame, Cells, frame_at, cells_at, with_number, zeros}
 use Rattle.pml_store.specs.Writing.{undone, before, but_last}
-use Rattle.pml_cells.specs.Cells.{size}
-use Rattle.pml_value.specs.declared.live_channel.LiveChannel.{LiveChannel}
+use Rattle.promela_run.specs.State.{size, Begun, with_value}
+use Rattle.promela_run.specs.declared.live_channel.LiveChannel.{LiveChannel}
 use Rattle.pml_start.specs.declared.started.Started.{Started}
-use Rattle.pml_eval.specs.Clip.{clipped}
-use Rattle.pml_start.specs.Begin.{Begun, with_value}
+use Rattle.promela_process.specs.Numbers.{clipped}
 use Rattle.pml_start.specs.Shown.{shown, shape}
-use Rattle.pml_start.specs.Created.{with_arguments, with_process}
+use Rattle.promela_run.specs.Statements.{with_arguments, with_process}
 use Rattle.pml_start.specs.Known.{Keeps}
 use Rattle.pml_start.proofs.Past.{keeps_past}
 use Rattle.pml_start.proofs.Shapes.{added_shape, added_sizes}

@@ -5,10 +5,8 @@ use Rattle.std.proofs.lemmas.List.{length_push, length-map, map-append}
 use Rattle.std.proofs.lemmas.Option.{slice_get_read}
 use Rattle.pml_program.specs.declared.program.Proctype.{Proctype}
 use Rattle.pml_program.specs.declared.program.Program.{Program}
-use Rattle.pml_cells.specs.Cells.{size}
-use Rattle.pml_start.specs.Begin.{Begun}
+use Rattle.promela_run.specs.State.{size, Begun, variables_of, variables_at}
 use Rattle.pml_start.specs.Shown.{shape}
-use Rattle.pml_start.specs.Start.{variables_of, variables_at}
 use Rattle.pml_start.specs.Starting.{IsDeclared}
 
 All-push : {X : Type 0} (P : X → Type 0) (xs : List X) (x : X) → AllByRecursion P xs → P x → AllByRecursion P (xs ++ x ∷ [])

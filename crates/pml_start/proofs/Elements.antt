@@ -6,8 +6,8 @@ use Rattle.std.proofs.lemmas.Bool.{cases_eq}
 use Rattle.std.proofs.lemmas.List.{length_push, get_or_push, get_or_append_left}
 use Rattle.pml_program.specs.declared.program.Slot.{Slot}
 use Rattle.pml_program.specs.declared.program.Fields.{Fields}
-use Rattle.pml_cells.specs.Cells.{size, leaf, last_field}
-use Rattle.pml_start.specs.declared.beginnings.Beginning.{Beginning}
+use Rattle.promela_run.specs.State.{size, leaf, last_field}
+use Rattle.promela_run.specs.declared.beginning.Beginning.{Beginning}
 use Rattle.pml_start.specs.Known.{known, known_cells}
 
 cells_count : (ts : List Fields) (s : Slot) (n : ℕ) → length (known_cells ts s n) ≡ n

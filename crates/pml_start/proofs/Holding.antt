@@ -12,17 +12,15 @@ use Rattle.pml_program.specs.declared.program.Initial.{Initial}
 use Rattle.pml_program.specs.declared.program.Initial.TheVariants as i
 use Rattle.pml_program.specs.declared.program.Slot.{Slot}
 use Rattle.pml_program.specs.declared.program.Fields.{Fields}
-use Rattle.pml_eval.specs.Value.{◌>>=◌}
-use Rattle.pml_store.specs.declared.place.Place.{Place}
-use Rattle.pml_store.specs.Store.{Frame, size_at, number_at, with_number}
+use Rattle.promela_process.specs.Expressions.{◌>>=◌}
+use Rattle.promela_process.specs.declared.place.Place.{Place}
+use Rattle.promela_process.specs.Store.{Frame, size_at, number_at, with_number, ChannelState}
 use Rattle.pml_store.specs.Writing.{HasPlace, is_same}
 use Rattle.pml_store.proofs.Back.{has_cell}
 use Rattle.pml_store.proofs.OnePlace.{number_at-with_number}
-use Rattle.pml_cells.specs.Cells.{size, slot_of, fields_of, leaf, last_field}
+use Rattle.promela_run.specs.State.{size, slot_of, fields_of, leaf, last_field, Begun, nothing, cell_in, initial_value, with_value, with_values, cell_begun, fields_begun, variable_begun, with_channel, empty_channel}
 use Rattle.pml_cells.proofs.Leading.{stays}
-use Rattle.pml_value.specs.declared.live_channel.LiveChannel.{LiveChannel}
-use Rattle.pml_channel.specs.State.{ChannelState}
-use Rattle.pml_start.specs.Begin.{Begun, nothing, cell_in, initial_value, with_value, with_values, cell_begun, fields_begun, variable_begun, with_channel, empty_channel}
+use Rattle.promela_run.specs.declared.live_channel.LiveChannel.{LiveChannel}
 use Rattle.pml_start.specs.Known.{is_of, IsPlain}
 use Rattle.pml_start.proofs.Chaining.{chain, chain_any, weaker}
 use Rattle.pml_start.proofs.Shapes.{same_size, shape-with_number}

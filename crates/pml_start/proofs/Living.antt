@@ -10,12 +10,9 @@ use Rattle.pml_program.specs.declared.program.Slot.{Slot}
 use Rattle.pml_program.specs.declared.program.Fields.{Fields}
 use Rattle.pml_program.specs.declared.program.Proctype.{Proctype}
 use Rattle.pml_program.specs.declared.program.Program.{Program}
-use Rattle.pml_store.specs.Store.{zeros}
-use Rattle.pml_channel.specs.State.{ChannelState}
-use Rattle.pml_cells.specs.Cells.{size, leaf}
+use Rattle.promela_process.specs.Store.{zeros, ChannelState}
+use Rattle.promela_run.specs.State.{size, leaf, Begun, nothing, initial_value, with_value, with_values, with_channel, empty_channel, cell_begun, fields_begun, variable_begun, variables_begun, frame_begun, process_begun, kind_begun, kinds_begun, first_state, variables_at}
 use Rattle.pml_start.proofs.Chaining.{chain, chain_any, weaker}
-use Rattle.pml_start.specs.Begin.{Begun, nothing, initial_value, with_value, with_values, with_channel, empty_channel, cell_begun, fields_begun, variable_begun, variables_begun, frame_begun}
-use Rattle.pml_start.specs.Start.{process_begun, kind_begun, kinds_begun, first_state, variables_at}
 use Rattle.pml_start.specs.Starting.{starting}
 
 -- ---- to begin with variables leaves the processes as they are

@@ -1,6 +1,6 @@
 -- The log of a store leads back also where owners came after its writes.
 use Rattle.std.proofs.Common.{◌≡◌, ℕ, ◌-◌, ltb, length, Bool, true, false, if◌then◌else◌, List, [], ◌∷◌, ◌++◌, ℤ, refl, ap, ◌∙◌}
-use Rattle.pml_store.specs.Store.{Frame}
+use Rattle.promela_process.specs.Store.{Frame}
 use Rattle.pml_store.specs.Writing.{Contents, flat, frame_with, index_with, undone, before}
 
 -- a cell of the first owners, or of those behind them

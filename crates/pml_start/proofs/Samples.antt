@@ -8,12 +8,12 @@ use Rattle.pml_program.specs.declared.program.Initial.{Initial}
 use Rattle.pml_program.specs.declared.program.Initial.TheVariants as initial
 use Rattle.pml_program.specs.declared.program.Slot.{Slot}
 use Rattle.pml_program.specs.declared.program.Fields.{Fields}
-use Rattle.pml_eval.specs.Clip.{clipped, bits_of, is_signed}
-use Rattle.pml_value.specs.declared.live_channel.LiveChannel.{LiveChannel}
+use Rattle.promela_process.specs.Numbers.{clipped, bits_of, is_signed}
+use Rattle.promela_run.specs.declared.live_channel.LiveChannel.{LiveChannel}
 use Rattle.diagnostics.specs.declared.fault.Fault.TheVariants.{TooManyChannels}
 use Rattle.pml_program.specs.declared.expr.Expr.{Expr}
-use Rattle.pml_start.specs.Begin.{Begun, nothing, frame_begun, with_values}
-use Rattle.pml_start.specs.Created.{channels_of, with_arguments, created}
+use Rattle.promela_run.specs.State.{Begun, nothing, frame_begun, with_values}
+use Rattle.promela_run.specs.Statements.{channels_of, with_arguments, created}
 
 abbrev byte : Form
 byte = form.Plain scalar.Byte

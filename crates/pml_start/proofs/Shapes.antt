@@ -4,14 +4,13 @@ use Rattle.std.proofs.lemmas.List.{length-set, length-replicate, get_or_push, ma
 use Rattle.std.proofs.Math.Seq.{take-append_seam, take-length, map-set_same}
 use Rattle.std.proofs.Math.ListN.{get_or-map}
 use Rattle.pml_program.specs.declared.program.Slot.{Slot}
-use Rattle.pml_store.specs.declared.place.Place.{Place}
-use Rattle.pml_store.specs.Store.{Frame, frame_at, cells_at, size_at, with_number, zeros}
+use Rattle.promela_process.specs.declared.place.Place.{Place}
+use Rattle.promela_process.specs.Store.{Frame, frame_at, cells_at, size_at, with_number, zeros}
 use Rattle.pml_store.specs.Writing.{Contents, HasPlace, stored, before}
 use Rattle.pml_store.proofs.Back.{has_cell, before_set}
-use Rattle.pml_cells.specs.Cells.{size}
-use Rattle.pml_value.specs.declared.live_channel.LiveChannel.{LiveChannel}
+use Rattle.promela_run.specs.State.{size, Begun, cell_in, with_frame}
+use Rattle.promela_run.specs.declared.live_channel.LiveChannel.{LiveChannel}
 use Rattle.pml_start.specs.declared.started.Started.{Started}
-use Rattle.pml_start.specs.Begin.{Begun, cell_in, with_frame}
 use Rattle.pml_start.specs.Shown.{shape, shown}
 use Rattle.pml_start.specs.Known.{Keeps}
 

@@ -6,12 +6,11 @@ use Rattle.pml_program.specs.declared.program.Slot.{Slot}
 use Rattle.pml_program.specs.declared.program.Fields.{Fields}
 use Rattle.pml_program.specs.declared.program.Proctype.{Proctype}
 use Rattle.pml_program.specs.declared.program.Program.{Program}
-use Rattle.pml_eval.specs.Value.{◌>>=◌}
+use Rattle.promela_process.specs.Expressions.{◌>>=◌}
 use Rattle.diagnostics.specs.declared.stop.Stop.{Stop}
 use Rattle.diagnostics.specs.declared.stop.Stop.TheVariants as stop
-use Rattle.pml_start.specs.Begin.{Begun, leaf_begun, fields_begun, with_value, with_values, variable_begun, variables_begun}
+use Rattle.promela_run.specs.State.{Begun, leaf_begun, fields_begun, with_value, with_values, variable_begun, variables_begun, process_begun, kind_begun, kinds_begun}
 use Rattle.pml_start.specs.Shown.{Begins}
-use Rattle.pml_start.specs.Start.{process_begun, kind_begun, kinds_begun}
 use Rattle.pml_start.specs.Starting.{Starts}
 
 -- a step that is made leads on

@@ -7,8 +7,7 @@ use Rattle.pml_program.specs.declared.program.Initial.{Initial}
 use Rattle.pml_program.specs.declared.program.Initial.TheVariants as i
 use Rattle.pml_program.specs.declared.program.Slot.{Slot}
 use Rattle.pml_program.specs.declared.program.Fields.{Fields}
-use Rattle.pml_cells.specs.Cells.{size, slot_of, cell_of, fields_at, fields_of, last_field, leaf}
-use Rattle.pml_start.specs.Begin.{Begun, fields_begun}
+use Rattle.promela_run.specs.State.{size, slot_of, cell_of, fields_at, fields_of, last_field, leaf, Begun, fields_begun}
 use Rattle.pml_start.specs.Known.{is_zero, are_zero, have_no_initials}
 
 abbrev HasNone : Slot → Type 0

@@ -9,8 +9,8 @@ use Rattle.pml_program.specs.declared.program.Fields.{Fields}
 use Rattle.pml_program.specs.declared.program.Proctype.{Proctype}
 use Rattle.pml_program.specs.declared.program.Program.{Program}
 use Rattle.pml_store.specs.Writing.{Contents}
-use Rattle.pml_cells.specs.Cells.{size}
-use Rattle.pml_value.specs.declared.live_channel.LiveChannel.{LiveChannel}
+use Rattle.promela_run.specs.State.{size}
+use Rattle.promela_run.specs.declared.live_channel.LiveChannel.{LiveChannel}
 
 -- ---- of a model
 

@@ -6,14 +6,13 @@ use Rattle.pml_program.specs.declared.program.Initial.{Initial}
 use Rattle.pml_program.specs.declared.program.Initial.TheVariants as i
 use Rattle.pml_program.specs.declared.program.Slot.{Slot}
 use Rattle.pml_program.specs.declared.program.Fields.{Fields}
-use Rattle.pml_store.specs.declared.place.Place.{Place}
+use Rattle.promela_process.specs.declared.place.Place.{Place}
 use Rattle.pml_store.specs.Writing.{before}
 use Rattle.diagnostics.specs.declared.fault.Fault.{Fault}
 use Rattle.pml_start.specs.declared.started.Started.{Started}
-use Rattle.pml_start.specs.declared.beginnings.Beginning.{Beginning}
-use Rattle.pml_start.specs.declared.beginnings.Beginning.TheVariants.{Nothing, Number, Fails, Channel}
-use Rattle.pml_cells.specs.Cells.{leaf}
-use Rattle.pml_start.specs.Begin.{Begun, nothing, initial_value}
+use Rattle.promela_run.specs.declared.beginning.Beginning.{Beginning}
+use Rattle.promela_run.specs.declared.beginning.Beginning.TheVariants.{Nothing, Number, Fails, Channel}
+use Rattle.promela_run.specs.State.{leaf, Begun, nothing, initial_value}
 use Rattle.pml_start.specs.Shown.{shape}
 
 -- no frame, no variable and no cell comes or goes; what older frames hold and the channels that are there stay as they are; and the

@@ -7,12 +7,10 @@ use Rattle.pml_program.specs.declared.program.Initial.TheVariants.{Zero, Value a
 use Rattle.pml_program.specs.declared.program.Slot.{Slot}
 use Rattle.pml_program.specs.declared.program.Fields.{Fields}
 use Rattle.pml_program.specs.declared.program.Program.{Program}
-use Rattle.pml_store.specs.declared.place.Place.{Place}
-use Rattle.pml_store.specs.Store.{number_at, size_at}
-use Rattle.pml_cells.specs.Cells.{size}
-use Rattle.pml_start.specs.Begin.{Begun, cell_in, empty_channel, initial_value, variable_begun}
+use Rattle.promela_process.specs.declared.place.Place.{Place}
+use Rattle.promela_process.specs.Store.{number_at, size_at}
+use Rattle.promela_run.specs.State.{size, Begun, cell_in, empty_channel, initial_value, variable_begun, first_state}
 use Rattle.pml_start.specs.Known.{IsPlain, is_of}
-use Rattle.pml_start.specs.Start.{first_state}
 use Rattle.pml_start.specs.Starting.{starting}
 
 -- the processes are those that the model starts with, as far as 255 go

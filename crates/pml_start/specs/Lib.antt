@@ -1,8 +1,6 @@
-pub mod Begin
 pub mod Shown
 pub mod Bound
-pub mod Created
 pub mod Known
-pub mod Start
 pub mod Starting
 pub mod Laws
+pub mod Channels

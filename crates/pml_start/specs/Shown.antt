@@ -1,13 +1,13 @@
 -- What the code keeps of a beginning, and what beginning a frame answers.
 use Rattle.std.specs.Prelude.{◌≡◌, ℕ, List, length, map, Result, Ok, Err}
 use Rattle.diagnostics.specs.declared.fault.Fault.{Fault}
-use Rattle.pml_store.specs.Store.{Frame}
+use Rattle.promela_process.specs.Store.{Frame}
 use Rattle.pml_store.specs.Writing.{Contents}
-use Rattle.pml_value.specs.declared.live_channel.LiveChannel.{LiveChannel}
+use Rattle.promela_run.specs.declared.live_channel.LiveChannel.{LiveChannel}
 use Rattle.diagnostics.specs.declared.stop.Stop.{Stop}
 use Rattle.diagnostics.specs.declared.stop.Stop.TheVariants as stop
 use Rattle.pml_start.specs.declared.started.Started.{Started}
-use Rattle.pml_start.specs.Begin.{Begun}
+use Rattle.promela_run.specs.State.{Begun}
 
 -- what a store, channels and proctypes are as a beginning
 abbrev pub held : Contents → List LiveChannel → List ℕ → Begun

@@ -8,10 +8,8 @@ use Rattle.pml_program.specs.declared.program.Program.{Program}
 use Rattle.diagnostics.specs.declared.stop.Stop.{Stop}
 use Rattle.diagnostics.specs.declared.stop.Stop.TheVariants as stop
 use Rattle.pml_start.specs.declared.started.Started.{Started}
-use Rattle.pml_cells.specs.Cells.{size}
-use Rattle.pml_start.specs.Begin.{Begun}
+use Rattle.promela_run.specs.State.{size, Begun, variables_at}
 use Rattle.pml_start.specs.Shown.{shown, shape}
-use Rattle.pml_start.specs.Start.{variables_at}
 
 -- the first state, or the first fault; where memory is refused, nothing is said
 abbrev pub Starts : Result Begun Fault → Result Started Stop → Type 0

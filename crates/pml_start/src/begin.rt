@@ -2,15 +2,14 @@
 
 ghost use Rattle.std.specs.Prelude.{◌≡◌, ◌+◌, ◌<◌, ◌≤◌, ◌++◌, ◌∷◌, [], IfOk, OnOk, OnErr, Ok, length, map};
 ghost use Rattle.profile.specs.declared.TheConstants.{MOST_PROCESSES};
-ghost use Rattle.pml_store.specs.Store.{frame_at, size_at};
+ghost use Rattle.promela_process.specs.Store.{frame_at, size_at};
 ghost use Rattle.pml_store.specs.Writing.{HasPlace, joined};
-ghost use Rattle.pml_start.specs.Begin.{initial_value, cell_in, with_value, with_frame, with_channel, empty_channel, cell_begun, leaf_begun, with_values, fields_begun, variable_begun, variables_begun, frame_begun};
+ghost use Rattle.promela_run.specs.State.{initial_value, cell_in, with_value, with_frame, with_channel, empty_channel, cell_begun, leaf_begun, with_values, fields_begun, variable_begun, variables_begun, frame_begun, size, leaf};
 ghost use Rattle.pml_start.specs.Shown.{Begins, shown, shape};
-ghost use Rattle.pml_cells.specs.Cells.{size, leaf};
 ghost use Rattle.pml_start.specs.Bound.{cells_of};
 ghost use Rattle.pml_start.specs.Known.{Keeps, known};
 
-use crate::beginnings::{Beginning, Beginnings, constant, is_zero};
+use crate::beginnings::{Beginnings, constant, is_zero};
 use crate::started::Started;
 use diagnostics::{Fault, Stop};
 use pml_cells::cells::{remainder, size};
@@ -20,10 +19,11 @@ use pml_eval::eval::eval;
 use pml_program::expr::Expr;
 use pml_program::form::Form;
 use pml_program::program::{Initial, Slot};
-use pml_store::place::Place;
-use pml_value::live_channel::LiveChannel;
 use pml_value::view::{Taker, View};
 use profile::{MOST_CHANNELS, MOST_MESSAGES};
+use promela_process::place::Place;
+use promela_run::beginning::Beginning;
+use promela_run::live_channel::LiveChannel;
 use sqlite_items::Items;
 use std::alloc::{AllocError, Global};
 

@@ -3,7 +3,7 @@
 ghost use Rattle.std.specs.Prelude.{◌≡◌, ◌<◌, IfOk, map, slice_get, slice_index_or};
 ghost use Rattle.std.specs.Option.{option_copied};
 ghost use Rattle.pml_cells.specs.Tables.{field_by};
-ghost use Rattle.pml_start.specs.Begin.{initial_value, nothing, read_in};
+ghost use Rattle.promela_run.specs.State.{initial_value, nothing, read_in};
 ghost use Rattle.pml_start.specs.Known.{is_zero, are_zero, have_no_initials, known, known_fields, known_in, known_cells};
 
 use diagnostics::Fault;
@@ -16,19 +16,10 @@ use pml_program::form::Form;
 use pml_program::program::{Fields, Initial, Slot};
 use pml_store::store::Store;
 use pml_value::view::{Taker, View};
+use promela_run::beginning::Beginning;
 use sqlite_items::Items;
 use std::alloc::{AllocError, Global};
 use std::marker::Model;
-
-/// What a cell begins with, as far as it is known before anything is there.
-#[derive(Clone, Copy, PartialEq, Eq, Debug)]
-pub enum Beginning {
-    Nothing,
-    Number(i32),
-    Fails(Fault),
-    /// The number of a channel of its own.
-    Channel,
-}
 
 /// What a type keeps of the value of a field's initialiser.
 pub fn constant(alloc: Global, value: &Expr, form: Form) -> Result<i32, Fault>

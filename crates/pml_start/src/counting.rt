@@ -2,13 +2,15 @@
 
 ghost use Rattle.std.specs.Prelude.{◌≡◌, ◌+◌, ◌≤◌, min, length, nat_lt, IfOk};
 ghost use Rattle.profile.specs.declared.TheConstants.{MOST_CHANNELS};
-ghost use Rattle.pml_cells.specs.Cells.{size};
-ghost use Rattle.pml_start.specs.Created.{channels_at, channels_in, channels_by, channels_of};
+ghost use Rattle.promela_run.specs.State.{size};
+ghost use Rattle.pml_start.specs.Channels.{channels_at};
+ghost use Rattle.promela_run.specs.Statements.{channels_in, channels_by, channels_of};
 
-use crate::beginnings::{Beginning, Beginnings, is_zero};
+use crate::beginnings::{Beginnings, is_zero};
 use pml_cells::cells::{remainder, size};
 use pml_program::program::{Initial, Slot};
 use profile::MOST_CHANNELS;
+use promela_run::beginning::Beginning;
 use std::alloc::{AllocError, Global};
 
 /// Adds the channel of a cell, if it begins with one, up to one more than there may be.

@@ -2,13 +2,12 @@
 
 ghost use Rattle.std.specs.Prelude.{◌≡◌, ◌+◌, ◌-◌, ◌<◌, ◌≤◌, ◌++◌, ◌∷◌, [], List, Ok, OnOk, OnErr, length, map, take};
 ghost use Rattle.profile.specs.declared.TheConstants.{MOST_PROCESSES};
-ghost use Rattle.pml_store.specs.Store.{Frame, frame_at};
+ghost use Rattle.promela_process.specs.Store.{Frame, frame_at};
 ghost use Rattle.pml_store.specs.Writing.{before, but_last, joined};
-ghost use Rattle.pml_cells.specs.Cells.{size};
-ghost use Rattle.pml_start.specs.Begin.{with_value};
+ghost use Rattle.promela_run.specs.State.{size, with_value};
 ghost use Rattle.pml_start.specs.Shown.{Begins, shown, shape};
 ghost use Rattle.pml_start.specs.Bound.{cells_of};
-ghost use Rattle.pml_start.specs.Created.{with_arguments, begun_with, with_process, created};
+ghost use Rattle.promela_run.specs.Statements.{with_arguments, begun_with, with_process, created};
 ghost use Rattle.pml_start.specs.Known.{Keeps};
 
 use crate::begin::{add_frame, begin_variables, store_number};

@@ -3,7 +3,7 @@
 ghost use Rattle.std.specs.Prelude.{◌≡◌, ◌<◌, [], IfOk, OnOk, length};
 ghost use Rattle.pml_start.specs.Shown.{Begins, shown};
 ghost use Rattle.pml_start.specs.Bound.{most_cells, IsWithin, IsBounded};
-ghost use Rattle.pml_start.specs.Start.{first_state, process_begun, kind_begun};
+ghost use Rattle.promela_run.specs.State.{first_state, process_begun, kind_begun};
 ghost use Rattle.pml_start.specs.Starting.{Starts, IsDeclared};
 
 use crate::begin::begin_frame;

@@ -1,7 +1,7 @@
 //! What has been started.
 
 use pml_store::store::Store;
-use pml_value::live_channel::LiveChannel;
+use promela_run::live_channel::LiveChannel;
 
 /// What the variables hold, the live channels, and the proctypes of the live processes by their numbers in the model, the
 /// oldest process first.

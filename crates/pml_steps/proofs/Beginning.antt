@@ -4,7 +4,7 @@ use Rattle.std.proofs.lemmas.List.{map_push}
 use Rattle.std.specs.Prelude.{slice_index_or}
 use Rattle.pml_program.specs.declared.program.Program.{Program}
 use Rattle.pml_moves.specs.declared.scene.Seat.{Seat}
-use Rattle.pml_moves.specs.State.{Stand, begins_at}
+use Rattle.promela_run.specs.State.{Stand, begins_at}
 use Rattle.pml_moves.specs.Scene.{stand_of}
 use Rattle.pml_moves.proofs.Searching.{opens}
 use Rattle.pml_steps.specs.Held.{kinds_of}

@@ -11,23 +11,20 @@ use Rattle.pml_program.specs.declared.program.Fields.{Fields}
 use Rattle.pml_program.specs.declared.program.Slot.{Slot}
 use Rattle.pml_program.specs.declared.program.Proctype.{Proctype}
 use Rattle.pml_program.specs.declared.program.Program.{Program}
-use Rattle.pml_eval.specs.Value.{◌>>=◌}
+use Rattle.promela_process.specs.Expressions.{◌>>=◌}
 use Rattle.pml_store.specs.Writing.{Contents, joined as cells}
-use Rattle.pml_value.specs.declared.live_channel.LiveChannel.{LiveChannel}
-use Rattle.pml_cells.specs.Cells.{size}
-use Rattle.pml_start.specs.Begin.{Begun}
+use Rattle.promela_run.specs.declared.live_channel.LiveChannel.{LiveChannel}
+use Rattle.promela_run.specs.State.{size, Begun, variables_of, variables_at, Stand, State, body_of, first_control, begins_by, begins_at}
 use Rattle.pml_start.specs.Shown.{Begins, held, shape}
-use Rattle.pml_start.specs.Created.{created}
+use Rattle.promela_run.specs.Statements.{created}
 use Rattle.pml_start.specs.Bound.{cells_of, AreBounded}
-use Rattle.pml_start.specs.Start.{variables_of, variables_at}
 use Rattle.pml_start.specs.Starting.{IsDeclared}
 use Rattle.pml_start.proofs.Bounding.{room_for, created_bounded}
 use Rattle.pml_start.proofs.Declaring.{declared_next}
 use Rattle.pml_moves.specs.declared.scene.Seat.{Seat}
-use Rattle.pml_moves.specs.State.{Stand, State, body_of, first_control, begins_by, begins_at}
 use Rattle.pml_moves.specs.Scene.{stand_of}
 use Rattle.pml_moves.proofs.Searching.{within}
-use Rattle.pml_steps.specs.Change.{there, joined_by, with_new}
+use Rattle.promela_run.specs.Steps.{there, joined_by, with_new}
 use Rattle.pml_steps.specs.Live.{Leads}
 use Rattle.pml_steps.specs.Held.{IsHeld, kinds_of, live_of}
 

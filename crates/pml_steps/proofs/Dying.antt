@@ -3,19 +3,17 @@ use Rattle.std.proofs.Common.{◌≡◌, ℕ, zero, suc, ◌+◌, ◌-◌, ◌�
 use Rattle.std.specs.List.{filter, AllByRecursion}
 use Rattle.std.proofs.lemmas.List.{length-map}
 use Rattle.pml_program.specs.declared.program.Program.{Program}
-use Rattle.pml_store.specs.Store.{Frame}
+use Rattle.promela_process.specs.Store.{Frame}
 use Rattle.pml_store.specs.Writing.{Contents, but_last}
-use Rattle.pml_value.specs.declared.live_channel.LiveChannel.{LiveChannel}
-use Rattle.pml_cells.specs.Cells.{size}
+use Rattle.promela_run.specs.declared.live_channel.LiveChannel.{LiveChannel}
+use Rattle.promela_run.specs.State.{size, variables_at, Stand, State}
 use Rattle.pml_start.specs.Shown.{shape}
 use Rattle.pml_start.specs.Bound.{room, most_room, AreBounded}
-use Rattle.pml_start.specs.Start.{variables_at}
 use Rattle.pml_start.specs.Starting.{IsDeclared}
 use Rattle.pml_start.proofs.Declaring.{frames_of_kinds}
 use Rattle.pml_moves.specs.declared.scene.Seat.{Seat}
-use Rattle.pml_moves.specs.State.{Stand, State}
 use Rattle.pml_moves.specs.Scene.{stand_of}
-use Rattle.pml_steps.specs.Change.{without_youngest}
+use Rattle.promela_run.specs.Steps.{without_youngest}
 use Rattle.pml_steps.specs.Live.{Live}
 use Rattle.pml_steps.specs.Held.{live_of}
 

@@ -6,15 +6,14 @@ use Rattle.std.proofs.lemmas.List.{map-set}
 use Rattle.std.proofs.Math.Seq.{map-set_same}
 use Rattle.pml_program.specs.declared.program.Program.{Program}
 use Rattle.pml_program.specs.declared.program.Seq.{Seq}
-use Rattle.pml_control.specs.Control.{Control}
+use Rattle.promela_process.specs.Control.{Control}
 use Rattle.pml_store.specs.Writing.{Contents}
-use Rattle.pml_value.specs.declared.live_channel.LiveChannel.{LiveChannel}
+use Rattle.promela_run.specs.declared.live_channel.LiveChannel.{LiveChannel}
 use Rattle.pml_moves.specs.declared.scene.Seat.{Seat}
-use Rattle.pml_moves.specs.State.{Stand, State, body_of}
+use Rattle.promela_run.specs.State.{Stand, State, body_of}
 use Rattle.pml_moves.specs.Scene.{control_at, stand_of}
 use Rattle.pml_moves.proofs.Searching.{there, got}
-use Rattle.pml_steps.specs.Change.{go_to, moved_to}
-use Rattle.pml_steps.specs.Outcome.{body_by}
+use Rattle.promela_run.specs.Steps.{go_to, moved_to, body_by}
 use Rattle.pml_steps.specs.Held.{kinds_of, live_of}
 use Rattle.pml_steps.specs.Live.{Live}
 

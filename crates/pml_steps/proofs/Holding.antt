@@ -7,9 +7,9 @@ use Rattle.diagnostics.specs.declared.fault.Fault.{Fault}
 use Rattle.diagnostics.specs.declared.stop.Stop.{Stop}
 use Rattle.diagnostics.specs.declared.stop.Stop.TheVariants as stop
 use Rattle.pml_program.specs.declared.program.Program.{Program}
-use Rattle.pml_eval.specs.declared.pattern.Sought.{Sought}
-use Rattle.pml_eval.specs.Value.{Reading, ◌>>=◌}
-use Rattle.pml_channel.specs.State.{ChannelState, cut}
+use Rattle.promela_process.specs.declared.sought.Sought.{Sought}
+use Rattle.promela_process.specs.Expressions.{Reading, ◌>>=◌}
+use Rattle.promela_process.specs.Store.{ChannelState, cut, Frame, size_at}
 use Rattle.pml_tree.specs.declared.tree.SendOrder.{SendOrder}
 use Rattle.pml_tree.specs.declared.tree.Search.{Search}
 use Rattle.pml_tree.specs.declared.tree.Removal.{Removal}
@@ -19,21 +19,20 @@ use Rattle.pml_program.specs.declared.expr.Target.{Target}
 use Rattle.pml_program.specs.declared.expr.Want.{Want}
 use Rattle.pml_value.specs.declared.view.Taker.{Taker}
 use Rattle.pml_value.specs.Seen.{read_by}
-use Rattle.pml_store.specs.declared.place.Place.{Place}
-use Rattle.pml_store.specs.Store.{Frame, size_at}
+use Rattle.promela_process.specs.declared.place.Place.{Place}
 use Rattle.pml_store.specs.Writing.{Contents, stored}
-use Rattle.pml_value.specs.declared.statement.Goes.{Goes}
-use Rattle.pml_value.specs.declared.live_channel.LiveChannel.{LiveChannel}
+use Rattle.promela_run.specs.declared.goes.Goes.{Goes}
+use Rattle.promela_run.specs.declared.live_channel.LiveChannel.{LiveChannel}
 use Rattle.pml_value.specs.Takes.{TakesStatement}
-use Rattle.pml_value.specs.Messages.{changed, contents_at, ordered, with_message, addressed, sent, found, without, taken_from, taken_at, asked_at, received, Received}
+use Rattle.promela_run.specs.Statements.{changed, contents_at, ordered, with_message, addressed, sent, found, without, taken_from, taken_at, asked_at, received, Received}
 use Rattle.pml_value.specs.Storing.{stored_all, SendsMessage, ReceivesMessage}
 use Rattle.pml_start.specs.Shown.{shape}
 use Rattle.pml_start.specs.Bound.{room, most_room, AreBounded}
 use Rattle.pml_start.proofs.Shapes.{shape-with_number}
 use Rattle.pml_moves.specs.declared.scene.Seat.{Seat}
-use Rattle.pml_moves.specs.State.{State, reads}
-use Rattle.pml_steps.specs.Change.{put, put_all, put_by, put_any, with_sent, with_received}
-use Rattle.pml_steps.specs.Outcome.{quiet}
+use Rattle.promela_run.specs.State.{State, reads}
+use Rattle.promela_run.specs.Steps.{put, put_all, put_by, with_sent, with_received, quiet}
+use Rattle.pml_steps.specs.Calls.{put_any}
 use Rattle.pml_steps.specs.Live.{Leads, Does, ReadsAs, StoresAll}
 use Rattle.pml_steps.specs.Passing.{AreIn, Refuses}
 use Rattle.pml_steps.specs.Held.{IsHeld, live_of}

@@ -8,22 +8,23 @@ use Rattle.diagnostics.specs.declared.stop.Stop.{Stop}
 use Rattle.diagnostics.specs.declared.stop.Stop.TheVariants as stop
 use Rattle.pml_program.specs.declared.program.Program.{Program}
 use Rattle.pml_program.specs.declared.program.Seq.{Seq}
-use Rattle.pml_control.specs.Control.{Control}
+use Rattle.promela_process.specs.Control.{Control}
 use Rattle.pml_flow.specs.declared.edge.Edge.{Edge}
-use Rattle.pml_flow.specs.Flow.{Offer}
+use Rattle.promela_process.specs.Offers.{Offer}
 use Rattle.pml_flow.specs.Points.{point_at}
-use Rattle.pml_eval.specs.Value.{Reading, ◌>>=◌}
-use Rattle.pml_store.specs.Store.{Frame}
-use Rattle.pml_value.specs.declared.live_channel.LiveChannel.{LiveChannel}
+use Rattle.promela_process.specs.Expressions.{Reading, ◌>>=◌}
+use Rattle.promela_process.specs.Store.{Frame}
+use Rattle.promela_run.specs.declared.live_channel.LiveChannel.{LiveChannel}
 use Rattle.pml_moves.specs.declared.scene.Body.{Body}
-use Rattle.pml_moves.specs.State.{State, Stand, body_of, reads, levels}
+use Rattle.promela_run.specs.State.{State, Stand, body_of, reads, levels}
 use Rattle.pml_moves.specs.Scene.{IsBody, shows, edges_at}
-use Rattle.pml_moves.specs.Search.{choices, first}
+use Rattle.promela_run.specs.Moves.{choices}
+use Rattle.pml_moves.specs.Viewed.{first}
 use Rattle.pml_moves.proofs.Placing.{at_node}
 use Rattle.pml_steps.specs.declared.within.Inner.TheVariants.{Left, At}
 use Rattle.pml_steps.specs.Inside.{Advance, Advances, then_at, advanced_by, advanced}
 use Rattle.pml_steps.specs.Live.{Live, Joins, PastGrows, Does, past}
-use Rattle.pml_steps.specs.Outcome.{Done, body_by, effect, behind, first_of, onward, within}
+use Rattle.promela_run.specs.Steps.{Done, body_by, effect, behind, first_of, onward, within}
 
 -- the first choice among the edges of a node is that among the offers of what it stands for
 pub first_shown : (k : Body) (n : ℕ) (b : Seq) (lossy loses : Bool) (cs ds : List LiveChannel) (q r : Reading) (e : Option Edge) → IsBody k → b ≡ k.proctype.now.body → lossy ≡ loses → cs ≡ ds → q ≡ r

@@ -1,14 +1,13 @@
 -- Who holds exclusive control behind a step.
 use Rattle.std.proofs.Common.{◌≡◌, ℕ, Bool, true, false, List, Option, Some, None, Result, Ok, Err, slice_get, refl, sym, subst, ap}
 use Rattle.diagnostics.specs.declared.fault.Fault.{Fault}
-use Rattle.pml_flow.specs.Flow.{Offer}
-use Rattle.pml_value.specs.declared.statement.Goes.{Goes}
-use Rattle.pml_moves.specs.declared.moves.Pick.{Pick}
-use Rattle.pml_moves.specs.State.{State, reads, picked}
-use Rattle.pml_moves.specs.Search.{message}
-use Rattle.pml_eval.specs.Value.{◌>>=◌}
-use Rattle.pml_steps.specs.Change.{went}
-use Rattle.pml_steps.specs.Outcome.{Done, step, alone, paired, taken, moved, body_by, passed, both_on}
+use Rattle.promela_process.specs.Offers.{Offer}
+use Rattle.promela_run.specs.declared.goes.Goes.{Goes}
+use Rattle.promela_run.specs.declared.moves.Pick.{Pick}
+use Rattle.promela_run.specs.State.{State, reads, picked}
+use Rattle.promela_run.specs.Moves.{message}
+use Rattle.promela_process.specs.Expressions.{◌>>=◌}
+use Rattle.promela_run.specs.Steps.{went, Done, step, alone, paired, taken, moved, body_by, passed, both_on}
 use Rattle.pml_steps.specs.Laws.{AtomicKeepsControl, ReceiversKeepControl}
 
 abbrev done : Done → Result Done Fault

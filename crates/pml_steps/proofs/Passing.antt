@@ -3,11 +3,11 @@ use Rattle.std.proofs.Common.{◌≡◌, ℕ, ◌+◌, ◌<◌, List, [], ◌∷
 use Rattle.std.proofs.lemmas.List.{take_more, drop_more, take-append-drop, at_drop_more, append-nil, drop-drop}
 use Rattle.diagnostics.specs.declared.fault.Fault.{Fault}
 use Rattle.pml_program.specs.declared.expr.Want.{Want}
-use Rattle.pml_eval.specs.declared.pattern.Sought.{Sought}
-use Rattle.pml_eval.specs.Value.{Reading, want, asked_by, ◌>>=◌}
+use Rattle.promela_process.specs.declared.sought.Sought.{Sought}
+use Rattle.promela_process.specs.Expressions.{Reading, want, asked_by, ◌>>=◌}
 use Rattle.pml_store.specs.Writing.{Contents, stored}
-use Rattle.pml_value.specs.declared.statement.Goes.{Goes}
-use Rattle.pml_value.specs.Messages.{goes_of, stores}
+use Rattle.promela_run.specs.declared.goes.Goes.{Goes}
+use Rattle.promela_run.specs.Statements.{goes_of, stores}
 use Rattle.pml_value.specs.Storing.{stored_all, AreAsLarge, StoresSome}
 use Rattle.pml_value.proofs.Storing.{size-stored}
 use Rattle.pml_value.specs.Takes.{IsIn}

@@ -11,19 +11,19 @@ use Rattle.diagnostics.specs.declared.stop.Stop.TheVariants as stop
 use Rattle.pml_program.specs.declared.program.Basic.{Basic}
 use Rattle.pml_program.specs.declared.program.Seq.{Seq}
 use Rattle.pml_program.specs.declared.program.Program.{Program}
-use Rattle.pml_control.specs.Control.{Control}
-use Rattle.pml_flow.specs.Flow.{Offer as Offered}
+use Rattle.promela_process.specs.Control.{Control}
+use Rattle.promela_process.specs.Offers.{Offer as Offered}
 use Rattle.pml_flow.specs.Points.{point_at}
-use Rattle.pml_eval.specs.Value.{◌>>=◌}
-use Rattle.pml_value.specs.declared.statement.Goes.{Goes}
-use Rattle.pml_moves.specs.declared.moves.Pick.{Pick}
-use Rattle.pml_moves.specs.State.{Stand, State, body_of, reads, picked}
+use Rattle.promela_process.specs.Expressions.{◌>>=◌}
+use Rattle.promela_run.specs.declared.goes.Goes.{Goes}
+use Rattle.promela_run.specs.declared.moves.Pick.{Pick}
+use Rattle.promela_run.specs.State.{Stand, State, body_of, reads, picked}
 use Rattle.pml_moves.specs.Scene.{control_at}
-use Rattle.pml_moves.specs.Search.{message}
+use Rattle.promela_run.specs.Moves.{message}
 use Rattle.pml_moves.proofs.Searching.{got}
 use Rattle.pml_steps.specs.declared.take.Offer.{Offer}
-use Rattle.pml_steps.specs.Change.{put_all, put_any, go_to, moved_to, went}
-use Rattle.pml_steps.specs.Outcome.{Done, quiet, taken, body_by, moved, alone, passed, both_on, paired}
+use Rattle.promela_run.specs.Steps.{put_all, go_to, moved_to, went, Done, quiet, taken, body_by, moved, alone, passed, both_on, paired}
+use Rattle.pml_steps.specs.Calls.{put_any}
 use Rattle.pml_steps.specs.Live.{Does, Leads, Joins}
 use Rattle.pml_steps.specs.Taking.{IsOffer}
 

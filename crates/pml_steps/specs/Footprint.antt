@@ -2,9 +2,9 @@
 use Rattle.std.specs.Prelude.{ℕ, ◌+◌, ◌*◌, length, List, [], ◌∷◌}
 use Rattle.pml_store.specs.Writing.{joined}
 use Rattle.pml_channel.specs.Laid.{numbers_in}
-use Rattle.pml_value.specs.declared.live_channel.LiveChannel.{LiveChannel}
+use Rattle.promela_run.specs.declared.live_channel.LiveChannel.{LiveChannel}
 use Rattle.pml_start.specs.Bound.{room}
-use Rattle.pml_moves.specs.State.{State}
+use Rattle.promela_run.specs.State.{State}
 
 -- how many numbers the messages of channels have
 abbrev pub message_numbers : List LiveChannel → ℕ

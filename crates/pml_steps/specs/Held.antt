@@ -2,7 +2,7 @@
 use Rattle.std.specs.Prelude.{◌≡◌, ℕ, Bool, List, map, Option}
 use Rattle.pml_program.specs.declared.program.Program.{Program}
 use Rattle.pml_store.specs.Writing.{Contents}
-use Rattle.pml_value.specs.declared.live_channel.LiveChannel.{LiveChannel}
+use Rattle.promela_run.specs.declared.live_channel.LiveChannel.{LiveChannel}
 use Rattle.pml_start.specs.Shown.{held}
 use Rattle.pml_start.specs.Bound.{IsBounded}
 use Rattle.pml_start.specs.Starting.{IsDeclared}

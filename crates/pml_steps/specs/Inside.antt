@@ -6,16 +6,17 @@ use Rattle.diagnostics.specs.declared.fault.Fault.TheVariants.{DStepBlocks}
 use Rattle.diagnostics.specs.declared.stop.Stop.{Stop}
 use Rattle.diagnostics.specs.declared.stop.Stop.TheVariants as stop
 use Rattle.pml_program.specs.declared.program.Seq.{Seq}
-use Rattle.pml_control.specs.Control.{Control}
-use Rattle.pml_flow.specs.Flow.{Offer}
+use Rattle.promela_process.specs.Control.{Control}
+use Rattle.promela_process.specs.Offers.{Offer}
 use Rattle.pml_flow.specs.Points.{point_at}
-use Rattle.pml_eval.specs.Value.{◌>>=◌}
-use Rattle.pml_moves.specs.State.{State, reads, levels}
-use Rattle.pml_moves.specs.Search.{choices, first}
+use Rattle.promela_process.specs.Expressions.{◌>>=◌}
+use Rattle.promela_run.specs.State.{State, reads, levels}
+use Rattle.promela_run.specs.Moves.{choices}
+use Rattle.pml_moves.specs.Viewed.{first}
 use Rattle.pml_steps.specs.declared.within.Choice.{Choice}
 use Rattle.pml_steps.specs.declared.within.Inner.{Inner}
 use Rattle.pml_steps.specs.declared.within.Inner.TheVariants.{Left, At}
-use Rattle.pml_steps.specs.Outcome.{Done, body_by, effect}
+use Rattle.promela_run.specs.Steps.{Done, body_by, effect}
 
 -- what is chosen, the place behind it known by its node
 abbrev pub Chooses : Seq → Option Offer → Option Choice → Type 0

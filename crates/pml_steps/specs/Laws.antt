@@ -1,10 +1,10 @@
 -- What is said of every step.
 use Rattle.std.specs.Prelude.{◌≡◌, ℕ, Bool, true, Some, Ok}
-use Rattle.pml_flow.specs.Flow.{Offer}
-use Rattle.pml_moves.specs.declared.moves.Pick.{Pick}
-use Rattle.pml_moves.specs.declared.moves.Move.TheVariants.{Alone, Pair}
-use Rattle.pml_moves.specs.State.{State, picked}
-use Rattle.pml_steps.specs.Outcome.{Done, step}
+use Rattle.promela_process.specs.Offers.{Offer}
+use Rattle.promela_run.specs.declared.moves.Pick.{Pick}
+use Rattle.promela_run.specs.declared.moves.Move.TheVariants.{Alone, Pair}
+use Rattle.promela_run.specs.State.{State, picked}
+use Rattle.promela_run.specs.Steps.{Done, step}
 
 -- Who takes a statement that lies in the same atomic sequence as what follows it holds exclusive control then; of a pair the receiver.
 abbrev pub AtomicKeepsControl : Type 0

@@ -1,5 +1,3 @@
-pub mod Change
-pub mod Outcome
 pub mod Live
 pub mod Footprint
 pub mod Held
@@ -8,3 +6,4 @@ pub mod Arguments
 pub mod Passing
 pub mod Inside
 pub mod Laws
+pub mod Calls

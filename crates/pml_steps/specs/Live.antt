@@ -4,18 +4,17 @@ use Rattle.std.specs.Io.{StartsWith}
 use Rattle.diagnostics.specs.declared.fault.Fault.{Fault}
 use Rattle.diagnostics.specs.declared.stop.Stop.{Stop}
 use Rattle.diagnostics.specs.declared.stop.Stop.TheVariants as stop
-use Rattle.pml_store.specs.Store.{Frame}
+use Rattle.promela_process.specs.Store.{Frame}
 use Rattle.pml_store.specs.Writing.{Contents, undone}
-use Rattle.pml_value.specs.declared.statement.Goes.{Goes}
+use Rattle.promela_run.specs.declared.goes.Goes.{Goes}
 use Rattle.pml_value.specs.Storing.{StoresSome, stored_all}
-use Rattle.pml_moves.specs.State.{Stand, State}
+use Rattle.promela_run.specs.State.{Stand, State, reading_of}
 use Rattle.pml_flow.specs.declared.edge.Edge.{Edge}
-use Rattle.pml_value.specs.declared.live_channel.LiveChannel.{LiveChannel}
+use Rattle.promela_run.specs.declared.live_channel.LiveChannel.{LiveChannel}
 use Rattle.pml_value.specs.declared.view.Taker.{Taker}
-use Rattle.pml_value.specs.Reads.{reading_of}
 use Rattle.pml_value.specs.Seen.{read_by}
-use Rattle.pml_steps.specs.Change.{go_to}
-use Rattle.pml_steps.specs.Outcome.{Done, control_of}
+use Rattle.promela_run.specs.Steps.{go_to, Done}
+use Rattle.pml_steps.specs.Calls.{control_of}
 
 -- a state, and what was written since its step began
 pub record Live : Type 0 where

@@ -4,17 +4,17 @@ use Rattle.std.specs.List.{AllByRecursion}
 use Rattle.diagnostics.specs.declared.fault.Fault.{Fault}
 use Rattle.diagnostics.specs.declared.stop.Stop.{Stop}
 use Rattle.diagnostics.specs.declared.stop.Stop.TheVariants as stop
-use Rattle.pml_store.specs.Store.{Frame}
+use Rattle.promela_process.specs.Store.{Frame}
 use Rattle.pml_program.specs.declared.expr.Want.{Want}
-use Rattle.pml_eval.specs.Value.{Reading, asked_by, ◌>>=◌}
+use Rattle.promela_process.specs.Expressions.{Reading, asked_by, ◌>>=◌}
 use Rattle.pml_program.specs.declared.program.Basic.{Basic}
-use Rattle.pml_value.specs.declared.statement.Goes.{Goes}
+use Rattle.promela_run.specs.declared.goes.Goes.{Goes}
 use Rattle.pml_value.specs.declared.view.View.{View}
 use Rattle.pml_value.specs.Seen.{seen}
-use Rattle.pml_value.specs.Messages.{stores}
+use Rattle.promela_run.specs.Statements.{stores}
 use Rattle.pml_value.specs.Takes.{IsIn}
-use Rattle.pml_moves.specs.Search.{message_in}
-use Rattle.pml_steps.specs.Outcome.{passed}
+use Rattle.pml_moves.specs.Viewed.{message_in}
+use Rattle.promela_run.specs.Steps.{passed}
 
 abbrev pub AreIn : List Frame → List Goes → Type 0
 AreIn frames = AllByRecursion (IsIn frames)

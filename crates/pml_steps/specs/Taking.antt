@@ -3,15 +3,15 @@ use Rattle.std.specs.Prelude.{◌≡◌, ℕ, ◌<◌, Bool, List, length, Optio
 use Rattle.std.specs.Option.{option_copied}
 use Rattle.diagnostics.specs.declared.stop.Stop.{Stop}
 use Rattle.pml_program.specs.declared.program.Seq.{Seq}
-use Rattle.pml_flow.specs.Flow.{Offer as Offered}
+use Rattle.promela_process.specs.Offers.{Offer as Offered}
 use Rattle.pml_flow.specs.Graph.{maybe}
 use Rattle.pml_flow.specs.Points.{point_at}
-use Rattle.pml_moves.specs.declared.moves.Pick.{Pick}
-use Rattle.pml_moves.specs.declared.moves.Move.{Move}
-use Rattle.pml_moves.specs.declared.moves.Move.TheVariants.{Death, Alone, Pair}
-use Rattle.pml_moves.specs.State.{State, picked}
+use Rattle.promela_run.specs.declared.moves.Pick.{Pick}
+use Rattle.promela_run.specs.declared.moves.Move.{Move}
+use Rattle.promela_run.specs.declared.moves.Move.TheVariants.{Death, Alone, Pair}
+use Rattle.promela_run.specs.State.{State, picked}
 use Rattle.pml_steps.specs.declared.take.Offer.{Offer}
-use Rattle.pml_steps.specs.Outcome.{body_by, within_from, offer_taken}
+use Rattle.promela_run.specs.Steps.{body_by, within_from, offer_taken}
 use Rattle.pml_steps.specs.Live.{Live, Does, PastGrows}
 
 -- It is what a pick names, in the body in which its process stands.

@@ -1,9 +1,8 @@
 //! The arguments of `run` and of `printf`, and where the number of a new process goes.
 
 ghost use Rattle.std.specs.Prelude.{◌≡◌, IfOk, IfErr, IfSome, Ok};
-ghost use Rattle.pml_value.specs.Messages.{values};
+ghost use Rattle.promela_run.specs.Statements.{values, goes, goes_to};
 ghost use Rattle.pml_value.specs.Seen.{seen};
-ghost use Rattle.pml_value.specs.Statement.{goes, goes_to};
 ghost use Rattle.pml_value.specs.Takes.{IsIn};
 ghost use Rattle.pml_steps.specs.Arguments.{Stops};
 
@@ -11,8 +10,8 @@ use diagnostics::{Fault, Stop};
 use pml_eval::clip::clip;
 use pml_eval::eval::{eval, place};
 use pml_program::expr::{Expr, Target};
-use pml_value::statement::Goes;
 use pml_value::view::View;
+use promela_run::goes::Goes;
 use std::alloc::Global;
 
 /// The values of expressions, or the first fault from the left. There may be any number of them.

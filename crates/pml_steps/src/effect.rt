@@ -4,11 +4,10 @@ ghost use Rattle.std.specs.Prelude.{◌≡◌, ◌<◌, OnOk, OnErr, length};
 ghost use Rattle.std.specs.Io.{StartsWith};
 ghost use Rattle.std.specs.Option.{option_copied};
 ghost use Rattle.pml_program.specs.declared.program.Action.TheVariants.{Printf, Printm};
-ghost use Rattle.pml_value.specs.Messages.{asserted};
-ghost use Rattle.pml_moves.specs.State.{reads};
-ghost use Rattle.pml_steps.specs.Change.{ran, run_number};
+ghost use Rattle.promela_run.specs.Statements.{asserted};
+ghost use Rattle.promela_run.specs.State.{reads};
+ghost use Rattle.promela_run.specs.Steps.{ran, run_number, run_into as runs_into, does as does_by, effect as effect_of};
 ghost use Rattle.pml_steps.specs.Live.{Leads, Does, Joins, PastGrows, Grows};
-ghost use Rattle.pml_steps.specs.Outcome.{run_into as runs_into, does as does_by, effect as effect_of};
 
 use crate::arguments::{goes_to, values_of};
 use crate::live::Live;

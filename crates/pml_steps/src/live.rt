@@ -2,22 +2,22 @@
 
 ghost use Rattle.std.specs.Prelude.{◌≡◌, ◌+◌, ◌<◌, ◌≤◌, [], Ok, IfOk, IfSome, OnOk, nat_eq, not, length, map, slice_get};
 ghost use Rattle.std.specs.List.{filter};
-ghost use Rattle.pml_value.specs.declared.live_channel.LiveChannel.{LiveChannel};
+ghost use Rattle.promela_run.specs.declared.live_channel.LiveChannel.{LiveChannel};
 ghost use Rattle.std.specs.Option.{option_copied};
 ghost use Rattle.profile.specs.declared.TheConstants.{MOST_CHANNELS, MOST_PROCESSES};
 ghost use Rattle.pml_start.specs.Shown.{shown};
 ghost use Rattle.pml_start.specs.Bound.{bound, most_cells, IsBounded};
 ghost use Rattle.pml_start.specs.Starting.{IsDeclared};
 ghost use Rattle.pml_moves.specs.Scene.{stand_of};
-ghost use Rattle.pml_moves.specs.State.{begins_at, reads, begun_state};
+ghost use Rattle.promela_run.specs.State.{begins_at, reads, begun_state};
 ghost use Rattle.pml_value.specs.Seen.{seen};
-ghost use Rattle.pml_value.specs.Statement.{outcome};
+ghost use Rattle.promela_run.specs.Statements.{outcome};
 ghost use Rattle.pml_value.specs.Takes.{IsIn};
-ghost use Rattle.pml_steps.specs.Change.{put_if, put_by, without_youngest, kinds, there, with_new};
+ghost use Rattle.promela_run.specs.Steps.{put_if, put_by, without_youngest, kinds, there, with_new, sends};
 ghost use Rattle.pml_steps.specs.Footprint.{all_room, held, message_numbers};
 ghost use Rattle.pml_steps.specs.Held.{kinds_of};
 ghost use Rattle.pml_steps.specs.Live.{Leads, Keeps, Joins, PastGrows, ReadsAs, along, at_node};
-ghost use Rattle.pml_steps.specs.Outcome.{sends, receives_by, passes};
+ghost use Rattle.pml_steps.specs.Calls.{receives_by, passes};
 
 use crate::pair::{numbers_passed, store_passed};
 use diagnostics::Stop;
@@ -31,11 +31,12 @@ use pml_start::create::create;
 use pml_start::started::Started;
 use pml_store::store::Store;
 use pml_tree::tree::SendOrder;
-use pml_value::live_channel::LiveChannel;
 use pml_value::message::send;
 use pml_value::receive::{Reception, receive};
-use pml_value::statement::{Goes, take};
+use pml_value::statement::take;
 use pml_value::view::{Taker, View};
+use promela_run::goes::Goes;
+use promela_run::live_channel::LiveChannel;
 use std::alloc::{AllocError, Global};
 use std::marker::Model;
 
@@ -54,7 +55,7 @@ impl<'p, 'a> Model for Live<'p, 'a> {
     ghost use Rattle.pml_program.specs.contracts.program.Seq as seq;
     ghost use Rattle.pml_program.specs.contracts.program.Basic as basic;
     ghost use Rattle.pml_steps.specs.Live.{Live};
-    ghost use Rattle.pml_steps.specs.Change.{kinds, there, with_new};
+    ghost use Rattle.promela_run.specs.Steps.{kinds, there, with_new};
     ghost use Rattle.pml_steps.specs.Held.{IsHeld, live_of};
 
     ghost Value = { Live };

@@ -2,11 +2,11 @@
 
 ghost use Rattle.std.specs.Prelude.{◌≡◌, ◌∷◌, ◌++◌, [], drop, Ok, IfOk, IfErr, OnOk, OnErr};
 ghost use Rattle.std.specs.Option.{option_copied};
-ghost use Rattle.pml_store.specs.Store.{size_at};
+ghost use Rattle.promela_process.specs.Store.{size_at};
 ghost use Rattle.pml_store.specs.Writing.{before};
 ghost use Rattle.pml_eval.specs.There.{IsThere};
-ghost use Rattle.pml_eval.specs.Value.{asked_by};
-ghost use Rattle.pml_value.specs.Messages.{goes_of, stores};
+ghost use Rattle.promela_process.specs.Expressions.{asked_by};
+ghost use Rattle.promela_run.specs.Statements.{goes_of, stores};
 ghost use Rattle.pml_value.specs.Storing.{stored_all, StoresSome};
 ghost use Rattle.pml_value.specs.Seen.{seen};
 ghost use Rattle.pml_steps.specs.Arguments.{Stops};
@@ -16,13 +16,13 @@ ghost use Rattle.pml_steps.specs.Passing.{AreIn, Refuses, taken_by, passed_betwe
 use diagnostics::Stop;
 use pml_eval::clip::clip;
 use pml_eval::eval::{first_fault, want};
-use pml_eval::pattern::Sought;
 use pml_moves::message::{Message, offered};
 use pml_program::expr::Want;
 use pml_program::program::{Action, Basic};
 use pml_store::store::Store;
-use pml_value::statement::Goes;
 use pml_value::view::View;
+use promela_process::sought::Sought;
+use promela_run::goes::Goes;
 use std::alloc::{AllocError, Global};
 
 /// Adds where a field goes, if it has a place.

@@ -2,11 +2,11 @@
 
 ghost use Rattle.std.specs.Prelude.{◌≡◌, ◌<◌, ℕ, List, None, IfSome, OnOk, OnErr, length};
 ghost use Rattle.std.specs.Io.{StartsWith};
-ghost use Rattle.pml_moves.specs.State.{picked as picks};
-ghost use Rattle.pml_moves.specs.declared.moves.Move.TheVariants.{Alone, Pair};
+ghost use Rattle.promela_run.specs.State.{picked as picks};
+ghost use Rattle.promela_run.specs.declared.moves.Move.TheVariants.{Alone, Pair};
 ghost use Rattle.profile.specs.declared.TheConstants.{MOST_DSTEP_STATEMENTS};
 ghost use Rattle.pml_steps.specs.Live.{Does, Joins, PastGrows, Grows};
-ghost use Rattle.pml_steps.specs.Outcome.{step};
+ghost use Rattle.promela_run.specs.Steps.{step};
 ghost use Rattle.pml_steps.specs.Taking.{IsOffer, DoesWithin, DoesOffer, CanDie, PastBy};
 
 use crate::effect::effect;
@@ -14,9 +14,9 @@ use crate::live::Live;
 use crate::within::within;
 use diagnostics::Stop;
 use pml_flow::edge::Edge;
-use pml_moves::moves::{Move, Pick};
 use pml_moves::picked::picked;
 use pml_program::program::Basic;
+use promela_run::moves::{Move, Pick};
 
 /// An offer: its edge, and its statement without its labels.
 #[derive(Drop)]

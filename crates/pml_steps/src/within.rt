@@ -6,7 +6,7 @@ ghost use Rattle.std.specs.Option.{option_copied};
 ghost use Rattle.pml_moves.specs.Scene.{IsBody};
 ghost use Rattle.profile.specs.declared.TheConstants.{MOST_DSTEP_STATEMENTS};
 ghost use Rattle.pml_steps.specs.Live.{Joins, PastGrows, Grows};
-ghost use Rattle.pml_steps.specs.Outcome.{body_by};
+ghost use Rattle.promela_run.specs.Steps.{body_by};
 ghost use Rattle.pml_steps.specs.Taking.{DoesWithin};
 ghost use Rattle.pml_steps.specs.Inside.{ChoosesAt, AdvancesAt};
 

@@ -2,8 +2,8 @@
 use Rattle.std.proofs.Common.{◌≡◌, ℕ, zero, suc, ◌+◌, ◌-◌, ◌<◌, ◌≤◌, Bool, true, false, if◌then◌else◌, List, [], ◌∷◌, ◌++◌, length, get_or, set, map, take, ℤ, pos, refl, sym, ap, ◌∙◌, arith, length-append, ltb}
 use Rattle.std.proofs.lemmas.Bool.{lt-ltb, le-ltb, ltb-true, ltb-false}
 use Rattle.std.proofs.lemmas.List.{length-set, set-append_left, set-append_right, set-get_or}
-use Rattle.pml_store.specs.declared.place.Place.{Place}
-use Rattle.pml_store.specs.Store.{Frame, Cells, frame_at, cells_at, number_at, with_number, size_at}
+use Rattle.promela_process.specs.declared.place.Place.{Place}
+use Rattle.promela_process.specs.Store.{Frame, Cells, frame_at, cells_at, number_at, with_number, size_at}
 use Rattle.pml_store.specs.Writing.{Contents, HasPlace, flat, joined, index_of, frame_with, index_with, undone, before}
 
 -- ---- an index among all

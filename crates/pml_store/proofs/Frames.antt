@@ -5,7 +5,7 @@ use Rattle.std.proofs.lemmas.List.Sums.{sum_by-cons}
 use Rattle.std.proofs.Math.Seq.{drop-append-add, take-append_seam}
 use Rattle.pml_store.specs.declared.store.Extent.{Extent}
 use Rattle.pml_store.specs.declared.store.FrameExtents.{FrameExtents}
-use Rattle.pml_store.specs.Store.{Frame, zeros}
+use Rattle.promela_process.specs.Store.{Frame, zeros}
 use Rattle.pml_store.specs.Writing.{but_last, joined}
 use Rattle.pml_store.specs.Laid.{cells_of, frame_of, frames_of, ExtentsLie, extents_end, FramesLie, frames_end, extents_of, IsLaid, IsKept}
 use Rattle.pml_store.proofs.Places.{extents_on, frames_on, joined_is}

@@ -2,10 +2,10 @@
 use Rattle.std.proofs.Common.{◌≡◌, ℕ, zero, suc, ◌+◌, ◌<◌, ◌≤◌, List, [], ◌∷◌, ◌++◌, length, get_or, take, drop, map, ℤ, pos, refl, sym, ap, ◌∙◌, arith, append_assoc, append-nil, length-append, length-drop, length-take, drop-drop}
 use Rattle.std.proofs.Math.ListN.{get_or-map}
 use Rattle.std.proofs.lemmas.List.{length-map, get_or-drop, get_or-take, take-append-drop, drop_all}
-use Rattle.pml_store.specs.declared.place.Place.{Place}
+use Rattle.promela_process.specs.declared.place.Place.{Place}
 use Rattle.pml_store.specs.declared.store.Extent.{Extent}
 use Rattle.pml_store.specs.declared.store.FrameExtents.{FrameExtents}
-use Rattle.pml_store.specs.Store.{Frame, Cells, frame_at, cells_at, number_at, size_at}
+use Rattle.promela_process.specs.Store.{Frame, Cells, frame_at, cells_at, number_at, size_at}
 use Rattle.pml_store.specs.Writing.{HasPlace, flat, joined, index_of}
 use Rattle.pml_store.specs.Laid.{cells_of, frame_of, frames_of, nowhere, no_frame, frame_extents_at, extent_of, ExtentsLie, extents_end, FramesLie, frames_end, IsLaid}
 

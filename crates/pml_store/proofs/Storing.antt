@@ -2,10 +2,10 @@
 use Rattle.std.proofs.Common.{◌≡◌, ℕ, zero, suc, ◌+◌, ◌-◌, ◌<◌, ◌≤◌, List, [], ◌∷◌, ◌++◌, length, get_or, take, drop, set, map, ℤ, refl, sym, ap, ◌∙◌, arith}
 use Rattle.std.proofs.lemmas.List.{drop-set-lt, drop-set-add, take-set-le}
 use Rattle.std.proofs.Math.Seq.{take-set-lt}
-use Rattle.pml_store.specs.declared.place.Place.{Place}
+use Rattle.promela_process.specs.declared.place.Place.{Place}
 use Rattle.pml_store.specs.declared.store.Extent.{Extent}
 use Rattle.pml_store.specs.declared.store.FrameExtents.{FrameExtents}
-use Rattle.pml_store.specs.Store.{Frame, Cells, frame_at, with_number}
+use Rattle.promela_process.specs.Store.{Frame, Cells, frame_at, with_number}
 use Rattle.pml_store.specs.Writing.{Contents, HasPlace}
 use Rattle.pml_store.specs.Laid.{cells_of, frame_of, frames_of, nowhere, frame_extents_at, ExtentsLie, extents_end, FramesLie, IsLaid}
 use Rattle.pml_store.proofs.Places.{extent_at, extents_on, frame_is, cells_is, found}

@@ -2,7 +2,7 @@
 use Rattle.std.specs.Prelude.{◌≡◌, ℕ, ◌+◌, ◌≤◌, List, [], ◌∷◌, length, take, drop, ℤ, map, slice_index_or}
 use Rattle.pml_store.specs.declared.store.Extent.{Extent}
 use Rattle.pml_store.specs.declared.store.FrameExtents.{FrameExtents}
-use Rattle.pml_store.specs.Store.{Cells, Frame}
+use Rattle.promela_process.specs.Store.{Cells, Frame}
 
 abbrev pub cells_of : List ℤ → Extent → Cells
 cells_of cells s = take s.size (drop s.start cells)

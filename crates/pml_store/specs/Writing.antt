@@ -1,7 +1,7 @@
 -- What a write changes in a store, and how a log leads back.
 use Rattle.std.specs.Prelude.{◌≡◌, ℕ, ◌+◌, ◌-◌, ◌<◌, Bool, ◌&&◌, nat_eq, ltb, if◌then◌else◌, List, [], ◌∷◌, ◌++◌, length, take, ℤ, slice_set}
-use Rattle.pml_store.specs.declared.place.Place.{Place}
-use Rattle.pml_store.specs.Store.{Frame, frame_at, cells_at, number_at, with_number}
+use Rattle.promela_process.specs.declared.place.Place.{Place}
+use Rattle.promela_process.specs.Store.{Frame, frame_at, cells_at, number_at, with_number}
 
 -- the cells that were stored are known by their index, with the number before; and how many cells there may be at most
 pub record Contents : Type 0 where

@@ -1,8 +1,8 @@
 //! A store is a map from places to numbers, and its log leads back.
 
 ghost use Rattle.std.specs.Prelude.{◌≡◌, ◌<◌, ℕ, List, [], map, length};
-ghost use Rattle.pml_store.specs.declared.place.Place.{Place};
-ghost use Rattle.pml_store.specs.Store.{Frame, size_at};
+ghost use Rattle.promela_process.specs.declared.place.Place.{Place};
+ghost use Rattle.promela_process.specs.Store.{Frame, size_at};
 ghost use Rattle.pml_store.specs.Writing.{Contents, HasPlace, before, OnePlaceChanges, LeadsBack};
 
 /// To store a number changes what one place holds, and no other.

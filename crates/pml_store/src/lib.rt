@@ -2,5 +2,4 @@
 #![tactic(auto)]
 
 pub mod law;
-pub mod place;
 pub mod store;

@@ -1,11 +1,11 @@
 //! All numbers in one vector, the youngest frame last.
 
 ghost use Rattle.std.specs.Prelude.{◌≡◌, ◌+◌, ◌<◌, ◌≤◌, ◌++◌, ◌∷◌, [], length, OnOk, OnErr, IfOk, sum, slice_index_or, pos};
-ghost use Rattle.pml_store.specs.Store.{number_at, size_at, zeros};
+ghost use Rattle.promela_process.specs.Store.{number_at, size_at, zeros};
 ghost use Rattle.pml_store.specs.Writing.{HasPlace, index_of, stored, before, joined, but_last};
 ghost use Rattle.pml_store.specs.Laid.{nowhere, extent_of, extents_of};
 
-use crate::place::Place;
+use promela_process::place::Place;
 use sqlite_items::Items;
 use std::alloc::{AllocError, Global};
 use std::marker::Model;

@@ -6,21 +6,21 @@ use Rattle.std.proofs.lemmas.Bool.Decides.{eqb_tells}
 use Rattle.pml_program.specs.declared.program.Stmt.{Stmt}
 use Rattle.pml_program.specs.declared.program.Seq.{Seq}
 use Rattle.pml_program.specs.declared.program.Basic.{Basic}
-use Rattle.pml_control.specs.Control.{Turn, Place, Todo, Back, Under, InAtomic, InDStep, Control, steps, basic_of, basic_at, sequence, at, settle}
-use Rattle.pml_control.specs.Told.{told_of}
+use Rattle.promela_process.specs.Control.{Turn, Place, Todo, Back, Under, InAtomic, InDStep, Control, steps, basic_of, basic_at, sequence, at, settle}
+use Rattle.promela_process.specs.Circles.{told_of}
 use Rattle.pml_control.proofs.Places as places
 use Rattle.pml_control.proofs.Reaching.{IsAt, all_at-get, at_part, zero_plus}
 use Rattle.pml_control.proofs.Telling.{Holds}
 use Rattle.pml_control.proofs.Covering.{covered_at}
 use Rattle.pml_control.proofs.Circling.{got}
 use Rattle.pml_flow.specs.Points.{points_of, point_at}
-use Rattle.pml_flow.specs.Flow.{statement_at, stated, has_end, same_turns, same_place}
+use Rattle.promela_process.specs.Offers.{statement_at, stated, has_end, same_turns, same_place}
 use Rattle.pml_flow.specs.Marked.{IsValidEnd, at_end, by_label}
 use Rattle.pml_flow.specs.Graph.{Placed, IsGraph, Graph, is_end_at}
 use Rattle.pml_flow.proofs.Begun.{begun}
 use Rattle.pml_flow.proofs.Beginning.{read}
 use Rattle.pml_flow.proofs.Differing.{placed}
-use Rattle.pml_texts.specs.Ends.{standing, is_end, may_end}
+use Rattle.promela_run.specs.Texts.{standing, is_end, may_end}
 use Rattle.pml_texts.proofs.Settled.{settled_at}
 
 -- ---- places that are equal

@@ -6,13 +6,12 @@ use Rattle.pml_tree.specs.declared.tree.Search.TheVariants.{First}
 use Rattle.pml_program.specs.declared.program.Seq.{Seq, roll-Seq}
 use Rattle.pml_program.specs.declared.program.Basic.{Goto, If, Do, Block, Atomic, DStep}
 use Rattle.pml_program.specs.declared.program.Basic.TheBlock.{shape-the_row-Stmt-1, hidden-the_row-Stmt-1, shape-the_row-Seq-0, hidden-the_row-Seq-0}
-use Rattle.pml_control.specs.Control.{settle}
-use Rattle.pml_moves.specs.declared.moves.Move.TheVariants.{Death, Alone, Pair}
-use Rattle.pml_moves.specs.State.{Stand, State}
-use Rattle.pml_moves.specs.Search.{pick}
+use Rattle.promela_process.specs.Control.{settle}
+use Rattle.promela_run.specs.declared.moves.Move.TheVariants.{Death, Alone, Pair}
+use Rattle.promela_run.specs.State.{Stand, State}
+use Rattle.promela_run.specs.Moves.{pick}
 use Rattle.pml_moves.proofs.Samples.{yes, timeout, otherwise, sends, receives}
-use Rattle.pml_texts.specs.Ends.{is_valid}
-use Rattle.pml_texts.specs.Texts.{move_text, origin_of, stuck}
+use Rattle.promela_run.specs.Texts.{is_valid, move_text, origin_of, stuck}
 use Rattle.pml_texts.specs.Staying.{stuck_of}
 use Rattle.pml_texts.proofs.Samples.{word, labelled, said, body, proctype, init, before, closed, state}
 

@@ -6,8 +6,8 @@ use Rattle.pml_program.specs.declared.program.Stmt.{Stmt}
 use Rattle.pml_program.specs.declared.program.Seq.{Seq, roll-Seq}
 use Rattle.pml_program.specs.declared.program.Basic.{Basic}
 use Rattle.pml_program.specs.declared.program.Proctype.{Proctype}
-use Rattle.pml_control.specs.Control.{settle, at, steps}
-use Rattle.pml_moves.specs.State.{Stand, State}
+use Rattle.promela_process.specs.Control.{settle, at, steps}
+use Rattle.promela_run.specs.State.{Stand, State}
 
 abbrev pub word : ℕ → List ℕ → Word
 word n text = record { kind = kind.Name; text = text; line = n }

@@ -4,7 +4,7 @@ use Rattle.std.specs.Prelude.{slice_get}
 use Rattle.pml_program.specs.declared.program.Stmt.{Stmt}
 use Rattle.pml_program.specs.declared.program.Seq.{Seq}
 use Rattle.pml_program.specs.declared.program.Basic.{Basic, Plain, Goto, Break, If', Do', Block, Atomic, DStep, Unless}
-use Rattle.pml_control.specs.Control.{Turn, Place, Todo, Control, steps, basic_of, basic_at, sequence, beyond, behind, behind_of, at, at_place, place_of, all_of, into, broken, in_d_step, move_on, go_on, settle, settle_within, most_moves}
+use Rattle.promela_process.specs.Control.{Turn, Place, Todo, Control, steps, basic_of, basic_at, sequence, beyond, behind, behind_of, at, at_place, place_of, all_of, into, broken, in_d_step, move_on, go_on, settle, settle_within, most_moves}
 use Rattle.pml_control.proofs.Places.{stands, past, entered}
 use Rattle.pml_control.proofs.Reaching.{IsAt}
 use Rattle.pml_control.proofs.Settling.{broken_todos}

@@ -1,4 +1,2 @@
-pub mod Ends
-pub mod Texts
 pub mod Staying
 pub mod Charts

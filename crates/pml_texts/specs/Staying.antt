@@ -2,14 +2,13 @@
 use Rattle.std.specs.Prelude.{◌≡◌, ℕ, ◌<◌, List, length, ◌++◌, Option, Some, None, if◌then◌else◌, slice_get}
 use Rattle.pml_program.specs.declared.program.Proctype.{Proctype}
 use Rattle.pml_program.specs.declared.program.Program.{Program}
-use Rattle.pml_control.specs.Control.{Control}
-use Rattle.pml_flow.specs.Flow.{line_at}
-use Rattle.pml_lines.specs.Changes.{proctype_name}
-use Rattle.pml_moves.specs.declared.moves.Move.{Move}
-use Rattle.pml_moves.specs.declared.moves.Move.TheVariants.{Death, Alone, Pair}
-use Rattle.pml_moves.specs.State.{Stand, State}
-use Rattle.pml_texts.specs.Ends.{may_end}
-use Rattle.pml_texts.specs.Texts.{move_text}
+use Rattle.promela_process.specs.Control.{Control}
+use Rattle.promela_process.specs.Offers.{line_at}
+use Rattle.promela_run.specs.Lines.{proctype_name}
+use Rattle.promela_run.specs.declared.moves.Move.{Move}
+use Rattle.promela_run.specs.declared.moves.Move.TheVariants.{Death, Alone, Pair}
+use Rattle.promela_run.specs.State.{Stand, State}
+use Rattle.promela_run.specs.Texts.{may_end, move_text}
 
 -- where a process may not end: the name of its proctype, and the line of what stands first
 abbrev pub stuck_in : Option Proctype → Control → Option (List ℕ × ℕ)

@@ -2,8 +2,8 @@
 
 ghost use Rattle.std.specs.Prelude.{◌≡◌, ◌++◌, OnOk, OnErr};
 ghost use Rattle.std.specs.Io.{StartsWith};
-ghost use Rattle.pml_lines.specs.Changes.{proctype_name};
-ghost use Rattle.pml_texts.specs.Texts.{heading as heading_of, line};
+ghost use Rattle.promela_run.specs.Lines.{proctype_name};
+ghost use Rattle.promela_run.specs.Texts.{heading as heading_of, line};
 
 use itoa::Buffer;
 use pml_lines::change::proctype_name;

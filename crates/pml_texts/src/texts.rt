@@ -3,16 +3,16 @@
 ghost use Rattle.std.specs.Prelude.{◌≡◌, ◌<◌, ◌++◌, OnOk, OnErr, length};
 ghost use Rattle.std.specs.Io.{StartsWith};
 ghost use Rattle.std.specs.Option.{option_copied};
-ghost use Rattle.pml_moves.specs.State.{picked as picks};
-ghost use Rattle.pml_texts.specs.Texts.{proctype_of as proctype_in, pick_text, death_text, move_text, line_in, brace_of, origin_of};
+ghost use Rattle.promela_run.specs.State.{picked as picks};
+ghost use Rattle.promela_run.specs.Texts.{proctype_of as proctype_in, pick_text, death_text, move_text, line_in, brace_of, origin_of};
 ghost use Rattle.pml_texts.specs.Staying.{IsWithin};
 
 use crate::place::{add_heading, add_line};
-use pml_moves::moves::{Move, Pick};
 use pml_moves::picked::picked;
 use pml_moves::played::proctype_at;
 use pml_moves::scene::{Scene, seat_at};
 use pml_program::program::Proctype;
+use promela_run::moves::{Move, Pick};
 use std::alloc::AllocError;
 
 /// The proctype of a process.

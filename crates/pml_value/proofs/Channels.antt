@@ -3,10 +3,10 @@ use Rattle.std.proofs.Common.{◌≡◌, ℕ, zero, suc, ◌-◌, ◌<◌, List,
 use Rattle.std.specs.Prelude.{option_map, slice_get}
 use lib.IntN.{nat_abs}
 use Rattle.pml_tree.specs.declared.tree.Removal.TheVariants.{Keep}
-use Rattle.pml_channel.specs.State.{ChannelState}
-use Rattle.pml_value.specs.declared.live_channel.LiveChannel.{LiveChannel}
-use Rattle.pml_value.specs.Reads.{channel_at}
-use Rattle.pml_value.specs.Messages.{contents_at, changed, without}
+use Rattle.promela_process.specs.Store.{ChannelState}
+use Rattle.promela_run.specs.declared.live_channel.LiveChannel.{LiveChannel}
+use Rattle.promela_run.specs.State.{channel_at}
+use Rattle.promela_run.specs.Statements.{contents_at, changed, without}
 
 some-is : {A : Type 0} {x y : A} → ◌≡◌ {A = Option A} (Some x) (Some y) → x ≡ y
 some-is h = cc

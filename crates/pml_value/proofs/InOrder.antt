@@ -1,8 +1,8 @@
 -- Messages come out of a channel in the order in which they were put in.
 use Rattle.std.proofs.Common.{◌≡◌, Bool, true, false, nat_lt, if◌then◌else◌, List, [], ◌∷◌, ◌++◌, length, take, ℤ, refl, sym, ap, ◌∙◌, append-nil, append_assoc}
 use Rattle.pml_tree.specs.declared.tree.Removal.TheVariants.{Remove}
-use Rattle.pml_channel.specs.State.{ChannelState, cut}
-use Rattle.pml_value.specs.Messages.{without}
+use Rattle.promela_process.specs.Store.{ChannelState, cut}
+use Rattle.promela_run.specs.Statements.{without}
 use Rattle.pml_value.specs.Laws.{Use, Sends, Receives, used, put, got, all_put, all_got, MessagesComeInOrder}
 
 oldest_out : (ms : List (List ℤ)) (c : ChannelState) → take 1 ms ++ (without Remove 0 (record c { messages = ms })).messages ≡ ms ++ []

@@ -8,13 +8,13 @@ use Rattle.pml_tree.specs.declared.tree.Removal.TheVariants.{Remove, Keep}
 use Rattle.pml_program.specs.declared.form.Form.TheVariants.{Plain}
 use Rattle.pml_program.specs.declared.expr.Expr.{Expr, Expr-F, fold-roll-Expr}
 use Rattle.pml_program.specs.declared.expr.Expr.TheVariants as e
-use Rattle.pml_eval.specs.declared.pattern.Sought.TheVariants.{Exactly, Into, Anything}
-use Rattle.pml_eval.specs.Clip.{bits_of, is_signed}
-use Rattle.pml_eval.specs.Value.{Reading, Valued, Wanted, Placed, Turned, val, value_step, want_step, target_step, turn_step}
-use Rattle.pml_store.specs.declared.place.Place.{Place}
-use Rattle.pml_channel.specs.State.{ChannelState}
-use Rattle.pml_value.specs.declared.live_channel.LiveChannel.{LiveChannel}
-use Rattle.pml_value.specs.Messages.{with_fields, values, with_message, found, stores, taken_from, asserted}
+use Rattle.promela_process.specs.declared.sought.Sought.TheVariants.{Exactly, Into, Anything}
+use Rattle.promela_process.specs.Numbers.{bits_of, is_signed}
+use Rattle.promela_process.specs.Expressions.{Reading, Valued, Wanted, Placed, Turned, val, value_step, want_step, target_step, turn_step}
+use Rattle.promela_process.specs.declared.place.Place.{Place}
+use Rattle.promela_process.specs.Store.{ChannelState}
+use Rattle.promela_run.specs.declared.live_channel.LiveChannel.{LiveChannel}
+use Rattle.promela_run.specs.Statements.{with_fields, values, with_message, found, stores, taken_from, asserted}
 
 abbrev message : ℤ → ℤ → List ℤ
 message x y = x ∷ y ∷ []

@@ -4,14 +4,14 @@ use Rattle.std.proofs.lemmas.List.{length-set, at_drop_more, drop_all, drop_more
 use Rattle.std.proofs.lemmas.Bool.{cases_lt}
 use Rattle.std.proofs.Math.ListN.{get_or-map}
 use Rattle.std.proofs.Math.Seq.{map-set_same}
-use Rattle.pml_store.specs.declared.place.Place.{Place}
-use Rattle.pml_store.specs.Store.{Frame, frame_at, cells_at, size_at, with_number}
+use Rattle.promela_process.specs.declared.place.Place.{Place}
+use Rattle.promela_process.specs.Store.{Frame, frame_at, cells_at, size_at, with_number}
 use Rattle.pml_store.specs.Writing.{Contents, stored}
-use Rattle.pml_eval.specs.declared.pattern.Sought.{Sought}
-use Rattle.pml_eval.specs.declared.pattern.Sought.TheVariants.{Exactly, Into, Anything}
+use Rattle.promela_process.specs.declared.sought.Sought.{Sought}
+use Rattle.promela_process.specs.declared.sought.Sought.TheVariants.{Exactly, Into, Anything}
 use Rattle.pml_eval.specs.There.{IsThere, AreThere}
-use Rattle.pml_value.specs.declared.statement.Goes.{Goes}
-use Rattle.pml_value.specs.Messages.{goes_of, stores}
+use Rattle.promela_run.specs.declared.goes.Goes.{Goes}
+use Rattle.promela_run.specs.Statements.{goes_of, stores}
 use Rattle.pml_value.specs.Storing.{stored_all, AreAsLarge, StoresSome}
 
 shape-with_number : (fs : List Frame) (p : Place) (v : ℤ) → map (map length) (with_number fs p v) ≡ map (map length) fs

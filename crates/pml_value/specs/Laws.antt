@@ -2,8 +2,8 @@
 use Rattle.std.specs.Prelude.{◌≡◌, if◌then◌else◌, nat_lt, List, [], ◌∷◌, ◌++◌, length, take, ℤ}
 use Rattle.pml_tree.specs.declared.tree.SendOrder.TheVariants.{Fifo}
 use Rattle.pml_tree.specs.declared.tree.Removal.TheVariants.{Remove}
-use Rattle.pml_channel.specs.State.{ChannelState, cut}
-use Rattle.pml_value.specs.Messages.{with_message, without}
+use Rattle.promela_process.specs.Store.{ChannelState, cut}
+use Rattle.promela_run.specs.Statements.{with_message, without}
 
 -- a message of these fields is sent with `!`, or the oldest is received
 pub data Use : Type 0 where

@@ -2,13 +2,13 @@
 use Rattle.std.specs.Prelude.{List, Result}
 use Rattle.diagnostics.specs.declared.fault.Fault.{Fault}
 use Rattle.diagnostics.specs.declared.stop.Stop.{Stop}
-use Rattle.pml_eval.specs.Value.{Reading}
+use Rattle.promela_process.specs.Expressions.{Reading}
 use Rattle.pml_store.specs.Writing.{Contents}
-use Rattle.pml_value.specs.declared.live_channel.LiveChannel.{LiveChannel}
+use Rattle.promela_run.specs.declared.live_channel.LiveChannel.{LiveChannel}
 use Rattle.pml_value.specs.declared.receive.Reception.{Reception}
 use Rattle.pml_value.specs.declared.view.Taker.{Taker}
 use Rattle.pml_value.specs.Seen.{read_by}
-use Rattle.pml_value.specs.Messages.{Received, received}
+use Rattle.promela_run.specs.Statements.{Received, received}
 use Rattle.pml_value.specs.Storing.{ReceivesMessage}
 
 abbrev pub received_by : List LiveChannel → Reading → Reception → Result Received Fault

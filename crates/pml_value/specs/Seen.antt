@@ -1,11 +1,11 @@
 -- What an expression reads, by who takes its statement.
 use Rattle.std.specs.Prelude.{List}
-use Rattle.pml_eval.specs.Value.{Reading}
-use Rattle.pml_store.specs.Store.{Frame}
+use Rattle.promela_process.specs.Expressions.{Reading}
+use Rattle.promela_process.specs.Store.{Frame}
 use Rattle.pml_value.specs.declared.view.Taker.{Taker}
 use Rattle.pml_value.specs.declared.view.View.{View}
-use Rattle.pml_value.specs.declared.live_channel.LiveChannel.{LiveChannel}
-use Rattle.pml_value.specs.Reads.{reading_of}
+use Rattle.promela_run.specs.declared.live_channel.LiveChannel.{LiveChannel}
+use Rattle.promela_run.specs.State.{reading_of}
 
 -- the same by who takes a statement
 abbrev pub read_by : List Frame → List LiveChannel → Taker → Reading

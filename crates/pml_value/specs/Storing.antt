@@ -3,11 +3,11 @@ use Rattle.std.specs.Prelude.{◌≡◌, ℕ, List, [], ◌∷◌, ◌++◌, Res
 use Rattle.diagnostics.specs.declared.fault.Fault.{Fault}
 use Rattle.diagnostics.specs.declared.stop.Stop.{Stop}
 use Rattle.diagnostics.specs.declared.stop.Stop.TheVariants as stop
-use Rattle.pml_store.specs.Store.{size_at}
+use Rattle.promela_process.specs.Store.{size_at}
 use Rattle.pml_store.specs.Writing.{Contents, stored}
-use Rattle.pml_value.specs.declared.live_channel.LiveChannel.{LiveChannel}
-use Rattle.pml_value.specs.declared.statement.Goes.{Goes}
-use Rattle.pml_value.specs.Messages.{Received}
+use Rattle.promela_run.specs.declared.live_channel.LiveChannel.{LiveChannel}
+use Rattle.promela_run.specs.declared.goes.Goes.{Goes}
+use Rattle.promela_run.specs.Statements.{Received}
 
 -- the message is put; or nothing changes, for the fault, which is answered, or for want of memory
 abbrev pub SendsMessage : Result (List LiveChannel) Fault → Result (Unit {0}) Stop → List LiveChannel → List LiveChannel → Type 0

@@ -1,9 +1,9 @@
 -- What a call that takes a statement leaves.
 use Rattle.std.specs.Prelude.{◌≡◌, ◌<◌, List, Option, Some, None, Result, Ok, Err}
 use Rattle.diagnostics.specs.declared.fault.Fault.{Fault}
-use Rattle.pml_store.specs.Store.{Frame, size_at}
+use Rattle.promela_process.specs.Store.{Frame, size_at}
 use Rattle.pml_store.specs.Writing.{Contents, stored}
-use Rattle.pml_value.specs.declared.statement.Goes.{Goes}
+use Rattle.promela_run.specs.declared.goes.Goes.{Goes}
 use Rattle.diagnostics.specs.declared.stop.Stop.{Stop}
 use Rattle.diagnostics.specs.declared.stop.Stop.TheVariants as stop
 

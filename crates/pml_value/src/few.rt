@@ -4,7 +4,7 @@
 ghost use Rattle.std.specs.Prelude.{◌≡◌, ◌<◌, ◌++◌, ◌∷◌, [], length};
 ghost use Rattle.pml_value.specs.declared.few.TheConstants.{FEW_FIELDS};
 
-use pml_eval::pattern::Sought;
+use promela_process::sought::Sought;
 use std::marker::Model;
 
 /// So many fields are few.
@@ -66,7 +66,7 @@ pub struct FewSought {
 impl Model for FewSought {
     ghost use Rattle.std.specs.Prelude.{List, ◌≤◌, take};
     ghost use Rattle.pml_value.specs.declared.few.TheConstants.{FEW_FIELDS};
-    ghost use Rattle.pml_eval.specs.declared.pattern.Sought.{Sought};
+    ghost use Rattle.promela_process.specs.declared.sought.Sought.{Sought};
 
     ghost Value = { List Sought };
 

@@ -4,7 +4,6 @@
 mod few;
 pub mod fields;
 pub mod laws;
-pub mod live_channel;
 pub mod message;
 pub mod receive;
 pub mod statement;

@@ -3,13 +3,12 @@
 ghost use Rattle.std.specs.Prelude.{◌≡◌, ◌<◌, ◌≤◌, [], Ok, Err, IfOk, IfErr, OnOk, OnErr, length};
 ghost use Rattle.profile.specs.declared.TheConstants.{MOST_FIELDS};
 ghost use Rattle.pml_value.specs.declared.few.TheConstants.{FEW_FIELDS};
-ghost use Rattle.pml_value.specs.Messages.{named, contents_at, changed, values, with_message, addressed, sent, asserted};
+ghost use Rattle.promela_run.specs.Statements.{named, contents_at, changed, values, with_message, addressed, sent, asserted};
 ghost use Rattle.pml_value.specs.Storing.{SendsMessage};
 ghost use Rattle.pml_value.specs.Seen.{read_by, seen};
 
 use crate::few::{FEW_FIELDS, FewFields};
 use crate::fields::Fields;
-use crate::live_channel::LiveChannel;
 use crate::view::{Taker, View, named as channel_at};
 use diagnostics::{Fault, Stop};
 use pml_channel::channel::Channel;
@@ -19,6 +18,7 @@ use pml_program::expr::{Expr, Target};
 use pml_store::store::Store;
 use pml_tree::tree::SendOrder;
 use profile::MOST_FIELDS;
+use promela_run::live_channel::LiveChannel;
 use std::alloc::AllocError;
 
 /// The place among the live channels of the one that a variable names, where it has so many fields.

@@ -1,28 +1,29 @@
 //! Receives that a process takes by itself (Holzmann, *The SPIN Model Checker*, chapter 3).
 
 ghost use Rattle.std.specs.Prelude.{◌≡◌, ◌<◌, ◌≤◌, [], Ok, Err, IfOk, IfErr, IfSome, OnOk, OnErr, length};
-ghost use Rattle.pml_store.specs.Store.{size_at};
+ghost use Rattle.promela_process.specs.Store.{size_at};
 ghost use Rattle.pml_store.specs.Writing.{before};
-ghost use Rattle.pml_eval.specs.Value.{asked_by};
+ghost use Rattle.promela_process.specs.Expressions.{asked_by};
 ghost use Rattle.pml_value.specs.declared.few.TheConstants.{FEW_FIELDS};
 ghost use Rattle.pml_eval.specs.There.{IsThere, AreThere};
-ghost use Rattle.pml_value.specs.Messages.{contents_at, changed, found, goes_of, stores, without, taken_at, asked_at};
+ghost use Rattle.promela_run.specs.Statements.{contents_at, changed, found, goes_of, stores, without, taken_at, asked_at};
 ghost use Rattle.pml_value.specs.Storing.{stored_all, AreAsLarge, StoresSome, AllReceived, PartReceived};
 ghost use Rattle.pml_value.specs.Reception.{Receives};
 ghost use Rattle.pml_value.specs.Seen.{seen};
 
 use crate::few::{FEW_FIELDS, FewSought};
-use crate::live_channel::LiveChannel;
 use crate::message::named;
 use crate::view::{Taker, View};
 use diagnostics::{Fault, Stop};
 use pml_channel::channel::Channel;
 use pml_eval::clip::clip;
 use pml_eval::eval::{pattern, want};
-use pml_eval::pattern::{Pattern, Sought, matches};
+use pml_eval::pattern::{Pattern, matches};
 use pml_program::expr::{Target, Want};
 use pml_store::store::Store;
 use pml_tree::tree::{Removal, Search};
+use promela_process::sought::Sought;
+use promela_run::live_channel::LiveChannel;
 use std::alloc::AllocError;
 
 /// What a receive says: the variable that names its channel, which message it looks for, whether it takes it out, and what it asks of

@@ -2,12 +2,11 @@
 
 ghost use Rattle.std.specs.Prelude.{◌≡◌, IfOk, IfSome, Ok, Some};
 ghost use Rattle.pml_store.specs.Writing.{before};
-ghost use Rattle.pml_eval.specs.Clip.{clipped};
-ghost use Rattle.pml_value.specs.Statement.{goes, goes_to, assigned, counted, outcome};
+ghost use Rattle.promela_process.specs.Numbers.{clipped};
+ghost use Rattle.promela_run.specs.Statements.{goes, goes_to, assigned, counted, outcome};
 ghost use Rattle.pml_value.specs.Takes.{IsIn, TakesStatement};
 ghost use Rattle.pml_value.specs.Seen.{read_by, seen};
 
-use crate::live_channel::LiveChannel;
 use crate::view::{Taker, View};
 use diagnostics::{Fault, Stop};
 use pml_eval::clip::clip;
@@ -16,15 +15,10 @@ use pml_eval::ground::Ground;
 use pml_program::expr::{Expr, Target};
 use pml_program::form::Form;
 use pml_program::program::Action;
-use pml_store::place::Place;
 use pml_store::store::Store;
-
-/// Where a number goes.
-#[derive(Clone, Copy, PartialEq, Eq, Debug)]
-pub struct Goes {
-    pub place: Place,
-    pub number: i32,
-}
+use promela_process::place::Place;
+use promela_run::goes::Goes;
+use promela_run::live_channel::LiveChannel;
 
 /// What a place of this type keeps of a number.
 #[inline(always)]

@@ -3,14 +3,14 @@
 ghost use Rattle.std.specs.Prelude.{◌≡◌, option_map};
 ghost use Rattle.std.specs.Option.{option_copied};
 ghost use Rattle.pml_eval.specs.Ground.{shown};
-ghost use Rattle.pml_value.specs.Reads.{frame_of, channel_at, filling};
+ghost use Rattle.promela_run.specs.State.{frame_of, channel_at, filling};
 ghost use Rattle.pml_value.specs.Seen.{read_by, seen};
 
-use crate::live_channel::LiveChannel;
 use pml_channel::channel::Channel;
 use pml_eval::ground::{Filled, Ground};
-use pml_store::place::Place;
 use pml_store::store::Store;
+use promela_process::place::Place;
+use promela_run::live_channel::LiveChannel;
 
 /// The process that takes a statement: its number, how many processes live, and `timeout`.
 #[derive(Clone, Copy, PartialEq, Eq, Debug)]

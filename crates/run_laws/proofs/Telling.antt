@@ -5,13 +5,12 @@ use Rattle.std.specs.List.{list_all}
 use Rattle.std.proofs.lemmas.Bool.{false≢true}
 use Rattle.pml_program.specs.declared.program.Program.{Program}
 use Rattle.pml_program.specs.declared.program.Proctype.{Proctype}
-use Rattle.pml_control.specs.Control.{Control}
-use Rattle.pml_flow.specs.Flow.{line_at}
-use Rattle.pml_lines.specs.Changes.{proctype_name}
-use Rattle.pml_moves.specs.State.{State, Stand}
-use Rattle.pml_moves.specs.Search.{each}
-use Rattle.pml_texts.specs.Ends.{may_end, may_end_in, is_done}
-use Rattle.pml_texts.specs.Texts.{stuck_at, stuck_by}
+use Rattle.promela_process.specs.Control.{Control}
+use Rattle.promela_process.specs.Offers.{line_at}
+use Rattle.promela_run.specs.Lines.{proctype_name}
+use Rattle.promela_run.specs.State.{State, Stand}
+use Rattle.promela_run.specs.Moves.{each}
+use Rattle.promela_run.specs.Texts.{may_end, may_end_in, is_done, stuck_at, stuck_by}
 use Rattle.pml_texts.specs.Staying.{stuck_in, stuck_place}
 use Rattle.run_laws.specs.Stuck.{told_of, told_from}
 

@@ -3,6 +3,6 @@
 pub use pml_eval::pattern::Pattern;
 pub use pml_printed::named;
 pub use pml_printed::string::printed;
-pub use pml_store::place::Place;
 pub use pml_value::view::{Taker, View};
 pub use pml_value::{Channel, Store, clip, eval, pattern, place};
+pub use promela_process::place::Place;

@@ -1,8 +1,8 @@
 -- The number at a place, where there is one.
 use Rattle.std.proofs.Common.{◌≡◌, sym, ℕ, ◌<◌, ◌≤◌, List, length, pos}
 use Rattle.std.proofs.lemmas.List.{get_or_past}
-use Rattle.pml_store.specs.declared.place.Place.{Place}
-use Rattle.pml_store.specs.Store.{Frame, cells_at, size_at, number_at}
+use Rattle.promela_process.specs.declared.place.Place.{Place}
+use Rattle.promela_process.specs.Store.{Frame, cells_at, size_at, number_at}
 use Rattle.pml_store.specs.Writing.{HasPlace}
 use Rattle.pml_store.proofs.Back as back
 

@@ -8,14 +8,12 @@ use Rattle.pml_program.specs.declared.form.Form.TheVariants as kind
 use Rattle.pml_program.specs.declared.program.Slot.{Slot}
 use Rattle.pml_program.specs.declared.program.Fields.{Fields}
 use Rattle.pml_program.specs.declared.program.Program.{Program}
-use Rattle.pml_cells.specs.Cells.{leaf}
-use Rattle.pml_store.specs.declared.place.Place.{Place}
-use Rattle.pml_store.specs.Store.{size_at}
-use Rattle.pml_lines.specs.Places.{constant, path}
-use Rattle.pml_lines.specs.Changes.{slots_of}
+use Rattle.promela_run.specs.State.{leaf, State}
+use Rattle.promela_process.specs.declared.place.Place.{Place}
+use Rattle.promela_process.specs.Store.{size_at}
+use Rattle.promela_run.specs.Lines.{constant, path, slots_of}
 use Rattle.pml_lines.specs.Changed.{process_in}
-use Rattle.pml_moves.specs.State.{State}
-use Rattle.pml_texts.specs.Texts.{proctype_of}
+use Rattle.promela_run.specs.Texts.{proctype_of}
 
 -- the globals, or the variables of a process
 abbrev pub variables_by : State → Option ℕ → List Slot

@@ -2,11 +2,11 @@
 use Rattle.std.specs.Prelude.{ℕ, List, [], Option, Some, None, slice_get}
 use Rattle.pml_program.specs.declared.program.Proctype.{Proctype}
 use Rattle.pml_program.specs.declared.program.Program.{Program}
-use Rattle.pml_control.specs.Control.{Control}
-use Rattle.pml_flow.specs.Flow.{line_at}
-use Rattle.pml_lines.specs.Changes.{proctype_name}
-use Rattle.pml_moves.specs.State.{Stand, State}
-use Rattle.pml_texts.specs.Texts.{proctype_of}
+use Rattle.promela_process.specs.Control.{Control}
+use Rattle.promela_process.specs.Offers.{line_at}
+use Rattle.promela_run.specs.Lines.{proctype_name}
+use Rattle.promela_run.specs.State.{Stand, State}
+use Rattle.promela_run.specs.Texts.{proctype_of}
 
 abbrev pub name_by : Option Proctype → List ℕ
 name_by None = []

@@ -2,8 +2,8 @@
 
 ghost use Rattle.std.specs.Prelude.{◌≡◌, length, option_map, slice_get};
 ghost use Rattle.std.specs.Option.{option_copied};
-ghost use Rattle.pml_store.specs.Store.{size_at, number_at};
-ghost use Rattle.pml_lines.specs.Places.{worth as worth_of, constant};
+ghost use Rattle.promela_process.specs.Store.{size_at, number_at};
+ghost use Rattle.promela_run.specs.Lines.{worth as worth_of, constant};
 ghost use Rattle.view_text.specs.Written.{Adds, Stays};
 ghost use Rattle.view_cells.specs.Cells.{variables, variable_of, place as at, form_of, is_chan, is_mtype, path_of, mtype_name as name_of_mtype};
 
@@ -14,10 +14,10 @@ use crate::processes::proctype_of;
 use pml_lines::place::{path, worth};
 use pml_program::form::Form;
 use pml_program::program::Slot;
-use pml_store::place::Place;
 use pml_store::store::Store;
 use pml_token::token::Token;
 use pml_tree::tree::Scalar;
+use promela_process::place::Place;
 use view_text::writer::Writer;
 
 fn slot_in<'p, 'a>(slots: &'p [Slot<'a>], variable: usize) -> Option<&'p Slot<'a>>

@@ -2,7 +2,7 @@
 
 ghost use Rattle.std.specs.Prelude.{◌≡◌, pos};
 ghost use Rattle.std.specs.Option.{option_copied};
-ghost use Rattle.pml_value.specs.Reads.{channel_at};
+ghost use Rattle.promela_run.specs.State.{channel_at};
 
 use crate::cells::{add_path, add_value};
 use crate::made::made_for;
@@ -10,7 +10,7 @@ use crate::picture::Picture;
 use crate::processes::add_name;
 use pml_channel::channel::Channel;
 use pml_program::form::Form;
-use pml_value::live_channel::LiveChannel;
+use promela_run::live_channel::LiveChannel;
 use view_text::writer::Writer;
 
 fn channel_in(channels: &[LiveChannel], number: usize) -> Option<&Channel>

@@ -24,7 +24,7 @@ impl<'w, 'p, 'a> Model for Picture<'w, 'p, 'a> {
     ghost use Rattle.pml_program.specs.contracts.expr.Expr as worth;
     ghost use Rattle.pml_program.specs.contracts.program.Seq as seq;
     ghost use Rattle.pml_program.specs.contracts.program.Basic as basic;
-    ghost use Rattle.pml_moves.specs.State.{State};
+    ghost use Rattle.promela_run.specs.State.{State};
 
     ghost Value = { State };
 

@@ -4,9 +4,9 @@ ghost use Rattle.std.specs.Prelude.{◌≡◌, ◌++◌, codes, slice_get};
 ghost use Rattle.std.specs.Option.{option_copied};
 ghost use Rattle.std.specs.Fmt.{decimal};
 ghost use Rattle.pml_flow.specs.Points.{point_at};
-ghost use Rattle.pml_flow.specs.Flow.{line_at};
+ghost use Rattle.promela_process.specs.Offers.{line_at};
 ghost use Rattle.pml_moves.specs.Scene.{IsBody, stand_of};
-ghost use Rattle.pml_texts.specs.Texts.{proctype_of as proctype_in};
+ghost use Rattle.promela_run.specs.Texts.{proctype_of as proctype_in};
 ghost use Rattle.view_text.specs.Written.{Adds};
 ghost use Rattle.view_cells.specs.Processes.{name_of, line_by, line_of};
 

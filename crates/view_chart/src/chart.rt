@@ -1,7 +1,7 @@
 //! The rows of a chart.
 
 use crate::row::Row;
-use pml_moves::moves::Move;
+use promela_run::moves::Move;
 use view_cells::channels::{add_fields, add_short_name, channel_at};
 use view_cells::picture::Picture;
 use view_cells::processes::add_name;

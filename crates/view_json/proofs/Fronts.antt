@@ -5,12 +5,11 @@ use Rattle.std.specs.List.{flat_map}
 use Rattle.json.specs.Token.{Token}
 use Rattle.json.specs.Print.{ends_value}
 use Rattle.pml_program.specs.declared.program.Program.{Program}
-use Rattle.pml_channel.specs.State.{ChannelState}
-use Rattle.pml_value.specs.Reads.{channel_at}
-use Rattle.pml_moves.specs.declared.moves.Move.{Move}
-use Rattle.pml_moves.specs.declared.moves.Move.TheVariants.{Death, Alone, Pair}
-use Rattle.pml_moves.specs.State.{State}
-use Rattle.pml_texts.specs.Texts.{move_text}
+use Rattle.promela_process.specs.Store.{ChannelState}
+use Rattle.promela_run.specs.State.{channel_at, State}
+use Rattle.promela_run.specs.declared.moves.Move.{Move}
+use Rattle.promela_run.specs.declared.moves.Move.TheVariants.{Death, Alone, Pair}
+use Rattle.promela_run.specs.Texts.{move_text}
 use Rattle.view_waits.specs.declared.effect.Effect.{Effect}
 use Rattle.view_json.specs.declared.lines.Ahead.{Ahead}
 use Rattle.view_json.specs.Objects.{count, text, member, fields}

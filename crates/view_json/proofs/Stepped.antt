@@ -7,8 +7,8 @@ use Rattle.json.specs.Print.{print, print_from, escape_byte, ends, ends_value, A
 use Rattle.json.proofs.Printed.Tokens.{tokens-print}
 use Rattle.view_json.proofs.Printable.{none_printable, one_printable, both_printable}
 use Rattle.pml_lines.specs.declared.changed.Change.{Change}
-use Rattle.pml_moves.specs.declared.moves.Move.{Move}
-use Rattle.pml_moves.specs.State.{State}
+use Rattle.promela_run.specs.declared.moves.Move.{Move}
+use Rattle.promela_run.specs.State.{State}
 use Rattle.view_text.specs.Written.{Written, Adds}
 use Rattle.view_text.proofs.Writing.{chained}
 use Rattle.view_json.specs.Printed.{Printed, Writes}

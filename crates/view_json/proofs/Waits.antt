@@ -4,7 +4,7 @@ use Rattle.std.proofs.lemmas.Bool.{true≢false}
 use Rattle.std.proofs.lemmas.List.{length-map}
 use Rattle.std.proofs.Math.Seq.{take-suc}
 use Rattle.json.specs.Token.{Token}
-use Rattle.pml_moves.specs.State.{State}
+use Rattle.promela_run.specs.State.{State}
 use Rattle.view_waits.specs.declared.waits.Wait.{Wait}
 use Rattle.view_json.specs.Printed.{Printed, Writes}
 use Rattle.view_json.specs.Objects.{wait, waits_with, AddsWaits}

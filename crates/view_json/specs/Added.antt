@@ -2,9 +2,9 @@
 use Rattle.std.specs.Prelude.{◌≡◌, ℕ, ◌+◌, Bool, true, false, ◌&&◌, not, ltb, if◌then◌else◌, List, [], ◌∷◌, length, map, Option, slice_get, codes}
 use Rattle.json.specs.Token.{Token, begin_object, begin_array, key}
 use Rattle.json.specs.Print.{print, print_from, ends_value, ArePrintable}
-use Rattle.pml_moves.specs.declared.moves.Move.{Move}
-use Rattle.pml_moves.specs.State.{State}
-use Rattle.pml_moves.specs.Search.{moves}
+use Rattle.promela_run.specs.declared.moves.Move.{Move}
+use Rattle.promela_run.specs.State.{State}
+use Rattle.promela_run.specs.Moves.{moves}
 use Rattle.view_text.specs.Written.{Written, Adds}
 use Rattle.view_waits.specs.Waits.{waits}
 use Rattle.view_json.specs.declared.changed.Behind.{Behind}

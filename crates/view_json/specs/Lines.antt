@@ -8,13 +8,12 @@ use Rattle.json.specs.Lex.{tokens}
 use Rattle.diagnostics.specs.declared.fault.Fault.{Fault}
 use Rattle.diagnostics.specs.Words.{fault_number, fault_words}
 use Rattle.pml_program.specs.declared.program.Program.{Program}
-use Rattle.pml_channel.specs.State.{ChannelState}
-use Rattle.pml_value.specs.Reads.{channel_at}
-use Rattle.pml_moves.specs.declared.moves.Pick.{Pick}
-use Rattle.pml_moves.specs.declared.moves.Move.{Move}
-use Rattle.pml_moves.specs.declared.moves.Move.TheVariants.{Death, Alone, Pair}
-use Rattle.pml_moves.specs.State.{State}
-use Rattle.pml_texts.specs.Texts.{move_text}
+use Rattle.promela_process.specs.Store.{ChannelState}
+use Rattle.promela_run.specs.State.{channel_at, State}
+use Rattle.promela_run.specs.declared.moves.Pick.{Pick}
+use Rattle.promela_run.specs.declared.moves.Move.{Move}
+use Rattle.promela_run.specs.declared.moves.Move.TheVariants.{Death, Alone, Pair}
+use Rattle.promela_run.specs.Texts.{move_text}
 use Rattle.pml_texts.specs.Staying.{stuck_of}
 use Rattle.view_cells.specs.Processes.{line_of}
 use Rattle.view_waits.specs.declared.effect.Does.{Does}

@@ -9,13 +9,11 @@ use Rattle.pml_tree.specs.declared.tree.Scalar.TheVariants as scalar
 use Rattle.pml_program.specs.declared.form.Form.{Form}
 use Rattle.pml_program.specs.declared.form.Form.TheVariants as kind
 use Rattle.pml_program.specs.declared.program.Program.{Program}
-use Rattle.pml_store.specs.declared.place.Place.{Place}
-use Rattle.pml_store.specs.Store.{number_at, size_at}
-use Rattle.pml_channel.specs.State.{ChannelState}
-use Rattle.pml_value.specs.Reads.{channel_at}
-use Rattle.pml_moves.specs.declared.moves.Pick.{Pick}
-use Rattle.pml_moves.specs.declared.moves.Move.{Move}
-use Rattle.pml_moves.specs.State.{State}
+use Rattle.promela_process.specs.declared.place.Place.{Place}
+use Rattle.promela_process.specs.Store.{number_at, size_at, ChannelState}
+use Rattle.promela_run.specs.State.{channel_at, State}
+use Rattle.promela_run.specs.declared.moves.Pick.{Pick}
+use Rattle.promela_run.specs.declared.moves.Move.{Move}
 use Rattle.view_cells.specs.Cells.{is_chan, mtype_name, form_of, path_of, place, variables}
 use Rattle.view_cells.specs.Processes.{name_of, line_of}
 use Rattle.view_waits.specs.declared.waits.Wait.{Wait}

@@ -5,8 +5,8 @@ use Rattle.std.specs.Str.{bytes_eq}
 use Rattle.json.specs.Token.{Token, end_object}
 use Rattle.json.specs.Print.{print, ends_value, ArePrintable}
 use Rattle.pml_lines.specs.declared.changed.Change.{Change}
-use Rattle.pml_moves.specs.declared.moves.Move.{Move}
-use Rattle.pml_moves.specs.State.{State}
+use Rattle.promela_run.specs.declared.moves.Move.{Move}
+use Rattle.promela_run.specs.State.{State}
 use Rattle.view_waits.specs.Waits.{waits}
 use Rattle.view_json.specs.declared.list.Listing.{Listing}
 use Rattle.view_json.specs.Objects.{member, object, array, cell, cells, channel, standing}

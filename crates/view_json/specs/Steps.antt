@@ -5,10 +5,10 @@ use Rattle.json.specs.Token.{Token, end_object, string, boolean}
 use Rattle.json.specs.Print.{print}
 use Rattle.pml_program.specs.declared.program.Proctype.{Proctype}
 use Rattle.pml_program.specs.declared.program.Program.{Program}
-use Rattle.pml_lines.specs.Changes.{proctype_name}
+use Rattle.promela_run.specs.Lines.{proctype_name}
 use Rattle.pml_lines.specs.declared.changed.Change.{Change}
-use Rattle.pml_moves.specs.declared.moves.Move.{Move}
-use Rattle.pml_moves.specs.State.{State}
+use Rattle.promela_run.specs.declared.moves.Move.{Move}
+use Rattle.promela_run.specs.State.{State}
 use Rattle.view_text.specs.Written.{Written, Adds}
 use Rattle.view_json.specs.Objects.{count, text, member, object, array, cells}
 use Rattle.view_json.specs.Lines.{begun, line, ReadsBack}

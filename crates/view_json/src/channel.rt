@@ -4,7 +4,7 @@ ghost use Rattle.std.specs.Prelude.{◌≡◌, ◌<◌, ◌++◌, ℕ, List, Opt
 ghost use Rattle.std.specs.List.{flat_map};
 ghost use Rattle.std.specs.Fmt.{decimal};
 ghost use Rattle.pml_program.specs.declared.form.Form.TheVariants as kind;
-ghost use Rattle.pml_value.specs.Reads.{channel_at};
+ghost use Rattle.promela_run.specs.State.{channel_at};
 ghost use Rattle.view_json.specs.Printed.{Writes};
 ghost use Rattle.view_json.specs.Objects.{types_of, text, member, array, scalar_name, form_token, field, fields, message, messages, or_null, contents, channel_heading, AddsChannel};
 

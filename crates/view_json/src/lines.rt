@@ -2,9 +2,9 @@
 
 ghost use Rattle.std.specs.Prelude.{◌≡◌, ◌++◌, true, false, Some, length, pos, codes};
 ghost use Rattle.std.specs.List.{flat_map, range_with_len};
-ghost use Rattle.pml_moves.specs.declared.moves.Move.TheVariants.{Death};
-ghost use Rattle.pml_value.specs.Reads.{channel_at};
-ghost use Rattle.pml_texts.specs.Texts.{move_text};
+ghost use Rattle.promela_run.specs.declared.moves.Move.TheVariants.{Death};
+ghost use Rattle.promela_run.specs.State.{channel_at};
+ghost use Rattle.promela_run.specs.Texts.{move_text};
 ghost use Rattle.view_text.specs.Written.{Adds};
 ghost use Rattle.view_json.specs.Printed.{Writes};
 ghost use Rattle.view_json.specs.Objects.{text};
@@ -18,9 +18,9 @@ pub use crate::start::add_start;
 pub use crate::steps::{Done, add_step};
 use crate::tokens::Json;
 use diagnostics::Fault;
-use pml_moves::moves::{Move, Pick};
 use pml_texts::ends::stuck as pml_stuck;
 use pml_texts::texts::add_move;
+use promela_run::moves::{Move, Pick};
 use std::alloc::Global;
 use view_cells::channels::channel_at;
 use view_cells::picture::Picture;

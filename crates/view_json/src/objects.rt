@@ -8,7 +8,7 @@ ghost use Rattle.view_json.specs.Objects.{count, text, member, object, value, he
 
 use crate::tokens::Json;
 use pml_program::form::Form;
-use pml_store::place::Place;
+use promela_process::place::Place;
 use view_cells::cells::{
     add_path, cell_count, form_at, is_chan, mtype_name, number_at, variable_count,
 };

@@ -1,7 +1,7 @@
 //! Processes, their offers, and what they wait for.
 
 ghost use Rattle.std.specs.Prelude.{◌≡◌, ◌++◌, ℕ, List, codes};
-ghost use Rattle.pml_moves.specs.Search.{moves as all_moves};
+ghost use Rattle.promela_run.specs.Moves.{moves as all_moves};
 ghost use Rattle.view_cells.specs.Processes.{name_of};
 ghost use Rattle.view_waits.specs.Offers.{offered_text};
 ghost use Rattle.view_waits.specs.Waits.{waits as all_waits};
@@ -10,7 +10,7 @@ ghost use Rattle.view_json.specs.Objects.{text, member, named, offer, waits_at, 
 
 use crate::objects::{number, written};
 use crate::tokens::Json;
-use pml_moves::moves::{Move, Pick};
+use promela_run::moves::{Move, Pick};
 use view_cells::picture::Picture;
 use view_cells::processes::{add_name, line_of};
 use view_text::writer::Writer;

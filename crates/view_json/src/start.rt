@@ -2,8 +2,8 @@
 
 ghost use Rattle.std.specs.Prelude.{◌≡◌, ◌++◌, false, OnOk, codes};
 ghost use Rattle.std.specs.List.{flat_map};
-ghost use Rattle.pml_lines.specs.Changes.{proctype_name};
-ghost use Rattle.pml_moves.specs.Search.{moves as all_moves};
+ghost use Rattle.promela_run.specs.Lines.{proctype_name};
+ghost use Rattle.promela_run.specs.Moves.{moves as all_moves};
 ghost use Rattle.view_json.specs.Printed.{Writes};
 ghost use Rattle.view_json.specs.Objects.{text, member, cells};
 ghost use Rattle.view_json.specs.Shown.{Told};
@@ -15,8 +15,8 @@ use crate::lines::begin;
 use crate::objects::{all_cells, number, written};
 use crate::steps::add_objects;
 use crate::tokens::Json;
-use pml_moves::moves::Move;
 use pml_program::program::Proctype;
+use promela_run::moves::Move;
 use std::alloc::{AllocError, Global};
 use view_cells::picture::Picture;
 use view_text::writer::Writer;

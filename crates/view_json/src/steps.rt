@@ -2,7 +2,7 @@
 
 ghost use Rattle.std.specs.Prelude.{◌≡◌, ◌++◌, true, false, OnOk, codes};
 ghost use Rattle.json.specs.Print.{print_from, ends_value, ArePrintable};
-ghost use Rattle.pml_moves.specs.Search.{moves as all_moves};
+ghost use Rattle.promela_run.specs.Moves.{moves as all_moves};
 ghost use Rattle.view_text.specs.Written.{Adds};
 ghost use Rattle.view_json.specs.Printed.{Writes};
 ghost use Rattle.view_json.specs.Shown.{Told};
@@ -13,7 +13,7 @@ use crate::changed::{Behind, Shown, changed_cells, has_changes};
 use crate::objects::{number, text};
 use crate::tokens::Json;
 use pml_lines::changed::Change;
-use pml_moves::moves::Move;
+use promela_run::moves::Move;
 use std::alloc::AllocError;
 use view_cells::picture::Picture;
 use view_text::writer::Writer;

@@ -17,7 +17,7 @@ use Rattle.pml_program.specs.declared.program.Basic.{Basic, If, If', Do, Do', Ro
 use Rattle.pml_program.specs.declared.program.Basic.TheBlock.{shape-the_row-Stmt-1}
 use Rattle.pml_program.specs.declared.program.Stmt.{Stmt}
 use Rattle.pml_program.specs.declared.program.Seq.{Seq, Seq', Row_of-Stmt, end_of-Stmt, more_of-Stmt, items-the_row-Stmt, roll-Seq, items_hidden-the_row-Stmt-1}
-use Rattle.pml_control.specs.Control.{steps}
+use Rattle.promela_process.specs.Control.{steps}
 use Rattle.promela_model.specs.Known.{Globals}
 use Rattle.promela_model.specs.StandsModel as stands
 use Rattle.promela_model.specs.StandsModel.{item_of, items_of, StandsBasic, StandsItems, StandsSeq, StandsOptions}

@@ -6,10 +6,9 @@ use Rattle.diagnostics.specs.declared.fault.Fault.{Fault}
 use Rattle.promela_session.specs.Events.{Part}
 use Rattle.promela_session.specs.declared.ends.End.{End}
 use Rattle.promela_session.specs.declared.ends.Options.{Options}
-use Rattle.pml_start.specs.Begin.{Begun}
-use Rattle.pml_start.specs.Start.{first_state}
-use Rattle.pml_moves.specs.declared.moves.Move.{Move}
-use Rattle.pml_sim.specs.World.{Running, first, rules}
+use Rattle.promela_run.specs.State.{Begun, first_state}
+use Rattle.promela_run.specs.declared.moves.Move.{Move}
+use Rattle.promela_run.specs.World.{Running, first, rules}
 use Rattle.pml_sim.specs.Lent.{IsFirst}
 use Rattle.pml_play.specs.Run.{Turn, IsRun, PlaysEachPath, last_state}
 use Rattle.pml_play.specs.Transcript.{IsModel}

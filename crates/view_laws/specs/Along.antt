@@ -1,8 +1,8 @@
 -- The path of a walk.
 use Rattle.std.specs.Prelude.{◌≡◌, ℕ, false, List, length, take, Some}
 use Rattle.promela_session.specs.Session.{Rules}
-use Rattle.pml_moves.specs.declared.moves.Move.{Move}
-use Rattle.pml_sim.specs.World.{Running, rules as rules_of_models}
+use Rattle.promela_run.specs.declared.moves.Move.{Move}
+use Rattle.promela_run.specs.World.{Running, rules as rules_of_models}
 use Rattle.pml_sim.specs.Lent.{IsFirst}
 use Rattle.pml_play.specs.Run.{Turn, IsPath, last_state}
 use Rattle.view_walk.specs.declared.turn.Turn as choice

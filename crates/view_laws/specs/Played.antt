@@ -3,8 +3,8 @@ use Rattle.std.specs.Prelude.{◌≡◌, ◌≤◌, ℕ, false, List, ◌++◌, 
 use Rattle.promela_session.specs.Events.{Part}
 use Rattle.promela_session.specs.declared.ends.End.{End}
 use Rattle.promela_session.specs.declared.ends.Options.{Options}
-use Rattle.pml_moves.specs.declared.moves.Move.{Move}
-use Rattle.pml_sim.specs.World.{Running, rules}
+use Rattle.promela_run.specs.declared.moves.Move.{Move}
+use Rattle.promela_run.specs.World.{Running, rules}
 use Rattle.pml_play.specs.Parts.{IsReady}
 use Rattle.pml_play.specs.Run.{Turn, IsRun, last_state}
 use Rattle.pml_play.specs.Transcript.{IsModel, IsTranscript}

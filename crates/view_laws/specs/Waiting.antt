@@ -1,8 +1,8 @@
 -- What processes of a text's model wait for.
 use Rattle.std.specs.Prelude.{◌≡◌, ◌<◌, ℕ, true, List, [], length}
 use Rattle.pml_program.specs.declared.program.Program.{Program}
-use Rattle.pml_moves.specs.Search.{moves}
-use Rattle.pml_moves.specs.State.{State}
+use Rattle.promela_run.specs.Moves.{moves}
+use Rattle.promela_run.specs.State.{State}
 use Rattle.pml_play.specs.Parts.{IsReady}
 use Rattle.view_waits.specs.Filled.{HasFilledBodies, StandAtNodes}
 use Rattle.view_waits.specs.Waits.{is_in, waits}

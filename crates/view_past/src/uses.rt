@@ -1,6 +1,6 @@
 //! Who sent to a channel, and who took from it, last.
 
-use pml_moves::moves::Move;
+use promela_run::moves::Move;
 use std::alloc::{AllocError, Global};
 use view_cells::picture::Picture;
 use view_waits::effect::{Does, effect_of};

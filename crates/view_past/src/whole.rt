@@ -1,7 +1,7 @@
 //! A whole state as a text: two states of one model are the same where their texts are.
 
 use pml_moves::scene::Scene;
-use pml_value::live_channel::LiveChannel;
+use promela_run::live_channel::LiveChannel;
 use view_cells::picture::Picture;
 use view_text::writer::Writer;
 

@@ -2,7 +2,7 @@
 
 use crate::next::{Next, follow, move_at};
 use diagnostics::Fault;
-use pml_moves::moves::Move;
+use promela_run::moves::Move;
 use std::alloc::AllocError;
 use view_json::lines::{Ahead, Done, Shown, add_end, add_fault, add_step, front};
 use view_json::tokens::Json;

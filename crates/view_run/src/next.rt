@@ -1,6 +1,6 @@
 //! What follows in a run.
 
-use pml_moves::moves::Move;
+use promela_run::moves::Move;
 use view_session::replay::{Replay, Said};
 use view_session::seen::picture_of;
 use view_state::choices::ending_of;

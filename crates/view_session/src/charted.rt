@@ -2,7 +2,7 @@
 
 use crate::seen::picture_of;
 use crate::steps::move_at;
-use pml_moves::moves::Move;
+use promela_run::moves::Move;
 use std::alloc::AllocError;
 use view_chart::chart::{add_birth, add_row, width_of};
 use view_text::writer::Writer;

@@ -2,7 +2,7 @@
 
 use crate::past::add_past;
 use crate::seen::picture_of;
-use pml_moves::moves::Move;
+use promela_run::moves::Move;
 use std::alloc::AllocError;
 use view_cells::picture::Picture;
 use view_state::choices::{add_choices, add_ending, ending_of};

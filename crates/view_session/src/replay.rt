@@ -2,8 +2,8 @@
 
 ghost use Rattle.std.specs.Prelude.{◌<◌, ◌≤◌, IfSome, length};
 
-use pml_moves::moves::Move;
 use profile::{BAD_LINES, LINE_BYTES};
+use promela_run::moves::Move;
 use rand_core::utils::NextWord;
 use rand_pcg::Pcg32;
 use view_cells::picture::Picture;

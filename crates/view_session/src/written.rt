@@ -3,7 +3,7 @@
 use crate::seen::picture_of;
 use crate::until::{path_within, whole};
 use pml_sim::world::World;
-use pml_store::place::Place;
+use promela_process::place::Place;
 use std::alloc::AllocError;
 use view_cells::cells::place_of;
 use view_cells::picture::Picture;

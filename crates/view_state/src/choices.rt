@@ -1,8 +1,8 @@
 //! The list of what can be done.
 
-use pml_moves::moves::Move;
 use pml_texts::ends::{is_valid, stuck};
 use pml_texts::texts::add_move as move_text;
+use promela_run::moves::Move;
 use std::alloc::AllocError;
 use view_cells::channels::{add_channel_word, add_message, channel_at};
 use view_cells::picture::Picture;

@@ -1,7 +1,7 @@
 //! Globals, channels, and processes with their variables.
 
 use pml_channel::channel::Channel;
-use pml_store::place::Place;
+use promela_process::place::Place;
 use view_cells::cells::{add_cell, cell_count, variable_count};
 use view_cells::channels::{add_channel, add_message, channel_at};
 use view_cells::picture::Picture;

@@ -1,7 +1,7 @@
 //! What each process waits for.
 
 use crate::state::{add_heading, add_line};
-use pml_moves::moves::Move;
+use promela_run::moves::Move;
 use std::alloc::AllocError;
 use view_cells::picture::Picture;
 use view_cells::processes::is_at_brace;

@@ -5,7 +5,7 @@ use crate::quiet::{is_of_machine, is_of_spin};
 use crate::select::{Stride, counts_to, stride_of};
 use crate::spelled::add_spelled;
 use crate::trail::Trail;
-use pml_moves::moves::{Move, Pick};
+use promela_run::moves::{Move, Pick};
 use view_cells::picture::Picture;
 use view_text::writer::Writer;
 use view_waits::offers::{add_offer, offer_line};

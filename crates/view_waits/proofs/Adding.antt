@@ -3,18 +3,18 @@ use Rattle.std.proofs.Common.{◌≡◌, ◌∙◌, ap, sym, refl, ℕ, ◌+◌,
 use Rattle.std.specs.Prelude.{slice_get, slice_index_or}
 use Rattle.std.proofs.lemmas.List.{length-map}
 use Rattle.pml_program.specs.declared.program.Seq.{Seq}
-use Rattle.pml_control.specs.Control.{Control}
+use Rattle.promela_process.specs.Control.{Control}
 use Rattle.pml_flow.specs.declared.edge.Edge.{Edge}
-use Rattle.pml_flow.specs.Flow.{Offer}
+use Rattle.promela_process.specs.Offers.{Offer}
 use Rattle.pml_flow.specs.Points.{point_at}
-use Rattle.pml_eval.specs.Value.{Reading}
-use Rattle.pml_value.specs.declared.live_channel.LiveChannel.{LiveChannel}
-use Rattle.pml_moves.specs.declared.moves.Move.{Move}
+use Rattle.promela_process.specs.Expressions.{Reading}
+use Rattle.promela_run.specs.declared.live_channel.LiveChannel.{LiveChannel}
+use Rattle.promela_run.specs.declared.moves.Move.{Move}
 use Rattle.pml_moves.specs.declared.scene.Seat.{Seat}
 use Rattle.pml_moves.specs.declared.scene.Body.{Body}
 use Rattle.pml_moves.specs.Scene.{stand_of, control_at, shows, edges_at, offers_at, StandsIn}
-use Rattle.pml_moves.specs.Search.{each, moves}
-use Rattle.pml_moves.specs.State.{Stand, State, reads, body_of, levels}
+use Rattle.promela_run.specs.Moves.{each, moves}
+use Rattle.promela_run.specs.State.{Stand, State, reads, body_of, levels}
 use Rattle.pml_moves.proofs.Placing.{at_node, level_is}
 use Rattle.pml_moves.proofs.Searching.{opens, past}
 use Rattle.view_waits.specs.declared.waits.Wait.{Wait}

@@ -5,12 +5,12 @@ use Rattle.std.specs.List.{list_any, AllByRecursion}
 use Rattle.std.proofs.lemmas.Bool.{true≢false}
 use Rattle.std.proofs.lemmas.Option.{none-some}
 use Rattle.pml_program.specs.declared.program.Seq.{Seq}
-use Rattle.pml_control.specs.Control.{Control, Pending}
-use Rattle.pml_flow.specs.Flow.{Offer}
-use Rattle.pml_moves.specs.declared.moves.Move.{Move}
-use Rattle.pml_moves.specs.declared.moves.Move.TheVariants.{Alone}
-use Rattle.pml_moves.specs.State.{Stand, State, body_of, levels}
-use Rattle.pml_moves.specs.Search.{or_else, is_some, is_else, only_if, pick, moves_by, plain_moves, else_moves, moves_on, moves_of, moves_at, moves_under, moves_if, moves_held, moves}
+use Rattle.promela_process.specs.Control.{Control, Pending}
+use Rattle.promela_process.specs.Offers.{Offer}
+use Rattle.promela_run.specs.declared.moves.Move.{Move}
+use Rattle.promela_run.specs.declared.moves.Move.TheVariants.{Alone}
+use Rattle.promela_run.specs.State.{Stand, State, body_of, levels}
+use Rattle.promela_run.specs.Moves.{or_else, is_some, is_else, only_if, pick, moves_by, plain_moves, else_moves, moves_on, moves_of, moves_at, moves_under, moves_if, moves_held, moves}
 use Rattle.view_waits.specs.Waits.{takes_part, is_in, in_control, last_timeout}
 use Rattle.view_waits.proofs.Searched.{process_all}
 use Rattle.view_waits.proofs.Nothing.{each_none, last_none, or_else_none, or_else_first, only_if_none, some_none, either_none, any_none}

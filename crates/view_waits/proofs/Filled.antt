@@ -6,14 +6,13 @@ use Rattle.std.proofs.lemmas.Bool.{true≢false}
 use Rattle.std.proofs.lemmas.Option.{none-some, same_Some}
 use Rattle.pml_program.specs.declared.program.Seq.{Seq, Seq', Row_of-Stmt, end_of-Stmt, more_of-Stmt, items-the_row-Stmt}
 use Rattle.pml_program.specs.declared.program.Basic.{Basic, Plain, Goto, Break, If', Do', Block, Atomic, DStep, Unless, Row_of-Seq, end_of-Seq, more_of-Seq}
-use Rattle.pml_control.specs.Control.{Turn, Place, Control, Todo, Back, Under, InAtomic, InDStep, turn, todos, settle, in_d_step}
-use Rattle.pml_control.specs.Offers.{Edge, Levels, one, join, begins, begins_seq, begins_row, begins_any, escapes, offers}
-use Rattle.pml_flow.specs.Flow.{Offer, offer_of}
+use Rattle.promela_process.specs.Control.{Turn, Place, Control, Todo, Back, Under, InAtomic, InDStep, turn, todos, settle, in_d_step}
+use Rattle.promela_process.specs.Offers.{Edge, Levels, one, join, begins, begins_seq, begins_row, begins_any, escapes, offers, Offer, offer_of}
 use Rattle.pml_flow.specs.Points.{points_in, points_part, points_row, points_options, point_at}
-use Rattle.pml_moves.specs.State.{picked, offer_at, offer_on, Stand, State, body_of, levels, levels_in}
+use Rattle.promela_run.specs.State.{picked, offer_at, offer_on, Stand, State, body_of, levels, levels_in}
 use Rattle.pml_moves.specs.declared.scene.Seat.{Seat}
 use Rattle.pml_moves.specs.Scene.{control_at, stand_of}
-use Rattle.pml_moves.specs.Search.{pick, moves}
+use Rattle.promela_run.specs.Moves.{pick, moves}
 use Rattle.view_waits.specs.Filled.{KeptStatesStandAtNodes, IsFilled, HasSteps, SomeSteps, EachStep, HasOptions, EachOption, IsFilledBody, HasFilledBodies, StandAtNodes}
 use Rattle.view_waits.specs.Laws.{IsOfferedNothing}
 use Rattle.view_waits.specs.Waits.{is_in, in_control, last_timeout, waits_behind, waits_left, waits_at, waits}

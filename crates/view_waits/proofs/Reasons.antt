@@ -17,17 +17,16 @@ use Rattle.pml_program.specs.declared.program.Action.{Action}
 use Rattle.pml_program.specs.declared.program.Action.TheVariants as a
 use Rattle.pml_program.specs.declared.program.Seq.{Seq}
 use Rattle.pml_program.specs.declared.program.Basic.{Basic, Plain, Goto, Break, If', Do', Block, Atomic, DStep, Unless}
-use Rattle.pml_flow.specs.Flow.{Offer}
-use Rattle.pml_eval.specs.declared.pattern.Sought.{Sought}
-use Rattle.pml_eval.specs.Operators.{is_zero}
-use Rattle.pml_eval.specs.Value.{◌>>=◌, val, asked_by, is_match}
-use Rattle.pml_channel.specs.State.{cut}
-use Rattle.pml_moves.specs.declared.moves.Pick.{Pick}
-use Rattle.pml_moves.specs.declared.moves.Move.{Move}
-use Rattle.pml_moves.specs.declared.moves.Move.TheVariants.{Alone, Pair}
-use Rattle.pml_moves.specs.State.{Stand, State, reads, body_of, levels_in, levels_from, picked, offer_at, offer_on}
-use Rattle.pml_moves.specs.Executable.{Named, named, values, is_rendezvous, nonzero, or_fault, can_send, can_receive}
-use Rattle.pml_moves.specs.Search.{Message, message, message_on, accepts, choices, is_else, can_alone, last, only_if, pick, pairs, pairs_on, pairs_with, moves_by}
+use Rattle.promela_process.specs.Offers.{Offer}
+use Rattle.promela_process.specs.declared.sought.Sought.{Sought}
+use Rattle.promela_process.specs.Numbers.{is_zero}
+use Rattle.promela_process.specs.Expressions.{◌>>=◌, val, asked_by, is_match}
+use Rattle.promela_process.specs.Store.{cut}
+use Rattle.promela_run.specs.declared.moves.Pick.{Pick}
+use Rattle.promela_run.specs.declared.moves.Move.{Move}
+use Rattle.promela_run.specs.declared.moves.Move.TheVariants.{Alone, Pair}
+use Rattle.promela_run.specs.State.{Stand, State, reads, body_of, levels_in, levels_from, picked, offer_at, offer_on}
+use Rattle.promela_run.specs.Moves.{Named, named, values, is_rendezvous, nonzero, or_fault, can_send, can_receive, Message, message, message_on, accepts, choices, is_else, can_alone, last, only_if, pick, pairs, pairs_on, pairs_with, moves_by}
 use Rattle.view_waits.specs.declared.because.Because.TheVariants as why
 use Rattle.view_waits.specs.Because.{because, of_send, of_receive}
 use Rattle.view_waits.specs.Why.{NobodyReceives, NobodySends, IsWhy, is_false, is_full, is_empty, no_match, no_receiver, no_sender, too_many, no_first}

@@ -8,18 +8,17 @@ use Rattle.diagnostics.specs.declared.fault.Fault.{Fault}
 use Rattle.pml_program.specs.declared.program.Action.TheVariants as a
 use Rattle.pml_program.specs.declared.program.Seq.{Seq}
 use Rattle.pml_program.specs.declared.program.Basic.{Basic, Plain, Goto, Break, If', Do', Block, Atomic, DStep, Unless}
-use Rattle.pml_control.specs.Control.{Control, Pending}
-use Rattle.pml_flow.specs.Flow.{Offer}
-use Rattle.pml_eval.specs.Value.{◌>>=◌, Reading}
-use Rattle.pml_channel.specs.State.{cut}
-use Rattle.pml_value.specs.declared.live_channel.LiveChannel.{LiveChannel}
-use Rattle.pml_moves.specs.declared.moves.Pick.{Pick}
-use Rattle.pml_moves.specs.declared.moves.Move.{Move}
-use Rattle.pml_moves.specs.declared.moves.Move.TheVariants.{Alone, Pair}
-use Rattle.pml_moves.specs.Executable.{Named, named, values, is_rendezvous, or_fault, can_send}
+use Rattle.promela_process.specs.Control.{Control, Pending}
+use Rattle.promela_process.specs.Offers.{Offer}
+use Rattle.promela_process.specs.Expressions.{◌>>=◌, Reading}
+use Rattle.promela_process.specs.Store.{cut}
+use Rattle.promela_run.specs.declared.live_channel.LiveChannel.{LiveChannel}
+use Rattle.promela_run.specs.declared.moves.Pick.{Pick}
+use Rattle.promela_run.specs.declared.moves.Move.{Move}
+use Rattle.promela_run.specs.declared.moves.Move.TheVariants.{Alone, Pair}
+use Rattle.promela_run.specs.Moves.{Named, named, values, is_rendezvous, or_fault, can_send, last, only_if, is_else, can_alone, Message, message, message_on, accepts, pick, pairs_on, pairs_with, pairs, moves_by, plain_moves, else_moves, moves_on, moves_of, moves_at, moves}
 use Rattle.pml_moves.specs.Laws.{taker}
-use Rattle.pml_moves.specs.State.{picked, Stand, State, reads, body_of, levels, levels_in}
-use Rattle.pml_moves.specs.Search.{last, only_if, is_else, can_alone, Message, message, message_on, accepts, pick, pairs_on, pairs_with, pairs, moves_by, plain_moves, else_moves, moves_on, moves_of, moves_at, moves}
+use Rattle.promela_run.specs.State.{picked, Stand, State, reads, body_of, levels, levels_in}
 use Rattle.view_waits.specs.Waits.{takes_part, is_in, in_control, last_timeout}
 use Rattle.view_waits.specs.Why.{level_of, EscapesFrom, NobodySends}
 use Rattle.view_waits.proofs.Blocked.{none_at, none_held, searched}

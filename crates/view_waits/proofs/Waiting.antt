@@ -5,12 +5,12 @@ use Rattle.std.specs.List.{AllByRecursion, Contains}
 use Rattle.std.proofs.lemmas.Bool.{eqb-false}
 use Rattle.std.proofs.lemmas.Option.{none-some, same_Some, slice_get_within}
 use Rattle.pml_program.specs.declared.program.Seq.{Seq}
-use Rattle.pml_control.specs.Control.{Control, Pending}
-use Rattle.pml_flow.specs.Flow.{Offer}
-use Rattle.pml_moves.specs.declared.moves.Pick.{Pick}
-use Rattle.pml_moves.specs.declared.moves.Move.TheVariants.{Death}
-use Rattle.pml_moves.specs.State.{picked, offer_at, offer_on, Stand, State, reads, body_of, levels, levels_in}
-use Rattle.pml_moves.specs.Search.{pick, moves, moves_of}
+use Rattle.promela_process.specs.Control.{Control, Pending}
+use Rattle.promela_process.specs.Offers.{Offer}
+use Rattle.promela_run.specs.declared.moves.Pick.{Pick}
+use Rattle.promela_run.specs.declared.moves.Move.TheVariants.{Death}
+use Rattle.promela_run.specs.State.{picked, offer_at, offer_on, Stand, State, reads, body_of, levels, levels_in}
+use Rattle.promela_run.specs.Moves.{pick, moves, moves_of}
 use Rattle.view_waits.specs.declared.because.Because.TheVariants as why
 use Rattle.view_waits.specs.declared.waits.Wait.{Wait}
 use Rattle.view_waits.specs.Laws.{ReasonsAreTrue, IsOfferedNothing, MovesWithoutWaiting, WaitsWithoutMoves, WaitsForEachOffer}

@@ -4,10 +4,10 @@ use Rattle.diagnostics.specs.declared.fault.Fault.{Fault}
 use Rattle.pml_program.specs.declared.program.Action.{Action}
 use Rattle.pml_program.specs.declared.program.Action.TheVariants as a
 use Rattle.pml_program.specs.declared.program.Basic.{Basic, Plain, Goto, Break, If', Do', Block, Atomic, DStep, Unless}
-use Rattle.pml_eval.specs.Value.{Reading}
-use Rattle.pml_channel.specs.State.{ChannelState}
-use Rattle.pml_value.specs.declared.live_channel.LiveChannel.{LiveChannel}
-use Rattle.pml_moves.specs.Executable.{Named, named, is_rendezvous}
+use Rattle.promela_process.specs.Expressions.{Reading}
+use Rattle.promela_process.specs.Store.{ChannelState}
+use Rattle.promela_run.specs.declared.live_channel.LiveChannel.{LiveChannel}
+use Rattle.promela_run.specs.Moves.{Named, named, is_rendezvous}
 use Rattle.view_waits.specs.declared.because.Because.{Because}
 use Rattle.view_waits.specs.declared.because.Because.TheVariants as why
 

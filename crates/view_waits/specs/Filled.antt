@@ -5,8 +5,8 @@ use Rattle.pml_program.specs.declared.program.Basic.{Basic, Plain, Goto, Break, 
 use Rattle.pml_program.specs.declared.program.Program.{Program}
 use Rattle.pml_moves.specs.declared.state.State.{State as Kept}
 use Rattle.pml_moves.specs.Scene.{control_at, state_of}
-use Rattle.pml_moves.specs.Search.{moves}
-use Rattle.pml_moves.specs.State.{Stand, State, body_of}
+use Rattle.promela_run.specs.Moves.{moves}
+use Rattle.promela_run.specs.State.{Stand, State, body_of}
 use Rattle.view_waits.specs.Waits.{is_in, waits}
 
 -- Each `if` and `do` in a statement has an option, and each sequence in it a statement.

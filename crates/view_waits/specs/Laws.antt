@@ -1,10 +1,10 @@
 -- What is said of what processes wait for.
 use Rattle.std.specs.Prelude.{◌≡◌, ◌<◌, ◌⊎◌, ℕ, true, false, length, [], None, Some}
 use Rattle.std.specs.List.{AllByRecursion, Contains}
-use Rattle.pml_flow.specs.Flow.{Offer}
-use Rattle.pml_moves.specs.declared.moves.Pick.{Pick}
-use Rattle.pml_moves.specs.State.{picked, State, reads}
-use Rattle.pml_moves.specs.Search.{moves}
+use Rattle.promela_process.specs.Offers.{Offer}
+use Rattle.promela_run.specs.declared.moves.Pick.{Pick}
+use Rattle.promela_run.specs.State.{picked, State, reads}
+use Rattle.promela_run.specs.Moves.{moves}
 use Rattle.view_waits.specs.Waits.{is_in, in_control, last_timeout, wait_of, waits}
 use Rattle.view_waits.specs.Why.{IsTrueOf}
 

@@ -1,9 +1,9 @@
 -- The line and the text of an offer.
 use Rattle.std.specs.Prelude.{ℕ, ◌-◌, if◌then◌else◌, nat_eq, List, [], ◌∷◌, length, take, Option, Some, None}
-use Rattle.pml_flow.specs.Flow.{Offer}
-use Rattle.pml_moves.specs.declared.moves.Pick.{Pick}
-use Rattle.pml_moves.specs.State.{picked, State}
-use Rattle.pml_texts.specs.Texts.{line_in}
+use Rattle.promela_process.specs.Offers.{Offer}
+use Rattle.promela_run.specs.declared.moves.Pick.{Pick}
+use Rattle.promela_run.specs.State.{picked, State}
+use Rattle.promela_run.specs.Texts.{line_in}
 
 -- what stands behind the first `[`
 abbrev pub behind : List ℕ → List ℕ

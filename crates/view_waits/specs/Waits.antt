@@ -2,15 +2,15 @@
 use Rattle.std.specs.Prelude.{ℕ, ◌-◌, Bool, false, not, ◌||◌, if◌then◌else◌, nat_eq, length, List, [], ◌∷◌, Option, Some, None, slice_get}
 use Rattle.std.specs.List.{list_any}
 use Rattle.pml_program.specs.declared.program.Seq.{Seq}
-use Rattle.pml_control.specs.Control.{Control}
-use Rattle.pml_flow.specs.Flow.{Offer}
-use Rattle.pml_eval.specs.Value.{Reading}
-use Rattle.pml_value.specs.declared.live_channel.LiveChannel.{LiveChannel}
-use Rattle.pml_moves.specs.declared.moves.Pick.{Pick}
-use Rattle.pml_moves.specs.declared.moves.Move.{Move}
-use Rattle.pml_moves.specs.declared.moves.Move.TheVariants.{Death, Alone, Pair}
-use Rattle.pml_moves.specs.State.{Stand, State, reads, body_of, levels_in}
-use Rattle.pml_moves.specs.Search.{or_else, each, is_some, pick, moves_held, moves_under, moves}
+use Rattle.promela_process.specs.Control.{Control}
+use Rattle.promela_process.specs.Offers.{Offer}
+use Rattle.promela_process.specs.Expressions.{Reading}
+use Rattle.promela_run.specs.declared.live_channel.LiveChannel.{LiveChannel}
+use Rattle.promela_run.specs.declared.moves.Pick.{Pick}
+use Rattle.promela_run.specs.declared.moves.Move.{Move}
+use Rattle.promela_run.specs.declared.moves.Move.TheVariants.{Death, Alone, Pair}
+use Rattle.promela_run.specs.State.{Stand, State, reads, body_of, levels_in}
+use Rattle.promela_run.specs.Moves.{or_else, each, is_some, pick, moves_held, moves_under, moves}
 use Rattle.view_waits.specs.declared.because.Because.{Because}
 use Rattle.view_waits.specs.declared.because.Because.TheVariants as why
 use Rattle.view_waits.specs.declared.waits.Wait.{Wait}

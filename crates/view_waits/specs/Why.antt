@@ -12,16 +12,15 @@ use Rattle.pml_program.specs.declared.program.Action.TheVariants as a
 use Rattle.pml_program.specs.declared.program.Run.{Run}
 use Rattle.pml_program.specs.declared.program.Seq.{Seq}
 use Rattle.pml_program.specs.declared.program.Basic.{Plain, DStep}
-use Rattle.pml_flow.specs.Flow.{Offer}
-use Rattle.pml_eval.specs.declared.pattern.Sought.{Sought}
-use Rattle.pml_eval.specs.Value.{val, asked_by, is_match}
-use Rattle.pml_moves.specs.declared.moves.Pick.{Pick}
-use Rattle.pml_moves.specs.declared.moves.Move.{Move}
-use Rattle.pml_moves.specs.declared.moves.Move.TheVariants.{Death, Alone, Pair}
+use Rattle.promela_process.specs.Offers.{Offer}
+use Rattle.promela_process.specs.declared.sought.Sought.{Sought}
+use Rattle.promela_process.specs.Expressions.{val, asked_by, is_match}
+use Rattle.promela_run.specs.declared.moves.Pick.{Pick}
+use Rattle.promela_run.specs.declared.moves.Move.{Move}
+use Rattle.promela_run.specs.declared.moves.Move.TheVariants.{Death, Alone, Pair}
 use Rattle.pml_moves.specs.Laws.{taker}
-use Rattle.pml_moves.specs.Executable.{Named, named, is_rendezvous}
-use Rattle.pml_moves.specs.State.{picked, Stand, State, reads, body_of, levels_from}
-use Rattle.pml_moves.specs.Search.{Message, message, accepts, choices, is_some, moves_held, moves}
+use Rattle.promela_run.specs.Moves.{Named, named, is_rendezvous, Message, message, accepts, choices, is_some, moves_held, moves}
+use Rattle.promela_run.specs.State.{picked, Stand, State, reads, body_of, levels_from}
 use Rattle.view_waits.specs.declared.because.Because.{Because}
 use Rattle.view_waits.specs.declared.because.Because.TheVariants as why
 use Rattle.view_waits.specs.declared.waits.Wait.{Wait}

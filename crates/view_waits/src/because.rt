@@ -2,7 +2,7 @@
 
 ghost use Rattle.std.specs.Prelude.{◌≡◌};
 ghost use Rattle.std.specs.Option.{option_copied};
-ghost use Rattle.pml_moves.specs.Executable.{named as names};
+ghost use Rattle.promela_run.specs.Moves.{named as names};
 ghost use Rattle.pml_value.specs.Seen.{seen};
 ghost use Rattle.view_waits.specs.Because.{at_send, at_receive, of_send, of_receive, of_action, because, code};
 

@@ -3,9 +3,7 @@
 use pml_channel::channel::Channel;
 use pml_eval::clip::clip;
 use pml_eval::eval::{eval, pattern};
-use pml_eval::pattern::Sought;
 use pml_moves::executable::named;
-use pml_moves::moves::{Move, Pick};
 use pml_moves::picked::picked;
 use pml_moves::scene::Scene;
 use pml_program::expr::{Expr, Want};
@@ -14,6 +12,8 @@ use pml_program::program::{Action, Basic};
 use pml_tree::tree::{Removal, Search};
 use pml_value::view::View;
 use profile::MOST_FIELDS;
+use promela_process::sought::Sought;
+use promela_run::moves::{Move, Pick};
 use std::alloc::{AllocError, Global};
 use view_cells::picture::Picture;
 

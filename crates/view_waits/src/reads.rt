@@ -3,8 +3,8 @@
 use pml_eval::eval::place;
 use pml_eval::ground::Ground;
 use pml_program::expr::{Expr, Target, Turn, Want};
-use pml_store::place::Place;
 use pml_value::view::View;
+use promela_process::place::Place;
 use std::alloc::{AllocError, Global};
 
 /// One thing that is read.

@@ -3,8 +3,8 @@
 ghost use Rattle.std.specs.Prelude.{◌≡◌, ◌++◌, ◌<◌, OnOk, Some, count_by, length, slice_get};
 ghost use Rattle.pml_moves.specs.Laws.{taker};
 ghost use Rattle.pml_moves.specs.Scene.{IsBody};
-ghost use Rattle.pml_moves.specs.Search.{moves as all_moves};
-ghost use Rattle.pml_moves.specs.State.{State};
+ghost use Rattle.promela_run.specs.Moves.{moves as all_moves};
+ghost use Rattle.promela_run.specs.State.{State};
 ghost use Rattle.view_waits.specs.Added.{level_waits, node_waits, one_wait, seat_waits};
 ghost use Rattle.view_waits.specs.Searched.{is_late, timeout_by, control_by, only};
 ghost use Rattle.view_waits.specs.Waits.{takes_part, is_in, last_timeout, waits_here, waits as all_waits};
@@ -12,9 +12,9 @@ ghost use Rattle.view_waits.specs.Waits.{takes_part, is_in, last_timeout, waits_
 use crate::because::{Because, because_of};
 use crate::offers::offer_line;
 use pml_flow::edge::Edge;
-use pml_moves::moves::{Move, Pick};
 use pml_moves::scene::{Body, Scene, Seat};
 use pml_value::view::View;
+use promela_run::moves::{Move, Pick};
 use std::alloc::AllocError;
 use view_cells::picture::Picture;
 use view_cells::processes::line_of;

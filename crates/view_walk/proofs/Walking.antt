@@ -6,9 +6,9 @@ use Rattle.std.proofs.lemmas.Bool.{true≢false}
 use Rattle.diagnostics.specs.declared.fault.Fault.{Fault}
 use Rattle.promela_session.specs.Session.{Goes, Faults}
 use Rattle.pml_program.specs.declared.program.Program.{Program}
-use Rattle.pml_start.specs.Start.{first_state}
-use Rattle.pml_moves.specs.declared.moves.Move.{Move}
-use Rattle.pml_sim.specs.World.{Running, moves, step, rules}
+use Rattle.promela_run.specs.State.{first_state}
+use Rattle.promela_run.specs.declared.moves.Move.{Move}
+use Rattle.promela_run.specs.World.{Running, moves, step, rules}
 use Rattle.pml_sim.specs.Lent.{IsFirst}
 use Rattle.view_walk.specs.declared.turn.Turn.{Turn}
 use Rattle.view_walk.specs.Choices.{numbered, chosen, on, with_turn}

@@ -2,9 +2,8 @@
 use Rattle.std.specs.Prelude.{◌≡◌, ◌≤◌, ℕ, Bool, false, List, length, take, Option, Some, None, Result, Ok, Err}
 use Rattle.diagnostics.specs.declared.fault.Fault.{Fault}
 use Rattle.pml_program.specs.declared.program.Program.{Program}
-use Rattle.pml_start.specs.Begin.{Begun}
-use Rattle.pml_start.specs.Start.{first_state}
-use Rattle.pml_sim.specs.World.{Running, first, moves, rules}
+use Rattle.promela_run.specs.State.{Begun, first_state}
+use Rattle.promela_run.specs.World.{Running, first, moves, rules}
 use Rattle.view_walk.specs.declared.turn.Turn.{Turn}
 use Rattle.view_walk.specs.Choices.{led_from, with_turn}
 

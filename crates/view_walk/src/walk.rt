@@ -2,7 +2,7 @@
 
 ghost use Rattle.std.specs.Prelude.{◌≡◌, ◌+◌, ◌<◌, ◌≤◌, [], true, false, IfOk, OnOk, OnErr, length, slice_get, vec_len, vec_capacity};
 ghost use Rattle.diagnostics.specs.declared.fault.Fault.{Fault};
-ghost use Rattle.pml_sim.specs.World.{moves};
+ghost use Rattle.promela_run.specs.World.{moves};
 ghost use Rattle.view_walk.specs.Choices.{numbered, with_turn};
 ghost use Rattle.view_walk.specs.Walks.{turns_behind, SameModel, StandsAs};
 ghost use Rattle.view_walk.specs.declared.walk.Went.TheVariants.{On, Faults, Nowhere};
@@ -10,8 +10,8 @@ ghost use Rattle.view_walk.specs.declared.walk.Went.TheVariants.{On, Faults, Now
 use crate::turn::Turn;
 use diagnostics::{Fault, Stop};
 use pml_check::Checked;
-use pml_moves::moves::Move;
 use pml_sim::world::World;
+use promela_run::moves::Move;
 use std::alloc::{AllocError, Global};
 use std::marker::Model;
 

@@ -1,4 +1,4 @@
-use Rattle.pml_sim.specs.World.{rules}
+use Rattle.promela_run.specs.World.{rules}
 use Rattle.pml_play.proofs.Run.{text_runs}
 use Rattle.path_laws.proofs.Listing.{models_list_once}
 use Rattle.path_laws.proofs.Numbering.{one_to_one}

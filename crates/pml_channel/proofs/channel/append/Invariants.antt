@@ -1,5 +1,5 @@
 use Rattle.std.proofs.Common.{◌≡◌, ◌++◌, take, drop}
-use Rattle.pml_channel.specs.State.{cut}
+use Rattle.promela_process.specs.Store.{cut}
 use Rattle.pml_channel.proofs.channel.append.Given as goal
 
 -- what is there by now, and the rest of the message, is all of it behind what was there

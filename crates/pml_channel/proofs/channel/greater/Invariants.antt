@@ -1,5 +1,5 @@
 use Rattle.std.proofs.Common.{◌≡◌, drop}
-use Rattle.pml_channel.specs.State.{is_greater}
+use Rattle.promela_process.specs.Store.{is_greater}
 use Rattle.pml_channel.proofs.channel.greater.Given as goal
 
 abbrev pub invariant-loop-i : goal.invariant-loop-i

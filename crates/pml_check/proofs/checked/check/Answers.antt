@@ -4,7 +4,7 @@ use Rattle.promela_model.specs.MarksOfUnits.{of_tree}
 use Rattle.pml_resolve.specs.Model.{numbered_model}
 use Rattle.pml_flow.specs.Graph.{AreGraphs}
 use Rattle.pml_start.specs.Bound.{IsWithin}
-use Rattle.pml_check.specs.Judged.{SettleEverywhere, HasGoodStart}
+use Rattle.promela_run.specs.Judged.{SettleEverywhere, HasGoodStart}
 use Rattle.pml_check.specs.Decided.{all_judged}
 use Rattle.pml_check.proofs.Least.{fit_by, first_is_least}
 use Rattle.pml_check.proofs.Standing.{stands_by}

@@ -1,5 +1,5 @@
 use Rattle.std.proofs.Common.{rules, SFits, w32, to_z-of_z, ap, ◌∙◌}
-use Rattle.pml_eval.specs.Clip.{clipped}
+use Rattle.promela_process.specs.Numbers.{clipped}
 use Rattle.pml_eval.proofs.ClipLemmas.{clipped-same}
 use Rattle.pml_eval.proofs.clip.clip.Goals as goal
 

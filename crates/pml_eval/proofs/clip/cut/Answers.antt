@@ -1,5 +1,5 @@
 use Rattle.std.proofs.Common.{rules, SFits, w32, to_z-of_z, ap, ◌∙◌}
-use Rattle.pml_eval.specs.Clip.{placed, residue}
+use Rattle.promela_process.specs.Numbers.{placed, residue}
 use Rattle.pml_eval.proofs.ClipLemmas.{placed-same}
 use Rattle.pml_eval.proofs.clip.cut.Goals as goal
 

@@ -1,6 +1,7 @@
 use Rattle.std.proofs.Common.{rules, ◌≡◌, ◌<◌, true, false, Ok, List, [], length, get_or, ℤ, pos, w32, to_z, of_z, FitsSigned, ◌∙◌, sym, ap}
 use Rattle.std.proofs.lemmas.Int.{to_z-of_z}
-use Rattle.pml_eval.specs.Value.{want, messages_of, matched, taken}
+use Rattle.promela_process.specs.Expressions.{want, matched, taken}
+use Rattle.pml_eval.specs.Asking.{messages_of}
 use Rattle.pml_eval.proofs.Asking.{Rest-next, wants-length, match-next}
 use Rattle.pml_eval.proofs.Matching.{matched-length}
 use Rattle.pml_eval.proofs.eval.+eval.Goals as goal

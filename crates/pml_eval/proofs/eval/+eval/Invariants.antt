@@ -1,6 +1,7 @@
 use Rattle.std.proofs.Common.{◌≡◌, ◌<◌, List, Ok, map, drop}
-use Rattle.pml_eval.specs.declared.pattern.Sought.{Sought}
-use Rattle.pml_eval.specs.Value.{cells_of, cells, want, wants_of, is_match, messages_of, settled}
+use Rattle.promela_process.specs.declared.sought.Sought.{Sought}
+use Rattle.promela_process.specs.Expressions.{cells_of, cells, want, wants_of, is_match}
+use Rattle.pml_eval.specs.Asking.{messages_of, settled}
 use Rattle.pml_eval.proofs.Asking.{Rest}
 use Rattle.pml_eval.proofs.eval.+eval.Given as goal
 

@@ -1,6 +1,6 @@
 use Rattle.std.proofs.Common.{◌≡◌, ◌++◌, Ok, map, drop, length}
 use Rattle.pml_eval.specs.There.{AreThere}
-use Rattle.pml_eval.specs.Value.{want, wants_of, ◌>>=◌}
+use Rattle.promela_process.specs.Expressions.{want, wants_of, ◌>>=◌}
 use Rattle.pml_eval.proofs.eval.pattern.Given as goal
 
 -- what is asked so far and by the rest is what all ask, one field for each argument so far, and its places are there

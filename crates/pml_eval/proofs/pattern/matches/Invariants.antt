@@ -1,5 +1,5 @@
 use Rattle.std.proofs.Common.{◌≡◌, drop}
-use Rattle.pml_eval.specs.Value.{matched}
+use Rattle.promela_process.specs.Expressions.{matched}
 use Rattle.pml_eval.proofs.pattern.matches.Given as goal
 
 abbrev pub invariant-loop-i : goal.invariant-loop-i

@@ -1,5 +1,5 @@
 use Rattle.std.proofs.Common.{◌≡◌, drop}
-use Rattle.pml_flow.specs.Flow.{any_end}
+use Rattle.promela_process.specs.Offers.{any_end}
 use Rattle.pml_flow.proofs.marks.any_end.Given as goal
 
 abbrev pub invariant-loop-label : goal.invariant-loop-label

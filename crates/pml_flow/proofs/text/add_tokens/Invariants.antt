@@ -1,6 +1,6 @@
 use Rattle.std.proofs.Common.{◌≡◌, ◌++◌, take}
 use Rattle.std.specs.List.{flat_map}
-use Rattle.pml_flow.specs.Flow.{spaced}
+use Rattle.promela_process.specs.Offers.{spaced}
 use Rattle.pml_flow.proofs.text.add_tokens.Given as goal
 
 abbrev pub invariant-loop-token : goal.invariant-loop-token

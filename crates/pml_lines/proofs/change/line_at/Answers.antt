@@ -1,6 +1,6 @@
 use Rattle.std.proofs.Common.{◌++◌, ◌∙◌, ap, sym, append-nil, List, ℕ, Bool}
-use Rattle.pml_cells.specs.Cells.{cell_of}
-use Rattle.pml_lines.specs.Changes.{global_owner, process_owners}
+use Rattle.promela_run.specs.State.{cell_of}
+use Rattle.promela_run.specs.Lines.{global_owner, process_owners}
 use Rattle.pml_lines.specs.Written.{line_at}
 use Rattle.pml_lines.proofs.Seeking.{line-after, line-unwanted}
 use Rattle.pml_lines.proofs.change.line_at.Goals as goal

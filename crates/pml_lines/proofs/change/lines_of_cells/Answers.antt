@@ -1,7 +1,7 @@
 use Rattle.std.proofs.Common.{rules, to_z, of_z, FitsSigned, w32, ◌++◌, ◌∙◌, ap, sym, append_assoc, append-nil, List, ℕ, ℤ, pos, arith, ◌+◌, drop, get_or, if◌then◌else◌, []}
 use Rattle.std.proofs.lemmas.Int.{to_z-of_z}
 use Rattle.std.specs.Ordering.{int_eq}
-use Rattle.pml_lines.specs.Changes.{owners, each_change}
+use Rattle.promela_run.specs.Lines.{owners, each_change}
 use Rattle.pml_lines.specs.Written.{line_at}
 use Rattle.pml_lines.proofs.Keeping.{front, behind}
 use Rattle.pml_lines.proofs.Seeking.{cells-more, cells-end}

@@ -1,6 +1,6 @@
 use Rattle.std.proofs.Common.{◌≡◌, ◌++◌, drop}
 use Rattle.std.specs.Io.{StartsWith}
-use Rattle.pml_lines.specs.Changes.{owners, each_change}
+use Rattle.promela_run.specs.Lines.{owners, each_change}
 use Rattle.pml_lines.specs.Written.{line_at}
 use Rattle.pml_lines.proofs.change.lines_of_cells.Given as goal
 

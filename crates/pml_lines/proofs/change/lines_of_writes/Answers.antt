@@ -2,7 +2,7 @@ use Rattle.std.proofs.Common.{rules, ◌≡◌, ◌∷◌, ◌++◌, ◌∙◌, 
 use Rattle.std.proofs.lemmas.Int.{to_z-of_z}
 use Rattle.std.proofs.lemmas.Map.Iter.{rest_more}
 use Rattle.std.specs.Map.Iter.{deref_pair}
-use Rattle.pml_lines.specs.Changes.{owners}
+use Rattle.promela_run.specs.Lines.{owners}
 use Rattle.pml_lines.specs.Written.{line_at, if_changed, each_write}
 use Rattle.pml_lines.proofs.Keeping.{front, behind}
 use Rattle.pml_lines.proofs.change.lines_of_writes.Goals as goal

@@ -1,6 +1,6 @@
 use Rattle.std.proofs.Common.{◌≡◌, ◌++◌}
 use Rattle.std.specs.Io.{StartsWith}
-use Rattle.pml_lines.specs.Changes.{owners}
+use Rattle.promela_run.specs.Lines.{owners}
 use Rattle.pml_lines.specs.Written.{line_at, each_write}
 use Rattle.pml_lines.proofs.change.lines_of_writes.Given as goal
 

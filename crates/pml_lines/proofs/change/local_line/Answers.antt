@@ -1,7 +1,6 @@
 use Rattle.std.proofs.Common.{rules, ◌≡◌, ◌++◌, ◌∙◌, ap, subst, append_assoc, slice_get, List, ℕ, ℤ, OnOk, FitsSigned, w32}
 use Rattle.std.proofs.lemmas.Int.{to_z-of_z}
-use Rattle.pml_lines.specs.Places.{place_line}
-use Rattle.pml_lines.specs.Changes.{heading_of}
+use Rattle.promela_run.specs.Lines.{place_line, heading_of}
 use Rattle.pml_lines.proofs.change.local_line.Goals as goal
 
 pub returns-clause-added : goal.returns-clause-added

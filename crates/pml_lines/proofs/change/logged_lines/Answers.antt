@@ -1,7 +1,7 @@
 use Rattle.std.proofs.Common.{◌≡◌, ◌++◌, ◌∙◌, ap, sym, append-nil, List, ℕ, Bool, false}
 use Rattle.std.proofs.lemmas.Bool.{not-true}
 use Rattle.pml_store.specs.Writing.{before}
-use Rattle.pml_lines.specs.Changes.{value_lines}
+use Rattle.promela_run.specs.Lines.{value_lines}
 use Rattle.pml_lines.proofs.Flat.{lines-none}
 use Rattle.pml_lines.proofs.change.logged_lines.Goals as goal
 

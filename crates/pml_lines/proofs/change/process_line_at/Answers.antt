@@ -1,8 +1,7 @@
 use Rattle.std.proofs.Common.{rules, ◌≡◌, ◌+◌, ◌++◌, ◌∙◌, ap, sym, subst, append-nil, slice_get, get_or, List, [], ℕ, ℤ, OnOk, true, drop, arith, FitsSigned, w32}
 use Rattle.std.proofs.lemmas.List.{drop_all}
 use Rattle.std.proofs.lemmas.Int.{to_z-of_z}
-use Rattle.pml_lines.specs.Places.{place_line}
-use Rattle.pml_lines.specs.Changes.{heading_of, process_owners}
+use Rattle.promela_run.specs.Lines.{place_line, heading_of, process_owners}
 use Rattle.pml_lines.specs.Written.{line_at}
 use Rattle.pml_lines.proofs.Seeking.{process-here, process-after}
 use Rattle.pml_lines.proofs.change.process_line_at.Goals as goal

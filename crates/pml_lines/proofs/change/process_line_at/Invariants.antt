@@ -1,5 +1,5 @@
 use Rattle.std.proofs.Common.{◌≡◌, ℤ, true, drop}
-use Rattle.pml_lines.specs.Changes.{process_owners}
+use Rattle.promela_run.specs.Lines.{process_owners}
 use Rattle.pml_lines.specs.Written.{line_at}
 use Rattle.pml_lines.proofs.change.process_line_at.Given as goal
 

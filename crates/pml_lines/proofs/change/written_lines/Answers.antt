@@ -1,6 +1,6 @@
 use Rattle.std.proofs.Common.{◌≡◌, ◌++◌, ◌∙◌, ap, subst, List, ℕ, ℤ, OnOk}
 use Rattle.pml_store.specs.Writing.{joined}
-use Rattle.pml_lines.specs.Changes.{owners}
+use Rattle.promela_run.specs.Lines.{owners}
 use Rattle.pml_lines.specs.Written.{line_at, oldest, each_write}
 use Rattle.pml_lines.proofs.Undoing.{writes_flat}
 use Rattle.pml_lines.proofs.change.written_lines.Goals as goal

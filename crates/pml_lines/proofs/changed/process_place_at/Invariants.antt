@@ -1,5 +1,5 @@
 use Rattle.std.proofs.Common.{◌≡◌, ◌+◌, true, drop}
-use Rattle.pml_lines.specs.Changes.{process_owners}
+use Rattle.promela_run.specs.Lines.{process_owners}
 use Rattle.pml_lines.specs.Placed.{place_at}
 use Rattle.pml_lines.proofs.changed.process_place_at.Given as goal
 

@@ -1,6 +1,6 @@
 use Rattle.std.proofs.Common.{arith, ◌≡◌, ◌+◌, ◌-◌, ◌%◌, ◌++◌, suc, ◌∙◌, sym, ap, List, ℕ, append_assoc, append-nil, [], ◌∷◌, length}
 use Rattle.std.specs.Io.{StartsWith}
-use Rattle.pml_lines.specs.Places.{element, fields_path}
+use Rattle.promela_run.specs.Lines.{element, fields_path}
 use Rattle.pml_lines.proofs.Keeping.{front, behind, refused}
 use Rattle.pml_lines.proofs.Leading.{path-none, path-some}
 use Rattle.pml_lines.proofs.place.fields_path.Goals as goal

@@ -1,6 +1,6 @@
 use Rattle.std.proofs.Common.{◌≡◌, ◌-◌, ◌++◌, length}
 use Rattle.std.specs.Io.{StartsWith}
-use Rattle.pml_lines.specs.Places.{fields_path}
+use Rattle.promela_run.specs.Lines.{fields_path}
 use Rattle.pml_lines.proofs.place.fields_path.Given as goal
 
 -- the text so far and what the fields that are left add

@@ -1,10 +1,10 @@
 use Rattle.std.proofs.Common.{List, sym, ap, ◌∙◌}
-use Rattle.pml_flow.specs.Flow.{Offer}
+use Rattle.promela_process.specs.Offers.{Offer}
 use Rattle.pml_flow.specs.Graph.{maybe}
 use Rattle.pml_flow.specs.Points.{point_at}
 use Rattle.pml_value.specs.Seen.{seen}
-use Rattle.pml_moves.specs.State.{levels_from}
-use Rattle.pml_moves.specs.Search.{choices, is_some}
+use Rattle.promela_run.specs.State.{levels_from}
+use Rattle.promela_run.specs.Moves.{choices, is_some}
 use Rattle.pml_moves.proofs.Placing.{at_node}
 use Rattle.pml_moves.proofs.d_step.can_begin.Goals as goal
 

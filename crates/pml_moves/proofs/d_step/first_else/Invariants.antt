@@ -1,7 +1,8 @@
 use Rattle.std.proofs.Common.{◌≡◌, drop, map}
 use Rattle.std.specs.List.{filter}
 use Rattle.pml_moves.specs.Scene.{shows}
-use Rattle.pml_moves.specs.Search.{first, is_other}
+use Rattle.pml_moves.specs.Viewed.{first}
+use Rattle.promela_run.specs.Moves.{is_other}
 use Rattle.pml_moves.proofs.d_step.first_else.Given as goal
 
 -- none is found so far

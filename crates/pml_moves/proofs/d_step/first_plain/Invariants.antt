@@ -2,7 +2,8 @@ use Rattle.std.proofs.Common.{◌≡◌, drop, map}
 use Rattle.std.specs.List.{filter}
 use Rattle.pml_value.specs.Seen.{seen}
 use Rattle.pml_moves.specs.Scene.{shows}
-use Rattle.pml_moves.specs.Search.{first, is_choice}
+use Rattle.pml_moves.specs.Viewed.{first}
+use Rattle.promela_run.specs.Moves.{is_choice}
 use Rattle.pml_moves.proofs.d_step.first_plain.Given as goal
 
 -- none is found so far

@@ -1,6 +1,6 @@
 use Rattle.std.proofs.Common.{◌≡◌, drop}
 use Rattle.pml_value.specs.Seen.{seen}
-use Rattle.pml_moves.specs.Executable.{values}
+use Rattle.promela_run.specs.Moves.{values}
 use Rattle.pml_moves.specs.Fields.{evaluated}
 use Rattle.pml_moves.proofs.executable.first_fault_of.Given as goal
 

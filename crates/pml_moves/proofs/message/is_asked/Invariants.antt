@@ -1,5 +1,5 @@
 use Rattle.std.proofs.Common.{List}
-use Rattle.pml_eval.specs.declared.pattern.Sought.{Sought}
+use Rattle.promela_process.specs.declared.sought.Sought.{Sought}
 use Rattle.pml_eval.proofs.Asking.{Rest}
 use Rattle.pml_value.specs.Seen.{seen}
 use Rattle.pml_moves.proofs.message.is_asked.Given as goal

@@ -1,7 +1,7 @@
 use Rattle.std.proofs.Common.{rules, ◌≡◌, true, Ok, sym, to_z, of_z, w32, FitsSigned}
 use Rattle.std.proofs.lemmas.Int.{to_z-of_z}
 use Rattle.pml_value.specs.Seen.{seen}
-use Rattle.pml_moves.specs.Executable.{values, is_rendezvous}
+use Rattle.promela_run.specs.Moves.{values, is_rendezvous}
 use Rattle.pml_moves.specs.Fields.{evaluated}
 use Rattle.pml_moves.proofs.Offering.{message_some}
 use Rattle.pml_moves.proofs.message.message_to.Goals as goal

@@ -1,9 +1,9 @@
 use Rattle.std.proofs.Common.{rules, to_z, of_z, w32, ◌≡◌, ◌++◌, ◌<◌, ◌≤◌, ℕ, List, length, append-nil, refl, sym, ap, ◌∙◌, arith}
-use Rattle.pml_moves.specs.declared.moves.Move.{Move}
+use Rattle.promela_run.specs.declared.moves.Move.{Move}
 use Rattle.pml_moves.specs.declared.scene.Seat.{Seat}
-use Rattle.pml_moves.specs.State.{Stand}
+use Rattle.promela_run.specs.State.{Stand}
 use Rattle.pml_moves.specs.Scene.{stand_of}
-use Rattle.pml_moves.specs.Search.{each, pairs_with}
+use Rattle.promela_run.specs.Moves.{each, pairs_with}
 use Rattle.pml_moves.proofs.Searching.{held}
 use Rattle.pml_moves.proofs.Placing.{seat_stands}
 use Rattle.pml_moves.proofs.Keeping.{kept_same}

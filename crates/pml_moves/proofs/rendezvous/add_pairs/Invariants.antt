@@ -1,9 +1,9 @@
 use Rattle.std.proofs.Common.{◌≡◌, ◌++◌, drop, map, List, ℕ}
-use Rattle.pml_moves.specs.declared.moves.Move.{Move}
-use Rattle.pml_moves.specs.State.{Stand}
+use Rattle.promela_run.specs.declared.moves.Move.{Move}
+use Rattle.promela_run.specs.State.{Stand}
 use Rattle.pml_moves.specs.Scene.{stand_of}
 use Rattle.pml_moves.specs.Kept.{Extends}
-use Rattle.pml_moves.specs.Search.{each, pairs_with}
+use Rattle.promela_run.specs.Moves.{each, pairs_with}
 use Rattle.pml_moves.proofs.rendezvous.add_pairs.Given as goal
 
 -- what is added and the rest's are all

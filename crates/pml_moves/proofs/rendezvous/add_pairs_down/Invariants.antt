@@ -1,6 +1,6 @@
 use Rattle.std.proofs.Common.{◌≡◌, ◌≤◌, length, drop, map, []}
 use Rattle.pml_moves.specs.Scene.{shows, edges_at}
-use Rattle.pml_moves.specs.Search.{last, pairs_on}
+use Rattle.promela_run.specs.Moves.{last, pairs_on}
 use Rattle.pml_moves.proofs.rendezvous.add_pairs_down.Given as goal
 
 abbrev pub decreases-loop-level : goal.decreases-loop-level

@@ -1,11 +1,11 @@
 use Rattle.std.proofs.Common.{◌≡◌, ◌++◌, drop, map, List, ℕ}
-use Rattle.pml_flow.specs.Flow.{Offer}
-use Rattle.pml_moves.specs.declared.moves.Move.{Move}
-use Rattle.pml_moves.specs.declared.moves.Move.TheVariants.{Pair}
-use Rattle.pml_moves.specs.State.{reads}
+use Rattle.promela_process.specs.Offers.{Offer}
+use Rattle.promela_run.specs.declared.moves.Move.{Move}
+use Rattle.promela_run.specs.declared.moves.Move.TheVariants.{Pair}
+use Rattle.promela_run.specs.State.{reads}
 use Rattle.pml_moves.specs.Scene.{shows}
 use Rattle.pml_moves.specs.Kept.{Extends}
-use Rattle.pml_moves.specs.Search.{each, accepts, only_if, pick}
+use Rattle.promela_run.specs.Moves.{each, accepts, only_if, pick}
 use Rattle.pml_moves.proofs.rendezvous.add_pairs_on.Given as goal
 
 -- what is added and the rest's are all

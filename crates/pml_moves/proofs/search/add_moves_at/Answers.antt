@@ -1,5 +1,5 @@
 use Rattle.std.proofs.Common.{◌≡◌, ◌++◌, List, sym, ap, subst, OnOk}
-use Rattle.pml_moves.specs.declared.moves.Move.{Move}
+use Rattle.promela_run.specs.declared.moves.Move.{Move}
 use Rattle.pml_moves.proofs.Placing.{moves_in}
 use Rattle.pml_moves.proofs.search.add_moves_at.Goals as goal
 

@@ -1,9 +1,9 @@
 use Rattle.std.proofs.Common.{rules, ◌≡◌, ℕ, ◌+◌, ◌-◌, ◌<◌, ◌++◌, ◌∙◌, List, [], map, drop, length, ap, arith}
-use Rattle.pml_flow.specs.Flow.{Offer}
-use Rattle.pml_moves.specs.declared.moves.Move.{Move}
+use Rattle.promela_process.specs.Offers.{Offer}
+use Rattle.promela_run.specs.declared.moves.Move.{Move}
 use Rattle.pml_moves.specs.declared.scene.Body.{Body}
 use Rattle.pml_moves.specs.Scene.{shows, edges_at}
-use Rattle.pml_moves.specs.Search.{last, moves_on}
+use Rattle.promela_run.specs.Moves.{last, moves_on}
 use Rattle.pml_moves.proofs.Placing.{level_is}
 use Rattle.pml_moves.proofs.Searching.{ends, goes_on}
 use Rattle.pml_moves.proofs.search.add_moves_down.Goals as goal

@@ -1,8 +1,8 @@
 use Rattle.std.proofs.Common.{◌≤◌, ◌++◌, ℕ, List, Option, length, sym, ap, ◌∙◌, append-nil, arith}
 use Rattle.std.proofs.lemmas.List.{length-map}
-use Rattle.pml_moves.specs.declared.moves.Move.{Move}
+use Rattle.promela_run.specs.declared.moves.Move.{Move}
 use Rattle.pml_moves.specs.Scene.{stand_of}
-use Rattle.pml_moves.specs.Search.{moves_held}
+use Rattle.promela_run.specs.Moves.{moves_held}
 use Rattle.pml_moves.proofs.Placing.{none_held}
 use Rattle.pml_moves.proofs.search.add_moves_held.Goals as goal
 

@@ -1,9 +1,9 @@
 use Rattle.std.proofs.Common.{◌≡◌, ◌++◌, drop, map, List, [], ℕ, if◌then◌else◌}
-use Rattle.pml_flow.specs.Flow.{Offer}
-use Rattle.pml_moves.specs.declared.moves.Move.{Move}
+use Rattle.promela_process.specs.Offers.{Offer}
+use Rattle.promela_run.specs.declared.moves.Move.{Move}
 use Rattle.pml_moves.specs.Scene.{shows}
 use Rattle.pml_moves.specs.Kept.{Extends}
-use Rattle.pml_moves.specs.Search.{each, is_else, moves_by}
+use Rattle.promela_run.specs.Moves.{each, is_else, moves_by}
 use Rattle.pml_moves.proofs.search.add_plain.Given as goal
 
 -- what is added and the rest's are all

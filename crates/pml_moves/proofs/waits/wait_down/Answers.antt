@@ -1,9 +1,9 @@
 use Rattle.std.proofs.Common.{rules, ◌≡◌, ◌<◌, ◌≤◌, List, [], map, length, sym, ap, ◌∙◌, arith}
 use Rattle.std.proofs.lemmas.List.{length-map}
-use Rattle.pml_flow.specs.Flow.{Offer}
+use Rattle.promela_process.specs.Offers.{Offer}
 use Rattle.pml_moves.specs.declared.scene.Body.{Body}
 use Rattle.pml_moves.specs.Scene.{shows, edges_at, offers_at}
-use Rattle.pml_moves.specs.Search.{pairs_on}
+use Rattle.promela_run.specs.Moves.{pairs_on}
 use Rattle.pml_moves.proofs.Placing.{level_is}
 use Rattle.pml_moves.proofs.Waiting.{last_skips, last_over}
 use Rattle.pml_moves.proofs.waits.wait_down.Goals as goal

@@ -1,7 +1,7 @@
 use Rattle.std.proofs.Common.{◌≡◌, false, drop}
-use Rattle.pml_moves.specs.declared.moves.Pick.{Pick}
+use Rattle.promela_run.specs.declared.moves.Pick.{Pick}
 use Rattle.pml_moves.specs.Scene.{offers_at}
-use Rattle.pml_moves.specs.Search.{Message, last, pairs_on}
+use Rattle.promela_run.specs.Moves.{Message, last, pairs_on}
 use Rattle.pml_moves.specs.Waits.{may_take}
 use Rattle.pml_moves.proofs.waits.wait_down.Given as goal
 

@@ -1,14 +1,14 @@
 use Rattle.std.proofs.Common.{rules, ◌≡◌, Bool, false, List, Option, sym, ap, ◌∙◌, arith}
 use Rattle.std.specs.Option.{option_copied}
 use Rattle.pml_program.specs.declared.program.Basic.{Basic}
-use Rattle.pml_flow.specs.Flow.{Offer}
-use Rattle.pml_eval.specs.Value.{Reading}
-use Rattle.pml_value.specs.declared.live_channel.LiveChannel.{LiveChannel}
+use Rattle.promela_process.specs.Offers.{Offer}
+use Rattle.promela_process.specs.Expressions.{Reading}
+use Rattle.promela_run.specs.declared.live_channel.LiveChannel.{LiveChannel}
 use Rattle.pml_value.specs.Seen.{seen}
-use Rattle.pml_moves.specs.declared.moves.Move.TheVariants.{Pair}
-use Rattle.pml_moves.specs.State.{reads}
+use Rattle.promela_run.specs.declared.moves.Move.TheVariants.{Pair}
+use Rattle.promela_run.specs.State.{reads}
 use Rattle.pml_moves.specs.Scene.{shows}
-use Rattle.pml_moves.specs.Search.{accepts, only_if, pick}
+use Rattle.promela_run.specs.Moves.{accepts, only_if, pick}
 use Rattle.pml_moves.proofs.Waiting.{skip_at, over}
 use Rattle.pml_moves.proofs.waits.wait_on.Goals as goal
 

@@ -1,10 +1,10 @@
 use Rattle.std.proofs.Common.{◌≡◌, false, drop, map, ℕ}
-use Rattle.pml_flow.specs.Flow.{Offer}
-use Rattle.pml_moves.specs.declared.moves.Pick.{Pick}
-use Rattle.pml_moves.specs.declared.moves.Move.TheVariants.{Pair}
-use Rattle.pml_moves.specs.State.{reads}
+use Rattle.promela_process.specs.Offers.{Offer}
+use Rattle.promela_run.specs.declared.moves.Pick.{Pick}
+use Rattle.promela_run.specs.declared.moves.Move.TheVariants.{Pair}
+use Rattle.promela_run.specs.State.{reads}
 use Rattle.pml_moves.specs.Scene.{shows}
-use Rattle.pml_moves.specs.Search.{Message, each, accepts, only_if, pick, pairs_on}
+use Rattle.promela_run.specs.Moves.{Message, each, accepts, only_if, pick, pairs_on}
 use Rattle.pml_moves.specs.Waits.{may_take}
 use Rattle.pml_moves.proofs.waits.wait_on.Given as goal
 

@@ -1,4 +1,4 @@
-use Rattle.pml_sim.specs.World.{rules}
+use Rattle.promela_run.specs.World.{rules}
 use Rattle.pml_play.proofs.Run.{text_runs, record_gives_run}
 use Rattle.pml_play.proofs.laws.a_session_runs_through_a_path.Goals as goal
 

@@ -1,4 +1,4 @@
-use Rattle.pml_sim.specs.World.{rules}
+use Rattle.promela_run.specs.World.{rules}
 use Rattle.pml_play.proofs.EachPath.{text_plays_each, just_path}
 use Rattle.pml_play.proofs.laws.each_path_is_played.Goals as goal
 

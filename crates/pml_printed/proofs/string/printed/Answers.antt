@@ -1,5 +1,5 @@
 use Rattle.std.proofs.Common.{◌≡◌, ◌+◌, ◌≤◌, drop, get_or, sym, ◌∙◌, arith, rules, SFits, w32, to_z-of_z}
-use Rattle.pml_printed.specs.Printed.{values_left}
+use Rattle.promela_run.specs.Lines.{values_left}
 use Rattle.pml_lines.proofs.Keeping.{front, behind, refused}
 use Rattle.pml_printed.proofs.Printing.{turn, taken, kept}
 use Rattle.pml_printed.proofs.string.printed.Goals as goal

@@ -1,6 +1,6 @@
 use Rattle.std.proofs.Common.{◌≡◌, ◌++◌, ◌≤◌, drop}
 use Rattle.std.specs.Io.{StartsWith}
-use Rattle.pml_printed.specs.Printed.{printed, printed_from, inside}
+use Rattle.promela_run.specs.Lines.{printed, printed_from, inside}
 use Rattle.pml_printed.proofs.string.printed.Given as goal
 
 -- the text so far, and what the bytes that are left print

@@ -1,4 +1,4 @@
-use Rattle.pml_steps.specs.Change.{kinds}
+use Rattle.promela_run.specs.Steps.{kinds}
 use Rattle.pml_lines.proofs.Listing.{lines_of_changes}
 use Rattle.pml_sim.proofs.laws.lines_are_of_changes.Goals as goal
 

@@ -1,5 +1,5 @@
 use Rattle.profile.specs.declared.TheConstants.{MOST_DSTEP_STATEMENTS}
-use Rattle.pml_steps.specs.Outcome as outcome
+use Rattle.promela_run.specs.Steps as outcome
 use Rattle.pml_sim.proofs.Leading.{leads_back}
 use Rattle.pml_sim.proofs.laws.steps_lead_back.Goals as goal
 

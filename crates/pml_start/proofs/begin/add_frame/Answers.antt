@@ -1,5 +1,5 @@
 use Rattle.std.proofs.Common.{rules, ◌≡◌, ◌∙◌, ap, sum, map, arith}
-use Rattle.pml_cells.specs.Cells.{size}
+use Rattle.promela_run.specs.State.{size}
 use Rattle.pml_start.specs.Bound.{cells_of}
 use Rattle.pml_start.proofs.Bounding.{cells_sum}
 use Rattle.pml_start.proofs.begin.add_frame.Goals as goal

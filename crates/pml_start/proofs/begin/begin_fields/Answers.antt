@@ -1,5 +1,5 @@
 use Rattle.std.proofs.Common.{◌≡◌, Err, true, refl, sym, ◌∙◌, arith, rules}
-use Rattle.pml_cells.specs.Cells.{size}
+use Rattle.promela_run.specs.State.{size}
 use Rattle.pml_start.specs.Shown.{shown}
 use Rattle.pml_start.specs.Known.{is_zero, have_no_initials, known_cells}
 use Rattle.pml_start.proofs.Shapes.{cell_there, keeps-then}

@@ -1,6 +1,5 @@
 use Rattle.std.proofs.Common.{◌≡◌, ◌-◌}
-use Rattle.pml_cells.specs.Cells.{size}
-use Rattle.pml_start.specs.Begin.{fields_begun}
+use Rattle.promela_run.specs.State.{size, fields_begun}
 use Rattle.pml_start.specs.Shown.{shown}
 use Rattle.pml_start.specs.Known.{Keeps}
 use Rattle.pml_start.proofs.begin.begin_fields.Given as goal

@@ -1,5 +1,5 @@
 use Rattle.std.proofs.Common.{◌≡◌, drop}
-use Rattle.pml_start.specs.Begin.{variables_begun}
+use Rattle.promela_run.specs.State.{variables_begun}
 use Rattle.pml_start.specs.Shown.{shown}
 use Rattle.pml_start.specs.Known.{Keeps}
 use Rattle.pml_start.proofs.begin.begin_variables.Given as goal

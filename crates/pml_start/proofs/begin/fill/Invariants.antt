@@ -1,5 +1,5 @@
 use Rattle.std.proofs.Common.{◌≡◌, ◌-◌}
-use Rattle.pml_start.specs.Begin.{with_values}
+use Rattle.promela_run.specs.State.{with_values}
 use Rattle.pml_start.specs.Shown.{shown}
 use Rattle.pml_start.specs.Known.{Keeps}
 use Rattle.pml_start.proofs.begin.fill.Given as goal

@@ -1,5 +1,5 @@
 use Rattle.std.proofs.Common.{◌≡◌, ◌++◌, drop, map}
-use Rattle.pml_cells.specs.Cells.{size}
+use Rattle.promela_run.specs.State.{size}
 use Rattle.pml_start.proofs.begin.sizes.Given as goal
 
 -- the sizes so far and those of the rest are those of all

@@ -1,5 +1,5 @@
 use Rattle.std.proofs.Common.{◌≡◌, ◌+◌, min, arith, rules}
-use Rattle.pml_start.specs.Created.{channels_by, channels_of}
+use Rattle.promela_run.specs.Statements.{channels_by, channels_of}
 use Rattle.pml_start.proofs.Counted.{variable_counted, too_many, none_left}
 use Rattle.pml_start.proofs.counting.are_too_many.Goals as goal
 

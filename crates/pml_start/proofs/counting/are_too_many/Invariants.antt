@@ -1,5 +1,5 @@
 use Rattle.std.proofs.Common.{◌≡◌, ◌+◌, ◌≤◌, drop, min}
-use Rattle.pml_start.specs.Created.{channels_of}
+use Rattle.promela_run.specs.Statements.{channels_of}
 use Rattle.pml_start.proofs.counting.are_too_many.Given as goal
 
 -- those that are counted by now, and those of the other variables, are all

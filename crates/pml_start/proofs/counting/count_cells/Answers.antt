@@ -1,5 +1,5 @@
 use Rattle.std.proofs.Common.{◌≡◌, true, sym, ◌∙◌, arith, rules}
-use Rattle.pml_cells.specs.Cells.{size}
+use Rattle.promela_run.specs.State.{size}
 use Rattle.pml_start.specs.Known.{is_zero, have_no_initials, known_cells}
 use Rattle.pml_start.proofs.Elements.{element_there, element_known}
 use Rattle.pml_start.proofs.Counted.{none_made, cell_counted}

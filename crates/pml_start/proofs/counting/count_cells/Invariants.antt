@@ -1,6 +1,6 @@
 use Rattle.std.proofs.Common.{◌≡◌, ◌+◌, ◌-◌, ◌≤◌, min}
-use Rattle.pml_cells.specs.Cells.{size}
-use Rattle.pml_start.specs.Created.{channels_in}
+use Rattle.promela_run.specs.State.{size}
+use Rattle.promela_run.specs.Statements.{channels_in}
 use Rattle.pml_start.proofs.counting.count_cells.Given as goal
 
 -- those that are counted by now, and those of the other cells, are all

@@ -1,5 +1,5 @@
 use Rattle.std.proofs.Common.{◌≡◌, ◌∙◌, ap, length, rules}
-use Rattle.pml_start.specs.Begin.{Begun}
+use Rattle.promela_run.specs.State.{Begun}
 use Rattle.pml_start.specs.Shown.{shown}
 use Rattle.pml_start.proofs.Shapes.{OnOk-always, OnErr-always}
 use Rattle.pml_start.proofs.Creating.{process_sizes, process_shape, past, dropped}

@@ -1,6 +1,6 @@
 use Rattle.std.proofs.Common.{◌≡◌, drop}
 use Rattle.pml_start.specs.Shown.{shown}
-use Rattle.pml_start.specs.Created.{with_arguments}
+use Rattle.promela_run.specs.Statements.{with_arguments}
 use Rattle.pml_start.specs.Known.{Keeps}
 use Rattle.pml_start.proofs.create.set_arguments.Given as goal
 

@@ -1,9 +1,8 @@
 use Rattle.std.proofs.Common.{◌≡◌, ◌++◌, ◌∷◌, [], map, length, ap, sym, ◌∙◌, rules, List, ◌<◌}
 use Rattle.pml_program.specs.declared.program.Slot.{Slot}
 use Rattle.pml_program.specs.declared.program.Proctype.{Proctype}
-use Rattle.pml_cells.specs.Cells.{size}
+use Rattle.promela_run.specs.State.{size, variables_at}
 use Rattle.pml_start.specs.Shown.{shown, shape}
-use Rattle.pml_start.specs.Start.{variables_at}
 use Rattle.pml_start.proofs.Shapes.{OnOk-then}
 use Rattle.pml_start.proofs.Bounding.{room_for}
 use Rattle.pml_start.proofs.Declaring.{declared_next, variables_at_is}

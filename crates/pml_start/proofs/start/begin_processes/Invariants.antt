@@ -1,7 +1,7 @@
 use Rattle.std.proofs.Common.{◌≡◌, ◌-◌}
 use Rattle.pml_start.specs.Shown.{shown}
 use Rattle.pml_start.specs.Bound.{most_cells}
-use Rattle.pml_start.specs.Start.{kind_begun}
+use Rattle.promela_run.specs.State.{kind_begun}
 use Rattle.pml_start.specs.Starting.{IsDeclared}
 use Rattle.pml_start.proofs.start.begin_processes.Given as goal
 

@@ -3,7 +3,7 @@ use Rattle.pml_program.specs.declared.program.Proctype.{Proctype}
 use Rattle.pml_store.specs.Writing.{Contents}
 use Rattle.pml_start.specs.Shown.{shown}
 use Rattle.pml_start.specs.Bound.{bound}
-use Rattle.pml_start.specs.Start.{kinds_begun}
+use Rattle.promela_run.specs.State.{kinds_begun}
 use Rattle.pml_start.proofs.Bounding.{first_bounded}
 use Rattle.pml_start.proofs.start.start_by.Goals as goal
 

@@ -1,7 +1,7 @@
 use Rattle.std.proofs.Common.{◌≡◌, drop}
 use Rattle.pml_start.specs.Shown.{shown}
 use Rattle.pml_start.specs.Bound.{most_cells}
-use Rattle.pml_start.specs.Start.{first_state, kinds_begun}
+use Rattle.promela_run.specs.State.{first_state, kinds_begun}
 use Rattle.pml_start.specs.Starting.{IsDeclared}
 use Rattle.pml_start.proofs.start.start_by.Given as goal
 

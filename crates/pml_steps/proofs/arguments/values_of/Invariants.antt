@@ -1,6 +1,6 @@
 use Rattle.std.proofs.Common.{◌≡◌, ◌++◌, Ok, drop}
-use Rattle.pml_eval.specs.Value.{◌>>=◌}
-use Rattle.pml_value.specs.Messages.{values}
+use Rattle.promela_process.specs.Expressions.{◌>>=◌}
+use Rattle.promela_run.specs.Statements.{values}
 use Rattle.pml_value.specs.Seen.{seen}
 use Rattle.pml_steps.proofs.arguments.values_of.Given as goal
 

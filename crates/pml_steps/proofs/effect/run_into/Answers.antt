@@ -1,7 +1,7 @@
 use Rattle.std.proofs.Common.{◌<◌, ℕ, ap, subst}
 use Rattle.std.specs.Prelude.{IfSome}
-use Rattle.pml_eval.specs.Value.{Reading}
-use Rattle.pml_value.specs.declared.statement.Goes.{Goes}
+use Rattle.promela_process.specs.Expressions.{Reading}
+use Rattle.promela_run.specs.declared.goes.Goes.{Goes}
 use Rattle.pml_steps.proofs.effect.run_into.Goals as goal
 
 pub put-requires : goal.put-requires

@@ -1,6 +1,6 @@
 use Rattle.std.proofs.Common.{rules, ◌≡◌, nat_eq, not}
 use Rattle.std.proofs.lemmas.Fn.{filter_same}
-use Rattle.pml_value.specs.declared.live_channel.LiveChannel.{LiveChannel}
+use Rattle.promela_run.specs.declared.live_channel.LiveChannel.{LiveChannel}
 use Rattle.pml_steps.proofs.live.keep_others.Goals as goal
 
 pub returns : goal.returns

@@ -1,6 +1,6 @@
 use Rattle.std.proofs.Common.{◌≡◌, ◌++◌, drop, map}
 use Rattle.pml_moves.specs.Scene.{stand_of}
-use Rattle.pml_moves.specs.State.{begins_at}
+use Rattle.promela_run.specs.State.{begins_at}
 use Rattle.pml_steps.specs.Held.{kinds_of}
 use Rattle.pml_steps.proofs.live.seats_of.Given as goal
 

@@ -1,7 +1,7 @@
 use Rattle.std.proofs.Common.{◌≡◌, ◌<◌, ◌∙◌, w32, get_or, length, pos, FitsSigned, rules}
 use Rattle.std.proofs.lemmas.Int.{to_z-of_z}
 use Rattle.pml_store.specs.Writing.{stored}
-use Rattle.pml_value.specs.declared.statement.Goes.{Goes}
+use Rattle.promela_run.specs.declared.goes.Goes.{Goes}
 use Rattle.pml_steps.proofs.Passing.{done-next, done-some, in-next}
 use Rattle.pml_steps.proofs.pair.store_all.Goals as goal
 

@@ -1,6 +1,6 @@
 use Rattle.std.proofs.Common.{◌≡◌, ◌<◌, ◌++◌, ◌∷◌, [], drop, length, get_or, Ok, rules}
-use Rattle.pml_eval.specs.Value.{want}
-use Rattle.pml_value.specs.Messages.{stores}
+use Rattle.promela_process.specs.Expressions.{want}
+use Rattle.promela_run.specs.Statements.{stores}
 use Rattle.pml_value.specs.Seen.{seen}
 use Rattle.pml_steps.proofs.Passing.{taken-next}
 use Rattle.pml_steps.proofs.pair.taken_of.Goals as goal

@@ -1,6 +1,6 @@
 use Rattle.std.proofs.Common.{◌≡◌, ◌++◌, Ok, drop}
-use Rattle.pml_eval.specs.Value.{◌>>=◌, asked_by}
-use Rattle.pml_value.specs.Messages.{stores}
+use Rattle.promela_process.specs.Expressions.{◌>>=◌, asked_by}
+use Rattle.promela_run.specs.Statements.{stores}
 use Rattle.pml_value.specs.Seen.{seen}
 use Rattle.pml_steps.specs.Passing.{AreIn, taken_by}
 use Rattle.pml_steps.proofs.pair.taken_of.Given as goal

@@ -1,9 +1,9 @@
 use Rattle.std.proofs.Common.{rules, ◌≡◌, ◌∙◌, ap, Err}
-use Rattle.pml_flow.specs.Flow.{Offer as Offered}
-use Rattle.pml_moves.specs.State.{picked}
+use Rattle.promela_process.specs.Offers.{Offer as Offered}
+use Rattle.promela_run.specs.State.{picked}
 use Rattle.profile.specs.declared.TheConstants.{MOST_DSTEP_STATEMENTS}
 use Rattle.pml_steps.specs.Live.{Live, Does}
-use Rattle.pml_steps.specs.Outcome.{alone, moved}
+use Rattle.promela_run.specs.Steps.{alone, moved}
 use Rattle.pml_steps.specs.Taking.{IsOffer}
 use Rattle.pml_steps.proofs.Taking.{joined_body, followed, stops_before, goes_on}
 use Rattle.pml_steps.proofs.take.alone.Goals as goal

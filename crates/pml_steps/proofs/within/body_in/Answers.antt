@@ -5,10 +5,10 @@ use Rattle.pml_program.specs.declared.program.Program.{Program}
 use Rattle.pml_program.specs.declared.program.Seq.{Seq}
 use Rattle.pml_moves.specs.declared.scene.Seat.{Seat}
 use Rattle.pml_moves.specs.declared.scene.Body.{Body}
-use Rattle.pml_moves.specs.State.{Stand}
+use Rattle.promela_run.specs.State.{Stand}
 use Rattle.pml_moves.specs.Scene.{stand_of}
 use Rattle.pml_moves.proofs.Placing.{seat_stands}
-use Rattle.pml_steps.specs.Outcome.{body_by}
+use Rattle.promela_run.specs.Steps.{body_by}
 use Rattle.pml_steps.proofs.within.body_in.Goals as goal
 
 -- no process, no stand

@@ -1,12 +1,12 @@
 use Rattle.std.proofs.Common.{rules, ◌≡◌, Some, None, Option, option_map, slice_get, subst, sym, ap, refl, ◌∙◌}
 use Rattle.pml_flow.specs.declared.edge.Edge.{Edge}
-use Rattle.pml_flow.specs.Flow.{Offer}
+use Rattle.promela_process.specs.Offers.{Offer}
 use Rattle.pml_flow.specs.Points.{point_at}
 use Rattle.pml_value.specs.Seen.{seen}
 use Rattle.pml_moves.specs.declared.scene.Body.{Body}
-use Rattle.pml_moves.specs.State.{State, reads}
+use Rattle.promela_run.specs.State.{State, reads}
 use Rattle.pml_moves.specs.Scene.{shows}
-use Rattle.pml_steps.specs.Outcome.{body_by}
+use Rattle.promela_run.specs.Steps.{body_by}
 use Rattle.pml_steps.specs.Inside.{Chooses}
 use Rattle.pml_steps.proofs.Inward.{first_shown, body_same}
 use Rattle.pml_steps.proofs.within.chosen.Goals as goal

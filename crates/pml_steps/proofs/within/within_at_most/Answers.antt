@@ -6,7 +6,7 @@ use Rattle.pml_flow.specs.Points.{point_at}
 use Rattle.pml_steps.specs.declared.within.Inner.{Inner}
 use Rattle.pml_steps.specs.declared.within.Inner.TheVariants.{Left, At}
 use Rattle.pml_steps.specs.Live.{Does}
-use Rattle.pml_steps.specs.Outcome.{within}
+use Rattle.promela_run.specs.Steps.{within}
 use Rattle.pml_steps.specs.Inside.{Advances, advanced}
 use Rattle.pml_steps.proofs.Inward.{follows_first, follows_next, follows_left, follows_stop, follows_long, joins_same, joins_on, past_same, past_on, still_there, body_still}
 use Rattle.pml_steps.proofs.within.within_at_most.Goals as goal

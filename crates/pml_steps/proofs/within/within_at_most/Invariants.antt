@@ -3,7 +3,7 @@ use Rattle.std.specs.Io.{StartsWith}
 use Rattle.pml_program.specs.declared.program.Seq.{Seq}
 use Rattle.pml_flow.specs.Points.{point_at}
 use Rattle.pml_steps.specs.Live.{Joins, PastGrows}
-use Rattle.pml_steps.specs.Outcome.{body_by}
+use Rattle.promela_run.specs.Steps.{body_by}
 use Rattle.pml_steps.proofs.Inward.{Follows}
 use Rattle.pml_steps.proofs.within.within_at_most.Given as goal
 

@@ -1,9 +1,9 @@
 use Rattle.std.proofs.Common.{◌≡◌, ◌++◌, drop, map, List, ℕ}
 use Rattle.std.specs.Io.{StartsWith}
-use Rattle.pml_moves.specs.State.{Stand}
+use Rattle.promela_run.specs.State.{Stand}
 use Rattle.pml_moves.specs.Scene.{stand_of}
-use Rattle.pml_moves.specs.Search.{each}
-use Rattle.pml_texts.specs.Texts.{stuck_by}
+use Rattle.promela_run.specs.Moves.{each}
+use Rattle.promela_run.specs.Texts.{stuck_by}
 use Rattle.pml_texts.proofs.ends.add_stuck.Given as goal
 
 -- what is added and the rest's are all

@@ -1,5 +1,5 @@
 use Rattle.std.proofs.Common.{length, w32, to_z, of_z, sym, ap, ◌∙◌}
-use Rattle.pml_channel.specs.State.{ChannelState}
+use Rattle.promela_process.specs.Store.{ChannelState}
 use Rattle.pml_value.proofs.Channels.{contents-of}
 use Rattle.pml_value.proofs.message.named.Goals as goal
 

@@ -1,4 +1,4 @@
-use Rattle.pml_value.specs.Messages.{with_message}
+use Rattle.promela_run.specs.Statements.{with_message}
 use Rattle.pml_value.proofs.Channels.{changed-ok}
 use Rattle.pml_value.proofs.message.put_at.Goals as goal
 

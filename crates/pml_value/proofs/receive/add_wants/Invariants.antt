@@ -1,7 +1,7 @@
 use Rattle.std.proofs.Common.{◌≡◌, ◌++◌, Ok, map, drop, length}
-use Rattle.pml_store.specs.Store.{size_at}
+use Rattle.promela_process.specs.Store.{size_at}
 use Rattle.pml_eval.specs.There.{AreThere}
-use Rattle.pml_eval.specs.Value.{want, wants_of, ◌>>=◌}
+use Rattle.promela_process.specs.Expressions.{want, wants_of, ◌>>=◌}
 use Rattle.pml_value.specs.Seen.{seen}
 use Rattle.pml_value.proofs.receive.add_wants.Given as goal
 

@@ -1,5 +1,5 @@
 use Rattle.pml_tree.specs.declared.tree.Removal.TheVariants.{Remove}
-use Rattle.pml_value.specs.Messages.{without}
+use Rattle.promela_run.specs.Statements.{without}
 use Rattle.pml_value.proofs.Channels.{changed-set, kept}
 use Rattle.pml_value.proofs.receive.remove_at.Goals as goal
 

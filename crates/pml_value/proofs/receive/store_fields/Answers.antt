@@ -1,7 +1,7 @@
 use Rattle.std.proofs.Common.{◌≡◌, ◌<◌, ◌≤◌, length, get_or, min, pos, arith, rules, w32, FitsSigned, ◌∙◌}
 use Rattle.std.proofs.lemmas.Int.{to_z-of_z}
-use Rattle.pml_eval.specs.declared.pattern.Sought.TheVariants.{Exactly}
-use Rattle.pml_value.specs.Messages.{goes_of}
+use Rattle.promela_process.specs.declared.sought.Sought.TheVariants.{Exactly}
+use Rattle.promela_run.specs.Statements.{goes_of}
 use Rattle.pml_value.specs.Storing.{stored_all}
 use Rattle.pml_value.proofs.Storing.{done-next, done-all, all-there-still, there-next, past-one}
 use Rattle.pml_value.proofs.receive.store_fields.Goals as goal

@@ -1,5 +1,5 @@
 use Rattle.std.proofs.Common.{◌≡◌, drop}
-use Rattle.pml_store.specs.Store.{size_at}
+use Rattle.promela_process.specs.Store.{size_at}
 use Rattle.pml_store.specs.Writing.{before}
 use Rattle.pml_eval.specs.There.{AreThere}
 use Rattle.pml_value.proofs.Storing.{Done}

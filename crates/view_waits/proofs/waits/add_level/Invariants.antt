@@ -1,8 +1,8 @@
 use Rattle.std.proofs.Common.{◌≡◌, ◌++◌, ◌∷◌, [], drop, map, List, ℕ}
-use Rattle.pml_flow.specs.Flow.{Offer}
+use Rattle.promela_process.specs.Offers.{Offer}
 use Rattle.pml_value.specs.Seen.{seen}
 use Rattle.pml_moves.specs.Scene.{shows}
-use Rattle.pml_moves.specs.Search.{each, pick}
+use Rattle.promela_run.specs.Moves.{each, pick}
 use Rattle.view_waits.specs.declared.waits.Wait.{Wait}
 use Rattle.view_waits.specs.Waits.{wait_of}
 use Rattle.view_waits.proofs.waits.add_level.Given as goal

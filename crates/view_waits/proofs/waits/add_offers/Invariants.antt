@@ -1,7 +1,7 @@
 use Rattle.std.proofs.Common.{◌≡◌, ◌++◌, drop}
 use Rattle.pml_value.specs.Seen.{seen}
 use Rattle.pml_moves.specs.Scene.{offers_at}
-use Rattle.pml_moves.specs.Search.{each}
+use Rattle.promela_run.specs.Moves.{each}
 use Rattle.view_waits.specs.Waits.{waits_on}
 use Rattle.view_waits.proofs.waits.add_offers.Given as goal
 

@@ -1,7 +1,7 @@
 use Rattle.std.proofs.Common.{◌≡◌, ◌∙◌, ◌++◌, ap, subst, List, Some}
 use Rattle.std.specs.Prelude.{OnOk}
-use Rattle.pml_eval.specs.Value.{Reading}
-use Rattle.pml_value.specs.declared.live_channel.LiveChannel.{LiveChannel}
+use Rattle.promela_process.specs.Expressions.{Reading}
+use Rattle.promela_run.specs.declared.live_channel.LiveChannel.{LiveChannel}
 use Rattle.pml_value.specs.Seen.{seen}
 use Rattle.pml_moves.specs.Scene.{offers_at, stand_of}
 use Rattle.view_waits.specs.declared.waits.Wait.{Wait}

@@ -1,6 +1,6 @@
 use Rattle.std.proofs.Common.{◌≡◌, ◌∙◌, ◌++◌, ap, sym, subst, ℕ, Bool, false, List, Option, Some, None}
 use Rattle.std.specs.Prelude.{OnOk, slice_get}
-use Rattle.pml_moves.specs.State.{State}
+use Rattle.promela_run.specs.State.{State}
 use Rattle.view_waits.specs.declared.waits.Wait.{Wait}
 use Rattle.view_waits.specs.Searched.{control_by}
 use Rattle.view_waits.specs.Waits.{is_in, waits_at, waits_here}

@@ -1,6 +1,6 @@
 use Rattle.std.proofs.Common.{◌∙◌, ap, List}
 use Rattle.std.specs.Prelude.{slice_get}
-use Rattle.pml_moves.specs.declared.moves.Move.{Move}
+use Rattle.promela_run.specs.declared.moves.Move.{Move}
 use Rattle.view_waits.specs.Searched.{timeout_by}
 use Rattle.view_waits.proofs.Searched.{timeout_is}
 use Rattle.view_waits.proofs.waits.timeout_of.Goals as goal

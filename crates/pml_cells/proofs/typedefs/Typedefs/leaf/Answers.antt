@@ -1,6 +1,6 @@
 use Rattle.std.proofs.Common.{◌≡◌, suc, ◌-◌, ◌+◌, ◌∙◌, length, Option, sym, ap, arith}
 use Rattle.pml_program.specs.declared.program.Slot.{Slot}
-use Rattle.pml_cells.specs.Cells.{last_field, leaf}
+use Rattle.promela_run.specs.State.{last_field, leaf}
 use Rattle.pml_cells.specs.Tables.{field_by, slot_or}
 use Rattle.pml_cells.proofs.Leading.{ended, led}
 use Rattle.pml_cells.proofs.typedefs.Typedefs.leaf.Goals as goal

@@ -1,5 +1,5 @@
 use Rattle.std.proofs.Common.{◌≡◌, ◌-◌, length}
-use Rattle.pml_cells.specs.Cells.{last_field, leaf}
+use Rattle.promela_run.specs.State.{last_field, leaf}
 use Rattle.pml_cells.specs.Tables.{field_by}
 use Rattle.pml_cells.proofs.typedefs.Typedefs.leaf.Given as goal
 

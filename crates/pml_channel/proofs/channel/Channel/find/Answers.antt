@@ -1,5 +1,5 @@
 use Rattle.std.proofs.Common.{◌<◌, length, sym, ◌∙◌}
-use Rattle.pml_eval.specs.Value.{matched}
+use Rattle.promela_process.specs.Expressions.{matched}
 use Rattle.pml_channel.proofs.Keeping.{found-here, not-here}
 use Rattle.pml_channel.proofs.channel.Channel.find.Goals as goal
 

@@ -1,6 +1,6 @@
 use Rattle.std.proofs.Common.{◌≡◌, drop}
 use Rattle.std.specs.List.{position_from}
-use Rattle.pml_eval.specs.Value.{matched}
+use Rattle.promela_process.specs.Expressions.{matched}
 use Rattle.pml_channel.proofs.channel.Channel.find.Given as goal
 
 abbrev pub invariant-loop-place : goal.invariant-loop-place

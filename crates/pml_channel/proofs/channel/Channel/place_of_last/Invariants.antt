@@ -1,5 +1,5 @@
 use Rattle.std.proofs.Common.{◌≡◌, ◌++◌, ◌∷◌, [], List, ℤ, take, drop}
-use Rattle.pml_channel.specs.State.{sorted_in}
+use Rattle.promela_process.specs.Store.{sorted_in}
 use Rattle.pml_channel.proofs.channel.Channel.place_of_last.Given as goal
 
 -- those before this place are not greater

@@ -1,5 +1,5 @@
 use Rattle.std.proofs.Common.{◌≡◌, ◌<◌, ◌+◌, ◌++◌, length, drop, List, ℤ, ap, ◌∙◌, arith}
-use Rattle.pml_channel.specs.State.{cut}
+use Rattle.promela_process.specs.Store.{cut}
 use Rattle.pml_channel.specs.Laid.{messages_in}
 use Rattle.pml_channel.proofs.Keeping.{length-messages, length-cut, sent, sent-laid}
 use Rattle.pml_channel.proofs.channel.Channel.send.Goals as goal

@@ -1,6 +1,6 @@
 use Rattle.std.proofs.Common.{rules, ◌≡◌, ◌<◌, ◌≤◌, inl, inr, length, Some}
 use Rattle.pml_moves.specs.declared.scene.Body.{Body}
-use Rattle.pml_moves.specs.State.{body_of}
+use Rattle.promela_run.specs.State.{body_of}
 use Rattle.pml_moves.specs.Scene.{IsBody}
 use Rattle.pml_moves.proofs.Placing.{something_left, nothing_left}
 use Rattle.pml_moves.proofs.scene.Scene.standing.Goals as goal

@@ -1,6 +1,6 @@
 use Rattle.std.proofs.Common.{rules, ◌≡◌, ap, sym, subst, List, IfOk}
 use Rattle.pml_lines.specs.declared.changed.Change.{Change}
-use Rattle.pml_sim.specs.World.{Running}
+use Rattle.promela_run.specs.World.{Running}
 use Rattle.pml_sim.proofs.Stepping.{are_declared, changes_are}
 use Rattle.pml_sim.proofs.world.World.changes.Goals as goal
 

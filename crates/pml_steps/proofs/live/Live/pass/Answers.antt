@@ -1,8 +1,8 @@
 use Rattle.std.proofs.Common.{rules, ◌≡◌, subst, sym, ap, Ok, Result, List}
 use Rattle.diagnostics.specs.declared.fault.Fault.{Fault}
-use Rattle.pml_eval.specs.Value.{Reading}
-use Rattle.pml_value.specs.declared.statement.Goes.{Goes}
-use Rattle.pml_steps.specs.Change.{put_any}
+use Rattle.promela_process.specs.Expressions.{Reading}
+use Rattle.promela_run.specs.declared.goes.Goes.{Goes}
+use Rattle.pml_steps.specs.Calls.{put_any}
 use Rattle.pml_steps.specs.Live.{Leads}
 use Rattle.pml_steps.specs.Held.{live_of}
 use Rattle.pml_steps.proofs.Holding.{held_still, all_stored_stays, all_lead, refused_leads, in_same}

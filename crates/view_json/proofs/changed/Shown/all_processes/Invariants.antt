@@ -1,6 +1,6 @@
 -- the objects of the processes before the loop's
 use Rattle.std.proofs.Common.{◌≡◌, map}
-use Rattle.pml_moves.specs.Search.{moves}
+use Rattle.promela_run.specs.Moves.{moves}
 use Rattle.view_json.specs.Shown.{ListsOldest}
 use Rattle.view_json.proofs.changed.Shown.all_processes.Given as goal
 

@@ -1,7 +1,7 @@
 -- The choice leads from the state where the walk stands to the one behind it.
 use Rattle.std.proofs.Common.{◌≡◌, ◌∙◌, ap, sym, subst, ℕ, ◌+◌, List, length}
-use Rattle.pml_moves.specs.declared.moves.Move.{Move}
-use Rattle.pml_sim.specs.World.{moves}
+use Rattle.promela_run.specs.declared.moves.Move.{Move}
+use Rattle.promela_run.specs.World.{moves}
 use Rattle.view_walk.specs.declared.turn.Turn.{Turn}
 use Rattle.view_walk.specs.Choices.{numbered, with_turn}
 use Rattle.view_walk.specs.Walks.{Walked, IsWalk}

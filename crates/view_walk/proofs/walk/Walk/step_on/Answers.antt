@@ -3,8 +3,8 @@ use Rattle.std.proofs.Common.{◌∙◌, ap, sym, subst, refl, ◌<◌, List, le
 use Rattle.std.proofs.lemmas.Option.{slice_get_read}
 use Rattle.diagnostics.specs.declared.stop.Stop.{Stop}
 use Rattle.session.specs.Takes.{IsReason}
-use Rattle.pml_moves.specs.declared.moves.Move.{Move}
-use Rattle.pml_sim.specs.World.{moves, rules}
+use Rattle.promela_run.specs.declared.moves.Move.{Move}
+use Rattle.promela_run.specs.World.{moves, rules}
 use Rattle.view_walk.specs.Choices.{numbered}
 use Rattle.view_walk.specs.Walks.{Walked}
 use Rattle.view_walk.proofs.Leads.{numbered_there}

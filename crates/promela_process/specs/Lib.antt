@@ -1,0 +1,6 @@
+pub mod Numbers
+pub mod Expressions
+pub mod Store
+pub mod Control
+pub mod Offers
+pub mod Circles

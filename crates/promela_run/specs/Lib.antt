@@ -1,0 +1,8 @@
+pub mod State
+pub mod Statements
+pub mod Moves
+pub mod Lines
+pub mod Steps
+pub mod Texts
+pub mod World
+pub mod Judged

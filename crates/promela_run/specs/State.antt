@@ -1,0 +1,275 @@
+-- A state of a model with any number of processes: which cells its variables have, what an expression of a process reads, the first state, and
+-- what processes are offered.
+-- Hold it against chapter 7 of the book: what a state holds; the pages `arrays`, `typedef`, `datatypes`, `chan`, `init`, `active`, `_pid` and `_nr_pr`.
+use Rattle.std.specs.Prelude.{ℕ, zero, suc, length, ◌-◌, ◌*◌, ◌%◌, nat_eq, ltb, if◌then◌else◌, List, [], ◌∷◌, Option, Some, None, ◌+◌, Bool, ℤ, pos, negsuc, option_map, slice_get, min, ◌++◌, map, false, nat_lt, Result, Ok, Err}
+use Rattle.pml_program.specs.declared.form.Form.{Form}
+use Rattle.pml_program.specs.declared.form.Form.TheVariants as kind
+use Rattle.pml_program.specs.declared.program.Slot.{Slot}
+use Rattle.pml_program.specs.declared.program.Fields.{Fields}
+use Rattle.promela_process.specs.Expressions.{Reading, Filling, val, ◌>>=◌}
+use Rattle.promela_process.specs.Store.{Frame, size_at, number_at, ChannelState, with_number, zeros}
+use Rattle.promela_run.specs.declared.live_channel.LiveChannel.{LiveChannel}
+use Rattle.profile.specs.declared.TheConstants.{MOST_CHANNELS, MOST_MESSAGES, MOST_PROCESSES}
+use Rattle.diagnostics.specs.declared.fault.Fault.{Fault}
+use Rattle.diagnostics.specs.declared.fault.Fault.TheVariants.{TooManyChannels}
+use Rattle.pml_program.specs.declared.expr.Expr.{Expr}
+use Rattle.pml_program.specs.declared.program.Initial.{Initial}
+use Rattle.pml_program.specs.declared.program.Initial.TheVariants as i
+use Rattle.promela_process.specs.Numbers.{clipped}
+use Rattle.promela_process.specs.declared.place.Place.{Place}
+use Rattle.pml_program.specs.declared.program.Proctype.{Proctype}
+use Rattle.pml_program.specs.declared.program.Program.{Program}
+use Rattle.promela_process.specs.Offers.{Offer, offer_of, offers}
+use Rattle.promela_run.specs.declared.moves.Pick.{Pick}
+use Rattle.pml_program.specs.declared.program.Seq.{Seq}
+use Rattle.promela_process.specs.Control.{Control, settle, at, steps}
+
+-- how many cells a variable or a field has
+abbrev pub size : Slot → ℕ
+size s = s.length * s.stride
+
+-- of variables or fields that lie one behind another, the one with this cell, if they have as many
+abbrev pub slot_of : List Slot → ℕ → Option Slot
+slot_of [] i = None
+slot_of (s ∷ ss) i = if ltb i (size s) then Some s else slot_of ss (i - size s)
+
+-- the number of this cell in it, or among the cells behind them all
+abbrev pub cell_of : List Slot → ℕ → ℕ
+cell_of [] i = i
+cell_of (s ∷ ss) i = if ltb i (size s) then i else cell_of ss (i - size s)
+
+-- the fields of the typedef with this owner
+abbrev pub fields_at : List Fields → ℕ → List Slot
+fields_at [] o = []
+fields_at (t ∷ ts) o = if nat_eq o t.owner then t.fields else fields_at ts o
+
+-- the fields of a type: a typedef's alone has any
+abbrev pub fields_of : List Fields → Form → List Slot
+fields_of ts (kind.Struct o) = fields_at ts o
+fields_of ts _ = []
+
+-- the last of n fields at most that lead to a cell within an element of a variable or field
+abbrev pub last_field : List Fields → ℕ → Slot → ℕ → Slot
+last_field ts zero s cell = s
+last_field ts (suc n) s cell = elim (slot_of (fields_of ts s.form) cell) as (λ _. Slot) [
+  | None ↦ s
+  | Some f ↦ last_field ts n f (cell_of (fields_of ts s.form) cell % f.stride)
+]
+
+-- The field of no typedef's type that a cell of a variable is in, or the variable itself. The fields of a typedef are of earlier ones,
+-- so no more lead to a cell than there are typedefs.
+abbrev pub leaf : List Fields → Slot → ℕ → Slot
+leaf ts s cell = last_field ts (length ts) s (cell % s.stride)
+
+-- ---- what an expression of one process reads
+
+-- frame 0 has the globals, and frame n + 1 the variables of process n
+abbrev pub frame_of : ℕ → Bool → ℕ
+frame_of pid local = if local then pid + 1 else 0
+
+-- a channel's number is its place in the list of live channels, from 1
+abbrev pub channel_at : List LiveChannel → ℤ → Option ChannelState
+channel_at channels (pos zero) = None
+channel_at channels (pos (suc n)) = option_map (λ o. o.channel) (slice_get channels n)
+channel_at channels (negsuc n) = None
+
+-- what an expression reads of a channel
+abbrev pub filling : ChannelState → Filling
+filling c = record { capacity = c.capacity; fields = length c.types; messages = c.messages }
+
+-- what a process with this number reads of the frames and the live channels, where so many processes live
+abbrev pub reading_of : List Frame → List LiveChannel → ℕ → ℕ → Bool → Reading
+reading_of frames channels pid process_count timeout = record {
+  frame = frame_of pid;
+  cells = size_at frames;
+  holds = number_at frames;
+  pid = pos pid;
+  process_count = pos process_count;
+  timeout = timeout;
+  channel = λ n. option_map filling (channel_at channels n);
+}
+
+-- ---- what the variables of a frame begin with
+
+-- What the variables of each frame hold, the live channels, and the proctypes of the live processes by their numbers in the
+-- model. Frame 0 has the globals, and frame n + 1 the variables of process n.
+pub record Begun : Type 0 where
+  pub frames : List Frame
+  pub channels : List LiveChannel
+  pub kinds : List ℕ
+
+-- a beginning in which nothing is there
+abbrev pub nothing : Begun
+nothing = record { frames = []; channels = []; kinds = [] }
+
+-- what the initialisers of the youngest frame read: its number, how many processes live, and what is there by now
+abbrev pub read_in : Begun → Reading
+read_in b = reading_of b.frames b.channels (length b.kinds - 1) (length b.kinds) false
+
+-- a cell of a variable of the youngest frame
+abbrev pub cell_in : Begun → ℕ → ℕ → Place
+cell_in b variable cell = record { frame = length b.kinds; variable = variable; cell = cell }
+
+-- a number in a cell
+abbrev pub with_value : ℕ → ℕ → ℤ → Begun → Begun
+with_value variable cell v b = record b { frames = with_number b.frames (cell_in b variable cell) v }
+
+-- a channel has a capacity of at most 65,535, which is all that a checked model asks for
+abbrev pub empty_channel : ℕ → List Form → ChannelState
+empty_channel capacity types = record { capacity = min capacity MOST_MESSAGES; types = types; messages = [] }
+
+-- a new channel, and its number in a cell
+abbrev pub with_channel : ℕ → ℕ → ChannelState → Begun → Result Begun Fault
+with_channel variable cell c b =
+    if nat_lt (length b.channels) MOST_CHANNELS then Ok (record b {
+      frames = with_number b.frames (cell_in b variable cell) (pos (length b.channels + 1));
+      channels = b.channels ++ record { frame = length b.kinds; channel = c } ∷ [];
+    }) else Err TooManyChannels
+
+-- what a type keeps of the value of an initialiser
+abbrev pub initial_value : Expr → Form → Begun → Result ℤ Fault
+initial_value v form b = val v (read_in b) >>= λ n. Ok (clipped form n)
+
+-- what a cell begins with. The initialiser of a field is a constant: it is evaluated where nothing is there.
+abbrev pub cell_begun : Initial → Form → ℕ → ℕ → Begun → Result Begun Fault
+cell_begun i.Zero form variable cell b = Ok b
+cell_begun (i.Value v) form variable cell b = initial_value v form nothing >>= λ n. Ok (with_value variable cell n b)
+cell_begun (i.Channel capacity types) form variable cell b = with_channel variable cell (empty_channel capacity types) b
+
+-- a number in n cells, from this one on
+abbrev pub with_values : ℕ → ℤ → ℕ → ℕ → Begun → Begun
+with_values variable v cell zero b = b
+with_values variable v cell (suc n) b = with_values variable v (cell + 1) n (with_value variable cell v b)
+
+-- what a cell of a variable begins with, by the field that has it, or the variable itself where its type has no fields
+abbrev pub leaf_begun : List Fields → Slot → ℕ → ℕ → Begun → Result Begun Fault
+leaf_begun ts s variable cell = cell_begun (leaf ts s cell).initial (leaf ts s cell).form variable cell
+
+-- n cells of a variable in order, from this one on
+abbrev pub fields_begun : List Fields → Slot → ℕ → ℕ → ℕ → Begun → Result Begun Fault
+fields_begun ts s variable cell zero b = Ok b
+fields_begun ts s variable cell (suc n) b =
+    leaf_begun ts s variable cell b >>= fields_begun ts s variable (cell + 1) n
+
+-- what a variable begins with: a value is evaluated once, for all cells; without one, each cell begins by itself, and a channel
+-- is made for each
+abbrev pub variable_begun : List Fields → Initial → Slot → ℕ → Begun → Result Begun Fault
+variable_begun ts (i.Value v) s variable b = initial_value v s.form b >>= λ n. Ok (with_values variable n 0 (size s) b)
+variable_begun ts _ s variable b = fields_begun ts s variable 0 (size s) b
+
+-- the variables of a frame in order of declaration, from this number on
+abbrev pub variables_begun : List Fields → List Slot → ℕ → Begun → Result Begun Fault
+variables_begun ts [] variable b = Ok b
+variables_begun ts (s ∷ ss) variable b = variable_begun ts s.initial s variable b >>= variables_begun ts ss (variable + 1)
+
+-- one more frame, with 0 in each cell
+abbrev pub with_frame : List Slot → Begun → Begun
+with_frame ss b = record b { frames = b.frames ++ zeros (map size ss) ∷ [] }
+
+-- the variables of one more frame: 0 in each cell, and then the initialisers
+abbrev pub frame_begun : List Fields → List Slot → Begun → Result Begun Fault
+frame_begun ts ss b = variables_begun ts ss 0 (with_frame ss b)
+
+-- ---- which processes begin, and with what
+
+-- the variables of a proctype, if it is there
+abbrev pub variables_of : Option Proctype → List Slot
+variables_of None = []
+variables_of (Some p) = p.variables
+
+-- the variables of the proctype with this number
+abbrev pub variables_at : Program → ℕ → List Slot
+variables_at p k = variables_of (slice_get p.proctypes k)
+
+-- a process of the proctype with this number; none is the 256th
+abbrev pub process_begun : Program → ℕ → Begun → Result Begun Fault
+process_begun p k b =
+    if nat_lt (length b.kinds) MOST_PROCESSES then frame_begun p.typedefs (variables_at p k) (record b { kinds = b.kinds ++ k ∷ [] }) else Ok b
+
+-- n such processes
+abbrev pub kind_begun : Program → ℕ → ℕ → Begun → Result Begun Fault
+kind_begun p k zero b = Ok b
+kind_begun p k (suc n) b = process_begun p k b >>= kind_begun p k n
+
+-- the processes that these proctypes start with, from the one with the number k on
+abbrev pub kinds_begun : Program → ℕ → List Proctype → Begun → Result Begun Fault
+kinds_begun p k [] b = Ok b
+kinds_begun p k (q ∷ qs) b = kind_begun p k q.starts b >>= kinds_begun p (k + 1) qs
+
+-- the globals, and then the processes one after the other
+abbrev pub first_state : Program → Result Begun Fault
+first_state p = frame_begun p.typedefs p.globals nothing >>= kinds_begun p 0 p.proctypes
+
+-- ---- a state, and what its processes are offered
+
+-- A process: its proctype, by its number in the model, and what it still has to do. At its closing brace nothing is left.
+pub record Stand : Type 0 where
+  pub kind : ℕ
+  pub control : Control
+
+-- A state. The frames are what the variables hold, the globals' first, then those of each process; the oldest process is first, and
+-- so is the oldest channel. The holder has exclusive control. Where it is lossy, what is sent to a full channel is lost.
+pub record State : Type 0 where
+  pub program : Program
+  pub frames : List Frame
+  pub stands : List Stand
+  pub channels : List LiveChannel
+  pub holder : Option ℕ
+  pub lossy : Bool
+
+-- what an expression of a process reads, under this `timeout`
+abbrev pub reads : State → ℕ → Bool → Reading
+reads s process timeout = reading_of s.frames s.channels process (length s.stands) timeout
+
+-- the body of the proctype with this number
+abbrev pub body_of : Program → ℕ → Option Seq
+body_of pr k = option_map (λ q. q.body) (slice_get pr.proctypes k)
+
+-- the offers of a point of a body, level by level from 0 upwards
+abbrev pub levels : Seq → Control → List (List Offer)
+levels b c = map (map (offer_of b)) (offers b c)
+
+-- none, where there is no body
+abbrev pub levels_in : Option Seq → Control → List (List Offer)
+levels_in None c = []
+levels_in (Some b) c = levels b c
+
+-- none, where there is no point
+abbrev pub levels_from : Seq → Option Control → List (List Offer)
+levels_from b None = []
+levels_from b (Some c) = levels b c
+
+-- what a process of this body has to do before its first statement
+abbrev pub first_control : Seq → Control
+first_control b = settle b (at (steps b) ([], 0))
+
+-- ---- before the first statement
+
+-- a process of this proctype before its first statement
+abbrev pub begins_by : ℕ → Option Seq → Stand
+begins_by k None = record { kind = k; control = [] }
+begins_by k (Some b) = record { kind = k; control = first_control b }
+
+-- a process of the proctype with this number before its first statement
+abbrev pub begins_at : Program → ℕ → Stand
+begins_at p k = begins_by k (body_of p k)
+
+-- ---- the first state
+
+-- all processes stand before their first statements, and nobody holds exclusive control
+abbrev pub begun_state : Program → Begun → Bool → State
+begun_state p b lossy = record { program = p; frames = b.frames; stands = map (begins_at p) b.kinds; channels = b.channels; holder = None; lossy = lossy }
+
+-- an offer of a level by its place, if the level is there
+abbrev pub offer_on : Option (List Offer) → ℕ → Option Offer
+offer_on None i = None
+offer_on (Some os) i = slice_get os i
+
+-- the offer of a process by its level and its place there, if it is there
+abbrev pub offer_at : State → Pick → Option Stand → Option Offer
+offer_at s k None = None
+offer_at s k (Some y) = offer_on (slice_get (levels_in (body_of s.program y.kind) y.control) k.level) k.place
+
+-- of the process where it stands, if there is such a process, such a level, and such a place on it
+abbrev pub picked : State → Pick → Option Offer
+picked s k = offer_at s k (slice_get s.stands k.process)
