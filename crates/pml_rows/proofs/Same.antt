@@ -23,7 +23,7 @@ use Rattle.promela_run.specs.State.{Begun, first_state}
 use Rattle.promela_run.specs.World.{first, rules}
 use Rattle.pml_rows.specs.Seen.{Seen, seen_of, played, seen}
 use Rattle.pml_rows.proofs.Means.{Means, stated, computing, means-are}
-use Rattle.pml_rows.proofs.Copies.{start-first_state, world-rules}
+use Rattle.pml_rows.proofs.Copies.{state-first_state, world-rules}
 
 -- ---- over any means
 
@@ -32,14 +32,14 @@ played_from_by m o p choices (Ok b) = Some (transcript (world-rules m) o (first 
 played_from_by m o p choices (Err f) = None
 
 abbrev pub played_by : Means → Options → Program → List ℕ → Option (Part End)
-played_by m o p choices = played_from_by m o p choices (start-first_state m p)
+played_by m o p choices = played_from_by m o p choices (state-first_state m p)
 
 abbrev pub seen_by : Means → Options → Program → List ℕ → Option Seen
 seen_by m o p choices = option_map seen_of (played_by m o p choices)
 
 -- ---- over those of the definitions they are the definitions
 
-first-same : first_state ≡ start-first_state stated
+first-same : first_state ≡ state-first_state stated
 first-same = refl
 
 rules-same : rules ≡ world-rules stated
