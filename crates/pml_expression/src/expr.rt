@@ -1,6 +1,7 @@
 //! Expressions, by precedence climbing.
 
-ghost use Rattle.std.specs.Prelude.{length};
+ghost use Rattle.std.specs.Prelude.{◌≡◌, IfOk, length};
+ghost use Rattle.pml_tree.specs.declared.tree.Expr.TheVariants as term;
 ghost use Rattle.promela_model.specs.GrammarOfExpressions.{prefix_level};
 ghost use Rattle.pml_expression.specs.Reading as reading;
 ghost use Rattle.pml_expression.specs.Reading.{Reads};
@@ -12,7 +13,7 @@ use crate::references::{expr_between, polled, reference};
 use pml_token::token::Kind;
 use pml_tree::tree::{Expr, Fill, Infix, Prefix, Reference};
 use sqlite_items::Boxed;
-use std::alloc::Global;
+use std::alloc::{AllocError, Global};
 
 /// The operand that begins with a reference, behind that.
 #[cycle(expr)]
@@ -139,6 +140,18 @@ fn ask<'a>(
     tokens.closing(Kind::CloseParen, Expr::Ask(fill, r))
 }
 
+/// An operand with the operator before it, in a box. It stands by itself, so that an operator takes little of the stack.
+#[inline(never)]
+fn operated<'a>(
+    alloc: Global,
+    op: Prefix,
+    x: Boxed<Expr<'a>>,
+) -> Result<Boxed<Expr<'a>>, AllocError>
+    ensures { IfOk result (λ e. e ≡ term.Unary op x.entry) }
+{
+    Ok(Boxed::new(alloc, Expr::Unary(op, x))?)
+}
+
 /// The operand of an operator before it, in a box: a thousand such operators in a row take little of the stack.
 #[cycle(expr)]
 #[inline(never)]
@@ -158,7 +171,7 @@ fn boxed_operand<'a>(
     }
     tokens.skip();
     let x = boxed_operand(alloc, depth - 1, tokens)?;
-    Ok(Boxed::new(alloc, Expr::Unary(op, x))?)
+    Ok(operated(alloc, op, x)?)
 }
 
 /// The operand of an operator before it, behind that.

@@ -2,6 +2,7 @@
 
 ghost use Rattle.std.specs.Prelude.{◌≡◌, ◌++◌, map, IfOk, OnOk};
 ghost use Rattle.pml_tree.specs.declared.tree.Reference.{out-Reference};
+ghost use Rattle.pml_program.specs.declared.expr.Expr.TheVariants as term;
 ghost use Rattle.pml_resolve.specs.Numbered.{scope_of, through, placed_by, numbered, numbered_argument, numbered_reference, numbered_step, at_scope, is_local, literal, signed, mtype, read, target, received, turn_of, target_of, no_target};
 
 use crate::reached::Reached;
@@ -12,7 +13,7 @@ use pml_names::meaning::{field, is_any, is_count, is_pid, meaning};
 use pml_names::table::Table;
 use pml_program::expr::{Expr, Target, Turn, Want};
 use pml_program::form::Form;
-use pml_tree::tree::{Argument, Expr as TreeExpr, Reference, Sign, Step};
+use pml_tree::tree::{Argument, Expr as TreeExpr, Infix, Prefix, Reference, Sign, Step};
 use profile::MOST_CONSTANTS;
 use promela_model::mark::Constant;
 use promela_model::thing::{Thing, Variable};
@@ -107,8 +108,39 @@ fn turn(offset: u32, v: Variable, index: Option<Boxed<Expr>>) -> Turn
     }
 }
 
-/// An expression with its names replaced, in a box. It stands by itself, and goes through operators by itself, so that a level of nesting
-/// takes little of the stack.
+/// What an operator with one operand stands for, in a box. It stands by itself, as those below do, so that a level of nesting takes
+/// little of the stack.
+#[inline(never)]
+fn unary(alloc: Global, op: Prefix, x: Boxed<Expr>) -> Result<Boxed<Expr>, AllocError>
+    ensures { IfOk result (λ e. e ≡ term.Unary op x) }
+{
+    Ok(Boxed::new(alloc, Expr::Unary(op, x))?)
+}
+
+/// What an operator with two operands stands for, in a box.
+#[inline(never)]
+fn binary(
+    alloc: Global,
+    op: Infix,
+    x: Boxed<Expr>,
+    y: Boxed<Expr>,
+) -> Result<Boxed<Expr>, AllocError>
+    ensures { IfOk result (λ e. e ≡ term.Binary op x y) }
+{
+    Ok(Boxed::new(alloc, Expr::Binary(op, x, y))?)
+}
+
+/// An expression that is no operator, with its names replaced, in a box.
+#[cycle(expression)]
+#[inline(never)]
+fn other(alloc: Global, e: &TreeExpr, within: Scope<'_, '_, '_>) -> Result<Boxed<Expr>, AllocError>
+    ensures { IfOk result (λ x. x ≡ numbered e.now (scope_of within.entry)) }
+{
+    let x = expr(alloc, e, within)?;
+    Ok(Boxed::new(alloc, x)?)
+}
+
+/// An expression with its names replaced, in a box. It goes through operators by itself.
 #[cycle(expression)]
 #[inline(never)]
 fn boxed(alloc: Global, e: &TreeExpr, within: Scope<'_, '_, '_>) -> Result<Boxed<Expr>, AllocError>
@@ -117,17 +149,14 @@ fn boxed(alloc: Global, e: &TreeExpr, within: Scope<'_, '_, '_>) -> Result<Boxed
     match e {
         TreeExpr::Unary(op, a) => {
             let x = boxed(alloc, a.get(), within)?;
-            Ok(Boxed::new(alloc, Expr::Unary(*op, x))?)
+            unary(alloc, *op, x)
         }
         TreeExpr::Binary(op, a, b) => {
             let x = boxed(alloc, a.get(), within)?;
             let y = boxed(alloc, b.get(), within)?;
-            Ok(Boxed::new(alloc, Expr::Binary(*op, x, y))?)
+            binary(alloc, *op, x, y)
         }
-        _ => {
-            let x = expr(alloc, e, within)?;
-            Ok(Boxed::new(alloc, x)?)
-        }
+        _ => other(alloc, e, within),
     }
 }
 

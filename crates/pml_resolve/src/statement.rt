@@ -1,11 +1,12 @@
 //! Bodies, with their names replaced.
 
-ghost use Rattle.std.specs.Prelude.{◌≡◌, ◌++◌, Some, map, IfOk, OnOk};
-ghost use Rattle.pml_program.specs.declared.program.Basic.{Plain};
+ghost use Rattle.std.specs.Prelude.{◌≡◌, ◌++◌, ◌∷◌, [], Some, map, IfOk, OnOk};
+ghost use Rattle.promela_model.specs.declared.mark.Role.TheVariants as role;
+ghost use Rattle.pml_program.specs.declared.program.Basic.{Plain, Goto, Break, If, Do, Block, Atomic, DStep, Unless};
 ghost use Rattle.pml_names.specs.Totals.{IsTotalled};
-ghost use Rattle.pml_resolve.specs.Declarations.{known};
+ghost use Rattle.pml_resolve.specs.Declarations.{known, with_variables};
 ghost use Rattle.pml_resolve.specs.Numbered.{owned, scope_of};
-ghost use Rattle.pml_resolve.specs.Statements.{action, each, two, stmts, numbered_basic, numbered_item, numbered_seq};
+ghost use Rattle.pml_resolve.specs.Statements.{action, each, stmts, numbered_item, numbered_seq};
 
 use crate::action::action;
 use crate::declare::{Holder, variables};
@@ -15,7 +16,7 @@ use pml_names::names::Names;
 use pml_program::program::{Basic, Seq, Slot, Stmt};
 use pml_token::token::Token;
 use pml_tree::tokens::Tokens;
-use pml_tree::tree::{Action as TreeAction, Basic as TreeBasic, Item, Seq as TreeSeq};
+use pml_tree::tree::{Action as TreeAction, Basic as TreeBasic, Item, Seq as TreeSeq, Variable};
 use promela_model::mark::Role;
 use sqlite_items::Items;
 use std::alloc::{AllocError, Global};
@@ -30,20 +31,7 @@ fn copied<'a>(alloc: Global, labels: &[Token<'a>]) -> Result<Items<Token<'a>>, A
     Ok(copies)
 }
 
-/// A statement that gives no structure. It stands by itself, so that a level of nesting takes little of the stack.
-#[inline(never)]
-fn plain<'a>(
-    alloc: Global,
-    a: &TreeAction<'a>,
-    within: Scope<'_, '_, '_>,
-) -> Result<Option<Basic<'a>>, AllocError>
-    ensures { IfOk result (λ x. x ≡ Some (Plain (action a.now (scope_of within.entry)))) }
-{
-    let x = action(alloc, a, within)?;
-    Ok(Some(Basic::Plain(x)))
-}
-
-/// Adds a statement. It stands by itself for the same reason.
+/// Adds a statement. It stands by itself, as those below do, so that a level of nesting takes little of the stack.
 #[inline(never)]
 fn add<'a>(
     labels: Items<Token<'a>>,
@@ -60,50 +48,144 @@ fn add<'a>(
     })
 }
 
-#[cycle(statement)]
+/// Adds a statement that gives no structure.
 #[inline(never)]
-fn basic<'a>(
+fn add_plain<'a>(
     alloc: Global,
-    b: &TreeBasic<'a>,
+    labels: Items<Token<'a>>,
+    a: &TreeAction<'a>,
+    within: Scope<'_, '_, '_>,
+    tokens: Tokens<'a>,
+    steps: &mut Items<Stmt<'a>>,
+) -> Result<(), AllocError>
+    ensures { OnOk result (steps.new ≡ steps.old ++ stmts labels.entry (Some (Plain (action a.now (scope_of within.entry)))) tokens.entry) }
+{
+    let x = action(alloc, a, within)?;
+    add(labels, Basic::Plain(x), tokens, steps)
+}
+
+/// Adds a jump to a label.
+#[inline(never)]
+fn add_goto<'a>(
+    labels: Items<Token<'a>>,
+    label: &Token<'a>,
+    tokens: Tokens<'a>,
+    steps: &mut Items<Stmt<'a>>,
+) -> Result<(), AllocError>
+    ensures { OnOk result (steps.new ≡ steps.old ++ stmts labels.entry (Some (Goto label.now)) tokens.entry) }
+{
+    add(labels, Basic::Goto(label.copied()), tokens, steps)
+}
+
+/// Adds a `break`.
+#[inline(never)]
+fn add_break<'a>(
+    labels: Items<Token<'a>>,
+    tokens: Tokens<'a>,
+    steps: &mut Items<Stmt<'a>>,
+) -> Result<(), AllocError>
+    ensures { OnOk result (steps.new ≡ steps.old ++ stmts labels.entry (Some Break) tokens.entry) }
+{
+    add(labels, Basic::Break, tokens, steps)
+}
+
+/// Adds an `if`.
+#[inline(never)]
+fn add_if<'a>(
+    labels: Items<Token<'a>>,
+    options: Items<Seq<'a>>,
+    tokens: Tokens<'a>,
+    steps: &mut Items<Stmt<'a>>,
+) -> Result<(), AllocError>
+    ensures { OnOk result (steps.new ≡ steps.old ++ stmts labels.entry (Some (If options.entry)) tokens.entry) }
+{
+    add(labels, Basic::If(options), tokens, steps)
+}
+
+/// Adds a `do`.
+#[inline(never)]
+fn add_do<'a>(
+    labels: Items<Token<'a>>,
+    options: Items<Seq<'a>>,
+    tokens: Tokens<'a>,
+    steps: &mut Items<Stmt<'a>>,
+) -> Result<(), AllocError>
+    ensures { OnOk result (steps.new ≡ steps.old ++ stmts labels.entry (Some (Do options.entry)) tokens.entry) }
+{
+    add(labels, Basic::Do(options), tokens, steps)
+}
+
+/// Adds a block.
+#[inline(never)]
+fn add_block<'a>(
+    labels: Items<Token<'a>>,
+    inside: Seq<'a>,
+    tokens: Tokens<'a>,
+    steps: &mut Items<Stmt<'a>>,
+) -> Result<(), AllocError>
+    ensures { OnOk result (steps.new ≡ steps.old ++ stmts labels.entry (Some (Block inside.entry)) tokens.entry) }
+{
+    add(labels, Basic::Block(inside), tokens, steps)
+}
+
+/// Adds an `atomic`.
+#[inline(never)]
+fn add_atomic<'a>(
+    labels: Items<Token<'a>>,
+    inside: Seq<'a>,
+    tokens: Tokens<'a>,
+    steps: &mut Items<Stmt<'a>>,
+) -> Result<(), AllocError>
+    ensures { OnOk result (steps.new ≡ steps.old ++ stmts labels.entry (Some (Atomic inside.entry)) tokens.entry) }
+{
+    add(labels, Basic::Atomic(inside), tokens, steps)
+}
+
+/// Adds a `d_step`.
+#[inline(never)]
+fn add_d_step<'a>(
+    labels: Items<Token<'a>>,
+    inside: Seq<'a>,
+    tokens: Tokens<'a>,
+    steps: &mut Items<Stmt<'a>>,
+) -> Result<(), AllocError>
+    ensures { OnOk result (steps.new ≡ steps.old ++ stmts labels.entry (Some (DStep inside.entry)) tokens.entry) }
+{
+    add(labels, Basic::DStep(inside), tokens, steps)
+}
+
+/// Adds an `unless`.
+#[inline(never)]
+fn add_unless<'a>(
+    labels: Items<Token<'a>>,
+    main: Seq<'a>,
+    escape: Seq<'a>,
+    tokens: Tokens<'a>,
+    steps: &mut Items<Stmt<'a>>,
+) -> Result<(), AllocError>
+    ensures { OnOk result (steps.new ≡ steps.old ++ stmts labels.entry (Some (Unless main.entry escape.entry)) tokens.entry) }
+{
+    add(labels, Basic::Unless(main, escape), tokens, steps)
+}
+
+/// Declares the variables of a body.
+#[inline(never)]
+fn declared<'a>(
+    alloc: Global,
+    vs: &[Variable<'a>],
     whose: Whose<'_, '_>,
     names: &mut Names<'a>,
     slots: &mut Items<Slot<'a>>,
-) -> Result<Option<Basic<'a>>, AllocError>
+) -> Result<(), AllocError>
     requires { IsTotalled names.old.table names.old.totals names.old.constants }
-    ensures basic { IfOk result (λ x. x ≡ (owned whose.entry (numbered_basic b.now) (known names.old.table slots.old)).0) }
-    ensures known { OnOk result (known names.new.table slots.new ≡ (owned whose.entry (numbered_basic b.now) (known names.old.table slots.old)).1) }
+    ensures known { OnOk result (known names.new.table slots.new ≡ with_variables whose.entry.all.now role.Variable whose.entry.owner vs.now (known names.old.table slots.old)) }
     ensures totalled { OnOk result (IsTotalled names.new.table names.new.totals names.new.constants) }
 {
-    match b {
-        TreeBasic::Declare(vs) => {
-            let holder = Holder {
-                role: Role::Variable,
-                number: whose.owner,
-            };
-            variables(alloc, whose.all, holder, vs.as_slice(), names, slots)?;
-            Ok(None)
-        }
-        TreeBasic::Exclusive(_) => Ok(None),
-        TreeBasic::Plain(a) => plain(alloc, a.get(), whose.within(&names.table)),
-        TreeBasic::Goto(l) => Ok(Some(Basic::Goto(l.copied()))),
-        TreeBasic::Break => Ok(Some(Basic::Break)),
-        TreeBasic::If(options) => {
-            let xs = seqs(alloc, options.as_slice(), whose, names, slots)?;
-            Ok(Some(Basic::If(xs)))
-        }
-        TreeBasic::Do(options) => {
-            let xs = seqs(alloc, options.as_slice(), whose, names, slots)?;
-            Ok(Some(Basic::Do(xs)))
-        }
-        TreeBasic::Block(s) => Ok(Some(Basic::Block(seq(alloc, s, whose, names, slots)?))),
-        TreeBasic::Atomic(s) => Ok(Some(Basic::Atomic(seq(alloc, s, whose, names, slots)?))),
-        TreeBasic::DStep(s) => Ok(Some(Basic::DStep(seq(alloc, s, whose, names, slots)?))),
-        TreeBasic::Unless(main, escape) => {
-            let x = seq(alloc, main, whose, names, slots)?;
-            let y = seq(alloc, escape, whose, names, slots)?;
-            Ok(Some(Basic::Unless(x, y)))
-        }
-    }
+    let holder = Holder {
+        role: Role::Variable,
+        number: whose.owner,
+    };
+    variables(alloc, whose.all, holder, vs, names, slots)
 }
 
 #[cycle(statement)]
@@ -122,13 +204,59 @@ fn item<'a>(
 {
     let labels = copied(alloc, i.labels.as_slice())?;
     let tokens = i.tokens.copied(alloc)?;
-    match basic(alloc, i.basic.get(), whose, names, slots)? {
-        None => Ok(()),
-        Some(basic) => Ok(add(labels, basic, tokens, steps)?),
+    match i.basic.get() {
+        TreeBasic::Declare(vs) => declared(alloc, vs.as_slice(), whose, names, slots),
+        TreeBasic::Exclusive(_) => Ok(()),
+        TreeBasic::Plain(a) => {
+            add_plain(
+                alloc,
+                labels,
+                a.get(),
+                whose.within(&names.table),
+                tokens,
+                steps,
+            )
+        }
+        TreeBasic::Goto(l) => add_goto(labels, l, tokens, steps),
+        TreeBasic::Break => add_break(labels, tokens, steps),
+        TreeBasic::If(options) => {
+            let xs = seqs(alloc, options.as_slice(), whose, names, slots)?;
+            add_if(labels, xs, tokens, steps)
+        }
+        TreeBasic::Do(options) => {
+            let xs = seqs(alloc, options.as_slice(), whose, names, slots)?;
+            add_do(labels, xs, tokens, steps)
+        }
+        TreeBasic::Block(s) => {
+            let x = seq(alloc, s, whose, names, slots)?;
+            add_block(labels, x, tokens, steps)
+        }
+        TreeBasic::Atomic(s) => {
+            let x = seq(alloc, s, whose, names, slots)?;
+            add_atomic(labels, x, tokens, steps)
+        }
+        TreeBasic::DStep(s) => {
+            let x = seq(alloc, s, whose, names, slots)?;
+            add_d_step(labels, x, tokens, steps)
+        }
+        TreeBasic::Unless(main, escape) => {
+            let x = seq(alloc, main, whose, names, slots)?;
+            let y = seq(alloc, escape, whose, names, slots)?;
+            add_unless(labels, x, y, tokens, steps)
+        }
     }
 }
 
+/// Adds an option.
+#[inline(never)]
+fn add_option<'a>(option: Seq<'a>, options: &mut Items<Seq<'a>>) -> Result<(), AllocError>
+    ensures { OnOk result (options.new ≡ options.old ++ option.entry ∷ []) }
+{
+    options.push(option)
+}
+
 #[cycle(statement)]
+#[inline(never)]
 fn seqs<'a>(
     alloc: Global,
     ss: &[TreeSeq<'a>],
@@ -143,7 +271,8 @@ fn seqs<'a>(
 {
     let mut seqs = room_for(alloc, ss.len())?;
     for s in ss {
-        seqs.push(seq(alloc, s, whose, names, slots)?)?;
+        let x = seq(alloc, s, whose, names, slots)?;
+        add_option(x, &mut seqs)?;
     }
     Ok(seqs)
 }
