@@ -12,7 +12,7 @@ use diagnostics::Stop;
 use pml_channel::channel::Channel;
 use pml_printed::string::printed;
 use pml_program::expr::{Expr, Target, Want};
-use pml_program::program::{Action, Slot};
+use pml_program::program::{Action, Program, Slot};
 use pml_start::Beginnings;
 use pml_start::create::create;
 use pml_start::started::Started;
@@ -303,11 +303,22 @@ fn creates<R: Abort>(
     stands(rt, &started.store, started.kinds.len(), ended);
 }
 
-/// The same, as far as there is memory for what typedefs begin with.
-fn creates_alone<R: Abort>(rt: &R, alloc: Global, variables: &[Slot<'_>]) {
-    if let Ok(beginnings) = Beginnings::new(alloc, &[]) {
+/// The same, as far as there is memory for the tables of this model.
+fn creates_in<R: Abort>(rt: &R, alloc: Global, program: &Program<'_>, variables: &[Slot<'_>]) {
+    if let Ok(beginnings) = Beginnings::new(alloc, program) {
         creates(rt, alloc, &beginnings, variables);
     }
+}
+
+/// The same in a model that has nothing.
+fn creates_alone<R: Abort>(rt: &R, alloc: Global, variables: &[Slot<'_>]) {
+    let program = Program {
+        globals: Items::new(alloc),
+        constants: Items::new(alloc),
+        typedefs: Items::new(alloc),
+        proctypes: Items::new(alloc),
+    };
+    creates_in(rt, alloc, &program, variables);
 }
 
 #[test]

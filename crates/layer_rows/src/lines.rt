@@ -3,8 +3,8 @@
 //! proctypes.
 use crate::layer::LinesView;
 use crate::numbers::{cells, indices, number};
+use pml_cells::tables::Tables;
 use pml_lines::change::{Wanted, logged_lines, value_lines};
-use pml_lines::tables::Tables;
 use pml_program::program::Program;
 use pml_store::store::Store;
 use promela_process::place::Place;

@@ -159,7 +159,7 @@ fn add_process(
     arguments: &[i32],
     out: &mut Writer,
 ) {
-    match Beginnings::new(alloc, program.typedefs.as_slice()) {
+    match Beginnings::new(alloc, program) {
         Ok(beginnings) => add_created(alloc, &beginnings, kind, slots, arguments, out),
         Err(AllocError) => out.no_memory(),
     }

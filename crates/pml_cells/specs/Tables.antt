@@ -4,6 +4,8 @@ use Rattle.std.specs.Ordering.{nat_cmp}
 use Rattle.std.specs.BTreeMap.{BTreeMap, get}
 use Rattle.pml_program.specs.declared.program.Slot.{Slot}
 use Rattle.pml_program.specs.declared.program.Fields.{Fields}
+use Rattle.pml_program.specs.declared.program.Proctype.{Proctype}
+use Rattle.pml_program.specs.declared.program.Program.{Program}
 use Rattle.promela_run.specs.State.{size, fields_at}
 
 -- where variables begin, the first of them here, as far as a machine word counts
@@ -42,3 +44,14 @@ slot_or s (Some f) = f
 abbrev pub field_by : List Fields → Slot → Option (ℕ × ℕ) → Slot
 field_by ts s None = s
 field_by ts s (Some p) = slot_or s (slice_get (fields_in (slice_get ts p.0)) p.1)
+
+-- ---- of a model
+
+abbrev pub variables : Proctype → List Slot
+variables q = q.variables
+
+-- the rows are those of a model's typedefs, globals and proctypes
+pub record AreRows (p : Program) (ts : List Fields) (gs : List Slot) (ls : List (List Slot)) : Type 0 where
+  pub typedefs_are : ts ≡ p.typedefs
+  pub globals_are : gs ≡ p.globals
+  pub locals_are : ls ≡ map variables p.proctypes

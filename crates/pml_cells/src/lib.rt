@@ -3,5 +3,6 @@
 
 pub mod cells;
 pub mod row;
+pub mod tables;
 pub mod typedefs;
 pub mod walk;

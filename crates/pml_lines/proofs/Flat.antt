@@ -6,8 +6,8 @@ use Rattle.pml_program.specs.declared.program.Slot.{Slot}
 use Rattle.pml_program.specs.declared.program.Program.{Program}
 use Rattle.promela_process.specs.Store.{Frame}
 use Rattle.pml_store.specs.Writing.{flat, joined}
-use Rattle.promela_run.specs.State.{size, slot_of, cell_of}
-use Rattle.promela_run.specs.Lines.{Owner, line, each_change, variable_lines, owner_lines, global_owner, process_owner, process_owners, owners, slots_of, value_lines}
+use Rattle.promela_run.specs.State.{size, slot_of, cell_of, slots_of}
+use Rattle.promela_run.specs.Lines.{Owner, line, each_change, variable_lines, owner_lines, global_owner, process_owner, process_owners, owners, value_lines}
 use Rattle.pml_lines.specs.Written.{line_at, IsFrame, AreFrames, IsState}
 
 abbrev Line : Type 0

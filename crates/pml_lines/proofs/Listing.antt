@@ -8,8 +8,9 @@ use Rattle.std.proofs.lemmas.List.Concat.{flat_map-append}
 use Rattle.pml_program.specs.declared.program.Slot.{Slot}
 use Rattle.pml_program.specs.declared.program.Program.{Program}
 use Rattle.promela_process.specs.Store.{Cells, Frame}
+use Rattle.promela_run.specs.State.{slots_of}
 use Rattle.pml_lines.specs.declared.changed.Change.{Change}
-use Rattle.promela_run.specs.Lines.{Owner, line, each_change, variable_lines, owner_lines, value_lines, process_owner, process_owners, owners, heading_of, slots_of}
+use Rattle.promela_run.specs.Lines.{Owner, line, each_change, variable_lines, owner_lines, value_lines, process_owner, process_owners, owners, heading_of}
 use Rattle.pml_lines.specs.Changed.{change, variable_changes, frame_changes, changes, process_in, wanted_of, wanted_changes, slot_line, kind_line, value_line}
 use Rattle.pml_lines.proofs.Flat.{each_change-none}
 

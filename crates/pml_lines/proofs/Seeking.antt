@@ -5,8 +5,8 @@ use Rattle.std.proofs.lemmas.List.{drop_all}
 use Rattle.std.specs.Ordering.{int_eq}
 use Rattle.pml_program.specs.declared.program.Slot.{Slot}
 use Rattle.pml_program.specs.declared.program.Program.{Program}
-use Rattle.promela_run.specs.Lines.{place_line, Owner, line, each_change, heading_of, slots_of, process_owner, process_owners}
-use Rattle.promela_run.specs.State.{slot_of, cell_of}
+use Rattle.promela_run.specs.Lines.{place_line, Owner, line, each_change, heading_of, process_owner, process_owners}
+use Rattle.promela_run.specs.State.{slot_of, cell_of, slots_of}
 use Rattle.pml_lines.specs.Written.{line_at}
 
 pub line-here : (p : Program) (o : Owner) (os : List Owner) (i : ℕ) (v : ℤ) (s : Slot) → Some s ≡ slot_of o.slots i → line_at p (o ∷ os) i v ≡ line p o s (cell_of o.slots i) v

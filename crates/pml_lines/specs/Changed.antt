@@ -6,8 +6,9 @@ use Rattle.pml_program.specs.declared.program.Proctype.{Proctype}
 use Rattle.pml_program.specs.declared.program.Program.{Program}
 use Rattle.promela_process.specs.Store.{Frame}
 use Rattle.pml_store.specs.Writing.{Contents, before}
+use Rattle.promela_run.specs.State.{slots_of}
 use Rattle.pml_lines.specs.declared.changed.Change.{Change}
-use Rattle.promela_run.specs.Lines.{place_line, each_change, heading_of, slots_of, value_lines}
+use Rattle.promela_run.specs.Lines.{place_line, each_change, heading_of, value_lines}
 
 -- the cell k of a variable of a frame, and its number now
 abbrev pub change : ℕ → ℕ → ℕ → ℤ → Change

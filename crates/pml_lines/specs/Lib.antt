@@ -1,4 +1,3 @@
 pub mod Written
 pub mod Changed
 pub mod Placed
-pub mod Tables

@@ -7,8 +7,8 @@ ghost use Rattle.promela_run.specs.Lines.{place_line, proctype_name, local_headi
 ghost use Rattle.pml_lines.specs.Written.{local_line, line_at, wanted_line, changed_line, AddsChanges, AddsStep, oldest, if_changed, each_write};
 
 use crate::place::place_line;
-use crate::tables::Tables;
 use itoa::Buffer;
+use pml_cells::tables::Tables;
 use pml_program::program::{Proctype, Slot};
 use pml_store::store::Store;
 use pml_token::token::{Kind, Token, same_kind};

@@ -9,7 +9,7 @@ ghost use Rattle.pml_lines.specs.Changed.{process_in, owner_line, kind_line, val
 ghost use Rattle.pml_lines.specs.Placed.{place_at, changed_at, changed_number};
 
 use crate::change::{Living, global_line, local_line, oldest};
-use crate::tables::Tables;
+use pml_cells::tables::Tables;
 use pml_program::program::{Proctype, Program, Slot};
 use pml_store::store::Store;
 use promela_process::place::Place;

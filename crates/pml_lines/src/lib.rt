@@ -4,4 +4,3 @@
 pub mod change;
 pub mod changed;
 pub mod place;
-pub mod tables;

@@ -5,9 +5,9 @@ ghost use Rattle.std.specs.Io.{StartsWith};
 ghost use Rattle.std.specs.Fmt.{decimal, signed_decimal};
 ghost use Rattle.promela_run.specs.Lines.{named, worth, element, fields_path, path, place_line};
 
-use crate::tables::Tables;
 use itoa::Buffer;
 use pml_cells::cells::remainder;
+use pml_cells::tables::Tables;
 use pml_cells::typedefs::Typedefs;
 use pml_program::form::Form;
 use pml_program::program::Slot;

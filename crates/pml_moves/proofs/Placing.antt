@@ -6,7 +6,6 @@ use Rattle.std.proofs.lemmas.Bool.{cases_lt}
 use Rattle.std.proofs.lemmas.List.{length-map}
 use Rattle.pml_program.specs.declared.program.Stmt.{Stmt}
 use Rattle.pml_program.specs.declared.program.Seq.{Seq}
-use Rattle.pml_program.specs.declared.program.Fields.{Fields}
 use Rattle.pml_program.specs.declared.program.Proctype.{Proctype}
 use Rattle.pml_program.specs.declared.program.Program.{Program}
 use Rattle.promela_process.specs.Control.{Control, basic_of}
@@ -54,7 +53,7 @@ statement_shown k e h =
 
 -- ---- a proctype's graph and statements
 
-module _ (p : Program) (gs : List Graph) (ss : List (List (Option Stmt))) (ts : List Fields) (is : IsPlayed p gs ss ts) where
+module _ (p : Program) (gs : List Graph) (ss : List (List (Option Stmt))) (is : IsPlayed p gs ss) where
   -- a proctype that is there has a graph
   pub has_graph : (k : ℕ) (q : Proctype) → slice_get p.proctypes k ≡ Some q → slice_get gs k ≡ None → ⊥
   has_graph k q h g =

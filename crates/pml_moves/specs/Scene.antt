@@ -2,7 +2,6 @@
 use Rattle.std.specs.Prelude.{◌≡◌, ℕ, ◌<◌, length, map, List, [], Option, Some, None, slice_get}
 use Rattle.pml_program.specs.declared.program.Stmt.{Stmt}
 use Rattle.pml_program.specs.declared.program.Seq.{Seq}
-use Rattle.pml_program.specs.declared.program.Fields.{Fields}
 use Rattle.pml_program.specs.declared.program.Proctype.{Proctype}
 use Rattle.pml_program.specs.declared.program.Program.{Program}
 use Rattle.promela_process.specs.Control.{Control}
@@ -40,11 +39,10 @@ state_of pr c = record {
 abbrev pub statements_of : Seq → List (Option Stmt)
 statements_of b = map (stated b) (told_of b)
 
--- graphs and statements are those of the proctypes, in their order, and the typedefs are those of the program
-pub record IsPlayed (p : Program) (gs : List Graph) (ss : List (List (Option Stmt))) (ts : List Fields) : Type 0 where
+-- graphs and statements are those of the proctypes, in their order
+pub record IsPlayed (p : Program) (gs : List Graph) (ss : List (List (Option Stmt))) : Type 0 where
   pub graphs : AreGraphs p.proctypes gs
   pub statements : ss ≡ map (λ (q : Proctype). statements_of q.body) p.proctypes
-  pub typedefs : ts ≡ p.typedefs
 
 -- ---- a body, its graph and its statements
 

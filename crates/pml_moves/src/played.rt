@@ -7,6 +7,7 @@ ghost use Rattle.promela_run.specs.State.{body_of, begins_at};
 ghost use Rattle.pml_moves.specs.Scene.{stand_of, statements_of, IsBody};
 
 use crate::scene::{Body, Seat};
+use pml_cells::tables::Tables;
 use pml_flow::graph::Graph;
 use pml_flow::statements::{Statements, all_statements};
 use pml_program::program::{Proctype, Program};
@@ -14,14 +15,13 @@ use pml_start::Beginnings;
 use std::alloc::{AllocError, Global};
 use std::marker::Model;
 
-/// A model that is played: its program, the graphs and the statements of its proctypes, in their order, and what its typedefs begin
-/// with. Contracts see the program.
+/// A model that is played: its tables and what its typedefs begin with, and the graphs and the statements of its proctypes, in their
+/// order. Contracts see the program.
 #[derive(Drop)]
 pub struct Played<'p, 'a> {
-    program: &'p Program<'a>,
+    beginnings: Beginnings<'p, 'a>,
     graphs: &'p [Graph],
     statements: Vec<Statements<'p, 'a>>,
-    beginnings: Beginnings<'p, 'a>,
 }
 
 impl<'p, 'a> Model for Played<'p, 'a> {
@@ -38,9 +38,9 @@ impl<'p, 'a> Model for Played<'p, 'a> {
 
     ghost coded = { Prim.hlevel (codes, worth.the_row.coded, (seq.the_row (record { mir = named 0; lft = [] })).coded, (basic.the_row (record { mir = named 0; lft = [] })).coded) };
 
-    ghost view = { λ m. m.program.now };
+    ghost view = { λ m. m.beginnings };
 
-    ghost invariant = { λ m. IsPlayed m.program.now m.graphs.now m.statements.items m.beginnings };
+    ghost invariant = { λ m. IsPlayed m.beginnings m.graphs.now m.statements.items };
 }
 
 /// The statements of each proctype.
@@ -112,12 +112,11 @@ impl<'p, 'a> Played<'p, 'a> {
         ensures { IfOk result (λ m. m ≡ program.now) }
     {
         let statements = statements_of_all(alloc, program.proctypes.as_slice())?;
-        let beginnings = Beginnings::new(alloc, program.typedefs.as_slice())?;
+        let beginnings = Beginnings::new(alloc, program)?;
         Ok(Played {
-            program,
+            beginnings,
             graphs,
             statements,
-            beginnings,
         })
     }
 
@@ -125,12 +124,19 @@ impl<'p, 'a> Played<'p, 'a> {
     pub fn program(&self) -> &'p Program<'a>
         ensures { result.now ≡ self.now }
     {
-        self.program
+        self.tables().program()
+    }
+
+    /// Its tables.
+    pub fn tables(&self) -> &Tables<'p, 'a>
+        ensures { result.now ≡ self.now }
+    {
+        self.beginnings.tables()
     }
 
     /// What its typedefs begin with.
     pub fn beginnings(&self) -> &Beginnings<'p, 'a>
-        ensures { result.now ≡ self.now.typedefs }
+        ensures { result.now ≡ self.now }
     {
         &self.beginnings
     }
@@ -139,7 +145,7 @@ impl<'p, 'a> Played<'p, 'a> {
     pub fn proctype(&self, kind: usize) -> Option<&'p Proctype<'a>>
         ensures { option_copied result ≡ slice_get self.now.proctypes kind }
     {
-        proctype_at(self.program, kind)
+        proctype_at(self.program(), kind)
     }
 
     /// The body of the proctype with this number.
@@ -148,7 +154,12 @@ impl<'p, 'a> Played<'p, 'a> {
         ensures body { option_map (λ k. k.proctype.now.body) result ≡ body_of self.now kind }
         ensures is { IfSome result IsBody }
     {
-        body_at(self.program, self.graphs, self.statements.as_slice(), kind)
+        body_at(
+            self.program(),
+            self.graphs,
+            self.statements.as_slice(),
+            kind,
+        )
     }
 
     /// A process of the proctype with this number before its first statement.

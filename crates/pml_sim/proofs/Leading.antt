@@ -1,11 +1,10 @@
 -- What a step leads back to.
-use Rattle.std.proofs.Common.{◌≡◌, ◌⊎◌, inl, inr, ℕ, zero, suc, ◌+◌, ◌<◌, ◌≤◌, ℤ, None, List, [], ◌∷◌, ◌++◌, length, take, min, refl, sym, ap, ◌∙◌, arith, Result, Ok, Err}
+use Rattle.std.proofs.Common.{◌≡◌, ◌⊎◌, inl, inr, ℕ, zero, suc, ◌+◌, ◌<◌, ◌≤◌, None, List, [], ◌∷◌, ◌++◌, length, take, min, refl, sym, ap, ◌∙◌, arith, Result, Ok, Err}
 use Rattle.std.proofs.lemmas.List.{take_all, take-append-le}
 use Rattle.std.proofs.lemmas.Bool.{cases_lt}
 use Rattle.diagnostics.specs.declared.fault.Fault.{Fault}
 use Rattle.promela_session.specs.Session.{Outcome, Goes, Faults}
 use Rattle.promela_process.specs.Store.{Frame}
-use Rattle.pml_store.specs.Writing.{undone}
 use Rattle.diagnostics.specs.declared.stop.Stop.{Stop}
 use Rattle.diagnostics.specs.declared.stop.Stop.TheVariants as stop
 use Rattle.promela_run.specs.declared.moves.Move.{Move}
@@ -13,9 +12,9 @@ use Rattle.promela_run.specs.declared.moves.Move.TheVariants.{Death, Alone, Pair
 use Rattle.promela_run.specs.State.{State}
 use Rattle.profile.specs.declared.TheConstants.{MOST_DSTEP_STATEMENTS}
 use Rattle.promela_run.specs.Steps.{Done, step}
-use Rattle.pml_steps.specs.Live.{Live, Does, past as past_of}
-use Rattle.pml_steps.specs.Taking.{PastBy}
+use Rattle.pml_steps.specs.Live.{Does}
 use Rattle.promela_run.specs.World.{Running, led_to}
+use Rattle.pml_steps.specs.Taking.{PastBy}
 
 goes_is : {s t : Running} {xs ys : List ℕ} → ◌≡◌ {A = Outcome Running} (Goes s xs) (Goes t ys) → s ≡ t
 goes_is h = cc
@@ -77,13 +76,12 @@ module _ (s : State) (m : Move) (new : State) (past : List Frame) (before after 
   failed (Err g) f h = ap Faults (sym h)
 
 -- after a move of the present list
-pub past_by : (m : Move) (old new : Live) (before after : List ℕ) (u : Unit {0}) (a b : ℕ) → Does (step MOST_DSTEP_STATEMENTS old.state m) (Ok u) new.state before after → PastBy m old new → old.written ≡ [] →
-    length old.state.frames ≡ a + 1 → length new.state.frames ≡ b + 1 → take (min a b + 1) (past_of new) ≡ take (length new.state.frames) old.state.frames
+pub past_by : (m : Move) (old new : Running) (before after : List ℕ) (u : Unit {0}) (a b : ℕ) → Does (step MOST_DSTEP_STATEMENTS old.state m) (Ok u) new.state before after → PastBy m old new → old.past ≡ old.state.frames →
+    length old.state.frames ≡ a + 1 → length new.state.frames ≡ b + 1 → take (min a b + 1) new.past ≡ take (length new.state.frames) old.state.frames
 past_by (Death p) old new before after u a b d h w m n =
     let less : new.state.frames ≡ take (length old.state.stands) old.state.frames = ap (λ (s : State). s.frames) d.0 in
-    let log : past_of new ≡ new.state.frames = ap (λ (l : List (ℕ × ℤ)). undone new.state.frames l) (h ∙ w) in
-    past_less old.state.frames new.state.frames (past_of new) (length old.state.stands) a b less m n log
+    past_less old.state.frames new.state.frames new.past (length old.state.stands) a b less m n (h ∙ ap (take (length old.state.stands)) w ∙ sym less)
 past_by (Alone k t) old new before after u a b d h w m n =
-    past_grown old.state.frames new.state.frames (past_of new) h.0 a b m n (h.1 ∙ ap (λ (l : List (ℕ × ℤ)). undone old.state.frames l ++ h.0) w)
+    past_grown old.state.frames new.state.frames new.past h.0 a b m n (h.1 ∙ ap (λ (fs : List Frame). fs ++ h.0) w)
 past_by (Pair k j t) old new before after u a b d h w m n =
-    past_grown old.state.frames new.state.frames (past_of new) h.0 a b m n (h.1 ∙ ap (λ (l : List (ℕ × ℤ)). undone old.state.frames l ++ h.0) w)
+    past_grown old.state.frames new.state.frames new.past h.0 a b m n (h.1 ∙ ap (λ (fs : List Frame). fs ++ h.0) w)

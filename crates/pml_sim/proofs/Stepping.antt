@@ -8,8 +8,7 @@ use Rattle.promela_session.specs.Session.{Goes, Faults, Stopped}
 use Rattle.session.specs.Takes.{CanBeTaken, IsReason}
 use Rattle.pml_program.specs.declared.program.Program.{Program}
 use Rattle.promela_process.specs.Store.{Frame}
-use Rattle.pml_store.specs.Writing.{Contents}
-use Rattle.pml_start.specs.Bound.{most_cells}
+use Rattle.pml_store.specs.Writing.{Contents, before}
 use Rattle.promela_run.specs.State.{Begun, first_state as begin, State}
 use Rattle.pml_start.specs.Shown.{shown}
 use Rattle.pml_start.specs.declared.started.Started.{Started}
@@ -24,13 +23,13 @@ use Rattle.promela_run.specs.declared.moves.Move.TheVariants.{Death, Alone, Pair
 use Rattle.promela_run.specs.Moves as search
 use Rattle.profile.specs.declared.TheConstants.{MOST_DSTEP_STATEMENTS}
 use Rattle.promela_run.specs.Steps.{kinds, there, Done, step}
-use Rattle.pml_steps.specs.Live.{Live, Does, Joins, past as past_of}
+use Rattle.pml_steps.specs.Live.{Does, Joins}
+use Rattle.promela_run.specs.World.{Running, first, rules, unless_stopped, stopped, changed_lines, led_to}
 use Rattle.pml_steps.specs.Taking.{CanDie, PastBy}
 use Rattle.promela_run.specs.Texts.{move_text}
 use Rattle.pml_texts.specs.Staying.{IsWithin}
 use Rattle.pml_texts.proofs.Staying.{text_stays}
 use Rattle.promela_run.specs.declared.halt.Halt.{Halt}
-use Rattle.promela_run.specs.World.{Running, rules, unless_stopped, stopped, changed_lines, led_to}
 use Rattle.pml_sim.specs.Lent.{IsFirst}
 use Rattle.promela_run.specs.World as world
 use Rattle.pml_sim.specs.Lent as lends
@@ -61,20 +60,20 @@ can_die s (Pair k j t) h = tt
 
 -- ---- a step
 
-module _ (w : Running) (live new : Live) (m : Move) (same : w.state ≡ live.state) where
-  abbrev old : Live
-  old = record live { written = [] }
+module _ (w live new : Running) (m : Move) (same : w.state ≡ live.state) where
+  abbrev old : Running
+  old = record live { past = live.state.frames }
 
   abbrev of : State → Result Done Fault
   of s = step MOST_DSTEP_STATEMENTS s m
 
   pub taken_goes : (before after : List ℕ) (u : Unit {0}) (a b o : ℕ) (h : Option Halt) → length live.state.frames ≡ a + 1 → length new.state.frames ≡ b + 1 → o ≡ min a b → h ≡ None →
       Does (of live.state) (Ok u) new.state before after → PastBy m old new →
-      (x : List ℕ) × (world.step w m ≡ Goes (record { state = new.state; past = take (o + 1) (past_of new); halt = h }) x) × (after ≡ before ++ x)
+      (x : List ℕ) × (world.step w m ≡ Goes (record { state = new.state; past = take (o + 1) new.past; halt = h }) x) × (after ≡ before ++ x)
   taken_goes before after u a b o h fa fb oi hi does by =
-      let past : take (o + 1) (past_of new) ≡ take (length new.state.frames) live.state.frames = ap (λ (i : ℕ). take (i + 1) (past_of new)) oi ∙ past_by m old new before after u a b does by refl fa fb in
-      let x = went live.state m new.state (take (o + 1) (past_of new)) before after (of live.state) u does past in
-      (x.0, ap (λ (s : State). led_to s.frames (of s)) same ∙ x.1 ∙ ap (λ (k : Option Halt). Goes (record { state = new.state; past = take (o + 1) (past_of new); halt = k }) x.0) (sym hi), x.2)
+      let past : take (o + 1) new.past ≡ take (length new.state.frames) live.state.frames = ap (λ (i : ℕ). take (i + 1) new.past) oi ∙ past_by m old new before after u a b does by refl fa fb in
+      let x = went live.state m new.state (take (o + 1) new.past) before after (of live.state) u does past in
+      (x.0, ap (λ (s : State). led_to s.frames (of s)) same ∙ x.1 ∙ ap (λ (k : Option Halt). Goes (record { state = new.state; past = take (o + 1) new.past; halt = k }) x.0) (sym hi), x.2)
 
   reason : (e : Stop) (before after : List ℕ) → Does (of live.state) (Err e) new.state before after → IsReason rules w m e
   reason (stop.Fault f) before after h = ap (λ (s : State). led_to s.frames (of s)) same ∙ failed live.state m new.state [] before after (of live.state) f h
@@ -88,36 +87,37 @@ module _ (w : Running) (live new : Live) (m : Move) (same : w.state ≡ live.sta
 
 -- ---- the lines of a step
 
-pub lines_are : (w : Running) (live : Live) (p : Program) (ks : List ℕ) (store : Contents) (older n : ℕ) (globals locals : Bool) → w.state ≡ live.state → w.past ≡ take (older + 1) (past_of live) →
-    p ≡ live.state.program → ks ≡ kinds live.state → store ≡ record { frames = live.state.frames; written = live.written; most = most_cells live.state.program } → n ≡ min older (length ks) →
+pub lines_are : (w live : Running) (p : Program) (ks : List ℕ) (store : Contents) (older n : ℕ) (globals locals : Bool) → w.state ≡ live.state → w.past ≡ take (older + 1) live.past →
+    p ≡ live.state.program → ks ≡ kinds live.state → store.frames ≡ live.state.frames → before store ≡ live.past → n ≡ min older (length ks) →
     step_lines p (take n ks) store (record { globals = globals; locals = locals }) ≡ changed_lines w globals locals
-lines_are w live p ks store older n globals locals s past pr k st ni =
+lines_are w live p ks store older n globals locals s past pr k st log ni =
     let wanted : Wanted = record { globals = globals; locals = locals } in
-    let now : Contents = record { frames = live.state.frames; written = live.written; most = most_cells live.state.program } in
     let q : Program = live.state.program in
     ap (λ (i : ℕ). step_lines p (take i ks) store wanted) ni ∙ ap (λ (l : List ℕ). step_lines p l store wanted) (taken_min older ks)
     ∙ ap (λ (r : Program). step_lines r (take older ks) store wanted) pr ∙ ap (λ (l : List ℕ). step_lines q (take older l) store wanted) k
-    ∙ ap (λ (c : Contents). step_lines q (take older (kinds live.state)) c wanted) st ∙ lines_of_first q older (kinds live.state) now wanted
+    ∙ lines_of_first q older (kinds live.state) store wanted
+    ∙ ap (λ (fs : List Frame). value_lines q (kinds live.state) (take (older + 1) fs) store.frames globals locals) log
+    ∙ ap (λ (fs : List Frame). value_lines q (kinds live.state) (take (older + 1) live.past) fs globals locals) st
     ∙ ap (λ (fs : List Frame). value_lines q (kinds live.state) fs live.state.frames globals locals) (sym past)
     ∙ ap (λ (t : State). value_lines t.program (kinds t) w.past t.frames globals locals) (sym s)
 
-pub are_declared : (live : Live) (p : Program) (ks : List ℕ) (store : Contents) (n : ℕ) → p ≡ live.state.program → ks ≡ kinds live.state → store ≡ record { frames = live.state.frames; written = live.written; most = most_cells live.state.program } →
+pub are_declared : (live : Running) (p : Program) (ks : List ℕ) (store : Contents) (n : ℕ) → p ≡ live.state.program → ks ≡ kinds live.state → store.frames ≡ live.state.frames →
     IsDeclared live.state.program (there live.state) → AreDeclared p (take n ks) store.frames
 are_declared live p ks store n pr k st h =
-    subst (λ (c : Contents). AreDeclared p (take n ks) c.frames) (sym st)
+    subst (λ (fs : List Frame). AreDeclared p (take n ks) fs) (sym st)
     (subst (λ (l : List ℕ). AreDeclared p (take n l) live.state.frames) (sym k)
     (subst (λ (q : Program). AreDeclared q (take n (kinds live.state)) live.state.frames) (sym pr) (first_declared live.state.program (there live.state) n h)))
 
 -- ---- its changes
 
-pub changes_are : (w : Running) (live : Live) (ks : List ℕ) (store : Contents) (older n : ℕ) → w.state ≡ live.state → w.past ≡ take (older + 1) (past_of live) →
-    ks ≡ kinds live.state → store ≡ record { frames = live.state.frames; written = live.written; most = most_cells live.state.program } → n ≡ min older (length ks) → IsDeclared live.state.program (there live.state) →
+pub changes_are : (w live : Running) (ks : List ℕ) (store : Contents) (older n : ℕ) → w.state ≡ live.state → w.past ≡ take (older + 1) live.past →
+    ks ≡ kinds live.state → store.frames ≡ live.state.frames → before store ≡ live.past → n ≡ min older (length ks) → IsDeclared live.state.program (there live.state) →
     step_changes (take n ks) store ≡ lends.changes w
-changes_are w live ks store older n s past k st ni h =
-    let now : Contents = record { frames = live.state.frames; written = live.written; most = most_cells live.state.program } in
+changes_are w live ks store older n s past k st log ni h =
     ap (λ (i : ℕ). step_changes (take i ks) store) ni ∙ ap (λ (l : List ℕ). step_changes (take (min older (length l)) l) store) k
-    ∙ ap (λ (c : Contents). step_changes (take (min older (length (kinds live.state))) (kinds live.state)) c) st
-    ∙ changes_of_first older (kinds live.state) now (frames_declared live.state.program (there live.state) h)
+    ∙ changes_of_first older (kinds live.state) store (ap length st ∙ frames_declared live.state.program (there live.state) h)
+    ∙ ap (λ (fs : List Frame). changed (take (older + 1) fs) store.frames) log
+    ∙ ap (λ (fs : List Frame). changed (take (older + 1) live.past) fs) st
     ∙ ap (λ (fs : List Frame). changed fs live.state.frames) (sym past)
     ∙ ap (λ (t : State). changed w.past t.frames) (sym s)
 
@@ -134,13 +134,13 @@ begun_is : (d : Result Begun Fault) (s : Started) → Starts d (Ok s) → d ≡ 
 begun_is (Ok b) s h = ap Ok (sym h)
 begun_is (Err f) s h = absurd h
 
-is_first : (p q : Program) (lossy : Bool) (s : Started) (w : Running) → q ≡ p → Starts (begin q) (Ok s) → w ≡ world.first q (shown s) lossy → IsFirst p lossy w
+is_first : (p q : Program) (lossy : Bool) (s : Started) (w : Running) → q ≡ p → Starts (begin q) (Ok s) → w ≡ first q (shown s) lossy → IsFirst p lossy w
 is_first p q lossy s w same starts is = record {
   begun = shown s;
   starts = sym (ap begin same) ∙ begun_is (begin q) s starts;
-  is = is ∙ ap (λ (r : Program). world.first r (shown s) lossy) same;
+  is = is ∙ ap (λ (r : Program). first r (shown s) lossy) same;
 }
 
-pub first_of : {E : Type 0} (p q : Program) (lossy : Bool) (s : Started) (r : Result Running E) → q ≡ p → Starts (begin q) (Ok s) → IfOk r (λ w. w ≡ world.first q (shown s) lossy) → IfOk r (IsFirst p lossy)
+pub first_of : {E : Type 0} (p q : Program) (lossy : Bool) (s : Started) (r : Result Running E) → q ≡ p → Starts (begin q) (Ok s) → IfOk r (λ w. w ≡ first q (shown s) lossy) → IfOk r (IsFirst p lossy)
 first_of p q lossy s (Ok w) same starts is = is_first p q lossy s w same starts is
 first_of p q lossy s (Err e) same starts is = tt

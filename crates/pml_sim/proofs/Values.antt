@@ -1,22 +1,20 @@
 -- Lines of the processes that were there before the step.
-use Rattle.std.proofs.Common.{◌≡◌, ◌⊎◌, inl, inr, ℕ, zero, suc, ◌+◌, ◌<◌, ◌≤◌, min, arith, Bool, true, Option, Some, None, List, [], ◌∷◌, ◌++◌, length, map, take, refl, sym, ap, ◌∙◌}
+use Rattle.std.proofs.Common.{◌≡◌, ◌⊎◌, inl, inr, ℕ, zero, suc, ◌+◌, ◌<◌, ◌≤◌, min, arith, Bool, true, List, [], ◌∷◌, ◌++◌, length, map, take, refl, sym, ap, ◌∙◌}
 use Rattle.std.specs.Prelude.{slice_get}
 use Rattle.std.proofs.lemmas.List.{take_all, length-map, length-take-le}
 use Rattle.std.proofs.lemmas.Bool.{cases_lt}
 use Rattle.pml_program.specs.declared.program.Program.{Program}
-use Rattle.pml_program.specs.declared.program.Proctype.{Proctype}
-use Rattle.pml_program.specs.declared.program.Slot.{Slot}
 use Rattle.promela_process.specs.Store.{Frame}
 use Rattle.pml_store.specs.Writing.{Contents, before}
 use Rattle.pml_store.proofs.Back.{before_shape}
-use Rattle.promela_run.specs.State.{size, Begun, variables_of, variables_at}
+use Rattle.promela_run.specs.State.{size, Begun, variables_at}
 use Rattle.pml_start.specs.Shown.{shape}
 use Rattle.pml_start.specs.Starting.{IsDeclared}
 use Rattle.pml_lines.specs.declared.change.Wanted.{Wanted}
 use Rattle.pml_lines.specs.declared.changed.Change.{Change}
 use Rattle.pml_lines.specs.Changed.{change, changes, frame_changes, step_changes, variable_changes}
 use Rattle.pml_lines.proofs.Undoing.{lines-same}
-use Rattle.promela_run.specs.Lines.{Owner, process_owners, process_owner, owners, global_owner, owner_lines, variable_lines, line, slots_of, value_lines}
+use Rattle.promela_run.specs.Lines.{Owner, process_owners, process_owner, owners, global_owner, owner_lines, variable_lines, line, value_lines}
 use Rattle.pml_lines.specs.Written.{AreFrames, AreDeclared, step_lines}
 
 head_is : {A : Type 0} {x y : A} {xs ys : List A} → x ∷ xs ≡ y ∷ ys → x ≡ y
@@ -25,17 +23,13 @@ head_is h = cc
 tail_is : {A : Type 0} {x y : A} {xs ys : List A} → x ∷ xs ≡ y ∷ ys → xs ≡ ys
 tail_is h = cc
 
-same_slots : (o : Option Proctype) → variables_of o ≡ slots_of o
-same_slots None = refl
-same_slots (Some p) = refl
-
 locals : (p : Program) (i n : ℕ) (kinds : List ℕ) (frames : List Frame) → shape frames ≡ map (λ k. map size (variables_at p k)) kinds → AreFrames (process_owners p true i (take n kinds)) frames
 locals p i n [] [] h = tt
 locals p i n [] (f ∷ fs) h = absurd cc
 locals p i zero (k ∷ ks) [] h = tt
 locals p i (suc n) (k ∷ ks) [] h = tt
 locals p i zero (k ∷ ks) (f ∷ fs) h = tt
-locals p i (suc n) (k ∷ ks) (f ∷ fs) h = (head_is h ∙ ap (λ (l : List Slot). map size l) (same_slots (slice_get p.proctypes k)), locals p (i + 1) n ks fs (tail_is h))
+locals p i (suc n) (k ∷ ks) (f ∷ fs) h = (head_is h, locals p (i + 1) n ks fs (tail_is h))
 
 -- the first processes have what they are declared with
 pub first_declared : (p : Program) (b : Begun) (n : ℕ) → IsDeclared p b → AreDeclared p (take n b.kinds) b.frames

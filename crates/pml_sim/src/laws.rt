@@ -8,7 +8,7 @@ ghost use Rattle.promela_run.specs.State.{Begun};
 ghost use Rattle.pml_lines.specs.Changed.{wanted_changes};
 ghost use Rattle.promela_run.specs.declared.moves.Move.{Move};
 ghost use Rattle.pml_sim.specs.Origins.{TextsNameOrigins};
-ghost use Rattle.promela_run.specs.World.{Running, changed_lines, first, step};
+ghost use Rattle.promela_run.specs.World.{Running, first, changed_lines, step};
 ghost use Rattle.pml_sim.specs.Lent.{changes, value_line};
 
 /// The numbers before the last step are those of the state before it, as far as its variables are still there.

@@ -11,6 +11,7 @@ ghost use Rattle.pml_start.specs.Bound.{bound, IsBounded};
 ghost use Rattle.pml_start.specs.Starting.{IsDeclared};
 ghost use Rattle.promela_run.specs.State.{channel_at};
 ghost use Rattle.pml_steps.specs.Footprint.{held};
+ghost use Rattle.promela_run.specs.World.{first};
 ghost use Rattle.pml_texts.specs.Charts.{told};
 ghost use Rattle.promela_run.specs.Texts as texts;
 ghost use Rattle.pml_texts.specs.Staying as staying;
@@ -20,11 +21,11 @@ ghost use Rattle.pml_sim.specs.Lent.{IsFirst};
 
 use crate::ending::Ending;
 use diagnostics::Stop;
+use pml_cells::tables::Tables;
 use pml_channel::channel::Channel;
 use pml_check::Checked;
 use pml_lines::change::{Wanted, logged_lines};
 use pml_lines::changed::{Change, logged_changes, value_line};
-use pml_lines::tables::Tables;
 use pml_moves::played::Played;
 use pml_moves::scene::Scene;
 use pml_moves::search::add_moves;
@@ -45,7 +46,6 @@ use std::marker::Model;
 /// A model that is played, and where it has stopped.
 #[derive(Drop)]
 pub struct World<'p, 'a> {
-    tables: Tables<'p, 'a>,
     live: Live<'p, 'a>,
     /// How many processes lived before the last step and still do.
     older: usize,
@@ -59,16 +59,13 @@ impl<'p, 'a> Model for World<'p, 'a> {
     ghost use Rattle.pml_program.specs.contracts.expr.Expr as worth;
     ghost use Rattle.pml_program.specs.contracts.program.Seq as seq;
     ghost use Rattle.pml_program.specs.contracts.program.Basic as basic;
-    ghost use Rattle.pml_steps.specs.Live.{past};
     ghost use Rattle.promela_run.specs.World.{Running};
 
     ghost Value = { Running };
 
     ghost coded = { Prim.hlevel (codes, worth.the_row.coded, (seq.the_row (record { mir = named 0; lft = [] })).coded, (basic.the_row (record { mir = named 0; lft = [] })).coded) };
 
-    ghost view = { λ w. record { state = w.live.state; past = take (w.older + 1) (past w.live); halt = w.halt } };
-
-    ghost invariant = { λ w. w.tables ≡ w.live.state.program };
+    ghost view = { λ w. record { state = w.live.state; past = take (w.older + 1) w.live.past; halt = w.halt } };
 }
 
 impl<'p, 'a> World<'p, 'a> {
@@ -82,13 +79,11 @@ impl<'p, 'a> World<'p, 'a> {
         requires declared { IsDeclared played (shown started) }
         requires fresh { started.store.written ≡ [] }
         requires bounded { IsBounded played started.store started.channels.items }
-        ensures { IfOk result (λ w. w ≡ world.first played.entry (shown started) lossy) }
+        ensures { IfOk result (λ w. w ≡ first played.entry (shown started) lossy) }
     {
-        let tables = Tables::new(alloc, played.program())?;
         let live = Live::first(alloc, played, started, lossy)?;
         let older = live.process_count();
         Ok(World {
-            tables,
             live,
             older,
             halt: None,
@@ -169,7 +164,7 @@ impl<'p, 'a> World<'p, 'a> {
         let count = self.older.min(kinds.len());
         logged_changes(
             self.allocator(),
-            &self.tables,
+            self.live.tables(),
             &kinds[..count],
             self.live.variables(),
         )
@@ -180,7 +175,7 @@ impl<'p, 'a> World<'p, 'a> {
         ensures added { OnOk result (text.new.items ≡ text.old.items ++ lends.value_line self.now change.now) }
         ensures kept { OnErr result (StartsWith text.new.items text.old.items) }
     {
-        value_line(&self.tables, self.live.kinds(), *change, text)
+        value_line(self.live.tables(), self.live.kinds(), *change, text)
     }
 
     /// Whether a run that ends here ends well.
@@ -223,7 +218,7 @@ impl<'p, 'a> World<'p, 'a> {
     pub fn tables(&self) -> &Tables<'p, 'a>
         ensures { result.now ≡ self.now.state.program }
     {
-        &self.tables
+        self.live.tables()
     }
 
     /// Its variables, lent.
@@ -272,7 +267,7 @@ impl<'p, 'a> World<'p, 'a> {
         let older = self.older.min(kinds.len());
         logged_lines(
             alloc,
-            &self.tables,
+            self.live.tables(),
             &kinds[..older],
             wanted,
             self.live.variables(),

@@ -19,7 +19,7 @@ use Rattle.pml_program.specs.declared.program.Proctype.{Proctype}
 use Rattle.pml_program.specs.declared.program.Program.{Program}
 use Rattle.promela_process.specs.Store.{Frame, with_number, ChannelState}
 use Rattle.pml_store.specs.Writing.{flat, joined}
-use Rattle.promela_run.specs.State.{size, slot_of, cell_of, fields_at, fields_of, last_field, leaf, Begun, nothing, cell_in, initial_value, with_value, with_values, with_channel, empty_channel, cell_begun, fields_begun, variable_begun, variables_begun, with_frame, frame_begun, variables_of, variables_at, process_begun, kind_begun, kinds_begun, first_state}
+use Rattle.promela_run.specs.State.{size, slot_of, cell_of, fields_at, fields_of, last_field, leaf, slots_of, Begun, nothing, cell_in, initial_value, with_value, with_values, with_channel, empty_channel, cell_begun, fields_begun, variable_begun, variables_begun, with_frame, frame_begun, variables_at, process_begun, kind_begun, kinds_begun, first_state}
 use Rattle.promela_run.specs.declared.live_channel.LiveChannel.{LiveChannel}
 use Rattle.pml_start.specs.Shown.{Begins, shape}
 use Rattle.pml_start.specs.Bound.{cells_of, largest, most_cells, room_by, room_of, room_of_fields, room_of_processes, most_room, room, AreBounded}
@@ -45,7 +45,7 @@ joined_count : (fs : List Frame) → length (joined fs) ≡ total (shape fs)
 joined_count [] = refl
 joined_count (f ∷ fs) = omega (arith, length-append (flat f) (joined fs), flat_count f, joined_count fs)
 
-variables_within : (qs : List Proctype) (k : ℕ) → cells_of (variables_of (slice_get qs k)) ≤ largest qs
+variables_within : (qs : List Proctype) (k : ℕ) → cells_of (slots_of (slice_get qs k)) ≤ largest qs
 variables_within [] k = omega arith
 variables_within (q ∷ qs) zero = le-max_left (cells_of q.variables) (largest qs)
 variables_within (q ∷ qs) (suc k) = omega (arith, variables_within qs k, le-max_right (cells_of q.variables) (largest qs))
@@ -178,7 +178,7 @@ module _ (n : ℕ) (ts : List Fields) (fields : room_of_fields ts ≤ n) where
 
 -- ---- the first state
 
-process_room : (n : ℕ) (qs : List Proctype) (k : ℕ) → room_of_processes qs ≤ n → room_of (variables_of (slice_get qs k)) ≤ n
+process_room : (n : ℕ) (qs : List Proctype) (k : ℕ) → room_of_processes qs ≤ n → room_of (slots_of (slice_get qs k)) ≤ n
 process_room n [] k h = omega arith
 process_room n (q ∷ qs) zero h = left_of n (room_of q.variables) (room_of_processes qs) h
 process_room n (q ∷ qs) (suc k) h = process_room n qs k (right_of n (room_of q.variables) (room_of_processes qs) h)
@@ -233,7 +233,7 @@ module _ (p : Program) where
   created_bounded k kind q xs old new r e h = by (created p.typedefs kind q.variables xs old) r (created_fits most p.typedefs typedefs_room kind q.variables xs old room_q (h.few, h.small))
     where
       room_q : room_of q.variables ≤ most
-      room_q = subst (λ (o : Option Proctype). room_of (variables_of o) ≤ most) e (locals_room k)
+      room_q = subst (λ (o : Option Proctype). room_of (slots_of o) ≤ most) e (locals_room k)
 
       by : (x : Result Begun Fault) (r : Result (Unit {0}) Stop) → IfOk x (Fits most) → Begins x r new → OnOk r (AreBounded p new.channels)
       by (Ok b) (Ok u) f g = let m = subst (Fits most) (sym g) f in record { few = m.0; small = m.1 }

@@ -5,7 +5,7 @@ use Rattle.std.proofs.lemmas.List.{length_push, length-map, map-append}
 use Rattle.std.proofs.lemmas.Option.{slice_get_read}
 use Rattle.pml_program.specs.declared.program.Proctype.{Proctype}
 use Rattle.pml_program.specs.declared.program.Program.{Program}
-use Rattle.promela_run.specs.State.{size, Begun, variables_of, variables_at}
+use Rattle.promela_run.specs.State.{size, slots_of, Begun, variables_at}
 use Rattle.pml_start.specs.Shown.{shape}
 use Rattle.pml_start.specs.Starting.{IsDeclared}
 
@@ -14,7 +14,7 @@ All-push P [] x h p = (p, tt)
 All-push P (y ∷ ys) x h p = (h.0, All-push P ys x h.1 p)
 
 pub variables_at_is : (p : Program) (k : ℕ) (q : Proctype) → k < length p.proctypes → q ≡ get_or p.proctypes k q → variables_at p k ≡ q.variables
-variables_at_is p k q h e = ap variables_of (slice_get_read p.proctypes (length p.proctypes) k q refl h e)
+variables_at_is p k q h e = ap slots_of (slice_get_read p.proctypes (length p.proctypes) k q refl h e)
 
 -- one process more
 pub declared_next : (p : Program) (old new : Begun) (k : ℕ) → IsDeclared p old → length old.kinds < 255 → k < length p.proctypes → shape new.frames ≡ shape old.frames ++ map size (variables_at p k) ∷ [] → new.kinds ≡ old.kinds ++ k ∷ [] → IsDeclared p new

@@ -122,7 +122,7 @@ fn begin_leaf(
     cell: usize,
 ) -> Result<(), Stop>
     requires { HasPlace started.old.store.frames (cell_in (shown started.old) variable cell) }
-    ensures value { Begins (leaf_begun beginnings.now slot.now variable cell (shown started.old)) result (shown started.new) }
+    ensures value { Begins (leaf_begun beginnings.now.typedefs slot.now variable cell (shown started.old)) result (shown started.new) }
     ensures keeps { Keeps started.old started.new }
 {
     let alloc = *started.channels.allocator();
@@ -145,9 +145,9 @@ fn begin_known(
     cell: usize,
     beginning: Beginning,
 ) -> Result<(), Stop>
-    requires known { beginning ≡ known (leaf beginnings.now slot.now cell) }
+    requires known { beginning ≡ known (leaf beginnings.now.typedefs slot.now cell) }
     requires there { HasPlace started.old.store.frames (cell_in (shown started.old) variable cell) }
-    ensures value { Begins (leaf_begun beginnings.now slot.now variable cell (shown started.old)) result (shown started.new) }
+    ensures value { Begins (leaf_begun beginnings.now.typedefs slot.now variable cell (shown started.old)) result (shown started.new) }
     ensures keeps { Keeps started.old started.new }
 {
     match beginning {
@@ -168,7 +168,7 @@ fn begin_fields(
     slot: &Slot<'_>,
 ) -> Result<(), Stop>
     requires { size_at started.old.store.frames (length started.old.kinds.items) variable ≡ size slot.now }
-    ensures value { Begins (fields_begun beginnings.now slot.now variable 0 (size slot.now) (shown started.old)) result (shown started.new) }
+    ensures value { Begins (fields_begun beginnings.now.typedefs slot.now variable 0 (size slot.now) (shown started.old)) result (shown started.new) }
     ensures keeps { Keeps started.old started.new }
 {
     if beginnings.are_nothing() && is_zero(&slot.initial) {
@@ -204,7 +204,7 @@ fn begin_variable(
 ) -> Result<(), Stop>
     requires few { length started.old.kinds.items ≤ MOST_PROCESSES }
     requires there { size_at started.old.store.frames (length started.old.kinds.items) variable ≡ size slot.now }
-    ensures value { Begins (variable_begun beginnings.now slot.now.initial slot.now variable (shown started.old)) result (shown started.new) }
+    ensures value { Begins (variable_begun beginnings.now.typedefs slot.now.initial slot.now variable (shown started.old)) result (shown started.new) }
     ensures keeps { Keeps started.old started.new }
 {
     match &slot.initial {
@@ -225,7 +225,7 @@ pub fn begin_variables(
 ) -> Result<(), Stop>
     requires few { length started.old.kinds.items ≤ MOST_PROCESSES }
     requires there { map length (frame_at started.old.store.frames (length started.old.kinds.items)) ≡ map size slots.now }
-    ensures value { Begins (variables_begun beginnings.now slots.now 0 (shown started.old)) result (shown started.new) }
+    ensures value { Begins (variables_begun beginnings.now.typedefs slots.now 0 (shown started.old)) result (shown started.new) }
     ensures keeps { Keeps started.old started.new }
 {
     for variable in 0..slots.len() {
@@ -268,7 +268,7 @@ pub fn begin_frame(
     requires few { length started.old.kinds.items ≤ MOST_PROCESSES }
     requires next { length started.old.store.frames ≡ length started.old.kinds.items }
     requires room { length (joined started.old.store.frames) + cells_of slots.now ≤ started.old.store.most }
-    ensures value { Begins (frame_begun beginnings.now slots.now (shown started.old)) result (shown started.new) }
+    ensures value { Begins (frame_begun beginnings.now.typedefs slots.now (shown started.old)) result (shown started.new) }
     ensures sizes { OnOk result (shape started.new.store.frames ≡ shape started.old.store.frames ++ map size slots.now ∷ []) }
     ensures kinds { started.new.kinds.items ≡ started.old.kinds.items }
     ensures most { started.new.store.most ≡ started.old.store.most }

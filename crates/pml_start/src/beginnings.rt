@@ -7,13 +7,14 @@ ghost use Rattle.promela_run.specs.State.{initial_value, nothing, read_in};
 ghost use Rattle.pml_start.specs.Known.{is_zero, are_zero, have_no_initials, known, known_fields, known_in, known_cells};
 
 use diagnostics::Fault;
+use pml_cells::tables::Tables;
 use pml_cells::typedefs::Typedefs;
 use pml_cells::walk::Walk;
 use pml_eval::clip::clip;
 use pml_eval::eval::eval;
 use pml_program::expr::Expr;
 use pml_program::form::Form;
-use pml_program::program::{Fields, Initial, Slot};
+use pml_program::program::{Fields, Initial, Program, Slot};
 use pml_store::store::Store;
 use pml_value::view::{Taker, View};
 use promela_run::beginning::Beginning;
@@ -107,40 +108,42 @@ fn have_no_initials(typedefs: &[Fields<'_>]) -> bool
     true
 }
 
-/// Typedefs, and what their fields begin with. Contracts see the typedefs.
+/// The tables of a model, and what the fields of its typedefs begin with. Contracts see the model.
 #[derive(Drop)]
 pub struct Beginnings<'p, 'a> {
-    typedefs: Typedefs<'p, 'a>,
+    tables: Tables<'p, 'a>,
     rows: Vec<Items<Beginning>>,
     zeroed: bool,
 }
 
 impl<'p, 'a> Model for Beginnings<'p, 'a> {
-    ghost use Rattle.std.specs.Prelude.{List};
-    ghost use Rattle.pml_program.specs.declared.program.Fields.{Fields};
-    ghost use Rattle.pml_program.specs.contracts.expr.Expr as worth;
+    ghost use Rattle.std.specs.Prelude.{[]};
     ghost use Rattle.std.specs.Coded.{codes};
+    ghost use mir.Syntax.{named};
+    ghost use Rattle.pml_program.specs.declared.program.Program.{Program};
+    ghost use Rattle.pml_program.specs.contracts.expr.Expr as worth;
+    ghost use Rattle.pml_program.specs.contracts.program.Seq as seq;
     ghost use Rattle.pml_start.specs.Known.{AreBeginnings};
 
-    ghost Value = { List Fields };
+    ghost Value = { Program };
 
-    ghost coded = { Prim.hlevel (codes, worth.the_row.coded) };
+    ghost coded = { Prim.hlevel (codes, worth.the_row.coded, (seq.the_row (record { mir = named 0; lft = [] })).coded) };
 
-    ghost view = { λ b. b.typedefs };
+    ghost view = { λ b. b.tables };
 
-    ghost invariant = { λ b. AreBeginnings b.typedefs b.rows.items b.zeroed };
+    ghost invariant = { λ b. AreBeginnings b.tables.typedefs b.rows.items b.zeroed };
 }
 
 impl<'p, 'a> Beginnings<'p, 'a> {
-    /// What the fields of these typedefs begin with.
-    pub fn new(alloc: Global, typedefs: &'p [Fields<'a>]) -> Result<Beginnings<'p, 'a>, AllocError>
-        ensures { IfOk result (λ b. b ≡ typedefs.now) }
+    /// The tables of a model, and what the fields of its typedefs begin with.
+    pub fn new(alloc: Global, program: &'p Program<'a>) -> Result<Beginnings<'p, 'a>, AllocError>
+        ensures { IfOk result (λ b. b ≡ program.now) }
     {
-        let rows = known_typedefs(alloc, typedefs)?;
-        let zeroed = have_no_initials(typedefs);
-        let typedefs = Typedefs::new(alloc, typedefs)?;
+        let rows = known_typedefs(alloc, program.typedefs.as_slice())?;
+        let zeroed = have_no_initials(program.typedefs.as_slice());
+        let tables = Tables::new(alloc, program)?;
         Ok(Beginnings {
-            typedefs,
+            tables,
             rows,
             zeroed,
         })
@@ -148,21 +151,28 @@ impl<'p, 'a> Beginnings<'p, 'a> {
 
     /// Whether no field of a typedef has an initialiser.
     pub fn are_nothing(&self) -> bool
-        ensures { result ≡ have_no_initials self.now }
+        ensures { result ≡ have_no_initials self.now.typedefs }
     {
         self.zeroed
     }
 
-    /// The typedefs.
-    pub fn typedefs(&self) -> &Typedefs<'p, 'a>
+    /// The tables.
+    pub fn tables(&self) -> &Tables<'p, 'a>
         ensures { result.now ≡ self.now }
     {
-        &self.typedefs
+        &self.tables
+    }
+
+    /// The typedefs.
+    pub fn typedefs(&self) -> &Typedefs<'p, 'a>
+        ensures { result.now ≡ self.now.typedefs }
+    {
+        self.tables.typedefs()
     }
 
     /// What is known of the field with this number, of the typedef with this number.
     fn field(&self, typedef: usize, field: usize) -> Option<Beginning>
-        ensures { result ≡ slice_get (known_in (slice_get self.now typedef)) field }
+        ensures { result ≡ slice_get (known_in (slice_get self.now.typedefs typedef)) field }
     {
         match self.rows.get(typedef) {
             Some(row) => row.as_slice().get(field).copied(),
@@ -172,7 +182,7 @@ impl<'p, 'a> Beginnings<'p, 'a> {
 
     /// What a cell of a variable begins with, by the place of the field that it is in.
     fn cell(&self, alloc: Global, slot: &Slot<'_>, place: Option<(usize, usize)>) -> Beginning
-        ensures { result ≡ known (field_by self.now slot.now place) }
+        ensures { result ≡ known (field_by self.now.typedefs slot.now place) }
     {
         match place {
             None => known(alloc, slot),
@@ -185,9 +195,9 @@ impl<'p, 'a> Beginnings<'p, 'a> {
 
     /// What each cell of an element of a variable begins with, in one walk over its cells.
     pub fn element(&self, alloc: Global, slot: &Slot<'_>) -> Result<Vec<Beginning>, AllocError>
-        ensures { IfOk result (λ cells. cells.items ≡ known_cells self.now slot.now slot.now.stride) }
+        ensures { IfOk result (λ cells. cells.items ≡ known_cells self.now.typedefs slot.now slot.now.stride) }
     {
-        let mut walk = Walk::new(alloc, &self.typedefs, slot);
+        let mut walk = Walk::new(alloc, self.typedefs(), slot);
         let mut cells = Vec::new(alloc);
         for cell in 0..slot.stride as usize {
             let place = walk.place(cell)?;

@@ -32,7 +32,7 @@ fn count_cells(
     counted: usize,
 ) -> Result<usize, AllocError>
     requires { counted ≤ MOST_CHANNELS + 1 }
-    ensures { IfOk result (λ n. n ≡ min (MOST_CHANNELS + 1) (counted + channels_in beginnings.now slot.now 0 (size slot.now))) }
+    ensures { IfOk result (λ n. n ≡ min (MOST_CHANNELS + 1) (counted + channels_in beginnings.now.typedefs slot.now 0 (size slot.now))) }
 {
     if beginnings.are_nothing() && is_zero(&slot.initial) {
         return Ok(counted);
@@ -54,7 +54,7 @@ fn count_variable(
     counted: usize,
 ) -> Result<usize, AllocError>
     requires { counted ≤ MOST_CHANNELS + 1 }
-    ensures { IfOk result (λ n. n ≡ min (MOST_CHANNELS + 1) (counted + channels_by beginnings.now slot.now.initial slot.now)) }
+    ensures { IfOk result (λ n. n ≡ min (MOST_CHANNELS + 1) (counted + channels_by beginnings.now.typedefs slot.now.initial slot.now)) }
 {
     match &slot.initial {
         Initial::Value(_) => Ok(counted),
@@ -69,7 +69,7 @@ pub fn are_too_many(
     slots: &[Slot<'_>],
     live: usize,
 ) -> Result<bool, AllocError>
-    ensures { IfOk result (λ b. b ≡ nat_lt MOST_CHANNELS (live + channels_of beginnings.now slots.now)) }
+    ensures { IfOk result (λ b. b ≡ nat_lt MOST_CHANNELS (live + channels_of beginnings.now.typedefs slots.now)) }
 {
     let mut count = live.min(MOST_CHANNELS + 1);
     for slot in slots {

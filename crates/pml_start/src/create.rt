@@ -53,7 +53,7 @@ fn begin_youngest(
 ) -> Result<(), Stop>
     requires few { length started.old.kinds.items ≤ MOST_PROCESSES }
     requires there { map length (frame_at started.old.store.frames (length started.old.kinds.items)) ≡ map size slots.now }
-    ensures value { Begins (begun_with beginnings.now slots.now arguments.now (shown started.old)) result (shown started.new) }
+    ensures value { Begins (begun_with beginnings.now.typedefs slots.now arguments.now (shown started.old)) result (shown started.new) }
     ensures keeps { Keeps started.old started.new }
 {
     set_arguments(started, slots, arguments)?;
@@ -107,7 +107,7 @@ pub fn create(
     requires few { length started.old.kinds.items < MOST_PROCESSES }
     requires next { length started.old.store.frames ≡ length started.old.kinds.items + 1 }
     requires room { length (joined started.old.store.frames) + cells_of slots.now ≤ started.old.store.most }
-    ensures value { Begins (created beginnings.now kind slots.now arguments.now (shown started.old)) result (shown started.new) }
+    ensures value { Begins (created beginnings.now.typedefs kind slots.now arguments.now (shown started.old)) result (shown started.new) }
     ensures kept { OnErr result (shown started.new ≡ shown started.old) }
     ensures past { OnOk result ((rest : List Frame) × (before started.new.store ≡ before started.old.store ++ rest)) }
     ensures shape { OnOk result (shape started.new.store.frames ≡ shape started.old.store.frames ++ map size slots.now ∷ []) }

@@ -24,7 +24,7 @@ fn begin_process(
     kind: usize,
     started: &mut Started,
 ) -> Result<(), Stop>
-    requires known { beginnings.now ≡ program.now.typedefs }
+    requires known { beginnings.now ≡ program.now }
     requires there { kind < length program.now.proctypes }
     requires declared { IsDeclared program.now (shown started.old) }
     requires most { started.old.store.most ≡ most_cells program.now }
@@ -49,7 +49,7 @@ fn begin_processes(
     starts: u32,
     started: &mut Started,
 ) -> Result<(), Stop>
-    requires known { beginnings.now ≡ program.now.typedefs }
+    requires known { beginnings.now ≡ program.now }
     requires there { kind < length program.now.proctypes }
     requires declared { IsDeclared program.now (shown started.old) }
     requires most { started.old.store.most ≡ most_cells program.now }
@@ -70,7 +70,7 @@ pub fn start_by(
     beginnings: &Beginnings<'_, '_>,
 ) -> Result<Started, Stop>
     requires within { IsWithin program.now }
-    requires known { beginnings.now ≡ program.now.typedefs }
+    requires known { beginnings.now ≡ program.now }
     ensures value { Starts (first_state program.now) result }
     ensures forgotten { IfOk result (λ s. s.store.written ≡ []) }
     ensures declared { IfOk result (λ s. IsDeclared program.now (shown s)) }
@@ -99,7 +99,7 @@ pub fn start(alloc: Global, program: &Program<'_>) -> Result<Started, Stop>
     ensures declared { IfOk result (λ s. IsDeclared program.now (shown s)) }
     ensures bounded { IfOk result (λ s. IsBounded program.now s.store s.channels.items) }
 {
-    match Beginnings::new(alloc, program.typedefs.as_slice()) {
+    match Beginnings::new(alloc, program) {
         Ok(beginnings) => start_by(alloc, program, &beginnings),
         Err(_) => Err(Stop::Memory),
     }

@@ -14,7 +14,7 @@ use Rattle.pml_program.specs.declared.program.Program.{Program}
 use Rattle.promela_process.specs.Expressions.{◌>>=◌}
 use Rattle.pml_store.specs.Writing.{Contents, joined as cells}
 use Rattle.promela_run.specs.declared.live_channel.LiveChannel.{LiveChannel}
-use Rattle.promela_run.specs.State.{size, Begun, variables_of, variables_at, Stand, State, body_of, first_control, begins_by, begins_at}
+use Rattle.promela_run.specs.State.{size, slots_of, Begun, variables_at, Stand, State, body_of, first_control, begins_by, begins_at}
 use Rattle.pml_start.specs.Shown.{Begins, held, shape}
 use Rattle.promela_run.specs.Statements.{created}
 use Rattle.pml_start.specs.Bound.{cells_of, AreBounded}
@@ -33,7 +33,7 @@ pub held_more : (p : Program) (old new : Contents) (cs ds : List LiveChannel) (k
     IsHeld p old cs ks xs → length ks < 255 → slice_get p.proctypes x.kind ≡ Some q → shape new.frames ≡ shape old.frames ++ map size q.variables ∷ [] → ls ≡ ks ++ x.kind ∷ [] →
     ys ≡ xs ++ x ∷ [] → new.most ≡ old.most → AreBounded p ds → IsHeld p new ds ls ys
 held_more p old new cs ds ks ls xs ys x q h few e s k y m b =
-    let variables : variables_at p x.kind ≡ q.variables = ap variables_of e in
+    let variables : variables_at p x.kind ≡ q.variables = ap slots_of e in
     let more : shape new.frames ≡ shape old.frames ++ map size (variables_at p x.kind) ∷ [] = s ∙ sym (ap (λ (l : List _). shape old.frames ++ map size l ∷ []) variables) in
     record {
       declared = declared_next p (held old cs ks) (held new ds ls) x.kind h.declared few (within p.proctypes x.kind q e) more k;
@@ -45,7 +45,7 @@ held_more p old new cs ds ks ls xs ys x q h few e s k y m b =
 pub room_more : (p : Program) (store : Contents) (cs : List LiveChannel) (ks : List ℕ) (xs : List Seat) (kind : ℕ) (q : Proctype) →
     IsHeld p store cs ks xs → length ks < 255 → slice_get p.proctypes kind ≡ Some q → length (cells store.frames) + cells_of q.variables ≤ store.most
 room_more p store cs ks xs kind q h few e =
-    subst (λ (l : List Slot). length (cells store.frames) + cells_of l ≤ store.most) (ap variables_of e) (room_for p (held store cs ks) kind store.most h.declared few h.bounded.most)
+    subst (λ (l : List Slot). length (cells store.frames) + cells_of l ≤ store.most) (ap slots_of e) (room_for p (held store cs ks) kind store.most h.declared few h.bounded.most)
 
 -- and no channel of it has more room than the model says
 pub bounded_more : (p : Program) (store new : Contents) (cs ds : List LiveChannel) (ks ls : List ℕ) (xs : List Seat) (kind : ℕ) (q : Proctype) (ts : List Fields) (vs : List ℤ) (r : Result (Unit {0}) Stop) →

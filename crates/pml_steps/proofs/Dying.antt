@@ -1,10 +1,10 @@
 -- The youngest process dies.
-use Rattle.std.proofs.Common.{◌≡◌, ℕ, zero, suc, ◌+◌, ◌-◌, ◌≤◌, Bool, true, false, if◌then◌else◌, subst, not, nat_eq, List, [], ◌∷◌, length, map, take, refl, sym, ap, ◌∙◌, arith, Option, None}
+use Rattle.std.proofs.Common.{◌≡◌, ℕ, zero, suc, ◌+◌, ◌-◌, ◌≤◌, ℤ, ltb, Bool, true, false, if◌then◌else◌, subst, not, nat_eq, List, [], ◌∷◌, length, map, take, refl, sym, ap, ◌∙◌, arith, Option, None}
 use Rattle.std.specs.List.{filter, AllByRecursion}
 use Rattle.std.proofs.lemmas.List.{length-map}
 use Rattle.pml_program.specs.declared.program.Program.{Program}
 use Rattle.promela_process.specs.Store.{Frame}
-use Rattle.pml_store.specs.Writing.{Contents, but_last}
+use Rattle.pml_store.specs.Writing.{Contents, but_last, flat, frame_with, index_with, undone, before}
 use Rattle.promela_run.specs.declared.live_channel.LiveChannel.{LiveChannel}
 use Rattle.promela_run.specs.State.{size, variables_at, Stand, State}
 use Rattle.pml_start.specs.Shown.{shape}
@@ -14,7 +14,8 @@ use Rattle.pml_start.proofs.Declaring.{frames_of_kinds}
 use Rattle.pml_moves.specs.declared.scene.Seat.{Seat}
 use Rattle.pml_moves.specs.Scene.{stand_of}
 use Rattle.promela_run.specs.Steps.{without_youngest}
-use Rattle.pml_steps.specs.Live.{Live}
+use Rattle.pml_steps.specs.Live.{died}
+use Rattle.promela_run.specs.World.{Running}
 use Rattle.pml_steps.specs.Held.{live_of}
 
 pub map-take : {A B : Type 0} (f : A → B) (n : ℕ) (xs : List A) → map f (take n xs) ≡ take n (map f xs)
@@ -69,10 +70,10 @@ pub bounded_left : (p : Program) (f : LiveChannel → Bool) (cs ds : List LiveCh
 bounded_left p f cs ds b e = subst (AreBounded p) (sym e) (record { few = omega (arith, b.few, count_left f cs); small = room_left (most_room p) f cs b.small })
 
 -- a state by its parts
-pub died : (s : State) (xs : List Seat) (fs : List Frame) (cs : List LiveChannel) (n : ℕ) → s.stands ≡ map (stand_of s.program) xs → length xs ≡ n + 1 → length s.frames ≡ length xs + 1 →
+pub died_state : (s : State) (xs : List Seat) (fs : List Frame) (cs : List LiveChannel) (n : ℕ) → s.stands ≡ map (stand_of s.program) xs → length xs ≡ n + 1 → length s.frames ≡ length xs + 1 →
     fs ≡ but_last s.frames → cs ≡ filter (λ (o : LiveChannel). not (nat_eq o.frame (n + 1))) s.channels →
     ◌≡◌ {A = State} (record { program = s.program; frames = fs; stands = map (stand_of s.program) (take n xs); channels = cs; holder = None; lossy = s.lossy }) (without_youngest s)
-died s xs fs cs n e l m f c =
+died_state s xs fs cs n e l m f c =
     let count : length s.stands ≡ n + 1 = ap length e ∙ length-map xs (stand_of s.program) ∙ l in
     let less : length s.frames - 1 ≡ length s.stands = omega (arith, m, l, count) in
     let one : n ≡ length s.stands - 1 = omega (arith, count) in
@@ -82,11 +83,32 @@ died s xs fs cs n e l m f c =
     ∙ ap (λ (z : List LiveChannel). record { program = s.program; frames = take (length s.stands) s.frames; stands = take (length s.stands - 1) s.stands; channels = z; holder = None; lossy = s.lossy })
     (c ∙ ap (λ (i : ℕ). filter (λ (o : LiveChannel). not (nat_eq o.frame i)) s.channels) (sym count))
 
+-- ---- the log behind a death leads back to what it led back to, without the youngest
+
+index_taken : (n : ℕ) (fs : List Frame) (i : ℕ) (v : ℤ) → index_with (take n fs) i v ≡ take n (index_with fs i v)
+index_taken zero fs i v = refl
+index_taken (suc n) [] i v = refl
+index_taken (suc n) (f ∷ fs) i v = tested (ltb i (length (flat f))) (index_taken n fs (i - length (flat f)) v)
+  where
+    tested : (b : Bool) → index_with (take n fs) (i - length (flat f)) v ≡ take n (index_with fs (i - length (flat f)) v) →
+        (if b then frame_with f i v ∷ take n fs else f ∷ index_with (take n fs) (i - length (flat f)) v)
+        ≡ take (suc n) (if b then frame_with f i v ∷ fs else f ∷ index_with fs (i - length (flat f)) v)
+    tested true h = refl
+    tested false h = ap (λ (l : List Frame). f ∷ l) h
+
+undone_taken : (n : ℕ) (fs : List Frame) (ws : List (ℕ × ℤ)) → undone (take n fs) ws ≡ take n (undone fs ws)
+undone_taken n fs [] = refl
+undone_taken n fs (w ∷ ws) = ap (λ (l : List Frame). index_with l w.0 w.1) (undone_taken n fs ws) ∙ index_taken n (undone fs ws) w.0 w.1
+
 -- what lives, by its parts
 pub live_died : (p : Program) (store new : Contents) (cs ds : List LiveChannel) (xs ys : List Seat) (holder : Option ℕ) (lossy : Bool) (n : ℕ) → length xs ≡ n + 1 → length store.frames ≡ length xs + 1 →
     new ≡ record store { frames = but_last store.frames } → ds ≡ filter (λ (o : LiveChannel). not (nat_eq o.frame (n + 1))) cs → ys ≡ take n xs →
-    live_of p new ds ys None lossy ≡ (let l : Live = live_of p store cs xs holder lossy in record l { state = without_youngest l.state })
+    live_of p new ds ys None lossy ≡ died (live_of p store cs xs holder lossy)
 live_died p store new cs ds xs ys holder lossy n l m e c y =
-    let live : Live = live_of p store cs xs holder lossy in
+    let live : Running = live_of p store cs xs holder lossy in
+    let left : List Frame = undone (but_last store.frames) store.written in
+    let less : length store.frames - 1 ≡ length live.state.stands = omega (arith, m, length-map xs (stand_of p)) in
     ap (λ (z : List Seat). live_of p new ds z None lossy) y ∙ ap (λ (z : Contents). live_of p z ds (take n xs) None lossy) e
-    ∙ ap (λ (s : State). record live { state = s }) (died live.state xs (but_last store.frames) ds n refl l m refl c)
+    ∙ ap (λ (s : State). record live { state = s; past = left }) (died_state live.state xs (but_last store.frames) ds n refl l m refl c)
+    ∙ ap (λ (fs : List Frame). record live { state = without_youngest live.state; past = fs })
+    (undone_taken (length store.frames - 1) store.frames store.written ∙ ap (λ (i : ℕ). take i (before store)) less)

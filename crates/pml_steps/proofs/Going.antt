@@ -15,7 +15,7 @@ use Rattle.pml_moves.specs.Scene.{control_at, stand_of}
 use Rattle.pml_moves.proofs.Searching.{there, got}
 use Rattle.promela_run.specs.Steps.{go_to, moved_to, body_by}
 use Rattle.pml_steps.specs.Held.{kinds_of, live_of}
-use Rattle.pml_steps.specs.Live.{Live}
+use Rattle.promela_run.specs.World.{Running}
 
 -- its proctype is the same
 pub same_kinds : (xs : List Seat) (i n : ℕ) (x d : Seat) → x ≡ slice_index_or xs i d → kinds_of (slice_set xs i (record { kind = x.kind; node = n })) ≡ kinds_of xs
@@ -37,7 +37,7 @@ gone_to s xs i n x d e l h =
 -- so has the process of a seat
 pub seat_gone : (p : Program) (store : Contents) (cs : List LiveChannel) (xs : List Seat) (holder : Option ℕ) (lossy : Bool) (i n : ℕ) (x d : Seat) → i < length xs → x ≡ slice_index_or xs i d →
     live_of p store cs (slice_set xs i (record { kind = x.kind; node = n })) holder lossy
-    ≡ (let l : Live = live_of p store cs xs holder lossy in record l { state = go_to l.state i (control_at (body_by l.state (slice_get l.state.stands i)) n) })
+    ≡ (let l : Running = live_of p store cs xs holder lossy in record l { state = go_to l.state i (control_at (body_by l.state (slice_get l.state.stands i)) n) })
 seat_gone p store cs xs holder lossy i n x d l h =
-    let live : Live = live_of p store cs xs holder lossy in
+    let live : Running = live_of p store cs xs holder lossy in
     ap (λ (ys : List Stand). record live { state = record live.state { stands = ys } }) (gone_to live.state xs i n x d refl l h)

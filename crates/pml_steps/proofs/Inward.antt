@@ -23,7 +23,8 @@ use Rattle.pml_moves.specs.Viewed.{first}
 use Rattle.pml_moves.proofs.Placing.{at_node}
 use Rattle.pml_steps.specs.declared.within.Inner.TheVariants.{Left, At}
 use Rattle.pml_steps.specs.Inside.{Advance, Advances, then_at, advanced_by, advanced}
-use Rattle.pml_steps.specs.Live.{Live, Joins, PastGrows, Does, past}
+use Rattle.pml_steps.specs.Live.{Joins, PastGrows, Does}
+use Rattle.promela_run.specs.World.{Running}
 use Rattle.promela_run.specs.Steps.{Done, body_by, effect, behind, first_of, onward, within}
 
 -- the first choice among the edges of a node is that among the offers of what it stands for
@@ -174,11 +175,11 @@ joins_on old mid new g h = record {
   stands = h.stands ∙ (ap (λ (ys : List Stand). ys ++ h.more) g.stands ∙ append_assoc old.stands g.more h.more);
 }
 
-pub past_same : (l : Live) → PastGrows l l
-past_same l = ([], sym (append-nil (past l)))
+pub past_same : (l : Running) → PastGrows l l
+past_same l = ([], sym (append-nil l.past))
 
-pub past_on : (old mid new : Live) → PastGrows old mid → PastGrows mid new → PastGrows old new
-past_on old mid new g h = (g.0 ++ h.0, h.1 ∙ (ap (λ (fs : List Frame). fs ++ h.0) g.1 ∙ append_assoc (past old) g.0 h.0))
+pub past_on : (old mid new : Running) → PastGrows old mid → PastGrows mid new → PastGrows old new
+past_on old mid new g h = (g.0 ++ h.0, h.1 ∙ (ap (λ (fs : List Frame). fs ++ h.0) g.1 ∙ append_assoc old.past g.0 h.0))
 
 -- its processes are still there
 pub still_there : (old new : State) (p : ℕ) → Joins old new → p < length old.stands → p < length new.stands

@@ -1,14 +1,14 @@
 -- What is always so of what lives.
-use Rattle.std.specs.Prelude.{◌≡◌, ℕ, Bool, List, map, Option}
+use Rattle.std.specs.Prelude.{◌≡◌, ℕ, Bool, List, map, Option, None}
 use Rattle.pml_program.specs.declared.program.Program.{Program}
-use Rattle.pml_store.specs.Writing.{Contents}
+use Rattle.pml_store.specs.Writing.{Contents, before}
 use Rattle.promela_run.specs.declared.live_channel.LiveChannel.{LiveChannel}
 use Rattle.pml_start.specs.Shown.{held}
 use Rattle.pml_start.specs.Bound.{IsBounded}
 use Rattle.pml_start.specs.Starting.{IsDeclared}
 use Rattle.pml_moves.specs.declared.scene.Seat.{Seat}
 use Rattle.pml_moves.specs.Scene.{stand_of}
-use Rattle.pml_steps.specs.Live.{Live}
+use Rattle.promela_run.specs.World.{Running}
 
 abbrev pub kinds_of : List Seat → List ℕ
 kinds_of xs = map (λ (x : Seat). x.kind) xs
@@ -19,8 +19,10 @@ pub record IsHeld (p : Program) (store : Contents) (channels : List LiveChannel)
   pub seated : kinds ≡ kinds_of seats
   pub bounded : IsBounded p store channels
 
-abbrev pub live_of : Program → Contents → List LiveChannel → List Seat → Option ℕ → Bool → Live
+-- What lives: its log leads back to what was there before the step, and it has not stopped.
+abbrev pub live_of : Program → Contents → List LiveChannel → List Seat → Option ℕ → Bool → Running
 live_of p store channels seats holder lossy = record {
   state = record { program = p; frames = store.frames; stands = map (stand_of p) seats; channels = channels; holder = holder; lossy = lossy };
-  written = store.written;
+  past = before store;
+  halt = None;
 }

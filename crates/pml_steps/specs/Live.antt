@@ -1,11 +1,11 @@
--- A state and the log of its step, and what calls make of them.
-use Rattle.std.specs.Prelude.{◌≡◌, ℕ, Bool, List, ◌++◌, ℤ, if◌then◌else◌, Some, None, Result, Ok, Err, OnOk, OnErr}
+-- What lives in a run, and what calls make of it.
+use Rattle.std.specs.Prelude.{◌≡◌, ℕ, Bool, List, length, take, ◌++◌, Option, if◌then◌else◌, Some, None, Result, Ok, Err, OnOk, OnErr}
 use Rattle.std.specs.Io.{StartsWith}
 use Rattle.diagnostics.specs.declared.fault.Fault.{Fault}
 use Rattle.diagnostics.specs.declared.stop.Stop.{Stop}
 use Rattle.diagnostics.specs.declared.stop.Stop.TheVariants as stop
 use Rattle.promela_process.specs.Store.{Frame}
-use Rattle.pml_store.specs.Writing.{Contents, undone}
+use Rattle.pml_store.specs.Writing.{Contents}
 use Rattle.promela_run.specs.declared.goes.Goes.{Goes}
 use Rattle.pml_value.specs.Storing.{StoresSome, stored_all}
 use Rattle.promela_run.specs.State.{Stand, State, reading_of}
@@ -13,23 +13,15 @@ use Rattle.pml_flow.specs.declared.edge.Edge.{Edge}
 use Rattle.promela_run.specs.declared.live_channel.LiveChannel.{LiveChannel}
 use Rattle.pml_value.specs.declared.view.Taker.{Taker}
 use Rattle.pml_value.specs.Seen.{read_by}
-use Rattle.promela_run.specs.Steps.{go_to, Done}
+use Rattle.promela_run.specs.Steps.{go_to, without_youngest, Done}
 use Rattle.pml_steps.specs.Calls.{control_of}
+use Rattle.promela_run.specs.World.{Running}
 
--- a state, and what was written since its step began
-pub record Live : Type 0 where
-  pub state : State
-  pub written : List (ℕ × ℤ)
-
--- what the variables held when the step began, those of new processes behind
-abbrev pub past : Live → List Frame
-past l = undone l.state.frames l.written
-
--- no process comes, goes or moves, and the log leads back to what it led back to
-pub record Keeps (old new : Live) : Type 0 where
+-- no process comes, goes or moves, and the past stays
+pub record Keeps (old new : Running) : Type 0 where
   pub program : new.state.program ≡ old.state.program
   pub stands : new.state.stands ≡ old.state.stands
-  pub past : past new ≡ past old
+  pub past : new.past ≡ old.past
 
 -- processes are added at most, behind the others
 pub record Joins (old new : State) : Type 0 where
@@ -37,23 +29,27 @@ pub record Joins (old new : State) : Type 0 where
   pub more : List Stand
   pub stands : new.stands ≡ old.stands ++ more
 
--- the log leads back to what it led back to, and to what is new
-abbrev pub PastGrows : Live → Live → Type 0
-PastGrows old new = (rest : List Frame) × (past new ≡ past old ++ rest)
+-- the past stays, with something behind it for new processes
+abbrev pub PastGrows : Running → Running → Type 0
+PastGrows old new = (rest : List Frame) × (new.past ≡ old.past ++ rest)
 
--- What a call of a step leaves: processes are added at most, the log leads back to what it did, and what was printed before stays.
-pub record Grows (result : Result (Unit {0}) Stop) (old new : Live) (before after : List ℕ) : Type 0 where
+-- What a call of a step leaves: processes are added at most, the past grows at most, and what was printed before stays.
+pub record Grows (result : Result (Unit {0}) Stop) (old new : Running) (before after : List ℕ) : Type 0 where
   pub joins : Joins old.state new.state
   pub past : OnOk result (PastGrows old new)
   pub kept : OnErr result (StartsWith after before)
 
 -- a process stands at a node of its graph
-abbrev pub at_node : Live → ℕ → ℕ → Live
+abbrev pub at_node : Running → ℕ → ℕ → Running
 at_node l p n = record l { state = go_to l.state p (control_of l.state p n) }
 
 -- and where an edge leads, and holds exclusive control where the edge stays in one atomic; else nobody does
-abbrev pub along : Live → ℕ → Edge → Live
+abbrev pub along : Running → ℕ → Edge → Running
 along l p e = record l { state = record (go_to l.state p (control_of l.state p e.target)) { holder = if e.keeps then Some p else None } }
+
+-- the youngest process dies, and what its variables held before goes with it
+abbrev pub died : Running → Running
+died l = record l { state = without_youngest l.state; past = take (length l.state.stands) l.past }
 
 -- it reads what the process with this number reads, where so many live
 abbrev pub ReadsAs : Taker → ℕ → ℕ → Bool → Type 0

@@ -1,5 +1,5 @@
 -- What a move is taken by.
-use Rattle.std.specs.Prelude.{◌≡◌, ℕ, ◌<◌, Bool, List, length, Option, Some, Result, slice_get}
+use Rattle.std.specs.Prelude.{◌≡◌, ℕ, ◌<◌, Bool, List, length, take, Option, Some, Result, slice_get}
 use Rattle.std.specs.Option.{option_copied}
 use Rattle.diagnostics.specs.declared.stop.Stop.{Stop}
 use Rattle.pml_program.specs.declared.program.Seq.{Seq}
@@ -12,7 +12,8 @@ use Rattle.promela_run.specs.declared.moves.Move.TheVariants.{Death, Alone, Pair
 use Rattle.promela_run.specs.State.{State, picked}
 use Rattle.pml_steps.specs.declared.take.Offer.{Offer}
 use Rattle.promela_run.specs.Steps.{body_by, within_from, offer_taken}
-use Rattle.pml_steps.specs.Live.{Live, Does, PastGrows}
+use Rattle.pml_steps.specs.Live.{Does, PastGrows}
+use Rattle.promela_run.specs.World.{Running}
 
 -- It is what a pick names, in the body in which its process stands.
 pub record IsOffer (s : State) (k : Pick) (x : Offer) : Type 0 where
@@ -41,8 +42,8 @@ CanDie s (Death p) = 0 < length s.stands
 CanDie s (Alone k t) = Unit {0}
 CanDie s (Pair k j t) = Unit {0}
 
--- a death writes nothing; after any other move the log leads back to what it led back to, and to what is new
-abbrev pub PastBy : Move → Live → Live → Type 0
-PastBy (Death p) old new = new.written ≡ old.written
+-- of the past a death takes what the youngest held; at any other move it grows at most
+abbrev pub PastBy : Move → Running → Running → Type 0
+PastBy (Death p) old new = new.past ≡ take (length old.state.stands) old.past
 PastBy (Alone k t) old new = PastGrows old new
 PastBy (Pair k j t) old new = PastGrows old new

@@ -2,6 +2,7 @@
 
 ghost use Rattle.std.specs.Prelude.{◌≡◌, ◌+◌, ◌<◌, ◌≤◌, [], Ok, IfOk, IfSome, OnOk, nat_eq, not, length, map, slice_get};
 ghost use Rattle.std.specs.List.{filter};
+ghost use Rattle.pml_store.specs.Writing.{before};
 ghost use Rattle.promela_run.specs.declared.live_channel.LiveChannel.{LiveChannel};
 ghost use Rattle.std.specs.Option.{option_copied};
 ghost use Rattle.profile.specs.declared.TheConstants.{MOST_CHANNELS, MOST_PROCESSES};
@@ -9,18 +10,20 @@ ghost use Rattle.pml_start.specs.Shown.{shown};
 ghost use Rattle.pml_start.specs.Bound.{bound, most_cells, IsBounded};
 ghost use Rattle.pml_start.specs.Starting.{IsDeclared};
 ghost use Rattle.pml_moves.specs.Scene.{stand_of};
-ghost use Rattle.promela_run.specs.State.{begins_at, reads, begun_state};
+ghost use Rattle.promela_run.specs.State.{begins_at, reads};
 ghost use Rattle.pml_value.specs.Seen.{seen};
 ghost use Rattle.promela_run.specs.Statements.{outcome};
 ghost use Rattle.pml_value.specs.Takes.{IsIn};
-ghost use Rattle.promela_run.specs.Steps.{put_if, put_by, without_youngest, kinds, there, with_new, sends};
+ghost use Rattle.promela_run.specs.Steps.{put_if, put_by, kinds, there, with_new, sends};
 ghost use Rattle.pml_steps.specs.Footprint.{all_room, held, message_numbers};
 ghost use Rattle.pml_steps.specs.Held.{kinds_of};
-ghost use Rattle.pml_steps.specs.Live.{Leads, Keeps, Joins, PastGrows, ReadsAs, along, at_node};
+ghost use Rattle.pml_steps.specs.Live.{Leads, Keeps, Joins, PastGrows, ReadsAs, along, at_node, died};
+ghost use Rattle.promela_run.specs.World.{first};
 ghost use Rattle.pml_steps.specs.Calls.{receives_by, passes};
 
 use crate::pair::{numbers_passed, store_passed};
 use diagnostics::Stop;
+use pml_cells::tables::Tables;
 use pml_flow::edge::Edge;
 use pml_moves::played::Played;
 use pml_moves::scene::{Scene, Seat};
@@ -40,7 +43,7 @@ use promela_run::live_channel::LiveChannel;
 use std::alloc::{AllocError, Global};
 use std::marker::Model;
 
-/// A model that is played, and a state of it: what lives. Contracts see the state, and what was written since its step began.
+/// A model that is played, and a state of it: what lives. Contracts see the state, and what there was when its step began.
 #[derive(Drop)]
 pub struct Live<'p, 'a> {
     played: Played<'p, 'a>,
@@ -54,11 +57,11 @@ impl<'p, 'a> Model for Live<'p, 'a> {
     ghost use Rattle.pml_program.specs.contracts.expr.Expr as worth;
     ghost use Rattle.pml_program.specs.contracts.program.Seq as seq;
     ghost use Rattle.pml_program.specs.contracts.program.Basic as basic;
-    ghost use Rattle.pml_steps.specs.Live.{Live};
+    ghost use Rattle.promela_run.specs.World.{Running};
     ghost use Rattle.promela_run.specs.Steps.{kinds, there, with_new};
     ghost use Rattle.pml_steps.specs.Held.{IsHeld, live_of};
 
-    ghost Value = { Live };
+    ghost Value = { Running };
 
     ghost coded = { Prim.hlevel (codes, worth.the_row.coded, (seq.the_row (record { mir = named 0; lft = [] })).coded, (basic.the_row (record { mir = named 0; lft = [] })).coded) };
 
@@ -114,7 +117,7 @@ impl<'p, 'a> Live<'p, 'a> {
         requires declared { IsDeclared played (shown started) }
         requires fresh { started.store.written ≡ [] }
         requires bounded { IsBounded played started.store started.channels.items }
-        ensures { IfOk result (λ l. l ≡ record { state = begun_state played.entry (shown started) lossy; written = [] }) }
+        ensures { IfOk result (λ l. l ≡ first played.entry (shown started) lossy) }
     {
         let seats = seats_of(alloc, &played, started.kinds.as_slice())?;
         let state = State {
@@ -140,9 +143,9 @@ impl<'p, 'a> Live<'p, 'a> {
         Scene::new(&self.played, &self.state)
     }
 
-    /// Forgets what was written.
+    /// A step begins: what is there is what was there before it.
     pub fn forget(&mut self)
-        ensures { self.new ≡ record self.old { written = [] } }
+        ensures { self.new ≡ record self.old { past = self.old.state.frames } }
     {
         self.state.started.store.forget();
     }
@@ -167,7 +170,7 @@ impl<'p, 'a> Live<'p, 'a> {
     /// The youngest process dies.
     pub fn die(&mut self)
         requires { 0 < length self.old.state.stands }
-        ensures { self.new ≡ record self.old { state = without_youngest self.old.state } }
+        ensures { self.new ≡ died self.old }
     {
         let youngest = self.state.seats.len() - 1;
         keep_others(&mut self.state.started.channels, youngest + 1);
@@ -186,9 +189,18 @@ impl<'p, 'a> Live<'p, 'a> {
         self.played.program()
     }
 
+    /// Its tables.
+    pub fn tables(&self) -> &Tables<'p, 'a>
+        ensures { result.now ≡ self.now.state.program }
+    {
+        self.played.tables()
+    }
+
     /// What the variables hold, and the log of what was written.
     pub fn variables(&self) -> &Store
-        ensures { result.now ≡ record { frames = self.now.state.frames; written = self.now.written; most = most_cells self.now.state.program } }
+        ensures frames { result.now.frames ≡ self.now.state.frames }
+        ensures past { before result.now ≡ self.now.past }
+        ensures most { result.now.most ≡ most_cells self.now.state.program }
     {
         &self.state.started.store
     }

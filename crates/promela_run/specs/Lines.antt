@@ -9,7 +9,7 @@ use Rattle.pml_program.specs.declared.form.Form.TheVariants as kind
 use Rattle.pml_program.specs.declared.program.Slot.{Slot}
 use Rattle.pml_program.specs.declared.program.Fields.{Fields}
 use Rattle.pml_program.specs.declared.program.Program.{Program}
-use Rattle.promela_run.specs.State.{slot_of, cell_of, fields_of, leaf}
+use Rattle.promela_run.specs.State.{slot_of, cell_of, fields_of, leaf, slots_of}
 use Rattle.std.specs.Ordering.{int_eq}
 use Rattle.pml_token.specs.declared.token.Kind.TheVariants.{Init}
 use Rattle.pml_program.specs.declared.program.Proctype.{Proctype}
@@ -84,11 +84,6 @@ local_heading i p = codes "local " ++ (decimal i ++ (codes " (" ++ (proctype_nam
 abbrev pub heading_of : ℕ → Option Proctype → List ℕ
 heading_of i None = []
 heading_of i (Some p) = local_heading i p
-
--- the variables of a proctype, if it is there
-abbrev pub slots_of : Option Proctype → List Slot
-slots_of None = []
-slots_of (Some p) = p.variables
 
 -- the process i as an owner of variables
 abbrev pub process_owner : Bool → ℕ → Option Proctype → Owner

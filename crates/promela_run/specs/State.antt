@@ -6,6 +6,7 @@ use Rattle.pml_program.specs.declared.form.Form.{Form}
 use Rattle.pml_program.specs.declared.form.Form.TheVariants as kind
 use Rattle.pml_program.specs.declared.program.Slot.{Slot}
 use Rattle.pml_program.specs.declared.program.Fields.{Fields}
+use Rattle.pml_program.specs.declared.program.Proctype.{Proctype}
 use Rattle.promela_process.specs.Expressions.{Reading, Filling, val, ◌>>=◌}
 use Rattle.promela_process.specs.Store.{Frame, size_at, number_at, ChannelState, with_number, zeros}
 use Rattle.promela_run.specs.declared.live_channel.LiveChannel.{LiveChannel}
@@ -17,12 +18,16 @@ use Rattle.pml_program.specs.declared.program.Initial.{Initial}
 use Rattle.pml_program.specs.declared.program.Initial.TheVariants as i
 use Rattle.promela_process.specs.Numbers.{clipped}
 use Rattle.promela_process.specs.declared.place.Place.{Place}
-use Rattle.pml_program.specs.declared.program.Proctype.{Proctype}
 use Rattle.pml_program.specs.declared.program.Program.{Program}
 use Rattle.promela_process.specs.Offers.{Offer, offer_of, offers}
 use Rattle.promela_run.specs.declared.moves.Pick.{Pick}
 use Rattle.pml_program.specs.declared.program.Seq.{Seq}
 use Rattle.promela_process.specs.Control.{Control, settle, at, steps}
+
+-- the variables of a proctype, if it is there
+abbrev pub slots_of : Option Proctype → List Slot
+slots_of None = []
+slots_of (Some q) = q.variables
 
 -- how many cells a variable or a field has
 abbrev pub size : Slot → ℕ
@@ -172,14 +177,9 @@ frame_begun ts ss b = variables_begun ts ss 0 (with_frame ss b)
 
 -- ---- which processes begin, and with what
 
--- the variables of a proctype, if it is there
-abbrev pub variables_of : Option Proctype → List Slot
-variables_of None = []
-variables_of (Some p) = p.variables
-
 -- the variables of the proctype with this number
 abbrev pub variables_at : Program → ℕ → List Slot
-variables_at p k = variables_of (slice_get p.proctypes k)
+variables_at p k = slots_of (slice_get p.proctypes k)
 
 -- a process of the proctype with this number; none is the 256th
 abbrev pub process_begun : Program → ℕ → Begun → Result Begun Fault

@@ -1,11 +1,12 @@
 -- A checked model as a machine: its first state, its moves, its steps, and the texts.
 -- Hold it against chapter 7 of the book.
-use Rattle.std.specs.Prelude.{ℕ, Bool, List, [], length, take, Option, Some, None, Result, Ok, Err}
-use Rattle.diagnostics.specs.declared.fault.Fault.{Fault}
-use Rattle.promela_session.specs.Session.{Rules, Outcome, Stopped, Goes, Faults}
+use Rattle.std.specs.Prelude.{Bool, List, Option, None, ℕ, [], length, take, Some, Result, Ok, Err}
 use Rattle.pml_program.specs.declared.program.Program.{Program}
 use Rattle.promela_process.specs.Store.{Frame}
 use Rattle.promela_run.specs.State.{Begun, State, begun_state}
+use Rattle.promela_run.specs.declared.halt.Halt.{Halt}
+use Rattle.diagnostics.specs.declared.fault.Fault.{Fault}
+use Rattle.promela_session.specs.Session.{Rules, Outcome, Stopped, Goes, Faults}
 use Rattle.promela_run.specs.Lines.{value_lines}
 use Rattle.promela_run.specs.declared.moves.Move.{Move}
 use Rattle.promela_run.specs.Moves as search
@@ -13,7 +14,6 @@ use Rattle.profile.specs.declared.TheConstants.{MOST_DSTEP_STATEMENTS}
 use Rattle.promela_run.specs.Steps.{kinds}
 use Rattle.promela_run.specs.Steps as outcome
 use Rattle.promela_run.specs.Texts as texts
-use Rattle.promela_run.specs.declared.halt.Halt.{Halt}
 
 -- A state; what the variables that are still there held before the last step; and the move that was not taken to its end, if one was
 -- not: nothing is done from there on.
@@ -25,6 +25,8 @@ pub record Running : Type 0 where
 -- before the first step nothing has changed
 abbrev pub first : Program → Begun → Bool → Running
 first p b lossy = record { state = begun_state p b lossy; past = b.frames; halt = None }
+
+-- ---- its moves, its steps, and the texts
 
 -- where it has stopped there is no move
 abbrev pub unless_stopped : Option Halt → List Move → List Move

@@ -8,10 +8,10 @@ use Rattle.pml_program.specs.declared.form.Form.TheVariants as kind
 use Rattle.pml_program.specs.declared.program.Slot.{Slot}
 use Rattle.pml_program.specs.declared.program.Fields.{Fields}
 use Rattle.pml_program.specs.declared.program.Program.{Program}
-use Rattle.promela_run.specs.State.{leaf, State}
+use Rattle.promela_run.specs.State.{leaf, slots_of, State}
 use Rattle.promela_process.specs.declared.place.Place.{Place}
 use Rattle.promela_process.specs.Store.{size_at}
-use Rattle.promela_run.specs.Lines.{constant, path, slots_of}
+use Rattle.promela_run.specs.Lines.{constant, path}
 use Rattle.pml_lines.specs.Changed.{process_in}
 use Rattle.promela_run.specs.Texts.{proctype_of}
 

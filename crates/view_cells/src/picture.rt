@@ -3,7 +3,7 @@
 ghost use Rattle.std.specs.Prelude.{◌≡◌, ◌≤◌, length};
 ghost use Rattle.profile.specs.declared.TheConstants.{MOST_PROCESSES};
 
-use pml_lines::tables::Tables;
+use pml_cells::tables::Tables;
 use pml_moves::scene::Scene;
 use pml_program::program::Program;
 use pml_store::store::Store;

@@ -11,10 +11,10 @@ begin_variable-requires-clause-there c =
 pub returns-in_err-begin_variable-clause-value : goal.returns-in_err-begin_variable-clause-value
 returns-in_err-begin_variable-clause-value c =
     let r : c.from_residual.result ≡ Err c.in_err-begin_variable.field-0.0 = search rules in
-    rw r (variables_stopped c.args.beginnings.now c.args.slots.now c.loop-variable.variable c.index-slots-variable.result (shown c.loop-variable.started) _ _ _ _ c.loop-variable-test.true c.index-slots-variable.is c.loop-variable.invariant.same c.in_err-begin_variable.ensures.value)
+    rw r (variables_stopped c.args.beginnings.now.typedefs c.args.slots.now c.loop-variable.variable c.index-slots-variable.result (shown c.loop-variable.started) _ _ _ _ c.loop-variable-test.true c.index-slots-variable.is c.loop-variable.invariant.same c.in_err-begin_variable.ensures.value)
 
 pub loop-variable-preserved : goal.loop-variable-preserved
 loop-variable-preserved c = record {
-  same = variables_made c.args.beginnings.now c.args.slots.now c.loop-variable.variable c.index-slots-variable.result (shown c.loop-variable.started) (shown c.begin_variable.new.started) _ _ c.loop-variable-test.true c.index-slots-variable.is c.loop-variable.invariant.same c.in_ok-begin_variable.ensures.value;
+  same = variables_made c.args.beginnings.now.typedefs c.args.slots.now c.loop-variable.variable c.index-slots-variable.result (shown c.loop-variable.started) (shown c.begin_variable.new.started) _ _ c.loop-variable-test.true c.index-slots-variable.is c.loop-variable.invariant.same c.in_ok-begin_variable.ensures.value;
   keeps = keeps-then _ _ _ c.loop-variable.invariant.keeps c.in_ok-begin_variable.ensures.keeps;
 }

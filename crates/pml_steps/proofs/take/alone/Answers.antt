@@ -2,7 +2,8 @@ use Rattle.std.proofs.Common.{rules, ◌≡◌, ◌∙◌, ap, Err}
 use Rattle.promela_process.specs.Offers.{Offer as Offered}
 use Rattle.promela_run.specs.State.{picked}
 use Rattle.profile.specs.declared.TheConstants.{MOST_DSTEP_STATEMENTS}
-use Rattle.pml_steps.specs.Live.{Live, Does}
+use Rattle.pml_steps.specs.Live.{Does}
+use Rattle.promela_run.specs.World.{Running}
 use Rattle.promela_run.specs.Steps.{alone, moved}
 use Rattle.pml_steps.specs.Taking.{IsOffer}
 use Rattle.pml_steps.proofs.Taking.{joined_body, followed, stops_before, goes_on}
@@ -20,4 +21,4 @@ returns-clause-value c =
     let goes = followed c.args.live.now.state c.take_offer.new.live.state c.args.pick c.in-Some.offer h (joined_body c.args.live.now.state c.take_offer.new.live.state c.args.pick.process c.in_ok-take_offer.ensures.grows.joins h.there) in
     rw (h.is)
     (goes_on _ c.args.pick.process h.offer tt c.take_offer.new.live.state c.follow.new.self.state c.args.text.now.items c.take_offer.new.text.items (c.in_ok-take_offer.ensures.value h.offer h.is)
-    (ap (λ (l : Live). l.state) c.follow.ensures ∙ goes))
+    (ap (λ (l : Running). l.state) c.follow.ensures ∙ goes))

@@ -1,5 +1,5 @@
 use Rattle.std.proofs.Common.{rules, ◌≡◌, ap, Err}
-use Rattle.pml_steps.specs.Live.{Live}
+use Rattle.promela_run.specs.World.{Running}
 use Rattle.pml_steps.proofs.Taking.{pair_stops, pair_goes}
 use Rattle.pml_steps.proofs.take.pass_on.Goals as goal
 
@@ -13,4 +13,4 @@ pub returns-clause-value : goal.returns-clause-value
 returns-clause-value c text =
     let keeps = c.in_ok-pass.ensures.keeps in
     pair_goes c.args.live.now.state c.args.sender c.args.receiver c.args.timeout c.args.sent.now c.args.received.now c.requires.sends c.requires.receives tt c.pass.new.self.state c.go_to.new.self.state c.follow.new.self.state text
-    c.in_ok-pass.ensures.value keeps.program keeps.stands (ap (λ (l : Live). l.state) c.go_to.ensures) (ap (λ (l : Live). l.state) c.follow.ensures)
+    c.in_ok-pass.ensures.value keeps.program keeps.stands (ap (λ (l : Running). l.state) c.go_to.ensures) (ap (λ (l : Running). l.state) c.follow.ensures)

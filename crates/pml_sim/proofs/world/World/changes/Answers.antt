@@ -9,7 +9,7 @@ returns c =
     let live = c.self.inside.live in
     let found =
     changes_are c.args.self.now live c.kinds-kinds.result.now c.variables.result.now c.self.inside.older c.min-count.result (ap (λ (w : Running). w.state) (sym c.self.view_is))
-    (ap (λ (w : Running). w.past) (sym c.self.view_is)) c.kinds-kinds.ensures.value c.variables.ensures (search rules) c.kinds-kinds.ensures.declared in
+    (ap (λ (w : Running). w.past) (sym c.self.view_is)) c.kinds-kinds.ensures.value c.variables.ensures.frames c.variables.ensures.past (search rules) c.kinds-kinds.ensures.declared in
     let declared =
-    are_declared live c.self.inside.tables c.kinds-kinds.result.now c.variables.result.now c.min-count.result c.self.invariant c.kinds-kinds.ensures.value c.variables.ensures c.kinds-kinds.ensures.declared in
+    are_declared live c.tables.result.now c.kinds-kinds.result.now c.variables.result.now c.min-count.result c.tables.ensures c.kinds-kinds.ensures.value c.variables.ensures.frames c.kinds-kinds.ensures.declared in
     subst (λ (l : List Change). IfOk c.logged_changes.result (λ found. found.items ≡ l)) found (c.logged_changes.ensures declared)

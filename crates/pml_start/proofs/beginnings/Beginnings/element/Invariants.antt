@@ -5,7 +5,7 @@ use Rattle.pml_start.proofs.beginnings.Beginnings.element.Given as goal
 -- the cells so far, in a walk over those of the variable
 abbrev pub invariant-loop-cell : goal.invariant-loop-cell
 invariant-loop-cell l = record {
-  cells : l.cells.items ≡ known_cells l.self l.slot l.cell;
-  typedefs : l.walk.typedefs ≡ l.self;
+  cells : l.cells.items ≡ known_cells l.self.typedefs l.slot l.cell;
+  typedefs : l.walk.typedefs ≡ l.self.typedefs;
   slot : l.walk.slot ≡ l.slot;
 }

@@ -1,5 +1,6 @@
 use Rattle.std.proofs.Common.{rules, ◌≡◌, ◌<◌, ◌∙◌, ap, sym, length, map, arith}
 use Rattle.std.proofs.lemmas.List.{length-map}
+use Rattle.pml_program.specs.declared.program.Program.{Program}
 use Rattle.pml_moves.specs.declared.scene.Seat.{Seat}
 use Rattle.pml_moves.specs.Scene.{stand_of}
 use Rattle.pml_steps.proofs.Creating.{held_more, held_yet, bounded_more, popped, room_more, created_at}
@@ -8,6 +9,7 @@ use Rattle.pml_steps.proofs.live.Live.create.Goals as goal
 pub invariant_of-self-else-is_err-2 : goal.invariant_of-self-else-is_err-2
 invariant_of-self-else-is_err-2 c =
     let p = c.self.inside.played in
+    let typedefs = ap (λ (p : Program). p.typedefs) c.beginnings.ensures in
     let old = c.self.inside.state.started in
     let new = c.create-created.new.started in
     let seats = c.self.inside.state.seats.items in
@@ -16,7 +18,7 @@ invariant_of-self-else-is_err-2 c =
     held_more p old.store new.store old.channels.items new.channels.items old.kinds.items new.kinds.items seats c.push.new.self.items c.begins-seat.result c.in-Some.proctype.now c.self.invariant less
     (search rules) (search rules) (search rules) (search rules) c.create-created.ensures.most
     (bounded_more p old.store new.store old.channels.items new.channels.items old.kinds.items new.kinds.items seats c.args.kind c.in-Some.proctype.now _ c.args.arguments.now c.create-created.result
-    c.self.invariant c.beginnings.ensures (search rules) (rw c.as_slice.ensures at c.create-created.ensures.value) (sym c.is_err-2.ensures.value ∙ c.if-is_err-2.false))
+    c.self.invariant typedefs (search rules) (rw c.as_slice.ensures at c.create-created.ensures.value) (sym c.is_err-2.ensures.value ∙ c.if-is_err-2.false))
 
 pub create-created-requires-clause-room : goal.create-created-requires-clause-room
 create-created-requires-clause-room c =
@@ -37,17 +39,19 @@ invariant_of-self-then-is_err-2 c =
 pub returns-then-is_err-2-clause-value : goal.returns-then-is_err-2-clause-value
 returns-then-is_err-2-clause-value c =
     let p = c.self.inside.played in
+    let typedefs = ap (λ (p : Program). p.typedefs) c.beginnings.ensures in
     let old = c.self.inside.state.started in
     let new = c.create-created.new.started in
     rw (← c.self.view_is)
     (created_at p old.store new.store old.channels.items new.channels.items old.kinds.items new.kinds.items c.self.inside.state.seats.items c.pop.new.self.items c.self.inside.state.holder c.self.inside.state.lossy
-    c.begins-seat.result c.in-Some.proctype.now c.args.kind c.begins-seat.ensures.kind _ c.args.arguments.now c.create-created.result c.beginnings.ensures c.self.invariant.seated (search rules) c.begins-seat.ensures.stands (search rules) (search rules))
+    c.begins-seat.result c.in-Some.proctype.now c.args.kind c.begins-seat.ensures.kind _ c.args.arguments.now c.create-created.result typedefs c.self.invariant.seated (search rules) c.begins-seat.ensures.stands (search rules) (search rules))
 
 pub returns-else-is_err-2-clause-value : goal.returns-else-is_err-2-clause-value
 returns-else-is_err-2-clause-value c =
     let p = c.self.inside.played in
+    let typedefs = ap (λ (p : Program). p.typedefs) c.beginnings.ensures in
     let old = c.self.inside.state.started in
     let new = c.create-created.new.started in
     rw (← c.self.view_is)
     (created_at p old.store new.store old.channels.items new.channels.items old.kinds.items new.kinds.items c.self.inside.state.seats.items c.push.new.self.items c.self.inside.state.holder c.self.inside.state.lossy
-    c.begins-seat.result c.in-Some.proctype.now c.args.kind c.begins-seat.ensures.kind _ c.args.arguments.now c.create-created.result c.beginnings.ensures c.self.invariant.seated (search rules) c.begins-seat.ensures.stands (search rules) (search rules))
+    c.begins-seat.result c.in-Some.proctype.now c.args.kind c.begins-seat.ensures.kind _ c.args.arguments.now c.create-created.result typedefs c.self.invariant.seated (search rules) c.begins-seat.ensures.stands (search rules) (search rules))

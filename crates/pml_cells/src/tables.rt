@@ -2,13 +2,12 @@
 
 ghost use Rattle.std.specs.Prelude.{◌≡◌, IfOk, map, slice_get};
 ghost use Rattle.std.specs.Option.{option_copied};
-ghost use Rattle.promela_run.specs.State.{slot_of, cell_of};
+ghost use Rattle.promela_run.specs.State.{slots_of, slot_of, cell_of};
 ghost use Rattle.pml_cells.specs.Numbers.{number_in};
-ghost use Rattle.promela_run.specs.Lines.{slots_of};
-ghost use Rattle.pml_lines.specs.Tables.{variables};
+ghost use Rattle.pml_cells.specs.Tables.{variables};
 
-use pml_cells::row::Row;
-use pml_cells::typedefs::Typedefs;
+use crate::row::Row;
+use crate::typedefs::Typedefs;
 use pml_program::program::{Proctype, Program, Slot};
 use std::alloc::{AllocError, Global};
 use std::marker::Model;
@@ -30,7 +29,7 @@ impl<'p, 'a> Model for Tables<'p, 'a> {
     ghost use Rattle.std.specs.Coded.{codes};
     ghost use Rattle.std.specs.Prelude.{[]};
     ghost use mir.Syntax.{named};
-    ghost use Rattle.pml_lines.specs.Tables.{AreRows};
+    ghost use Rattle.pml_cells.specs.Tables.{AreRows};
 
     ghost Value = { Program };
 

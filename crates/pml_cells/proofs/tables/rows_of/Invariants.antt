@@ -1,6 +1,6 @@
 use Rattle.std.proofs.Common.{◌≡◌, ◌++◌, drop, map}
-use Rattle.pml_lines.specs.Tables.{variables}
-use Rattle.pml_lines.proofs.tables.rows_of.Given as goal
+use Rattle.pml_cells.specs.Tables.{variables}
+use Rattle.pml_cells.proofs.tables.rows_of.Given as goal
 
 -- the rows so far, and those of the rest
 abbrev pub invariant-loop-proctype : goal.invariant-loop-proctype
