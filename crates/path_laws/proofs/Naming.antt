@@ -16,10 +16,9 @@ use Rattle.promela_run.specs.declared.moves.Move.TheVariants.{Death, Alone, Pair
 use Rattle.promela_run.specs.State.{Stand, State, reads, body_of, levels, levels_in, offer_on, offer_at, picked}
 use Rattle.promela_run.specs.Moves.{or_else, each, last, only_if, is_else, can_alone, Message, message, accepts, pick, pairs_on, pairs_with, pairs, moves_by, plain_moves, else_moves, moves_on, moves_of, moves_at, moves_under, moves_if, moves_held, moves}
 use Rattle.pml_moves.specs.Laws.{Each}
-use Rattle.promela_run.specs.Texts.{kind_of, proctype_of, heading, offer_text, pick_text, death_text, line_in, brace_of}
+use Rattle.promela_run.specs.World.{kind_of, proctype_of, heading, offer_text, pick_text, death_text, line_in, brace_of, unless_stopped}
 use Rattle.promela_run.specs.declared.halt.Halt.{Halt}
 use Rattle.pml_sim.specs.Origins.{IsOffered, IsThere}
-use Rattle.promela_run.specs.World.{unless_stopped}
 use Rattle.path_laws.specs.Origins.{NamesPlace, NamesReceiver, TextsNamePlaces, ListedMovesHaveOrigins}
 use Rattle.path_laws.proofs.Apart.{or_holds, only_holds}
 use Rattle.path_laws.proofs.Growing.{IsFitStand, IsFitState, all_got}

@@ -5,9 +5,8 @@ use Rattle.std.specs.List.{Contains}
 use Rattle.promela_run.specs.declared.moves.Move.{Move}
 use Rattle.promela_run.specs.declared.moves.Move.TheVariants.{Death, Alone, Pair}
 use Rattle.promela_run.specs.State.{picked, State}
-use Rattle.promela_run.specs.Texts.{line_in, origin_of, move_text, pick_text}
+use Rattle.promela_run.specs.World.{line_in, origin_of, move_text, pick_text, Running, rules}
 use Rattle.pml_sim.specs.Origins.{IsThere}
-use Rattle.promela_run.specs.World.{Running, rules}
 use Rattle.pml_play.specs.Shown.{PathLeads}
 use Rattle.pml_play.specs.Transcript.{IsModel}
 

@@ -3,7 +3,7 @@ use Rattle.std.proofs.Common.{◌≡◌, List, Option, None, subst}
 use Rattle.diagnostics.specs.declared.refusal.Refusal.{Refusal}
 use Rattle.pml_tree.specs.declared.tree.Tree.{Tree}
 use Rattle.promela_model.specs.declared.mark.Mark.{Mark}
-use Rattle.promela_model.specs.MarksOfUnits.{of_tree}
+use Rattle.promela_model.specs.Marks.{of_tree}
 use Rattle.pml_program.specs.declared.program.Program.{Program}
 use Rattle.pml_resolve.specs.Model.{numbered_model}
 use Rattle.promela_run.specs.Judged.{FitsTo, SettleEverywhere}

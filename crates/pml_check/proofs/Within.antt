@@ -4,7 +4,7 @@ use Rattle.std.specs.List.{AllByRecursion}
 use Rattle.profile.specs.declared.TheConstants.{MOST_CELLS}
 use Rattle.diagnostics.specs.declared.refusal.Refusal.TheVariants as r
 use Rattle.pml_tree.specs.declared.tree.Tree.{Tree}
-use Rattle.promela_model.specs.MarksOfUnits.{of_tree}
+use Rattle.promela_model.specs.Marks.{of_tree}
 use Rattle.promela_model.specs.declared.mark.Constant.{Constant}
 use Rattle.promela_model.specs.declared.mark.Constant.TheVariants as number
 use Rattle.promela_model.specs.declared.mark.Role.TheVariants as role
@@ -14,11 +14,10 @@ use Rattle.promela_model.specs.declared.mark.What.{What}
 use Rattle.promela_model.specs.declared.mark.What.TheVariants as what
 use Rattle.pml_names.specs.Entry.{Entry}
 use Rattle.pml_names.specs.Env.{told, env, env_from}
-use Rattle.promela_model.specs.Names.{Before}
+use Rattle.promela_model.specs.Names.{Before, capacity, too_many}
 use Rattle.pml_names.proofs.Firsts.{told-before}
 use Rattle.promela_model.specs.declared.condition.Condition.TheVariants as condition
 use Rattle.promela_model.specs.Conditions.{judged}
-use Rattle.promela_model.specs.Ranges.{capacity, too_many}
 use Rattle.promela_model.specs.Decided as marks
 use Rattle.pml_program.specs.declared.program.Initial.{Initial}
 use Rattle.pml_program.specs.declared.program.Initial.TheVariants as i

@@ -1,7 +1,7 @@
 -- What is asked of a tree.
 use Rattle.std.specs.Prelude.{◌≡◌}
 use Rattle.pml_tree.specs.declared.tree.Tree.{Tree}
-use Rattle.promela_model.specs.MarksOfUnits.{of_tree}
+use Rattle.promela_model.specs.Marks.{of_tree}
 use Rattle.pml_resolve.specs.Model.{numbered_model}
 use Rattle.pml_control.specs.Plan.{ArePlans}
 use Rattle.pml_check.specs.Broken.{AreBroken}

@@ -5,7 +5,7 @@ ghost use Rattle.std.specs.List.{AllByRecursion};
 ghost use Rattle.diagnostics.specs.declared.refusal.Refusal.TheVariants as r;
 ghost use Rattle.pml_tree.specs.declared.tree.Tree.{Tree};
 ghost use Rattle.promela_model.specs.declared.mark.Mark.{Mark};
-ghost use Rattle.promela_model.specs.MarksOfUnits.{of_tree};
+ghost use Rattle.promela_model.specs.Marks.{of_tree};
 ghost use Rattle.pml_program.specs.declared.program.Program.{Program};
 ghost use Rattle.pml_resolve.specs.Model.{numbered_model};
 ghost use Rattle.promela_run.specs.Judged.{condition_of};

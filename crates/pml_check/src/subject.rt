@@ -1,7 +1,7 @@
 //! What is asked of a tree is asked of this.
 
 ghost use Rattle.std.specs.Prelude.{◌≡◌, IfOk};
-ghost use Rattle.promela_model.specs.MarksOfUnits.{of_tree};
+ghost use Rattle.promela_model.specs.Marks.{of_tree};
 ghost use Rattle.pml_resolve.specs.Model.{numbered_model};
 ghost use Rattle.pml_check.specs.Broken.{AreBroken};
 ghost use Rattle.pml_check.specs.Subject.{IsSubject};

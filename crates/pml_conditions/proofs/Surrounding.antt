@@ -5,10 +5,9 @@ use Rattle.promela_model.specs.declared.mark.Mark.{Mark}
 use Rattle.pml_names.specs.declared.places.Places.{Places}
 use Rattle.pml_names.specs.Entry.{Entry, found}
 use Rattle.pml_names.specs.Env.{env, told}
-use Rattle.promela_model.specs.Names.{Naming, Before, before}
+use Rattle.promela_model.specs.Names.{Naming, Before, before, Labels}
 use Rattle.pml_names.proofs.Firsts.{told-before}
 use Rattle.promela_model.specs.Conditions.{Around}
-use Rattle.promela_model.specs.Ranges.{Labels}
 use Rattle.promela_model.specs.Decided.{has_label, around, is_label}
 use Rattle.pml_conditions.specs.Labels.{labels_of, told_around}
 

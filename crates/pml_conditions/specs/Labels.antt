@@ -6,7 +6,7 @@ use Rattle.pml_names.specs.Places.{IsKept, stands}
 use Rattle.pml_names.specs.Entry.{Entry, found}
 use Rattle.pml_names.specs.Env.{told}
 use Rattle.promela_model.specs.Conditions.{Around}
-use Rattle.promela_model.specs.Ranges.{Labels}
+use Rattle.promela_model.specs.Names.{Labels}
 use Rattle.promela_model.specs.Decided.{has_label}
 
 abbrev pub labels_of : Places ℕ → Labels

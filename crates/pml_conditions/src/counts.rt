@@ -3,10 +3,9 @@
 ghost use Rattle.std.specs.Prelude.{◌≡◌, ◌+◌, ◌*◌, ◌<◌, ◌^◌, nat_lt, ℕ, pos};
 ghost use Rattle.pml_conditions.specs.Labels.{labels_of};
 ghost use Rattle.promela_model.specs.Conditions.{twice, conversions, is_conversion, inside, other_count};
-ghost use Rattle.promela_model.specs.Ranges.{mislabelled, is_outside, out_of, out_of_range, capacity, too_many};
+ghost use Rattle.promela_model.specs.Names.{mislabelled, is_outside, out_of, out_of_range, capacity, too_many, stride, length_of};
 ghost use Rattle.pml_names.specs.Entry.{found};
 ghost use Rattle.pml_names.specs.Env.{told};
-ghost use Rattle.promela_model.specs.Names.{stride, length_of};
 ghost use Rattle.pml_names.specs.Totals.{IsTotalled};
 
 use pml_marks::arithmetic::read;

@@ -1,7 +1,7 @@
 //! Numbers of the text, and constant arithmetic.
 
 ghost use Rattle.std.specs.Prelude.{◌≡◌};
-ghost use Rattle.promela_model.specs.Constant.{numeral, number, joined, applied, negated};
+ghost use Rattle.promela_model.specs.Known.{numeral, number, joined, applied, negated};
 
 use pml_tree::tree::Infix;
 use promela_model::mark::Constant;

@@ -1,7 +1,7 @@
 //! Constant expressions.
 
 ghost use Rattle.std.specs.Prelude.{◌≡◌};
-ghost use Rattle.promela_model.specs.Constant.{constant, is_constant};
+ghost use Rattle.promela_model.specs.Known.{constant, is_constant};
 
 use crate::arithmetic::{join, negative, value};
 use pml_tree::tree::{Expr, Infix, Prefix};

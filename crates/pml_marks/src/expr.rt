@@ -1,7 +1,8 @@
 //! The marks of expressions.
 
 ghost use Rattle.std.specs.Prelude.{◌≡◌, ◌++◌, ◌∷◌, [], OnOk, IfOk};
-ghost use Rattle.promela_model.specs.Marks.{of_expr, of_exprs, of_argument, of_arguments, of_reference, of_step, mark, shapes};
+ghost use Rattle.promela_model.specs.Marks.{of_expr, of_exprs, of_argument, of_arguments, of_reference, mark, shapes};
+ghost use Rattle.pml_marks.specs.Parts.{of_step};
 
 use pml_tree::tree::{Argument, Expr, Reference, Step};
 use promela_model::mark::{Mark, Shape, Use, What};

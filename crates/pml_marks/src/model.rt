@@ -1,7 +1,7 @@
 //! The marks of a model.
 
 ghost use Rattle.std.specs.Prelude.{◌≡◌, ◌++◌, OnOk, IfOk};
-ghost use Rattle.promela_model.specs.MarksOfUnits.{of_starts, of_constants, of_process, of_unit, of_units, of_tree};
+ghost use Rattle.promela_model.specs.Marks.{of_starts, of_constants, of_process, of_unit, of_units, of_tree};
 
 use crate::constant::constant;
 use crate::declare::variables;

@@ -1,7 +1,8 @@
 //! The marks of statements.
 
 ghost use Rattle.std.specs.Prelude.{◌≡◌, ◌++◌, map, OnOk, IfOk};
-ghost use Rattle.promela_model.specs.Marks.{of_run, of_action, of_references, of_basic, of_labels, of_item, of_seq, all_marks};
+ghost use Rattle.promela_model.specs.Marks.{of_run, of_action, of_references, of_labels, of_seq, all_marks};
+ghost use Rattle.pml_marks.specs.Parts.{of_basic, of_item};
 
 use crate::declare::variables;
 use crate::expr::{add, arguments, expr, exprs, reference};

@@ -20,7 +20,7 @@ use Rattle.pml_play.specs.declared.whole.Rejection.TheVariants.{Memory, Refused}
 use Rattle.pml_play.specs.Transcript.{IsModel, IsTranscript, of_refusal, of_model}
 use Rattle.pml_play.specs.Parts.{IsRejected}
 use Rattle.pml_sim.proofs.Short.{light_stands}
-use Rattle.pml_play.specs.Converts.{IsConversion, no_model, of_its_model, Converts, IsAlwaysConverted}
+use Rattle.pml_play.specs.Transcript.{IsConversion, no_model, of_its_model, Converts, IsAlwaysConverted}
 use Rattle.pml_play.specs.Converting.{cause_rejected}
 use Rattle.pml_play.proofs.Light.{text_light}
 use Rattle.pml_play.proofs.Each.{has_transcript}

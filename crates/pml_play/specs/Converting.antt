@@ -11,7 +11,7 @@ use Rattle.pml_play.specs.declared.whole.Rejection.TheVariants.{Memory, Refused}
 use Rattle.pml_program.specs.declared.program.Program.{Program}
 use Rattle.pml_play.specs.Parts.{IsReady}
 use Rattle.pml_play.specs.Transcript.{IsModel}
-use Rattle.pml_play.specs.Converts.{Converts}
+use Rattle.pml_play.specs.Transcript.{Converts}
 
 -- so of each text that stands for this model
 abbrev pub ConvertsModel : Running → Options → Holdings → Holdings → End → Type 0

@@ -1,7 +1,6 @@
 pub mod Transcript
 pub mod Outcomes
 pub mod Parts
-pub mod Converts
 pub mod Converting
 pub mod Plain
 pub mod Run

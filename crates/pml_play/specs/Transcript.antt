@@ -1,15 +1,15 @@
--- What a text stands for: a refusal, or a model; the session over it; and what playing it answers.
+-- What a text stands for: a refusal, or a model; the session over it; what playing it answers, and what converting its choices does.
 -- Hold it against docs/FORMATS.md; docs/REFUSALS.md.
-use Rattle.std.specs.Prelude.{◌≡◌, ℕ, List, ◌<◌, Bool, length, Ok}
+use Rattle.std.specs.Prelude.{◌≡◌, ℕ, List, ◌<◌, Bool, length, Ok, ◌≢◌}
 use Rattle.devices.specs.Holdings.{Holdings}
 use Rattle.promela_session.specs.declared.ends.Options.{Options}
 use Rattle.promela_session.specs.declared.ends.End.{End}
 use Rattle.promela_session.specs.declared.ends.Broken.{Broken}
 use Rattle.promela_session.specs.Events.{Part}
-use Rattle.promela_session.specs.Devices.{Breaks, CountsBroken, Ends, failure_of}
+use Rattle.promela_session.specs.Devices.{Breaks, CountsBroken, Ends, failure_of, IsBrokenOff}
 use Rattle.diagnostics.specs.declared.refusal.Refusal.{Refusal}
 use Rattle.diagnostics.specs.declared.refusal.Refusal.TheVariants as r
-use Rattle.promela_session.specs.Session.{refused, transcript}
+use Rattle.promela_session.specs.Session.{refused, transcript, only, end_of}
 use Rattle.pml_token.specs.Word.{Word}
 use Rattle.profile.specs.declared.TheConstants.{MOST_TEXT_BYTES}
 use Rattle.promela_text.specs.Tokens.{IsLine, AreTokens, CannotBeCut, HoldsLeftOut}
@@ -22,6 +22,8 @@ use Rattle.pml_program.specs.declared.program.Program.{Program}
 use Rattle.promela_run.specs.State.{Begun, first_state}
 use Rattle.promela_run.specs.World.{Running, first, rules}
 use Rattle.promela_session.specs.declared.form.Stream.TheVariants.{Unread}
+use Rattle.promela_session.specs.declared.ends.Cause.TheVariants as cause
+use Rattle.promela_session.specs.Replay.{converted, IsConvertedBy, StandsForRecord}
 
 -- These come of the text's tokens, where the calls of inlines are replaced, and they are not too deep.
 pub record AreExpanded (text : List ℕ) (expanded : List Word) : Type 0 where
@@ -103,3 +105,36 @@ pub record BreaksOff (text : List ℕ) (options : Options) (before after : Holdi
 abbrev pub PlaysBroken : List ℕ → Options → Holdings → Holdings → End → Type 0
 PlaysBroken text options before after end = (broken : Broken) × (end.cause ≡ failure_of broken)
     × BreaksOff text options before after end.steps broken × CountsBroken broken before.failures after.failures
+
+-- ---- what converting the choices of a text answers
+
+-- The conversion of the choices of a session over a text: nothing is done where it is refused, and else that of the model.
+pub data IsConversion (text : List ℕ) (options : Options) : (List ℕ → Part End) → Type 0 where
+  no_model : {refusal : Refusal} {line : ℕ} → IsRefused text refusal line → IsConversion text options (only (end_of (cause.Refused refusal line) 0) Unread)
+  of_its_model : {state : Running} → IsModel text options.lossy state → IsConversion text options (converted (transcript rules options state))
+
+-- the choices over the text were converted, and stand for the record
+pub record ConvertsWhole (text : List ℕ) (options : Options) (before after : Holdings) (end : End) : Type 0 where
+  pub part : List ℕ → Part End
+  pub is_conversion : IsConversion text options part
+  pub ends : Ends before after end.steps part end
+  pub run : List ℕ → Part End
+  pub is_transcript : IsTranscript text options run
+  pub stands : IsConvertedBy before.source after.source run
+
+-- a device or memory broke the conversion off, behind a beginning of its events
+pub record ConvertsBroken (text : List ℕ) (options : Options) (before after : Holdings) (end : End) : Type 0 where
+  pub part : List ℕ → Part End
+  pub is_conversion : IsConversion text options part
+  pub broken : IsBrokenOff before after part end
+
+-- the choices over the text were converted, or it was broken off
+pub record Converts (text : List ℕ) (options : Options) (before after : Holdings) (end : End) : Type 0 where
+  pub whole : end.status ≢ 6 → ConvertsWhole text options before after end
+  pub quiet : end.status ≢ 6 → after.failures ≡ before.failures
+  pub broken : end.status ≡ 6 → ConvertsBroken text options before after end
+  pub is_end : end ≡ end_of end.cause end.steps
+
+-- whatever the choices are, what they are converted to stands for the record
+abbrev pub IsAlwaysConverted : (List ℕ → Part End) → Type 0
+IsAlwaysConverted transcript = (choices : List ℕ) → StandsForRecord transcript choices

@@ -4,7 +4,7 @@ ghost use Rattle.std.specs.Prelude.{◌≡◌, ℕ, List};
 ghost use Rattle.promela_session.specs.declared.ends.End.{End};
 ghost use Rattle.promela_session.specs.Events.{Part};
 ghost use Rattle.promela_session.specs.Session.{end_of};
-ghost use Rattle.pml_play.specs.Converts.{Converts, IsAlwaysConverted};
+ghost use Rattle.pml_play.specs.Transcript.{Converts, IsAlwaysConverted};
 ghost use Rattle.pml_play.specs.Converting.{ConvertsModel, ConvertsReady, cause_rejected};
 ghost use Rattle.pml_play.specs.Transcript.{IsTranscript};
 

@@ -10,7 +10,7 @@ use Rattle.promela_text.specs.declared.inline_fault.InlineFault.TheVariants as f
 use Rattle.promela_text.specs.declared.misuse.Misuse.{Misuse}
 use Rattle.promela_model.specs.GrammarOfModels.{Spells}
 use Rattle.promela_model.specs.declared.mark.Mark.{Mark}
-use Rattle.promela_model.specs.MarksOfUnits.{of_tree}
+use Rattle.promela_model.specs.Marks.{of_tree}
 use Rattle.promela_model.specs.declared.condition.Condition.{Condition}
 use Rattle.pml_conditions.specs.First.{IsFirstBroken}
 use Rattle.pml_causes.specs.declared.cause.Place.{Place}

@@ -6,7 +6,7 @@ ghost use Rattle.pml_tree.specs.declared.tree.Tree.{Tree};
 ghost use Rattle.promela_model.specs.GrammarOfModels.{Spells};
 ghost use Rattle.pml_places.specs.Placed.{ArePlaced, IsUnplaced};
 ghost use Rattle.pml_inline.specs.Least.{IsLeast};
-ghost use Rattle.promela_model.specs.MarksOfUnits.{of_tree};
+ghost use Rattle.promela_model.specs.Marks.{of_tree};
 ghost use Rattle.pml_conditions.specs.First.{FindsFirst};
 ghost use Rattle.pml_refused.specs.Marks.{condition_of, all_breaks, first_is_told, IsOfMark, NoneBreaks};
 ghost use Rattle.pml_refused.specs.Found.{IsBroken};

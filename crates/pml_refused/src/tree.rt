@@ -3,7 +3,7 @@
 ghost use Rattle.std.specs.Prelude.{◌≡◌, IfOk, MatchOption, Some};
 ghost use Rattle.pml_tree.specs.declared.tree.Tree.{Tree};
 ghost use Rattle.promela_model.specs.GrammarOfModels.{Spells};
-ghost use Rattle.promela_model.specs.MarksOfUnits.{of_tree};
+ghost use Rattle.promela_model.specs.Marks.{of_tree};
 ghost use Rattle.pml_resolve.specs.Model.{numbered_model};
 ghost use Rattle.pml_refused.specs.Told.{NoTree, AreMarks};
 

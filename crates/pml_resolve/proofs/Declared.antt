@@ -2,7 +2,7 @@
 use Rattle.std.proofs.Common.{◌≡◌, ℕ, suc, ◌-◌, ◌<◌, ◌≤◌, List, [], ◌∷◌, ◌++◌, length, map, reverse, drop, get_or, refl, ap, sym, ◌∙◌, drop-cons, arith}
 use Rattle.std.proofs.lemmas.List.{reverse-append, map-append}
 use Rattle.pml_token.specs.Word.{Word}
-use Rattle.promela_model.specs.MarksOfUnits.{of_constants, constant_mark}
+use Rattle.promela_model.specs.Marks.{of_constants, constant_mark}
 use Rattle.promela_model.specs.declared.mark.Mark.{Mark}
 use Rattle.promela_model.specs.declared.mark.Declared.TheVariants as declared_as
 use Rattle.promela_model.specs.declared.mark.What.TheVariants as what

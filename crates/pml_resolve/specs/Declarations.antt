@@ -5,7 +5,7 @@ use Rattle.pml_tree.specs.declared.tree.Scalar.{Scalar}
 use Rattle.pml_tree.specs.declared.tree.Initial.{Initial as TreeInitial}
 use Rattle.pml_tree.specs.declared.tree.Initial.TheVariants as t
 use Rattle.pml_tree.specs.declared.tree.Variable.{Variable}
-use Rattle.promela_model.specs.Constant.{constant}
+use Rattle.promela_model.specs.Known.{constant}
 use Rattle.promela_model.specs.Marks.{size_of, made_by}
 use Rattle.promela_model.specs.declared.mark.Constant.{Constant}
 use Rattle.promela_model.specs.declared.mark.Constant.TheVariants.{Is}

@@ -6,8 +6,8 @@ use Rattle.pml_tree.specs.declared.tree.Proctype.{Proctype as TreeProctype}
 use Rattle.pml_tree.specs.declared.tree.Unit.{Unit as Part}
 use Rattle.pml_tree.specs.declared.tree.Unit.TheVariants as part
 use Rattle.pml_tree.specs.declared.tree.Tree.{Tree}
-use Rattle.promela_model.specs.Constant.{constant}
-use Rattle.promela_model.specs.MarksOfUnits.{of_constants, of_tree}
+use Rattle.promela_model.specs.Known.{constant}
+use Rattle.promela_model.specs.Marks.{of_constants, of_tree}
 use Rattle.promela_model.specs.declared.mark.Declared.TheVariants as declared_as
 use Rattle.promela_model.specs.declared.mark.What.TheVariants as what
 use Rattle.promela_model.specs.declared.mark.Role.TheVariants as role

@@ -7,7 +7,7 @@ use Rattle.pml_tree.specs.declared.tree.Sign.TheVariants.{Plus, Minus}
 use Rattle.pml_tree.specs.declared.tree.Argument.{Argument, Argument-F, fold-Argument}
 use Rattle.pml_tree.specs.declared.tree.Reference.{Reference, Reference-F, fold-Reference, out-Reference}
 use Rattle.pml_tree.specs.declared.tree.Step.{Step, Step-F, fold-Step}
-use Rattle.promela_model.specs.Constant.{number, negated}
+use Rattle.promela_model.specs.Known.{number, negated}
 use Rattle.promela_model.specs.declared.mark.Constant.{Constant}
 use Rattle.promela_model.specs.declared.mark.Constant.TheVariants.{Is}
 use Rattle.pml_program.specs.declared.form.Form.{Form}

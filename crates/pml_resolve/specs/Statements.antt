@@ -4,6 +4,7 @@ use Rattle.pml_token.specs.Word.{Word}
 use Rattle.pml_tree.specs.declared.tree.Expr.{Expr as TreeExpr}
 use Rattle.pml_tree.specs.declared.tree.Reference.{Reference}
 use Rattle.pml_tree.specs.declared.tree.Run.{Run as TreeRun}
+use Rattle.pml_tree.specs.declared.tree.Variable.{Variable}
 use Rattle.pml_tree.specs.declared.tree.Action.{Action as TreeAction}
 use Rattle.pml_tree.specs.declared.tree.Action.TheVariants as t
 use Rattle.pml_tree.specs.declared.tree.Basic.{Basic as TreeBasic, Basic-F, fold-Basic}
@@ -95,6 +96,14 @@ basic_layer (Basic-F.Unless f g) all o k = let x = two f g all o k in (Some x.0,
 abbrev pub stmts : List Word → Option Basic → List Word → List Stmt
 stmts ls None ts = []
 stmts ls (Some x) ts = roll-Stmt (record { labels = ls; basic = x; tokens = ts }) ∷ []
+
+-- a statement with these labels and these tokens behind others
+abbrev pub adds : List Stmt → List Word → Basic → List Word → List Stmt
+adds ss ls x ts = ss ++ stmts ls (Some x) ts
+
+-- what is known behind a declaration of variables
+abbrev pub declares : List Variable → List Entry → ℕ → Known → Known
+declares vs all o k = with_variables all role.Variable o vs k
 
 abbrev pub item_layer : Item-F (Threaded (Option Basic)) (Threaded (List Stmt)) (Threaded Seq) → Threaded (List Stmt)
 item_layer i all o k = let x = i.basic all o k in (stmts i.labels x.0 i.tokens, x.1)

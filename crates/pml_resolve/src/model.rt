@@ -2,7 +2,7 @@
 
 ghost use Rattle.std.specs.Prelude.{◌≡◌, ◌++◌, reverse, OnOk, IfOk};
 ghost use Rattle.pml_tree.specs.declared.tree.Unit.TheVariants as part;
-ghost use Rattle.promela_model.specs.MarksOfUnits.{of_constants, of_tree};
+ghost use Rattle.promela_model.specs.Marks.{of_constants, of_tree};
 ghost use Rattle.pml_names.specs.Env.{env, env_from};
 ghost use Rattle.pml_names.specs.Totals.{IsTotalled};
 ghost use Rattle.pml_resolve.specs.Numbered.{owned};

@@ -1,12 +1,11 @@
 //! Bodies, with their names replaced.
 
 ghost use Rattle.std.specs.Prelude.{◌≡◌, ◌++◌, ◌∷◌, [], Some, map, IfOk, OnOk};
-ghost use Rattle.promela_model.specs.declared.mark.Role.TheVariants as role;
 ghost use Rattle.pml_program.specs.declared.program.Basic.{Plain, Goto, Break, If, Do, Block, Atomic, DStep, Unless};
 ghost use Rattle.pml_names.specs.Totals.{IsTotalled};
-ghost use Rattle.pml_resolve.specs.Declarations.{known, with_variables};
+ghost use Rattle.pml_resolve.specs.Declarations.{known};
 ghost use Rattle.pml_resolve.specs.Numbered.{owned, scope_of};
-ghost use Rattle.pml_resolve.specs.Statements.{action, each, stmts, numbered_item, numbered_seq};
+ghost use Rattle.pml_resolve.specs.Statements.{action, adds, declares, each, numbered_item, numbered_seq};
 
 use crate::action::action;
 use crate::declare::{Holder, variables};
@@ -39,7 +38,7 @@ fn add<'a>(
     tokens: Tokens<'a>,
     steps: &mut Items<Stmt<'a>>,
 ) -> Result<(), AllocError>
-    ensures { OnOk result (steps.new ≡ steps.old ++ stmts labels.entry (Some basic.entry) tokens.entry) }
+    ensures { OnOk result (steps.new ≡ adds steps.old labels.entry basic.entry tokens.entry) }
 {
     steps.push(Stmt {
         labels,
@@ -58,7 +57,7 @@ fn add_plain<'a>(
     tokens: Tokens<'a>,
     steps: &mut Items<Stmt<'a>>,
 ) -> Result<(), AllocError>
-    ensures { OnOk result (steps.new ≡ steps.old ++ stmts labels.entry (Some (Plain (action a.now (scope_of within.entry)))) tokens.entry) }
+    ensures { OnOk result (steps.new ≡ adds steps.old labels.entry (Plain (action a.now (scope_of within.entry))) tokens.entry) }
 {
     let x = action(alloc, a, within)?;
     add(labels, Basic::Plain(x), tokens, steps)
@@ -72,7 +71,7 @@ fn add_goto<'a>(
     tokens: Tokens<'a>,
     steps: &mut Items<Stmt<'a>>,
 ) -> Result<(), AllocError>
-    ensures { OnOk result (steps.new ≡ steps.old ++ stmts labels.entry (Some (Goto label.now)) tokens.entry) }
+    ensures { OnOk result (steps.new ≡ adds steps.old labels.entry (Goto label.now) tokens.entry) }
 {
     add(labels, Basic::Goto(label.copied()), tokens, steps)
 }
@@ -84,7 +83,7 @@ fn add_break<'a>(
     tokens: Tokens<'a>,
     steps: &mut Items<Stmt<'a>>,
 ) -> Result<(), AllocError>
-    ensures { OnOk result (steps.new ≡ steps.old ++ stmts labels.entry (Some Break) tokens.entry) }
+    ensures { OnOk result (steps.new ≡ adds steps.old labels.entry Break tokens.entry) }
 {
     add(labels, Basic::Break, tokens, steps)
 }
@@ -97,7 +96,7 @@ fn add_if<'a>(
     tokens: Tokens<'a>,
     steps: &mut Items<Stmt<'a>>,
 ) -> Result<(), AllocError>
-    ensures { OnOk result (steps.new ≡ steps.old ++ stmts labels.entry (Some (If options.entry)) tokens.entry) }
+    ensures { OnOk result (steps.new ≡ adds steps.old labels.entry (If options.entry) tokens.entry) }
 {
     add(labels, Basic::If(options), tokens, steps)
 }
@@ -110,7 +109,7 @@ fn add_do<'a>(
     tokens: Tokens<'a>,
     steps: &mut Items<Stmt<'a>>,
 ) -> Result<(), AllocError>
-    ensures { OnOk result (steps.new ≡ steps.old ++ stmts labels.entry (Some (Do options.entry)) tokens.entry) }
+    ensures { OnOk result (steps.new ≡ adds steps.old labels.entry (Do options.entry) tokens.entry) }
 {
     add(labels, Basic::Do(options), tokens, steps)
 }
@@ -123,7 +122,7 @@ fn add_block<'a>(
     tokens: Tokens<'a>,
     steps: &mut Items<Stmt<'a>>,
 ) -> Result<(), AllocError>
-    ensures { OnOk result (steps.new ≡ steps.old ++ stmts labels.entry (Some (Block inside.entry)) tokens.entry) }
+    ensures { OnOk result (steps.new ≡ adds steps.old labels.entry (Block inside.entry) tokens.entry) }
 {
     add(labels, Basic::Block(inside), tokens, steps)
 }
@@ -136,7 +135,7 @@ fn add_atomic<'a>(
     tokens: Tokens<'a>,
     steps: &mut Items<Stmt<'a>>,
 ) -> Result<(), AllocError>
-    ensures { OnOk result (steps.new ≡ steps.old ++ stmts labels.entry (Some (Atomic inside.entry)) tokens.entry) }
+    ensures { OnOk result (steps.new ≡ adds steps.old labels.entry (Atomic inside.entry) tokens.entry) }
 {
     add(labels, Basic::Atomic(inside), tokens, steps)
 }
@@ -149,7 +148,7 @@ fn add_d_step<'a>(
     tokens: Tokens<'a>,
     steps: &mut Items<Stmt<'a>>,
 ) -> Result<(), AllocError>
-    ensures { OnOk result (steps.new ≡ steps.old ++ stmts labels.entry (Some (DStep inside.entry)) tokens.entry) }
+    ensures { OnOk result (steps.new ≡ adds steps.old labels.entry (DStep inside.entry) tokens.entry) }
 {
     add(labels, Basic::DStep(inside), tokens, steps)
 }
@@ -163,7 +162,7 @@ fn add_unless<'a>(
     tokens: Tokens<'a>,
     steps: &mut Items<Stmt<'a>>,
 ) -> Result<(), AllocError>
-    ensures { OnOk result (steps.new ≡ steps.old ++ stmts labels.entry (Some (Unless main.entry escape.entry)) tokens.entry) }
+    ensures { OnOk result (steps.new ≡ adds steps.old labels.entry (Unless main.entry escape.entry) tokens.entry) }
 {
     add(labels, Basic::Unless(main, escape), tokens, steps)
 }
@@ -178,7 +177,7 @@ fn declared<'a>(
     slots: &mut Items<Slot<'a>>,
 ) -> Result<(), AllocError>
     requires { IsTotalled names.old.table names.old.totals names.old.constants }
-    ensures known { OnOk result (known names.new.table slots.new ≡ with_variables whose.entry.all.now role.Variable whose.entry.owner vs.now (known names.old.table slots.old)) }
+    ensures known { OnOk result (known names.new.table slots.new ≡ owned whose.entry (declares vs.now) (known names.old.table slots.old)) }
     ensures totalled { OnOk result (IsTotalled names.new.table names.new.totals names.new.constants) }
 {
     let holder = Holder {

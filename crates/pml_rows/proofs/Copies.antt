@@ -28,8 +28,7 @@ use Rattle.promela_run.specs.Moves.{Message, Named, accepts_on, can_receive, can
 use Rattle.promela_run.specs.State.{Begun, Stand, State, body_of, channel_at, empty_channel, leaf, levels, levels_from, levels_in, nothing, picked, read_in, reads, size, variables_at, with_channel, with_frame, with_value, with_values}
 use Rattle.promela_run.specs.Statements.{Received, changed, channels_of, stores, taken_at, with_arguments, with_fields, with_message, with_process}
 use Rattle.promela_run.specs.Steps.{Done, behind, body_by, both_on, first_of, joined_by, moved, onward, prints_name, prints_string, put_by, quiet, run_number, there, with_received, with_sent, without_youngest}
-use Rattle.promela_run.specs.Texts.{is_valid, move_text, origin_of, stuck}
-use Rattle.promela_run.specs.World.{Running, changed_lines, led_to, stopped, unless_stopped}
+use Rattle.promela_run.specs.World.{is_valid, move_text, origin_of, stuck, Running, changed_lines, led_to, stopped, unless_stopped}
 use Rattle.promela_run.specs.declared.goes.Goes.{Goes}
 use Rattle.promela_run.specs.declared.live_channel.LiveChannel.{LiveChannel}
 use Rattle.promela_run.specs.declared.moves.Move.{Move}
@@ -76,7 +75,7 @@ module _ (means : Means) where
   abbrev pub state-process_begun : Program → ℕ → Begun → Result Begun Fault
   state-process_begun p k b =
       if nat_lt (length b.kinds) MOST_PROCESSES then state-frame_begun p.typedefs (variables_at p k) (record b { kinds = b.kinds ++ k ∷ [] }) else
-        Ok b
+      Ok b
 
   abbrev pub state-kind_begun : Program → ℕ → ℕ → Begun → Result Begun Fault
   state-kind_begun p k zero b = Ok b
@@ -137,7 +136,7 @@ module _ (means : Means) where
   abbrev pub statement-created : List Fields → ℕ → List Slot → List ℤ → Begun → Result Begun Fault
   statement-created ts kind ss vs b =
       if nat_lt MOST_CHANNELS (length b.channels + channels_of ts ss) then Err TooManyChannels else statement-begun_with ts ss vs (with_process
-        kind ss b)
+      kind ss b)
 
   abbrev pub moves-values : List Expr → Reading → Result (List ℤ) Fault
   moves-values [] r = Ok []
@@ -150,7 +149,7 @@ module _ (means : Means) where
   moves-ready lossy cs r in_d_step (actions.Holds e) = nonzero (means.val e r)
   moves-ready lossy cs r in_d_step (actions.Run q) = Ok (int_lt r.process_count (pos MOST_PROCESSES))
   moves-ready lossy cs r in_d_step (actions.Send t order es) = moves-named cs r t (length es) >>= λ c. can_send lossy in_d_step c.contents
-    (moves-values es r)
+      (moves-values es r)
   moves-ready lossy cs r in_d_step (actions.Receive t search _ ws) =
       moves-named cs r t (length ws) >>= λ c. can_receive search c.contents (value-asked_by ws r)
   moves-ready lossy cs r in_d_step _ = Ok true
@@ -241,7 +240,7 @@ module _ (means : Means) where
   abbrev pub steps-ran : State → Reading → Run → Result State Fault
   steps-ran s r q =
       if nat_lt (length s.stands) MOST_PROCESSES then (statement-values q.arguments r >>= steps-with_new s q.proctype (slice_get
-        s.program.proctypes q.proctype))
+      s.program.proctypes q.proctype))
       else Ok s
 
   abbrev pub steps-run_into : State → ℕ → Bool → Option Target → Run → Result State Fault

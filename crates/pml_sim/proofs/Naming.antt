@@ -12,7 +12,7 @@ use Rattle.promela_run.specs.Lines.{proctype_name}
 use Rattle.promela_run.specs.declared.moves.Pick.{Pick}
 use Rattle.promela_run.specs.declared.moves.Move.TheVariants.{Death, Alone, Pair}
 use Rattle.promela_run.specs.State.{Stand, State, body_of, levels_in, offer_on, offer_at, picked}
-use Rattle.promela_run.specs.Texts.{kind_of, proctype_of, heading, offer_text, pick_text, death_text, line_in, brace_of}
+use Rattle.promela_run.specs.World.{kind_of, proctype_of, heading, offer_text, pick_text, death_text, line_in, brace_of}
 use Rattle.pml_sim.specs.Origins.{Names, IsOffered, TextsNameOrigins}
 use Rattle.pml_sim.proofs.Lasting.{get_light}
 

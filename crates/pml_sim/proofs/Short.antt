@@ -27,10 +27,9 @@ use Rattle.promela_run.specs.Moves as search
 use Rattle.profile.specs.declared.TheConstants.{MOST_DSTEP_STATEMENTS}
 use Rattle.promela_run.specs.Steps.{Done}
 use Rattle.promela_run.specs.Steps as outcome
-use Rattle.promela_run.specs.Texts.{kind_of, line_in, brace_of, origin_of}
+use Rattle.promela_run.specs.World.{kind_of, line_in, brace_of, origin_of, Running, first, unless_stopped, moves, led_to, step, rules}
 use Rattle.pml_texts.specs.Staying.{IsWithin}
 use Rattle.promela_run.specs.declared.halt.Halt.{Halt}
-use Rattle.promela_run.specs.World.{Running, first, unless_stopped, moves, led_to, step, rules}
 use Rattle.pml_sim.proofs.Weight.{weight_part}
 use Rattle.pml_sim.proofs.Crowding.{IsLightProctype, IsLightStand, IsLightState, moves_few}
 use Rattle.pml_sim.proofs.Lasting.{IsLightOffer, first_light, get_light, picked_light, step_light, body_weighs}

@@ -24,9 +24,8 @@ use Rattle.promela_run.specs.Moves as search
 use Rattle.profile.specs.declared.TheConstants.{MOST_DSTEP_STATEMENTS}
 use Rattle.promela_run.specs.Steps.{kinds, there, Done, step}
 use Rattle.pml_steps.specs.Live.{Does, Joins}
-use Rattle.promela_run.specs.World.{Running, first, rules, unless_stopped, stopped, changed_lines, led_to}
+use Rattle.promela_run.specs.World.{Running, first, rules, unless_stopped, stopped, changed_lines, led_to, move_text}
 use Rattle.pml_steps.specs.Taking.{CanDie, PastBy}
-use Rattle.promela_run.specs.Texts.{move_text}
 use Rattle.pml_texts.specs.Staying.{IsWithin}
 use Rattle.pml_texts.proofs.Staying.{text_stays}
 use Rattle.promela_run.specs.declared.halt.Halt.{Halt}

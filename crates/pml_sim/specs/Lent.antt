@@ -5,7 +5,7 @@ use Rattle.promela_run.specs.State.{Begun, first_state as begin}
 use Rattle.pml_lines.specs.declared.changed.Change.{Change}
 use Rattle.pml_lines.specs.Changed.{changes as changed, value_line as line_of}
 use Rattle.promela_run.specs.Steps.{kinds}
-use Rattle.promela_run.specs.Texts as ends
+use Rattle.promela_run.specs.World as ends
 use Rattle.pml_sim.specs.declared.ending.Ending.{Ending}
 use Rattle.pml_sim.specs.declared.ending.Ending.TheVariants.{Valid, Invalid}
 use Rattle.promela_run.specs.World.{Running, first}

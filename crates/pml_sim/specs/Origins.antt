@@ -5,7 +5,7 @@ use Rattle.promela_process.specs.Offers.{Offer}
 use Rattle.promela_run.specs.declared.moves.Move.{Move}
 use Rattle.promela_run.specs.declared.moves.Move.TheVariants.{Death, Alone, Pair}
 use Rattle.promela_run.specs.State.{State, picked}
-use Rattle.promela_run.specs.Texts.{proctype_of, origin_of, move_text}
+use Rattle.promela_run.specs.World.{proctype_of, origin_of, move_text}
 
 -- `proc P (NAME) line L`, and more
 pub record Names (place : ℕ × ℕ) (text : List ℕ) : Type 0 where

@@ -13,7 +13,6 @@ ghost use Rattle.promela_run.specs.State.{channel_at};
 ghost use Rattle.pml_steps.specs.Footprint.{held};
 ghost use Rattle.promela_run.specs.World.{first};
 ghost use Rattle.pml_texts.specs.Charts.{told};
-ghost use Rattle.promela_run.specs.Texts as texts;
 ghost use Rattle.pml_texts.specs.Staying as staying;
 ghost use Rattle.promela_run.specs.World as world;
 ghost use Rattle.pml_sim.specs.Lent as lends;
@@ -149,7 +148,7 @@ impl<'p, 'a> World<'p, 'a> {
 
     /// Appends the text of a move of the present state, or of the one at which it has stopped.
     pub fn show(&self, m: &Move, text: &mut Vec<u8>) -> Result<(), AllocError>
-        ensures added { OnOk result (text.new.items ≡ text.old.items ++ texts.move_text self.now.state m.now) }
+        ensures added { OnOk result (text.new.items ≡ text.old.items ++ world.move_text self.now.state m.now) }
         ensures kept { OnErr result (StartsWith text.new.items text.old.items) }
     {
         add_move(&self.live.scene(), *m, text)
@@ -277,8 +276,8 @@ impl<'p, 'a> World<'p, 'a> {
 
     /// Appends a line for each process that may not end where it stands, and answers whether each may.
     fn add_ending(&self, text: &mut Vec<u8>) -> Result<bool, AllocError>
-        ensures valid { IfOk result (λ valid. valid ≡ texts.is_valid self.now.state) }
-        ensures added { OnOk result (text.new.items ≡ text.old.items ++ texts.stuck self.now.state) }
+        ensures valid { IfOk result (λ valid. valid ≡ world.is_valid self.now.state) }
+        ensures added { OnOk result (text.new.items ≡ text.old.items ++ world.stuck self.now.state) }
         ensures kept { OnErr result (StartsWith text.new.items text.old.items) }
     {
         let valid = is_valid(&self.live.scene());

@@ -10,7 +10,7 @@ use Rattle.pml_tree.specs.declared.tree.Initial.{Initial as TreeInitial}
 use Rattle.pml_tree.specs.declared.tree.Initial.TheVariants as begin
 use Rattle.pml_tree.specs.declared.tree.Variable.{Variable as TreeVariable}
 use Rattle.pml_tree.specs.declared.tree.Expr.{Expr as TreeExpr}
-use Rattle.promela_model.specs.Constant.{constant, numeral}
+use Rattle.promela_model.specs.Known.{constant, numeral, Structure, Globals, variable_named, typedef_named, is_declared, proctype_named, cells, counted}
 use Rattle.promela_model.specs.Marks.{size_of as mark_size, made_by}
 use Rattle.promela_model.specs.declared.mark.Constant.{Constant}
 use Rattle.promela_model.specs.declared.mark.Constant.TheVariants as number
@@ -30,7 +30,6 @@ use Rattle.pml_program.specs.declared.program.Slot.{Slot}
 use Rattle.pml_resolve.specs.Numbered.{Scope, scope}
 use Rattle.pml_resolve.specs.Declarations.{Known, known, natural, initial, slot, declares, added_variable, with_variable, with_variables}
 use Rattle.pml_resolve.specs.Statements.{proctype_of}
-use Rattle.promela_model.specs.Known.{Structure, Globals, variable_named, typedef_named, is_declared, proctype_named, cells, counted}
 use Rattle.promela_model.specs.StandsModel as stands
 use Rattle.promela_model.specs.StandsModel.{or_none, count_of, size_of, elements, seen, StandsSort, StandsInitial, StandsVariable, StandsVariables}
 use Rattle.pml_stands.proofs.Things.{variable_of, as_thing, as_typedef, in_variable, in_constant, in_typedef, has_number, IsKnown, AreKnown}

@@ -13,7 +13,7 @@ use Rattle.pml_tree.specs.declared.tree.Expr.{Expr as TreeExpr, Expr-F, map-Expr
 use Rattle.pml_tree.specs.declared.tree.Expr.TheVariants as e
 use Rattle.pml_tree.specs.declared.tree.Reference.{Reference, fold-roll-Reference}
 use Rattle.pml_tree.specs.declared.tree.Step.{Step, fold-roll-Step}
-use Rattle.promela_model.specs.Constant.{number as number_of}
+use Rattle.promela_model.specs.Known.{number as number_of}
 use Rattle.promela_model.specs.declared.mark.Constant.{Constant}
 use Rattle.promela_model.specs.declared.mark.Constant.TheVariants as constant
 use Rattle.pml_program.specs.declared.expr.Expr.{Expr}

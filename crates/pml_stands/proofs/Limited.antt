@@ -5,8 +5,7 @@ use Rattle.profile.specs.declared.TheConstants.{MOST_CELLS}
 use Rattle.pml_tree.specs.declared.tree.Unit.{Unit as Part}
 use Rattle.pml_tree.specs.declared.tree.Unit.TheVariants as part
 use Rattle.pml_tree.specs.declared.tree.Tree.{Tree}
-use Rattle.promela_model.specs.Marks.{one, of_variables}
-use Rattle.promela_model.specs.MarksOfUnits.{of_unit, of_units, of_tree, proctypes_past}
+use Rattle.promela_model.specs.Marks.{one, of_variables, of_unit, of_units, of_tree, proctypes_past}
 use Rattle.promela_model.specs.declared.mark.Mark.{Mark}
 use Rattle.promela_model.specs.declared.mark.Declared.TheVariants as declared_as
 use Rattle.promela_model.specs.declared.mark.Role.{Role}

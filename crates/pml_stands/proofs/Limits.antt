@@ -13,8 +13,9 @@ use Rattle.pml_tree.specs.declared.tree.Basic.{Basic as TreeBasic, Basic-F, map-
 use Rattle.pml_tree.specs.declared.tree.Item.{Item, Item-F, map-Item, roll-Item, fold-roll-Item}
 use Rattle.pml_tree.specs.declared.tree.Seq.{Seq as TreeSeq, Seq-F, map-Seq, roll-Seq, fold-roll-Seq, ind-Seq}
 use Rattle.promela_model.specs.Marks as marked
-use Rattle.promela_model.specs.Marks.{Marked, all_marks, of_basic, of_item, of_seq, of_expr, of_sort, of_size, of_initial, of_variable, of_variables, one, size_of}
-use Rattle.promela_model.specs.Constant.{constant}
+use Rattle.promela_model.specs.Marks.{Marked, all_marks, of_seq, of_expr, of_sort, of_size, of_initial, of_variable, of_variables, one, size_of}
+use Rattle.pml_marks.specs.Parts.{of_basic, of_item}
+use Rattle.promela_model.specs.Known.{constant, cells}
 use Rattle.promela_model.specs.declared.mark.Mark.{Mark}
 use Rattle.promela_model.specs.declared.mark.Role.{Role}
 use Rattle.promela_model.specs.declared.mark.Role.TheVariants as role
@@ -35,7 +36,6 @@ use Rattle.pml_resolve.specs.Numbered.{Scope}
 use Rattle.pml_resolve.specs.Statements as numbered
 use Rattle.pml_resolve.specs.Statements.{Threaded, each, numbered_basic, numbered_item, numbered_seq}
 use Rattle.pml_resolve.specs.Declarations.{Known, natural, plain, initial, declares, added_variable, with_variable, with_variables}
-use Rattle.promela_model.specs.Known.{cells}
 use Rattle.pml_stands.proofs.Growing.{after-old, variables-own, held-own, cells-more}
 use Rattle.pml_stands.proofs.Quiet.{env-append, IsQuiet, quiet-sort, quiet-sized, quiet-initial, variable-declares, nothing, quiet-action, quiet-references, quiet-labels, quiet-goto, quiet-break, quiet-unless, quiet-enter, quiet-leave}
 use Rattle.pml_stands.proofs.Declaring.{new, new_thing, added-is}

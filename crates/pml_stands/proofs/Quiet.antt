@@ -15,8 +15,8 @@ use Rattle.pml_tree.specs.declared.tree.Action.{Action}
 use Rattle.pml_tree.specs.declared.tree.Action.TheVariants as action
 use Rattle.pml_tree.specs.declared.tree.Starts.{Starts}
 use Rattle.pml_tree.specs.declared.tree.Starts.TheVariants as starts
-use Rattle.promela_model.specs.Marks.{Marked, Referred, Stepped, one, all_marks, steps_marks, expr_layer, argument_layer, reference_layer, step_layer, of_expr, of_argument, of_reference, of_step, of_exprs, of_arguments, of_sort, of_size, preset_layer, of_initial, of_variable, of_run, of_action, of_references, of_labels}
-use Rattle.promela_model.specs.MarksOfUnits.{of_starts}
+use Rattle.promela_model.specs.Marks.{Marked, Referred, Stepped, one, all_marks, steps_marks, expr_layer, argument_layer, reference_layer, step_layer, of_expr, of_argument, of_reference, of_exprs, of_arguments, of_sort, of_size, preset_layer, of_initial, of_variable, of_run, of_action, of_references, of_labels, of_starts}
+use Rattle.pml_marks.specs.Parts.{of_step}
 use Rattle.promela_model.specs.declared.mark.Mark.{Mark}
 use Rattle.promela_model.specs.declared.mark.Use.{Use}
 use Rattle.promela_model.specs.declared.mark.Use.TheVariants as use_of

@@ -6,7 +6,7 @@ use Rattle.std.proofs.lemmas.List.{reverse-append}
 use Rattle.pml_token.specs.Word.{Word}
 use Rattle.pml_tree.specs.declared.tree.Variable.{Variable as TreeVariable}
 use Rattle.pml_tree.specs.declared.tree.Unit.{Unit as Part}
-use Rattle.promela_model.specs.MarksOfUnits.{constant_mark}
+use Rattle.promela_model.specs.Marks.{constant_mark}
 use Rattle.promela_model.specs.declared.mark.Declared.{Declared}
 use Rattle.promela_model.specs.declared.mark.Declared.TheVariants as declared_as
 use Rattle.promela_model.specs.declared.mark.What.TheVariants as what

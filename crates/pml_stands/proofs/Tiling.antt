@@ -14,7 +14,7 @@ use Rattle.pml_tree.specs.declared.tree.Seq.{Seq as TreeSeq}
 use Rattle.pml_tree.specs.declared.tree.Variable.{Variable}
 use Rattle.pml_tree.specs.declared.tree.Unit.{Unit as Part}
 use Rattle.pml_tree.specs.declared.tree.Tree.{Tree}
-use Rattle.promela_model.specs.Constant.{constant}
+use Rattle.promela_model.specs.Known.{constant, Structure, Globals, typedef_named, is_declared, with_constant, with_constants, with_proctype, cells, counted}
 use Rattle.promela_model.specs.declared.mark.Role.{Role}
 use Rattle.promela_model.specs.declared.mark.Constant.{Constant}
 use Rattle.promela_model.specs.declared.mark.Constant.TheVariants as number
@@ -27,7 +27,6 @@ use Rattle.pml_program.specs.declared.program.Stmt.{Stmt}
 use Rattle.pml_program.specs.declared.program.Fields.{Fields}
 use Rattle.pml_program.specs.declared.program.Proctype.{Proctype}
 use Rattle.pml_program.specs.declared.program.Program.{Program}
-use Rattle.promela_model.specs.Known.{Structure, Globals, typedef_named, is_declared, with_constant, with_constants, with_proctype, cells, counted}
 use Rattle.promela_model.specs.StandsModel as stands
 use Rattle.promela_model.specs.StandsModel.{size_of, elements, StandsSort, StandsVariable, StandsVariables, StandsBasic, StandsItems, StandsSeq, StandsOptions, structure, fields_with, StandsGlobals, StandsUnits, StandsModel}
 use Rattle.pml_stands.specs.Tiled.{fields_at, HasWidth, Begins, Tile, TypedefsTile, OwnersFrom, IsTiled}

@@ -9,8 +9,8 @@ use Rattle.pml_tree.specs.declared.tree.Starts.TheVariants as starts
 use Rattle.pml_tree.specs.declared.tree.Proctype.{Proctype as TreeProctype}
 use Rattle.pml_tree.specs.declared.tree.Unit.{Unit as Part}
 use Rattle.pml_tree.specs.declared.tree.Unit.TheVariants as part
-use Rattle.promela_model.specs.Constant.{constant}
-use Rattle.promela_model.specs.MarksOfUnits.{constant_mark}
+use Rattle.promela_model.specs.Known.{constant, Globals, is_declared, with_constant, with_constants, with_typedef, with_proctype, declares, proctype_named}
+use Rattle.promela_model.specs.Marks.{constant_mark}
 use Rattle.promela_model.specs.declared.mark.Declared.TheVariants as declared_as
 use Rattle.promela_model.specs.declared.mark.What.TheVariants as what
 use Rattle.promela_model.specs.declared.mark.Role.TheVariants as role
@@ -27,7 +27,6 @@ use Rattle.pml_resolve.specs.Numbered.{scope}
 use Rattle.pml_resolve.specs.Declarations.{Known, known, added_variable, with_variable, with_variables}
 use Rattle.pml_resolve.specs.Statements.{numbered_seq}
 use Rattle.pml_resolve.specs.Model.{Made, made, count, with_unit, with_units}
-use Rattle.promela_model.specs.Known.{Globals, is_declared, with_constant, with_constants, with_typedef, with_proctype, declares, proctype_named}
 use Rattle.promela_model.specs.StandsModel.{StandsVariables, StandsSeq, with_variables as with_slots, beginning, fields_with, structure, proctype_with, program_of, StandsGlobals, StandsUnits}
 use Rattle.promela_model.specs.StandsModel as stands
 use Rattle.pml_stands.proofs.Things.{variable_of}

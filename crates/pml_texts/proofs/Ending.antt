@@ -20,7 +20,7 @@ use Rattle.pml_flow.specs.Graph.{Placed, IsGraph, Graph, is_end_at}
 use Rattle.pml_flow.proofs.Begun.{begun}
 use Rattle.pml_flow.proofs.Beginning.{read}
 use Rattle.pml_flow.proofs.Differing.{placed}
-use Rattle.promela_run.specs.Texts.{standing, is_end, may_end}
+use Rattle.promela_run.specs.World.{standing, is_end, may_end}
 use Rattle.pml_texts.proofs.Settled.{settled_at}
 
 -- ---- places that are equal

@@ -11,7 +11,7 @@ use Rattle.promela_run.specs.declared.moves.Move.TheVariants.{Death, Alone, Pair
 use Rattle.promela_run.specs.State.{Stand, State}
 use Rattle.promela_run.specs.Moves.{pick}
 use Rattle.pml_moves.proofs.Samples.{yes, timeout, otherwise, sends, receives}
-use Rattle.promela_run.specs.Texts.{is_valid, move_text, origin_of, stuck}
+use Rattle.promela_run.specs.World.{is_valid, move_text, origin_of, stuck}
 use Rattle.pml_texts.specs.Staying.{stuck_of}
 use Rattle.pml_texts.proofs.Samples.{word, labelled, said, body, proctype, init, before, closed, state}
 

@@ -7,7 +7,7 @@ use Rattle.promela_run.specs.declared.moves.Pick.{Pick}
 use Rattle.promela_run.specs.declared.moves.Move.{Move}
 use Rattle.promela_run.specs.declared.moves.Move.TheVariants.{Death, Alone, Pair}
 use Rattle.promela_run.specs.State.{Stand, State, body_of, levels_in, offer_on, offer_at}
-use Rattle.promela_run.specs.Texts.{kind_of, offer_text, death_text, pick_text, move_text}
+use Rattle.promela_run.specs.World.{kind_of, offer_text, death_text, pick_text, move_text}
 use Rattle.pml_texts.specs.Staying.{IsWithin}
 
 get_left : {X : Type 0} (xs ys : List X) (k : ℕ) → k < length xs → slice_get (xs ++ ys) k ≡ slice_get xs k

@@ -8,7 +8,7 @@ use Rattle.promela_run.specs.Lines.{proctype_name}
 use Rattle.promela_run.specs.declared.moves.Move.{Move}
 use Rattle.promela_run.specs.declared.moves.Move.TheVariants.{Death, Alone, Pair}
 use Rattle.promela_run.specs.State.{Stand, State}
-use Rattle.promela_run.specs.Texts.{may_end, move_text}
+use Rattle.promela_run.specs.World.{may_end, move_text}
 
 -- where a process may not end: the name of its proctype, and the line of what stands first
 abbrev pub stuck_in : Option Proctype → Control → Option (List ℕ × ℕ)

@@ -5,7 +5,7 @@ ghost use Rattle.std.specs.Io.{StartsWith};
 ghost use Rattle.pml_flow.specs.Points.{point_at};
 ghost use Rattle.promela_process.specs.Offers.{line_at};
 ghost use Rattle.pml_moves.specs.Scene.{stand_of};
-ghost use Rattle.promela_run.specs.Texts.{may_end as may_end_at, is_done as done_at, is_valid as ends_well, stuck_line, stuck_at, stuck_by, stuck};
+ghost use Rattle.promela_run.specs.World.{may_end as may_end_at, is_done as done_at, is_valid as ends_well, stuck_line, stuck_at, stuck_by, stuck};
 ghost use Rattle.pml_texts.specs.Staying.{stuck_in, stuck_place, stuck_of};
 ghost use Rattle.pml_texts.specs.Charts.{HasGraph, told};
 

@@ -5,7 +5,7 @@ ghost use Rattle.pml_program.specs.declared.program.Seq.{Seq};
 ghost use Rattle.promela_process.specs.Control.{Control};
 ghost use Rattle.pml_flow.specs.Marked.{IsValidEnd};
 ghost use Rattle.pml_flow.specs.Graph.{Placed};
-ghost use Rattle.promela_run.specs.Texts.{may_end};
+ghost use Rattle.promela_run.specs.World.{may_end};
 ghost use Rattle.pml_texts.specs.Staying.{TextsStay};
 
 /// At a point of a body a process may end exactly where that is a valid end point.

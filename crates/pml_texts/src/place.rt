@@ -3,7 +3,7 @@
 ghost use Rattle.std.specs.Prelude.{◌≡◌, ◌++◌, OnOk, OnErr};
 ghost use Rattle.std.specs.Io.{StartsWith};
 ghost use Rattle.promela_run.specs.Lines.{proctype_name};
-ghost use Rattle.promela_run.specs.Texts.{heading as heading_of, line};
+ghost use Rattle.promela_run.specs.World.{heading as heading_of, line};
 
 use itoa::Buffer;
 use pml_lines::change::proctype_name;

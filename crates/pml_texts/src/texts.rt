@@ -4,7 +4,7 @@ ghost use Rattle.std.specs.Prelude.{◌≡◌, ◌<◌, ◌++◌, OnOk, OnErr, l
 ghost use Rattle.std.specs.Io.{StartsWith};
 ghost use Rattle.std.specs.Option.{option_copied};
 ghost use Rattle.promela_run.specs.State.{picked as picks};
-ghost use Rattle.promela_run.specs.Texts.{proctype_of as proctype_in, pick_text, death_text, move_text, line_in, brace_of, origin_of};
+ghost use Rattle.promela_run.specs.World.{proctype_of as proctype_in, pick_text, death_text, move_text, line_in, brace_of, origin_of};
 ghost use Rattle.pml_texts.specs.Staying.{IsWithin};
 
 use crate::place::{add_heading, add_line};

@@ -18,8 +18,7 @@ use Rattle.pml_program.specs.declared.form.Form.{Form}
 use Rattle.pml_program.specs.declared.form.Form.TheVariants as kind
 use Rattle.promela_model.specs.declared.thing.Thing.{Thing}
 use Rattle.promela_model.specs.declared.thing.Thing.TheVariants as thing
-use Rattle.promela_model.specs.Names.{Naming, is_any, is_pid, is_special, meaning, field, Before}
-use Rattle.promela_model.specs.Ranges.{Labels, mislabelled, out_of_range, too_many}
+use Rattle.promela_model.specs.Names.{Naming, is_any, is_pid, is_special, meaning, field, Before, Labels, mislabelled, out_of_range, too_many}
 
 -- ---- a name is declared twice, or one that none declares
 abbrev pub twice : Naming → ℕ → What → Bool

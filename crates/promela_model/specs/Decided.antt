@@ -12,8 +12,7 @@ use Rattle.pml_program.specs.declared.form.Form.{Form}
 use Rattle.pml_program.specs.declared.form.Form.TheVariants as kind
 use Rattle.promela_model.specs.declared.mark.Makes.TheVariants.{Numbers, Channels}
 use Rattle.promela_model.specs.declared.mark.Declared.TheVariants as declared_as
-use Rattle.promela_model.specs.Names.{Naming, form, length_of, before}
-use Rattle.promela_model.specs.Ranges.{capacity}
+use Rattle.promela_model.specs.Names.{Naming, form, length_of, before, capacity}
 use Rattle.profile.specs.declared.TheConstants.{MOST_CHANNELS, MOST_PROCESSES}
 use Rattle.promela_model.specs.declared.condition.Condition.{Condition}
 use Rattle.promela_model.specs.declared.condition.Condition.TheVariants as condition

@@ -1,13 +1,10 @@
 pub mod GrammarOfExpressions
 pub mod GrammarOfActions
 pub mod GrammarOfModels
-pub mod Constant
 pub mod Marks
-pub mod MarksOfUnits
 pub mod Names
 pub mod Known
 pub mod Stands
 pub mod StandsModel
-pub mod Ranges
 pub mod Conditions
 pub mod Decided

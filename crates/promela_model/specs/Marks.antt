@@ -1,12 +1,12 @@
 -- The marks of a model, in the order of the text.
 -- Hold it against docs/REFUSALS.md, M6 to M17.
-use Rattle.std.specs.Prelude.{ℕ, ◌+◌, Bool, true, false, List, [], ◌∷◌, ◌++◌, length, map, Option, Some, None}
+use Rattle.std.specs.Prelude.{ℕ, ◌+◌, Bool, true, false, List, [], ◌∷◌, ◌++◌, length, map, Option, Some, None, pos, reverse}
 use Rattle.pml_token.specs.Word.{Word}
 use Rattle.pml_tree.specs.declared.tree.Scalar.TheVariants.{Chan}
 use Rattle.pml_tree.specs.declared.tree.Expr.{Expr, Expr-F, fold-Expr, out-Expr}
 use Rattle.pml_tree.specs.declared.tree.Argument.{Argument, Argument-F, fold-Argument}
 use Rattle.pml_tree.specs.declared.tree.Reference.{Reference, Reference-F, fold-Reference}
-use Rattle.pml_tree.specs.declared.tree.Step.{Step, Step-F, fold-Step}
+use Rattle.pml_tree.specs.declared.tree.Step.{Step, Step-F}
 use Rattle.pml_tree.specs.declared.tree.Sort.{Sort}
 use Rattle.pml_tree.specs.declared.tree.Sort.TheVariants as sort
 use Rattle.pml_tree.specs.declared.tree.Initial.{Initial}
@@ -15,8 +15,8 @@ use Rattle.pml_tree.specs.declared.tree.Variable.{Variable}
 use Rattle.pml_tree.specs.declared.tree.Run.{Run}
 use Rattle.pml_tree.specs.declared.tree.Action.{Action}
 use Rattle.pml_tree.specs.declared.tree.Action.TheVariants as action
-use Rattle.pml_tree.specs.declared.tree.Basic.{Basic, Basic-F, fold-Basic}
-use Rattle.pml_tree.specs.declared.tree.Item.{Item, Item-F, fold-Item}
+use Rattle.pml_tree.specs.declared.tree.Basic.{Basic-F}
+use Rattle.pml_tree.specs.declared.tree.Item.{Item-F}
 use Rattle.pml_tree.specs.declared.tree.Seq.{Seq, Seq-F, fold-Seq}
 use Rattle.promela_model.specs.declared.mark.Constant.{Constant}
 use Rattle.promela_model.specs.declared.mark.Use.{Use}
@@ -34,7 +34,14 @@ use Rattle.promela_model.specs.declared.mark.Declared.TheVariants as declared_as
 use Rattle.promela_model.specs.declared.mark.What.{What}
 use Rattle.promela_model.specs.declared.mark.What.TheVariants as what
 use Rattle.promela_model.specs.declared.mark.Mark.{Mark}
-use Rattle.promela_model.specs.Constant.{constant}
+use Rattle.promela_model.specs.Known.{constant}
+use Rattle.pml_tree.specs.declared.tree.Starts.{Starts}
+use Rattle.pml_tree.specs.declared.tree.Starts.TheVariants as starts
+use Rattle.pml_tree.specs.declared.tree.Proctype.{Proctype}
+use Rattle.pml_tree.specs.declared.tree.Unit.{Unit as Part}
+use Rattle.pml_tree.specs.declared.tree.Unit.TheVariants as part
+use Rattle.pml_tree.specs.declared.tree.Tree.{Tree}
+use Rattle.promela_model.specs.declared.mark.Constant.TheVariants as constant
 
 -- by the owner of the names that stand there
 abbrev pub Marked : Type 0
@@ -123,10 +130,6 @@ of_argument = fold-Argument Marked Marked Referred Stepped argument_layer expr_l
 -- the marks of a reference, by how it is used
 abbrev pub of_reference : Reference → Referred
 of_reference = fold-Reference Marked Marked Referred Stepped argument_layer expr_layer reference_layer step_layer
-
--- a name of a reference, and the marks of its index
-abbrev pub of_step : Step → Stepped
-of_step = fold-Step Marked Marked Referred Stepped argument_layer expr_layer reference_layer step_layer
 
 -- the marks of expressions, one after the other
 abbrev pub of_exprs : List Expr → Marked
@@ -240,14 +243,51 @@ item_layer i o = of_labels i.labels o ++ i.basic o
 abbrev pub seq_layer : Seq-F Marked Marked Marked → Marked
 seq_layer s o = all_marks s.items o
 
--- the marks of a statement
-abbrev pub of_basic : Basic → Marked
-of_basic = fold-Basic Marked Marked Marked basic_layer item_layer seq_layer
-
--- the marks of a statement with its labels
-abbrev pub of_item : Item → Marked
-of_item = fold-Item Marked Marked Marked basic_layer item_layer seq_layer
-
 -- the marks of statements one behind another
 abbrev pub of_seq : Seq → Marked
 of_seq = fold-Seq Marked Marked Marked basic_layer item_layer seq_layer
+
+-- ---- the marks of units, and of a whole model
+
+-- ---- units
+
+-- the marks of how many processes begin
+abbrev pub of_starts : Starts → Marked
+of_starts starts.Never o = []
+of_starts starts.Once o = one (what.Starts (constant.Is (pos 1))) o
+of_starts (starts.Times e) o = of_expr e 0 ++ one (what.Starts (constant e)) o
+
+-- the mark of a name of an `mtype`
+abbrev pub constant_mark : Word → Mark
+constant_mark n = mark 0 (what.Declares n declared_as.Constant)
+
+-- mtype names, from the last of a list to its first, as they are numbered
+abbrev pub of_constants : List Word → List Mark
+of_constants ns = map constant_mark (reverse ns)
+
+-- o is the proctype's owner, and k proctypes stand before it
+abbrev pub of_process : ℕ → ℕ → Proctype → List Mark
+of_process o k p =
+    mark 0 (what.Declares p.name (declared_as.Proctype k (length p.parameters))) ∷ (of_starts p.starts o
+    ++ (of_variables role.Variable o p.parameters o ++ of_seq p.body o))
+
+-- o is the unit's number from 1, and k proctypes stand before it
+abbrev pub of_unit : ℕ → ℕ → Part → List Mark
+of_unit o k (part.Variables vs) = of_variables role.Variable 0 vs 0
+of_unit o k (part.Constants ns) = of_constants ns
+of_unit o k (part.Typedef t vs) = of_variables role.Field o vs 0 ++ one (what.Declares t (declared_as.Typedef o)) 0
+of_unit o k (part.Proctype p) = of_process o k p
+
+-- how many proctypes stand before what follows a unit, where k stand before it
+abbrev pub proctypes_past : ℕ → Part → ℕ
+proctypes_past k (part.Proctype p) = k + 1
+proctypes_past k _ = k
+
+-- the marks of the units from this one on, which has this number, and before which so many proctypes stand
+abbrev pub of_units : ℕ → ℕ → List Part → List Mark
+of_units o k [] = []
+of_units o k (u ∷ us) = of_unit o k u ++ of_units (o + 1) (proctypes_past k u) us
+
+-- all marks of a model
+abbrev pub of_tree : Tree → List Mark
+of_tree t = of_units 1 0 t.units

@@ -17,7 +17,7 @@ use Rattle.pml_tree.specs.declared.tree.Argument.{Argument}
 use Rattle.pml_tree.specs.declared.tree.Argument.TheVariants as g
 use Rattle.pml_tree.specs.declared.tree.Reference.{Reference, roll-Reference}
 use Rattle.pml_tree.specs.declared.tree.Step.{Step, roll-Step}
-use Rattle.promela_model.specs.Constant.{number as number_of, negated}
+use Rattle.promela_model.specs.Known.{number as number_of, negated, Globals, variable_named, constant_named, fields_in}
 use Rattle.promela_model.specs.declared.mark.Constant.{Constant}
 use Rattle.promela_model.specs.declared.mark.Constant.TheVariants.{Is}
 use Rattle.pml_program.specs.declared.form.Form.{Form}
@@ -29,7 +29,6 @@ use Rattle.pml_program.specs.declared.expr.Want.{Want}
 use Rattle.pml_program.specs.declared.expr.Want.TheVariants as w
 use Rattle.pml_program.specs.declared.expr.Target.{Target, roll-Target}
 use Rattle.pml_program.specs.declared.expr.Turn.{Turn, roll-Turn}
-use Rattle.promela_model.specs.Known.{Globals, variable_named, constant_named, fields_in}
 
 -- ---- the trees, by their parts
 

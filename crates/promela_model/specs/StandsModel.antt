@@ -22,7 +22,7 @@ use Rattle.pml_tree.specs.declared.tree.Basic.{Basic as TreeBasic}
 use Rattle.pml_tree.specs.declared.tree.Basic.TheVariants as form
 use Rattle.pml_tree.specs.declared.tree.Item.{Item, roll-Item}
 use Rattle.pml_tree.specs.declared.tree.Seq.{Seq as TreeSeq, roll-Seq as tree-Seq}
-use Rattle.promela_model.specs.Constant.{constant, numeral}
+use Rattle.promela_model.specs.Known.{constant, numeral, Globals, Structure, variable_named, typedef_named, proctype_named, cells, counted, is_declared, with_constants, with_typedef, with_proctype, nothing_of}
 use Rattle.promela_model.specs.declared.mark.Constant.{Constant}
 use Rattle.promela_model.specs.declared.mark.Constant.TheVariants.{Is}
 use Rattle.promela_model.specs.declared.mark.Role.{Role}
@@ -43,7 +43,6 @@ use Rattle.pml_program.specs.declared.program.Basic.{Basic}
 use Rattle.pml_program.specs.declared.program.Basic.TheVariants as b
 use Rattle.pml_program.specs.declared.program.Stmt.{Stmt, roll-Stmt}
 use Rattle.pml_program.specs.declared.program.Seq.{Seq, roll-Seq}
-use Rattle.promela_model.specs.Known.{Globals, Structure, variable_named, typedef_named, proctype_named, cells, counted, is_declared, with_constants, with_typedef, with_proctype, nothing_of}
 use Rattle.promela_model.specs.Stands.{Meaning, Place, as_place, StandsExpr, StandsReference, StandsArguments}
 use Rattle.pml_tree.specs.declared.tree.Starts.{Starts}
 use Rattle.pml_tree.specs.declared.tree.Starts.TheVariants as starts

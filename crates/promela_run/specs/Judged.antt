@@ -7,7 +7,7 @@ use Rattle.diagnostics.specs.declared.refusal.Refusal.TheVariants as r
 use Rattle.diagnostics.specs.Words.{refusal_number}
 use Rattle.pml_tree.specs.declared.tree.Tree.{Tree}
 use Rattle.promela_model.specs.declared.mark.Mark.{Mark}
-use Rattle.promela_model.specs.MarksOfUnits.{of_tree}
+use Rattle.promela_model.specs.Marks.{of_tree}
 use Rattle.promela_model.specs.declared.condition.Condition.{Condition}
 use Rattle.promela_model.specs.declared.condition.Condition.TheVariants as condition
 use Rattle.promela_model.specs.Decided as marks

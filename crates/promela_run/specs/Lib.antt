@@ -3,6 +3,5 @@ pub mod Statements
 pub mod Moves
 pub mod Lines
 pub mod Steps
-pub mod Texts
 pub mod World
 pub mod Judged

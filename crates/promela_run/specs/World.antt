@@ -1,19 +1,138 @@
--- A checked model as a machine: its first state, its moves, its steps, and the texts.
--- Hold it against chapter 7 of the book.
-use Rattle.std.specs.Prelude.{Bool, List, Option, None, ℕ, [], length, take, Some, Result, Ok, Err}
+-- A checked model as a machine: its first state, its moves, its steps, and the texts: where processes may end, the texts of moves and where they
+-- come from, and of the processes where a run does not end well. What is not there has no text.
+-- Hold it against chapter 7 of the book; the page `end`; docs/FORMATS.md, 'Lines on standard output'.
+use Rattle.std.specs.Prelude.{Bool, true, ◌&&◌, [], ◌∷◌, Option, Some, None, ℕ, List, ◌++◌, if◌then◌else◌, slice_get, codes, length, take, Result, Ok, Err}
+use Rattle.std.specs.List.{list_any, list_all}
+use Rattle.pml_program.specs.declared.program.Seq.{Seq}
 use Rattle.pml_program.specs.declared.program.Program.{Program}
+use Rattle.promela_process.specs.Control.{Place, Control, Todo, settle}
+use Rattle.promela_process.specs.Circles.{told_of}
+use Rattle.promela_process.specs.Offers.{stated, has_end, same_place, Offer, line_at}
+use Rattle.promela_run.specs.State.{Stand, State, body_of, picked, Begun, begun_state}
+use Rattle.std.specs.Fmt.{decimal}
+use Rattle.profile.specs.Characters.{line_feed}
+use Rattle.pml_program.specs.declared.program.Proctype.{Proctype}
+use Rattle.promela_run.specs.Lines.{proctype_name, value_lines}
+use Rattle.promela_run.specs.declared.moves.Pick.{Pick}
+use Rattle.promela_run.specs.declared.moves.Move.{Move}
+use Rattle.promela_run.specs.declared.moves.Move.TheVariants.{Death, Alone, Pair}
+use Rattle.promela_run.specs.Moves.{each}
 use Rattle.promela_process.specs.Store.{Frame}
-use Rattle.promela_run.specs.State.{Begun, State, begun_state}
 use Rattle.promela_run.specs.declared.halt.Halt.{Halt}
 use Rattle.diagnostics.specs.declared.fault.Fault.{Fault}
 use Rattle.promela_session.specs.Session.{Rules, Outcome, Stopped, Goes, Faults}
-use Rattle.promela_run.specs.Lines.{value_lines}
-use Rattle.promela_run.specs.declared.moves.Move.{Move}
 use Rattle.promela_run.specs.Moves as search
 use Rattle.profile.specs.declared.TheConstants.{MOST_DSTEP_STATEMENTS}
 use Rattle.promela_run.specs.Steps.{kinds}
 use Rattle.promela_run.specs.Steps as outcome
-use Rattle.promela_run.specs.Texts as texts
+
+-- the place of the statement that stands first, if one does
+abbrev pub standing : Control → Option Place
+standing [] = None
+standing (Todo p s ∷ c) = Some p
+standing (f ∷ c) = None
+
+-- what stands first at d has a label that begins with `end`, and leads to c without a step
+abbrev pub is_end : Seq → Control → Control → Bool
+is_end b c d = has_end (stated b d) && same_place (standing (settle b d)) (standing c)
+
+-- A process may end at the closing brace, and where such a label of its body leads.
+abbrev pub may_end : Seq → Control → Bool
+may_end b [] = true
+may_end b (f ∷ c) = list_any (is_end b (f ∷ c)) (told_of b)
+
+-- where there is no body, nothing is left to do
+abbrev pub may_end_in : Option Seq → Control → Bool
+may_end_in None c = true
+may_end_in (Some b) c = may_end b c
+
+-- a process may end where it stands
+abbrev pub is_done : Program → Stand → Bool
+is_done pr y = may_end_in (body_of pr y.kind) y.control
+
+-- a run that ends here ends well
+abbrev pub is_valid : State → Bool
+is_valid s = list_all (is_done s.program) s.stands
+
+-- ---- texts
+
+-- the proctype of a process
+abbrev pub kind_of : Program → Option Stand → Option Proctype
+kind_of pr None = None
+kind_of pr (Some y) = slice_get pr.proctypes y.kind
+
+-- that of process p
+abbrev pub proctype_of : State → ℕ → Option Proctype
+proctype_of s p = kind_of s.program (slice_get s.stands p)
+
+-- `proc P (NAME) `
+abbrev pub heading : ℕ → Proctype → List ℕ
+heading p q = codes "proc " ++ (decimal p ++ (codes " (" ++ (proctype_name q.name ++ codes ") ")))
+
+-- `line L`
+abbrev pub line : ℕ → List ℕ
+line n = codes "line " ++ decimal n
+
+-- ---- moves
+
+-- the text of an offer of a process, behind its heading
+abbrev pub offer_text : ℕ → Option Proctype → Option Offer → List ℕ
+offer_text p (Some q) (Some o) = heading p q ++ o.text
+offer_text p q o = []
+
+-- `proc P (NAME) line L [TEXT]`
+abbrev pub pick_text : State → Pick → List ℕ
+pick_text s k = offer_text k.process (proctype_of s k.process) (picked s k)
+
+-- `proc P (NAME) line L [-end-]`, with the line of the closing brace
+abbrev pub death_text : ℕ → Option Proctype → List ℕ
+death_text p None = []
+death_text p (Some q) = heading p q ++ (line q.end.line ++ codes " [-end-]")
+
+-- of a rendezvous, the sender's and then the receiver's
+abbrev pub move_text : State → Move → List ℕ
+move_text s (Death p) = death_text p (proctype_of s p)
+move_text s (Alone k t) = pick_text s k
+move_text s (Pair k j t) = pick_text s k ++ (codes " -> " ++ pick_text s j)
+
+-- ---- where moves come from
+
+-- the line in an offer's text
+abbrev pub line_in : Option Offer → ℕ
+line_in None = 0
+line_in (Some o) = o.line
+
+-- that of the closing brace
+abbrev pub brace_of : Option Proctype → ℕ
+brace_of None = 0
+brace_of (Some q) = q.end.line
+
+-- P and L of a move's text, of a rendezvous the sender's
+abbrev pub origin_of : State → Move → ℕ × ℕ
+origin_of s (Death p) = (p, brace_of (proctype_of s p))
+origin_of s (Alone k t) = (k.process, line_in (picked s k))
+origin_of s (Pair k j t) = (k.process, line_in (picked s k))
+
+-- ---- where a run does not end well
+
+-- `at: proc P (NAME) line L`
+abbrev pub stuck_line : ℕ → Proctype → ℕ → List ℕ
+stuck_line p q n = codes "at: " ++ (heading p q ++ (line n ++ line_feed ∷ []))
+
+-- where process p may not end, with the line of what stands first
+abbrev pub stuck_at : ℕ → Option Proctype → Control → List ℕ
+stuck_at p None c = []
+stuck_at p (Some q) c = if may_end q.body c then [] else stuck_line p q (line_at q.body q.end.line c)
+
+-- the line of a process that is stuck where it stands
+abbrev pub stuck_by : Program → ℕ → Stand → List ℕ
+stuck_by pr p y = stuck_at p (slice_get pr.proctypes y.kind) y.control
+
+-- of each process, in their order
+abbrev pub stuck : State → List ℕ
+stuck s = each (stuck_by s.program) 0 s.stands
+
+-- ---- the machine
 
 -- A state; what the variables that are still there held before the last step; and the move that was not taken to its end, if one was
 -- not: nothing is done from there on.
@@ -61,9 +180,9 @@ rules = record {
   moves = moves;
   step = step;
   stopped = λ w. stopped w.halt;
-  text = λ w m. texts.move_text w.state m;
-  origin = λ w m. texts.origin_of w.state m;
+  text = λ w m. move_text w.state m;
+  origin = λ w m. origin_of w.state m;
   values = changed_lines;
-  is_valid = λ w. texts.is_valid w.state;
-  stuck = λ w. texts.stuck w.state;
+  is_valid = λ w. is_valid w.state;
+  stuck = λ w. stuck w.state;
 }

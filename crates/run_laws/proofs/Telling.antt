@@ -10,7 +10,7 @@ use Rattle.promela_process.specs.Offers.{line_at}
 use Rattle.promela_run.specs.Lines.{proctype_name}
 use Rattle.promela_run.specs.State.{State, Stand}
 use Rattle.promela_run.specs.Moves.{each}
-use Rattle.promela_run.specs.Texts.{may_end, may_end_in, is_done, stuck_at, stuck_by}
+use Rattle.promela_run.specs.World.{may_end, may_end_in, is_done, stuck_at, stuck_by}
 use Rattle.pml_texts.specs.Staying.{stuck_in, stuck_place}
 use Rattle.run_laws.specs.Stuck.{told_of, told_from}
 

@@ -5,7 +5,7 @@ use Rattle.devices.specs.Left.{MayBeLeft}
 use Rattle.promela_session.specs.declared.ends.Options.{Options}
 use Rattle.promela_session.specs.declared.ends.End.{End}
 use Rattle.pml_play.specs.Transcript.{PlaysWhole, PlaysBroken}
-use Rattle.pml_play.specs.Converts.{Converts}
+use Rattle.pml_play.specs.Transcript.{Converts}
 use Rattle.streams.specs.declared.over.Streams.{Streams}
 
 -- What is known of a reader and of two writers: the bytes that the reader still gives, and those that each writer has been given.

@@ -13,7 +13,7 @@ use Rattle.promela_process.specs.declared.place.Place.{Place}
 use Rattle.promela_process.specs.Store.{size_at}
 use Rattle.promela_run.specs.Lines.{constant, path}
 use Rattle.pml_lines.specs.Changed.{process_in}
-use Rattle.promela_run.specs.Texts.{proctype_of}
+use Rattle.promela_run.specs.World.{proctype_of}
 
 -- the globals, or the variables of a process
 abbrev pub variables_by : State → Option ℕ → List Slot

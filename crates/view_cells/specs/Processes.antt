@@ -6,7 +6,7 @@ use Rattle.promela_process.specs.Control.{Control}
 use Rattle.promela_process.specs.Offers.{line_at}
 use Rattle.promela_run.specs.Lines.{proctype_name}
 use Rattle.promela_run.specs.State.{Stand, State}
-use Rattle.promela_run.specs.Texts.{proctype_of}
+use Rattle.promela_run.specs.World.{proctype_of}
 
 abbrev pub name_by : Option Proctype → List ℕ
 name_by None = []

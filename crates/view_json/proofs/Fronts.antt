@@ -9,7 +9,7 @@ use Rattle.promela_process.specs.Store.{ChannelState}
 use Rattle.promela_run.specs.State.{channel_at, State}
 use Rattle.promela_run.specs.declared.moves.Move.{Move}
 use Rattle.promela_run.specs.declared.moves.Move.TheVariants.{Death, Alone, Pair}
-use Rattle.promela_run.specs.Texts.{move_text}
+use Rattle.promela_run.specs.World.{move_text}
 use Rattle.view_waits.specs.declared.effect.Effect.{Effect}
 use Rattle.view_json.specs.declared.lines.Ahead.{Ahead}
 use Rattle.view_json.specs.Objects.{count, text, member, fields}

@@ -13,7 +13,7 @@ use Rattle.promela_run.specs.State.{channel_at, State}
 use Rattle.promela_run.specs.declared.moves.Pick.{Pick}
 use Rattle.promela_run.specs.declared.moves.Move.{Move}
 use Rattle.promela_run.specs.declared.moves.Move.TheVariants.{Death, Alone, Pair}
-use Rattle.promela_run.specs.Texts.{move_text}
+use Rattle.promela_run.specs.World.{move_text}
 use Rattle.pml_texts.specs.Staying.{stuck_of}
 use Rattle.view_cells.specs.Processes.{line_of}
 use Rattle.view_waits.specs.declared.effect.Does.{Does}

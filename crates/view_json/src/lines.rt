@@ -4,7 +4,7 @@ ghost use Rattle.std.specs.Prelude.{◌≡◌, ◌++◌, true, false, Some, leng
 ghost use Rattle.std.specs.List.{flat_map, range_with_len};
 ghost use Rattle.promela_run.specs.declared.moves.Move.TheVariants.{Death};
 ghost use Rattle.promela_run.specs.State.{channel_at};
-ghost use Rattle.promela_run.specs.Texts.{move_text};
+ghost use Rattle.promela_run.specs.World.{move_text};
 ghost use Rattle.view_text.specs.Written.{Adds};
 ghost use Rattle.view_json.specs.Printed.{Writes};
 ghost use Rattle.view_json.specs.Objects.{text};

@@ -3,7 +3,7 @@ use Rattle.std.specs.Prelude.{ℕ, ◌-◌, if◌then◌else◌, nat_eq, List, [
 use Rattle.promela_process.specs.Offers.{Offer}
 use Rattle.promela_run.specs.declared.moves.Pick.{Pick}
 use Rattle.promela_run.specs.State.{picked, State}
-use Rattle.promela_run.specs.Texts.{line_in}
+use Rattle.promela_run.specs.World.{line_in}
 
 -- what stands behind the first `[`
 abbrev pub behind : List ℕ → List ℕ

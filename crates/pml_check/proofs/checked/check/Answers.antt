@@ -1,6 +1,6 @@
 use Rattle.std.proofs.Common.{◌∙◌, Some, None, sym, ap, subst}
 use Rattle.pml_program.specs.declared.program.Program.{Program}
-use Rattle.promela_model.specs.MarksOfUnits.{of_tree}
+use Rattle.promela_model.specs.Marks.{of_tree}
 use Rattle.pml_resolve.specs.Model.{numbered_model}
 use Rattle.pml_flow.specs.Graph.{AreGraphs}
 use Rattle.pml_start.specs.Bound.{IsWithin}

@@ -1,5 +1,5 @@
 use Rattle.std.proofs.Common.{◌∙◌, None, sym, subst}
-use Rattle.promela_model.specs.MarksOfUnits.{of_tree}
+use Rattle.promela_model.specs.Marks.{of_tree}
 use Rattle.pml_resolve.specs.Model.{numbered_model}
 use Rattle.pml_start.specs.Bound.{IsWithin}
 use Rattle.promela_run.specs.Judged.{HasBadStart, HasGoodStart}

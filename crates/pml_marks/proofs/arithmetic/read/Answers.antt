@@ -1,7 +1,7 @@
 use Rattle.std.proofs.Common.{◌≡◌, ℕ, ◌+◌, ◌*◌, ◌-◌, ◌<◌, ◌≤◌, suc, List, [], ◌∷◌, length, drop, get_or, None, arith, ap, nat_lt, cond, Some}
 use Rattle.std.proofs.Math.Seq.{drop-cons}
 use Rattle.std.proofs.lemmas.Bool.Decides.{nat_tests}
-use Rattle.promela_model.specs.Constant.{numeral, spelled}
+use Rattle.promela_model.specs.Known.{numeral, spelled}
 use Rattle.pml_marks.proofs.arithmetic.read.Goals as goal
 
 spelled-le : (n : ℕ) (cs : List ℕ) → n ≤ spelled n cs

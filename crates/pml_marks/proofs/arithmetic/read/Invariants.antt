@@ -1,5 +1,5 @@
 use Rattle.std.proofs.Common.{◌≡◌, ◌<◌, drop}
-use Rattle.promela_model.specs.Constant.{spelled}
+use Rattle.promela_model.specs.Known.{spelled}
 use Rattle.pml_marks.proofs.arithmetic.read.Given as goal
 
 abbrev pub invariant-loop-digit : goal.invariant-loop-digit

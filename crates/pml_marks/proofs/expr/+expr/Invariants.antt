@@ -1,5 +1,6 @@
 use Rattle.std.proofs.Common.{◌≡◌, ◌++◌, map, drop}
-use Rattle.promela_model.specs.Marks.{of_arguments, of_step, shapes, steps_marks}
+use Rattle.promela_model.specs.Marks.{of_arguments, shapes, steps_marks}
+use Rattle.pml_marks.specs.Parts.{of_step}
 use Rattle.pml_marks.proofs.expr.+expr.Given as goal
 
 abbrev pub invariant-arguments-loop-one : goal.invariant-arguments-loop-one

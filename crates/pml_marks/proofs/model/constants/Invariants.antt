@@ -1,5 +1,5 @@
 use Rattle.std.proofs.Common.{◌≡◌, ◌++◌, drop}
-use Rattle.promela_model.specs.MarksOfUnits.{of_constants}
+use Rattle.promela_model.specs.Marks.{of_constants}
 use Rattle.pml_marks.proofs.model.constants.Given as goal
 
 abbrev pub invariant-loop-i : goal.invariant-loop-i

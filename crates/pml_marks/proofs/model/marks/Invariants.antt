@@ -1,5 +1,5 @@
 use Rattle.std.proofs.Common.{◌≡◌, ◌≤◌, ◌++◌, ◌+◌, drop}
-use Rattle.promela_model.specs.MarksOfUnits.{of_units}
+use Rattle.promela_model.specs.Marks.{of_units}
 use Rattle.pml_marks.proofs.model.marks.Given as goal
 
 abbrev pub invariant-loop-i : goal.invariant-loop-i

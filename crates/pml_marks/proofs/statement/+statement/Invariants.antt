@@ -1,5 +1,6 @@
 use Rattle.std.proofs.Common.{◌≡◌, ◌++◌, map, drop}
-use Rattle.promela_model.specs.Marks.{of_seq, of_item, all_marks}
+use Rattle.promela_model.specs.Marks.{of_seq, all_marks}
+use Rattle.pml_marks.specs.Parts.{of_item}
 use Rattle.pml_marks.proofs.statement.+statement.Given as goal
 
 abbrev pub invariant-seqs-loop-one : goal.invariant-seqs-loop-one

@@ -1,6 +1,6 @@
 use Rattle.std.proofs.Common.{List, reverse, ◌≡◌, ◌≤◌, length, ◌++◌, ◌∷◌, [], ◌-◌, drop, ap, sym, ◌∙◌, append_assoc, arith}
 use Rattle.pml_token.specs.Word.{Word}
-use Rattle.promela_model.specs.MarksOfUnits.{of_constants}
+use Rattle.promela_model.specs.Marks.{of_constants}
 use Rattle.promela_model.specs.declared.mark.Declared.TheVariants as declared_as
 use Rattle.promela_model.specs.declared.mark.What.TheVariants as what
 use Rattle.pml_names.specs.Entry.{Entry}

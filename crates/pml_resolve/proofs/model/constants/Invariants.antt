@@ -1,7 +1,7 @@
 use Rattle.std.proofs.Common.{◌≡◌, ◌++◌, drop, reverse}
 use Rattle.pml_names.specs.Env.{env_from}
 use Rattle.pml_names.specs.Totals.{IsTotalled}
-use Rattle.promela_model.specs.MarksOfUnits.{of_constants}
+use Rattle.promela_model.specs.Marks.{of_constants}
 use Rattle.pml_resolve.proofs.model.constants.Given as goal
 
 abbrev pub invariant-loop-i : goal.invariant-loop-i

@@ -3,7 +3,7 @@ use Rattle.std.specs.Io.{StartsWith}
 use Rattle.promela_run.specs.State.{Stand}
 use Rattle.pml_moves.specs.Scene.{stand_of}
 use Rattle.promela_run.specs.Moves.{each}
-use Rattle.promela_run.specs.Texts.{stuck_by}
+use Rattle.promela_run.specs.World.{stuck_by}
 use Rattle.pml_texts.proofs.ends.add_stuck.Given as goal
 
 -- what is added and the rest's are all

@@ -1,7 +1,7 @@
 use Rattle.std.proofs.Common.{◌≡◌, drop, map}
 use Rattle.std.specs.List.{list_all}
 use Rattle.pml_moves.specs.Scene.{stand_of}
-use Rattle.promela_run.specs.Texts.{is_done, is_valid}
+use Rattle.promela_run.specs.World.{is_done, is_valid}
 use Rattle.pml_texts.proofs.ends.is_valid.Given as goal
 
 -- whether all end well is whether the rest do

@@ -1,4 +1,4 @@
-use Rattle.promela_run.specs.Texts.{move_text}
+use Rattle.promela_run.specs.World.{move_text}
 use Rattle.view_text.proofs.Writing.{item_more}
 use Rattle.view_json.specs.Objects.{text}
 use Rattle.view_json.proofs.Writing.{chain}

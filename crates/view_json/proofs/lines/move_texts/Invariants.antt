@@ -1,7 +1,7 @@
 -- the texts of the moves before the loop's are written
 use Rattle.std.proofs.Common.{take}
 use Rattle.std.specs.List.{flat_map}
-use Rattle.promela_run.specs.Texts.{move_text}
+use Rattle.promela_run.specs.World.{move_text}
 use Rattle.view_json.specs.Printed.{Writes}
 use Rattle.view_json.specs.Objects.{text}
 use Rattle.view_json.proofs.lines.move_texts.Given as goal
