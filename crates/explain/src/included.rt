@@ -1,6 +1,8 @@
 //! The lines of included files in a text that was prepared: they stand on the line of their `#include`, a form feed behind each.
 
-use crate::position::{Line, between, line_of};
+ghost use Rattle.std.specs.Prelude.{◌≡◌, length, None};
+
+use source_lines::position::{Line, between, line_of};
 use std::str;
 
 /// What stands behind each line of an included file.
@@ -81,7 +83,9 @@ fn part_round(line: &[u8], mark: usize) -> (usize, usize) {
 }
 
 /// The line of an included file on which the place behind so many bytes of a text lies, if this table says so of it.
-pub fn included_at<'t>(text: &'t [u8], table: &'t [u8], offset: usize) -> Option<Included<'t>> {
+pub fn included_at<'t>(text: &'t [u8], table: &'t [u8], offset: usize) -> Option<Included<'t>>
+    ensures { length table.now ≡ 0 → result ≡ None }
+{
     if table.is_empty() {
         return None;
     }

@@ -2,34 +2,32 @@
 #![tactic(auto)]
 
 mod ascii;
-mod author;
 mod counts;
 mod foreign;
 mod included;
 mod message;
 mod names;
-mod position;
-mod shown;
-mod signs;
 mod syntax;
 mod texts;
+mod told;
 
-ghost use Rattle.pml_refused.specs.Told.{IsTold};
+ghost use Rattle.std.specs.Prelude.{◌≡◌, [], IfOk, string_bytes};
+ghost use Rattle.explain.specs.Explained.{Explains, ExplainsBeside};
+ghost use Rattle.explain.specs.Request.{asked_for};
 
-use author::seen_in;
 use counts::{of_control, of_count, of_inline, of_label, of_range, of_start};
 use diagnostics::Refusal;
 use included::included_at;
 use message::Message;
 use names::{of_declared, of_twice, of_unknown};
-use pml_causes::cause::{Cause, Finding, Place};
+use pml_causes::cause::{Cause, Finding};
 use pml_refused::cause_of;
-use position::{Line, column, line_of, shown_offset};
-use shown::{show_alone, show_line, window_round};
+use source_lines::position::shown_offset;
+use source_lines::shown::show_chars;
 use std::alloc::{AllocError, Global};
-use std::str;
 use syntax::of_syntax;
 use texts::of_text;
+use told::{Asked, told_alone, told_at};
 
 /// Adds the words of a cause.
 fn tell(message: &mut Message<'_>, cause: Cause<'_>) -> Result<(), AllocError> {
@@ -49,28 +47,20 @@ fn tell(message: &mut Message<'_>, cause: Cause<'_>) -> Result<(), AllocError> {
     }
 }
 
-/// Adds the number and the words of a refusal.
-fn tell_refusal(message: &mut Message<'_>, refusal: Refusal) -> Result<(), AllocError> {
-    message.figure(": M", usize::from(refusal.number()), " ")?;
-    match str::from_utf8(refusal.words()) {
-        Ok(words) => message.push(words),
-        Err(_) => Ok(()),
-    }
-}
-
-/// Adds the first line but for the name of the file.
-fn tell_head(
-    message: &mut Message<'_>,
-    refusal: Refusal,
+/// What is told behind the number and the words of a refusal.
+fn words_of(
+    alloc: Global,
+    text: &[u8],
+    lines: &[u8],
     cause: Cause<'_>,
-) -> Result<(), AllocError> {
-    tell_refusal(message, refusal)?;
+) -> Result<String, AllocError> {
+    let mut message = Message::new(alloc, text, lines);
     if let Cause::Untold = cause {
-        return message.push("\n");
+        return Ok(message.into_text());
     }
     message.push(": ")?;
-    tell(message, cause)?;
-    message.push("\n")
+    tell(&mut message, cause)?;
+    Ok(message.into_text())
 }
 
 /// What a text was prepared of.
@@ -84,58 +74,6 @@ pub struct Source<'t> {
     pub included: &'t [u8],
 }
 
-/// Adds the name of the file in which a place lies, and answers the line of the place, and the text that it is shown from.
-fn tell_file<'t>(
-    message: &mut Message<'t>,
-    name: &str,
-    source: Source<'t>,
-    offset: usize,
-) -> Result<(Line<'t>, &'t [u8]), AllocError> {
-    match message.included(offset) {
-        Some(included) => {
-            message.file(included.file)?;
-            Ok((included.line, source.included))
-        }
-        None => {
-            message.file(name)?;
-            Ok((line_of(message.text(), offset), source.text))
-        }
-    }
-}
-
-/// Adds all that is told of a place, whose line is shown as it stands in the source.
-fn tell_place<'t>(
-    message: &mut Message<'t>,
-    name: &str,
-    source: Source<'t>,
-    refusal: Refusal,
-    cause: Cause<'_>,
-    place: Place,
-) -> Result<(), AllocError>
-    requires { IsTold message.old.text.now refusal place }
-{
-    let offset = shown_offset(message.text(), place.offset);
-    let (line, text) = tell_file(message, name, source, offset)?;
-    let seen = seen_in(text, line, offset.saturating_sub(line.start), place.length);
-    message.figure(":", line.number, "")?;
-    match seen.mark {
-        Some(mark) => {
-            message.figure(
-                ":",
-                column(seen.line, seen.line.start.saturating_add(mark)),
-                "",
-            )?;
-            tell_head(message, refusal, cause)?;
-            let window = window_round(seen.line.bytes, mark, seen.length);
-            show_line(message, seen.line, window)
-        }
-        None => {
-            tell_head(message, refusal, cause)?;
-            show_alone(message, seen.line)
-        }
-    }
-}
-
 /// What a user is told of a refused model: its lines, each with its line feed, for standard error.
 ///
 /// `name` is that of the model's file, as it was given, and `refusal` what `play` refused the text with. Where no place is found, it is
@@ -145,7 +83,9 @@ pub fn explain(
     name: &str,
     text: &[u8],
     refusal: Refusal,
-) -> Result<String, AllocError> {
+) -> Result<String, AllocError>
+    ensures { IfOk result (λ out. Explains name.now text.now refusal (string_bytes out)) }
+{
     let source = Source {
         text,
         lines: b"",
@@ -162,17 +102,24 @@ pub fn explain_beside(
     text: &[u8],
     source: Source<'_>,
     refusal: Refusal,
-) -> Result<String, AllocError> {
-    let Finding { place, cause } = cause_of(alloc, text, refusal)?;
-    let mut message = Message::new(alloc, text, source.lines);
-    match place {
-        Some(place) => tell_place(&mut message, name, source, refusal, cause, place)?,
-        None => {
-            message.file(name)?;
-            tell_head(&mut message, refusal, cause)?
-        }
+) -> Result<String, AllocError>
+    ensures {
+        IfOk result (λ out. ExplainsBeside (asked_for name.now text.now source.entry) refusal (string_bytes out))
     }
-    Ok(message.into_text())
+{
+    let Finding { place, cause } = cause_of(alloc, text, refusal)?;
+    let words = words_of(alloc, text, source.lines, cause)?;
+    let asked = Asked {
+        name,
+        text,
+        own: source.text,
+        lines: source.lines,
+        included: source.included,
+    };
+    match place {
+        Some(place) => told_at(alloc, asked, place, refusal, words.as_str()),
+        None => told_alone(alloc, name, refusal, words.as_str()),
+    }
 }
 
 /// The included file in which a refusal lies, if it does, by a table of the lines of such files.
@@ -197,7 +144,7 @@ pub fn included_file<'t>(
 
 /// The name of a file as it is shown.
 pub fn shown_file(alloc: Global, name: &str) -> Result<String, AllocError> {
-    let mut message = Message::new(alloc, b"", b"");
-    message.file(name)?;
-    Ok(message.into_text())
+    let mut out = String::new(alloc);
+    show_chars(&mut out, name)?;
+    Ok(out)
 }

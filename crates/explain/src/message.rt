@@ -1,12 +1,11 @@
 //! Texts that are put together of words, names and numbers.
 
-ghost use Rattle.std.specs.Prelude.{◌≡◌};
-
 use crate::included::{Included, included_at};
-use crate::position::{between, line_number};
-use crate::signs::{is_unseen, push_number, push_shown};
 use itoa::Buffer;
 use pml_causes::cause::Named;
+use source_lines::position::{between, line_number};
+use source_lines::shown::{printable, show_chars};
+use source_lines::signs::{is_unseen, push_number};
 use std::alloc::{AllocError, Global};
 use std::str;
 
@@ -24,9 +23,7 @@ pub struct Message<'t> {
 
 impl<'t> Message<'t> {
     /// An empty one.
-    pub fn new(alloc: Global, text: &'t [u8], lines: &'t [u8]) -> Message<'t>
-        ensures { result.text.now ≡ text.now }
-    {
+    pub fn new(alloc: Global, text: &'t [u8], lines: &'t [u8]) -> Message<'t> {
         Message {
             text,
             lines,
@@ -45,9 +42,7 @@ impl<'t> Message<'t> {
     }
 
     /// The text that it is about.
-    pub fn text(&self) -> &'t [u8]
-        ensures { result.now ≡ self.now.text.now }
-    {
+    pub fn text(&self) -> &'t [u8] {
         self.text
     }
 
@@ -61,22 +56,9 @@ impl<'t> Message<'t> {
         self.out.push_str(words)
     }
 
-    /// Adds a character.
-    pub fn push_char(&mut self, c: char) -> Result<(), AllocError> {
-        self.out.push(c)
-    }
-
-    /// Adds a character as it is shown.
-    pub fn push_shown(&mut self, c: char) -> Result<(), AllocError> {
-        push_shown(&mut self.out, c)
-    }
-
     /// Adds the name of a file as it is shown.
     pub fn file(&mut self, name: &str) -> Result<(), AllocError> {
-        for c in name.chars() {
-            self.push_shown(c)?;
-        }
-        Ok(())
+        show_chars(&mut self.out, name)
     }
 
     /// Adds a number.
@@ -199,13 +181,4 @@ fn shown_part(name: &[u8]) -> &[u8] {
 /// What stands behind what is shown of a name.
 fn end_of_name(name: &[u8]) -> &'static str {
     if name.len() <= MOST_SHOWN { "`" } else { "..`" }
-}
-
-/// A byte as it is shown: `?` in place of what no terminal prints.
-pub fn printable(byte: u8) -> char {
-    if b' ' <= byte && byte <= b'~' {
-        char::from(byte)
-    } else {
-        '?'
-    }
 }

@@ -3,8 +3,8 @@
 use crate::foreign::{advice, tell_classes, tell_word};
 use crate::message::Message;
 use crate::names::TYPES;
-use crate::position::{column, line_of};
 use pml_causes::cause::{Named, SyntaxCause, Wanted};
+use source_lines::position::{column, line_of};
 use std::alloc::AllocError;
 
 /// What closes this, in words.
@@ -28,7 +28,8 @@ fn misses_closer(message: &mut Message<'_>, opener: Named<'_>) -> Result<(), All
 /// What closes is wanted in front of a `->`.
 fn wants_closer_at_arrow(message: &mut Message<'_>, opener: Named<'_>) -> Result<(), AllocError> {
     wants_closer_before(message, opener)?;
-    let column = column(line_of(message.text(), opener.offset), opener.offset);
+    let line = line_of(message.text(), opener.offset);
+    let column = column(line.bytes, opener.offset.saturating_sub(line.start));
     message.figure(", column ", column, "")
 }
 

@@ -1,0 +1,8 @@
+-- what was yielded is below
+use Rattle.std.proofs.Common.{◌≡◌, ◌++◌, string_bytes}
+use Rattle.std.specs.List.{flat_map}
+use Rattle.source_lines.specs.Shown.{below_character}
+use Rattle.source_lines.proofs.below.blank_chars.Given as goal
+
+abbrev pub invariant-loop-c : goal.invariant-loop-c
+invariant-loop-c l = string_bytes l.out ≡ string_bytes l.fn.out ++ flat_map below_character l.yielded

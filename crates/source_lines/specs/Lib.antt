@@ -1,0 +1,6 @@
+pub mod Signs
+pub mod Places
+pub mod Windows
+pub mod Shown
+pub mod Beside
+pub mod Seen

@@ -1,0 +1,6 @@
+-- What is seen of a line, as a value.
+use Rattle.source_lines.specs.declared.beside.Seen.{Seen}
+use Rattle.source_lines.specs.Beside.{Sight}
+
+abbrev pub sight_of : Seen → Sight
+sight_of s = record { bytes = s.bytes.now; mark = s.mark; bytes_marked = s.length }
