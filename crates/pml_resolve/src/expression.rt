@@ -119,7 +119,7 @@ fn unary(alloc: Global, op: Prefix, x: Boxed<Expr>) -> Result<Boxed<Expr>, Alloc
 
 /// What an operator with two operands stands for, in a box.
 #[inline(never)]
-fn joined(
+fn binary(
     alloc: Global,
     op: Infix,
     x: Boxed<Expr>,
@@ -128,23 +128,6 @@ fn joined(
     ensures { IfOk result (λ e. e ≡ term.Binary op x y) }
 {
     Ok(Boxed::new(alloc, Expr::Binary(op, x, y))?)
-}
-
-/// Two operands and what is between them, with names replaced, in a box.
-#[cycle(expression)]
-#[inline(never)]
-fn binary(
-    alloc: Global,
-    op: Infix,
-    a: &TreeExpr,
-    b: &TreeExpr,
-    within: Scope<'_, '_, '_>,
-) -> Result<Boxed<Expr>, AllocError>
-    ensures { let sc = scope_of within.entry in IfOk result (λ e. e ≡ term.Binary op (numbered a.now sc) (numbered b.now sc)) }
-{
-    let x = boxed(alloc, a, within)?;
-    let y = boxed(alloc, b, within)?;
-    joined(alloc, op, x, y)
 }
 
 /// An expression that is no operator, with its names replaced, in a box.
@@ -157,7 +140,7 @@ fn other(alloc: Global, e: &TreeExpr, within: Scope<'_, '_, '_>) -> Result<Boxed
     Ok(Boxed::new(alloc, x)?)
 }
 
-/// An expression with its names replaced, in a box. It goes through operators by itself, of which a thousand may stand in a row.
+/// An expression with its names replaced, in a box. It goes through operators by itself.
 #[cycle(expression)]
 #[inline(never)]
 fn boxed(alloc: Global, e: &TreeExpr, within: Scope<'_, '_, '_>) -> Result<Boxed<Expr>, AllocError>
@@ -168,7 +151,11 @@ fn boxed(alloc: Global, e: &TreeExpr, within: Scope<'_, '_, '_>) -> Result<Boxed
             let x = boxed(alloc, a.get(), within)?;
             unary(alloc, *op, x)
         }
-        TreeExpr::Binary(op, a, b) => binary(alloc, *op, a.get(), b.get(), within),
+        TreeExpr::Binary(op, a, b) => {
+            let x = boxed(alloc, a.get(), within)?;
+            let y = boxed(alloc, b.get(), within)?;
+            binary(alloc, *op, x, y)
+        }
         _ => other(alloc, e, within),
     }
 }
