@@ -16,8 +16,8 @@ use pml_store::store::Store;
 use profile::MOST_PROCESSES;
 use std::alloc::Global;
 
-/// Begins a process of the proctype with this number.
-fn begin_process(
+/// Adds a process of the proctype with this number.
+fn add_process(
     alloc: Global,
     program: &Program<'_>,
     beginnings: &Beginnings<'_, '_>,
@@ -38,6 +38,28 @@ fn begin_process(
     started.kinds.push(kind).map_err(|_| Stop::Memory)?;
     let variables = program.proctypes.as_slice()[kind].variables.as_slice();
     begin_frame(alloc, beginnings, started, variables)
+}
+
+/// Begins a process of the proctype with this number, and forgets what was stored: a log of all processes takes twice the memory of
+/// their cells.
+fn begin_process(
+    alloc: Global,
+    program: &Program<'_>,
+    beginnings: &Beginnings<'_, '_>,
+    kind: usize,
+    begun: &mut Started,
+) -> Result<(), Stop>
+    requires known { beginnings.now ≡ program.now }
+    requires there { kind < length program.now.proctypes }
+    requires declared { IsDeclared program.now (shown begun.old) }
+    requires most { begun.old.store.most ≡ most_cells program.now }
+    ensures value { Begins (process_begun program.now kind (shown begun.old)) result (shown begun.new) }
+    ensures declared { OnOk result (IsDeclared program.now (shown begun.new)) }
+    ensures most { begun.new.store.most ≡ most_cells program.now }
+{
+    add_process(alloc, program, beginnings, kind, begun)?;
+    begun.store.forget();
+    Ok(())
 }
 
 /// Begins the processes that a proctype starts with.

@@ -10,7 +10,7 @@ returns-in_err-begin_process-clause-value c =
 
 pub loop-start-preserved : goal.loop-start-preserved
 loop-start-preserved c = record {
-  same = kind_made c.args.program.now c.args.kind c.loop-start._start c.args.starts (shown c.loop-start.started) (shown c.begin_process.new.started) _ _ c.loop-start-test.true c.loop-start.invariant.same c.in_ok-begin_process.ensures.value;
+  same = kind_made c.args.program.now c.args.kind c.loop-start._start c.args.starts (shown c.loop-start.started) (shown c.begin_process.new.begun) _ _ c.loop-start-test.true c.loop-start.invariant.same c.in_ok-begin_process.ensures.value;
   declared = c.in_ok-begin_process.ensures.declared;
   most = c.in_ok-begin_process.ensures.most;
 }

@@ -6,7 +6,7 @@ use Rattle.pml_start.specs.Shown.{shown, shape}
 use Rattle.pml_start.proofs.Shapes.{OnOk-then}
 use Rattle.pml_start.proofs.Bounding.{room_for}
 use Rattle.pml_start.proofs.Declaring.{declared_next, variables_at_is}
-use Rattle.pml_start.proofs.start.begin_process.Goals as goal
+use Rattle.pml_start.proofs.start.add_process.Goals as goal
 
 pub returns-clause-declared : goal.returns-clause-declared
 returns-clause-declared c =
