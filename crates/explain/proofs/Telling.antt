@@ -46,6 +46,7 @@ some_lines {A} n o a none is = by n refl
   where
     not_both : None ≡ Some a → ⊥
     not_both h = cc
+
     by : (k : ℕ) → n ≡ k → 0 < n
     by zero e = absurd (not_both (sym (none e) ∙ is))
     by (suc k) e = omega (arith, e)

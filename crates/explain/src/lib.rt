@@ -103,9 +103,7 @@ pub fn explain_beside(
     source: Source<'_>,
     refusal: Refusal,
 ) -> Result<String, AllocError>
-    ensures {
-        IfOk result (λ out. ExplainsBeside (asked_for name.now text.now source.entry) refusal (string_bytes out))
-    }
+    ensures { IfOk result (λ out. ExplainsBeside (asked_for name.now text.now source.entry) refusal (string_bytes out)) }
 {
     let Finding { place, cause } = cause_of(alloc, text, refusal)?;
     let words = words_of(alloc, text, source.lines, cause)?;

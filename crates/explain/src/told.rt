@@ -79,9 +79,7 @@ fn told_of(
     refusal: Refusal,
     words: &str,
 ) -> Result<String, AllocError>
-    ensures {
-        IfOk result (λ out. string_bytes out ≡ told_of file.now number (sight_of seen.entry) refusal words.now)
-    }
+    ensures { IfOk result (λ out. string_bytes out ≡ told_of file.now number (sight_of seen.entry) refusal words.now) }
 {
     let mut out = String::new(alloc);
     show_chars(&mut out, file)?;
@@ -116,9 +114,7 @@ pub fn told_at(
     refusal: Refusal,
     words: &str,
 ) -> Result<String, AllocError>
-    ensures {
-        IfOk result (λ out. TellsPlace (request_of asked.entry) place refusal words.now (string_bytes out))
-    }
+    ensures { IfOk result (λ out. TellsPlace (request_of asked.entry) place refusal words.now (string_bytes out)) }
 {
     let offset = shown_offset(asked.text, place.offset);
     match included_at(asked.text, asked.lines, offset) {

@@ -1,3 +1,4 @@
 pub mod Deriving
 pub mod Expanding
 pub mod Defining
+pub mod Calling

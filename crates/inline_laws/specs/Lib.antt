@@ -1,3 +1,4 @@
 pub mod Derived
 pub mod Expanded
 pub mod Defined
+pub mod Called

@@ -1,6 +1,8 @@
 //! What comes of calls of inlines and of whole texts, by rules. Nothing here is run.
 #![tactic(auto)]
 
+ghost use Rattle.inline_laws.specs.Called.{ArgumentsAreDerived, CallsAreDerived, ClosersAreDerived};
+ghost use Rattle.inline_laws.specs.Called.{DerivedAreArguments, DerivedAreCalls, DerivedAreClosers};
 ghost use Rattle.inline_laws.specs.Defined.{DefinitionsAreAsWritten};
 ghost use Rattle.inline_laws.specs.Derived.{DerivedAreAnswered, AnswersAreDerived};
 ghost use Rattle.inline_laws.specs.Expanded.{DerivedAreExpansions, ExpansionsAreDerived};
@@ -26,4 +28,22 @@ pub fn expansions_are_derived()
 /// The tokens behind a word `inline` are a definition exactly where they begin with a name, parameters in parentheses and a body in braces, by rules.
 pub fn definitions_are_as_written()
     ensures { DefinitionsAreAsWritten }
+{}
+
+/// The token that closes a bracket is the one before which all brackets of its kind are balanced, by rules.
+pub fn closers_are_derived()
+    ensures forth { ClosersAreDerived }
+    ensures back { DerivedAreClosers }
+{}
+
+/// The arguments of a call are the parts between the commas that stand in no bracket, and none where there is no token, by rules.
+pub fn arguments_are_derived()
+    ensures forth { ArgumentsAreDerived }
+    ensures back { DerivedAreArguments }
+{}
+
+/// A name with a `(` behind it calls the first inline of its name that is known, by rules, and no other.
+pub fn calls_are_derived()
+    ensures forth { CallsAreDerived }
+    ensures back { DerivedAreCalls }
 {}
