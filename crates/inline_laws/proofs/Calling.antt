@@ -11,13 +11,13 @@ use Rattle.promela_text.specs.Inlines.{is_name, begins, one_more, to_closing, cl
 use Rattle.promela_text.specs.Expansion.{callee}
 use Rattle.inline_laws.specs.Called.{Balanced, nothing, other, bracket, ClosesBehind, open_behind, IsPart, no_token, one_token, Split, last_part, one_part, AreArguments, no_argument, some_arguments, IsFirstOf, at_first, behind_other, IsCalled}
 
-some_is : {A : Type 0} (x y : A) → Some x ≡ Some y → x ≡ y
+pub some_is : {A : Type 0} (x y : A) → Some x ≡ Some y → x ≡ y
 some_is {A} x y h = cc
 
-none_is_not : {A : Type 0} (x : A) → None ≡ Some x → ⊥
+pub none_is_not : {A : Type 0} (x : A) → None ≡ Some x → ⊥
 none_is_not {A} x h = cc
 
-not_both : (b : Bool) → b ≡ true → b ≡ false → ⊥
+pub not_both : (b : Bool) → b ≡ true → b ≡ false → ⊥
 not_both b h k = cc
 
 -- ---- what closes a bracket
@@ -199,7 +199,7 @@ are_arguments ws ps (some_arguments {w = w} {ws = vs} split) = are_parts (w ∷ 
 
 -- ---- what a name calls
 
-other_name : (n m : List ℕ) → n ≢ m → bytes_eq n m ≡ false
+pub other_name : (n m : List ℕ) → n ≢ m → bytes_eq n m ≡ false
 other_name n m apart = by (bytes_eq n m) refl
   where
     by : (t : Bool) → bytes_eq n m ≡ t → bytes_eq n m ≡ false

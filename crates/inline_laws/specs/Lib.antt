@@ -2,3 +2,4 @@ pub mod Derived
 pub mod Expanded
 pub mod Defined
 pub mod Called
+pub mod Given

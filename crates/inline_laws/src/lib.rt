@@ -5,6 +5,7 @@ ghost use Rattle.inline_laws.specs.Called.{ArgumentsAreDerived, CallsAreDerived,
 ghost use Rattle.inline_laws.specs.Called.{DerivedAreArguments, DerivedAreCalls, DerivedAreClosers};
 ghost use Rattle.inline_laws.specs.Defined.{DefinitionsAreAsWritten};
 ghost use Rattle.inline_laws.specs.Derived.{DerivedAreAnswered, AnswersAreDerived};
+ghost use Rattle.inline_laws.specs.Given.{BodiesAreDerived, DerivedAreBodies};
 ghost use Rattle.inline_laws.specs.Expanded.{DerivedAreExpansions, ExpansionsAreDerived};
 
 /// What comes of tokens in which calls are replaced is derived by the rules: a token stays, and a call is replaced by what comes of the
@@ -46,4 +47,10 @@ pub fn arguments_are_derived()
 pub fn calls_are_derived()
     ensures forth { CallsAreDerived }
     ensures back { DerivedAreCalls }
+{}
+
+/// In the body of an inline a token that names a parameter gives way to the argument at the parameter's place, and each other token stays, by rules.
+pub fn bodies_are_derived()
+    ensures forth { BodiesAreDerived }
+    ensures back { DerivedAreBodies }
 {}
