@@ -119,7 +119,7 @@ fn unary(alloc: Global, op: Prefix, x: Boxed<Expr>) -> Result<Boxed<Expr>, Alloc
 
 /// What an operator with two operands stands for, in a box.
 #[inline(never)]
-fn binary(
+fn joined(
     alloc: Global,
     op: Infix,
     x: Boxed<Expr>,
@@ -140,7 +140,23 @@ fn other(alloc: Global, e: &TreeExpr, within: Scope<'_, '_, '_>) -> Result<Boxed
     Ok(Boxed::new(alloc, x)?)
 }
 
-/// An expression with its names replaced, in a box. It goes through operators by itself.
+/// Two operands and what is between them, with names replaced, in a box.
+#[cycle(expression)]
+#[inline(never)]
+fn binary(alloc: Global, e: &TreeExpr, within: Scope<'_, '_, '_>) -> Result<Boxed<Expr>, AllocError>
+    ensures { IfOk result (λ x. x ≡ numbered e.now (scope_of within.entry)) }
+{
+    match e {
+        TreeExpr::Binary(op, a, b) => {
+            let x = boxed(alloc, a.get(), within)?;
+            let y = boxed(alloc, b.get(), within)?;
+            joined(alloc, *op, x, y)
+        }
+        _ => other(alloc, e, within),
+    }
+}
+
+/// An expression with its names replaced, in a box. It goes through operators by itself, of which a thousand may stand in a row.
 #[cycle(expression)]
 #[inline(never)]
 fn boxed(alloc: Global, e: &TreeExpr, within: Scope<'_, '_, '_>) -> Result<Boxed<Expr>, AllocError>
@@ -151,12 +167,7 @@ fn boxed(alloc: Global, e: &TreeExpr, within: Scope<'_, '_, '_>) -> Result<Boxed
             let x = boxed(alloc, a.get(), within)?;
             unary(alloc, *op, x)
         }
-        TreeExpr::Binary(op, a, b) => {
-            let x = boxed(alloc, a.get(), within)?;
-            let y = boxed(alloc, b.get(), within)?;
-            binary(alloc, *op, x, y)
-        }
-        _ => other(alloc, e, within),
+        _ => binary(alloc, e, within),
     }
 }
 
