@@ -7,8 +7,8 @@ use Rattle.std.proofs.lemmas.Str.{IsUtf8-from_is_utf8}
 use Rattle.diagnostics.specs.declared.refusal.Refusal.{Refusal}
 use Rattle.diagnostics.specs.declared.refusal.Refusal.TheVariants as r
 use Rattle.diagnostics.specs.Words.{refusal_words}
-use Rattle.pml_causes.specs.declared.cause.Place.{Place}
-use Rattle.pml_refused.specs.Told.{IsTold}
+use Rattle.explain_cause.specs.declared.cause.Segment.{Segment}
+use Rattle.explain_find.specs.Told.{IsTold}
 use Rattle.source_lines.specs.Places.{shown_offset, number_at, start_at, line_at}
 use Rattle.source_lines.specs.Beside.{Sight, itself, seen_in}
 use Rattle.source_lines.proofs.Own.{own_sight}
@@ -51,7 +51,7 @@ some_lines {A} n o a none is = by n refl
     by zero e = absurd (not_both (sym (none e) ∙ is))
     by (suc k) e = omega (arith, e)
 
-pub in_included : {Z E : Type 0} (q : Request) (p : Place) (x : Refusal) (words file line : List ℕ) (n start : ℕ) (s : Sight) (o : Result (String Z) E) → 0 < length q.lines
+pub in_included : {Z E : Type 0} (q : Request) (p : Segment) (x : Refusal) (words file line : List ℕ) (n start : ℕ) (s : Sight) (o : Result (String Z) E) → 0 < length q.lines
     → s ≡ seen_in q.included n line (shown_offset q.text p.offset - start) p.length
     → IfOk o (λ out. string_bytes out ≡ told_of file n s x words) → IfOk o (λ out. TellsPlace q p x words (string_bytes out))
 in_included q p x words file line n start s (Ok out) some sees is = of_included file line n start some (is ∙ ap (λ (t : Sight). told_of file n t x words) sees)
@@ -62,13 +62,13 @@ pub alone : {Z E : Type 0} (q : Request) (x : Refusal) (words : List ℕ) (o : R
 alone q x words (Ok out) is = placeless_beside words is
 alone q x words (Err e) is = tt
 
-pub at_told : {Z E : Type 0} (q : Request) (x : Refusal) (p : Place) (words : List ℕ) (o : Result (String Z) E) → IsTold q.text x p
+pub at_told : {Z E : Type 0} (q : Request) (x : Refusal) (p : Segment) (words : List ℕ) (o : Result (String Z) E) → IsTold q.text x p
     → IfOk o (λ out. TellsPlace q p x words (string_bytes out)) → IfOk o (λ out. ExplainsBeside q x (string_bytes out))
 at_told q x p words (Ok out) told tells = placed_beside p words told tells
 at_told q x p words (Err e) told tells = tt
 
 -- beside the text itself, without included files
-same_told : (q : Request) (p : Place) (x : Refusal) (words : List ℕ) → q.own ≡ q.text → told_beside q p x words ≡ told_at q.name q.text p x words
+same_told : (q : Request) (p : Segment) (x : Refusal) (words : List ℕ) → q.own ≡ q.text → told_beside q p x words ≡ told_at q.name q.text p x words
 same_told q p x words own =
     let at = shown_offset q.text p.offset in
     ap (λ (s : Sight). told_of q.name (number_at q.text at) s x words)
@@ -77,7 +77,7 @@ same_told q p x words own =
 no_table : (n : ℕ) → n ≡ 0 → 0 < n → ⊥
 no_table n none some = omega (arith, none, some)
 
-plain_place : (q : Request) (x : Refusal) (out : List ℕ) (p : Place) (words : List ℕ) → q.own ≡ q.text → length q.lines ≡ 0 → IsTold q.text x p → TellsPlace q p x words out
+plain_place : (q : Request) (x : Refusal) (out : List ℕ) (p : Segment) (words : List ℕ) → q.own ≡ q.text → length q.lines ≡ 0 → IsTold q.text x p → TellsPlace q p x words out
     → Explains q.name q.text x out
 plain_place q x out p words own none told (of_own is) = placed p words told (is ∙ same_told q p x words own)
 plain_place q x out p words own none told (of_included file line n start some is) = absurd (no_table (length q.lines) none some)

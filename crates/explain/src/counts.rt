@@ -2,7 +2,7 @@
 
 use crate::message::Message;
 use crate::names::did_you_mean;
-use pml_causes::cause::{
+use explain_cause::cause::{
     Circle, ControlCause, CountCause, Fault, InlineCause, LabelCause, Named, RangeCause, StartCause,
 };
 use profile::{

@@ -1,8 +1,8 @@
 //! What is to be written in place of words and forms of other languages.
 
 use crate::message::Message;
-use pml_causes::cause::{Class, Classes};
-use pml_causes::foreign::Foreign;
+use explain_cause::cause::{Class, Classes};
+use explain_cause::foreign::Foreign;
 use std::alloc::AllocError;
 
 /// Of words that stand for parts of other statements and declarations.

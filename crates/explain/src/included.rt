@@ -58,9 +58,9 @@ fn row_at<'t>(table: &'t [u8], line: usize, feeds: usize) -> Option<Row<'t>> {
 }
 
 /// How many form feeds stand before a place of a line.
-fn feeds_before(line: &[u8], mark: usize) -> usize {
+fn feeds_before(line: &[u8], onset: usize) -> usize {
     let mut count = 0usize;
-    for byte in between(line, 0, mark) {
+    for byte in between(line, 0, onset) {
         if *byte == FORM_FEED {
             count = count.saturating_add(1);
         }
@@ -69,11 +69,11 @@ fn feeds_before(line: &[u8], mark: usize) -> usize {
 }
 
 /// Where the part of a line between form feeds begins in which a place lies, and where it ends.
-fn part_round(line: &[u8], mark: usize) -> (usize, usize) {
+fn part_round(line: &[u8], onset: usize) -> (usize, usize) {
     let mut start = 0usize;
     for (at, byte) in line.iter().enumerate() {
         if *byte == FORM_FEED {
-            if at >= mark {
+            if at >= onset {
                 return (start, at);
             }
             start = at.saturating_add(1);
@@ -90,13 +90,13 @@ pub fn included_at<'t>(text: &'t [u8], table: &'t [u8], offset: usize) -> Option
         return None;
     }
     let line = line_of(text, offset);
-    let mark = offset.saturating_sub(line.start).min(line.bytes.len());
-    let feeds = feeds_before(line.bytes, mark);
+    let onset = offset.saturating_sub(line.start).min(line.bytes.len());
+    let feeds = feeds_before(line.bytes, onset);
     let row = row_at(table, line.number, feeds)?;
     if row.file.is_empty() {
         return None;
     }
-    let (start, end) = part_round(line.bytes, mark);
+    let (start, end) = part_round(line.bytes, onset);
     Some(Included {
         file: str::from_utf8(row.file).ok()?,
         line: Line {

@@ -17,11 +17,11 @@ ghost use Rattle.explain.specs.Request.{asked_for};
 
 use counts::{of_control, of_count, of_inline, of_label, of_range, of_start};
 use diagnostics::Refusal;
+use explain_cause::cause::{Cause, Finding};
+use explain_find::cause_of;
 use included::included_at;
 use message::Message;
 use names::{of_declared, of_twice, of_unknown};
-use pml_causes::cause::{Cause, Finding};
-use pml_refused::cause_of;
 use source_lines::position::shown_offset;
 use source_lines::shown::show_chars;
 use std::alloc::{AllocError, Global};

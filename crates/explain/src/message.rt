@@ -1,8 +1,8 @@
 //! Texts that are put together of words, names and numbers.
 
 use crate::included::{Included, included_at};
+use explain_cause::cause::Named;
 use itoa::Buffer;
-use pml_causes::cause::Named;
 use source_lines::position::{between, line_number};
 use source_lines::shown::{printable, show_chars};
 use source_lines::signs::{is_unseen, push_number};

@@ -2,7 +2,7 @@
 
 use crate::foreign::advice;
 use crate::message::Message;
-use pml_causes::cause::{Named, Sort, TwiceCause, UnknownCause, WrongCause};
+use explain_cause::cause::{Named, Sort, TwiceCause, UnknownCause, WrongCause};
 use std::alloc::AllocError;
 
 /// Of a name that is declared twice.

@@ -3,7 +3,7 @@
 use crate::foreign::{advice, tell_classes, tell_word};
 use crate::message::Message;
 use crate::names::TYPES;
-use pml_causes::cause::{Named, SyntaxCause, Wanted};
+use explain_cause::cause::{Named, SyntaxCause, Wanted};
 use source_lines::position::{column, line_of};
 use std::alloc::AllocError;
 

@@ -2,7 +2,7 @@
 
 use crate::ascii::{ANY, outside_of_ascii};
 use crate::message::Message;
-use pml_causes::cause::{Named, TextCause};
+use explain_cause::cause::{Named, TextCause};
 use profile::{MOST_IN_A_ROW, MOST_OPEN, MOST_TEXT_BYTES};
 use std::alloc::AllocError;
 

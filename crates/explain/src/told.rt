@@ -8,7 +8,7 @@ ghost use Rattle.explain.specs.Request.{request_of};
 
 use crate::included::included_at;
 use diagnostics::Refusal;
-use pml_causes::cause::Place;
+use explain_cause::cause::Segment;
 use source_lines::beside::{Seen, seen_in};
 use source_lines::position::{column, line_of, shown_offset};
 use source_lines::shown::{push_number, show_alone, show_chars, show_line};
@@ -51,10 +51,10 @@ pub fn push_refusal(out: &mut String, refusal: Refusal, words: &str) -> Result<(
 fn push_column(out: &mut String, seen: Seen<'_>) -> Result<(), AllocError>
     ensures { OnOk result (string_bytes out.new ≡ string_bytes out.old ++ column_said (sight_of seen.entry)) }
 {
-    match seen.mark {
-        Some(mark) => {
+    match seen.onset {
+        Some(onset) => {
             out.push_str(":")?;
-            push_number(out, column(seen.bytes, mark))
+            push_number(out, column(seen.bytes, onset))
         }
         None => Ok(()),
     }
@@ -64,8 +64,8 @@ fn push_column(out: &mut String, seen: Seen<'_>) -> Result<(), AllocError>
 fn push_lines(out: &mut String, number: usize, seen: Seen<'_>) -> Result<(), AllocError>
     ensures { OnOk result (string_bytes out.new ≡ string_bytes out.old ++ lines_shown number (sight_of seen.entry)) }
 {
-    match seen.mark {
-        Some(mark) => show_line(out, number, seen.bytes, mark, seen.length),
+    match seen.onset {
+        Some(onset) => show_line(out, number, seen.bytes, onset, seen.length),
         None => show_alone(out, number, seen.bytes),
     }
 }
@@ -110,7 +110,7 @@ pub fn told_alone(
 pub fn told_at(
     alloc: Global,
     asked: Asked<'_>,
-    place: Place,
+    place: Segment,
     refusal: Refusal,
     words: &str,
 ) -> Result<String, AllocError>
@@ -120,14 +120,14 @@ pub fn told_at(
     match included_at(asked.text, asked.lines, offset) {
         Some(included) => {
             let line = included.line;
-            let mark = offset.saturating_sub(line.start);
-            let seen = seen_in(asked.included, line.number, line.bytes, mark, place.length);
+            let onset = offset.saturating_sub(line.start);
+            let seen = seen_in(asked.included, line.number, line.bytes, onset, place.length);
             told_of(alloc, included.file, line.number, seen, refusal, words)
         }
         None => {
             let line = line_of(asked.text, offset);
-            let mark = offset.saturating_sub(line.start);
-            let seen = seen_in(asked.own, line.number, line.bytes, mark, place.length);
+            let onset = offset.saturating_sub(line.start);
+            let seen = seen_in(asked.own, line.number, line.bytes, onset, place.length);
             told_of(alloc, asked.name, line.number, seen, refusal, words)
         }
     }

@@ -1,14 +1,14 @@
 -- Closers, arguments and calls are those that are derived.
 use Rattle.std.proofs.Common.{◌≡◌, ℕ, zero, suc, ◌+◌, Bool, true, false, List, [], ◌∷◌, ◌++◌, length, Option, Some, None, refl, sym, ap, ◌∙◌, subst, arith, append_assoc, length-append}
-use Rattle.std.specs.Prelude.{◌≢◌, nat_eq, ◌&&◌, if◌then◌else◌, find}
+use Rattle.std.specs.List.{onto_first}
+use Rattle.std.specs.Prelude.{◌≢◌, nat_eq, ◌&&◌, if◌then◌else◌, find, option_map}
 use Rattle.std.specs.Str.{bytes_eq}
 use Rattle.std.proofs.lemmas.Bool.{eqb-true}
 use Rattle.std.proofs.lemmas.Slice.Eq.{bytes_eq-Decides}
 use Rattle.pml_token.specs.declared.token.Kind.{Kind}
 use Rattle.pml_token.specs.declared.token.Kind.TheVariants.{OpenParen, Comma}
 use Rattle.pml_token.specs.Word.{same_kind, Word}
-use Rattle.promela_text.specs.Inlines.{is_name, begins, one_more, to_closing, closing, level_behind, put, part_turn, parts, arguments, Inline}
-use Rattle.promela_text.specs.Expansion.{callee}
+use Rattle.promela_text.specs.Inlines.{is_name, begins, to_closing, closing, level_behind, part_turn, parts, arguments, Inline, callee}
 use Rattle.inline_laws.specs.Called.{Balanced, nothing, other, bracket, ClosesBehind, open_behind, IsPart, no_token, one_token, Split, last_part, one_part, AreArguments, no_argument, some_arguments, IsFirstOf, at_first, behind_other, IsCalled}
 
 pub some_is : {A : Type 0} (x y : A) → Some x ≡ Some y → x ≡ y
@@ -24,17 +24,17 @@ not_both b h k = cc
 
 more_by : ℕ → Option ℕ → Option ℕ
 more_by zero o = o
-more_by (suc k) o = one_more (more_by k o)
+more_by (suc k) o = option_map suc (more_by k o)
 
 more_some : (k : ℕ) → more_by k (Some 0) ≡ Some k
 unfolding more_by
 more_some zero = refl
-more_some (suc k) = ap one_more (more_some k)
+more_some (suc k) = ap (option_map suc) (more_some k)
 
 more_add : (k m : ℕ) (o : Option ℕ) → more_by k (more_by m o) ≡ more_by (k + m) o
 unfolding more_by
 more_add zero m o = let e : m ≡ 0 + m = omega arith in ap (λ (n : ℕ). more_by n o) e
-more_add (suc k) m o = let e : suc (k + m) ≡ suc k + m = omega arith in ap one_more (more_add k m o) ∙ ap (λ (n : ℕ). more_by n o) e
+more_add (suc k) m o = let e : suc (k + m) ≡ suc k + m = omega arith in ap (option_map suc) (more_add k m o) ∙ ap (λ (n : ℕ). more_by n o) e
 
 module _ (opener closer : Kind) where
   abbrev close : List Word → ℕ → Option ℕ
@@ -48,7 +48,7 @@ module _ (opener closer : Kind) where
   closes_now : (w : Word) (ws : List Word) → same_kind w.kind closer ≡ true → close (w ∷ ws) 0 ≡ Some 0
   closes_now w ws closes = turn_is w ws 0 true (same_kind w.kind opener) closes refl
 
-  closes_inner : (w : Word) (ws : List Word) (n : ℕ) → same_kind w.kind closer ≡ true → close (w ∷ ws) (suc n) ≡ one_more (close ws n)
+  closes_inner : (w : Word) (ws : List Word) (n : ℕ) → same_kind w.kind closer ≡ true → close (w ∷ ws) (suc n) ≡ option_map suc (close ws n)
   closes_inner w ws n closes = turn_is w ws (suc n) true (same_kind w.kind opener) closes refl
 
   -- balanced tokens are passed over
@@ -56,13 +56,13 @@ module _ (opener closer : Kind) where
   unfolding more_by
   passed xs ws n nothing = refl
   passed xs ws n (other {w = w} {ws = ys} not_closes not_opens rest) =
-      turn_is w (ys ++ ws) n false false not_closes not_opens ∙ ap one_more (passed ys ws n rest)
+      turn_is w (ys ++ ws) n false false not_closes not_opens ∙ ap (option_map suc) (passed ys ws n rest)
   passed xs ws n (bracket {w = w} {xs = ys} {ws = zs} v not_closes opens inner closes rest) =
       let size : suc (length ys + suc (length zs)) ≡ length (w ∷ (ys ++ v ∷ zs)) = grind (arith, length-append ys (v ∷ zs)) in
       turn_is w ((ys ++ v ∷ zs) ++ ws) n false true not_closes opens
-      ∙ ap (λ (l : List Word). one_more (close l (suc n))) (append_assoc ys (v ∷ zs) ws)
-      ∙ ap one_more (passed ys (v ∷ zs ++ ws) (suc n) inner
-      ∙ ap (more_by (length ys)) (closes_inner v (zs ++ ws) n closes ∙ ap one_more (passed zs ws n rest))
+      ∙ ap (λ (l : List Word). option_map suc (close l (suc n))) (append_assoc ys (v ∷ zs) ws)
+      ∙ ap (option_map suc) (passed ys (v ∷ zs ++ ws) (suc n) inner
+      ∙ ap (more_by (length ys)) (closes_inner v (zs ++ ws) n closes ∙ ap (option_map suc) (passed zs ws n rest))
       ∙ more_add (length ys) (suc (length zs)) (close ws n))
       ∙ ap (λ (k : ℕ). more_by k (close ws n)) size
 
@@ -122,7 +122,7 @@ module _ (opener closer : Kind) where
       let same : suc (j + 1 + i) + 1 + m ≡ suc (j + 1 + (i + 1 + m)) = omega arith in
       as_many (suc n') (w ∷ ws) (suc (j + 1 + i) + 1 + m) (suc (j + 1 + (i + 1 + m))) same (more (around w ws j i not_closes opens c d) rest)
 
-  one_less : (o : Option ℕ) (k : ℕ) → one_more o ≡ Some k → (j : ℕ) × (o ≡ Some j) × (suc j ≡ k)
+  one_less : (o : Option ℕ) (k : ℕ) → option_map suc o ≡ Some k → (j : ℕ) × (o ≡ Some j) × (suc j ≡ k)
   one_less None k h = absurd (none_is_not k h)
   one_less (Some j) k h = (j, refl, some_is (suc j) k h)
 
@@ -160,7 +160,7 @@ and_true false b h = absurd (not_both false h refl)
 is_zero : (n : ℕ) → nat_eq n 0 ≡ true → n ≡ 0
 is_zero n h = eqb-true n 0 h
 
-put_in : (w : Word) (ws : List Word) (ps : List (List Word)) (n : ℕ) → (same_kind w.kind Comma && nat_eq n 0) ≡ false → Split (level_behind n w.kind) ws ps → Split n (w ∷ ws) (put w ps)
+put_in : (w : Word) (ws : List Word) (ps : List (List Word)) (n : ℕ) → (same_kind w.kind Comma && nat_eq n 0) ≡ false → Split (level_behind n w.kind) ws ps → Split n (w ∷ ws) (onto_first w ps)
 put_in w ws ps n stays (last_part part) = last_part (one_token stays part)
 put_in w ws ps n stays (one_part v part none comma rest) = one_part v (one_token stays part) none comma rest
 
@@ -176,13 +176,13 @@ parts_are (w ∷ ws) n = by (same_kind w.kind Comma && nat_eq n 0) refl (parts_a
 one_whole : (xs : List Word) (n : ℕ) → IsPart n xs → parts xs n ≡ xs ∷ []
 one_whole xs n no_token = refl
 one_whole xs n (one_token {w = w} {ws = ws} stays part) =
-    ap (λ (t : Bool). part_turn t w (parts ws) n) stays ∙ ap (put w) (one_whole ws (level_behind n w.kind) part)
+    ap (λ (t : Bool). part_turn t w (parts ws) n) stays ∙ ap (onto_first w) (one_whole ws (level_behind n w.kind) part)
 
 up_to_comma : (xs ws : List Word) (v : Word) (n : ℕ) → IsPart n xs → open_behind n xs ≡ 0 → same_kind v.kind Comma ≡ true → parts (xs ++ v ∷ ws) n ≡ xs ∷ parts ws 0
 up_to_comma xs ws v n no_token none comma =
     ap (parts (v ∷ ws)) none ∙ ap (λ (t : Bool). part_turn (t && nat_eq 0 0) v (parts ws) 0) comma
 up_to_comma xs ws v n (one_token {w = w} {ws = ys} stays part) none comma =
-    ap (λ (t : Bool). part_turn t w (parts (ys ++ v ∷ ws)) n) stays ∙ ap (put w) (up_to_comma ys ws v (level_behind n w.kind) part none comma)
+    ap (λ (t : Bool). part_turn t w (parts (ys ++ v ∷ ws)) n) stays ∙ ap (onto_first w) (up_to_comma ys ws v (level_behind n w.kind) part none comma)
 
 pub are_parts : (ws : List Word) (n : ℕ) (ps : List (List Word)) → Split n ws ps → parts ws n ≡ ps
 are_parts ws n ps (last_part part) = one_whole ws n part

@@ -1,6 +1,6 @@
 -- A definition is found exactly where its tokens stand.
 use Rattle.std.proofs.Common.{◌≡◌, ℕ, suc, ◌+◌, ◌*◌, ◌<◌, ◌≤◌, Bool, true, false, List, [], ◌∷◌, length, take, drop, nat_eq, Option, Some, None, refl, sym, ap, subst, ◌∙◌, arith, if◌then◌else◌, rules}
-use Rattle.std.specs.Prelude.{not, ◌&&◌}
+use Rattle.std.specs.Prelude.{not, ◌&&◌, option_and_then, option_map}
 use Rattle.std.proofs.lemmas.Bool.{false≢true}
 use Rattle.std.proofs.lemmas.Bool.Decides.{nat_tests}
 use Rattle.std.proofs.lemmas.List.{length-drop}
@@ -9,7 +9,8 @@ use Rattle.pml_token.specs.contracts.token.Kind.{the_type}
 use Rattle.pml_token.specs.declared.token.Kind.{Kind}
 use Rattle.pml_token.specs.declared.token.Kind.TheVariants.{Name, OpenParen, CloseParen, OpenBrace, CloseBrace, Comma}
 use Rattle.pml_token.specs.Word.{same_kind, Word}
-use Rattle.promela_text.specs.Inlines.{is_name, has_inline, begins, closing, Inline, all_differ, and_name, names, parameters, listed, with_end, with_body, with_parameters, definition}
+use Rattle.promela_text.specs.Inlines.{is_name, has_inline, begins, closing, Inline, all_differ, names, parameters, listed, with_end, with_body, definition}
+use Rattle.pml_inline.proofs.Words.{with_parameters}
 use Rattle.pml_inline.proofs.Lists.{closing_within}
 use Rattle.inline_laws.specs.Defined.{Names, last_name, one_name, Parameters, no_parameter, some_parameters, IsDefinition, DefinitionsAreAsWritten}
 
@@ -55,23 +56,23 @@ name_is_no_close v h = ap (λ (k : Kind). same_kind k CloseParen) (same_true the
 -- the names that are found are those that stand there
 names_are : {ws rest : List Word} {ns : List (List ℕ)} → Names ws ns rest → names ws ≡ Some ns
 names_are (last_name named close) = rw (named, close) refl
-names_are (one_name {w = w} {v = v} {ws = ws} named comma more) = rw (named, comma_is_no_close v comma, comma) (ap (and_name w.text) (names_are more))
+names_are (one_name {w = w} {v = v} {ws = ws} named comma more) = rw (named, comma_is_no_close v comma, comma) (ap (option_map (λ ns. w.text ∷ ns)) (names_are more))
 
 abbrev NamesThere : List Word → List (List ℕ) → Type 0
 NamesThere ws ns = (rest : List Word) × Names ws ns rest
 
 more_there : (w v : Word) (ws : List Word) (ns : List (List ℕ)) → ((ms : List (List ℕ)) → names ws ≡ Some ms → NamesThere ws ms) → (o : Option (List (List ℕ))) → names ws ≡ o
-    → is_name w ≡ true → same_kind v.kind Comma ≡ true → and_name w.text o ≡ Some ns → NamesThere (w ∷ v ∷ ws) ns
+    → is_name w ≡ true → same_kind v.kind Comma ≡ true → option_map (λ ns. w.text ∷ ns) o ≡ Some ns → NamesThere (w ∷ v ∷ ws) ns
 more_there w v ws ns there None is named comma e = cc
 more_there w v ws ns there (Some ms) is named comma e =
     let rest = there ms is in
     (rest.0, subst (λ (l : List (List ℕ)). Names (w ∷ v ∷ ws) l rest.0) (same_some (w.text ∷ ms) ns e) (one_name named comma rest.1))
 
 by_close : (w v : Word) (ws : List Word) (ns : List (List ℕ)) → ((ms : List (List ℕ)) → names ws ≡ Some ms → NamesThere ws ms) → (b : Bool) → same_kind v.kind CloseParen ≡ b → is_name w ≡ true
-    → (if b then Some (w.text ∷ []) else (if same_kind v.kind Comma then and_name w.text (names ws) else None)) ≡ Some ns → NamesThere (w ∷ v ∷ ws) ns
+    → (if b then Some (w.text ∷ []) else (if same_kind v.kind Comma then option_map (λ ns. w.text ∷ ns) (names ws) else None)) ≡ Some ns → NamesThere (w ∷ v ∷ ws) ns
 by_close w v ws ns there true close named e = (ws, subst (λ (l : List (List ℕ)). Names (w ∷ v ∷ ws) l ws) (same_some (w.text ∷ []) ns e) (last_name named close))
 by_close w v ws ns there false close named e =
-    let second = taken (same_kind v.kind Comma) (and_name w.text (names ws)) ns e in
+    let second = taken (same_kind v.kind Comma) (option_map (λ ns. w.text ∷ ns) (names ws)) ns e in
     more_there w v ws ns there (names ws) refl named second.0 second.1
 
 names_there : (ws : List Word) (ns : List (List ℕ)) → names ws ≡ Some ns → NamesThere ws ns
@@ -128,7 +129,7 @@ brace_within (w ∷ ws) n braced closed = let l = closing_within OpenBrace Close
 
 module _ (w v : Word) (inner : List Word) (d : Inline) (named : is_name w ≡ true) (opened : same_kind v.kind OpenParen ≡ true) where
   from_end : (ps : List (List ℕ)) (body_on : List Word) → Parameters inner ps body_on → begins OpenBrace body_on ≡ true
-      → (o : Option ℕ) → closing OpenBrace CloseBrace (drop 1 body_on) 0 ≡ o → with_end w.text ps body_on o ≡ Some d → IsDefinition (w ∷ v ∷ inner) d
+      → (o : Option ℕ) → closing OpenBrace CloseBrace (drop 1 body_on) 0 ≡ o → option_and_then (with_end w.text ps body_on) o ≡ Some d → IsDefinition (w ∷ v ∷ inner) d
   from_end ps body_on there braced None closed h = cc
   from_end ps body_on there braced (Some n) closed h =
       let right = taken (all_differ ps && not (has_inline (take (n + 2) body_on))) _ d h in
@@ -159,7 +160,7 @@ module _ (w v : Word) (inner : List Word) (d : Inline) (named : is_name w ≡ tr
   from_parameters (Some ps) is h =
       let there = parameters_there inner ps is in
       let body : with_body w.text ps there.0 ≡ Some d = subst (λ (ts : List Word). with_body w.text ps ts ≡ Some d) (parameters_behind there.1) h in
-      let brace = taken (begins OpenBrace there.0) (with_end w.text ps there.0 (closing OpenBrace CloseBrace (drop 1 there.0) 0)) d body in
+      let brace = taken (begins OpenBrace there.0) (option_and_then (with_end w.text ps there.0) (closing OpenBrace CloseBrace (drop 1 there.0) 0)) d body in
       from_end ps there.0 there.1 brace.0 (closing OpenBrace CloseBrace (drop 1 there.0) 0) refl brace.1
 
 written : (ws : List Word) (d : Inline) → definition ws ≡ Some d → IsDefinition ws d

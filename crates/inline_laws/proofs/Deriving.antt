@@ -4,8 +4,8 @@ use Rattle.std.specs.Prelude.{not, ◌&&◌}
 use Rattle.std.proofs.Math.Seq.{drop-nil}
 use Rattle.pml_token.specs.declared.token.Kind.TheVariants.{OpenParen, CloseParen}
 use Rattle.pml_token.specs.Word.{Word}
-use Rattle.promela_text.specs.Inlines.{closing, arguments, Inline, is_among}
-use Rattle.promela_text.specs.Expansion.{Given, join, itself, counted, callee, calling, enclosed, fits, reading, turn, where_right}
+use Rattle.promela_text.specs.Inlines.{closing, arguments, Inline, is_among, Given, join, itself, callee, calling, fits, reading, turn, where_right}
+use Rattle.pml_inline.proofs.Words.{enclosed, counted}
 use Rattle.inline_laws.specs.Derived.{Comes, nothing_left, stays, is_replaced, IsRight, inside, body_of, answered}
 
 passing : (known : List Inline) (call : Inline → List Word → Option Given) (ws : List Word) (n : ℕ) → reading known call ws n ≡ reading known call (drop n ws) 0

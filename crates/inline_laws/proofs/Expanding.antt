@@ -1,12 +1,12 @@
 -- What comes of a text's tokens is what the rules derive, and nothing else.
 use Rattle.std.proofs.Common.{◌≡◌, ℕ, zero, suc, ◌+◌, ◌-◌, ◌<◌, ◌≤◌, Bool, true, false, List, [], ◌∷◌, ◌++◌, length, map, drop, Option, Some, None, refl, sym, ap, ◌∙◌, subst, arith, if◌then◌else◌, nat_le}
-use Rattle.std.specs.Prelude.{◌&&◌}
+use Rattle.std.specs.Prelude.{◌&&◌, option_map}
 use Rattle.std.proofs.lemmas.Bool.Decides.{nat_tests}
 use Rattle.profile.specs.declared.TheConstants.{MOST_CALLS, MOST_REPLACED}
 use Rattle.pml_token.specs.declared.token.Kind.TheVariants.{OpenParen, CloseParen}
 use Rattle.pml_token.specs.Word.{Word}
-use Rattle.promela_text.specs.Inlines.{is_inline, has_inline, is_name, begins, closing, Inline, all_differ, and_inline, define, definition, definition_turn, definitions}
-use Rattle.promela_text.specs.Expansion.{Given, join, itself, counted, nothing, callee, calling, braces_behind, by_definitions, defined, expansion, limited, outermost, text_turn, texts}
+use Rattle.promela_text.specs.Inlines.{is_inline, has_inline, is_name, begins, closing, Inline, all_differ, definition, definition_turn, definitions, Given, join, itself, callee, calling, braces_behind, defined, expansion, limited, outermost, text_turn, texts}
+use Rattle.pml_inline.proofs.Words.{by_definitions, define, nothing, counted}
 use Rattle.pml_inline.proofs.Lists.{definitions_passing, over_call}
 use Rattle.inline_laws.specs.Derived.{inside, body_of}
 use Rattle.inline_laws.specs.Expanded.{Leave, nothing_left, stays, is_called, is_defined, IsLeft, ExpansionsAreDerived, DerivedAreExpansions}
@@ -54,7 +54,7 @@ own_are (stays {w = w} {ws = ws} plain none rest) = ap (λ (b : Bool). definitio
 own_are (is_called {known = known} {m = m} {w = w} {ws = ws} {d = d} plain called closed none right body rest) = over known w ws d m plain called closed none ∙ own_are rest
 own_are (is_defined {w = w} {ws = ws} {d = d} here is rest) =
     ap (λ (b : Bool). definition_turn 0 b (definition ws) (definitions ws)) here ∙ ap (λ (o : Option Inline). define o (definitions ws)) is
-    ∙ ap (and_inline d) (definitions_passing ws d.size ∙ own_are rest)
+    ∙ ap (option_map (λ ds. d ∷ ds)) (definitions_passing ws d.size ∙ own_are rest)
 
 left_is : {known own : List Inline} {n c : ℕ} {ts us : List Word} → Leave known n ts own us c → texts ts known own n 0 ≡ Some (record { tokens = us; count = c })
 left_is nothing_left = refl
@@ -100,7 +100,7 @@ front_parts : (o : Option Inline) (ws : List Word) (ds : List Inline) → define
 front_parts None ws ds e = absurd (none_list ds e)
 front_parts (Some d) ws ds e = by (definitions ws d.size) refl e
   where
-    by : (o : Option (List Inline)) → definitions ws d.size ≡ o → and_inline d o ≡ Some ds
+    by : (o : Option (List Inline)) → definitions ws d.size ≡ o → option_map (λ ds. d ∷ ds) o ≡ Some ds
         → (c : Inline) × (own : List Inline) × (Some d ≡ Some c) × (definitions (drop c.size ws) 0 ≡ Some own) × (ds ≡ c ∷ own)
     by None is h = absurd (none_list ds h)
     by (Some own) is h = (d, own, refl, sym (definitions_passing ws d.size) ∙ is, sym (some_list (d ∷ own) ds h))

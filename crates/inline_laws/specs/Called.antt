@@ -3,8 +3,7 @@ use Rattle.std.specs.Prelude.{◌≡◌, ◌≢◌, ℕ, nat_eq, true, false, �
 use Rattle.pml_token.specs.declared.token.Kind.{Kind}
 use Rattle.pml_token.specs.declared.token.Kind.TheVariants.{OpenParen, Comma}
 use Rattle.pml_token.specs.Word.{same_kind, Word}
-use Rattle.promela_text.specs.Inlines.{is_name, begins, closing, level_behind, arguments, Inline}
-use Rattle.promela_text.specs.Expansion.{callee}
+use Rattle.promela_text.specs.Inlines.{is_name, begins, closing, level_behind, arguments, Inline, callee}
 
 -- ---- what closes a bracket
 

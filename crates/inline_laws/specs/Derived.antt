@@ -2,8 +2,7 @@
 use Rattle.std.specs.Prelude.{◌≡◌, ℕ, suc, ◌+◌, true, not, ◌&&◌, List, [], ◌∷◌, ◌++◌, length, take, drop, Option, None, Some}
 use Rattle.pml_token.specs.declared.token.Kind.TheVariants.{OpenParen, CloseParen}
 use Rattle.pml_token.specs.Word.{Word}
-use Rattle.promela_text.specs.Inlines.{closing, arguments, Inline, is_among}
-use Rattle.promela_text.specs.Expansion.{Given, callee, calling, fits, reading, replaced}
+use Rattle.promela_text.specs.Inlines.{closing, arguments, Inline, is_among, Given, callee, calling, fits, reading, replaced}
 
 -- the tokens between the parentheses of a call, of which n are
 abbrev pub inside : ℕ → List Word → List Word

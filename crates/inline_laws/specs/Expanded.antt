@@ -3,8 +3,7 @@ use Rattle.std.specs.Prelude.{◌≡◌, ◌≤◌, ℕ, ◌+◌, ◌-◌, true,
 use Rattle.profile.specs.declared.TheConstants.{MOST_CALLS, MOST_REPLACED}
 use Rattle.pml_token.specs.declared.token.Kind.TheVariants.{OpenParen, CloseParen}
 use Rattle.pml_token.specs.Word.{Word}
-use Rattle.promela_text.specs.Inlines.{is_inline, has_inline, closing, Inline, all_differ, definition}
-use Rattle.promela_text.specs.Expansion.{callee, Expands, braces_behind}
+use Rattle.promela_text.specs.Inlines.{is_inline, has_inline, closing, Inline, all_differ, definition, callee, Expands, braces_behind}
 use Rattle.inline_laws.specs.Derived.{Comes, IsRight, inside, body_of}
 
 -- Of the first tokens, with these definitions in them, come the second, by replacements of so many tokens in all, where these inlines are known

@@ -1,8 +1,7 @@
 -- What stands in place of the tokens of a body, by rules.
 use Rattle.std.specs.Prelude.{◌≡◌, ◌≢◌, ℕ, suc, true, List, [], ◌∷◌, ◌++◌, slice_get, Some, None}
 use Rattle.pml_token.specs.Word.{Word}
-use Rattle.promela_text.specs.Inlines.{is_name, Inline}
-use Rattle.promela_text.specs.Expansion.{replaced}
+use Rattle.promela_text.specs.Inlines.{is_name, Inline, replaced}
 
 -- so many of these names stand before the first that is this one
 pub data StandsBehind (name : List ℕ) : List (List ℕ) → ℕ → Type 0 where

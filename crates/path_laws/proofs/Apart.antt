@@ -2,7 +2,7 @@
 use Rattle.std.proofs.Common.{◌≡◌, ℕ, zero, suc, ◌+◌, ◌<◌, Bool, true, false, List, [], ◌∷◌, ◌++◌, Some, slice_get, refl, sym, ap, ◌∙◌, arith}
 use Rattle.promela_run.specs.declared.moves.Move.{Move}
 use Rattle.promela_run.specs.Moves.{or_else, each, last, only_if}
-use Rattle.pml_moves.specs.Laws.{Each}
+use Rattle.run_search.specs.Laws.{Each}
 use Rattle.path_laws.specs.OneRecord.{StandOnce}
 
 -- it stands nowhere in the list

@@ -4,14 +4,15 @@ use Rattle.std.specs.Prelude.{slice_get}
 use Rattle.pml_program.specs.declared.program.Stmt.{Stmt}
 use Rattle.pml_program.specs.declared.program.Seq.{Seq, Seq', Row_of-Stmt, end_of-Stmt, more_of-Stmt, items-the_row-Stmt}
 use Rattle.pml_program.specs.declared.program.Basic.{Basic, Plain, Goto, Break, If', Do', Block, Atomic, DStep, Unless, Row_of-Seq, end_of-Seq, more_of-Seq, items-the_row-Seq}
-use Rattle.promela_process.specs.Control.{Place, Turn, Control, Todo, Back, Under, InAtomic, InDStep, steps, steps_of, part, turn, todos, behind, behind_of, into, basic_of, basic_at, sequence, beyond, at, all_of, place_of, at_place, broken, in_d_step, move_on, go_on, settle_within, settle, most_moves}
+use Rattle.promela_process.specs.Control.{Position, Descent, Control, Todo, Back, Under, InAtomic, InDStep, steps, arm, descent, todos, behind, into, basic_at, sequence, beyond, at, all_of, position_of, broken, in_d_step, move_on, settle_within, settle, most_moves}
+use Rattle.pml_control.proofs.Words.{steps_of, behind_of, basic_of, at_position, go_on}
 use Rattle.promela_process.specs.Offers.{Edge, Levels, one, join, begins, begins_seq, begins_row, begins_any, escapes, offers}
-use Rattle.pml_control.proofs.Places.{part_there}
+use Rattle.pml_control.proofs.Positions.{arm_there}
 use Rattle.pml_control.proofs.Reaching.{first_of, rest_of, zero_plus, plus_zero, plus_one}
 
 module _ (b : Seq) where
   -- this statement stands at the place
-  abbrev pub IsStated : Place → Basic → Type 0
+  abbrev pub IsStated : Position → Basic → Type 0
   IsStated p s = basic_at (sequence (steps b) p.0) p.1 ≡ Some s
 
   -- each frame is of a statement that stands at its place
@@ -25,12 +26,12 @@ module _ (b : Seq) where
 
   -- ---- from a place on
 
-  todos_fit : (q : List Turn) (i : ℕ) (ss : List Stmt) (c : Control) → drop i (sequence (steps b) q) ≡ ss → Fits c → Fits (todos q i ss c)
+  todos_fit : (q : List Descent) (i : ℕ) (ss : List Stmt) (c : Control) → drop i (sequence (steps b) q) ≡ ss → Fits c → Fits (todos q i ss c)
   todos_fit q i [] c is f = f
   todos_fit q i (s ∷ ss) c is f =
       (ap basic_of (first_of (sequence (steps b) q) i s ss is), todos_fit q (i + 1) ss c (rest_of (sequence (steps b) q) i s ss is) f)
 
-  behind_fits : (p : Place) (s : Basic) (k : ℕ) (c : Control) → IsStated p s → Fits c → Fits (behind p s k c)
+  behind_fits : (p : Position) (s : Basic) (k : ℕ) (c : Control) → IsStated p s → Fits c → Fits (behind p s k c)
   behind_fits p (Do' m row) k c is f = (is, f)
   behind_fits p (Atomic s) k c is f = f
   behind_fits p (DStep s) k c is f = f
@@ -42,10 +43,10 @@ module _ (b : Seq) where
   behind_fits p (If' m row) k c is f = f
   behind_fits p (Block s) k c is f = f
 
-  into_fits : (p : Place) (s : Basic) (k : ℕ) (c : Control) → IsStated p s → Fits c → Fits (into p s k c)
-  into_fits p s k c is f = todos_fit (turn p k) 0 (part s k) (behind p s k c) (part_there (steps b) p.0 p.1 k s is) (behind_fits p s k c is f)
+  into_fits : (p : Position) (s : Basic) (k : ℕ) (c : Control) → IsStated p s → Fits c → Fits (into p s k c)
+  into_fits p s k c is f = todos_fit (descent p k) 0 (arm s k) (behind p s k c) (arm_there (steps b) p.0 p.1 k s is) (behind_fits p s k c is f)
 
-  beyond_fits : (q : List Turn) → Fits (beyond (steps b) q)
+  beyond_fits : (q : List Descent) → Fits (beyond (steps b) q)
   beyond_fits [] = tt
   beyond_fits (t ∷ q) =
       by (slice_get (sequence (steps b) q) t.0) refl (todos_fit q (t.0 + 1) (drop (t.0 + 1) (sequence (steps b) q)) (beyond (steps b) q) refl (beyond_fits q))
@@ -55,7 +56,7 @@ module _ (b : Seq) where
       by None e f = tt
       by (Some s) e f = behind_fits (q, t.0) s.basic t.1 (todos q (t.0 + 1) (drop (t.0 + 1) (sequence (steps b) q)) (beyond (steps b) q)) (ap basic_of e) f
 
-  pub at_fits : (p : Place) → Fits (at (steps b) p)
+  pub at_fits : (p : Position) → Fits (at (steps b) p)
   at_fits p = todos_fit p.0 p.1 (drop p.1 (sequence (steps b) p.0)) (beyond (steps b) p.0) refl (beyond_fits p.0)
 
   -- ---- settling
@@ -72,13 +73,13 @@ module _ (b : Seq) where
   broken_fits (InAtomic p ∷ c) f = broken_fits c f
   broken_fits (InDStep p ∷ c) f = broken_fits c f
 
-  place_fits : (o : Option Place) → Fits (at_place (steps b) o)
+  place_fits : (o : Option Position) → Fits (at_position (steps b) o)
   place_fits None = tt
   place_fits (Some p) = at_fits p
 
   move_fits : (c : Control) → Fits c → MoveFits (move_on b c)
   move_fits [] f = tt
-  move_fits (Todo p (Goto w) ∷ c) f = place_fits (place_of w.text (all_of b))
+  move_fits (Todo p (Goto w) ∷ c) f = place_fits (position_of w.text (all_of b))
   move_fits (Todo p Break ∷ c) f = broken_fits c f.1
   move_fits (Todo p (Block s) ∷ c) f = into_fits p (Block s) 0 c f.0 f.1
   move_fits (Todo p (Atomic s) ∷ c) f = into_fits p (Atomic s) 0 c f.0 f.1
@@ -135,56 +136,56 @@ module _ (b : Seq) where
   join_sound (x ∷ xs) [] h k = h
   join_sound (x ∷ xs) (y ∷ ys) h k = (both_sound x y h.0 k.0, join_sound xs ys h.1 k.1)
 
-  one_sound : (p : Place) (s : Basic) (c : Control) → IsStated p s → Fits c → Sound (one p c)
+  one_sound : (p : Position) (s : Basic) (c : Control) → IsStated p s → Fits c → Sound (one p c)
   one_sound p s c is f = ((((s, is), f), tt), tt)
 
-  -- the statements of each option, the first of which is part k
-  abbrev Options : {n : _} → Place → ℕ → Row_of-Seq n → Type 0
-  Options p k row = (j : ℕ) → sequence (steps b) (turn p (k + j)) ≡ steps_of (slice_get (items-the_row-Seq _ row) j)
+  -- the statements of each option, the first of which is arm k
+  abbrev Options : {n : _} → Position → ℕ → Row_of-Seq n → Type 0
+  Options p k row = (j : ℕ) → sequence (steps b) (descent p (k + j)) ≡ steps_of (slice_get (items-the_row-Seq _ row) j)
 
-  options_of : {n : _} (p : Place) (s : Basic) (row : Row_of-Seq n) → ((j : ℕ) → sequence (steps b) (turn p j) ≡ steps_of (slice_get (items-the_row-Seq _ row) j)) → Options p 0 row
-  options_of p s row each j = ap (λ (k : ℕ). sequence (steps b) (turn p k)) (zero_plus j) ∙ each j
+  options_of : {n : _} (p : Position) (s : Basic) (row : Row_of-Seq n) → ((j : ℕ) → sequence (steps b) (descent p j) ≡ steps_of (slice_get (items-the_row-Seq _ row) j)) → Options p 0 row
+  options_of p s row each j = ap (λ (k : ℕ). sequence (steps b) (descent p k)) (zero_plus j) ∙ each j
 
   mutual
-    begin_sound : (p : Place) (s : Basic) (c : Control) → IsStated p s → Fits c → Sound (begins b p s c)
+    begin_sound : (p : Position) (s : Basic) (c : Control) → IsStated p s → Fits c → Sound (begins b p s c)
     begin_sound p (Plain a) c is f = one_sound p (Plain a) (settle b c) is (settle_fits c f)
     begin_sound p (Goto x) c is f = one_sound p (Goto x) (settle b (Todo p (Goto x) ∷ c)) is (settle_fits (Todo p (Goto x) ∷ c) (is, f))
     begin_sound p Break c is f = one_sound p Break (settle b (Todo p Break ∷ c)) is (settle_fits (Todo p Break ∷ c) (is, f))
-    begin_sound p (If' m row) c is f = any_sound p 0 row c (options_of p (If' m row) row (λ j. part_there (steps b) p.0 p.1 j (If' m row) is)) f
-    begin_sound p (Do' m row) c is f = any_sound p 0 row (Back p (Do' m row) ∷ c) (options_of p (Do' m row) row (λ j. part_there (steps b) p.0 p.1 j (Do' m row) is)) (is, f)
-    begin_sound p (Block s) c is f = seq_sound (turn p 0) s c (part_there (steps b) p.0 p.1 0 (Block s) is) f
-    begin_sound p (Atomic s) c is f = seq_sound (turn p 0) s (InAtomic p ∷ c) (part_there (steps b) p.0 p.1 0 (Atomic s) is) f
-    begin_sound p (DStep s) c is f = by (in_d_step c) (seq_sound (turn p 0) s (InDStep p ∷ c) (part_there (steps b) p.0 p.1 0 (DStep s) is) f)
+    begin_sound p (If' m row) c is f = any_sound p 0 row c (options_of p (If' m row) row (λ j. arm_there (steps b) p.0 p.1 j (If' m row) is)) f
+    begin_sound p (Do' m row) c is f = any_sound p 0 row (Back p (Do' m row) ∷ c) (options_of p (Do' m row) row (λ j. arm_there (steps b) p.0 p.1 j (Do' m row) is)) (is, f)
+    begin_sound p (Block s) c is f = seq_sound (descent p 0) s c (arm_there (steps b) p.0 p.1 0 (Block s) is) f
+    begin_sound p (Atomic s) c is f = seq_sound (descent p 0) s (InAtomic p ∷ c) (arm_there (steps b) p.0 p.1 0 (Atomic s) is) f
+    begin_sound p (DStep s) c is f = by (in_d_step c) (seq_sound (descent p 0) s (InDStep p ∷ c) (arm_there (steps b) p.0 p.1 0 (DStep s) is) f)
       where
-        by : (t : Bool) → Sound (begins_seq b (turn p 0) s (InDStep p ∷ c)) → Sound (if t then begins_seq b (turn p 0) s (InDStep p ∷ c) else one p (settle b c))
+        by : (t : Bool) → Sound (begins_seq b (descent p 0) s (InDStep p ∷ c)) → Sound (if t then begins_seq b (descent p 0) s (InDStep p ∷ c) else one p (settle b c))
         by true h = h
         by false h = one_sound p (DStep s) (settle b c) is (settle_fits c f)
     begin_sound p (Unless s e) c is f =
-        levels_sound (begins_seq b (turn p 0) s (Under p e ∷ c)) (begins_seq b (turn p 1) e c)
-        (seq_sound (turn p 0) s (Under p e ∷ c) (part_there (steps b) p.0 p.1 0 (Unless s e) is) ((s, is), f))
-        (seq_sound (turn p 1) e c (part_there (steps b) p.0 p.1 1 (Unless s e) is) f)
+        levels_sound (begins_seq b (descent p 0) s (Under p e ∷ c)) (begins_seq b (descent p 1) e c)
+        (seq_sound (descent p 0) s (Under p e ∷ c) (arm_there (steps b) p.0 p.1 0 (Unless s e) is) ((s, is), f))
+        (seq_sound (descent p 1) e c (arm_there (steps b) p.0 p.1 1 (Unless s e) is) f)
 
-    seq_sound : (q : List Turn) (s : Seq) (c : Control) → sequence (steps b) q ≡ steps s → Fits c → Sound (begins_seq b q s c)
+    seq_sound : (q : List Descent) (s : Seq) (c : Control) → sequence (steps b) q ≡ steps s → Fits c → Sound (begins_seq b q s c)
     seq_sound q (Seq' m row) c is f = row_sound q row c is f
 
-    row_sound : {n : _} (q : List Turn) (row : Row_of-Stmt n) (c : Control) → sequence (steps b) q ≡ items-the_row-Stmt _ row → Fits c → Sound (begins_row b q row c)
+    row_sound : {n : _} (q : List Descent) (row : Row_of-Stmt n) (c : Control) → sequence (steps b) q ≡ items-the_row-Stmt _ row → Fits c → Sound (begins_row b q row c)
     row_sound q end_of-Stmt c is f = tt
     row_sound q (more_of-Stmt ls s ts rest) c is f =
         begin_sound (q, 0) s (todos q 1 (items-the_row-Stmt _ rest) c) (ap (λ (xs : List Stmt). basic_at xs 0) is)
         (todos_fit q 1 (items-the_row-Stmt _ rest) c (ap (drop 1) is) f)
 
-    any_sound : {n : _} (p : Place) (k : ℕ) (row : Row_of-Seq n) (c : Control) → Options p k row → Fits c → Sound (begins_any b p k row c)
+    any_sound : {n : _} (p : Position) (k : ℕ) (row : Row_of-Seq n) (c : Control) → Options p k row → Fits c → Sound (begins_any b p k row c)
     any_sound p k end_of-Seq c is f = tt
     any_sound p k (more_of-Seq s rest) c is f =
-        join_sound (begins_seq b (turn p k) s c) (begins_any b p (k + 1) rest c)
-        (seq_sound (turn p k) s c (ap (λ (j : ℕ). sequence (steps b) (turn p j)) (sym (plus_zero k)) ∙ is 0) f)
-        (any_sound p (k + 1) rest c (λ j. ap (λ (i : ℕ). sequence (steps b) (turn p i)) (plus_one k j) ∙ is (suc j)) f)
+        join_sound (begins_seq b (descent p k) s c) (begins_any b p (k + 1) rest c)
+        (seq_sound (descent p k) s c (ap (λ (j : ℕ). sequence (steps b) (descent p j)) (sym (plus_zero k)) ∙ is 0) f)
+        (any_sound p (k + 1) rest c (λ j. ap (λ (i : ℕ). sequence (steps b) (descent p i)) (plus_one k j) ∙ is (suc j)) f)
 
   escapes_sound : (c : Control) → Fits c → Sound (escapes b c)
   escapes_sound [] f = tt
   escapes_sound (InDStep p ∷ c) f = tt
   escapes_sound (Under p e ∷ c) f =
-      levels_sound (begins_seq b (turn p 1) e c) (escapes b c) (seq_sound (turn p 1) e c (part_there (steps b) p.0 p.1 1 (Unless f.0.0 e) f.0.1) f.1) (escapes_sound c f.1)
+      levels_sound (begins_seq b (descent p 1) e c) (escapes b c) (seq_sound (descent p 1) e c (arm_there (steps b) p.0 p.1 1 (Unless f.0.0 e) f.0.1) f.1) (escapes_sound c f.1)
   escapes_sound (Todo p s ∷ c) f = escapes_sound c f.1
   escapes_sound (Back p s ∷ c) f = escapes_sound c f.1
   escapes_sound (InAtomic p ∷ c) f = escapes_sound c f

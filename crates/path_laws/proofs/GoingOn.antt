@@ -4,7 +4,7 @@ use Rattle.std.specs.Prelude.{slice_index_or}
 use Rattle.std.specs.List.{Contains}
 use Rattle.std.proofs.lemmas.Option.{slice_get-get_or}
 use Rattle.promela_session.specs.Session.{Rules, Goes}
-use Rattle.pml_play.specs.Run.{Turn, IsChosen, IsPath, last_state}
+use Rattle.pml_play.specs.Run.{Leg, IsChosen, IsPath, last_state}
 use Rattle.path_laws.specs.GoesOn.{path_and, PathsGoOnByMoves}
 
 -- a move that is listed is chosen by some numbers
@@ -17,7 +17,7 @@ chosen (a ∷ []) m (k, within, is) = ([], (refl, only k within is))
 chosen (a ∷ b ∷ more) m (k, within, is) = ((k + 1) ∷ [], (k, refl, slice_get-get_or (a ∷ b ∷ more) k m within ∙ ap Some is))
 
 module _ {S M : Type 0} (rules : Rules S M) where
-  on_by : (s t : S) (path : List (Turn S M)) (numbers printed : List ℕ) (m : M) → IsPath rules s path numbers → rules.step (last_state s path) m ≡ Goes t printed
+  on_by : (s t : S) (path : List (Leg S M)) (numbers printed : List ℕ) (m : M) → IsPath rules s path numbers → rules.step (last_state s path) m ≡ Goes t printed
       → (there : Contains (rules.moves (last_state s path)) m) → IsPath rules s (path_and path m t) (numbers ++ (chosen (rules.moves (last_state s path)) m there).0)
   on_by s t [] numbers printed m is goes there =
       let c = chosen (rules.moves s) m there in
@@ -26,7 +26,7 @@ module _ {S M : Type 0} (rules : Rules S M) where
       let more = (chosen (rules.moves (last_state x.next xs)) m there).0 in
       (first, rest ++ more, ap (λ (l : List ℕ). l ++ more) is ∙ append_assoc first rest more, step, on_by x.next t xs rest printed m on goes there)
 
-  listed : (s t : S) (path : List (Turn S M)) (all : List ℕ) (m : M) → IsPath rules s (path_and path m t) all → Contains (rules.moves (last_state s path)) m
+  listed : (s t : S) (path : List (Leg S M)) (all : List ℕ) (m : M) → IsPath rules s (path_and path m t) all → Contains (rules.moves (last_state s path)) m
   listed s t [] all m (first, rest, is, step, on) = step.there
   listed s t (x ∷ xs) all m (first, rest, is, step, on) = listed x.next t xs rest m on
 

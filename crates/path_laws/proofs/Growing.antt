@@ -14,12 +14,14 @@ use Rattle.pml_program.specs.declared.program.Run.{Run}
 use Rattle.promela_process.specs.Control.{Control, at, steps}
 use Rattle.promela_process.specs.Offers.{Offer}
 use Rattle.promela_process.specs.Expressions.{Reading, val, ◌>>=◌}
+use Rattle.promela_run.specs.declared.moves.Pick.{Pick}
 use Rattle.promela_run.specs.declared.goes.Goes.{Goes as Stored}
 use Rattle.promela_run.specs.Statements.{outcome, goes_to, sent, received, values, asserted}
 use Rattle.promela_run.specs.State.{Begun, Stand, State, reads, body_of, levels, first_control}
-use Rattle.pml_start.proofs.Chaining.{chain, chain_any}
+use Rattle.run_start.proofs.Chaining.{chain, chain_any}
 use Rattle.promela_run.specs.Moves.{choices}
-use Rattle.promela_run.specs.Steps.{put, put_if, put_by, put_all, with_sent, with_received, with_new, joined_by, ran, run_number, Done, quiet, run_into, does, effect, behind, first_of, onward, within, within_from, taken}
+use Rattle.promela_run.specs.Steps.{put, put_by, put_all, with_sent, with_received, with_new, joined_by, ran, run_number, Done, quiet, run_into, does, effect, behind, first_of, onward, within, within_from, taken, body_by}
+use Rattle.run_search.specs.Lifted.{put_if}
 use Rattle.path_laws.proofs.Fitting.{Fits, at_fits, settle_fits}
 
 -- ---- lists
@@ -59,7 +61,7 @@ got_before (z ∷ zs) ys (suc i) x e = got_before zs ys i x e
 -- it stands in a body of the model, and what it has to do fits that body
 pub record IsFitStand (pr : Program) (y : Stand) : Type 0 where
   pub body : Seq
-  pub is : body_of pr y.kind ≡ Some body
+  pub is : body_of pr y.sort ≡ Some body
   pub fits : Fits body y.control
 
 abbrev pub AreFit : Program → List Stand → Type 0
@@ -113,7 +115,7 @@ first_fits b = settle_fits b (at (steps b) ([], 0)) (at_fits b ([], 0))
 joined_grows : (s : State) (kind : ℕ) (q : Proctype) (b : Begun) → slice_get s.program.proctypes kind ≡ Some q → IfOk (joined_by s kind q.body b) (Grows s)
 joined_grows s kind q b e = record {
   program = refl;
-  more = record { kind = kind; control = first_control q.body } ∷ [];
+  more = record { sort = kind; control = first_control q.body } ∷ [];
   fit = (record { body = q.body; is = ap (option_map (λ (r : Proctype). r.body)) e; fits = first_fits q.body }, tt);
   stands = refl;
 }
@@ -191,14 +193,14 @@ from_grows n s p t (Some b) None = itself s
 from_grows n s p t None (Some c) = itself s
 from_grows n s p t None None = itself s
 
-pub taken_grows : (n : ℕ) (s : State) (p : ℕ) (t : Bool) (b : Option Seq) (o : Offer) (x : Option Basic) → IfOk (taken n s p t b o x) (GrowsTo s)
-taken_grows n s p t b o (Some (DStep d)) = from_grows n s p t b o.entry
-taken_grows n s p t b o None = itself s
-taken_grows n s p t b o (Some (Plain x)) = does_grow s p t x
-taken_grows n s p t b o (Some (Goto x)) = itself s
-taken_grows n s p t b o (Some Break) = itself s
-taken_grows n s p t b o (Some (If' m row)) = itself s
-taken_grows n s p t b o (Some (Do' m row)) = itself s
-taken_grows n s p t b o (Some (Block x)) = itself s
-taken_grows n s p t b o (Some (Atomic x)) = itself s
-taken_grows n s p t b o (Some (Unless x e)) = itself s
+pub taken_grows : (n : ℕ) (s : State) (k : Pick) (t : Bool) (o : Offer) (x : Option Basic) → IfOk (taken n s k t o x) (GrowsTo s)
+taken_grows n s k t o (Some (DStep d)) = from_grows n s k.process t (body_by s (slice_get s.stands k.process)) o.entry
+taken_grows n s k t o None = itself s
+taken_grows n s k t o (Some (Plain x)) = does_grow s k.process t x
+taken_grows n s k t o (Some (Goto x)) = itself s
+taken_grows n s k t o (Some Break) = itself s
+taken_grows n s k t o (Some (If' m row)) = itself s
+taken_grows n s k t o (Some (Do' m row)) = itself s
+taken_grows n s k t o (Some (Block x)) = itself s
+taken_grows n s k t o (Some (Atomic x)) = itself s
+taken_grows n s k t o (Some (Unless x e)) = itself s

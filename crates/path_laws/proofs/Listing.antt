@@ -7,11 +7,12 @@ use Rattle.promela_run.specs.declared.moves.Pick.{Pick}
 use Rattle.promela_run.specs.declared.moves.Move.{Move}
 use Rattle.promela_run.specs.declared.moves.Move.TheVariants.{Death, Alone, Pair}
 use Rattle.promela_run.specs.State.{Stand, State, reads, body_of, levels, levels_in}
-use Rattle.promela_run.specs.Moves.{or_else, last, only_if, is_else, can_alone, Message, message, accepts, pick, pairs_on, pairs_with, pairs, moves_by, plain_moves, else_moves, moves_on, moves_of, moves_at, moves_under, moves_if, moves_held, moves}
-use Rattle.pml_moves.specs.Laws.{Each, taker}
-use Rattle.pml_moves.proofs.EachMove.{at_each}
-use Rattle.promela_run.specs.World.{unless_stopped, rules}
+use Rattle.promela_run.specs.Moves.{or_else, last, only_if, is_else, can_alone, Message, message, accepts, pick, pairs_on, pairs_with, pairs, moves_by, plain_moves, else_moves, moves_on, moves_of, moves_at, moves_under, moves_held, moves}
+use Rattle.run_search.specs.Laws.{Each, taker}
+use Rattle.run_search.proofs.EachMove.{at_each}
+use Rattle.promela_run.specs.World.{rules}
 use Rattle.promela_run.specs.declared.halt.Halt.{Halt}
+use Rattle.run_search.specs.Lifted.{moves_if, unless_stopped}
 use Rattle.path_laws.specs.OneRecord.{StandOnce, ListsOnce}
 use Rattle.path_laws.proofs.Apart.{Apart, stand_once, each_apart, or_holds, last_holds, each_holds, only_holds, only_apart, one_apart}
 
@@ -50,9 +51,9 @@ module _ (s : State) (t : Bool) (k : Pick) (m : Message) where
   pairs_with_is : (P : List Move → Type 0) → P [] → (j : ℕ) → ((l : ℕ) (os : List Offer) → P (pairs_on s t k m j l os)) → (y : Stand) → P (pairs_with s t k m j y)
   pairs_with_is P none j so y = by (nat_eq j k.process)
     where
-      by : (same : Bool) → P (if same then [] else last (pairs_on s t k m j) 0 (levels_in (body_of s.program y.kind) y.control))
+      by : (same : Bool) → P (if same then [] else last (pairs_on s t k m j) 0 (levels_in (body_of s.program y.sort) y.control))
       by true = none
-      by false = last_holds P (pairs_on s t k m j) none so 0 (levels_in (body_of s.program y.kind) y.control)
+      by false = last_holds P (pairs_on s t k m j) none so 0 (levels_in (body_of s.program y.sort) y.control)
 
   pairs_hold : (P : Move → Type 0) → ((q : Pick) → P (Pair k q t)) → Each P (pairs s t k (Some m))
   pairs_hold P so = each_holds P (pairs_with s t k m) (λ j y. pairs_with_is (Each P) tt j (pairs_on_hold P j (λ q e. so q)) y) 0 s.stands
@@ -105,12 +106,12 @@ of_apart s p t None (f ∷ c) = tt
 of_apart s p t (Some b) (f ∷ c) = last_holds Apart (moves_on s p t b) tt (on_apart s p t b) 0 (levels b (f ∷ c))
 
 at_apart : (s : State) (t : Bool) (p : ℕ) (y : Stand) → Apart (moves_at s p t y)
-at_apart s t p y = of_apart s p t (body_of s.program y.kind) y.control
+at_apart s t p y = of_apart s p t (body_of s.program y.sort) y.control
 
 -- ---- the moves of a state
 
 taken_by : (s : State) (t : Bool) (p : ℕ) (y : Stand) → Each (λ m. taker m ≡ p) (moves_at s p t y)
-taken_by s t p y = at_each (λ m. taker m ≡ p) s p (λ e. refl) (λ k u e. e) (λ k j u e. e) t (body_of s.program y.kind) y.control
+taken_by s t p y = at_each (λ m. taker m ≡ p) s p (λ e. refl) (λ k u e. e) (λ k j u e. e) t (body_of s.program y.sort) y.control
 
 under_apart : (s : State) (t : Bool) → Apart (moves_under s t)
 under_apart s t = each_apart taker (λ p y. moves_at s p t y) (taken_by s t) (at_apart s t) 0 s.stands

@@ -1,23 +1,25 @@
 -- Each listed move is of a statement that is there, and its text names its process and its line.
 use Rattle.std.proofs.Common.{◌≡◌, ◌⊎◌, inl, inr, ℕ, zero, suc, ◌+◌, ◌<◌, Bool, true, false, if◌then◌else◌, List, [], ◌∷◌, ◌++◌, length, map, nat_eq, Option, Some, None, refl, sym, ap, subst, ◌∙◌, arith, codes, append_assoc}
-use Rattle.std.specs.Prelude.{slice_get, slice_index_or, option_map, IfSome, IsSome}
+use Rattle.std.specs.Prelude.{slice_get, slice_index_or, unwrap_or, option_map, IfSome, IsSome}
 use Rattle.std.specs.Fmt.{decimal}
 use Rattle.std.specs.List.{AllByRecursion, Contains}
 use Rattle.pml_program.specs.declared.program.Stmt.{Stmt}
 use Rattle.pml_program.specs.declared.program.Seq.{Seq}
 use Rattle.pml_program.specs.declared.program.Proctype.{Proctype}
 use Rattle.promela_process.specs.Control.{Control}
-use Rattle.promela_process.specs.Offers.{Edge, Levels, offers, Offer, offer_of, statement_at, action, text_by, line_by}
+use Rattle.promela_process.specs.Offers.{Edge, Levels, offers, Offer, offer_of, statement_at, action}
+use Rattle.promela_process.specs.Offers as off
 use Rattle.pml_control.proofs.Reaching.{zero_plus, plus_zero, plus_one}
 use Rattle.promela_run.specs.Lines.{proctype_name}
 use Rattle.promela_run.specs.declared.moves.Pick.{Pick}
 use Rattle.promela_run.specs.declared.moves.Move.{Move}
 use Rattle.promela_run.specs.declared.moves.Move.TheVariants.{Death, Alone, Pair}
-use Rattle.promela_run.specs.State.{Stand, State, reads, body_of, levels, levels_in, offer_on, offer_at, picked}
-use Rattle.promela_run.specs.Moves.{or_else, each, last, only_if, is_else, can_alone, Message, message, accepts, pick, pairs_on, pairs_with, pairs, moves_by, plain_moves, else_moves, moves_on, moves_of, moves_at, moves_under, moves_if, moves_held, moves}
-use Rattle.pml_moves.specs.Laws.{Each}
-use Rattle.promela_run.specs.World.{kind_of, proctype_of, heading, offer_text, pick_text, death_text, line_in, brace_of, unless_stopped}
+use Rattle.promela_run.specs.State.{Stand, State, reads, body_of, levels, levels_in, picked}
+use Rattle.promela_run.specs.Moves.{or_else, each, last, only_if, is_else, can_alone, Message, message, accepts, pick, pairs_on, pairs_with, pairs, moves_by, plain_moves, else_moves, moves_on, moves_of, moves_at, moves_under, moves_held, moves}
+use Rattle.run_search.specs.Laws.{Each}
+use Rattle.promela_run.specs.World.{proctype_of, heading, offer_text, pick_text, death_text}
 use Rattle.promela_run.specs.declared.halt.Halt.{Halt}
+use Rattle.run_search.specs.Lifted.{offer_on, offer_at, moves_if, sort_of, line_in, brace_of, unless_stopped}
 use Rattle.pml_sim.specs.Origins.{IsOffered, IsThere}
 use Rattle.path_laws.specs.Origins.{NamesPlace, NamesReceiver, TextsNamePlaces, ListedMovesHaveOrigins}
 use Rattle.path_laws.proofs.Apart.{or_holds, only_holds}
@@ -33,7 +35,7 @@ Says o = (o.text ≡ []) ⊎ ((more : List ℕ) × (o.text ≡ codes "line " ++ 
 offer_says : (b : Seq) (e : Edge) → Says (offer_of b e)
 offer_says b e = by (statement_at b e.0)
   where
-    by : (x : Option Stmt) → (text_by x ≡ []) ⊎ ((more : List ℕ) × (text_by x ≡ codes "line " ++ (decimal (line_by x) ++ (codes " [" ++ more))))
+    by : (x : Option Stmt) → (unwrap_or (option_map off.offer_text x) [] ≡ []) ⊎ ((more : List ℕ) × (unwrap_or (option_map off.offer_text x) [] ≡ codes "line " ++ (decimal (unwrap_or (option_map off.offer_line x) 0) ++ (codes " [" ++ more))))
     by None = inl refl
     by (Some s) = inr (action s.basic s.tokens ++ codes "]", refl)
 
@@ -61,8 +63,8 @@ on_says (Some os) i h = if_got Says os i h
 picked_says : (s : State) (k : Pick) (y : Option Stand) → IfSome (offer_at s k y) Says
 picked_says s k None = tt
 picked_says s k (Some y) =
-    let ls = levels_in (body_of s.program y.kind) y.control in
-    on_says (slice_get ls k.level) k.place (if_got (AllByRecursion Says) ls k.level (inside_says (body_of s.program y.kind) y.control))
+    let ls = levels_in (body_of s.program y.sort) y.control in
+    on_says (slice_get ls k.level) k.place (if_got (AllByRecursion Says) ls k.level (inside_says (body_of s.program y.sort) y.control))
 
 -- ---- names
 
@@ -101,7 +103,7 @@ offer_names p (Some q) (Some o) (inl none) there lost = absurd (there none)
 offer_names p (Some q) (Some o) (inr h) there lost = heading_names p o.line q o.text h.0 h.1
 
 -- where there is no proctype, there is no offer
-no_offer : (s : State) (k : Pick) (y : Option Stand) → kind_of s.program y ≡ None → offer_at s k y ≡ None
+no_offer : (s : State) (k : Pick) (y : Option Stand) → sort_of s.program y ≡ None → offer_at s k y ≡ None
 no_offer s k None e = refl
 no_offer s k (Some y) e = rw e refl
 
@@ -171,15 +173,15 @@ module _ (s : State) (fit : IsFitState s) where
     f : IsFitStand s.program y
     f = all_got (IsFitStand s.program) s.stands p y fit stands
 
-    offered : (l : ℕ) (os : List Offer) → slice_get (levels_in (body_of s.program y.kind) y.control) l ≡ Some os → (i : ℕ) (o : Offer) → slice_get os i ≡ Some o → IsOffered (picked s (pick p l i))
+    offered : (l : ℕ) (os : List Offer) → slice_get (levels_in (body_of s.program y.sort) y.control) l ≡ Some os → (i : ℕ) (o : Offer) → slice_get os i ≡ Some o → IsOffered (picked s (pick p l i))
     offered l os level i o place =
         let is : picked s (pick p l i) ≡ Some o = ap (offer_at s (pick p l i)) stands ∙ ap (λ (x : Option (List Offer)). offer_on x i) level ∙ place in
         let fits : IsFitOffer f.body o =
-        all_got (IsFitOffer f.body) os i o (all_got (AllByRecursion (IsFitOffer f.body)) (levels_in (body_of s.program y.kind) y.control) l os (inside_fits s.program y f) level) place in
+        all_got (IsFitOffer f.body) os i o (all_got (AllByRecursion (IsFitOffer f.body)) (levels_in (body_of s.program y.sort) y.control) l os (inside_fits s.program y f) level) place in
         subst IsOffered (sym is) fits.1
 
     dies : AreThere s (Death p)
-    dies = (subst (λ (o : Option Stand). IsSome (kind_of s.program o)) (sym stands) (by (slice_get s.program.proctypes y.kind) f.is), tt)
+    dies = (subst (λ (o : Option Stand). IsSome (sort_of s.program o)) (sym stands) (by (slice_get s.program.proctypes y.sort) f.is), tt)
       where
         by : (q : Option Proctype) → option_map (λ (r : Proctype). r.body) q ≡ Some f.body → IsSome q
         by None e = cc
@@ -190,14 +192,14 @@ module _ (s : State) (fit : IsFitState s) where
   pairs_there t k sends None = tt
   pairs_there t k sends (Some m) = each_at (AreThere s) (pairs_with s t k m) s.stands (λ j y e. with_process j y e (nat_eq j k.process))
     where
-      with_process : (j : ℕ) (y : Stand) → slice_get s.stands j ≡ Some y → (same : Bool) → AllThere (if same then [] else last (pairs_on s t k m j) 0 (levels_in (body_of s.program y.kind) y.control))
+      with_process : (j : ℕ) (y : Stand) → slice_get s.stands j ≡ Some y → (same : Bool) → AllThere (if same then [] else last (pairs_on s t k m j) 0 (levels_in (body_of s.program y.sort) y.control))
       with_process j y e true = tt
-      with_process j y e false = last_at (AreThere s) (pairs_on s t k m j) (levels_in (body_of s.program y.kind) y.control) (λ l os level.
+      with_process j y e false = last_at (AreThere s) (pairs_on s t k m j) (levels_in (body_of s.program y.sort) y.control) (λ l os level.
           each_at (AreThere s) (λ i o. only_if (accepts s.channels (reads s j t) m o.basic) (Pair k (pick j l i) t)) os (λ i o place.
           only_holds (AreThere s) (accepts s.channels (reads s j t) m o.basic) (Pair k (pick j l i) t) (sends, offered j y e l os level i o place)))
 
   module _ (p : ℕ) (y : Stand) (stands : slice_get s.stands p ≡ Some y) where
-    on_level : (t : Bool) (b : Seq) (l : ℕ) (os : List Offer) → slice_get (levels_in (body_of s.program y.kind) y.control) l ≡ Some os → AllThere (moves_on s p t b l os)
+    on_level : (t : Bool) (b : Seq) (l : ℕ) (os : List Offer) → slice_get (levels_in (body_of s.program y.sort) y.control) l ≡ Some os → AllThere (moves_on s p t b l os)
     on_level t b l os level =
         or_holds AllThere (plain_moves s p t b l os) (else_moves p t l os)
         (each_at (AreThere s) (λ i o. if is_else o.basic then [] else moves_by s p t b l i o) os (λ i o e. plain i o (offered p y stands l os level i o e)))
@@ -213,9 +215,9 @@ module _ (s : State) (fit : IsFitState s) where
             by false false = pairs_there t (pick p l i) there (message s.channels (reads s p t) o.basic)
 
     at_process : (t : Bool) → AllThere (moves_at s p t y)
-    at_process t = by (body_of s.program y.kind) refl y.control refl
+    at_process t = by (body_of s.program y.sort) refl y.control refl
       where
-        by : (b : Option Seq) → body_of s.program y.kind ≡ b → (c : Control) → y.control ≡ c → AllThere (moves_of s p t b c)
+        by : (b : Option Seq) → body_of s.program y.sort ≡ b → (c : Control) → y.control ≡ c → AllThere (moves_of s p t b c)
         by b e [] k = only_holds (AreThere s) (nat_eq (p + 1) (length s.stands)) (Death p) (dies p y stands)
         by None e (x ∷ c) k = tt
         by (Some b) e (x ∷ c) k = last_at (AreThere s) (moves_on s p t b) (levels b (x ∷ c)) (λ l os at.

@@ -7,7 +7,7 @@ use Rattle.promela_session.specs.Lines.{is_digit, number_of}
 use Rattle.promela_session.specs.Session.{Rules, Goes}
 use Rattle.promela_session.specs.Events.{record_line, all_digits}
 use Rattle.session.proofs.Written.{all_are_digits, number_is}
-use Rattle.pml_play.specs.Run.{Turn, IsChosen, IsPath}
+use Rattle.pml_play.specs.Run.{Leg, IsChosen, IsPath}
 use Rattle.path_laws.specs.OneRecord.{StandOnce, ListsOnce, PathsHaveOneRecord, PathsAndRecordsAreOneToOne}
 
 -- ---- lines of a record are those of one list of numbers
@@ -87,14 +87,14 @@ as_many (m ∷ k ∷ more) ns ks a b us vs here there same =
     let all : (here.0 + 1) ∷ us ≡ (there.0 + 1) ∷ vs = sym (ap (λ (l : List ℕ). l ++ us) here.1) ∙ same ∙ ap (λ (l : List ℕ). l ++ vs) there.1 in
     (here.1 ∙ ap (λ (n : ℕ). n ∷ []) (cons_head (here.0 + 1) (there.0 + 1) us vs all) ∙ sym there.1, cons_tail (here.0 + 1) (there.0 + 1) us vs all)
 
-turn_same : {S M : Type 0} (a b : Turn S M) → a.move ≡ b.move → a.next ≡ b.next → a ≡ b
-turn_same {S} {M} a b moves nexts = ap (λ (m : M). record { move = m; next = a.next }) moves ∙ ap (λ (t : S). record { move = b.move; next = t }) nexts
+leg_same : {S M : Type 0} (a b : Leg S M) → a.move ≡ b.move → a.next ≡ b.next → a ≡ b
+leg_same {S} {M} a b moves nexts = ap (λ (m : M). record { move = m; next = a.next }) moves ∙ ap (λ (t : S). record { move = b.move; next = t }) nexts
 
 -- ---- paths
 
 module _ {S M : Type 0} (rules : Rules S M) where
   -- numbers give a path of so many steps
-  pub one_path : (s : S) (path again : List (Turn S M)) (ns ks us vs : List ℕ) → IsPath rules s path ns → IsPath rules s again ks → ns ++ us ≡ ks ++ vs → length path ≡ length again → path ≡ again
+  pub one_path : (s : S) (path again : List (Leg S M)) (ns ks us vs : List ℕ) → IsPath rules s path ns → IsPath rules s again ks → ns ++ us ≡ ks ++ vs → length path ≡ length again → path ≡ again
   one_path s [] [] ns ks us vs here there same long = refl
   one_path s [] (y ∷ ys) ns ks us vs here there same long = absurd (omega (arith, long))
   one_path s (x ∷ xs) [] ns ks us vs here there same long = absurd (omega (arith, long))
@@ -103,9 +103,9 @@ module _ {S M : Type 0} (rules : Rules S M) where
       sym (ap (λ (l : List ℕ). l ++ us) is ∙ append_assoc first rest us) ∙ same ∙ (ap (λ (l : List ℕ). l ++ vs) is' ∙ append_assoc first' rest' vs) in
       let parts = as_many (rules.moves s) first first' x.move y.move (rest ++ us) (rest' ++ vs) step.chosen step'.chosen all in
       let moves = one_move (rules.moves s) first' x.move y.move (subst (λ (l : List ℕ). IsChosen (rules.moves s) l x.move) parts.0 step.chosen) step'.chosen in
-      let one = turn_same x y moves (goes_same x.next y.next step.printed step'.printed (sym step.goes ∙ ap (rules.step s) moves ∙ step'.goes)) in
-      let on : IsPath rules x.next ys rest' = subst (λ (t : Turn S M). IsPath rules t.next ys rest') (sym one) path' in
-      ap (λ (t : Turn S M). t ∷ xs) one ∙ ap (λ (l : List (Turn S M)). y ∷ l) (one_path x.next xs ys rest rest' us vs path on parts.1 (omega (arith, long)))
+      let one = leg_same x y moves (goes_same x.next y.next step.printed step'.printed (sym step.goes ∙ ap (rules.step s) moves ∙ step'.goes)) in
+      let on : IsPath rules x.next ys rest' = subst (λ (t : Leg S M). IsPath rules t.next ys rest') (sym one) path' in
+      ap (λ (t : Leg S M). t ∷ xs) one ∙ ap (λ (l : List (Leg S M)). y ∷ l) (one_path x.next xs ys rest rest' us vs path on parts.1 (omega (arith, long)))
 
   module _ (once : ListsOnce rules) where
     pub one_record : PathsHaveOneRecord rules
@@ -116,6 +116,6 @@ module _ {S M : Type 0} (rules : Rules S M) where
 
     pub one_to_one : PathsAndRecordsAreOneToOne rules
     one_to_one s path again ns ks here there long = (
-      λ same. one_record s again ns ks (subst (λ (l : List (Turn S M)). IsPath rules s l ns) same here) there,
+      λ same. one_record s again ns ks (subst (λ (l : List (Leg S M)). IsPath rules s l ns) same here) there,
       λ same. one_path s path again ns ks [] [] here there (ap (λ (l : List ℕ). l ++ []) same) long,
     )

@@ -7,8 +7,8 @@ use Rattle.promela_session.specs.declared.ends.Cause.{Cause}
 use Rattle.promela_session.specs.declared.ends.Cause.TheVariants as cause
 use Rattle.promela_session.specs.Session.{Rules, final_cause}
 use Rattle.promela_session.specs.Events.{Part, record_line}
-use Rattle.promela_session.specs.Replay.{is_cut_short}
-use Rattle.pml_play.specs.Run.{Turn, IsPath, last_state, IsLast, no_move, at_limit, at_fault, at_question, HasRun}
+use Rattle.promela_session.specs.Devices.{is_cut_short}
+use Rattle.pml_play.specs.Run.{Leg, IsPath, last_state, IsLast, no_move, at_limit, at_fault, at_question, HasRun}
 use Rattle.path_laws.specs.OneRecord.{StandOnce, ListsOnce}
 use Rattle.path_laws.specs.OneRun.{has_failed, FailsAt, IsWholeRun, HasOneRun, RunTheSame, RecordTheSame, RunsAndRecordsAreOneToOne}
 use Rattle.path_laws.proofs.Numbering.{same_numbers, one_choice, one_move, one_path, one_record}
@@ -58,12 +58,12 @@ module _ {S M : Type 0} (rules : Rules S M) where
   same_last s once None last others why other here there = here.0 ∙ sym there.0
   same_last s once (Some m) last others why other here there = one_choice (rules.moves s) once last others m here.0 there.0
 
-  whole : (limit : ℕ) (s : S) (part : Part End) → HasRun rules limit s part → (path : List (Turn S M)) × (failed : Option M) × IsWholeRun rules limit s path failed part
+  whole : (limit : ℕ) (s : S) (part : Part End) → HasRun rules limit s part → (path : List (Leg S M)) × (failed : Option M) × IsWholeRun rules limit s path failed part
   whole limit s part (path, run) = let f = failing run.ends in (path, f.0, record { run = run; fails = f.1 })
 
   module _ (once : ListsOnce rules) where
     -- runs with the same record, as many steps, and of which both fail or neither does
-    alike : (s : S) (limit other : ℕ) (path again : List (Turn S M)) (failed gone : Option M) (a b : Part End) → IsWholeRun rules limit s path failed a → IsWholeRun rules other s again gone b
+    alike : (s : S) (limit other : ℕ) (path again : List (Leg S M)) (failed gone : Option M) (a b : Part End) → IsWholeRun rules limit s path failed a → IsWholeRun rules other s again gone b
         → RecordTheSame a b → (again ≡ path) × (gone ≡ failed)
     alike s limit other path again failed gone a b here there same =
         let lines : here.run.numbers ++ here.run.last ≡ there.run.numbers ++ there.run.last =
@@ -71,7 +71,7 @@ module _ {S M : Type 0} (rules : Rules S M) where
         let long : length path ≡ length again = sym here.run.counted ∙ same.steps ∙ there.run.counted in
         let paths : path ≡ again = one_path rules s path again here.run.numbers there.run.numbers here.run.last there.run.last here.run.is_path there.run.is_path lines long in
         let numbers : here.run.numbers ≡ there.run.numbers =
-        one_record rules once s path here.run.numbers there.run.numbers here.run.is_path (subst (λ (l : List (Turn S M)). IsPath rules s l there.run.numbers) (sym paths) there.run.is_path) in
+        one_record rules once s path here.run.numbers there.run.numbers here.run.is_path (subst (λ (l : List (Leg S M)). IsPath rules s l there.run.numbers) (sym paths) there.run.is_path) in
         let last : here.run.last ≡ there.run.last = behind here.run.numbers here.run.last there.run.last (lines ∙ ap (λ (l : List ℕ). l ++ there.run.last) (sym numbers)) in
         let state : last_state s again ≡ last_state s path = ap (last_state s) (sym paths) in (
           sym paths,
@@ -104,7 +104,7 @@ module _ {S M : Type 0} (rules : Rules S M) where
             let here = whole limit s a run in
             let there = whole other s b again in
             let is = alike s limit other here.0 there.0 here.1 there.1 a b here.2 there.2 same in
-            (here.0, here.1, here.2, subst (λ (l : List (Turn S M)). IsWholeRun rules other s l here.1 b) is.0 (subst (λ (f : Option M). IsWholeRun rules other s there.0 f b) is.1 there.2))
+            (here.0, here.1, here.2, subst (λ (l : List (Leg S M)). IsWholeRun rules other s l here.1 b) is.0 (subst (λ (f : Option M). IsWholeRun rules other s there.0 f b) is.1 there.2))
 
     pub has_one : (limit : ℕ) (s : S) (part : Part End) → HasRun rules limit s part → HasOneRun rules limit s part
     has_one limit s part run =

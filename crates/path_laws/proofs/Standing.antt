@@ -1,6 +1,6 @@
 -- In each state that a run comes to each process stands in a body of its model, and what it has to do fits that body.
 use Rattle.std.proofs.Common.{◌≡◌, ℕ, zero, suc, ◌+◌, ◌-◌, Bool, List, [], ◌∷◌, length, map, take, drop, replicate, Option, Some, None, Result, Ok, Err, IfOk, refl, sym, ap, subst, ◌∙◌, arith}
-use Rattle.std.specs.Prelude.{slice_get, slice_set, option_map}
+use Rattle.std.specs.Prelude.{slice_get, slice_set, unwrap_or, option_map}
 use Rattle.std.specs.List.{AllByRecursion}
 use Rattle.diagnostics.specs.declared.fault.Fault.{Fault}
 use Rattle.profile.specs.declared.TheConstants.{MOST_DSTEP_STATEMENTS}
@@ -11,20 +11,21 @@ use Rattle.pml_program.specs.declared.program.Action.TheVariants as a
 use Rattle.pml_program.specs.declared.program.Proctype.{Proctype}
 use Rattle.pml_program.specs.declared.program.Program.{Program}
 use Rattle.promela_process.specs.Control.{Control, at, steps, sequence}
-use Rattle.promela_process.specs.Offers.{Edge, Levels, offers, Offer, offer_of, statement_at, text_by}
-use Rattle.pml_control.proofs.Places.{found}
+use Rattle.promela_process.specs.Offers.{Edge, Levels, offers, Offer, offer_of, statement_at, offer_text}
+use Rattle.pml_control.proofs.Positions.{found}
 use Rattle.promela_process.specs.Store.{Frame}
-use Rattle.promela_run.specs.State.{Begun, first_state, Stand, State, reads, body_of, levels_in, begins_by, begins_at, offer_on, offer_at, picked}
-use Rattle.pml_start.specs.Starting.{starting}
-use Rattle.pml_start.proofs.Chaining.{chain, chain_any}
-use Rattle.pml_start.proofs.Living.{living_are}
+use Rattle.promela_run.specs.State.{Begun, first_state, Stand, State, reads, body_of, levels_in, begins_at, picked}
+use Rattle.run_start.specs.Starting.{starting}
+use Rattle.run_start.proofs.Chaining.{chain, chain_any}
+use Rattle.run_start.proofs.Living.{living_are}
 use Rattle.promela_run.specs.declared.moves.Pick.{Pick}
 use Rattle.promela_run.specs.declared.moves.Move.{Move}
 use Rattle.promela_run.specs.declared.moves.Move.TheVariants.{Death, Alone, Pair}
 use Rattle.promela_run.specs.Moves.{message}
-use Rattle.promela_run.specs.Steps.{put_all, moved_to, go_to, went, Done, taken, body_by, moved, alone, both_on, paired, passed, step}
+use Rattle.promela_run.specs.Steps.{put_all, go_to, went, Done, taken, body_by, alone, both_on, paired, passed, step, moved_to}
 use Rattle.promela_run.specs.World.{Running, first, led_to, rules}
-use Rattle.pml_play.specs.Run.{Turn, IsPath, last_state}
+use Rattle.run_search.specs.Lifted.{begins_by, offer_on, offer_at, moved}
+use Rattle.pml_play.specs.Run.{Leg, IsPath, last_state}
 use Rattle.pml_play.specs.Shown.{PathLeads}
 use Rattle.pml_play.specs.Transcript.{IsModel}
 use Rattle.path_laws.proofs.Fitting.{Fits, IsSound, AreSound, Sound, offers_sound}
@@ -36,13 +37,13 @@ use Rattle.path_laws.proofs.Growing.{IsFitStand, AreFit, IsFitState, Grows, Grow
 abbrev pub IsFitOffer : Seq → Offer → Type 0
 IsFitOffer b o = Fits b o.next × (o.text ≡ [] → ⊥)
 
-some_text : (s : Stmt) (text : List ℕ) → text ≡ text_by (Some s) → text ≡ [] → ⊥
+some_text : (s : Stmt) (text : List ℕ) → text ≡ offer_text s → text ≡ [] → ⊥
 some_text s text is none = let e = sym is ∙ none in cc
 
 offer_fits : (b : Seq) (e : Edge) → IsSound b e → IsFitOffer b (offer_of b e)
 offer_fits b e h =
     let f = found (sequence (steps b) e.0.0) e.0.1 h.0.0 h.0.1 in
-    (h.1, some_text f.stmt (text_by (statement_at b e.0)) (ap text_by f.stands))
+    (h.1, some_text f.stmt (unwrap_or (option_map offer_text (statement_at b e.0)) []) (ap (λ (o : Option Stmt). unwrap_or (option_map offer_text o) []) f.stands))
 
 level_fits : (b : Seq) (es : List Edge) → AreSound b es → AllByRecursion (IsFitOffer b) (map (offer_of b) es)
 level_fits b [] h = tt
@@ -53,7 +54,7 @@ levels_fit b [] h = tt
 levels_fit b (l ∷ ls) h = (level_fits b l h.0, levels_fit b ls h.1)
 
 -- what is offered to a process that stands in a body
-pub inside_fits : (pr : Program) (y : Stand) (f : IsFitStand pr y) → AllByRecursion (AllByRecursion (IsFitOffer f.body)) (levels_in (body_of pr y.kind) y.control)
+pub inside_fits : (pr : Program) (y : Stand) (f : IsFitStand pr y) → AllByRecursion (AllByRecursion (IsFitOffer f.body)) (levels_in (body_of pr y.sort) y.control)
 inside_fits pr y f =
     subst (λ (o : Option Seq). AllByRecursion (AllByRecursion (IsFitOffer f.body)) (levels_in o y.control)) (sym f.is)
     (levels_fit f.body (offers f.body y.control) (offers_sound f.body y.control f.fits))
@@ -63,7 +64,7 @@ pub record IsPicked (s : State) (p : ℕ) (o : Offer) : Type 0 where
   pub stand : Stand
   pub there : slice_get s.stands p ≡ Some stand
   pub body : Seq
-  pub is : body_of s.program stand.kind ≡ Some body
+  pub is : body_of s.program stand.sort ≡ Some body
   pub fits : IsFitOffer body o
 
 abbrev IsPickedIf : State → ℕ → Option Offer → Type 0
@@ -73,7 +74,7 @@ IsPickedIf s p (Some o) = IsPicked s p o
 picked_fits : (s : State) (k : Pick) → IsFitState s → IsPickedIf s k.process (picked s k)
 picked_fits s k f = by (slice_get s.stands k.process) refl
   where
-    on : (y : Stand) → slice_get s.stands k.process ≡ Some y → (g : IsFitStand s.program y) → (o : Option (List Offer)) → slice_get (levels_in (body_of s.program y.kind) y.control) k.level ≡ o
+    on : (y : Stand) → slice_get s.stands k.process ≡ Some y → (g : IsFitStand s.program y) → (o : Option (List Offer)) → slice_get (levels_in (body_of s.program y.sort) y.control) k.level ≡ o
         → (w : Option Offer) → offer_on o k.place ≡ w → IsPickedIf s k.process w
     on y e g o here None at = tt
     on y e g None here (Some w) at = absurd (not_some w at)
@@ -82,13 +83,13 @@ picked_fits s k f = by (slice_get s.stands k.process) refl
       there = e;
       body = g.body;
       is = g.is;
-      fits = all_got (IsFitOffer g.body) os k.place w (all_got (AllByRecursion (IsFitOffer g.body)) (levels_in (body_of s.program y.kind) y.control) k.level os (inside_fits s.program y g) here) at;
+      fits = all_got (IsFitOffer g.body) os k.place w (all_got (AllByRecursion (IsFitOffer g.body)) (levels_in (body_of s.program y.sort) y.control) k.level os (inside_fits s.program y g) here) at;
     }
 
     by : (o : Option Stand) → slice_get s.stands k.process ≡ o → IsPickedIf s k.process (offer_at s k o)
     by None e = tt
     by (Some y) e =
-        let here = slice_get (levels_in (body_of s.program y.kind) y.control) k.level in
+        let here = slice_get (levels_in (body_of s.program y.sort) y.control) k.level in
         on y e (all_got (IsFitStand s.program) s.stands k.process y f e) here refl (offer_on here k.place) refl
 
 -- ---- a process goes on
@@ -96,7 +97,7 @@ picked_fits s k f = by (slice_get s.stands k.process) refl
 -- of a process that stands there, what follows fits its body
 abbrev MayGo : State → ℕ → Control → Option Stand → Type 0
 MayGo s p next None = Unit {0}
-MayGo s p next (Some y) = (b : Seq) × (body_of s.program y.kind ≡ Some b) × Fits b next
+MayGo s p next (Some y) = (b : Seq) × (body_of s.program y.sort ≡ Some b) × Fits b next
 
 moved_fits : (s : State) (p : ℕ) (next : Control) (o : Option Stand) → MayGo s p next o → IsFitState s → AreFit s.program (moved_to next o p s.stands)
 moved_fits s p next None h f = f
@@ -106,14 +107,14 @@ moved_fits s p next (Some y) h f = all_set (IsFitStand s.program) s.stands p (re
 went_fits : (s t : State) (p : ℕ) (o : Offer) → IsPicked s p o → Grows s t → IsFitState t → IsFitState (went t p o)
 went_fits s t p o k g f =
     let there : slice_get t.stands p ≡ Some k.stand = ap (λ (l : List Stand). slice_get l p) g.stands ∙ got_before s.stands g.more p k.stand k.there in
-    let body : body_of t.program k.stand.kind ≡ Some k.body = ap (λ (pr : Program). body_of pr k.stand.kind) g.program ∙ k.is in
+    let body : body_of t.program k.stand.sort ≡ Some k.body = ap (λ (pr : Program). body_of pr k.stand.sort) g.program ∙ k.is in
     moved_fits t p o.next (slice_get t.stands p) (subst (λ (y : Option Stand). MayGo t p o.next y) (sym there) (k.body, body, k.fits.0)) f
 
 -- where another process has gone on, it still stands in its body
 still : (ys : List Stand) (p : ℕ) (y : Stand) (c : Control) → slice_get ys p ≡ Some y → (q : ℕ) (z : Stand) → slice_get ys q ≡ Some z
-    → (w : Stand) × (slice_get (slice_set ys p (record y { control = c })) q ≡ Some w) × (w.kind ≡ z.kind)
+    → (w : Stand) × (slice_get (slice_set ys p (record y { control = c })) q ≡ Some w) × (w.sort ≡ z.sort)
 still [] p y c e q z h = absurd (not_some y e)
-still (x ∷ xs) zero y c e zero z h = (record y { control = c }, refl, ap (λ (v : Stand). v.kind) (sym (some_same x y e) ∙ some_same x z h))
+still (x ∷ xs) zero y c e zero z h = (record y { control = c }, refl, ap (λ (v : Stand). v.sort) (sym (some_same x y e) ∙ some_same x z h))
 still (x ∷ xs) zero y c e (suc q) z h = (z, h, refl)
 still (x ∷ xs) (suc p) y c e zero z h = (z, h, refl)
 still (x ∷ xs) (suc p) y c e (suc q) z h = still xs p y c e q z h
@@ -132,7 +133,7 @@ stays_picked s t q o g k = record {
   stand = k.stand;
   there = ap (λ (l : List Stand). slice_get l q) g.stands ∙ got_before s.stands g.more q k.stand k.there;
   body = k.body;
-  is = ap (λ (pr : Program). body_of pr k.stand.kind) g.program ∙ k.is;
+  is = ap (λ (pr : Program). body_of pr k.stand.sort) g.program ∙ k.is;
   fits = k.fits;
 }
 
@@ -144,8 +145,8 @@ LeadsToFit d = IsFitState d.state
 alone_fits : (n : ℕ) (s : State) (k : Pick) (t : Bool) (o : Option Offer) → IsFitState s → IsPickedIf s k.process o → IfOk (alone n s k t o) LeadsToFit
 alone_fits n s k t None f l = f
 alone_fits n s k t (Some o) f l =
-    chain (GrowsTo s) LeadsToFit (taken n s k.process t (body_by s (slice_get s.stands k.process)) o o.basic) (moved k.process o)
-    (taken_grows n s k.process t (body_by s (slice_get s.stands k.process)) o o.basic) (λ d g. went_fits s d.state k.process o l g (grown_fits s d.state f g))
+    chain (GrowsTo s) LeadsToFit (taken n s k t o o.basic) (moved k.process o)
+    (taken_grows n s k t o o.basic) (λ d g. went_fits s d.state k.process o l g (grown_fits s d.state f g))
 
 paired_fits : (s : State) (k j : Pick) (t : Bool) (o w : Option Offer) → IsFitState s → IsPickedIf s k.process o → IsPickedIf s j.process w → IfOk (paired s k j t o w) LeadsToFit
 paired_fits s k j t (Some o) (Some w) f lo lw =
@@ -173,10 +174,10 @@ led_fits : (frames : List Frame) (r : Result Done Fault) (t : Running) (printed 
 led_fits frames (Ok d) t printed f e = subst (λ (w : Running). IsFitState w.state) (goes_is (record { state = d.state; past = take (length d.state.frames) frames; halt = None }) t d.printed printed e) f
 led_fits frames (Err x) t printed f e = cc
 
-path_fits : (s : Running) (path : List (Turn Running Move)) (numbers : List ℕ) → IsPath rules s path numbers → IsFitState s.state → IsFitState (last_state s path).state
+path_fits : (s : Running) (path : List (Leg Running Move)) (numbers : List ℕ) → IsPath rules s path numbers → IsFitState s.state → IsFitState (last_state s path).state
 path_fits s [] numbers is f = f
-path_fits s (turn ∷ turns) numbers (first, rest, same, on, path) f =
-    path_fits turn.next turns rest path (led_fits s.state.frames (step MOST_DSTEP_STATEMENTS s.state turn.move) turn.next on.printed (step_fits MOST_DSTEP_STATEMENTS s.state turn.move f) on.goes)
+path_fits s (leg ∷ legs) numbers (first, rest, same, on, path) f =
+    path_fits leg.next legs rest path (led_fits s.state.frames (step MOST_DSTEP_STATEMENTS s.state leg.move) leg.next on.printed (step_fits MOST_DSTEP_STATEMENTS s.state leg.move f) on.goes)
 
 -- the proctypes that a model starts with are there
 replicate_all : {A : Type 0} (P : A → Type 0) (n : ℕ) (x : A) → P x → AllByRecursion P (replicate n x)
@@ -214,8 +215,8 @@ begins_fit pr (k ∷ ks) h = (by (body_of pr k) refl h.0, begins_fit pr ks h.1)
 
 begun_fits : (pr : Program) (b : Begun) (lossy : Bool) → first_state pr ≡ Ok b → IsFitState (first pr b lossy).state
 begun_fits pr b lossy e =
-    let are = subst (λ (r : Result Begun Fault). IfOk r (λ n. n.kinds ≡ take 255 (starting 0 pr.proctypes))) e (living_are pr) in
-    begins_fit pr b.kinds (subst (AllByRecursion (HasBody pr)) (sym are) (all_taken (HasBody pr) 255 (starting 0 pr.proctypes) (starting_there pr 0 pr.proctypes refl)))
+    let are = subst (λ (r : Result Begun Fault). IfOk r (λ n. n.sorts ≡ take 255 (starting 0 pr.proctypes))) e (living_are pr) in
+    begins_fit pr b.sorts (subst (AllByRecursion (HasBody pr)) (sym are) (all_taken (HasBody pr) 255 (starting 0 pr.proctypes) (starting_there pr 0 pr.proctypes refl)))
 
 -- each state that a path of a text's model leads to
 pub reached_fits : (text : List ℕ) (lossy : Bool) (model state : Running) → IsModel text lossy model → PathLeads rules model state → IsFitState state.state

@@ -2,7 +2,7 @@
 use Rattle.std.specs.Prelude.{◌≡◌, ℕ, List, Some, length, slice_get}
 use Rattle.promela_session.specs.Session.{Rules}
 use Rattle.pml_play.specs.Plain.{SayTheSame}
-use Rattle.pml_play.specs.Run.{Turn, IsPath}
+use Rattle.pml_play.specs.Run.{Leg, IsPath}
 
 -- nothing stands at two places
 abbrev pub StandOnce : {X : Type 0} → List X → Type 0
@@ -14,10 +14,10 @@ ListsOnce {S} rules = (s : S) → StandOnce (rules.moves s)
 
 -- a path is chosen by one list of numbers
 abbrev pub PathsHaveOneRecord : {S M : Type 0} → Rules S M → Type 0
-PathsHaveOneRecord {S} {M} rules = (s : S) (path : List (Turn S M)) (numbers others : List ℕ) → IsPath rules s path numbers
+PathsHaveOneRecord {S} {M} rules = (s : S) (path : List (Leg S M)) (numbers others : List ℕ) → IsPath rules s path numbers
     → IsPath rules s path others → numbers ≡ others
 
 -- paths from one state with as many steps are the same exactly where their numbers are
 abbrev pub PathsAndRecordsAreOneToOne : {S M : Type 0} → Rules S M → Type 0
-PathsAndRecordsAreOneToOne {S} {M} rules = (s : S) (path again : List (Turn S M)) (numbers others : List ℕ) → IsPath rules s path numbers
+PathsAndRecordsAreOneToOne {S} {M} rules = (s : S) (path again : List (Leg S M)) (numbers others : List ℕ) → IsPath rules s path numbers
     → IsPath rules s again others → length path ≡ length again → SayTheSame (path ≡ again) (numbers ≡ others)

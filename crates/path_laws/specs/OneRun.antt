@@ -9,7 +9,7 @@ use Rattle.promela_session.specs.Events.{recorded, Part}
 use Rattle.promela_session.specs.Session.{Rules, Faults}
 use Rattle.promela_run.specs.World.{Running, rules as rules_of_models}
 use Rattle.pml_play.specs.Plain.{SayTheSame}
-use Rattle.pml_play.specs.Run.{Turn, IsChosen, IsRun, HasRun, IsSessionOver, last_state}
+use Rattle.pml_play.specs.Run.{Leg, IsChosen, IsRun, HasRun, IsSessionOver, last_state}
 
 -- whether a run has failed: its last step was a fault
 abbrev pub has_failed : Cause → Bool
@@ -34,16 +34,16 @@ FailsAt rules s None last why = (last ≡ []) × (has_failed why ≡ false)
 FailsAt rules s (Some m) last why = IsChosen (rules.moves s) last m × ((f : Fault) × (rules.step s m ≡ Faults f) × (why ≡ cause.Fault f))
 
 -- The session runs through this path from its first state, and fails at this move behind it, or at none.
-pub record IsWholeRun {S M : Type 0} (rules : Rules S M) (limit : ℕ) (s : S) (path : List (Turn S M)) (failed : Option M) (part : Part End) : Type 0 where
+pub record IsWholeRun {S M : Type 0} (rules : Rules S M) (limit : ℕ) (s : S) (path : List (Leg S M)) (failed : Option M) (part : Part End) : Type 0 where
   pub run : IsRun rules limit s path part
   pub fails : FailsAt rules (last_state s path) failed run.last part.value.cause
 
 -- it runs so, and in no other way
 pub record HasOneRun {S M : Type 0} (rules : Rules S M) (limit : ℕ) (s : S) (part : Part End) : Type 0 where
-  pub path : List (Turn S M)
+  pub path : List (Leg S M)
   pub failed : Option M
   pub whole : IsWholeRun rules limit s path failed part
-  pub only : (again : List (Turn S M)) (other : Option M) → IsWholeRun rules limit s again other part → (again ≡ path) × (other ≡ failed)
+  pub only : (again : List (Leg S M)) (other : Option M) → IsWholeRun rules limit s again other part → (again ≡ path) × (other ≡ failed)
 
 -- whatever the choices are, the session on them has one run
 abbrev pub EachHasOneRun : {S M : Type 0} → Rules S M → ℕ → S → (List ℕ → Part End) → Type 0
@@ -52,7 +52,7 @@ EachHasOneRun rules limit s session = (choices : List ℕ) → HasOneRun rules l
 -- two sessions from one state, by these limits, run through one path, and fail at one move if they fail
 abbrev pub RunTheSame : {S M : Type 0} → Rules S M → S → ℕ → Part End → ℕ → Part End → Type 0
 RunTheSame {S} {M} rules s limit a other b =
-    (path : List (Turn S M)) × (failed : Option M) × IsWholeRun rules limit s path failed a × IsWholeRun rules other s path failed b
+    (path : List (Leg S M)) × (failed : Option M) × IsWholeRun rules limit s path failed a × IsWholeRun rules other s path failed b
 
 -- the same is recorded of two sessions, in as many steps, and both fail or neither does
 pub record RecordTheSame (a b : Part End) : Type 0 where

@@ -4,8 +4,8 @@ use Rattle.std.specs.Fmt.{decimal}
 use Rattle.std.specs.List.{Contains}
 use Rattle.promela_run.specs.declared.moves.Move.{Move}
 use Rattle.promela_run.specs.declared.moves.Move.TheVariants.{Death, Alone, Pair}
-use Rattle.promela_run.specs.State.{picked, State}
-use Rattle.promela_run.specs.World.{line_in, origin_of, move_text, pick_text, Running, rules}
+use Rattle.promela_run.specs.State.{State}
+use Rattle.promela_run.specs.World.{line_of, origin_of, move_text, pick_text, Running, rules}
 use Rattle.pml_sim.specs.Origins.{IsThere}
 use Rattle.pml_play.specs.Shown.{PathLeads}
 use Rattle.pml_play.specs.Transcript.{IsModel}
@@ -24,7 +24,7 @@ TextsNamePlaces = (s : State) (m : Move) → IsThere s m → NamesPlace (origin_
 abbrev pub NamesReceiver : State → Move → Type 0
 NamesReceiver s (Death p) = Unit {0}
 NamesReceiver s (Alone k t) = Unit {0}
-NamesReceiver s (Pair k j t) = NamesPlace (j.process, line_in (picked s j)) (pick_text s j)
+NamesReceiver s (Pair k j t) = NamesPlace (j.process, line_of s j) (pick_text s j)
 
 -- the move's statement is there, and its text names its process and its line, of a pair both
 pub record HasOrigin (w : Running) (m : Move) : Type 0 where

@@ -1,6 +1,6 @@
 -- Each refusal applies to a tree, or the tree fits it.
 use Rattle.std.proofs.Common.{◌≡◌, ◌≢◌, ◌⊎◌, inl, inr, ℕ, ◌<◌, ◌≤◌, Bool, true, false, List, [], ◌∷◌, length, take, Option, Some, None, Result, Ok, Err, refl, sym, ap, ◌∙◌}
-use Rattle.std.specs.Prelude.{slice_get}
+use Rattle.std.specs.Prelude.{slice_get, IsSomeAnd, IfSome}
 use Rattle.std.proofs.lemmas.Bool.{cases_lt}
 use Rattle.std.proofs.lemmas.List.{get_or_past}
 use Rattle.std.proofs.lemmas.Option.{slice_get_within}
@@ -13,20 +13,21 @@ use Rattle.promela_model.specs.Marks.{of_tree}
 use Rattle.promela_model.specs.declared.condition.Condition.{Condition}
 use Rattle.promela_model.specs.declared.condition.Condition.TheVariants as condition
 use Rattle.promela_model.specs.Decided as marks
-use Rattle.promela_model.specs.Decided.{Somewhere, Nowhere, broken, breaks_loose, crosses_step, begins_there, processes, first_channels}
+use Rattle.promela_model.specs.Decided.{Somewhere, Nowhere, broken, crosses_step, processes, first_channels}
+use Rattle.check_conditions.specs.Step.{begins_there, breaks_loose}
 use Rattle.pml_control.specs.declared.ends.Ending.{Ending}
 use Rattle.pml_control.specs.declared.ends.Ending.TheVariants as ending
 use Rattle.pml_control.specs.Ends.{ending_of, AreEnds}
-use Rattle.pml_control.specs.Graph.{nodes_of, nexts, bad_step, spot_of}
-use Rattle.promela_process.specs.Circles.{Circle, SettlesEverywhere, BadFirstPoint, FirstPointsFit}
+use Rattle.pml_control.specs.Graph.{posts_of, nexts, bad_step, spot_of}
+use Rattle.promela_process.specs.Control.{Circle, SettlesEverywhere, BadFirstPoint, FirstPointsFit}
 use Rattle.pml_control.proofs.Circling.{stays_within, decides}
 use Rattle.pml_control.proofs.First.{decides_first}
 use Rattle.pml_program.specs.declared.program.Seq.{Seq}
 use Rattle.pml_program.specs.declared.program.Proctype.{Proctype}
 use Rattle.pml_program.specs.declared.program.Program.{Program}
-use Rattle.pml_resolve.specs.Model.{numbered_model}
+use Rattle.check_resolve.specs.Model.{numbered_model}
 use Rattle.promela_run.specs.State.{Begun, first_state}
-use Rattle.promela_run.specs.Judged.{condition_of, BreaksCondition, KeepsCondition, BreaksModel, KeepsModel, HasBadStart, HasGoodStart, AppliesTo, FitsTo, Applies, Fits, IsFit, IsLeast}
+use Rattle.promela_run.specs.Judged.{condition_of, BreaksModel, KeepsModel, HasBadStart, HasGoodStart, AppliesTo, FitsTo, Applies, Fits, IsFit, IsLeast}
 use Rattle.pml_check.specs.Decided.{all_judged, FitsAll, IsFirst}
 use Rattle.pml_check.proofs.Seeking.{OneBelow, NoneBelow, below, of_list}
 use Rattle.pml_check.proofs.Ends.{are_ends}
@@ -83,7 +84,7 @@ on_marks condition.Cells ms = somewhere (broken condition.Cells ms) ms
 on_marks condition.NoProcess ms = turned (somewhere begins_there ms)
 on_marks condition.Start ms = few_begin (processes ms) (first_channels ms) _ _
 
-on_condition : (o : Option Condition) (ms : List Mark) → BreaksCondition o ms ⊎ KeepsCondition o ms
+on_condition : (o : Option Condition) (ms : List Mark) → IsSomeAnd o (λ c. marks.Applies c ms) ⊎ IfSome o (λ c. marks.Fits c ms)
 on_condition None ms = inr tt
 on_condition (Some x) ms = on_marks x ms
 
@@ -105,8 +106,8 @@ none_by (ending.Stays t) h = λ z. cc
 none_by ending.Unseen h = λ z. cc
 
 module _ (b : Seq) where
-  body_ends : (es : List Ending) × AreEnds (nexts (nodes_of b)) es
-  body_ends = are_ends (nexts (nodes_of b)) (stays_within b)
+  body_ends : (es : List Ending) × AreEnds (nexts (posts_of b)) es
+  body_ends = are_ends (nexts (posts_of b)) (stays_within b)
 
   circle : Circle b ⊎ SettlesEverywhere b
   circle = by_search (below (λ i. is_circle (ending_of body_ends.0 i)) (length body_ends.0))
@@ -120,10 +121,10 @@ module _ (b : Seq) where
       by_search (inr none) = inr (decides b body_ends.0 false body_ends.1 (λ i. none_of none i (cases_lt i (length body_ends.0))))
 
   first_point : BadFirstPoint b ⊎ FirstPointsFit b
-  first_point = by_search (below (λ i. bad_step (nodes_of b) body_ends.0 (spot_of (nodes_of b) i).d_step) (length (nodes_of b)))
+  first_point = by_search (below (λ i. bad_step (posts_of b) body_ends.0 (spot_of (posts_of b) i).d_step) (length (posts_of b)))
     where
-      by_search : OneBelow (λ i. bad_step (nodes_of b) body_ends.0 (spot_of (nodes_of b) i).d_step) (length (nodes_of b))
-          ⊎ NoneBelow (λ i. bad_step (nodes_of b) body_ends.0 (spot_of (nodes_of b) i).d_step) (length (nodes_of b)) → BadFirstPoint b ⊎ FirstPointsFit b
+      by_search : OneBelow (λ i. bad_step (posts_of b) body_ends.0 (spot_of (posts_of b) i).d_step) (length (posts_of b))
+          ⊎ NoneBelow (λ i. bad_step (posts_of b) body_ends.0 (spot_of (posts_of b) i).d_step) (length (posts_of b)) → BadFirstPoint b ⊎ FirstPointsFit b
       by_search (inl h) = inl (decides_first b body_ends.0 body_ends.1 true h)
       by_search (inr none) = inr (decides_first b body_ends.0 body_ends.1 false none)
 
@@ -159,7 +160,7 @@ on_model r.Inline p = inr tt
 
 -- ---- on a tree
 
-on_both : (x : Refusal) (ms : List Mark) (p : Program) → BreaksCondition (condition_of x) ms ⊎ KeepsCondition (condition_of x) ms → BreaksModel x p ⊎ KeepsModel x p → AppliesTo x ms p ⊎ FitsTo x ms p
+on_both : (x : Refusal) (ms : List Mark) (p : Program) → IsSomeAnd (condition_of x) (λ c. marks.Applies c ms) ⊎ IfSome (condition_of x) (λ c. marks.Fits c ms) → BreaksModel x p ⊎ KeepsModel x p → AppliesTo x ms p ⊎ FitsTo x ms p
 unfolding AppliesTo FitsTo
 on_both x ms p (inl a) other = inl (inl a)
 on_both x ms p (inr k) (inl a) = inl (inr a)

@@ -1,18 +1,20 @@
 -- A refusal does not apply to what fits it.
 use Rattle.std.proofs.Common.{◌≡◌, Bool, true, false, arith, List, Some, None, sym, ◌∙◌, inl, inr, Option, Result, Ok, Err}
+use Rattle.std.specs.Prelude.{IsSomeAnd, IfSome}
 use Rattle.diagnostics.specs.declared.refusal.Refusal.{Refusal}
 use Rattle.diagnostics.specs.declared.refusal.Refusal.TheVariants as r
 use Rattle.promela_model.specs.declared.mark.Mark.{Mark}
 use Rattle.promela_model.specs.declared.condition.Condition.{Condition}
 use Rattle.promela_model.specs.Decided as marks
 use Rattle.promela_model.specs.declared.condition.Condition.TheVariants as condition
-use Rattle.promela_model.specs.Decided.{Somewhere, Nowhere, broken, breaks_loose, crosses_step, begins_there}
+use Rattle.promela_model.specs.Decided.{Somewhere, Nowhere, broken, crosses_step}
+use Rattle.check_conditions.specs.Step.{begins_there, breaks_loose}
 use Rattle.pml_program.specs.declared.program.Seq.{Seq}
-use Rattle.promela_process.specs.Circles.{BadFirstPoint, FirstPointsFit}
+use Rattle.promela_process.specs.Control.{BadFirstPoint, FirstPointsFit, Circle, SettlesEverywhere}
 use Rattle.pml_control.proofs.Settling.{circle_not}
 use Rattle.pml_program.specs.declared.program.Proctype.{Proctype}
 use Rattle.pml_program.specs.declared.program.Program.{Program}
-use Rattle.promela_run.specs.Judged.{condition_of, BreaksCondition, KeepsCondition, BreaksModel, KeepsModel, HasCircle, SettleEverywhere, HasBadStep, HaveGoodSteps, HasBadStart, HasGoodStart, AppliesTo, FitsTo}
+use Rattle.promela_run.specs.Judged.{condition_of, BreaksModel, KeepsModel, SomeBody, EachBody, HasBadStart, HasGoodStart, AppliesTo, FitsTo}
 
 some_none : (p : List Mark → Mark → Bool) (ms : List Mark) → Somewhere p ms → Nowhere p ms → ⊥
 some_none p ms h f = let e : true ≡ false = sym h.3 ∙ f h.0 h.1 h.2 in absurd cc
@@ -31,22 +33,22 @@ marks_apart condition.NoProcess ms a f = some_none begins_there ms f a
 marks_apart condition.Start ms (inl a) f = let g = f.0 in omega arith
 marks_apart condition.Start ms (inr a) f = let g = f.1 in omega arith
 
-condition_apart : (x : Option Condition) (ms : List Mark) → BreaksCondition x ms → KeepsCondition x ms → ⊥
+condition_apart : (x : Option Condition) (ms : List Mark) → IsSomeAnd x (λ c. marks.Applies c ms) → IfSome x (λ c. marks.Fits c ms) → ⊥
 condition_apart None ms a f = a
 condition_apart (Some x) ms a f = marks_apart x ms a f
 
-circle_apart : (ps : List Proctype) → HasCircle ps → SettleEverywhere ps → ⊥
+circle_apart : (ps : List Proctype) → SomeBody Circle ps → EachBody SettlesEverywhere ps → ⊥
 circle_apart ps h all = circle_not h.1.body (all h.0 h.1 h.2) h.3
 
 point_apart : (b : Seq) → BadFirstPoint b → FirstPointsFit b → ⊥
 point_apart b h fits =
-    let fit = fits h.place h.body h.stands h.point h.comes h.settled in
+    let fit = fits h.position h.body h.stands h.point h.comes h.settled in
     elim h.bad [
       | inl e ↦ (let f : true ≡ false = sym e ∙ fit.0 in absurd cc)
       | inr out ↦ out fit.1
     ]
 
-step_apart : (ps : List Proctype) → HasBadStep ps → HaveGoodSteps ps → ⊥
+step_apart : (ps : List Proctype) → SomeBody BadFirstPoint ps → EachBody FirstPointsFit ps → ⊥
 step_apart ps h all = point_apart h.1.body h.3 (all h.0 h.1 h.2)
 
 start_apart : (p : Program) → HasBadStart p → HasGoodStart p → ⊥

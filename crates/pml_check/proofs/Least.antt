@@ -8,7 +8,7 @@ use Rattle.pml_tree.specs.declared.tree.Tree.{Tree}
 use Rattle.promela_model.specs.declared.mark.Mark.{Mark}
 use Rattle.promela_model.specs.Marks.{of_tree}
 use Rattle.pml_program.specs.declared.program.Program.{Program}
-use Rattle.pml_resolve.specs.Model.{numbered_model}
+use Rattle.check_resolve.specs.Model.{numbered_model}
 use Rattle.promela_run.specs.Judged.{AppliesTo, FitsTo, IsFit, IsLeast}
 use Rattle.pml_check.specs.Decided.{all_judged, FitsAll, IsFirst}
 use Rattle.pml_check.proofs.Exclusive.{apart}

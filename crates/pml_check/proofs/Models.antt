@@ -1,7 +1,7 @@
 -- What is found of bodies is found of their model.
 use Rattle.std.proofs.Common.{ℕ, ◌≤◌, Bool, true, false, List, length}
 use Rattle.pml_program.specs.declared.program.Proctype.{Proctype}
-use Rattle.promela_process.specs.Circles.{Circle, SettlesEverywhere, BadFirstPoint, FirstPointsFit}
+use Rattle.promela_process.specs.Control.{Circle, SettlesEverywhere, BadFirstPoint, FirstPointsFit}
 use Rattle.pml_control.specs.Decides.{DecidesCircle, DecidesFirstPoint}
 use Rattle.pml_check.specs.Decided.{DecidesCircles, DecidesSteps}
 use Rattle.pml_check.proofs.Looking.{SoFar, Here, all_of}

@@ -4,9 +4,9 @@ use Rattle.diagnostics.specs.declared.refusal.Refusal.{Refusal}
 use Rattle.pml_tree.specs.declared.tree.Tree.{Tree}
 use Rattle.promela_model.specs.Marks.{of_tree}
 use Rattle.pml_program.specs.declared.program.Program.{Program}
-use Rattle.pml_resolve.specs.Model.{numbered_model}
+use Rattle.check_resolve.specs.Model.{numbered_model}
 use Rattle.promela_model.specs.StandsModel.{StandsModel}
-use Rattle.pml_stands.proofs.Model.{model-stands, one-model}
+use Rattle.check_meaning.proofs.Model.{model-stands, one-model}
 use Rattle.promela_run.specs.Judged.{AppliesTo, FitsTo, Applies, Fits}
 use Rattle.pml_check.proofs.Exclusive.{apart}
 

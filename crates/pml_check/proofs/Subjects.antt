@@ -5,8 +5,9 @@ use Rattle.pml_tree.specs.declared.tree.Tree.{Tree}
 use Rattle.promela_model.specs.declared.mark.Mark.{Mark}
 use Rattle.promela_model.specs.Marks.{of_tree}
 use Rattle.pml_program.specs.declared.program.Program.{Program}
-use Rattle.pml_resolve.specs.Model.{numbered_model}
-use Rattle.promela_run.specs.Judged.{FitsTo, SettleEverywhere}
+use Rattle.check_resolve.specs.Model.{numbered_model}
+use Rattle.promela_run.specs.Judged.{FitsTo, EachBody}
+use Rattle.promela_process.specs.Control.{SettlesEverywhere}
 use Rattle.pml_check.specs.Decided.{all_judged, Finds}
 
 -- found is what an answer says
@@ -14,6 +15,6 @@ pub found_of : (xs : List Refusal) (t : Tree) (o p : Option Refusal) → o ≡ p
 found_of xs t o p e f = subst (λ (q : Option Refusal). Finds xs (of_tree t) (numbered_model t) q) e f
 
 -- where nothing applies, settling ends everywhere
-pub settles_of : (ms : List Mark) (p : Program) → Finds all_judged ms p None → SettleEverywhere p.proctypes
+pub settles_of : (ms : List Mark) (p : Program) → Finds all_judged ms p None → EachBody SettlesEverywhere p.proctypes
 unfolding FitsTo
 settles_of ms p h = h.1.1.1.1.1.1.1.0.1

@@ -12,12 +12,12 @@ use Rattle.promela_model.specs.declared.mark.Declared.TheVariants as declared_as
 use Rattle.promela_model.specs.declared.mark.Mark.{Mark}
 use Rattle.promela_model.specs.declared.mark.What.{What}
 use Rattle.promela_model.specs.declared.mark.What.TheVariants as what
-use Rattle.pml_names.specs.Entry.{Entry}
-use Rattle.pml_names.specs.Env.{told, env, env_from}
-use Rattle.promela_model.specs.Names.{Before, capacity, too_many}
-use Rattle.pml_names.proofs.Firsts.{told-before}
+use Rattle.check_names.specs.Entry.{Entry}
+use Rattle.check_names.specs.Env.{told, env, env_from}
+use Rattle.promela_model.specs.Names.{Before, count_of}
+use Rattle.check_names.proofs.Firsts.{told-before}
 use Rattle.promela_model.specs.declared.condition.Condition.TheVariants as condition
-use Rattle.promela_model.specs.Conditions.{judged}
+use Rattle.promela_model.specs.Conditions.{judged, too_many}
 use Rattle.promela_model.specs.Decided as marks
 use Rattle.pml_program.specs.declared.program.Initial.{Initial}
 use Rattle.pml_program.specs.declared.program.Initial.TheVariants as i
@@ -25,12 +25,12 @@ use Rattle.pml_program.specs.declared.program.Slot.{Slot}
 use Rattle.pml_program.specs.declared.program.Fields.{Fields}
 use Rattle.pml_program.specs.declared.program.Proctype.{Proctype}
 use Rattle.pml_program.specs.declared.program.Program.{Program}
-use Rattle.pml_resolve.specs.Declarations.{natural}
-use Rattle.pml_resolve.specs.Model.{numbered_model}
-use Rattle.promela_model.specs.Known.{cells}
-use Rattle.pml_stands.proofs.Limits.{Few, AllFew, all-few, room, Rooms}
-use Rattle.pml_stands.proofs.Limited.{IsLimited, model-limited}
-use Rattle.pml_start.specs.Bound.{cells_of, largest, room_by, room_of, room_of_fields, room_of_processes, IsWithin}
+use Rattle.check_resolve.specs.Declarations.{natural}
+use Rattle.check_resolve.specs.Model.{numbered_model}
+use Rattle.promela_model.specs.Stands.{cells}
+use Rattle.check_meaning.proofs.Limits.{Few, AllFew, all-few, room, Rooms}
+use Rattle.check_meaning.proofs.Limited.{IsLimited, model-limited}
+use Rattle.run_start.specs.Bound.{cells_of, largest, room_by, room_of, room_of_fields, room_of_processes, IsWithin}
 use Rattle.promela_run.specs.Judged.{FitsTo}
 use Rattle.pml_check.specs.Decided.{all_judged, FitsAll}
 
@@ -39,7 +39,7 @@ use Rattle.pml_check.specs.Decided.{all_judged, FitsAll}
 at_most : (n most : ℕ) → nat_lt most n ≡ false → n ≤ most
 at_most n most h = search (rules, h)
 
-same_count : (c : Constant) → capacity c ≡ natural c
+same_count : (c : Constant) → count_of c ≡ natural c
 same_count (number.Is (pos n)) = refl
 same_count (number.Is (negsuc n)) = refl
 same_count number.Faulty = refl
@@ -47,7 +47,7 @@ same_count number.Open = refl
 
 few_by : (es : List Entry) (o : ℕ) (w : What) → too_many (told es) o w ≡ false → Few es o w
 few_by es o (what.Declares n (declared_as.Variable role.Variable s size makes)) h = at_most _ MOST_CELLS h
-few_by es o (what.Channel h c n) e = subst (λ (k : ℕ). k * n ≤ MOST_CELLS) (same_count c) (at_most (capacity c * n) MOST_CELLS e)
+few_by es o (what.Channel h c n) e = subst (λ (k : ℕ). k * n ≤ MOST_CELLS) (same_count c) (at_most (count_of c * n) MOST_CELLS e)
 few_by es o _ h = tt
 
 few_here : (ms : List Mark) (k : ℕ) (m : Mark) → marks.broken condition.Cells ms (take k ms) m ≡ false → Few (env_from [] (take k ms)) m.owner m.what

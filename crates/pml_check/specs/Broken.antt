@@ -2,7 +2,7 @@
 use Rattle.std.specs.Prelude.{List}
 use Rattle.promela_model.specs.declared.mark.Mark.{Mark}
 use Rattle.promela_model.specs.declared.condition.Condition.TheVariants as condition
-use Rattle.pml_conditions.specs.Finds.{AreFound, Decides}
+use Rattle.check_conditions.specs.Finds.{AreFound, Decides}
 use Rattle.pml_check.specs.declared.broken.Broken.{Broken}
 
 pub record AreBroken (ms : List Mark) (b : Broken) : Type 0 where

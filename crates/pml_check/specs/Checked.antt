@@ -3,7 +3,7 @@ use Rattle.std.specs.Prelude.{List}
 use Rattle.pml_tree.specs.declared.tree.Tree.{Tree}
 use Rattle.pml_program.specs.declared.program.Program.{Program}
 use Rattle.promela_model.specs.StandsModel.{StandsModel}
-use Rattle.pml_start.specs.Bound.{IsWithin}
+use Rattle.run_start.specs.Bound.{IsWithin}
 use Rattle.pml_flow.specs.Graph.{Graph, AreGraphs}
 use Rattle.pml_check.specs.declared.checked.CheckFault.{CheckFault}
 use Rattle.pml_check.specs.declared.checked.CheckFault.TheVariants as fault

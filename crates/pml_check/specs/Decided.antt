@@ -1,24 +1,26 @@
 -- What the parts of the search answer.
-use Rattle.std.specs.Prelude.{◌≡◌, ◌⊎◌, Bool, true, false, List, [], ◌∷◌, Option, Some, None}
+use Rattle.std.specs.Prelude.{◌≡◌, ◌⊎◌, Bool, true, false, List, [], ◌∷◌, Option, Some, None, IsSomeAnd, IfSome}
 use Rattle.diagnostics.specs.declared.refusal.Refusal.{Refusal}
 use Rattle.diagnostics.specs.declared.refusal.Refusal.TheVariants as r
 use Rattle.promela_model.specs.declared.mark.Mark.{Mark}
+use Rattle.promela_model.specs.Decided as marks
 use Rattle.promela_model.specs.declared.condition.Condition.{Condition}
 use Rattle.pml_program.specs.declared.program.Proctype.{Proctype}
 use Rattle.pml_program.specs.declared.program.Program.{Program}
-use Rattle.promela_run.specs.Judged.{HasCircle, SettleEverywhere, HasBadStep, HaveGoodSteps, HasBadStart, HasGoodStart, BreaksCondition, KeepsCondition, BreaksModel, KeepsModel, AppliesTo, FitsTo}
+use Rattle.promela_run.specs.Judged.{SomeBody, EachBody, HasBadStart, HasGoodStart, BreaksModel, KeepsModel, AppliesTo, FitsTo}
+use Rattle.promela_process.specs.Control.{BadFirstPoint, Circle, FirstPointsFit, SettlesEverywhere}
 
 abbrev pub DecidesCircles : Bool → List Proctype → Type 0
-DecidesCircles true ps = HasCircle ps
-DecidesCircles false ps = SettleEverywhere ps
+DecidesCircles true ps = SomeBody Circle ps
+DecidesCircles false ps = EachBody SettlesEverywhere ps
 
 abbrev pub DecidesSteps : Bool → List Proctype → Type 0
-DecidesSteps true ps = HasBadStep ps
-DecidesSteps false ps = HaveGoodSteps ps
+DecidesSteps true ps = SomeBody BadFirstPoint ps
+DecidesSteps false ps = EachBody FirstPointsFit ps
 
 abbrev pub DecidesCondition : Bool → Option Condition → List Mark → Type 0
-DecidesCondition true x ms = BreaksCondition x ms
-DecidesCondition false x ms = KeepsCondition x ms
+DecidesCondition true x ms = IsSomeAnd x (λ c. marks.Applies c ms)
+DecidesCondition false x ms = IfSome x (λ c. marks.Fits c ms)
 
 abbrev pub DecidesStart : Bool → Program → Type 0
 DecidesStart true p = HasBadStart p

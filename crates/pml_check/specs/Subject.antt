@@ -2,7 +2,7 @@
 use Rattle.std.specs.Prelude.{◌≡◌}
 use Rattle.pml_tree.specs.declared.tree.Tree.{Tree}
 use Rattle.promela_model.specs.Marks.{of_tree}
-use Rattle.pml_resolve.specs.Model.{numbered_model}
+use Rattle.check_resolve.specs.Model.{numbered_model}
 use Rattle.pml_control.specs.Plan.{ArePlans}
 use Rattle.pml_check.specs.Broken.{AreBroken}
 use Rattle.pml_check.specs.Decided.{DecidesCircles, DecidesSteps}

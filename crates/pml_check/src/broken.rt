@@ -1,12 +1,12 @@
 //! Which conditions are broken on the marks of a tree.
 
 ghost use Rattle.std.specs.Prelude.{◌≡◌, IfOk};
-ghost use Rattle.pml_names.specs.Env.{env};
+ghost use Rattle.check_names.specs.Env.{env};
 ghost use Rattle.pml_check.specs.Broken.{AreBroken};
 
-use pml_conditions::decide::applies;
-use pml_conditions::find::{Found, find};
-use pml_names::table::Table;
+use check_conditions::decide::applies;
+use check_conditions::find::{Found, find};
+use check_names::table::Table;
 use promela_model::condition::Condition;
 use promela_model::mark::Mark;
 use std::alloc::{AllocError, Global};

@@ -61,7 +61,7 @@ impl<'a> Model for Checked<'a> {
 
 impl<'a> Checked<'a> {
     ghost use Rattle.pml_flow.specs.Graph.{AreGraphs};
-    ghost use Rattle.pml_start.specs.Bound.{IsWithin};
+    ghost use Rattle.run_start.specs.Bound.{IsWithin};
     ghost use Rattle.promela_run.specs.Judged.{HasGoodStart};
 
     /// The model: its cells and its channels are within the limits, and no variable of its first state begins with a fault.

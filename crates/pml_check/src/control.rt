@@ -3,7 +3,8 @@
 ghost use Rattle.std.specs.Prelude.{◌≡◌, ◌||◌, IfOk};
 ghost use Rattle.pml_control.specs.Plan.{ArePlans};
 ghost use Rattle.pml_flow.specs.Graph.{AreGraphs};
-ghost use Rattle.promela_run.specs.Judged.{SettleEverywhere};
+ghost use Rattle.promela_run.specs.Judged.{EachBody};
+ghost use Rattle.promela_process.specs.Control.{SettlesEverywhere};
 ghost use Rattle.pml_check.specs.Decided.{DecidesCircles, DecidesSteps};
 
 use pml_control::findings::{Findings, Plan, examine};
@@ -54,7 +55,7 @@ pub fn all_graphs(
     proctypes: &[Proctype],
     plans: &[Plan],
 ) -> Result<Vec<Graph>, AllocError>
-    requires settle { SettleEverywhere proctypes.now }
+    requires settle { EachBody SettlesEverywhere proctypes.now }
     requires plans { ArePlans proctypes.now plans.now }
     ensures { IfOk result (λ graphs. AreGraphs proctypes.now graphs.items) }
 {

@@ -1,12 +1,12 @@
 //! What is asked of the first state.
 
 ghost use Rattle.std.specs.Prelude.{IfOk};
-ghost use Rattle.pml_start.specs.Bound.{IsWithin};
+ghost use Rattle.run_start.specs.Bound.{IsWithin};
 ghost use Rattle.pml_check.specs.Decided.{DecidesStart};
 
 use diagnostics::Stop;
 use pml_program::program::Program;
-use pml_start::start::start;
+use run_start::start::start;
 use std::alloc::{AllocError, Global};
 
 /// Whether what a variable of the first state begins with cannot be evaluated.

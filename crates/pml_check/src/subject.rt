@@ -2,18 +2,18 @@
 
 ghost use Rattle.std.specs.Prelude.{◌≡◌, IfOk};
 ghost use Rattle.promela_model.specs.Marks.{of_tree};
-ghost use Rattle.pml_resolve.specs.Model.{numbered_model};
+ghost use Rattle.check_resolve.specs.Model.{numbered_model};
 ghost use Rattle.pml_check.specs.Broken.{AreBroken};
 ghost use Rattle.pml_check.specs.Subject.{IsSubject};
 
 use crate::broken::{Broken, broken_on};
 use crate::control::{Control, examine_all};
 use crate::parsed::Parsed;
+use check_names::names::all_names;
+use check_resolve::model::number;
+use check_uses::model::marks;
 use pml_control::findings::{Findings, Plan};
-use pml_marks::model::marks;
-use pml_names::names::all_names;
 use pml_program::program::Program;
-use pml_resolve::model::number;
 use pml_tree::tree::Tree;
 use sqlite_items::Boxed;
 use std::alloc::{AllocError, Global};

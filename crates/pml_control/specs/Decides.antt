@@ -1,7 +1,7 @@
 -- An answer to what is asked of control.
 use Rattle.std.specs.Prelude.{Bool, true, false}
 use Rattle.pml_program.specs.declared.program.Seq.{Seq}
-use Rattle.promela_process.specs.Circles.{SettlesEverywhere, Circle, BadFirstPoint, FirstPointsFit}
+use Rattle.promela_process.specs.Control.{SettlesEverywhere, Circle, BadFirstPoint, FirstPointsFit}
 
 -- a circle is there, or settling ends everywhere
 abbrev pub DecidesCircle : Seq → Bool → Type 0

@@ -8,4 +8,4 @@ mod first_point;
 mod graph;
 mod labels;
 pub mod laws;
-mod node;
+mod post;

@@ -1,11 +1,17 @@
 -- What is asked of the messages of a channel, by its number.
-use Rattle.std.specs.Prelude.{Bool, List, [], ℤ, length, Option, Some, None, Result, Ok, Err}
+use Rattle.std.specs.Prelude.{Bool, List, [], ℤ, length, Option, Some, None, Result, Ok, Err, ok_or, option_map}
 use Rattle.promela_process.specs.declared.sought.Sought.{Sought}
 use Rattle.pml_tree.specs.declared.tree.Search.{Search}
+use Rattle.pml_tree.specs.declared.tree.Fill.{Fill}
 use Rattle.diagnostics.specs.declared.fault.Fault.{Fault}
+use Rattle.diagnostics.specs.declared.fault.Fault.TheVariants.{NoSuchChannel}
 use Rattle.pml_program.specs.declared.expr.Want.{Want}
 use Rattle.promela_process.specs.declared.place.Place.{Place}
-use Rattle.promela_process.specs.Expressions.{Filling, Reading, ◌>>=◌, asked, is_match, polled, Valued, asked_by}
+use Rattle.promela_process.specs.Expressions.{Filling, Reading, ◌>>=◌, filled, is_match, polled, Valued, asked_by}
+
+-- how full a channel is that may not be there
+abbrev pub asked : Fill → Option Filling → Result ℤ Fault
+asked fill o = ok_or (option_map (filled fill) o) NoSuchChannel
 
 -- the messages of a channel, if it is there
 abbrev pub messages_of : Option Filling → List (List ℤ)

@@ -4,8 +4,8 @@ ghost use Rattle.std.specs.Prelude.{◌≡◌, ◌+◌, ◌*◌, ◌<◌, ◌≤
 ghost use Rattle.profile.specs.declared.TheConstants.{MOST_FIELDS};
 ghost use Rattle.pml_program.specs.declared.expr.Expr.TheVariants.{Read};
 ghost use Rattle.promela_process.specs.declared.sought.Sought.{Sought};
-ghost use Rattle.promela_process.specs.Expressions.{val, place, cells, cells_of, want, asked, asked_by, within, inside, index_of, polled, is_match, matched};
-ghost use Rattle.pml_eval.specs.Asking.{has_match, messages_at, settled};
+ghost use Rattle.promela_process.specs.Expressions.{val, place, cells, cells_of, want, asked_by, within, inside, index_of, polled, is_match, matched};
+ghost use Rattle.pml_eval.specs.Asking.{asked, has_match, messages_at, settled};
 ghost use Rattle.pml_eval.specs.There.{IsThere, AreThere};
 
 use crate::ground::Ground;

@@ -1,7 +1,7 @@
--- Each of some lists is a part of all of them.
+-- Each of some lists is an arm of all of them.
 use Rattle.std.proofs.Common.{◌≡◌, ℕ, zero, suc, ◌+◌, ◌-◌, ◌<◌, List, [], ◌∷◌, ◌++◌, length, map, take, drop, refl, sym, ap, ◌∙◌, arith, append_assoc, length-append}
 use Rattle.std.specs.Prelude.{slice_index_or, slice_range}
-use Rattle.pml_flow.specs.Parts.{all_of, bounds_from, begin_of, part}
+use Rattle.pml_flow.specs.Arms.{all_of, bounds_from, begin_of, arm}
 use Rattle.pml_flow.specs.Graph.{span, levels_by}
 
 pub bounds-length : {X : Type 0} (k : ℕ) (xss : List (List X)) → length (bounds_from k xss) ≡ length xss
@@ -16,7 +16,7 @@ drop_front : {X : Type 0} (xs ys : List X) → drop (length xs) (xs ++ ys) ≡ y
 drop_front [] ys = refl
 drop_front (x ∷ xs) ys = drop_front xs ys
 
--- a part in the middle
+-- an arm in the middle
 middle : {X : Type 0} (xs ys zs : List X) → slice_range (xs ++ (ys ++ zs)) (length xs) (length xs + length ys) ≡ ys
 middle xs ys zs =
     let n : (length xs + length ys) - length xs ≡ length ys = omega arith in
@@ -37,26 +37,26 @@ from_next : (m : ℕ) (bs : List ℕ) (n : ℕ) → slice_index_or (m ∷ bs) n 
 from_next m bs zero = refl
 from_next m bs (suc n) = refl
 
-part_by : {X : Type 0} (pre : List X) (xss : List (List X)) (n : ℕ) → slice_range (pre ++ all_of xss) (from_bound (length pre) (bounds_from (length pre) xss) n) (slice_index_or (bounds_from (length pre) xss) n 0) ≡ slice_index_or xss n []
-part_by pre [] n = none (pre ++ []) (from_bound (length pre) [] n)
-part_by pre (xs ∷ rest) zero = middle pre xs (all_of rest)
-part_by {X} pre (xs ∷ rest) (suc n) =
+arm_by : {X : Type 0} (pre : List X) (xss : List (List X)) (n : ℕ) → slice_range (pre ++ all_of xss) (from_bound (length pre) (bounds_from (length pre) xss) n) (slice_index_or (bounds_from (length pre) xss) n 0) ≡ slice_index_or xss n []
+arm_by pre [] n = none (pre ++ []) (from_bound (length pre) [] n)
+arm_by pre (xs ∷ rest) zero = middle pre xs (all_of rest)
+arm_by {X} pre (xs ∷ rest) (suc n) =
     let all : List X = pre ++ xs in
     let k : length all ≡ length pre + length xs = length-append pre xs in
     ap (λ es. slice_range es (slice_index_or ((length pre + length xs) ∷ bounds_from (length pre + length xs) rest) n 0) (slice_index_or (bounds_from (length pre + length xs) rest) n 0)) (sym (append_assoc pre xs (all_of rest)))
     ∙ ap (λ j. slice_range (all ++ all_of rest) j (slice_index_or (bounds_from (length pre + length xs) rest) n 0)) (from_next (length pre + length xs) (bounds_from (length pre + length xs) rest) n)
     ∙ ap (λ j. slice_range (all ++ all_of rest) (from_bound j (bounds_from j rest) n) (slice_index_or (bounds_from j rest) n 0)) (sym k)
-    ∙ part_by all rest n
+    ∙ arm_by all rest n
 
 pub begin_is : (bs : List ℕ) (n : ℕ) → begin_of bs n ≡ from_bound 0 bs n
 begin_is bs zero = refl
 begin_is bs (suc n) = refl
 
--- a part of all
-pub part_is : {X : Type 0} (xss : List (List X)) (n : ℕ) → part (all_of xss) (bounds_from 0 xss) n ≡ slice_index_or xss n []
-part_is xss n =
+-- an arm of all
+pub arm_is : {X : Type 0} (xss : List (List X)) (n : ℕ) → arm (all_of xss) (bounds_from 0 xss) n ≡ slice_index_or xss n []
+arm_is xss n =
     ap (λ j. slice_range (all_of xss) j (slice_index_or (bounds_from 0 xss) n 0)) (begin_is (bounds_from 0 xss) n)
-    ∙ part_by [] xss n
+    ∙ arm_by [] xss n
 
 pub all_append : {X : Type 0} (xs ys : List (List X)) → all_of (xs ++ ys) ≡ all_of xs ++ all_of ys
 all_append [] ys = refl
@@ -69,7 +69,7 @@ bounds_append k (x ∷ xs) ys =
     let n : (k + length x) + length (all_of xs) ≡ k + length (x ++ all_of xs) = omega (arith, e) in
     ap (λ r. (k + length x) ∷ r) (bounds_append (k + length x) xs ys ∙ ap (λ m. bounds_from (k + length x) xs ++ bounds_from m ys) n)
 
--- ---- the numbers of the parts of a part
+-- ---- the numbers of the arms of an arm
 
 read_seam : {X : Type 0} (pre : List X) (x : X) (xs : List X) (d : X) → slice_index_or (pre ++ (x ∷ xs)) (length pre) d ≡ x
 read_seam [] x xs d = refl
@@ -103,7 +103,7 @@ span_by {X} pre (xs ∷ rest) (suc n) d =
     ∙ ap (λ j. e (from_bound j (bounds_from j rest) n) (slice_index_or (bounds_from j rest) n 0) (all ++ all_of rest)) (sym k)
     ∙ span_by all rest n d
 
--- what stands at the numbers of a part is the part
+-- what stands at the numbers of an arm is the arm
 pub levels_are : {X : Type 0} (xss : List (List X)) (n : ℕ) (d : X) → map (λ i. slice_index_or (all_of xss) i d) (levels_by (bounds_from 0 xss) n) ≡ slice_index_or xss n []
 levels_are xss n d =
     let bs : List ℕ = bounds_from 0 xss in
@@ -153,11 +153,11 @@ past_end : (bs : List ℕ) → slice_index_or bs (length bs) 0 ≡ 0
 past_end [] = refl
 past_end (b ∷ bs) = past_end bs
 
--- one of some parts, none where there is none
-pub part_read : {X : Type 0} (xs : List X) (bs ks : List ℕ) (n : ℕ) → part xs bs (slice_index_or ks n (length bs)) ≡ slice_index_or (map (part xs bs) ks) n []
-part_read xs bs [] n = ap (slice_range xs (begin_of bs (length bs))) (past_end bs) ∙ none xs (begin_of bs (length bs))
-part_read xs bs (k ∷ ks) zero = refl
-part_read xs bs (k ∷ ks) (suc n) = part_read xs bs ks n
+-- one of some arms, none where there is none
+pub arm_read : {X : Type 0} (xs : List X) (bs ks : List ℕ) (n : ℕ) → arm xs bs (slice_index_or ks n (length bs)) ≡ slice_index_or (map (arm xs bs) ks) n []
+arm_read xs bs [] n = ap (slice_range xs (begin_of bs (length bs))) (past_end bs) ∙ none xs (begin_of bs (length bs))
+arm_read xs bs (k ∷ ks) zero = refl
+arm_read xs bs (k ∷ ks) (suc n) = arm_read xs bs ks n
 
 -- one number more
 pub span_more : (l b : ℕ) → l < b → span l (b - l) ≡ l ∷ span (l + 1) (b - (l + 1))

@@ -1,15 +1,15 @@
--- The ways that a place shows are its own, and those of the escapes above it.
+-- The ways that a position shows are its own, and those of the escapes above it.
 use Rattle.std.proofs.Common.{◌≡◌, ℕ, zero, suc, ◌+◌, Bool, true, false, List, [], ◌∷◌, ◌++◌, length, map, Option, Some, None, refl, sym, ap, ◌∙◌, arith, if◌then◌else◌}
 use Rattle.std.specs.Prelude.{slice_get}
 use Rattle.pml_program.specs.declared.program.Seq.{Seq, Seq', Row_of-Stmt, end_of-Stmt, more_of-Stmt}
 use Rattle.pml_program.specs.declared.program.Basic.{Basic, Plain, Goto, Break, If', Do', Block, Atomic, DStep, Unless, Row_of-Seq, end_of-Seq, more_of-Seq}
 use Rattle.pml_control.proofs.Reaching.{zero_plus, plus_zero, plus_one}
-use Rattle.pml_flow.specs.Ways.{Ways, Site, way, own_step, one, outer, site, bare, count_part, count_row, count_options, ways_part, ways_row, ways_options, sites_in, sites_part, sites_escape, sites_row, sites_options, sites_of}
+use Rattle.pml_flow.specs.Ways.{Ways, Site, way, own_step, one, outer, site, bare, count_arm, count_row, count_options, ways_arm, ways_row, ways_options, sites_in, sites_arm, sites_escape, sites_row, sites_options, sites_of}
 use Rattle.pml_flow.specs.Graph.{kept, site_of}
 use Rattle.pml_flow.proofs.Whole as whole
 use Rattle.pml_flow.proofs.Whole.{sites_whole}
 use Rattle.pml_flow.proofs.Beginning.{read, append_nil}
-use Rattle.pml_flow.proofs.Rows.{sites_row_list, count_sites_part, count_sites_escape, count_sites_row, count_sites_options}
+use Rattle.pml_flow.proofs.Rows.{sites_row_list, count_sites_arm, count_sites_escape, count_sites_row, count_sites_options}
 
 map_append : {X Y : Type 0} (f : X → Y) (xs ys : List X) → map f (xs ++ ys) ≡ map f xs ++ map f ys
 map_append f [] ys = refl
@@ -32,7 +32,7 @@ module _ (ss : List Site) where
   all_ways [] = []
   all_ways (k ∷ ks) = (site_of ss k).ways ++ all_ways ks
 
-  -- a place with all that it shows
+  -- a position with all that it shows
   abbrev pub full : Site → whole.Site
   full s = whole.site s.atomic s.inside (all_ways s.shows)
 
@@ -65,7 +65,7 @@ module _ (ss : List Site) where
   gate_is k a false ks ws h = own_is k a false (k ∷ ks) ks ws h
 
   -- an escape
-  escape_own : (last : ℕ) (inside : Bool) (a : Option ℕ) (ks : List ℕ) (e : Seq) → Here (last + 1) (sites_escape last inside a ks e) → (site_of ss (last + 1)).ways ≡ ways_part last inside e
+  escape_own : (last : ℕ) (inside : Bool) (a : Option ℕ) (ks : List ℕ) (e : Seq) → Here (last + 1) (sites_escape last inside a ks e) → (site_of ss (last + 1)).ways ≡ ways_arm last inside e
   escape_own last inside a ks (Seq' m row) h =
       let s : Site = site a inside ((last + 1) ∷ []) (ways_row (last + 1) inside row) in
       ap (λ (x : Site). x.ways) (read ss (last + 1) s (bare None false) (here_head (last + 1) s (sites_row (last + 1) inside a ks row) h))
@@ -91,26 +91,26 @@ module _ (ss : List Site) where
         ap (λ r. full s ∷ r) (map_append full xs (z ∷ []) ∙ ap (λ r. r ++ full z ∷ []) (full_options (last + 1) inside a ks row (here_left (last + 1 + 1) xs (z ∷ []) (here_tail (last + 1) s (xs ++ z ∷ []) h))))
         ∙ ap (λ (x : whole.Site). x ∷ (whole.sites_options (last + 1) inside a (all_ways ks) row ++ full z ∷ [])) (own_is (last + 1) a inside ((last + 1) ∷ ks) ks (ways_options (last + 1) inside row) (here_head (last + 1) s (xs ++ z ∷ []) h))
     full_in last inside a ks (Block s) h =
-        let xs : List Site = sites_part last inside a ks s in
+        let xs : List Site = sites_arm last inside a ks s in
         map_append full xs (bare a inside ∷ [])
-        ∙ ap (λ r. r ++ full (bare a inside) ∷ []) (full_part last inside a ks s (here_left (last + 1) xs (bare a inside ∷ []) h))
+        ∙ ap (λ r. r ++ full (bare a inside) ∷ []) (full_arm last inside a ks s (here_left (last + 1) xs (bare a inside ∷ []) h))
     full_in last inside a ks (Atomic s) h =
-        let xs : List Site = sites_part last inside (outer a (last + 1)) ks s in
+        let xs : List Site = sites_arm last inside (outer a (last + 1)) ks s in
         map_append full xs (bare a inside ∷ [])
-        ∙ ap (λ r. r ++ full (bare a inside) ∷ []) (full_part last inside (outer a (last + 1)) ks s (here_left (last + 1) xs (bare a inside ∷ []) h))
+        ∙ ap (λ r. r ++ full (bare a inside) ∷ []) (full_arm last inside (outer a (last + 1)) ks s (here_left (last + 1) xs (bare a inside ∷ []) h))
     full_in last inside a ks (DStep s) h =
-        let xs : List Site = sites_part last true a [] s in
-        let k : ℕ = (last + count_part s) + 1 in
+        let xs : List Site = sites_arm last true a [] s in
+        let k : ℕ = (last + count_arm s) + 1 in
         let z : Site = site a inside (if inside then [] else (k ∷ ks)) (if inside then [] else (one (own_step last s))) in
-        let n = count_sites_part last true a [] s in
+        let n = count_sites_arm last true a [] s in
         map_append full xs (z ∷ [])
-        ∙ ap (λ r. r ++ full z ∷ []) (full_part last true a [] s (here_left (last + 1) xs (z ∷ []) h))
-        ∙ ap (λ (x : whole.Site). whole.sites_part last true a [] s ++ x ∷ []) (gate_is k a inside ks (one (own_step last s)) (here_head k z [] (here_right (last + 1) k xs (z ∷ []) (omega (arith, n)) h)))
+        ∙ ap (λ r. r ++ full z ∷ []) (full_arm last true a [] s (here_left (last + 1) xs (z ∷ []) h))
+        ∙ ap (λ (x : whole.Site). whole.sites_arm last true a [] s ++ x ∷ []) (gate_is k a inside ks (one (own_step last s)) (here_head k z [] (here_right (last + 1) k xs (z ∷ []) (omega (arith, n)) h)))
     full_in last inside a ks (Unless s e) h =
         let es : List Site = sites_escape last inside a ks e in
         let z : Site = bare a inside in
-        let last' : ℕ = last + count_part e in
-        let xs : List Site = sites_part last' inside a ((last + 1) ∷ ks) s in
+        let last' : ℕ = last + count_arm e in
+        let xs : List Site = sites_arm last' inside a ((last + 1) ∷ ks) s in
         let n = count_sites_escape last inside a ks e in
         let i = here_left (last + 1) es (xs ++ z ∷ []) h in
         let r = here_right (last + 1) (last' + 1) es (xs ++ z ∷ []) (omega (arith, n)) h in
@@ -118,12 +118,12 @@ module _ (ss : List Site) where
         ∙ ap (λ r. r ++ map full (xs ++ z ∷ [])) (full_escape last inside a ks e i)
         ∙ ap (λ r. whole.sites_escape last inside a (all_ways ks) e ++ r) (
         map_append full xs (z ∷ [])
-        ∙ ap (λ r. r ++ full z ∷ []) (full_part last' inside a ((last + 1) ∷ ks) s (here_left (last' + 1) xs (z ∷ []) r))
-        ∙ ap (λ (ws : Ways). whole.sites_part last' inside a (ws ++ all_ways ks) s ++ full z ∷ []) (escape_own last inside a ks e i)
+        ∙ ap (λ r. r ++ full z ∷ []) (full_arm last' inside a ((last + 1) ∷ ks) s (here_left (last' + 1) xs (z ∷ []) r))
+        ∙ ap (λ (ws : Ways). whole.sites_arm last' inside a (ws ++ all_ways ks) s ++ full z ∷ []) (escape_own last inside a ks e i)
         )
 
-    full_part : (last : ℕ) (inside : Bool) (a : Option ℕ) (ks : List ℕ) (s : Seq) → Here (last + 1) (sites_part last inside a ks s) → map full (sites_part last inside a ks s) ≡ whole.sites_part last inside a (all_ways ks) s
-    full_part last inside a ks (Seq' m row) h =
+    full_arm : (last : ℕ) (inside : Bool) (a : Option ℕ) (ks : List ℕ) (s : Seq) → Here (last + 1) (sites_arm last inside a ks s) → map full (sites_arm last inside a ks s) ≡ whole.sites_arm last inside a (all_ways ks) s
+    full_arm last inside a ks (Seq' m row) h =
         ap (λ r. full (bare a inside) ∷ r) (full_row (last + 1) inside a ks row (here_tail (last + 1) (bare a inside) (sites_row (last + 1) inside a ks row) h))
 
     full_escape : (last : ℕ) (inside : Bool) (a : Option ℕ) (ks : List ℕ) (s : Seq) → Here (last + 1) (sites_escape last inside a ks s) → map full (sites_escape last inside a ks s) ≡ whole.sites_escape last inside a (all_ways ks) s
@@ -149,11 +149,11 @@ module _ (ss : List Site) where
     full_options last inside a ks end_of-Seq h = refl
     full_options last inside a ks (more_of-Seq s rest) h =
         let xs : List Site = sites_options last inside a ks rest in
-        let ys : List Site = sites_part (last + count_options rest) inside a ks s in
+        let ys : List Site = sites_arm (last + count_options rest) inside a ks s in
         let n = count_sites_options last inside a ks rest in
         map_append full xs ys
         ∙ ap (λ r. r ++ map full ys) (full_options last inside a ks rest (here_left (last + 1) xs ys h))
-        ∙ ap (λ r. whole.sites_options last inside a (all_ways ks) rest ++ r) (full_part (last + count_options rest) inside a ks s (here_right (last + 1) ((last + count_options rest) + 1) xs ys (omega (arith, n)) h))
+        ∙ ap (λ r. whole.sites_options last inside a (all_ways ks) rest ++ r) (full_arm (last + count_options rest) inside a ks s (here_right (last + 1) ((last + count_options rest) + 1) xs ys (omega (arith, n)) h))
 
   full_by : (b : Seq) → ss ≡ sites_of b → map full (sites_of b) ≡ sites_whole b
   full_by (Seq' m row) e =

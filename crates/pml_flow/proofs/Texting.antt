@@ -9,14 +9,14 @@ use Rattle.pml_control.proofs.Circling.{within}
 use Rattle.pml_flow.specs.declared.level.Way.{Way}
 use Rattle.pml_flow.specs.declared.edge.Edge.{Edge}
 use Rattle.pml_flow.specs.Ways.{Ways, Site}
-use Rattle.pml_flow.specs.Parts.{all_of}
-use Rattle.promela_process.specs.Offers.{statement_at, stated, text_by, line_by}
-use Rattle.pml_flow.specs.Marked.{mark}
-use Rattle.pml_flow.specs.Composed.{text_if, text_at, offer_line_at, texts_from, offer_lines_from, texts_of}
-use Rattle.pml_flow.specs.Graph.{first_place, numbered_at, is_end_at, Tables, edge, edges_level, own_levels, site_of, mark_edges}
+use Rattle.pml_flow.specs.Arms.{all_of}
+use Rattle.promela_process.specs.Offers.{statement_at, stated}
+use Rattle.pml_flow.specs.Marked.{flag}
+use Rattle.pml_flow.specs.Composed.{text_by, line_by, text_if, text_at, offer_line_at, texts_from, offer_lines_from, texts_of}
+use Rattle.pml_flow.specs.Graph.{first_position, numbered_at, is_end_at, Tables, edge, edges_level, own_levels, site_of, flag_edges}
 use Rattle.pml_flow.proofs.Beginning.{read, Own}
-use Rattle.pml_flow.proofs.Ending.{read_map, mark_keeps, mark_sets, mark-length}
-use Rattle.pml_flow.proofs.Parting.{part_is, all_append}
+use Rattle.pml_flow.proofs.Ending.{read_map, flag_keeps, flag_sets, flag-length}
+use Rattle.pml_flow.proofs.Parting.{arm_is, all_append}
 use Rattle.pml_flow.proofs.Sharing.{all_ways}
 
 -- ---- what edges offer is marked, of the first n numbers
@@ -25,15 +25,15 @@ abbrev pub AllMarked : ℕ → List Bool → List Edge → Type 0
 AllMarked n bs [] = Unit {0}
 AllMarked n bs (e ∷ es) = (e.statement < n → is_end_at bs e.statement ≡ true) × AllMarked n bs es
 
-edges_keep : (bs : List Bool) (es : List Edge) (n : ℕ) → is_end_at bs n ≡ true → is_end_at (mark_edges bs es) n ≡ true
+edges_keep : (bs : List Bool) (es : List Edge) (n : ℕ) → is_end_at bs n ≡ true → is_end_at (flag_edges bs es) n ≡ true
 edges_keep bs [] n h = h
-edges_keep bs (e ∷ es) n h = edges_keep (mark bs e.statement) es n (mark_keeps bs e.statement n h)
+edges_keep bs (e ∷ es) n h = edges_keep (flag bs e.statement) es n (flag_keeps bs e.statement n h)
 
-edges_mark : (n : ℕ) (bs : List Bool) (es : List Edge) → length bs ≡ n → AllMarked n (mark_edges bs es) es
-edges_mark n bs [] l = tt
-edges_mark n bs (e ∷ es) l = (
-  (λ h. edges_keep (mark bs e.statement) es e.statement (mark_sets bs e.statement (omega (arith, h, l)))),
-  edges_mark n (mark bs e.statement) es (mark-length bs e.statement ∙ l),
+edges_flag : (n : ℕ) (bs : List Bool) (es : List Edge) → length bs ≡ n → AllMarked n (flag_edges bs es) es
+edges_flag n bs [] l = tt
+edges_flag n bs (e ∷ es) l = (
+  (λ h. edges_keep (flag bs e.statement) es e.statement (flag_sets bs e.statement (omega (arith, h, l)))),
+  edges_flag n (flag bs e.statement) es (flag-length bs e.statement ∙ l),
 )
 
 none-length : (k : ℕ) → length (replicate k false) ≡ k
@@ -88,11 +88,11 @@ module _ (n : ℕ) (bs : List Bool) (t : Tables) where
   may_ways ss [] h = tt
   may_ways ss (k ∷ ks) h = may_append n bs (site_of ss k).ways (all_ways ss ks) (may_site ss k h) (may_ways ss ks h)
 
--- what a place shows is marked
-pub shown_marked : (n : ℕ) (t : Tables) (ss : List Site) (ks : List ℕ) → MayLevels n (mark_edges (replicate n false) (all_of (all_of (map (own_levels t) ss)))) (all_ways ss ks)
+-- what a position shows is marked
+pub shown_marked : (n : ℕ) (t : Tables) (ss : List Site) (ks : List ℕ) → MayLevels n (flag_edges (replicate n false) (all_of (all_of (map (own_levels t) ss)))) (all_ways ss ks)
 shown_marked n t ss ks =
     let es : List Edge = all_of (all_of (map (own_levels t) ss)) in
-    may_ways n (mark_edges (replicate n false) es) t ss ks (edges_mark n (replicate n false) es (none-length n))
+    may_ways n (flag_edges (replicate n false) es) t ss ks (edges_flag n (replicate n false) es (none-length n))
 
 -- ---- what is marked has its text
 
@@ -109,21 +109,21 @@ lines_read ds k (x ∷ bs) (suc n) h = lines_read ds (k + 1) bs n h ∙ ap (λ i
 
 module _ (b : Seq) (cs : List Control) where
   -- the statement with a way's number
-  way_is : {X : Type 0} (f : Option Stmt → X) (w : Way) → Own b cs w → f (slice_index_or (map (stated b) cs) w.statement None) ≡ f (statement_at b (first_place (numbered_at cs w.statement)))
+  way_is : {X : Type 0} (f : Option Stmt → X) (w : Way) → Own b cs w → f (slice_index_or (map (stated b) cs) w.statement None) ≡ f (statement_at b (first_position (numbered_at cs w.statement)))
   way_is f w o =
-      let c : Control = Todo o.place o.statement ∷ o.after in
+      let c : Control = Todo o.position o.statement ∷ o.after in
       ap f (read_map (stated b) cs w.statement c None o.stands)
-      ∙ ap (λ (d : Control). f (statement_at b (first_place d))) (sym (read cs w.statement c [] o.stands))
+      ∙ ap (λ (d : Control). f (statement_at b (first_position d))) (sym (read cs w.statement c [] o.stands))
 
-  pub line_is : (bs : List Bool) (w : Way) → (w.statement < length cs → is_end_at bs w.statement ≡ true) → Own b cs w → offer_line_at (texts_of (map (stated b) cs) bs) w.statement ≡ line_by (statement_at b (first_place (numbered_at cs w.statement)))
+  pub line_is : (bs : List Bool) (w : Way) → (w.statement < length cs → is_end_at bs w.statement ≡ true) → Own b cs w → offer_line_at (texts_of (map (stated b) cs) bs) w.statement ≡ line_by (statement_at b (first_position (numbered_at cs w.statement)))
   line_is bs w h o =
-      lines_read (map (stated b) cs) 0 bs w.statement (h (within cs w.statement (Todo o.place o.statement ∷ o.after) o.stands))
+      lines_read (map (stated b) cs) 0 bs w.statement (h (within cs w.statement (Todo o.position o.statement ∷ o.after) o.stands))
       ∙ ap (λ i. line_by (slice_index_or (map (stated b) cs) i None)) (zero_plus w.statement)
       ∙ way_is line_by w o
 
-  pub text_is : (bs : List Bool) (w : Way) → (w.statement < length cs → is_end_at bs w.statement ≡ true) → Own b cs w → text_at (texts_of (map (stated b) cs) bs) w.statement ≡ text_by (statement_at b (first_place (numbered_at cs w.statement)))
+  pub text_is : (bs : List Bool) (w : Way) → (w.statement < length cs → is_end_at bs w.statement ≡ true) → Own b cs w → text_at (texts_of (map (stated b) cs) bs) w.statement ≡ text_by (statement_at b (first_position (numbered_at cs w.statement)))
   text_is bs w h o =
-      part_is (texts_from (map (stated b) cs) 0 bs) w.statement
-      ∙ texts_read (map (stated b) cs) 0 bs w.statement (h (within cs w.statement (Todo o.place o.statement ∷ o.after) o.stands))
+      arm_is (texts_from (map (stated b) cs) 0 bs) w.statement
+      ∙ texts_read (map (stated b) cs) 0 bs w.statement (h (within cs w.statement (Todo o.position o.statement ∷ o.after) o.stands))
       ∙ ap (λ i. text_by (slice_index_or (map (stated b) cs) i None)) (zero_plus w.statement)
       ∙ way_is text_by w o

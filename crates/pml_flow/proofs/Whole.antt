@@ -2,7 +2,7 @@
 use Rattle.std.specs.Prelude.{ℕ, ◌+◌, List, [], ◌∷◌, ◌++◌, Bool, true, false, Option, None, if◌then◌else◌, slice_index_or}
 use Rattle.pml_program.specs.declared.program.Seq.{Seq, Seq', Row_of-Stmt, end_of-Stmt, more_of-Stmt}
 use Rattle.pml_program.specs.declared.program.Basic.{Basic, Plain, Goto, Break, If', Do', Block, Atomic, DStep, Unless, Row_of-Seq, end_of-Seq, more_of-Seq}
-use Rattle.pml_flow.specs.Ways.{Ways, way, own_step, one, outer, count_part, count_row, count_options, ways_part, ways_row, ways_options}
+use Rattle.pml_flow.specs.Ways.{Ways, way, own_step, one, outer, count_arm, count_row, count_options, ways_arm, ways_row, ways_options}
 
 pub record Site : Type 0 where
   pub atomic : Option ℕ
@@ -25,17 +25,17 @@ abbrev mutual
       sites_options last inside a above row ++ site a inside (ways_options last inside row ++ above) ∷ []
   sites_in last inside a above (Do' m row) =
       site a inside (ways_options (last + 1) inside row ++ above) ∷ (sites_options (last + 1) inside a above row ++ site a inside [] ∷ [])
-  sites_in last inside a above (Block s) = sites_part last inside a above s ++ site a inside [] ∷ []
-  sites_in last inside a above (Atomic s) = sites_part last inside (outer a (last + 1)) above s ++ site a inside [] ∷ []
+  sites_in last inside a above (Block s) = sites_arm last inside a above s ++ site a inside [] ∷ []
+  sites_in last inside a above (Atomic s) = sites_arm last inside (outer a (last + 1)) above s ++ site a inside [] ∷ []
   sites_in last inside a above (DStep s) =
-      sites_part last true a [] s
+      sites_arm last true a [] s
       ++ site a inside (if inside then [] else (one (own_step last s) ++ above)) ∷ []
   sites_in last inside a above (Unless s e) =
       sites_escape last inside a above e
-      ++ (sites_part (last + count_part e) inside a (ways_part last inside e ++ above) s ++ site a inside [] ∷ [])
+      ++ (sites_arm (last + count_arm e) inside a (ways_arm last inside e ++ above) s ++ site a inside [] ∷ [])
 
-  pub sites_part : ℕ → Bool → Option ℕ → Ways → Seq → List Site
-  sites_part last inside a above (Seq' m row) = site a inside [] ∷ sites_row (last + 1) inside a above row
+  pub sites_arm : ℕ → Bool → Option ℕ → Ways → Seq → List Site
+  sites_arm last inside a above (Seq' m row) = site a inside [] ∷ sites_row (last + 1) inside a above row
 
   pub sites_escape : ℕ → Bool → Option ℕ → Ways → Seq → List Site
   sites_escape last inside a above (Seq' m row) =
@@ -49,7 +49,7 @@ abbrev mutual
   pub sites_options : {n : _} → ℕ → Bool → Option ℕ → Ways → Row_of-Seq n → List Site
   sites_options last inside a above end_of-Seq = []
   sites_options last inside a above (more_of-Seq s rest) =
-      sites_options last inside a above rest ++ sites_part (last + count_options rest) inside a above s
+      sites_options last inside a above rest ++ sites_arm (last + count_options rest) inside a above s
 
 abbrev pub sites_whole : Seq → List Site
 sites_whole (Seq' m row) = site None false [] ∷ sites_row 0 false None [] row

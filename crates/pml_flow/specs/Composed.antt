@@ -1,8 +1,16 @@
 -- The texts of a graph's offers, one behind another.
-use Rattle.std.specs.Prelude.{ℕ, ◌+◌, List, [], ◌∷◌, Bool, true, false, Option, None, slice_index_or}
+use Rattle.std.specs.Prelude.{ℕ, ◌+◌, List, [], ◌∷◌, Bool, true, false, Option, None, slice_index_or, unwrap_or, option_map}
 use Rattle.pml_program.specs.declared.program.Stmt.{Stmt}
-use Rattle.pml_flow.specs.Parts.{all_of, bounds_from, part}
-use Rattle.promela_process.specs.Offers.{text_by, line_by}
+use Rattle.pml_flow.specs.Arms.{all_of, bounds_from, arm}
+use Rattle.promela_process.specs.Offers.{offer_text, offer_line}
+
+-- the text of an offer; empty, where there is no statement
+abbrev pub text_by : Option Stmt → List ℕ
+text_by o = unwrap_or (option_map offer_text o) []
+
+-- the line of an offer; 0, where there is no statement
+abbrev pub line_by : Option Stmt → ℕ
+line_by o = unwrap_or (option_map offer_line o) 0
 
 -- ---- those of a graph
 
@@ -14,7 +22,7 @@ pub record Texts : Type 0 where
 
 -- the text of a statement's number
 abbrev pub text_at : Texts → ℕ → List ℕ
-text_at t n = part t.bytes t.bounds n
+text_at t n = arm t.bytes t.bounds n
 
 -- its line
 abbrev pub offer_line_at : Texts → ℕ → ℕ

@@ -1,9 +1,10 @@
 -- What is kept of a graph, and what a body's graph stands for.
-use Rattle.std.specs.Prelude.{◌≡◌, MatchBool, ℕ, zero, suc, ◌+◌, ◌-◌, ◌<◌, List, [], ◌∷◌, ◌++◌, length, map, Bool, false, nat_eq, Option, Some, None, slice_get, slice_index_or}
+use Rattle.std.specs.Prelude.{◌≡◌, MatchBool, ℕ, zero, suc, ◌+◌, ◌-◌, ◌<◌, List, [], ◌∷◌, ◌++◌, length, map, Bool, false, nat_eq, Option, Some, None, slice_get, slice_index_or, option_map}
+use Rattle.pml_program.specs.declared.program.Stmt.{Stmt}
 use Rattle.pml_program.specs.declared.program.Seq.{Seq}
 use Rattle.pml_program.specs.declared.program.Proctype.{Proctype}
-use Rattle.promela_process.specs.Control.{Place, Control, Todo, InAtomic, settle, at, basic_of, steps}
-use Rattle.promela_process.specs.Circles.{told_of}
+use Rattle.promela_process.specs.Control.{Position, Control, Todo, InAtomic, settle, at, steps}
+use Rattle.pml_control.specs.Told.{told_of}
 use Rattle.promela_process.specs.Offers as control
 use Rattle.promela_process.specs.Offers.{Levels, offers, outermost, IsPoint, stated, line_at, Offer, offer_of}
 use Rattle.pml_control.specs.declared.ends.Ending.{Ending}
@@ -13,23 +14,23 @@ use Rattle.pml_flow.specs.declared.level.Way.{Way}
 use Rattle.pml_flow.specs.declared.edge.Edge.{Edge}
 use Rattle.pml_flow.specs.Ways.{Ways, Site, bare}
 use Rattle.pml_flow.specs.Points.{points_of, point_at}
-use Rattle.pml_flow.specs.Parts.{all_of, bounds_from, begin_of, part}
-use Rattle.pml_flow.specs.Marked.{mark, IsValidEnd}
+use Rattle.pml_flow.specs.Arms.{all_of, bounds_from, begin_of, arm}
+use Rattle.pml_flow.specs.Marked.{flag, IsValidEnd}
 use Rattle.pml_flow.specs.Composed.{Texts, text_at, offer_line_at}
 
--- the place of what stands first
-abbrev pub first_place : Control → Place
-first_place [] = ([], 0)
-first_place (Todo p s ∷ c) = p
-first_place (f ∷ c) = ([], 0)
+-- the position of what stands first
+abbrev pub first_position : Control → Position
+first_position [] = ([], 0)
+first_position (Todo p s ∷ c) = p
+first_position (f ∷ c) = ([], 0)
 
--- the place of the atomic that control is directly in
-abbrev pub atomic_place : Control → Option Place
-atomic_place [] = None
-atomic_place (InAtomic p ∷ c) = Some p
-atomic_place (f ∷ c) = None
+-- the position of the atomic that control is directly in
+abbrev pub atomic_position : Control → Option Position
+atomic_position [] = None
+atomic_position (InAtomic p ∷ c) = Some p
+atomic_position (f ∷ c) = None
 
--- what is to do at the place with this number
+-- what is to do at the position with this number
 abbrev pub numbered_at : List Control → ℕ → Control
 numbered_at cs n = slice_index_or cs n []
 
@@ -42,7 +43,7 @@ maybe f (Some x) = Some (f x)
 
 -- what a way stands for
 abbrev pub seen : Seq → List Control → Way → control.Edge
-seen b cs w = (first_place (numbered_at cs w.statement), settle b (numbered_at cs w.target))
+seen b cs w = (first_position (numbered_at cs w.statement), settle b (numbered_at cs w.target))
 
 -- the ways of a level, in text order
 abbrev pub seen_level : Seq → List Control → List Way → List control.Edge
@@ -126,11 +127,11 @@ abbrev pub edges_level : Tables → List Way → List Edge
 edges_level t [] = []
 edges_level t (w ∷ ws) = edges_level t ws ++ edge t w ∷ []
 
--- those of each level of a place
+-- those of each level of a position
 abbrev pub own_levels : Tables → Site → List (List Edge)
 own_levels t s = map (edges_level t) s.ways
 
--- The edges of all places, level by level; where each level ends among them; and where those of each number end among the levels.
+-- The edges of all positions, level by level; where each level ends among them; and where those of each number end among the levels.
 pub record AllEdges : Type 0 where
   pub edges : List Edge
   pub bounds : List ℕ
@@ -180,21 +181,21 @@ node_at ns None (Some s) = node_of ns s ∷ []
 node_at ns o s = []
 
 -- the statements that edges offer are marked
-abbrev pub mark_edges : List Bool → List Edge → List Bool
-mark_edges bs [] = bs
-mark_edges bs (e ∷ es) = mark_edges (mark bs e.statement) es
+abbrev pub flag_edges : List Bool → List Edge → List Bool
+flag_edges bs [] = bs
+flag_edges bs (e ∷ es) = flag_edges (flag bs e.statement) es
 
 -- ---- what a graph is
 
 -- the edges of each level of a node
 abbrev pub levels_of : Graph → Option Node → List (List Edge)
 levels_of g None = []
-levels_of g (Some n) = map (part g.edges g.bounds) n.levels
+levels_of g (Some n) = map (arm g.edges g.bounds) n.levels
 
--- the place of the atomic with this number
-abbrev pub atomic_of : List Control → Option ℕ → Option Place
+-- the position of the atomic with this number
+abbrev pub atomic_of : List Control → Option ℕ → Option Position
 atomic_of cs None = None
-atomic_of cs (Some k) = atomic_place (numbered_at cs k)
+atomic_of cs (Some k) = atomic_position (numbered_at cs k)
 
 abbrev pub atomic_in : Option Node → Option ℕ
 atomic_in None = None
@@ -216,8 +217,8 @@ LeadBelow n (e ∷ es) = ((e.target < n) × EachBelow n e.entry) × LeadBelow n 
 -- the offer that an edge stands for
 abbrev pub shown : Seq → Texts → Edge → Offer
 shown b t e = record {
-  statement = first_place (numbered_at (told_of b) e.statement);
-  basic = basic_of (stated b (numbered_at (told_of b) e.statement));
+  statement = first_position (numbered_at (told_of b) e.statement);
+  basic = option_map (λ (s : Stmt). s.basic) (stated b (numbered_at (told_of b) e.statement));
   next = point_at b e.target;
   keeps = e.keeps;
   stays = e.stays;
@@ -256,6 +257,6 @@ pub record AreGraphs (ps : List Proctype) (gs : List Graph) : Type 0 where
 
 -- c is what is to do at a point
 pub record Placed (b : Seq) (c : Control) : Type 0 where
-  pub place : Place
-  pub point : IsPoint b place
-  pub is : at (steps b) place ≡ c
+  pub position : Position
+  pub point : IsPoint b position
+  pub is : at (steps b) position ≡ c

@@ -1,7 +1,7 @@
 -- Where the edges of a node's one level stand, where it has just one.
 use Rattle.std.specs.Prelude.{ℕ, List, [], ◌∷◌, map, Option, Some, None, slice_index_or}
 use Rattle.pml_flow.specs.declared.only.Span.{Span}
-use Rattle.pml_flow.specs.Parts.{begin_of}
+use Rattle.pml_flow.specs.Arms.{begin_of}
 use Rattle.pml_flow.specs.Graph.{Node}
 
 -- of levels: nowhere where there is none, or more than one

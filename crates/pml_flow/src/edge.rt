@@ -3,7 +3,7 @@
 /// An offer of a node.
 #[derive(Clone, Copy, Debug, PartialEq, Eq)]
 pub struct Edge {
-    /// The number of its statement's place.
+    /// The number of its statement's position.
     pub statement: usize,
     /// The node that follows.
     pub target: usize,

@@ -2,19 +2,19 @@
 
 ghost use Rattle.std.specs.Prelude.{◌≡◌, ℕ, ◌<◌, ◌-◌, ◌++◌, ◌∷◌, [], false, IfOk, IfSome, OnOk, length, map, replicate, slice_get, slice_index_or};
 ghost use Rattle.std.specs.Option.{option_copied};
-ghost use Rattle.promela_process.specs.Circles.{SettlesEverywhere};
+ghost use Rattle.promela_process.specs.Control.{SettlesEverywhere};
 ghost use Rattle.pml_control.specs.Plan.{IsPlan};
-ghost use Rattle.pml_flow.specs.Parts.{all_of, bounds_from};
+ghost use Rattle.pml_flow.specs.Arms.{all_of, bounds_from};
 ghost use Rattle.pml_flow.specs.Composed.{text_at, offer_line_at};
 ghost use Rattle.pml_flow.specs.Only.{only_spans};
-ghost use Rattle.pml_flow.specs.Graph.{kept, ranks_from, rank, node_by, targets, end_by, end_of, same_number, site_of, entry_by, edge, edges_level, all_edges, levels_by, all_levels, node_of, node_at, levels_of, atomic_in, is_end_at, mark_edges, IsGraph};
+ghost use Rattle.pml_flow.specs.Graph.{kept, ranks_from, rank, node_by, targets, end_by, end_of, same_number, site_of, entry_by, edge, edges_level, all_edges, levels_by, all_levels, node_of, node_at, levels_of, atomic_in, is_end_at, flag_edges, IsGraph};
 
+use crate::arms::{arm_of, begin_of, bound};
 use crate::edge::Edge;
+use crate::flags::{flag, valid_ends};
 use crate::level::{Level, Way};
 use crate::lines::kept_lines;
-use crate::marks::{mark, valid_ends};
 use crate::only::{Span, only_span, spanned};
-use crate::parts::{begin_of, bound, part_of};
 use crate::settled::{
     atomic_at, end_of, entry_by, is_inside, is_same, rank, ranks, start_of, targets,
 };
@@ -43,7 +43,7 @@ impl Model for Node {
     ghost view = { λ n. record { levels = n.levels.items; atomic = n.atomic } };
 }
 
-/// What edges are made from, by the numbers of places: the node and the number where settling ends from each, and the sites.
+/// What edges are made from, by the numbers of positions: the node and the number where settling ends from each, and the sites.
 #[derive(Drop)]
 struct Tables<'t> {
     targets: &'t [usize],
@@ -59,7 +59,7 @@ impl<'t> Model for Tables<'t> {
     ghost view = { λ t. record { targets = t.targets.now; ends = t.ends.now; sites = t.sites.now } };
 }
 
-/// The edges of all places, level by level: where each level ends among them, and where those of each number end among the levels.
+/// The edges of all positions, level by level: where each level ends among them, and where those of each number end among the levels.
 #[derive(Drop)]
 struct AllEdges {
     edges: Vec<Edge>,
@@ -168,7 +168,7 @@ impl Graph {
         ensures { result.now ≡ slice_index_or (levels_of self.now (slice_get self.now.nodes node)) level [] }
     {
         let levels = self.nodes[node].levels.as_slice();
-        part_of(self.edges.as_slice(), self.bounds.as_slice(), levels, level)
+        arm_of(self.edges.as_slice(), self.bounds.as_slice(), levels, level)
     }
 
     /// The offers of a node's one level, where it has just one, as most nodes have: they are found faster so than by `level`.
@@ -270,7 +270,7 @@ fn add_levels(
     Ok(())
 }
 
-/// The edges of all places.
+/// The edges of all positions.
 fn all_edges(alloc: Global, tables: &Tables<'_>) -> Result<AllEdges, AllocError>
     ensures { IfOk result (λ a. a ≡ all_edges tables.now) }
 {
@@ -298,7 +298,7 @@ fn add_numbers(numbers: &[usize], number: usize, levels: &mut Vec<usize>) -> Res
     Ok(())
 }
 
-/// The node of a place: the levels that it shows, its own and those of the escapes above it.
+/// The node of a position: the levels that it shows, its own and those of the escapes above it.
 fn node_of(alloc: Global, numbers: &[usize], site: &Site) -> Result<Node, AllocError>
     ensures { IfOk result (λ n. n ≡ node_of numbers.now site.now) }
 {
@@ -368,21 +368,21 @@ fn only_spans(
     Ok(spans)
 }
 
-/// Marks the statements that edges offer.
-fn mark_edges(marks: &mut Vec<bool>, edges: &[Edge])
-    ensures { marks.new.items ≡ mark_edges marks.old.items edges.now }
+/// Flags the statements that edges offer.
+fn flag_edges(flags: &mut Vec<bool>, edges: &[Edge])
+    ensures { flags.new.items ≡ flag_edges flags.old.items edges.now }
 {
     for edge in edges {
-        mark(marks, edge.statement);
+        flag(flags, edge.statement);
     }
 }
 
 /// Which statements edges offer, of so many numbers.
 fn offered(alloc: Global, count: usize, edges: &[Edge]) -> Result<Vec<bool>, AllocError>
-    ensures { IfOk result (λ v. v.items ≡ mark_edges (replicate count false) edges.now) }
+    ensures { IfOk result (λ v. v.items ≡ flag_edges (replicate count false) edges.now) }
 {
-    let mut marks = Vec::new(alloc);
-    marks.resize(count, false)?;
-    mark_edges(&mut marks, edges);
-    Ok(marks)
+    let mut flags = Vec::new(alloc);
+    flags.resize(count, false)?;
+    flag_edges(&mut flags, edges);
+    Ok(flags)
 }

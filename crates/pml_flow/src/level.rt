@@ -1,4 +1,4 @@
-//! Ways on from numbered places, by levels.
+//! Ways on from numbered positions, by levels.
 
 ghost use Rattle.std.specs.Prelude.{◌≡◌, ℕ, ◌<◌, ◌++◌, [], IfOk, OnOk, length, slice_index_or, slice_set};
 ghost use Rattle.pml_flow.specs.Ways.{one, meet, put};
@@ -6,14 +6,14 @@ ghost use Rattle.pml_flow.specs.Ways.{one, meet, put};
 use std::alloc::{AllocError, Global};
 use std::marker::Model;
 
-/// A statement that may be taken, and where it leads, each by the number of its place.
+/// A statement that may be taken, and where it leads, each by the number of its position.
 #[derive(Clone, Copy, Debug, PartialEq, Eq)]
 pub struct Way {
-    /// The number of the statement's place.
+    /// The number of the statement's position.
     pub statement: usize,
-    /// The number of the place that follows.
+    /// The number of the position that follows.
     pub target: usize,
-    /// Of a d_step, the number of the place that it begins with.
+    /// Of a d_step, the number of the position that it begins with.
     pub entry: Option<usize>,
 }
 

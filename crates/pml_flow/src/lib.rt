@@ -1,14 +1,14 @@
 //! The control graph of a body.
 #![tactic(auto)]
 
+mod arms;
 pub mod edge;
+mod flags;
 pub mod graph;
 pub mod laws;
 mod level;
 pub mod lines;
-mod marks;
 mod only;
-mod parts;
 mod settled;
 mod site;
 mod sites;

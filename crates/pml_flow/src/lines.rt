@@ -2,8 +2,8 @@
 
 ghost use Rattle.std.specs.Prelude.{◌≡◌, IfOk};
 ghost use Rattle.std.specs.Option.{option_copied};
-ghost use Rattle.promela_process.specs.Offers.{first_line, line_of};
-ghost use Rattle.pml_flow.specs.Marked.{lines_from};
+ghost use Rattle.promela_process.specs.Offers.{first_line};
+ghost use Rattle.pml_flow.specs.Marked.{line_of, lines_from};
 
 use crate::statements::Statements;
 use pml_program::program::Stmt;

@@ -3,7 +3,7 @@
 ghost use Rattle.std.specs.Prelude.{◌≡◌, slice_range};
 ghost use Rattle.pml_flow.specs.Only.{only_span};
 
-use crate::parts::{begin_of, between, bound};
+use crate::arms::{begin_of, between, bound};
 
 /// Where a level's edges begin among all, and where they end.
 #[derive(Clone, Copy, Debug, PartialEq, Eq)]

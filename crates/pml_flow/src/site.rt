@@ -1,4 +1,4 @@
-//! Numbered places of a body.
+//! Numbered positions of a body.
 
 ghost use Rattle.std.specs.Prelude.{◌≡◌};
 
@@ -6,7 +6,7 @@ use crate::level::Level;
 use std::alloc::Global;
 use std::marker::Model;
 
-/// A numbered place: the outermost atomic that it lies in, by the number of its end; whether it lies in a d_step; its own ways on;
+/// A numbered position: the outermost atomic that it lies in, by the number of its end; whether it lies in a d_step; its own ways on;
 /// and the numbers whose ways it shows: its own, and those of the escapes above it, the innermost first.
 #[derive(Drop)]
 pub struct Site {
@@ -27,7 +27,7 @@ impl Model for Site {
 impl Site {
     ghost use Rattle.pml_flow.specs.Ways.{site, bare};
 
-    /// A place where settling ends, or the end of an escape.
+    /// A position where settling ends, or the end of an escape.
     pub fn new(atomic: Option<usize>, inside: bool, shows: Vec<usize>, ways: Vec<Level>) -> Site
         ensures { result ≡ site atomic inside shows.items ways.items }
     {
@@ -39,7 +39,7 @@ impl Site {
         }
     }
 
-    /// A place where settling goes on.
+    /// A position where settling goes on.
     pub fn bare(alloc: Global, atomic: Option<usize>, inside: bool) -> Site
         ensures { result ≡ bare atomic inside }
     {

@@ -1,15 +1,15 @@
-//! The numbered places of a body, with the ways on from each.
+//! The numbered positions of a body, with the ways on from each.
 
 ghost use Rattle.std.specs.Prelude.{◌≡◌, ℕ, ◌+◌, ◌<◌, ◌++◌, ◌∷◌, [], Bool, true, false, None, IfOk, OnOk, length, slice_set};
 ghost use Rattle.pml_program.specs.declared.program.Basic.{DStep};
-ghost use Rattle.pml_flow.specs.Ways.{plain_site, way, one, site, bare, outer, last_of, ways_in, ways_part, ways_list, ways_parts, sites_in, sites_part, sites_entered, sites_escape, sites_list, sites_parts, sites_of};
+ghost use Rattle.pml_flow.specs.Ways.{plain_site, way, one, site, bare, outer, last_of, ways_in, ways_arm, ways_list, ways_arms, sites_in, sites_arm, sites_entered, sites_escape, sites_list, sites_arms, sites_of};
 
 use crate::level::{Level, Way, add_copies, add_levels, copies, one};
 use crate::site::Site;
 use pml_program::program::{Basic, Seq, Stmt};
 use std::alloc::{AllocError, Global};
 
-/// The numbered places of a body. What follows a statement has a number below the statement's.
+/// The numbered positions of a body. What follows a statement has a number below the statement's.
 pub fn sites(alloc: Global, body: &Seq<'_>) -> Result<Vec<Site>, AllocError>
     ensures { IfOk result (λ ss. ss.items ≡ sites_of body.now) }
 {
@@ -19,7 +19,7 @@ pub fn sites(alloc: Global, body: &Seq<'_>) -> Result<Vec<Site>, AllocError>
     Ok(sites)
 }
 
-/// The number of the last place.
+/// The number of the last position.
 fn last(sites: &[Site]) -> usize
     requires { 0 < length sites.now }
     ensures { result ≡ last_of sites.now }
@@ -65,7 +65,7 @@ fn before(alloc: Global, number: usize, numbers: &[usize]) -> Result<Vec<usize>,
     Ok(all)
 }
 
-/// A place with copies of these ways, and escapes above it.
+/// A position with copies of these ways, and escapes above it.
 fn own_site(
     alloc: Global,
     number: usize,
@@ -87,7 +87,7 @@ fn set_site(sites: &mut Vec<Site>, number: usize, site: Site)
     sites[number] = site;
 }
 
-/// Adds the place of a statement where settling ends, with copies of these ways.
+/// Adds the position of a statement where settling ends, with copies of these ways.
 fn add_own(
     alloc: Global,
     inside: bool,
@@ -104,7 +104,7 @@ fn add_own(
     Ok(sites.push(own)?)
 }
 
-/// The place of a statement that gives no structure: settling ends there. Answers its way.
+/// The position of a statement that gives no structure: settling ends there. Answers its way.
 fn add_plain(
     alloc: Global,
     inside: bool,
@@ -122,7 +122,7 @@ fn add_plain(
     Ok(ways)
 }
 
-/// The place of a goto or a break: settling goes on from there. Answers its way.
+/// The position of a goto or a break: settling goes on from there. Answers its way.
 fn add_jump(
     alloc: Global,
     inside: bool,
@@ -138,7 +138,7 @@ fn add_jump(
     Ok(one(alloc, onward(own, own))?)
 }
 
-/// The places of statements, from the last to the first. Answers the ways of the first.
+/// The positions of statements, from the last to the first. Answers the ways of the first.
 #[cycle(sites)]
 fn add_steps(
     alloc: Global,
@@ -161,7 +161,7 @@ fn add_steps(
     Ok(ways)
 }
 
-/// The places of a statement under escapes. Answers its own ways.
+/// The positions of a statement under escapes. Answers its own ways.
 #[cycle(sites)]
 fn add_basic(
     alloc: Global,
@@ -201,7 +201,7 @@ fn add_basic(
         Basic::Unless(main, escape) => {
             let escaped = add_escape(alloc, escape, inside, atomic, above, sites)?;
             let over = before(alloc, after + 1, above)?;
-            let mut ways = add_part(alloc, main, inside, atomic, over.as_slice(), sites)?;
+            let mut ways = add_arm(alloc, main, inside, atomic, over.as_slice(), sites)?;
             sites.push(Site::bare(alloc, atomic, inside))?;
             add_copies(alloc, &mut ways, escaped.as_slice())?;
             Ok(ways)
@@ -209,10 +209,10 @@ fn add_basic(
     }
 }
 
-/// The places of a statement that is entered at its part, which lies in the atomic `within`. Answers the part's ways.
+/// The positions of a statement that is entered at its arm, which lies in the atomic `within`. Answers the arm's ways.
 #[cycle(sites)]
 fn add_entered(
-    part: &Seq<'_>,
+    arm: &Seq<'_>,
     inside: bool,
     atomic: Option<usize>,
     within: Option<usize>,
@@ -220,16 +220,16 @@ fn add_entered(
     sites: &mut Vec<Site>,
 ) -> Result<Vec<Level>, AllocError>
     requires { 0 < length sites.old.items }
-    ensures sites { OnOk result (sites.new.items ≡ sites.old.items ++ sites_entered (last_of sites.old.items) inside atomic within above.now part.now) }
-    ensures ways { IfOk result (λ w. w.items ≡ ways_part (last_of sites.old.items) inside part.now) }
+    ensures sites { OnOk result (sites.new.items ≡ sites.old.items ++ sites_entered (last_of sites.old.items) inside atomic within above.now arm.now) }
+    ensures ways { IfOk result (λ w. w.items ≡ ways_arm (last_of sites.old.items) inside arm.now) }
 {
     let alloc = *sites.allocator();
-    let ways = add_part(alloc, part, inside, within, above, sites)?;
+    let ways = add_arm(alloc, arm, inside, within, above, sites)?;
     sites.push(Site::bare(alloc, atomic, inside))?;
     Ok(ways)
 }
 
-/// The places of an escape, whose end has the ways of its first statement. Answers these ways.
+/// The positions of an escape, whose end has the ways of its first statement. Answers these ways.
 #[cycle(sites)]
 fn add_escape(
     alloc: Global,
@@ -241,16 +241,16 @@ fn add_escape(
 ) -> Result<Vec<Level>, AllocError>
     requires { 0 < length sites.old.items }
     ensures sites { OnOk result (sites.new.items ≡ sites.old.items ++ sites_escape (last_of sites.old.items) inside atomic above.now escape.now) }
-    ensures ways { IfOk result (λ w. w.items ≡ ways_part (last_of sites.old.items) inside escape.now) }
+    ensures ways { IfOk result (λ w. w.items ≡ ways_arm (last_of sites.old.items) inside escape.now) }
 {
     let end = last(sites.as_slice()) + 1;
-    let ways = add_part(alloc, escape, inside, atomic, above, sites)?;
+    let ways = add_arm(alloc, escape, inside, atomic, above, sites)?;
     let own = own_site(alloc, end, inside, atomic, none(above), ways.as_slice())?;
     set_site(sites, end, own);
     Ok(ways)
 }
 
-/// The places of a d_step, which is entered from inside one alone.
+/// The positions of a d_step, which is entered from inside one alone.
 #[cycle(sites)]
 fn add_d_step(
     alloc: Global,
@@ -265,7 +265,7 @@ fn add_d_step(
     ensures ways { IfOk result (λ w. w.items ≡ ways_in (last_of sites.old.items) inside (DStep body.now)) }
 {
     let after = last(sites.as_slice());
-    let entered = add_part(alloc, body, true, atomic, none(above), sites)?;
+    let entered = add_arm(alloc, body, true, atomic, none(above), sites)?;
     if inside {
         sites.push(Site::bare(alloc, atomic, inside))?;
         return Ok(entered);
@@ -283,7 +283,7 @@ fn add_d_step(
     Ok(ways)
 }
 
-/// The places of options, from the last to the first. Answers the ways of all.
+/// The positions of options, from the last to the first. Answers the ways of all.
 #[cycle(sites)]
 fn add_options(
     alloc: Global,
@@ -294,22 +294,22 @@ fn add_options(
     sites: &mut Vec<Site>,
 ) -> Result<Vec<Level>, AllocError>
     requires { 0 < length sites.old.items }
-    ensures sites { OnOk result (sites.new.items ≡ sites.old.items ++ sites_parts (last_of sites.old.items) inside atomic above.now options.now) }
-    ensures ways { IfOk result (λ w. w.items ≡ ways_parts (last_of sites.old.items) inside options.now) }
+    ensures sites { OnOk result (sites.new.items ≡ sites.old.items ++ sites_arms (last_of sites.old.items) inside atomic above.now options.now) }
+    ensures ways { IfOk result (λ w. w.items ≡ ways_arms (last_of sites.old.items) inside options.now) }
 {
     let mut ways = Vec::new(alloc);
     let mut left = options.len();
     while left > 0 {
         left -= 1;
-        let more = add_part(alloc, &options[left], inside, atomic, above, sites)?;
+        let more = add_arm(alloc, &options[left], inside, atomic, above, sites)?;
         add_levels(alloc, &mut ways, more.as_slice())?;
     }
     Ok(ways)
 }
 
-/// The places of a part. Answers the ways of its first statement.
+/// The positions of an arm. Answers the ways of its first statement.
 #[cycle(sites)]
-fn add_part(
+fn add_arm(
     alloc: Global,
     seq: &Seq<'_>,
     inside: bool,
@@ -318,8 +318,8 @@ fn add_part(
     sites: &mut Vec<Site>,
 ) -> Result<Vec<Level>, AllocError>
     requires { 0 < length sites.old.items }
-    ensures sites { OnOk result (sites.new.items ≡ sites.old.items ++ sites_part (last_of sites.old.items) inside atomic above.now seq.now) }
-    ensures ways { IfOk result (λ w. w.items ≡ ways_part (last_of sites.old.items) inside seq.now) }
+    ensures sites { OnOk result (sites.new.items ≡ sites.old.items ++ sites_arm (last_of sites.old.items) inside atomic above.now seq.now) }
+    ensures ways { IfOk result (λ w. w.items ≡ ways_arm (last_of sites.old.items) inside seq.now) }
 {
     sites.push(Site::bare(alloc, atomic, inside))?;
     Ok(add_steps(alloc, seq.steps.as_slice(), inside, atomic, above, sites)?)

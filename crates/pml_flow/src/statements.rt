@@ -1,16 +1,16 @@
-//! The statements of a body by the numbers of its places.
+//! The statements of a body by the numbers of its positions.
 
 ghost use Rattle.std.specs.Prelude.{◌≡◌, ℕ, ◌++◌, ◌∷◌, [], None, List, Option, IfOk, OnOk, map, slice_get, slice_index_or};
 ghost use Rattle.std.specs.Option.{option_copied};
-ghost use Rattle.promela_process.specs.Circles.{told_of};
+ghost use Rattle.pml_control.specs.Told.{told_of};
 ghost use Rattle.promela_process.specs.Offers.{stated};
-ghost use Rattle.pml_flow.specs.Inside.{either, inner_in, inner_part, inner_list, inner_parts};
+ghost use Rattle.pml_flow.specs.Inside.{either, inner_in, inner_arm, inner_list, inner_arms};
 
 use pml_program::program::{Basic, Seq, Stmt};
 use std::alloc::{AllocError, Global};
 use std::marker::Model;
 
-/// Lent statements by the numbers of places: of each the statement that stands first there, if one does.
+/// Lent statements by the numbers of positions: of each the statement that stands first there, if one does.
 #[derive(Drop)]
 pub struct Statements<'p, 'a> {
     list: Vec<Option<&'p Stmt<'a>>>,
@@ -70,7 +70,7 @@ pub fn all_statements<'p, 'a>(
     ensures { IfOk result (λ t. t ≡ map (stated body.now) (told_of body.now)) }
 {
     let mut table = Statements::new(alloc);
-    add_part(None, body, &mut table)?;
+    add_arm(None, body, &mut table)?;
     Ok(table)
 }
 
@@ -123,12 +123,12 @@ fn add_inner<'p, 'a>(
             table.add(Some(stmt))?;
             Ok(add_options(None, options.as_slice(), table)?)
         }
-        Basic::Block(body) => Ok(add_part(next, body, table)?),
-        Basic::Atomic(body) => Ok(add_part(None, body, table)?),
-        Basic::DStep(body) => Ok(add_part(None, body, table)?),
+        Basic::Block(body) => Ok(add_arm(next, body, table)?),
+        Basic::Atomic(body) => Ok(add_arm(None, body, table)?),
+        Basic::DStep(body) => Ok(add_arm(None, body, table)?),
         Basic::Unless(main, escape) => {
-            add_part(next, escape, table)?;
-            Ok(add_part(None, main, table)?)
+            add_arm(next, escape, table)?;
+            Ok(add_arm(None, main, table)?)
         }
     }
 }
@@ -140,24 +140,24 @@ fn add_options<'p, 'a>(
     options: &'p [Seq<'a>],
     table: &mut Statements<'p, 'a>,
 ) -> Result<(), AllocError>
-    ensures { OnOk result (table.new ≡ table.old ++ inner_parts (option_copied next.entry) options.now) }
+    ensures { OnOk result (table.new ≡ table.old ++ inner_arms (option_copied next.entry) options.now) }
 {
     let mut left = options.len();
     while left > 0 {
         left -= 1;
-        add_part(next, &options[left], table)?;
+        add_arm(next, &options[left], table)?;
     }
     Ok(())
 }
 
-/// The statements of a part, whose end has the number in front.
+/// The statements of an arm, whose end has the number in front.
 #[cycle(statements)]
-fn add_part<'p, 'a>(
+fn add_arm<'p, 'a>(
     next: Option<&'p Stmt<'a>>,
     seq: &'p Seq<'a>,
     table: &mut Statements<'p, 'a>,
 ) -> Result<(), AllocError>
-    ensures { OnOk result (table.new ≡ table.old ++ inner_part (option_copied next.entry) seq.now) }
+    ensures { OnOk result (table.new ≡ table.old ++ inner_arm (option_copied next.entry) seq.now) }
 {
     table.add(next)?;
     Ok(add_steps(next, seq.steps.as_slice(), table)?)

@@ -7,8 +7,8 @@ ghost use Rattle.std.specs.Option.{option_copied};
 ghost use Rattle.promela_process.specs.Offers as flow;
 ghost use Rattle.pml_flow.specs.Composed as kept-texts;
 
+use crate::arms::arm;
 use crate::lines::first_line;
-use crate::parts::part;
 use crate::statements::Statements;
 use itoa::Buffer;
 use pml_program::program::{Basic, Stmt};
@@ -33,11 +33,11 @@ impl Model for Texts {
 }
 
 impl Texts {
-    /// The text of a statement, by the number of its place.
+    /// The text of a statement, by the number of its position.
     pub fn get(&self, statement: usize) -> &[u8]
         ensures { result.now ≡ kept-texts.text_at self.now statement }
     {
-        part(self.bytes.as_slice(), self.bounds.as_slice(), statement)
+        arm(self.bytes.as_slice(), self.bounds.as_slice(), statement)
     }
 
     /// The line that this text has.
@@ -104,7 +104,7 @@ fn offer_line(stmt: &Stmt<'_>) -> u32
 }
 
 fn line_by(stmt: Option<&Stmt<'_>>) -> u32
-    ensures { result ≡ flow.line_by (option_copied stmt.entry) }
+    ensures { result ≡ kept-texts.line_by (option_copied stmt.entry) }
 {
     match stmt {
         Some(stmt) => offer_line(stmt),

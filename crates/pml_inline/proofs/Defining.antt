@@ -1,9 +1,11 @@
 -- The definition at a place of a text, test by test.
 use Rattle.std.proofs.Common.{◌≡◌, ℕ, ◌+◌, ◌-◌, ◌*◌, ◌≤◌, Bool, true, false, not, ◌&&◌, cond, nat_eq, List, length, take, drop, Option, Some, None, refl, ap, sym, ◌∙◌, arith}
+use Rattle.std.specs.Prelude.{option_and_then}
 use Rattle.std.proofs.lemmas.List.{drop-drop, drop_all, get_or_past, drop-map, take-map, take_rest}
 use Rattle.pml_token.specs.declared.token.Kind.TheVariants.{Name, OpenParen, OpenBrace, CloseBrace}
 use Rattle.pml_token.specs.Word.{same_kind, Word}
-use Rattle.promela_text.specs.Inlines.{has_inline, closing, Inline, parameters, listed, with_end, with_body, with_parameters, definition, all_differ}
+use Rattle.promela_text.specs.Inlines.{has_inline, closing, Inline, parameters, listed, with_end, with_body, definition, all_differ}
+use Rattle.pml_inline.proofs.Words.{with_parameters}
 use Rattle.pml_inline.specs.Places.{no_word, word_at, words_of}
 use Rattle.pml_inline.proofs.Lists.{begins_at, definition_is}
 
@@ -48,11 +50,11 @@ module _ (ts : List Word) (from start : ℕ) (ps : List (List ℕ)) (e : same_ki
   no_start h = to_body ∙ ap (with_body name ps) (drop_all start ts h)
 
   pub no_brace : same_kind (word_at ts start).kind OpenBrace ≡ false → definition (drop from ts) ≡ None
-  no_brace h = to_body ∙ ap (λ (b : Bool). cond b (with_end name ps (drop start ts) (closing OpenBrace CloseBrace (drop 1 (drop start ts)) 0)) None) (begins_at OpenBrace ts start refl ∙ h)
+  no_brace h = to_body ∙ ap (λ (b : Bool). cond b (option_and_then (with_end name ps (drop start ts)) (closing OpenBrace CloseBrace (drop 1 (drop start ts)) 0)) None) (begins_at OpenBrace ts start refl ∙ h)
 
-  to_end : (r : Option ℕ) → same_kind (word_at ts start).kind OpenBrace ≡ true → closing OpenBrace CloseBrace (drop (start + 1) ts) 0 ≡ r → definition (drop from ts) ≡ with_end name ps (drop start ts) r
-  to_end r h k = to_body ∙ ap (λ (b : Bool). cond b (with_end name ps (drop start ts) (closing OpenBrace CloseBrace (drop 1 (drop start ts)) 0)) None) (begins_at OpenBrace ts start refl ∙ h)
-      ∙ ap (with_end name ps (drop start ts)) (ap (λ (ws : List Word). closing OpenBrace CloseBrace ws 0) (drop-drop 1 start ts) ∙ k)
+  to_end : (r : Option ℕ) → same_kind (word_at ts start).kind OpenBrace ≡ true → closing OpenBrace CloseBrace (drop (start + 1) ts) 0 ≡ r → definition (drop from ts) ≡ option_and_then (with_end name ps (drop start ts)) r
+  to_end r h k = to_body ∙ ap (λ (b : Bool). cond b (option_and_then (with_end name ps (drop start ts)) (closing OpenBrace CloseBrace (drop 1 (drop start ts)) 0)) None) (begins_at OpenBrace ts start refl ∙ h)
+      ∙ ap (option_and_then (with_end name ps (drop start ts))) (ap (λ (ws : List Word). closing OpenBrace CloseBrace ws 0) (drop-drop 1 start ts) ∙ k)
 
   pub no_end : same_kind (word_at ts start).kind OpenBrace ≡ true → closing OpenBrace CloseBrace (drop (start + 1) ts) 0 ≡ None → definition (drop from ts) ≡ None
   no_end h k = to_end None h k

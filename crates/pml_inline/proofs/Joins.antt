@@ -3,7 +3,8 @@ use Rattle.std.proofs.Common.{◌≡◌, ℕ, ◌+◌, ◌<◌, ◌≤◌, Bool,
 use Rattle.std.proofs.lemmas.Bool.{lt-leb, le-leb}
 use Rattle.pml_token.specs.Word.{Word}
 use Rattle.profile.specs.declared.TheConstants.{MOST_REPLACED}
-use Rattle.promela_text.specs.Expansion.{Given, join, nothing, itself, limited}
+use Rattle.promela_text.specs.Inlines.{Given, join, itself, limited}
+use Rattle.pml_inline.proofs.Words.{nothing}
 use Rattle.pml_inline.specs.Texts.{IsPast}
 
 abbrev given : List Word → ℕ → Given

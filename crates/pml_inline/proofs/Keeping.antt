@@ -1,14 +1,14 @@
 -- What holds of each token of a text holds of each token that comes out of it.
 use Rattle.std.proofs.Common.{◌≡◌, ℕ, zero, suc, ◌+◌, Bool, true, false, not, ◌&&◌, nat_eq, nat_le, cond, List, [], ◌∷◌, ◌++◌, take, drop, map, All, Option, Some, None, refl, subst}
-use Rattle.std.specs.Prelude.{find}
-use Rattle.std.specs.List.{flat_map, slice_get}
+use Rattle.std.specs.Prelude.{find, option_and_then, option_map, unwrap_or}
+use Rattle.std.specs.List.{flat_map, slice_get, onto_first}
 use Rattle.std.specs.Str.{bytes_eq}
 use Rattle.std.proofs.lemmas.List.Elements.{All-nil, All-cons, All-head, All-tail, All-append, All-take, All-drop}
 use Rattle.pml_token.specs.declared.token.Kind.TheVariants.{OpenParen, CloseParen, OpenBrace, CloseBrace, Comma}
 use Rattle.pml_token.specs.Word.{same_kind, Word}
 use Rattle.profile.specs.declared.TheConstants.{MOST_CALLS, MOST_REPLACED}
-use Rattle.promela_text.specs.Inlines.{is_name, is_inline, has_inline, begins, closing, put, part_turn, parts, arguments, level_behind, Inline, is_among, parameters, listed, with_end, with_parameters, definition, and_inline, definition_turn, definitions, all_differ}
-use Rattle.promela_text.specs.Expansion.{Given, join, itself, counted, parameter, unwrap_list, instead, replaced, fits, callee, enclosed, turn, reading, where_right, calling, braces_behind, outermost, defined, text_turn, texts, limited, by_definitions, expansion, Expands}
+use Rattle.promela_text.specs.Inlines.{is_name, is_inline, has_inline, begins, closing, part_turn, parts, arguments, level_behind, Inline, is_among, parameters, listed, with_end, definition, definition_turn, definitions, all_differ, Given, join, itself, parameter, instead, replaced, fits, callee, turn, reading, where_right, calling, braces_behind, outermost, defined, text_turn, texts, limited, expansion, Expands}
+use Rattle.pml_inline.proofs.Words.{by_definitions, enclosed, with_parameters, counted}
 
 module _ (P : Word → Type 0) where
   abbrev Of : List Word → Type 0
@@ -68,7 +68,7 @@ module _ (P : Word → Type 0) where
   parted [] n h = All-cons Of [] [] (All-nil P) (All-nil Of)
   parted (w ∷ ws) n h = by_turn (same_kind w.kind Comma && nat_eq n 0) (λ m. parted ws m (All-tail P w ws h))
     where
-      fronted : (ps : List (List Word)) → OfParts ps → OfParts (put w ps)
+      fronted : (ps : List (List Word)) → OfParts ps → OfParts (onto_first w ps)
       fronted [] x = All-cons Of (w ∷ []) [] (All-cons P w [] (All-head P w ws h) (All-nil P)) (All-nil Of)
       fronted (p ∷ ps) x = All-cons Of (w ∷ p) ps (All-cons P w p (All-head P w ws h) (All-head Of p ps x)) (All-tail Of p ps x)
 
@@ -80,7 +80,7 @@ module _ (P : Word → Type 0) where
   argued [] h = All-nil Of
   argued (w ∷ ws) h = parted (w ∷ ws) 0 h
 
-  one : (args : List (List Word)) (k : ℕ) → OfParts args → Of (unwrap_list (slice_get args k))
+  one : (args : List (List Word)) (k : ℕ) → OfParts args → Of (unwrap_or (slice_get args k) [])
   one [] k h = All-nil P
   one (a ∷ args) zero h = All-head Of a args h
   one (a ∷ args) (suc k) h = one args k (All-tail Of a args h)
@@ -146,14 +146,14 @@ module _ (P : Word → Type 0) where
   if_so true o h = h
   if_so false o h = tt
 
-  ended : (n : List ℕ) (ps : List (List ℕ)) (ts : List Word) (r : Option ℕ) → Of ts → OfDefinition (with_end n ps ts r)
+  ended : (n : List ℕ) (ps : List (List ℕ)) (ts : List Word) (r : Option ℕ) → Of ts → OfDefinition (option_and_then (with_end n ps ts) r)
   ended n ps ts None h = tt
   ended n ps ts (Some k) h = if_so (all_differ ps && not (has_inline (take (k + 2) ts))) (Some (record { name = n; parameters = ps; body = take (k + 2) ts; size = 2 + listed ps + (k + 2) })) (All-take P (k + 2) ts h)
 
   listed_so : (n : List ℕ) (ts : List Word) (o : Option (List (List ℕ))) → Of ts → OfDefinition (with_parameters n ts o)
   listed_so n ts None h = tt
   listed_so n ts (Some ps) h =
-      if_so (begins OpenBrace (drop (listed ps) ts)) (with_end n ps (drop (listed ps) ts) (closing OpenBrace CloseBrace (drop 1 (drop (listed ps) ts)) 0))
+      if_so (begins OpenBrace (drop (listed ps) ts)) (option_and_then (with_end n ps (drop (listed ps) ts)) (closing OpenBrace CloseBrace (drop 1 (drop (listed ps) ts)) 0))
       (ended n ps (drop (listed ps) ts) (closing OpenBrace CloseBrace (drop 1 (drop (listed ps) ts)) 0) (All-drop P (listed ps) ts h))
 
   one_of : (ws : List Word) → Of ws → OfDefinition (definition ws)
@@ -161,7 +161,7 @@ module _ (P : Word → Type 0) where
   one_of [] h = tt
   one_of (w ∷ ws) h = if_so (is_name w && begins OpenParen ws) (with_parameters w.text (drop 1 ws) (parameters (drop 1 ws))) (listed_so w.text (drop 1 ws) (parameters (drop 1 ws)) (All-drop P 1 ws (All-tail P w ws h)))
 
-  and_one : (d : Inline) (o : Option (List Inline)) → OfBody d → OfList o → OfList (and_inline d o)
+  and_one : (d : Inline) (o : Option (List Inline)) → OfBody d → OfList o → OfList (option_map (λ ds. d ∷ ds) o)
   and_one d None b h = tt
   and_one d (Some ds) b h = All-cons OfBody d ds b h
 

@@ -1,5 +1,7 @@
 -- Laws of brackets, names and definitions, for the loops.
 use Rattle.std.proofs.Common.{◌≡◌, ℕ, zero, suc, ◌+◌, ◌-◌, ◌<◌, ◌≤◌, Bool, true, false, ◌&&◌, ◌||◌, cond, nat_eq, List, [], ◌∷◌, ◌++◌, length, get_or, take, drop, map, Option, Some, None, refl, ap, sym, subst, ◌∙◌, ⊎_elim, rules, arith, add-one, append_assoc, append-nil}
+use Rattle.std.specs.List.{onto_first}
+use Rattle.std.specs.Prelude.{option_map}
 use Rattle.std.proofs.lemmas.Bool.{cases_lt, false≢true}
 use Rattle.std.proofs.lemmas.List.{drop_more, drop_all, get_or_past, get_or-drop, length-drop, drop-drop, take_more, take_rest, take-append-drop, length-append}
 use Rattle.pml_token.specs.declared.token.Kind.{Kind}
@@ -7,7 +9,8 @@ use denote.Enum.Bare.{same_true}
 use Rattle.pml_token.specs.contracts.token.Kind.{the_type}
 use Rattle.pml_token.specs.declared.token.Kind.TheVariants.{Name, Inline as InlineWord, OpenParen, CloseParen, Comma, End}
 use Rattle.pml_token.specs.Word.{same_kind, Word}
-use Rattle.promela_text.specs.Inlines.{is_inline, has_inline, is_name, begins, one_more, to_closing, closing, level_behind, put, part_turn, parts, Inline, and_name, names, parameters, with_parameters, definition, and_inline, define, definition_turn, definitions}
+use Rattle.promela_text.specs.Inlines.{is_inline, has_inline, is_name, begins, to_closing, closing, level_behind, part_turn, parts, Inline, names, parameters, definition, definition_turn, definitions}
+use Rattle.pml_inline.proofs.Words.{define, with_parameters}
 use Rattle.pml_inline.specs.Places.{no_word, word_at, words_of, places_from}
 use Rattle.std.specs.Borrow.{Bor}
 use Rattle.pml_inline.specs.declared.definitions.Part.{Part}
@@ -65,7 +68,7 @@ pub closing_within : (o c : Kind) (ws : List Word) (n k : ℕ) → closing o c w
 closing_within o c [] n k h = absurd cc
 closing_within o c (w ∷ ws) n k h = by_turn (same_kind w.kind c) (same_kind w.kind o) n k h (λ m j e. closing_within o c ws m j e)
   where
-    more : (o' : Option ℕ) (m : ℕ) → one_more o' ≡ Some m → ((j : ℕ) → o' ≡ Some j → j < length ws) → m < suc (length ws)
+    more : (o' : Option ℕ) (m : ℕ) → option_map suc o' ≡ Some m → ((j : ℕ) → o' ≡ Some j → j < length ws) → m < suc (length ws)
     more None m e f = absurd cc
     more (Some j) m e f = let g : suc j ≡ m = cc in let lt = f j refl in omega arith
 
@@ -79,14 +82,14 @@ closing_within o c (w ∷ ws) n k h = by_turn (same_kind w.kind c) (same_kind w.
 pub closing_front : (o c : Kind) (ws : List Word) (n k : ℕ) → closing o c ws n ≡ Some k → closing o c (take (k + 1) ws) n ≡ Some k
 closing_front o c ws n k h = rw add-one (by_list ws n k h)
   where
-    more : (ws : List Word) (n m : ℕ) → one_more (closing o c ws n) ≡ Some m → ((k : ℕ) → closing o c ws n ≡ Some k → closing o c (take (suc k) ws) n ≡ Some k) → one_more (closing o c (take m ws) n) ≡ Some m
+    more : (ws : List Word) (n m : ℕ) → option_map suc (closing o c ws n) ≡ Some m → ((k : ℕ) → closing o c ws n ≡ Some k → closing o c (take (suc k) ws) n ≡ Some k) → option_map suc (closing o c (take m ws) n) ≡ Some m
     more ws n m e f = by_option (closing o c ws n) refl e
       where
-        by_option : (o' : Option ℕ) → closing o c ws n ≡ o' → one_more o' ≡ Some m → one_more (closing o c (take m ws) n) ≡ Some m
+        by_option : (o' : Option ℕ) → closing o c ws n ≡ o' → option_map suc o' ≡ Some m → option_map suc (closing o c (take m ws) n) ≡ Some m
         by_option None is e = absurd cc
         by_option (Some j) is e =
             let g : suc j ≡ m = cc in
-            ap (λ (x : ℕ). one_more (closing o c (take x ws) n)) (sym g) ∙ ap one_more (f j is) ∙ ap Some g
+            ap (λ (x : ℕ). option_map suc (closing o c (take x ws) n)) (sym g) ∙ ap (option_map suc) (f j is) ∙ ap Some g
 
     by_turn : (b d : Bool) (ws : List Word) (n k : ℕ) → to_closing b d (closing o c ws) n ≡ Some k → ((n k : ℕ) → closing o c ws n ≡ Some k → closing o c (take (suc k) ws) n ≡ Some k) → to_closing b d (closing o c (take k ws)) n ≡ Some k
     by_turn true d ws zero k e f = e
@@ -105,7 +108,7 @@ abbrev pub in_front : List Word → List (List Word) → List (List Word)
 in_front ws [] = ws ∷ []
 in_front ws (p ∷ ps) = (ws ++ p) ∷ ps
 
-pub front-put : (ws : List Word) (w : Word) (ps : List (List Word)) → in_front ws (put w ps) ≡ in_front (ws ++ w ∷ []) ps
+pub front-put : (ws : List Word) (w : Word) (ps : List (List Word)) → in_front ws (onto_first w ps) ≡ in_front (ws ++ w ∷ []) ps
 front-put ws w [] = refl
 front-put ws w (p ∷ ps) = ap (λ (x : List Word). x ∷ ps) (sym (append_assoc ws (w ∷ []) p))
 
@@ -113,7 +116,7 @@ pub front-nil : (ws : List Word) (n : ℕ) → in_front [] (parts ws n) ≡ part
 front-nil [] n = refl
 front-nil (w ∷ ws) n = by_turn (same_kind w.kind Comma && nat_eq n 0)
   where
-    of_put : (ps : List (List Word)) → in_front [] (put w ps) ≡ put w ps
+    of_put : (ps : List (List Word)) → in_front [] (onto_first w ps) ≡ onto_first w ps
     of_put [] = refl
     of_put (p ∷ ps) = refl
 
@@ -216,7 +219,7 @@ abbrev pub after_names : List (List ℕ) → Option (List (List ℕ)) → Option
 after_names ms None = None
 after_names ms (Some ns) = Some (ms ++ ns)
 
-pub after-and_name : (ms : List (List ℕ)) (n : List ℕ) (o : Option (List (List ℕ))) → after_names ms (and_name n o) ≡ after_names (ms ++ n ∷ []) o
+pub after-and_name : (ms : List (List ℕ)) (n : List ℕ) (o : Option (List (List ℕ))) → after_names ms (option_map (λ ns. n ∷ ns) o) ≡ after_names (ms ++ n ∷ []) o
 after-and_name ms n None = refl
 after-and_name ms n (Some ns) = ap Some (sym (append_assoc ms (n ∷ []) ns))
 
@@ -228,7 +231,7 @@ abbrev pub after_inlines : List Inline → Option (List Inline) → Option (List
 after_inlines cs None = None
 after_inlines cs (Some ds) = Some (cs ++ ds)
 
-pub after-and_inline : (cs : List Inline) (d : Inline) (o : Option (List Inline)) → after_inlines cs (and_inline d o) ≡ after_inlines (cs ++ d ∷ []) o
+pub after-and_inline : (cs : List Inline) (d : Inline) (o : Option (List Inline)) → after_inlines cs (option_map (λ ds. d ∷ ds) o) ≡ after_inlines (cs ++ d ∷ []) o
 after-and_inline cs d None = refl
 after-and_inline cs d (Some ds) = ap Some (sym (append_assoc cs (d ∷ []) ds))
 
@@ -246,7 +249,7 @@ begins_at k ts at e = ⊎_elim
     (cases_lt at (length ts))
 
 abbrev pub names_by : Word → Word → Option (List (List ℕ)) → Option (List (List ℕ))
-names_by w v o = cond (is_name w) (cond (same_kind v.kind CloseParen) (Some (w.text ∷ [])) (cond (same_kind v.kind Comma) (and_name w.text o) None)) None
+names_by w v o = cond (is_name w) (cond (same_kind v.kind CloseParen) (Some (w.text ∷ [])) (cond (same_kind v.kind Comma) (option_map (λ ns. w.text ∷ ns) o) None)) None
 
 pub names_at : (ts : List Word) (at : ℕ) → at + 1 < length ts → names (drop at ts) ≡ names_by (word_at ts at) (word_at ts (at + 1)) (names (drop (at + 2) ts))
 names_at ts at h =
@@ -277,12 +280,12 @@ undefined_at ts at cs h i e =
     ap (after_inlines cs) (definitions_at ts at h ∙ ap (λ (b : Bool). definition_turn 0 b (definition (drop (at + 1) ts)) (definitions (drop (at + 1) ts))) i
     ∙ ap (λ (o : Option Inline). define o (definitions (drop (at + 1) ts))) e)
 
-defined_rest : (ts : List Word) (at : ℕ) (d : Inline) → at < length ts → is_inline (word_at ts at) ≡ true → definition (drop (at + 1) ts) ≡ Some d → definitions (drop at ts) 0 ≡ and_inline d (definitions (drop (at + d.size + 1) ts) 0)
+defined_rest : (ts : List Word) (at : ℕ) (d : Inline) → at < length ts → is_inline (word_at ts at) ≡ true → definition (drop (at + 1) ts) ≡ Some d → definitions (drop at ts) 0 ≡ option_map (λ ds. d ∷ ds) (definitions (drop (at + d.size + 1) ts) 0)
 defined_rest ts at d h i e =
     let n : at + 1 + d.size ≡ at + d.size + 1 = omega arith in
     definitions_at ts at h ∙ ap (λ (b : Bool). definition_turn 0 b (definition (drop (at + 1) ts)) (definitions (drop (at + 1) ts))) i
     ∙ ap (λ (o : Option Inline). define o (definitions (drop (at + 1) ts))) e
-    ∙ ap (and_inline d) (definitions_passing (drop (at + 1) ts) d.size ∙ ap (λ (ws : List Word). definitions ws 0) (drop-drop d.size (at + 1) ts ∙ ap (λ (m : ℕ). drop m ts) n))
+    ∙ ap (option_map (λ ds. d ∷ ds)) (definitions_passing (drop (at + 1) ts) d.size ∙ ap (λ (ws : List Word). definitions ws 0) (drop-drop d.size (at + 1) ts ∙ ap (λ (m : ℕ). drop m ts) n))
 
 pub defined_at : (ts : List Word) (at : ℕ) (cs : List Inline) (d : Inline) → at < length ts → is_inline (word_at ts at) ≡ true → definition (drop (at + 1) ts) ≡ Some d
     → after_inlines cs (definitions (drop at ts) 0) ≡ after_inlines (cs ++ d ∷ []) (definitions (drop (at + d.size + 1) ts) 0)
@@ -332,7 +335,7 @@ over_closing (w ∷ ws) n k e h = by_turn (same_kind w.kind CloseParen) (same_ki
     neither true c e = absurd (false≢true (sym e))
     neither false c e = (refl, e)
 
-    more : (o : Option ℕ) (k : ℕ) → one_more o ≡ Some k → has_inline (take k (w ∷ ws)) ≡ false → ((j : ℕ) → o ≡ Some j → has_inline (take j ws) ≡ false → definitions ws 0 ≡ definitions (drop (suc j) ws) 0)
+    more : (o : Option ℕ) (k : ℕ) → option_map suc o ≡ Some k → has_inline (take k (w ∷ ws)) ≡ false → ((j : ℕ) → o ≡ Some j → has_inline (take j ws) ≡ false → definitions ws 0 ≡ definitions (drop (suc j) ws) 0)
         → definitions (w ∷ ws) 0 ≡ definitions (drop (suc k) (w ∷ ws)) 0
     more None k e h f = absurd cc
     more (Some j) k e h f =
@@ -367,7 +370,7 @@ front_of ts at d ds h i e =
     by_definition (definition (drop (at + 1) ts)) refl
     (sym (definitions_at ts at h ∙ ap (λ (b : Bool). definition_turn 0 b (definition (drop (at + 1) ts)) (definitions (drop (at + 1) ts))) i) ∙ e)
   where
-    parts : (c : Inline) (o : Option (List Inline)) → and_inline c o ≡ Some (d ∷ ds) → (c ≡ d) × (o ≡ Some ds)
+    parts : (c : Inline) (o : Option (List Inline)) → option_map (λ ds. c ∷ ds) o ≡ Some (d ∷ ds) → (c ≡ d) × (o ≡ Some ds)
     parts c None e = absurd cc
     parts c (Some cs) e = let list : c ∷ cs ≡ d ∷ ds = cc in let a : c ≡ d = cc in let b : cs ≡ ds = cc in (a, ap Some b)
 
@@ -386,7 +389,7 @@ pub none_left : (ts : List Word) (at : ℕ) → at < length ts → is_inline (wo
 none_left ts at h i e =
     by_definition (definition (drop (at + 1) ts)) (sym (definitions_at ts at h ∙ ap (λ (b : Bool). definition_turn 0 b (definition (drop (at + 1) ts)) (definitions (drop (at + 1) ts))) i) ∙ e)
   where
-    some : (c : Inline) (o : Option (List Inline)) → and_inline c o ≡ Some [] → ⊥
+    some : (c : Inline) (o : Option (List Inline)) → option_map (λ ds. c ∷ ds) o ≡ Some [] → ⊥
     some c None f = cc
     some c (Some cs) f = no cc
       where
@@ -402,9 +405,9 @@ none_left ts at h i e =
 pub names_step : (ts : List Word) (at : ℕ) (ms : List (List ℕ)) → at + 1 < length ts → same_kind (word_at ts at).kind Name ≡ true → same_kind (word_at ts (at + 1)).kind CloseParen ≡ false → same_kind (word_at ts (at + 1)).kind Comma ≡ true
     → after_names (ms ++ (word_at ts at).text ∷ []) (names (drop (at + 2) ts)) ≡ after_names ms (names (drop at ts))
 names_step ts at ms h a b c =
-    sym (ap (after_names ms) (names_at ts at h ∙ ap (λ (x : Bool). cond x (cond (same_kind (word_at ts (at + 1)).kind CloseParen) (Some ((word_at ts at).text ∷ [])) (cond (same_kind (word_at ts (at + 1)).kind Comma) (and_name (word_at ts at).text (names (drop (at + 2) ts))) None)) None) a
-    ∙ ap (λ (x : Bool). cond x (Some ((word_at ts at).text ∷ [])) (cond (same_kind (word_at ts (at + 1)).kind Comma) (and_name (word_at ts at).text (names (drop (at + 2) ts))) None)) b
-    ∙ ap (λ (x : Bool). cond x (and_name (word_at ts at).text (names (drop (at + 2) ts))) None) c)
+    sym (ap (after_names ms) (names_at ts at h ∙ ap (λ (x : Bool). cond x (cond (same_kind (word_at ts (at + 1)).kind CloseParen) (Some ((word_at ts at).text ∷ [])) (cond (same_kind (word_at ts (at + 1)).kind Comma) (option_map (λ ns. (word_at ts at).text ∷ ns) (names (drop (at + 2) ts))) None)) None) a
+    ∙ ap (λ (x : Bool). cond x (Some ((word_at ts at).text ∷ [])) (cond (same_kind (word_at ts (at + 1)).kind Comma) (option_map (λ ns. (word_at ts at).text ∷ ns) (names (drop (at + 2) ts))) None)) b
+    ∙ ap (λ (x : Bool). cond x (option_map (λ ns. (word_at ts at).text ∷ ns) (names (drop (at + 2) ts))) None) c)
     ∙ after-and_name ms (word_at ts at).text (names (drop (at + 2) ts)))
 
 pub no_parameters : (ts : List Word) (from at : ℕ) (ms : List (List ℕ)) → same_kind (word_at ts from).kind CloseParen ≡ false → length ts ≤ at + 1 → after_names ms (names (drop at ts)) ≡ names (drop from ts) → parameters (drop from ts) ≡ None

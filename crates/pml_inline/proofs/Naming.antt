@@ -1,6 +1,6 @@
 -- Names, their places, and the calls around a call.
 use Rattle.std.proofs.Common.{◌≡◌, ℕ, zero, suc, ◌+◌, ◌<◌, ◌≤◌, Bool, true, false, not, ◌&&◌, ◌||◌, cond, nat_eq, nat_lt, List, [], ◌∷◌, ◌++◌, length, get_or, take, drop, map, All, Option, Some, None, refl, ap, sym, subst, ◌∙◌, inl, inr, ⊎_elim, arith}
-use Rattle.std.specs.Prelude.{find, is_some, IfSome}
+use Rattle.std.specs.Prelude.{find, is_some, IfSome, option_map}
 use Rattle.std.specs.List.{list_any, slice_get}
 use Rattle.std.specs.Str.{bytes_eq}
 use Rattle.std.proofs.lemmas.Bool.{cases_lt, cases_order, eq-eqb, ne_eqb, lt-ltb, le-ltb, false≢true, and_parts, not-true}
@@ -9,8 +9,7 @@ use Rattle.std.proofs.lemmas.List.{map-append, take_more, take-append-drop, leng
 use Rattle.std.proofs.lemmas.List.Elements.{All-head, All-tail}
 use Rattle.pml_token.specs.Word.{Word, same_kind}
 use Rattle.pml_token.specs.declared.token.Kind.TheVariants.{OpenParen}
-use Rattle.promela_text.specs.Inlines.{is_name, begins, one_more, Inline, is_among, all_differ}
-use Rattle.promela_text.specs.Expansion.{place_of, callee}
+use Rattle.promela_text.specs.Inlines.{is_name, begins, Inline, is_among, all_differ, place_of, callee}
 use Rattle.pml_inline.specs.Places.{word_at, words_of}
 use Rattle.std.specs.Borrow.{Bor}
 use Rattle.pml_inline.specs.declared.definitions.Definition.{Definition}
@@ -23,11 +22,11 @@ abbrev or_place : Option ℕ → Option ℕ → Option ℕ
 or_place None r = r
 or_place (Some k) r = Some k
 
-or-more : (k r : Option ℕ) → one_more (or_place k r) ≡ or_place (one_more k) (one_more r)
+or-more : (k r : Option ℕ) → option_map suc (or_place k r) ≡ or_place (option_map suc k) (option_map suc r)
 or-more None r = refl
 or-more (Some k) r = refl
 
-last-more : (b : Bool) (n : ℕ) → one_more (cond b (Some n) None) ≡ cond b (Some (suc n)) None
+last-more : (b : Bool) (n : ℕ) → option_map suc (cond b (Some n) None) ≡ cond b (Some (suc n)) None
 last-more true n = refl
 last-more false n = refl
 
@@ -35,9 +34,9 @@ place-more : (n : List ℕ) (ns : List (List ℕ)) (m : List ℕ) → place_of n
 place-more n [] m = refl
 place-more n (k ∷ ns) m = by_test (bytes_eq n k) (place-more n ns m)
   where
-    by_test : (b : Bool) → place_of n (ns ++ m ∷ []) ≡ or_place (place_of n ns) (cond (bytes_eq n m) (Some (length ns)) None) → cond b (Some 0) (one_more (place_of n (ns ++ m ∷ []))) ≡ or_place (cond b (Some 0) (one_more (place_of n ns))) (cond (bytes_eq n m) (Some (suc (length ns))) None)
+    by_test : (b : Bool) → place_of n (ns ++ m ∷ []) ≡ or_place (place_of n ns) (cond (bytes_eq n m) (Some (length ns)) None) → cond b (Some 0) (option_map suc (place_of n (ns ++ m ∷ []))) ≡ or_place (cond b (Some 0) (option_map suc (place_of n ns))) (cond (bytes_eq n m) (Some (suc (length ns))) None)
     by_test true f = refl
-    by_test false f = ap one_more f ∙ or-more (place_of n ns) (cond (bytes_eq n m) (Some (length ns)) None) ∙ ap (or_place (one_more (place_of n ns))) (last-more (bytes_eq n m) (length ns))
+    by_test false f = ap (option_map suc) f ∙ or-more (place_of n ns) (cond (bytes_eq n m) (Some (length ns)) None) ∙ ap (or_place (option_map suc (place_of n ns))) (last-more (bytes_eq n m) (length ns))
 
 same_texts : (n m : List ℕ) → bytes_eq n m ≡ bytes_eq m n
 same_texts n m = by_test (bytes_eq n m) refl (bytes_eq m n) refl
@@ -51,11 +50,11 @@ among-is : (n : List ℕ) (ns : List (List ℕ)) → is_among n ns ≡ is_some (
 among-is n [] = refl
 among-is n (m ∷ ns) = by_test (bytes_eq n m) (among-is n ns)
   where
-    some-more : (o : Option ℕ) → is_some o ≡ is_some (one_more o)
+    some-more : (o : Option ℕ) → is_some o ≡ is_some (option_map suc o)
     some-more None = refl
     some-more (Some k) = refl
 
-    by_test : (b : Bool) → is_among n ns ≡ is_some (place_of n ns) → (b || is_among n ns) ≡ is_some (cond b (Some 0) (one_more (place_of n ns)))
+    by_test : (b : Bool) → is_among n ns ≡ is_some (place_of n ns) → (b || is_among n ns) ≡ is_some (cond b (Some 0) (option_map suc (place_of n ns)))
     by_test true f = refl
     by_test false f = f ∙ some-more (place_of n ns)
 
@@ -122,11 +121,11 @@ differ-old (n ∷ ns) rest m k e = by_test (bytes_eq m n) refl e (λ j f. differ
     and_no true = refl
     and_no false = refl
 
-    less : (o : Option ℕ) → place_of m ns ≡ o → one_more o ≡ Some k → ((j : ℕ) → place_of m ns ≡ Some j → all_differ (ns ++ m ∷ rest) ≡ false) → all_differ (ns ++ m ∷ rest) ≡ false
+    less : (o : Option ℕ) → place_of m ns ≡ o → option_map suc o ≡ Some k → ((j : ℕ) → place_of m ns ≡ Some j → all_differ (ns ++ m ∷ rest) ≡ false) → all_differ (ns ++ m ∷ rest) ≡ false
     less None is f g = absurd cc
     less (Some j) is f g = g j is
 
-    by_test : (b : Bool) → b ≡ bytes_eq m n → cond b (Some 0) (one_more (place_of m ns)) ≡ Some k → ((j : ℕ) → place_of m ns ≡ Some j → all_differ (ns ++ m ∷ rest) ≡ false) → (not (is_among n (ns ++ m ∷ rest)) && all_differ (ns ++ m ∷ rest)) ≡ false
+    by_test : (b : Bool) → b ≡ bytes_eq m n → cond b (Some 0) (option_map suc (place_of m ns)) ≡ Some k → ((j : ℕ) → place_of m ns ≡ Some j → all_differ (ns ++ m ∷ rest) ≡ false) → (not (is_among n (ns ++ m ∷ rest)) && all_differ (ns ++ m ∷ rest)) ≡ false
     by_test true f g i = ap (λ (b : Bool). not b && all_differ (ns ++ m ∷ rest)) (among-in ns rest n m (same_texts n m ∙ sym f))
     by_test false f g i = ap (λ (b : Bool). not (is_among n (ns ++ m ∷ rest)) && b) (less (place_of m ns) refl g i) ∙ and_no (not (is_among n (ns ++ m ∷ rest)))
 
@@ -191,7 +190,7 @@ below-zero : (o : Option ℕ) → below 0 o ≡ None
 below-zero None = refl
 below-zero (Some n) = ap (λ (b : Bool). cond b (Some n) None) (le-ltb n 0 (omega arith))
 
-below-more : (d : Inline) (ds : List Inline) (k : ℕ) (o : Option ℕ) → option_inline ds (below k o) ≡ option_inline (d ∷ ds) (below (suc k) (one_more o))
+below-more : (d : Inline) (ds : List Inline) (k : ℕ) (o : Option ℕ) → option_inline ds (below k o) ≡ option_inline (d ∷ ds) (below (suc k) (option_map suc o))
 below-more d ds k None = refl
 below-more d ds k (Some n) = by_test (nat_lt n k) ∙ ap (λ (b : Bool). option_inline (d ∷ ds) (cond b (Some (suc n)) None)) (sym (lt-suc n k))
   where
@@ -205,7 +204,7 @@ find-known t [] (suc known) = refl
 find-known t (d ∷ ds) zero = sym (ap (option_inline (d ∷ ds)) (below-zero (place_of t (map (λ d. d.name) (d ∷ ds)))))
 find-known t (d ∷ ds) (suc known) = by_test (bytes_eq t d.name) (find-known t ds known)
   where
-    by_test : (b : Bool) → find (λ d. bytes_eq t d.name) (take known ds) ≡ option_inline ds (below known (place_of t (map (λ d. d.name) ds))) → cond b (Some d) (find (λ d. bytes_eq t d.name) (take known ds)) ≡ option_inline (d ∷ ds) (below (suc known) (cond b (Some 0) (one_more (place_of t (map (λ d. d.name) ds)))))
+    by_test : (b : Bool) → find (λ d. bytes_eq t d.name) (take known ds) ≡ option_inline ds (below known (place_of t (map (λ d. d.name) ds))) → cond b (Some d) (find (λ d. bytes_eq t d.name) (take known ds)) ≡ option_inline (d ∷ ds) (below (suc known) (cond b (Some 0) (option_map suc (place_of t (map (λ d. d.name) ds)))))
     by_test true f = sym (ap (λ (b : Bool). option_inline (d ∷ ds) (cond b (Some 0) None)) (lt-ltb 0 (suc known) (omega arith)))
     by_test false f = f ∙ below-more d ds known (place_of t (map (λ d. d.name) ds))
 
@@ -224,11 +223,11 @@ place-within : (n : List ℕ) (ns : List (List ℕ)) (k : ℕ) → place_of n ns
 place-within n [] k e = absurd cc
 place-within n (m ∷ ns) k e = by_test (bytes_eq n m) e (λ j f. place-within n ns j f)
   where
-    more : (o : Option ℕ) → place_of n ns ≡ o → one_more o ≡ Some k → ((j : ℕ) → place_of n ns ≡ Some j → j < length ns) → k < suc (length ns)
+    more : (o : Option ℕ) → place_of n ns ≡ o → option_map suc o ≡ Some k → ((j : ℕ) → place_of n ns ≡ Some j → j < length ns) → k < suc (length ns)
     more None is f i = absurd cc
     more (Some j) is f i = let g : suc j ≡ k = cc in let lt = i j is in omega arith
 
-    by_test : (b : Bool) → cond b (Some 0) (one_more (place_of n ns)) ≡ Some k → ((j : ℕ) → place_of n ns ≡ Some j → j < length ns) → k < suc (length ns)
+    by_test : (b : Bool) → cond b (Some 0) (option_map suc (place_of n ns)) ≡ Some k → ((j : ℕ) → place_of n ns ≡ Some j → j < length ns) → k < suc (length ns)
     by_test true f i = let g : 0 ≡ k = cc in omega arith
     by_test false f i = more (place_of n ns) refl f i
 

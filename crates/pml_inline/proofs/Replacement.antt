@@ -1,5 +1,6 @@
 -- When a call of a text has a replacement, and which.
 use Rattle.std.proofs.Common.{◌≡◌, ℕ, zero, suc, ◌-◌, ◌<◌, ◌≤◌, Bool, true, false, not, ◌&&◌, nat_eq, List, [], ◌∷◌, ◌++◌, length, get_or, take, map, All, Option, Some, None, refl, ap, sym, ◌∙◌, arith}
+use Rattle.promela_text.specs.Tokens.{is_empty}
 use Rattle.std.specs.Prelude.{Result, Ok, Err, IfOk, MatchOption}
 use Rattle.std.specs.Borrow.{Bor}
 use Rattle.std.specs.List.{list_any, slice_get}
@@ -9,8 +10,7 @@ use Rattle.pml_token.specs.Word.{Word}
 use Rattle.profile.specs.declared.TheConstants.{MOST_CALLS}
 use Rattle.pml_inline.specs.declared.calls.Text.{Text}
 use Rattle.pml_inline.specs.declared.definitions.Definition.{Definition}
-use Rattle.promela_text.specs.Inlines.{arguments, Inline, is_among}
-use Rattle.promela_text.specs.Expansion.{Given, join, is_empty, fits, replaced, reading, calling}
+use Rattle.promela_text.specs.Inlines.{arguments, Inline, is_among, Given, join, fits, replaced, reading, calling}
 use Rattle.pml_inline.specs.Places.{word_at, words_of}
 use Rattle.pml_inline.specs.Parts.{inline_of, inlines_of, is_bare, lists_of, places_replaced, IsMarked}
 use Rattle.pml_inline.specs.Texts.{inlines, IsText, name_of, around, AreNumbers, call_within, read_within, IsReplaced, IsNotReplaced}

@@ -1,12 +1,14 @@
 -- A call and its replacement.
 use Rattle.std.proofs.Common.{◌≡◌, ℕ, zero, suc, ◌+◌, ◌≤◌, Bool, true, false, not, ◌&&◌, List, [], ◌∷◌, ◌++◌, map, Option, Some, None, refl, ap, ◌∙◌, arith}
+use Rattle.std.specs.Prelude.{unwrap_or}
+use Rattle.promela_text.specs.Tokens.{is_empty}
 use Rattle.std.specs.List.{list_any, flat_map, slice_get}
 use Rattle.std.proofs.lemmas.List.{map-append}
 use Rattle.std.proofs.lemmas.List.Elements.{All-head, All-tail}
 use Rattle.pml_token.specs.Word.{Word}
 use Rattle.pml_inline.specs.declared.definitions.Part.{Part}
-use Rattle.promela_text.specs.Inlines.{arguments, Inline, is_among}
-use Rattle.promela_text.specs.Expansion.{Given, join, counted, parameter, unwrap_list, instead, replaced, is_empty, fits, where_right, reading, calling}
+use Rattle.promela_text.specs.Inlines.{arguments, Inline, is_among, Given, join, parameter, instead, replaced, fits, where_right, reading, calling}
+use Rattle.pml_inline.proofs.Words.{counted}
 use Rattle.pml_inline.specs.Places.{word_at, words_of}
 use Rattle.pml_inline.specs.Parts.{places_of, AreMarked, unwrap_places, places_instead, places_replaced, is_bare}
 
@@ -16,7 +18,7 @@ instead-is : (ts : List Word) (args : List (List ℕ)) (p : ℕ) (k : Option ℕ
 instead-is ts args p None = refl
 instead-is ts args p (Some k) = by_place args k
   where
-    by_place : (args : List (List ℕ)) (k : ℕ) → words_of ts (unwrap_places (slice_get args k)) ≡ unwrap_list (slice_get (map (words_of ts) args) k)
+    by_place : (args : List (List ℕ)) (k : ℕ) → words_of ts (unwrap_places (slice_get args k)) ≡ unwrap_or (slice_get (map (words_of ts) args) k) []
     by_place [] k = refl
     by_place (a ∷ args) zero = refl
     by_place (a ∷ args) (suc k) = by_place args k

@@ -3,11 +3,10 @@ use Rattle.std.specs.Prelude.{◌≡◌, ℕ, zero, suc, ◌+◌, ◌++◌, Bool
 use lib.Chars.{codes}
 use Rattle.pml_token.specs.declared.token.Kind.{Kind}
 use Rattle.pml_token.specs.declared.token.Kind.TheVariants.{Name, Number, Inline, Semicolon}
-use Rattle.promela_text.specs.Tables.{sign_of_one}
+use Rattle.pml_lex.specs.Scanning.{sign_of_one}
 use Rattle.pml_token.specs.Word.{Word}
 use Rattle.std.specs.Prelude.{unwrap_or}
-use Rattle.promela_text.specs.Inlines.{is_inline, definition}
-use Rattle.promela_text.specs.Expansion.{calling, callee, expansion}
+use Rattle.promela_text.specs.Inlines.{is_inline, definition, calling, callee, expansion}
 
 abbrev kind_of : ℕ → Kind
 kind_of c = if nat_eq c 73 then Inline else (if nat_le 48 c then (if nat_le c 57 then Number else unwrap_or (sign_of_one c) Name) else unwrap_or (sign_of_one c) Semicolon)

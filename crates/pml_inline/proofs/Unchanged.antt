@@ -5,8 +5,7 @@ use Rattle.std.specs.Str.{bytes_eq}
 use Rattle.std.proofs.lemmas.Bool.{false≢true}
 use Rattle.pml_token.specs.declared.token.Kind.TheVariants.{OpenParen}
 use Rattle.pml_token.specs.Word.{Word}
-use Rattle.promela_text.specs.Inlines.{is_inline, has_inline, is_name, begins, Inline, definition, definition_turn, definitions}
-use Rattle.promela_text.specs.Expansion.{join, itself, callee, braces_behind, text_turn, texts, limited, Expands}
+use Rattle.promela_text.specs.Inlines.{is_inline, has_inline, is_name, begins, Inline, definition, definition_turn, definitions, join, itself, callee, braces_behind, text_turn, texts, limited, Expands}
 use Rattle.pml_inline.proofs.Whole.{expansion_is}
 
 neither : (b c : Bool) → (b || c) ≡ false → (b ≡ false) × (c ≡ false)

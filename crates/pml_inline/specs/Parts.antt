@@ -9,10 +9,9 @@ use Rattle.pml_token.specs.Word.{Word}
 use Rattle.pml_inline.specs.declared.definitions.Part.{Part}
 use Rattle.pml_inline.specs.declared.definitions.Definition.{Definition}
 use Rattle.pml_inline.specs.Places.{word_at, words_of}
-use Rattle.promela_text.specs.declared.inline_fault.InlineFault.{InlineFault}
-use Rattle.promela_text.specs.declared.inline_fault.InlineFault.TheVariants.{Memory, Inline as Misused, TooDeep}
-use Rattle.promela_text.specs.Inlines.{Inline, all_differ, definition, definitions}
-use Rattle.promela_text.specs.Expansion.{parameter, place_of}
+use Rattle.promela_text.specs.declared.inline_fault.InlineError.{InlineError}
+use Rattle.promela_text.specs.declared.inline_fault.InlineError.TheVariants.{Memory, Inline as Misused, TooDeep}
+use Rattle.promela_text.specs.Inlines.{Inline, all_differ, definition, definitions, parameter, place_of}
 
 abbrev pub texts_of : List (Bor (List ℕ)) → List (List ℕ)
 texts_of ns = map (λ n. n.now) ns
@@ -86,12 +85,12 @@ pub record IsDefinition (ts : List Word) (d : Definition) (from : ℕ) : Type 0 
   pub fits : from + d.size ≤ length ts
 
 -- the definitions are not right
-abbrev pub IsUndefined : List Word → InlineFault → Type 0
+abbrev pub IsUndefined : List Word → InlineError → Type 0
 IsUndefined ts Memory = Unit {0}
 IsUndefined ts (Misused misuse) = definitions ts 0 ≡ None
 IsUndefined ts (TooDeep line limit) = ⊥
 
-abbrev pub IsRepeated : List Inline → InlineFault → Type 0
+abbrev pub IsRepeated : List Inline → InlineError → Type 0
 IsRepeated ds Memory = Unit {0}
 IsRepeated ds (Misused misuse) = all_differ (map (λ d. d.name) ds) ≡ false
 IsRepeated ds (TooDeep line limit) = ⊥

@@ -5,12 +5,11 @@ use Rattle.pml_token.specs.Word.{Word}
 use Rattle.profile.specs.declared.TheConstants.{MOST_CALLS, MOST_REPLACED}
 use Rattle.pml_inline.specs.declared.calls.Text.{Text}
 use Rattle.pml_inline.specs.declared.calls.Given as code
-use Rattle.promela_text.specs.declared.inline_fault.InlineFault.{InlineFault}
-use Rattle.promela_text.specs.declared.inline_fault.InlineFault.TheVariants.{Memory, Inline as Misused, TooDeep}
-use Rattle.promela_text.specs.Inlines.{is_inline, Inline, all_differ, definitions}
+use Rattle.promela_text.specs.declared.inline_fault.InlineError.{InlineError}
+use Rattle.promela_text.specs.declared.inline_fault.InlineError.TheVariants.{Memory, Inline as Misused, TooDeep}
+use Rattle.promela_text.specs.Inlines.{is_inline, Inline, all_differ, definitions, Given, join, callee, calling, reading, texts, limited}
 use Rattle.pml_inline.specs.Places.{word_at, words_of}
 use Rattle.pml_inline.specs.Parts.{inlines_of, AreAllMarked, AreShort, number_of}
-use Rattle.promela_text.specs.Expansion.{Given, join, callee, calling, reading, texts, limited}
 
 abbrev pub inlines : Text → List Inline
 inlines t = inlines_of t.tokens.now t.definitions.now
@@ -94,7 +93,7 @@ pub record IsReadCall (t : Text) (known at : ℕ) (before after : Given) (end : 
   pub few : after.count ≤ MOST_REPLACED
   pub on : at < end
 
-abbrev pub IsMisread : Option Given → InlineFault → Type 0
+abbrev pub IsMisread : Option Given → InlineError → Type 0
 IsMisread r Memory = Unit {0}
 IsMisread r (Misused misuse) = limited r ≡ None
 IsMisread r (TooDeep line limit) = ⊥

@@ -4,7 +4,7 @@ ghost use Rattle.std.specs.Prelude.{◌≡◌, ◌<◌, ◌≤◌, ◌+◌, ◌-
 ghost use Rattle.std.specs.List.{list_any};
 ghost use Rattle.pml_inline.specs.Parts.{is_bare, lists_of};
 ghost use Rattle.std.specs.Bool.{OnTrue};
-ghost use Rattle.promela_text.specs.Expansion as calls;
+ghost use Rattle.promela_text.specs.Inlines as calls;
 ghost use Rattle.pml_inline.specs.Texts.{IsText, IsCalled, AnswersCall, below, AreNumbers, IsRead, read_within, given_of};
 
 use crate::arguments::{arguments, has_empty, replaced};

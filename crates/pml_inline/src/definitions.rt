@@ -4,14 +4,13 @@ ghost use Rattle.std.specs.Prelude.{◌≡◌, ◌==◌, ◌*◌, if◌then◌el
 ghost use Rattle.pml_token.specs.Word.{Word};
 ghost use Rattle.pml_inline.specs.Places.{words_of, word_at};
 ghost use Rattle.promela_text.specs.Inlines as inlines;
-ghost use Rattle.promela_text.specs.Expansion as calls;
 ghost use Rattle.pml_inline.specs.Parts.{AreNumbered, texts_of, places_of, AreMarked, IsDefinition, inlines_of, AreAllMarked, AreShort, number_of, IsUndefined, IsRepeated};
 
 use crate::misuse::{of_definition, of_names};
 use crate::names::{Names, numbered};
 use crate::places::{closing, has_inline, is_inline, kind_at, text_at};
 use pml_token::token::{Kind, Token, same_kind};
-use promela_text::inline_fault::InlineFault;
+use promela_text::inline_fault::InlineError;
 use std::alloc::{AllocError, Global};
 
 /// A token of a body: where it stands in the text, and the parameter that it names.
@@ -78,7 +77,7 @@ fn listed(names: usize) -> usize
 
 /// The parameter that a token names.
 fn parameter(names: &Names<'_>, token: &Token<'_>) -> Option<usize>
-    ensures { (ps : List (List ℕ)) → AreNumbered names.now.numbers ps → result ≡ calls.parameter ps token.now }
+    ensures { (ps : List (List ℕ)) → AreNumbered names.now.numbers ps → result ≡ inlines.parameter ps token.now }
 {
     if same_kind(token.kind(), Kind::Name) {
         names.find(token.text())
@@ -163,7 +162,7 @@ pub(crate) fn definitions<'t>(
     alloc: Global,
     tokens: &[Token<'t>],
     places: &[usize],
-) -> Result<Vec<Definition<'t>>, InlineFault>
+) -> Result<Vec<Definition<'t>>, InlineError>
     requires whole { words_of tokens.now places.now ≡ tokens.now }
     requires same { length places.now ≡ length tokens.now }
     ensures ok { IfOk result (λ v. inlines.definitions tokens.now 0 ≡ Some (inlines_of tokens.now v.items)) }
@@ -177,7 +176,7 @@ pub(crate) fn definitions<'t>(
         if is_inline(&tokens[at]) {
             let Some(definition) = one_definition(alloc, tokens, places, at + 1)? else {
                 let misuse = of_definition(alloc, tokens, places, at + 1)?;
-                return Err(InlineFault::Inline(misuse));
+                return Err(InlineError::Inline(misuse));
             };
             let size = definition.size;
             definitions.push(definition)?;
@@ -194,7 +193,7 @@ pub(crate) fn callees(
     alloc: Global,
     tokens: &[Token<'_>],
     definitions: &[Definition<'_>],
-) -> Result<Vec<Option<usize>>, InlineFault>
+) -> Result<Vec<Option<usize>>, InlineError>
     ensures ok { IfOk result (λ v. v.items ≡ map (number_of (inlines_of tokens.now definitions.now)) tokens.now) }
     ensures apart { IfOk result (λ v. inlines.all_differ (map (λ d. d.name) (inlines_of tokens.now definitions.now)) ≡ true) }
     ensures err { IfErr result (λ f. IsRepeated (inlines_of tokens.now definitions.now) f) }
@@ -204,7 +203,7 @@ pub(crate) fn callees(
         called.push(definition.name)?;
     }
     let Some(numbers) = numbered(alloc, &called)? else {
-        return Err(InlineFault::Inline(of_names(alloc, tokens, &called)?));
+        return Err(InlineError::Inline(of_names(alloc, tokens, &called)?));
     };
     let mut callees = Vec::with_capacity(alloc, tokens.len())?;
     for token in tokens {

@@ -3,7 +3,7 @@
 ghost use Rattle.std.specs.Prelude.{◌≡◌, ◌<◌, ◌≤◌, ◌+◌, ◌^◌, ◌-◌, [], Some, IfOk, IfErr};
 ghost use Rattle.pml_token.specs.Word.{Word};
 ghost use Rattle.promela_text.specs.Inlines.{definitions};
-ghost use Rattle.promela_text.specs.Expansion as expansion;
+ghost use Rattle.promela_text.specs.Inlines as expansion;
 ghost use Rattle.pml_inline.specs.Texts.{IsText, ReadsCall, inlines, given_of, IsCall, IsMisread};
 
 use crate::calls::{Given, Text, callee, read};
@@ -11,7 +11,7 @@ use crate::misuse::{of_inner, of_open};
 use crate::places::{closing, has_inline, is_inline};
 use pml_token::token::{Kind, Token, same_kind};
 use profile::MOST_REPLACED;
-use promela_text::inline_fault::InlineFault;
+use promela_text::inline_fault::InlineError;
 use promela_text::misuse::Misuse;
 use std::alloc::{AllocError, Global};
 
@@ -82,7 +82,7 @@ fn misuse_in(given: &Given<'_>, tokens: &[Token<'_>], at: usize) -> Misuse {
 pub(crate) fn expanded<'t>(
     alloc: Global,
     text: &Text<'_, 't>,
-) -> Result<Vec<Token<'t>>, InlineFault>
+) -> Result<Vec<Token<'t>>, InlineError>
     requires text { IsText text.now }
     requires defined { definitions text.now.tokens.now 0 ≡ Some (inlines text.now) }
     ensures ok { IfOk result (λ v. expansion.limited (expansion.texts text.now.tokens.now [] (inlines text.now) 0 0) ≡ Some v.items) }
@@ -100,10 +100,10 @@ pub(crate) fn expanded<'t>(
         let token = &text.tokens[at];
         if is_inline(token) {
             if braces > 0 {
-                return Err(InlineFault::Inline(of_inner(text.tokens, at)));
+                return Err(InlineError::Inline(of_inner(text.tokens, at)));
             }
             if known >= text.definitions.len() {
-                return Err(InlineFault::Inline(of_inner(text.tokens, at)));
+                return Err(InlineError::Inline(of_inner(text.tokens, at)));
             }
             at += 1 + text.definitions[known].size;
             known += 1;
@@ -116,7 +116,7 @@ pub(crate) fn expanded<'t>(
                 }
                 Some(_number) => {
                     let Some(end) = outermost(alloc, text, known, at, &mut given)? else {
-                        return Err(InlineFault::Inline(misuse_in(&given, text.tokens, at)));
+                        return Err(InlineError::Inline(misuse_in(&given, text.tokens, at)));
                     };
                     at = end;
                 }

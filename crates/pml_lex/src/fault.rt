@@ -5,7 +5,7 @@ use thiserror::Error;
 
 /// The least reason that a text is refused for. A number is a line of the text, counted from 1 by line feeds.
 #[derive(Clone, Copy, Debug, PartialEq, Eq, Error)]
-pub enum LexFault {
+pub enum LexError {
     /// Memory for the list of tokens was refused. It says nothing of the text.
     #[error("out of memory")]
     Memory,
@@ -22,24 +22,24 @@ pub enum LexFault {
     LeftOut(u32),
 }
 
-impl From<AllocError> for LexFault {
+impl From<AllocError> for LexError {
     ghost use Rattle.std.specs.Prelude.{◌≡◌};
-    ghost use Rattle.pml_lex.specs.declared.fault.LexFault.TheVariants.{Memory};
+    ghost use Rattle.pml_lex.specs.declared.fault.LexError.TheVariants.{Memory};
 
     ghost from_gives = { λ _ f. f ≡ Memory };
 
-    fn from(_: AllocError) -> LexFault {
-        LexFault::Memory
+    fn from(_: AllocError) -> LexError {
+        LexError::Memory
     }
 }
 
-impl<T: Drop> From<AllocFailed<T>> for LexFault {
+impl<T: Drop> From<AllocFailed<T>> for LexError {
     ghost use Rattle.std.specs.Prelude.{◌≡◌};
-    ghost use Rattle.pml_lex.specs.declared.fault.LexFault.TheVariants.{Memory};
+    ghost use Rattle.pml_lex.specs.declared.fault.LexError.TheVariants.{Memory};
 
     ghost from_gives = { λ _ f. f ≡ Memory };
 
-    fn from(_: AllocFailed<T>) -> LexFault {
-        LexFault::Memory
+    fn from(_: AllocFailed<T>) -> LexError {
+        LexError::Memory
     }
 }

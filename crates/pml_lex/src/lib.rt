@@ -3,8 +3,8 @@
 
 pub mod fault;
 pub mod laws;
+pub mod lexeme;
 pub mod limits;
-pub mod piece;
 mod words;
 
 ghost use Rattle.std.specs.Prelude.{◌≡◌, ◌≤◌, ◌<◌, ◌+◌, ◌^◌, ℕ, List, length, count_by, MatchResult, IfOk, IfErr, IfSome};
@@ -13,12 +13,12 @@ ghost use Rattle.promela_text.specs.Tokens.{is_line_feed, fresh_from, AreTokens}
 ghost use Rattle.pml_lex.specs.Divided.{IsLeast, IsUncut, IsDivided};
 ghost use Rattle.profile.specs.declared.TheConstants.{MOST_TEXT_BYTES};
 
-use fault::LexFault;
+use fault::LexError;
+use lexeme::{is_blank, next};
 use limits::first_left_out;
-use piece::{is_blank, next};
 use pml_token::token::Token;
 use profile::MOST_TEXT_BYTES;
-use promela_text::piece::Piece;
+use promela_text::lexeme::Lexeme;
 use std::alloc::Global;
 
 /// What a text that is skipped leads to.
@@ -53,7 +53,7 @@ fn behind(fresh: bool, text: &[u8]) -> Passed
 }
 
 /// The tokens of a text, as far as it can be cut.
-fn divide<'t>(alloc: Global, text: &'t [u8]) -> Result<Vec<Token<'t>>, LexFault>
+fn divide<'t>(alloc: Global, text: &'t [u8]) -> Result<Vec<Token<'t>>, LexError>
     requires { length text.now ≤ MOST_TEXT_BYTES }
     ensures ok { IfOk result (λ v. IsDivided text.now v.items) }
     ensures err { IfErr result (λ f. IsUncut text.now f) }
@@ -63,16 +63,16 @@ fn divide<'t>(alloc: Global, text: &'t [u8]) -> Result<Vec<Token<'t>>, LexFault>
     let mut line = 1u32;
     let mut fresh = true;
     while !rest.is_empty() {
-        let Some((length, piece)) = next(fresh, rest) else {
-            return Err(LexFault::Lexical(line));
+        let Some((length, lexeme)) = next(fresh, rest) else {
+            return Err(LexError::Lexical(line));
         };
         let (front, back) = rest.split_at(length);
-        match piece {
-            Piece::Token(kind) => {
+        match lexeme {
+            Lexeme::Token(kind) => {
                 tokens.push(Token::new(kind, front, line))?;
                 fresh = false;
             }
-            Piece::Skipped => {
+            Lexeme::Skipped => {
                 let passed = behind(fresh, front);
                 line += passed.line_feeds;
                 fresh = passed.fresh;
@@ -88,20 +88,20 @@ fn divide<'t>(alloc: Global, text: &'t [u8]) -> Result<Vec<Token<'t>>, LexFault>
 /// Blanks, comments and the `# 3 "file"` or `#line 3` lines that a preprocessor leaves are skipped. Between them the
 /// text is cut into longest tokens, as chapter 3 of Holzmann's *The SPIN Model Checker* has them. The tokens borrow the
 /// text, and memory is taken for the list alone.
-pub fn cut<'t>(alloc: Global, text: &'t [u8]) -> Result<Vec<Token<'t>>, LexFault>
+pub fn cut<'t>(alloc: Global, text: &'t [u8]) -> Result<Vec<Token<'t>>, LexError>
     // What is answered are the text's tokens, and nothing speaks against them.
     ensures ok { IfOk result (λ v. AreTokens text.now v.items) }
     // A fault is the least that applies.
     ensures err { IfErr result (λ f. IsLeast text.now f) }
     // No other tokens can be answered, and where there are some, no fault but want of memory.
-    ensures only { (ts : List Word) → AreTokens text.now ts → MatchResult result (λ v. v.items ≡ ts) (λ f. f ≡ LexFault.Memory) }
+    ensures only { (ts : List Word) → AreTokens text.now ts → MatchResult result (λ v. v.items ≡ ts) (λ f. f ≡ LexError.Memory) }
 {
     if text.len() > MOST_TEXT_BYTES {
-        return Err(LexFault::TooLong);
+        return Err(LexError::TooLong);
     }
     let tokens = divide(alloc, text)?;
     if let Some(line) = first_left_out(&tokens) {
-        return Err(LexFault::LeftOut(line));
+        return Err(LexError::LeftOut(line));
     }
     Ok(tokens)
 }

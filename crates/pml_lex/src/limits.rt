@@ -59,7 +59,7 @@ fn breaks(kind: Kind) -> bool
 
 fn deepen(depth: u32, kind: Kind) -> u32
     requires { depth < 1000000 }
-    ensures { result ≡ limits.deepen depth kind }
+    ensures { result ≡ rows.deepen depth kind }
 {
     // sums in place of branches, since no processor foretells them well
     let opened = opens(kind);

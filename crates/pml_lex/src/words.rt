@@ -2,6 +2,7 @@
 
 ghost use Rattle.std.specs.Prelude.{◌≡◌, map, None, unwrap_or};
 ghost use Rattle.promela_text.specs.Tables as tables;
+ghost use Rattle.pml_lex.specs.Scanning as scan;
 
 use pml_token::token::Kind;
 
@@ -127,7 +128,7 @@ pub(crate) fn word_kind(word: &[u8]) -> Kind
 }
 
 pub(crate) fn sign_of_two(a: u8, b: u8) -> Option<Kind>
-    ensures { result ≡ tables.sign_of_two a b }
+    ensures { result ≡ scan.sign_of_two a b }
 {
     match (a, b) {
         (b'-', b'>') => Some(Kind::Arrow),
@@ -150,7 +151,7 @@ pub(crate) fn sign_of_two(a: u8, b: u8) -> Option<Kind>
 }
 
 pub(crate) fn sign_of_one(a: u8) -> Option<Kind>
-    ensures { result ≡ tables.sign_of_one a }
+    ensures { result ≡ scan.sign_of_one a }
 {
     match a {
         b'(' => Some(Kind::OpenParen),

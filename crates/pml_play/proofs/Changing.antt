@@ -7,10 +7,9 @@ use Rattle.promela_session.specs.declared.ends.End.{End}
 use Rattle.promela_session.specs.declared.ends.Cause.TheVariants as cause
 use Rattle.promela_session.specs.declared.ends.Broken.TheVariants as broken
 use Rattle.promela_session.specs.declared.form.Stream.TheVariants.{Unread}
-use Rattle.promela_session.specs.Replay.{converted, IsConvertedBy}
 use Rattle.promela_session.specs.Events.{Part}
 use Rattle.promela_session.specs.Session.{only, end_of, refused, transcript}
-use Rattle.promela_session.specs.Devices.{Ends, IsBrokenOff}
+use Rattle.promela_session.specs.Devices.{Ends, IsBrokenOff, converted, IsConvertedBy}
 use Rattle.session.proofs.Moving.{Moved-nil}
 use Rattle.session.proofs.Parts.{memory_breaks, only_does}
 use Rattle.session.proofs.Placing.{refused_can_be_converted}

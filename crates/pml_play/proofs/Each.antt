@@ -12,7 +12,7 @@ use Rattle.pml_token.specs.Word.{Word}
 use Rattle.pml_lex.specs.Scanning.{Found, next}
 use Rattle.promela_text.specs.Tokens.{IsCut, has_left_out, depth_behind, IsTooDeep, IsLine, AreTokens}
 use Rattle.pml_lex.specs.Rows.{row_behind, IsPast}
-use Rattle.promela_text.specs.Expansion.{expansion, Expands}
+use Rattle.promela_text.specs.Inlines.{expansion, Expands}
 use Rattle.pml_lex.proofs.Longest.{IsNext}
 use Rattle.pml_lex.proofs.Scan.{next_is}
 use Rattle.pml_lex.proofs.Steps.{Reached, reached_start, reached_more, reached_end, reached_none}
@@ -21,8 +21,8 @@ use Rattle.pml_tree.specs.declared.tree.Tree.{Tree}
 use Rattle.promela_model.specs.GrammarOfModels.{Spells}
 use Rattle.pml_syntax.specs.ReadingUnits as reading
 use Rattle.pml_syntax.proofs.Whole.{is_found, is_none}
-use Rattle.pml_resolve.specs.Model.{numbered_model}
-use Rattle.pml_stands.proofs.Model.{model-stands}
+use Rattle.check_resolve.specs.Model.{numbered_model}
+use Rattle.check_meaning.proofs.Model.{model-stands}
 use Rattle.promela_run.specs.Judged.{FitsTo, HasGoodStart, IsFit, IsLeast}
 use Rattle.pml_check.proofs.Standing.{fitted}
 use Rattle.pml_check.proofs.Deciding.{judge}

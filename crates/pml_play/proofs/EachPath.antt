@@ -9,7 +9,7 @@ use Rattle.promela_session.specs.declared.form.Stream.{Stream}
 use Rattle.promela_session.specs.declared.form.Stream.TheVariants.{Unread, Known}
 use Rattle.promela_session.specs.declared.form.Version.TheVariants.{First}
 use Rattle.promela_session.specs.Events.{Event, Put, Told, Recorded, Stepped, asks, recorded, Part, preceded, record_line, all_digits, placed_line, prompt, list_from}
-use Rattle.promela_session.specs.Lines.{most_line_bytes}
+use Rattle.profile.specs.declared.TheConstants.{LINE_BYTES}
 use Rattle.promela_session.specs.Session.{Rules, Goes, place_of, select, stepped, step_text, answered, story, transcript}
 use Rattle.session.proofs.Parts.{recorded-append, recorded-asks}
 use Rattle.session.proofs.Records.{IsPlain}
@@ -18,7 +18,7 @@ use Rattle.session.proofs.Turns.{story_some}
 use Rattle.promela_session.specs.declared.ends.Cause.{Cause}
 use Rattle.promela_run.specs.World.{Running, rules}
 use Rattle.pml_sim.proofs.Short.{IsLightHere, goes_light, number_fits}
-use Rattle.pml_play.specs.Run.{Turn, IsChosen, IsStep, IsPath, IsLast, no_move, at_limit, at_fault, at_question, last_state, IsRun, PlaysEachPath, PlaysJustThePath}
+use Rattle.pml_play.specs.Run.{Leg, IsChosen, IsStep, IsPath, IsLast, no_move, at_limit, at_fault, at_question, last_state, IsRun, PlaysEachPath, PlaysJustThePath}
 use Rattle.pml_play.specs.Transcript.{IsModel, IsTranscript}
 use Rattle.pml_play.proofs.Light.{text_light}
 use Rattle.pml_play.proofs.Outcomes.{when_modelled}
@@ -42,7 +42,7 @@ module _ {S M : Type 0} (rules : Rules S M) (options : Options) where
   one_played fuel s steps m is t printed goes stream more = story_some First rules options s steps stream fuel m [] is more ∙ rw goes refl
 
   -- of several the one whose number comes
-  pub many_played : (fuel : ℕ) (s : S) (steps : ℕ) (m k : M) (ms : List M) → rules.moves s ≡ m ∷ k ∷ ms → (n : ℕ) → 0 < n → n ≤ length (m ∷ k ∷ ms) → length (all_digits n) ≤ most_line_bytes
+  pub many_played : (fuel : ℕ) (s : S) (steps : ℕ) (m k : M) (ms : List M) → rules.moves s ≡ m ∷ k ∷ ms → (n : ℕ) → 0 < n → n ≤ length (m ∷ k ∷ ms) → length (all_digits n) ≤ LINE_BYTES
       → (t : S) (printed : List ℕ) → rules.step s (get_or (m ∷ k ∷ ms) (n - 1) m) ≡ Goes t printed → (stream : Stream) → IsPlain stream → (more : List ℕ)
       → story First rules options (suc fuel) s steps stream (record_line n ++ more)
       ≡ preceded (Put Told (list_from (rules.text s) 1 (m ∷ k ∷ ms)) ∷ Put Told (prompt (length (m ∷ k ∷ ms))) ∷ (asks (record_line n) false ++ Recorded (record_line n) (placed_line n (place_of rules s (m ∷ k ∷ ms) n)) ∷ []))
@@ -57,55 +57,55 @@ module _ {S M : Type 0} (rules : Rules S M) (options : Options) where
 
   -- what holds of states, is kept by steps, and bounds the numbers of their moves
   module _ (P : S → Type 0) (keeps : (s t : S) (m : M) (printed : List ℕ) → P s → rules.step s m ≡ Goes t printed → P t)
-      (short : (s : S) → P s → (n : ℕ) → n ≤ length (rules.moves s) → length (all_digits n) ≤ most_line_bytes) where
+      (short : (s : S) → P s → (n : ℕ) → n ≤ length (rules.moves s) → length (all_digits n) ≤ LINE_BYTES) where
     -- the session runs through this path first
-    abbrev PlaysFrom : S → ℕ → List (Turn S M) → Part End → Type 0
-    PlaysFrom s steps path part = (later : List (Turn S M)) × IsRunFrom rules options.limit s steps (path ++ later) part
+    abbrev PlaysFrom : S → ℕ → List (Leg S M) → Part End → Type 0
+    PlaysFrom s steps path part = (later : List (Leg S M)) × IsRunFrom rules options.limit s steps (path ++ later) part
 
     -- so does each story on the record of the rest
-    abbrev PlaysRest : ℕ → ℕ → Turn S M → List (Turn S M) → List ℕ → Type 0
-    PlaysRest fuel steps turn path more = (stream : Stream) → IsPlain stream → PlaysFrom turn.next (steps + 1) path (story First rules options fuel turn.next (steps + 1) stream more)
+    abbrev PlaysRest : ℕ → ℕ → Leg S M → List (Leg S M) → List ℕ → Type 0
+    PlaysRest fuel steps leg path more = (stream : Stream) → IsPlain stream → PlaysFrom leg.next (steps + 1) path (story First rules options fuel leg.next (steps + 1) stream more)
 
-    turn_first : (s : S) (steps : ℕ) (ns : List ℕ) (turn : Turn S M) (path : List (Turn S M)) (part later : Part End) → IsStep rules s ns turn → part.value ≡ later.value
-        → recorded part.events ≡ flat_map record_line ns ++ recorded later.events → PlaysFrom turn.next (steps + 1) path later → PlaysFrom s steps (turn ∷ path) part
-    turn_first s steps ns turn path part later step same kept rest = (rest.0, goes_through rules options s steps ns turn (path ++ rest.0) part later step same kept rest.1)
+    leg_first : (s : S) (steps : ℕ) (ns : List ℕ) (leg : Leg S M) (path : List (Leg S M)) (part later : Part End) → IsStep rules s ns leg → part.value ≡ later.value
+        → recorded part.events ≡ flat_map record_line ns ++ recorded later.events → PlaysFrom leg.next (steps + 1) path later → PlaysFrom s steps (leg ∷ path) part
+    leg_first s steps ns leg path part later step same kept rest = (rest.0, goes_through rules options s steps ns leg (path ++ rest.0) part later step same kept rest.1)
 
-    step_first : (fuel : ℕ) (s : S) (steps : ℕ) → P s → (ns : List ℕ) (turn : Turn S M) → IsStep rules s ns turn → (path : List (Turn S M)) (more : List ℕ) → PlaysRest fuel steps turn path more
-        → (moves : List M) → rules.moves s ≡ moves → IsChosen moves ns turn.move → (stream : Stream) → IsPlain stream → PlaysFrom s steps (turn ∷ path) (story First rules options (suc fuel) s steps stream (flat_map record_line ns ++ more))
-    step_first fuel s steps p ns turn step path more rest [] is chosen stream plain = absurd chosen
-    step_first fuel s steps p ns turn step path more rest (m ∷ []) is chosen stream plain =
-        let goes : rules.step s m ≡ Goes turn.next step.printed = ap (rules.step s) (sym chosen.1) ∙ step.goes in
+    step_first : (fuel : ℕ) (s : S) (steps : ℕ) → P s → (ns : List ℕ) (leg : Leg S M) → IsStep rules s ns leg → (path : List (Leg S M)) (more : List ℕ) → PlaysRest fuel steps leg path more
+        → (moves : List M) → rules.moves s ≡ moves → IsChosen moves ns leg.move → (stream : Stream) → IsPlain stream → PlaysFrom s steps (leg ∷ path) (story First rules options (suc fuel) s steps stream (flat_map record_line ns ++ more))
+    step_first fuel s steps p ns leg step path more rest [] is chosen stream plain = absurd chosen
+    step_first fuel s steps p ns leg step path more rest (m ∷ []) is chosen stream plain =
+        let goes : rules.step s m ≡ Goes leg.next step.printed = ap (rules.step s) (sym chosen.1) ∙ step.goes in
         let choices : flat_map record_line ns ++ more ≡ more = ap (λ (l : List ℕ). flat_map record_line l ++ more) chosen.0 in
-        let later = story First rules options fuel turn.next (steps + 1) stream more in
-        let part : story First rules options (suc fuel) s steps stream (flat_map record_line ns ++ more) ≡ preceded (Stepped ∷ Put Told (text_of s m steps turn.next step.printed) ∷ []) later =
-        ap (story First rules options (suc fuel) s steps stream) choices ∙ one_played fuel s steps m is turn.next step.printed goes stream more in
-        turn_first s steps ns turn path _ later step (ap (λ (q : Part End). q.value) part)
+        let later = story First rules options fuel leg.next (steps + 1) stream more in
+        let part : story First rules options (suc fuel) s steps stream (flat_map record_line ns ++ more) ≡ preceded (Stepped ∷ Put Told (text_of s m steps leg.next step.printed) ∷ []) later =
+        ap (story First rules options (suc fuel) s steps stream) choices ∙ one_played fuel s steps m is leg.next step.printed goes stream more in
+        leg_first s steps ns leg path _ later step (ap (λ (q : Part End). q.value) part)
         (ap (λ (q : Part End). recorded q.events) part ∙ ap (λ (l : List ℕ). flat_map record_line l ++ recorded later.events) (sym chosen.0)) (rest stream plain)
-    step_first fuel s steps p ns turn step path more rest (m ∷ k ∷ ms) is (i, numbered, there) stream plain =
+    step_first fuel s steps p ns leg step path more rest (m ∷ k ∷ ms) is (i, numbered, there) stream plain =
         let moves = m ∷ k ∷ ms in
         let n = i + 1 in
-        let below : i < length moves = slice_get_within moves i turn.move there in
+        let below : i < length moves = slice_get_within moves i leg.move there in
         let back : n - 1 ≡ i = omega arith in
-        let taken : get_or moves (n - 1) m ≡ turn.move = ap (λ (j : ℕ). get_or moves j m) back ∙ get_or_from_slice_get moves i turn.move m there in
-        let goes : rules.step s (get_or moves (n - 1) m) ≡ Goes turn.next step.printed = ap (rules.step s) taken ∙ step.goes in
-        let few : length (all_digits n) ≤ most_line_bytes = short s p n (let l = ap length is in omega (arith, below, l)) in
+        let taken : get_or moves (n - 1) m ≡ leg.move = ap (λ (j : ℕ). get_or moves j m) back ∙ get_or_from_slice_get moves i leg.move m there in
+        let goes : rules.step s (get_or moves (n - 1) m) ≡ Goes leg.next step.printed = ap (rules.step s) taken ∙ step.goes in
+        let few : length (all_digits n) ≤ LINE_BYTES = short s p n (let l = ap length is in omega (arith, below, l)) in
         let choices : flat_map record_line ns ++ more ≡ record_line n ++ more = ap (λ (l : List ℕ). flat_map record_line l ++ more) numbered ∙ ap (λ (l : List ℕ). l ++ more) (append-nil (record_line n)) in
-        let later = story First rules options fuel turn.next (steps + 1) (Known First) more in
-        let part = ap (story First rules options (suc fuel) s steps stream) choices ∙ many_played fuel s steps m k ms is n (omega arith) (omega (arith, below)) few turn.next step.printed goes stream plain more in
-        turn_first s steps ns turn path _ later step (ap (λ (q : Part End). q.value) part)
-        (ap (λ (q : Part End). recorded q.events) part ∙ asked_recorded (list_from (rules.text s) 1 moves) (prompt (length moves)) n (placed_line n (place_of rules s moves n)) (text_of s (get_or moves (n - 1) m) steps turn.next step.printed) later.events ∙ ap (λ (l : List ℕ). flat_map record_line l ++ recorded later.events) (sym numbered)) (rest (Known First) refl)
+        let later = story First rules options fuel leg.next (steps + 1) (Known First) more in
+        let part = ap (story First rules options (suc fuel) s steps stream) choices ∙ many_played fuel s steps m k ms is n (omega arith) (omega (arith, below)) few leg.next step.printed goes stream plain more in
+        leg_first s steps ns leg path _ later step (ap (λ (q : Part End). q.value) part)
+        (ap (λ (q : Part End). recorded q.events) part ∙ asked_recorded (list_from (rules.text s) 1 moves) (prompt (length moves)) n (placed_line n (place_of rules s moves n)) (text_of s (get_or moves (n - 1) m) steps leg.next step.printed) later.events ∙ ap (λ (l : List ℕ). flat_map record_line l ++ recorded later.events) (sym numbered)) (rest (Known First) refl)
 
-    path_first : (fuel : ℕ) (s : S) (steps : ℕ) → steps + fuel ≡ options.limit → P s → (path : List (Turn S M)) (numbers : List ℕ) → IsPath rules s path numbers → length path ≤ fuel → (stream : Stream) → IsPlain stream → (more : List ℕ)
+    path_first : (fuel : ℕ) (s : S) (steps : ℕ) → steps + fuel ≡ options.limit → P s → (path : List (Leg S M)) (numbers : List ℕ) → IsPath rules s path numbers → length path ≤ fuel → (stream : Stream) → IsPlain stream → (more : List ℕ)
         → PlaysFrom s steps path (story First rules options fuel s steps stream (flat_map record_line numbers ++ more))
     path_first fuel s steps at p [] numbers is within stream plain more = story_runs rules options fuel s steps at stream (flat_map record_line numbers ++ more)
-    path_first zero s steps at p (turn ∷ path) numbers is within stream plain more = absurd (omega (arith, within))
-    path_first (suc fuel) s steps at p (turn ∷ path) numbers (first, last, is, step, on) within stream plain more =
+    path_first zero s steps at p (leg ∷ path) numbers is within stream plain more = absurd (omega (arith, within))
+    path_first (suc fuel) s steps at p (leg ∷ path) numbers (first, last, is, step, on) within stream plain more =
         let rest = flat_map record_line last ++ more in
         let choices : flat_map record_line numbers ++ more ≡ flat_map record_line first ++ rest =
         ap (λ (l : List ℕ). flat_map record_line l ++ more) is ∙ ap (λ (l : List ℕ). l ++ more) (flat_map-append record_line first last) ∙ append_assoc (flat_map record_line first) (flat_map record_line last) more in
-        subst (λ (l : List ℕ). PlaysFrom s steps (turn ∷ path) (story First rules options (suc fuel) s steps stream l)) (sym choices)
-        (step_first fuel s steps p first turn step path rest
-        (λ o q. path_first fuel turn.next (steps + 1) (omega (arith, at)) (keeps s turn.next turn.move step.printed p step.goes) path last on (omega (arith, within)) o q more)
+        subst (λ (l : List ℕ). PlaysFrom s steps (leg ∷ path) (story First rules options (suc fuel) s steps stream l)) (sym choices)
+        (step_first fuel s steps p first leg step path rest
+        (λ o q. path_first fuel leg.next (steps + 1) (omega (arith, at)) (keeps s leg.next leg.move step.printed p step.goes) path last on (omega (arith, within)) o q more)
         (rules.moves s) refl step.chosen stream plain)
 
     pub each_path : (s : S) → P s → PlaysEachPath rules options.limit s (transcript rules options s)
@@ -132,14 +132,14 @@ module _ {S M : Type 0} (rules : Rules S M) (limit : ℕ) where
   last_within (at_fault below is faults) = omega (arith, below)
   last_within (at_question below many cut) = omega (arith, below)
 
-  no_more : (path later : List (Turn S M)) → length (path ++ later) ≤ limit → length path ≡ limit → path ++ later ≡ path
+  no_more : (path later : List (Leg S M)) → length (path ++ later) ≤ limit → length path ≡ limit → path ++ later ≡ path
   no_more path [] within all = append-nil path
-  no_more path (turn ∷ turns) within all = let long = length-append path (turn ∷ turns) in absurd (omega (arith, within, all, long))
+  no_more path (leg ∷ legs) within all = let long = length-append path (leg ∷ legs) in absurd (omega (arith, within, all, long))
 
   pub just_path : (s : S) (session : List ℕ → Part End) → PlaysEachPath rules limit s session → PlaysJustThePath rules limit s session
   just_path s session each path numbers more is all =
       let run = each path numbers more is (omega (arith, all)) in
-      subst (λ (l : List (Turn S M)). IsRun rules limit s l (session (flat_map record_line numbers ++ more))) (no_more path run.0 (last_within run.1.ends) all) run.1
+      subst (λ (l : List (Leg S M)). IsRun rules limit s l (session (flat_map record_line numbers ++ more))) (no_more path run.0 (last_within run.1.ends) all) run.1
 
 -- each path of the model of a text is played
 pub text_plays_each : {text : List ℕ} {options : Options} {model : Running} {part : List ℕ → Part End} → IsModel text options.lossy model → IsTranscript text options part → PlaysEachPath rules options.limit model part

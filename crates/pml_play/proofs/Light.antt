@@ -18,7 +18,7 @@ use Rattle.pml_syntax.proofs.Kept.{visibility_leads, opener_leads, declaration_l
 use Rattle.pml_program.specs.declared.program.Fields.{Fields}
 use Rattle.pml_program.specs.declared.program.Proctype.{Proctype}
 use Rattle.pml_program.specs.declared.program.Program.{Program}
-use Rattle.promela_model.specs.Known.{Globals}
+use Rattle.promela_model.specs.Stands.{Globals}
 use Rattle.promela_model.specs.StandsModel as stands
 use Rattle.promela_model.specs.StandsModel.{StandsUnits, StandsModel}
 use Rattle.promela_run.specs.World.{Running}

@@ -15,9 +15,10 @@ use Rattle.pml_program.specs.declared.program.Basic.TheBlock.{shape-the_row-Stmt
 use Rattle.pml_program.specs.declared.program.Stmt.{Stmt}
 use Rattle.pml_program.specs.declared.program.Seq.{Seq, roll-Seq, items_hidden-the_row-Stmt-1}
 use Rattle.promela_process.specs.Offers.{first_line}
-use Rattle.promela_model.specs.Known.{Globals}
+use Rattle.promela_model.specs.Stands.{Globals}
 use Rattle.promela_model.specs.StandsModel as stands
-use Rattle.promela_model.specs.StandsModel.{item_of, items_of, StandsBasic, StandsItems, StandsSeq, StandsOptions}
+use Rattle.promela_model.specs.StandsModel.{StandsBasic, StandsItems, StandsSeq, StandsOptions}
+use Rattle.promela_model.specs.GrammarOfActions.{item_of, seq_of}
 use Rattle.pml_sim.proofs.Weight.{weight_in, weight_part, weight_list, weight_parts, weight_if, weight_do, part_list}
 
 abbrev pub total : List ℕ → ℕ
@@ -60,7 +61,7 @@ basic-is x y is = ap tree_basic (sym is) ∙ fold-roll-Basic ℕ ℕ ℕ basic_w
 pub item-is : (labels : List Word) (x : TreeBasic) (tokens : List Word) → tree_item (item_of labels x tokens) ≡ first_line tokens 0 + tree_basic x
 item-is labels x tokens = fold-roll-Item ℕ ℕ ℕ basic_weight item_weight seq_weight (record { labels = labels; basic = x; tokens = tokens })
 
-pub seq-is : (is : List Item) → tree_seq (items_of is) ≡ total (map tree_item is)
+pub seq-is : (is : List Item) → tree_seq (seq_of is) ≡ total (map tree_item is)
 seq-is is = fold-roll-Seq ℕ ℕ ℕ basic_weight item_weight seq_weight (record { items = is })
 
 pub declare-is : (vs : List Variable) → tree_basic (form.Declare vs) ≡ 0

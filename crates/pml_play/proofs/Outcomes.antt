@@ -10,21 +10,21 @@ use Rattle.pml_token.specs.Word.{Word}
 use Rattle.promela_text.specs.Tokens.{has_left_out, IsTooDeep, AreTokens, CannotBeCut, HoldsLeftOut}
 use Rattle.profile.specs.declared.TheConstants.{MOST_TEXT_BYTES}
 use Rattle.pml_lex.proofs.Steps.{one_list}
-use Rattle.promela_text.specs.Expansion.{Expands}
+use Rattle.promela_text.specs.Inlines.{Expands}
 use Rattle.pml_inline.proofs.Whole.{one_result}
 use Rattle.pml_tree.specs.declared.tree.Tree.{Tree}
 use Rattle.promela_model.specs.GrammarOfModels.{Spells}
 use Rattle.pml_syntax.proofs.Whole as trees
 use Rattle.pml_program.specs.declared.program.Program.{Program}
 use Rattle.promela_model.specs.StandsModel.{StandsModel}
-use Rattle.pml_stands.proofs.Model.{one-model}
+use Rattle.check_meaning.proofs.Model.{one-model}
 use Rattle.promela_model.specs.declared.mark.Mark.{Mark}
 use Rattle.promela_run.specs.Judged.{AppliesTo, IsFit, IsLeast}
 use Rattle.pml_check.proofs.Least.{one_least, fit_has_none}
 use Rattle.diagnostics.specs.declared.fault.Fault.{Fault}
 use Rattle.promela_run.specs.State.{Begun, first_state}
 use Rattle.promela_run.specs.World.{Running, first, rules}
-use Rattle.promela_session.specs.Replay.{CanBeReplayed}
+use Rattle.promela_session.specs.Devices.{CanBeReplayed}
 use Rattle.session.proofs.CutShort.{can_be_replayed, refused_can_be_replayed}
 use Rattle.pml_play.specs.Transcript.{AreExpanded, IsSpelled, IsModel, HasNoExpansion, ExpandsTooDeep, IsUnspelled, IsRefused, too_long, lexical, left_out, inline, too_deep, unspelled, unfit, IsTranscript, of_refusal, of_model}
 use Rattle.pml_play.specs.Outcomes.{HasLine}

@@ -5,7 +5,7 @@ use Rattle.diagnostics.specs.declared.refusal.Refusal.TheVariants as r
 use Rattle.pml_token.specs.Word.{Word}
 use Rattle.promela_text.specs.Tokens.{IsTooDeep, IsLine, AreTokens}
 use Rattle.pml_lex.proofs.Steps.{one_list}
-use Rattle.promela_text.specs.Expansion.{Expands}
+use Rattle.promela_text.specs.Inlines.{Expands}
 use Rattle.pml_inline.proofs.Whole.{one_result}
 use Rattle.pml_inline.proofs.Unchanged.{own_expansion}
 use Rattle.pml_tree.specs.declared.tree.Tree.{Tree}

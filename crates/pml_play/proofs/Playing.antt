@@ -17,15 +17,15 @@ use Rattle.pml_token.specs.Word.{Word}
 use Rattle.promela_text.specs.Tokens.{line_behind, IsOnLine, AreTokens}
 use Rattle.pml_lex.specs.Rows.{AreOnLines}
 use Rattle.pml_lex.specs.Divided.{IsLeast}
-use Rattle.pml_lex.specs.declared.fault.LexFault.{LexFault}
-use Rattle.pml_lex.specs.declared.fault.LexFault.TheVariants as lex
-use Rattle.promela_text.specs.declared.inline_fault.InlineFault.{InlineFault}
-use Rattle.promela_text.specs.declared.inline_fault.InlineFault.TheVariants as inlines
+use Rattle.pml_lex.specs.declared.fault.LexError.{LexError}
+use Rattle.pml_lex.specs.declared.fault.LexError.TheVariants as lex
+use Rattle.promela_text.specs.declared.inline_fault.InlineError.{InlineError}
+use Rattle.promela_text.specs.declared.inline_fault.InlineError.TheVariants as inlines
 use Rattle.pml_inline.specs.Least.{IsLeast as inline_least, IsFaultOnLine}
 use Rattle.pml_inline.proofs.Keeping.{kept}
 use Rattle.pml_tree.specs.declared.tree.Tree.{Tree}
-use Rattle.pml_syntax.specs.declared.program.SyntaxFault.{SyntaxFault}
-use Rattle.pml_syntax.specs.declared.program.SyntaxFault.TheVariants as syntax
+use Rattle.pml_syntax.specs.declared.program.SyntaxError.{SyntaxError}
+use Rattle.pml_syntax.specs.declared.program.SyntaxError.TheVariants as syntax
 use Rattle.promela_model.specs.GrammarOfModels.{Spells}
 use Rattle.pml_syntax.specs.Answer.{Answers}
 use Rattle.pml_check.specs.declared.checked.CheckFault.{CheckFault}
@@ -46,7 +46,7 @@ use Rattle.promela_session.specs.declared.form.Stream.TheVariants.{Unread}
 
 -- ---- reading
 
-pub rejected_lexical : (text : List ℕ) (fault : LexFault) → IsLeast text fault → IsRejected text (of_lexical fault)
+pub rejected_lexical : (text : List ℕ) (fault : LexError) → IsLeast text fault → IsRejected text (of_lexical fault)
 rejected_lexical text lex.Memory h = tt
 rejected_lexical text lex.TooLong h = too_long h
 rejected_lexical text (lex.Lexical line) h = lexical h
@@ -56,14 +56,14 @@ rejected_lexical text (lex.LeftOut line) h = left_out h
 expanded_lines : (text : List ℕ) (us : List Word) → AreExpanded text us → AreOnLines (line_behind text) us
 expanded_lines text us a = kept (λ w. IsOnLine (line_behind text) w.line) a.tokens us (token_lines text a.tokens a.are_tokens.are_cut) a.is_expanded.expands
 
-pub rejected_inline : (text : List ℕ) (ts : List Word) (fault : InlineFault) → AreTokens text ts → inline_least ts fault
+pub rejected_inline : (text : List ℕ) (ts : List Word) (fault : InlineError) → AreTokens text ts → inline_least ts fault
     → ((most : ℕ) → AreOnLines most ts → IsFaultOnLine most fault) → IsRejected text (of_inline fault)
 rejected_inline text ts inlines.Memory are least line = tt
 rejected_inline text ts (inlines.Inline misuse) are least line = inline (record { tokens = ts; are_tokens = are; none = least })
 rejected_inline text ts (inlines.TooDeep at limit) are least line = too_deep (record { tokens = ts; are_tokens = are; deep = least; on_line = line (line_behind text) (token_lines text ts are.are_cut) })
 
-pub rejected_syntax : (text : List ℕ) (us : List Word) (fault : SyntaxFault) → AreExpanded text us → ((t : Tree) → Spells t us → Answers t (Err fault))
-    → ((most : ℕ) → 1 ≤ most → All (λ w. IsOnLine most w.line) us → (at : ℕ) → ◌≡◌ {A = Result Tree SyntaxFault} (Err fault) (Err (syntax.Syntax at)) → IsOnLine most at) → IsRejected text (of_syntax fault)
+pub rejected_syntax : (text : List ℕ) (us : List Word) (fault : SyntaxError) → AreExpanded text us → ((t : Tree) → Spells t us → Answers t (Err fault))
+    → ((most : ℕ) → 1 ≤ most → All (λ w. IsOnLine most w.line) us → (at : ℕ) → ◌≡◌ {A = Result Tree SyntaxError} (Err fault) (Err (syntax.Syntax at)) → IsOnLine most at) → IsRejected text (of_syntax fault)
 rejected_syntax text us syntax.Memory are none line = tt
 rejected_syntax text us (syntax.Syntax at) are none line =
     unspelled (record { expanded = us; are_expanded = are; none = none; on_line = line (line_behind text) (omega arith) (expanded_lines text us are) at refl })

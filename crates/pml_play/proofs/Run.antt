@@ -14,7 +14,8 @@ use Rattle.promela_session.specs.declared.form.Stream.{Stream}
 use Rattle.promela_session.specs.declared.form.Stream.TheVariants.{Unread}
 use Rattle.promela_session.specs.declared.form.Version.TheVariants.{First}
 use Rattle.promela_session.specs.Events.{Event, recorded, Part, record_line, all_digits}
-use Rattle.promela_session.specs.Lines.{most_bad_lines, is_digit, number_of}
+use Rattle.profile.specs.declared.TheConstants.{BAD_LINES}
+use Rattle.promela_session.specs.Lines.{is_digit, number_of}
 use Rattle.session.specs.Answers.{IsPickUpTo}
 use Rattle.promela_session.specs.Session.{Rules, Outcome, Goes, Faults, ask, place_of, select, finished, stepped, answered, story, transcript, final_cause}
 use Rattle.session.proofs.Parts.{recorded-append}
@@ -23,7 +24,7 @@ use Rattle.session.proofs.Turns.{story_none, story_limit, story_some, answer_par
 use Rattle.session.proofs.Written.{all_are_digits, number_is}
 use Rattle.promela_run.specs.World.{Running, rules}
 use Rattle.pml_play.specs.Transcript.{IsModel, IsTranscript}
-use Rattle.pml_play.specs.Run.{Turn, IsChosen, IsStep, IsPath, last_state, IsLast, no_move, at_limit, at_fault, at_question, HasRun, RecordGivesRun}
+use Rattle.pml_play.specs.Run.{Leg, IsChosen, IsStep, IsPath, last_state, IsLast, no_move, at_limit, at_fault, at_question, HasRun, RecordGivesRun}
 use Rattle.pml_play.proofs.Outcomes.{when_modelled}
 
 -- ---- the record's lines give its numbers
@@ -86,16 +87,16 @@ same_choice (m ∷ k ∷ more) ns ms a b us vs here there same =
     let number : here.0 ≡ there.0 = omega (arith, head) in
     (some_same a b (sym here.2 ∙ ap (slice_get (m ∷ k ∷ more)) number ∙ there.2), cons_tail (here.0 + 1) (there.0 + 1) us vs all)
 
-turn_same : {S M : Type 0} (a b : Turn S M) → a.move ≡ b.move → a.next ≡ b.next → a ≡ b
-turn_same {S} {M} a b moves nexts = ap (λ (m : M). record { move = m; next = a.next }) moves ∙ ap (λ (t : S). record { move = b.move; next = t }) nexts
+leg_same : {S M : Type 0} (a b : Leg S M) → a.move ≡ b.move → a.next ≡ b.next → a ≡ b
+leg_same {S} {M} a b moves nexts = ap (λ (m : M). record { move = m; next = a.next }) moves ∙ ap (λ (t : S). record { move = b.move; next = t }) nexts
 
 module _ {S M : Type 0} (rules : Rules S M) where
-  same_step : (s : S) (ns ms : List ℕ) (a b : Turn S M) (us vs : List ℕ) → IsStep rules s ns a → IsStep rules s ms b → ns ++ us ≡ ms ++ vs → (a ≡ b) × (us ≡ vs)
+  same_step : (s : S) (ns ms : List ℕ) (a b : Leg S M) (us vs : List ℕ) → IsStep rules s ns a → IsStep rules s ms b → ns ++ us ≡ ms ++ vs → (a ≡ b) × (us ≡ vs)
   same_step s ns ms a b us vs here there same =
       let c = same_choice (rules.moves s) ns ms a.move b.move us vs here.chosen there.chosen same in
-      (turn_same a b c.0 (goes_same a.next b.next here.printed there.printed (sym here.goes ∙ ap (rules.step s) c.0 ∙ there.goes)), c.1)
+      (leg_same a b c.0 (goes_same a.next b.next here.printed there.printed (sym here.goes ∙ ap (rules.step s) c.0 ∙ there.goes)), c.1)
 
-  same_path : (s : S) (path again : List (Turn S M)) (ns ms us vs : List ℕ) → IsPath rules s path ns → IsPath rules s again ms → ns ++ us ≡ ms ++ vs → length path ≡ length again → path ≡ again
+  same_path : (s : S) (path again : List (Leg S M)) (ns ms us vs : List ℕ) → IsPath rules s path ns → IsPath rules s again ms → ns ++ us ≡ ms ++ vs → length path ≡ length again → path ≡ again
   same_path s [] [] ns ms us vs here there same long = refl
   same_path s [] (y ∷ ys) ns ms us vs here there same long = absurd (omega (arith, long))
   same_path s (x ∷ xs) [] ns ms us vs here there same long = absurd (omega (arith, long))
@@ -103,8 +104,8 @@ module _ {S M : Type 0} (rules : Rules S M) where
       let all : first ++ (rest ++ us) ≡ first' ++ (rest' ++ vs) =
       sym (ap (λ (l : List ℕ). l ++ us) is ∙ append_assoc first rest us) ∙ same ∙ (ap (λ (l : List ℕ). l ++ vs) is' ∙ append_assoc first' rest' vs) in
       let one = same_step s first first' x y (rest ++ us) (rest' ++ vs) step step' all in
-      let on : IsPath rules x.next ys rest' = subst (λ (t : Turn S M). IsPath rules t.next ys rest') (sym one.0) path' in
-      ap (λ (t : Turn S M). t ∷ xs) one.0 ∙ ap (λ (l : List (Turn S M)). y ∷ l) (same_path x.next xs ys rest rest' us vs path on one.1 (omega (arith, long)))
+      let on : IsPath rules x.next ys rest' = subst (λ (t : Leg S M). IsPath rules t.next ys rest') (sym one.0) path' in
+      ap (λ (t : Leg S M). t ∷ xs) one.0 ∙ ap (λ (l : List (Leg S M)). y ∷ l) (same_path x.next xs ys rest rest' us vs path on one.1 (omega (arith, long)))
 
   pub record_gives_run : (s : S) → RecordGivesRun rules s
   record_gives_run s limit other path again a b run same_run records steps =
@@ -114,7 +115,7 @@ module _ {S M : Type 0} (rules : Rules S M) where
 -- ---- each session runs through a path
 
 -- from a state after so many steps
-pub record IsRunFrom {S M : Type 0} (rules : Rules S M) (limit : ℕ) (s : S) (steps : ℕ) (path : List (Turn S M)) (part : Part End) : Type 0 where
+pub record IsRunFrom {S M : Type 0} (rules : Rules S M) (limit : ℕ) (s : S) (steps : ℕ) (path : List (Leg S M)) (part : Part End) : Type 0 where
   pub numbers : List ℕ
   pub last : List ℕ
   pub is_path : IsPath rules s path numbers
@@ -124,7 +125,7 @@ pub record IsRunFrom {S M : Type 0} (rules : Rules S M) (limit : ℕ) (s : S) (s
 
 module _ {S M : Type 0} (rules : Rules S M) (options : Options) where
   abbrev pub RunsFrom : S → ℕ → Part End → Type 0
-  RunsFrom s steps part = (path : List (Turn S M)) × IsRunFrom rules options.limit s steps path part
+  RunsFrom s steps part = (path : List (Leg S M)) × IsRunFrom rules options.limit s steps path part
 
   -- no step is taken
   ends_here : (s : S) (steps : ℕ) (part : Part End) (last : List ℕ) → part.value.steps ≡ steps → recorded part.events ≡ flat_map record_line last → IsLast rules options.limit s steps last part.value.cause → RunsFrom s steps part
@@ -141,23 +142,23 @@ module _ {S M : Type 0} (rules : Rules S M) (options : Options) where
   )
 
   -- a step is taken, and then comes the rest
-  pub goes_through : (s : S) (steps : ℕ) (ns : List ℕ) (turn : Turn S M) (path : List (Turn S M)) (part later : Part End) → IsStep rules s ns turn → part.value ≡ later.value
-      → recorded part.events ≡ flat_map record_line ns ++ recorded later.events → IsRunFrom rules options.limit turn.next (steps + 1) path later → IsRunFrom rules options.limit s steps (turn ∷ path) part
-  goes_through s steps ns turn path part later step same kept r =
-      let long : (steps + 1) + length path ≡ steps + length (turn ∷ path) = omega arith in
+  pub goes_through : (s : S) (steps : ℕ) (ns : List ℕ) (leg : Leg S M) (path : List (Leg S M)) (part later : Part End) → IsStep rules s ns leg → part.value ≡ later.value
+      → recorded part.events ≡ flat_map record_line ns ++ recorded later.events → IsRunFrom rules options.limit leg.next (steps + 1) path later → IsRunFrom rules options.limit s steps (leg ∷ path) part
+  goes_through s steps ns leg path part later step same kept r =
+      let long : (steps + 1) + length path ≡ steps + length (leg ∷ path) = omega arith in
       record {
         numbers = ns ++ r.numbers;
         last = r.last;
         is_path = (ns, r.numbers, refl, step, r.is_path);
         counted = ap (λ (e : End). e.steps) same ∙ r.counted ∙ long;
         kept = kept ∙ ap (λ (l : List ℕ). flat_map record_line ns ++ l) r.kept ∙ sym (flat_map-append record_line ns (r.numbers ++ r.last)) ∙ ap (flat_map record_line) (sym (append_assoc ns r.numbers r.last));
-        ends = subst (λ (c : Cause). IsLast rules options.limit (last_state turn.next path) (steps + length (turn ∷ path)) r.last c) (sym (ap (λ (e : End). e.cause) same))
-            (subst (λ (n : ℕ). IsLast rules options.limit (last_state turn.next path) n r.last later.value.cause) long r.ends);
+        ends = subst (λ (c : Cause). IsLast rules options.limit (last_state leg.next path) (steps + length (leg ∷ path)) r.last c) (sym (ap (λ (e : End). e.cause) same))
+            (subst (λ (n : ℕ). IsLast rules options.limit (last_state leg.next path) n r.last later.value.cause) long r.ends);
       }
 
-  goes_on : (s : S) (steps : ℕ) (ns : List ℕ) (turn : Turn S M) (part later : Part End) → IsStep rules s ns turn → part.value ≡ later.value → recorded part.events ≡ flat_map record_line ns ++ recorded later.events
-      → RunsFrom turn.next (steps + 1) later → RunsFrom s steps part
-  goes_on s steps ns turn part later step same kept run = (turn ∷ run.0, goes_through s steps ns turn run.0 part later step same kept run.1)
+  goes_on : (s : S) (steps : ℕ) (ns : List ℕ) (leg : Leg S M) (part later : Part End) → IsStep rules s ns leg → part.value ≡ later.value → recorded part.events ≡ flat_map record_line ns ++ recorded later.events
+      → RunsFrom leg.next (steps + 1) later → RunsFrom s steps part
+  goes_on s steps ns leg part later step same kept run = (leg ∷ run.0, goes_through s steps ns leg run.0 part later step same kept run.1)
 
   -- what a state's moves lead to runs through a path
   abbrev RunsOn : ℕ → (S → Stream → List ℕ → Part End) → Type 0
@@ -206,9 +207,9 @@ module _ {S M : Type 0} (rules : Rules S M) (options : Options) where
   select_runs fuel s steps below on m (k ∷ ms) is stream rest =
       let moves = m ∷ k ∷ ms in
       let place = place_of rules s moves in
-      let asked = ask (length moves) place (most_bad_lines - 1) stream rest in
-      question_runs s steps below (λ t o q. story First rules options fuel t (steps + 1) o q) on m k ms is asked.events (ask_silent (length moves) place (most_bad_lines - 1) stream rest)
-      asked.value (ask_range (length moves) place (most_bad_lines - 1) stream rest) asked.stream asked.left
+      let asked = ask (length moves) place (BAD_LINES - 1) stream rest in
+      question_runs s steps below (λ t o q. story First rules options fuel t (steps + 1) o q) on m k ms is asked.events (ask_silent (length moves) place (BAD_LINES - 1) stream rest)
+      asked.value (ask_range (length moves) place (BAD_LINES - 1) stream rest) asked.stream asked.left
 
   finish_runs : (s : S) (steps : ℕ) → steps ≤ options.limit → rules.moves s ≡ [] → (valid : Bool) → rules.is_valid s ≡ valid → (stream : Stream) (rest : List ℕ) → RunsFrom s steps (finished valid (rules.stuck s) steps stream rest)
   finish_runs s steps within none valid is stream rest = by valid (subst (λ (v : Bool). IsLast rules options.limit s steps [] (final_cause v)) is (no_move within none))

@@ -9,12 +9,12 @@ use Rattle.promela_session.specs.declared.form.Stream.{Stream}
 use Rattle.promela_session.specs.declared.form.Stream.TheVariants.{Unread, Known}
 use Rattle.promela_session.specs.declared.form.Version.TheVariants.{First}
 use Rattle.promela_session.specs.Events.{Put, Told, Stepped, Part, preceded, record_line, all_digits}
-use Rattle.promela_session.specs.Lines.{most_line_bytes}
+use Rattle.profile.specs.declared.TheConstants.{LINE_BYTES}
 use Rattle.promela_session.specs.Session.{Rules, Goes, step_text, story, transcript}
 use Rattle.session.proofs.Records.{IsPlain}
 use Rattle.promela_run.specs.World.{Running, rules}
 use Rattle.pml_sim.proofs.Short.{IsLightHere, goes_light, number_fits}
-use Rattle.pml_play.specs.Run.{Turn, IsChosen, IsStep, IsPath, last_state}
+use Rattle.pml_play.specs.Run.{Leg, IsChosen, IsStep, IsPath, last_state}
 use Rattle.pml_play.specs.Shown.{printed_by, question_for, numbers_behind, step_done, along, ShowsEachPath, PathLeads, ComesTo}
 use Rattle.pml_play.specs.Transcript.{IsModel, IsTranscript}
 use Rattle.pml_play.proofs.Each.{has_transcript}
@@ -35,68 +35,68 @@ module _ {S M : Type 0} (rules : Rules S M) (options : Options) where
 
   -- what holds of states, is kept by steps, and bounds the numbers of their moves
   module _ (P : S → Type 0) (keeps : (s t : S) (m : M) (printed : List ℕ) → P s → rules.step s m ≡ Goes t printed → P t)
-      (short : (s : S) → P s → (n : ℕ) → n ≤ length (rules.moves s) → length (all_digits n) ≤ most_line_bytes) where
+      (short : (s : S) → P s → (n : ℕ) → n ≤ length (rules.moves s) → length (all_digits n) ≤ LINE_BYTES) where
     -- a step is shown so, and then comes the story from the next state on
-    abbrev ShowsStep : ℕ → S → ℕ → List ℕ → Turn S M → List M → Stream → List ℕ → Type 0
-    ShowsStep fuel s steps ns turn moves stream more = (stream' : Stream) × IsPlain stream' × (story First rules options (suc fuel) s steps stream (flat_map record_line ns ++ more)
-        ≡ preceded (question_for rules s moves ns) (preceded (step_done rules options s steps turn) (story First rules options fuel turn.next (steps + 1) stream' more)))
+    abbrev ShowsStep : ℕ → S → ℕ → List ℕ → Leg S M → List M → Stream → List ℕ → Type 0
+    ShowsStep fuel s steps ns leg moves stream more = (stream' : Stream) × IsPlain stream' × (story First rules options (suc fuel) s steps stream (flat_map record_line ns ++ more)
+        ≡ preceded (question_for rules s moves ns) (preceded (step_done rules options s steps leg) (story First rules options fuel leg.next (steps + 1) stream' more)))
 
-    step_shown : (fuel : ℕ) (s : S) (steps : ℕ) → P s → (ns : List ℕ) (turn : Turn S M) → IsStep rules s ns turn → (more : List ℕ)
-        → (moves : List M) → rules.moves s ≡ moves → IsChosen moves ns turn.move → (stream : Stream) → IsPlain stream → ShowsStep fuel s steps ns turn moves stream more
-    step_shown fuel s steps p ns turn step more [] is chosen stream plain = absurd chosen
-    step_shown fuel s steps p ns turn step more (m ∷ []) is chosen stream plain =
-        let goes : rules.step s m ≡ Goes turn.next step.printed = ap (rules.step s) (sym chosen.1) ∙ step.goes in
-        let later = story First rules options fuel turn.next (steps + 1) stream more in
-        let told : text_of s m steps turn.next step.printed ≡ text_of s turn.move steps turn.next (printed_by (rules.step s turn.move)) =
-        ap (λ (x : M). text_of s x steps turn.next step.printed) (sym chosen.1) ∙ ap (text_of s turn.move steps turn.next) (sym (ap printed_by step.goes)) in (
+    step_shown : (fuel : ℕ) (s : S) (steps : ℕ) → P s → (ns : List ℕ) (leg : Leg S M) → IsStep rules s ns leg → (more : List ℕ)
+        → (moves : List M) → rules.moves s ≡ moves → IsChosen moves ns leg.move → (stream : Stream) → IsPlain stream → ShowsStep fuel s steps ns leg moves stream more
+    step_shown fuel s steps p ns leg step more [] is chosen stream plain = absurd chosen
+    step_shown fuel s steps p ns leg step more (m ∷ []) is chosen stream plain =
+        let goes : rules.step s m ≡ Goes leg.next step.printed = ap (rules.step s) (sym chosen.1) ∙ step.goes in
+        let later = story First rules options fuel leg.next (steps + 1) stream more in
+        let told : text_of s m steps leg.next step.printed ≡ text_of s leg.move steps leg.next (printed_by (rules.step s leg.move)) =
+        ap (λ (x : M). text_of s x steps leg.next step.printed) (sym chosen.1) ∙ ap (text_of s leg.move steps leg.next) (sym (ap printed_by step.goes)) in (
           stream,
           plain,
           ap (λ (l : List ℕ). story First rules options (suc fuel) s steps stream (flat_map record_line l ++ more)) chosen.0
-              ∙ one_played rules options fuel s steps m is turn.next step.printed goes stream more
+              ∙ one_played rules options fuel s steps m is leg.next step.printed goes stream more
               ∙ ap (λ (t : List ℕ). preceded (Stepped ∷ Put Told t ∷ []) later) told,
         )
-    step_shown fuel s steps p ns turn step more (m ∷ k ∷ ms) is (i, numbered, there) stream plain =
+    step_shown fuel s steps p ns leg step more (m ∷ k ∷ ms) is (i, numbered, there) stream plain =
         let moves = m ∷ k ∷ ms in
         let n = i + 1 in
-        let below : i < length moves = slice_get_within moves i turn.move there in
+        let below : i < length moves = slice_get_within moves i leg.move there in
         let back : n - 1 ≡ i = omega arith in
-        let taken : get_or moves (n - 1) m ≡ turn.move = ap (λ (j : ℕ). get_or moves j m) back ∙ get_or_from_slice_get moves i turn.move m there in
-        let goes : rules.step s (get_or moves (n - 1) m) ≡ Goes turn.next step.printed = ap (rules.step s) taken ∙ step.goes in
-        let few : length (all_digits n) ≤ most_line_bytes = short s p n (let l = ap length is in omega (arith, below, l)) in
+        let taken : get_or moves (n - 1) m ≡ leg.move = ap (λ (j : ℕ). get_or moves j m) back ∙ get_or_from_slice_get moves i leg.move m there in
+        let goes : rules.step s (get_or moves (n - 1) m) ≡ Goes leg.next step.printed = ap (rules.step s) taken ∙ step.goes in
+        let few : length (all_digits n) ≤ LINE_BYTES = short s p n (let l = ap length is in omega (arith, below, l)) in
         let choices : flat_map record_line ns ++ more ≡ record_line n ++ more = ap (λ (l : List ℕ). flat_map record_line l ++ more) numbered ∙ ap (λ (l : List ℕ). l ++ more) (append-nil (record_line n)) in
-        let later = story First rules options fuel turn.next (steps + 1) (Known First) more in
-        let told : text_of s (get_or moves (n - 1) m) steps turn.next step.printed ≡ text_of s turn.move steps turn.next (printed_by (rules.step s turn.move)) =
-        ap (λ (x : M). text_of s x steps turn.next step.printed) taken ∙ ap (text_of s turn.move steps turn.next) (sym (ap printed_by step.goes)) in (
+        let later = story First rules options fuel leg.next (steps + 1) (Known First) more in
+        let told : text_of s (get_or moves (n - 1) m) steps leg.next step.printed ≡ text_of s leg.move steps leg.next (printed_by (rules.step s leg.move)) =
+        ap (λ (x : M). text_of s x steps leg.next step.printed) taken ∙ ap (text_of s leg.move steps leg.next) (sym (ap printed_by step.goes)) in (
           Known First,
           refl,
           ap (story First rules options (suc fuel) s steps stream) choices
-              ∙ many_played rules options fuel s steps m k ms is n (omega arith) (omega (arith, below)) few turn.next step.printed goes stream plain more
+              ∙ many_played rules options fuel s steps m k ms is n (omega arith) (omega (arith, below)) few leg.next step.printed goes stream plain more
               ∙ ap (λ (t : List ℕ). preceded (question_for rules s moves (n ∷ [])) (preceded (Stepped ∷ Put Told t ∷ []) later)) told
-              ∙ ap (λ (l : List ℕ). preceded (question_for rules s moves l) (preceded (step_done rules options s steps turn) later)) (sym numbered),
+              ∙ ap (λ (l : List ℕ). preceded (question_for rules s moves l) (preceded (step_done rules options s steps leg) later)) (sym numbered),
         )
 
     -- the story on a path's record is shown so
-    abbrev ShowsPath : ℕ → S → ℕ → List (Turn S M) → List ℕ → Stream → List ℕ → Type 0
+    abbrev ShowsPath : ℕ → S → ℕ → List (Leg S M) → List ℕ → Stream → List ℕ → Type 0
     ShowsPath fuel s steps path numbers stream more = (later : Part End) × (story First rules options fuel s steps stream (flat_map record_line numbers ++ more) ≡ along rules options s steps path numbers later)
 
-    path_shown : (fuel : ℕ) (s : S) (steps : ℕ) → P s → (path : List (Turn S M)) (numbers : List ℕ) → IsPath rules s path numbers → length path ≤ fuel → (stream : Stream) → IsPlain stream → (more : List ℕ)
+    path_shown : (fuel : ℕ) (s : S) (steps : ℕ) → P s → (path : List (Leg S M)) (numbers : List ℕ) → IsPath rules s path numbers → length path ≤ fuel → (stream : Stream) → IsPlain stream → (more : List ℕ)
         → ShowsPath fuel s steps path numbers stream more
     path_shown fuel s steps p [] numbers is within stream plain more = (story First rules options fuel s steps stream (flat_map record_line numbers ++ more), refl)
-    path_shown zero s steps p (turn ∷ path) numbers is within stream plain more = absurd (omega (arith, within))
-    path_shown (suc fuel) s steps p (turn ∷ path) numbers (first, last, is, step, on) within stream plain more =
+    path_shown zero s steps p (leg ∷ path) numbers is within stream plain more = absurd (omega (arith, within))
+    path_shown (suc fuel) s steps p (leg ∷ path) numbers (first, last, is, step, on) within stream plain more =
         let rest = flat_map record_line last ++ more in
         let choices : flat_map record_line numbers ++ more ≡ flat_map record_line first ++ rest =
         ap (λ (l : List ℕ). flat_map record_line l ++ more) is ∙ ap (λ (l : List ℕ). l ++ more) (flat_map-append record_line first last) ∙ append_assoc (flat_map record_line first) (flat_map record_line last) more in
-        let shown = step_shown fuel s steps p first turn step rest (rules.moves s) refl step.chosen stream plain in
-        let on_later = path_shown fuel turn.next (steps + 1) (keeps s turn.next turn.move step.printed p step.goes) path last on (omega (arith, within)) shown.0 shown.1 more in
-        let front = chosen_front s (rules.moves s) first last turn.move step.chosen in
-        let whole = along rules options turn.next (steps + 1) path in (
+        let shown = step_shown fuel s steps p first leg step rest (rules.moves s) refl step.chosen stream plain in
+        let on_later = path_shown fuel leg.next (steps + 1) (keeps s leg.next leg.move step.printed p step.goes) path last on (omega (arith, within)) shown.0 shown.1 more in
+        let front = chosen_front s (rules.moves s) first last leg.move step.chosen in
+        let whole = along rules options leg.next (steps + 1) path in (
           on_later.0,
           ap (story First rules options (suc fuel) s steps stream) choices ∙ shown.2
-              ∙ ap (λ (q : Part End). preceded (question_for rules s (rules.moves s) first) (preceded (step_done rules options s steps turn) q)) on_later.1
-              ∙ ap (λ (l : List ℕ). preceded (question_for rules s (rules.moves s) first) (preceded (step_done rules options s steps turn) (whole l on_later.0))) (sym front.1)
-              ∙ ap (λ (es : List _). preceded es (preceded (step_done rules options s steps turn) (whole (numbers_behind (rules.moves s) (first ++ last)) on_later.0))) (sym front.0)
-              ∙ ap (λ (l : List ℕ). along rules options s steps (turn ∷ path) l on_later.0) (sym is),
+              ∙ ap (λ (q : Part End). preceded (question_for rules s (rules.moves s) first) (preceded (step_done rules options s steps leg) q)) on_later.1
+              ∙ ap (λ (l : List ℕ). preceded (question_for rules s (rules.moves s) first) (preceded (step_done rules options s steps leg) (whole l on_later.0))) (sym front.1)
+              ∙ ap (λ (es : List _). preceded es (preceded (step_done rules options s steps leg) (whole (numbers_behind (rules.moves s) (first ++ last)) on_later.0))) (sym front.0)
+              ∙ ap (λ (l : List ℕ). along rules options s steps (leg ∷ path) l on_later.0) (sym is),
         )
 
     pub each_shown : (s : S) → P s → ShowsEachPath rules options s (transcript rules options s)

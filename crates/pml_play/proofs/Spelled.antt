@@ -105,8 +105,8 @@ module _ (r : Range) (lined : IsLinedRange r) where
       let on_few : tree_seq on ≤ total (map tree_item s) + 4000002 =
       omega (arith, seq-is (comparing op.AtMost (made k.AtMost (codes "<=") i.line) i.compared i.tokens r.last ∷ s ++ raising i.line i.raised i.tokens ∷ []), total-append s (raising i.line i.raised i.tokens ∷ []), c, raising_few) in
       let out_few : tree_seq out ≤ 4000002 = two_few (otherwise_item i.line) (breaking i.line) 2000001 2000001 otherwise_few breaking_few in
-      let turn = turning_few (on ∷ out ∷ []) (total (map tree_item s) + 8000004) (omega (arith, on_few, out_few)) in
-      let all = two_few (setting i.line i.set i.tokens r.first) (turning i.line (on ∷ out ∷ [])) 2000001 (2000000 + (total (map tree_item s) + 8000004 + 1)) (setting_few r.first) turn in
+      let leg = turning_few (on ∷ out ∷ []) (total (map tree_item s) + 8000004) (omega (arith, on_few, out_few)) in
+      let all = two_few (setting i.line i.set i.tokens r.first) (turning i.line (on ∷ out ∷ [])) 2000001 (2000000 + (total (map tree_item s) + 8000004 + 1)) (setting_few r.first) leg in
       let block = block-is (seq_of (setting i.line i.set i.tokens r.first ∷ turning i.line (on ∷ out ∷ []) ∷ [])) in
       omega (arith, block, all)
 
@@ -119,8 +119,8 @@ module _ (r : Range) (lined : IsLinedRange r) where
       two_few (comparing op.Below (made k.Less (codes "<") i.line) i.compared i.tokens r.last) (raising i.line i.raised i.tokens) 2000001 2000001
       (comparing_few op.Below (made k.Less (codes "<") i.line) r.last lined.line) raising_few in
       let out_few : tree_seq out ≤ 2000001 = omega (arith, seq-is (breaking i.line ∷ []), breaking_few) in
-      let turn = turning_few (on ∷ out ∷ []) 6000003 (omega (arith, on_few, out_few)) in
-      let all = two_few (setting i.line i.set i.tokens r.first) (turning i.line (on ∷ out ∷ [])) 2000001 8000004 (setting_few r.first) turn in
+      let leg = turning_few (on ∷ out ∷ []) 6000003 (omega (arith, on_few, out_few)) in
+      let all = two_few (setting i.line i.set i.tokens r.first) (turning i.line (on ∷ out ∷ [])) 2000001 8000004 (setting_few r.first) leg in
       let block = block-is (seq_of (setting i.line i.set i.tokens r.first ∷ turning i.line (on ∷ out ∷ []) ∷ [])) in
       omega (arith, block, all)
 

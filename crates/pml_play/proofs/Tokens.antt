@@ -6,23 +6,23 @@ use Rattle.std.proofs.lemmas.List.Elements.{All-head, All-tail}
 use Rattle.std.proofs.lemmas.List.Sums.{count_by-le-length}
 use Rattle.profile.specs.declared.TheConstants.{MOST_CALLS, MOST_REPLACED}
 use Rattle.pml_token.specs.declared.token.Kind.TheVariants.{OpenParen, CloseParen}
-use Rattle.promela_text.specs.declared.piece.Piece.{Piece}
-use Rattle.promela_text.specs.declared.piece.Piece.TheVariants.{Skipped, Token}
+use Rattle.promela_text.specs.declared.lexeme.Lexeme.{Lexeme}
+use Rattle.promela_text.specs.declared.lexeme.Lexeme.TheVariants.{Skipped, Token}
 use Rattle.pml_token.specs.Word.{Word}
-use Rattle.promela_text.specs.Tokens.{piece, IsCut, is_line_feed, line_behind, is_fresh, word, words, IsOnLine, AreTokens}
+use Rattle.promela_text.specs.Tokens.{lexeme, IsCut, is_line_feed, line_behind, is_fresh, word, words, IsOnLine, AreTokens}
 use Rattle.pml_lex.proofs.Lines.{token_lines}
-use Rattle.promela_text.specs.Inlines.{is_inline, has_inline, closing, Inline, is_among, definitions, all_differ, arguments}
-use Rattle.promela_text.specs.Expansion.{Given, join, itself, counted, replaced, fits, callee, enclosed, turn, reading, where_right, calling, braces_behind, outermost, defined, text_turn, texts, limited, by_definitions, expansion, Expands}
+use Rattle.promela_text.specs.Inlines.{is_inline, has_inline, closing, Inline, is_among, definitions, all_differ, arguments, Given, join, itself, replaced, fits, callee, turn, reading, where_right, calling, braces_behind, outermost, defined, text_turn, texts, limited, expansion, Expands}
+use Rattle.pml_inline.proofs.Words.{by_definitions, enclosed, counted}
 use Rattle.pml_inline.proofs.Keeping.{kept}
 
 -- ---- the tokens of a text
 
-word_short : (fresh : Bool) (p : List ℕ) (line : ℕ) → length (word (piece fresh p) p line) ≤ length p
-unfolding piece
+word_short : (fresh : Bool) (p : List ℕ) (line : ℕ) → length (word (lexeme fresh p) p line) ≤ length p
+unfolding lexeme
 word_short fresh [] line = omega arith
-word_short fresh (b ∷ q) line = by (piece fresh (b ∷ q))
+word_short fresh (b ∷ q) line = by (lexeme fresh (b ∷ q))
   where
-    by : (o : Option Piece) → length (word o (b ∷ q) line) ≤ length (b ∷ q)
+    by : (o : Option Lexeme) → length (word o (b ∷ q) line) ≤ length (b ∷ q)
     by None = omega arith
     by (Some Skipped) = omega arith
     by (Some (Token k)) = omega arith
@@ -32,12 +32,12 @@ words_short before [] = omega arith
 words_short before (p ∷ ps) =
     let a = word_short (is_fresh before) p (line_behind before) in
     let b = words_short (before ++ p) ps in
-    let c = length-append (word (piece (is_fresh before) p) p (line_behind before)) (words (before ++ p) ps) in
+    let c = length-append (word (lexeme (is_fresh before) p) p (line_behind before)) (words (before ++ p) ps) in
     let d = length-append p (concat ps) in
     omega (arith, a, b, c, d)
 
 tokens_short : (text : List ℕ) (ts : List Word) → IsCut text ts → length ts ≤ length text
-tokens_short text ts h = let a = words_short [] h.pieces in let b = ap length h.are_words in let c = ap length h.divides.joins in omega (arith, a, b, c)
+tokens_short text ts h = let a = words_short [] h.lexemes in let b = ap length h.are_words in let c = ap length h.divides.joins in omega (arith, a, b, c)
 
 lines_few : (text : List ℕ) → line_behind text ≤ length text + 1
 lines_few text = let h = count_by-le-length is_line_feed text in omega (arith, h)
@@ -60,17 +60,17 @@ weaker n m (Some g) le h = omega (arith, le, h)
 
 read_short : (known : List Inline) (call : Inline → List Word → Option Given) → ((d : Inline) (inside : List Word) → IsShort 0 (call d inside)) → (ws : List Word) (n : ℕ) → IsShort (length ws) (reading known call ws n)
 read_short known call f [] n = omega arith
-read_short known call f (w ∷ ws) n = by_turn n (callee known w ws) (λ m. read_short known call f ws m)
+read_short known call f (w ∷ ws) n = by_leg n (callee known w ws) (λ m. read_short known call f ws m)
   where
     by_closing : (d : Inline) (o : Option ℕ) → ((m : ℕ) → IsShort (length ws) (reading known call ws m)) → IsShort (length ws) (enclosed (call d) ws (reading known call ws) o)
     by_closing d None g = tt
     by_closing d (Some m) g = weaker (0 + length ws) (length ws) (join (call d (take m (drop 1 ws))) (reading known call ws (m + 2))) (omega arith)
         (joined_short 0 (length ws) (call d (take m (drop 1 ws))) (reading known call ws (m + 2)) (f d (take m (drop 1 ws))) (g (m + 2)))
 
-    by_turn : (n : ℕ) (o : Option Inline) → ((m : ℕ) → IsShort (length ws) (reading known call ws m)) → IsShort (length (w ∷ ws)) (turn call n o w ws (reading known call ws))
-    by_turn (suc n) o g = weaker (length ws) (length (w ∷ ws)) (reading known call ws n) (omega arith) (g n)
-    by_turn zero None g = weaker (1 + length ws) (length (w ∷ ws)) (join (itself w) (reading known call ws 0)) (omega arith) (joined_short 1 (length ws) (itself w) (reading known call ws 0) (omega arith) (g 0))
-    by_turn zero (Some d) g = weaker (length ws) (length (w ∷ ws)) (enclosed (call d) ws (reading known call ws) (closing OpenParen CloseParen (drop 1 ws) 0)) (omega arith) (by_closing d (closing OpenParen CloseParen (drop 1 ws) 0) g)
+    by_leg : (n : ℕ) (o : Option Inline) → ((m : ℕ) → IsShort (length ws) (reading known call ws m)) → IsShort (length (w ∷ ws)) (turn call n o w ws (reading known call ws))
+    by_leg (suc n) o g = weaker (length ws) (length (w ∷ ws)) (reading known call ws n) (omega arith) (g n)
+    by_leg zero None g = weaker (1 + length ws) (length (w ∷ ws)) (join (itself w) (reading known call ws 0)) (omega arith) (joined_short 1 (length ws) (itself w) (reading known call ws 0) (omega arith) (g 0))
+    by_leg zero (Some d) g = weaker (length ws) (length (w ∷ ws)) (enclosed (call d) ws (reading known call ws) (closing OpenParen CloseParen (drop 1 ws) 0)) (omega arith) (by_closing d (closing OpenParen CloseParen (drop 1 ws) 0) g)
 
 counted_join : (ts : List Word) (o : Option Given) → IsShort (length ts) o → IsShort 0 (join (counted ts) o)
 counted_join ts None h = tt
@@ -90,7 +90,7 @@ called_short known (suc room) active d inside =
 
 text_short : (ws : List Word) (known ds : List Inline) (b n : ℕ) → IsShort (length ws) (texts ws known ds b n)
 text_short [] known ds b n = omega arith
-text_short (w ∷ ws) known ds b n = by_turn n (is_inline w) (callee known w ws) (λ ks es c m. text_short ws ks es c m)
+text_short (w ∷ ws) known ds b n = by_leg n (is_inline w) (callee known w ws) (λ ks es c m. text_short ws ks es c m)
   where
     Rests : Type 0
     Rests = (ks es : List Inline) (c m : ℕ) → IsShort (length ws) (texts ws ks es c m)
@@ -109,12 +109,12 @@ text_short (w ∷ ws) known ds b n = by_turn n (is_inline w) (callee known w ws)
     by_ds (e ∷ es) zero g = g (known ++ e ∷ []) es 0 e.size
     by_ds (e ∷ es) (suc b) g = tt
 
-    by_turn : (n : ℕ) (i : Bool) (o : Option Inline) → Rests → IsShort (length (w ∷ ws)) (text_turn n i o w ws (texts ws) known ds b n)
-    by_turn (suc n) i o g = weaker (length ws) (length (w ∷ ws)) (texts ws known ds b n) (omega arith) (g known ds b n)
-    by_turn zero true o g = weaker (length ws) (length (w ∷ ws)) (defined (texts ws) known ds b) (omega arith) (by_ds ds b g)
-    by_turn zero false None g = weaker (1 + length ws) (length (w ∷ ws)) (join (itself w) (texts ws known ds (braces_behind b w) 0)) (omega arith)
+    by_leg : (n : ℕ) (i : Bool) (o : Option Inline) → Rests → IsShort (length (w ∷ ws)) (text_turn n i o w ws (texts ws) known ds b n)
+    by_leg (suc n) i o g = weaker (length ws) (length (w ∷ ws)) (texts ws known ds b n) (omega arith) (g known ds b n)
+    by_leg zero true o g = weaker (length ws) (length (w ∷ ws)) (defined (texts ws) known ds b) (omega arith) (by_ds ds b g)
+    by_leg zero false None g = weaker (1 + length ws) (length (w ∷ ws)) (join (itself w) (texts ws known ds (braces_behind b w) 0)) (omega arith)
         (joined_short 1 (length ws) (itself w) (texts ws known ds (braces_behind b w) 0) (omega arith) (g known ds (braces_behind b w) 0))
-    by_turn zero false (Some c) g = weaker (length ws) (length (w ∷ ws)) (outermost (calling known MOST_CALLS [] c) ws (texts ws known ds b) (closing OpenParen CloseParen (drop 1 ws) 0)) (omega arith)
+    by_leg zero false (Some c) g = weaker (length ws) (length (w ∷ ws)) (outermost (calling known MOST_CALLS [] c) ws (texts ws known ds b) (closing OpenParen CloseParen (drop 1 ws) 0)) (omega arith)
         (by_closing c (closing OpenParen CloseParen (drop 1 ws) 0) g)
 
 -- ---- the whole

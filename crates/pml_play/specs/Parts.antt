@@ -10,12 +10,12 @@ use Rattle.promela_session.specs.declared.ends.Broken.TheVariants as broken
 use Rattle.promela_session.specs.Session.{end_of}
 use Rattle.promela_session.specs.Events.{refusal_line}
 use Rattle.session.specs.Writes.{Writes}
-use Rattle.pml_lex.specs.declared.fault.LexFault.{LexFault}
-use Rattle.pml_lex.specs.declared.fault.LexFault.TheVariants as lex
-use Rattle.promela_text.specs.declared.inline_fault.InlineFault.{InlineFault}
-use Rattle.promela_text.specs.declared.inline_fault.InlineFault.TheVariants as inlines
-use Rattle.pml_syntax.specs.declared.program.SyntaxFault.{SyntaxFault}
-use Rattle.pml_syntax.specs.declared.program.SyntaxFault.TheVariants as syntax
+use Rattle.pml_lex.specs.declared.fault.LexError.{LexError}
+use Rattle.pml_lex.specs.declared.fault.LexError.TheVariants as lex
+use Rattle.promela_text.specs.declared.inline_fault.InlineError.{InlineError}
+use Rattle.promela_text.specs.declared.inline_fault.InlineError.TheVariants as inlines
+use Rattle.pml_syntax.specs.declared.program.SyntaxError.{SyntaxError}
+use Rattle.pml_syntax.specs.declared.program.SyntaxError.TheVariants as syntax
 use Rattle.pml_tree.specs.declared.tree.Tree.{Tree}
 use Rattle.pml_program.specs.declared.program.Program.{Program}
 use Rattle.promela_model.specs.StandsModel.{StandsModel}
@@ -32,18 +32,18 @@ IsRejected text Memory = Unit {0}
 IsRejected text (Refused r line) = IsRefused text r line
 
 -- what a fault of cutting, of replacing, of reading or of the checks makes of a text
-abbrev pub of_lexical : LexFault → Rejection
+abbrev pub of_lexical : LexError → Rejection
 of_lexical lex.Memory = Memory
 of_lexical lex.TooLong = Refused refusal.TextTooLong 0
 of_lexical (lex.Lexical line) = Refused refusal.Lexical line
 of_lexical (lex.LeftOut line) = Refused refusal.LeftOut line
 
-abbrev pub of_inline : InlineFault → Rejection
+abbrev pub of_inline : InlineError → Rejection
 of_inline inlines.Memory = Memory
 of_inline (inlines.Inline misuse) = Refused refusal.Inline 0
 of_inline (inlines.TooDeep line limit) = Refused refusal.TooDeep line
 
-abbrev pub of_syntax : SyntaxFault → Rejection
+abbrev pub of_syntax : SyntaxError → Rejection
 of_syntax syntax.Memory = Memory
 of_syntax (syntax.Syntax line) = Refused refusal.Syntax line
 

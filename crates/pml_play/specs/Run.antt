@@ -7,13 +7,13 @@ use Rattle.promela_session.specs.declared.ends.Cause.{Cause}
 use Rattle.promela_session.specs.declared.ends.Cause.TheVariants as cause
 use Rattle.promela_session.specs.Events.{recorded, Part, record_line}
 use Rattle.promela_session.specs.Session.{Rules, Goes, Faults, final_cause}
-use Rattle.promela_session.specs.Replay.{is_cut_short}
+use Rattle.promela_session.specs.Devices.{is_cut_short}
 use Rattle.promela_session.specs.declared.ends.Options.{Options}
 use Rattle.promela_run.specs.World.{Running}
 use Rattle.pml_play.specs.Transcript.{IsModel, IsTranscript}
 
 -- one step of a run: the move that is taken, and the state that it leads to
-pub record Turn (S M : Type 0) : Type 0 where
+pub record Leg (S M : Type 0) : Type 0 where
   pub move : M
   pub next : S
 
@@ -24,22 +24,22 @@ IsChosen (a ∷ []) numbers m = (numbers ≡ []) × (m ≡ a)
 IsChosen (a ∷ b ∷ more) numbers m = (k : ℕ) × (numbers ≡ (k + 1) ∷ []) × (slice_get (a ∷ b ∷ more) k ≡ Some m)
 
 -- The move is one of the state's moves, chosen so, and leads to the next state.
-pub record IsStep {S M : Type 0} (rules : Rules S M) (s : S) (numbers : List ℕ) (turn : Turn S M) : Type 0 where
-  pub there : Contains (rules.moves s) turn.move
-  pub chosen : IsChosen (rules.moves s) numbers turn.move
+pub record IsStep {S M : Type 0} (rules : Rules S M) (s : S) (numbers : List ℕ) (leg : Leg S M) : Type 0 where
+  pub there : Contains (rules.moves s) leg.move
+  pub chosen : IsChosen (rules.moves s) numbers leg.move
   pub printed : List ℕ
-  pub goes : rules.step s turn.move ≡ Goes turn.next printed
+  pub goes : rules.step s leg.move ≡ Goes leg.next printed
 
 -- Each step begins in the state that the one before it leads to, the first in this one, and these numbers are recorded, one behind another.
-abbrev pub IsPath : {S M : Type 0} → Rules S M → S → List (Turn S M) → List ℕ → Type 0
+abbrev pub IsPath : {S M : Type 0} → Rules S M → S → List (Leg S M) → List ℕ → Type 0
 IsPath rules s [] numbers = numbers ≡ []
-IsPath rules s (turn ∷ turns) numbers =
-    (first rest : List ℕ) × (numbers ≡ first ++ rest) × IsStep rules s first turn × IsPath rules turn.next turns rest
+IsPath rules s (leg ∷ legs) numbers =
+    (first rest : List ℕ) × (numbers ≡ first ++ rest) × IsStep rules s first leg × IsPath rules leg.next legs rest
 
 -- the state that a path leads to
-abbrev pub last_state : {S M : Type 0} → S → List (Turn S M) → S
+abbrev pub last_state : {S M : Type 0} → S → List (Leg S M) → S
 last_state s [] = s
-last_state s (turn ∷ turns) = last_state turn.next turns
+last_state s (leg ∷ legs) = last_state leg.next legs
 
 -- Why a run ends in a state after so many steps: nothing more is recorded, or the number of the move whose step is a fault.
 pub data IsLast {S M : Type 0} (rules : Rules S M) (limit : ℕ) (s : S) (steps : ℕ) : List ℕ → Cause → Type 0 where
@@ -54,7 +54,7 @@ pub data IsLast {S M : Type 0} (rules : Rules S M) (limit : ℕ) (s : S) (steps 
   at_question : {why : Cause} → steps < limit → 1 < length (rules.moves s) → is_cut_short why ≡ true → IsLast rules limit s steps [] why
 
 -- The session runs through this path from its first state: as many steps, its numbers are the record, and it ends as the session does.
-pub record IsRun {S M : Type 0} (rules : Rules S M) (limit : ℕ) (s : S) (path : List (Turn S M)) (part : Part End) : Type 0 where
+pub record IsRun {S M : Type 0} (rules : Rules S M) (limit : ℕ) (s : S) (path : List (Leg S M)) (part : Part End) : Type 0 where
   pub numbers : List ℕ
   pub last : List ℕ
   pub is_path : IsPath rules s path numbers
@@ -64,21 +64,21 @@ pub record IsRun {S M : Type 0} (rules : Rules S M) (limit : ℕ) (s : S) (path 
 
 -- the session runs through a path
 abbrev pub HasRun : {S M : Type 0} → Rules S M → ℕ → S → Part End → Type 0
-HasRun {S} {M} rules limit s part = (path : List (Turn S M)) × IsRun rules limit s path part
+HasRun {S} {M} rules limit s part = (path : List (Leg S M)) × IsRun rules limit s path part
 
 -- sessions from this state with the same record, and with as many steps, run through the same path
 abbrev pub RecordGivesRun : {S M : Type 0} → Rules S M → S → Type 0
-RecordGivesRun {S} {M} rules s = (limit other : ℕ) (path again : List (Turn S M)) (a b : Part End) → IsRun rules limit s path a → IsRun rules other s again b
+RecordGivesRun {S} {M} rules s = (limit other : ℕ) (path again : List (Leg S M)) (a b : Part End) → IsRun rules limit s path a → IsRun rules other s again b
     → recorded a.events ≡ recorded b.events → a.value.steps ≡ b.value.steps → path ≡ again
 
 -- The session on the record of each path that is no longer than the limit, with whatever behind it, runs through that path first.
 abbrev pub PlaysEachPath : {S M : Type 0} → Rules S M → ℕ → S → (List ℕ → Part End) → Type 0
-PlaysEachPath {S} {M} rules limit s session = (path : List (Turn S M)) (numbers more : List ℕ) → IsPath rules s path numbers → length path ≤ limit
-    → (later : List (Turn S M)) × IsRun rules limit s (path ++ later) (session (flat_map record_line numbers ++ more))
+PlaysEachPath {S} {M} rules limit s session = (path : List (Leg S M)) (numbers more : List ℕ) → IsPath rules s path numbers → length path ≤ limit
+    → (later : List (Leg S M)) × IsRun rules limit s (path ++ later) (session (flat_map record_line numbers ++ more))
 
 -- Where the limit is as many steps as a path has, its record gives the run through it and no further.
 abbrev pub PlaysJustThePath : {S M : Type 0} → Rules S M → ℕ → S → (List ℕ → Part End) → Type 0
-PlaysJustThePath {S} {M} rules limit s session = (path : List (Turn S M)) (numbers more : List ℕ) → IsPath rules s path numbers → length path ≡ limit
+PlaysJustThePath {S} {M} rules limit s session = (path : List (Leg S M)) (numbers more : List ℕ) → IsPath rules s path numbers → length path ≡ limit
     → IsRun rules limit s path (session (flat_map record_line numbers ++ more))
 
 -- the text stands for this model, and this is the session over it

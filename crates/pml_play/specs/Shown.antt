@@ -8,7 +8,7 @@ use Rattle.promela_session.specs.Session.{Rules, Outcome, Goes, Faults, place_of
 use Rattle.promela_run.specs.declared.moves.Move.{Move}
 use Rattle.promela_run.specs.World.{Running, rules as rules_of_models}
 use Rattle.pml_play.specs.Plain.{SayTheSame}
-use Rattle.pml_play.specs.Run.{Turn, IsPath, IsRun, last_state}
+use Rattle.pml_play.specs.Run.{Leg, IsPath, IsRun, last_state}
 use Rattle.pml_play.specs.Transcript.{IsTranscript}
 
 -- what a step prints
@@ -33,25 +33,25 @@ numbers_behind (m ∷ k ∷ ms) [] = []
 numbers_behind (m ∷ k ∷ ms) (n ∷ numbers) = numbers
 
 -- what is done at a step: it is taken, and its text is written
-abbrev pub step_done : {S M : Type 0} → Rules S M → Options → S → ℕ → Turn S M → List Event
-step_done rules options s steps turn =
-    Stepped ∷ Put Told (step_text rules options s turn.move (steps + 1) turn.next (printed_by (rules.step s turn.move))) ∷ []
+abbrev pub step_done : {S M : Type 0} → Rules S M → Options → S → ℕ → Leg S M → List Event
+step_done rules options s steps leg =
+    Stepped ∷ Put Told (step_text rules options s leg.move (steps + 1) leg.next (printed_by (rules.step s leg.move))) ∷ []
 
 -- What is done along a path with these numbers, behind so many steps: question and step, one behind another, and then what is done later.
-abbrev pub along : {S M : Type 0} → Rules S M → Options → S → ℕ → List (Turn S M) → List ℕ → Part End → Part End
+abbrev pub along : {S M : Type 0} → Rules S M → Options → S → ℕ → List (Leg S M) → List ℕ → Part End → Part End
 along rules options s steps [] numbers later = later
-along rules options s steps (turn ∷ turns) numbers later =
+along rules options s steps (leg ∷ legs) numbers later =
     preceded (question_for rules s (rules.moves s) numbers)
-    (preceded (step_done rules options s steps turn) (along rules options turn.next (steps + 1) turns (numbers_behind (rules.moves s) numbers) later))
+    (preceded (step_done rules options s steps leg) (along rules options leg.next (steps + 1) legs (numbers_behind (rules.moves s) numbers) later))
 
 -- On the numbers of each path that is no longer than the limit, with whatever behind them, the session does what is done along the path, and then more.
 abbrev pub ShowsEachPath : {S M : Type 0} → Rules S M → Options → S → (List ℕ → Part End) → Type 0
-ShowsEachPath {S} {M} rules options s session = (path : List (Turn S M)) (numbers more : List ℕ) → IsPath rules s path numbers → length path ≤ options.limit
+ShowsEachPath {S} {M} rules options s session = (path : List (Leg S M)) (numbers more : List ℕ) → IsPath rules s path numbers → length path ≤ options.limit
     → (later : Part End) × (session (flat_map record_line numbers ++ more) ≡ along rules options s 0 path numbers later)
 
 -- a path leads from one state to another
 abbrev pub PathLeads : {S M : Type 0} → Rules S M → S → S → Type 0
-PathLeads {S} {M} rules s t = (path : List (Turn S M)) × (numbers : List ℕ) × IsPath rules s path numbers × (last_state s path ≡ t)
+PathLeads {S} {M} rules s t = (path : List (Leg S M)) × (numbers : List ℕ) × IsPath rules s path numbers × (last_state s path ≡ t)
 
 -- a session over the text, by some options and on some choices, runs through a path to this state, and ends there
 pub record ComesTo (text : List ℕ) (lossy : Bool) (model state : Running) : Type 0 where
@@ -60,7 +60,7 @@ pub record ComesTo (text : List ℕ) (lossy : Bool) (model state : Running) : Ty
   pub session : List ℕ → Part End
   pub is_transcript : IsTranscript text options session
   pub choices : List ℕ
-  pub path : List (Turn Running Move)
+  pub path : List (Leg Running Move)
   pub run : IsRun rules_of_models options.limit model path (session choices)
   pub last : last_state model path ≡ state
 

@@ -6,14 +6,14 @@ use Rattle.promela_session.specs.declared.ends.Options.{Options}
 use Rattle.promela_session.specs.declared.ends.End.{End}
 use Rattle.promela_session.specs.declared.ends.Broken.{Broken}
 use Rattle.promela_session.specs.Events.{Part}
-use Rattle.promela_session.specs.Devices.{Breaks, CountsBroken, Ends, failure_of, IsBrokenOff}
+use Rattle.promela_session.specs.Devices.{Breaks, CountsBroken, Ends, failure_of, IsBrokenOff, converted, IsConvertedBy, StandsForRecord}
 use Rattle.diagnostics.specs.declared.refusal.Refusal.{Refusal}
 use Rattle.diagnostics.specs.declared.refusal.Refusal.TheVariants as r
 use Rattle.promela_session.specs.Session.{refused, transcript, only, end_of}
 use Rattle.pml_token.specs.Word.{Word}
 use Rattle.profile.specs.declared.TheConstants.{MOST_TEXT_BYTES}
 use Rattle.promela_text.specs.Tokens.{IsLine, AreTokens, CannotBeCut, HoldsLeftOut}
-use Rattle.promela_text.specs.Expansion.{Expands, IsExpanded, GoesTooDeep}
+use Rattle.promela_text.specs.Inlines.{Expands, IsExpanded, GoesTooDeep}
 use Rattle.pml_tree.specs.declared.tree.Tree.{Tree}
 use Rattle.promela_model.specs.GrammarOfModels.{Spells}
 use Rattle.promela_model.specs.StandsModel.{StandsModel}
@@ -23,7 +23,6 @@ use Rattle.promela_run.specs.State.{Begun, first_state}
 use Rattle.promela_run.specs.World.{Running, first, rules}
 use Rattle.promela_session.specs.declared.form.Stream.TheVariants.{Unread}
 use Rattle.promela_session.specs.declared.ends.Cause.TheVariants as cause
-use Rattle.promela_session.specs.Replay.{converted, IsConvertedBy, StandsForRecord}
 
 -- These come of the text's tokens, where the calls of inlines are replaced, and they are not too deep.
 pub record AreExpanded (text : List ℕ) (expanded : List Word) : Type 0 where

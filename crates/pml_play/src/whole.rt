@@ -3,7 +3,7 @@
 ghost use Rattle.std.specs.Prelude.{◌≡◌, ◌≢◌, ◌<◌, ℕ, List, Err, IfOk, IfErr, OnOk};
 ghost use Rattle.promela_session.specs.declared.ends.End.{End};
 ghost use Rattle.promela_session.specs.Events.{Part};
-ghost use Rattle.promela_session.specs.Replay.{CanBeReplayed};
+ghost use Rattle.promela_session.specs.Devices.{CanBeReplayed};
 ghost use Rattle.promela_session.specs.Session.{end_of, transcript};
 ghost use Rattle.promela_run.specs.World.{rules};
 ghost use Rattle.session.specs.Writes.{CountsAll, IsOwnEnd, Runs};
@@ -18,12 +18,12 @@ use diagnostics::Refusal;
 use pml_check::{CheckFault, Checked, check};
 use pml_inline::expand;
 use pml_lex::cut;
-use pml_lex::fault::LexFault;
+use pml_lex::fault::LexError;
 use pml_sim::world::World;
-use pml_syntax::{SyntaxFault, parse};
+use pml_syntax::{SyntaxError, parse};
 use pml_token::token::Token;
 use pml_tree::tree::Tree;
-use promela_text::inline_fault::InlineFault;
+use promela_text::inline_fault::InlineError;
 use session::{Broken, End, Options, Version, end_of, failure, refuse, run};
 use std::alloc::{AllocError, Global};
 
@@ -35,14 +35,14 @@ pub enum Rejection {
     Refused(Refusal, u32),
 }
 
-fn of_lexical(fault: LexFault) -> Rejection
+fn of_lexical(fault: LexError) -> Rejection
     ensures { result ≡ parts.of_lexical fault }
 {
     match fault {
-        LexFault::Memory => Rejection::Memory,
-        LexFault::TooLong => Rejection::Refused(Refusal::TextTooLong, 0),
-        LexFault::Lexical(line) => Rejection::Refused(Refusal::Lexical, line),
-        LexFault::LeftOut(line) => Rejection::Refused(Refusal::LeftOut, line),
+        LexError::Memory => Rejection::Memory,
+        LexError::TooLong => Rejection::Refused(Refusal::TextTooLong, 0),
+        LexError::Lexical(line) => Rejection::Refused(Refusal::Lexical, line),
+        LexError::LeftOut(line) => Rejection::Refused(Refusal::LeftOut, line),
     }
 }
 
@@ -57,13 +57,13 @@ fn tokens_of<'t>(alloc: Global, text: &'t [u8]) -> Result<Vec<Token<'t>>, Reject
     }
 }
 
-fn of_inline(fault: InlineFault) -> Rejection
+fn of_inline(fault: InlineError) -> Rejection
     ensures { result ≡ parts.of_inline fault }
 {
     match fault {
-        InlineFault::Memory => Rejection::Memory,
-        InlineFault::Inline(_) => Rejection::Refused(Refusal::Inline, 0),
-        InlineFault::TooDeep(line, _) => Rejection::Refused(Refusal::TooDeep, line),
+        InlineError::Memory => Rejection::Memory,
+        InlineError::Inline(_) => Rejection::Refused(Refusal::Inline, 0),
+        InlineError::TooDeep(line, _) => Rejection::Refused(Refusal::TooDeep, line),
     }
 }
 
@@ -89,12 +89,12 @@ pub fn expanded_of<'t>(alloc: Global, text: &'t [u8]) -> Result<Vec<Token<'t>>, 
     }
 }
 
-fn of_syntax(fault: SyntaxFault) -> Rejection
+fn of_syntax(fault: SyntaxError) -> Rejection
     ensures { result ≡ parts.of_syntax fault }
 {
     match fault {
-        SyntaxFault::Memory => Rejection::Memory,
-        SyntaxFault::Syntax(line) => Rejection::Refused(Refusal::Syntax, line),
+        SyntaxError::Memory => Rejection::Memory,
+        SyntaxError::Syntax(line) => Rejection::Refused(Refusal::Syntax, line),
     }
 }
 

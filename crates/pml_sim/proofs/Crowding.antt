@@ -13,7 +13,8 @@ use Rattle.promela_run.specs.declared.moves.Pick.{Pick}
 use Rattle.promela_run.specs.declared.moves.Move.{Move}
 use Rattle.promela_run.specs.declared.moves.Move.TheVariants.{Death, Alone, Pair}
 use Rattle.promela_run.specs.State.{Stand, State, body_of, levels, levels_in, reads}
-use Rattle.promela_run.specs.Moves.{or_else, each, last, only_if, is_else, can_alone, accepts, Message, message, pick, pairs_on, pairs_with, pairs, moves_by, plain_moves, else_moves, moves_on, moves_of, moves_at, moves_under, moves_if, moves_held, moves}
+use Rattle.promela_run.specs.Moves.{or_else, each, last, only_if, is_else, can_alone, accepts, Message, message, pick, pairs_on, pairs_with, pairs, moves_by, plain_moves, else_moves, moves_on, moves_of, moves_at, moves_under, moves_held, moves}
+use Rattle.run_search.specs.Lifted.{moves_if}
 use Rattle.pml_sim.proofs.Weight.{weight_part, IsLight, light_steps}
 use Rattle.pml_sim.proofs.Settling.{AreFew, few_offers}
 
@@ -92,9 +93,9 @@ module _ (most : ℕ) where
     pairs_with_few : (t : Bool) (k : Pick) (m : Message) (j : ℕ) (y : Stand) → IsLightStand most y → length (pairs_with s t k m j y) ≤ most
     pairs_with_few t k m j y h = by (nat_eq j k.process)
       where
-        by : (same : Bool) → length (if same then [] else last (pairs_on s t k m j) 0 (levels_in (body_of s.program y.kind) y.control)) ≤ most
+        by : (same : Bool) → length (if same then [] else last (pairs_on s t k m j) 0 (levels_in (body_of s.program y.sort) y.control)) ≤ most
         by true = omega arith
-        by false = last_few most (pairs_on s t k m j) (pairs_on_few t k m j) 0 (levels_in (body_of s.program y.kind) y.control) (levels_in_few (body_of s.program y.kind) y.kind y.control refl h)
+        by false = last_few most (pairs_on s t k m j) (pairs_on_few t k m j) 0 (levels_in (body_of s.program y.sort) y.control) (levels_in_few (body_of s.program y.sort) y.sort y.control refl h)
 
     stands_few : (n : ℕ) → length s.stands * n ≤ 255 * n
     stands_few n = mul-le-mul_right n light.few
@@ -136,7 +137,7 @@ module _ (most : ℕ) where
 
     under_few : (t : Bool) → length (moves_under s t) ≤ 255 * many
     under_few t =
-        let e = each_some many (IsLightStand most) (λ p y. moves_at s p t y) (λ p y h. of_few p t y.kind (body_of s.program y.kind) y.control refl h) 0 s.stands light.stands in
+        let e = each_some many (IsLightStand most) (λ p y. moves_at s p t y) (λ p y h. of_few p t y.sort (body_of s.program y.sort) y.control refl h) 0 s.stands light.stands in
         omega (arith, e, stands_few many)
 
     held_few : (h : Option ℕ) → length (moves_held s h) ≤ 255 * many
@@ -154,7 +155,7 @@ module _ (most : ℕ) where
 
         by : (o : Option Stand) → OfStand o → length (moves_if s p o) ≤ 255 * many
         by None h = omega arith
-        by (Some y) h = let e = of_few p false y.kind (body_of s.program y.kind) y.control refl h in omega (arith, e)
+        by (Some y) h = let e = of_few p false y.sort (body_of s.program y.sort) y.control refl h in omega (arith, e)
 
     pub moves_few : length (moves s) ≤ 255 * many
     moves_few =

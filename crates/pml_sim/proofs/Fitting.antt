@@ -14,7 +14,8 @@ use Rattle.promela_session.specs.declared.form.Version.{Version}
 use Rattle.promela_session.specs.declared.form.Version.TheVariants.{First, Second}
 use Rattle.session.specs.Converting.{fits_line}
 use Rattle.promela_session.specs.Events.{Event, asks, Part, preceded, placed_line}
-use Rattle.promela_session.specs.Lines.{most_line_bytes, most_bad_lines, Line, line_within, read_of, saw_end}
+use Rattle.profile.specs.declared.TheConstants.{LINE_BYTES, BAD_LINES}
+use Rattle.promela_session.specs.Lines.{Line, line_within, read_of, saw_end}
 use Rattle.session.specs.Answers.{IsPickUpTo}
 use Rattle.promela_session.specs.Session.{Rules, Outcome, Goes, Faults, one_line, next_line, one_reply, begins_second, stream_behind, only, after_line, ask, kept, place_of, select, stopped, finished, stepped, answered, story, transcript}
 use Rattle.session.proofs.Replay.{ask_range}
@@ -35,7 +36,7 @@ asks_fit (b ∷ bs) ended = asks_fit bs ended
 
 line_fit : (version : Version) (most : ℕ) (place : ℕ → ℕ × ℕ) (rest : List ℕ) → AreFit (one_line version most place rest).events
 unfolding one_line
-line_fit version most place rest = let line = line_within (most_line_bytes + 1) rest in asks_fit (read_of line.ends line.bytes) (saw_end line.ends)
+line_fit version most place rest = let line = line_within (LINE_BYTES + 1) rest in asks_fit (read_of line.ends line.bytes) (saw_end line.ends)
 
 next_fit : (most : ℕ) (place : ℕ → ℕ × ℕ) (stream : Stream) (rest : List ℕ) → AreFit (next_line most place stream rest).events
 unfolding next_line
@@ -45,7 +46,7 @@ next_fit most place Over rest = refl
 
 one_fit : (most : ℕ) (place : ℕ → ℕ × ℕ) (stream : Stream) (rest : List ℕ) → AreFit (one_reply most place stream rest).events
 unfolding one_reply
-one_fit most place Unread rest = let line = line_within (most_line_bytes + 1) rest in by line (begins_second line.ends line.bytes)
+one_fit most place Unread rest = let line = line_within (LINE_BYTES + 1) rest in by line (begins_second line.ends line.bytes)
   where
     by : (line : Line) (t : Bool)
         → AreFit (if t then preceded (asks (read_of line.ends line.bytes) (saw_end line.ends)) (next_line most place (stream_behind Second line.ends) line.left) else next_line most place Unread rest).events
@@ -67,10 +68,10 @@ ask_fit most place (suc tries) stream rest = let one = one_reply most place stre
 
 -- whatever number up to the most is accepted
 abbrev AreShort : ℕ → (ℕ → ℕ × ℕ) → Type 0
-AreShort most place = (n : ℕ) → 0 < n → n ≤ most → length (placed_line n (place n)) ≤ most_line_bytes + 1
+AreShort most place = (n : ℕ) → 0 < n → n ≤ most → length (placed_line n (place n)) ≤ LINE_BYTES + 1
 
 kept_fit : (most : ℕ) (place : ℕ → ℕ × ℕ) → AreShort most place → (said : Answer) (stream : Stream) (left : List ℕ) → IsPickUpTo most said → AreFit (kept First place said stream left).events
-kept_fit most place short (answer.Pick n) stream left h = rw (le-leb (length (placed_line n (place n))) (most_line_bytes + 1) (short n h.0 h.1)) refl
+kept_fit most place short (answer.Pick n) stream left h = rw (le-leb (length (placed_line n (place n))) (LINE_BYTES + 1) (short n h.0 h.1)) refl
 kept_fit most place short answer.Quit stream left h = refl
 kept_fit most place short answer.Ended stream left h = refl
 kept_fit most place short answer.TooLong stream left h = refl
@@ -109,9 +110,9 @@ module _ {S M : Type 0} (rules : Rules S M) (options : Options) (Is : S → Type
   select_fit s (m ∷ k ∷ ms) h stream rest =
       let most = length (m ∷ k ∷ ms) in
       let place = place_of rules s (m ∷ k ∷ ms) in
-      let asked = ask most place (most_bad_lines - 1) stream rest in
-      fit_both asked.events (kept First place asked.value asked.stream asked.left).events (ask_fit most place (most_bad_lines - 1) stream rest)
-      (kept_fit most place h asked.value asked.stream asked.left (ask_range most place (most_bad_lines - 1) stream rest))
+      let asked = ask most place (BAD_LINES - 1) stream rest in
+      fit_both asked.events (kept First place asked.value asked.stream asked.left).events (ask_fit most place (BAD_LINES - 1) stream rest)
+      (kept_fit most place h asked.value asked.stream asked.left (ask_range most place (BAD_LINES - 1) stream rest))
 
   none_fit : (fuel : ℕ) (s : S) (steps : ℕ) → rules.moves s ≡ [] → IsFit (story First rules options fuel s steps)
   none_fit fuel s steps is stream rest = same_fit _ (finished (rules.is_valid s) (rules.stuck s) steps stream rest) (story_none First rules options s steps stream fuel is rest) refl

@@ -1,6 +1,6 @@
 -- What a step leads to weighs no more than the bodies of the model.
 use Rattle.std.proofs.Common.{◌≡◌, ℕ, zero, suc, ◌-◌, ◌<◌, ◌≤◌, Bool, true, false, List, [], ◌∷◌, ◌++◌, length, map, take, ℤ, Option, Some, None, Result, Ok, IfOk, refl, ap, arith, length-append, nat_lt}
-use Rattle.std.specs.Prelude.{slice_get, slice_set, option_map, IfSome, if◌then◌else◌}
+use Rattle.std.specs.Prelude.{slice_get, slice_set, unwrap_or, option_map, IfSome, if◌then◌else◌}
 use Rattle.std.specs.List.{filter, AllByRecursion}
 use Rattle.std.proofs.lemmas.Bool.{ltb-true}
 use Rattle.std.proofs.lemmas.List.{length-take}
@@ -14,19 +14,20 @@ use Rattle.pml_program.specs.declared.program.Action.TheVariants as a
 use Rattle.pml_program.specs.declared.program.Proctype.{Proctype}
 use Rattle.pml_program.specs.declared.program.Program.{Program}
 use Rattle.pml_program.specs.declared.program.Run.{Run}
-use Rattle.promela_process.specs.Control.{Place, Control, at, steps, turn, sequence, basic_at}
-use Rattle.promela_process.specs.Offers.{Edge, Levels, offers, Offer, offer_of, entry_of, line_by}
+use Rattle.promela_process.specs.Control.{Position, Control, at, steps, descent, sequence, basic_at}
+use Rattle.promela_process.specs.Offers.{Edge, Levels, offers, Offer, offer_of, entry_of, offer_line}
 use Rattle.promela_process.specs.Expressions.{Reading, val, ◌>>=◌}
 use Rattle.promela_run.specs.declared.goes.Goes.{Goes}
 use Rattle.promela_run.specs.declared.live_channel.LiveChannel.{LiveChannel}
 use Rattle.promela_run.specs.Statements.{outcome, goes_to, sent, received, values, asserted}
-use Rattle.promela_run.specs.State.{Begun, Stand, State, reads, body_of, levels, levels_in, first_control, offer_on, offer_at, picked}
-use Rattle.pml_start.proofs.Chaining.{chain, chain_any}
+use Rattle.promela_run.specs.State.{Begun, Stand, State, reads, body_of, levels, levels_in, first_control, picked}
+use Rattle.run_start.proofs.Chaining.{chain, chain_any}
 use Rattle.promela_run.specs.declared.moves.Pick.{Pick}
 use Rattle.promela_run.specs.declared.moves.Move.{Move}
 use Rattle.promela_run.specs.declared.moves.Move.TheVariants.{Death, Alone, Pair}
-use Rattle.promela_run.specs.Moves.{or_else, choices, is_choice, is_other, message}
-use Rattle.promela_run.specs.Steps.{put, put_if, put_by, put_all, with_sent, with_received, moved_to, go_to, went, without_youngest, with_new, joined_by, ran, run_number, Done, quiet, run_into, does, effect, behind, first_of, onward, within, within_from, taken, body_by, moved, alone, both_on, paired, passed, step}
+use Rattle.promela_run.specs.Moves.{or_else, choices, is_choice, message}
+use Rattle.promela_run.specs.Steps.{put, put_by, put_all, with_sent, with_received, go_to, went, without_youngest, with_new, joined_by, ran, run_number, Done, quiet, run_into, does, effect, behind, first_of, onward, within, within_from, taken, body_by, alone, both_on, paired, passed, step, moved_to}
+use Rattle.run_search.specs.Lifted.{offer_on, offer_at, is_other, put_if, moved}
 use Rattle.pml_sim.proofs.Weight.{weight_part, AreLight, IsLight, light_steps, light_sequence, light_at}
 use Rattle.pml_sim.proofs.Settling.{GoOn, AreFew, few_offers, light_settled}
 use Rattle.pml_sim.proofs.Crowding.{IsLightProctype, IsLightStand, IsLightState}
@@ -44,7 +45,7 @@ module _ (most : ℕ) where
     pub entry : IsLightOption o.entry
     pub line : o.line ≤ most
 
-  line_light : (ss : List Stmt) (i : ℕ) → AreLight most ss → line_by (slice_get ss i) ≤ most
+  line_light : (ss : List Stmt) (i : ℕ) → AreLight most ss → unwrap_or (option_map offer_line (slice_get ss i)) 0 ≤ most
   line_light [] i h = omega arith
   line_light (s ∷ ss) zero h = omega (arith, h.0)
   line_light (s ∷ ss) (suc i) h = line_light ss i h.1
@@ -56,7 +57,7 @@ module _ (most : ℕ) where
     pub first_light : IsLight most (first_control b)
     first_light = light_settled most b all (at (steps b) ([], 0)) (light_at most (steps b) ([], 0) all)
 
-    entry_light : (p : Place) (o : Option Basic) → IsLightOption (entry_of b p o)
+    entry_light : (p : Position) (o : Option Basic) → IsLightOption (entry_of b p o)
     entry_light p None = tt
     entry_light p (Some (Plain x)) = tt
     entry_light p (Some (Goto l)) = tt
@@ -65,7 +66,7 @@ module _ (most : ℕ) where
     entry_light p (Some (Do' m row)) = tt
     entry_light p (Some (Block s)) = tt
     entry_light p (Some (Atomic s)) = tt
-    entry_light p (Some (DStep s)) = light_settled most b all (at (steps b) (turn p 0, 0)) (light_at most (steps b) (turn p 0, 0) all)
+    entry_light p (Some (DStep s)) = light_settled most b all (at (steps b) (descent p 0, 0)) (light_at most (steps b) (descent p 0, 0) all)
     entry_light p (Some (Unless s e)) = tt
 
     offer_light : (e : Edge) → IsLight most e.1 → IsLightOffer (offer_of b e)
@@ -145,12 +146,12 @@ module _ (most : ℕ) where
   pub body_weighs : (p : Program) (k : ℕ) → AllByRecursion (IsLightProctype most) p.proctypes → IfSome (body_of p k) IsLightBody
   body_weighs p k h = of_proctype (slice_get p.proctypes k) (get_light (IsLightProctype most) p.proctypes k h)
 
-  kind_light : (s : State) → Light s → (k : ℕ) → IfSome (body_of s.program k) IsLightBody
-  kind_light s h k = body_weighs s.program k h.bodies
+  sort_light : (s : State) → Light s → (k : ℕ) → IfSome (body_of s.program k) IsLightBody
+  sort_light s h k = body_weighs s.program k h.bodies
 
   stand_body : (s : State) → Light s → (o : Option Stand) → IfSome (body_by s o) IsLightBody
   stand_body s h None = tt
-  stand_body s h (Some y) = kind_light s h y.kind
+  stand_body s h (Some y) = sort_light s h y.sort
 
   -- ---- the offer of a pick
 
@@ -165,8 +166,8 @@ module _ (most : ℕ) where
   stood_light : (s : State) (k : Pick) → Light s → (o : Option Stand) → IfSome o (IsLightStand most) → IfSome (offer_at s k o) IsLightOffer
   stood_light s k h None l = tt
   stood_light s k h (Some y) l =
-      on_light (slice_get (levels_in (body_of s.program y.kind) y.control) k.level) k.place
-      (get_light (AllByRecursion IsLightOffer) (levels_in (body_of s.program y.kind) y.control) k.level (inside_light (body_of s.program y.kind) y.control (kind_light s h y.kind) l))
+      on_light (slice_get (levels_in (body_of s.program y.sort) y.control) k.level) k.place
+      (get_light (AllByRecursion IsLightOffer) (levels_in (body_of s.program y.sort) y.control) k.level (inside_light (body_of s.program y.sort) y.control (sort_light s h y.sort) l))
 
   pub picked_light : (s : State) (k : Pick) → Light s → IfSome (picked s k) IsLightOffer
   picked_light s k h = stood_light s k h (slice_get s.stands k.process) (get_light (IsLightStand most) s.stands k.process h.stands)
@@ -209,16 +210,16 @@ module _ (most : ℕ) where
     stands = take_light (IsLightStand most) (length s.stands - 1) s.stands h.stands;
   }
 
-  joined_light : (s : State) (kind : ℕ) (q : Proctype) (b : Begun) → IsLightProctype most q → length s.stands < 255 → Light s → IfOk (joined_by s kind q.body b) Light
-  joined_light s kind q b w room h = record {
-    few = let e = length-append s.stands (record { kind = kind; control = first_control q.body } ∷ []) in omega (arith, e, room);
+  joined_light : (s : State) (sort : ℕ) (q : Proctype) (b : Begun) → IsLightProctype most q → length s.stands < 255 → Light s → IfOk (joined_by s sort q.body b) Light
+  joined_light s sort q b w room h = record {
+    few = let e = length-append s.stands (record { sort = sort; control = first_control q.body } ∷ []) in omega (arith, e, room);
     bodies = h.bodies;
-    stands = append_light (IsLightStand most) s.stands (record { kind = kind; control = first_control q.body } ∷ []) h.stands (first_light q.body (omega (arith, w)), tt);
+    stands = append_light (IsLightStand most) s.stands (record { sort = sort; control = first_control q.body } ∷ []) h.stands (first_light q.body (omega (arith, w)), tt);
   }
 
-  new_light : (s : State) (kind : ℕ) (o : Option Proctype) (vs : List ℤ) → IfSome o (IsLightProctype most) → length s.stands < 255 → Light s → IfOk (with_new s kind o vs) Light
-  new_light s kind None vs w room h = h
-  new_light s kind (Some q) vs w room h = chain_any Light _ (joined_by s kind q.body) (λ b. joined_light s kind q b w room h)
+  new_light : (s : State) (sort : ℕ) (o : Option Proctype) (vs : List ℤ) → IfSome o (IsLightProctype most) → length s.stands < 255 → Light s → IfOk (with_new s sort o vs) Light
+  new_light s sort None vs w room h = h
+  new_light s sort (Some q) vs w room h = chain_any Light _ (joined_by s sort q.body) (λ b. joined_light s sort q b w room h)
 
   ran_light : (s : State) (r : Reading) (q : Run) → Light s → IfOk (ran s r q) Light
   ran_light s r q h = by (nat_lt (length s.stands) MOST_PROCESSES) refl
@@ -295,23 +296,23 @@ module _ (most : ℕ) where
 
   -- ---- steps
 
-  taken_light : (n : ℕ) (s : State) (p : ℕ) (t : Bool) (b : Option Seq) (o : Offer) (x : Option Basic) → IfSome b IsLightBody → Light s → IsLightOffer o → IfOk (taken n s p t b o x) LightDone
-  taken_light n s p t b o (Some (DStep d)) w h l = from_light n s p t b o.entry w h l.entry
-  taken_light n s p t b o None w h l = effect_light s p t None h
-  taken_light n s p t b o (Some (Plain x)) w h l = effect_light s p t (Some (Plain x)) h
-  taken_light n s p t b o (Some (Goto x)) w h l = h
-  taken_light n s p t b o (Some Break) w h l = h
-  taken_light n s p t b o (Some (If' m row)) w h l = h
-  taken_light n s p t b o (Some (Do' m row)) w h l = h
-  taken_light n s p t b o (Some (Block x)) w h l = h
-  taken_light n s p t b o (Some (Atomic x)) w h l = h
-  taken_light n s p t b o (Some (Unless x e)) w h l = h
+  taken_light : (n : ℕ) (s : State) (k : Pick) (t : Bool) (o : Offer) (x : Option Basic) → IfSome (body_by s (slice_get s.stands k.process)) IsLightBody → Light s → IsLightOffer o → IfOk (taken n s k t o x) LightDone
+  taken_light n s k t o (Some (DStep d)) w h l = from_light n s k.process t (body_by s (slice_get s.stands k.process)) o.entry w h l.entry
+  taken_light n s k t o None w h l = effect_light s k.process t None h
+  taken_light n s k t o (Some (Plain x)) w h l = effect_light s k.process t (Some (Plain x)) h
+  taken_light n s k t o (Some (Goto x)) w h l = h
+  taken_light n s k t o (Some Break) w h l = h
+  taken_light n s k t o (Some (If' m row)) w h l = h
+  taken_light n s k t o (Some (Do' m row)) w h l = h
+  taken_light n s k t o (Some (Block x)) w h l = h
+  taken_light n s k t o (Some (Atomic x)) w h l = h
+  taken_light n s k t o (Some (Unless x e)) w h l = h
 
   alone_light : (n : ℕ) (s : State) (k : Pick) (t : Bool) (o : Option Offer) → Light s → IfSome o IsLightOffer → IfOk (alone n s k t o) LightDone
   alone_light n s k t None h l = h
   alone_light n s k t (Some o) h l =
-      chain LightDone LightDone (taken n s k.process t (body_by s (slice_get s.stands k.process)) o o.basic) (moved k.process o)
-      (taken_light n s k.process t (body_by s (slice_get s.stands k.process)) o o.basic (stand_body s h (slice_get s.stands k.process)) h l) (λ d hd. went_light d.state k.process o l hd)
+      chain LightDone LightDone (taken n s k t o o.basic) (moved k.process o)
+      (taken_light n s k t o o.basic (stand_body s h (slice_get s.stands k.process)) h l) (λ d hd. went_light d.state k.process o l hd)
 
   paired_light : (s : State) (k j : Pick) (t : Bool) (o w : Option Offer) → Light s → IfSome o IsLightOffer → IfSome w IsLightOffer → IfOk (paired s k j t o w) LightDone
   paired_light s k j t (Some o) (Some w) h lo lw =

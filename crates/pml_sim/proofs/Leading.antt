@@ -12,9 +12,9 @@ use Rattle.promela_run.specs.declared.moves.Move.TheVariants.{Death, Alone, Pair
 use Rattle.promela_run.specs.State.{State}
 use Rattle.profile.specs.declared.TheConstants.{MOST_DSTEP_STATEMENTS}
 use Rattle.promela_run.specs.Steps.{Done, step}
-use Rattle.pml_steps.specs.Live.{Does}
+use Rattle.run_step.specs.Live.{Does}
 use Rattle.promela_run.specs.World.{Running, led_to}
-use Rattle.pml_steps.specs.Taking.{PastBy}
+use Rattle.run_step.specs.Taking.{PastBy}
 
 goes_is : {s t : Running} {xs ys : List ℕ} → ◌≡◌ {A = Outcome Running} (Goes s xs) (Goes t ys) → s ≡ t
 goes_is h = cc

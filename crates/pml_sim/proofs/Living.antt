@@ -12,8 +12,9 @@ use Rattle.promela_run.specs.declared.moves.Pick.{Pick}
 use Rattle.promela_run.specs.declared.moves.Move.{Move}
 use Rattle.promela_run.specs.declared.moves.Move.TheVariants.{Death, Alone, Pair}
 use Rattle.promela_run.specs.State.{Stand, State, body_of, levels, levels_in, reads}
-use Rattle.promela_run.specs.Moves.{or_else, each, last, only_if, is_else, can_alone, accepts, Message, message, pick, pairs_on, pairs_with, pairs, moves_by, plain_moves, else_moves, moves_on, moves_of, moves_at, moves_under, moves_if, moves_held, moves}
-use Rattle.pml_texts.specs.Staying.{IsWithin}
+use Rattle.promela_run.specs.Moves.{or_else, each, last, only_if, is_else, can_alone, accepts, Message, message, pick, pairs_on, pairs_with, pairs, moves_by, plain_moves, else_moves, moves_on, moves_of, moves_at, moves_under, moves_held, moves}
+use Rattle.run_search.specs.Lifted.{moves_if}
+use Rattle.run_texts.specs.Staying.{IsWithin}
 
 -- ---- lists
 
@@ -60,10 +61,10 @@ module _ (s : State) where
   paired_within : (t : Bool) (k : Pick) (m : Message) → k.process < n → (j : ℕ) (y : Stand) → j < n → All n (pairs_with s t k m j y)
   paired_within t k m h j y l = by (nat_eq j k.process)
     where
-      by : (b : Bool) → All n (if b then [] else last (pairs_on s t k m j) 0 (levels_in (body_of s.program y.kind) y.control))
+      by : (b : Bool) → All n (if b then [] else last (pairs_on s t k m j) 0 (levels_in (body_of s.program y.sort) y.control))
       by true = tt
       by false =
-          of_last n (pairs_on s t k m j) 0 (levels_in (body_of s.program y.kind) y.control) (λ level os.
+          of_last n (pairs_on s t k m j) 0 (levels_in (body_of s.program y.sort) y.control) (λ level os.
           of_each n (λ i o. only_if (accepts s.channels (reads s j t) m o.basic) (Pair k (pick j level i) t)) 0 os (λ i o. if_it_is n (accepts s.channels (reads s j t) m o.basic) (Pair k (pick j level i) t) (h, l)))
 
   pairs_within : (t : Bool) (k : Pick) (o : Option Message) → k.process < n → All n (pairs s t k o)
@@ -94,7 +95,7 @@ module _ (s : State) where
       of_last n (moves_on s p t b) 0 (levels b (f ∷ c)) (λ l os. either n (plain_moves s p t b l os) (else_moves p t l os) (plain_within p t b l os h) (else_within p t l os h))
 
   under_within : (t : Bool) → All n (moves_under s t)
-  under_within t = of_first n (λ p y. moves_at s p t y) 0 s.stands (omega arith) (λ p y h. of_within p t (body_of s.program y.kind) y.control h)
+  under_within t = of_first n (λ p y. moves_at s p t y) 0 s.stands (omega arith) (λ p y h. of_within p t (body_of s.program y.sort) y.control h)
 
   held_within : (h : Option ℕ) → All n (moves_held s h)
   held_within None = tt
@@ -102,7 +103,7 @@ module _ (s : State) where
     where
       by : (o : Option Stand) → slice_get s.stands p ≡ o → All n (moves_if s p o)
       by None e = tt
-      by (Some y) e = of_within p false (body_of s.program y.kind) y.control (slice_get_within s.stands p y e)
+      by (Some y) e = of_within p false (body_of s.program y.sort) y.control (slice_get_within s.stands p y e)
 
   all_within : All n (moves s)
   all_within =

@@ -1,18 +1,20 @@
 -- The text of a move names where the move comes from.
 use Rattle.std.proofs.Common.{◌≡◌, ◌⊎◌, inl, inr, ℕ, List, [], ◌∷◌, ◌++◌, map, Option, Some, None, refl, ap, ◌∙◌, codes, append_assoc}
-use Rattle.std.specs.Prelude.{slice_get, IfSome, IsSome}
+use Rattle.std.specs.Prelude.{slice_get, unwrap_or, option_map, IfSome, IsSome}
 use Rattle.std.specs.Fmt.{decimal}
 use Rattle.std.specs.List.{AllByRecursion}
 use Rattle.pml_program.specs.declared.program.Stmt.{Stmt}
 use Rattle.pml_program.specs.declared.program.Seq.{Seq}
 use Rattle.pml_program.specs.declared.program.Proctype.{Proctype}
 use Rattle.promela_process.specs.Control.{Control}
-use Rattle.promela_process.specs.Offers.{Edge, Levels, offers, Offer, offer_of, statement_at, action, text_by, line_by}
+use Rattle.promela_process.specs.Offers.{Edge, Levels, offers, Offer, offer_of, statement_at, action}
+use Rattle.promela_process.specs.Offers as off
 use Rattle.promela_run.specs.Lines.{proctype_name}
 use Rattle.promela_run.specs.declared.moves.Pick.{Pick}
 use Rattle.promela_run.specs.declared.moves.Move.TheVariants.{Death, Alone, Pair}
-use Rattle.promela_run.specs.State.{Stand, State, body_of, levels_in, offer_on, offer_at, picked}
-use Rattle.promela_run.specs.World.{kind_of, proctype_of, heading, offer_text, pick_text, death_text, line_in, brace_of}
+use Rattle.promela_run.specs.State.{Stand, State, body_of, levels_in, picked}
+use Rattle.promela_run.specs.World.{proctype_of, heading, offer_text, pick_text, death_text}
+use Rattle.run_search.specs.Lifted.{offer_on, offer_at, sort_of, line_in, brace_of}
 use Rattle.pml_sim.specs.Origins.{Names, IsOffered, TextsNameOrigins}
 use Rattle.pml_sim.proofs.Lasting.{get_light}
 
@@ -23,7 +25,7 @@ Says o = (o.text ≡ []) ⊎ ((more : List ℕ) × (o.text ≡ codes "line " ++ 
 offer_says : (b : Seq) (e : Edge) → Says (offer_of b e)
 offer_says b e = by (statement_at b e.0)
   where
-    by : (x : Option Stmt) → (text_by x ≡ []) ⊎ ((more : List ℕ) × (text_by x ≡ codes "line " ++ (decimal (line_by x) ++ more)))
+    by : (x : Option Stmt) → (unwrap_or (option_map off.offer_text x) [] ≡ []) ⊎ ((more : List ℕ) × (unwrap_or (option_map off.offer_text x) [] ≡ codes "line " ++ (decimal (unwrap_or (option_map off.offer_line x) 0) ++ more)))
     by None = inl refl
     by (Some s) = inr (codes " [" ++ (action s.basic s.tokens ++ codes "]"), refl)
 
@@ -46,8 +48,8 @@ on_says (Some os) i h = get_light 0 Says os i h
 picked_says : (s : State) (k : Pick) (y : Option Stand) → IfSome (offer_at s k y) Says
 picked_says s k None = tt
 picked_says s k (Some y) =
-    let ls = levels_in (body_of s.program y.kind) y.control in
-    on_says (slice_get ls k.level) k.place (get_light 0 (AllByRecursion Says) ls k.level (inside_says (body_of s.program y.kind) y.control))
+    let ls = levels_in (body_of s.program y.sort) y.control in
+    on_says (slice_get ls k.level) k.place (get_light 0 (AllByRecursion Says) ls k.level (inside_says (body_of s.program y.sort) y.control))
 
 -- ---- names
 
@@ -85,7 +87,7 @@ offer_names p (Some q) (Some o) (inl none) there lost = absurd (there none)
 offer_names p (Some q) (Some o) (inr h) there lost = heading_names p o.line q o.text h.0 h.1
 
 -- where there is no proctype, there is no offer
-no_offer : (s : State) (k : Pick) (y : Option Stand) → kind_of s.program y ≡ None → offer_at s k y ≡ None
+no_offer : (s : State) (k : Pick) (y : Option Stand) → sort_of s.program y ≡ None → offer_at s k y ≡ None
 no_offer s k None e = refl
 no_offer s k (Some y) e = rw e refl
 

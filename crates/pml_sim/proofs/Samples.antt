@@ -13,9 +13,9 @@ use Rattle.pml_program.specs.declared.program.Proctype.{Proctype}
 use Rattle.pml_program.specs.declared.program.Program.{Program}
 use Rattle.promela_process.specs.Store.{Frame}
 use Rattle.promela_run.specs.declared.live_channel.LiveChannel.{LiveChannel}
-use Rattle.pml_start.specs.Bound.{bound}
+use Rattle.run_start.specs.Bound.{bound}
 use Rattle.promela_run.specs.State.{Stand, State}
-use Rattle.pml_steps.specs.Footprint.{held}
+use Rattle.run_step.specs.Footprint.{held}
 
 word : Word
 word = record { kind = kind.Name; text = []; line = 1 }
@@ -36,7 +36,7 @@ abbrev channel : ℕ → ℕ → List (List ℤ) → LiveChannel
 channel frame capacity ms = record { frame = frame; channel = record { capacity = capacity; types = byte ∷ byte ∷ []; messages = ms } }
 
 abbrev stand : ℕ → Stand
-stand k = record { kind = k; control = [] }
+stand k = record { sort = k; control = [] }
 
 abbrev state : Program → List Frame → List Stand → List LiveChannel → State
 state p frames stands channels = record { program = p; frames = frames; stands = stands; channels = channels; holder = None; lossy = false }

@@ -6,8 +6,7 @@ use Rattle.std.proofs.lemmas.List.{length-take, length-map}
 use Rattle.std.proofs.lemmas.Option.{slice_get-get_or}
 use Rattle.diagnostics.specs.declared.fault.Fault.{Fault}
 use Rattle.promela_session.specs.declared.ends.Options.{Options}
-use Rattle.promela_session.specs.Replay.{StandsForRecord}
-use Rattle.promela_session.specs.Lines.{most_line_bytes}
+use Rattle.promela_session.specs.Devices.{StandsForRecord}
 use Rattle.promela_session.specs.Session.{Goes, place_of, transcript}
 use Rattle.promela_session.specs.Events.{all_digits, placed_line}
 use Rattle.session.proofs.Placing.{can_be_converted}
@@ -18,18 +17,19 @@ use Rattle.pml_program.specs.declared.program.Proctype.{Proctype}
 use Rattle.pml_program.specs.declared.program.Program.{Program}
 use Rattle.promela_process.specs.Offers.{Offer}
 use Rattle.promela_process.specs.Store.{Frame}
-use Rattle.promela_run.specs.State.{Begun, first_state, Stand, State, body_of, begins_by, begins_at, picked}
-use Rattle.pml_start.specs.Starting.{starting}
-use Rattle.pml_start.proofs.Living.{living_are}
+use Rattle.promela_run.specs.State.{Begun, first_state, Stand, State, body_of, begins_at, picked}
+use Rattle.run_start.specs.Starting.{starting}
+use Rattle.run_start.proofs.Living.{living_are}
 use Rattle.promela_run.specs.declared.moves.Move.{Move}
 use Rattle.promela_run.specs.declared.moves.Move.TheVariants.{Death, Alone, Pair}
 use Rattle.promela_run.specs.Moves as search
-use Rattle.profile.specs.declared.TheConstants.{MOST_DSTEP_STATEMENTS}
+use Rattle.profile.specs.declared.TheConstants.{MOST_DSTEP_STATEMENTS, LINE_BYTES}
 use Rattle.promela_run.specs.Steps.{Done}
 use Rattle.promela_run.specs.Steps as outcome
-use Rattle.promela_run.specs.World.{kind_of, line_in, brace_of, origin_of, Running, first, unless_stopped, moves, led_to, step, rules}
-use Rattle.pml_texts.specs.Staying.{IsWithin}
+use Rattle.promela_run.specs.World.{origin_of, Running, first, moves, led_to, step, rules}
+use Rattle.run_texts.specs.Staying.{IsWithin}
 use Rattle.promela_run.specs.declared.halt.Halt.{Halt}
+use Rattle.run_search.specs.Lifted.{begins_by, sort_of, line_in, brace_of, unless_stopped}
 use Rattle.pml_sim.proofs.Weight.{weight_part}
 use Rattle.pml_sim.proofs.Crowding.{IsLightProctype, IsLightStand, IsLightState, moves_few}
 use Rattle.pml_sim.proofs.Lasting.{IsLightOffer, first_light, get_light, picked_light, step_light, body_weighs}
@@ -63,9 +63,9 @@ begins_light k (Some b) h = first_light most b h
 
 -- ---- places
 
-stood_line : (pr : Program) (o : Option Stand) → AllByRecursion (IsLightProctype most) pr.proctypes → brace_of (kind_of pr o) ≤ most
+stood_line : (pr : Program) (o : Option Stand) → AllByRecursion (IsLightProctype most) pr.proctypes → brace_of (sort_of pr o) ≤ most
 stood_line pr None h = omega arith
-stood_line pr (Some y) h = by (slice_get pr.proctypes y.kind) (get_light most (IsLightProctype most) pr.proctypes y.kind h)
+stood_line pr (Some y) h = by (slice_get pr.proctypes y.sort) (get_light most (IsLightProctype most) pr.proctypes y.sort h)
   where
     by : (q : Option Proctype) → IfSome q (IsLightProctype most) → brace_of q ≤ most
     by None w = omega arith
@@ -87,7 +87,7 @@ process_lives s (Pair k j t) h = h.0
 
 -- ---- lines
 
-short_line : (n p l : ℕ) → n ≤ 255 * (most * (255 * most + 1) + most + 1) → p < 255 → l ≤ most → length (placed_line n (p, l)) ≤ most_line_bytes + 1
+short_line : (n p l : ℕ) → n ≤ 255 * (most * (255 * most + 1) + most + 1) → p < 255 → l ≤ most → length (placed_line n (p, l)) ≤ LINE_BYTES + 1
 short_line n p l few_n few_p few_l =
     let a = few_digits 42 n (omega (arith, few_n)) in
     let b = few_digits 2 p (omega (arith, few_p)) in
@@ -102,13 +102,13 @@ listed_few s None l = moves_few most s l
 listed_few s (Some h) l = omega arith
 
 -- the number of a move fits a line of the choices
-pub number_fits : (w : Running) → IsLightHere w → (n : ℕ) → n ≤ length (moves w) → length (all_digits n) ≤ most_line_bytes
+pub number_fits : (w : Running) → IsLightHere w → (n : ℕ) → n ≤ length (moves w) → length (all_digits n) ≤ LINE_BYTES
 number_fits w h n within =
     let few = listed_few w.state w.halt h in
     let digits = few_digits 42 n (omega (arith, few, within)) in
     omega (arith, digits)
 
-short_from : (w : Running) (m : Move) (ms : List Move) → IsLightHere w → moves w ≡ ms → (n : ℕ) → 0 < n → n ≤ length ms → length (placed_line n (place_of rules w ms n)) ≤ most_line_bytes + 1
+short_from : (w : Running) (m : Move) (ms : List Move) → IsLightHere w → moves w ≡ ms → (n : ℕ) → 0 < n → n ≤ length ms → length (placed_line n (place_of rules w ms n)) ≤ LINE_BYTES + 1
 short_from w m ms h e n some within =
     let k = slice_index_or ms (n - 1) m in
     let is : slice_get ms (n - 1) ≡ Some k = slice_get-get_or ms (n - 1) m (omega (arith, some, within)) in
@@ -118,7 +118,7 @@ short_from w m ms h e n some within =
     let all = h.few in
     rw is (short_line n (origin_of w.state k).0 (origin_of w.state k).1 (omega (arith, few, within)) (omega (arith, lives, all)) (line_light w.state k h))
 
-short : (w : Running) (ms : List Move) → IsLightHere w → moves w ≡ ms → (n : ℕ) → 0 < n → n ≤ length ms → length (placed_line n (place_of rules w ms n)) ≤ most_line_bytes + 1
+short : (w : Running) (ms : List Move) → IsLightHere w → moves w ≡ ms → (n : ℕ) → 0 < n → n ≤ length ms → length (placed_line n (place_of rules w ms n)) ≤ LINE_BYTES + 1
 short w [] h e n some within = absurd (omega (arith, some, within))
 short w (m ∷ ms) h e n some within = short_from w m (m ∷ ms) h e n some within
 
@@ -128,8 +128,8 @@ light_stands w options h choices = can_be_converted rules options w choices (ses
 
 -- ---- the first state
 
-begun_few : (p : Program) (b : Begun) → first_state p ≡ Ok b → length b.kinds ≤ 255
-begun_few p b e = let are = subst (λ (r : Result Begun Fault). IfOk r (λ n. n.kinds ≡ take 255 (starting 0 p.proctypes))) e (living_are p) in let l = ap length are ∙ length-take 255 (starting 0 p.proctypes) in omega (arith, l)
+begun_few : (p : Program) (b : Begun) → first_state p ≡ Ok b → length b.sorts ≤ 255
+begun_few p b e = let are = subst (λ (r : Result Begun Fault). IfOk r (λ n. n.sorts ≡ take 255 (starting 0 p.proctypes))) e (living_are p) in let l = ap length are ∙ length-take 255 (starting 0 p.proctypes) in omega (arith, l)
 
 begun_stands : (p : Program) → AllByRecursion (IsLightProctype most) p.proctypes → (ks : List ℕ) → AllByRecursion (IsLightStand most) (map (begins_at p) ks)
 begun_stands p h [] = tt
@@ -137,7 +137,7 @@ begun_stands p h (k ∷ ks) = (begins_light k (body_of p k) (body_weighs most p 
 
 pub first_is_light : (p : Program) (b : Begun) (lossy : Bool) → AllByRecursion (IsLightProctype most) p.proctypes → first_state p ≡ Ok b → IsLightState most (first p b lossy).state
 first_is_light p b lossy h e = record {
-  few = let f = begun_few p b e in let l = length-map b.kinds (begins_at p) in omega (arith, f, l);
+  few = let f = begun_few p b e in let l = length-map b.sorts (begins_at p) in omega (arith, f, l);
   bodies = h;
-  stands = begun_stands p h b.kinds;
+  stands = begun_stands p h b.sorts;
 }

@@ -1,6 +1,7 @@
 -- What a call does to the parts it does to the whole.
 use Rattle.std.proofs.Common.{◌≡◌, ℕ, ◌+◌, ◌<◌, min, Bool, List, [], ◌++◌, length, take, refl, sym, ap, ◌∙◌, subst, arith, Option, Some, None, Result, Ok, Err, IfOk}
 use Rattle.std.specs.List.{Contains}
+use Rattle.std.specs.Prelude.{option_map}
 use Rattle.diagnostics.specs.declared.fault.Fault.{Fault}
 use Rattle.diagnostics.specs.declared.stop.Stop.{Stop}
 use Rattle.diagnostics.specs.declared.stop.Stop.TheVariants as stop
@@ -10,31 +11,36 @@ use Rattle.pml_program.specs.declared.program.Program.{Program}
 use Rattle.promela_process.specs.Store.{Frame}
 use Rattle.pml_store.specs.Writing.{Contents, before}
 use Rattle.promela_run.specs.State.{Begun, first_state as begin, State}
-use Rattle.pml_start.specs.Shown.{shown}
-use Rattle.pml_start.specs.declared.started.Started.{Started}
-use Rattle.pml_start.specs.Starting.{IsDeclared, Starts}
+use Rattle.run_start.specs.Shown.{shown}
+use Rattle.run_start.specs.declared.started.Started.{Started}
+use Rattle.run_start.specs.Starting.{IsDeclared, Starts}
 use Rattle.promela_run.specs.Judged.{HasGoodStart}
-use Rattle.pml_lines.specs.declared.change.Wanted.{Wanted}
-use Rattle.pml_lines.specs.Changed.{changes as changed, step_changes}
+use Rattle.run_values.specs.declared.change.Wanted.{Wanted}
+use Rattle.run_values.specs.Changed.{changes as changed, step_changes}
 use Rattle.promela_run.specs.Lines.{value_lines}
-use Rattle.pml_lines.specs.Written.{AreDeclared, step_lines}
+use Rattle.run_values.specs.Written.{AreDeclared, step_lines}
 use Rattle.promela_run.specs.declared.moves.Move.{Move}
 use Rattle.promela_run.specs.declared.moves.Move.TheVariants.{Death, Alone, Pair}
 use Rattle.promela_run.specs.Moves as search
 use Rattle.profile.specs.declared.TheConstants.{MOST_DSTEP_STATEMENTS}
-use Rattle.promela_run.specs.Steps.{kinds, there, Done, step}
-use Rattle.pml_steps.specs.Live.{Does, Joins}
-use Rattle.promela_run.specs.World.{Running, first, rules, unless_stopped, stopped, changed_lines, led_to, move_text}
-use Rattle.pml_steps.specs.Taking.{CanDie, PastBy}
-use Rattle.pml_texts.specs.Staying.{IsWithin}
-use Rattle.pml_texts.proofs.Staying.{text_stays}
+use Rattle.promela_run.specs.Steps.{sorts, there, Done, step}
+use Rattle.run_step.specs.Live.{Does, Joins}
+use Rattle.promela_run.specs.World.{Running, first, rules, changed_lines, led_to, move_text}
+use Rattle.run_step.specs.Taking.{CanDie, PastBy}
+use Rattle.run_texts.specs.Staying.{IsWithin}
+use Rattle.run_texts.proofs.Staying.{text_stays}
 use Rattle.promela_run.specs.declared.halt.Halt.{Halt}
 use Rattle.pml_sim.specs.Lent.{IsFirst}
 use Rattle.promela_run.specs.World as world
+use Rattle.run_search.specs.Lifted.{unless_stopped}
 use Rattle.pml_sim.specs.Lent as lends
 use Rattle.pml_sim.proofs.Living.{moves_within}
 use Rattle.pml_sim.proofs.Leading.{past_by, went, failed}
 use Rattle.pml_sim.proofs.Values.{changes_of_first, first_declared, frames_declared, lines_of_first, taken_min}
+
+-- the move at which a run has stopped, and why
+abbrev stopped : Option Halt → Option (Stopped Move)
+stopped o = option_map (λ h. record { move = h.at; why = h.why }) o
 
 -- ---- the moves
 
@@ -87,34 +93,34 @@ module _ (w live new : Running) (m : Move) (same : w.state ≡ live.state) where
 -- ---- the lines of a step
 
 pub lines_are : (w live : Running) (p : Program) (ks : List ℕ) (store : Contents) (older n : ℕ) (globals locals : Bool) → w.state ≡ live.state → w.past ≡ take (older + 1) live.past →
-    p ≡ live.state.program → ks ≡ kinds live.state → store.frames ≡ live.state.frames → before store ≡ live.past → n ≡ min older (length ks) →
+    p ≡ live.state.program → ks ≡ sorts live.state → store.frames ≡ live.state.frames → before store ≡ live.past → n ≡ min older (length ks) →
     step_lines p (take n ks) store (record { globals = globals; locals = locals }) ≡ changed_lines w globals locals
 lines_are w live p ks store older n globals locals s past pr k st log ni =
     let wanted : Wanted = record { globals = globals; locals = locals } in
     let q : Program = live.state.program in
     ap (λ (i : ℕ). step_lines p (take i ks) store wanted) ni ∙ ap (λ (l : List ℕ). step_lines p l store wanted) (taken_min older ks)
     ∙ ap (λ (r : Program). step_lines r (take older ks) store wanted) pr ∙ ap (λ (l : List ℕ). step_lines q (take older l) store wanted) k
-    ∙ lines_of_first q older (kinds live.state) store wanted
-    ∙ ap (λ (fs : List Frame). value_lines q (kinds live.state) (take (older + 1) fs) store.frames globals locals) log
-    ∙ ap (λ (fs : List Frame). value_lines q (kinds live.state) (take (older + 1) live.past) fs globals locals) st
-    ∙ ap (λ (fs : List Frame). value_lines q (kinds live.state) fs live.state.frames globals locals) (sym past)
-    ∙ ap (λ (t : State). value_lines t.program (kinds t) w.past t.frames globals locals) (sym s)
+    ∙ lines_of_first q older (sorts live.state) store wanted
+    ∙ ap (λ (fs : List Frame). value_lines q (sorts live.state) (take (older + 1) fs) store.frames globals locals) log
+    ∙ ap (λ (fs : List Frame). value_lines q (sorts live.state) (take (older + 1) live.past) fs globals locals) st
+    ∙ ap (λ (fs : List Frame). value_lines q (sorts live.state) fs live.state.frames globals locals) (sym past)
+    ∙ ap (λ (t : State). value_lines t.program (sorts t) w.past t.frames globals locals) (sym s)
 
-pub are_declared : (live : Running) (p : Program) (ks : List ℕ) (store : Contents) (n : ℕ) → p ≡ live.state.program → ks ≡ kinds live.state → store.frames ≡ live.state.frames →
+pub are_declared : (live : Running) (p : Program) (ks : List ℕ) (store : Contents) (n : ℕ) → p ≡ live.state.program → ks ≡ sorts live.state → store.frames ≡ live.state.frames →
     IsDeclared live.state.program (there live.state) → AreDeclared p (take n ks) store.frames
 are_declared live p ks store n pr k st h =
     subst (λ (fs : List Frame). AreDeclared p (take n ks) fs) (sym st)
     (subst (λ (l : List ℕ). AreDeclared p (take n l) live.state.frames) (sym k)
-    (subst (λ (q : Program). AreDeclared q (take n (kinds live.state)) live.state.frames) (sym pr) (first_declared live.state.program (there live.state) n h)))
+    (subst (λ (q : Program). AreDeclared q (take n (sorts live.state)) live.state.frames) (sym pr) (first_declared live.state.program (there live.state) n h)))
 
 -- ---- its changes
 
 pub changes_are : (w live : Running) (ks : List ℕ) (store : Contents) (older n : ℕ) → w.state ≡ live.state → w.past ≡ take (older + 1) live.past →
-    ks ≡ kinds live.state → store.frames ≡ live.state.frames → before store ≡ live.past → n ≡ min older (length ks) → IsDeclared live.state.program (there live.state) →
+    ks ≡ sorts live.state → store.frames ≡ live.state.frames → before store ≡ live.past → n ≡ min older (length ks) → IsDeclared live.state.program (there live.state) →
     step_changes (take n ks) store ≡ lends.changes w
 changes_are w live ks store older n s past k st log ni h =
     ap (λ (i : ℕ). step_changes (take i ks) store) ni ∙ ap (λ (l : List ℕ). step_changes (take (min older (length l)) l) store) k
-    ∙ changes_of_first older (kinds live.state) store (ap length st ∙ frames_declared live.state.program (there live.state) h)
+    ∙ changes_of_first older (sorts live.state) store (ap length st ∙ frames_declared live.state.program (there live.state) h)
     ∙ ap (λ (fs : List Frame). changed (take (older + 1) fs) store.frames) log
     ∙ ap (λ (fs : List Frame). changed (take (older + 1) live.past) fs) st
     ∙ ap (λ (fs : List Frame). changed fs live.state.frames) (sym past)

@@ -1,10 +1,11 @@
 -- How much a body weighs: a bound of how many offers a point of it has, and of the lines of their statements.
 use Rattle.std.proofs.Common.{◌≡◌, ℕ, zero, suc, ◌+◌, ◌≤◌, List, [], ◌∷◌, drop, refl, ap, ◌∙◌, arith, slice_get}
+use Rattle.std.specs.Prelude.{unwrap_or, option_map}
 use mathlib.Core.Former.{Count}
 use Rattle.pml_program.specs.declared.program.Stmt.{Stmt}
 use Rattle.pml_program.specs.declared.program.Seq.{Seq, Seq', Row_of-Stmt, end_of-Stmt, more_of-Stmt, items-the_row-Stmt}
 use Rattle.pml_program.specs.declared.program.Basic.{Basic, Plain, Goto, Break, If, If', Do, Do', Block, Atomic, DStep, Unless, Row_of-Seq, end_of-Seq, more_of-Seq, items-the_row-Seq, items_hidden-the_row-Seq-0}
-use Rattle.promela_process.specs.Control.{Place, Turn, Control, Todo, Back, Under, InAtomic, InDStep, steps, steps_of, part, turn, todos, behind, into, part_of, behind_of, sequence, beyond, at}
+use Rattle.promela_process.specs.Control.{Position, Descent, Control, Todo, Back, Under, InAtomic, InDStep, steps, arm, descent, todos, behind, into, sequence, beyond, at}
 use Rattle.promela_process.specs.Offers.{first_line}
 
 -- one for each statement, and its line
@@ -90,12 +91,12 @@ module _ (most : ℕ) where
   pub light_row : {n : _} (row : Row_of-Stmt n) → weight_row row ≤ most → AreLight (items-the_row-Stmt _ row)
   light_row row h = light_list (items-the_row-Stmt _ row) (rw (row_list row) at h)
 
-  light_parts : (ss : List Seq) (k : ℕ) → weight_parts ss ≤ most → AreLight (steps_of (slice_get ss k))
+  light_parts : (ss : List Seq) (k : ℕ) → weight_parts ss ≤ most → AreLight (unwrap_or (option_map steps (slice_get ss k)) [])
   light_parts [] k h = tt
   light_parts (s ∷ ss) zero h = light_steps s (omega (arith, h))
   light_parts (s ∷ ss) (suc k) h = light_parts ss k (omega (arith, h))
 
-  light_part : (s : Basic) (k : ℕ) → weight_in s ≤ most → AreLight (part s k)
+  light_part : (s : Basic) (k : ℕ) → weight_in s ≤ most → AreLight (arm s k)
   light_part (Plain a) k h = tt
   light_part (Goto l) k h = tt
   light_part Break k h = tt
@@ -106,7 +107,7 @@ module _ (most : ℕ) where
   light_part (DStep s) k h = light_parts (s ∷ []) k (omega (arith, h))
   light_part (Unless s e) k h = light_parts (s ∷ e ∷ []) k (omega (arith, h))
 
-  light_part_of : (ss : List Stmt) (i k : ℕ) → AreLight ss → AreLight (part_of (slice_get ss i) k)
+  light_part_of : (ss : List Stmt) (i k : ℕ) → AreLight ss → AreLight (unwrap_or (option_map (λ (s : Stmt). arm s.basic k) (slice_get ss i)) [])
   light_part_of [] i k h = tt
   light_part_of (s ∷ ss) zero k h = light_part s.basic k (omega (arith, h.0))
   light_part_of (s ∷ ss) (suc i) k h = light_part_of ss i k h.1
@@ -116,15 +117,15 @@ module _ (most : ℕ) where
   light_drop (suc i) [] h = tt
   light_drop (suc i) (s ∷ ss) h = light_drop i ss h.1
 
-  pub light_sequence : (b : List Stmt) (q : List Turn) → AreLight b → AreLight (sequence b q)
+  pub light_sequence : (b : List Stmt) (q : List Descent) → AreLight b → AreLight (sequence b q)
   light_sequence b [] h = h
   light_sequence b (t ∷ q) h = light_part_of (sequence b q) t.0 t.1 (light_sequence b q h)
 
-  pub light_todos : (q : List Turn) (i : ℕ) (ss : List Stmt) (c : Control) → AreLight ss → IsLight c → IsLight (todos q i ss c)
+  pub light_todos : (q : List Descent) (i : ℕ) (ss : List Stmt) (c : Control) → AreLight ss → IsLight c → IsLight (todos q i ss c)
   light_todos q i [] c h l = l
   light_todos q i (s ∷ ss) c h l = (omega (arith, h.0), light_todos q (i + 1) ss c h.1 l)
 
-  light_behind : (p : Place) (s : Basic) (k : ℕ) (c : Control) → weight_in s ≤ most → IsLight c → IsLight (behind p s k c)
+  light_behind : (p : Position) (s : Basic) (k : ℕ) (c : Control) → weight_in s ≤ most → IsLight c → IsLight (behind p s k c)
   light_behind p (Do' m row) k c h l = (h, l)
   light_behind p (Atomic s) k c h l = l
   light_behind p (DStep s) k c h l = l
@@ -136,19 +137,19 @@ module _ (most : ℕ) where
   light_behind p (If' m row) k c h l = l
   light_behind p (Block s) k c h l = l
 
-  light_behind_of : (p : Place) (ss : List Stmt) (i k : ℕ) (c : Control) → AreLight ss → IsLight c → IsLight (behind_of p (slice_get ss i) k c)
+  light_behind_of : (p : Position) (ss : List Stmt) (i k : ℕ) (c : Control) → AreLight ss → IsLight c → IsLight (unwrap_or (option_map (λ (s : Stmt). behind p s.basic k c) (slice_get ss i)) [])
   light_behind_of p [] i k c h l = tt
   light_behind_of p (s ∷ ss) zero k c h l = light_behind p s.basic k c (omega (arith, h.0)) l
   light_behind_of p (s ∷ ss) (suc i) k c h l = light_behind_of p ss i k c h.1 l
 
-  light_beyond : (b : List Stmt) (q : List Turn) → AreLight b → IsLight (beyond b q)
+  light_beyond : (b : List Stmt) (q : List Descent) → AreLight b → IsLight (beyond b q)
   light_beyond b [] h = tt
   light_beyond b (t ∷ q) h =
       let s = light_sequence b q h in
       light_behind_of (q, t.0) (sequence b q) t.0 t.1 _ s (light_todos q (t.0 + 1) (drop (t.0 + 1) (sequence b q)) (beyond b q) (light_drop (t.0 + 1) (sequence b q) s) (light_beyond b q h))
 
-  pub light_at : (b : List Stmt) (p : Place) → AreLight b → IsLight (at b p)
+  pub light_at : (b : List Stmt) (p : Position) → AreLight b → IsLight (at b p)
   light_at b p h = light_todos p.0 p.1 (drop p.1 (sequence b p.0)) (beyond b p.0) (light_drop p.1 (sequence b p.0) (light_sequence b p.0 h)) (light_beyond b p.0 h)
 
-  pub light_into : (p : Place) (s : Basic) (k : ℕ) (c : Control) → weight_in s ≤ most → IsLight c → IsLight (into p s k c)
-  light_into p s k c h l = light_todos (turn p k) 0 (part s k) (behind p s k c) (light_part s k h) (light_behind p s k c h l)
+  pub light_into : (p : Position) (s : Basic) (k : ℕ) (c : Control) → weight_in s ≤ most → IsLight c → IsLight (into p s k c)
+  light_into p s k c h l = light_todos (descent p k) 0 (arm s k) (behind p s k c) (light_part s k h) (light_behind p s k c h l)

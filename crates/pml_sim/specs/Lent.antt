@@ -2,9 +2,9 @@
 use Rattle.std.specs.Prelude.{◌≡◌, ℕ, Bool, if◌then◌else◌, List, Ok}
 use Rattle.pml_program.specs.declared.program.Program.{Program}
 use Rattle.promela_run.specs.State.{Begun, first_state as begin}
-use Rattle.pml_lines.specs.declared.changed.Change.{Change}
-use Rattle.pml_lines.specs.Changed.{changes as changed, value_line as line_of}
-use Rattle.promela_run.specs.Steps.{kinds}
+use Rattle.run_values.specs.declared.changed.Change.{Change}
+use Rattle.run_values.specs.Changed.{changes as changed, value_line as line_of}
+use Rattle.promela_run.specs.Steps.{sorts}
 use Rattle.promela_run.specs.World as ends
 use Rattle.pml_sim.specs.declared.ending.Ending.{Ending}
 use Rattle.pml_sim.specs.declared.ending.Ending.TheVariants.{Valid, Invalid}
@@ -22,7 +22,7 @@ changes w = changed w.past w.state.frames
 
 -- the value line of one of them
 abbrev pub value_line : Running → Change → List ℕ
-value_line w c = line_of w.state.program (kinds w.state) c
+value_line w c = line_of w.state.program (sorts w.state) c
 
 -- whether each process may end where it stands
 abbrev pub ending : Running → Ending

@@ -5,7 +5,7 @@ ghost use Rattle.std.specs.List.{flat_map};
 ghost use Rattle.promela_session.specs.Session.{Goes};
 ghost use Rattle.pml_program.specs.declared.program.Program.{Program};
 ghost use Rattle.promela_run.specs.State.{Begun};
-ghost use Rattle.pml_lines.specs.Changed.{wanted_changes};
+ghost use Rattle.run_values.specs.Changed.{wanted_changes};
 ghost use Rattle.promela_run.specs.declared.moves.Move.{Move};
 ghost use Rattle.pml_sim.specs.Origins.{TextsNameOrigins};
 ghost use Rattle.promela_run.specs.World.{Running, first, changed_lines, step};

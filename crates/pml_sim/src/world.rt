@@ -6,38 +6,38 @@ ghost use Rattle.std.specs.List.{Contains};
 ghost use Rattle.std.specs.Option.{option_copied};
 ghost use Rattle.profile.specs.declared.TheConstants.{MOST_CHANNELS, MOST_PROCESSES};
 ghost use Rattle.session.specs.Takes.{CanBeTaken, StaysStopped, TakesStep};
-ghost use Rattle.pml_start.specs.Shown.{shown};
-ghost use Rattle.pml_start.specs.Bound.{bound, IsBounded};
-ghost use Rattle.pml_start.specs.Starting.{IsDeclared};
+ghost use Rattle.run_start.specs.Shown.{shown};
+ghost use Rattle.run_start.specs.Bound.{bound, IsBounded};
+ghost use Rattle.run_start.specs.Starting.{IsDeclared};
 ghost use Rattle.promela_run.specs.State.{channel_at};
-ghost use Rattle.pml_steps.specs.Footprint.{held};
+ghost use Rattle.run_step.specs.Footprint.{held};
 ghost use Rattle.promela_run.specs.World.{first};
-ghost use Rattle.pml_texts.specs.Charts.{told};
-ghost use Rattle.pml_texts.specs.Staying as staying;
+ghost use Rattle.run_texts.specs.Charts.{told};
+ghost use Rattle.run_texts.specs.Staying as staying;
 ghost use Rattle.promela_run.specs.World as world;
 ghost use Rattle.pml_sim.specs.Lent as lends;
 ghost use Rattle.pml_sim.specs.Lent.{IsFirst};
 
 use crate::ending::Ending;
 use diagnostics::Stop;
-use pml_cells::tables::Tables;
 use pml_channel::channel::Channel;
 use pml_check::Checked;
-use pml_lines::change::{Wanted, logged_lines};
-use pml_lines::changed::{Change, logged_changes, value_line};
-use pml_moves::played::Played;
-use pml_moves::scene::Scene;
-use pml_moves::search::add_moves;
-use pml_start::start::start_by;
-use pml_start::started::Started;
-use pml_steps::live::Live;
-use pml_steps::take::take;
 use pml_store::store::Store;
-use pml_texts::ends::{add_stuck, is_valid, stuck};
-use pml_texts::texts::{add_move, origin};
 use pml_value::view::named;
 use promela_run::halt::Halt;
 use promela_run::moves::Move;
+use run_layout::tables::Tables;
+use run_search::played::Played;
+use run_search::scene::Scene;
+use run_search::search::add_moves;
+use run_start::start::start_by;
+use run_start::started::Started;
+use run_step::live::Live;
+use run_step::take::take;
+use run_texts::ends::{add_stuck, is_valid, stuck};
+use run_texts::texts::{add_move, origin};
+use run_values::change::{Wanted, logged_lines};
+use run_values::changed::{Change, logged_changes, value_line};
 use session::{Machine, Report};
 use std::alloc::{AllocError, Global};
 use std::marker::Model;
@@ -159,12 +159,12 @@ impl<'p, 'a> World<'p, 'a> {
     pub fn changes(&self) -> Result<Vec<Change>, AllocError>
         ensures { IfOk result (λ found. found.items ≡ lends.changes self.now) }
     {
-        let kinds = self.live.kinds();
-        let count = self.older.min(kinds.len());
+        let sorts = self.live.sorts();
+        let count = self.older.min(sorts.len());
         logged_changes(
             self.allocator(),
             self.live.tables(),
-            &kinds[..count],
+            &sorts[..count],
             self.live.variables(),
         )
     }
@@ -174,7 +174,7 @@ impl<'p, 'a> World<'p, 'a> {
         ensures added { OnOk result (text.new.items ≡ text.old.items ++ lends.value_line self.now change.now) }
         ensures kept { OnErr result (StartsWith text.new.items text.old.items) }
     {
-        value_line(self.live.tables(), self.live.kinds(), *change, text)
+        value_line(self.live.tables(), self.live.sorts(), *change, text)
     }
 
     /// Whether a run that ends here ends well.
@@ -262,12 +262,12 @@ impl<'p, 'a> World<'p, 'a> {
         ensures kept { OnErr result (StartsWith text.new.items text.old.items) }
     {
         let alloc = *text.allocator();
-        let kinds = self.live.kinds();
-        let older = self.older.min(kinds.len());
+        let sorts = self.live.sorts();
+        let older = self.older.min(sorts.len());
         logged_lines(
             alloc,
             self.live.tables(),
-            &kinds[..older],
+            &sorts[..older],
             wanted,
             self.live.variables(),
             text,

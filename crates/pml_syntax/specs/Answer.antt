@@ -10,13 +10,13 @@ use Rattle.pml_tree.specs.declared.tree.Item.{Item}
 use Rattle.pml_tree.specs.declared.tree.Seq.{Seq}
 use Rattle.pml_tree.specs.declared.tree.Tree.{Tree}
 use Rattle.promela_model.specs.GrammarOfActions.{item_of}
-use Rattle.pml_syntax.specs.declared.program.SyntaxFault.{SyntaxFault}
-use Rattle.pml_syntax.specs.declared.program.SyntaxFault.TheVariants as fault
+use Rattle.pml_syntax.specs.declared.program.SyntaxError.{SyntaxError}
+use Rattle.pml_syntax.specs.declared.program.SyntaxError.TheVariants as fault
 use Rattle.pml_syntax.specs.declared.starts.Opening.{Opening}
 use Rattle.pml_syntax.specs.declared.starts.Opening.TheVariants as o
 
 -- this tree, unless memory ran out
-abbrev pub Answers : Tree → Result Tree SyntaxFault → Type 0
+abbrev pub Answers : Tree → Result Tree SyntaxError → Type 0
 Answers t (Ok x) = x ≡ t
 Answers t (Err fault.Memory) = Unit {0}
 Answers t (Err (fault.Syntax line)) = ⊥

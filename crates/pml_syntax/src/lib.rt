@@ -13,4 +13,4 @@ mod range;
 mod starts;
 mod unit;
 
-pub use program::{SyntaxFault, parse};
+pub use program::{SyntaxError, parse};

@@ -15,7 +15,7 @@ use thiserror::Error;
 
 /// Why there is no tree.
 #[derive(Clone, Copy, Debug, PartialEq, Eq, Error)]
-pub enum SyntaxFault {
+pub enum SyntaxError {
     /// Memory ran out.
     #[error("out of memory")]
     Memory,
@@ -36,20 +36,20 @@ fn line_at(tokens: &[Token<'_>], left: usize) -> u32
 }
 
 /// The tree that the tokens of a model spell.
-pub fn parse<'a>(alloc: Global, tokens: &'a [Token<'a>]) -> Result<Tree<'a>, SyntaxFault>
+pub fn parse<'a>(alloc: Global, tokens: &'a [Token<'a>]) -> Result<Tree<'a>, SyntaxError>
     // What is answered spells the tokens.
     ensures found { IfOk result (λ t. Spells t tokens.now) }
     // What spells the tokens is answered, unless memory runs out, so no other tree spells them.
     ensures only { (t : Tree) → Spells t tokens.now → Answers t result }
     // A syntax fault comes only where no tree spells the tokens.
-    ensures none { (line : ℕ) → result ≡ Err (SyntaxFault.Syntax line) → (t : Tree) → Spells t tokens.now → ⊥ }
+    ensures none { (line : ℕ) → result ≡ Err (SyntaxError.Syntax line) → (t : Tree) → Spells t tokens.now → ⊥ }
     // Its line is one of the text, if those of the tokens are.
-    ensures line { (most : ℕ) → 1 ≤ most → All (λ w. IsOnLine most w.line) tokens.now → (at : ℕ) → result ≡ Err (SyntaxFault.Syntax at) → IsOnLine most at }
+    ensures line { (most : ℕ) → 1 ≤ most → All (λ w. IsOnLine most w.line) tokens.now → (at : ℕ) → result ≡ Err (SyntaxError.Syntax at) → IsOnLine most at }
 {
     let mut cursor = Cursor::new(tokens);
     match model(alloc, tokens.len(), &mut cursor) {
         Ok(t) => Ok(t),
-        Err(ReadFault::Memory) => Err(SyntaxFault::Memory),
-        Err(ReadFault::Syntax(left)) => Err(SyntaxFault::Syntax(line_at(tokens, left))),
+        Err(ReadFault::Memory) => Err(SyntaxError::Memory),
+        Err(ReadFault::Syntax(left)) => Err(SyntaxError::Syntax(line_at(tokens, left))),
     }
 }

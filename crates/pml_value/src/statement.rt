@@ -3,9 +3,9 @@
 ghost use Rattle.std.specs.Prelude.{◌≡◌, IfOk, IfSome, Ok, Some};
 ghost use Rattle.pml_store.specs.Writing.{before};
 ghost use Rattle.promela_process.specs.Numbers.{clipped};
-ghost use Rattle.promela_run.specs.Statements.{goes, goes_to, assigned, counted, outcome};
+ghost use Rattle.promela_run.specs.Statements.{goes, goes_to, counted, outcome};
 ghost use Rattle.pml_value.specs.Takes.{IsIn, TakesStatement};
-ghost use Rattle.pml_value.specs.Seen.{read_by, seen};
+ghost use Rattle.pml_value.specs.Seen.{assigned, read_by, seen};
 
 use crate::view::{Taker, View};
 use diagnostics::{Fault, Stop};

@@ -3,8 +3,8 @@
 ghost use Rattle.std.specs.Prelude.{◌≡◌, option_map};
 ghost use Rattle.std.specs.Option.{option_copied};
 ghost use Rattle.pml_eval.specs.Ground.{shown};
-ghost use Rattle.promela_run.specs.State.{frame_of, channel_at, filling};
-ghost use Rattle.pml_value.specs.Seen.{read_by, seen};
+ghost use Rattle.promela_run.specs.State.{channel_at, filling};
+ghost use Rattle.pml_value.specs.Seen.{frame_of, read_by, seen};
 
 use pml_channel::channel::Channel;
 use pml_eval::ground::{Filled, Ground};

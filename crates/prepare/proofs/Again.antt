@@ -9,13 +9,13 @@ use Rattle.std.proofs.lemmas.Bool.{false≢true}
 use Rattle.std.proofs.lemmas.Bool.Decides.{nat_tests}
 use Rattle.std.proofs.lemmas.Slice.Eq.{bytes_eq-Decides}
 use Rattle.std.proofs.Math.Seq.{take-append_seam, drop-append_seam}
-use Rattle.promela_text.specs.declared.piece.Piece.{Piece}
-use Rattle.promela_text.specs.declared.piece.Piece.TheVariants.{Skipped, Token}
+use Rattle.promela_text.specs.declared.lexeme.Lexeme.{Lexeme}
+use Rattle.promela_text.specs.declared.lexeme.Lexeme.TheVariants.{Skipped, Token}
 use Rattle.pml_token.specs.declared.token.Kind.{Kind}
 use Rattle.pml_token.specs.declared.token.Kind.TheVariants as kind
 use Rattle.pml_token.specs.Word.{same_kind, Word}
 use Rattle.promela_text.specs.Tables.{word_kind}
-use Rattle.promela_text.specs.Tokens.{piece, is_blank, is_name_byte, IsLongest, IsCut, fresh_from, is_fresh, is_line_feed, line_behind, word, words}
+use Rattle.promela_text.specs.Tokens.{lexeme, is_blank, is_name_byte, IsLongest, IsCut, fresh_from, is_fresh, is_line_feed, line_behind, word, words}
 use Rattle.pml_lex.specs.Scanning.{Found, next}
 use Rattle.pml_lex.proofs.Longest.{IsNext, IsNextAt}
 use Rattle.pml_lex.proofs.Scan.{next_is}
@@ -24,20 +24,20 @@ use Rattle.pml_lex.proofs.Steps.{fresh_from-append}
 use Rattle.pml_lex.proofs.Wholes.{Divides, to_whole}
 use Rattle.prepare.specs.declared.roles.Role.{Role}
 use Rattle.prepare.specs.declared.roles.Role.TheVariants as as_role
-use Rattle.prepare.specs.declared.place.Supply.{Supply}
-use Rattle.prepare.specs.declared.place.Supply.TheVariants as supply
-use Rattle.prepare.specs.declared.place.Block.TheVariants.{Outside}
-use Rattle.prepare.specs.declared.place.Place.{Place}
-use Rattle.prepare.specs.declared.turn.Form.{Form}
-use Rattle.prepare.specs.declared.turn.Form.TheVariants as form
+use Rattle.prepare.specs.declared.context.Supply.{Supply}
+use Rattle.prepare.specs.declared.context.Supply.TheVariants as supply
+use Rattle.prepare.specs.declared.context.Block.TheVariants.{Outside}
+use Rattle.prepare.specs.declared.context.Context.{Context}
+use Rattle.prepare.specs.declared.stretch.Form.{Form}
+use Rattle.prepare.specs.declared.stretch.Form.TheVariants as form
 use Rattle.prepare.specs.Roles.{is_block_word, role}
-use Rattle.prepare.specs.Places.{written, is_blanked, behind, start}
+use Rattle.prepare.specs.Contexts.{written, is_blanked, behind, start}
 use Rattle.prepare.specs.Written.{Written}
-use Rattle.prepare.specs.Turns.{string_end, string_or_rest, broken, found_or, piece_at, form_outside, turn, last_turn, on_piece, turns_by, turns}
+use Rattle.prepare.specs.Stretches.{string_end, string_or_rest, broken, found_or, lexeme_at, form_outside, stretch, last_stretch, on_lexeme, stretches_by, stretches}
 use Rattle.prepare.specs.Spelling.{blank, unbroken, divider, shown, spelled}
 use Rattle.prepare.specs.Blocks.{is_blank_form}
 use Rattle.prepare.specs.Laws.{source, sources, is_token, has_tokens_alone, supplied, kept, Standing, all_on, line_from, written_from, standing}
-use Rattle.prepare.proofs.Turning.{at_piece}
+use Rattle.prepare.proofs.Turning.{at_lexeme}
 use Rattle.prepare.proofs.Blocks.{outside_kept}
 use Rattle.prepare.proofs.Lines.{feeds, feeds-append, blanks_feeds, filter_feeds, unbroken_feeds}
 use Rattle.prepare.proofs.Plain.{sources_are, shown_stays, unbroken_stays, not_true}
@@ -46,8 +46,8 @@ use Rattle.prepare.proofs.Stays.{Fits, head, is_soft, stop_now, next_stays}
 use Rattle.prepare.proofs.Softly.{Follows, skip_stays, Least, next_fresher, least_from, skip_head, token_head, none_head, blank_skipped}
 use Rattle.prepare.proofs.Joining.{joined_end, EndsAt, ends_at}
 
--- a scan finds just this piece
-record IsScanned (f : Bool) (q back : List ℕ) (k : Piece) : Type 0 where
+-- a scan finds just this lexeme
+record IsScanned (f : Bool) (q back : List ℕ) (k : Lexeme) : Type 0 where
   some : 0 < length q
   found : next f (q ++ back) ≡ Some (length q, k)
 
@@ -55,25 +55,25 @@ some_longer : (q back : List ℕ) → 0 < length q → 0 < length (q ++ back)
 some_longer [] back h = absurd (omega arith)
 some_longer (b ∷ q) back h = omega arith
 
-longest_at : (f : Bool) (q back : List ℕ) (k : Piece) → IsNextAt f (q ++ back) (length q) k → IsLongest f (q ++ back) q × (piece f q ≡ Some k)
+longest_at : (f : Bool) (q back : List ℕ) (k : Lexeme) → IsNextAt f (q ++ back) (length q) k → IsLongest f (q ++ back) q × (lexeme f q ≡ Some k)
 longest_at f q back k n = (
   subst (IsLongest f (q ++ back)) (take-append_seam q back) n.longest,
-  ap (piece f) (sym (take-append_seam q back)) ∙ n.spells,
+  ap (lexeme f) (sym (take-append_seam q back)) ∙ n.spells,
 )
 
-longest : (f : Bool) (q back : List ℕ) (k : Piece) → IsScanned f q back k → IsLongest f (q ++ back) q × (piece f q ≡ Some k)
+longest : (f : Bool) (q back : List ℕ) (k : Lexeme) → IsScanned f q back k → IsLongest f (q ++ back) q × (lexeme f q ≡ Some k)
 longest f q back k h = longest_at f q back k (subst (IsNext f (q ++ back)) h.found (next_is f (q ++ back) (some_longer q back h.some)))
 
-scanned_again : (f : Bool) (q back back' : List ℕ) (k : Piece) → Fits k back back' → IsScanned f q back k → IsScanned f q back' k
+scanned_again : (f : Bool) (q back back' : List ℕ) (k : Lexeme) → Fits k back back' → IsScanned f q back k → IsScanned f q back' k
 scanned_again f q back back' k fits h = record { some = h.some; found = next_stays f q back back' k h.some fits h.found }
 
 skipped_again : (f : Bool) (q back back' : List ℕ) → Follows back back' → IsScanned f q back Skipped → IsScanned f q back' Skipped
 skipped_again f q back back' follows h = record { some = h.some; found = skip_stays f q back back' h.some follows h.found }
 
-fresher : (f f' : Bool) (q back : List ℕ) (k : Piece) → Least f f' → IsScanned f q back k → IsScanned f' q back k
+fresher : (f f' : Bool) (q back : List ℕ) (k : Lexeme) → Least f f' → IsScanned f q back k → IsScanned f' q back k
 fresher f f' q back k l h = record { some = h.some; found = next_fresher f f' (q ++ back) (length q, k) l h.found }
 
--- pieces of a gap, which are skipped
+-- lexemes of a gap, which are skipped
 Skips : Bool → List (List ℕ) → List ℕ → Type 0
 Skips f [] rest = Unit {0}
 Skips f (g ∷ gs) rest = IsScanned f g (concat gs ++ rest) Skipped × Skips (fresh_from f g) gs rest
@@ -90,22 +90,22 @@ skips_again [] f rest rest' e h = tt
 skips_again (g ∷ gs) f rest rest' e h =
     (skipped_again f g (concat gs ++ rest) (concat gs ++ rest') (ends_same gs (fresh_from f g) rest rest' e h.1) h.0, skips_again gs (fresh_from f g) rest rest' e h.1)
 
--- pieces of a text behind `before`, and the tokens among them, each on its line
+-- lexemes of a text behind `before`, and the tokens among them, each on its line
 record Cut (before text : List ℕ) (ts : List Standing) : Type 0 where
-  pieces : List (List ℕ)
-  divides : Divides before pieces text
-  are : standing (words before pieces) ≡ ts
+  lexemes : List (List ℕ)
+  divides : Divides before lexemes text
+  are : standing (words before lexemes) ≡ ts
 
-one_more : (before q back : List ℕ) (k : Piece) (ts : List Standing) → IsScanned (is_fresh before) q back k → Cut (before ++ q) back ts → Cut before (q ++ back) (standing (word (Some k) q (line_behind before)) ++ ts)
+one_more : (before q back : List ℕ) (k : Lexeme) (ts : List Standing) → IsScanned (is_fresh before) q back k → Cut (before ++ q) back ts → Cut before (q ++ back) (standing (word (Some k) q (line_behind before)) ++ ts)
 one_more before q back k ts h c =
     let l = longest (is_fresh before) q back k h in
     record {
-      pieces = q ∷ c.pieces;
-      divides = (l.0, subst (Divides (before ++ q) c.pieces) (sym (drop-append_seam q back)) c.divides);
-      are = ap (λ (o : Option Piece). standing (word o q (line_behind before) ++ words (before ++ q) c.pieces)) l.1 ∙ joined k q c;
+      lexemes = q ∷ c.lexemes;
+      divides = (l.0, subst (Divides (before ++ q) c.lexemes) (sym (drop-append_seam q back)) c.divides);
+      are = ap (λ (o : Option Lexeme). standing (word o q (line_behind before) ++ words (before ++ q) c.lexemes)) l.1 ∙ joined k q c;
     }
   where
-    joined : (k : Piece) (q : List ℕ) (c : Cut (before ++ q) back ts) → standing (word (Some k) q (line_behind before) ++ words (before ++ q) c.pieces) ≡ standing (word (Some k) q (line_behind before)) ++ ts
+    joined : (k : Lexeme) (q : List ℕ) (c : Cut (before ++ q) back ts) → standing (word (Some k) q (line_behind before) ++ words (before ++ q) c.lexemes) ≡ standing (word (Some k) q (line_behind before)) ++ ts
     joined Skipped q c = c.are
     joined (Token x) q c = ap (λ (us : List Standing). record { text = q; line = line_behind before } ∷ us) c.are
 
@@ -185,8 +185,8 @@ record Joins (t : Written) : Type 0 where
 abbrev Shows : Bool → Written → List ℕ → Type 0
 Shows f t back = (Stays f t back ⊎ Blanks t) ⊎ Joins t
 
--- a turn of a text, without the piece-wise reading of what is behind it
-record ParsedTurn (f : Bool) (t : Written) (us : List Written) : Type 0 where
+-- a stretch of a text, without the lexeme-wise reading of what is behind it
+record ParsedStretch (f : Bool) (t : Written) (us : List Written) : Type 0 where
   gaps : List (List ℕ)
   joins : concat gaps ≡ t.gap
   skips : Skips f gaps (t.token ++ sources us)
@@ -204,7 +204,7 @@ record ParsedEnd (f : Bool) (t : Written) : Type 0 where
 Parsed : Bool → List Written → Type 0
 Parsed f [] = ⊥
 Parsed f (t ∷ []) = ParsedEnd f t
-Parsed f (t ∷ u ∷ us) = ParsedTurn f t (u ∷ us) × Parsed false (u ∷ us)
+Parsed f (t ∷ u ∷ us) = ParsedStretch f t (u ∷ us) × Parsed false (u ∷ us)
 
 black_blanked : (b : ℕ) → is_blank b ≡ false → blank b ≡ 32
 black_blanked b h = blanked (b == 10) (b == 12) b refl refl h
@@ -266,7 +266,7 @@ spelled_is : (t : Written) (us : List Written) → spelled (t ∷ us) ≡ (writt
 spelled_is t us =
     append_assoc (written t.supply ++ divider t.supply t.gap) (t.gap ++ shown t.form t.token) (spelled us) ∙ ap (λ (x : List ℕ). (written t.supply ++ divider t.supply t.gap) ++ x) (append_assoc t.gap (shown t.form t.token) (spelled us))
 
--- what is written of the turns behind a token begins as they do, or softly
+-- what is written of the stretches behind a token begins as they do, or softly
 fits_next : (k : Kind) (us : List Written) → same_kind k kind.LeftOut ≡ false → Parsed false us → Fits (Token k) (sources us) (spelled us)
 unfolding Parsed
 fits_next k [] keeps h = absurd h
@@ -298,7 +298,7 @@ skip_word : (f : Bool) (back : List ℕ) → prefix_len is_name_byte back ≡ 0 
 skip_word f back h = record { some = omega arith; found = skip_size f back h }
 
 nothing_left : (before : List ℕ) → Cut before [] []
-nothing_left before = record { pieces = []; divides = refl; are = refl }
+nothing_left before = record { lexemes = []; divides = refl; are = refl }
 
 line_on : (before q : List ℕ) (n : ℕ) → line_behind before ≡ n → line_behind (before ++ q) ≡ line_from n q
 line_on before q n e = let a = feeds-append before q in omega arith
@@ -310,7 +310,7 @@ same_line before q n none e = let a = feeds-append before q in omega arith
 abbrev Gives : List Written → Type 0
 Gives us = (b : List ℕ) (m : ℕ) → line_behind b ≡ m → Cut b (spelled us) (written_from m us)
 
--- the token of a turn
+-- the token of a stretch
 over_stays : (f : Bool) (t : Written) (us : List Written) (before : List ℕ) (n : ℕ) → Stays f t (sources us) → Parsed false us → Least f (is_fresh before) → line_behind before ≡ n
     → Gives us → Cut before (shown t.form t.token ++ spelled us) (all_on n (kept t.form t.token) ++ written_from (line_from n t.token) us)
 over_stays f t us before n h more l line go =
@@ -330,7 +330,7 @@ over_blanked t us before n h line go =
 quoted_size : (q back : List ℕ) → string_end 1 false q ≡ Some (1 + length q) → (f : Bool) → next f ((34 ∷ unbroken false q) ++ back) ≡ Some (length (34 ∷ unbroken false q), Token kind.Quoted)
 unfolding next
 quoted_size q back h f =
-    ap (λ (o : Option ℕ). option_map (λ (n : ℕ). let r : ℕ × Piece = (n, Token kind.Quoted) in r) o) (joined_end q 1 (1 + length q) 1 back h refl)
+    ap (λ (o : Option ℕ). option_map (λ (n : ℕ). let r : ℕ × Lexeme = (n, Token kind.Quoted) in r) o) (joined_end q 1 (1 + length q) 1 back h refl)
     ∙ (let len : 1 + length (unbroken false q) ≡ length (34 ∷ unbroken false q) = omega arith in ap (λ (n : ℕ). let r : Found = Some (n, Token kind.Quoted) in r) len)
 
 over_joined : (t : Written) (us : List Written) (before : List ℕ) (n : ℕ) → Joins t → line_behind before ≡ n
@@ -365,9 +365,9 @@ source_line : (t : Written) (n : ℕ) → line_from (line_from n t.gap) t.token 
 source_line t n = let a = feeds-append t.gap t.token in omega arith
 
 -- a gap and its token
-over_turn : (f : Bool) (t : Written) (us : List Written) (before : List ℕ) (n : ℕ) → ParsedTurn f t us → Parsed false us → Least f (is_fresh before) → line_behind before ≡ n
+over_stretch : (f : Bool) (t : Written) (us : List Written) (before : List ℕ) (n : ℕ) → ParsedStretch f t us → Parsed false us → Least f (is_fresh before) → line_behind before ≡ n
     → Gives us → Cut before (t.gap ++ (shown t.form t.token ++ spelled us)) (all_on (line_from n t.gap) (kept t.form t.token) ++ written_from (line_from n (source t)) us)
-over_turn f t us before n h more l line go =
+over_stretch f t us before n h more l line go =
     let rest = shown t.form t.token ++ spelled us in
     let ts = all_on (line_from n t.gap) (kept t.form t.token) ++ written_from (line_from (line_from n t.gap) t.token) us in
     let gap_line : line_behind (before ++ concat h.gaps) ≡ line_from n t.gap = line_on before (concat h.gaps) n line ∙ ap (line_from n) h.joins in
@@ -378,7 +378,7 @@ over_turn f t us before n h more l line go =
     subst (λ (m : ℕ). Cut before (t.gap ++ rest) (all_on (line_from n t.gap) (kept t.form t.token) ++ written_from m us)) (source_line t n)
     (subst (λ (g : List ℕ). Cut before (g ++ rest) ts) h.joins (over_gap h.gaps f before rest ts l skips token))
 
--- a gap that begins a skipped piece begins with no byte of a name
+-- a gap that begins a skipped lexeme begins with no byte of a name
 gap_head : (f : Bool) (gs : List (List ℕ)) (rest : List ℕ) → Skips f gs rest → (b : ℕ) (g : List ℕ) → concat gs ≡ b ∷ g → is_name_byte b ≡ false
 unfolding Skips
 gap_head f [] rest h b g e = cc
@@ -415,20 +415,20 @@ with_supply supply.Separator gap before rest f n ts h l stale line go =
 with_supply supply.Skip gap before rest f n ts h l stale line go =
     ⊎_elim (λ (e : supply.Skip ≡ supply.Nothing). cc) (λ (e : f ≡ false). with_skip gap before rest n ts h line (λ b x. go b (λ y. absurd (false≢true (sym e ∙ y))) x)) stale
 
-over_turns : (us : List Written) (f : Bool) → Parsed f us → (before : List ℕ) (n : ℕ) → Least f (is_fresh before) → line_behind before ≡ n → Cut before (spelled us) (written_from n us)
+over_stretches : (us : List Written) (f : Bool) → Parsed f us → (before : List ℕ) (n : ℕ) → Least f (is_fresh before) → line_behind before ≡ n → Cut before (spelled us) (written_from n us)
 unfolding Parsed
-over_turns [] f h before n l line = absurd h
-over_turns (t ∷ []) f h before n l line =
+over_stretches [] f h before n l line = absurd h
+over_stretches (t ∷ []) f h before n l line =
     let gap : Cut before (concat h.gaps ++ []) [] = over_gap h.gaps f before [] [] l h.skips (nothing_left (before ++ concat h.gaps)) in
     let text : spelled (t ∷ []) ≡ concat h.gaps ++ [] =
     append-nil _ ∙ ap (λ (s : Supply). (written s ++ divider s t.gap) ++ (t.gap ++ shown t.form t.token)) h.nothing ∙ ap (λ (x : List ℕ). t.gap ++ x) h.same ∙ ap (λ (g : List ℕ). g ++ []) (sym h.joins) in
     subst (λ (x : List ℕ). Cut before x (all_on n (supplied t.supply))) (sym text) (subst (λ (s : Supply). Cut before (concat h.gaps ++ []) (all_on n (supplied s))) (sym h.nothing) gap)
-over_turns (t ∷ u ∷ us) f h before n l line =
+over_stretches (t ∷ u ∷ us) f h before n l line =
     let rest = shown t.form t.token ++ spelled (u ∷ us) in
     let ts = all_on (line_from n t.gap) (kept t.form t.token) ++ written_from (line_from n (source t)) (u ∷ us) in
     subst (λ (x : List ℕ). Cut before x (all_on n (supplied t.supply) ++ ts)) (sym (spelled_is t (u ∷ us)))
     (with_supply t.supply t.gap before rest f n ts (λ b g e. gap_head f h.0.gaps (t.token ++ sources (u ∷ us)) h.0.skips b g (h.0.joins ∙ e)) l h.0.behind_token line
-    (λ b less x. over_turn f t (u ∷ us) b n h.0 h.1 less x (λ c m y. over_turns (u ∷ us) false h.1 c m (λ z. absurd (false≢true z)) y)))
+    (λ b less x. over_stretch f t (u ∷ us) b n h.0 h.1 less x (λ c m y. over_stretches (u ∷ us) false h.1 c m (λ z. absurd (false≢true z)) y)))
 
 snoc : (gs : List (List ℕ)) (f : Bool) (q rest : List ℕ) → Skips f gs (q ++ rest) → IsScanned (fresh_from f (concat gs)) q rest Skipped → Skips f (gs ++ q ∷ []) rest
 unfolding Skips
@@ -444,17 +444,17 @@ concat_snoc : (gs : List (List ℕ)) (q : List ℕ) → concat (gs ++ q ∷ []) 
 concat_snoc [] q = append-nil q
 concat_snoc (g ∷ gs) q = ap (λ (x : List ℕ). g ++ x) (concat_snoc gs q) ∙ sym (append_assoc g (concat gs) q)
 
-cons : (f : Bool) (t : Written) (us : List Written) → ParsedTurn f t us → Parsed false us → Parsed f (t ∷ us)
+cons : (f : Bool) (t : Written) (us : List Written) → ParsedStretch f t us → Parsed false us → Parsed f (t ∷ us)
 unfolding Parsed
 cons f t [] h more = absurd more
 cons f t (u ∷ us) h more = (h, more)
 
-ended : (f : Bool) (gs : List (List ℕ)) (gap : List ℕ) → concat gs ≡ gap → Skips f gs [] → Parsed f (last_turn gap ∷ [])
+ended : (f : Bool) (gs : List (List ℕ)) (gap : List ℕ) → concat gs ≡ gap → Skips f gs [] → Parsed f (last_stretch gap ∷ [])
 unfolding Parsed
 ended f gs gap e s = record { gaps = gs; joins = e; skips = s; nothing = refl; none = refl; same = refl }
 
-at_end : (fuel : ℕ) (fresh f : Bool) (p : Place) (gs : List (List ℕ)) → Skips f gs [] → Parsed f (turns_by fuel fresh p (concat gs) [])
-unfolding turns_by
+at_end : (fuel : ℕ) (fresh f : Bool) (p : Context) (gs : List (List ℕ)) → Skips f gs [] → Parsed f (stretches_by fuel fresh p (concat gs) [])
+unfolding stretches_by
 at_end zero fresh f p gs s = ended f gs (concat gs ++ []) (sym (append-nil (concat gs))) s
 at_end (suc fuel) fresh f p gs s = ended f gs (concat gs) refl s
 
@@ -462,9 +462,9 @@ nothing_by : (t : Bool) (s : Supply) → s ≡ supply.Nothing → cond t supply.
 nothing_by true s e = refl
 nothing_by false s e = e
 
-first_nothing : (p : Place) (k : Kind) (gap t : List ℕ) → p ≡ start → (turn p k gap t).supply ≡ supply.Nothing
-unfolding turn
-first_nothing p k gap t e = ap (λ (x : Place). (turn x k gap t).supply) e ∙ nothing_by (is_blanked Outside (role k t)) _ refl
+first_nothing : (p : Context) (k : Kind) (gap t : List ℕ) → p ≡ start → (stretch p k gap t).supply ≡ supply.Nothing
+unfolding stretch
+first_nothing p k gap t e = ap (λ (x : Context). (stretch x k gap t).supply) e ∙ nothing_by (is_blanked Outside (role k t)) _ refl
 
 kept_outside : (r : Role) (t : List ℕ) → list_any is_line_feed t ≡ false → kept (form_outside r) t ≡ t ∷ []
 kept_outside as_role.Quotes t h = ap (λ (x : List ℕ). x ∷ []) (unbroken_stays false t h)
@@ -474,33 +474,33 @@ no_feed_gap : (f : Bool) (text : List ℕ) → Skips f [] text
 unfolding Skips
 no_feed_gap f text = tt
 
-form_at : (p : Place) (k : Kind) (gap t : List ℕ) (b : Bool) → is_blanked p.block (role k t) ≡ b → (turn p k gap t).form ≡ cond b form.Blanked (form_outside (role k t))
-unfolding turn
+form_at : (p : Context) (k : Kind) (gap t : List ℕ) (b : Bool) → is_blanked p.block (role k t) ≡ b → (stretch p k gap t).form ≡ cond b form.Blanked (form_outside (role k t))
+unfolding stretch
 form_at p k gap t b e = ap (λ (x : Bool). cond x form.Blanked (form_outside (role k t))) e
 
-token_at : (p : Place) (k : Kind) (gap t : List ℕ) → (turn p k gap t).token ≡ t
-unfolding turn
+token_at : (p : Context) (k : Kind) (gap t : List ℕ) → (stretch p k gap t).token ≡ t
+unfolding stretch
 token_at p k gap t = refl
 
-gap_at : (p : Place) (k : Kind) (gap t : List ℕ) → (turn p k gap t).gap ≡ gap
-unfolding turn
+gap_at : (p : Context) (k : Kind) (gap t : List ℕ) → (stretch p k gap t).gap ≡ gap
+unfolding stretch
 gap_at p k gap t = refl
 
-kind_at : (p : Place) (k : Kind) (gap t : List ℕ) → (turn p k gap t).kind ≡ k
-unfolding turn
+kind_at : (p : Context) (k : Kind) (gap t : List ℕ) → (stretch p k gap t).kind ≡ k
+unfolding stretch
 kind_at p k gap t = refl
 
 -- what a token that is not blanked may be
-keeps_by : (p : Place) (k : Kind) (gap t : List ℕ) → is_blanked p.block (role k t) ≡ false → is_token (turn p k gap t) ≡ true → same_kind k kind.LeftOut ≡ false
-unfolding turn
+keeps_by : (p : Context) (k : Kind) (gap t : List ℕ) → is_blanked p.block (role k t) ≡ false → is_token (stretch p k gap t) ≡ true → same_kind k kind.LeftOut ≡ false
+unfolding stretch
 keeps_by p k gap t e h =
     not_true (same_kind k kind.LeftOut) (sym (ap (λ (x : Bool). is_blank_form (cond x form.Blanked (form_outside (role k t))) || not (same_kind k kind.LeftOut)) e ∙ ap (λ (x : Bool). x || not (same_kind k kind.LeftOut)) (outside_kept (role k t))) ∙ h)
 
 -- a token that a scan finds
-stays_turn : (f : Bool) (p : Place) (k : Kind) (gap q back : List ℕ) → is_blanked p.block (role k q) ≡ false → IsScanned f q back (Token k) → is_token (turn p k gap q) ≡ true → Stays f (turn p k gap q) back
-unfolding turn
-stays_turn f p k gap q back out scanned h =
-    let is : piece f q ≡ Some (Token k) = (longest f q back (Token k) scanned).1 in
+stays_stretch : (f : Bool) (p : Context) (k : Kind) (gap q back : List ℕ) → is_blanked p.block (role k q) ≡ false → IsScanned f q back (Token k) → is_token (stretch p k gap q) ≡ true → Stays f (stretch p k gap q) back
+unfolding stretch
+stays_stretch f p k gap q back out scanned h =
+    let is : lexeme f q ≡ Some (Token k) = (longest f q back (Token k) scanned).1 in
     let none : list_any is_line_feed q ≡ false = no_feed q (token_place f q k is).0 in
     let formed = form_at p k gap q false out in
     record {
@@ -511,9 +511,9 @@ stays_turn f p k gap q back out scanned h =
       single = ap (λ (x : Form). kept x q) formed ∙ kept_outside (role k q) q none;
     }
 
-blanks_turn : (p : Place) (k : Kind) (gap : List ℕ) (b : ℕ) (q : List ℕ) → is_blanked p.block (role k (b ∷ q)) ≡ true → is_blank b ≡ false → Blanks (turn p k gap (b ∷ q))
-unfolding turn
-blanks_turn p k gap b q out black = record { is = form_at p k gap (b ∷ q) true out; first = b; others = q; bytes = refl; black = black }
+blanks_stretch : (p : Context) (k : Kind) (gap : List ℕ) (b : ℕ) (q : List ℕ) → is_blanked p.block (role k (b ∷ q)) ≡ true → is_blank b ≡ false → Blanks (stretch p k gap (b ∷ q))
+unfolding stretch
+blanks_stretch p k gap b q out black = record { is = form_at p k gap (b ∷ q) true out; first = b; others = q; bytes = refl; black = black }
 
 no_word : (w q : List ℕ) → (34 ∷ q ≡ w → ⊥) → bytes_eq (34 ∷ q) w ≡ false
 no_word w q none = by (bytes_eq (34 ∷ q) w) refl
@@ -534,32 +534,32 @@ quote_no_word q =
 quoted_role : (q : List ℕ) → role kind.Quoted (34 ∷ q) ≡ as_role.Quotes
 quoted_role q = ap (λ (x : Bool). cond x as_role.Heads as_role.Quotes) (quote_no_word q)
 
-joins_turn : (p : Place) (gap q : List ℕ) → is_blanked p.block (role kind.Quoted (34 ∷ q)) ≡ false → string_end 1 false q ≡ Some (1 + length q) → Joins (turn p kind.Quoted gap (34 ∷ q))
-unfolding turn
-joins_turn p gap q out ends = record { is = form_at p kind.Quoted gap (34 ∷ q) false out ∙ ap form_outside (quoted_role q); others = q; bytes = refl; ends = ends }
+joins_stretch : (p : Context) (gap q : List ℕ) → is_blanked p.block (role kind.Quoted (34 ∷ q)) ≡ false → string_end 1 false q ≡ Some (1 + length q) → Joins (stretch p kind.Quoted gap (34 ∷ q))
+unfolding stretch
+joins_stretch p gap q out ends = record { is = form_at p kind.Quoted gap (34 ∷ q) false out ∙ ap form_outside (quoted_role q); others = q; bytes = refl; ends = ends }
 
--- what stands at the front of a text: a piece, a string over lines, or what begins no token
-pub record Begins (fresh : Bool) (b : ℕ) (r : List ℕ) (n : ℕ) (x : Piece) : Type 0 where
-  pub found : piece_at fresh (b ∷ r) ≡ (n, x)
+-- what stands at the front of a text: a lexeme, a string over lines, or what begins no token
+pub record Begins (fresh : Bool) (b : ℕ) (r : List ℕ) (n : ℕ) (x : Lexeme) : Type 0 where
+  pub found : lexeme_at fresh (b ∷ r) ≡ (n, x)
   pub some : 0 < n
   pub within : n ≤ length (b ∷ r)
 
-abbrev pub IsString : ℕ → List ℕ → ℕ → Piece → Type 0
+abbrev pub IsString : ℕ → List ℕ → ℕ → Lexeme → Type 0
 IsString b r n x = (x ≡ Token kind.Quoted) × (b ≡ 34) × EndsAt 1 false r n
 
-abbrev pub IsOdd : ℕ → Piece → Type 0
+abbrev pub IsOdd : ℕ → Lexeme → Type 0
 IsOdd b x = (x ≡ Token kind.LeftOut) × (is_blank b ≡ false)
 
 pub record AtFront (fresh : Bool) (b : ℕ) (r : List ℕ) : Type 0 where
   pub size : ℕ
-  pub sort : Piece
+  pub sort : Lexeme
   pub begins : Begins fresh b r size sort
   pub is : ((next fresh (b ∷ r) ≡ Some (size, sort)) ⊎ IsString b r size sort) ⊎ IsOdd b sort
 
-odd : (fresh : Bool) (b : ℕ) (r : List ℕ) (n : ℕ) → piece_at fresh (b ∷ r) ≡ (n, Token kind.LeftOut) → 0 < n → n ≤ length (b ∷ r) → is_blank b ≡ false → AtFront fresh b r
+odd : (fresh : Bool) (b : ℕ) (r : List ℕ) (n : ℕ) → lexeme_at fresh (b ∷ r) ≡ (n, Token kind.LeftOut) → 0 < n → n ≤ length (b ∷ r) → is_blank b ≡ false → AtFront fresh b r
 odd fresh b r n e some within black = record { size = n; sort = Token kind.LeftOut; begins = record { found = e; some = some; within = within }; is = inr (refl, black) }
 
-string_front : (fresh : Bool) (b : ℕ) (r : List ℕ) (o : Option ℕ) → string_end 1 false r ≡ o → b ≡ 34 → is_blank b ≡ false → piece_at fresh (b ∷ r) ≡ string_or_rest (length (b ∷ r)) o → AtFront fresh b r
+string_front : (fresh : Bool) (b : ℕ) (r : List ℕ) (o : Option ℕ) → string_end 1 false r ≡ o → b ≡ 34 → is_blank b ≡ false → lexeme_at fresh (b ∷ r) ≡ string_or_rest (length (b ∷ r)) o → AtFront fresh b r
 string_front fresh b r None e q black h = odd fresh b r (length (b ∷ r)) h (omega arith) (omega arith) black
 string_front fresh b r (Some m) e q black h =
     let ends : EndsAt 1 false r m = ends_at r 1 false m e in
@@ -569,13 +569,13 @@ is_34 : (b : ℕ) → (b == 34) ≡ true → b ≡ 34
 is_34 b h = grind (arith, nat_tests)
 
 broken_front : (fresh : Bool) (b : ℕ) (r : List ℕ) (t1 t2 : Bool) → (b == 34) ≡ t1 → is_blank b ≡ false
-    → piece_at fresh (b ∷ r) ≡ cond t1 (string_or_rest (length (b ∷ r)) (string_end 1 false r)) (cond t2 (length (b ∷ r), Token kind.LeftOut) (1, Token kind.LeftOut)) → AtFront fresh b r
+    → lexeme_at fresh (b ∷ r) ≡ cond t1 (string_or_rest (length (b ∷ r)) (string_end 1 false r)) (cond t2 (length (b ∷ r), Token kind.LeftOut) (1, Token kind.LeftOut)) → AtFront fresh b r
 broken_front fresh b r true t2 e black h = string_front fresh b r (string_end 1 false r) refl (is_34 b e) black h
 broken_front fresh b r false true e black h = odd fresh b r (length (b ∷ r)) h (omega arith) (omega arith) black
 broken_front fresh b r false false e black h = odd fresh b r 1 h (omega arith) (omega arith) black
 
 front_by : (fresh : Bool) (b : ℕ) (r : List ℕ) (o : Found) → next fresh (b ∷ r) ≡ o → IsNext fresh (b ∷ r) o → AtFront fresh b r
-unfolding piece_at
+unfolding lexeme_at
 front_by fresh b r None e h = broken_front fresh b r (b == 34) (b == 47) refl (none_head fresh b r e) (ap (found_or (broken (b ∷ r))) e)
 front_by fresh b r (Some x) e h = record { size = x.0; sort = x.1; begins = record { found = ap (found_or (broken (b ∷ r))) e; some = h.some; within = h.within }; is = inl (inl e) }
 
@@ -596,78 +596,78 @@ list_all_right t ts h = by (is_token t) h
     by true h = h
     by false h = absurd (false≢true h)
 
-abbrev pub piece_turns : ℕ → Piece → Bool → Place → List ℕ → List ℕ → List ℕ → List Written
-piece_turns fuel Skipped fresh p gap t rest = turns_by fuel (fresh_from fresh t) p (gap ++ t) rest
-piece_turns fuel (Token k) fresh p gap t rest = turn p k gap t ∷ turns_by fuel false (behind p (role k t)) [] rest
+abbrev pub lexeme_stretches : ℕ → Lexeme → Bool → Context → List ℕ → List ℕ → List ℕ → List Written
+lexeme_stretches fuel Skipped fresh p gap t rest = stretches_by fuel (fresh_from fresh t) p (gap ++ t) rest
+lexeme_stretches fuel (Token k) fresh p gap t rest = stretch p k gap t ∷ stretches_by fuel false (behind p (role k t)) [] rest
 
-pub piece_is : (fuel n : ℕ) (k : Piece) (fresh : Bool) (p : Place) (gap text : List ℕ) → on_piece n k fresh p gap text (turns_by fuel) ≡ piece_turns fuel k fresh p gap (take n text) (drop n text)
-piece_is fuel n Skipped fresh p gap text = refl
-piece_is fuel n (Token k) fresh p gap text = refl
+pub lexeme_is : (fuel n : ℕ) (k : Lexeme) (fresh : Bool) (p : Context) (gap text : List ℕ) → on_lexeme n k fresh p gap text (stretches_by fuel) ≡ lexeme_stretches fuel k fresh p gap (take n text) (drop n text)
+lexeme_is fuel n Skipped fresh p gap text = refl
+lexeme_is fuel n (Token k) fresh p gap text = refl
 
--- the rest of a text, from a place on, where its turns are tokens
+-- the rest of a text, from a context on, where its stretches are tokens
 abbrev Reads : ℕ → Type 0
-Reads fuel = (fresh f : Bool) (p : Place) (gs : List (List ℕ)) (rest : List ℕ) → length rest ≤ fuel → fresh ≡ fresh_from f (concat gs) → Skips f gs rest → ((f ≡ false) ⊎ (p ≡ start)) → list_all is_token (turns_by fuel fresh p (concat gs) rest) ≡ true
-    → Parsed f (turns_by fuel fresh p (concat gs) rest)
+Reads fuel = (fresh f : Bool) (p : Context) (gs : List (List ℕ)) (rest : List ℕ) → length rest ≤ fuel → fresh ≡ fresh_from f (concat gs) → Skips f gs rest → ((f ≡ false) ⊎ (p ≡ start)) → list_all is_token (stretches_by fuel fresh p (concat gs) rest) ≡ true
+    → Parsed f (stretches_by fuel fresh p (concat gs) rest)
 
 -- a token of the text, which shows so
-on_token : (fuel : ℕ) (f : Bool) (p : Place) (gs : List (List ℕ)) (k : Kind) (q back : List ℕ) → Reads fuel → length back ≤ fuel → Skips f gs (q ++ back) → ((f ≡ false) ⊎ (p ≡ start))
-    → Shows (fresh_from f (concat gs)) (turn p k (concat gs) q) back → list_all is_token (turn p k (concat gs) q ∷ turns_by fuel false (behind p (role k q)) [] back) ≡ true
-    → Parsed f (turn p k (concat gs) q ∷ turns_by fuel false (behind p (role k q)) [] back)
-unfolding turn
+on_token : (fuel : ℕ) (f : Bool) (p : Context) (gs : List (List ℕ)) (k : Kind) (q back : List ℕ) → Reads fuel → length back ≤ fuel → Skips f gs (q ++ back) → ((f ≡ false) ⊎ (p ≡ start))
+    → Shows (fresh_from f (concat gs)) (stretch p k (concat gs) q) back → list_all is_token (stretch p k (concat gs) q ∷ stretches_by fuel false (behind p (role k q)) [] back) ≡ true
+    → Parsed f (stretch p k (concat gs) q ∷ stretches_by fuel false (behind p (role k q)) [] back)
+unfolding stretch
 on_token fuel f p gs k q back reads short skips first shows tokens =
-    let us = turns_by fuel false (behind p (role k q)) [] back in
+    let us = stretches_by fuel false (behind p (role k q)) [] back in
     let are : sources us ≡ back = sources_are fuel false (behind p (role k q)) [] back in
-    let first_turn : (turn p k (concat gs) q).supply ≡ supply.Nothing ⊎ (f ≡ false) =
-    ⊎_elim (λ (x : f ≡ false). let l : ((turn p k (concat gs) q).supply ≡ supply.Nothing) ⊎ (f ≡ false) = inr x in l)
-    (λ (x : p ≡ start). let r : ((turn p k (concat gs) q).supply ≡ supply.Nothing) ⊎ (f ≡ false) = inl (first_nothing p k (concat gs) q x) in r) first in
-    cons f (turn p k (concat gs) q) us
+    let first_stretch : (stretch p k (concat gs) q).supply ≡ supply.Nothing ⊎ (f ≡ false) =
+    ⊎_elim (λ (x : f ≡ false). let l : ((stretch p k (concat gs) q).supply ≡ supply.Nothing) ⊎ (f ≡ false) = inr x in l)
+    (λ (x : p ≡ start). let r : ((stretch p k (concat gs) q).supply ≡ supply.Nothing) ⊎ (f ≡ false) = inl (first_nothing p k (concat gs) q x) in r) first in
+    cons f (stretch p k (concat gs) q) us
     (record {
       gaps = gs;
       joins = refl;
       skips = subst (λ (x : List ℕ). Skips f gs (q ++ x)) (sym are) skips;
-      shows = subst (Shows (fresh_from f (concat gs)) (turn p k (concat gs) q)) (sym are) shows;
-      behind_token = first_turn;
+      shows = subst (Shows (fresh_from f (concat gs)) (stretch p k (concat gs) q)) (sym are) shows;
+      behind_token = first_stretch;
     })
-    (reads false false (behind p (role k q)) [] back short refl (no_feed_gap false back) (inl refl) (list_all_right (turn p k (concat gs) q) us tokens))
+    (reads false false (behind p (role k q)) [] back short refl (no_feed_gap false back) (inl refl) (list_all_right (stretch p k (concat gs) q) us tokens))
 
-scanned_shows : (f : Bool) (p : Place) (k : Kind) (gap q back : List ℕ) → IsScanned f q back (Token k) → is_token (turn p k gap q) ≡ true → Shows f (turn p k gap q) back
+scanned_shows : (f : Bool) (p : Context) (k : Kind) (gap q back : List ℕ) → IsScanned f q back (Token k) → is_token (stretch p k gap q) ≡ true → Shows f (stretch p k gap q) back
 scanned_shows f p k gap [] back scanned h = let none : 0 < 0 = scanned.some in absurd (omega arith)
 scanned_shows f p k gap (b ∷ q) back scanned h = by (is_blanked p.block (role k (b ∷ q))) refl
   where
-    by : (t : Bool) → is_blanked p.block (role k (b ∷ q)) ≡ t → Shows f (turn p k gap (b ∷ q)) back
-    by true e = inl (inr (blanks_turn p k gap b q e (token_head f b (q ++ back) k (length (b ∷ q)) scanned.found)))
-    by false e = inl (inl (stays_turn f p k gap (b ∷ q) back e scanned h))
+    by : (t : Bool) → is_blanked p.block (role k (b ∷ q)) ≡ t → Shows f (stretch p k gap (b ∷ q)) back
+    by true e = inl (inr (blanks_stretch p k gap b q e (token_head f b (q ++ back) k (length (b ∷ q)) scanned.found)))
+    by false e = inl (inl (stays_stretch f p k gap (b ∷ q) back e scanned h))
 
-string_shows : (f : Bool) (p : Place) (gap q back : List ℕ) → string_end 1 false q ≡ Some (1 + length q) → is_token (turn p kind.Quoted gap (34 ∷ q)) ≡ true → Shows f (turn p kind.Quoted gap (34 ∷ q)) back
+string_shows : (f : Bool) (p : Context) (gap q back : List ℕ) → string_end 1 false q ≡ Some (1 + length q) → is_token (stretch p kind.Quoted gap (34 ∷ q)) ≡ true → Shows f (stretch p kind.Quoted gap (34 ∷ q)) back
 string_shows f p gap q back ends h = by (is_blanked p.block (role kind.Quoted (34 ∷ q))) refl
   where
-    by : (t : Bool) → is_blanked p.block (role kind.Quoted (34 ∷ q)) ≡ t → Shows f (turn p kind.Quoted gap (34 ∷ q)) back
-    by true e = inl (inr (blanks_turn p kind.Quoted gap 34 q e refl))
-    by false e = inr (joins_turn p gap q e ends)
+    by : (t : Bool) → is_blanked p.block (role kind.Quoted (34 ∷ q)) ≡ t → Shows f (stretch p kind.Quoted gap (34 ∷ q)) back
+    by true e = inl (inr (blanks_stretch p kind.Quoted gap 34 q e refl))
+    by false e = inr (joins_stretch p gap q e ends)
 
-odd_shows : (f : Bool) (p : Place) (gap : List ℕ) (b : ℕ) (q back : List ℕ) → is_blank b ≡ false → is_token (turn p kind.LeftOut gap (b ∷ q)) ≡ true → Shows f (turn p kind.LeftOut gap (b ∷ q)) back
+odd_shows : (f : Bool) (p : Context) (gap : List ℕ) (b : ℕ) (q back : List ℕ) → is_blank b ≡ false → is_token (stretch p kind.LeftOut gap (b ∷ q)) ≡ true → Shows f (stretch p kind.LeftOut gap (b ∷ q)) back
 odd_shows f p gap b q back black h = by (is_blanked p.block (role kind.LeftOut (b ∷ q))) refl
   where
-    by : (t : Bool) → is_blanked p.block (role kind.LeftOut (b ∷ q)) ≡ t → Shows f (turn p kind.LeftOut gap (b ∷ q)) back
-    by true e = inl (inr (blanks_turn p kind.LeftOut gap b q e black))
+    by : (t : Bool) → is_blanked p.block (role kind.LeftOut (b ∷ q)) ≡ t → Shows f (stretch p kind.LeftOut gap (b ∷ q)) back
+    by true e = inl (inr (blanks_stretch p kind.LeftOut gap b q e black))
     by false e = absurd (false≢true (sym (keeps_by p kind.LeftOut gap (b ∷ q) e h)))
 
--- a piece at the front of the rest
-on_scanned : (fuel : ℕ) (f : Bool) (p : Place) (gs : List (List ℕ)) (x : Piece) (q back : List ℕ) → Reads fuel → length back ≤ fuel → Skips f gs (q ++ back) → ((f ≡ false) ⊎ (p ≡ start)) → IsScanned (fresh_from f (concat gs)) q back x
-    → list_all is_token (piece_turns fuel x (fresh_from f (concat gs)) p (concat gs) q back) ≡ true → Parsed f (piece_turns fuel x (fresh_from f (concat gs)) p (concat gs) q back)
+-- a lexeme at the front of the rest
+on_scanned : (fuel : ℕ) (f : Bool) (p : Context) (gs : List (List ℕ)) (x : Lexeme) (q back : List ℕ) → Reads fuel → length back ≤ fuel → Skips f gs (q ++ back) → ((f ≡ false) ⊎ (p ≡ start)) → IsScanned (fresh_from f (concat gs)) q back x
+    → list_all is_token (lexeme_stretches fuel x (fresh_from f (concat gs)) p (concat gs) q back) ≡ true → Parsed f (lexeme_stretches fuel x (fresh_from f (concat gs)) p (concat gs) q back)
 on_scanned fuel f p gs Skipped q back reads short skips first scanned tokens =
     let more : Skips f (gs ++ q ∷ []) back = snoc gs f q back skips scanned in
     let fresh : fresh_from (fresh_from f (concat gs)) q ≡ fresh_from f (concat (gs ++ q ∷ [])) = sym (fresh_from-append f (concat gs) q) ∙ ap (fresh_from f) (sym (concat_snoc gs q)) in
-    let same : turns_by fuel (fresh_from (fresh_from f (concat gs)) q) p (concat (gs ++ q ∷ [])) back ≡ turns_by fuel (fresh_from (fresh_from f (concat gs)) q) p (concat gs ++ q) back =
-    ap (λ (g : List ℕ). turns_by fuel (fresh_from (fresh_from f (concat gs)) q) p g back) (concat_snoc gs q) in
+    let same : stretches_by fuel (fresh_from (fresh_from f (concat gs)) q) p (concat (gs ++ q ∷ [])) back ≡ stretches_by fuel (fresh_from (fresh_from f (concat gs)) q) p (concat gs ++ q) back =
+    ap (λ (g : List ℕ). stretches_by fuel (fresh_from (fresh_from f (concat gs)) q) p g back) (concat_snoc gs q) in
     subst (Parsed f) same (reads (fresh_from (fresh_from f (concat gs)) q) f p (gs ++ q ∷ []) back short fresh more first (ap (list_all is_token) same ∙ tokens))
 on_scanned fuel f p gs (Token k) q back reads short skips first scanned tokens =
-    on_token fuel f p gs k q back reads short skips first (scanned_shows (fresh_from f (concat gs)) p k (concat gs) q back scanned (list_all_left (turn p k (concat gs) q) (turns_by fuel false (behind p (role k q)) [] back) tokens)) tokens
+    on_token fuel f p gs k q back reads short skips first (scanned_shows (fresh_from f (concat gs)) p k (concat gs) q back scanned (list_all_left (stretch p k (concat gs) q) (stretches_by fuel false (behind p (role k q)) [] back) tokens)) tokens
 
--- the pieces of a text, from its front on
-on_front : (fuel : ℕ) (f : Bool) (p : Place) (gs : List (List ℕ)) (b : ℕ) (r : List ℕ) → Reads fuel → length (b ∷ r) ≤ suc fuel → Skips f gs (b ∷ r) → ((f ≡ false) ⊎ (p ≡ start)) → (a : AtFront (fresh_from f (concat gs)) b r)
-    → list_all is_token (piece_turns fuel a.sort (fresh_from f (concat gs)) p (concat gs) (take a.size (b ∷ r)) (drop a.size (b ∷ r))) ≡ true
-    → Parsed f (piece_turns fuel a.sort (fresh_from f (concat gs)) p (concat gs) (take a.size (b ∷ r)) (drop a.size (b ∷ r)))
+-- the lexemes of a text, from its front on
+on_front : (fuel : ℕ) (f : Bool) (p : Context) (gs : List (List ℕ)) (b : ℕ) (r : List ℕ) → Reads fuel → length (b ∷ r) ≤ suc fuel → Skips f gs (b ∷ r) → ((f ≡ false) ⊎ (p ≡ start)) → (a : AtFront (fresh_from f (concat gs)) b r)
+    → list_all is_token (lexeme_stretches fuel a.sort (fresh_from f (concat gs)) p (concat gs) (take a.size (b ∷ r)) (drop a.size (b ∷ r))) ≡ true
+    → Parsed f (lexeme_stretches fuel a.sort (fresh_from f (concat gs)) p (concat gs) (take a.size (b ∷ r)) (drop a.size (b ∷ r)))
 on_front fuel f p gs b r reads short skips first a tokens =
     let fr = fresh_from f (concat gs) in
     let q = take a.size (b ∷ r) in
@@ -686,43 +686,43 @@ on_front fuel f p gs b r reads short skips first a tokens =
     string fuel f p gs b r reads a.size a.sort e.0 e.1 e.2 less skipped first tokens) s)
     (λ (e : IsOdd b a.sort). left fuel f p gs b r reads a.size a.sort e.0 e.1 some less skipped first tokens) a.is
   where
-    string : (fuel : ℕ) (f : Bool) (p : Place) (gs : List (List ℕ)) (b : ℕ) (r : List ℕ) → Reads fuel → (n : ℕ) (x : Piece) → x ≡ Token kind.Quoted → b ≡ 34 → EndsAt 1 false r n → length (drop n (b ∷ r)) ≤ fuel → Skips f gs (take n (b ∷ r) ++ drop n (b ∷ r)) → ((f ≡ false) ⊎ (p ≡ start))
-        → list_all is_token (piece_turns fuel x (fresh_from f (concat gs)) p (concat gs) (take n (b ∷ r)) (drop n (b ∷ r))) ≡ true → Parsed f (piece_turns fuel x (fresh_from f (concat gs)) p (concat gs) (take n (b ∷ r)) (drop n (b ∷ r)))
+    string : (fuel : ℕ) (f : Bool) (p : Context) (gs : List (List ℕ)) (b : ℕ) (r : List ℕ) → Reads fuel → (n : ℕ) (x : Lexeme) → x ≡ Token kind.Quoted → b ≡ 34 → EndsAt 1 false r n → length (drop n (b ∷ r)) ≤ fuel → Skips f gs (take n (b ∷ r) ++ drop n (b ∷ r)) → ((f ≡ false) ⊎ (p ≡ start))
+        → list_all is_token (lexeme_stretches fuel x (fresh_from f (concat gs)) p (concat gs) (take n (b ∷ r)) (drop n (b ∷ r))) ≡ true → Parsed f (lexeme_stretches fuel x (fresh_from f (concat gs)) p (concat gs) (take n (b ∷ r)) (drop n (b ∷ r)))
     string fuel f p gs b r reads n x ex eb ends less skipped first tokens =
         let front : take n (b ∷ r) ≡ 34 ∷ take (n - 1) r = (let e : n ≡ suc (n - 1) = omega (arith, ends.behind) in ap (λ (m : ℕ). take m (b ∷ r)) e) ∙ ap (λ (c : ℕ). c ∷ take (n - 1) r) eb in
         let len : length (take (n - 1) r) ≡ n - 1 = length-take-le (n - 1) r (omega (arith, ends.within)) in
         let found : string_end 1 false (take (n - 1) r) ≡ Some (1 + length (take (n - 1) r)) = ends.front ∙ (let e : n ≡ 1 + length (take (n - 1) r) = omega (arith, ends.behind) in ap Some e) in
         let back = drop n (b ∷ r) in
-        let all : Piece → List ℕ → List Written = λ y t. piece_turns fuel y (fresh_from f (concat gs)) p (concat gs) t back in
-        let same : all x (take n (b ∷ r)) ≡ all (Token kind.Quoted) (34 ∷ take (n - 1) r) = ap (λ (y : Piece). all y (take n (b ∷ r))) ex ∙ ap (all (Token kind.Quoted)) front in
+        let all : Lexeme → List ℕ → List Written = λ y t. lexeme_stretches fuel y (fresh_from f (concat gs)) p (concat gs) t back in
+        let same : all x (take n (b ∷ r)) ≡ all (Token kind.Quoted) (34 ∷ take (n - 1) r) = ap (λ (y : Lexeme). all y (take n (b ∷ r))) ex ∙ ap (all (Token kind.Quoted)) front in
         let now = ap (list_all is_token) (sym same) ∙ tokens in
         subst (Parsed f) (sym same)
         (on_token fuel f p gs kind.Quoted (34 ∷ take (n - 1) r) back reads less (subst (λ (t : List ℕ). Skips f gs (t ++ back)) front skipped) first
-        (string_shows (fresh_from f (concat gs)) p (concat gs) (take (n - 1) r) back found (list_all_left (turn p kind.Quoted (concat gs) (34 ∷ take (n - 1) r)) (turns_by fuel false (behind p (role kind.Quoted (34 ∷ take (n - 1) r))) [] back) now)) now)
+        (string_shows (fresh_from f (concat gs)) p (concat gs) (take (n - 1) r) back found (list_all_left (stretch p kind.Quoted (concat gs) (34 ∷ take (n - 1) r)) (stretches_by fuel false (behind p (role kind.Quoted (34 ∷ take (n - 1) r))) [] back) now)) now)
 
-    left : (fuel : ℕ) (f : Bool) (p : Place) (gs : List (List ℕ)) (b : ℕ) (r : List ℕ) → Reads fuel → (n : ℕ) (x : Piece) → x ≡ Token kind.LeftOut → is_blank b ≡ false → 0 < n → length (drop n (b ∷ r)) ≤ fuel → Skips f gs (take n (b ∷ r) ++ drop n (b ∷ r)) → ((f ≡ false) ⊎ (p ≡ start))
-        → list_all is_token (piece_turns fuel x (fresh_from f (concat gs)) p (concat gs) (take n (b ∷ r)) (drop n (b ∷ r))) ≡ true → Parsed f (piece_turns fuel x (fresh_from f (concat gs)) p (concat gs) (take n (b ∷ r)) (drop n (b ∷ r)))
+    left : (fuel : ℕ) (f : Bool) (p : Context) (gs : List (List ℕ)) (b : ℕ) (r : List ℕ) → Reads fuel → (n : ℕ) (x : Lexeme) → x ≡ Token kind.LeftOut → is_blank b ≡ false → 0 < n → length (drop n (b ∷ r)) ≤ fuel → Skips f gs (take n (b ∷ r) ++ drop n (b ∷ r)) → ((f ≡ false) ⊎ (p ≡ start))
+        → list_all is_token (lexeme_stretches fuel x (fresh_from f (concat gs)) p (concat gs) (take n (b ∷ r)) (drop n (b ∷ r))) ≡ true → Parsed f (lexeme_stretches fuel x (fresh_from f (concat gs)) p (concat gs) (take n (b ∷ r)) (drop n (b ∷ r)))
     left fuel f p gs b r reads n x ex black some less skipped first tokens =
         let front : take n (b ∷ r) ≡ b ∷ take (n - 1) r = (let e : n ≡ suc (n - 1) = omega arith in ap (λ (m : ℕ). take m (b ∷ r)) e) in
         let back = drop n (b ∷ r) in
-        let all : Piece → List ℕ → List Written = λ y t. piece_turns fuel y (fresh_from f (concat gs)) p (concat gs) t back in
-        let same : all x (take n (b ∷ r)) ≡ all (Token kind.LeftOut) (b ∷ take (n - 1) r) = ap (λ (y : Piece). all y (take n (b ∷ r))) ex ∙ ap (all (Token kind.LeftOut)) front in
+        let all : Lexeme → List ℕ → List Written = λ y t. lexeme_stretches fuel y (fresh_from f (concat gs)) p (concat gs) t back in
+        let same : all x (take n (b ∷ r)) ≡ all (Token kind.LeftOut) (b ∷ take (n - 1) r) = ap (λ (y : Lexeme). all y (take n (b ∷ r))) ex ∙ ap (all (Token kind.LeftOut)) front in
         let now = ap (list_all is_token) (sym same) ∙ tokens in
         subst (Parsed f) (sym same)
         (on_token fuel f p gs kind.LeftOut (b ∷ take (n - 1) r) back reads less (subst (λ (t : List ℕ). Skips f gs (t ++ back)) front skipped) first
-        (odd_shows (fresh_from f (concat gs)) p (concat gs) b (take (n - 1) r) back black (list_all_left (turn p kind.LeftOut (concat gs) (b ∷ take (n - 1) r)) (turns_by fuel false (behind p (role kind.LeftOut (b ∷ take (n - 1) r))) [] back) now)) now)
+        (odd_shows (fresh_from f (concat gs)) p (concat gs) b (take (n - 1) r) back black (list_all_left (stretch p kind.LeftOut (concat gs) (b ∷ take (n - 1) r)) (stretches_by fuel false (behind p (role kind.LeftOut (b ∷ take (n - 1) r))) [] back) now)) now)
 
 read : (fuel : ℕ) → Reads fuel
 read fuel fresh f p gs [] short fresh_is skips first tokens = at_end fuel fresh f p gs skips
 read zero fresh f p gs (b ∷ r) short fresh_is skips first tokens = absurd (omega arith)
 read (suc fuel) fresh f p gs (b ∷ r) short fresh_is skips first tokens =
     let a = front (fresh_from f (concat gs)) b r in
-    let same : turns_by (suc fuel) fresh p (concat gs) (b ∷ r) ≡ piece_turns fuel a.sort (fresh_from f (concat gs)) p (concat gs) (take a.size (b ∷ r)) (drop a.size (b ∷ r)) =
-    ap (λ (x : Bool). turns_by (suc fuel) x p (concat gs) (b ∷ r)) fresh_is ∙ at_piece fuel (fresh_from f (concat gs)) p (concat gs) (b ∷ r) a.size a.sort a.begins.some a.begins.within a.begins.found ∙ piece_is fuel a.size a.sort (fresh_from f (concat gs)) p (concat gs) (b ∷ r) in
+    let same : stretches_by (suc fuel) fresh p (concat gs) (b ∷ r) ≡ lexeme_stretches fuel a.sort (fresh_from f (concat gs)) p (concat gs) (take a.size (b ∷ r)) (drop a.size (b ∷ r)) =
+    ap (λ (x : Bool). stretches_by (suc fuel) x p (concat gs) (b ∷ r)) fresh_is ∙ at_lexeme fuel (fresh_from f (concat gs)) p (concat gs) (b ∷ r) a.size a.sort a.begins.some a.begins.within a.begins.found ∙ lexeme_is fuel a.size a.sort (fresh_from f (concat gs)) p (concat gs) (b ∷ r) in
     subst (Parsed f) (sym same) (on_front fuel f p gs b r (read fuel) short skips first a (ap (list_all is_token) (sym same) ∙ tokens))
 
-pub cut_again : (text : List ℕ) → has_tokens_alone text ≡ true → (us : List Word) × (IsCut (spelled (turns text)) us × (standing us ≡ written_from 1 (turns text)))
+pub cut_again : (text : List ℕ) → has_tokens_alone text ≡ true → (us : List Word) × (IsCut (spelled (stretches text)) us × (standing us ≡ written_from 1 (stretches text)))
 cut_again text h =
-    let parsed : Parsed true (turns text) = read (length text) true true start [] text (omega arith) refl (no_feed_gap true text) (inr refl) h in
-    let cut : Cut [] (spelled (turns text)) (written_from 1 (turns text)) = over_turns (turns text) true parsed [] 1 (λ e. refl) refl in
-    (words [] cut.pieces, (record { pieces = cut.pieces; divides = to_whole cut.pieces (spelled (turns text)) cut.divides; are_words = refl }, cut.are))
+    let parsed : Parsed true (stretches text) = read (length text) true true start [] text (omega arith) refl (no_feed_gap true text) (inr refl) h in
+    let cut : Cut [] (spelled (stretches text)) (written_from 1 (stretches text)) = over_stretches (stretches text) true parsed [] 1 (λ e. refl) refl in
+    (words [] cut.lexemes, (record { lexemes = cut.lexemes; divides = to_whole cut.lexemes (spelled (stretches text)) cut.divides; are_words = refl }, cut.are))

@@ -9,14 +9,14 @@ use Rattle.pml_token.specs.declared.token.Kind.TheVariants as kind
 use Rattle.pml_token.specs.Word.{same_kind}
 use Rattle.prepare.specs.declared.roles.Role.{Role}
 use Rattle.prepare.specs.declared.roles.Role.TheVariants as as_role
-use Rattle.prepare.specs.declared.place.Block.{Block}
-use Rattle.prepare.specs.declared.place.Block.TheVariants as block
-use Rattle.prepare.specs.declared.place.Place.{Place}
+use Rattle.prepare.specs.declared.context.Block.{Block}
+use Rattle.prepare.specs.declared.context.Block.TheVariants as block
+use Rattle.prepare.specs.declared.context.Context.{Context}
 use Rattle.prepare.specs.Roles.{role}
-use Rattle.prepare.specs.Places as places
-use Rattle.prepare.specs.Places.{deeper, is_head_word, block_behind, behind, start}
+use Rattle.prepare.specs.Contexts as contexts
+use Rattle.prepare.specs.Contexts.{deeper, is_head_word, block_behind, behind, start}
 use Rattle.prepare.specs.Written.{Written}
-use Rattle.prepare.specs.Turns.{turn, turns}
+use Rattle.prepare.specs.Stretches.{stretch, stretches}
 use Rattle.prepare.specs.Blocks.{is_blanked, heads, opens, closes, open_behind, open_after, Closes, NeverCloses, IsEnd, leads, goes_on, IsBody, IsBlock, BlanksAreBlocks}
 use Rattle.prepare.specs.Blocks as blanks
 use Rattle.prepare.proofs.Blocks.{blank_is}
@@ -177,7 +177,7 @@ or_right : (a b : Bool) → b ≡ true → (a || b) ≡ true
 or_right true b e = refl
 or_right false b e = e
 
-ahead : (r : Role) (u : Written) (us : List Written) → Is r u → is_blanked u ≡ places.is_blanked block.Ahead r → AtBlock (block_behind block.Ahead r) us → Ahead (u ∷ us)
+ahead : (r : Role) (u : Written) (us : List Written) → Is r u → is_blanked u ≡ contexts.is_blanked block.Ahead r → AtBlock (block_behind block.Ahead r) us → Ahead (u ∷ us)
 unfolding AtBlock
 ahead as_role.Heads u us is blanked at = ahead_more u us (or_left (heads u) (same_kind u.kind kind.Name) is.heads) blanked at
 ahead as_role.Names u us is blanked at = ahead_more u us (or_right (heads u) (same_kind u.kind kind.Name) is.names) blanked at
@@ -200,12 +200,12 @@ whole u us head blanked w =
     } in
     subst (λ (x : List Written). BlanksAreBlocks (u ∷ x)) (sym w.joins) (blanks.block is w.more)
 
-outside : (r : Role) (u : Written) (us : List Written) → Is r u → is_blanked u ≡ places.is_blanked block.Outside r → AtBlock (block_behind block.Outside r) us → BlanksAreBlocks (u ∷ us)
+outside : (r : Role) (u : Written) (us : List Written) → Is r u → is_blanked u ≡ contexts.is_blanked block.Outside r → AtBlock (block_behind block.Outside r) us → BlanksAreBlocks (u ∷ us)
 unfolding AtBlock
 outside as_role.Heads u us is blanked at = whole u us is.heads blanked at
 outside _ u us is blanked at = blanks.kept blanked is.heads at
 
-step : (b : Block) (r : Role) (u : Written) (us : List Written) → Is r u → is_blanked u ≡ places.is_blanked b r → AtBlock (block_behind b r) us → AtBlock b (u ∷ us)
+step : (b : Block) (r : Role) (u : Written) (us : List Written) → Is r u → is_blanked u ≡ contexts.is_blanked b r → AtBlock (block_behind b r) us → AtBlock b (u ∷ us)
 unfolding AtBlock
 step block.Outside r u us is blanked at = outside r u us is blanked at
 step block.Ahead r u us is blanked at = ahead r u us is blanked at
@@ -219,9 +219,9 @@ is_role k u e word = record {
   names = sym (names_is u.kind u.token word);
 }
 
-turn_blanked : (p : Place) (k : Kind) (gap t : List ℕ) → is_blanked (turn p k gap t) ≡ places.is_blanked p.block (role k t)
-unfolding turn
-turn_blanked p k gap t = blank_is p.block (role k t)
+stretch_blanked : (p : Context) (k : Kind) (gap t : List ℕ) → is_blanked (stretch p k gap t) ≡ contexts.is_blanked p.block (role k t)
+unfolding stretch
+stretch_blanked p k gap t = blank_is p.block (role k t)
 
 -- at the end of the text
 at_last : (b : Block) (u : Written) → IsLast u → AtBlock b (u ∷ [])
@@ -246,12 +246,12 @@ at_last (block.Within n) u h = λ some. record {
   more = blanks.last h.stays;
 }
 
-blocks : (us : List Written) (p : Place) → Chain p us → AtBlock p.block us
+blocks : (us : List Written) (p : Context) → Chain p us → AtBlock p.block us
 blocks [] p h = absurd h
 blocks (u ∷ []) p h = at_last p.block u h
 blocks (u ∷ v ∷ us) p h =
-    step p.block (role u.kind u.token) u (v ∷ us) (is_role u.kind u refl h.0.word) (ap is_blanked h.0.is ∙ turn_blanked p u.kind u.gap u.token) (blocks (v ∷ us) (behind p (role u.kind u.token)) h.1)
+    step p.block (role u.kind u.token) u (v ∷ us) (is_role u.kind u refl h.0.word) (ap is_blanked h.0.is ∙ stretch_blanked p u.kind u.gap u.token) (blocks (v ∷ us) (behind p (role u.kind u.token)) h.1)
 
-pub blanks_are_blocks : (text : List ℕ) → BlanksAreBlocks (turns text)
+pub blanks_are_blocks : (text : List ℕ) → BlanksAreBlocks (stretches text)
 unfolding AtBlock
-blanks_are_blocks text = blocks (turns text) start (chained text)
+blanks_are_blocks text = blocks (stretches text) start (chained text)

@@ -4,11 +4,11 @@ use Rattle.pml_token.specs.declared.token.Kind.{Kind}
 use Rattle.pml_token.specs.declared.token.Kind.TheVariants as kind
 use Rattle.prepare.specs.declared.roles.Role.{Role}
 use Rattle.prepare.specs.declared.roles.Role.TheVariants as as_role
-use Rattle.prepare.specs.declared.place.Block.{Block}
-use Rattle.prepare.specs.declared.turn.Form.TheVariants as form
+use Rattle.prepare.specs.declared.context.Block.{Block}
+use Rattle.prepare.specs.declared.stretch.Form.TheVariants as form
 use Rattle.prepare.specs.Roles.{is_block_word, is_both, is_ending, declares, acts, asks, bracket, role}
-use Rattle.prepare.specs.Places.{is_head_word, is_blanked}
-use Rattle.prepare.specs.Turns.{form_of, form_outside}
+use Rattle.prepare.specs.Contexts.{is_head_word, is_blanked}
+use Rattle.prepare.specs.Stretches.{form_of, form_outside}
 use Rattle.prepare.specs.Blocks.{is_blank_form}
 
 no_head : (x : Kind) → is_head_word (bracket x) ≡ false

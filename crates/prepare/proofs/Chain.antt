@@ -1,37 +1,37 @@
--- The turns of a text, each made at the place that the one before leads to; and what a token is to a place, by its kind.
+-- The stretches of a text, each made at the context that the one before leads to; and what a token is to a context, by its kind.
 use Rattle.std.proofs.Common.{◌≡◌, ℕ, zero, suc, ◌-◌, ◌<◌, ◌≤◌, Bool, true, false, cond, ◌||◌, List, [], ◌∷◌, ◌++◌, Some, length, take, drop, sym, refl, ap, ◌∙◌, subst, ⊎_elim, length-drop, arith}
 use Rattle.std.specs.Prelude.{◌⊎◌}
 use Rattle.std.proofs.lemmas.Bool.{false≢true}
-use Rattle.promela_text.specs.declared.piece.Piece.{Piece}
-use Rattle.promela_text.specs.declared.piece.Piece.TheVariants.{Skipped, Token}
+use Rattle.promela_text.specs.declared.lexeme.Lexeme.{Lexeme}
+use Rattle.promela_text.specs.declared.lexeme.Lexeme.TheVariants.{Skipped, Token}
 use Rattle.pml_token.specs.declared.token.Kind.{Kind}
 use Rattle.pml_token.specs.declared.token.Kind.TheVariants as kind
 use Rattle.pml_token.specs.Word.{same_kind}
-use Rattle.promela_text.specs.Tokens.{piece, fresh_from}
+use Rattle.promela_text.specs.Tokens.{lexeme, fresh_from}
 use Rattle.pml_lex.specs.Scanning.{next}
 use Rattle.pml_lex.proofs.Longest.{IsNext}
 use Rattle.pml_lex.proofs.Scan.{next_is}
 use Rattle.prepare.specs.declared.roles.Role.{Role}
 use Rattle.prepare.specs.declared.roles.Role.TheVariants as as_role
-use Rattle.prepare.specs.declared.place.Place.{Place}
-use Rattle.prepare.specs.declared.place.Supply.TheVariants as supply
+use Rattle.prepare.specs.declared.context.Context.{Context}
+use Rattle.prepare.specs.declared.context.Supply.TheVariants as supply
 use Rattle.prepare.specs.Roles.{is_block_word, is_both, is_ending, declares, acts, asks, bracket, role, begins}
-use Rattle.prepare.specs.Places.{is_head_word, behind, start}
+use Rattle.prepare.specs.Contexts.{is_head_word, behind, start}
 use Rattle.prepare.specs.Written.{Written}
-use Rattle.prepare.specs.Turns.{turn, last_turn, turns_by, turns}
+use Rattle.prepare.specs.Stretches.{stretch, last_stretch, stretches_by, stretches}
 use Rattle.prepare.specs.Blocks.{is_blanked}
 use Rattle.prepare.specs.Separators.{may_begin, ends_sequence, is_colon, enters, leaves}
-use Rattle.prepare.proofs.Turning.{at_piece}
+use Rattle.prepare.proofs.Turning.{at_lexeme}
 use Rattle.prepare.proofs.Needs.{no_word}
-use Rattle.prepare.proofs.Again.{AtFront, IsString, IsOdd, front, quote_no_word, piece_turns, piece_is}
+use Rattle.prepare.proofs.Again.{AtFront, IsString, IsOdd, front, quote_no_word, lexeme_stretches, lexeme_is}
 
 -- a word of a block is left out of the language
 abbrev pub IsWord : Kind → List ℕ → Type 0
 IsWord k t = is_block_word t ≡ true → k ≡ kind.LeftOut
 
--- the turn of a token at a place
-pub record IsTurn (p : Place) (u : Written) : Type 0 where
-  pub is : u ≡ turn p u.kind u.gap u.token
+-- the stretch of a token at a context
+pub record IsStretch (p : Context) (u : Written) : Type 0 where
+  pub is : u ≡ stretch p u.kind u.gap u.token
   pub word : IsWord u.kind u.token
 
 pub record IsLast (u : Written) : Type 0 where
@@ -41,10 +41,10 @@ pub record IsLast (u : Written) : Type 0 where
   pub no_word : is_block_word u.token ≡ false
   pub sort : u.kind ≡ kind.End
 
-abbrev pub Chain : Place → List Written → Type 0
+abbrev pub Chain : Context → List Written → Type 0
 Chain p [] = ⊥
 Chain p (u ∷ []) = IsLast u
-Chain p (u ∷ v ∷ us) = IsTurn p u × Chain (behind p (role u.kind u.token)) (v ∷ us)
+Chain p (u ∷ v ∷ us) = IsStretch p u × Chain (behind p (role u.kind u.token)) (v ∷ us)
 
 left_by : (k : Kind) → same_kind k kind.LeftOut ≡ true → k ≡ kind.LeftOut
 left_by kind.LeftOut h = refl
@@ -54,28 +54,28 @@ left_or : (k : Kind) (b : Bool) → same_kind k kind.LeftOut ≡ b → (b ≡ fa
 left_or k true e h = left_by k e
 left_or k false e h = absurd (h refl)
 
-scanned_word : (f : Bool) (t : List ℕ) (k : Kind) → piece f t ≡ Some (Token k) → IsWord k t
+scanned_word : (f : Bool) (t : List ℕ) (k : Kind) → lexeme f t ≡ Some (Token k) → IsWord k t
 scanned_word f t k is h = left_or k (same_kind k kind.LeftOut) refl (λ e. no_word f t k is e h)
 
-link : (p : Place) (k : Kind) (gap t : List ℕ) (us : List Written) → IsWord k t → Chain (behind p (role k t)) us → Chain p (turn p k gap t ∷ us)
-unfolding turn
+link : (p : Context) (k : Kind) (gap t : List ℕ) (us : List Written) → IsWord k t → Chain (behind p (role k t)) us → Chain p (stretch p k gap t ∷ us)
+unfolding stretch
 link p k gap t [] w h = absurd h
 link p k gap t (v ∷ us) w h = (record { is = refl; word = w }, h)
 
-the_last : (p : Place) (gap : List ℕ) → Chain p (last_turn gap ∷ [])
+the_last : (p : Context) (gap : List ℕ) → Chain p (last_stretch gap ∷ [])
 the_last p gap = record { nothing = refl; none = refl; stays = refl; no_word = refl; sort = refl }
 
-at_end : (fuel : ℕ) (fresh : Bool) (p : Place) (gap : List ℕ) → Chain p (turns_by fuel fresh p gap [])
-unfolding turns_by
+at_end : (fuel : ℕ) (fresh : Bool) (p : Context) (gap : List ℕ) → Chain p (stretches_by fuel fresh p gap [])
+unfolding stretches_by
 at_end zero fresh p gap = the_last p (gap ++ [])
 at_end (suc fuel) fresh p gap = the_last p gap
 
 abbrev Reads : ℕ → Type 0
-Reads fuel = (fresh : Bool) (p : Place) (gap rest : List ℕ) → length rest ≤ fuel → Chain p (turns_by fuel fresh p gap rest)
+Reads fuel = (fresh : Bool) (p : Context) (gap rest : List ℕ) → length rest ≤ fuel → Chain p (stretches_by fuel fresh p gap rest)
 
-on_sort : (fuel : ℕ) (x : Piece) (fresh : Bool) (p : Place) (gap t back : List ℕ) → Reads fuel → length back ≤ fuel → ((k : Kind) → x ≡ Token k → IsWord k t) → Chain p (piece_turns fuel x fresh p gap t back)
+on_sort : (fuel : ℕ) (x : Lexeme) (fresh : Bool) (p : Context) (gap t back : List ℕ) → Reads fuel → length back ≤ fuel → ((k : Kind) → x ≡ Token k → IsWord k t) → Chain p (lexeme_stretches fuel x fresh p gap t back)
 on_sort fuel Skipped fresh p gap t back reads short word = reads (fresh_from fresh t) p (gap ++ t) back short
-on_sort fuel (Token k) fresh p gap t back reads short word = link p k gap t (turns_by fuel false (behind p (role k t)) [] back) (word k refl) (reads false (behind p (role k t)) [] back short)
+on_sort fuel (Token k) fresh p gap t back reads short word = link p k gap t (stretches_by fuel false (behind p (role k t)) [] back) (word k refl) (reads false (behind p (role k t)) [] back short)
 
 quoted_word : (n b : ℕ) (r : List ℕ) → b ≡ 34 → 0 < n → (k : Kind) → IsWord k (take n (b ∷ r))
 quoted_word zero b r e some k h = absurd (omega arith)
@@ -101,12 +101,12 @@ read (suc fuel) fresh p gap (b ∷ r) short =
     let some : 0 < a.size = a.begins.some in
     let within : a.size ≤ length (b ∷ r) = a.begins.within in
     let gone : length (drop a.size (b ∷ r)) ≡ length (b ∷ r) - a.size = length-drop a.size (b ∷ r) in
-    let same : turns_by (suc fuel) fresh p gap (b ∷ r) ≡ piece_turns fuel a.sort fresh p gap (take a.size (b ∷ r)) (drop a.size (b ∷ r)) =
-    at_piece fuel fresh p gap (b ∷ r) a.size a.sort some within a.begins.found ∙ piece_is fuel a.size a.sort fresh p gap (b ∷ r) in
+    let same : stretches_by (suc fuel) fresh p gap (b ∷ r) ≡ lexeme_stretches fuel a.sort fresh p gap (take a.size (b ∷ r)) (drop a.size (b ∷ r)) =
+    at_lexeme fuel fresh p gap (b ∷ r) a.size a.sort some within a.begins.found ∙ lexeme_is fuel a.size a.sort fresh p gap (b ∷ r) in
     subst (Chain p) (sym same) (on_sort fuel a.sort fresh p gap (take a.size (b ∷ r)) (drop a.size (b ∷ r)) (read fuel) (omega arith) (front_word fresh b r a))
 
--- the turns of a text follow one another
-pub chained : (text : List ℕ) → Chain start (turns text)
+-- the stretches of a text follow one another
+pub chained : (text : List ℕ) → Chain start (stretches text)
 chained text = read (length text) true start [] text (omega arith)
 
 -- the role of a token that is no word of a block

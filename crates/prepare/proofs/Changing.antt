@@ -6,18 +6,18 @@ use Rattle.std.proofs.lemmas.Bool.{false≢true}
 use Rattle.std.proofs.lemmas.Fmt.{decimal_by_steps}
 use lib.Chars.{codes}
 use Rattle.promela_text.specs.Tokens.{is_line_feed}
-use Rattle.prepare.specs.declared.marks.TheConstants.{MOST_LINE}
+use Rattle.prepare.specs.declared.markers.TheConstants.{MOST_LINE}
 use Rattle.prepare.specs.declared.changes.Head.{Head}
 use Rattle.prepare.specs.declared.changes.Head.TheVariants as head
 use Rattle.prepare.specs.declared.changes.Change.{Change}
 use Rattle.prepare.specs.declared.changes.Change.TheVariants as change
-use Rattle.prepare.specs.Places.{start}
+use Rattle.prepare.specs.Contexts.{start}
 use Rattle.prepare.specs.Written.{Written}
-use Rattle.prepare.specs.Turns.{turns}
+use Rattle.prepare.specs.Stretches.{stretches}
 use Rattle.prepare.specs.Sizes.{Declared, declared}
 use Rattle.prepare.specs.Changes.{change_of, head_behind, exchanges_by, exchanges, numbers, shown, respelled, is_kept, is_same}
 use Rattle.prepare.specs.Spelling.{spelled}
-use Rattle.prepare.specs.Numbering.{bare, numbered, has_mark, first_standing}
+use Rattle.prepare.specs.Numbering.{bare, numbered, has_marker, first_standing}
 use Rattle.prepare.specs.Coding.{coded, has_character}
 use Rattle.prepare.specs.Laws.{owns, source, sources, separated, exchanged, prepared, is_mended, has_change}
 use Rattle.prepare.proofs.Fronts.{uncoded}
@@ -69,13 +69,13 @@ one_more ds h t ts e =
     let g = shown_feeds c t.token in
     omega arith
 
--- what becomes of turns has as many lines as they have
+-- what becomes of stretches has as many lines as they have
 respelled_feeds : (ds : List Declared) (h : Head) (ts : List Written) → feeds (respelled (exchanges_by ds h ts)) ≡ feeds (sources ts)
 respelled_feeds ds h [] = refl
 respelled_feeds ds h (t ∷ ts) = one_more ds h t ts (respelled_feeds ds (head_behind h t.kind t.token) ts)
 
 pub exchanged_feeds : (text : List ℕ) → feeds (exchanged text) ≡ feeds text
-exchanged_feeds text = respelled_feeds (declared (turns text)) head.Outside (turns text) ∙ ap feeds (sources_are _ true start [] text)
+exchanged_feeds text = respelled_feeds (declared (stretches text)) head.Outside (stretches text) ∙ ap feeds (sources_are _ true start [] text)
 
 kept_stays : (c : Change) (t : List ℕ) → is_kept c ≡ true → shown c t ≡ t
 kept_stays change.Kept t h = refl
@@ -93,26 +93,26 @@ all_same ds h (t ∷ ts) e =
     ∙ ap (λ (xs : List ℕ). source t ++ xs) (all_same ds (head_behind h t.kind t.token) ts (and_right (is_kept c) (list_all is_same rest) e))
 
 -- a text of which no token is changed
-none_changed : (text : List ℕ) → list_all is_same (exchanges (turns text)) ≡ true → exchanged text ≡ text
-none_changed text h = all_same (declared (turns text)) head.Outside (turns text) h ∙ sources_are _ true start [] text
+none_changed : (text : List ℕ) → list_all is_same (exchanges (stretches text)) ≡ true → exchanged text ≡ text
+none_changed text h = all_same (declared (stretches text)) head.Outside (stretches text) h ∙ sources_are _ true start [] text
 
 owns_are : (ds : List Declared) (h : Head) (ts : List Written) → owns (exchanges_by ds h ts) ≡ sources ts
 owns_are ds h [] = refl
 owns_are ds h (t ∷ ts) = ap (λ (xs : List ℕ). source t ++ xs) (owns_are ds (head_behind h t.kind t.token) ts)
 
-pub owns_text : (text : List ℕ) → owns (exchanges (turns text)) ≡ text
-owns_text text = owns_are (declared (turns text)) head.Outside (turns text) ∙ sources_are _ true start [] text
+pub owns_text : (text : List ℕ) → owns (exchanges (stretches text)) ≡ text
+owns_text text = owns_are (declared (stretches text)) head.Outside (stretches text) ∙ sources_are _ true start [] text
 
 not_true : (a : Bool) → not a ≡ false → a ≡ true
 not_true true h = refl
 not_true false h = sym h
 
 pub unexchanged : (text : List ℕ) → has_change text ≡ false → exchanged text ≡ text
-unexchanged text h = none_changed text (not_true (list_all is_same (exchanges (turns text))) h)
+unexchanged text h = none_changed text (not_true (list_all is_same (exchanges (stretches text))) h)
 
 -- a text in which nothing is to be mended comes out as it is
-pub unchanged : (text : List ℕ) → bare text ≡ text → has_mark text ≡ false → has_character text ≡ false → is_mended text ≡ true → has_change text ≡ false → prepared text ≡ text
+pub unchanged : (text : List ℕ) → bare text ≡ text → has_marker text ≡ false → has_character text ≡ false → is_mended text ≡ true → has_change text ≡ false → prepared text ≡ text
 unchanged text e none uncharacter plain same =
     let lines : coded (numbered (bare text)) ≡ text = ap (λ (xs : List ℕ). coded (numbered xs)) e ∙ ap coded (unmarked (length text) first_standing text (omega arith) refl none) ∙ uncoded (length text) true text uncharacter in
-    let separate : separated text ≡ text = ap (λ (xs : List ℕ). spelled (turns xs)) lines ∙ all_stay (turns text) plain ∙ sources_are (length text) true start [] text in
+    let separate : separated text ≡ text = ap (λ (xs : List ℕ). spelled (stretches xs)) lines ∙ all_stay (stretches text) plain ∙ sources_are (length text) true start [] text in
     ap exchanged separate ∙ unexchanged text same

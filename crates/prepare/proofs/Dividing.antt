@@ -9,21 +9,21 @@ use Rattle.pml_token.specs.declared.token.Kind.TheVariants as kind
 use Rattle.pml_token.specs.Word.{same_kind}
 use Rattle.prepare.specs.declared.roles.Role.{Role}
 use Rattle.prepare.specs.declared.roles.Role.TheVariants as as_role
-use Rattle.prepare.specs.declared.place.Last.{Last}
-use Rattle.prepare.specs.declared.place.Last.TheVariants as state
-use Rattle.prepare.specs.declared.place.Code.{Code}
-use Rattle.prepare.specs.declared.place.Place.{Place}
-use Rattle.prepare.specs.declared.place.Supply.{Supply}
-use Rattle.prepare.specs.declared.place.Supply.TheVariants.{Nothing, Separator, Skip}
+use Rattle.prepare.specs.declared.context.Last.{Last}
+use Rattle.prepare.specs.declared.context.Last.TheVariants as state
+use Rattle.prepare.specs.declared.context.Code.{Code}
+use Rattle.prepare.specs.declared.context.Context.{Context}
+use Rattle.prepare.specs.declared.context.Supply.{Supply}
+use Rattle.prepare.specs.declared.context.Supply.TheVariants.{Nothing, Separator, Skip}
 use Rattle.prepare.specs.Roles.{role, begins}
-use Rattle.prepare.specs.Places as places
-use Rattle.prepare.specs.Places.{deeper, code_behind, behind, start, is_typed, is_subtyped, has_statements, skip_before, supply_behind, supply}
+use Rattle.prepare.specs.Contexts as contexts
+use Rattle.prepare.specs.Contexts.{deeper, code_behind, behind, start, is_typed, is_subtyped, has_statements, skip_before, supply_behind, supply}
 use Rattle.prepare.specs.Written.{Written}
-use Rattle.prepare.specs.Turns.{ends_line, turn, turns}
+use Rattle.prepare.specs.Stretches.{ends_line, stretch, stretches}
 use Rattle.prepare.specs.Blocks.{is_blanked, open_behind}
 use Rattle.prepare.specs.Separators.{may_end, may_begin, ends_sequence, is_colon, enters, leaves, braces_behind, brackets_behind, last_behind, is, SeparatorsEndStatements, SkipsAreLabelled}
 use Rattle.prepare.proofs.Blocks.{blank_is}
-use Rattle.prepare.proofs.Chain.{IsWord, IsTurn, Chain, chained, by_kind, plain, opens_role, closes_role, enters_role, leaves_role, labels_role, ends_role, closing_role, opens_is, closes_is, enters_is, leaves_is, labels_is, closing_is, begins_is}
+use Rattle.prepare.proofs.Chain.{IsWord, IsStretch, Chain, chained, by_kind, plain, opens_role, closes_role, enters_role, leaves_role, labels_role, ends_role, closing_role, opens_is, closes_is, enters_is, leaves_is, labels_is, closing_is, begins_is}
 
 ends_plain : (k : Kind) → ends_role (plain k) ≡ may_end k
 ends_plain kind.Name = refl
@@ -89,11 +89,11 @@ knows_code c n m o k t w h =
       labelled = λ e. sym (labels_is k t w) ∙ labelled_role c r e;
     }
 
-turn_blanked : (p : Place) (k : Kind) (gap t : List ℕ) → is_blanked (turn p k gap t) ≡ places.is_blanked p.block (role k t)
-unfolding turn
-turn_blanked p k gap t = blank_is p.block (role k t)
+stretch_blanked : (p : Context) (k : Kind) (gap t : List ℕ) → is_blanked (stretch p k gap t) ≡ contexts.is_blanked p.block (role k t)
+unfolding stretch
+stretch_blanked p k gap t = blank_is p.block (role k t)
 
-knows_by : (b : Bool) (p : Place) (u : Written) (n m : ℕ) (o : Option Kind) → IsWord u.kind u.token → places.is_blanked p.block (role u.kind u.token) ≡ b → is_blanked u ≡ b → Knows p.code n m o
+knows_by : (b : Bool) (p : Context) (u : Written) (n m : ℕ) (o : Option Kind) → IsWord u.kind u.token → contexts.is_blanked p.block (role u.kind u.token) ≡ b → is_blanked u ≡ b → Knows p.code n m o
     → Knows (behind p (role u.kind u.token)).code (braces_behind n u) (brackets_behind m u) (last_behind o u)
 knows_by true p u n m o w e f h =
     subst (λ (c : Code). Knows c (braces_behind n u) (brackets_behind m u) (last_behind o u)) (sym (ap (λ (x : Bool). cond x p.code (code_behind p.code (role u.kind u.token))) e))
@@ -102,26 +102,26 @@ knows_by false p u n m o w e f h =
     subst (λ (c : Code). Knows c (braces_behind n u) (brackets_behind m u) (last_behind o u)) (sym (ap (λ (x : Bool). cond x p.code (code_behind p.code (role u.kind u.token))) e))
     (subst (λ (x : Bool). Knows (code_behind p.code (role u.kind u.token)) (cond x n (open_behind n u)) (cond x m (cond (enters u.kind) (deeper m) (cond (leaves u.kind) (m - 1) m))) (cond x o (Some u.kind))) (sym f) (knows_code p.code n m o u.kind u.token w h))
 
-knows : (p : Place) (u : Written) (n m : ℕ) (o : Option Kind) → IsTurn p u → Knows p.code n m o → Knows (behind p (role u.kind u.token)).code (braces_behind n u) (brackets_behind m u) (last_behind o u)
-knows p u n m o t h = knows_by (places.is_blanked p.block (role u.kind u.token)) p u n m o t.word refl (ap is_blanked t.is ∙ turn_blanked p u.kind u.gap u.token) h
+knows : (p : Context) (u : Written) (n m : ℕ) (o : Option Kind) → IsStretch p u → Knows p.code n m o → Knows (behind p (role u.kind u.token)).code (braces_behind n u) (brackets_behind m u) (last_behind o u)
+knows p u n m o t h = knows_by (contexts.is_blanked p.block (role u.kind u.token)) p u n m o t.word refl (ap is_blanked t.is ∙ stretch_blanked p u.kind u.gap u.token) h
 
--- what is supplied at a turn
-supply_is : (p : Place) (k : Kind) (gap t : List ℕ) → (turn p k gap t).supply ≡ cond (places.is_blanked p.block (role k t)) Nothing (supply p.code (list_any ends_line gap) (role k t))
-unfolding turn
+-- what is supplied at a stretch
+supply_is : (p : Context) (k : Kind) (gap t : List ℕ) → (stretch p k gap t).supply ≡ cond (contexts.is_blanked p.block (role k t)) Nothing (supply p.code (list_any ends_line gap) (role k t))
+unfolding stretch
 supply_is p k gap t = refl
 
-record Gives (p : Place) (u : Written) (s : Supply) : Type 0 where
+record Gives (p : Context) (u : Written) (s : Supply) : Type 0 where
   stays : is_blanked u ≡ false
   is : supply p.code (list_any ends_line u.gap) (role u.kind u.token) ≡ s
 
-gives_by : (b : Bool) (p : Place) (u : Written) (s x : Supply) → is_blanked u ≡ b → cond b Nothing x ≡ s → (Nothing ≡ s → ⊥) → (is_blanked u ≡ false) × (x ≡ s)
+gives_by : (b : Bool) (p : Context) (u : Written) (s x : Supply) → is_blanked u ≡ b → cond b Nothing x ≡ s → (Nothing ≡ s → ⊥) → (is_blanked u ≡ false) × (x ≡ s)
 gives_by true p u s x e h none = absurd (none h)
 gives_by false p u s x e h none = (e, h)
 
-gives : (p : Place) (u : Written) (s : Supply) → IsTurn p u → u.supply ≡ s → (Nothing ≡ s → ⊥) → Gives p u s
+gives : (p : Context) (u : Written) (s : Supply) → IsStretch p u → u.supply ≡ s → (Nothing ≡ s → ⊥) → Gives p u s
 gives p u s t e none =
-    let given : cond (places.is_blanked p.block (role u.kind u.token)) Nothing (supply p.code (list_any ends_line u.gap) (role u.kind u.token)) ≡ s = sym (supply_is p u.kind u.gap u.token) ∙ ap (λ (x : Written). x.supply) (sym t.is) ∙ e in
-    let both = gives_by (places.is_blanked p.block (role u.kind u.token)) p u s (supply p.code (list_any ends_line u.gap) (role u.kind u.token)) (ap is_blanked t.is ∙ turn_blanked p u.kind u.gap u.token) given none in
+    let given : cond (contexts.is_blanked p.block (role u.kind u.token)) Nothing (supply p.code (list_any ends_line u.gap) (role u.kind u.token)) ≡ s = sym (supply_is p u.kind u.gap u.token) ∙ ap (λ (x : Written). x.supply) (sym t.is) ∙ e in
+    let both = gives_by (contexts.is_blanked p.block (role u.kind u.token)) p u s (supply p.code (list_any ends_line u.gap) (role u.kind u.token)) (ap is_blanked t.is ∙ stretch_blanked p u.kind u.gap u.token) given none in
     record { stays = both.0; is = both.1 }
 
 and_left : (a b : Bool) → (a && b) ≡ true → a ≡ true
@@ -166,7 +166,7 @@ some_braces n h = grind (arith, nat_tests)
 no_brackets : (n : ℕ) → (n == 0) ≡ true → n ≡ 0
 no_brackets n h = grind (arith, nat_tests)
 
--- what holds where something is written at a turn
+-- what holds where something is written at a stretch
 record Ends (n m : ℕ) (o : Option Kind) (t : Written) : Type 0 where
   line : list_any ends_line t.gap ≡ true
   ends : is may_end o ≡ true
@@ -180,7 +180,7 @@ record Lacks (o : Option Kind) (t : Written) : Type 0 where
   ends : ends_sequence t.kind ≡ true
   stays : is_blanked t ≡ false
 
-ends_at : (p : Place) (u : Written) (n m : ℕ) (o : Option Kind) → IsTurn p u → Knows p.code n m o → u.supply ≡ Separator → Ends n m o u
+ends_at : (p : Context) (u : Written) (n m : ℕ) (o : Option Kind) → IsStretch p u → Knows p.code n m o → u.supply ≡ Separator → Ends n m o u
 ends_at p u n m o t h e =
     let line = list_any ends_line u.gap in
     let r = role u.kind u.token in
@@ -198,7 +198,7 @@ ends_at p u n m o t h e =
       outside = sym h.brackets ∙ no_brackets p.code.brackets (and_left (p.code.brackets == 0) (not p.code.is_list) inner);
     }
 
-lacks_at : (p : Place) (u : Written) (n m : ℕ) (o : Option Kind) → IsTurn p u → Knows p.code n m o → u.supply ≡ Skip → Lacks o u
+lacks_at : (p : Context) (u : Written) (n m : ℕ) (o : Option Kind) → IsStretch p u → Knows p.code n m o → u.supply ≡ Skip → Lacks o u
 lacks_at p u n m o t h e =
     let line = list_any ends_line u.gap in
     let r = role u.kind u.token in
@@ -206,7 +206,7 @@ lacks_at p u n m o t h e =
     let s = skipped_by p.code.last (line && (begins r && has_statements p.code)) r g.is in
     record { label = h.labelled s.0; ends = sym (closing_is u.kind u.token t.word) ∙ s.1; stays = g.stays }
 
-separators : (us : List Written) (p : Place) (n m : ℕ) (o : Option Kind) → Chain p us → Knows p.code n m o → (front back : List Written) (t : Written) → us ≡ front ++ t ∷ back → t.supply ≡ Separator
+separators : (us : List Written) (p : Context) (n m : ℕ) (o : Option Kind) → Chain p us → Knows p.code n m o → (front back : List Written) (t : Written) → us ≡ front ++ t ∷ back → t.supply ≡ Separator
     → Ends (fold braces_behind n front) (fold brackets_behind m front) (fold last_behind o front) t
 separators [] p n m o h k front back t e s = absurd h
 separators (u ∷ []) p n m o h k [] back t e s = let same : u ≡ t = cc in let none : Nothing ≡ Separator = sym h.nothing ∙ ap (λ (x : Written). x.supply) same ∙ s in cc
@@ -219,7 +219,7 @@ separators (u ∷ v ∷ us) p n m o h k (x ∷ front) back t e s =
     subst (λ (y : Written). Ends (fold braces_behind (braces_behind n y) front) (fold brackets_behind (brackets_behind m y) front) (fold last_behind (last_behind o y) front) t) same
     (separators (v ∷ us) (behind p (role u.kind u.token)) (braces_behind n u) (brackets_behind m u) (last_behind o u) h.1 (knows p u n m o h.0 k) front back t rest s)
 
-skips : (us : List Written) (p : Place) (n m : ℕ) (o : Option Kind) → Chain p us → Knows p.code n m o → (front back : List Written) (t : Written) → us ≡ front ++ t ∷ back → t.supply ≡ Skip → Lacks (fold last_behind o front) t
+skips : (us : List Written) (p : Context) (n m : ℕ) (o : Option Kind) → Chain p us → Knows p.code n m o → (front back : List Written) (t : Written) → us ≡ front ++ t ∷ back → t.supply ≡ Skip → Lacks (fold last_behind o front) t
 skips [] p n m o h k front back t e s = absurd h
 skips (u ∷ []) p n m o h k [] back t e s = let same : u ≡ t = cc in let none : Nothing ≡ Skip = sym h.nothing ∙ ap (λ (x : Written). x.supply) same ∙ s in cc
 skips (u ∷ []) p n m o h k (x ∷ []) back t e s = cc
@@ -234,12 +234,12 @@ skips (u ∷ v ∷ us) p n m o h k (x ∷ front) back t e s =
 knows_start : Knows start.code 0 0 None
 knows_start = record { braces = refl; brackets = refl; ended = λ e. cc; labelled = λ e. cc }
 
-pub separators_end : (text : List ℕ) → SeparatorsEndStatements (turns text)
+pub separators_end : (text : List ℕ) → SeparatorsEndStatements (stretches text)
 separators_end text front back t e s =
-    let h = separators (turns text) start 0 0 None (chained text) knows_start front back t e s in
+    let h = separators (stretches text) start 0 0 None (chained text) knows_start front back t e s in
     record { line = h.line; ends = h.ends; begins = h.begins; stays = h.stays; within = h.within; outside = h.outside }
 
-pub skips_are_labelled : (text : List ℕ) → SkipsAreLabelled (turns text)
+pub skips_are_labelled : (text : List ℕ) → SkipsAreLabelled (stretches text)
 skips_are_labelled text front back t e s =
-    let h = skips (turns text) start 0 0 None (chained text) knows_start front back t e s in
+    let h = skips (stretches text) start 0 0 None (chained text) knows_start front back t e s in
     record { label = h.label; ends = h.ends; stays = h.stays }

@@ -1,10 +1,10 @@
--- The loop over the pieces of a text, whose character constants become numbers.
+-- The loop over the lexemes of a text, whose character constants become numbers.
 use Rattle.std.proofs.Common.{◌≡◌, ℕ, zero, suc, ◌-◌, ◌<◌, ◌≤◌, Bool, true, false, ◌||◌, List, [], ◌∷◌, ◌++◌, length, take, drop, sym, refl, ap, ◌∙◌, append_assoc, append-nil, take-append-drop, length-drop, arith}
 use Rattle.std.proofs.lemmas.Bool.{false≢true}
 use Rattle.promela_text.specs.Tokens.{fresh_from}
 use Rattle.prepare.specs.Coding.{is_coded, front_length, written, coded_by, coded, has_character_by}
 
--- out: what the pieces before `rest` gave
+-- out: what the lexemes before `rest` gave
 pub record Reached (text out : List ℕ) (fresh : Bool) (rest : List ℕ) : Type 0 where
   pub left : ℕ
   pub enough : length rest ≤ left
@@ -29,7 +29,7 @@ step_by (suc left) text out fresh rest enough so_far some more =
       so_far = append_assoc out (written (is_coded rest) front) (coded_by left (fresh_from fresh front) (drop n rest)) ∙ ap (λ (xs : List ℕ). out ++ xs) (sym (one_front left fresh rest some)) ∙ so_far;
     }
 
--- one more piece
+-- one more lexeme
 pub reached_front : {text out : List ℕ} {fresh : Bool} {rest : List ℕ} → Reached text out fresh rest → 0 < length rest → 0 < front_length fresh rest
     → Reached text (out ++ written (is_coded rest) (take (front_length fresh rest) rest)) (fresh_from fresh (take (front_length fresh rest) rest)) (drop (front_length fresh rest) rest)
 reached_front {text} {out} {fresh} {rest} r some more = step_by r.left text out fresh rest r.enough r.so_far some more

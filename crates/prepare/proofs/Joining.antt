@@ -3,7 +3,7 @@ use Rattle.std.proofs.Common.{◌≡◌, ℕ, suc, ◌+◌, ◌-◌, ◌<◌, �
 use Rattle.std.specs.Prelude.{◌==◌}
 use Rattle.std.proofs.lemmas.Bool.Decides.{nat_tests}
 use Rattle.pml_lex.specs.Scanning.{quote_end}
-use Rattle.prepare.specs.Turns.{string_end}
+use Rattle.prepare.specs.Stretches.{string_end}
 use Rattle.prepare.specs.Spelling.{begins_feed, is_break, unless_break, escapes, unbroken}
 
 quote_is : (n : ℕ) (e : Bool) (b : ℕ) (q : List ℕ) → quote_end n e (b ∷ q) ≡ cond (b == 10) None (cond e (quote_end (n + 1) false q) (cond (b == 34) (Some (n + 1)) (quote_end (n + 1) (b == 92) q)))

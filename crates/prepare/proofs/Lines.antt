@@ -9,19 +9,19 @@ use lib.Chars.{codes}
 use Rattle.profile.specs.Characters.{line_feed, zero_digit}
 use Rattle.promela_text.specs.Tokens.{is_line_feed, fresh_from}
 use Rattle.prepare.specs.declared.TheConstants.{FORM_FEED}
-use Rattle.prepare.specs.declared.place.Supply.{Supply}
-use Rattle.prepare.specs.declared.place.Supply.TheVariants as supply
-use Rattle.prepare.specs.declared.turn.Form.{Form}
-use Rattle.prepare.specs.declared.turn.Form.TheVariants as form
+use Rattle.prepare.specs.declared.context.Supply.{Supply}
+use Rattle.prepare.specs.declared.context.Supply.TheVariants as supply
+use Rattle.prepare.specs.declared.stretch.Form.{Form}
+use Rattle.prepare.specs.declared.stretch.Form.TheVariants as form
 use Rattle.prepare.specs.Standing.{Standing}
-use Rattle.prepare.specs.Mark.{Mark}
-use Rattle.prepare.specs.Marks.{mark}
-use Rattle.prepare.specs.Places.{written}
+use Rattle.prepare.specs.Marker.{Marker}
+use Rattle.prepare.specs.Markers.{marker}
+use Rattle.prepare.specs.Contexts.{written}
 use Rattle.prepare.specs.Character.{value, digits, number}
 use Rattle.prepare.specs.Coding.{is_coded, front_length, coded_by}
 use Rattle.prepare.specs.Coding as coding
 use Rattle.prepare.specs.Written.{Written}
-use Rattle.prepare.specs.Spelling.{blank, unless_break, escapes, unbroken, shown, divider, supplied, spelled_turn, spelled}
+use Rattle.prepare.specs.Spelling.{blank, unless_break, escapes, unbroken, shown, divider, supplied, spelled_stretch, spelled}
 use Rattle.prepare.specs.Numbering.{is_own_file, included, placed, line_after, stand_after, standing_behind, first_line, line_length, numbered_by, asked_by}
 use Rattle.prepare.specs.Laws.{source, sources}
 
@@ -51,19 +51,19 @@ own_line : (t : Bool) (n : ℕ) (line : List ℕ) → n + feeds (cond t line (ma
 own_line true n line = refl
 own_line false n line = let e = none_included line in omega arith
 
-own_mark : (t : Bool) (n m : ℕ) → n + feeds (cond t (replicate (m - n) line_feed) []) ≡ cond t (max n m) n
-own_mark true n m = let e = feeds-replicate (m - n) in omega arith
-own_mark false n m = omega arith
+own_marker : (t : Bool) (n m : ℕ) → n + feeds (cond t (replicate (m - n) line_feed) []) ≡ cond t (max n m) n
+own_marker true n m = let e = feeds-replicate (m - n) in omega arith
+own_marker false n m = omega arith
 
-placed_feeds : (s : Standing) (m : Option Mark) (line : List ℕ) → s.line + feeds (placed s m line) ≡ line_after s m line
+placed_feeds : (s : Standing) (m : Option Marker) (line : List ℕ) → s.line + feeds (placed s m line) ≡ line_after s m line
 placed_feeds s None line = own_line s.is_own s.line line
-placed_feeds s (Some m) line = own_mark (is_own_file s m.file) s.line m.line
+placed_feeds s (Some m) line = own_marker (is_own_file s m.file) s.line m.line
 
-stands_on : (s : Standing) (m : Option Mark) (n : ℕ) → (stand_after s m n).line ≡ n
+stands_on : (s : Standing) (m : Option Marker) (n : ℕ) → (stand_after s m n).line ≡ n
 stands_on s None n = refl
 stands_on s (Some m) n = refl
 
--- the line that is written to is the one that the marks ask for
+-- the line that is written to is the one that the markers ask for
 pub asked_is : (fuel : ℕ) (s : Standing) (text : List ℕ) → s.line + feeds (numbered_by fuel s text) ≡ asked_by fuel s text
 unfolding numbered_by asked_by
 asked_is zero s text = omega arith
@@ -71,16 +71,16 @@ asked_is (suc fuel) s [] = omega arith
 asked_is (suc fuel) s (b ∷ q) =
     let text = b ∷ q in
     let line = first_line text in
-    let next = standing_behind s (mark line) line in
-    let front = placed s (mark line) line in
+    let next = standing_behind s (marker line) line in
+    let front = placed s (marker line) line in
     let back = numbered_by fuel next (drop (line_length text) text) in
     let both : feeds (front ++ back) ≡ feeds front + feeds back = feeds-append front back in
-    let here : s.line + feeds front ≡ line_after s (mark line) line = placed_feeds s (mark line) line in
-    let there : next.line ≡ line_after s (mark line) line = stands_on s (mark line) (line_after s (mark line) line) in
+    let here : s.line + feeds front ≡ line_after s (marker line) line = placed_feeds s (marker line) line in
+    let there : next.line ≡ line_after s (marker line) line = stands_on s (marker line) (line_after s (marker line) line) in
     let rest : next.line + feeds back ≡ asked_by fuel next (drop (line_length text) text) = asked_is fuel next (drop (line_length text) text) in
     omega arith ∙ rest
 
--- what is written between turns has no line feed
+-- what is written between stretches has no line feed
 pub nothing_fed : (s : Supply) (gap : List ℕ) → feeds (written s ++ divider s gap) ≡ 0
 nothing_fed supply.Nothing gap = refl
 nothing_fed supply.Separator gap = refl
@@ -176,8 +176,8 @@ shown_feeds form.Joined t =
     omega arith
 shown_feeds form.Blanked t = blanks_feeds t
 
-turn_feeds : (t : Written) → feeds (spelled_turn t) ≡ feeds (source t)
-turn_feeds t =
+stretch_feeds : (t : Written) → feeds (spelled_stretch t) ≡ feeds (source t)
+stretch_feeds t =
     let a = feeds-append (supplied t) (t.gap ++ shown t.form t.token) in
     let b = feeds-append t.gap (shown t.form t.token) in
     let c = feeds-append t.gap t.token in
@@ -185,12 +185,12 @@ turn_feeds t =
     let e = shown_feeds t.form t.token in
     omega arith
 
--- turns are written on as many lines as they have
+-- stretches are written on as many lines as they have
 pub spelled_feeds : (ts : List Written) → feeds (spelled ts) ≡ feeds (sources ts)
 spelled_feeds [] = refl
 spelled_feeds (t ∷ ts) =
-    let a = feeds-append (spelled_turn t) (spelled ts) in
+    let a = feeds-append (spelled_stretch t) (spelled ts) in
     let b = feeds-append (source t) (sources ts) in
-    let c = turn_feeds t in
+    let c = stretch_feeds t in
     let d = spelled_feeds ts in
     omega arith

@@ -1,7 +1,7 @@
--- The loop over the lines of a text: what holds at each of its turns, and what one line does to it.
+-- The loop over the lines of a text: what holds at each of its stretches, and what one line does to it.
 use Rattle.std.proofs.Common.{◌≡◌, ℕ, zero, suc, ◌+◌, ◌-◌, ◌<◌, ◌≤◌, List, [], ◌∷◌, ◌++◌, length, drop, sym, refl, ap, ◌∙◌, append_assoc, append-nil, length-drop, arith}
 use Rattle.prepare.specs.Standing.{Standing}
-use Rattle.prepare.specs.Marks.{mark}
+use Rattle.prepare.specs.Markers.{marker}
 use Rattle.prepare.specs.Numbering.{placed, standing_behind, line_length, first_line, first_standing, bare, numbered, numbered_by}
 
 -- out: what the lines before `rest` gave
@@ -9,11 +9,11 @@ pub record Reached (text out : List ℕ) (s : Standing) (rest : List ℕ) : Type
   pub left : ℕ
   pub enough : length rest ≤ left
   pub short : length rest ≤ 8388608
-  -- no line's number is past the largest of a mark by more bytes than were read
+  -- no line's number is past the largest of a marker by more bytes than were read
   pub low : s.line + length rest ≤ 9437185
   pub so_far : out ++ numbered_by left s rest ≡ numbered (bare text)
 
-one_line : (fuel : ℕ) (s : Standing) (rest : List ℕ) → 0 < length rest → numbered_by (suc fuel) s rest ≡ placed s (mark (first_line rest)) (first_line rest) ++ numbered_by fuel (standing_behind s (mark (first_line rest)) (first_line rest)) (drop (line_length rest) rest)
+one_line : (fuel : ℕ) (s : Standing) (rest : List ℕ) → 0 < length rest → numbered_by (suc fuel) s rest ≡ placed s (marker (first_line rest)) (first_line rest) ++ numbered_by fuel (standing_behind s (marker (first_line rest)) (first_line rest)) (drop (line_length rest) rest)
 unfolding numbered_by
 one_line fuel s [] h = absurd (omega arith)
 one_line fuel s (b ∷ q) h = refl
@@ -22,8 +22,8 @@ pub some_line : (rest : List ℕ) → 0 < length rest → 0 < line_length rest
 some_line rest h = omega arith
 
 step_by : (left : ℕ) (text out : List ℕ) (s : Standing) (rest : List ℕ) → length rest ≤ left → length rest ≤ 8388608 → out ++ numbered_by left s rest ≡ numbered (bare text) → 0 < length rest
-    → (standing_behind s (mark (first_line rest)) (first_line rest)).line + length (drop (line_length rest) rest) ≤ 9437185
-    → Reached text (out ++ placed s (mark (first_line rest)) (first_line rest)) (standing_behind s (mark (first_line rest)) (first_line rest)) (drop (line_length rest) rest)
+    → (standing_behind s (marker (first_line rest)) (first_line rest)).line + length (drop (line_length rest) rest) ≤ 9437185
+    → Reached text (out ++ placed s (marker (first_line rest)) (first_line rest)) (standing_behind s (marker (first_line rest)) (first_line rest)) (drop (line_length rest) rest)
 step_by zero text out s rest enough short so_far some low = absurd (omega arith)
 step_by (suc left) text out s rest enough short so_far some low =
     let len : length (drop (line_length rest) rest) ≡ length rest - line_length rest = length-drop (line_length rest) rest in
@@ -33,12 +33,12 @@ step_by (suc left) text out s rest enough short so_far some low =
       enough = omega arith;
       short = omega arith;
       low = low;
-      so_far = append_assoc out (placed s (mark (first_line rest)) (first_line rest)) (numbered_by left (standing_behind s (mark (first_line rest)) (first_line rest)) (drop (line_length rest) rest)) ∙ ap (λ (xs : List ℕ). out ++ xs) (sym (one_line left s rest some)) ∙ so_far;
+      so_far = append_assoc out (placed s (marker (first_line rest)) (first_line rest)) (numbered_by left (standing_behind s (marker (first_line rest)) (first_line rest)) (drop (line_length rest) rest)) ∙ ap (λ (xs : List ℕ). out ++ xs) (sym (one_line left s rest some)) ∙ so_far;
     }
 
 -- one more line
-pub reached_line : {text out : List ℕ} {s : Standing} {rest : List ℕ} → Reached text out s rest → 0 < length rest → (standing_behind s (mark (first_line rest)) (first_line rest)).line + length (drop (line_length rest) rest) ≤ 9437185
-    → Reached text (out ++ placed s (mark (first_line rest)) (first_line rest)) (standing_behind s (mark (first_line rest)) (first_line rest)) (drop (line_length rest) rest)
+pub reached_line : {text out : List ℕ} {s : Standing} {rest : List ℕ} → Reached text out s rest → 0 < length rest → (standing_behind s (marker (first_line rest)) (first_line rest)).line + length (drop (line_length rest) rest) ≤ 9437185
+    → Reached text (out ++ placed s (marker (first_line rest)) (first_line rest)) (standing_behind s (marker (first_line rest)) (first_line rest)) (drop (line_length rest) rest)
 reached_line {text} {out} {s} {rest} r some low = step_by r.left text out s rest r.enough r.short r.so_far some low
 
 pub reached_start : (text : List ℕ) → length (bare text) ≤ 8388608 → Reached text [] first_standing (bare text)

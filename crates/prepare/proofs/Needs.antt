@@ -7,34 +7,34 @@ use lib.Chars.{codes}
 use Rattle.std.proofs.lemmas.Bool.{false≢true}
 use Rattle.std.proofs.lemmas.Slice.Eq.{bytes_eq-Decides}
 use Rattle.std.proofs.lemmas.List.Sums.{sum_by-append}
-use Rattle.promela_text.specs.declared.piece.Piece.{Piece}
-use Rattle.promela_text.specs.declared.piece.Piece.TheVariants.{Skipped, Token}
+use Rattle.promela_text.specs.declared.lexeme.Lexeme.{Lexeme}
+use Rattle.promela_text.specs.declared.lexeme.Lexeme.TheVariants.{Skipped, Token}
 use Rattle.pml_token.specs.declared.token.Kind.{Kind}
 use Rattle.pml_token.specs.declared.token.Kind.TheVariants.{LeftOut}
 use Rattle.pml_token.specs.Word.{same_kind, Word}
 use Rattle.promela_text.specs.Tables.{reserved, word_kind}
-use Rattle.promela_text.specs.Tokens.{piece, has_left_out, IsCut, is_line_feed, fresh_from, is_fresh, line_behind, word, words}
+use Rattle.promela_text.specs.Tokens.{lexeme, has_left_out, IsCut, is_line_feed, fresh_from, is_fresh, line_behind, word, words}
 use Rattle.pml_lex.proofs.Places.{token_place}
 use Rattle.pml_lex.proofs.Steps.{fresh_from-append}
 use Rattle.pml_lex.proofs.Wholes.{Divides, from_whole}
 use Rattle.prepare.specs.declared.roles.Role.{Role}
 use Rattle.prepare.specs.declared.roles.Role.TheVariants as as_role
-use Rattle.prepare.specs.declared.place.Block.{Block}
-use Rattle.prepare.specs.declared.place.Block.TheVariants.{Outside}
-use Rattle.prepare.specs.declared.place.Place.{Place}
-use Rattle.prepare.specs.declared.turn.Form.TheVariants as form
+use Rattle.prepare.specs.declared.context.Block.{Block}
+use Rattle.prepare.specs.declared.context.Block.TheVariants.{Outside}
+use Rattle.prepare.specs.declared.context.Context.{Context}
+use Rattle.prepare.specs.declared.stretch.Form.TheVariants as form
 use Rattle.prepare.specs.Roles.{is_block_word, role}
-use Rattle.prepare.specs.Places.{is_head_word, is_blanked, behind_outside, block_behind, behind, start}
-use Rattle.prepare.specs.Turns.{form_outside, turn, on_piece, turns_by, turns}
+use Rattle.prepare.specs.Contexts.{is_head_word, is_blanked, behind_outside, block_behind, behind, start}
+use Rattle.prepare.specs.Stretches.{form_outside, stretch, on_lexeme, stretches_by, stretches}
 use Rattle.prepare.specs.Laws.{is_nothing, stays, is_plain, is_unsupplied, is_mended}
-use Rattle.prepare.proofs.Turning.{at_piece}
+use Rattle.prepare.proofs.Turning.{at_lexeme}
 use Rattle.prepare.proofs.Blocks.{head_is_word}
-use Rattle.prepare.proofs.Tokens.{Finds, finds, no_piece}
+use Rattle.prepare.proofs.Tokens.{Finds, finds, no_lexeme}
 
-word_by : (f : Bool) (w t : List ℕ) (k : Kind) → bytes_eq t w ≡ true → piece f w ≡ Some (Token LeftOut) → piece f t ≡ Some (Token k) → same_kind k LeftOut ≡ false → ⊥
+word_by : (f : Bool) (w t : List ℕ) (k : Kind) → bytes_eq t w ≡ true → lexeme f w ≡ Some (Token LeftOut) → lexeme f t ≡ Some (Token k) → same_kind k LeftOut ≡ false → ⊥
 word_by f w t k h left is kept =
     let same : t ≡ w = (bytes_eq-Decides t w).0 h in
-    let both : Some (Token k) ≡ Some (Token LeftOut) = sym is ∙ ap (piece f) same ∙ left in
+    let both : Some (Token k) ≡ Some (Token LeftOut) = sym is ∙ ap (lexeme f) same ∙ left in
     let kind : k ≡ LeftOut = cc in
     false≢true (sym kept ∙ ap (λ (x : Kind). same_kind x LeftOut) kind)
 
@@ -43,8 +43,8 @@ or_cases true b h = inl refl
 or_cases false b h = inr h
 
 -- the words of blocks are left out
-pub no_word : (f : Bool) (t : List ℕ) (k : Kind) → piece f t ≡ Some (Token k) → same_kind k LeftOut ≡ false → is_block_word t ≡ true → ⊥
-unfolding piece word_kind reserved
+pub no_word : (f : Bool) (t : List ℕ) (k : Kind) → lexeme f t ≡ Some (Token k) → same_kind k LeftOut ≡ false → is_block_word t ≡ true → ⊥
+unfolding lexeme word_kind reserved
 no_word f t k is kept h =
     ⊎_elim (λ (e : bytes_eq t (codes "never") ≡ true). word_by f (codes "never") t k e refl is kept)
     (λ (h1 : (bytes_eq t (codes "ltl") || (bytes_eq t (codes "trace") || bytes_eq t (codes "notrace"))) ≡ true).
@@ -60,7 +60,7 @@ not_true : (b : Bool) → (b ≡ true → ⊥) → b ≡ false
 not_true true h = absurd (h refl)
 not_true false h = refl
 
-pub heads_none : (f : Bool) (t : List ℕ) (k : Kind) → piece f t ≡ Some (Token k) → same_kind k LeftOut ≡ false → is_head_word (role k t) ≡ false
+pub heads_none : (f : Bool) (t : List ℕ) (k : Kind) → lexeme f t ≡ Some (Token k) → same_kind k LeftOut ≡ false → is_head_word (role k t) ≡ false
 heads_none f t k is kept = not_true (is_head_word (role k t)) (λ h. no_word f t k is kept (head_is_word k t h))
 
 pub stays_outside_by : (r : Role) → is_head_word r ≡ false → behind_outside r ≡ Outside
@@ -83,11 +83,11 @@ both : (a b : Bool) → a ≡ true → b ≡ true → (a && b) ≡ true
 both true b h g = g
 both false b h g = h
 
-turn_plain : (p : Place) (k : Kind) (gap t : List ℕ) (f : Bool) → p.block ≡ Outside → piece f t ≡ Some (Token k) → same_kind k LeftOut ≡ false → is_nothing (turn p k gap t).supply ≡ true → is_plain (turn p k gap t) ≡ true
-unfolding turn
-turn_plain p k gap t f outside is kept nothing =
+stretch_plain : (p : Context) (k : Kind) (gap t : List ℕ) (f : Bool) → p.block ≡ Outside → lexeme f t ≡ Some (Token k) → same_kind k LeftOut ≡ false → is_nothing (stretch p k gap t).supply ≡ true → is_plain (stretch p k gap t) ≡ true
+unfolding stretch
+stretch_plain p k gap t f outside is kept nothing =
     let blanked : is_blanked p.block (role k t) ≡ false = ap (λ (b : Block). is_blanked b (role k t)) outside ∙ heads_none f t k is kept in
-    both (is_nothing (turn p k gap t).supply) _ nothing
+    both (is_nothing (stretch p k gap t).supply) _ nothing
     (ap (λ (b : Bool). stays (cond b form.Blanked (form_outside (role k t))) t) blanked ∙ form_stays (role k t) t (no_feed t (token_place f t k is).0))
 
 and_left : (a b : Bool) → (a && b) ≡ true → a ≡ true
@@ -107,47 +107,47 @@ or_right true b h = absurd (false≢true (sym h))
 or_right false b h = h
 
 abbrev Follows : ℕ → List (List ℕ) → Type 0
-Follows fuel ps = (fresh : Bool) (p : Place) (gap before rest : List ℕ) → length rest ≤ fuel → fresh ≡ is_fresh before → p.block ≡ Outside → Divides before ps rest → has_left_out (words before ps) ≡ false
-    → is_unsupplied (turns_by fuel fresh p gap rest) ≡ true → list_all is_plain (turns_by fuel fresh p gap rest) ≡ true
+Follows fuel ps = (fresh : Bool) (p : Context) (gap before rest : List ℕ) → length rest ≤ fuel → fresh ≡ is_fresh before → p.block ≡ Outside → Divides before ps rest → has_left_out (words before ps) ≡ false
+    → is_unsupplied (stretches_by fuel fresh p gap rest) ≡ true → list_all is_plain (stretches_by fuel fresh p gap rest) ≡ true
 
-at_end : (fuel : ℕ) (fresh : Bool) (p : Place) (gap : List ℕ) → list_all is_plain (turns_by fuel fresh p gap []) ≡ true
-unfolding turns_by
+at_end : (fuel : ℕ) (fresh : Bool) (p : Context) (gap : List ℕ) → list_all is_plain (stretches_by fuel fresh p gap []) ≡ true
+unfolding stretches_by
 at_end zero fresh p gap = refl
 at_end (suc fuel) fresh p gap = refl
 
-on_kind : (fuel : ℕ) (p : Place) (gap before rest q : List ℕ) (ps : List (List ℕ)) (kind : Piece) → Follows fuel ps → length (drop (length q) rest) ≤ fuel → take (length q) rest ≡ q → piece (is_fresh before) q ≡ Some kind → p.block ≡ Outside
+on_kind : (fuel : ℕ) (p : Context) (gap before rest q : List ℕ) (ps : List (List ℕ)) (kind : Lexeme) → Follows fuel ps → length (drop (length q) rest) ≤ fuel → take (length q) rest ≡ q → lexeme (is_fresh before) q ≡ Some kind → p.block ≡ Outside
     → Divides (before ++ q) ps (drop (length q) rest) → has_left_out (word (Some kind) q (line_behind before) ++ words (before ++ q) ps) ≡ false
-    → is_unsupplied (on_piece (length q) kind (is_fresh before) p gap rest (turns_by fuel)) ≡ true → list_all is_plain (on_piece (length q) kind (is_fresh before) p gap rest (turns_by fuel)) ≡ true
+    → is_unsupplied (on_lexeme (length q) kind (is_fresh before) p gap rest (stretches_by fuel)) ≡ true → list_all is_plain (on_lexeme (length q) kind (is_fresh before) p gap rest (stretches_by fuel)) ≡ true
 on_kind fuel p gap before rest q ps Skipped h short front spells outside divides kept nothing =
     h (fresh_from (is_fresh before) (take (length q) rest)) p (gap ++ take (length q) rest) (before ++ q) (drop (length q) rest) short (ap (fresh_from (is_fresh before)) front ∙ sym (fresh_from-append true before q)) outside divides kept nothing
 on_kind fuel p gap before rest q ps (Token k) h short front spells outside divides kept nothing =
     let t = take (length q) rest in
     let here : same_kind k LeftOut ≡ false = or_left (same_kind k LeftOut) (has_left_out (words (before ++ q) ps)) kept in
-    let is : piece (is_fresh before) t ≡ Some (Token k) = ap (piece (is_fresh before)) front ∙ spells in
+    let is : lexeme (is_fresh before) t ≡ Some (Token k) = ap (lexeme (is_fresh before)) front ∙ spells in
     let stale : false ≡ is_fresh (before ++ q) = sym (token_place (is_fresh before) q k spells).1 ∙ sym (fresh_from-append true before q) in
-    let more = turns_by fuel false (behind p (role k t)) [] (drop (length q) rest) in
+    let more = stretches_by fuel false (behind p (role k t)) [] (drop (length q) rest) in
     let out : (behind p (role k t)).block ≡ Outside = ap (λ (b : Block). block_behind b (role k t)) outside ∙ stays_outside_by (role k t) (heads_none (is_fresh before) t k is here) in
-    both (is_plain (turn p k gap t)) (list_all is_plain more)
-    (turn_plain p k gap t (is_fresh before) outside is here (and_left (is_nothing (turn p k gap t).supply) (is_unsupplied more) nothing))
-    (h false (behind p (role k t)) [] (before ++ q) (drop (length q) rest) short stale out divides (or_right (same_kind k LeftOut) (has_left_out (words (before ++ q) ps)) kept) (and_right (is_nothing (turn p k gap t).supply) (is_unsupplied more) nothing))
+    both (is_plain (stretch p k gap t)) (list_all is_plain more)
+    (stretch_plain p k gap t (is_fresh before) outside is here (and_left (is_nothing (stretch p k gap t).supply) (is_unsupplied more) nothing))
+    (h false (behind p (role k t)) [] (before ++ q) (drop (length q) rest) short stale out divides (or_right (same_kind k LeftOut) (has_left_out (words (before ++ q) ps)) kept) (and_right (is_nothing (stretch p k gap t).supply) (is_unsupplied more) nothing))
 
 follow : (fuel : ℕ) (ps : List (List ℕ)) → Follows fuel ps
-follow fuel [] fresh p gap before rest short fresh_is outside divides kept nothing = subst (λ (r : List ℕ). list_all is_plain (turns_by fuel fresh p gap r) ≡ true) (sym divides) (at_end fuel fresh p gap)
-follow zero (q ∷ ps) fresh p gap before [] short fresh_is outside divides kept nothing = absurd (no_piece (is_fresh before) q divides.0)
+follow fuel [] fresh p gap before rest short fresh_is outside divides kept nothing = subst (λ (r : List ℕ). list_all is_plain (stretches_by fuel fresh p gap r) ≡ true) (sym divides) (at_end fuel fresh p gap)
+follow zero (q ∷ ps) fresh p gap before [] short fresh_is outside divides kept nothing = absurd (no_lexeme (is_fresh before) q divides.0)
 follow zero (q ∷ ps) fresh p gap before (b ∷ r) short fresh_is outside divides kept nothing = absurd (omega arith)
-follow (suc fuel) (q ∷ ps) fresh p gap before [] short fresh_is outside divides kept nothing = absurd (no_piece (is_fresh before) q divides.0)
+follow (suc fuel) (q ∷ ps) fresh p gap before [] short fresh_is outside divides kept nothing = absurd (no_lexeme (is_fresh before) q divides.0)
 follow (suc fuel) (q ∷ ps) fresh p gap before (b ∷ r) short fresh_is outside divides kept nothing =
     let rest = b ∷ r in
     let f : Finds (is_fresh before) rest q = finds (is_fresh before) rest q (omega arith) divides.0 in
     let len : length (drop (length q) rest) ≡ length rest - length q = length-drop (length q) rest in
     let some : 0 < length q = f.some in
-    let step : turns_by (suc fuel) (is_fresh before) p gap rest ≡ on_piece (length q) f.kind (is_fresh before) p gap rest (turns_by fuel) = at_piece fuel (is_fresh before) p gap rest (length q) f.kind f.some f.within f.found in
-    let same : turns_by (suc fuel) fresh p gap rest ≡ on_piece (length q) f.kind (is_fresh before) p gap rest (turns_by fuel) = ap (λ (x : Bool). turns_by (suc fuel) x p gap rest) fresh_is ∙ step in
+    let step : stretches_by (suc fuel) (is_fresh before) p gap rest ≡ on_lexeme (length q) f.kind (is_fresh before) p gap rest (stretches_by fuel) = at_lexeme fuel (is_fresh before) p gap rest (length q) f.kind f.some f.within f.found in
+    let same : stretches_by (suc fuel) fresh p gap rest ≡ on_lexeme (length q) f.kind (is_fresh before) p gap rest (stretches_by fuel) = ap (λ (x : Bool). stretches_by (suc fuel) x p gap rest) fresh_is ∙ step in
     ap (list_all is_plain) same
     ∙ on_kind fuel p gap before rest q ps f.kind (follow fuel ps) (omega arith) f.front f.spells outside divides.1
-    (ap (λ (o : Option Piece). has_left_out (word o q (line_behind before) ++ words (before ++ q) ps)) (sym f.spells) ∙ kept)
+    (ap (λ (o : Option Lexeme). has_left_out (word o q (line_behind before) ++ words (before ++ q) ps)) (sym f.spells) ∙ kept)
     (ap is_unsupplied (sym same) ∙ nothing)
 
-pub separators_alone : (text : List ℕ) (ts : List Word) → IsCut text ts → has_left_out ts ≡ false → is_unsupplied (turns text) ≡ true → is_mended text ≡ true
+pub separators_alone : (text : List ℕ) (ts : List Word) → IsCut text ts → has_left_out ts ≡ false → is_unsupplied (stretches text) ≡ true → is_mended text ≡ true
 separators_alone text ts h kept nothing =
-    follow (length text) h.pieces true start [] [] text (omega arith) refl refl (from_whole h.pieces text h.divides) (ap has_left_out (sym h.are_words) ∙ kept) nothing
+    follow (length text) h.lexemes true start [] [] text (omega arith) refl refl (from_whole h.lexemes text h.divides) (ap has_left_out (sym h.are_words) ∙ kept) nothing

@@ -1,4 +1,4 @@
--- Lines of the model's own file stand where their mark says.
+-- Lines of the model's own file stand where their marker says.
 use Rattle.std.proofs.Common.{◌≡◌, ℕ, zero, suc, ◌+◌, ◌-◌, ◌<◌, ◌≤◌, max, Bool, true, false, not, cond, ◌||◌, List, [], ◌∷◌, ◌++◌, Option, None, Some, length, take, drop, replicate, sym, refl, ap, ◌∙◌, subst, inl, inr, ⊎_elim, append_assoc, append-nil, length-append, length-drop, arith}
 use Rattle.std.specs.Prelude.{◌⊎◌}
 use Rattle.std.specs.List.{prefix_len, list_any}
@@ -9,9 +9,9 @@ use Rattle.std.proofs.Math.Seq.{take-append_seam, drop-append_seam}
 use Rattle.profile.specs.Characters.{line_feed}
 use Rattle.promela_text.specs.Tokens.{is_in_line, is_line_feed, line_behind}
 use Rattle.prepare.specs.Standing.{Standing}
-use Rattle.prepare.specs.Mark.{Mark}
-use Rattle.prepare.specs.Marks.{mark}
-use Rattle.prepare.specs.Numbering.{own_file, is_own_file, placed, stand_after, standing_behind, first_line, line_length, numbered_by, asked_by, first_standing, numbered, has_mark}
+use Rattle.prepare.specs.Marker.{Marker}
+use Rattle.prepare.specs.Markers.{marker}
+use Rattle.prepare.specs.Numbering.{own_file, is_own_file, placed, stand_after, standing_behind, first_line, line_length, numbered_by, asked_by, first_standing, numbered, has_marker}
 use Rattle.prepare.specs.OwnLines.{IsWhole, IsLine, file_or, first_file_by, first_file, AreOwn, AreFirst, StandFrom}
 use Rattle.prepare.proofs.Lines.{feeds, feeds-append, feeds-replicate, asked_is}
 use Rattle.prepare.proofs.Plain.{unmarked}
@@ -20,7 +20,7 @@ use Rattle.prepare.proofs.Plain.{unmarked}
 unfoldable stand_by : ℕ → Standing → List ℕ → Standing
 stand_by zero s text = s
 stand_by (suc n) s [] = s
-stand_by (suc n) s (b ∷ q) = let line = first_line (b ∷ q) in stand_by n (standing_behind s (mark line) line) (drop (line_length (b ∷ q)) (b ∷ q))
+stand_by (suc n) s (b ∷ q) = let line = first_line (b ∷ q) in stand_by n (standing_behind s (marker line) line) (drop (line_length (b ∷ q)) (b ∷ q))
 
 stand_line : (n : ℕ) (s : Standing) (text : List ℕ) → (stand_by n s text).line ≡ asked_by n s text
 unfolding stand_by asked_by
@@ -40,7 +40,7 @@ same (suc n) (suc m) s (c ∷ q) a b =
     let text = c ∷ q in
     let line = first_line text in
     let len : length (drop (line_length text) text) ≡ length text - line_length text = length-drop (line_length text) text in
-    ap (λ (x : List ℕ). placed s (mark line) line ++ x) (same n m (standing_behind s (mark line) line) (drop (line_length text) text) (omega arith) (omega arith))
+    ap (λ (x : List ℕ). placed s (marker line) line ++ x) (same n m (standing_behind s (marker line) line) (drop (line_length text) text) (omega arith) (omega arith))
 
 -- a run that ends within a text does so whatever stands behind it
 run_by : (t : Bool) (n m k : ℕ) → cond t (1 + n) 0 < suc k → (n < k → m ≡ n) → cond t (1 + m) 0 ≡ cond t (1 + n) 0
@@ -118,12 +118,12 @@ split (suc n) (suc k) m s (x ∷ q) back a b c whole =
     let f = first x q back whole in
     let line = first_line front in
     let rest = drop (line_length front) front in
-    let next = standing_behind s (mark line) line in
+    let next = standing_behind s (marker line) line in
     let len : length rest ≡ length front - line_length front = length-drop (line_length front) front in
-    ap (λ (l : List ℕ). placed s (mark l) l ++ numbered_by n (standing_behind s (mark l) l) (drop (line_length (front ++ back)) (front ++ back))) f.line
-    ∙ ap (λ (r : List ℕ). placed s (mark line) line ++ numbered_by n next r) f.rest
-    ∙ ap (λ (r : List ℕ). placed s (mark line) line ++ r) (split n k m next rest back (omega arith) (omega arith) c f.whole)
-    ∙ sym (append_assoc (placed s (mark line) line) (numbered_by k next rest) (numbered_by m (stand_by k next rest) back))
+    ap (λ (l : List ℕ). placed s (marker l) l ++ numbered_by n (standing_behind s (marker l) l) (drop (line_length (front ++ back)) (front ++ back))) f.line
+    ∙ ap (λ (r : List ℕ). placed s (marker line) line ++ numbered_by n next r) f.rest
+    ∙ ap (λ (r : List ℕ). placed s (marker line) line ++ r) (split n k m next rest back (omega arith) (omega arith) c f.whole)
+    ∙ sym (append_assoc (placed s (marker line) line) (numbered_by k next rest) (numbered_by m (stand_by k next rest) back))
 
 -- which file the standing takes for the model's own
 abbrev Names : Standing → Option (List ℕ) → Type 0
@@ -134,13 +134,13 @@ abbrev or_else : Option (List ℕ) → Option (List ℕ) → Option (List ℕ)
 or_else None o = o
 or_else (Some f) o = Some f
 
-names_line : (s : Standing) (m : Option Mark) (n : ℕ) (o : Option (List ℕ)) → Names s o → Names (stand_after s m n) (or_else o (file_or m None))
+names_line : (s : Standing) (m : Option Marker) (n : ℕ) (o : Option (List ℕ)) → Names s o → Names (stand_after s m n) (or_else o (file_or m None))
 names_line s None n None h = h
 names_line s None n (Some f) h = h
 names_line s (Some m) n None h = (refl, ap (λ (t : Bool). cond t s.own m.file) h)
 names_line s (Some m) n (Some f) h = (refl, ap (λ (t : Bool). cond t s.own m.file) h.0 ∙ h.1)
 
-or_more : (o : Option (List ℕ)) (m : Option Mark) (r : Option (List ℕ)) → or_else (or_else o (file_or m None)) r ≡ or_else o (file_or m r)
+or_more : (o : Option (List ℕ)) (m : Option Marker) (r : Option (List ℕ)) → or_else (or_else o (file_or m None)) r ≡ or_else o (file_or m r)
 or_more None None r = refl
 or_more None (Some m) r = refl
 or_more (Some f) m r = refl
@@ -156,9 +156,9 @@ names (suc n) s [] o h = subst (Names s) (sym (or_none o)) h
 names (suc n) s (b ∷ q) o h =
     let text = b ∷ q in
     let line = first_line text in
-    let next = standing_behind s (mark line) line in
-    subst (Names (stand_by n next (drop (line_length text) text))) (or_more o (mark line) (first_file_by n (drop (line_length text) text)))
-    (names n next (drop (line_length text) text) (or_else o (file_or (mark line) None)) (names_line s (mark line) _ o h))
+    let next = standing_behind s (marker line) line in
+    subst (Names (stand_by n next (drop (line_length text) text))) (or_more o (marker line) (first_file_by n (drop (line_length text) text)))
+    (names n next (drop (line_length text) text) (or_else o (file_or (marker line) None)) (names_line s (marker line) _ o h))
 
 own_by : (s : Standing) (file : List ℕ) (o : Option (List ℕ)) → Names s o → ((o ≡ None) ⊎ (o ≡ Some file)) → own_file s file ≡ file
 own_by s file None h is = ap (λ (t : Bool). cond t s.own file) h
@@ -167,7 +167,7 @@ own_by s file (Some f) h is = ⊎_elim (λ (e : Some f ≡ None). cc) (λ (e : S
 owns : (s : Standing) (file : List ℕ) → own_file s file ≡ file → is_own_file s file ≡ true
 owns s file e = ap (λ (f : List ℕ). bytes_eq f file) e ∙ (bytes_eq-Decides file file).1 refl
 
--- the line of a mark
+-- the line of a marker
 none_by : (t : Bool) (b n : ℕ) (q : List ℕ) → is_line_feed b ≡ t → (t || list_any is_line_feed q) ≡ false → (list_any is_line_feed q ≡ false → n ≡ length q) → cond (not (is_line_feed b)) (1 + n) 0 ≡ suc (length q)
 none_by true b n q e h g = absurd (false≢true (sym h))
 none_by false b n q e h g = let rest : n ≡ length q = g h in ap (λ (x : Bool). cond (not x) (1 + n) 0) e ∙ omega arith
@@ -192,25 +192,25 @@ alone t rest none =
 line_alone : (line rest : List ℕ) → IsLine line → Alone line rest
 line_alone line rest is = subst (λ (x : List ℕ). Alone x rest) (sym is.1) (alone is.0 rest is.2)
 
-one_line : (n : ℕ) (s : Standing) (b : ℕ) (q rest : List ℕ) → Alone (b ∷ q) rest → numbered_by (suc n) s ((b ∷ q) ++ rest) ≡ placed s (mark (b ∷ q)) (b ∷ q) ++ numbered_by n (standing_behind s (mark (b ∷ q)) (b ∷ q)) rest
+one_line : (n : ℕ) (s : Standing) (b : ℕ) (q rest : List ℕ) → Alone (b ∷ q) rest → numbered_by (suc n) s ((b ∷ q) ++ rest) ≡ placed s (marker (b ∷ q)) (b ∷ q) ++ numbered_by n (standing_behind s (marker (b ∷ q)) (b ∷ q)) rest
 unfolding numbered_by
 one_line n s b q rest a =
     let text = (b ∷ q) ++ rest in
     let line : first_line text ≡ b ∷ q = ap (λ (k : ℕ). take k text) a.size ∙ take-append_seam (b ∷ q) rest in
     let back : drop (line_length text) text ≡ rest = ap (λ (k : ℕ). drop k text) a.size ∙ drop-append_seam (b ∷ q) rest in
-    ap (λ (l : List ℕ). placed s (mark l) l ++ numbered_by n (standing_behind s (mark l) l) (drop (line_length text) text)) line
-    ∙ ap (λ (r : List ℕ). placed s (mark (b ∷ q)) (b ∷ q) ++ numbered_by n (standing_behind s (mark (b ∷ q)) (b ∷ q)) r) back
+    ap (λ (l : List ℕ). placed s (marker l) l ++ numbered_by n (standing_behind s (marker l) l) (drop (line_length text) text)) line
+    ∙ ap (λ (r : List ℕ). placed s (marker (b ∷ q)) (b ∷ q) ++ numbered_by n (standing_behind s (marker (b ∷ q)) (b ∷ q)) r) back
 
-mark_line : (n : ℕ) (s : Standing) (line rest : List ℕ) → Alone line rest → numbered_by (suc n) s (line ++ rest) ≡ placed s (mark line) line ++ numbered_by n (standing_behind s (mark line) line) rest
-mark_line n s [] rest a = let none : 0 < 0 = a.some in absurd (omega arith)
-mark_line n s (b ∷ q) rest a = one_line n s b q rest a
+marker_line : (n : ℕ) (s : Standing) (line rest : List ℕ) → Alone line rest → numbered_by (suc n) s (line ++ rest) ≡ placed s (marker line) line ++ numbered_by n (standing_behind s (marker line) line) rest
+marker_line n s [] rest a = let none : 0 < 0 = a.some in absurd (omega arith)
+marker_line n s (b ∷ q) rest a = one_line n s b q rest a
 
 -- lines of the own file
 record Rests (n : ℕ) (s : Standing) (own behind : List ℕ) : Type 0 where
   rest : List ℕ
   is : numbered_by n s (own ++ behind) ≡ own ++ rest
 
-own_lines : (n : ℕ) (s : Standing) (own behind : List ℕ) → length own + length behind ≤ n → s.is_own ≡ true → has_mark own ≡ false → (IsWhole own ⊎ (behind ≡ [])) → Rests n s own behind
+own_lines : (n : ℕ) (s : Standing) (own behind : List ℕ) → length own + length behind ≤ n → s.is_own ≡ true → has_marker own ≡ false → (IsWhole own ⊎ (behind ≡ [])) → Rests n s own behind
 own_lines n s own behind short is_own none ends =
     let stays : numbered_by (length own) s own ≡ own = unmarked (length own) s own (omega arith) is_own none in
     ⊎_elim (λ (w : IsWhole own).
@@ -219,22 +219,22 @@ own_lines n s own behind short is_own none ends =
     (λ (e : behind ≡ []).
     let r : Rests n s own behind = record { rest = []; is = ap (λ (x : List ℕ). numbered_by n s (own ++ x)) e ∙ ap (numbered_by n s) (append-nil own) ∙ same n (length own) s own (omega arith) (omega arith) ∙ stays ∙ sym (append-nil own) } in r) ends
 
-marked : (s : Standing) (m : Mark) (line : List ℕ) → is_own_file s m.file ≡ true → placed s (Some m) line ≡ replicate (m.line - s.line) line_feed
+marked : (s : Standing) (m : Marker) (line : List ℕ) → is_own_file s m.file ≡ true → placed s (Some m) line ≡ replicate (m.line - s.line) line_feed
 marked s m line h = ap (λ (t : Bool). cond t (replicate (m.line - s.line) line_feed) []) h
 
--- behind a mark of the own file
-mark_own : (n : ℕ) (s : Standing) (m : Mark) (line own behind : List ℕ) → mark line ≡ Some m → Alone line (own ++ behind) → length line + (length own + length behind) ≤ suc n → is_own_file s m.file ≡ true → has_mark own ≡ false → (IsWhole own ⊎ (behind ≡ []))
+-- behind a marker of the own file
+marker_own : (n : ℕ) (s : Standing) (m : Marker) (line own behind : List ℕ) → marker line ≡ Some m → Alone line (own ++ behind) → length line + (length own + length behind) ≤ suc n → is_own_file s m.file ≡ true → has_marker own ≡ false → (IsWhole own ⊎ (behind ≡ []))
     → (rest : List ℕ) × (numbered_by (suc n) s (line ++ (own ++ behind)) ≡ replicate (m.line - s.line) line_feed ++ (own ++ rest))
-mark_own n s m line own behind is a short owned none ends =
+marker_own n s m line own behind is a short owned none ends =
     let next = standing_behind s (Some m) line in
     let some : 0 < length line = a.some in
     let r : Rests n next own behind = own_lines n next own behind (omega arith) owned none ends in (
       r.rest,
-      mark_line n s line (own ++ behind) a ∙ ap (λ (o : Option Mark). placed s o line ++ numbered_by n (standing_behind s o line) (own ++ behind)) is
+      marker_line n s line (own ++ behind) a ∙ ap (λ (o : Option Marker). placed s o line ++ numbered_by n (standing_behind s o line) (own ++ behind)) is
           ∙ ap (λ (x : List ℕ). x ++ numbered_by n next (own ++ behind)) (marked s m line owned) ∙ ap (λ (x : List ℕ). replicate (m.line - s.line) line_feed ++ x) r.is,
     )
 
-sized : (text before own : List ℕ) (m : Mark) (h : AreOwn text before own m) (n : ℕ) → length (h.line ++ (own ++ h.behind)) ≡ n → StandFrom (max (line_behind (numbered before)) m.line) own (numbered text)
+sized : (text before own : List ℕ) (m : Marker) (h : AreOwn text before own m) (n : ℕ) → length (h.line ++ (own ++ h.behind)) ≡ n → StandFrom (max (line_behind (numbered before)) m.line) own (numbered text)
 sized text before own m h zero e =
     let a : Alone h.line (own ++ h.behind) = line_alone h.line (own ++ h.behind) h.one in
     let some : 0 < length h.line = a.some in
@@ -248,19 +248,19 @@ sized text before own m h (suc n) e =
     let len' : length (own ++ h.behind) ≡ length own + length h.behind = length-append own h.behind in
     let named : Names s (first_file before) = names (length before) first_standing before None refl in
     let owned : is_own_file s m.file ≡ true = owns s m.file (own_by s m.file (first_file before) named h.is_own) in
-    let behind_mark = mark_own n s m h.line own h.behind h.is_mark (line_alone h.line (own ++ h.behind) h.one) (omega arith) owned h.unmarked h.ends in
+    let behind_marker = marker_own n s m h.line own h.behind h.is_marker (line_alone h.line (own ++ h.behind) h.one) (omega arith) owned h.unmarked h.ends in
     let at : s.line ≡ line_behind (numbered before) = stand_line (length before) first_standing before ∙ sym (asked_is (length before) first_standing before) in
     let feed : feeds (replicate (m.line - s.line) line_feed) ≡ m.line - s.line = feeds-replicate (m.line - s.line) in
     let both : feeds (numbered before ++ replicate (m.line - s.line) line_feed) ≡ feeds (numbered before) + feeds (replicate (m.line - s.line) line_feed) = feeds-append (numbered before) (replicate (m.line - s.line) line_feed) in
     record {
       before = numbered before ++ replicate (m.line - s.line) line_feed;
-      behind = behind_mark.0;
+      behind = behind_marker.0;
       divides = ap numbered h.divides ∙ split (length (before ++ rest)) (length before) (suc n) first_standing before rest (omega arith) (omega arith) (omega arith) h.whole
-          ∙ ap (λ (x : List ℕ). numbered before ++ x) behind_mark.1 ∙ sym (append_assoc (numbered before) (replicate (m.line - s.line) line_feed) (own ++ behind_mark.0));
+          ∙ ap (λ (x : List ℕ). numbered before ++ x) behind_marker.1 ∙ sym (append_assoc (numbered before) (replicate (m.line - s.line) line_feed) (own ++ behind_marker.0));
       line = omega arith;
     }
 
-pub own_stand : (text before own : List ℕ) (m : Mark) → AreOwn text before own m → StandFrom (max (line_behind (numbered before)) m.line) own (numbered text)
+pub own_stand : (text before own : List ℕ) (m : Marker) → AreOwn text before own m → StandFrom (max (line_behind (numbered before)) m.line) own (numbered text)
 own_stand text before own m h = sized text before own m h (length (h.line ++ (own ++ h.behind))) refl
 
 pub first_stand : (text own : List ℕ) → AreFirst text own → StandFrom 1 own (numbered text)

@@ -1,40 +1,40 @@
--- The turns of a text are the text, and where nothing is mended they are written as it is.
+-- The stretches of a text are the text, and where nothing is mended they are written as it is.
 use Rattle.std.proofs.Common.{◌≡◌, ℕ, zero, suc, ◌-◌, ◌≤◌, Bool, true, false, not, cond, ◌&&◌, ◌||◌, List, [], ◌∷◌, ◌++◌, Option, Some, None, length, take, drop, sym, refl, ap, ◌∙◌, append_assoc, append-nil, take-append-drop, length-drop, map, arith}
 use Rattle.std.specs.Prelude.{is_some, ◌==◌}
 use Rattle.std.specs.List.{filter, list_all, list_any}
 use Rattle.std.proofs.lemmas.Bool.{false≢true}
 use Rattle.profile.specs.Characters.{backslash}
-use Rattle.promela_text.specs.declared.piece.Piece.{Piece}
-use Rattle.promela_text.specs.declared.piece.Piece.TheVariants.{Skipped, Token}
+use Rattle.promela_text.specs.declared.lexeme.Lexeme.{Lexeme}
+use Rattle.promela_text.specs.declared.lexeme.Lexeme.TheVariants.{Skipped, Token}
 use Rattle.promela_text.specs.Tokens.{is_line_feed}
-use Rattle.prepare.specs.declared.place.Place.{Place}
-use Rattle.prepare.specs.declared.place.Supply.{Supply}
-use Rattle.prepare.specs.declared.place.Supply.TheVariants as supply
-use Rattle.prepare.specs.declared.turn.Form.{Form}
-use Rattle.prepare.specs.declared.turn.Form.TheVariants as form
+use Rattle.prepare.specs.declared.context.Context.{Context}
+use Rattle.prepare.specs.declared.context.Supply.{Supply}
+use Rattle.prepare.specs.declared.context.Supply.TheVariants as supply
+use Rattle.prepare.specs.declared.stretch.Form.{Form}
+use Rattle.prepare.specs.declared.stretch.Form.TheVariants as form
 use Rattle.prepare.specs.Standing.{Standing}
-use Rattle.prepare.specs.Mark.{Mark}
-use Rattle.prepare.specs.Marks.{mark}
+use Rattle.prepare.specs.Marker.{Marker}
+use Rattle.prepare.specs.Markers.{marker}
 use Rattle.prepare.specs.Roles.{role}
-use Rattle.prepare.specs.Places.{written, behind}
+use Rattle.prepare.specs.Contexts.{written, behind}
 use Rattle.prepare.specs.Written.{Written}
-use Rattle.prepare.specs.Turns.{Rest, piece_at, turn, on_piece, turns_by}
-use Rattle.prepare.specs.Spelling.{begins_feed, is_break, unless_break, escapes, unbroken, shown, divider, spelled_turn, spelled}
-use Rattle.prepare.specs.Numbering.{included, placed, stand_after, standing_behind, first_line, line_length, numbered_by, has_mark_by}
+use Rattle.prepare.specs.Stretches.{Rest, lexeme_at, stretch, on_lexeme, stretches_by}
+use Rattle.prepare.specs.Spelling.{begins_feed, is_break, unless_break, escapes, unbroken, shown, divider, spelled_stretch, spelled}
+use Rattle.prepare.specs.Numbering.{included, placed, stand_after, standing_behind, first_line, line_length, numbered_by, has_marker_by}
 use Rattle.prepare.specs.Laws.{source, sources, is_nothing, stays, is_plain}
 
-on_sources : (n : ℕ) (x : Piece) (fresh : Bool) (p : Place) (gap text : List ℕ) (go : Rest) → ((f : Bool) (q : Place) (g t : List ℕ) → sources (go f q g t) ≡ g ++ t) → sources (on_piece n x fresh p gap text go) ≡ gap ++ text
-unfolding turn
+on_sources : (n : ℕ) (x : Lexeme) (fresh : Bool) (p : Context) (gap text : List ℕ) (go : Rest) → ((f : Bool) (q : Context) (g t : List ℕ) → sources (go f q g t) ≡ g ++ t) → sources (on_lexeme n x fresh p gap text go) ≡ gap ++ text
+unfolding stretch
 on_sources n Skipped fresh p gap text go h = h _ _ (gap ++ take n text) (drop n text) ∙ append_assoc gap (take n text) (drop n text) ∙ ap (λ (xs : List ℕ). gap ++ xs) (take-append-drop n text)
 on_sources n (Token k) fresh p gap text go h =
     ap (λ (xs : List ℕ). (gap ++ take n text) ++ xs) (h false (behind p (role k (take n text))) [] (drop n text)) ∙ append_assoc gap (take n text) (drop n text) ∙ ap (λ (xs : List ℕ). gap ++ xs) (take-append-drop n text)
 
--- the turns of a text are the text
-pub sources_are : (fuel : ℕ) (fresh : Bool) (p : Place) (gap text : List ℕ) → sources (turns_by fuel fresh p gap text) ≡ gap ++ text
-unfolding turns_by
+-- the stretches of a text are the text
+pub sources_are : (fuel : ℕ) (fresh : Bool) (p : Context) (gap text : List ℕ) → sources (stretches_by fuel fresh p gap text) ≡ gap ++ text
+unfolding stretches_by
 sources_are zero fresh p gap text = append-nil ((gap ++ text) ++ []) ∙ append-nil (gap ++ text)
 sources_are (suc fuel) fresh p gap [] = append-nil (gap ++ [])
-sources_are (suc fuel) fresh p gap (b ∷ q) = on_sources (piece_at fresh (b ∷ q)).0 (piece_at fresh (b ∷ q)).1 fresh p gap (b ∷ q) (turns_by fuel) (sources_are fuel)
+sources_are (suc fuel) fresh p gap (b ∷ q) = on_sources (lexeme_at fresh (b ∷ q)).0 (lexeme_at fresh (b ∷ q)).1 fresh p gap (b ∷ q) (stretches_by fuel) (sources_are fuel)
 
 pub and_left : (a b : Bool) → (a && b) ≡ true → a ≡ true
 and_left true b h = refl
@@ -92,32 +92,32 @@ nothing_written supply.Nothing gap h = refl
 nothing_written supply.Separator gap h = absurd (false≢true h)
 nothing_written supply.Skip gap h = absurd (false≢true h)
 
-turn_stays : (t : Written) → is_plain t ≡ true → spelled_turn t ≡ source t
-turn_stays t h =
+stretch_stays : (t : Written) → is_plain t ≡ true → spelled_stretch t ≡ source t
+stretch_stays t h =
     ap (λ (xs : List ℕ). xs ++ (t.gap ++ shown t.form t.token)) (nothing_written t.supply t.gap (and_left (is_nothing t.supply) (stays t.form t.token) h))
     ∙ ap (λ (xs : List ℕ). t.gap ++ xs) (shown_stays t.form t.token (and_right (is_nothing t.supply) (stays t.form t.token) h))
 
 pub all_stay : (ts : List Written) → list_all is_plain ts ≡ true → spelled ts ≡ sources ts
 all_stay [] h = refl
 all_stay (t ∷ ts) h =
-    ap (λ (xs : List ℕ). xs ++ spelled ts) (turn_stays t (and_left (is_plain t) (list_all is_plain ts) h))
+    ap (λ (xs : List ℕ). xs ++ spelled ts) (stretch_stays t (and_left (is_plain t) (list_all is_plain ts) h))
     ∙ ap (λ (xs : List ℕ). source t ++ xs) (all_stay ts (and_right (is_plain t) (list_all is_plain ts) h))
 
-no_mark : (o : Option Mark) → is_some o ≡ false → o ≡ None
-no_mark None h = refl
-no_mark (Some m) h = absurd (false≢true (sym h))
+no_marker : (o : Option Marker) → is_some o ≡ false → o ≡ None
+no_marker None h = refl
+no_marker (Some m) h = absurd (false≢true (sym h))
 
-placed_by : (s : Standing) (m : Option Mark) (line : List ℕ) → m ≡ None → s.is_own ≡ true → placed s m line ≡ line
+placed_by : (s : Standing) (m : Option Marker) (line : List ℕ) → m ≡ None → s.is_own ≡ true → placed s m line ≡ line
 placed_by s None line e own = ap (λ (t : Bool). cond t line (map included line)) own
 placed_by s (Some m) line e own = cc
 
-owned_by : (s : Standing) (m : Option Mark) (n : ℕ) → m ≡ None → s.is_own ≡ true → (stand_after s m n).is_own ≡ true
+owned_by : (s : Standing) (m : Option Marker) (n : ℕ) → m ≡ None → s.is_own ≡ true → (stand_after s m n).is_own ≡ true
 owned_by s None n e own = own
 owned_by s (Some m) n e own = cc
 
--- lines without marks stay
-pub unmarked : (fuel : ℕ) (s : Standing) (text : List ℕ) → length text ≤ fuel → s.is_own ≡ true → has_mark_by fuel text ≡ false → numbered_by fuel s text ≡ text
-unfolding numbered_by has_mark_by
+-- lines without markers stay
+pub unmarked : (fuel : ℕ) (s : Standing) (text : List ℕ) → length text ≤ fuel → s.is_own ≡ true → has_marker_by fuel text ≡ false → numbered_by fuel s text ≡ text
+unfolding numbered_by has_marker_by
 unmarked zero s [] short own none = refl
 unmarked zero s (b ∷ q) short own none = absurd (omega arith)
 unmarked (suc fuel) s [] short own none = refl
@@ -125,9 +125,9 @@ unmarked (suc fuel) s (b ∷ q) short own none =
     let text = b ∷ q in
     let line = first_line text in
     let n = line_length text in
-    let plain : mark line ≡ None = no_mark (mark line) (or_left (is_some (mark line)) (has_mark_by fuel (drop n text)) none) in
+    let plain : marker line ≡ None = no_marker (marker line) (or_left (is_some (marker line)) (has_marker_by fuel (drop n text)) none) in
     let len : length (drop n text) ≡ length text - n = length-drop n text in
-    let rest : numbered_by fuel (standing_behind s (mark line) line) (drop n text) ≡ drop n text =
-    unmarked fuel (standing_behind s (mark line) line) (drop n text) (omega arith) (owned_by s (mark line) _ plain own) (or_right (is_some (mark line)) (has_mark_by fuel (drop n text)) none) in
-    ap (λ (xs : List ℕ). xs ++ numbered_by fuel (standing_behind s (mark line) line) (drop n text)) (placed_by s (mark line) line plain own)
+    let rest : numbered_by fuel (standing_behind s (marker line) line) (drop n text) ≡ drop n text =
+    unmarked fuel (standing_behind s (marker line) line) (drop n text) (omega arith) (owned_by s (marker line) _ plain own) (or_right (is_some (marker line)) (has_marker_by fuel (drop n text)) none) in
+    ap (λ (xs : List ℕ). xs ++ numbered_by fuel (standing_behind s (marker line) line) (drop n text)) (placed_by s (marker line) line plain own)
     ∙ ap (λ (xs : List ℕ). line ++ xs) rest ∙ take-append-drop n text

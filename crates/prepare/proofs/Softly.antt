@@ -1,19 +1,19 @@
--- What is skipped stays so where another text stands behind it, and every piece stays one on a fresh line.
+-- What is skipped stays so where another text stands behind it, and every lexeme stays one on a fresh line.
 use Rattle.std.proofs.Common.{◌≡◌, ℕ, suc, ◌+◌, ◌<◌, Bool, true, false, not, cond, ◌&&◌, ◌||◌, List, [], ◌∷◌, ◌++◌, Option, Some, None, length, take, sym, refl, ap, ◌∙◌, subst, inl, ⊎_elim, arith}
 use Rattle.std.specs.Prelude.{◌⊎◌, ◌==◌}
 use Rattle.std.specs.List.{prefix_len}
 use Rattle.std.specs.Option.{option_map}
 use Rattle.std.proofs.lemmas.Bool.{false≢true}
 use Rattle.std.proofs.lemmas.Bool.Decides.{nat_tests}
-use Rattle.promela_text.specs.declared.piece.Class.{Class}
-use Rattle.promela_text.specs.declared.piece.Class.TheVariants as class
-use Rattle.promela_text.specs.declared.piece.Piece.{Piece}
-use Rattle.promela_text.specs.declared.piece.Piece.TheVariants.{Skipped, Token}
+use Rattle.promela_text.specs.declared.lexeme.Class.{Class}
+use Rattle.promela_text.specs.declared.lexeme.Class.TheVariants as class
+use Rattle.promela_text.specs.declared.lexeme.Lexeme.{Lexeme}
+use Rattle.promela_text.specs.declared.lexeme.Lexeme.TheVariants.{Skipped, Token}
 use Rattle.pml_token.specs.declared.token.Kind.{Kind}
 use Rattle.pml_token.specs.declared.token.Kind.TheVariants as kind
-use Rattle.promela_text.specs.Tables.{word_kind, sign_of_one, sign_of_two}
+use Rattle.promela_text.specs.Tables.{word_kind}
 use Rattle.promela_text.specs.Tokens.{is_blank, is_letter, is_digit, is_name_byte, is_in_line, class_of, fresh_from, is_line_feed}
-use Rattle.pml_lex.specs.Scanning.{comment_end, quote_end, slash, sign, hash, long_or_short, next_by, next}
+use Rattle.pml_lex.specs.Scanning.{comment_end, quote_end, slash, sign, hash, long_or_short, next_by, next, sign_of_one, sign_of_two}
 use Rattle.pml_lex.proofs.Ends.{IsWithin, comment_within}
 use Rattle.prepare.proofs.Stays.{head, Stops, size, what, stops, comment_stays, end_of, next_stays}
 
@@ -27,14 +27,14 @@ in_line q back b e here h = false≢true (sym (subst (Stops is_in_line) e (stops
     at : is_line_feed b ≡ false → is_in_line b ≡ true
     at x = ap not x
 
-no_token : (n : Option ℕ) (x : Kind) (m : ℕ) → option_map (λ (i : ℕ). let r : ℕ × Piece = (i, Token x) in r) n ≡ Some (m, Skipped) → ⊥
+no_token : (n : Option ℕ) (x : Kind) (m : ℕ) → option_map (λ (i : ℕ). let r : ℕ × Lexeme = (i, Token x) in r) n ≡ Some (m, Skipped) → ⊥
 no_token None x m e = cc
 no_token (Some n) x m e = let same : Token x ≡ Skipped = ap what e in cc
 
 slash_by : (t1 t2 : Bool) (o o' : Option ℕ) (n n' m : ℕ) → (o ≡ Some m → o' ≡ Some m) → (2 + n ≡ m → ⊥)
-    → cond t1 (option_map (λ (i : ℕ). let r : ℕ × Piece = (i, Skipped) in r) o) (cond t2 (Some (2 + n, Skipped)) (Some (1, Token kind.Slash))) ≡ Some (m, Skipped)
-    → cond t1 (option_map (λ (i : ℕ). let r : ℕ × Piece = (i, Skipped) in r) o') (cond t2 (Some (2 + n', Skipped)) (Some (1, Token kind.Slash))) ≡ Some (m, Skipped)
-slash_by true t2 o o' n n' m f g e = ap (option_map (λ (i : ℕ). let r : ℕ × Piece = (i, Skipped) in r)) (f (end_of o Skipped Skipped m e))
+    → cond t1 (option_map (λ (i : ℕ). let r : ℕ × Lexeme = (i, Skipped) in r) o) (cond t2 (Some (2 + n, Skipped)) (Some (1, Token kind.Slash))) ≡ Some (m, Skipped)
+    → cond t1 (option_map (λ (i : ℕ). let r : ℕ × Lexeme = (i, Skipped) in r) o') (cond t2 (Some (2 + n', Skipped)) (Some (1, Token kind.Slash))) ≡ Some (m, Skipped)
+slash_by true t2 o o' n n' m f g e = ap (option_map (λ (i : ℕ). let r : ℕ × Lexeme = (i, Skipped) in r)) (f (end_of o Skipped Skipped m e))
 slash_by false true o o' n n' m f g e = absurd (g (ap size e))
 slash_by false false o o' n n' m f g e = let same : Token kind.Slash ≡ Skipped = ap what e in cc
 
@@ -42,7 +42,7 @@ slash_skips : (q back back' : List ℕ) (b : ℕ) → head back ≡ Some b → i
 slash_skips [] [] back' b h here e = cc
 slash_skips [] (a ∷ r) back' b h here e = absurd (alone (a == 42) (a == 47) (comment_end 2 r) (prefix_len is_in_line r) (2 + length r) (comment_within 2 r) e)
   where
-    alone : (t1 t2 : Bool) (o : Option ℕ) (n most : ℕ) → IsWithin 4 most o → cond t1 (option_map (λ (i : ℕ). let r : ℕ × Piece = (i, Skipped) in r) o) (cond t2 (Some (2 + n, Skipped)) (Some (1, Token kind.Slash))) ≡ Some (1, Skipped) → ⊥
+    alone : (t1 t2 : Bool) (o : Option ℕ) (n most : ℕ) → IsWithin 4 most o → cond t1 (option_map (λ (i : ℕ). let r : ℕ × Lexeme = (i, Skipped) in r) o) (cond t2 (Some (2 + n, Skipped)) (Some (1, Token kind.Slash))) ≡ Some (1, Skipped) → ⊥
     alone true t2 None n most w e = cc
     alone true t2 (Some i) n most w e = let same : i ≡ 1 = ap size e in absurd (omega arith)
     alone false true o n most w e = let same : 2 + n ≡ 1 = ap size e in absurd (omega arith)
@@ -89,7 +89,7 @@ skip_stays f q back back' some follows e =
 abbrev pub Least : Bool → Bool → Type 0
 Least f f' = f ≡ true → f' ≡ true
 
-class_fresher : (c : Class) (f f' : Bool) (b : ℕ) (q : List ℕ) (x : ℕ × Piece) → Least f f' → next_by f c b q ≡ Some x → next_by f' c b q ≡ Some x
+class_fresher : (c : Class) (f f' : Bool) (b : ℕ) (q : List ℕ) (x : ℕ × Lexeme) → Least f f' → next_by f c b q ≡ Some x → next_by f' c b q ≡ Some x
 class_fresher class.Hash true f' b q x l e = ap (λ (t : Bool). hash t q) (l refl) ∙ e
 class_fresher class.Hash false f' b q x l e = cc
 class_fresher class.Blank f f' b q x l e = e
@@ -100,7 +100,7 @@ class_fresher class.Slash f f' b q x l e = e
 class_fresher class.Other f f' b q x l e = e
 
 -- what a scan finds it finds too where the line has only blanks
-pub next_fresher : (f f' : Bool) (q : List ℕ) (x : ℕ × Piece) → Least f f' → next f q ≡ Some x → next f' q ≡ Some x
+pub next_fresher : (f f' : Bool) (q : List ℕ) (x : ℕ × Lexeme) → Least f f' → next f q ≡ Some x → next f' q ≡ Some x
 unfolding next
 next_fresher f f' [] x l e = e
 next_fresher f f' (b ∷ q) x l e = class_fresher (class_of b) f f' b q x l e

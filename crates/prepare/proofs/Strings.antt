@@ -1,16 +1,16 @@
--- One turn of the loops over the bytes of a string.
+-- One stretch of the loops over the bytes of a string.
 use Rattle.std.proofs.Common.{◌≡◌, ℕ, ◌+◌, ◌<◌, ◌≤◌, Bool, true, false, eqb, List, [], ◌∷◌, length, get_or, take, drop, length-drop, ◌-◌, Some, None, ◌++◌, sym, refl, ap, ◌∙◌, append_assoc, append-nil}
 use Rattle.std.specs.Prelude.{if◌then◌else◌}
 use Rattle.std.proofs.Math.ListN.{drop_of_length-le}
 use Rattle.std.proofs.Math.Seq.{take-length}
 use Rattle.pml_lex.proofs.Turns.{from_place}
-use Rattle.prepare.specs.Turns.{string_end}
+use Rattle.prepare.specs.Stretches.{string_end}
 use Rattle.prepare.specs.Spelling.{is_break, unless_break, escapes, unbroken}
 
-pub string_turn : (xs : List ℕ) (i : ℕ) (e : Bool) → i < length xs →
+pub string_stretch : (xs : List ℕ) (i : ℕ) (e : Bool) → i < length xs →
     string_end i e (drop i xs) ≡ (if e then string_end (i + 1) false (drop (i + 1) xs) else (if eqb (get_or xs i 0) 34 then Some (i + 1) else string_end (i + 1) (eqb (get_or xs i 0) 92) (drop (i + 1) xs)))
 unfolding string_end
-string_turn xs i e h = ap (string_end i e) (from_place xs i h)
+string_stretch xs i e h = ap (string_end i e) (from_place xs i h)
 
 pub string_none : (xs : List ℕ) (i : ℕ) (e : Bool) → length xs ≤ i → string_end i e (drop i xs) ≡ None
 unfolding string_end

@@ -7,7 +7,7 @@ use Rattle.pml_token.specs.declared.token.Kind.{Kind}
 use Rattle.pml_token.specs.declared.token.Kind.TheVariants as kind
 use Rattle.pml_token.specs.Word.{same_kind}
 use Rattle.promela_text.specs.Tokens.{is_line_feed}
-use Rattle.prepare.specs.declared.marks.TheConstants.{MOST_LINE}
+use Rattle.prepare.specs.declared.markers.TheConstants.{MOST_LINE}
 use Rattle.prepare.specs.declared.changes.Head.{Head}
 use Rattle.prepare.specs.declared.changes.Head.TheVariants as head
 use Rattle.prepare.specs.declared.changes.Change.{Change}
@@ -31,7 +31,7 @@ head_behind head.Enters k t = if same_kind k kind.Name then head.Counts else beg
 head_behind head.Counts k t = if is_in k t then head.In else begun k
 head_behind _ k t = begun k
 
--- whether a token of this kind stands at the front of turns
+-- whether a token of this kind stands at the front of stretches
 abbrev pub begins_with : Kind → List Written → Bool
 begins_with k [] = false
 begins_with k (t ∷ ts) = same_kind t.kind k
@@ -41,7 +41,7 @@ abbrev pub last_of : Option ℕ → Option ℕ
 last_of None = None
 last_of (Some n) = if nat_lt 0 n then Some (n - 1) else None
 
--- the number of the last element of an array whose name stands before `)` at the front of turns
+-- the number of the last element of an array whose name stands before `)` at the front of stretches
 abbrev pub last_element : List Declared → List Written → Option ℕ
 last_element ds [] = None
 last_element ds (t ∷ ts) = if same_kind t.kind kind.Name && begins_with kind.CloseParen ts then last_of (agreed t.token ds) else None
@@ -57,7 +57,7 @@ range (Some n) = change.Range n
 abbrev pub colon_of_subtype : List Written → Change
 colon_of_subtype ts = if begins_with kind.Name ts then change.Blanked else change.Left
 
--- what becomes of a token, where `ts` are the turns behind it
+-- what becomes of a token, where `ts` are the stretches behind it
 abbrev pub change_of : List Declared → Head → Written → List Written → Change
 change_of ds head.Typed t ts = if same_kind t.kind kind.Colon then colon_of_subtype ts else change.Kept
 change_of ds head.Subtyped t ts = if same_kind t.kind kind.Name then change.Blanked else change.Kept
@@ -73,7 +73,7 @@ abbrev pub exchanges_by : List Declared → Head → List Written → List Excha
 exchanges_by ds h [] = []
 exchanges_by ds h (t ∷ ts) = record { gap = t.gap; token = t.token; change = change_of ds h t ts } ∷ exchanges_by ds (head_behind h t.kind t.token) ts
 
--- what becomes of turns
+-- what becomes of stretches
 abbrev pub exchanges : List Written → List Exchange
 exchanges ts = exchanges_by (declared ts) head.Outside ts
 

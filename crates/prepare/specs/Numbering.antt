@@ -1,15 +1,15 @@
--- The lines of a text, put where its marks say.
+-- The lines of a text, put where its markers say.
 use Rattle.std.specs.Prelude.{ℕ, zero, suc, ◌+◌, ◌-◌, Bool, true, false, ◌||◌, ◌==◌, if◌then◌else◌, List, [], ◌∷◌, ◌++◌, length, take, drop, map, replicate, count_by, min, max, nat_eq, is_some, Option, Some, None}
 use Rattle.std.specs.Str.{bytes_eq}
 use Rattle.std.specs.List.{prefix_len, starts_with}
 use Rattle.profile.specs.Characters.{line_feed}
 use Rattle.prepare.specs.declared.TheConstants.{FORM_FEED}
 use Rattle.promela_text.specs.Tokens.{is_in_line, is_line_feed}
-use Rattle.prepare.specs.Mark.{Mark}
-use Rattle.prepare.specs.Marks.{mark}
+use Rattle.prepare.specs.Marker.{Marker}
+use Rattle.prepare.specs.Markers.{marker}
 use Rattle.prepare.specs.Standing.{Standing}
 
--- the file that is the model's own, where a mark names this one
+-- the file that is the model's own, where a marker names this one
 abbrev pub own_file : Standing → List ℕ → List ℕ
 own_file s file = if s.is_named then s.own else file
 
@@ -20,22 +20,22 @@ is_own_file s file = bytes_eq (own_file s file) file
 abbrev pub included : ℕ → ℕ
 included b = if b == line_feed then FORM_FEED else b
 
--- what is written of a line: a line of the own file as it is, one of another file on the line of its `#include`, and of a mark of the own
+-- what is written of a line: a line of the own file as it is, one of another file on the line of its `#include`, and of a marker of the own
 -- file the line feeds that lead to its line
-abbrev pub placed : Standing → Option Mark → List ℕ → List ℕ
+abbrev pub placed : Standing → Option Marker → List ℕ → List ℕ
 placed s None line = if s.is_own then line else map included line
 placed s (Some m) line = if is_own_file s m.file then replicate (m.line - s.line) line_feed else []
 
--- the line that is written to behind a line of the text: a mark leads no line back
-abbrev pub line_after : Standing → Option Mark → List ℕ → ℕ
+-- the line that is written to behind a line of the text: a marker leads no line back
+abbrev pub line_after : Standing → Option Marker → List ℕ → ℕ
 line_after s None line = if s.is_own then s.line + count_by is_line_feed line else s.line
 line_after s (Some m) line = if is_own_file s m.file then max s.line m.line else s.line
 
-abbrev pub stand_after : Standing → Option Mark → ℕ → Standing
+abbrev pub stand_after : Standing → Option Marker → ℕ → Standing
 stand_after s None n = record s { line = n }
 stand_after s (Some m) n = record { is_named = true; own = own_file s m.file; is_own = is_own_file s m.file; line = n }
 
-abbrev pub standing_behind : Standing → Option Mark → List ℕ → Standing
+abbrev pub standing_behind : Standing → Option Marker → List ℕ → Standing
 standing_behind s m line = stand_after s m (line_after s m line)
 
 -- how long the first line is, with its line feed
@@ -52,7 +52,7 @@ numbered_by (suc n) s [] = []
 numbered_by (suc n) s (b ∷ q) =
     let text = b ∷ q in
     let line = first_line text in
-    placed s (mark line) line ++ numbered_by n (standing_behind s (mark line) line) (drop (line_length text) text)
+    placed s (marker line) line ++ numbered_by n (standing_behind s (marker line) line) (drop (line_length text) text)
 
 abbrev pub first_standing : Standing
 first_standing = record { is_named = false; own = []; is_own = true; line = 1 }
@@ -61,27 +61,27 @@ first_standing = record { is_named = false; own = []; is_own = true; line = 1 }
 abbrev pub bare : List ℕ → List ℕ
 bare text = if starts_with nat_eq text (239 ∷ 187 ∷ 191 ∷ []) then drop 3 text else text
 
--- the text with its lines where its marks say
+-- the text with its lines where its markers say
 abbrev pub numbered : List ℕ → List ℕ
 numbered text = numbered_by (length text) first_standing text
 
--- the last line that the marks ask for: the line behind the text, as they count
+-- the last line that the markers ask for: the line behind the text, as they count
 unfoldable pub asked_by : ℕ → Standing → List ℕ → ℕ
 asked_by zero s text = s.line
 asked_by (suc n) s [] = s.line
 asked_by (suc n) s (b ∷ q) =
     let text = b ∷ q in
     let line = first_line text in
-    asked_by n (standing_behind s (mark line) line) (drop (line_length text) text)
+    asked_by n (standing_behind s (marker line) line) (drop (line_length text) text)
 
 abbrev pub lines_asked : List ℕ → ℕ
 lines_asked text = asked_by (length text) first_standing text
 
--- whether some line is a mark
-unfoldable pub has_mark_by : ℕ → List ℕ → Bool
-has_mark_by zero text = false
-has_mark_by (suc n) [] = false
-has_mark_by (suc n) (b ∷ q) = is_some (mark (first_line (b ∷ q))) || has_mark_by n (drop (line_length (b ∷ q)) (b ∷ q))
+-- whether some line is a marker
+unfoldable pub has_marker_by : ℕ → List ℕ → Bool
+has_marker_by zero text = false
+has_marker_by (suc n) [] = false
+has_marker_by (suc n) (b ∷ q) = is_some (marker (first_line (b ∷ q))) || has_marker_by n (drop (line_length (b ∷ q)) (b ∷ q))
 
-abbrev pub has_mark : List ℕ → Bool
-has_mark text = has_mark_by (length text) text
+abbrev pub has_marker : List ℕ → Bool
+has_marker text = has_marker_by (length text) text

@@ -3,10 +3,10 @@ use Rattle.std.specs.Prelude.{◌≡◌, ◌<◌, ℕ, ◌-◌, Bool, true, fals
 use Rattle.std.specs.List.{list_any}
 use Rattle.pml_token.specs.declared.token.Kind.{Kind}
 use Rattle.pml_token.specs.declared.token.Kind.TheVariants as kind
-use Rattle.prepare.specs.declared.place.Supply.TheVariants.{Separator, Skip}
-use Rattle.prepare.specs.Places.{deeper}
+use Rattle.prepare.specs.declared.context.Supply.TheVariants.{Separator, Skip}
+use Rattle.prepare.specs.Contexts.{deeper}
 use Rattle.prepare.specs.Written.{Written}
-use Rattle.prepare.specs.Turns.{ends_line}
+use Rattle.prepare.specs.Stretches.{ends_line}
 use Rattle.prepare.specs.Blocks.{is_blanked, open_behind}
 
 -- what a statement may end with: a name, a number, a word that is a statement or an expression, `++`, `--`, `)`, `]`, or the `}` of a channel

@@ -5,12 +5,12 @@ use lib.Chars.{codes}
 use Rattle.pml_token.specs.declared.token.Kind.{Kind}
 use Rattle.pml_token.specs.declared.token.Kind.TheVariants as kind
 use Rattle.pml_token.specs.Word.{same_kind}
-use Rattle.prepare.specs.declared.marks.TheConstants.{MOST_LINE}
+use Rattle.prepare.specs.declared.markers.TheConstants.{MOST_LINE}
 use Rattle.prepare.specs.declared.sizes.Lead.{Lead}
 use Rattle.prepare.specs.declared.sizes.Lead.TheVariants as lead
 use Rattle.prepare.specs.declared.sizes.Reading.{Reading}
-use Rattle.prepare.specs.Marks.{number}
-use Rattle.prepare.specs.Places.{deeper}
+use Rattle.prepare.specs.Markers.{number}
+use Rattle.prepare.specs.Contexts.{deeper}
 use Rattle.prepare.specs.Written.{Written}
 
 -- a word that is a type
@@ -96,12 +96,12 @@ start = record { lead = lead.Other; goes_on = false; depth = 0; is_fields = fals
 abbrev pub elements : List ℕ → ℕ
 elements digits = if nat_le (number digits) MOST_LINE then number digits else 0
 
--- `[5]` at the front of turns is the size 5; 0 where no number stands so
+-- `[5]` at the front of stretches is the size 5; 0 where no number stands so
 abbrev pub size_at : List Written → ℕ
 size_at (o ∷ n ∷ c ∷ ts) = if same_kind o.kind kind.OpenBracket && (same_kind n.kind kind.Number && same_kind c.kind kind.CloseBracket) then elements n.token else 0
 size_at _ = 0
 
--- the size that is declared before these turns: parameters of inlines have none
+-- the size that is declared before these stretches: parameters of inlines have none
 abbrev pub size_behind : Reading → List Written → ℕ
 size_behind r ts = if r.is_header then 0 else size_at ts
 
@@ -110,11 +110,11 @@ pub record Declared : Type 0 where
   pub name : List ℕ
   pub size : ℕ
 
--- what one turn declares, where `ts` are those behind it
+-- what one stretch declares, where `ts` are those behind it
 abbrev pub declared_at : Reading → Written → List Written → List Declared
 declared_at r t ts = if declares r t.kind then record { name = t.token; size = size_behind r ts } ∷ [] else []
 
--- all that turns declare
+-- all that stretches declare
 abbrev pub declared_by : Reading → List Written → List Declared
 declared_by r [] = []
 declared_by r (t ∷ ts) = declared_at r t ts ++ declared_by (behind r t.kind t.token) ts

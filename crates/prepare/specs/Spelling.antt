@@ -1,15 +1,15 @@
--- What is written of turns.
+-- What is written of stretches.
 use Rattle.std.specs.Prelude.{ℕ, Bool, true, false, not, ◌&&◌, ◌||◌, ◌==◌, if◌then◌else◌, List, [], ◌∷◌, ◌++◌, map}
 use Rattle.std.specs.List.{filter, flat_map}
 use lib.Chars.{codes}
 use Rattle.profile.specs.Characters.{line_feed, space, backslash}
 use Rattle.prepare.specs.declared.TheConstants.{FORM_FEED}
 use Rattle.promela_text.specs.Tokens.{is_line_feed}
-use Rattle.prepare.specs.declared.place.Supply.{Supply}
-use Rattle.prepare.specs.declared.place.Supply.TheVariants as as_supply
-use Rattle.prepare.specs.declared.turn.Form.{Form}
-use Rattle.prepare.specs.declared.turn.Form.TheVariants as form
-use Rattle.prepare.specs.Places.{written}
+use Rattle.prepare.specs.declared.context.Supply.{Supply}
+use Rattle.prepare.specs.declared.context.Supply.TheVariants as as_supply
+use Rattle.prepare.specs.declared.stretch.Form.{Form}
+use Rattle.prepare.specs.declared.stretch.Form.TheVariants as form
+use Rattle.prepare.specs.Contexts.{written}
 use Rattle.prepare.specs.Written.{Written}
 
 -- a blank in place of a byte that ends no line, of the model's own file or of an included one
@@ -52,13 +52,13 @@ abbrev pub divider : Supply → List ℕ → List ℕ
 divider as_supply.Skip [] = codes " "
 divider _ _ = []
 
--- what is written before the gap of a turn
+-- what is written before the gap of a stretch
 abbrev pub supplied : Written → List ℕ
 supplied t = written t.supply ++ divider t.supply t.gap
 
--- what is written of a turn
-abbrev pub spelled_turn : Written → List ℕ
-spelled_turn t = supplied t ++ (t.gap ++ shown t.form t.token)
+-- what is written of a stretch
+abbrev pub spelled_stretch : Written → List ℕ
+spelled_stretch t = supplied t ++ (t.gap ++ shown t.form t.token)
 
 abbrev pub spelled : List Written → List ℕ
-spelled ts = flat_map spelled_turn ts
+spelled ts = flat_map spelled_stretch ts

@@ -2,7 +2,7 @@
 use Rattle.std.specs.Prelude.{ℕ, Bool, List}
 
 pub record Standing : Type 0 where
-  -- whether a mark has named the model's own file, and its name
+  -- whether a marker has named the model's own file, and its name
   pub is_named : Bool
   pub own : List ℕ
   -- whether the lines are those of that file

@@ -6,10 +6,10 @@ ghost use Rattle.prepare.specs.Sizes.{declared, agreed};
 ghost use Rattle.prepare.specs.Changes as changes;
 ghost use Rattle.prepare.specs.Found.{AreSizes};
 
-use crate::marks::MOST_LINE;
+use crate::markers::MOST_LINE;
 use crate::sizes::{Sizes, is_in, sizes_of};
 use crate::spelling::{add_blanks, add_feeds};
-use crate::turn::Turn;
+use crate::stretch::Stretch;
 use itoa::Buffer;
 use pml_token::token::{Kind, same_kind};
 use std::alloc::{AllocError, Global};
@@ -65,7 +65,7 @@ impl<'t> Model for Exchange<'t> {
 }
 
 impl<'t> Exchange<'t> {
-    /// The blanks, comments and marks before the token.
+    /// The blanks, comments and markers before the token.
     pub fn gap(&self) -> &'t [u8]
         ensures { result.now ≡ self.now.gap }
     {
@@ -133,11 +133,11 @@ fn head_behind(head: Head, kind: Kind, token: &[u8]) -> Head
     }
 }
 
-fn begins_with(kind: Kind, turns: &[Turn<'_>]) -> bool
-    ensures { result ≡ changes.begins_with kind turns.now }
+fn begins_with(kind: Kind, stretches: &[Stretch<'_>]) -> bool
+    ensures { result ≡ changes.begins_with kind stretches.now }
 {
-    match turns {
-        [turn, ..] => same_kind(turn.kind(), kind),
+    match stretches {
+        [stretch, ..] => same_kind(stretch.kind(), kind),
         _ => false,
     }
 }
@@ -151,15 +151,15 @@ fn last_of(elements: Option<u32>) -> Option<u32>
     }
 }
 
-/// The number of the last element of an array that stands at the front of some of the turns.
-fn last_element(sizes: &Sizes<'_>, all: &[Turn<'_>], turns: &[Turn<'_>]) -> Option<u32>
+/// The number of the last element of an array that stands at the front of some of the stretches.
+fn last_element(sizes: &Sizes<'_>, all: &[Stretch<'_>], stretches: &[Stretch<'_>]) -> Option<u32>
     requires sizes { AreSizes sizes.now.numbers all.now }
-    ensures { result ≡ changes.last_element (declared all.now) turns.now }
+    ensures { result ≡ changes.last_element (declared all.now) stretches.now }
 {
-    match turns {
-        [turn, back @ ..] => {
-            if same_kind(turn.kind(), Kind::Name) && begins_with(Kind::CloseParen, back) {
-                last_of(sizes.find(turn.token()))
+    match stretches {
+        [stretch, back @ ..] => {
+            if same_kind(stretch.kind(), Kind::Name) && begins_with(Kind::CloseParen, back) {
+                last_of(sizes.find(stretch.token()))
             } else {
                 None
             }
@@ -187,66 +187,74 @@ fn range(last: Option<u32>) -> Change
     }
 }
 
-/// What becomes of the colon behind `mtype`, where these turns stand behind it.
-fn colon_of_subtype(turns: &[Turn<'_>]) -> Change
-    ensures { result ≡ changes.colon_of_subtype turns.now }
+/// What becomes of the colon behind `mtype`, where these stretches stand behind it.
+fn colon_of_subtype(stretches: &[Stretch<'_>]) -> Change
+    ensures { result ≡ changes.colon_of_subtype stretches.now }
 {
-    if begins_with(Kind::Name, turns) {
+    if begins_with(Kind::Name, stretches) {
         Change::Blanked
     } else {
         Change::Left
     }
 }
 
-/// What becomes of the token at the front of some of the turns.
-fn change_at(sizes: &Sizes<'_>, all: &[Turn<'_>], head: Head, turns: &[Turn<'_>]) -> Change
+/// What becomes of the token at the front of some of the stretches.
+fn change_at(
+    sizes: &Sizes<'_>,
+    all: &[Stretch<'_>],
+    head: Head,
+    stretches: &[Stretch<'_>],
+) -> Change
     requires sizes { AreSizes sizes.now.numbers all.now }
-    ensures { result ≡ changes.change_at (declared all.now) head turns.now }
+    ensures { result ≡ changes.change_at (declared all.now) head stretches.now }
 {
-    let [turn, back @ ..] = turns else {
+    let [stretch, back @ ..] = stretches else {
         return Change::Kept
     };
     match head {
         Head::Typed => {
-            if same_kind(turn.kind(), Kind::Colon) {
+            if same_kind(stretch.kind(), Kind::Colon) {
                 colon_of_subtype(back)
             } else {
                 Change::Kept
             }
         }
         Head::Subtyped => {
-            if same_kind(turn.kind(), Kind::Name) {
+            if same_kind(stretch.kind(), Kind::Name) {
                 Change::Blanked
             } else {
                 Change::Kept
             }
         }
         Head::Counts => colon(
-            is_in(turn.kind(), turn.token()) && last_element(sizes, all, back).is_some(),
+            is_in(stretch.kind(), stretch.token()) && last_element(sizes, all, back).is_some(),
         ),
-        Head::In => range(last_element(sizes, all, turns)),
+        Head::In => range(last_element(sizes, all, stretches)),
         _ => Change::Kept,
     }
 }
 
-/// What becomes of the turns of a text that has its separators.
+/// What becomes of the stretches of a text that has its separators.
 ///
 /// The colon of a subtype of `mtype` and the name behind it become blanks: the names of all subtypes are of one type here. `for (i in a)`
 /// becomes `for (i : 0 .. 4)` where all declarations of `a` in the text are of an array of five elements.
-pub fn exchanges<'t>(alloc: Global, turns: &[Turn<'t>]) -> Result<Vec<Exchange<'t>>, AllocError>
-    ensures { IfOk result (λ v. v.items ≡ changes.exchanges turns.now) }
+pub fn exchanges<'t>(
+    alloc: Global,
+    stretches: &[Stretch<'t>],
+) -> Result<Vec<Exchange<'t>>, AllocError>
+    ensures { IfOk result (λ v. v.items ≡ changes.exchanges stretches.now) }
 {
-    let sizes = sizes_of(alloc, turns)?;
+    let sizes = sizes_of(alloc, stretches)?;
     let mut out = Vec::new(alloc);
     let mut head = Head::Outside;
-    let mut rest = turns;
-    while let [turn, back @ ..] = rest {
+    let mut rest = stretches;
+    while let [stretch, back @ ..] = rest {
         out.push(Exchange {
-            gap: turn.gap(),
-            token: turn.token(),
-            change: change_at(&sizes, turns, head, rest),
+            gap: stretch.gap(),
+            token: stretch.token(),
+            change: change_at(&sizes, stretches, head, rest),
         })?;
-        head = head_behind(head, turn.kind(), turn.token());
+        head = head_behind(head, stretch.kind(), stretch.token());
         rest = back;
     }
     Ok(out)

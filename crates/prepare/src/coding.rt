@@ -5,10 +5,10 @@ ghost use Rattle.prepare.specs.Coding as coding;
 
 use crate::character::{add_character, character_length};
 use crate::spelling::add_feeds;
-use crate::turns::{fresh_behind, piece_at};
+use crate::stretches::{fresh_behind, lexeme_at};
 use std::alloc::{AllocError, Global};
 
-/// How long the character constant or the piece at the front of a text is.
+/// How long the character constant or the lexeme at the front of a text is.
 fn front_length(fresh: bool, text: &[u8]) -> usize
     requires { 0 < length text.now }
     ensures value { result ≡ coding.front_length fresh text.now }
@@ -19,11 +19,11 @@ fn front_length(fresh: bool, text: &[u8]) -> usize
     if length > 0 {
         length
     } else {
-        piece_at(fresh, text).0
+        lexeme_at(fresh, text).0
     }
 }
 
-/// Writes a number in place of a constant, with the line feeds of that behind it, or a piece as it is.
+/// Writes a number in place of a constant, with the line feeds of that behind it, or a lexeme as it is.
 fn add_front(out: &mut Vec<u8>, is_character: bool, front: &[u8]) -> Result<(), AllocError>
     ensures { OnOk result (out.new.items ≡ out.old.items ++ coding.written is_character front.now) }
 {
@@ -35,7 +35,7 @@ fn add_front(out: &mut Vec<u8>, is_character: bool, front: &[u8]) -> Result<(), 
     }
 }
 
-/// A text with numbers in place of its character constants, which stand where a piece of it begins: not within a string or a comment.
+/// A text with numbers in place of its character constants, which stand where a lexeme of it begins: not within a string or a comment.
 pub fn coded(alloc: Global, text: &[u8]) -> Result<Vec<u8>, AllocError>
     ensures { IfOk result (λ v. v.items ≡ coding.coded text.now) }
 {

@@ -4,14 +4,14 @@ ghost use Rattle.std.specs.Prelude.{◌≡◌, ◌++◌, ◌∷◌, [], List, �
 ghost use Rattle.pml_token.specs.Word.{Word};
 ghost use Rattle.promela_text.specs.Tokens.{line_behind, IsCut};
 ghost use Rattle.prepare.specs.declared.TheConstants.{MOST_BYTES, FORM_FEED};
-ghost use Rattle.prepare.specs.declared.marks.TheConstants.{MOST_LINE};
-ghost use Rattle.prepare.specs.declared.place.TheConstants.{MOST_DEPTH};
+ghost use Rattle.prepare.specs.declared.markers.TheConstants.{MOST_LINE};
+ghost use Rattle.prepare.specs.declared.context.TheConstants.{MOST_DEPTH};
 ghost use Rattle.prepare.specs.Written.{Written};
-ghost use Rattle.prepare.specs.Turns.{turns};
+ghost use Rattle.prepare.specs.Stretches.{stretches};
 ghost use Rattle.prepare.specs.Spelling.{joined, spelled};
 ghost use Rattle.prepare.specs.Strings.{IsJoined};
 ghost use Rattle.prepare.specs.OwnLines.{OwnLinesStand, FirstLinesStand, HasNumbers};
-ghost use Rattle.prepare.specs.Numbering.{bare, numbered, lines_asked, has_mark};
+ghost use Rattle.prepare.specs.Numbering.{bare, numbered, lines_asked, has_marker};
 ghost use Rattle.prepare.specs.Coding.{coded, has_character};
 ghost use Rattle.prepare.specs.Sizes.{declared};
 ghost use Rattle.prepare.specs.Changes.{exchanges};
@@ -20,19 +20,19 @@ ghost use Rattle.prepare.specs.Blocks.{BlanksAreBlocks};
 ghost use Rattle.prepare.specs.Separators.{SeparatorsEndStatements, SkipsAreLabelled};
 ghost use Rattle.prepare.specs.Laws.{prepared, exchanged, has_change, HasNothingToMend, owns, sources, tokens, texts, is_unsupplied, has_tokens_alone, is_mended, AreKept, TokensStay, IsCutAgain};
 
-/// What is prepared has as many lines as the marks of the text ask for.
+/// What is prepared has as many lines as the markers of the text ask for.
 pub fn lines_are_those_asked()
     ensures { (text : List ℕ) → line_behind (prepared text) ≡ lines_asked (bare text) }
 {}
 
-/// A text without marks and character constants, in which nothing is to be mended and no token is another here, comes out byte for byte.
+/// A text without markers and character constants, in which nothing is to be mended and no token is another here, comes out byte for byte.
 pub fn nothing_mended_is_unchanged()
     ensures { (text : List ℕ) → HasNothingToMend text → prepared text ≡ text }
 {}
 
 /// What becomes of a text's tokens leaves out nothing: gaps and tokens, one behind the other, are the text. So what is between tokens stays.
 pub fn exchanges_are_the_text()
-    ensures { (text : List ℕ) → owns (exchanges (turns text)) ≡ text }
+    ensures { (text : List ℕ) → owns (exchanges (stretches text)) ≡ text }
 {}
 
 /// A text with its separators, of which no token becomes another, comes out byte for byte.
@@ -42,41 +42,41 @@ pub fn nothing_exchanged_is_unchanged()
 
 /// Where the range of a `for` is written in place of an array's name, all declarations of that name in the text have its size.
 pub fn ranges_are_those_declared()
-    ensures { (text : List ℕ) → All (IsOfSize (declared (turns text))) (exchanges (turns text)) }
+    ensures { (text : List ℕ) → All (IsOfSize (declared (stretches text))) (exchanges (stretches text)) }
 {}
 
-/// The gaps and tokens of the turns, one behind the other, are the text: without what is written nothing is there but the text.
-pub fn turns_are_the_text()
-    ensures { (text : List ℕ) → sources (turns text) ≡ text }
+/// The gaps and tokens of the stretches, one behind the other, are the text: without what is written nothing is there but the text.
+pub fn stretches_are_the_text()
+    ensures { (text : List ℕ) → sources (stretches text) ≡ text }
 {}
 
-/// What stands behind some turns is on the same line in the text and in what is written.
+/// What stands behind some stretches is on the same line in the text and in what is written.
 pub fn lines_stay()
     ensures { (front : List Written) → line_behind (spelled front) ≡ line_behind (sources front) }
 {}
 
-/// Where a text is cut into tokens, its turns have these, in order, and at the end one without bytes.
+/// Where a text is cut into tokens, its stretches have these, in order, and at the end one without bytes.
 pub fn tokens_are_those_cut()
-    ensures { (text : List ℕ) (ts : List Word) → IsCut text ts → tokens (turns text) ≡ texts ts ++ [] ∷ [] }
+    ensures { (text : List ℕ) (ts : List Word) → IsCut text ts → tokens (stretches text) ≡ texts ts ++ [] ∷ [] }
 {}
 
 /// What is blanked are the blocks, and nothing else is: each begins with `never`, `ltl`, `trace` or `notrace`, and ends with the brace that
 /// closes it, or with the text where none does.
 pub fn blanks_are_blocks()
-    ensures { (text : List ℕ) → BlanksAreBlocks (turns text) }
+    ensures { (text : List ℕ) → BlanksAreBlocks (stretches text) }
 {}
 
 /// A `;` is written only where a line ends, a statement may end before it and another begin behind it, within braces and in no other
 /// brackets; ` skip` only between a colon and what ends a sequence.
 pub fn what_is_written_divides_statements()
-    ensures separators { (text : List ℕ) → SeparatorsEndStatements (turns text) }
-    ensures skips { (text : List ℕ) → SkipsAreLabelled (turns text) }
+    ensures separators { (text : List ℕ) → SeparatorsEndStatements (stretches text) }
+    ensures skips { (text : List ℕ) → SkipsAreLabelled (stretches text) }
 {}
 
 /// Where a text is cut into tokens of which none is left out, it has no block and no string over several lines: unless something is
-/// written between its turns, nothing is to be mended.
+/// written between its stretches, nothing is to be mended.
 pub fn what_is_cut_wants_separators_alone()
-    ensures { (text : List ℕ) (ts : List Word) → AreKept text ts → is_unsupplied (turns text) ≡ true → is_mended text ≡ true }
+    ensures { (text : List ℕ) (ts : List Word) → AreKept text ts → is_unsupplied (stretches text) ≡ true → is_mended text ≡ true }
 {}
 
 /// Where a text is cut into tokens of which none is left out, it has such tokens alone as what is written is cut into.
@@ -90,15 +90,15 @@ pub fn what_is_written_is_cut_again()
     ensures { (text : List ℕ) → has_tokens_alone text ≡ true → IsCutAgain text }
 {}
 
-/// What is prepared has the tokens that are written of the text with its lines where its marks say, in order, each on the line that it has
+/// What is prepared has the tokens that are written of the text with its lines where its markers say, in order, each on the line that it has
 /// there: a token of a subtype or of a `for` over an array becomes another on its line.
 pub fn tokens_stay_on_their_lines()
     ensures { (text : List ℕ) → TokensStay text }
 {}
 
-/// Lines of the model's own file stand, once its marks have put them, from the line on that the mark before them gives, and line by line behind
-/// that; where more lines were written before it, behind these. Before the first mark they stand from line 1 on.
-pub fn own_lines_stand_where_marks_say()
+/// Lines of the model's own file stand, once its markers have put them, from the line on that the marker before them gives, and line by line behind
+/// that; where more lines were written before it, behind these. Before the first marker they stand from line 1 on.
+pub fn own_lines_stand_where_markers_say()
     ensures marked { (text : List ℕ) → OwnLinesStand (bare text) }
     ensures first { (text : List ℕ) → FirstLinesStand (bare text) }
 {}
@@ -116,7 +116,7 @@ pub fn joined_strings_keep_their_bytes()
 /// Each limit of preparing is this number, and so is the byte that ends a line of an included file.
 pub fn the_limits_are_these()
     ensures bytes_of_a_text { MOST_BYTES ≡ 8388608 }
-    ensures line_of_a_mark { MOST_LINE ≡ 1048576 }
+    ensures line_of_a_marker { MOST_LINE ≡ 1048576 }
     ensures open_brackets { MOST_DEPTH ≡ 1000000 }
     ensures end_of_an_included_line { FORM_FEED ≡ 12 }
 {}

@@ -1,14 +1,14 @@
-//! Puts the lines of a text where its marks say.
+//! Puts the lines of a text where its markers say.
 
 ghost use Rattle.std.specs.Prelude.{◌≡◌, ◌≤◌, ◌<◌, ◌+◌, ◌-◌, ◌++◌, max, length, map, replicate, count_by, IfOk, OnOk};
 ghost use Rattle.profile.specs.Characters.{line_feed};
 ghost use Rattle.promela_text.specs.Tokens.{is_line_feed};
-ghost use Rattle.prepare.specs.Marks.{mark};
+ghost use Rattle.prepare.specs.Markers.{marker};
 ghost use Rattle.prepare.specs.Numbering as numbering;
 
-use crate::marks::{MOST_LINE, mark_of};
+use crate::markers::{MOST_LINE, marker_of};
 use crate::{FORM_FEED, MOST_BYTES};
-use pml_lex::piece::line_bytes;
+use pml_lex::lexeme::line_bytes;
 use std::alloc::{AllocError, Global};
 use std::marker::Model;
 
@@ -95,12 +95,12 @@ impl<'t> Standing<'t> {
 
     /// Writes what a line of the text gives.
     fn add(&self, out: &mut Vec<u8>, line: &'t [u8]) -> Result<(), AllocError>
-        ensures { OnOk result (out.new.items ≡ out.old.items ++ numbering.placed self.now (mark line.now) line.now) }
+        ensures { OnOk result (out.new.items ≡ out.old.items ++ numbering.placed self.now (marker line.now) line.now) }
     {
-        match mark_of(line) {
-            Some(mark) => {
-                if self.is_own_file(mark.file()) {
-                    add_feeds(out, mark.line().saturating_sub(self.line))
+        match marker_of(line) {
+            Some(marker) => {
+                if self.is_own_file(marker.file()) {
+                    add_feeds(out, marker.line().saturating_sub(self.line))
                 } else {
                     Ok(())
                 }
@@ -119,18 +119,18 @@ impl<'t> Standing<'t> {
     fn behind(&self, line: &'t [u8]) -> Standing<'t>
         requires few { length line.now ≤ MOST_BYTES }
         requires low { self.now.line ≤ 1000000000 }
-        ensures value { result ≡ numbering.standing_behind self.now (mark line.now) line.now }
+        ensures value { result ≡ numbering.standing_behind self.now (marker line.now) line.now }
         ensures most { result.line ≤ max (self.now.line + length line.now) MOST_LINE }
     {
-        match mark_of(line) {
-            Some(mark) => {
-                let is_own = self.is_own_file(mark.file());
+        match marker_of(line) {
+            Some(marker) => {
+                let is_own = self.is_own_file(marker.file());
                 Standing {
                     is_named: true,
-                    own: self.own_file(mark.file()),
+                    own: self.own_file(marker.file()),
                     is_own,
                     line: if is_own {
-                        self.line.max(mark.line())
+                        self.line.max(marker.line())
                     } else {
                         self.line
                     },
@@ -162,10 +162,10 @@ fn bare(text: &[u8]) -> &[u8]
     }
 }
 
-/// The lines of a text, put where its marks say.
+/// The lines of a text, put where its markers say.
 ///
-/// The lines of the model's own file, which the first mark names, stand on their numbers; blank lines fill. What is of another file
-/// stands on the line of its `#include`, where a form feed ends each of its lines. A byte order mark goes, and so do the marks.
+/// The lines of the model's own file, which the first marker names, stand on their numbers; blank lines fill. What is of another file
+/// stands on the line of its `#include`, where a form feed ends each of its lines. A byte order mark goes, and so do the markers.
 pub fn numbered(alloc: Global, text: &[u8]) -> Result<Vec<u8>, AllocError>
     requires { length text.now ≤ MOST_BYTES }
     ensures { IfOk result (λ v. v.items ≡ numbering.numbered (numbering.bare text.now)) }

@@ -4,9 +4,9 @@ ghost use Rattle.std.specs.Prelude.{◌≡◌, Some, IfOk, OnOk};
 ghost use Rattle.prepare.specs.Sizes as sizes;
 ghost use Rattle.prepare.specs.Found.{size_in, AreSizes, AreNoted};
 
-use crate::marks::{MOST_LINE, number};
-use crate::place::deeper;
-use crate::turn::Turn;
+use crate::context::deeper;
+use crate::markers::{MOST_LINE, number};
+use crate::stretch::Stretch;
 use pml_token::token::{Kind, same_kind};
 use std::alloc::{AllocError, Global};
 use std::collections::BTreeMap;
@@ -128,11 +128,11 @@ fn elements(digits: &[u8]) -> u32
     if number <= MOST_LINE { number } else { 0 }
 }
 
-/// The size that stands at the front of turns, or 0.
-fn size_at(turns: &[Turn<'_>]) -> u32
-    ensures { result ≡ sizes.size_at turns.now }
+/// The size that stands at the front of stretches, or 0.
+fn size_at(stretches: &[Stretch<'_>]) -> u32
+    ensures { result ≡ sizes.size_at stretches.now }
 {
-    match turns {
+    match stretches {
         [opening, number, closing, ..] => {
             if same_kind(opening.kind(), Kind::OpenBracket)
                 && (same_kind(number.kind(), Kind::Number)
@@ -201,11 +201,15 @@ impl Reading {
         }
     }
 
-    /// The size that is declared before these turns.
-    fn size_behind(self, turns: &[Turn<'_>]) -> u32
-        ensures { result ≡ sizes.size_behind self turns.now }
+    /// The size that is declared before these stretches.
+    fn size_behind(self, stretches: &[Stretch<'_>]) -> u32
+        ensures { result ≡ sizes.size_behind self stretches.now }
     {
-        if self.is_header { 0 } else { size_at(turns) }
+        if self.is_header {
+            0
+        } else {
+            size_at(stretches)
+        }
     }
 }
 
@@ -233,33 +237,36 @@ impl<'t> Sizes<'t> {
     }
 }
 
-/// Notes what one turn declares, where `back` are those behind it.
+/// Notes what one stretch declares, where `back` are those behind it.
 fn note<'t>(
     numbers: &mut BTreeMap<&'t [u8], u32>,
     reading: Reading,
-    turn: &Turn<'t>,
-    back: &[Turn<'t>],
+    stretch: &Stretch<'t>,
+    back: &[Stretch<'t>],
 ) -> Result<(), AllocError>
-    ensures { OnOk result (AreNoted numbers.old numbers.new (sizes.declared_at reading turn.now back.now)) }
+    ensures { OnOk result (AreNoted numbers.old numbers.new (sizes.declared_at reading stretch.now back.now)) }
 {
-    let name = turn.token();
-    if reading.declares(turn.kind()) {
+    let name = stretch.token();
+    if reading.declares(stretch.kind()) {
         let known = numbers.get(name).copied();
         numbers.insert(name, joined(known, reading.size_behind(back)))?;
     }
     Ok(())
 }
 
-/// The sizes of all names that turns declare.
-pub(crate) fn sizes_of<'t>(alloc: Global, turns: &[Turn<'t>]) -> Result<Sizes<'t>, AllocError>
-    ensures { IfOk result (λ s. AreSizes s.numbers turns.now) }
+/// The sizes of all names that stretches declare.
+pub(crate) fn sizes_of<'t>(
+    alloc: Global,
+    stretches: &[Stretch<'t>],
+) -> Result<Sizes<'t>, AllocError>
+    ensures { IfOk result (λ s. AreSizes s.numbers stretches.now) }
 {
     let mut numbers: BTreeMap<&'t [u8], u32> = BTreeMap::new(alloc);
     let mut reading = Reading::start();
-    let mut rest = turns;
-    while let [turn, back @ ..] = rest {
-        note(&mut numbers, reading, turn, back)?;
-        reading = reading.behind(turn.kind(), turn.token());
+    let mut rest = stretches;
+    while let [stretch, back @ ..] = rest {
+        note(&mut numbers, reading, stretch, back)?;
+        reading = reading.behind(stretch.kind(), stretch.token());
         rest = back;
     }
     Ok(Sizes { numbers })

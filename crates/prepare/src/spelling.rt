@@ -1,14 +1,14 @@
-//! Writes turns.
+//! Writes stretches.
 
 ghost use Rattle.std.specs.Prelude.{◌≡◌, ◌++◌, [], false, map, IfOk, OnOk};
 ghost use Rattle.std.specs.List.{filter};
 ghost use Rattle.promela_text.specs.Tokens.{is_line_feed};
-ghost use Rattle.prepare.specs.Places.{written};
+ghost use Rattle.prepare.specs.Contexts.{written};
 ghost use Rattle.prepare.specs.Spelling as spelling;
 
 use crate::FORM_FEED;
-use crate::place::Supply;
-use crate::turn::{Form, Turn};
+use crate::context::Supply;
+use crate::stretch::{Form, Stretch};
 use std::alloc::{AllocError, Global};
 
 fn blank(b: u8) -> u8
@@ -103,21 +103,21 @@ fn add_supply(out: &mut Vec<u8>, supply: Supply, gap: &[u8]) -> Result<(), Alloc
     }
 }
 
-fn add_turn(out: &mut Vec<u8>, turn: &Turn<'_>) -> Result<(), AllocError>
-    ensures { OnOk result (out.new.items ≡ out.old.items ++ spelling.spelled_turn turn.now) }
+fn add_stretch(out: &mut Vec<u8>, stretch: &Stretch<'_>) -> Result<(), AllocError>
+    ensures { OnOk result (out.new.items ≡ out.old.items ++ spelling.spelled_stretch stretch.now) }
 {
-    add_supply(out, turn.supply(), turn.gap())?;
-    out.extend_from_slice(turn.gap())?;
-    add_token(out, turn.form(), turn.token())
+    add_supply(out, stretch.supply(), stretch.gap())?;
+    out.extend_from_slice(stretch.gap())?;
+    add_token(out, stretch.form(), stretch.token())
 }
 
-/// What is written of turns: the text that they are of, with what is supplied, and blanks in place of blocks.
-pub fn spelled(alloc: Global, turns: &[Turn<'_>]) -> Result<Vec<u8>, AllocError>
-    ensures { IfOk result (λ v. v.items ≡ spelling.spelled turns.now) }
+/// What is written of stretches: the text that they are of, with what is supplied, and blanks in place of blocks.
+pub fn spelled(alloc: Global, stretches: &[Stretch<'_>]) -> Result<Vec<u8>, AllocError>
+    ensures { IfOk result (λ v. v.items ≡ spelling.spelled stretches.now) }
 {
     let mut out = Vec::new(alloc);
-    for turn in turns {
-        add_turn(&mut out, turn)?;
+    for stretch in stretches {
+        add_stretch(&mut out, stretch)?;
     }
     Ok(out)
 }

@@ -1,24 +1,71 @@
--- The conditions on names, kinds and counts, and all that are asked of one mark and of what is declared before it.
--- Hold it against docs/REFUSALS.md, M6 to M9.
-use Rattle.std.specs.Prelude.{ℕ, ◌+◌, nat_eq, nat_lt, ◌-◌, Bool, true, false, not, ◌&&◌, ◌||◌, if◌then◌else◌, is_some, is_none, List, [], ◌∷◌, length, take, Option, Some, None}
-use mathlib.Core.Bool.{beq}
-use Rattle.profile.specs.Characters.{percent, backslash, letter_c, letter_d, letter_e, letter_o, letter_u, letter_x}
-use Rattle.pml_tree.specs.declared.tree.Scalar.TheVariants.{Chan}
-use Rattle.promela_model.specs.declared.mark.Constant.{Constant}
-use Rattle.promela_model.specs.declared.mark.Constant.TheVariants.{Open}
-use Rattle.promela_model.specs.declared.mark.Use.{Use}
-use Rattle.promela_model.specs.declared.mark.Use.TheVariants.{Read, Store, Receive, Channel, Preset}
-use Rattle.promela_model.specs.declared.mark.Shape.{Shape}
-use Rattle.promela_model.specs.declared.mark.Holder.TheVariants.{Chan, Other}
-use Rattle.promela_model.specs.declared.mark.What.{What}
-use Rattle.promela_model.specs.declared.mark.What.TheVariants as what
-use Rattle.promela_model.specs.declared.condition.Condition.{Condition}
-use Rattle.promela_model.specs.declared.condition.Condition.TheVariants as condition
+-- The conditions on labels, numbers and cells, on names, kinds and counts, and all that are asked of one mark and of what is
+-- declared before it.
+-- Hold it against docs/REFUSALS.md, M6 to M10, M14 and M15.
+use Rattle.std.specs.Prelude.{ℕ, Bool, ◌||◌, List, Option, Some, None, ◌+◌, ◌*◌, nat_eq, nat_lt, ◌&&◌, if◌then◌else◌, is_some, pos, true, false, not, is_none, negsuc, ◌-◌, [], ◌∷◌, length, take, drop, option_map}
+use Rattle.std.specs.Option.{option_map_or, option_eq}
 use Rattle.pml_program.specs.declared.form.Form.{Form}
 use Rattle.pml_program.specs.declared.form.Form.TheVariants as kind
 use Rattle.promela_model.specs.declared.thing.Thing.{Thing}
 use Rattle.promela_model.specs.declared.thing.Thing.TheVariants as thing
-use Rattle.promela_model.specs.Names.{Naming, is_any, is_pid, is_special, meaning, field, Before, Labels, mislabelled, out_of_range, too_many}
+use Rattle.profile.specs.declared.TheConstants.{MOST_CELLS, MOST_BITS, MOST_CONSTANTS, MOST_FIELDS, MOST_MESSAGES, MOST_PROCESSES}
+use Rattle.promela_model.specs.declared.mark.Constant.{Constant}
+use Rattle.promela_model.specs.declared.mark.Constant.TheVariants.{Is, Faulty, Open}
+use Rattle.promela_model.specs.declared.mark.Role.TheVariants.{Variable}
+use Rattle.promela_model.specs.declared.mark.Declared.TheVariants as declared_as
+use Rattle.promela_model.specs.declared.mark.What.{What}
+use Rattle.promela_model.specs.declared.mark.What.TheVariants as what
+use Rattle.promela_model.specs.declared.mark.Role.TheVariants as role
+use mathlib.Core.Bool.{beq}
+use Rattle.profile.specs.Characters.{percent, backslash, letter_c, letter_d, letter_e, letter_o, letter_u, letter_x}
+use Rattle.pml_tree.specs.declared.tree.Scalar.TheVariants.{Chan}
+use Rattle.promela_model.specs.declared.mark.Use.{Use}
+use Rattle.promela_model.specs.declared.mark.Use.TheVariants.{Read, Store, Receive, Channel, Preset}
+use Rattle.promela_model.specs.declared.mark.Shape.{Shape}
+use Rattle.promela_model.specs.declared.mark.Holder.TheVariants.{Chan, Other}
+use Rattle.promela_model.specs.declared.condition.Condition.{Condition}
+use Rattle.promela_model.specs.declared.condition.Condition.TheVariants as condition
+use Rattle.promela_model.specs.Names.{Naming, is_any, is_pid, is_special, meaning, field, Before, stride, numeral, count_of, length_of}
+
+-- ---- a label stands twice, or is missing
+
+-- the labels of each owner
+abbrev pub Labels : Type 0
+Labels = ℕ → List ℕ → Bool
+
+-- a label stands twice in its proctype, or a goto leads to one that the proctype does not have
+abbrev pub mislabelled : Labels → Labels → ℕ → What → Bool
+mislabelled every labels o (what.Label l) = labels o l.text
+mislabelled every labels o (what.Goto l) = not (every o l.text)
+mislabelled every labels o _ = false
+
+-- ---- a number out of range
+
+-- a constant is not within these bounds
+abbrev pub is_outside : ℕ → ℕ → Constant → Bool
+is_outside least most Open = false
+is_outside least most Faulty = true
+is_outside least most (Is (negsuc n)) = true
+is_outside least most (Is (pos n)) = nat_lt n least || nat_lt most n
+
+-- where so many mtype names stand before; a preset is refused whose value is a fault, as one that divides by zero
+abbrev pub out_of_range : ℕ → What → Bool
+out_of_range constants (what.Number n) = is_none (numeral n.text)
+out_of_range constants (what.Width n) = option_map_or (λ b. nat_lt b 1 || nat_lt MOST_BITS b) (numeral n.text) true
+out_of_range constants (what.Size c) = is_outside 1 MOST_CELLS c
+out_of_range constants (what.Starts c) = is_outside 1 MOST_PROCESSES c
+out_of_range constants (what.Preset Faulty) = true
+out_of_range constants (what.Channel h c n) = is_outside 0 MOST_MESSAGES c || nat_lt MOST_FIELDS n
+out_of_range constants (what.Declares n declared_as.Constant) = not (nat_lt constants MOST_CONSTANTS)
+out_of_range constants _ = false
+
+-- ---- too many cells
+
+-- of the globals, of a proctype's parameters and locals, of one channel; a typedef's own are not asked
+abbrev pub too_many : Before → ℕ → What → Bool
+too_many b o (what.Declares n (declared_as.Variable role.Variable s size makes)) =
+    nat_lt MOST_CELLS (b.cells o + length_of size * stride b.names o s)
+too_many b o (what.Channel h c n) = nat_lt MOST_CELLS (count_of c * n)
+too_many b o _ = false
 
 -- ---- a name is declared twice, or one that none declares
 abbrev pub twice : Naming → ℕ → What → Bool
@@ -29,10 +76,9 @@ twice names o _ = false
 
 -- a field that its typedef has not is missing; of what has no fields none is missing, which is refused by itself
 abbrev pub lacks_in : Option (Option Thing) → (Form → Bool) → Bool
-lacks_in None rest = false
 lacks_in (Some None) rest = true
 lacks_in (Some (Some (thing.Variable v))) rest = rest v.form
-lacks_in (Some (Some _)) rest = false
+lacks_in _ rest = false
 
 -- one of these fields is missing, of what has this type
 abbrev pub lacks : Naming → Form → List Shape → Bool
@@ -63,14 +109,9 @@ unknown all names o _ = false
 
 -- ---- a name or a value of the wrong kind
 
--- no field is behind it
-abbrev pub is_empty : List Shape → Bool
-is_empty [] = true
-is_empty (s ∷ ss) = false
-
--- a name alone
+-- a name alone: it has no index, and no field is behind it
 abbrev pub is_plain : Shape → List Shape → Bool
-is_plain s ss = not s.indexed && is_empty ss
+is_plain s ss = not s.indexed && nat_eq (length ss) 0
 
 -- its value is read
 abbrev pub is_read : Use → Bool
@@ -90,11 +131,6 @@ is_compared Receive = true
 is_compared Preset = true
 is_compared _ = false
 
--- it is used as a channel
-abbrev pub is_channel : Use → Bool
-is_channel Channel = true
-is_channel _ = false
-
 -- it stands in the initialiser of a field
 abbrev pub is_preset : Use → Bool
 is_preset Preset = true
@@ -105,14 +141,14 @@ abbrev pub misused : Use → Form → Bool
 misused u (kind.Struct t) = true
 misused u kind.Unknown = false
 misused u (kind.Plain Chan) = false
-misused u _ = is_channel u
+misused Channel _ = true
+misused _ _ = false
 
 -- a field of what has none is wrong, and one that is missing is refused by itself; an array has an index, and nothing else has
 abbrev pub misfits_in : Bool → Option (Option Thing) → (Form → Bool) → Bool
 misfits_in indexed None rest = true
-misfits_in indexed (Some None) rest = false
 misfits_in indexed (Some (Some (thing.Variable v))) rest = not (beq indexed v.array) || rest v.form
-misfits_in indexed (Some (Some _)) rest = false
+misfits_in indexed _ rest = false
 
 -- a name that is no typedef's is refused by itself
 abbrev pub is_unknown : Form → Bool
@@ -155,21 +191,16 @@ no_process None = false
 no_process (Some (thing.Proctype o n)) = false
 no_process (Some _) = true
 
--- a value that is not known before the run
-abbrev pub is_open : Constant → Bool
-is_open Open = true
-is_open _ = false
-
--- a name is used as something else than what it is declared as
+-- a name is used as something else than what it is declared as, or a value is not known that is wanted before the run
 abbrev pub wrong : Naming → Naming → ℕ → What → Bool
 wrong all names o (what.Uses u ss) = wrong_in all names o u ss
 wrong all names o (what.Typedef t) = is_special t.text || no_typedef (meaning all names o t.text)
 wrong all names o (what.Runs n k) = is_special n.text || no_process (meaning all names o n.text)
-wrong all names o (what.Size c) = is_open c
-wrong all names o (what.Starts c) = is_open c
-wrong all names o (what.Preset c) = is_open c
+wrong all names o (what.Size Open) = true
+wrong all names o (what.Starts Open) = true
+wrong all names o (what.Preset Open) = true
 wrong all names o (what.Channel Other c n) = true
-wrong all names o (what.Channel Chan c n) = is_open c
+wrong all names o (what.Channel Chan Open n) = true
 wrong all names o _ = false
 
 -- ---- run against its parameters, printf against its conversions
@@ -178,16 +209,11 @@ wrong all names o _ = false
 abbrev pub is_conversion : ℕ → Bool
 is_conversion c = nat_eq c letter_d || (nat_eq c letter_u || (nat_eq c letter_o || (nat_eq c letter_x || (nat_eq c letter_c || nat_eq c letter_e))))
 
--- how many values the text of a printf takes, or none where it has a conversion that is lacking; `\%` begins none
-abbrev pub one_more : Option ℕ → Option ℕ
-one_more None = None
-one_more (Some n) = Some (n + 1)
-
 -- a percent sign and this letter before the rest of a text: `%%` counts as none, and another letter is no conversion
 abbrev pub conversion : ℕ → Option ℕ → Option ℕ
-conversion c rest = if nat_eq c percent then rest else (if is_conversion c then one_more rest else None)
+conversion c rest = if nat_eq c percent then rest else (if is_conversion c then option_map (λ n. n + 1) rest else None)
 
--- how many conversions a text has; none is known where a letter behind a percent sign is no conversion
+-- how many values the text of a printf takes, or none where it has a conversion that is lacking; `\%` begins none
 abbrev pub conversions : List ℕ → Option ℕ
 conversions [] = Some 0
 conversions (c ∷ []) = if nat_eq c percent then None else Some 0
@@ -195,25 +221,17 @@ conversions (c ∷ d ∷ cs) =
     if nat_eq c percent then conversion d (conversions cs)
     else (if nat_eq c backslash then conversions cs else conversions (d ∷ cs))
 
--- the count is not known, or another one
-abbrev pub differs : Option ℕ → ℕ → Bool
-differs None k = true
-differs (Some n) k = not (nat_eq n k)
-
 -- a proctype takes another number of arguments
 abbrev pub takes_other : Option Thing → ℕ → Bool
 takes_other (Some (thing.Proctype o n)) k = not (nat_eq n k)
 takes_other _ k = false
 
--- without the quotes round it
-abbrev pub inside : List ℕ → List ℕ
-inside [] = []
-inside (c ∷ cs) = take (length cs - 1) cs
-
--- another number of arguments or of values is given than is wanted
+-- another number of arguments or of values is given than is wanted, or it is not known how many are wanted; the text of a
+-- printf is asked without the quotes round it
 abbrev pub other_count : Naming → Naming → ℕ → What → Bool
 other_count all names o (what.Runs n k) = takes_other (meaning all names o n.text) k
-other_count all names o (what.Prints t k) = differs (conversions (inside t.text)) k
+other_count all names o (what.Prints t k) =
+    not (option_eq nat_eq (conversions (take (length t.text - 2) (drop 1 t.text))) (Some k))
 other_count all names o _ = false
 
 -- ---- all of these

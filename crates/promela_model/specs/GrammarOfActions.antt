@@ -2,7 +2,6 @@
 -- each production. `from` is the list of the tokens from a place on, and `to` the list of those that are left behind it.
 -- Hold it against the pages `grammar`, `send`, `receive` and `datatypes`.
 use Rattle.std.specs.Prelude.{◌≡◌, ℕ, Bool, true, false, List, [], ◌∷◌, Option, Some, None}
-use lib.Chars.{codes}
 use Rattle.pml_token.specs.Word.{Word}
 use Rattle.pml_token.specs.declared.token.Kind.{Kind}
 use Rattle.pml_token.specs.declared.token.Kind.TheVariants as k

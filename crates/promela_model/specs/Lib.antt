@@ -1,9 +1,8 @@
 pub mod GrammarOfExpressions
 pub mod GrammarOfActions
 pub mod GrammarOfModels
-pub mod Marks
 pub mod Names
-pub mod Known
+pub mod Marks
 pub mod Stands
 pub mod StandsModel
 pub mod Conditions

@@ -1,7 +1,6 @@
 -- The marks of a model, in the order of the text.
 -- Hold it against docs/REFUSALS.md, M6 to M17.
-use Rattle.std.specs.Prelude.{ℕ, ◌+◌, Bool, true, false, List, [], ◌∷◌, ◌++◌, length, map, Option, Some, None, pos, reverse}
-use Rattle.pml_token.specs.Word.{Word}
+use Rattle.std.specs.Prelude.{Bool, true, false, ℕ, ◌+◌, if◌then◌else◌, List, [], ◌∷◌, ◌++◌, length, map, flat_map, Option, Some, None, is_some, unwrap_or, option_map, pos, reverse}
 use Rattle.pml_tree.specs.declared.tree.Scalar.TheVariants.{Chan}
 use Rattle.pml_tree.specs.declared.tree.Expr.{Expr, Expr-F, fold-Expr, out-Expr}
 use Rattle.pml_tree.specs.declared.tree.Argument.{Argument, Argument-F, fold-Argument}
@@ -18,7 +17,6 @@ use Rattle.pml_tree.specs.declared.tree.Action.TheVariants as action
 use Rattle.pml_tree.specs.declared.tree.Basic.{Basic-F}
 use Rattle.pml_tree.specs.declared.tree.Item.{Item-F}
 use Rattle.pml_tree.specs.declared.tree.Seq.{Seq, Seq-F, fold-Seq}
-use Rattle.promela_model.specs.declared.mark.Constant.{Constant}
 use Rattle.promela_model.specs.declared.mark.Use.{Use}
 use Rattle.promela_model.specs.declared.mark.Use.TheVariants.{Read, Store, Update, Receive, Channel}
 use Rattle.promela_model.specs.declared.mark.Use.TheVariants as use_of
@@ -34,14 +32,13 @@ use Rattle.promela_model.specs.declared.mark.Declared.TheVariants as declared_as
 use Rattle.promela_model.specs.declared.mark.What.{What}
 use Rattle.promela_model.specs.declared.mark.What.TheVariants as what
 use Rattle.promela_model.specs.declared.mark.Mark.{Mark}
-use Rattle.promela_model.specs.Known.{constant}
 use Rattle.pml_tree.specs.declared.tree.Starts.{Starts}
 use Rattle.pml_tree.specs.declared.tree.Starts.TheVariants as starts
-use Rattle.pml_tree.specs.declared.tree.Proctype.{Proctype}
 use Rattle.pml_tree.specs.declared.tree.Unit.{Unit as Part}
 use Rattle.pml_tree.specs.declared.tree.Unit.TheVariants as part
 use Rattle.pml_tree.specs.declared.tree.Tree.{Tree}
 use Rattle.promela_model.specs.declared.mark.Constant.TheVariants as constant
+use Rattle.promela_model.specs.Names.{constant}
 
 -- by the owner of the names that stand there
 abbrev pub Marked : Type 0
@@ -68,20 +65,18 @@ Referred = Use → Marked
 
 -- one after the other
 abbrev pub all_marks : List Marked → Marked
-all_marks [] o = []
-all_marks (m ∷ ms) o = m o ++ all_marks ms o
+all_marks ms o = flat_map (λ m. m o) ms
 
 -- the marks of an expression by those of its parts
 abbrev pub expr_layer : Expr-F Marked Marked Referred Stepped → Marked
 expr_layer (Expr-F.Number n) o = one (what.Number n) o
-expr_layer (Expr-F.Truth b) o = []
-expr_layer Expr-F.Timeout o = []
 expr_layer (Expr-F.Read r) o = r Read o
 expr_layer (Expr-F.Ask f r) o = r Channel o
 expr_layer (Expr-F.Poll r search ms) o = r Channel o ++ all_marks ms o
 expr_layer (Expr-F.Unary op a) o = a o
 expr_layer (Expr-F.Binary op a b) o = a o ++ b o
 expr_layer (Expr-F.Choice a b c) o = a o ++ (b o ++ c o)
+expr_layer _ o = []
 
 -- the marks of what a receive asks by those of its parts
 abbrev pub argument_layer : Argument-F Marked Marked Referred Stepped → Marked
@@ -90,34 +85,16 @@ argument_layer (Argument-F.Fixed b) o = []
 argument_layer (Argument-F.Eval a) o = a o
 argument_layer (Argument-F.Into r) o = r Receive o
 
--- the names of a reference, each with whether it has an index
-abbrev pub shapes : List Stepped → List Shape
-shapes [] = []
-shapes (s ∷ ss) = s.shape ∷ shapes ss
-
--- the marks of the indices, one after the other
-abbrev pub steps_marks : List Stepped → Marked
-steps_marks [] o = []
-steps_marks (s ∷ ss) o = s.marks o ++ steps_marks ss o
-
 -- the marks of the indices, and then that of the reference
 abbrev pub reference_layer : Reference-F Marked Marked Referred Stepped → Referred
 reference_layer r u o =
-    r.first.marks o ++ (steps_marks r.fields o ++ one (what.Uses u (r.first.shape ∷ shapes r.fields)) o)
-
--- the marks of an index, if there is one
-abbrev pub index_marks : Option Marked → Marked
-index_marks None o = []
-index_marks (Some m) o = m o
-
--- there is an index
-abbrev pub has_index : Option Marked → Bool
-has_index None = false
-has_index (Some m) = true
+    r.first.marks o ++ (flat_map (λ s. s.marks o) r.fields
+    ++ one (what.Uses u (r.first.shape ∷ map (λ s. s.shape) r.fields)) o)
 
 -- a name of a reference: whether it has an index, and the marks of that
 abbrev pub step_layer : Step-F Marked Marked Referred Stepped → Stepped
-step_layer s = record { shape = record { name = s.name; indexed = has_index s.index }; marks = index_marks s.index }
+step_layer s =
+    record { shape = record { name = s.name; indexed = is_some s.index }; marks = unwrap_or s.index (λ o. []) }
 
 -- the marks of an expression
 abbrev pub of_expr : Expr → Marked
@@ -131,14 +108,6 @@ of_argument = fold-Argument Marked Marked Referred Stepped argument_layer expr_l
 abbrev pub of_reference : Reference → Referred
 of_reference = fold-Reference Marked Marked Referred Stepped argument_layer expr_layer reference_layer step_layer
 
--- the marks of expressions, one after the other
-abbrev pub of_exprs : List Expr → Marked
-of_exprs es = all_marks (map of_expr es)
-
--- the marks of what a receive asks, one after the other
-abbrev pub of_arguments : List Argument → Marked
-of_arguments rs = all_marks (map of_argument rs)
-
 -- ---- declarations
 
 -- a width is a number too, and a typedef's name is wanted
@@ -151,11 +120,6 @@ of_sort (sort.Named t) o = one (what.Typedef t) o
 abbrev pub of_size : Option Expr → Marked
 of_size None o = []
 of_size (Some e) o = of_expr e o ++ one (what.Size (constant e)) o
-
--- the size in brackets, if there is one
-abbrev pub size_of : Option Expr → Option Constant
-size_of None = None
-size_of (Some e) = Some (constant e)
 
 -- what a channel initialiser stands behind
 abbrev pub holder : Sort → Holder
@@ -183,18 +147,17 @@ made_by _ = Numbers
 abbrev pub of_variable : Role → ℕ → Variable → Marked
 of_variable x p v o =
     of_sort v.sort o ++ (of_size v.size o ++ (of_initial x v.sort v.initial o
-    ++ one (what.Declares v.name (declared_as.Variable x v.sort (size_of v.size) (made_by v.initial))) p))
+    ++ one (what.Declares v.name (declared_as.Variable x v.sort (option_map constant v.size) (made_by v.initial))) p))
 
 -- the marks of variables, one after the other
 abbrev pub of_variables : Role → ℕ → List Variable → Marked
-of_variables x p [] o = []
-of_variables x p (v ∷ vs) o = of_variable x p v o ++ of_variables x p vs o
+of_variables x p vs o = flat_map (λ v. of_variable x p v o) vs
 
 -- ---- statements
 
 -- the marks of the arguments of a `run`, and then that of the proctype's name
 abbrev pub of_run : Run → Marked
-of_run r o = of_exprs r.arguments o ++ one (what.Runs r.name (length r.arguments)) o
+of_run r o = all_marks (map of_expr r.arguments) o ++ one (what.Runs r.name (length r.arguments)) o
 
 -- the marks of a statement without a structure
 abbrev pub of_action : Action → Marked
@@ -204,22 +167,17 @@ of_action (action.AssignRun r p) o = of_reference r Store o ++ of_run p o
 of_action (action.Increment r) o = of_reference r Update o
 of_action (action.Decrement r) o = of_reference r Update o
 of_action (action.Run p) o = of_run p o
-of_action (action.Send r order es) o = of_reference r Channel o ++ of_exprs es o
-of_action (action.Receive r search how rs) o = of_reference r Channel o ++ of_arguments rs o
-of_action (action.Printf t es) o = of_exprs es o ++ one (what.Prints t (length es)) o
+of_action (action.Send r order es) o = of_reference r Channel o ++ all_marks (map of_expr es) o
+of_action (action.Receive r search how rs) o = of_reference r Channel o ++ all_marks (map of_argument rs) o
+of_action (action.Printf t es) o = all_marks (map of_expr es) o ++ one (what.Prints t (length es)) o
 of_action (action.Printm e) o = of_expr e o
 of_action (action.Assert e) o = of_expr e o
 of_action (action.Holds e) o = of_expr e o
 
--- the marks of the channels of an `xr` or `xs`, one after the other
-abbrev pub of_references : List Reference → Marked
-of_references [] o = []
-of_references (r ∷ rs) o = of_reference r Channel o ++ of_references rs o
-
 -- the marks of a statement by those of its parts
 abbrev pub basic_layer : Basic-F Marked Marked Marked → Marked
 basic_layer (Basic-F.Declare vs) o = of_variables role.Variable o vs o
-basic_layer (Basic-F.Exclusive rs) o = of_references rs o
+basic_layer (Basic-F.Exclusive rs) o = flat_map (λ r. of_reference r Channel o) rs
 basic_layer (Basic-F.Plain a) o = of_action a o
 basic_layer (Basic-F.Goto l) o = one (what.Goto l) o
 basic_layer Basic-F.Break o = one what.Break o
@@ -230,14 +188,9 @@ basic_layer (Basic-F.Atomic m) o = m o
 basic_layer (Basic-F.DStep m) o = one (what.Enter DStep) o ++ (m o ++ one what.Leave o)
 basic_layer (Basic-F.Unless m e) o = one what.Unless o ++ (m o ++ e o)
 
--- a mark for each label
-abbrev pub of_labels : List Word → Marked
-of_labels [] o = []
-of_labels (l ∷ ls) o = one (what.Label l) o ++ of_labels ls o
-
 -- the marks of the labels, and then of the statement
 abbrev pub item_layer : Item-F Marked Marked Marked → Marked
-item_layer i o = of_labels i.labels o ++ i.basic o
+item_layer i o = map (λ l. mark o (what.Label l)) i.labels ++ i.basic o
 
 -- the marks of statements, one after the other
 abbrev pub seq_layer : Seq-F Marked Marked Marked → Marked
@@ -257,36 +210,25 @@ of_starts starts.Never o = []
 of_starts starts.Once o = one (what.Starts (constant.Is (pos 1))) o
 of_starts (starts.Times e) o = of_expr e 0 ++ one (what.Starts (constant e)) o
 
--- the mark of a name of an `mtype`
-abbrev pub constant_mark : Word → Mark
-constant_mark n = mark 0 (what.Declares n declared_as.Constant)
+-- a unit that is a proctype
+abbrev pub is_proctype : Part → Bool
+is_proctype (part.Proctype p) = true
+is_proctype _ = false
 
--- mtype names, from the last of a list to its first, as they are numbered
-abbrev pub of_constants : List Word → List Mark
-of_constants ns = map constant_mark (reverse ns)
-
--- o is the proctype's owner, and k proctypes stand before it
-abbrev pub of_process : ℕ → ℕ → Proctype → List Mark
-of_process o k p =
-    mark 0 (what.Declares p.name (declared_as.Proctype k (length p.parameters))) ∷ (of_starts p.starts o
-    ++ (of_variables role.Variable o p.parameters o ++ of_seq p.body o))
-
--- o is the unit's number from 1, and k proctypes stand before it
+-- o is the unit's number from 1, and k proctypes stand before it; mtype names are marked from the last of a list to its
+-- first, as they are numbered
 abbrev pub of_unit : ℕ → ℕ → Part → List Mark
 of_unit o k (part.Variables vs) = of_variables role.Variable 0 vs 0
-of_unit o k (part.Constants ns) = of_constants ns
+of_unit o k (part.Constants ns) = map (λ n. mark 0 (what.Declares n declared_as.Constant)) (reverse ns)
 of_unit o k (part.Typedef t vs) = of_variables role.Field o vs 0 ++ one (what.Declares t (declared_as.Typedef o)) 0
-of_unit o k (part.Proctype p) = of_process o k p
-
--- how many proctypes stand before what follows a unit, where k stand before it
-abbrev pub proctypes_past : ℕ → Part → ℕ
-proctypes_past k (part.Proctype p) = k + 1
-proctypes_past k _ = k
+of_unit o k (part.Proctype p) =
+    mark 0 (what.Declares p.name (declared_as.Proctype k (length p.parameters))) ∷ (of_starts p.starts o
+    ++ (of_variables role.Variable o p.parameters o ++ of_seq p.body o))
 
 -- the marks of the units from this one on, which has this number, and before which so many proctypes stand
 abbrev pub of_units : ℕ → ℕ → List Part → List Mark
 of_units o k [] = []
-of_units o k (u ∷ us) = of_unit o k u ++ of_units (o + 1) (proctypes_past k u) us
+of_units o k (u ∷ us) = of_unit o k u ++ of_units (o + 1) (if is_proctype u then k + 1 else k) us
 
 -- all marks of a model
 abbrev pub of_tree : Tree → List Mark

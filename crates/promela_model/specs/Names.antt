@@ -1,18 +1,23 @@
--- What the names of a list of marks stand for, of each name the first declaration, and the conditions on labels, on numbers out of range and on
--- cells: each is asked of one mark.
--- Hold it against docs/REFUSALS.md, M6 to M8, M10, M14 and M15.
-use Rattle.std.specs.Prelude.{ℕ, Bool, ◌||◌, List, Option, Some, None, codes, ◌+◌, ◌*◌, nat_eq, nat_lt, min, ◌&&◌, if◌then◌else◌, is_some, [], ◌∷◌, reverse, pos, true, false, not, is_none, negsuc}
+-- Constant expressions, and what the names of a list of marks stand for: of each name the first declaration.
+-- Hold it against docs/REFUSALS.md, M6 to M8 and M14.
+use Rattle.std.specs.Prelude.{ℕ, ◌+◌, ◌*◌, ◌-◌, Bool, true, false, if◌then◌else◌, nat_lt, List, [], ◌∷◌, Option, Some, None, ℤ, pos, ◌+ℤ◌, ◌-ℤ◌, ◌*ℤ◌, neg_ℤ, int_rem, nat_eq, min, ◌||◌, ◌&&◌, is_some, codes, fold, unwrap_or}
+use Rattle.std.specs.Option.{option_map_or, option_or}
+use Rattle.std.specs.Int.{w32, int_wrap, int_wrapping_div, cast_signed}
+use Rattle.std.specs.Ordering.{int_eq}
+use Rattle.pml_tree.specs.declared.tree.Prefix.TheVariants as prefix
+use Rattle.pml_tree.specs.declared.tree.Infix.{Infix}
+use Rattle.pml_tree.specs.declared.tree.Infix.TheVariants as op
+use Rattle.pml_tree.specs.declared.tree.Expr.{Expr, Expr-F, fold-Expr}
+use Rattle.promela_model.specs.declared.mark.Constant.{Constant}
+use Rattle.promela_model.specs.declared.mark.Constant.TheVariants.{Is, Faulty, Open}
 use Rattle.std.specs.Str.{bytes_eq}
+use Rattle.profile.specs.declared.TheConstants.{MOST_CELLS}
 use Rattle.pml_program.specs.declared.form.Form.{Form}
 use Rattle.pml_program.specs.declared.form.Form.TheVariants as kind
 use Rattle.promela_model.specs.declared.thing.Thing.{Thing}
 use Rattle.promela_model.specs.declared.thing.Thing.TheVariants as thing
 use Rattle.pml_tree.specs.declared.tree.Sort.{Sort}
 use Rattle.pml_tree.specs.declared.tree.Sort.TheVariants as sort
-use Rattle.profile.specs.declared.TheConstants.{MOST_CELLS, MOST_BITS, MOST_CONSTANTS, MOST_FIELDS, MOST_MESSAGES, MOST_PROCESSES}
-use Rattle.promela_model.specs.Known.{numeral}
-use Rattle.promela_model.specs.declared.mark.Constant.{Constant}
-use Rattle.promela_model.specs.declared.mark.Constant.TheVariants.{Is, Faulty, Open}
 use Rattle.promela_model.specs.declared.mark.Role.{Role}
 use Rattle.promela_model.specs.declared.mark.Role.TheVariants.{Field, Variable}
 use Rattle.promela_model.specs.declared.mark.Declared.{Declared}
@@ -20,8 +25,83 @@ use Rattle.promela_model.specs.declared.mark.Declared.TheVariants as declared_as
 use Rattle.promela_model.specs.declared.mark.What.{What}
 use Rattle.promela_model.specs.declared.mark.What.TheVariants as what
 use Rattle.promela_model.specs.declared.mark.Mark.{Mark}
-use mathlib.Core.Bool.{beq}
-use Rattle.promela_model.specs.declared.mark.Role.TheVariants as role
+
+-- the number that digits spell, behind those that give n
+abbrev pub spelled : ℕ → List ℕ → ℕ
+spelled n [] = n
+spelled n (c ∷ cs) = spelled (n * 10 + (c - 48)) cs
+
+-- a number of at most 32 bits
+abbrev pub numeral : List ℕ → Option ℕ
+numeral cs = if nat_lt (spelled 0 cs) 4294967296 then Some (spelled 0 cs) else None
+
+-- the value of a number's digits: one above 2147483647 is the signed number of the same bits, and one of more than
+-- 32 bits is refused by itself
+abbrev pub number : List ℕ → Constant
+number cs = option_map_or (λ n. Is (cast_signed w32 n)) (numeral cs) Faulty
+
+-- the value behind a minus sign, of 32 bits
+abbrev pub negated : Constant → Constant
+negated (Is x) = Is (int_wrap w32 (neg_ℤ x))
+negated c = c
+
+-- the operators of constant expressions; `+ - *` wrap
+abbrev pub applied : Infix → ℤ → ℤ → Constant
+applied op.Plus x y = Is (int_wrap w32 (x +ℤ y))
+applied op.Minus x y = Is (int_wrap w32 (x -ℤ y))
+applied op.Times x y = Is (int_wrap w32 (x *ℤ y))
+applied op.Divide x y = if int_eq y (pos 0) then Faulty else Is (int_wrapping_div w32 x y)
+applied op.Remainder x y = if int_eq y (pos 0) then Faulty else Is (int_rem x y)
+applied _ x y = Faulty
+
+-- the value of two operands: what is open in either stays open, and else a fault in either is a fault
+abbrev pub joined : Infix → Constant → Constant → Constant
+joined o Open b = Open
+joined o a Open = Open
+joined o (Is x) (Is y) = applied o x y
+joined o a b = Faulty
+
+-- whether constant expressions have this operator
+abbrev pub is_constant : Infix → Bool
+is_constant op.Plus = true
+is_constant op.Minus = true
+is_constant op.Times = true
+is_constant op.Divide = true
+is_constant op.Remainder = true
+is_constant _ = false
+
+-- `true` and `skip` are 1, and `false` is 0
+abbrev pub truth_of : Bool → ℤ
+truth_of true = pos 1
+truth_of false = pos 0
+
+-- the value of an expression by those of its parts; of the operators before a part a minus sign alone keeps it known
+abbrev pub constant_layer : Expr-F (Unit {0}) Constant (Unit {0}) (Unit {0}) → Constant
+constant_layer (Expr-F.Number n) = number n.text
+constant_layer (Expr-F.Truth b) = Is (truth_of b)
+constant_layer (Expr-F.Unary prefix.Minus a) = negated a
+constant_layer (Expr-F.Binary o a b) = if is_constant o then joined o a b else Open
+constant_layer _ = Open
+
+-- what an expression gives as a constant expression
+abbrev pub constant : Expr → Constant
+constant = fold-Expr (Unit {0}) Constant (Unit {0}) (Unit {0}) (λ _. tt) constant_layer (λ _. tt) (λ _. tt)
+
+-- a count: one that is negative or no constant is refused by itself
+abbrev pub count_of : Constant → ℕ
+count_of (Is (pos n)) = n
+count_of _ = 0
+
+-- how many elements: a size that is out of range is refused by itself
+abbrev pub length_of : Option Constant → ℕ
+length_of (Some (Is (pos n))) = if nat_lt 0 n && nat_lt n (MOST_CELLS + 1) then n else 1
+length_of _ = 1
+
+-- cells are counted up to one more than there may be
+abbrev pub counted : ℕ → ℕ
+counted n = min n (MOST_CELLS + 1)
+
+-- ---- names
 
 -- what the names of each owner stand for
 abbrev pub Naming : Type 0
@@ -43,11 +123,6 @@ is_count n = bytes_eq n (codes "_nr_pr")
 abbrev pub is_special : List ℕ → Bool
 is_special n = is_any n || (is_pid n || is_count n)
 
--- the first of two that is there
-abbrev pub or_else : Option Thing → Option Thing → Option Thing
-or_else (Some t) r = Some t
-or_else None r = r
-
 -- a proctype, and nothing else
 abbrev pub only_process : Option Thing → Option Thing
 only_process (Some (thing.Proctype o n)) = Some (thing.Proctype o n)
@@ -55,22 +130,16 @@ only_process _ = None
 
 -- what a name stands for where o uses it: a name of its own hides a global one
 abbrev pub visible : Naming → ℕ → List ℕ → Option Thing
-visible names o n = or_else (names o n) (names 0 n)
+visible names o n = option_or (names o n) (names 0 n)
 
 -- The same where a proctype may be meant too, which any place of the whole text may declare.
 abbrev pub meaning : Naming → Naming → ℕ → List ℕ → Option Thing
-meaning all names o n = or_else (names o n) (or_else (names 0 n) (only_process (all 0 n)))
+meaning all names o n = option_or (names o n) (option_or (names 0 n) (only_process (all 0 n)))
 
 -- what stands for a field of this type: nothing where it is no typedef's, None where the typedef lacks it
 abbrev pub field : Naming → Form → List ℕ → Option (Option Thing)
 field names (kind.Struct t) n = Some (names t n)
 field names _ n = None
-
--- ---- what is declared
-
--- cells are counted up to one more than there may be
-abbrev pub most_cells : ℕ
-most_cells = MOST_CELLS + 1
 
 -- ---- the type of a variable
 
@@ -84,15 +153,10 @@ abbrev pub stride_of : Option Thing → ℕ
 stride_of (Some (thing.Typedef t n)) = n
 stride_of _ = 1
 
--- a number that is too large is refused by itself
-abbrev pub width_of : Option ℕ → ℕ
-width_of (Some n) = n
-width_of None = 0
-
--- the type of a variable that is declared where o's names are used, and the cells of one element
+-- the type of a variable that is declared where o's names are used; a width that is too large is refused by itself
 abbrev pub form : Naming → ℕ → Sort → Form
 form names o (sort.Plain t) = kind.Plain t
-form names o (sort.Unsigned n) = kind.Unsigned (width_of (numeral n.text))
+form names o (sort.Unsigned n) = kind.Unsigned (unwrap_or (numeral n.text) 0)
 form names o (sort.Named t) = form_of (visible names o t.text)
 
 -- how many cells a value of a sort has
@@ -104,11 +168,6 @@ stride names o _ = 1
 abbrev pub user : Role → ℕ → ℕ
 user Field o = 0
 user Variable o = o
-
--- how many elements: a size that is out of range is refused by itself
-abbrev pub length_of : Option Constant → ℕ
-length_of (Some (Is (pos n))) = if nat_lt 0 n && nat_lt n most_cells then n else 1
-length_of _ = 1
 
 -- ---- what a declaration makes of its name
 
@@ -127,22 +186,12 @@ thing_of b o (declared_as.Variable x s size makes) =
       array = is_some size;
       length = length_of size;
       stride = stride b.names (user x o) s;
-      offset = min (b.cells o) most_cells;
+      offset = counted (b.cells o);
       number = b.variables o;
     })
 thing_of b o declared_as.Constant = thing.Constant (b.constants + 1)
-thing_of b o (declared_as.Typedef t) = thing.Typedef t (min (b.cells t) most_cells)
+thing_of b o (declared_as.Typedef t) = thing.Typedef t (counted (b.cells t))
 thing_of b o (declared_as.Proctype p n) = thing.Proctype p n
-
--- what this declares the name n of o as, if it does
-abbrev pub declares : Before → ℕ → List ℕ → ℕ → What → Option Thing
-declares b o n k (what.Declares w d) = if nat_eq o k && bytes_eq n w.text then Some (thing_of b k d) else None
-declares b o n k _ = None
-
--- a name that is declared here, and not before
-abbrev pub newly : Before → ℕ → What → Option Thing
-newly b k (what.Declares w d) = if is_some (b.names k w.text) then None else Some (thing_of b k d)
-newly b k _ = None
 
 -- how many cells a variable has
 abbrev pub cells_in : Thing → ℕ
@@ -159,100 +208,22 @@ abbrev pub constants_in : Thing → ℕ
 constants_in (thing.Constant n) = 1
 constants_in _ = 0
 
--- what is counted of a thing; 0, where there is none
-abbrev pub in_it : (Thing → ℕ) → Option Thing → ℕ
-in_it f None = 0
-in_it f (Some t) = f t
+-- one name more, of this owner
+abbrev pub with_thing : Before → ℕ → List ℕ → Thing → Before
+with_thing b o n t = record {
+  names = λ p m. if nat_eq p o && bytes_eq m n then Some t else b.names p m;
+  cells = λ p. b.cells p + (if nat_eq o p then cells_in t else 0);
+  variables = λ p. b.variables p + (if nat_eq o p then variables_in t else 0);
+  constants = b.constants + constants_in t;
+}
 
--- what stands before a mark, by its parts
-abbrev pub known : Naming → (ℕ → ℕ) → (ℕ → ℕ) → ℕ → Before
-known names cells variables constants = record { names = names; cells = cells; variables = variables; constants = constants }
-
--- ---- what is declared by marks that are given from the last to the first
-
-abbrev mutual
-  -- what a name of o stands for: the first declaration of it counts
-  pub declared : List Mark → ℕ → List ℕ → Option Thing
-  declared [] o n = None
-  declared (m ∷ ms) o n =
-      or_else (declared ms o n) (declares (known (declared ms) (cells ms) (variables ms) (constants ms)) o n m.owner m.what)
-
-  -- the cells of o's variables
-  pub cells : List Mark → ℕ → ℕ
-  cells [] o = 0
-  cells (m ∷ ms) o =
-      cells ms o + (if nat_eq m.owner o then in_it cells_in (newly (known (declared ms) (cells ms) (variables ms) (constants ms)) m.owner m.what) else 0)
-
-  -- how many variables o has
-  pub variables : List Mark → ℕ → ℕ
-  variables [] o = 0
-  variables (m ∷ ms) o =
-      variables ms o + (if nat_eq m.owner o then in_it variables_in (newly (known (declared ms) (cells ms) (variables ms) (constants ms)) m.owner m.what) else 0)
-
-  -- how many mtype names there are
-  pub constants : List Mark → ℕ
-  constants [] = 0
-  constants (m ∷ ms) =
-      constants ms + in_it constants_in (newly (known (declared ms) (cells ms) (variables ms) (constants ms)) m.owner m.what)
+-- one mark more, of this owner: of two declarations of one name the first counts
+abbrev pub with_mark : Before → ℕ → What → Before
+with_mark b o (what.Declares w d) = if is_some (b.names o w.text) then b else with_thing b o w.text (thing_of b o d)
+with_mark b o _ = b
 
 -- what is declared by these marks
 abbrev pub before : List Mark → Before
-before ms = known (declared (reverse ms)) (cells (reverse ms)) (variables (reverse ms)) (constants (reverse ms))
-
--- ---- labels, numbers out of range and cells
-
--- ---- a label stands twice, or is missing
-
--- the labels of each owner
-abbrev pub Labels : Type 0
-Labels = ℕ → List ℕ → Bool
-
--- a label stands twice in its proctype, or a goto leads to one that the proctype does not have
-abbrev pub mislabelled : Labels → Labels → ℕ → What → Bool
-mislabelled every labels o (what.Label l) = labels o l.text
-mislabelled every labels o (what.Goto l) = not (every o l.text)
-mislabelled every labels o _ = false
-
--- ---- a number out of range
-
--- a constant is not within these bounds
-abbrev pub is_outside : ℕ → ℕ → Constant → Bool
-is_outside least most Open = false
-is_outside least most Faulty = true
-is_outside least most (Is (negsuc n)) = true
-is_outside least most (Is (pos n)) = nat_lt n least || nat_lt most n
-
--- a constant whose value is a fault, as one that divides by zero
-abbrev pub is_faulty : Constant → Bool
-is_faulty Faulty = true
-is_faulty _ = false
-
--- a count is not within these bounds, or not known
-abbrev pub out_of : ℕ → ℕ → Option ℕ → Bool
-out_of least most None = true
-out_of least most (Some n) = nat_lt n least || nat_lt most n
-
--- where so many mtype names stand before
-abbrev pub out_of_range : ℕ → What → Bool
-out_of_range constants (what.Number n) = is_none (numeral n.text)
-out_of_range constants (what.Width n) = out_of 1 MOST_BITS (numeral n.text)
-out_of_range constants (what.Size c) = is_outside 1 MOST_CELLS c
-out_of_range constants (what.Starts c) = is_outside 1 MOST_PROCESSES c
-out_of_range constants (what.Preset c) = is_faulty c
-out_of_range constants (what.Channel h c n) = is_outside 0 MOST_MESSAGES c || nat_lt MOST_FIELDS n
-out_of_range constants (what.Declares n declared_as.Constant) = not (nat_lt constants MOST_CONSTANTS)
-out_of_range constants _ = false
-
--- ---- too many cells
-
--- the capacity that a constant asks for
-abbrev pub capacity : Constant → ℕ
-capacity (Is (pos n)) = n
-capacity _ = 0
-
--- of the globals, of a proctype's parameters and locals, of one channel; a typedef's own are not asked
-abbrev pub too_many : Before → ℕ → What → Bool
-too_many b o (what.Declares n (declared_as.Variable role.Variable s size makes)) =
-    nat_lt MOST_CELLS (b.cells o + length_of size * stride b.names o s)
-too_many b o (what.Channel h c n) = nat_lt MOST_CELLS (capacity c * n)
-too_many b o _ = false
+before ms =
+    let nothing : Before = record { names = λ o n. None; cells = λ o. 0; variables = λ o. 0; constants = 0 } in
+    fold (λ b m. with_mark b m.owner m.what) nothing ms

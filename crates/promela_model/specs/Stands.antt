@@ -1,44 +1,134 @@
--- What an expression stands for, by cases on its tree. `gs` is what is declared globally before it, and `ls` are the variables of its
--- proctype that are declared before it.
--- Hold it against docs/LANGUAGE.md, 'Types' and 'Expressions'.
-use Rattle.std.specs.Prelude.{◌≡◌, ℕ, nat_lt, Bool, true, false, if◌then◌else◌, List, [], ◌∷◌, Option, Some, None, ℤ, pos, codes}
+-- What is declared globally before a place, and what an expression stands for, by cases on its tree. `gs` is what is declared
+-- globally before it, and `ls` are the variables of its proctype that are declared before it.
+-- Hold it against docs/LANGUAGE.md, 'A model', 'Types' and 'Expressions'.
+use Rattle.std.specs.Prelude.{ℕ, ◌+◌, ◌*◌, Bool, true, false, if◌then◌else◌, nat_lt, List, [], ◌∷◌, Option, Some, None, ℤ, pos, suc, nat_eq, ◌||◌, is_some, ◌++◌, map, find, option_map, ◌≡◌, codes}
+use Rattle.std.specs.Option.{option_map_or}
+use Rattle.std.specs.List.{list_any}
+use Rattle.pml_tree.specs.declared.tree.Infix.{Infix}
+use Rattle.pml_tree.specs.declared.tree.Expr.{Expr as TreeExpr}
+use Rattle.promela_model.specs.declared.mark.Constant.{Constant}
+use Rattle.promela_model.specs.declared.mark.Constant.TheVariants.{Is}
 use Rattle.std.specs.Str.{bytes_eq}
 use Rattle.profile.specs.declared.TheConstants.{MOST_CONSTANTS}
 use Rattle.pml_token.specs.Word.{Word}
+use Rattle.pml_tree.specs.declared.tree.Unit.{Unit as Part}
+use Rattle.pml_tree.specs.declared.tree.Unit.TheVariants as part
+use Rattle.pml_program.specs.declared.form.Form.{Form}
+use Rattle.pml_program.specs.declared.form.Form.TheVariants as kind
+use Rattle.pml_program.specs.declared.program.Slot.{Slot}
 use Rattle.pml_tree.specs.declared.tree.Sign.{Sign}
 use Rattle.pml_tree.specs.declared.tree.Sign.TheVariants.{Plus, Minus}
 use Rattle.pml_tree.specs.declared.tree.Fill.{Fill}
 use Rattle.pml_tree.specs.declared.tree.Prefix.{Prefix}
-use Rattle.pml_tree.specs.declared.tree.Infix.{Infix}
 use Rattle.pml_tree.specs.declared.tree.Search.{Search}
-use Rattle.pml_tree.specs.declared.tree.Expr.{Expr as TreeExpr}
 use Rattle.pml_tree.specs.declared.tree.Expr.TheVariants as e
 use Rattle.pml_tree.specs.declared.tree.Argument.{Argument}
 use Rattle.pml_tree.specs.declared.tree.Argument.TheVariants as g
-use Rattle.pml_tree.specs.declared.tree.Reference.{Reference, roll-Reference}
-use Rattle.pml_tree.specs.declared.tree.Step.{Step, roll-Step}
-use Rattle.promela_model.specs.Known.{number as number_of, negated, Globals, variable_named, constant_named, fields_in}
-use Rattle.promela_model.specs.declared.mark.Constant.{Constant}
-use Rattle.promela_model.specs.declared.mark.Constant.TheVariants.{Is}
-use Rattle.pml_program.specs.declared.form.Form.{Form}
-use Rattle.pml_program.specs.declared.form.Form.TheVariants as kind
-use Rattle.pml_program.specs.declared.program.Slot.{Slot}
+use Rattle.pml_tree.specs.declared.tree.Reference.{Reference}
+use Rattle.pml_tree.specs.declared.tree.Step.{Step}
+use Rattle.promela_model.specs.GrammarOfExpressions.{step_of, reference_of}
 use Rattle.pml_program.specs.declared.expr.Expr.{Expr}
 use Rattle.pml_program.specs.declared.expr.Expr.TheVariants as v
 use Rattle.pml_program.specs.declared.expr.Want.{Want}
 use Rattle.pml_program.specs.declared.expr.Want.TheVariants as w
 use Rattle.pml_program.specs.declared.expr.Target.{Target, roll-Target}
 use Rattle.pml_program.specs.declared.expr.Turn.{Turn, roll-Turn}
+use Rattle.promela_model.specs.Names.{number as number_of, negated, truth_of}
+use Rattle.promela_model.specs.Marks.{is_proctype}
+
+-- ---- what is declared before a place
+
+-- a typedef: its name, the number of its unit, and its fields
+pub record Structure : Type 0 where
+  pub name : Word
+  pub number : ℕ
+  pub fields : List Slot
+
+-- The units of the whole text, and what is declared globally before a place, each in the order of the text.
+pub record Globals : Type 0 where
+  pub text : List Part
+  pub variables : List Slot
+  pub constants : List Word
+  pub typedefs : List Structure
+  pub proctypes : List Word
+
+-- a token has this name
+abbrev pub is_called : List ℕ → Word → Bool
+is_called n w = bytes_eq n w.text
+
+-- ---- the first of a name
+
+-- the first variable of this name, and how many stand before it
+abbrev pub variable_named : List Slot → List ℕ → Option (ℕ × Slot)
+variable_named [] n = None
+variable_named (s ∷ ss) n =
+    if is_called n s.name then Some (0, s) else option_map (λ p. (suc p.0, p.1)) (variable_named ss n)
+
+-- the number of the mtype name that is called so, from 1
+abbrev pub constant_named : List Word → List ℕ → Option ℕ
+constant_named [] n = None
+constant_named (w ∷ ws) n = if is_called n w then Some 1 else option_map suc (constant_named ws n)
+
+-- the first typedef of a name
+abbrev pub typedef_named : List Structure → List ℕ → Option Structure
+typedef_named xs n = find (λ x. is_called n x.name) xs
+
+-- one of these tokens has the name
+abbrev pub has_name : List Word → List ℕ → Bool
+has_name ws n = list_any (is_called n) ws
+
+-- the fields of a place of this type: those of the typedef with its number, and none where it is no typedef's
+abbrev pub fields_in : Globals → Form → List Slot
+fields_in gs (kind.Struct t) = option_map_or (λ x. x.fields) (find (λ x. nat_eq t x.number) gs.typedefs) []
+fields_in gs _ = []
+
+-- ---- the proctype of a name, in the whole text
+
+-- whether a unit declares this global name
+abbrev pub declares : Part → List ℕ → Bool
+declares (part.Variables vs) n = has_name (map (λ v. v.name) vs) n
+declares (part.Constants ws) n = has_name ws n
+declares (part.Typedef t vs) n = is_called n t
+declares (part.Proctype p) n = is_called n p.name
+
+-- the number of the proctype that is called so, where the next one has the number k: none where another unit declares the name before it
+abbrev pub proctype_named : ℕ → List Part → List ℕ → Option ℕ
+proctype_named k [] n = None
+proctype_named k (u ∷ us) n =
+    if declares u n then (if is_proctype u then Some k else None) else proctype_named (if is_proctype u then k + 1 else k) us n
+
+-- ---- one declaration more: of two declarations of one name the first counts
+
+-- whether the name is declared globally before
+abbrev pub is_declared : Globals → List ℕ → Bool
+is_declared gs n =
+    (is_some (variable_named gs.variables n) || is_some (constant_named gs.constants n))
+    || (is_some (typedef_named gs.typedefs n) || has_name gs.proctypes n)
+
+-- one more name of an `mtype`, where nothing has the name yet
+abbrev pub with_constant : Globals → Word → Globals
+with_constant gs w = if is_declared gs w.text then gs else record gs { constants = gs.constants ++ w ∷ [] }
+
+-- one more typedef, where nothing has its name yet
+abbrev pub with_typedef : Globals → Structure → Globals
+with_typedef gs x = if is_declared gs x.name.text then gs else record gs { typedefs = gs.typedefs ++ x ∷ [] }
+
+-- one more proctype, where nothing has its name yet
+abbrev pub with_proctype : Globals → Word → Globals
+with_proctype gs w = if is_declared gs w.text then gs else record gs { proctypes = gs.proctypes ++ w ∷ [] }
+
+-- nothing yet
+abbrev pub nothing_of : List Part → Globals
+nothing_of us = record { text = us; variables = []; constants = []; typedefs = []; proctypes = [] }
+
+-- ---- cells
+
+-- how many cells variables have
+abbrev pub cells : List Slot → ℕ
+cells [] = 0
+cells (s ∷ ss) = s.length * s.stride + cells ss
 
 -- ---- the trees, by their parts
-
--- a name, and the index behind it, if there is one
-abbrev pub step_of : Word → Option TreeExpr → Step
-step_of n i = roll-Step (record { name = n; index = i })
-
--- a name, and the fields behind it
-abbrev pub reference_of : Step → List Step → Reference
-reference_of s ss = roll-Reference (record { first = s; fields = ss })
 
 -- a turn to a variable or a field, from a cell of what it is a part of
 abbrev pub turn_to : ℕ → Slot → Option Expr → Turn
@@ -54,11 +144,6 @@ target_at local n f ts = roll-Target (record { local = local; variable = n; form
 abbrev pub value_of : Constant → ℤ
 value_of (Is x) = x
 value_of _ = pos 0
-
--- true and skip are 1
-abbrev pub truth_of : Bool → ℤ
-truth_of true = pos 1
-truth_of false = pos 0
 
 -- a constant behind its sign
 abbrev pub with_sign : Sign → Constant → Constant
@@ -89,8 +174,7 @@ as_value (Place t) = v.Read t
 as_value (Mtype n) = v.Number (mtype_value n)
 as_value Pid = v.Pid
 as_value Count = v.ProcessCount
-as_value Anything = v.Number (pos 0)
-as_value Nothing = v.Number (pos 0)
+as_value _ = v.Number (pos 0)
 
 -- where a place is wanted
 abbrev pub as_place : Meaning → Target

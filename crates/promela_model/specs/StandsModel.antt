@@ -1,7 +1,8 @@
 -- What the declarations, the statements of a body and a whole tree stand for, by cases on their trees. The variables of the proctype grow
 -- from one to the next: `ls` are those before, and `zs` those behind.
 -- Hold it against docs/LANGUAGE.md, 'Statements' and 'A model'.
-use Rattle.std.specs.Prelude.{◌≡◌, ℕ, ◌+◌, nat_lt, ◌&&◌, if◌then◌else◌, is_some, List, [], ◌∷◌, ◌++◌, map, Option, Some, None, pos, true, false, length, reverse}
+use Rattle.std.specs.Prelude.{◌≡◌, ℕ, ◌+◌, if◌then◌else◌, is_some, List, [], ◌∷◌, ◌++◌, map, Option, Some, None, true, false, length, reverse, fold, option_map, unwrap_or}
+use Rattle.std.specs.List.{AllZip}
 use Rattle.pml_token.specs.Word.{Word}
 use Rattle.pml_tree.specs.declared.tree.Scalar.{Scalar}
 use Rattle.pml_tree.specs.declared.tree.SendOrder.{SendOrder}
@@ -20,14 +21,12 @@ use Rattle.pml_tree.specs.declared.tree.Action.{Action as TreeAction}
 use Rattle.pml_tree.specs.declared.tree.Action.TheVariants as t
 use Rattle.pml_tree.specs.declared.tree.Basic.{Basic as TreeBasic}
 use Rattle.pml_tree.specs.declared.tree.Basic.TheVariants as form
-use Rattle.pml_tree.specs.declared.tree.Item.{Item, roll-Item}
-use Rattle.pml_tree.specs.declared.tree.Seq.{Seq as TreeSeq, roll-Seq as tree-Seq}
-use Rattle.promela_model.specs.Known.{constant, numeral, Globals, Structure, variable_named, typedef_named, proctype_named, cells, counted, is_declared, with_constants, with_typedef, with_proctype, nothing_of}
-use Rattle.promela_model.specs.declared.mark.Constant.{Constant}
-use Rattle.promela_model.specs.declared.mark.Constant.TheVariants.{Is}
+use Rattle.pml_tree.specs.declared.tree.Item.{Item}
+use Rattle.pml_tree.specs.declared.tree.Seq.{Seq as TreeSeq}
+use Rattle.promela_model.specs.GrammarOfActions.{item_of, seq_of}
+use Rattle.promela_model.specs.Names.{constant, numeral, count_of, length_of, counted}
 use Rattle.promela_model.specs.declared.mark.Role.{Role}
 use Rattle.promela_model.specs.declared.mark.Role.TheVariants as role
-use Rattle.profile.specs.declared.TheConstants.{MOST_CELLS}
 use Rattle.pml_program.specs.declared.form.Form.{Form}
 use Rattle.pml_program.specs.declared.form.Form.TheVariants as kind
 use Rattle.pml_program.specs.declared.expr.Expr.{Expr}
@@ -43,7 +42,7 @@ use Rattle.pml_program.specs.declared.program.Basic.{Basic}
 use Rattle.pml_program.specs.declared.program.Basic.TheVariants as b
 use Rattle.pml_program.specs.declared.program.Stmt.{Stmt, roll-Stmt}
 use Rattle.pml_program.specs.declared.program.Seq.{Seq, roll-Seq}
-use Rattle.promela_model.specs.Stands.{Meaning, Place, as_place, StandsExpr, StandsReference, StandsArguments}
+use Rattle.promela_model.specs.Stands.{Meaning, Place, as_place, StandsExpr, StandsReference, StandsArguments, Globals, Structure, variable_named, typedef_named, proctype_named, cells, is_declared, with_constant, with_typedef, with_proctype, nothing_of}
 use Rattle.pml_tree.specs.declared.tree.Starts.{Starts}
 use Rattle.pml_tree.specs.declared.tree.Starts.TheVariants as starts
 use Rattle.pml_tree.specs.declared.tree.Proctype.{Proctype as TreeProctype}
@@ -54,47 +53,23 @@ use Rattle.pml_program.specs.declared.program.Fields.{Fields}
 use Rattle.pml_program.specs.declared.program.Proctype.{Proctype}
 use Rattle.pml_program.specs.declared.program.Program.{Program}
 
--- a number that is none is refused by itself
-abbrev pub or_none : Option ℕ → ℕ
-or_none None = 0
-or_none (Some o) = o
-
 -- ---- variables
 
--- the type that a word names, and the cells of one element
+-- the type that a word names, and the cells of one element; a width that is no number is refused by itself
 pub data StandsSort (gs : Globals) (ls : List Slot) : Sort → Form → ℕ → Type 0 where
   plain_sort : (s : Scalar) → StandsSort gs ls (sort.Plain s) (kind.Plain s) 1
-  unsigned_sort : (n : Word) → StandsSort gs ls (sort.Unsigned n) (kind.Unsigned (or_none (numeral n.text))) 1
+  unsigned_sort : (n : Word) → StandsSort gs ls (sort.Unsigned n) (kind.Unsigned (unwrap_or (numeral n.text) 0)) 1
   typedef_sort : {n : Word} {x : Structure} → variable_named ls n.text ≡ None → typedef_named gs.typedefs n.text ≡ Some x
       → StandsSort gs ls (sort.Named n) (kind.Struct x.number) (counted (cells x.fields))
   hidden_sort : {n : Word} {k : ℕ} {s : Slot} → variable_named ls n.text ≡ Some (k, s) → StandsSort gs ls (sort.Named n) kind.Unknown 1
   lost_sort : {n : Word} → typedef_named gs.typedefs n.text ≡ None → StandsSort gs ls (sort.Named n) kind.Unknown 1
-
--- a count: one that is negative or no constant is refused by itself
-abbrev pub count_of : Constant → ℕ
-count_of (Is (pos n)) = n
-count_of _ = 0
-
--- the type that a word names
-abbrev pub plain_form : Scalar → Form
-plain_form s = kind.Plain s
 
 -- what an initialiser stands for
 pub data StandsInitial (gs : Globals) (ls : List Slot) : Option TreeInitial → Initial → Type 0 where
   no_initial : StandsInitial gs ls None i.Zero
   value_initial : {e : TreeExpr} {x : Expr} → StandsExpr gs ls e x → StandsInitial gs ls (Some (begin.Value e)) (i.Value x)
   channel_initial : {e : TreeExpr} {ts : List Scalar}
-      → StandsInitial gs ls (Some (begin.Channel e ts)) (i.Channel (count_of (constant e)) (map plain_form ts))
-
--- a size that is out of range is refused by itself
-abbrev pub size_of : Constant → ℕ
-size_of (Is (pos n)) = if nat_lt 0 n && nat_lt n (MOST_CELLS + 1) then n else 1
-size_of _ = 1
-
--- how many elements a variable has
-abbrev pub elements : Option TreeExpr → ℕ
-elements None = 1
-elements (Some e) = size_of (constant e)
+      → StandsInitial gs ls (Some (begin.Channel e ts)) (i.Channel (count_of (constant e)) (map kind.Plain ts))
 
 -- A variable behind these ones of its owner: its cells begin where theirs end.
 pub data StandsVariable (gs : Globals) (ls before : List Slot) : Variable → Slot → Type 0 where
@@ -104,7 +79,7 @@ pub data StandsVariable (gs : Globals) (ls before : List Slot) : Variable → Sl
         form = f;
         array = is_some v.size;
         offset = counted (cells before);
-        length = elements v.size;
+        length = length_of (option_map constant v.size);
         stride = width;
         initial = x;
       })
@@ -124,24 +99,19 @@ pub data StandsVariables (gs : Globals) (use_as : Role) : List Slot → List Var
 
 -- ---- statements that give no structure
 
--- what expressions stand for, one by one
-pub data StandsExprs (gs : Globals) (ls : List Slot) : List TreeExpr → List Expr → Type 0 where
-  no_expr : StandsExprs gs ls [] []
-  one_expr : {e : TreeExpr} {es : List TreeExpr} {x : Expr} {xs : List Expr}
-      → StandsExpr gs ls e x → StandsExprs gs ls es xs → StandsExprs gs ls (e ∷ es) (x ∷ xs)
-
 -- where a store goes: nowhere for `_`
 abbrev pub as_store : Meaning → Option Target
 as_store (Place t) = Some t
 as_store _ = None
 
--- a proctype of the whole text, by its number in the order of the text, where no variable of the proctype hides its name
+-- a proctype of the whole text, by its number in the order of the text, where no variable of the proctype hides its
+-- name; a name that is no proctype's is refused by itself
 abbrev pub proctype_of : Globals → List Slot → List ℕ → ℕ
-proctype_of gs ls n = if is_some (variable_named ls n) then 0 else or_none (proctype_named 0 gs.text n)
+proctype_of gs ls n = if is_some (variable_named ls n) then 0 else unwrap_or (proctype_named 0 gs.text n) 0
 
 -- what a `run` stands for: its arguments, and its proctype by its number
 pub data StandsRun (gs : Globals) (ls : List Slot) : TreeRun → Run → Type 0 where
-  run : {q : TreeRun} {xs : List Expr} → StandsExprs gs ls q.arguments xs
+  run : {q : TreeRun} {xs : List Expr} → AllZip (StandsExpr gs ls) q.arguments xs
       → StandsRun gs ls q (record { proctype = proctype_of gs ls q.name.text; arguments = xs })
 
 -- what a statement without a structure stands for
@@ -155,24 +125,16 @@ pub data StandsAction (gs : Globals) (ls : List Slot) : TreeAction → Action �
   decrement : {r : Reference} {m : Meaning} → StandsReference gs ls r m → StandsAction gs ls (t.Decrement r) (a.Decrement (as_place m))
   run_alone : {q : TreeRun} {p : Run} → StandsRun gs ls q p → StandsAction gs ls (t.Run q) (a.Run p)
   send : {r : Reference} {m : Meaning} {order : SendOrder} {es : List TreeExpr} {xs : List Expr}
-      → StandsReference gs ls r m → StandsExprs gs ls es xs → StandsAction gs ls (t.Send r order es) (a.Send (as_place m) order xs)
+      → StandsReference gs ls r m → AllZip (StandsExpr gs ls) es xs → StandsAction gs ls (t.Send r order es) (a.Send (as_place m) order xs)
   receive : {r : Reference} {m : Meaning} {look : Search} {how : Removal} {qs : List Argument} {ws : List Want}
       → StandsReference gs ls r m → StandsArguments gs ls qs ws
       → StandsAction gs ls (t.Receive r look how qs) (a.Receive (as_place m) look how ws)
-  printf : {s : Word} {es : List TreeExpr} {xs : List Expr} → StandsExprs gs ls es xs → StandsAction gs ls (t.Printf s es) (a.Printf s xs)
+  printf : {s : Word} {es : List TreeExpr} {xs : List Expr} → AllZip (StandsExpr gs ls) es xs → StandsAction gs ls (t.Printf s es) (a.Printf s xs)
   printm : {e : TreeExpr} {x : Expr} → StandsExpr gs ls e x → StandsAction gs ls (t.Printm e) (a.Printm x)
   assert : {e : TreeExpr} {x : Expr} → StandsExpr gs ls e x → StandsAction gs ls (t.Assert e) (a.Assert x)
   holds : {e : TreeExpr} {x : Expr} → StandsExpr gs ls e x → StandsAction gs ls (t.Holds e) (a.Holds x)
 
 -- ---- bodies
-
--- a statement of the tree, with its labels and its tokens
-abbrev pub item_of : List Word → TreeBasic → List Word → Item
-item_of labels x tokens = roll-Item (record { labels = labels; basic = x; tokens = tokens })
-
--- statements of the tree, one behind another
-abbrev pub items_of : List Item → TreeSeq
-items_of xs = tree-Seq (record { items = xs })
 
 -- a statement of the model, with its labels and its tokens
 abbrev pub stmt_of : List Word → Basic → List Word → Stmt
@@ -210,7 +172,7 @@ mutual
         → StandsItems gs ls (item_of labels x tokens ∷ is) (stmt_of labels y tokens ∷ ys) zs
 
   pub data StandsSeq (gs : Globals) : List Slot → TreeSeq → Seq → List Slot → Type 0 where
-    sequence : {ls zs : List Slot} {is : List Item} {ys : List Stmt} → StandsItems gs ls is ys zs → StandsSeq gs ls (items_of is) (steps_of ys) zs
+    sequence : {ls zs : List Slot} {is : List Item} {ys : List Stmt} → StandsItems gs ls is ys zs → StandsSeq gs ls (seq_of is) (steps_of ys) zs
 
   pub data StandsOptions (gs : Globals) : List Slot → List TreeSeq → List Seq → List Slot → Type 0 where
     no_option : {ls : List Slot} → StandsOptions gs ls [] [] ls
@@ -219,15 +181,12 @@ mutual
 
 -- ---- a whole tree, by cases on its units
 
--- the same, with these variables
-abbrev pub with_variables : Globals → List Slot → Globals
-with_variables gs ss = record gs { variables = ss }
-
 -- Global variables, from these globals to those. Of two declarations of one name the first counts.
 pub data StandsGlobals : Globals → List Variable → Globals → Type 0 where
   no_global : {gs : Globals} → StandsGlobals gs [] gs
   new_global : {gs zs : Globals} {v : Variable} {vs : List Variable} {s : Slot} → is_declared gs v.name.text ≡ false
-      → StandsVariable gs [] gs.variables v s → StandsGlobals (with_variables gs (gs.variables ++ s ∷ [])) vs zs → StandsGlobals gs (v ∷ vs) zs
+      → StandsVariable gs [] gs.variables v s → StandsGlobals (record gs { variables = gs.variables ++ s ∷ [] }) vs zs
+      → StandsGlobals gs (v ∷ vs) zs
   old_global : {gs zs : Globals} {v : Variable} {vs : List Variable} → is_declared gs v.name.text ≡ true
       → StandsGlobals gs vs zs → StandsGlobals gs (v ∷ vs) zs
 
@@ -237,26 +196,6 @@ beginning starts.Never = 0
 beginning starts.Once = 1
 beginning (starts.Times e) = count_of (constant e)
 
--- the fields of a typedef
-abbrev pub fields_with : ℕ → List Slot → Fields
-fields_with o fs = record { owner = o; fields = fs }
-
--- a typedef with its number and its fields
-abbrev pub structure : Word → ℕ → List Slot → Structure
-structure t o fs = record { name = t; number = o; fields = fs }
-
--- the proctype with this number, its variables and its body
-abbrev pub proctype_with : ℕ → TreeProctype → List Slot → Seq → Proctype
-proctype_with o p ls x = record {
-  name = p.name;
-  owner = o;
-  starts = beginning p.starts;
-  parameters = length p.parameters;
-  variables = ls;
-  body = x;
-  end = p.end;
-}
-
 -- The units, the first with the number o: from these globals to those, with their mtype names, typedefs and proctypes. A list of
 -- mtype names is numbered from its last to its first. A proctype is declared before its body, and a typedef behind its fields.
 pub data StandsUnits : ℕ → Globals → List Part → Globals → List Word → List Fields → List Proctype → Type 0 where
@@ -264,23 +203,29 @@ pub data StandsUnits : ℕ → Globals → List Part → Globals → List Word �
   variables : {o : ℕ} {gs ms zs : Globals} {vs : List Variable} {us : List Part} {cs : List Word} {ts : List Fields} {ps : List Proctype}
       → StandsGlobals gs vs ms → StandsUnits (o + 1) ms us zs cs ts ps → StandsUnits o gs (part.Variables vs ∷ us) zs cs ts ps
   constants : {o : ℕ} {gs zs : Globals} {ns : List Word} {us : List Part} {cs : List Word} {ts : List Fields} {ps : List Proctype}
-      → StandsUnits (o + 1) (with_constants gs (reverse ns)) us zs cs ts ps
+      → StandsUnits (o + 1) (fold with_constant gs (reverse ns)) us zs cs ts ps
       → StandsUnits o gs (part.Constants ns ∷ us) zs (reverse ns ++ cs) ts ps
   typedef : {o : ℕ} {gs zs : Globals} {t : Word} {vs : List Variable} {fs : List Slot} {us : List Part}
       {cs : List Word} {ts : List Fields} {ps : List Proctype}
-      → StandsVariables gs role.Field [] vs fs → StandsUnits (o + 1) (with_typedef gs (structure t o fs)) us zs cs ts ps
-      → StandsUnits o gs (part.Typedef t vs ∷ us) zs cs (fields_with o fs ∷ ts) ps
+      → StandsVariables gs role.Field [] vs fs
+      → StandsUnits (o + 1) (with_typedef gs (record { name = t; number = o; fields = fs })) us zs cs ts ps
+      → StandsUnits o gs (part.Typedef t vs ∷ us) zs cs (record { owner = o; fields = fs } ∷ ts) ps
   proctype : {o : ℕ} {gs zs : Globals} {p : TreeProctype} {ms ls : List Slot} {x : Seq} {us : List Part}
       {cs : List Word} {ts : List Fields} {ps : List Proctype}
       → StandsVariables (with_proctype gs p.name) role.Variable [] p.parameters ms → StandsSeq (with_proctype gs p.name) ms p.body x ls
       → StandsUnits (o + 1) (with_proctype gs p.name) us zs cs ts ps
-      → StandsUnits o gs (part.Proctype p ∷ us) zs cs ts (proctype_with o p ls x ∷ ps)
-
--- a model by its parts
-abbrev pub program_of : List Slot → List Word → List Fields → List Proctype → Program
-program_of gs cs ts ps = record { globals = gs; constants = cs; typedefs = ts; proctypes = ps }
+      → StandsUnits o gs (part.Proctype p ∷ us) zs cs ts (record {
+        name = p.name;
+        owner = o;
+        starts = beginning p.starts;
+        parameters = length p.parameters;
+        variables = ls;
+        body = x;
+        end = p.end;
+      } ∷ ps)
 
 -- a tree stands for a checked model
 pub data StandsModel : Tree → Program → Type 0 where
   model : {t : Tree} {zs : Globals} {cs : List Word} {ts : List Fields} {ps : List Proctype}
-      → StandsUnits 1 (nothing_of t.units) t.units zs cs ts ps → StandsModel t (program_of zs.variables cs ts ps)
+      → StandsUnits 1 (nothing_of t.units) t.units zs cs ts ps
+      → StandsModel t (record { globals = zs.variables; constants = cs; typedefs = ts; proctypes = ps })

@@ -1,10 +1,9 @@
 -- The value of an expression, and when a message matches what a receive asks.
 -- Hold it against chapter 3 of the book; the pages `cond_expr`, `len`, `poll`, `timeout`, `_pid` and `_nr_pr`.
-use Rattle.std.specs.Prelude.{Bool, true, false, ◌&&◌, List, [], ◌∷◌, ℤ, map, ℕ, ◌+◌, ◌*◌, not, ◌||◌, if◌then◌else◌, ◌==◌, nat_lt, length, pos, negsuc, Option, Some, None, Result, Ok, Err}
+use Rattle.std.specs.Prelude.{Bool, true, false, ◌&&◌, List, [], ◌∷◌, ℤ, map, ℕ, ◌+◌, ◌*◌, not, ◌||◌, if◌then◌else◌, ◌==◌, nat_lt, length, pos, negsuc, Option, Some, None, Result, Ok, Err, ok_or, option_map, unwrap_or}
 use Rattle.std.specs.Ordering.{int_eq}
 use Rattle.promela_process.specs.declared.sought.Sought.{Sought}
 use Rattle.promela_process.specs.declared.sought.Sought.TheVariants.{Exactly, Into, Anything}
-use Rattle.pml_tree.specs.declared.tree.Infix.{Infix}
 use Rattle.pml_tree.specs.declared.tree.Search.{Search}
 use Rattle.pml_tree.specs.declared.tree.Search.TheVariants.{First, Matching}
 use Rattle.pml_tree.specs.declared.tree.Fill.{Fill}
@@ -63,11 +62,6 @@ filled IsFull c = truth (not (nat_lt (length c.messages) c.capacity))
 filled IsNotEmpty c = truth (not (length c.messages == 0))
 filled IsNotFull c = truth (nat_lt (length c.messages) c.capacity)
 
--- the same of a channel that may not be there
-abbrev pub asked : Fill → Option Filling → Result ℤ Fault
-asked fill None = Err NoSuchChannel
-asked fill (Some c) = Ok (filled fill c)
-
 -- whether the oldest message matches, or any
 abbrev pub is_match : Search → List Sought → List (List ℤ) → Bool
 is_match search ws [] = false
@@ -105,15 +99,6 @@ pub record Placed : Type 0 where
 abbrev pub Turned : Type 0
 Turned = Reading → Result ℕ Fault
 
--- what is not evaluated has no fault
-abbrev pub if_zero : ℤ → Result ℤ Fault → Result ℤ Fault → Result ℤ Fault
-if_zero x a b = if is_zero x then a else b
-
--- the left operand decides, or both are evaluated
-abbrev pub or_both : Infix → ℤ → Option ℤ → Result ℤ Fault → Result ℤ Fault
-or_both op x (Some y) right = Ok y
-or_both op x None right = right >>= λ y. infixed op x y
-
 -- what a receive asks for one field, or a fault
 abbrev pub Wanted : Type 0
 Wanted = Reading → Result Sought Fault
@@ -123,18 +108,18 @@ abbrev pub wants_of : List Wanted → Reading → Result (List Sought) Fault
 wants_of [] r = Ok []
 wants_of (a ∷ more) r = a r >>= λ w. wants_of more r >>= λ ws. Ok (w ∷ ws)
 
--- the value of an expression by those of its parts
+-- the value of an expression by those of its parts; what is not evaluated has no fault
 abbrev pub value_step : Expr-F Valued Wanted Placed Turned → Valued
 value_step (Expr-F.Number n) r = Ok n
 value_step Expr-F.Pid r = Ok r.pid
 value_step Expr-F.ProcessCount r = Ok r.process_count
 value_step Expr-F.Timeout r = Ok (truth r.timeout)
 value_step (Expr-F.Read p) r = p.lies r >>= λ at. Ok (r.holds at)
-value_step (Expr-F.Ask fill p) r = p.lies r >>= λ at. asked fill (r.channel (r.holds at))
+value_step (Expr-F.Ask fill p) r = p.lies r >>= λ at. ok_or (option_map (filled fill) (r.channel (r.holds at))) NoSuchChannel
 value_step (Expr-F.Poll p search args) r = p.lies r >>= λ at. polled search (length args) (wants_of args r) (r.channel (r.holds at))
 value_step (Expr-F.Unary op a) r = a r >>= λ x. Ok (prefixed op x)
-value_step (Expr-F.Binary op a b) r = a r >>= λ x. or_both op x (decided op x) (b r)
-value_step (Expr-F.Choice a b c) r = a r >>= λ x. if_zero x (c r) (b r)
+value_step (Expr-F.Binary op a b) r = a r >>= λ x. unwrap_or (option_map Ok (decided op x)) (b r >>= λ y. infixed op x y)
+value_step (Expr-F.Choice a b c) r = a r >>= λ x. if is_zero x then c r else b r
 
 -- what is asked for a field by the values of its parts
 abbrev pub want_step : Want-F Valued Wanted Placed Turned → Wanted

@@ -3,4 +3,3 @@ pub mod Expressions
 pub mod Store
 pub mod Control
 pub mod Offers
-pub mod Circles

@@ -14,16 +14,13 @@ use Rattle.pml_tree.specs.declared.tree.Infix.TheVariants as op
 use Rattle.diagnostics.specs.declared.fault.Fault.{Fault}
 use Rattle.diagnostics.specs.declared.fault.Fault.TheVariants.{ZeroDivisor}
 
--- how many bits a variable of a type has
+-- how many bits a variable of a type has: 8, where nothing else stands
 abbrev pub bits_of_word : Scalar → ℕ
 bits_of_word word.Bit = 1
 bits_of_word word.Bool = 1
-bits_of_word word.Byte = 8
-bits_of_word word.Chan = 8
-bits_of_word word.Mtype = 8
-bits_of_word word.Pid = 8
 bits_of_word word.Short = 16
 bits_of_word word.Int = 32
+bits_of_word _ = 8
 
 -- at most 32 (no plain variable is of a typedef, or of a name that is none)
 unfoldable pub bits_of : Form → ℕ

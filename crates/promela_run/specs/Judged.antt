@@ -1,6 +1,6 @@
 -- The conditions that refuse a model, each by itself, and the least that applies.
 -- Hold it against docs/REFUSALS.md.
-use Rattle.std.specs.Prelude.{◌≡◌, ◌⊎◌, ◌<◌, ℕ, List, Option, Some, None, Ok, Err, slice_get}
+use Rattle.std.specs.Prelude.{◌≡◌, ◌⊎◌, ◌<◌, ℕ, List, Option, Some, None, Ok, Err, slice_get, IsSomeAnd, IfSome}
 use Rattle.diagnostics.specs.declared.fault.Fault.{Fault}
 use Rattle.diagnostics.specs.declared.refusal.Refusal.{Refusal}
 use Rattle.diagnostics.specs.declared.refusal.Refusal.TheVariants as r
@@ -13,27 +13,20 @@ use Rattle.promela_model.specs.declared.condition.Condition.TheVariants as condi
 use Rattle.promela_model.specs.Decided as marks
 use Rattle.pml_program.specs.declared.program.Proctype.{Proctype}
 use Rattle.pml_program.specs.declared.program.Program.{Program}
+use Rattle.pml_program.specs.declared.program.Seq.{Seq}
 use Rattle.promela_model.specs.StandsModel.{StandsModel}
 use Rattle.promela_run.specs.State.{Begun, first_state}
-use Rattle.promela_process.specs.Circles.{Circle, SettlesEverywhere, BadFirstPoint, FirstPointsFit}
+use Rattle.promela_process.specs.Control.{Circle, SettlesEverywhere, BadFirstPoint, FirstPointsFit}
 
 -- ---- what is asked of control, of the body of each proctype, and of the first state
 
--- settling comes to itself again somewhere in a body
-abbrev pub HasCircle : List Proctype → Type 0
-HasCircle ps = (k : ℕ) × (p : Proctype) × (slice_get ps k ≡ Some p) × Circle p.body
+-- the body of one of these proctypes is so
+abbrev pub SomeBody : (Seq → Type 0) → List Proctype → Type 0
+SomeBody P ps = (k : ℕ) × (p : Proctype) × (slice_get ps k ≡ Some p) × P p.body
 
--- in each of these proctypes settling ends at each place
-abbrev pub SettleEverywhere : List Proctype → Type 0
-SettleEverywhere ps = (k : ℕ) (p : Proctype) → slice_get ps k ≡ Some p → SettlesEverywhere p.body
-
--- control cannot begin one of the d_steps of a body
-abbrev pub HasBadStep : List Proctype → Type 0
-HasBadStep ps = (k : ℕ) × (p : Proctype) × (slice_get ps k ≡ Some p) × BadFirstPoint p.body
-
--- in each of these proctypes the first point of each d_step fits
-abbrev pub HaveGoodSteps : List Proctype → Type 0
-HaveGoodSteps ps = (k : ℕ) (p : Proctype) → slice_get ps k ≡ Some p → FirstPointsFit p.body
+-- so is the body of each
+abbrev pub EachBody : (Seq → Type 0) → List Proctype → Type 0
+EachBody P ps = (k : ℕ) (p : Proctype) → slice_get ps k ≡ Some p → P p.body
 
 -- what a variable of the first state begins with cannot be evaluated
 abbrev pub HasBadStart : Program → Type 0
@@ -60,71 +53,32 @@ condition_of r.NoProcess = Some condition.NoProcess
 condition_of r.TooManyAtStart = Some condition.Start
 condition_of _ = None
 
--- the marks break it
-abbrev pub BreaksCondition : Option Condition → List Mark → Type 0
-BreaksCondition None ms = ⊥
-BreaksCondition (Some x) ms = marks.Applies x ms
-
--- the marks keep it
-abbrev pub KeepsCondition : Option Condition → List Mark → Type 0
-KeepsCondition None ms = Unit {0}
-KeepsCondition (Some x) ms = marks.Fits x ms
-
 -- ---- what is asked of the model with its names replaced
 
--- the model breaks the condition on d_steps, on circles of gotos or on initialisers that a refusal tells of
+-- The model breaks the condition that a refusal tells of: control cannot begin one of the d_steps of a body, settling
+-- comes to itself again somewhere in a body, or what a variable of the first state begins with cannot be evaluated.
 abbrev pub BreaksModel : Refusal → Program → Type 0
-BreaksModel r.DStep p = HasBadStep p.proctypes
-BreaksModel r.CircleOfGotos p = HasCircle p.proctypes
+BreaksModel r.DStep p = SomeBody BadFirstPoint p.proctypes
+BreaksModel r.CircleOfGotos p = SomeBody Circle p.proctypes
 BreaksModel r.Initialiser p = HasBadStart p
-BreaksModel r.TextTooLong p = ⊥
-BreaksModel r.Lexical p = ⊥
-BreaksModel r.LeftOut p = ⊥
-BreaksModel r.TooDeep p = ⊥
-BreaksModel r.Syntax p = ⊥
-BreaksModel r.NameTwice p = ⊥
-BreaksModel r.UnknownName p = ⊥
-BreaksModel r.WrongKind p = ⊥
-BreaksModel r.ArgumentCount p = ⊥
-BreaksModel r.Label p = ⊥
-BreaksModel r.BreakOutsideDo p = ⊥
-BreaksModel r.NumberOutOfRange p = ⊥
-BreaksModel r.TooManyCells p = ⊥
-BreaksModel r.NoProcess p = ⊥
-BreaksModel r.TooManyAtStart p = ⊥
-BreaksModel r.Inline p = ⊥
+BreaksModel _ p = ⊥
 
--- the model keeps it
+-- the model keeps it: the first point of each d_step fits, settling ends at each place, the initialisers have no fault
 abbrev pub KeepsModel : Refusal → Program → Type 0
-KeepsModel r.DStep p = HaveGoodSteps p.proctypes
-KeepsModel r.CircleOfGotos p = SettleEverywhere p.proctypes
+KeepsModel r.DStep p = EachBody FirstPointsFit p.proctypes
+KeepsModel r.CircleOfGotos p = EachBody SettlesEverywhere p.proctypes
 KeepsModel r.Initialiser p = HasGoodStart p
-KeepsModel r.TextTooLong p = Unit {0}
-KeepsModel r.Lexical p = Unit {0}
-KeepsModel r.LeftOut p = Unit {0}
-KeepsModel r.TooDeep p = Unit {0}
-KeepsModel r.Syntax p = Unit {0}
-KeepsModel r.NameTwice p = Unit {0}
-KeepsModel r.UnknownName p = Unit {0}
-KeepsModel r.WrongKind p = Unit {0}
-KeepsModel r.ArgumentCount p = Unit {0}
-KeepsModel r.Label p = Unit {0}
-KeepsModel r.BreakOutsideDo p = Unit {0}
-KeepsModel r.NumberOutOfRange p = Unit {0}
-KeepsModel r.TooManyCells p = Unit {0}
-KeepsModel r.NoProcess p = Unit {0}
-KeepsModel r.TooManyAtStart p = Unit {0}
-KeepsModel r.Inline p = Unit {0}
+KeepsModel _ p = Unit {0}
 
 -- ---- a refusal applies to a tree, or the tree fits it
 
 -- a refusal applies to a model, by its marks or by the model itself
 unfoldable pub AppliesTo : Refusal → List Mark → Program → Type 0
-AppliesTo x ms p = BreaksCondition (condition_of x) ms ⊎ BreaksModel x p
+AppliesTo x ms p = IsSomeAnd (condition_of x) (λ c. marks.Applies c ms) ⊎ BreaksModel x p
 
 -- the model has nothing that this refusal tells of
 unfoldable pub FitsTo : Refusal → List Mark → Program → Type 0
-FitsTo x ms p = KeepsCondition (condition_of x) ms × KeepsModel x p
+FitsTo x ms p = IfSome (condition_of x) (λ c. marks.Fits c ms) × KeepsModel x p
 
 -- a refusal applies to the tree and to the model that it stands for
 pub record Applies (t : Tree) (x : Refusal) : Type 0 where

@@ -1,6 +1,7 @@
 -- The texts of places and of their numbers, the lines of the places that a step changed, and what `printf` prints.
 -- Hold it against docs/FORMATS.md, 'Lines on standard output'; the page `printf`.
-use Rattle.std.specs.Prelude.{ℕ, zero, suc, length, ◌/◌, ◌%◌, Bool, true, false, List, [], ◌++◌, slice_get, Option, Some, None, ℤ, pos, negsuc, codes, ◌+◌, if◌then◌else◌, ◌∷◌, ◌-◌, ◌||◌, nat_eq, take, drop}
+use Rattle.std.specs.Prelude.{ℕ, zero, suc, length, ◌/◌, ◌%◌, Bool, true, false, List, [], ◌++◌, slice_get, Option, Some, None, ℤ, pos, negsuc, codes, ◌+◌, if◌then◌else◌, ◌∷◌, ◌-◌, ◌||◌, nat_eq, take, drop, slice_index_or}
+use Rattle.std.specs.Option.{option_map_or}
 use Rattle.std.specs.Fmt.{decimal, signed_decimal, radix_digits}
 use Rattle.pml_token.specs.Word.{Word, same_kind}
 use Rattle.pml_tree.specs.declared.tree.Scalar.TheVariants as scalar
@@ -9,7 +10,7 @@ use Rattle.pml_program.specs.declared.form.Form.TheVariants as kind
 use Rattle.pml_program.specs.declared.program.Slot.{Slot}
 use Rattle.pml_program.specs.declared.program.Fields.{Fields}
 use Rattle.pml_program.specs.declared.program.Program.{Program}
-use Rattle.promela_run.specs.State.{slot_of, cell_of, fields_of, leaf, slots_of}
+use Rattle.promela_run.specs.State.{slot_of, cell_of, fields_of, leaf}
 use Rattle.std.specs.Ordering.{int_eq}
 use Rattle.pml_token.specs.declared.token.Kind.TheVariants.{Init}
 use Rattle.pml_program.specs.declared.program.Proctype.{Proctype}
@@ -25,18 +26,13 @@ constant names (pos zero) = None
 constant names (pos (suc n)) = slice_get names n
 constant names (negsuc n) = None
 
--- a name, or what stands for one where there is none
-abbrev pub name_or : Option Word → List ℕ → List ℕ
-name_or None other = other
-name_or (Some w) other = w.text
-
 -- the mtype name with a number, or the number where there is none
-abbrev pub named : List Word → ℤ → List ℕ
-named names number = name_or (constant names number) (signed_decimal number)
+abbrev pub name_of_number : List Word → ℤ → List ℕ
+name_of_number names number = option_map_or (λ w. w.text) (constant names number) (signed_decimal number)
 
 -- a number as its type has it written
 abbrev pub worth : List Word → Form → ℤ → List ℕ
-worth names (kind.Plain scalar.Mtype) number = named names number
+worth names (kind.Plain scalar.Mtype) number = name_of_number names number
 worth names _ number = signed_decimal number
 
 -- the index of an element, in an array
@@ -76,31 +72,25 @@ pub record Owner : Type 0 where
   pub heading : List ℕ
   pub slots : List Slot
 
--- how a process's lines begin: `local I (NAME) `
-abbrev pub local_heading : ℕ → Proctype → List ℕ
-local_heading i p = codes "local " ++ (decimal i ++ (codes " (" ++ (proctype_name p.name ++ codes ") ")))
-
--- how the lines of the process i begin, and its variables, by its proctype
+-- how the lines of the process i begin, by its proctype: `local I (NAME) `
 abbrev pub heading_of : ℕ → Option Proctype → List ℕ
 heading_of i None = []
-heading_of i (Some p) = local_heading i p
+heading_of i (Some p) = codes "local " ++ (decimal i ++ (codes " (" ++ (proctype_name p.name ++ codes ") ")))
 
 -- the process i as an owner of variables
 abbrev pub process_owner : Bool → ℕ → Option Proctype → Owner
-process_owner wanted i p = record { wanted = wanted; heading = heading_of i p; slots = slots_of p }
+process_owner wanted i p =
+    record { wanted = wanted; heading = heading_of i p; slots = option_map_or (λ q. q.variables) p [] }
 
 -- processes, numbered from i on, each by the number of its proctype in the model
 abbrev pub process_owners : Program → Bool → ℕ → List ℕ → List Owner
 process_owners p wanted i [] = []
 process_owners p wanted i (k ∷ ks) = process_owner wanted i (slice_get p.proctypes k) ∷ process_owners p wanted (i + 1) ks
 
--- the globals
-abbrev pub global_owner : Program → Bool → Owner
-global_owner p wanted = record { wanted = wanted; heading = codes "global "; slots = p.globals }
-
 -- the globals, and then the processes
 abbrev pub owners : Program → Bool → Bool → List ℕ → List Owner
-owners p globals locals kinds = global_owner p globals ∷ process_owners p locals 0 kinds
+owners p globals locals sorts =
+    record { wanted = globals; heading = codes "global "; slots = p.globals } ∷ process_owners p locals 0 sorts
 
 -- the line of a cell and its number
 abbrev pub line : Program → Owner → Slot → ℕ → ℤ → List ℕ
@@ -110,28 +100,23 @@ line p o s cell number = if o.wanted then o.heading ++ place_line p s cell numbe
 
 -- what is made of each cell that differs and of its number after, where the first cell has the number k
 abbrev pub each_change : {A : Type 0} → (ℕ → ℤ → List A) → ℕ → Cells → Cells → List A
-each_change f k [] after = []
-each_change f k (x ∷ xs) [] = []
 each_change f k (x ∷ xs) (y ∷ ys) = (if int_eq x y then [] else f k y) ++ each_change f (k + 1) xs ys
+each_change f k _ _ = []
 
 -- the lines of the variables of an owner
 abbrev pub variable_lines : (Slot → ℕ → ℤ → List ℕ) → List Slot → Frame → Frame → List ℕ
-variable_lines f [] before after = []
-variable_lines f (s ∷ ss) [] after = []
-variable_lines f (s ∷ ss) (x ∷ xs) [] = []
 variable_lines f (s ∷ ss) (x ∷ xs) (y ∷ ys) = each_change (f s) 0 x y ++ variable_lines f ss xs ys
+variable_lines f _ _ _ = []
 
 -- those of all owners
 abbrev pub owner_lines : Program → List Owner → List Frame → List Frame → List ℕ
-owner_lines p [] before after = []
-owner_lines p (o ∷ os) [] after = []
-owner_lines p (o ∷ os) (x ∷ xs) [] = []
 owner_lines p (o ∷ os) (x ∷ xs) (y ∷ ys) = variable_lines (line p o) o.slots x y ++ owner_lines p os xs ys
+owner_lines p _ _ _ = []
 
 -- The lines of the places that are there before and after and whose numbers differ: globals, and then the variables of each
 -- process, whose proctypes are known by their numbers in the model.
 abbrev pub value_lines : Program → List ℕ → List Frame → List Frame → Bool → Bool → List ℕ
-value_lines p kinds before after globals locals = owner_lines p (owners p globals locals kinds) before after
+value_lines p sorts before after globals locals = owner_lines p (owners p globals locals sorts) before after
 
 -- ---- what `printf` prints
 
@@ -151,7 +136,7 @@ converted names letter value =
     else (if nat_eq letter letter_o then radix_digits 8 false (residue 32 value)
     else (if nat_eq letter letter_x then radix_digits 16 false (residue 32 value)
     else (if nat_eq letter letter_c then residue 8 value ∷ []
-    else (if nat_eq letter letter_e then named names value
+    else (if nat_eq letter letter_e then name_of_number names value
     else percent ∷ [])))))
 
 -- the byte that a byte behind a backslash stands for: `\n` is a line feed, `\t` a tab, any other stands for itself
@@ -174,20 +159,16 @@ abbrev pub takes_value : Before → ℕ → Bool
 takes_value Percent byte = if nat_eq byte percent then false else true
 takes_value _ byte = false
 
--- the next value, or 0 where none is left
-abbrev pub first_of : List ℤ → ℤ
-first_of [] = pos 0
-first_of (value ∷ values) = value
-
 -- the values that are left behind this byte of a string
 abbrev pub values_left : Before → ℕ → List ℤ → List ℤ
 values_left before byte values = if takes_value before byte then drop 1 values else values
 
--- bytes of a string, by what stands before them, and the values that are left for them
+-- bytes of a string, by what stands before them, and the values that are left for them; where none is left it is 0
 abbrev pub printed_from : List Word → Before → List ℕ → List ℤ → List ℕ
 printed_from names before [] values = []
 printed_from names before (byte ∷ bytes) values =
-    printed_byte names before byte (first_of values) ++ printed_from names (before_next before byte) bytes (values_left before byte values)
+    printed_byte names before byte (slice_index_or values 0 (pos 0))
+    ++ printed_from names (before_next before byte) bytes (values_left before byte values)
 
 -- a string without its quotes
 abbrev pub inside : List ℕ → List ℕ

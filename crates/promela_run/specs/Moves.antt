@@ -5,7 +5,6 @@ use Rattle.profile.specs.declared.TheConstants.{MOST_PROCESSES}
 use Rattle.diagnostics.specs.declared.fault.Fault.{Fault}
 use Rattle.diagnostics.specs.declared.fault.Fault.TheVariants.{NoSuchChannel, WrongNumberOfFields}
 use Rattle.pml_tree.specs.declared.tree.Search.{Search}
-use Rattle.pml_program.specs.declared.expr.Expr.{Expr}
 use Rattle.pml_program.specs.declared.expr.Target.{Target}
 use Rattle.pml_program.specs.declared.program.Action.{Action}
 use Rattle.pml_program.specs.declared.program.Action.TheVariants as a
@@ -14,7 +13,9 @@ use Rattle.promela_process.specs.Numbers.{is_zero}
 use Rattle.promela_process.specs.Expressions.{Reading, val, place, asked_by, is_match, ◌>>=◌, matched}
 use Rattle.promela_process.specs.Store.{ChannelState, cut}
 use Rattle.promela_run.specs.declared.live_channel.LiveChannel.{LiveChannel}
-use Rattle.promela_run.specs.State.{channel_at, Stand, State, reads, body_of, levels, levels_in, levels_from}
+use Rattle.promela_run.specs.State.{channel_at, Stand, State, reads, body_of, levels, levels_in}
+use Rattle.promela_run.specs.Statements.{values}
+use Rattle.std.specs.Option.{option_map_or}
 use Rattle.std.specs.List.{filter}
 use Rattle.std.specs.Ordering.{int_eq}
 use Rattle.pml_program.specs.declared.program.Basic.{Basic, Plain, DStep}
@@ -24,11 +25,6 @@ use Rattle.promela_process.specs.Offers.{Offer}
 use Rattle.promela_run.specs.declared.moves.Pick.{Pick}
 use Rattle.promela_run.specs.declared.moves.Move.{Move}
 use Rattle.promela_run.specs.declared.moves.Move.TheVariants.{Death, Alone, Pair}
-
--- the values of expressions, from left to right, or the first fault
-abbrev pub values : List Expr → Reading → Result (List ℤ) Fault
-values [] r = Ok []
-values (e ∷ es) r = val e r >>= λ v. values es r >>= λ vs. Ok (v ∷ vs)
 
 -- ---- channels
 
@@ -59,10 +55,6 @@ abbrev pub can_send : Bool → Bool → ChannelState → Result (List ℤ) Fault
 can_send lossy in_d_step c fields =
     if is_rendezvous c then (if in_d_step then Ok false else (fields >>= λ vs. Ok false)) else Ok (lossy || nat_lt (length c.messages) c.capacity)
 
--- a value is not 0
-abbrev pub nonzero : Result ℤ Fault → Result Bool Fault
-nonzero v = v >>= λ n. Ok (not (is_zero n))
-
 -- a receive: the channel is not empty, then the pattern, then a message that matches
 abbrev pub can_receive : Search → ChannelState → Result (List Sought) Fault → Result Bool Fault
 can_receive search c wants =
@@ -70,7 +62,7 @@ can_receive search c wants =
 
 -- a statement without a structure can be taken by itself, or has a fault
 abbrev pub ready : Bool → List LiveChannel → Reading → Bool → Action → Result Bool Fault
-ready lossy cs r in_d_step (a.Holds e) = nonzero (val e r)
+ready lossy cs r in_d_step (a.Holds e) = val e r >>= λ n. Ok (not (is_zero n))
 ready lossy cs r in_d_step (a.Run q) = Ok (int_lt r.process_count (pos MOST_PROCESSES))
 ready lossy cs r in_d_step (a.Send t order es) = named cs r t (length es) >>= λ c. can_send lossy in_d_step c.contents (values es r)
 ready lossy cs r in_d_step (a.Receive t search _ ws) =
@@ -130,21 +122,17 @@ can_inside lossy cs r _ = true
 abbrev pub is_choice : Bool → List LiveChannel → Reading → Offer → Bool
 is_choice lossy cs r o = not (is_else o.basic) && can_inside lossy cs r o.basic
 
--- an offer of `else`
-abbrev pub is_other : Offer → Bool
-is_other o = is_else o.basic
-
 -- What can be taken at a point inside a d_step, where there is one level: an `else` only where nothing else can. The first is taken.
 abbrev pub choices : Bool → List LiveChannel → Reading → List (List Offer) → List Offer
 choices lossy cs r [] = []
-choices lossy cs r (os ∷ ls) = or_else (filter (is_choice lossy cs r) os) (filter is_other os)
+choices lossy cs r (os ∷ ls) = or_else (filter (is_choice lossy cs r) os) (filter (λ o. is_else o.basic) os)
 
 -- ---- an offer by itself
 
 -- a d_step can be taken where its first point has a move; a goto and a break can
 abbrev pub can_alone : Bool → List LiveChannel → Reading → Seq → Offer → Option Basic → Bool
 can_alone lossy cs r b o (Some (Plain x)) = can lossy cs r false x
-can_alone lossy cs r b o (Some (DStep d)) = is_some (choices lossy cs r (levels_from b o.entry))
+can_alone lossy cs r b o (Some (DStep d)) = is_some (choices lossy cs r (option_map_or (levels b) o.entry []))
 can_alone lossy cs r b o _ = true
 
 -- ---- the rendezvous
@@ -154,25 +142,15 @@ pub record Message : Type 0 where
   pub number : ℤ
   pub fields : List ℤ
 
--- the message that is sent over a rendezvous channel, its fields cut to their types
-abbrev pub message_of : Named → Result (List ℤ) Fault → Option Message
-message_of c (Ok vs) =
-    if is_rendezvous c.contents then Some (record { number = c.number; fields = cut c.contents.types vs }) else None
-message_of c (Err f) = None
-
--- the message that is sent over this channel; none, where either has a fault
+-- the message that is sent over a rendezvous channel, its fields cut to their types; none, where either has a fault
 abbrev pub message_on : Result Named Fault → Result (List ℤ) Fault → Option Message
-message_on (Ok c) vs = message_of c vs
-message_on (Err f) vs = None
-
--- what a statement offers to receivers, if nothing in it has a fault
-abbrev pub message_by : List LiveChannel → Reading → Action → Option Message
-message_by cs r (a.Send t order es) = message_on (named cs r t (length es)) (values es r)
-message_by cs r _ = None
+message_on (Ok c) (Ok vs) =
+    if is_rendezvous c.contents then Some (record { number = c.number; fields = cut c.contents.types vs }) else None
+message_on _ _ = None
 
 -- the message that a statement hands over, if it sends over a rendezvous channel
 abbrev pub message : List LiveChannel → Reading → Option Basic → Option Message
-message cs r (Some (Plain x)) = message_by cs r x
+message cs r (Some (Plain (a.Send t order es))) = message_on (named cs r t (length es)) (values es r)
 message cs r _ = None
 
 -- a pattern without value matches
@@ -180,68 +158,67 @@ abbrev pub does_match : Result (List Sought) Fault → List ℤ → Bool
 does_match (Ok ws) xs = matched ws xs
 does_match (Err f) xs = true
 
--- a receive from this channel asks for this message; it does not, where either has a fault
+-- a receive from this channel asks for this message; it does not, where the channel has a fault
 abbrev pub accepts_on : Result Named Fault → Result (List Sought) Fault → Message → Bool
 accepts_on (Ok c) ws m = int_eq c.number m.number && does_match ws m.fields
 accepts_on (Err f) ws m = false
 
--- whether a statement receives this message
-abbrev pub accepts_by : List LiveChannel → Reading → Message → Action → Bool
-accepts_by cs r m (a.Receive t search how ws) = accepts_on (named cs r t (length ws)) (asked_by ws r) m
-accepts_by cs r m _ = false
-
 -- a statement receives this message
 abbrev pub accepts : List LiveChannel → Reading → Message → Option Basic → Bool
-accepts cs r m (Some (Plain x)) = accepts_by cs r m x
+accepts cs r m (Some (Plain (a.Receive t search how ws))) = accepts_on (named cs r t (length ws)) (asked_by ws r) m
 accepts cs r m _ = false
 
 -- an offer by its process, its level and its place there
 abbrev pub pick : ℕ → ℕ → ℕ → Pick
 pick p l i = record { process = p; level = l; place = i }
 
--- the pairs of a message with the receives of a level of process j
-abbrev pub pairs_on : State → Bool → Pick → Message → ℕ → ℕ → List Offer → List Move
-pairs_on s t k m j l os = each (λ i o. only_if (accepts s.channels (reads s j t) m o.basic) (Pair k (pick j l i) t)) 0 os
+-- the pairs of a send, under a value of `timeout`
+module _ (s : State) (t : Bool) where
+  -- the pairs of a message with the receives of a level of process j
+  abbrev pub pairs_on : Pick → Message → ℕ → ℕ → List Offer → List Move
+  pairs_on k m j l os = each (λ i o. only_if (accepts s.channels (reads s j t) m o.basic) (Pair k (pick j l i) t)) 0 os
 
--- with those of its highest level that has a receive of it; not with the sender's own
-abbrev pub pairs_with : State → Bool → Pick → Message → ℕ → Stand → List Move
-pairs_with s t k m j y =
-    if nat_eq j k.process then [] else last (pairs_on s t k m j) 0 (levels_in (body_of s.program y.kind) y.control)
+  -- with those of its highest level that has a receive of it; not with the sender's own
+  abbrev pub pairs_with : Pick → Message → ℕ → Stand → List Move
+  pairs_with k m j y =
+      if nat_eq j k.process then [] else last (pairs_on k m j) 0 (levels_in (body_of s.program y.sort) y.control)
 
--- the pairs of a send, where it hands a message over: with each process in order
-abbrev pub pairs : State → Bool → Pick → Option Message → List Move
-pairs s t k None = []
-pairs s t k (Some m) = each (pairs_with s t k m) 0 s.stands
+  -- where it hands a message over: with each process in order
+  abbrev pub pairs : Pick → Option Message → List Move
+  pairs k None = []
+  pairs k (Some m) = each (pairs_with k m) 0 s.stands
 
 -- ---- the moves of a process
 
--- those of an offer that is no `else`
-abbrev pub moves_by : State → ℕ → Bool → Seq → ℕ → ℕ → Offer → List Move
-moves_by s p t b l i o =
-    if can_alone s.lossy s.channels (reads s p t) b o o.basic then Alone (pick p l i) t ∷ []
-    else pairs s t (pick p l i) (message s.channels (reads s p t) o.basic)
-
--- the moves of the offers of a level that are no `else`
-abbrev pub plain_moves : State → ℕ → Bool → Seq → ℕ → List Offer → List Move
-plain_moves s p t b l os = each (λ i o. if is_else o.basic then [] else moves_by s p t b l i o) 0 os
-
--- the moves of the offers of a level that are `else`
+-- those of the offers of a level that are `else`
 abbrev pub else_moves : ℕ → Bool → ℕ → List Offer → List Move
 else_moves p t l os = each (λ i o. only_if (is_else o.basic) (Alone (pick p l i) t)) 0 os
 
--- those of a level: its `else` offers where no other offer gives any
-abbrev pub moves_on : State → ℕ → Bool → Seq → ℕ → List Offer → List Move
-moves_on s p t b l os = or_else (plain_moves s p t b l os) (else_moves p t l os)
+-- those of process p, under a value of `timeout`
+module _ (s : State) (p : ℕ) (t : Bool) where
+  -- those of an offer that is no `else`
+  abbrev pub moves_by : Seq → ℕ → ℕ → Offer → List Move
+  moves_by b l i o =
+      if can_alone s.lossy s.channels (reads s p t) b o o.basic then Alone (pick p l i) t ∷ []
+      else pairs s t (pick p l i) (message s.channels (reads s p t) o.basic)
 
--- At the closing brace the death, where no younger process is alive; else those of the highest level that has any.
-abbrev pub moves_of : State → ℕ → Bool → Option Seq → Control → List Move
-moves_of s p t b [] = only_if (nat_eq (p + 1) (length s.stands)) (Death p)
-moves_of s p t None (f ∷ c) = []
-moves_of s p t (Some b) (f ∷ c) = last (moves_on s p t b) 0 (levels b (f ∷ c))
+  -- the moves of the offers of a level that are no `else`
+  abbrev pub plain_moves : Seq → ℕ → List Offer → List Move
+  plain_moves b l os = each (λ i o. if is_else o.basic then [] else moves_by b l i o) 0 os
 
--- the moves of a process that stands so
-abbrev pub moves_at : State → ℕ → Bool → Stand → List Move
-moves_at s p t y = moves_of s p t (body_of s.program y.kind) y.control
+  -- those of a level: its `else` offers where no other offer gives any
+  abbrev pub moves_on : Seq → ℕ → List Offer → List Move
+  moves_on b l os = or_else (plain_moves b l os) (else_moves p t l os)
+
+  -- At the closing brace the death, where no younger process is alive; else those of the highest level that has any.
+  abbrev pub moves_of : Option Seq → Control → List Move
+  moves_of b [] = only_if (nat_eq (p + 1) (length s.stands)) (Death p)
+  moves_of None (f ∷ c) = []
+  moves_of (Some b) (f ∷ c) = last (moves_on b) 0 (levels b (f ∷ c))
+
+  -- where it stands so
+  abbrev pub moves_at : Stand → List Move
+  moves_at y = moves_of (body_of s.program y.sort) y.control
 
 -- ---- the moves of a state
 
@@ -249,15 +226,10 @@ moves_at s p t y = moves_of s p t (body_of s.program y.kind) y.control
 abbrev pub moves_under : State → Bool → List Move
 moves_under s t = each (λ p y. moves_at s p t y) 0 s.stands
 
--- the moves of a process, if it is there, while `timeout` is false
-abbrev pub moves_if : State → ℕ → Option Stand → List Move
-moves_if s p None = []
-moves_if s p (Some y) = moves_at s p false y
-
--- the moves of the process that has exclusive control, if one has it
+-- the moves of the process that has exclusive control, if one has it and is there, while `timeout` is false
 abbrev pub moves_held : State → Option ℕ → List Move
 moves_held s None = []
-moves_held s (Some p) = moves_if s p (slice_get s.stands p)
+moves_held s (Some p) = option_map_or (moves_at s p false) (slice_get s.stands p) []
 
 -- those of the holder of exclusive control, else those of all, else those under `timeout`
 abbrev pub moves : State → List Move

@@ -1,7 +1,8 @@
 -- A state of a model with any number of processes: which cells its variables have, what an expression of a process reads, the first state, and
 -- what processes are offered.
 -- Hold it against chapter 7 of the book: what a state holds; the pages `arrays`, `typedef`, `datatypes`, `chan`, `init`, `active`, `_pid` and `_nr_pr`.
-use Rattle.std.specs.Prelude.{ℕ, zero, suc, length, ◌-◌, ◌*◌, ◌%◌, nat_eq, ltb, if◌then◌else◌, List, [], ◌∷◌, Option, Some, None, ◌+◌, Bool, ℤ, pos, negsuc, option_map, slice_get, min, ◌++◌, map, false, nat_lt, Result, Ok, Err}
+use Rattle.std.specs.Prelude.{ℕ, zero, suc, length, ◌-◌, ◌*◌, ◌%◌, nat_eq, ltb, if◌then◌else◌, List, [], ◌∷◌, Option, Some, None, ◌+◌, Bool, ℤ, pos, negsuc, option_map, slice_get, min, ◌++◌, map, false, nat_lt, Result, Ok, Err, option_and_then}
+use Rattle.std.specs.Option.{option_map_or}
 use Rattle.pml_program.specs.declared.form.Form.{Form}
 use Rattle.pml_program.specs.declared.form.Form.TheVariants as kind
 use Rattle.pml_program.specs.declared.program.Slot.{Slot}
@@ -23,11 +24,6 @@ use Rattle.promela_process.specs.Offers.{Offer, offer_of, offers}
 use Rattle.promela_run.specs.declared.moves.Pick.{Pick}
 use Rattle.pml_program.specs.declared.program.Seq.{Seq}
 use Rattle.promela_process.specs.Control.{Control, settle, at, steps}
-
--- the variables of a proctype, if it is there
-abbrev pub slots_of : Option Proctype → List Slot
-slots_of None = []
-slots_of (Some q) = q.variables
 
 -- how many cells a variable or a field has
 abbrev pub size : Slot → ℕ
@@ -68,10 +64,6 @@ leaf ts s cell = last_field ts (length ts) s (cell % s.stride)
 
 -- ---- what an expression of one process reads
 
--- frame 0 has the globals, and frame n + 1 the variables of process n
-abbrev pub frame_of : ℕ → Bool → ℕ
-frame_of pid local = if local then pid + 1 else 0
-
 -- a channel's number is its place in the list of live channels, from 1
 abbrev pub channel_at : List LiveChannel → ℤ → Option ChannelState
 channel_at channels (pos zero) = None
@@ -82,10 +74,11 @@ channel_at channels (negsuc n) = None
 abbrev pub filling : ChannelState → Filling
 filling c = record { capacity = c.capacity; fields = length c.types; messages = c.messages }
 
--- what a process with this number reads of the frames and the live channels, where so many processes live
+-- What a process with this number reads of the frames and the live channels, where so many processes live. Frame 0
+-- has the globals, and frame n + 1 the variables of process n.
 abbrev pub reading_of : List Frame → List LiveChannel → ℕ → ℕ → Bool → Reading
 reading_of frames channels pid process_count timeout = record {
-  frame = frame_of pid;
+  frame = λ local. if local then pid + 1 else 0;
   cells = size_at frames;
   holds = number_at frames;
   pid = pos pid;
@@ -101,19 +94,19 @@ reading_of frames channels pid process_count timeout = record {
 pub record Begun : Type 0 where
   pub frames : List Frame
   pub channels : List LiveChannel
-  pub kinds : List ℕ
+  pub sorts : List ℕ
 
 -- a beginning in which nothing is there
 abbrev pub nothing : Begun
-nothing = record { frames = []; channels = []; kinds = [] }
+nothing = record { frames = []; channels = []; sorts = [] }
 
 -- what the initialisers of the youngest frame read: its number, how many processes live, and what is there by now
 abbrev pub read_in : Begun → Reading
-read_in b = reading_of b.frames b.channels (length b.kinds - 1) (length b.kinds) false
+read_in b = reading_of b.frames b.channels (length b.sorts - 1) (length b.sorts) false
 
 -- a cell of a variable of the youngest frame
 abbrev pub cell_in : Begun → ℕ → ℕ → Place
-cell_in b variable cell = record { frame = length b.kinds; variable = variable; cell = cell }
+cell_in b variable cell = record { frame = length b.sorts; variable = variable; cell = cell }
 
 -- a number in a cell
 abbrev pub with_value : ℕ → ℕ → ℤ → Begun → Begun
@@ -128,7 +121,7 @@ abbrev pub with_channel : ℕ → ℕ → ChannelState → Begun → Result Begu
 with_channel variable cell c b =
     if nat_lt (length b.channels) MOST_CHANNELS then Ok (record b {
       frames = with_number b.frames (cell_in b variable cell) (pos (length b.channels + 1));
-      channels = b.channels ++ record { frame = length b.kinds; channel = c } ∷ [];
+      channels = b.channels ++ record { frame = length b.sorts; channel = c } ∷ [];
     }) else Err TooManyChannels
 
 -- what a type keeps of the value of an initialiser
@@ -146,15 +139,13 @@ abbrev pub with_values : ℕ → ℤ → ℕ → ℕ → Begun → Begun
 with_values variable v cell zero b = b
 with_values variable v cell (suc n) b = with_values variable v (cell + 1) n (with_value variable cell v b)
 
--- what a cell of a variable begins with, by the field that has it, or the variable itself where its type has no fields
-abbrev pub leaf_begun : List Fields → Slot → ℕ → ℕ → Begun → Result Begun Fault
-leaf_begun ts s variable cell = cell_begun (leaf ts s cell).initial (leaf ts s cell).form variable cell
-
--- n cells of a variable in order, from this one on
+-- n cells of a variable in order, from this one on: each by the field that has it, or by the variable itself where its
+-- type has no fields
 abbrev pub fields_begun : List Fields → Slot → ℕ → ℕ → ℕ → Begun → Result Begun Fault
 fields_begun ts s variable cell zero b = Ok b
 fields_begun ts s variable cell (suc n) b =
-    leaf_begun ts s variable cell b >>= fields_begun ts s variable (cell + 1) n
+    cell_begun (leaf ts s cell).initial (leaf ts s cell).form variable cell b
+    >>= fields_begun ts s variable (cell + 1) n
 
 -- what a variable begins with: a value is evaluated once, for all cells; without one, each cell begins by itself, and a channel
 -- is made for each
@@ -177,34 +168,34 @@ frame_begun ts ss b = variables_begun ts ss 0 (with_frame ss b)
 
 -- ---- which processes begin, and with what
 
--- the variables of the proctype with this number
+-- the variables of the proctype with this number, if it is there
 abbrev pub variables_at : Program → ℕ → List Slot
-variables_at p k = slots_of (slice_get p.proctypes k)
+variables_at p k = option_map_or (λ q. q.variables) (slice_get p.proctypes k) []
 
 -- a process of the proctype with this number; none is the 256th
 abbrev pub process_begun : Program → ℕ → Begun → Result Begun Fault
 process_begun p k b =
-    if nat_lt (length b.kinds) MOST_PROCESSES then frame_begun p.typedefs (variables_at p k) (record b { kinds = b.kinds ++ k ∷ [] }) else Ok b
+    if nat_lt (length b.sorts) MOST_PROCESSES then frame_begun p.typedefs (variables_at p k) (record b { sorts = b.sorts ++ k ∷ [] }) else Ok b
 
 -- n such processes
-abbrev pub kind_begun : Program → ℕ → ℕ → Begun → Result Begun Fault
-kind_begun p k zero b = Ok b
-kind_begun p k (suc n) b = process_begun p k b >>= kind_begun p k n
+abbrev pub sort_begun : Program → ℕ → ℕ → Begun → Result Begun Fault
+sort_begun p k zero b = Ok b
+sort_begun p k (suc n) b = process_begun p k b >>= sort_begun p k n
 
 -- the processes that these proctypes start with, from the one with the number k on
-abbrev pub kinds_begun : Program → ℕ → List Proctype → Begun → Result Begun Fault
-kinds_begun p k [] b = Ok b
-kinds_begun p k (q ∷ qs) b = kind_begun p k q.starts b >>= kinds_begun p (k + 1) qs
+abbrev pub sorts_begun : Program → ℕ → List Proctype → Begun → Result Begun Fault
+sorts_begun p k [] b = Ok b
+sorts_begun p k (q ∷ qs) b = sort_begun p k q.starts b >>= sorts_begun p (k + 1) qs
 
 -- the globals, and then the processes one after the other
 abbrev pub first_state : Program → Result Begun Fault
-first_state p = frame_begun p.typedefs p.globals nothing >>= kinds_begun p 0 p.proctypes
+first_state p = frame_begun p.typedefs p.globals nothing >>= sorts_begun p 0 p.proctypes
 
 -- ---- a state, and what its processes are offered
 
 -- A process: its proctype, by its number in the model, and what it still has to do. At its closing brace nothing is left.
 pub record Stand : Type 0 where
-  pub kind : ℕ
+  pub sort : ℕ
   pub control : Control
 
 -- A state. The frames are what the variables hold, the globals' first, then those of each process; the oldest process is first, and
@@ -234,42 +225,25 @@ abbrev pub levels_in : Option Seq → Control → List (List Offer)
 levels_in None c = []
 levels_in (Some b) c = levels b c
 
--- none, where there is no point
-abbrev pub levels_from : Seq → Option Control → List (List Offer)
-levels_from b None = []
-levels_from b (Some c) = levels b c
-
 -- what a process of this body has to do before its first statement
 abbrev pub first_control : Seq → Control
 first_control b = settle b (at (steps b) ([], 0))
 
 -- ---- before the first statement
 
--- a process of this proctype before its first statement
-abbrev pub begins_by : ℕ → Option Seq → Stand
-begins_by k None = record { kind = k; control = [] }
-begins_by k (Some b) = record { kind = k; control = first_control b }
-
 -- a process of the proctype with this number before its first statement
 abbrev pub begins_at : Program → ℕ → Stand
-begins_at p k = begins_by k (body_of p k)
+begins_at p k = record { sort = k; control = option_map_or first_control (body_of p k) [] }
 
 -- ---- the first state
 
 -- all processes stand before their first statements, and nobody holds exclusive control
 abbrev pub begun_state : Program → Begun → Bool → State
-begun_state p b lossy = record { program = p; frames = b.frames; stands = map (begins_at p) b.kinds; channels = b.channels; holder = None; lossy = lossy }
+begun_state p b lossy = record { program = p; frames = b.frames; stands = map (begins_at p) b.sorts; channels = b.channels; holder = None; lossy = lossy }
 
--- an offer of a level by its place, if the level is there
-abbrev pub offer_on : Option (List Offer) → ℕ → Option Offer
-offer_on None i = None
-offer_on (Some os) i = slice_get os i
-
--- the offer of a process by its level and its place there, if it is there
-abbrev pub offer_at : State → Pick → Option Stand → Option Offer
-offer_at s k None = None
-offer_at s k (Some y) = offer_on (slice_get (levels_in (body_of s.program y.kind) y.control) k.level) k.place
-
--- of the process where it stands, if there is such a process, such a level, and such a place on it
+-- the offer of a process by its level and its place there, if there is such a process, level and place
 abbrev pub picked : State → Pick → Option Offer
-picked s k = offer_at s k (slice_get s.stands k.process)
+picked s k =
+    option_and_then (λ y.
+    option_and_then (λ os. slice_get os k.place) (slice_get (levels_in (body_of s.program y.sort) y.control) k.level))
+    (slice_get s.stands k.process)

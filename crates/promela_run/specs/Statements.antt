@@ -46,13 +46,9 @@ with_fields count n (Some c) =
 abbrev pub named : List LiveChannel → Reading → Target → ℕ → Result ℕ Fault
 named cs r t count = place t r >>= λ at. with_fields count (r.holds at) (channel_at cs (r.holds at))
 
--- a channel that keeps nothing and has no fields
-abbrev pub no_channel : ChannelState
-no_channel = record { capacity = 0; types = []; messages = [] }
-
--- what the channel at a place holds
+-- what the channel at a place holds; where none is, one that keeps nothing and has no fields
 abbrev pub contents_at : List LiveChannel → ℕ → ChannelState
-contents_at cs n = slice_index_or (map (λ o. o.channel) cs) n no_channel
+contents_at cs n = slice_index_or (map (λ o. o.channel) cs) n (record { capacity = 0; types = []; messages = [] })
 
 -- the channel at a place becomes another
 abbrev pub changed : ℕ → (ChannelState → ChannelState) → List LiveChannel → List LiveChannel
@@ -151,17 +147,14 @@ abbrev pub goes_to : Option Target → ℤ → Reading → Result (Option Goes) 
 goes_to None v r = Ok None
 goes_to (Some t) v r = goes t v r >>= λ g. Ok (Some g)
 
--- the value of the right side, then the place
-abbrev pub assigned : Option Target → Expr → Reading → Result (Option Goes) Fault
-assigned t v r = val v r >>= λ n. goes_to t n r
-
 -- what a variable holds, so much more, back into it
 abbrev pub counted : Target → ℤ → Reading → Result (Option Goes) Fault
 counted t by r = place t r >>= λ p. goes_to (Some t) (wrapped (r.holds p +ℤ by)) r
 
--- what such a statement stores, if anything (the other kinds are not spoken of here, and store nothing by it)
+-- what such a statement stores, if anything: the value of the right side, then the place (the other sorts are not
+-- spoken of here, and store nothing by it)
 abbrev pub outcome : Action → Reading → Result (Option Goes) Fault
-outcome (a.Assign t v) r = assigned t v r
+outcome (a.Assign t v) r = val v r >>= λ n. goes_to t n r
 outcome (a.Increment t) r = counted t (pos 1) r
 outcome (a.Decrement t) r = counted t (negsuc 0) r
 outcome (a.Holds v) r = val v r >>= λ n. Ok None
@@ -199,15 +192,9 @@ with_arguments variable ss [] b = b
 with_arguments variable [] (v ∷ vs) b = b
 with_arguments variable (s ∷ ss) (v ∷ vs) b = with_arguments (variable + 1) ss vs (with_value variable 0 (clipped s.form v) b)
 
--- the arguments are set, and then the variables begin in the order of the text
-abbrev pub begun_with : List Fields → List Slot → List ℤ → Begun → Result Begun Fault
-begun_with ts ss vs b = variables_begun ts ss 0 (with_arguments 0 ss vs b)
-
--- a process more, of the proctype with this number, with nothing in its variables
-abbrev pub with_process : ℕ → List Slot → Begun → Begun
-with_process kind ss b = with_frame ss (record b { kinds = b.kinds ++ kind ∷ [] })
-
--- a new process of the proctype with this number and these variables; too many channels are a fault before anything begins
+-- A new process of the proctype with this number and these variables: it has nothing in them, the arguments are set, and then the
+-- variables begin in the order of the text. Too many channels are a fault before anything begins.
 abbrev pub created : List Fields → ℕ → List Slot → List ℤ → Begun → Result Begun Fault
-created ts kind ss vs b =
-    if nat_lt MOST_CHANNELS (length b.channels + channels_of ts ss) then Err TooManyChannels else begun_with ts ss vs (with_process kind ss b)
+created ts sort ss vs b =
+    if nat_lt MOST_CHANNELS (length b.channels + channels_of ts ss) then Err TooManyChannels
+    else variables_begun ts ss 0 (with_arguments 0 ss vs (with_frame ss (record b { sorts = b.sorts ++ sort ∷ [] })))

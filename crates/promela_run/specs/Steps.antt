@@ -10,22 +10,18 @@ use Rattle.promela_process.specs.Expressions.{Reading, ◌>>=◌, val, asked_by}
 use Rattle.promela_run.specs.Statements.{values, Received, created, outcome, goes_to, sent, received, stores, asserted}
 use Rattle.promela_run.specs.State.{Begun, Stand, State, first_control, reads, body_of, levels, picked}
 use Rattle.std.specs.List.{filter}
+use Rattle.std.specs.Option.{option_map_or}
 use Rattle.promela_process.specs.Control.{Control}
 use Rattle.promela_process.specs.Offers.{Offer}
 use Rattle.promela_process.specs.Store.{with_number}
 use Rattle.promela_run.specs.declared.live_channel.LiveChannel.{LiveChannel}
 use Rattle.promela_run.specs.declared.goes.Goes.{Goes}
 use Rattle.diagnostics.specs.declared.fault.Fault.TheVariants.{DStepBlocks, DStepTooLong}
-use Rattle.pml_tree.specs.declared.tree.SendOrder.{SendOrder}
-use Rattle.pml_tree.specs.declared.tree.Search.{Search}
-use Rattle.pml_tree.specs.declared.tree.Removal.{Removal}
-use Rattle.pml_program.specs.declared.expr.Expr.{Expr}
-use Rattle.pml_program.specs.declared.expr.Want.{Want}
 use Rattle.pml_program.specs.declared.expr.Target.{Target}
 use Rattle.pml_program.specs.declared.program.Action.{Action}
 use Rattle.pml_program.specs.declared.program.Action.TheVariants as a
 use Rattle.pml_program.specs.declared.program.Basic.{Basic, Plain, DStep}
-use Rattle.promela_run.specs.Lines.{named, printed}
+use Rattle.promela_run.specs.Lines.{name_of_number, printed}
 use Rattle.promela_run.specs.declared.moves.Pick.{Pick}
 use Rattle.promela_run.specs.declared.moves.Move.{Move}
 use Rattle.promela_run.specs.declared.moves.Move.TheVariants.{Death, Alone, Pair}
@@ -35,14 +31,9 @@ use Rattle.promela_run.specs.Moves.{Message, message, choices}
 abbrev pub put : State → Goes → State
 put s g = record s { frames = with_number s.frames g.place g.number }
 
--- a number in its cell, where there is one to store
-abbrev pub put_if : State → Option Goes → State
-put_if s None = s
-put_if s (Some g) = put s g
-
--- the same, or the fault
+-- a number in its cell, where there is one to store, or the fault
 abbrev pub put_by : State → Result (Option Goes) Fault → Result State Fault
-put_by s r = r >>= λ g. Ok (put_if s g)
+put_by s r = r >>= λ g. Ok (option_map_or (put s) g s)
 
 -- numbers are stored from left to right
 abbrev pub put_all : State → List Goes → State
@@ -80,25 +71,25 @@ without_youngest s = record s {
 }
 
 -- the proctypes of the live processes, by their numbers in the model
-abbrev pub kinds : State → List ℕ
-kinds s = map (λ (y : Stand). y.kind) s.stands
+abbrev pub sorts : State → List ℕ
+sorts s = map (λ (y : Stand). y.sort) s.stands
 
 -- what is there by now
 abbrev pub there : State → Begun
-there s = record { frames = s.frames; channels = s.channels; kinds = kinds s }
+there s = record { frames = s.frames; channels = s.channels; sorts = sorts s }
 
 -- what is there now, and one process more
 abbrev pub joined_by : State → ℕ → Seq → Begun → Result State Fault
-joined_by s kind b begun = Ok (record s {
+joined_by s sort b begun = Ok (record s {
   frames = begun.frames;
   channels = begun.channels;
-  stands = s.stands ++ record { kind = kind; control = first_control b } ∷ [];
+  stands = s.stands ++ record { sort = sort; control = first_control b } ∷ [];
 })
 
 -- a process of a proctype is created with these arguments; none, where there is no such proctype
 abbrev pub with_new : State → ℕ → Option Proctype → List ℤ → Result State Fault
-with_new s kind None vs = Ok s
-with_new s kind (Some q) vs = created s.program.typedefs kind q.variables vs (there s) >>= joined_by s kind q.body
+with_new s sort None vs = Ok s
+with_new s sort (Some q) vs = created s.program.typedefs sort q.variables vs (there s) >>= joined_by s sort q.body
 
 -- the arguments from left to right, and then the process; where 255 live, nothing is evaluated, and none is created
 abbrev pub ran : State → Reading → Run → Result State Fault
@@ -125,42 +116,23 @@ quiet s = Ok (record { state = s; printed = [] })
 abbrev pub prints : State → List ℕ → Result Done Fault
 prints s bytes = Ok (record { state = s; printed = bytes })
 
--- a string, with values for its conversions
-abbrev pub prints_string : State → List ℕ → Result (List ℤ) Fault → Result Done Fault
-prints_string s string r = r >>= λ vs. prints s (printed s.program.constants string vs)
-
--- the name of a number
-abbrev pub prints_name : State → Result ℤ Fault → Result Done Fault
-prints_name s r = r >>= λ v. prints s (named s.program.constants v)
-
 -- ---- what a statement does by itself, under this `timeout`
 
 -- the process first, then the place of its number
 abbrev pub run_into : State → ℕ → Bool → Option Target → Run → Result State Fault
 run_into s p t x q = ran s (reads s p t) q >>= λ now. put_by now (goes_to x (run_number s) (reads now p t))
 
--- a message that it sends or receives by itself
-abbrev pub sends : State → ℕ → Bool → Target → SendOrder → List Expr → Result State Fault
-sends s p t q order es = with_sent s (sent s.channels (reads s p t) q order es)
-
--- a message is received from a channel with a capacity
-abbrev pub receives : State → ℕ → Bool → Target → Search → Removal → List Want → Result State Fault
-receives s p t q search how ws = with_received s (received s.channels (reads s p t) q search how ws)
-
--- what a statement without a structure does, and prints
+-- what a statement without a structure does, and prints; it sends and receives by itself where channels have a capacity
 abbrev pub does : State → ℕ → Bool → Action → Result Done Fault
 does s p t (a.Run q) = ran s (reads s p t) q >>= quiet
 does s p t (a.AssignRun x q) = run_into s p t x q >>= quiet
-does s p t (a.Send q order es) = sends s p t q order es >>= quiet
-does s p t (a.Receive q search how ws) = receives s p t q search how ws >>= quiet
-does s p t (a.Printf text es) = prints_string s text.text (values es (reads s p t))
-does s p t (a.Printm e) = prints_name s (val e (reads s p t))
+does s p t (a.Send q order es) = with_sent s (sent s.channels (reads s p t) q order es) >>= quiet
+does s p t (a.Receive q search how ws) = with_received s (received s.channels (reads s p t) q search how ws) >>= quiet
+does s p t (a.Printf text es) = values es (reads s p t) >>= λ vs. prints s (printed s.program.constants text.text vs)
+does s p t (a.Printm e) = val e (reads s p t) >>= λ v. prints s (name_of_number s.program.constants v)
 does s p t (a.Assert e) = asserted e (reads s p t) >>= λ u. quiet s
 does s p t a.Else = quiet s
-does s p t (a.Assign x e) = put_by s (outcome (a.Assign x e) (reads s p t)) >>= quiet
-does s p t (a.Increment x) = put_by s (outcome (a.Increment x) (reads s p t)) >>= quiet
-does s p t (a.Decrement x) = put_by s (outcome (a.Decrement x) (reads s p t)) >>= quiet
-does s p t (a.Holds e) = put_by s (outcome (a.Holds e) (reads s p t)) >>= quiet
+does s p t x = put_by s (outcome x (reads s p t)) >>= quiet
 
 -- a goto, a break and what gives structure do nothing by themselves
 abbrev pub effect : State → ℕ → Bool → Option Basic → Result Done Fault
@@ -198,28 +170,20 @@ within_from most s p t b c = quiet s
 
 -- ---- steps
 
--- a statement by itself, at most `most` of them in a d_step
-abbrev pub taken : ℕ → State → ℕ → Bool → Option Seq → Offer → Option Basic → Result Done Fault
-taken most s p t b o (Some (DStep d)) = within_from most s p t b o.entry
-taken most s p t b o x = effect s p t x
-
 -- the body in which a process stands
 abbrev pub body_by : State → Option Stand → Option Seq
 body_by s None = None
-body_by s (Some y) = body_of s.program y.kind
+body_by s (Some y) = body_of s.program y.sort
 
--- and then its process goes on
-abbrev pub moved : ℕ → Offer → Done → Result Done Fault
-moved p o d = Ok (record d { state = went d.state p o })
+-- the statement of an offer that a process takes by itself, at most `most` of them in a d_step
+abbrev pub taken : ℕ → State → Pick → Bool → Offer → Option Basic → Result Done Fault
+taken most s k t o (Some (DStep d)) = within_from most s k.process t (body_by s (slice_get s.stands k.process)) o.entry
+taken most s k t o x = effect s k.process t x
 
--- the statement of an offer, in the body of the process that is picked
-abbrev pub offer_taken : ℕ → State → Pick → Bool → Offer → Result Done Fault
-offer_taken most s k t o = taken most s k.process t (body_by s (slice_get s.stands k.process)) o o.basic
-
--- what an offer leads to that a process takes by itself
+-- what an offer leads to that a process takes by itself: its statement, and then the process goes on
 abbrev pub alone : ℕ → State → Pick → Bool → Option Offer → Result Done Fault
 alone most s k t None = quiet s
-alone most s k t (Some o) = offer_taken most s k t o >>= moved k.process o
+alone most s k t (Some o) = taken most s k t o o.basic >>= λ d. Ok (record d { state = went d.state k.process o })
 
 -- what the receiver of a message stores, by what it asks before the step
 abbrev pub passed : Reading → Option Message → Option Basic → Result (List Goes) Fault

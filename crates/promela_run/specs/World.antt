@@ -1,13 +1,14 @@
 -- A checked model as a machine: its first state, its moves, its steps, and the texts: where processes may end, the texts of moves and where they
 -- come from, and of the processes where a run does not end well. What is not there has no text.
 -- Hold it against chapter 7 of the book; the page `end`; docs/FORMATS.md, 'Lines on standard output'.
-use Rattle.std.specs.Prelude.{Bool, true, ◌&&◌, [], ◌∷◌, Option, Some, None, ℕ, List, ◌++◌, if◌then◌else◌, slice_get, codes, length, take, Result, Ok, Err}
+use Rattle.std.specs.Prelude.{Bool, true, ◌&&◌, [], ◌∷◌, Option, Some, None, ℕ, List, ◌++◌, if◌then◌else◌, slice_get, codes, length, take, Result, Ok, Err, option_map, option_and_then}
 use Rattle.std.specs.List.{list_any, list_all}
+use Rattle.pml_program.specs.declared.program.Stmt.{Stmt}
+use Rattle.std.specs.Option.{option_map_or}
 use Rattle.pml_program.specs.declared.program.Seq.{Seq}
 use Rattle.pml_program.specs.declared.program.Program.{Program}
-use Rattle.promela_process.specs.Control.{Place, Control, Todo, settle}
-use Rattle.promela_process.specs.Circles.{told_of}
-use Rattle.promela_process.specs.Offers.{stated, has_end, same_place, Offer, line_at}
+use Rattle.promela_process.specs.Control.{Position, Control, Todo, steps, at, all_of, settle}
+use Rattle.promela_process.specs.Offers.{any_end, same_position, Offer, line_at}
 use Rattle.promela_run.specs.State.{Stand, State, body_of, picked, Begun, begun_state}
 use Rattle.std.specs.Fmt.{decimal}
 use Rattle.profile.specs.Characters.{line_feed}
@@ -20,35 +21,29 @@ use Rattle.promela_run.specs.Moves.{each}
 use Rattle.promela_process.specs.Store.{Frame}
 use Rattle.promela_run.specs.declared.halt.Halt.{Halt}
 use Rattle.diagnostics.specs.declared.fault.Fault.{Fault}
-use Rattle.promela_session.specs.Session.{Rules, Outcome, Stopped, Goes, Faults}
+use Rattle.promela_session.specs.Session.{Rules, Outcome, Goes, Faults}
 use Rattle.promela_run.specs.Moves as search
 use Rattle.profile.specs.declared.TheConstants.{MOST_DSTEP_STATEMENTS}
-use Rattle.promela_run.specs.Steps.{kinds}
+use Rattle.promela_run.specs.Steps.{sorts}
 use Rattle.promela_run.specs.Steps as outcome
 
 -- the place of the statement that stands first, if one does
-abbrev pub standing : Control → Option Place
-standing [] = None
+abbrev pub standing : Control → Option Position
 standing (Todo p s ∷ c) = Some p
-standing (f ∷ c) = None
+standing _ = None
 
--- what stands first at d has a label that begins with `end`, and leads to c without a step
-abbrev pub is_end : Seq → Control → Control → Bool
-is_end b c d = has_end (stated b d) && same_place (standing (settle b d)) (standing c)
+-- a statement has a label that begins with `end`, and its place leads to c without a step
+abbrev pub is_end : Seq → Control → Position × Stmt → Bool
+is_end b c e = any_end e.1.labels && same_position (standing (settle b (at (steps b) e.0))) (standing c)
 
 -- A process may end at the closing brace, and where such a label of its body leads.
 abbrev pub may_end : Seq → Control → Bool
 may_end b [] = true
-may_end b (f ∷ c) = list_any (is_end b (f ∷ c)) (told_of b)
+may_end b (f ∷ c) = list_any (is_end b (f ∷ c)) (all_of b)
 
--- where there is no body, nothing is left to do
-abbrev pub may_end_in : Option Seq → Control → Bool
-may_end_in None c = true
-may_end_in (Some b) c = may_end b c
-
--- a process may end where it stands
+-- a process may end where it stands; where there is no body, nothing is left to do
 abbrev pub is_done : Program → Stand → Bool
-is_done pr y = may_end_in (body_of pr y.kind) y.control
+is_done pr y = option_map_or (λ b. may_end b y.control) (body_of pr y.sort) true
 
 -- a run that ends here ends well
 abbrev pub is_valid : State → Bool
@@ -56,14 +51,9 @@ is_valid s = list_all (is_done s.program) s.stands
 
 -- ---- texts
 
--- the proctype of a process
-abbrev pub kind_of : Program → Option Stand → Option Proctype
-kind_of pr None = None
-kind_of pr (Some y) = slice_get pr.proctypes y.kind
-
--- that of process p
+-- the proctype of process p
 abbrev pub proctype_of : State → ℕ → Option Proctype
-proctype_of s p = kind_of s.program (slice_get s.stands p)
+proctype_of s p = option_and_then (λ y. slice_get s.program.proctypes y.sort) (slice_get s.stands p)
 
 -- `proc P (NAME) `
 abbrev pub heading : ℕ → Proctype → List ℕ
@@ -97,40 +87,28 @@ move_text s (Pair k j t) = pick_text s k ++ (codes " -> " ++ pick_text s j)
 
 -- ---- where moves come from
 
--- the line in an offer's text
-abbrev pub line_in : Option Offer → ℕ
-line_in None = 0
-line_in (Some o) = o.line
+-- the line in the text of an offer that is picked
+abbrev pub line_of : State → Pick → ℕ
+line_of s k = option_map_or (λ o. o.line) (picked s k) 0
 
--- that of the closing brace
-abbrev pub brace_of : Option Proctype → ℕ
-brace_of None = 0
-brace_of (Some q) = q.end.line
-
--- P and L of a move's text, of a rendezvous the sender's
+-- P and L of a move's text: of a death the line of the closing brace, of a rendezvous the sender's
 abbrev pub origin_of : State → Move → ℕ × ℕ
-origin_of s (Death p) = (p, brace_of (proctype_of s p))
-origin_of s (Alone k t) = (k.process, line_in (picked s k))
-origin_of s (Pair k j t) = (k.process, line_in (picked s k))
+origin_of s (Death p) = (p, option_map_or (λ q. q.end.line) (proctype_of s p) 0)
+origin_of s (Alone k t) = (k.process, line_of s k)
+origin_of s (Pair k j t) = (k.process, line_of s k)
 
 -- ---- where a run does not end well
 
--- `at: proc P (NAME) line L`
-abbrev pub stuck_line : ℕ → Proctype → ℕ → List ℕ
-stuck_line p q n = codes "at: " ++ (heading p q ++ (line n ++ line_feed ∷ []))
-
--- where process p may not end, with the line of what stands first
+-- `at: proc P (NAME) line L`, where process p may not end, with the line of what stands first
 abbrev pub stuck_at : ℕ → Option Proctype → Control → List ℕ
 stuck_at p None c = []
-stuck_at p (Some q) c = if may_end q.body c then [] else stuck_line p q (line_at q.body q.end.line c)
+stuck_at p (Some q) c =
+    if may_end q.body c then []
+    else codes "at: " ++ (heading p q ++ (line (line_at q.body q.end.line c) ++ line_feed ∷ []))
 
--- the line of a process that is stuck where it stands
-abbrev pub stuck_by : Program → ℕ → Stand → List ℕ
-stuck_by pr p y = stuck_at p (slice_get pr.proctypes y.kind) y.control
-
--- of each process, in their order
+-- of each process where it stands, in their order
 abbrev pub stuck : State → List ℕ
-stuck s = each (stuck_by s.program) 0 s.stands
+stuck s = each (λ p y. stuck_at p (slice_get s.program.proctypes y.sort) y.control) 0 s.stands
 
 -- ---- the machine
 
@@ -147,19 +125,9 @@ first p b lossy = record { state = begun_state p b lossy; past = b.frames; halt 
 
 -- ---- its moves, its steps, and the texts
 
--- where it has stopped there is no move
-abbrev pub unless_stopped : Option Halt → List Move → List Move
-unless_stopped None ms = ms
-unless_stopped (Some h) ms = []
-
 -- the moves of a state, in order; none, where it has stopped
 abbrev pub moves : Running → List Move
-moves w = unless_stopped w.halt (search.moves w.state)
-
--- the move at which it has stopped, and why
-abbrev pub stopped : Option Halt → Option (Stopped Move)
-stopped None = None
-stopped (Some h) = Some (record { move = h.at; why = h.why })
+moves w = option_map_or (λ h. []) w.halt (search.moves w.state)
 
 -- a state that a step leads to, and what it printed; or its fault
 abbrev pub led_to : List Frame → Result outcome.Done Fault → Outcome Running
@@ -172,14 +140,14 @@ step w m = led_to w.state.frames (outcome.step MOST_DSTEP_STATEMENTS w.state m)
 
 -- the variables before the last step and now, compared
 abbrev pub changed_lines : Running → Bool → Bool → List ℕ
-changed_lines w globals locals = value_lines w.state.program (kinds w.state) w.past w.state.frames globals locals
+changed_lines w globals locals = value_lines w.state.program (sorts w.state) w.past w.state.frames globals locals
 
--- a checked model as the machine that a session plays
+-- a checked model as the machine that a session plays; it tells the move at which it has stopped, and why
 abbrev pub rules : Rules Running Move
 rules = record {
   moves = moves;
   step = step;
-  stopped = λ w. stopped w.halt;
+  stopped = λ w. option_map (λ h. record { move = h.at; why = h.why }) w.halt;
   text = λ w m. move_text w.state m;
   origin = λ w m. origin_of w.state m;
   values = changed_lines;

@@ -1,6 +1,6 @@
 -- What a session does, one thing after another, what of it each device sees, a part of a session, and the lines that it writes.
 -- Hold it against docs/FORMATS.md, 'Lines on standard output' and 'Choices'.
-use Rattle.std.specs.Prelude.{ℕ, List, ◌++◌, [], ◌∷◌, map, sum_by, Bool, if◌then◌else◌, zero, suc, ◌+◌, ◌/◌, ◌%◌, nat_lt, codes}
+use Rattle.std.specs.Prelude.{ℕ, List, ◌++◌, [], ◌∷◌, map, sum_by, Bool, true, false, if◌then◌else◌, zero, suc, ◌+◌, ◌/◌, ◌%◌, nat_lt, codes}
 use Rattle.promela_session.specs.declared.form.Stream.{Stream}
 use Rattle.std.specs.List.{flat_map}
 use Rattle.std.specs.Fmt.{decimal}
@@ -14,16 +14,16 @@ use Rattle.promela_session.specs.declared.form.Version.TheVariants.{First, Secon
 use Rattle.promela_session.specs.declared.ends.Cause.TheVariants as cause
 
 -- what a piece of output is for
-pub data Role : Type 0 where
+pub data Purpose : Type 0 where
   -- a list, its prompt, the text of a step, a last piece
-  Told : Role
+  Told : Purpose
   -- the answer to a bad line, or the prompt that follows it
-  Corrected : Role
+  Corrected : Purpose
 
 -- one thing that a session does
 pub data Event : Type 0 where
   -- a piece of output
-  Put : Role → List ℕ → Event
+  Put : Purpose → List ℕ → Event
   -- a byte of the choices is asked for, and this one comes
   Asked : ℕ → Event
   -- a byte is asked for, and the end comes
@@ -35,7 +35,7 @@ pub data Event : Type 0 where
 
 -- what one event writes to the output
 abbrev pub output_of : Event → List ℕ
-output_of (Put role piece) = piece
+output_of (Put purpose piece) = piece
 output_of _ = []
 
 -- the byte of the choices that one event reads
@@ -74,12 +74,10 @@ abbrev pub asks : List ℕ → Bool → List Event
 asks bytes ended = map Asked bytes ++ (if ended then AskedEnd ∷ [] else [])
 
 -- a byte of the choices is asked for
-abbrev pub IsAsk : Event → Type 0
-IsAsk (Put role piece) = ⊥
-IsAsk (Asked b) = Unit {0}
-IsAsk AskedEnd = Unit {0}
-IsAsk (Recorded line placed) = ⊥
-IsAsk Stepped = ⊥
+abbrev pub is_ask : Event → Bool
+is_ask (Asked b) = true
+is_ask AskedEnd = true
+is_ask _ = false
 
 -- What a part of a session does on the choices: its events, what comes of it, what is known of the choices, the bytes left.
 pub record Part (T : Type 0) : Type 0 where
@@ -141,7 +139,7 @@ header = codes "choices 2"
 abbrev pub header_line : List ℕ
 header_line = header ++ codes "\n"
 
--- how a last line begins, by its cause
+-- how a last line begins, by its cause; the others have none
 abbrev pub last_words : Cause → List ℕ
 last_words cause.Valid = codes "end: valid, steps "
 last_words cause.Quit = codes "end: quit, steps "
@@ -151,12 +149,7 @@ last_words cause.LineTooLong = codes "stop: line too long, steps "
 last_words cause.BadChoices = codes "stop: 100 bad choices, steps "
 last_words cause.Misfit = codes "stop: choice misfit, steps "
 last_words cause.StepLimit = codes "stop: step limit, steps "
-last_words (cause.Fault f) = []
-last_words (cause.Refused r line) = []
-last_words cause.SourceFailed = []
-last_words cause.OutFailed = []
-last_words cause.RecordFailed = []
-last_words cause.Memory = []
+last_words _ = []
 
 -- the last line of a session that its own course ends
 abbrev pub last_line : Cause → ℕ → List ℕ
@@ -174,7 +167,7 @@ fault_line f n text = codes "fault F" ++ (decimal (fault_number f) ++ (codes " (
 abbrev pub refusal_line : Refusal → List ℕ
 refusal_line r = codes "refused M" ++ (decimal (refusal_number r) ++ (codes " (" ++ (refusal_words r ++ codes ")\n")))
 
--- the exit status of a cause
+-- the exit status of a cause: 6, where a device or memory failed
 abbrev pub status_of : Cause → ℕ
 status_of cause.Valid = 0
 status_of cause.Quit = 0
@@ -186,7 +179,4 @@ status_of cause.LineTooLong = 5
 status_of cause.BadChoices = 5
 status_of cause.Misfit = 5
 status_of cause.StepLimit = 5
-status_of cause.SourceFailed = 6
-status_of cause.OutFailed = 6
-status_of cause.RecordFailed = 6
-status_of cause.Memory = 6
+status_of _ = 6

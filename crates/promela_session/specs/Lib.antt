@@ -2,4 +2,3 @@ pub mod Events
 pub mod Lines
 pub mod Session
 pub mod Devices
-pub mod Replay

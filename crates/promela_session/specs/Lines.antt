@@ -1,7 +1,6 @@
 -- The lines of the choices, how long they may be, and what one says.
 -- Hold it against docs/FORMATS.md, 'Choices'.
-use Rattle.std.specs.Prelude.{ℕ, ◌+◌, ◌-◌, ◌*◌, ◌==◌, nat_lt, nat_le, Bool, true, false, ◌&&◌, ◌||◌, if◌then◌else◌, List, [], ◌∷◌, ◌++◌, fold, length, Option, Some, None}
-use Rattle.profile.specs.declared.TheConstants.{BAD_LINES, LINE_BYTES}
+use Rattle.std.specs.Prelude.{ℕ, ◌+◌, ◌-◌, ◌*◌, ◌==◌, nat_lt, nat_le, Bool, true, false, ◌&&◌, ◌||◌, if◌then◌else◌, List, [], ◌∷◌, ◌++◌, fold, length, Option, Some, None, option_map}
 use Prim.Native.Nat.{zero, suc}
 use Rattle.std.specs.List.{list_all}
 use Rattle.std.specs.Str.{bytes_eq}
@@ -34,32 +33,30 @@ line_within (suc room) (b ∷ rest) =
 -- the bytes that are read for a line
 abbrev pub read_of : LineEnd → List ℕ → List ℕ
 read_of Whole bytes = bytes ++ line_feed ∷ []
-read_of Last bytes = bytes
-read_of TooLong bytes = bytes
+read_of _ bytes = bytes
 
 -- whether the end was seen
 abbrev pub saw_end : LineEnd → Bool
-saw_end Whole = false
 saw_end Last = true
-saw_end TooLong = false
+saw_end _ = false
 
 -- a space, a tab or a carriage return
 abbrev pub is_blank : ℕ → Bool
 is_blank b = b == space || (b == tab || b == carriage_return)
 
--- a word without the blanks at its front
-abbrev pub front_trimmed : List ℕ → List ℕ
-front_trimmed [] = []
-front_trimmed (b ∷ bs) = if is_blank b then front_trimmed bs else b ∷ bs
+-- bytes without those at their front of which this holds
+abbrev pub without_front : (ℕ → Bool) → List ℕ → List ℕ
+without_front holds [] = []
+without_front holds (b ∷ bs) = if holds b then without_front holds bs else b ∷ bs
 
 -- a word without the blanks at its end
 abbrev pub end_trimmed : List ℕ → List ℕ
 end_trimmed [] = []
 end_trimmed (b ∷ bs) = if list_all is_blank (b ∷ bs) then [] else b ∷ end_trimmed bs
 
--- and at both
+-- and without those at its front
 abbrev pub trimmed : List ℕ → List ℕ
-trimmed line = end_trimmed (front_trimmed line)
+trimmed line = end_trimmed (without_front is_blank line)
 
 -- from `0` to `9`
 abbrev pub is_digit : ℕ → Bool
@@ -76,18 +73,12 @@ number_up_to most word =
 
 -- the word `q`
 abbrev pub is_quit : List ℕ → Bool
-is_quit [] = false
 is_quit (c ∷ []) = c == letter_q
-is_quit (c ∷ d ∷ rest) = false
+is_quit _ = false
 
--- a number picks its move
-abbrev pub picked : Option ℕ → Option Answer
-picked None = None
-picked (Some n) = Some (answer.Pick n)
-
--- what a line says to a question with so many moves, or `None` for a bad line
+-- what a line says to a question with so many moves: a number picks its move; `None` for a bad line
 unfoldable pub reply_of : ℕ → List ℕ → Option Answer
-reply_of most line = if is_quit (trimmed line) then Some answer.Quit else picked (number_up_to most (trimmed line))
+reply_of most line = if is_quit (trimmed line) then Some answer.Quit else option_map answer.Pick (number_up_to most (trimmed line))
 
 -- ---- the second version
 
@@ -100,15 +91,10 @@ abbrev pub first_word : List ℕ → List ℕ
 first_word [] = []
 first_word (b ∷ bs) = if is_gap b then [] else b ∷ first_word bs
 
--- a line without the gap at its front
-abbrev pub gap_trimmed : List ℕ → List ℕ
-gap_trimmed [] = []
-gap_trimmed (b ∷ bs) = if is_gap b then gap_trimmed bs else b ∷ bs
-
 -- what is behind the first word and the gap that follows it
 abbrev pub behind_word : List ℕ → List ℕ
 behind_word [] = []
-behind_word (b ∷ bs) = if is_gap b then gap_trimmed bs else behind_word bs
+behind_word (b ∷ bs) = if is_gap b then without_front is_gap bs else behind_word bs
 
 -- the word is not empty, has digits alone, and they write this number
 abbrev pub writes : List ℕ → ℕ → Bool
@@ -136,13 +122,3 @@ reply_in Second most place line = Some (placed_reply most place line)
 -- a line without its blanks is the first line of choices of the second version
 unfoldable pub is_header : List ℕ → Bool
 is_header line = bytes_eq (trimmed line) header
-
--- ----
-
--- the most bytes of a line of the choices, without its line feed
-abbrev pub most_line_bytes : ℕ
-most_line_bytes = LINE_BYTES
-
--- the most lines that answer one question badly: the last of them ends the session
-abbrev pub most_bad_lines : ℕ
-most_bad_lines = BAD_LINES

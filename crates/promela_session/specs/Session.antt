@@ -1,21 +1,22 @@
 -- A machine as a session sees it, and its session: what it does on these choices, and how it ends.
 -- Hold it against docs/FORMATS.md; chapter 7 of the book: states, and what leads from one to another.
-use Rattle.std.specs.Prelude.{ℕ, List, Bool, Option, ◌+◌, ◌-◌, [], ◌∷◌, ◌++◌, length, true, false, if◌then◌else◌, Some, None, slice_index_or}
+use Rattle.std.specs.Prelude.{ℕ, List, Bool, Option, ◌+◌, ◌-◌, [], ◌∷◌, ◌++◌, length, true, false, if◌then◌else◌, Some, None, slice_index_or, unwrap_or, option_map}
 use Rattle.diagnostics.specs.declared.fault.Fault.{Fault}
 use Rattle.diagnostics.specs.declared.stop.Stop.{Stop}
 use Prim.Native.Nat.{zero, suc}
 use Rattle.std.specs.List.{slice_get}
+use Rattle.profile.specs.declared.TheConstants.{BAD_LINES, LINE_BYTES}
 use Rattle.diagnostics.specs.declared.refusal.Refusal.{Refusal}
 use Rattle.promela_session.specs.declared.ends.Options.{Options}
 use Rattle.promela_session.specs.declared.ends.End.{End}
 use Rattle.promela_session.specs.declared.ends.Cause.{Cause}
 use Rattle.promela_session.specs.declared.ends.Cause.TheVariants as cause
 use Rattle.promela_session.specs.declared.line.LineEnd.{LineEnd}
-use Rattle.promela_session.specs.declared.line.LineEnd.TheVariants.{Whole, Last, TooLong}
+use Rattle.promela_session.specs.declared.line.LineEnd.TheVariants.{Last, TooLong}
 use Rattle.promela_session.specs.declared.choice.Answer.{Answer}
 use Rattle.promela_session.specs.declared.choice.Answer.TheVariants as answer
 use Rattle.promela_session.specs.Events.{Put, Told, Corrected, Recorded, Stepped, asks, Part, preceded, followed, list_from, prompt, bad_line, noted, placed_line, last_line, step_line, fault_line, refusal_line, status_of}
-use Rattle.promela_session.specs.Lines.{most_line_bytes, most_bad_lines, line_within, read_of, saw_end, reply_in, is_header}
+use Rattle.promela_session.specs.Lines.{line_within, read_of, saw_end, reply_in, is_header}
 use Rattle.promela_session.specs.declared.form.Stream.{Stream}
 use Rattle.promela_session.specs.declared.form.Stream.TheVariants.{Unread, Known, Over}
 use Rattle.promela_session.specs.declared.form.Version.{Version}
@@ -54,21 +55,19 @@ pub record Rules (S M : Type 0) : Type 0 where
 
 -- what a line of this version says that ends so, or `None` for a bad line
 abbrev pub reply_at : Version → ℕ → (ℕ → ℕ × ℕ) → LineEnd → List ℕ → Option Answer
-reply_at version most place Whole bytes = reply_in version most place bytes
 reply_at version most place TooLong bytes = Some answer.TooLong
 reply_at version most place Last [] = Some answer.Ended
-reply_at version most place Last (b ∷ bs) = reply_in version most place (b ∷ bs)
+reply_at version most place _ bytes = reply_in version most place bytes
 
 -- what is known of the choices behind a line of this version that ends so
 abbrev pub stream_behind : Version → LineEnd → Stream
-stream_behind version Whole = Known version
 stream_behind version Last = Over
-stream_behind version TooLong = Known version
+stream_behind version _ = Known version
 
 -- One line is read. It has at most 80 bytes, and a line feed.
 unfoldable pub one_line : Version → ℕ → (ℕ → ℕ × ℕ) → List ℕ → Part (Option Answer)
 one_line version most place rest =
-    let line = line_within (most_line_bytes + 1) rest in
+    let line = line_within (LINE_BYTES + 1) rest in
     record {
       events = asks (read_of line.ends line.bytes) (saw_end line.ends);
       value = reply_at version most place line.ends line.bytes;
@@ -88,14 +87,13 @@ next_line most place Over rest = only (Some answer.Ended) Over rest
 
 -- a line that ends so is the first of choices of the second version
 abbrev pub begins_second : LineEnd → List ℕ → Bool
-begins_second Whole bytes = is_header bytes
-begins_second Last bytes = is_header bytes
 begins_second TooLong bytes = false
+begins_second _ bytes = is_header bytes
 
 -- What is read for an answer: the next line, and where nothing was read and the first line is `choices 2`, that line and the one behind it.
 unfoldable pub one_reply : ℕ → (ℕ → ℕ × ℕ) → Stream → List ℕ → Part (Option Answer)
 one_reply most place Unread rest =
-    let line = line_within (most_line_bytes + 1) rest in
+    let line = line_within (LINE_BYTES + 1) rest in
     if begins_second line.ends line.bytes
     then preceded (asks (read_of line.ends line.bytes) (saw_end line.ends)) (next_line most place (stream_behind Second line.ends) line.left)
     else next_line most place Unread rest
@@ -115,41 +113,31 @@ ask most place (suc tries) stream rest =
 
 -- an accepted number is recorded, in lines of this version
 abbrev pub kept : Version → (ℕ → ℕ × ℕ) → Answer → Stream → List ℕ → Part Answer
-kept notes place (answer.Pick n) stream left = preceded (Recorded (noted notes n (place n)) (placed_line n (place n)) ∷ []) (only (answer.Pick n) stream left)
-kept notes place answer.Quit stream left = only answer.Quit stream left
-kept notes place answer.Ended stream left = only answer.Ended stream left
-kept notes place answer.TooLong stream left = only answer.TooLong stream left
-kept notes place answer.Hundred stream left = only answer.Hundred stream left
-kept notes place answer.Misfit stream left = only answer.Misfit stream left
+kept notes place (answer.Pick n) stream left =
+    preceded (Recorded (noted notes n (place n)) (placed_line n (place n)) ∷ []) (only (answer.Pick n) stream left)
+kept notes place said stream left = only said stream left
 
 -- the question for one of so many moves: a hundred bad lines end it, all but the last of them answered by a prompt
 abbrev pub question : ℕ → (ℕ → ℕ × ℕ) → Stream → List ℕ → Part Answer
-question most place stream rest = ask most place (most_bad_lines - 1) stream rest
+question most place stream rest = ask most place (BAD_LINES - 1) stream rest
 
--- the list and the prompt are written and an answer is asked for, and recorded
-abbrev pub choose : {M : Type 0} → Version → (M → List ℕ) → (ℕ → ℕ × ℕ) → List M → Stream → List ℕ → Part Answer
-choose notes text place moves stream rest =
-    let most = length moves in
-    preceded (Put Told (list_from text 1 moves) ∷ []) (preceded (Put Told (prompt most) ∷ []) (followed (question most place stream rest) (kept notes place)))
+-- the version of the record's lines
+module _ (notes : Version) where
+  -- the list and the prompt are written and an answer is asked for, and recorded
+  abbrev pub choose : {M : Type 0} → (M → List ℕ) → (ℕ → ℕ × ℕ) → List M → Stream → List ℕ → Part Answer
+  choose text place moves stream rest =
+      let most = length moves in
+      preceded (Put Told (list_from text 1 moves) ∷ []) (preceded (Put Told (prompt most) ∷ []) (followed (question most place stream rest) (kept notes place)))
 
--- the process and the line that a move comes from
-abbrev pub known_origin : {S M : Type 0} → Rules S M → S → Option M → ℕ × ℕ
-known_origin rules s None = (0, 0)
-known_origin rules s (Some m) = rules.origin s m
-
--- those of the move with this number, counted from 1
+-- the process and the line of the move with this number, counted from 1
 abbrev pub place_of : {S M : Type 0} → Rules S M → S → List M → ℕ → ℕ × ℕ
-place_of rules s moves n = known_origin rules s (slice_get moves (n - 1))
+place_of rules s moves n = unwrap_or (option_map (rules.origin s) (slice_get moves (n - 1))) (0, 0)
 
--- the question with its list and its prompt, and the record of the answer
-abbrev pub choice_at : {S M : Type 0} → Version → Rules S M → S → List M → Stream → List ℕ → Part Answer
-choice_at notes rules s moves stream = choose notes (rules.text s) (place_of rules s moves) moves stream
-
--- one move is taken without asking; of several one is asked for
-unfoldable pub select : {S M : Type 0} → Version → Rules S M → S → List M → Stream → List ℕ → Part Answer
-select notes rules s [] stream rest = only (answer.Pick 1) stream rest
-select notes rules s (m ∷ []) stream rest = only (answer.Pick 1) stream rest
-select notes rules s (m ∷ n ∷ ms) stream rest = choice_at notes rules s (m ∷ n ∷ ms) stream rest
+module _ {S M : Type 0} (notes : Version) (rules : Rules S M) (s : S) where
+  -- one move is taken without asking; of several one is asked for
+  unfoldable pub select : List M → Stream → List ℕ → Part Answer
+  select (m ∷ n ∷ ms) stream rest = choose notes (rules.text s) (place_of rules s (m ∷ n ∷ ms)) (m ∷ n ∷ ms) stream rest
+  select moves stream rest = only (answer.Pick 1) stream rest
 
 -- how a session ends by this cause
 abbrev pub end_of : Cause → ℕ → End
@@ -173,50 +161,54 @@ final_lines false stuck steps = last_line cause.Invalid steps ++ stuck
 abbrev pub finished : Bool → List ℕ → ℕ → Stream → List ℕ → Part End
 finished valid stuck steps stream left = preceded (Put Told (final_lines valid stuck steps) ∷ []) (only (end_of (final_cause valid) steps) stream left)
 
--- the text of a step: its line, what it printed, the value lines
-abbrev pub step_text : {S M : Type 0} → Rules S M → Options → S → M → ℕ → S → List ℕ → List ℕ
-step_text rules options s m n t printed =
-    ((if options.steps then step_line n (rules.text s m) else []) ++ printed) ++ rules.values t options.globals options.locals
+module _ {S M : Type 0} (rules : Rules S M) (options : Options) (s : S) where
+  -- the text of a step: its line, what it printed, the value lines
+  abbrev pub step_text : M → ℕ → S → List ℕ → List ℕ
+  step_text m n t printed =
+      ((if options.steps then step_line n (rules.text s m) else []) ++ printed) ++ rules.values t options.globals options.locals
 
--- the move is taken: its text is written after it, a fault's line alone
-unfoldable pub stepped : {S M : Type 0} → Rules S M → Options → S → M → ℕ → (S → Part End) → Stream → List ℕ → Outcome S → Part End
-stepped rules options s m steps later stream left (Goes t printed) =
-    preceded (Stepped ∷ []) (preceded (Put Told (step_text rules options s m (steps + 1) t printed) ∷ []) (later t))
-stepped rules options s m steps later stream left (Faults f) =
-    preceded (Put Told (fault_line f (steps + 1) (rules.text s m)) ∷ []) (only (end_of (cause.Fault f) steps) stream left)
+  -- the move is taken: its text is written after it, a fault's line alone
+  unfoldable pub stepped : M → ℕ → (S → Part End) → Stream → List ℕ → Outcome S → Part End
+  stepped m steps later stream left (Goes t printed) =
+      preceded (Stepped ∷ []) (preceded (Put Told (step_text m (steps + 1) t printed) ∷ []) (later t))
+  stepped m steps later stream left (Faults f) =
+      preceded (Put Told (fault_line f (steps + 1) (rules.text s m)) ∷ []) (only (end_of (cause.Fault f) steps) stream left)
 
 -- the model is refused, at this line of its text
 abbrev pub refused : Refusal → ℕ → Stream → List ℕ → Part End
 refused r line stream left = preceded (Put Told (refusal_line r) ∷ []) (only (end_of (cause.Refused r line) 0) stream left)
 
--- what follows an answer: the picked move, or the end
-unfoldable pub answered : {S M : Type 0} → Rules S M → Options → S → List M → M → ℕ → (S → Stream → List ℕ → Part End) → Answer → Stream → List ℕ → Part End
-answered rules options s moves m steps later (answer.Pick n) stream left =
-    let taken = slice_index_or moves (n - 1) m in
-    stepped rules options s taken steps (λ t. later t stream left) stream left (rules.step s taken)
-answered rules options s moves m steps later answer.Quit stream left = stopped cause.Quit steps stream left
-answered rules options s moves m steps later answer.Ended stream left = stopped cause.ChoicesEnded steps stream left
-answered rules options s moves m steps later answer.TooLong stream left = stopped cause.LineTooLong steps stream left
-answered rules options s moves m steps later answer.Hundred stream left = stopped cause.BadChoices steps stream left
-answered rules options s moves m steps later answer.Misfit stream left = stopped cause.Misfit steps stream left
+module _ {S M : Type 0} (rules : Rules S M) (options : Options) (s : S) (moves : List M) where
+  -- what follows an answer: the picked move, or the end
+  unfoldable pub answered : M → ℕ → (S → Stream → List ℕ → Part End) → Answer → Stream → List ℕ → Part End
+  answered m steps later (answer.Pick n) stream left =
+      let taken = slice_index_or moves (n - 1) m in
+      stepped rules options s taken steps (λ t. later t stream left) stream left (rules.step s taken)
+  answered m steps later answer.Quit stream left = stopped cause.Quit steps stream left
+  answered m steps later answer.Ended stream left = stopped cause.ChoicesEnded steps stream left
+  answered m steps later answer.TooLong stream left = stopped cause.LineTooLong steps stream left
+  answered m steps later answer.Hundred stream left = stopped cause.BadChoices steps stream left
+  answered m steps later answer.Misfit stream left = stopped cause.Misfit steps stream left
 
--- the end where there is no move, and else what is given
-abbrev pub at_moves : {S M : Type 0} → Rules S M → S → ℕ → Stream → List ℕ → (List M → M → Part End) → List M → Part End
-at_moves rules s steps stream rest go [] = finished (rules.is_valid s) (rules.stuck s) steps stream rest
-at_moves rules s steps stream rest go (m ∷ ms) = go (m ∷ ms) m
+module _ {S M : Type 0} (rules : Rules S M) (s : S) where
+  -- the end where there is no move, and else what is given
+  abbrev pub at_moves : ℕ → Stream → List ℕ → (List M → M → Part End) → List M → Part End
+  at_moves steps stream rest go [] = finished (rules.is_valid s) (rules.stuck s) steps stream rest
+  at_moves steps stream rest go (m ∷ ms) = go (m ∷ ms) m
 
--- The session from a state on: after so many steps, with so many to go until the limit, on these choices.
-unfoldable pub story : {S M : Type 0} → Version → Rules S M → Options → ℕ → S → ℕ → Stream → List ℕ → Part End
-story notes rules options zero s steps stream rest =
-    at_moves rules s steps stream rest (λ moves m. stopped cause.StepLimit steps stream rest) (rules.moves s)
-story notes rules options (suc fuel) s steps stream rest =
-    at_moves rules s steps stream rest
-    (λ moves m. followed (select notes rules s moves stream rest) (answered rules options s moves m steps (λ t o r. story notes rules options fuel t (steps + 1) o r)))
-    (rules.moves s)
+module _ {S M : Type 0} (notes : Version) (rules : Rules S M) (options : Options) where
+  -- The session from a state on: after so many steps, with so many to go until the limit, on these choices.
+  unfoldable pub story : ℕ → S → ℕ → Stream → List ℕ → Part End
+  story zero s steps stream rest =
+      at_moves rules s steps stream rest (λ moves m. stopped cause.StepLimit steps stream rest) (rules.moves s)
+  story (suc fuel) s steps stream rest =
+      at_moves rules s steps stream rest
+      (λ moves m. followed (select notes rules s moves stream rest) (answered rules options s moves m steps (λ t o r. story fuel t (steps + 1) o r)))
+      (rules.moves s)
 
--- the whole session on these choices, the end behind them, with a record in lines of this version
-abbrev pub transcript_noting : {S M : Type 0} → Version → Rules S M → Options → S → List ℕ → Part End
-transcript_noting notes rules options s choices = story notes rules options options.limit s 0 Unread choices
+  -- the whole session on these choices, the end behind them, with a record in lines of this version
+  abbrev pub transcript_noting : S → List ℕ → Part End
+  transcript_noting s choices = story options.limit s 0 Unread choices
 
 -- the whole session on these choices, the end behind them
 abbrev pub transcript : {S M : Type 0} → Rules S M → Options → S → List ℕ → Part End

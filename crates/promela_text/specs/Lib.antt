@@ -1,4 +1,3 @@
 pub mod Tables
 pub mod Tokens
 pub mod Inlines
-pub mod Expansion

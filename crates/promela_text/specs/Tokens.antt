@@ -1,16 +1,16 @@
--- What a text cuts into: its longest pieces, the tokens among them, and what is said of a text that cannot be cut.
+-- What a text cuts into: its longest lexemes, the tokens among them, and what is said of a text that cannot be cut.
 -- Hold it against the pages `comments` and `grammar`; docs/LANGUAGE.md, 'Limits'; docs/REFUSALS.md, M1 to M4.
 use Rattle.std.specs.Prelude.{ℕ, Bool, true, false, not, ◌&&◌, ◌||◌, ◌==◌, nat_le, if◌then◌else◌, List, [], ◌∷◌, drop, Option, Some, None, nat_eq, ◌≡◌, ◌≤◌, ◌+◌, ◌++◌, length, take, is_some, count_by, ◌<◌, ◌-◌, fold, ◌⊎◌}
 use Rattle.std.specs.List.{list_all, prefix_len, starts_with, concat, list_any}
 use Rattle.std.specs.Option.{option_map}
 use lib.Chars.{codes}
 use Rattle.profile.specs.Characters.{tab, line_feed, carriage_return, space, quote, hash, star, slash, zero_digit, nine_digit, upper_a, upper_z, backslash, underscore, lower_a, lower_z}
-use Rattle.promela_text.specs.declared.piece.Class.{Class}
-use Rattle.promela_text.specs.declared.piece.Class.TheVariants as class
-use Rattle.promela_text.specs.declared.piece.Piece.{Piece}
-use Rattle.promela_text.specs.declared.piece.Piece.TheVariants.{Skipped, Token}
+use Rattle.promela_text.specs.declared.lexeme.Class.{Class}
+use Rattle.promela_text.specs.declared.lexeme.Class.TheVariants as class
+use Rattle.promela_text.specs.declared.lexeme.Lexeme.{Lexeme}
+use Rattle.promela_text.specs.declared.lexeme.Lexeme.TheVariants.{Skipped, Token}
 use Rattle.pml_token.specs.declared.token.Kind.TheVariants as kind
-use Rattle.promela_text.specs.Tables.{word_kind, sign_of_one, sign_of_two}
+use Rattle.promela_text.specs.Tables.{lookup, word_kind, one_byte_signs, two_byte_signs}
 use Rattle.pml_token.specs.Word.{Word, same_kind}
 use Rattle.profile.specs.declared.TheConstants.{MOST_IN_A_ROW, MOST_OPEN, MOST_TEXT_BYTES}
 use Rattle.pml_token.specs.declared.token.Kind.{Kind}
@@ -47,16 +47,15 @@ class_of b =
     else (if b == hash then class.Hash
     else class.Other)))))
 
--- no byte is left
-abbrev pub is_empty : List ℕ → Bool
+-- nothing is left
+abbrev pub is_empty : {X : Type 0} → List X → Bool
 is_empty [] = true
-is_empty (b ∷ q) = false
+is_empty (x ∷ xs) = false
 
 -- `*/` stands at the end, and not before
 abbrev pub ends_comment : List ℕ → Bool
-ends_comment [] = false
-ends_comment (a ∷ []) = false
 ends_comment (a ∷ b ∷ q) = if a == star && b == slash then is_empty q else ends_comment (b ∷ q)
+ends_comment _ = false
 
 -- what stands behind the first `"` of a string, up to the last one; `escaped`: behind a backslash
 abbrev pub quoted : Bool → List ℕ → Bool
@@ -84,41 +83,36 @@ leads_to_digit q = begins_digit (drop (prefix_len is_space q) q)
 abbrev pub is_line_mark : List ℕ → Bool
 is_line_mark q = leads_to_digit q || (starts_with nat_eq q (codes "line") && leads_to_digit (drop 4 q))
 
--- a piece, where this holds
-abbrev pub piece_if : Bool → Piece → Option Piece
-piece_if true x = Some x
-piece_if false x = None
-
--- the piece of a `/` and of the bytes behind it: a comment, or the sign
-abbrev pub after_slash : List ℕ → Option Piece
+-- the lexeme of a `/` and of the bytes behind it: a comment, or the sign
+abbrev pub after_slash : List ℕ → Option Lexeme
 after_slash [] = Some (Token kind.Slash)
 after_slash (b ∷ q) =
-    if b == star then piece_if (ends_comment q) Skipped
-    else (if b == slash then piece_if (list_all is_in_line q) Skipped
-    else None)
+    if b == star then (if ends_comment q then Some Skipped else None)
+    else (if b == slash then (if list_all is_in_line q then Some Skipped else None) else None)
 
--- the piece of one byte or of two that are a sign
-abbrev pub sign : ℕ → List ℕ → Option Piece
-sign a [] = option_map Token (sign_of_one a)
-sign a (b ∷ []) = option_map Token (sign_of_two a b)
+-- the lexeme of one byte or of two that are a sign
+abbrev pub sign : ℕ → List ℕ → Option Lexeme
+sign a [] = option_map Token (lookup one_byte_signs (a ∷ []))
+sign a (b ∷ []) = option_map Token (lookup two_byte_signs (a ∷ b ∷ []))
 sign a (b ∷ c ∷ q) = None
 
 -- `fresh`: its line has only blanks before it
-abbrev pub piece_by : Bool → Class → ℕ → List ℕ → Option Piece
-piece_by fresh class.Blank b q = piece_if (is_empty q) Skipped
-piece_by fresh class.Letter b q = piece_if (list_all is_name_byte q) (Token (word_kind (b ∷ q)))
-piece_by fresh class.Digit b q = piece_if (list_all is_digit q) (Token kind.Number)
-piece_by fresh class.Quote b q = piece_if (quoted false q) (Token kind.Quoted)
-piece_by fresh class.Slash b q = after_slash q
-piece_by fresh class.Hash b q = piece_if (fresh && list_all is_in_line q) (if is_line_mark q then Skipped else Token kind.LeftOut)
-piece_by fresh class.Other b q = sign b q
+abbrev pub lexeme_by : Bool → Class → ℕ → List ℕ → Option Lexeme
+lexeme_by fresh class.Blank b q = if is_empty q then Some Skipped else None
+lexeme_by fresh class.Letter b q = if list_all is_name_byte q then Some (Token (word_kind (b ∷ q))) else None
+lexeme_by fresh class.Digit b q = if list_all is_digit q then Some (Token kind.Number) else None
+lexeme_by fresh class.Quote b q = if quoted false q then Some (Token kind.Quoted) else None
+lexeme_by fresh class.Slash b q = after_slash q
+lexeme_by fresh class.Hash b q =
+    if fresh && list_all is_in_line q then Some (if is_line_mark q then Skipped else Token kind.LeftOut) else None
+lexeme_by fresh class.Other b q = sign b q
 
--- What the bytes are, if they are one piece.
-unfoldable pub piece : Bool → List ℕ → Option Piece
-piece fresh [] = None
-piece fresh (b ∷ q) = piece_by fresh (class_of b) b q
+-- What the bytes are, if they are one lexeme.
+unfoldable pub lexeme : Bool → List ℕ → Option Lexeme
+lexeme fresh [] = None
+lexeme fresh (b ∷ q) = lexeme_by fresh (class_of b) b q
 
--- ---- the longest pieces of a text, and the tokens among them
+-- ---- the longest lexemes of a text, and the tokens among them
 
 -- a line feed
 abbrev pub is_line_feed : ℕ → Bool
@@ -139,43 +133,41 @@ is_fresh before = fresh_from true before
 
 -- a text that begins with `/*`
 abbrev pub opens_comment : List ℕ → Bool
-opens_comment [] = false
-opens_comment (a ∷ []) = false
 opens_comment (a ∷ b ∷ q) = a == slash && b == star
+opens_comment _ = false
 
--- p can stand as a piece at the front of `rest`
+-- p can stand as a lexeme at the front of `rest`
 pub record CanStand (fresh : Bool) (rest p : List ℕ) : Type 0 where
   pub front : take (length p) rest ≡ p
-  pub is_piece : is_some (piece fresh p) ≡ true
+  pub is_lexeme : is_some (lexeme fresh p) ≡ true
   -- `/*` always begins a comment
   pub comment : opens_comment rest ≡ true → opens_comment p ≡ true
 
--- p is the longest piece that can stand there
+-- p is the longest lexeme that can stand there
 pub record IsLongest (fresh : Bool) (rest p : List ℕ) : Type 0 where
   pub stands : CanStand fresh rest p
   pub longest : (q : List ℕ) → CanStand fresh rest q → length q ≤ length p
 
--- The pieces, one after the other, are the text, and each is the longest at its place.
+-- The lexemes, one after the other, are the text, and each is the longest at its place.
 pub record IsDivision (text : List ℕ) (ps : List (List ℕ)) : Type 0 where
   pub joins : concat ps ≡ text
   pub each : (front : List (List ℕ)) (p : List ℕ) (back : List (List ℕ)) → ps ≡ front ++ p ∷ back → IsLongest (is_fresh (concat front)) (p ++ concat back) p
 
--- the token that a piece is
-abbrev pub word : Option Piece → List ℕ → ℕ → List Word
+-- the token that a lexeme is
+abbrev pub word : Option Lexeme → List ℕ → ℕ → List Word
 word (Some (Token k)) text line = record { kind = k; text = text; line = line } ∷ []
-word (Some Skipped) text line = []
-word None text line = []
+word _ text line = []
 
--- the tokens among pieces
+-- the tokens among lexemes
 abbrev pub words : List ℕ → List (List ℕ) → List Word
 words before [] = []
-words before (p ∷ ps) = word (piece (is_fresh before) p) p (line_behind before) ++ words (before ++ p) ps
+words before (p ∷ ps) = word (lexeme (is_fresh before) p) p (line_behind before) ++ words (before ++ p) ps
 
 -- the words are the tokens of a division of the whole text
 pub record IsCut (text : List ℕ) (ts : List Word) : Type 0 where
-  pub pieces : List (List ℕ)
-  pub divides : IsDivision text pieces
-  pub are_words : ts ≡ words [] pieces
+  pub lexemes : List (List ℕ)
+  pub divides : IsDivision text lexemes
+  pub are_words : ts ≡ words [] lexemes
 
 -- ---- what a list of tokens may not hold
 
@@ -183,13 +175,9 @@ pub record IsCut (text : List ℕ) (ts : List Word) : Type 0 where
 abbrev pub IsOnLine : ℕ → ℕ → Type 0
 IsOnLine most line = (1 ≤ line) × (line ≤ most)
 
--- a word, a sign or a `#` line that is left out
-abbrev pub is_left_out : Word → Bool
-is_left_out w = same_kind w.kind LeftOut
-
--- one of the tokens is left out of the language
+-- one of the tokens is left out of the language: a word, a sign or a `#` line
 abbrev pub has_left_out : List Word → Bool
-has_left_out ts = list_any is_left_out ts
+has_left_out ts = list_any (λ w. same_kind w.kind LeftOut) ts
 
 -- `( [ { if do`
 abbrev pub opens : Kind → Bool
@@ -204,13 +192,9 @@ abbrev pub breaks : Kind → Bool
 breaks k = same_kind k Semicolon || same_kind k DoubleColon || same_kind k OpenBrace || same_kind k CloseBrace || same_kind k If || same_kind k Fi
     || same_kind k Do || same_kind k Od
 
--- `-` stops at 0
-abbrev pub deepen : ℕ → Kind → ℕ
-deepen n k = if opens k then n + 1 else (if closes k then n - 1 else n)
-
--- how deep it is behind some tokens, counted from the front
+-- how deep it is behind some tokens, counted from the front; `-` stops at 0
 abbrev pub depth_behind : List Word → ℕ
-depth_behind ts = fold (λ n w. deepen n w.kind) 0 ts
+depth_behind ts = fold (λ n w. if opens w.kind then n + 1 else (if closes w.kind then n - 1 else n)) 0 ts
 
 -- behind some token the count has passed the most that may be open
 abbrev pub IsNested : List Word → Type 0

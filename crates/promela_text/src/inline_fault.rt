@@ -6,7 +6,7 @@ use thiserror::Error;
 
 /// The least reason that tokens are refused for.
 #[derive(Clone, Copy, Debug, PartialEq, Eq, Error)]
-pub enum InlineFault {
+pub enum InlineError {
     /// Memory for the list of tokens was refused. It says nothing of the tokens.
     #[error("out of memory")]
     Memory,
@@ -18,24 +18,24 @@ pub enum InlineFault {
     TooDeep(u32, Limit),
 }
 
-impl From<AllocError> for InlineFault {
+impl From<AllocError> for InlineError {
     ghost use Rattle.std.specs.Prelude.{◌≡◌};
-    ghost use Rattle.promela_text.specs.declared.inline_fault.InlineFault.TheVariants.{Memory};
+    ghost use Rattle.promela_text.specs.declared.inline_fault.InlineError.TheVariants.{Memory};
 
     ghost from_gives = { λ _ f. f ≡ Memory };
 
-    fn from(_: AllocError) -> InlineFault {
-        InlineFault::Memory
+    fn from(_: AllocError) -> InlineError {
+        InlineError::Memory
     }
 }
 
-impl<T: Drop> From<AllocFailed<T>> for InlineFault {
+impl<T: Drop> From<AllocFailed<T>> for InlineError {
     ghost use Rattle.std.specs.Prelude.{◌≡◌};
-    ghost use Rattle.promela_text.specs.declared.inline_fault.InlineFault.TheVariants.{Memory};
+    ghost use Rattle.promela_text.specs.declared.inline_fault.InlineError.TheVariants.{Memory};
 
     ghost from_gives = { λ _ f. f ≡ Memory };
 
-    fn from(_: AllocFailed<T>) -> InlineFault {
-        InlineFault::Memory
+    fn from(_: AllocFailed<T>) -> InlineError {
+        InlineError::Memory
     }
 }

@@ -3,5 +3,5 @@
 #![tactic(auto)]
 
 pub mod inline_fault;
+pub mod lexeme;
 pub mod misuse;
-pub mod piece;

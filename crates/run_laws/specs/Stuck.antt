@@ -4,7 +4,7 @@ use Rattle.std.specs.Fmt.{decimal}
 use Rattle.profile.specs.Characters.{line_feed}
 use Rattle.promela_run.specs.State.{State, Stand}
 use Rattle.promela_run.specs.World.{is_valid, line, stuck}
-use Rattle.pml_texts.specs.Staying.{stuck_of, stuck_place}
+use Rattle.run_texts.specs.Staying.{stuck_of, stuck_place}
 
 -- `at: proc P (NAME) line L`, of a process that may not end where it stands
 abbrev pub told_of : ℕ → Option (List ℕ × ℕ) → List ℕ

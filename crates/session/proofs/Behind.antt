@@ -7,7 +7,8 @@ use Rattle.promela_session.specs.declared.ends.Cause.TheVariants as cause
 use Rattle.promela_session.specs.declared.choice.Answer.{Answer}
 use Rattle.promela_session.specs.declared.choice.Answer.TheVariants as answer
 use Rattle.promela_session.specs.Events.{Event, Put, Told, Corrected, Stepped, asks, Part, preceded, followed, prompt, bad_line, list_from}
-use Rattle.promela_session.specs.Lines.{most_line_bytes, most_bad_lines, Line, line_within, lengthened, read_of, saw_end}
+use Rattle.profile.specs.declared.TheConstants.{LINE_BYTES, BAD_LINES}
+use Rattle.promela_session.specs.Lines.{Line, line_within, lengthened, read_of, saw_end}
 use Rattle.promela_session.specs.Session.{Rules, Outcome, Goes, Faults, one_line, next_line, one_reply, begins_second, stream_behind, ask, after_line, only, kept, question, choose, place_of, select, stopped, finished, stepped, answered, at_moves, story, step_text}
 use Rattle.session.specs.Laws.{is_asked_end, meets_the_end, with_more_left, WhatIsBehindChangesNothing}
 use Rattle.promela_session.specs.declared.form.Stream.{Stream}
@@ -76,8 +77,8 @@ module _ (more : List ℕ) where
       → one_line version most place (rest ++ more) ≡ with_more_left more (one_line version most place rest)
   unfolding one_line
   one_line_grows version most place rest h =
-      let line = line_within (most_line_bytes + 1) rest in
-      rw (line_grows (most_line_bytes + 1) rest (asked_end (read_of line.ends line.bytes) (saw_end line.ends) h)) refl
+      let line = line_within (LINE_BYTES + 1) rest in
+      rw (line_grows (LINE_BYTES + 1) rest (asked_end (read_of line.ends line.bytes) (saw_end line.ends) h)) refl
 
   next_line_grows : (most : ℕ) (place : ℕ → ℕ × ℕ) → Grows (next_line most place)
   unfolding next_line
@@ -89,26 +90,26 @@ module _ (more : List ℕ) where
   abbrev first_reply : ℕ → (ℕ → ℕ × ℕ) → Line → List ℕ → Bool → Part (Option Answer)
   first_reply most place line rest header = if header then preceded (asks (read_of line.ends line.bytes) (saw_end line.ends)) (next_line most place (stream_behind Second line.ends) line.left) else next_line most place Unread rest
 
-  first_grows : (most : ℕ) (place : ℕ → ℕ × ℕ) (rest : List ℕ) (header : Bool) → let line = line_within (most_line_bytes + 1) rest in meets_the_end (first_reply most place line rest header).events ≡ false
+  first_grows : (most : ℕ) (place : ℕ → ℕ × ℕ) (rest : List ℕ) (header : Bool) → let line = line_within (LINE_BYTES + 1) rest in meets_the_end (first_reply most place line rest header).events ≡ false
       → (saw_end line.ends ≡ false) × (first_reply most place (record { ends = line.ends; bytes = line.bytes; left = line.left ++ more }) (rest ++ more) header ≡ with_more_left more (first_reply most place line rest header))
   unfolding next_line one_line
   first_grows most place rest true h =
-      let line = line_within (most_line_bytes + 1) rest in
+      let line = line_within (LINE_BYTES + 1) rest in
       let behind = next_line most place (stream_behind Second line.ends) line.left in
       let es = asks (read_of line.ends line.bytes) (saw_end line.ends) in (
         asked_end (read_of line.ends line.bytes) (saw_end line.ends) (first_meets_not es behind.events h),
         ap (λ q. preceded es q) (next_line_grows most place (stream_behind Second line.ends) line.left (second_meets_not es behind.events h)),
       )
   first_grows most place rest false h =
-      let line = line_within (most_line_bytes + 1) rest in
+      let line = line_within (LINE_BYTES + 1) rest in
       (asked_end (read_of line.ends line.bytes) (saw_end line.ends) h, one_line_grows First most place rest h)
 
   one_reply_grows : (most : ℕ) (place : ℕ → ℕ × ℕ) → Grows (one_reply most place)
   unfolding one_reply
   one_reply_grows most place Unread rest h =
-      let line = line_within (most_line_bytes + 1) rest in
+      let line = line_within (LINE_BYTES + 1) rest in
       let g = first_grows most place rest (begins_second line.ends line.bytes) h in
-      rw (line_grows (most_line_bytes + 1) rest g.0) g.1
+      rw (line_grows (LINE_BYTES + 1) rest g.0) g.1
   one_reply_grows most place (Known version) rest h = next_line_grows most place (Known version) rest h
   one_reply_grows most place Over rest h = next_line_grows most place Over rest h
 
@@ -135,7 +136,7 @@ module _ (more : List ℕ) where
   choose_grows notes text place moves =
       let asked = λ (stream : Stream) (rest : List ℕ). followed (question (length moves) place stream rest) (kept notes place) in
       preceded_grows (Put Told (list_from text 1 moves) ∷ []) (λ stream rest. preceded (Put Told (prompt (length moves)) ∷ []) (asked stream rest))
-      (preceded_grows (Put Told (prompt (length moves)) ∷ []) asked (followed_grows (question (length moves) place) (kept notes place) (ask_grows (length moves) place (most_bad_lines - 1)) (kept_grows notes place)))
+      (preceded_grows (Put Told (prompt (length moves)) ∷ []) asked (followed_grows (question (length moves) place) (kept notes place) (ask_grows (length moves) place (BAD_LINES - 1)) (kept_grows notes place)))
 
   module _ {S M : Type 0} (notes : Version) (rules : Rules S M) (options : Options) where
     select_grows : (s : S) (moves : List M) → Grows (select notes rules s moves)

@@ -17,12 +17,11 @@ use Rattle.promela_session.specs.declared.choice.Answer.TheVariants as answer
 use Rattle.promela_session.specs.declared.form.Stream.{Stream}
 use Rattle.promela_session.specs.declared.form.Stream.TheVariants.{Unread}
 use Rattle.promela_session.specs.declared.form.Version.TheVariants.{First, Second}
-use Rattle.promela_session.specs.Replay.{IsConvertedBy, converted_event, converted_events, converted}
 use Rattle.session.specs.Converting.{fits_line, told_event, told_events, noting, quiet, told, failure_converting}
-use Rattle.promela_session.specs.Events.{Event, Put, Told, Asked, AskedEnd, Recorded, Stepped, IsAsk, output, front, recorded, steps_in, step_of, Part, preceded, followed, header_line, list_from, prompt}
-use Rattle.promela_session.specs.Lines.{most_bad_lines, most_line_bytes}
+use Rattle.promela_session.specs.Events.{Event, Put, Told, Asked, AskedEnd, Recorded, Stepped, is_ask, output, front, recorded, steps_in, step_of, Part, preceded, followed, header_line, list_from, prompt}
+use Rattle.profile.specs.declared.TheConstants.{BAD_LINES, LINE_BYTES}
 use Rattle.promela_session.specs.Session.{Rules, Outcome, Goes, Faults, kept, question, choose, place_of, select, stopped, stepped, answered, at_moves, story, transcript, transcript_noting, step_text, end_of}
-use Rattle.promela_session.specs.Devices.{is_readable, AreReadable, MovedBy, Begins, Does, Breaks, CountsBroken, Ends, IsBrokenOff}
+use Rattle.promela_session.specs.Devices.{is_readable, AreReadable, MovedBy, Begins, Does, Breaks, CountsBroken, Ends, IsBrokenOff, IsConvertedBy, converted_event, converted_events, converted}
 use Rattle.session.specs.Writes.{Runs}
 use Rattle.session.proofs.Parts.{records, record_breaks, Leads-does, Leads-breaks}
 use Rattle.session.proofs.Replay.{ask_silent, silent_told}
@@ -70,7 +69,7 @@ kept_converts place answer.Hundred stream left = record { ends = refl; does = re
 kept_converts place answer.Misfit stream left = record { ends = refl; does = refl; knows = refl; leaves = refl }
 
 question_converts : (most : ℕ) (place : ℕ → ℕ × ℕ) (stream : Stream) (rest : List ℕ) → IsConversion (question most place stream rest) (question most place stream rest)
-question_converts most place stream rest = record { ends = refl; does = silent_told (question most place stream rest).events (ask_silent most place (most_bad_lines - 1) stream rest); knows = refl; leaves = refl }
+question_converts most place stream rest = record { ends = refl; does = silent_told (question most place stream rest).events (ask_silent most place (BAD_LINES - 1) stream rest); knows = refl; leaves = refl }
 
 choose_converts : {M : Type 0} (text : M → List ℕ) (place : ℕ → ℕ × ℕ) (moves : List M) (stream : Stream) (rest : List ℕ) → IsConversion (choose First text place moves stream rest) (choose Second text place moves stream rest)
 choose_converts text place moves stream rest =
@@ -126,7 +125,7 @@ swapped h = holding h.source h.rec None h.failures.source h.failures.rec 0
 
 front-told : (es : List Event) → front (told_events es) ≡ front es
 front-told [] = refl
-front-told (Put role piece ∷ es) = front-told es
+front-told (Put purpose piece ∷ es) = front-told es
 front-told (Asked b ∷ es) = ap (λ l. b ∷ l) (front-told es)
 front-told (AskedEnd ∷ es) = front-told es
 front-told (Recorded line placed ∷ es) = front-told es
@@ -134,7 +133,7 @@ front-told (Stepped ∷ es) = front-told es
 
 output-told : (es : List Event) → output (told_events es) ≡ recorded es
 output-told [] = refl
-output-told (Put role piece ∷ es) = output-told es
+output-told (Put purpose piece ∷ es) = output-told es
 output-told (Asked b ∷ es) = output-told es
 output-told (AskedEnd ∷ es) = output-told es
 output-told (Recorded line placed ∷ es) = ap (λ l. line ++ l) (output-told es)
@@ -142,7 +141,7 @@ output-told (Stepped ∷ es) = output-told es
 
 recorded-told : (es : List Event) → recorded (told_events es) ≡ []
 recorded-told [] = refl
-recorded-told (Put role piece ∷ es) = recorded-told es
+recorded-told (Put purpose piece ∷ es) = recorded-told es
 recorded-told (Asked b ∷ es) = recorded-told es
 recorded-told (AskedEnd ∷ es) = recorded-told es
 recorded-told (Recorded line placed ∷ es) = recorded-told es
@@ -153,7 +152,7 @@ steps-cons e es = sum_by-cons step_of e es
 
 steps-told : (es : List Event) → steps_in (told_events es) ≡ steps_in es
 steps-told [] = refl
-steps-told (Put role piece ∷ es) = rw (steps-cons (Put role piece) es, steps-told es) (omega arith)
+steps-told (Put purpose piece ∷ es) = rw (steps-cons (Put purpose piece) es, steps-told es) (omega arith)
 steps-told (Asked b ∷ es) = rw (steps-cons (Asked b) (told_events es), steps-cons (Asked b) es, steps-told es) refl
 steps-told (AskedEnd ∷ es) = rw (steps-cons AskedEnd (told_events es), steps-cons AskedEnd es, steps-told es) refl
 steps-told (Recorded line placed ∷ es) = rw (steps-cons (Put Told line) (told_events es), steps-cons (Recorded line placed) es, steps-told es) refl
@@ -162,7 +161,7 @@ steps-told (Stepped ∷ es) = rw (steps-cons Stepped (told_events es), steps-con
 -- nothing is recorded
 told-readable : (es : List Event) → AreReadable (told_events es)
 told-readable [] = refl
-told-readable (Put role piece ∷ es) = told-readable es
+told-readable (Put purpose piece ∷ es) = told-readable es
 told-readable (Asked b ∷ es) = told-readable es
 told-readable (AskedEnd ∷ es) = told-readable es
 told-readable (Recorded line placed ∷ es) = told-readable es
@@ -178,12 +177,12 @@ MovedBy-swapped {n = n} es m = record {
   readable = told-readable es;
 }
 
-ask-told : (e : Event) → IsAsk e → told_event e ≡ e ∷ []
-ask-told (Put role piece) is = absurd is
+ask-told : (e : Event) → (is_ask e ≡ true) → told_event e ≡ e ∷ []
+ask-told (Put purpose piece) is = cc
 ask-told (Asked b) is = refl
 ask-told AskedEnd is = refl
-ask-told (Recorded line placed) is = absurd is
-ask-told Stepped is = absurd is
+ask-told (Recorded line placed) is = cc
+ask-told Stepped is = cc
 
 -- which device of the other broke
 abbrev pub swapped_broken : Broken → Broken
@@ -248,7 +247,7 @@ module _ {S M : Type 0} (rules : Rules S M) (options : Options) (s : S) where
 -- ---- what is put out can be read
 
 short_put : Event → Bool
-short_put (Put role piece) = leb (length piece) (most_line_bytes + 1)
+short_put (Put purpose piece) = leb (length piece) (LINE_BYTES + 1)
 short_put (Asked b) = true
 short_put AskedEnd = true
 short_put (Recorded line placed) = true
@@ -257,19 +256,19 @@ short_put Stepped = true
 readable-told : (es : List Event) → list_all is_readable es ≡ list_all short_put (told_events es)
 unfolding short_put
 readable-told [] = refl
-readable-told (Put role piece ∷ es) = readable-told es
+readable-told (Put purpose piece ∷ es) = readable-told es
 readable-told (Asked b ∷ es) = readable-told es
 readable-told (AskedEnd ∷ es) = readable-told es
-readable-told (Recorded line placed ∷ es) = ap (λ t. leb (length line) (most_line_bytes + 1) && t) (readable-told es)
+readable-told (Recorded line placed ∷ es) = ap (λ t. leb (length line) (LINE_BYTES + 1) && t) (readable-told es)
 readable-told (Stepped ∷ es) = readable-told es
 
 fits-converted : (es : List Event) → list_all fits_line es ≡ list_all short_put (converted_events es)
 unfolding short_put
 fits-converted [] = refl
-fits-converted (Put role piece ∷ es) = fits-converted es
+fits-converted (Put purpose piece ∷ es) = fits-converted es
 fits-converted (Asked b ∷ es) = fits-converted es
 fits-converted (AskedEnd ∷ es) = fits-converted es
-fits-converted (Recorded line placed ∷ es) = ap (λ t. leb (length placed) (most_line_bytes + 1) && t) (fits-converted es)
+fits-converted (Recorded line placed ∷ es) = ap (λ t. leb (length placed) (LINE_BYTES + 1) && t) (fits-converted es)
 fits-converted (Stepped ∷ es) = fits-converted es
 
 module _ {S M : Type 0} (rules : Rules S M) (options : Options) (s : S) where
@@ -289,7 +288,7 @@ module _ {S M : Type 0} (rules : Rules S M) (options : Options) (s : S) where
 
 -- ---- the first line and the rest
 
-header_short : length header_line ≤ most_line_bytes + 1
+header_short : length header_line ≤ LINE_BYTES + 1
 header_short = omega arith
 
 module _ {S M : Type 0} (rules : Rules S M) (options : Options) (s : S) where

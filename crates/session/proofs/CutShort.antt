@@ -9,10 +9,11 @@ use Rattle.promela_session.specs.declared.ends.Cause.TheVariants as cause
 use Rattle.promela_session.specs.declared.choice.Answer.{Answer}
 use Rattle.promela_session.specs.declared.choice.Answer.TheVariants as answer
 use Rattle.promela_session.specs.Events.{Event, Put, Told, AskedEnd, Recorded, Stepped, asks, front, recorded, Part, preceded, followed, record_line, placed_line, list_from, prompt}
-use Rattle.promela_session.specs.Lines.{most_line_bytes, most_bad_lines, is_header}
+use Rattle.profile.specs.declared.TheConstants.{LINE_BYTES, BAD_LINES}
+use Rattle.promela_session.specs.Lines.{is_header}
 use Rattle.session.specs.Answers.{IsPickUpTo}
 use Rattle.promela_session.specs.Session.{Rules, Outcome, Goes, Faults, one_line, next_line, one_reply, ask, only, kept, choose, place_of, select, stopped, finished, stepped, answered, story, transcript, refused, end_of, step_text}
-use Rattle.promela_session.specs.Replay.{is_cut_short, IsSameBeginning, CanBeReplayed}
+use Rattle.promela_session.specs.Devices.{is_cut_short, IsSameBeginning, CanBeReplayed}
 use Rattle.session.proofs.LineReading.{line_end}
 use Rattle.session.proofs.Parts.{front-append, recorded-append, front-asks, recorded-asks}
 use Rattle.session.proofs.Written.{IsShort, ask_short}
@@ -61,11 +62,11 @@ module _ {S M : Type 0} (rules : Rules S M) (options : Options) (s : S) where
 -- a question that is asked at the end of the choices
 ended_line : (version : Version) (most : ℕ) (place : ℕ → ℕ × ℕ) → one_line version most place [] ≡ record { events = AskedEnd ∷ []; value = Some answer.Ended; stream = Over; left = [] }
 unfolding one_line
-ended_line version most place = rw (line_end most_line_bytes) refl
+ended_line version most place = rw (line_end LINE_BYTES) refl
 
 pub ended_reply : (most : ℕ) (place : ℕ → ℕ × ℕ) (stream : Stream) → (stream ≡ Over → ⊥) → one_reply most place stream [] ≡ record { events = AskedEnd ∷ []; value = Some answer.Ended; stream = Over; left = [] }
 unfolding one_reply next_line is_header
-ended_reply most place Unread unended = rw (line_end most_line_bytes) (ended_line First most place)
+ended_reply most place Unread unended = rw (line_end LINE_BYTES) (ended_line First most place)
 ended_reply most place (Known version) unended = ended_line version most place
 ended_reply most place Over unended = absurd (unended refl)
 
@@ -92,7 +93,7 @@ module _ {M : Type 0} (text : M → List ℕ) (place : ℕ → ℕ × ℕ) (move
       let c = stops.count said other stream left in
       let e = stops.ended Over [] in
       let none : recorded (chosen text place moves next asked said stream left).events ≡ [] = rw is (rw (append-nil asked) (rw (recorded-append asked (next said stream left).events, silent.0) c.1)) in
-      rw none (rw (ended_ask (length moves) place (most_bad_lines - 1) first (plain_open first plain)) (record { ends = e.0 ∙ ap (end_of cause.ChoicesEnded) (sym (rw is c.0)); keeps = e.1 ∙ sym none; reads = e.2 ∙ sym none }))
+      rw none (rw (ended_ask (length moves) place (BAD_LINES - 1) first (plain_open first plain)) (record { ends = e.0 ∙ ap (end_of cause.ChoicesEnded) (sym (rw is c.0)); keeps = e.1 ∙ sym none; reads = e.2 ∙ sym none }))
 
   chosen_begins : ((k : ℕ) → 0 < k → k ≤ length moves → BeginsAgain (next (answer.Pick k))) → (asked : List Event) (said : Answer) (stream : Stream) (left : List ℕ) → Silent asked → IsPickUpTo (length moves) said → IsShort said
       → is_cut_short (chosen text place moves next asked said stream left).value.cause ≡ true → (first : Stream) → IsPlain first
@@ -138,10 +139,10 @@ module _ {S M : Type 0} (rules : Rules S M) (options : Options) where
   select_begins s (m ∷ []) some first steps later ih stream choices cut = answered_begins rules options s (m ∷ []) first steps later ih 1 (omega arith) (omega arith) stream choices cut
   select_begins s (m ∷ k ∷ ms) some first steps later ih stream choices cut =
       let place = place_of rules s (m ∷ k ∷ ms) in
-      let asked = ask (length (m ∷ k ∷ ms)) place (most_bad_lines - 1) stream choices in
+      let asked = ask (length (m ∷ k ∷ ms)) place (BAD_LINES - 1) stream choices in
       chosen_begins (rules.text s) place (m ∷ k ∷ ms) (answered rules options s (m ∷ k ∷ ms) first steps later) steps (answered_stops s (m ∷ k ∷ ms) first steps later)
-      (answered_begins rules options s (m ∷ k ∷ ms) first steps later ih) asked.events asked.value asked.stream asked.left (ask_silent (length (m ∷ k ∷ ms)) place (most_bad_lines - 1) stream choices) (ask_range (length (m ∷ k ∷ ms)) place (most_bad_lines - 1) stream choices)
-      (ask_short (length (m ∷ k ∷ ms)) place (most_bad_lines - 1) stream choices) cut
+      (answered_begins rules options s (m ∷ k ∷ ms) first steps later ih) asked.events asked.value asked.stream asked.left (ask_silent (length (m ∷ k ∷ ms)) place (BAD_LINES - 1) stream choices) (ask_range (length (m ∷ k ∷ ms)) place (BAD_LINES - 1) stream choices)
+      (ask_short (length (m ∷ k ∷ ms)) place (BAD_LINES - 1) stream choices) cut
 
   finished_whole : (s : S) (steps : ℕ) (valid : Bool) → BeginsAgain (finished valid (rules.stuck s) steps)
   finished_whole s steps true stream choices cut first plain = absurd (true≢false (sym cut))

@@ -9,8 +9,8 @@ use Rattle.devices.specs.Holdings.{Holdings, Moved}
 use Rattle.devices.specs.Doing.{WritesPart, RecordsPart}
 use Rattle.promela_session.specs.declared.ends.Broken.{Broken}
 use Rattle.promela_session.specs.declared.ends.Broken.TheVariants as broken
-use Rattle.promela_session.specs.Events.{Event, Role, Put, Recorded, asks, output, front, recorded, steps_in, output_of, bytes_of, record_of, step_of, Part, preceded, followed}
-use Rattle.promela_session.specs.Lines.{most_line_bytes}
+use Rattle.promela_session.specs.Events.{Event, Purpose, Put, Recorded, asks, output, front, recorded, steps_in, output_of, bytes_of, record_of, step_of, Part, preceded, followed}
+use Rattle.profile.specs.declared.TheConstants.{LINE_BYTES}
 use Rattle.promela_session.specs.Devices.{is_readable, AreReadable, MovedBy, Begins, Does, Breaks}
 use Rattle.session.specs.Writes.{Leads}
 use Rattle.promela_session.specs.Session.{only}
@@ -71,14 +71,14 @@ MovedBy-asks {n = n} bytes ended moved = record {
   readable = readable-asks bytes ended;
 }
 
-pub MovedBy-put : {a b : Holdings} {n : ℕ} (role : Role) (piece : List ℕ) → Moved a b [] piece [] → MovedBy a b n n (Put role piece ∷ [])
-MovedBy-put {n = n} role piece took = record { moved = Moved-piece piece took; count = sym (add-zero n); readable = refl }
+pub MovedBy-put : {a b : Holdings} {n : ℕ} (purpose : Purpose) (piece : List ℕ) → Moved a b [] piece [] → MovedBy a b n n (Put purpose piece ∷ [])
+MovedBy-put {n = n} purpose piece took = record { moved = Moved-piece piece took; count = sym (add-zero n); readable = refl }
 
 abbrev pub IsReadable : List ℕ → Type 0
-IsReadable line = length line ≤ most_line_bytes + 1
+IsReadable line = length line ≤ LINE_BYTES + 1
 
-is_line : (line : List ℕ) → IsReadable line → nat_le (length line) (most_line_bytes + 1) ≡ true
-is_line line short = le-leb (length line) (most_line_bytes + 1) short
+is_line : (line : List ℕ) → IsReadable line → nat_le (length line) (LINE_BYTES + 1) ≡ true
+is_line line short = le-leb (length line) (LINE_BYTES + 1) short
 
 pub MovedBy-recorded : {a b : Holdings} {n : ℕ} (line placed : List ℕ) → IsReadable line → Moved a b [] [] line → MovedBy a b n n (Recorded line placed ∷ [])
 MovedBy-recorded {n = n} line placed short took = record { moved = Moved-line line took; count = sym (add-zero n); readable = rw (is_line line short) refl }
@@ -144,14 +144,14 @@ module _ {T : Type 0} where
   -- ---- the parts of which the others are made
 
   module _ {a b : Holdings} {n : ℕ} where
-    pub puts : {role : Role} (piece : List ℕ) (rest : List ℕ → Part T) → Moved a b [] piece [] → Leads a b n n (λ left. preceded (Put role piece ∷ []) (rest left)) rest
-    puts {role = role} piece rest took = record { done = Put role piece ∷ []; moved = MovedBy-put role piece took; is = λ left now. refl }
+    pub puts : {purpose : Purpose} (piece : List ℕ) (rest : List ℕ → Part T) → Moved a b [] piece [] → Leads a b n n (λ left. preceded (Put purpose piece ∷ []) (rest left)) rest
+    puts {purpose = purpose} piece rest took = record { done = Put purpose piece ∷ []; moved = MovedBy-put purpose piece took; is = λ left now. refl }
 
-    pub put_breaks : {role : Role} (piece : List ℕ) (rest : List ℕ → Part T) → WritesPart a b piece → Breaks broken.Out a b n n (λ left. preceded (Put role piece ∷ []) (rest left))
-    put_breaks {role = role} piece rest took = record {
-      done = Put role (take took.0 piece) ∷ [];
-      moved = MovedBy-put role (take took.0 piece) took.2;
-      begins = λ left now. ([], role, piece, took.0, (rest left).events, took.1, refl, refl);
+    pub put_breaks : {purpose : Purpose} (piece : List ℕ) (rest : List ℕ → Part T) → WritesPart a b piece → Breaks broken.Out a b n n (λ left. preceded (Put purpose piece ∷ []) (rest left))
+    put_breaks {purpose = purpose} piece rest took = record {
+      done = Put purpose (take took.0 piece) ∷ [];
+      moved = MovedBy-put purpose (take took.0 piece) took.2;
+      begins = λ left now. ([], purpose, piece, took.0, (rest left).events, took.1, refl, refl);
     }
 
     pub records : (line placed : List ℕ) (rest : List ℕ → Part T) → IsReadable line → Moved a b [] [] line → Leads a b n n (λ left. preceded (Recorded line placed ∷ []) (rest left)) rest

@@ -10,7 +10,8 @@ use Rattle.promela_session.specs.declared.choice.Answer.TheVariants as answer
 use Rattle.promela_session.specs.declared.form.Stream.TheVariants.{Unread, Known}
 use Rattle.promela_session.specs.declared.form.Version.TheVariants.{Second}
 use Rattle.promela_session.specs.Events.{asks, preceded, all_digits, placed_line, header, header_line}
-use Rattle.promela_session.specs.Lines.{most_line_bytes, line_within, lengthened, is_blank, is_digit, is_gap, front_trimmed, end_trimmed, trimmed, is_quit, is_header, first_word, behind_word, gap_trimmed, number_up_to, writes, placed_answer, placed_reply}
+use Rattle.profile.specs.declared.TheConstants.{LINE_BYTES}
+use Rattle.promela_session.specs.Lines.{line_within, lengthened, is_blank, is_digit, is_gap, end_trimmed, trimmed, is_quit, is_header, first_word, behind_word, number_up_to, writes, placed_answer, placed_reply, without_front}
 use Rattle.promela_session.specs.Session.{one_line, next_line, one_reply, ask}
 use Rattle.session.proofs.LineReading.{line_feed, line_byte}
 use Rattle.session.proofs.Written.{all_are_digits, number_is, by_digits}
@@ -42,13 +43,13 @@ word_of (d ∷ ds) rest digits =
     let d2 = both (is_digit d) (list_all is_digit ds) digits in
     rw (digit_not_gap d d2.0) (ap (λ l. d ∷ l) (word_of ds rest d2.1))
 
-behind_of : (ds rest : List ℕ) → AreDigits ds → behind_word (ds ++ 32 ∷ rest) ≡ gap_trimmed rest
+behind_of : (ds rest : List ℕ) → AreDigits ds → behind_word (ds ++ 32 ∷ rest) ≡ without_front is_gap rest
 behind_of [] rest digits = refl
 behind_of (d ∷ ds) rest digits =
     let d2 = both (is_digit d) (list_all is_digit ds) digits in
     rw (digit_not_gap d d2.0) (behind_of ds rest d2.1)
 
-no_gap : (ds rest : List ℕ) → AreDigits ds → 0 < length ds → gap_trimmed (ds ++ rest) ≡ ds ++ rest
+no_gap : (ds rest : List ℕ) → AreDigits ds → 0 < length ds → without_front is_gap (ds ++ rest) ≡ ds ++ rest
 no_gap [] rest digits some = absurd (omega arith)
 no_gap (d ∷ ds) rest digits some = rw (digit_not_gap d (both (is_digit d) (list_all is_digit ds) digits).0) refl
 
@@ -57,7 +58,7 @@ not_quit [] rest some = absurd (omega arith)
 not_quit (d ∷ []) rest some = refl
 not_quit (d ∷ e ∷ ds) rest some = refl
 
-front_kept : (ds rest : List ℕ) → AreDigits ds → 0 < length ds → front_trimmed (ds ++ rest) ≡ ds ++ rest
+front_kept : (ds rest : List ℕ) → AreDigits ds → 0 < length ds → without_front is_blank (ds ++ rest) ≡ ds ++ rest
 front_kept [] rest digits some = absurd (omega arith)
 front_kept (d ∷ ds) rest digits some = rw (digit_not_blank d (both (is_digit d) (list_all is_digit ds) digits).0) refl
 
@@ -108,7 +109,7 @@ placed_said most place n some within =
     let first = word_of (all_digits n) (p ++ 32 ∷ l) (all_are_digits n) in
     let behind : behind_word (spaced n (place n)) ≡ p ++ 32 ∷ l = behind_of (all_digits n) (p ++ 32 ∷ l) (all_are_digits n) ∙ no_gap p (32 ∷ l) (all_are_digits (place n).0) (digits_some (place n).0) in
     let second_is : first_word (p ++ 32 ∷ l) ≡ p = word_of p l (all_are_digits (place n).0) in
-    let third : behind_word (p ++ 32 ∷ l) ≡ l = behind_of p l (all_are_digits (place n).0) ∙ (ap gap_trimmed (sym (append-nil l)) ∙ (no_gap l [] (all_are_digits (place n).1) (digits_some (place n).1) ∙ append-nil l)) in
+    let third : behind_word (p ++ 32 ∷ l) ≡ l = behind_of p l (all_are_digits (place n).0) ∙ (ap (without_front is_gap) (sym (append-nil l)) ∙ (no_gap l [] (all_are_digits (place n).1) (digits_some (place n).1) ∙ append-nil l)) in
     rw (trimmed_spaced n (place n), not_quit (all_digits n) (p ++ 32 ∷ l) (digits_some n), first, behind, second_is, third, number_said n most some within) (rw (writes_itself (place n).0, writes_itself (place n).1) refl)
 
 -- ---- reading lines without a line feed
@@ -147,12 +148,12 @@ spaced_no_feed n place =
 placed_is : (n : ℕ) (place : ℕ × ℕ) → placed_line n place ≡ spaced n place ++ 10 ∷ []
 placed_is n place = rw append_assoc (ap (λ l. all_digits n ++ 32 ∷ l) (rw append_assoc refl))
 
-module _ (most : ℕ) (place : ℕ → ℕ × ℕ) (n : ℕ) (more : List ℕ) (some : 0 < n) (within : n ≤ most) (fits : length (placed_line n (place n)) ≤ most_line_bytes + 1) where
-  the_line : line_within (most_line_bytes + 1) (placed_line n (place n) ++ more) ≡ record { ends = Whole; bytes = spaced n (place n); left = more }
+module _ (most : ℕ) (place : ℕ → ℕ × ℕ) (n : ℕ) (more : List ℕ) (some : 0 < n) (within : n ≤ most) (fits : length (placed_line n (place n)) ≤ LINE_BYTES + 1) where
+  the_line : line_within (LINE_BYTES + 1) (placed_line n (place n) ++ more) ≡ record { ends = Whole; bytes = spaced n (place n); left = more }
   the_line =
       let e = ap length (placed_is n (place n)) in
       let f = length-append (spaced n (place n)) (10 ∷ []) in
-      ap (λ l. line_within (most_line_bytes + 1) (l ++ more)) (placed_is n (place n)) ∙ line_of (spaced n (place n)) more (most_line_bytes + 1) (omega arith) (spaced_no_feed n (place n))
+      ap (λ l. line_within (LINE_BYTES + 1) (l ++ more)) (placed_is n (place n)) ∙ line_of (spaced n (place n)) more (LINE_BYTES + 1) (omega arith) (spaced_no_feed n (place n))
 
   placed_one_line : one_line Second most place (placed_line n (place n) ++ more) ≡ record { events = asks (placed_line n (place n)) false; value = Some (answer.Pick n); stream = Known Second; left = more }
   unfolding one_line
@@ -163,8 +164,8 @@ module _ (most : ℕ) (place : ℕ → ℕ × ℕ) (n : ℕ) (more : List ℕ) (
   placed_asked zero = rw placed_one_line (rw append-nil refl)
   placed_asked (suc tries) = rw placed_one_line (rw append-nil refl)
 
-header_read : (rest : List ℕ) → line_within (most_line_bytes + 1) (header_line ++ rest) ≡ record { ends = Whole; bytes = header; left = rest }
-header_read rest = line_of header rest (most_line_bytes + 1) (omega arith) refl
+header_read : (rest : List ℕ) → line_within (LINE_BYTES + 1) (header_line ++ rest) ≡ record { ends = Whole; bytes = header; left = rest }
+header_read rest = line_of header rest (LINE_BYTES + 1) (omega arith) refl
 
 module _ (most : ℕ) (place : ℕ → ℕ × ℕ) (rest : List ℕ) where
   header_reply : one_reply most place Unread (header_line ++ rest) ≡ preceded (asks header_line false) (one_reply most place (Known Second) rest)

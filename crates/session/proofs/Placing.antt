@@ -5,7 +5,7 @@ use Rattle.std.proofs.lemmas.Grind.{flat_map-append}
 use Rattle.std.proofs.lemmas.List.Elements.{filter-append}
 use Rattle.std.proofs.lemmas.List.Folds.{list_all-append, list_any-append}
 use Rattle.std.specs.List.{list_all, list_any}
-use Rattle.std.specs.Prelude.{filter, if◌then◌else◌}
+use Rattle.std.specs.Prelude.{filter, not, if◌then◌else◌}
 use Rattle.diagnostics.specs.declared.refusal.Refusal.{Refusal}
 use Rattle.promela_session.specs.declared.ends.Options.{Options}
 use Rattle.promela_session.specs.declared.ends.End.{End}
@@ -16,10 +16,11 @@ use Rattle.promela_session.specs.declared.form.Stream.{Stream}
 use Rattle.promela_session.specs.declared.form.Stream.TheVariants.{Unread, Known, Over}
 use Rattle.promela_session.specs.declared.form.Version.{Version}
 use Rattle.promela_session.specs.declared.form.Version.TheVariants.{First, Second}
-use Rattle.promela_session.specs.Replay.{converted_event, converted_events, placed_lines, second, is_no_ask, is_ask, IsSameReading, StandsForRecord}
+use Rattle.promela_session.specs.Devices.{converted_event, converted_events, placed_lines, second, IsSameReading, StandsForRecord}
 use Rattle.session.specs.Converting.{fits_line, CanBeConverted}
-use Rattle.promela_session.specs.Events.{Event, Put, Told, Asked, AskedEnd, Recorded, Stepped, IsAsk, asks, output, front, recorded, Part, preceded, followed, record_line, placed_line, header_line, list_from, prompt}
-use Rattle.promela_session.specs.Lines.{most_line_bytes, most_bad_lines, line_within, read_of, saw_end}
+use Rattle.promela_session.specs.Events.{Event, Put, Told, Asked, AskedEnd, Recorded, Stepped, asks, output, front, recorded, Part, preceded, followed, record_line, placed_line, header_line, list_from, prompt, is_ask}
+use Rattle.profile.specs.declared.TheConstants.{LINE_BYTES, BAD_LINES}
+use Rattle.promela_session.specs.Lines.{line_within, read_of, saw_end}
 use Rattle.session.specs.Answers.{IsPickUpTo}
 use Rattle.promela_session.specs.Session.{Rules, Outcome, Goes, Faults, one_line, next_line, one_reply, begins_second, stream_behind, ask, only, kept, choose, place_of, select, stopped, finished, stepped, answered, story, transcript, step_text, refused}
 use Rattle.session.specs.Reads.{line_asks}
@@ -40,6 +41,10 @@ both false b holds = absurd (true≢false (sym holds))
 
 placed-append : (xs ys : List Event) → placed_lines (xs ++ ys) ≡ placed_lines xs ++ placed_lines ys
 placed-append xs ys = ap output (flat_map-append converted_event xs ys) ∙ output-append (converted_events xs) (converted_events ys)
+
+-- an event that asks for nothing
+abbrev is_no_ask : Event → Bool
+is_no_ask e = not (is_ask e)
 
 no_ask-asks : (bytes : List ℕ) (ended : Bool) → filter is_no_ask (asks bytes ended) ≡ []
 no_ask-asks [] true = refl
@@ -73,19 +78,19 @@ IsOpen stream = stream ≡ Over → ⊥
 any_first : (events : List Event) → AsksFirst events → list_any is_ask events ≡ true
 any_first events first = rw first.3 (by first.0 first.2)
   where
-    by : (e : Event) → IsAsk e → (is_ask e || list_any is_ask first.1) ≡ true
-    by (Put role piece) is = absurd is
+    by : (e : Event) → (is_ask e ≡ true) → (is_ask e || list_any is_ask first.1) ≡ true
+    by (Put purpose piece) is = cc
     by (Asked b) is = refl
     by AskedEnd is = refl
-    by (Recorded line placed) is = absurd is
-    by Stepped is = absurd is
+    by (Recorded line placed) is = cc
+    by Stepped is = cc
 
 any_front : (xs ys : List Event) → list_any is_ask xs ≡ true → list_any is_ask (xs ++ ys) ≡ true
 any_front xs ys some = rw (list_any-append is_ask xs ys, some) refl
 
 line_any : (version : Version) (most : ℕ) (place : ℕ → ℕ × ℕ) (rest : List ℕ) → list_any is_ask (one_line version most place rest).events ≡ true
 unfolding one_line
-line_any version most place rest = any_first (line_asks (line_within (most_line_bytes + 1) rest)) (asks_first most_line_bytes rest)
+line_any version most place rest = any_first (line_asks (line_within (LINE_BYTES + 1) rest)) (asks_first LINE_BYTES rest)
 
 next_any : (most : ℕ) (place : ℕ → ℕ × ℕ) (stream : Stream) (rest : List ℕ) → IsOpen stream → list_any is_ask (next_line most place stream rest).events ≡ true
 unfolding next_line
@@ -95,11 +100,11 @@ next_any most place Over rest unended = absurd (unended refl)
 
 one_any : (most : ℕ) (place : ℕ → ℕ × ℕ) (stream : Stream) (rest : List ℕ) → IsOpen stream → list_any is_ask (one_reply most place stream rest).events ≡ true
 unfolding one_reply
-one_any most place Unread rest unended = by (begins_second (line_within (most_line_bytes + 1) rest).ends (line_within (most_line_bytes + 1) rest).bytes)
+one_any most place Unread rest unended = by (begins_second (line_within (LINE_BYTES + 1) rest).ends (line_within (LINE_BYTES + 1) rest).bytes)
   where
-    by : (t : Bool) → let line = line_within (most_line_bytes + 1) rest in
+    by : (t : Bool) → let line = line_within (LINE_BYTES + 1) rest in
         list_any is_ask (if t then preceded (asks (read_of line.ends line.bytes) (saw_end line.ends)) (next_line most place (stream_behind Second line.ends) line.left) else next_line most place Unread rest).events ≡ true
-    by true = any_front (line_asks (line_within (most_line_bytes + 1) rest)) _ (any_first (line_asks (line_within (most_line_bytes + 1) rest)) (asks_first most_line_bytes rest))
+    by true = any_front (line_asks (line_within (LINE_BYTES + 1) rest)) _ (any_first (line_asks (line_within (LINE_BYTES + 1) rest)) (asks_first LINE_BYTES rest))
     by false = next_any most place Unread rest unended
 one_any most place (Known version) rest unended = next_any most place (Known version) rest unended
 one_any most place Over rest unended = absurd (unended refl)
@@ -180,12 +185,12 @@ module _ {M : Type 0} (text : M → List ℕ) (place : ℕ → ℕ × ℕ) (move
 
   -- what follows the pieces
   abbrev behind : List ℕ → Part End
-  behind rest = followed (followed (ask (length moves) place (most_bad_lines - 1) (Known Second) rest) (kept First place)) next
+  behind rest = followed (followed (ask (length moves) place (BAD_LINES - 1) (Known Second) rest) (kept First place)) next
 
   header_asking : (rest : List ℕ) → asking Unread (header_line ++ rest) ≡ preceded pieces (preceded (asks header_line false) (behind rest))
   header_asking rest =
-      let asked = ask (length moves) place (most_bad_lines - 1) (Known Second) rest in
-      ap (λ p. preceded pieces (followed (followed p (kept First place)) next)) (header_asked (length moves) place rest (most_bad_lines - 1))
+      let asked = ask (length moves) place (BAD_LINES - 1) (Known Second) rest in
+      ap (λ p. preceded pieces (followed (followed p (kept First place)) next)) (header_asked (length moves) place rest (BAD_LINES - 1))
       ∙ (ap (λ p. preceded pieces (followed p next)) (followed_preceded (asks header_line false) asked (kept First place))
       ∙ ap (preceded pieces) (followed_preceded (asks header_line false) (followed asked (kept First place)) next))
 
@@ -205,19 +210,19 @@ module _ {M : Type 0} (text : M → List ℕ) (place : ℕ → ℕ × ℕ) (move
       rw (placed-append (asked ++ line) rest, placed-append asked line, silent_placed asked silent) (ap (λ l. l ++ placed_lines rest) (append-nil (placed_line n (place n))))
 
   fit_chosen : (asked : List Event) (n : ℕ) (stream : Stream) (left : List ℕ) → AreFit (chosen text place moves next asked (answer.Pick n) stream left).events
-      → (length (placed_line n (place n)) ≤ most_line_bytes + 1) × AreFit (next (answer.Pick n) stream left).events
+      → (length (placed_line n (place n)) ≤ LINE_BYTES + 1) × AreFit (next (answer.Pick n) stream left).events
   fit_chosen asked n stream left fit =
       let rest = (next (answer.Pick n) stream left).events in
       let line = Recorded (record_line n) (placed_line n (place n)) ∷ [] in
       let all : AreFit ((asked ++ line) ++ rest) = fit in
       let some : AreFit (line ++ rest) = fit_behind asked (line ++ rest) (ap (list_all fits_line) (sym (append_assoc asked line rest)) ∙ all) in
-      let one = both (leb (length (placed_line n (place n))) (most_line_bytes + 1)) (list_all fits_line rest) some in
-      (leb-true (length (placed_line n (place n))) (most_line_bytes + 1) one.0, one.1)
+      let one = both (leb (length (placed_line n (place n))) (LINE_BYTES + 1)) (list_all fits_line rest) some in
+      (leb-true (length (placed_line n (place n))) (LINE_BYTES + 1) one.0, one.1)
 
   -- a picked move, on its line with its place
-  placed_again : (n : ℕ) (more : List ℕ) → 0 < n → n ≤ length moves → length (placed_line n (place n)) ≤ most_line_bytes + 1
+  placed_again : (n : ℕ) (more : List ℕ) → 0 < n → n ≤ length moves → length (placed_line n (place n)) ≤ LINE_BYTES + 1
       → asking (Known Second) (placed_line n (place n) ++ more) ≡ preceded (pieces ++ (asks (placed_line n (place n)) false ++ Recorded (record_line n) (placed_line n (place n)) ∷ [])) (next (answer.Pick n) (Known Second) more)
-  placed_again n more some within fits = rw (placed_asked (length moves) place n more some within fits (most_bad_lines - 1)) refl
+  placed_again n more some within fits = rw (placed_asked (length moves) place n more some within fits (BAD_LINES - 1)) refl
 
   -- no number was picked
   unpicked : (asked : List Event) (said : Answer) (stream : Stream) (left : List ℕ) → Silent asked → ((k : ℕ) → said ≡ answer.Pick k → ⊥) → (kept First place said stream left ≡ only said stream left)
@@ -227,7 +232,7 @@ module _ {M : Type 0} (text : M → List ℕ) (place : ℕ → ℕ × ℕ) (move
       let rest = (next said stream left).events in
       let no_line : recorded (chosen text place moves next asked said stream left).events ≡ [] = rw is (rw (append-nil asked) (rw (recorded-append asked rest, silent.0) none.0)) in
       let no_place : placed_lines (chosen text place moves next asked said stream left).events ≡ [] = rw is (rw (append-nil asked) (rw (placed-append asked rest, silent_placed asked silent) none.1)) in
-      rw (no_line, no_place) (rw (ended_ask (length moves) place (most_bad_lines - 1) first (plain_open first plain), ended_ask (length moves) place (most_bad_lines - 1) (Known Second) (λ e. cc)) (record {
+      rw (no_line, no_place) (rw (ended_ask (length moves) place (BAD_LINES - 1) first (plain_open first plain), ended_ask (length moves) place (BAD_LINES - 1) (Known Second) (λ e. cc)) (record {
         ends = refl;
         does = refl;
         reads = stops.ended Over [];
@@ -292,10 +297,10 @@ module _ {S M : Type 0} (rules : Rules S M) (options : Options) where
   select_placed s (m ∷ []) some start steps later ih stream choices fit first plain = answered_placed rules options s (m ∷ []) start steps later ih 1 stream choices fit first plain
   select_placed s (m ∷ k ∷ ms) some start steps later ih stream choices fit first plain =
       let place = place_of rules s (m ∷ k ∷ ms) in
-      let asked = ask (length (m ∷ k ∷ ms)) place (most_bad_lines - 1) stream choices in
+      let asked = ask (length (m ∷ k ∷ ms)) place (BAD_LINES - 1) stream choices in
       chosen_placed (rules.text s) place (m ∷ k ∷ ms) (answered rules options s (m ∷ k ∷ ms) start steps later) (answered_stops s (m ∷ k ∷ ms) start steps later)
-      (answered_placed rules options s (m ∷ k ∷ ms) start steps later ih) asked.events asked.value asked.stream asked.left (ask_silent (length (m ∷ k ∷ ms)) place (most_bad_lines - 1) stream choices)
-      (ask_range (length (m ∷ k ∷ ms)) place (most_bad_lines - 1) stream choices) (ask_short (length (m ∷ k ∷ ms)) place (most_bad_lines - 1) stream choices) fit first plain
+      (answered_placed rules options s (m ∷ k ∷ ms) start steps later ih) asked.events asked.value asked.stream asked.left (ask_silent (length (m ∷ k ∷ ms)) place (BAD_LINES - 1) stream choices)
+      (ask_range (length (m ∷ k ∷ ms)) place (BAD_LINES - 1) stream choices) (ask_short (length (m ∷ k ∷ ms)) place (BAD_LINES - 1) stream choices) fit first plain
 
   select_headed : (s : S) (moves : List M) → 0 < length moves → (start : M) (steps : ℕ) (later : S → Stream → List ℕ → Part End) → ((t : S) → IsPlaced (later t)) → ((t : S) → IsHeaded (later t)) → IsHeaded (selected s moves start steps later)
   unfolding select
@@ -305,9 +310,9 @@ module _ {S M : Type 0} (rules : Rules S M) (options : Options) where
       let moves = m ∷ k ∷ ms in
       let place = place_of rules s moves in
       let next = answered rules options s moves start steps later in
-      let asked = ask (length moves) place (most_bad_lines - 1) stream choices in
+      let asked = ask (length moves) place (BAD_LINES - 1) stream choices in
       let run = chosen (rules.text s) place moves next asked.events asked.value asked.stream asked.left in
-      let any : list_any is_ask run.events ≡ true = chosen_any (rules.text s) place moves next (answered_stops s moves start steps later) asked.events asked.value asked.stream asked.left (ask_any (length moves) place (most_bad_lines - 1) stream choices unended) in
+      let any : list_any is_ask run.events ≡ true = chosen_any (rules.text s) place moves next (answered_stops s moves start steps later) asked.events asked.value asked.stream asked.left (ask_any (length moves) place (BAD_LINES - 1) stream choices unended) in
       let is : headed run.events ≡ second run.events = rw any refl in
       subst (IsSameReading (asking (rules.text s) place moves next (answered_stops s moves start steps later) first (recorded run.events)) (asking (rules.text s) place moves next (answered_stops s moves start steps later) Unread (second run.events))) (sym is)
       (add_header (rules.text s) place moves next (answered_stops s moves start steps later) (asking (rules.text s) place moves next (answered_stops s moves start steps later) first (recorded run.events)) (placed_lines run.events) (placed_lines run.events)

@@ -9,9 +9,10 @@ use Rattle.promela_session.specs.Events.{asks, record_line, all_digits, header}
 use Rattle.promela_session.specs.declared.form.Stream.{Stream}
 use Rattle.promela_session.specs.declared.form.Stream.TheVariants.{Unread, Known, Over}
 use Rattle.promela_session.specs.declared.form.Version.TheVariants.{First}
-use Rattle.promela_session.specs.Lines.{most_line_bytes, line_within, lengthened, is_blank, is_digit, front_trimmed, end_trimmed, trimmed, number_up_to, is_quit, is_header, picked, reply_of}
+use Rattle.profile.specs.declared.TheConstants.{LINE_BYTES}
+use Rattle.promela_session.specs.Lines.{line_within, lengthened, is_blank, is_digit, end_trimmed, trimmed, number_up_to, is_quit, is_header, reply_of, without_front}
 use Rattle.promela_session.specs.Session.{one_line, next_line, one_reply, ask}
-use Rattle.std.specs.Prelude.{⊤}
+use Rattle.std.specs.Prelude.{⊤, option_map}
 use Rattle.std.specs.Str.{bytes_eq}
 use Rattle.session.proofs.LineReading.{line_feed, line_byte}
 use Rattle.session.proofs.Written.{all_are_digits, number_is}
@@ -37,7 +38,7 @@ digit_not_c b digit = grind (arith, nat_tests)
 digit_not_quit : (b : ℕ) → is_digit b ≡ true → eqb b 113 ≡ false
 digit_not_quit b digit = grind (arith, nat_tests)
 
-front_of_digits : (word : List ℕ) → AreDigits word → front_trimmed word ≡ word
+front_of_digits : (word : List ℕ) → AreDigits word → without_front is_blank word ≡ word
 front_of_digits [] digits = refl
 front_of_digits (b ∷ bs) digits = rw (digit_not_blank b (both (is_digit b) (list_all is_digit bs) digits).0) refl
 
@@ -65,7 +66,7 @@ line_of_digits (b ∷ bs) more (suc room) fits digits =
 
 -- ---- the digits of a number
 
-said_in : (n most : ℕ) → 0 < n → n ≤ most → (d : Bool) (v : ℕ) → d ≡ true → v ≡ n → picked (cond (d && (ltb 0 v && leb v most)) (Some v) None) ≡ Some (answer.Pick n)
+said_in : (n most : ℕ) → 0 < n → n ≤ most → (d : Bool) (v : ℕ) → d ≡ true → v ≡ n → option_map answer.Pick (cond (d && (ltb 0 v && leb v most)) (Some v) None) ≡ Some (answer.Pick n)
 said_in n most some within d v digits is = let a : ltb 0 n ≡ true = grind (arith, nat_tests) in let b : leb n most ≡ true = grind (arith, nat_tests) in rw (digits, is, a, b) refl
 
 record_said : (most n : ℕ) → 0 < n → n ≤ most → reply_of most (all_digits n) ≡ Some (answer.Pick n)
@@ -88,9 +89,9 @@ number_no_header : (n : ℕ) → is_header (all_digits n) ≡ false
 unfolding is_header
 number_no_header n = rw (trimmed_digits (all_digits n) (all_are_digits n)) (digits_no_header (all_digits n) (all_are_digits n))
 
-module _ (most : ℕ) (place : ℕ → ℕ × ℕ) (n : ℕ) (more : List ℕ) (some : 0 < n) (within : n ≤ most) (small : length (all_digits n) ≤ most_line_bytes) where
-  the_line : line_within (most_line_bytes + 1) (record_line n ++ more) ≡ record { ends = Whole; bytes = all_digits n; left = more }
-  the_line = line_of_digits (all_digits n) more (most_line_bytes + 1) (omega (arith, small)) (all_are_digits n)
+module _ (most : ℕ) (place : ℕ → ℕ × ℕ) (n : ℕ) (more : List ℕ) (some : 0 < n) (within : n ≤ most) (small : length (all_digits n) ≤ LINE_BYTES) where
+  the_line : line_within (LINE_BYTES + 1) (record_line n ++ more) ≡ record { ends = Whole; bytes = all_digits n; left = more }
+  the_line = line_of_digits (all_digits n) more (LINE_BYTES + 1) (omega (arith, small)) (all_are_digits n)
 
   record_one_line : one_line First most place (record_line n ++ more) ≡ record { events = asks (record_line n) false; value = Some (answer.Pick n); stream = Known First; left = more }
   unfolding one_line

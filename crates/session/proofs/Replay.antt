@@ -1,5 +1,6 @@
 -- How a run that is played again on its record goes.
 use Rattle.std.proofs.Common.{◌≡◌, ℕ, zero, suc, ◌+◌, ◌-◌, ◌<◌, ◌≤◌, List, [], ◌∷◌, ◌++◌, length, get_or, Bool, true, false, Option, Some, None, IfSome, cond, if◌then◌else◌, ◌&&◌, ltb, leb, ltb-true, leb-true, refl, sym, ap, ◌∙◌, arith, append-nil, append_assoc}
+use Rattle.std.specs.Prelude.{option_map}
 use Rattle.std.proofs.lemmas.Grind.{flat_map-append}
 use Rattle.std.proofs.lemmas.Bool.{true≢false}
 use Rattle.std.proofs.lemmas.List.Elements.{Contains-get_or}
@@ -12,10 +13,11 @@ use Rattle.promela_session.specs.declared.line.LineEnd.TheVariants.{Whole, Last,
 use Rattle.promela_session.specs.declared.choice.Answer.{Answer}
 use Rattle.promela_session.specs.declared.choice.Answer.TheVariants as answer
 use Rattle.promela_session.specs.Events.{Event, Put, Told, Corrected, Asked, AskedEnd, Recorded, Stepped, asks, output, front, recorded, Part, preceded, followed, record_line, placed_line, list_from, prompt}
-use Rattle.promela_session.specs.Lines.{most_line_bytes, most_bad_lines, Line, line_within, read_of, saw_end, reply_of, reply_in, number_of, number_up_to, is_digit, is_quit, trimmed, first_word, behind_word, writes, picked, picked_at, placed_answer, placed_reply}
+use Rattle.profile.specs.declared.TheConstants.{LINE_BYTES, BAD_LINES}
+use Rattle.promela_session.specs.Lines.{Line, line_within, read_of, saw_end, reply_of, reply_in, number_of, number_up_to, is_digit, is_quit, trimmed, first_word, behind_word, writes, picked_at, placed_answer, placed_reply}
 use Rattle.session.specs.Answers.{IsPickUpTo}
 use Rattle.promela_session.specs.Session.{Rules, Outcome, Goes, Faults, one_line, next_line, one_reply, begins_second, stream_behind, reply_at, ask, after_line, only, kept, choose, place_of, select, stopped, finished, stepped, answered, story, step_text}
-use Rattle.promela_session.specs.Replay.{converted_events, placed_lines, without_corrections, is_complete, IsSameRun}
+use Rattle.promela_session.specs.Devices.{converted_events, placed_lines, without_corrections, is_complete, IsSameRun}
 use Rattle.session.specs.Converting.{told_events}
 use Rattle.session.proofs.Parts.{front-append, output-append, recorded-append, front-asks, output-asks, recorded-asks}
 use Rattle.session.proofs.Records.{IsPlain, record_asked}
@@ -89,7 +91,7 @@ Silent-append xs ys first second = (rw (recorded-append xs ys, first.0) second.0
 
 line_silent : (version : Version) (most : ℕ) (place : ℕ → ℕ × ℕ) (rest : List ℕ) → Silent (one_line version most place rest).events
 unfolding one_line
-line_silent version most place rest = let line = line_within (most_line_bytes + 1) rest in (recorded-asks (read_of line.ends line.bytes) (saw_end line.ends), replayed-asks (read_of line.ends line.bytes) (saw_end line.ends))
+line_silent version most place rest = let line = line_within (LINE_BYTES + 1) rest in (recorded-asks (read_of line.ends line.bytes) (saw_end line.ends), replayed-asks (read_of line.ends line.bytes) (saw_end line.ends))
 
 next_silent : (most : ℕ) (place : ℕ → ℕ × ℕ) (stream : Stream) (rest : List ℕ) → Silent (next_line most place stream rest).events
 unfolding next_line
@@ -99,7 +101,7 @@ next_silent most place Over rest = (refl, refl)
 
 one_silent : (most : ℕ) (place : ℕ → ℕ × ℕ) (stream : Stream) (rest : List ℕ) → Silent (one_reply most place stream rest).events
 unfolding one_reply
-one_silent most place Unread rest = let line = line_within (most_line_bytes + 1) rest in by line (begins_second line.ends line.bytes)
+one_silent most place Unread rest = let line = line_within (LINE_BYTES + 1) rest in by line (begins_second line.ends line.bytes)
   where
     by : (line : Line) (t : Bool)
         → Silent (if t then preceded (asks (read_of line.ends line.bytes) (saw_end line.ends)) (next_line most place (stream_behind Second line.ends) line.left) else next_line most place Unread rest).events
@@ -152,13 +154,13 @@ module _ (events : List Event) (silent : Silent events) where
 
 -- ---- a picked number is one of the moves
 
-number_range : (d a b : Bool) (v most : ℕ) → (a ≡ true → 0 < v) → (b ≡ true → v ≤ most) → IfSome (picked (cond (d && (a && b)) (Some v) None)) (IsPickUpTo most)
+number_range : (d a b : Bool) (v most : ℕ) → (a ≡ true → 0 < v) → (b ≡ true → v ≤ most) → IfSome (option_map answer.Pick (cond (d && (a && b)) (Some v) None)) (IsPickUpTo most)
 number_range true true true v most some within = (some refl, within refl)
 number_range true true false v most some within = tt
 number_range true false b v most some within = tt
 number_range false a b v most some within = tt
 
-number_up_to_range : (most : ℕ) (word : List ℕ) → IfSome (picked (number_up_to most word)) (IsPickUpTo most)
+number_up_to_range : (most : ℕ) (word : List ℕ) → IfSome (option_map answer.Pick (number_up_to most word)) (IsPickUpTo most)
 unfolding number_up_to
 number_up_to_range most word = number_range (list_all is_digit word) (ltb 0 (number_of word)) (leb (number_of word) most) (number_of word) most (λ e. ltb-true 0 (number_of word) e) (λ e. leb-true (number_of word) most e)
 
@@ -166,11 +168,11 @@ reply_range : (most : ℕ) (line : List ℕ) → IfSome (reply_of most line) (Is
 unfolding reply_of
 reply_range most line = by_quit (is_quit (trimmed line))
   where
-    by_quit : (q : Bool) → IfSome (cond q (Some answer.Quit) (picked (number_up_to most (trimmed line)))) (IsPickUpTo most)
+    by_quit : (q : Bool) → IfSome (cond q (Some answer.Quit) (option_map answer.Pick (number_up_to most (trimmed line)))) (IsPickUpTo most)
     by_quit true = tt
     by_quit false = number_up_to_range most (trimmed line)
 
-picked_range : (most : ℕ) (place : ℕ → ℕ × ℕ) (p l : List ℕ) (k : Option ℕ) → IfSome (picked k) (IsPickUpTo most) → IsPickUpTo most (picked_at place p l k)
+picked_range : (most : ℕ) (place : ℕ → ℕ × ℕ) (p l : List ℕ) (k : Option ℕ) → IfSome (option_map answer.Pick k) (IsPickUpTo most) → IsPickUpTo most (picked_at place p l k)
 picked_range most place p l None h = tt
 picked_range most place p l (Some n) h = by (writes p (place n).0 && writes l (place n).1)
   where
@@ -198,7 +200,7 @@ reply_at_range version most place Last (b ∷ bs) = reply_in_range version most 
 
 line_range : (version : Version) (most : ℕ) (place : ℕ → ℕ × ℕ) (rest : List ℕ) → IfSome (one_line version most place rest).value (IsPickUpTo most)
 unfolding one_line
-line_range version most place rest = let line = line_within (most_line_bytes + 1) rest in reply_at_range version most place line.ends line.bytes
+line_range version most place rest = let line = line_within (LINE_BYTES + 1) rest in reply_at_range version most place line.ends line.bytes
 
 next_range : (most : ℕ) (place : ℕ → ℕ × ℕ) (stream : Stream) (rest : List ℕ) → IfSome (next_line most place stream rest).value (IsPickUpTo most)
 unfolding next_line
@@ -208,7 +210,7 @@ next_range most place Over rest = tt
 
 one_range : (most : ℕ) (place : ℕ → ℕ × ℕ) (stream : Stream) (rest : List ℕ) → IfSome (one_reply most place stream rest).value (IsPickUpTo most)
 unfolding one_reply
-one_range most place Unread rest = let line = line_within (most_line_bytes + 1) rest in by line (begins_second line.ends line.bytes)
+one_range most place Unread rest = let line = line_within (LINE_BYTES + 1) rest in by line (begins_second line.ends line.bytes)
   where
     by : (line : Line) (t : Bool)
         → IfSome (if t then preceded (asks (read_of line.ends line.bytes) (saw_end line.ends)) (next_line most place (stream_behind Second line.ends) line.left) else next_line most place Unread rest).value (IsPickUpTo most)
@@ -293,7 +295,7 @@ module _ {M : Type 0} (text : M → List ℕ) (place : ℕ → ℕ × ℕ) (move
   -- it is asked again with its record and more
   pub picked_again : (n : ℕ) (more : List ℕ) → 0 < n → n ≤ length moves → IsShort (answer.Pick n) → (first : Stream) → IsPlain first → followed (choose First text place moves first (record_line n ++ more)) next
       ≡ preceded (Put Told (list_from text 1 moves) ∷ Put Told (prompt (length moves)) ∷ (asks (record_line n) false ++ Recorded (record_line n) (placed_line n (place n)) ∷ [])) (next (answer.Pick n) (Known First) more)
-  picked_again n more some within short first plain = rw (record_asked (length moves) place n more some within short (most_bad_lines - 1) first plain) refl
+  picked_again n more some within short first plain = rw (record_asked (length moves) place n more some within short (BAD_LINES - 1) first plain) refl
 
   chosen_again : ((k : ℕ) → 0 < k → k ≤ length moves → RunsAgain (next (answer.Pick k))) → ((said : Answer) → ((k : ℕ) → said ≡ answer.Pick k → ⊥) → (stream : Stream) (left : List ℕ) → is_complete (next said stream left).value.cause ≡ false)
       → (asked : List Event) (said : Answer) (stream : Stream) (left more : List ℕ) → Silent asked → IsPickUpTo (length moves) said → IsShort said → is_complete (chosen asked said stream left).value.cause ≡ true
@@ -327,10 +329,10 @@ module _ {S M : Type 0} (rules : Rules S M) (options : Options) where
   select_again s (m ∷ []) some first steps later ih stream choices more complete = answered_again rules options s (m ∷ []) first steps later ih 1 (omega arith) (omega arith) stream choices more complete
   select_again s (m ∷ k ∷ ms) some first steps later ih stream choices more complete =
       let place = place_of rules s (m ∷ k ∷ ms) in
-      let asked = ask (length (m ∷ k ∷ ms)) place (most_bad_lines - 1) stream choices in
+      let asked = ask (length (m ∷ k ∷ ms)) place (BAD_LINES - 1) stream choices in
       chosen_again (rules.text s) place (m ∷ k ∷ ms) (answered rules options s (m ∷ k ∷ ms) first steps later) (answered_again rules options s (m ∷ k ∷ ms) first steps later ih)
-      (answered_stops s (m ∷ k ∷ ms) first steps later) asked.events asked.value asked.stream asked.left more (ask_silent (length (m ∷ k ∷ ms)) place (most_bad_lines - 1) stream choices) (ask_range (length (m ∷ k ∷ ms)) place (most_bad_lines - 1) stream choices)
-      (ask_short (length (m ∷ k ∷ ms)) place (most_bad_lines - 1) stream choices) complete
+      (answered_stops s (m ∷ k ∷ ms) first steps later) asked.events asked.value asked.stream asked.left more (ask_silent (length (m ∷ k ∷ ms)) place (BAD_LINES - 1) stream choices) (ask_range (length (m ∷ k ∷ ms)) place (BAD_LINES - 1) stream choices)
+      (ask_short (length (m ∷ k ∷ ms)) place (BAD_LINES - 1) stream choices) complete
 
   limit_again : (s : S) (steps : ℕ) (moves : List M) → rules.moves s ≡ moves → RunsAgain (story First rules options 0 s steps)
   unfolding replay_of

@@ -7,16 +7,16 @@ use Rattle.devices.specs.Holdings.{Holdings, Moved}
 use Rattle.devices.specs.Doing.{WritesPart}
 use Rattle.promela_session.specs.declared.ends.Broken.{Broken}
 use Rattle.promela_session.specs.declared.ends.Broken.TheVariants as broken
-use Rattle.promela_session.specs.Events.{Role, Put, Part, preceded}
+use Rattle.promela_session.specs.Events.{Purpose, Put, Part, preceded}
 use Rattle.promela_session.specs.Devices.{Breaks}
 use Rattle.session.specs.Writes.{Leads, WriteBreaks}
 use Rattle.session.proofs.Parts.{MovedBy-put, memory_breaks}
 
 -- one piece, another, and what follows
-abbrev pub both : {T : Type 0} → Role → Role → List ℕ → List ℕ → (List ℕ → Part T) → List ℕ → Part T
+abbrev pub both : {T : Type 0} → Purpose → Purpose → List ℕ → List ℕ → (List ℕ → Part T) → List ℕ → Part T
 both first second x y rest left = preceded (Put first x ∷ []) (preceded (Put second y ∷ []) (rest left))
 
-module _ {T : Type 0} {a b : Holdings} {n : ℕ} {first second : Role} (x y : List ℕ) (rest : List ℕ → Part T) where
+module _ {T : Type 0} {a b : Holdings} {n : ℕ} {first second : Purpose} (x y : List ℕ) (rest : List ℕ → Part T) where
   pub both_written : Moved a b [] (x ++ y) [] → Leads a b n n (both first second x y rest) rest
   both_written took = record {
     done = Put first x ∷ Put second y ∷ [];

@@ -10,7 +10,7 @@ use Rattle.promela_session.specs.declared.ends.Broken.{Broken}
 use Rattle.promela_session.specs.declared.ends.Broken.TheVariants as broken
 use Rattle.promela_session.specs.declared.choice.Answer.{Answer}
 use Rattle.promela_session.specs.declared.choice.Answer.TheVariants as answer
-use Rattle.promela_session.specs.Events.{Role, Put, Told, Stepped, Part, preceded, followed, noted, placed_line, fault_line}
+use Rattle.promela_session.specs.Events.{Purpose, Put, Told, Stepped, Part, preceded, followed, noted, placed_line, fault_line}
 use Rattle.promela_session.specs.Session.{Rules, Goes, Faults, only, kept, choose, place_of, select, stopped, finished, end_of, stepped, step_text, answered, story}
 use Rattle.session.specs.Answers.{cause_of}
 use Rattle.promela_session.specs.Devices.{Does, Breaks}
@@ -23,7 +23,7 @@ use Rattle.promela_session.specs.declared.form.Version.{Version}
 -- ---- pieces and records
 
 module _ {a b : Holdings} {n : ℕ} where
-  pub write_breaks : {T : Type 0} (e : Broken) {role : Role} (piece : List ℕ) (rest : List ℕ → Part T) → WriteBreaks e a b piece → Breaks e a b n n (λ left. preceded (Put role piece ∷ []) (rest left))
+  pub write_breaks : {T : Type 0} (e : Broken) {purpose : Purpose} (piece : List ℕ) (rest : List ℕ → Part T) → WriteBreaks e a b piece → Breaks e a b n n (λ left. preceded (Put purpose piece ∷ []) (rest left))
   write_breaks broken.Memory piece rest w = memory_breaks _ w
   write_breaks broken.Out piece rest w = put_breaks piece rest w
   write_breaks broken.Source piece rest w = absurd w

@@ -1,9 +1,10 @@
 -- What a line of the second version says.
-use Rattle.std.proofs.Common.{◌≡◌, ℕ, ◌-◌, ◌<◌, ◌≤◌, List, length, get_or, Bool, true, false, cond, ◌&&◌, Some, None, refl, sym, ap, ◌∙◌, arith}
+use Rattle.std.proofs.Common.{◌≡◌, ℕ, ◌-◌, ◌<◌, ◌≤◌, List, length, get_or, Bool, true, false, cond, ◌&&◌, Option, Some, None, refl, sym, ap, ◌∙◌, arith}
+use Rattle.std.specs.Prelude.{unwrap_or, option_map}
 use Rattle.std.proofs.lemmas.Option.{slice_get_read}
 use Rattle.promela_session.specs.declared.choice.Answer.TheVariants as answer
 use Rattle.promela_session.specs.Lines.{is_quit, trimmed, first_word, behind_word, number_up_to, writes, placed_answer, placed_reply}
-use Rattle.promela_session.specs.Session.{Rules, known_origin, place_of}
+use Rattle.promela_session.specs.Session.{Rules, place_of}
 
 -- ---- what a line says
 
@@ -24,7 +25,7 @@ module _ (most : ℕ) (place : ℕ → ℕ × ℕ) (line : List ℕ) where
 -- the place of a move is that of its number
 pub place_is : {S M : Type 0} (rules : Rules S M) (s : S) (moves : List M) (n : ℕ) (m : M) (place : ℕ × ℕ) → (0 < n) × (n ≤ length moves) → m ≡ get_or moves (n - 1) m → place ≡ rules.origin s m
     → place_of rules s moves n ≡ place
-place_is rules s moves n m place range is at = ap (known_origin rules s) (slice_get_read moves (length moves) (n - 1) m refl (omega arith) is) ∙ sym at
+place_is {S} {M} rules s moves n m place range is at = ap (λ (o : Option M). unwrap_or (option_map (rules.origin s) o) (0, 0)) (slice_get_read moves (length moves) (n - 1) m refl (omega arith) is) ∙ sym at
 
 -- two words write the place, or one of them does not
 module _ (word line p l : List ℕ) (place at : ℕ × ℕ) (is : word ≡ line) (same : at ≡ place) (p_is : p ≡ first_word (behind_word word)) (l_is : l ≡ behind_word (behind_word word)) where

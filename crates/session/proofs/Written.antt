@@ -5,12 +5,13 @@ use Rattle.std.proofs.lemmas.Bool.Decides.{nat_tests}
 use Rattle.std.proofs.lemmas.Fmt.{decimal_by_steps}
 use Rattle.std.specs.Fmt.{decimal}
 use Rattle.std.specs.List.{list_all}
-use Rattle.std.specs.Prelude.{⊤, if◌then◌else◌, codes}
+use Rattle.std.specs.Prelude.{⊤, if◌then◌else◌, codes, option_map}
 use Rattle.promela_session.specs.declared.line.LineEnd.{LineEnd}
 use Rattle.promela_session.specs.declared.line.LineEnd.TheVariants.{Whole, Last, TooLong}
 use Rattle.promela_session.specs.declared.choice.Answer.{Answer}
 use Rattle.promela_session.specs.declared.choice.Answer.TheVariants as answer
-use Rattle.promela_session.specs.Lines.{most_line_bytes, Line, line_within, lengthened, is_blank, is_digit, number_of, number_up_to, is_quit, is_gap, front_trimmed, end_trimmed, trimmed, first_word, behind_word, writes, picked, picked_at, placed_answer, placed_reply, reply_of, reply_in, read_of, saw_end}
+use Rattle.profile.specs.declared.TheConstants.{LINE_BYTES}
+use Rattle.promela_session.specs.Lines.{Line, line_within, lengthened, is_blank, is_digit, number_of, number_up_to, is_quit, is_gap, end_trimmed, trimmed, first_word, behind_word, writes, picked_at, placed_answer, placed_reply, reply_of, reply_in, read_of, saw_end, without_front}
 use Rattle.promela_session.specs.Events.{asks, Part, preceded, digits_of, all_digits, record_line, placed_line}
 use Rattle.promela_session.specs.Session.{one_line, next_line, one_reply, begins_second, stream_behind, reply_at, ask, after_line, only}
 use Rattle.promela_session.specs.declared.form.Stream.{Stream}
@@ -81,13 +82,13 @@ few_digits (suc k) n h = by (few_digits k (n / 10)) (cases_lt n 10)
         let g = again (omega (arith, h)) in
         omega (arith, e, f, g)
 
-pub record_readable : (n : ℕ) → n < 2 ^ 64 → length (record_line n) ≤ most_line_bytes + 1
+pub record_readable : (n : ℕ) → n < 2 ^ 64 → length (record_line n) ≤ LINE_BYTES + 1
 record_readable n small =
     let few = few_digits 19 n (omega (arith, small)) in
     let all = length-append (all_digits n) (codes "\n") in
     omega (arith, few, all)
 
-pub placed_readable : (n p l : ℕ) → n < 2 ^ 64 → p < 2 ^ 32 → l < 2 ^ 32 → length (placed_line n (p, l)) ≤ most_line_bytes + 1
+pub placed_readable : (n p l : ℕ) → n < 2 ^ 64 → p < 2 ^ 32 → l < 2 ^ 32 → length (placed_line n (p, l)) ≤ LINE_BYTES + 1
 placed_readable n p l small_n small_p small_l =
     let a = few_digits 19 n (omega (arith, small_n)) in
     let b = few_digits 9 p (omega (arith, small_p)) in
@@ -169,18 +170,18 @@ no_longer (b ∷ bs) d some =
 -- ---- a number that a line answers with fits a line
 
 abbrev pub IsShort : Answer → Type 0
-IsShort (answer.Pick n) = length (all_digits n) ≤ most_line_bytes
+IsShort (answer.Pick n) = length (all_digits n) ≤ LINE_BYTES
 IsShort answer.Quit = ⊤
 IsShort answer.Ended = ⊤
 IsShort answer.TooLong = ⊤
 IsShort answer.Hundred = ⊤
 IsShort answer.Misfit = ⊤
 
-front_shorter : (bs : List ℕ) → length (front_trimmed bs) ≤ length bs
+front_shorter : (bs : List ℕ) → length (without_front is_blank bs) ≤ length bs
 front_shorter [] = omega arith
 front_shorter (b ∷ bs) = by (is_blank b) (front_shorter bs)
   where
-    by : (t : Bool) → length (front_trimmed bs) ≤ length bs → length (if t then front_trimmed bs else b ∷ bs) ≤ length (b ∷ bs)
+    by : (t : Bool) → length (without_front is_blank bs) ≤ length bs → length (if t then without_front is_blank bs else b ∷ bs) ≤ length (b ∷ bs)
     by true h = omega (arith, h)
     by false h = omega arith
 
@@ -192,23 +193,23 @@ end_shorter (b ∷ bs) = by (list_all is_blank (b ∷ bs)) (end_shorter bs)
     by true h = omega arith
     by false h = omega (arith, h)
 
-number_short : (most : ℕ) (word : List ℕ) → length word ≤ most_line_bytes → IfSome (picked (number_up_to most word)) IsShort
+number_short : (most : ℕ) (word : List ℕ) → length word ≤ LINE_BYTES → IfSome (option_map answer.Pick (number_up_to most word)) IsShort
 unfolding number_up_to
 number_short most word h = by (list_all is_digit word) (ltb 0 (number_of word)) (leb (number_of word) most) refl (ltb-true 0 (number_of word))
   where
-    by : (d a b : Bool) → list_all is_digit word ≡ d → (a ≡ true → 0 < number_of word) → IfSome (picked (cond (d && (a && b)) (Some (number_of word)) None)) IsShort
+    by : (d a b : Bool) → list_all is_digit word ≡ d → (a ≡ true → 0 < number_of word) → IfSome (option_map answer.Pick (cond (d && (a && b)) (Some (number_of word)) None)) IsShort
     by true true true e some = let l = no_longer word e (some refl) in omega (arith, l, h)
     by true true false e some = tt
     by true false b e some = tt
     by false a b e some = tt
 
-reply_short : (most : ℕ) (line : List ℕ) → length line ≤ most_line_bytes → IfSome (reply_of most line) IsShort
+reply_short : (most : ℕ) (line : List ℕ) → length line ≤ LINE_BYTES → IfSome (reply_of most line) IsShort
 unfolding reply_of
 reply_short most line h = by_quit (is_quit (trimmed line))
   where
-    by_quit : (q : Bool) → IfSome (cond q (Some answer.Quit) (picked (number_up_to most (trimmed line)))) IsShort
+    by_quit : (q : Bool) → IfSome (cond q (Some answer.Quit) (option_map answer.Pick (number_up_to most (trimmed line)))) IsShort
     by_quit true = tt
-    by_quit false = let a = front_shorter line in let b = end_shorter (front_trimmed line) in number_short most (trimmed line) (omega (arith, a, b, h))
+    by_quit false = let a = front_shorter line in let b = end_shorter (without_front is_blank line) in number_short most (trimmed line) (omega (arith, a, b, h))
 
 -- the number of a line with the place of its move
 first_no_longer : (bs : List ℕ) → length (first_word bs) ≤ length bs
@@ -219,7 +220,7 @@ first_no_longer (b ∷ bs) = by (is_gap b) (first_no_longer bs)
     by true h = omega arith
     by false h = omega (arith, h)
 
-picked_short : (place : ℕ → ℕ × ℕ) (p l : List ℕ) (k : Option ℕ) → IfSome (picked k) IsShort → IsShort (picked_at place p l k)
+picked_short : (place : ℕ → ℕ × ℕ) (p l : List ℕ) (k : Option ℕ) → IfSome (option_map answer.Pick k) IsShort → IsShort (picked_at place p l k)
 picked_short place p l None h = tt
 picked_short place p l (Some n) h = by (writes p (place n).0 && writes l (place n).1)
   where
@@ -227,7 +228,7 @@ picked_short place p l (Some n) h = by (writes p (place n).0 && writes l (place 
     by true = h
     by false = tt
 
-placed_short : (most : ℕ) (place : ℕ → ℕ × ℕ) (line : List ℕ) → length line ≤ most_line_bytes → IsShort (placed_reply most place line)
+placed_short : (most : ℕ) (place : ℕ → ℕ × ℕ) (line : List ℕ) → length line ≤ LINE_BYTES → IsShort (placed_reply most place line)
 unfolding placed_reply placed_answer
 placed_short most place line h = by_quit (is_quit (trimmed line))
   where
@@ -235,11 +236,11 @@ placed_short most place line h = by_quit (is_quit (trimmed line))
     by_quit true = tt
     by_quit false =
         let a = front_shorter line in
-        let b = end_shorter (front_trimmed line) in
+        let b = end_shorter (without_front is_blank line) in
         let c = first_no_longer (trimmed line) in
         picked_short place (first_word (behind_word (trimmed line))) (behind_word (behind_word (trimmed line))) (number_up_to most (first_word (trimmed line))) (number_short most (first_word (trimmed line)) (omega (arith, a, b, c, h)))
 
-reply_in_short : (version : Version) (most : ℕ) (place : ℕ → ℕ × ℕ) (line : List ℕ) → length line ≤ most_line_bytes → IfSome (reply_in version most place line) IsShort
+reply_in_short : (version : Version) (most : ℕ) (place : ℕ → ℕ × ℕ) (line : List ℕ) → length line ≤ LINE_BYTES → IfSome (reply_in version most place line) IsShort
 reply_in_short First most place line h = reply_short most line h
 reply_in_short Second most place line h = placed_short most place line h
 
@@ -269,7 +270,7 @@ spared (suc room) (b ∷ rest) = by (eqb b 10) (spared room rest)
     by true h = omega arith
     by false h = spared_more room b (line_within room rest) h
 
-reply_at_short : (version : Version) (most : ℕ) (place : ℕ → ℕ × ℕ) (ends : LineEnd) (bytes left : List ℕ) → Spared (most_line_bytes + 1) (record { ends = ends; bytes = bytes; left = left }) → IfSome (reply_at version most place ends bytes) IsShort
+reply_at_short : (version : Version) (most : ℕ) (place : ℕ → ℕ × ℕ) (ends : LineEnd) (bytes left : List ℕ) → Spared (LINE_BYTES + 1) (record { ends = ends; bytes = bytes; left = left }) → IfSome (reply_at version most place ends bytes) IsShort
 reply_at_short version most place Whole bytes left h = reply_in_short version most place bytes (omega (arith, h))
 reply_at_short version most place TooLong bytes left h = tt
 reply_at_short version most place Last [] left h = tt
@@ -277,7 +278,7 @@ reply_at_short version most place Last (b ∷ bs) left h = reply_in_short versio
 
 line_short : (version : Version) (most : ℕ) (place : ℕ → ℕ × ℕ) (rest : List ℕ) → IfSome (one_line version most place rest).value IsShort
 unfolding one_line
-line_short version most place rest = let line = line_within (most_line_bytes + 1) rest in reply_at_short version most place line.ends line.bytes line.left (spared (most_line_bytes + 1) rest)
+line_short version most place rest = let line = line_within (LINE_BYTES + 1) rest in reply_at_short version most place line.ends line.bytes line.left (spared (LINE_BYTES + 1) rest)
 
 next_short : (most : ℕ) (place : ℕ → ℕ × ℕ) (stream : Stream) (rest : List ℕ) → IfSome (next_line most place stream rest).value IsShort
 unfolding next_line
@@ -287,7 +288,7 @@ next_short most place Over rest = tt
 
 one_short : (most : ℕ) (place : ℕ → ℕ × ℕ) (stream : Stream) (rest : List ℕ) → IfSome (one_reply most place stream rest).value IsShort
 unfolding one_reply
-one_short most place Unread rest = let line = line_within (most_line_bytes + 1) rest in by line (begins_second line.ends line.bytes)
+one_short most place Unread rest = let line = line_within (LINE_BYTES + 1) rest in by line (begins_second line.ends line.bytes)
   where
     by : (line : Line) (t : Bool)
         → IfSome (if t then preceded (asks (read_of line.ends line.bytes) (saw_end line.ends)) (next_line most place (stream_behind Second line.ends) line.left) else next_line most place Unread rest).value IsShort

@@ -9,9 +9,9 @@ use Rattle.promela_session.specs.declared.ends.Broken.{Broken}
 use Rattle.promela_session.specs.declared.ends.Broken.TheVariants as broken
 use Rattle.promela_session.specs.declared.form.Version.TheVariants.{Second}
 use Rattle.promela_session.specs.Events.{Event, Put, Told, Asked, AskedEnd, Recorded, Stepped, Part, preceded, header_line}
-use Rattle.promela_session.specs.Lines.{most_line_bytes}
+use Rattle.profile.specs.declared.TheConstants.{LINE_BYTES}
 use Rattle.promela_session.specs.Session.{Rules, transcript, transcript_noting}
-use Rattle.promela_session.specs.Replay.{converted, StandsForRecord, IsConvertedBy}
+use Rattle.promela_session.specs.Devices.{converted, StandsForRecord, IsConvertedBy}
 
 -- the session of a machine where its choices are converted
 abbrev pub conversion : {S M : Type 0} → Rules S M → Options → S → List ℕ → Part End
@@ -19,10 +19,10 @@ conversion rules options s = converted (transcript rules options s)
 
 -- the line of an accepted number with its place is no longer than a line of the choices may be, with its line feed
 abbrev pub fits_line : Event → Bool
-fits_line (Put role piece) = true
+fits_line (Put purpose piece) = true
 fits_line (Asked b) = true
 fits_line AskedEnd = true
-fits_line (Recorded line placed) = nat_le (length placed) (most_line_bytes + 1)
+fits_line (Recorded line placed) = nat_le (length placed) (LINE_BYTES + 1)
 fits_line Stepped = true
 
 -- So it is where each of their lines can be read.
@@ -41,7 +41,7 @@ ConvertedChoicesStandForTheRecord {S} rules = (s : S) (options : Options) → Ca
 
 -- an event where what is recorded is put out, and nothing else is
 abbrev pub told_event : Event → List Event
-told_event (Put role piece) = []
+told_event (Put purpose piece) = []
 told_event (Asked b) = Asked b ∷ []
 told_event AskedEnd = AskedEnd ∷ []
 told_event (Recorded line placed) = Put Told line ∷ []

@@ -7,7 +7,7 @@ use Rattle.promela_session.specs.Session.{Rules, transcript}
 
 -- an event that writes nothing to the output: a byte that is asked for, a line of the record, a step
 abbrev pub is_no_piece : Event → Bool
-is_no_piece (Put role piece) = false
+is_no_piece (Put purpose piece) = false
 is_no_piece (Asked b) = true
 is_no_piece AskedEnd = true
 is_no_piece (Recorded line placed) = true
@@ -30,7 +30,7 @@ ShowingChangesNothing {S} rules = (s : S) (choices : List ℕ) (options others :
 
 -- the end of the choices is met
 abbrev pub is_asked_end : Event → Bool
-is_asked_end (Put role piece) = false
+is_asked_end (Put purpose piece) = false
 is_asked_end (Asked b) = false
 is_asked_end AskedEnd = true
 is_asked_end (Recorded line placed) = false

@@ -1,7 +1,7 @@
 //! The texts of a session, composed in buffers that are kept.
 ghost use Rattle.std.specs.Prelude.{◌≡◌, ◌+◌, ◌++◌, ◌<◌, ◌≤◌, ◌^◌, [], ◌∷◌, length, IfOk, OnOk, if◌then◌else◌, codes};
 ghost use Rattle.std.specs.Fmt.{decimal};
-ghost use Rattle.promela_session.specs.Lines.{most_line_bytes};
+ghost use Rattle.profile.specs.declared.TheConstants.{LINE_BYTES};
 ghost use Rattle.session.specs.Takes.{CanBeShown};
 ghost use Rattle.promela_session.specs.Events.{list_from, prompt, record_line, placed_line, last_words, last_line, step_line, fault_line, refusal_line};
 
@@ -105,7 +105,7 @@ pub fn draft_prompt(most: usize, piece: &mut Vec<u8>) -> Result<(), AllocError>
 /// Composes the record's line of an accepted number.
 pub fn draft_record(n: usize, piece: &mut Vec<u8>) -> Result<(), AllocError>
     ensures line { OnOk result (piece.new.items ≡ record_line n) }
-    ensures short { length (record_line n) ≤ most_line_bytes + 1 }
+    ensures short { length (record_line n) ≤ LINE_BYTES + 1 }
 {
     piece.clear();
     add_counted(piece, b"", n as u64)
@@ -132,7 +132,7 @@ pub fn draft_placed(
     piece: &mut Vec<u8>,
 ) -> Result<(), AllocError>
     ensures line { OnOk result (piece.new.items ≡ placed_line n (process, line)) }
-    ensures short { length (placed_line n (process, line)) ≤ most_line_bytes + 1 }
+    ensures short { length (placed_line n (process, line)) ≤ LINE_BYTES + 1 }
 {
     piece.clear();
     add_placed(piece, n as u64, process, line)

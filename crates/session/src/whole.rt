@@ -2,13 +2,13 @@
 ghost use Rattle.std.specs.Prelude.{◌≡◌, ◌<◌, ◌≤◌, ◌+◌, ◌^◌, List, ℕ, length, IfOk, IfNone, IfSome, ◌≢◌};
 ghost use Rattle.std.specs.List.{Contains};
 ghost use Rattle.session.specs.Answers.{IsPickUpTo};
-ghost use Rattle.promela_session.specs.Session.{choice_at, select, final_lines, final_cause, end_of, transcript, transcript_noting};
+ghost use Rattle.promela_session.specs.Session.{select, final_lines, final_cause, end_of, transcript, transcript_noting};
 ghost use Rattle.session.specs.Answers.{cause_of};
-ghost use Rattle.promela_session.specs.Replay.{CanBeReplayed};
+ghost use Rattle.session.specs.Takes.{choice_at};
 ghost use Rattle.session.specs.Writes.{PlaysQuestion, CountsAll, Writes, Acts, Turns, Runs, IsOwnEnd};
 ghost use Rattle.promela_session.specs.Events.{last_line, status_of};
 ghost use Rattle.session.specs.Gathered.{AreFew, Advances, TurnsOn};
-ghost use Rattle.promela_session.specs.Devices.{Ends, IsBrokenOff, failure_of};
+ghost use Rattle.promela_session.specs.Devices.{Ends, IsBrokenOff, failure_of, CanBeReplayed};
 
 use crate::course::{Course, Terms};
 use crate::draft::Draft;

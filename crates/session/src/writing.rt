@@ -3,7 +3,7 @@ ghost use Rattle.std.specs.Prelude.{◌≡◌, ◌+◌, ◌<◌, ◌≤◌, ◌^
 ghost use Rattle.std.specs.List.{Contains};
 ghost use Rattle.promela_session.specs.declared.ends.Broken.TheVariants.{Memory};
 ghost use Rattle.session.specs.Writes.{CountsAll, Writes, kept_text, RecordsAnswer, Composes, Steps};
-ghost use Rattle.promela_session.specs.Lines.{most_line_bytes};
+ghost use Rattle.profile.specs.declared.TheConstants.{LINE_BYTES};
 ghost use Rattle.session.specs.Answers.{IsPickUpTo};
 ghost use Rattle.promela_session.specs.Session.{place_of, final_lines};
 ghost use Rattle.promela_session.specs.Events.{list_from, prompt, last_line, noted};
@@ -82,7 +82,7 @@ fn draft_noted<M: Machine>(
     requires some { 0 < n }
     requires within { n ≤ length moves.now }
     ensures line { OnOk result (draft.new.piece.items ≡ noted notes n (place_of M.rules machine.now moves.now n)) }
-    ensures short { length (noted notes n (place_of M.rules machine.now moves.now n)) ≤ most_line_bytes + 1 }
+    ensures short { length (noted notes n (place_of M.rules machine.now moves.now n)) ≤ LINE_BYTES + 1 }
 {
     match notes {
         Version::First => draft_record(n, &mut draft.piece),
@@ -105,7 +105,7 @@ pub fn keep<M: Machine, D: Devices>(
     requires all { moves.now ≡ M.rules.moves machine.now }
     requires range { IsPickUpTo (length moves.now) said }
     ensures text { RecordsAnswer result (D.holds devices.old) (D.holds devices.new) (kept_text notes (place_of M.rules machine.now moves.now) said) }
-    ensures short { length (kept_text notes (place_of M.rules machine.now moves.now) said) ≤ most_line_bytes + 1 }
+    ensures short { length (kept_text notes (place_of M.rules machine.now moves.now) said) ≤ LINE_BYTES + 1 }
     ensures count { CountsAll result (D.holds devices.old).failures (D.holds devices.new).failures }
 {
     match said {

@@ -103,7 +103,7 @@ own_line text at =
     ap (λ (k : ℕ). first_line (behind_feeds text k)) n ∙ ap first_line (own text at)
 
 -- what is seen of a place beside the text itself is the line of the place
-pub own_sight : (text : List ℕ) (at mark n : ℕ) → seen_in text (number_at text at) (line_at text at) mark n ≡ itself (line_at text at) mark n
-own_sight text at mark n =
-    ap (λ (o : Option (List ℕ)). seen_beside o (line_at text at) mark n) (own_line text at)
-    ∙ ap (λ (b : Bool). if b then itself (line_at text at) mark n else seen_on (line_at text at) (line_at text at) mark n) ((bytes_eq-Decides (line_at text at) (line_at text at)).1 refl)
+pub own_sight : (text : List ℕ) (at onset n : ℕ) → seen_in text (number_at text at) (line_at text at) onset n ≡ itself (line_at text at) onset n
+own_sight text at onset n =
+    ap (λ (o : Option (List ℕ)). seen_beside o (line_at text at) onset n) (own_line text at)
+    ∙ ap (λ (b : Bool). if b then itself (line_at text at) onset n else seen_on (line_at text at) (line_at text at) onset n) ((bytes_eq-Decides (line_at text at) (line_at text at)).1 refl)

@@ -81,8 +81,8 @@ second_line = refl
 no_third_line : numbered_line (codes "a\nb") 3 ≡ None
 no_third_line = refl
 
-moved : seen_in (codes "N = y + 1") 1 (codes "10 = y + 1") 5 1 ≡ record { bytes = codes "N = y + 1"; mark = Some 4; bytes_marked = 1 }
+moved : seen_in (codes "N = y + 1") 1 (codes "10 = y + 1") 5 1 ≡ record { bytes = codes "N = y + 1"; onset = Some 4; bytes_marked = 1 }
 moved = refl
 
-lost : seen_in (codes "N = 1") 1 (codes "10 = y") 5 1 ≡ record { bytes = codes "N = 1"; mark = None; bytes_marked = 1 }
+lost : seen_in (codes "N = 1") 1 (codes "10 = y") 5 1 ≡ record { bytes = codes "N = 1"; onset = None; bytes_marked = 1 }
 lost = refl

@@ -66,40 +66,40 @@ place_by n m own token before =
 
 -- where the token at a place of one line stands on another
 abbrev pub place_on : List ℕ → List ℕ → ℕ → List ℕ → Option ℕ
-place_on own line mark token =
+place_on own line onset token =
     if nat_eq (length token) 0 then None
-    else place_by (count_before own token (length own)) (count_before line token (length line)) own token (count_before line token mark)
+    else place_by (count_before own token (length own)) (count_before line token (length line)) own token (count_before line token onset)
 
 -- what is shown of a line: its bytes, where the place begins on it, if it is found there, and how many bytes it has
 pub record Sight : Type 0 where
   pub bytes : List ℕ
-  pub mark : Option ℕ
+  pub onset : Option ℕ
   pub bytes_marked : ℕ
 
 -- the line itself
 abbrev pub itself : List ℕ → ℕ → ℕ → Sight
-itself line mark n = record { bytes = line; mark = Some mark; bytes_marked = n }
+itself line onset n = record { bytes = line; onset = Some onset; bytes_marked = n }
 
 -- where what is marked ends on its line
 abbrev pub token_end : List ℕ → ℕ → ℕ → ℕ
-token_end line mark n = min (min mark (length line) + n) (length line)
+token_end line onset n = min (min onset (length line) + n) (length line)
 
 -- what is marked of a line
 abbrev pub token_of : List ℕ → ℕ → ℕ → List ℕ
-token_of line mark n = part line (min mark (length line)) (token_end line mark n)
+token_of line onset n = part line (min onset (length line)) (token_end line onset n)
 
 -- another line than that of the text, with the token's place on it
 abbrev pub seen_on : List ℕ → List ℕ → ℕ → ℕ → Sight
-seen_on own line mark n = record {
+seen_on own line onset n = record {
   bytes = own;
-  mark = place_on own line (min mark (length line)) (token_of line mark n);
-  bytes_marked = length (token_of line mark n);
+  onset = place_on own line (min onset (length line)) (token_of line onset n);
+  bytes_marked = length (token_of line onset n);
 }
 
 abbrev pub seen_beside : Option (List ℕ) → List ℕ → ℕ → ℕ → Sight
-seen_beside None line mark n = itself line mark n
-seen_beside (Some own) line mark n = if bytes_eq own line then itself line mark n else seen_on own line mark n
+seen_beside None line onset n = itself line onset n
+seen_beside (Some own) line onset n = if bytes_eq own line then itself line onset n else seen_on own line onset n
 
 -- what is shown of the line of this number: where the source's line of the number is another, that one
 abbrev pub seen_in : List ℕ → ℕ → List ℕ → ℕ → ℕ → Sight
-seen_in source number line mark n = seen_beside (numbered_line source number) line mark n
+seen_in source number line onset n = seen_beside (numbered_line source number) line onset n

@@ -63,7 +63,7 @@ width bs = if is_utf8 bs then length (chars bs) else length bs
 
 -- the column of what stands behind so many bytes of a line, from 1
 abbrev pub column_of : List ℕ → ℕ → ℕ
-column_of line mark = 1 + width (take mark line)
+column_of line onset = 1 + width (take onset line)
 
 -- the column of a place on its line
 abbrev pub column_at : List ℕ → ℕ → ℕ

@@ -3,4 +3,4 @@ use Rattle.source_lines.specs.declared.beside.Seen.{Seen}
 use Rattle.source_lines.specs.Beside.{Sight}
 
 abbrev pub sight_of : Seen → Sight
-sight_of s = record { bytes = s.bytes.now; mark = s.mark; bytes_marked = s.length }
+sight_of s = record { bytes = s.bytes.now; onset = s.onset; bytes_marked = s.length }

@@ -71,7 +71,7 @@ upper line w = where_cut (nat_lt 0 w.from) (codes "..") ++ shown (part line w.fr
 
 -- the carets below it
 abbrev pub lower : List ℕ → Window → List ℕ
-lower line w = where_cut (nat_lt 0 w.from) (codes "  ") ++ below (part line w.from w.mark) ++ carets (part line w.mark w.mark_end) ++ codes "\n"
+lower line w = where_cut (nat_lt 0 w.from) (codes "  ") ++ below (part line w.from w.onset) ++ carets (part line w.onset w.onset_end) ++ codes "\n"
 
 -- a line with its number, and the carets below it
 abbrev pub marked : ℕ → List ℕ → Window → List ℕ
@@ -79,7 +79,7 @@ marked n line w = margin n ++ upper line w ++ empty_margin n ++ lower line w
 
 -- a line with its number, and carets below so many of its bytes behind so many others
 abbrev pub line_with_carets : ℕ → List ℕ → ℕ → ℕ → List ℕ
-line_with_carets n line mark bytes = marked n line (window_round line mark bytes)
+line_with_carets n line onset bytes = marked n line (window_round line onset bytes)
 
 -- a line with its number alone
 abbrev pub line_alone : ℕ → List ℕ → List ℕ

@@ -14,24 +14,24 @@ rounded line at =
 
 -- where it begins: 60 bytes before the place
 abbrev pub window_start : List ℕ → ℕ → ℕ
-window_start line mark = min (rounded line (mark - 60)) mark
+window_start line onset = min (rounded line (onset - 60)) onset
 
 -- where it ends: 80 bytes behind the beginning of the place
 abbrev pub window_end : List ℕ → ℕ → ℕ
-window_end line mark = rounded line (min (mark + 80) (length line))
+window_end line onset = rounded line (min (onset + 80) (length line))
 
 -- where what is marked ends
 abbrev pub marked_end : List ℕ → ℕ → ℕ → ℕ
-marked_end line mark n = min (rounded line (min (mark + n) (length line))) (window_end line mark)
+marked_end line onset n = min (rounded line (min (onset + n) (length line))) (window_end line onset)
 
 abbrev pub window_from : List ℕ → ℕ → ℕ → Window
-window_from line mark n = record {
-  «from» = window_start line mark;
-  to = window_end line mark;
-  mark = mark;
-  mark_end = marked_end line mark n;
+window_from line onset n = record {
+  «from» = window_start line onset;
+  to = window_end line onset;
+  onset = onset;
+  onset_end = marked_end line onset n;
 }
 
 -- what is shown of a line round n bytes behind so many
 abbrev pub window_round : List ℕ → ℕ → ℕ → Window
-window_round line mark n = window_from line (min mark (length line)) n
+window_round line onset n = window_from line (min onset (length line)) n

@@ -74,16 +74,16 @@ fn place_by(count: usize, other: usize, own: &[u8], token: &[u8], before: usize)
 }
 
 /// Where the token at a place of one line stands on another.
-fn place_on(own: &[u8], line: &[u8], mark: usize, token: &[u8]) -> Option<usize>
-    requires { mark ≤ length line.now }
-    ensures { result ≡ place_on own.now line.now mark token.now }
+fn place_on(own: &[u8], line: &[u8], onset: usize, token: &[u8]) -> Option<usize>
+    requires { onset ≤ length line.now }
+    ensures { result ≡ place_on own.now line.now onset token.now }
 {
     if token.len() == 0 {
         return None;
     }
     let count = count_before(own, token, own.len());
     let other = count_before(line, token, line.len());
-    place_by(count, other, own, token, count_before(line, token, mark))
+    place_by(count, other, own, token, count_before(line, token, onset))
 }
 
 /// What stands behind so many line feeds.
@@ -116,24 +116,24 @@ pub fn numbered_line(text: &[u8], number: usize) -> Option<&[u8]>
 #[derive(Clone, Copy)]
 pub struct Seen<'t> {
     pub bytes: &'t [u8],
-    pub mark: Option<usize>,
+    pub onset: Option<usize>,
     pub length: usize,
 }
 
 /// What is shown of another line than that of the text: the token's place on it.
-fn seen_on<'t>(own: &'t [u8], line: &[u8], mark: usize, length: usize) -> Seen<'t>
-    ensures { sight_of result ≡ seen_on own.now line.now mark length }
+fn seen_on<'t>(own: &'t [u8], line: &[u8], onset: usize, length: usize) -> Seen<'t>
+    ensures { sight_of result ≡ seen_on own.now line.now onset length }
 {
-    let mark = least(mark, line.len());
-    let end = if length < line.len() - mark {
-        mark + length
+    let onset = least(onset, line.len());
+    let end = if length < line.len() - onset {
+        onset + length
     } else {
         line.len()
     };
-    let token = between(line, mark, end);
+    let token = between(line, onset, end);
     Seen {
         bytes: own,
-        mark: place_on(own, line, mark, token),
+        onset: place_on(own, line, onset, token),
         length: token.len(),
     }
 }
@@ -143,16 +143,16 @@ pub fn seen_in<'t>(
     source: &'t [u8],
     number: usize,
     line: &'t [u8],
-    mark: usize,
+    onset: usize,
     length: usize,
 ) -> Seen<'t>
-    ensures { sight_of result ≡ seen_in source.now number line.now mark length }
+    ensures { sight_of result ≡ seen_in source.now number line.now onset length }
 {
     match numbered_line(source, number) {
-        Some(own) if own != line => seen_on(own, line, mark, length),
+        Some(own) if own != line => seen_on(own, line, onset, length),
         _ => Seen {
             bytes: line,
-            mark: Some(mark),
+            onset: Some(onset),
             length,
         },
     }

@@ -151,8 +151,8 @@ pub fn width(bytes: &[u8]) -> usize
 }
 
 /// The column of what stands behind so many bytes of a line, counted from 1.
-pub fn column(line: &[u8], mark: usize) -> usize
-    ensures { result ≡ column_of line.now mark }
+pub fn column(line: &[u8], onset: usize) -> usize
+    ensures { result ≡ column_of line.now onset }
 {
-    width(front(line, mark)) + 1
+    width(front(line, onset)) + 1
 }

@@ -116,8 +116,8 @@ fn push_lower(out: &mut String, line: &[u8], window: Window) -> Result<(), Alloc
     ensures { OnOk result (string_bytes out.new ≡ string_bytes out.old ++ lower line.now window) }
 {
     cut(out, 0 < window.from, "  ")?;
-    blank(out, between(line, window.from, window.mark))?;
-    carets(out, between(line, window.mark, window.mark_end))?;
+    blank(out, between(line, window.from, window.onset))?;
+    carets(out, between(line, window.onset, window.onset_end))?;
     out.push_str("\n")
 }
 
@@ -126,12 +126,12 @@ pub fn show_line(
     out: &mut String,
     number: usize,
     line: &[u8],
-    mark: usize,
+    onset: usize,
     bytes: usize,
 ) -> Result<(), AllocError>
-    ensures { OnOk result (string_bytes out.new ≡ string_bytes out.old ++ line_with_carets number line.now mark bytes) }
+    ensures { OnOk result (string_bytes out.new ≡ string_bytes out.old ++ line_with_carets number line.now onset bytes) }
 {
-    let window = window_round(line, mark, bytes);
+    let window = window_round(line, onset, bytes);
     push_margin(out, number)?;
     push_upper(out, line, window)?;
     push_empty_margin(out, number)?;

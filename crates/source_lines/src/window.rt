@@ -13,8 +13,8 @@ const SHOWN_BEHIND: usize = 80;
 pub struct Window {
     pub from: usize,
     pub to: usize,
-    pub mark: usize,
-    pub mark_end: usize,
+    pub onset: usize,
+    pub onset_end: usize,
 }
 
 /// The less of two numbers.
@@ -54,21 +54,21 @@ fn rounded(line: &[u8], at: usize) -> usize
     }
 }
 
-/// What is shown of a line round the bytes from `mark` on, of which there are `length`.
-pub fn window_round(line: &[u8], mark: usize, length: usize) -> Window
-    ensures { result ≡ window_round line.now mark length }
+/// What is shown of a line round the bytes from `onset` on, of which there are `length`.
+pub fn window_round(line: &[u8], onset: usize, length: usize) -> Window
+    ensures { result ≡ window_round line.now onset length }
 {
-    let mark = least(mark, line.len());
-    let to = rounded(line, least(mark + SHOWN_BEHIND, line.len()));
-    let end = if length < line.len() - mark {
-        mark + length
+    let onset = least(onset, line.len());
+    let to = rounded(line, least(onset + SHOWN_BEHIND, line.len()));
+    let end = if length < line.len() - onset {
+        onset + length
     } else {
         line.len()
     };
     Window {
-        from: least(rounded(line, mark.saturating_sub(SHOWN_BEFORE)), mark),
+        from: least(rounded(line, onset.saturating_sub(SHOWN_BEFORE)), onset),
         to,
-        mark,
-        mark_end: least(rounded(line, end), to),
+        onset,
+        onset_end: least(rounded(line, end), to),
     }
 }

@@ -1,7 +1,7 @@
 // Where the lines of included files stand in what is prepared: on the line of their `#include`, a form feed behind each.
 
 use prepare::FORM_FEED;
-use prepare::marks::{Mark, mark_of};
+use prepare::markers::{Marker, marker_of};
 use std::alloc::{AllocError, Global};
 
 // Which lines of a text are those of its own file, as `prepare::numbering` puts them.
@@ -56,7 +56,7 @@ impl<'t> Lines<'t> {
     }
 
     // A mark: the next line is one of this file.
-    fn mark(&mut self, mark: &Mark<'t>) -> Result<(), AllocError> {
+    fn mark(&mut self, mark: &Marker<'t>) -> Result<(), AllocError> {
         let file = mark.file();
         let own = self.own.unwrap_or(file);
         self.own = Some(own);
@@ -113,7 +113,7 @@ pub fn lines_of<'t>(alloc: Global, text: &'t [u8]) -> Result<Vec<u8>, AllocError
         text
     };
     for line in bare.split_inclusive(|byte| *byte == b'\n') {
-        match mark_of(line) {
+        match marker_of(line) {
             Some(mark) => lines.mark(&mark)?,
             None => lines.plain(line)?,
         }

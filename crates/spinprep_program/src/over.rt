@@ -4,7 +4,7 @@ ghost use Rattle.std.specs.Prelude.{◌≡◌, ◌≤◌, ◌+◌, length, take,
 ghost use Rattle.std.specs.List.{list_all};
 ghost use Rattle.std.specs.Io.KnownBytes.{Appends};
 ghost use Rattle.prepare.specs.declared.TheConstants.{MOST_BYTES};
-ghost use Rattle.prepare.specs.Turns as as_turns;
+ghost use Rattle.prepare.specs.Stretches as as_stretches;
 ghost use Rattle.prepare.specs.Spelling as as_spelling;
 ghost use Rattle.prepare.specs.Laws as laws;
 ghost use Rattle.spinprep_program.specs.Over.{count, Takes, TakesFront, TellsTokens, PreparesOver, BreaksOver};
@@ -17,8 +17,8 @@ use prepare::changes::{exchanges, respelled};
 use prepare::coding::coded;
 use prepare::numbering::numbered;
 use prepare::spelling::spelled;
-use prepare::turn::{Form, Turn};
-use prepare::turns::turns;
+use prepare::stretch::{Form, Stretch};
+use prepare::stretches::stretches;
 use std::alloc::{AllocError, Global};
 use std::io;
 use std::io::{Read, Write};
@@ -45,18 +45,18 @@ fn text_of<R: Read + Drop>(alloc: Global, reader: R) -> io::Result<Vec<u8>>
 }
 
 // Whether a token is that of a block, or one that the language has.
-fn is_token(turn: &Turn<'_>) -> bool
-    ensures { result ≡ laws.is_token turn.now }
+fn is_token(stretch: &Stretch<'_>) -> bool
+    ensures { result ≡ laws.is_token stretch.now }
 {
-    matches!(turn.form(), Form::Blanked) || !same_kind(turn.kind(), Kind::LeftOut)
+    matches!(stretch.form(), Form::Blanked) || !same_kind(stretch.kind(), Kind::LeftOut)
 }
 
 // Whether all are.
-fn are_tokens(turns: &[Turn<'_>]) -> bool
-    ensures { result ≡ list_all laws.is_token turns.now }
+fn are_tokens(stretches: &[Stretch<'_>]) -> bool
+    ensures { result ≡ list_all laws.is_token stretches.now }
 {
-    for turn in turns {
-        if !is_token(turn) {
+    for stretch in stretches {
+        if !is_token(stretch) {
             return false;
         }
     }
@@ -77,16 +77,16 @@ fn separated<'t>(
     text: &'t [u8],
     report: &mut Report<'t>,
 ) -> Result<WithSeparators, AllocError>
-    ensures text { IfOk result (λ s. s.text.items ≡ as_spelling.spelled (as_turns.turns text.now)) }
+    ensures text { IfOk result (λ s. s.text.items ≡ as_spelling.spelled (as_stretches.stretches text.now)) }
     ensures tokens { IfOk result (λ s. s.are_tokens ≡ laws.has_tokens_alone text.now) }
 {
-    let turns = turns(alloc, text)?;
-    for turn in &turns {
-        report.turn(turn);
+    let stretches = stretches(alloc, text)?;
+    for stretch in &stretches {
+        report.stretch(stretch);
     }
     report.again();
-    let are_tokens = are_tokens(&turns);
-    let text = spelled(alloc, &turns)?;
+    let are_tokens = are_tokens(&stretches);
+    let text = spelled(alloc, &stretches)?;
     Ok(WithSeparators { text, are_tokens })
 }
 
@@ -98,7 +98,7 @@ fn exchanged<'t>(
 ) -> Result<Vec<u8>, AllocError>
     ensures { IfOk result (λ v. v.items ≡ laws.exchanged text.now) }
 {
-    let tokens = turns(alloc, text)?;
+    let tokens = stretches(alloc, text)?;
     let exchanges = exchanges(alloc, &tokens)?;
     drop(tokens);
     for exchange in &exchanges {
@@ -135,8 +135,8 @@ fn put<W: Write>(out: &mut W, bytes: &[u8]) -> Result<(), Stop>
     ensures begun { OnErr result (TakesFront W.contents out.old out.new bytes.now) }
 {
     let mut rest = bytes;
-    for turn in 0..u64::MAX {
-        let _ = turn;
+    for stretch in 0..u64::MAX {
+        let _ = stretch;
         if rest.is_empty() {
             return match out.flush() {
                 Ok(()) => Ok(()),

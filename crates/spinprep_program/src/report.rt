@@ -2,7 +2,7 @@
 
 use crate::kinds::{Kinds, What};
 use prepare::changes::{Change, Exchange};
-use prepare::turn::{Form, Remark, Turn};
+use prepare::stretch::{Form, Remark, Stretch};
 use std::alloc::Global;
 
 // A block that is blanked: its word, its first line, and the line of the last token of it so far.
@@ -72,8 +72,8 @@ impl<'t> Report<'t> {
         self.kinds.add(what, token, self.line, self.line);
     }
 
-    fn remark(&mut self, turn: &Turn<'t>) {
-        match turn.remark() {
+    fn remark(&mut self, stretch: &Stretch<'t>) {
+        match stretch.remark() {
             Remark::Nothing => {}
             Remark::BlockEnds => {
                 if let Some(block) = &mut self.block {
@@ -82,29 +82,29 @@ impl<'t> Report<'t> {
             }
             Remark::BlockBegins => {
                 self.block = Some(Block {
-                    word: turn.token(),
+                    word: stretch.token(),
                     first: self.line,
                     last: self.line,
                     is_closed: false,
                 });
             }
-            Remark::LeftOut => self.left(left_out(turn.token()), turn.token()),
-            Remark::List => self.left(What::List, turn.token()),
+            Remark::LeftOut => self.left(left_out(stretch.token()), stretch.token()),
+            Remark::List => self.left(What::List, stretch.token()),
         }
     }
 
-    // Reads one turn more.
-    pub fn turn(&mut self, turn: &Turn<'t>) {
-        self.line = self.line.saturating_add(feeds(turn.gap()));
-        let is_blanked = matches!(turn.form(), Form::Blanked);
-        if !is_blanked || matches!(turn.remark(), Remark::BlockBegins) {
+    // Reads one stretch more.
+    pub fn stretch(&mut self, stretch: &Stretch<'t>) {
+        self.line = self.line.saturating_add(feeds(stretch.gap()));
+        let is_blanked = matches!(stretch.form(), Form::Blanked);
+        if !is_blanked || matches!(stretch.remark(), Remark::BlockBegins) {
             self.end_block();
         }
-        self.remark(turn);
+        self.remark(stretch);
         if let Some(block) = &mut self.block {
             block.last = self.line;
         }
-        self.line = self.line.saturating_add(feeds(turn.token()));
+        self.line = self.line.saturating_add(feeds(stretch.token()));
     }
 
     // Goes back to the first line, to read what becomes of the tokens.

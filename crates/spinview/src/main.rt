@@ -12,11 +12,11 @@ use files::{Others, choices_of, choices_of_input, create, model_of, others_of, s
 use pml_check::{CheckFault, Checked, check};
 use pml_inline::expand;
 use pml_lex::cut;
-use pml_lex::fault::LexFault;
-use pml_syntax::{SyntaxFault, parse};
+use pml_lex::fault::LexError;
+use pml_syntax::{SyntaxError, parse};
 use pml_token::token::Token;
 use pml_tree::tree::Tree;
-use promela_text::inline_fault::InlineFault;
+use promela_text::inline_fault::InlineError;
 use runs::run_all;
 use shown::{session, write_record};
 use std::fs::{File, OpenFile};
@@ -212,8 +212,8 @@ fn view_tokens<'a>(
 ) -> Result<(), NoView> {
     match parse(rt.alloc(), tokens) {
         Ok(tree) => view_tree(rt, asked, opened, tree),
-        Err(SyntaxFault::Memory) => Err(NoView::Memory),
-        Err(SyntaxFault::Syntax(line)) => Err(refused(rt, asked, opened, Refusal::Syntax, line)),
+        Err(SyntaxError::Memory) => Err(NoView::Memory),
+        Err(SyntaxError::Syntax(line)) => Err(refused(rt, asked, opened, Refusal::Syntax, line)),
     }
 }
 
@@ -225,9 +225,9 @@ fn view_cut(
 ) -> Result<(), NoView> {
     match expand(rt.alloc(), tokens) {
         Ok(expanded) => view_tokens(rt, asked, opened, expanded.as_slice()),
-        Err(InlineFault::Memory) => Err(NoView::Memory),
-        Err(InlineFault::Inline(_)) => Err(refused(rt, asked, opened, Refusal::Inline, 0)),
-        Err(InlineFault::TooDeep(line, _)) => {
+        Err(InlineError::Memory) => Err(NoView::Memory),
+        Err(InlineError::Inline(_)) => Err(refused(rt, asked, opened, Refusal::Inline, 0)),
+        Err(InlineError::TooDeep(line, _)) => {
             Err(refused(rt, asked, opened, Refusal::TooDeep, line))
         }
     }
@@ -236,10 +236,10 @@ fn view_cut(
 fn view_text(rt: &HostRuntime, asked: &Asked, opened: &Opened) -> Result<(), NoView> {
     match cut(rt.alloc(), opened.model.as_slice()) {
         Ok(tokens) => view_cut(rt, asked, opened, tokens.as_slice()),
-        Err(LexFault::Memory) => Err(NoView::Memory),
-        Err(LexFault::TooLong) => Err(refused(rt, asked, opened, Refusal::TextTooLong, 0)),
-        Err(LexFault::Lexical(line)) => Err(refused(rt, asked, opened, Refusal::Lexical, line)),
-        Err(LexFault::LeftOut(line)) => Err(refused(rt, asked, opened, Refusal::LeftOut, line)),
+        Err(LexError::Memory) => Err(NoView::Memory),
+        Err(LexError::TooLong) => Err(refused(rt, asked, opened, Refusal::TextTooLong, 0)),
+        Err(LexError::Lexical(line)) => Err(refused(rt, asked, opened, Refusal::Lexical, line)),
+        Err(LexError::LeftOut(line)) => Err(refused(rt, asked, opened, Refusal::LeftOut, line)),
     }
 }
 

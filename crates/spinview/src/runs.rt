@@ -59,7 +59,7 @@ fn run_chart(
 ) -> Result<&'static str, NoView> {
     let mut printed = Vec::new(rt.alloc());
     let ran = run(walk, replay, limit, &mut printed)?;
-    let steps = walk.turns().len();
+    let steps = walk.legs().len();
     let mut out = Writer::new(rt.alloc());
     add_chart(walk, steps, ran.most, &mut out)?;
     view_chart::chart::add_end(steps, ran.end.as_bytes(), &mut out);

@@ -25,14 +25,14 @@ pub fn show(rt: &HostRuntime, out: &Writer) -> Result<(), NoView> {
 // Saves the choices of a walk, and says whether that was done.
 fn save(rt: &HostRuntime, walk: &Walk<'_, '_>, name: &str, others: Others, out: &mut Writer) {
     let mut record = Writer::new(rt.alloc());
-    add_record(walk.turns(), &mut record);
+    add_record(walk.legs(), &mut record);
     if record.is_refused() || !is_saved(rt, name, others, record.bytes()) {
         out.add(b"cannot save ");
         out.add(name.as_bytes());
         out.add(b"\n");
         return;
     }
-    let count = choice_count(walk.turns());
+    let count = choice_count(walk.legs());
     out.add(b"saved: ");
     out.number(count);
     out.add(if count == 1 {
@@ -151,7 +151,7 @@ pub fn session(
 // Writes the record of a walk.
 pub fn write_record(rt: &HostRuntime, walk: &Walk<'_, '_>, name: &str) -> Result<(), NoView> {
     let mut record = Writer::new(rt.alloc());
-    add_record(walk.turns(), &mut record);
+    add_record(walk.legs(), &mut record);
     if record.is_refused() {
         return Err(NoView::Memory);
     }

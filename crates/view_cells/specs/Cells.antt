@@ -8,12 +8,13 @@ use Rattle.pml_program.specs.declared.form.Form.TheVariants as kind
 use Rattle.pml_program.specs.declared.program.Slot.{Slot}
 use Rattle.pml_program.specs.declared.program.Fields.{Fields}
 use Rattle.pml_program.specs.declared.program.Program.{Program}
-use Rattle.promela_run.specs.State.{leaf, slots_of, State}
+use Rattle.promela_run.specs.State.{leaf, State}
 use Rattle.promela_process.specs.declared.place.Place.{Place}
 use Rattle.promela_process.specs.Store.{size_at}
 use Rattle.promela_run.specs.Lines.{constant, path}
-use Rattle.pml_lines.specs.Changed.{process_in}
+use Rattle.run_values.specs.Changed.{process_in}
 use Rattle.promela_run.specs.World.{proctype_of}
+use Rattle.run_layout.specs.Tables.{slots_of}
 
 -- the globals, or the variables of a process
 abbrev pub variables_by : State → Option ℕ → List Slot

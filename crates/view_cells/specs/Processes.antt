@@ -22,7 +22,7 @@ line_in (Some q) c = line_at q.body q.end.line c
 
 abbrev pub line_by : Program → Option Stand → ℕ
 line_by pr None = 0
-line_by pr (Some y) = line_in (slice_get pr.proctypes y.kind) y.control
+line_by pr (Some y) = line_in (slice_get pr.proctypes y.sort) y.control
 
 -- the line of what stands first in a process, or of its closing brace
 abbrev pub line_of : State → ℕ → ℕ

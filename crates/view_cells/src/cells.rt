@@ -11,13 +11,13 @@ use crate::channels::add_channel_name;
 use crate::made::made_for;
 use crate::picture::Picture;
 use crate::processes::proctype_of;
-use pml_lines::place::{path, worth};
 use pml_program::form::Form;
 use pml_program::program::Slot;
 use pml_store::store::Store;
 use pml_token::token::Token;
 use pml_tree::tree::Scalar;
 use promela_process::place::Place;
+use run_values::place::{path, worth};
 use view_text::writer::Writer;
 
 fn slot_in<'p, 'a>(slots: &'p [Slot<'a>], variable: usize) -> Option<&'p Slot<'a>>

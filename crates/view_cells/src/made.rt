@@ -2,11 +2,11 @@
 
 use crate::cells::{cell_count, slot_at, variable_count};
 use crate::picture::Picture;
-use pml_cells::typedefs::Typedefs;
 use pml_program::form::Form;
 use pml_program::program::{Fields, Initial, Slot};
 use promela_process::place::Place;
 use promela_run::live_channel::LiveChannel;
+use run_layout::typedefs::Typedefs;
 
 // What is found of the k-th channel in a variable: the cell that it was made for, or of how many the variables behind it are to be passed over.
 #[derive(Clone, Copy)]

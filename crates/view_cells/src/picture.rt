@@ -3,10 +3,10 @@
 ghost use Rattle.std.specs.Prelude.{◌≡◌, ◌≤◌, length};
 ghost use Rattle.profile.specs.declared.TheConstants.{MOST_PROCESSES};
 
-use pml_cells::tables::Tables;
-use pml_moves::scene::Scene;
 use pml_program::program::Program;
 use pml_store::store::Store;
+use run_layout::tables::Tables;
+use run_search::scene::Scene;
 use std::marker::Model;
 
 /// A state of a model, with the tables of the model and the numbers of its variables, lent. Contracts see the state.

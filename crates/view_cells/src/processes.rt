@@ -5,15 +5,15 @@ ghost use Rattle.std.specs.Option.{option_copied};
 ghost use Rattle.std.specs.Fmt.{decimal};
 ghost use Rattle.pml_flow.specs.Points.{point_at};
 ghost use Rattle.promela_process.specs.Offers.{line_at};
-ghost use Rattle.pml_moves.specs.Scene.{IsBody, stand_of};
+ghost use Rattle.run_search.specs.Scene.{IsBody, stand_of};
 ghost use Rattle.promela_run.specs.World.{proctype_of as proctype_in};
 ghost use Rattle.view_text.specs.Written.{Adds};
 ghost use Rattle.view_cells.specs.Processes.{name_of, line_by, line_of};
 
 use crate::picture::Picture;
-use pml_lines::change::proctype_name;
-use pml_moves::scene::{Body, Scene, Seat, seat_at};
 use pml_program::program::{Proctype, Program};
+use run_search::scene::{Body, Scene, Seat, seat_at};
+use run_values::change::proctype_name;
 use view_text::writer::Writer;
 
 fn proctype_at<'p, 'a>(program: &'p Program<'a>, kind: usize) -> Option<&'p Proctype<'a>>
@@ -25,7 +25,7 @@ fn proctype_at<'p, 'a>(program: &'p Program<'a>, kind: usize) -> Option<&'p Proc
 fn proctype_in<'p, 'a>(scene: &Scene<'_, 'p, 'a>, process: usize) -> Option<&'p Proctype<'a>>
     ensures { option_copied result ≡ proctype_in scene.now process }
 {
-    proctype_at(scene.program(), seat_at(scene.seats(), process)?.kind)
+    proctype_at(scene.program(), seat_at(scene.seats(), process)?.sort)
 }
 
 /// The proctype of a process.
@@ -76,7 +76,7 @@ fn line_in(body: &Body<'_, '_, '_>, node: usize) -> u32
 fn line_at_seat(scene: &Scene<'_, '_, '_>, seat: Seat) -> u32
     ensures { result ≡ line_by scene.now.program (Some (stand_of scene.now.program seat)) }
 {
-    match scene.body(seat.kind) {
+    match scene.body(seat.sort) {
         Some(body) => line_in(&body, seat.node),
         None => 0,
     }

@@ -6,7 +6,7 @@ use view_cells::channels::{add_fields, add_short_name, channel_at};
 use view_cells::picture::Picture;
 use view_cells::processes::add_name;
 use view_text::writer::Writer;
-use view_waits::effect::{Does, Effect};
+use view_waits::transfer::{Does, Transfer};
 use view_waits::waits::starter_of;
 
 /// How many bytes a column has, where so many processes live at once at most: a row has 80 where it can.
@@ -18,14 +18,14 @@ pub fn width_of(most: usize) -> usize {
 }
 
 // Writes the name of a channel, a sign, and the fields of a message: `q!1,2`.
-fn add_label(picture: &Picture<'_, '_, '_>, effect: &Effect, sign: &[u8], out: &mut Writer) {
-    add_short_name(picture, effect.channel, out);
+fn add_label(picture: &Picture<'_, '_, '_>, transfer: &Transfer, sign: &[u8], out: &mut Writer) {
+    add_short_name(picture, transfer.channel, out);
     out.add(sign);
-    if let Some(channel) = channel_at(picture, effect.channel) {
+    if let Some(channel) = channel_at(picture, transfer.channel) {
         add_fields(
             picture,
             channel.types(),
-            effect.message.as_slice(),
+            transfer.message.as_slice(),
             b",",
             out,
         );
@@ -90,17 +90,17 @@ pub fn add_row(
     width: usize,
     step: usize,
     m: &Move,
-    effect: &Effect,
+    transfer: &Transfer,
     out: &mut Writer,
 ) {
     if let Move::Death(process) = m {
         return add_death(width, step, *process, out);
     }
-    let Some(sign) = sign_of(effect.does) else {
+    let Some(sign) = sign_of(transfer.does) else {
         return;
     };
     let mut label = Writer::new(out.allocator());
-    add_label(picture, effect, sign.as_bytes(), &mut label);
+    add_label(picture, transfer, sign.as_bytes(), &mut label);
     let alive = picture.process_count();
     let mut row = Row::new(out.allocator(), width, step);
     match m {

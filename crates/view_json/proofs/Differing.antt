@@ -6,7 +6,7 @@ use Rattle.std.proofs.lemmas.Bool.{true≢false}
 use Rattle.std.proofs.lemmas.List.{map-append}
 use Rattle.json.specs.Token.{Token, begin_object, end_object, begin_array, key}
 use Rattle.json.specs.Print.{print, print_from, escape_byte, ends_value, ArePrintable}
-use Rattle.pml_lines.specs.declared.changed.Change.{Change}
+use Rattle.run_values.specs.declared.changed.Change.{Change}
 use Rattle.promela_run.specs.State.{channel_at, State}
 use Rattle.promela_run.specs.declared.moves.Move.{Move}
 use Rattle.view_waits.specs.Waits.{waits as all_waits}

@@ -10,10 +10,10 @@ use Rattle.promela_run.specs.State.{channel_at, State}
 use Rattle.promela_run.specs.declared.moves.Move.{Move}
 use Rattle.promela_run.specs.declared.moves.Move.TheVariants.{Death, Alone, Pair}
 use Rattle.promela_run.specs.World.{move_text}
-use Rattle.view_waits.specs.declared.effect.Effect.{Effect}
+use Rattle.view_waits.specs.declared.transfer.Transfer.{Transfer}
 use Rattle.view_json.specs.declared.lines.Ahead.{Ahead}
 use Rattle.view_json.specs.Objects.{count, text, member, fields}
-use Rattle.view_json.specs.Lines.{texts, picked, mover, receiver, passed, effect, choices, front}
+use Rattle.view_json.specs.Lines.{texts, picked, mover, receiver, passed, transfer, choices, front}
 use Rattle.view_json.proofs.Listed.{ends_from, object_ends, array_ends}
 use Rattle.view_json.proofs.Stepped.{ends_append}
 
@@ -37,18 +37,18 @@ receiver_ends s (Death p) = refl
 receiver_ends s (Alone k t) = refl
 receiver_ends s (Pair k j t) = object_ends false (picked s j)
 
-passed_ends : (pr : Program) (e : Effect) (c : Option ChannelState) → ends_from true (passed pr e c) ≡ true
+passed_ends : (pr : Program) (e : Transfer) (c : Option ChannelState) → ends_from true (passed pr e c) ≡ true
 passed_ends pr e None = refl
 passed_ends pr e (Some c) = array_ends true (codes "message") (fields pr c.types e.message.items)
 
 -- what is told of a step before it is taken ends a value
 pub front_value : (s : State) (event : List ℕ) (a : Ahead) (m : Move) → ends_value (front s event a m) ≡ true
 front_value s event a m =
-    let e = a.effect.now in
+    let e = a.transfer.now in
     let ms = a.moves.now in
     let said = passed s.program e (channel_at s.channels (pos e.channel)) in
-    let one = mover s m ++ (effect s e ++ receiver s m) in
+    let one = mover s m ++ (transfer s e ++ receiver s m) in
     ends_append true (choices s ms) one ∙ ap (λ (c : Bool). ends_from c one) (choices_end s ms)
-    ∙ ends_append true (mover s m) (effect s e ++ receiver s m) ∙ ap (λ (c : Bool). ends_from c (effect s e ++ receiver s m)) (mover_ends s m)
+    ∙ ends_append true (mover s m) (transfer s e ++ receiver s m) ∙ ap (λ (c : Bool). ends_from c (transfer s e ++ receiver s m)) (mover_ends s m)
     ∙ ends_append true said (receiver s m) ∙ ap (λ (c : Bool). ends_from c (receiver s m)) (passed_ends s.program e (channel_at s.channels (pos e.channel)))
     ∙ receiver_ends s m

@@ -6,7 +6,7 @@ use Rattle.json.specs.Token.{Token, end_object}
 use Rattle.json.specs.Print.{print, print_from, escape_byte, ends, ends_value, ArePrintable}
 use Rattle.json.proofs.Printed.Tokens.{tokens-print}
 use Rattle.view_json.proofs.Printable.{none_printable, one_printable, both_printable}
-use Rattle.pml_lines.specs.declared.changed.Change.{Change}
+use Rattle.run_values.specs.declared.changed.Change.{Change}
 use Rattle.promela_run.specs.declared.moves.Move.{Move}
 use Rattle.promela_run.specs.State.{State}
 use Rattle.view_text.specs.Written.{Written, Adds}

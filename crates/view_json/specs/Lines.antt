@@ -14,11 +14,11 @@ use Rattle.promela_run.specs.declared.moves.Pick.{Pick}
 use Rattle.promela_run.specs.declared.moves.Move.{Move}
 use Rattle.promela_run.specs.declared.moves.Move.TheVariants.{Death, Alone, Pair}
 use Rattle.promela_run.specs.World.{move_text}
-use Rattle.pml_texts.specs.Staying.{stuck_of}
+use Rattle.run_texts.specs.Staying.{stuck_of}
 use Rattle.view_cells.specs.Processes.{line_of}
-use Rattle.view_waits.specs.declared.effect.Does.{Does}
-use Rattle.view_waits.specs.declared.effect.Does.TheVariants as does
-use Rattle.view_waits.specs.declared.effect.Effect.{Effect}
+use Rattle.view_waits.specs.declared.transfer.Does.{Does}
+use Rattle.view_waits.specs.declared.transfer.Does.TheVariants as does
+use Rattle.view_waits.specs.declared.transfer.Transfer.{Transfer}
 use Rattle.view_json.specs.declared.lines.Ahead.{Ahead}
 use Rattle.view_json.specs.Objects.{count, text, member, object, array, message, named, offer}
 use Rattle.view_text.specs.Written.{Written}
@@ -57,13 +57,13 @@ abbrev pub receiver : State → Move → List Token
 receiver s (Pair k j t) = addressee s j
 receiver s m = []
 
-abbrev pub passed : Program → Effect → Option ChannelState → List Token
+abbrev pub passed : Program → Transfer → Option ChannelState → List Token
 passed pr e None = []
 passed pr e (Some c) = member (codes "chan") (count e.channel) ++ member (codes "message") (message pr c.types e.message.items)
 
 -- what it does, with which channel, and with which message
-abbrev pub effect : State → Effect → List Token
-effect s e = member (codes "does") (string (does_word e.does) ∷ []) ++ passed s.program e (channel_at s.channels (pos e.channel))
+abbrev pub transfer : State → Transfer → List Token
+transfer s e = member (codes "does") (string (does_word e.does) ∷ []) ++ passed s.program e (channel_at s.channels (pos e.channel))
 
 -- ---- the end
 
@@ -116,7 +116,7 @@ chosen s step choice ms = numbered step choice (length ms) ++ choices s ms
 
 -- What is told of a step before it is taken.
 abbrev pub front : State → List ℕ → Ahead → Move → List Token
-front s event a m = begun event ++ (chosen s a.step a.choice a.moves.now ++ (mover s m ++ (effect s a.effect.now ++ receiver s m)))
+front s event a m = begun event ++ (chosen s a.step a.choice a.moves.now ++ (mover s m ++ (transfer s a.transfer.now ++ receiver s m)))
 
 -- A step that comes to a fault.
 abbrev pub faulted : Fault → List Token

@@ -4,7 +4,7 @@ use Rattle.std.specs.List.{flat_map}
 use Rattle.std.specs.Str.{bytes_eq}
 use Rattle.json.specs.Token.{Token, end_object}
 use Rattle.json.specs.Print.{print, ends_value, ArePrintable}
-use Rattle.pml_lines.specs.declared.changed.Change.{Change}
+use Rattle.run_values.specs.declared.changed.Change.{Change}
 use Rattle.promela_run.specs.declared.moves.Move.{Move}
 use Rattle.promela_run.specs.State.{State}
 use Rattle.view_waits.specs.Waits.{waits}

@@ -6,7 +6,7 @@ use Rattle.json.specs.Print.{print}
 use Rattle.pml_program.specs.declared.program.Proctype.{Proctype}
 use Rattle.pml_program.specs.declared.program.Program.{Program}
 use Rattle.promela_run.specs.Lines.{proctype_name}
-use Rattle.pml_lines.specs.declared.changed.Change.{Change}
+use Rattle.run_values.specs.declared.changed.Change.{Change}
 use Rattle.promela_run.specs.declared.moves.Move.{Move}
 use Rattle.promela_run.specs.State.{State}
 use Rattle.view_text.specs.Written.{Written, Adds}

@@ -8,7 +8,7 @@ ghost use Rattle.promela_run.specs.World.{move_text};
 ghost use Rattle.view_text.specs.Written.{Adds};
 ghost use Rattle.view_json.specs.Printed.{Writes};
 ghost use Rattle.view_json.specs.Objects.{text};
-ghost use Rattle.view_json.specs.Lines.{begun, texts, does_word, mover, addressee, receiver, passed, effect, stuck_by, stuck, all_stuck, open_moves, stuck_where, is_own, ended, end_tokens, choices, chosen, front, faulted, line, ReadsBack, CanBeRead};
+ghost use Rattle.view_json.specs.Lines.{begun, texts, does_word, mover, addressee, receiver, passed, transfer, stuck_by, stuck, all_stuck, open_moves, stuck_where, is_own, ended, end_tokens, choices, chosen, front, faulted, line, ReadsBack, CanBeRead};
 
 pub use crate::changed::Shown;
 use crate::channel::message;
@@ -18,15 +18,15 @@ pub use crate::start::add_start;
 pub use crate::steps::{Done, add_step};
 use crate::tokens::Json;
 use diagnostics::Fault;
-use pml_texts::ends::stuck as pml_stuck;
-use pml_texts::texts::add_move;
 use promela_run::moves::{Move, Pick};
+use run_texts::ends::stuck as pml_stuck;
+use run_texts::texts::add_move;
 use std::alloc::Global;
 use view_cells::channels::channel_at;
 use view_cells::picture::Picture;
 use view_cells::processes::line_of;
 use view_text::writer::Writer;
-use view_waits::effect::{Does, Effect};
+use view_waits::transfer::{Does, Transfer};
 
 /// A step that is about to be taken: its number, which of the present moves it is, and what it does.
 #[derive(Clone, Copy)]
@@ -34,7 +34,7 @@ pub struct Ahead<'s> {
     pub step: usize,
     pub choice: usize,
     pub moves: &'s [Move],
-    pub effect: &'s Effect,
+    pub transfer: &'s Transfer,
 }
 
 /// Begins a line that tells of this.
@@ -112,19 +112,19 @@ fn mover(picture: &Picture<'_, '_, '_>, json: &mut Json, m: &Move)
 }
 
 // Writes with which channel something is done, and with which message.
-fn passed(picture: &Picture<'_, '_, '_>, json: &mut Json, effect: &Effect)
-    ensures { Writes json.old json.new (passed picture.now.program effect.now (channel_at picture.now.channels (pos effect.now.channel))) }
+fn passed(picture: &Picture<'_, '_, '_>, json: &mut Json, transfer: &Transfer)
+    ensures { Writes json.old json.new (passed picture.now.program transfer.now (channel_at picture.now.channels (pos transfer.now.channel))) }
 {
-    if let Some(channel) = channel_at(picture, effect.channel) {
-        number(json, "chan", effect.channel);
+    if let Some(channel) = channel_at(picture, transfer.channel) {
+        number(json, "chan", transfer.channel);
         json.key("message");
-        message(picture, json, channel.types(), effect.message.as_slice());
+        message(picture, json, channel.types(), transfer.message.as_slice());
     }
 }
 
 // Writes what it does with a message.
-fn effect(picture: &Picture<'_, '_, '_>, json: &mut Json, done: &Effect)
-    ensures { Writes json.old json.new (effect picture.now done.now) }
+fn transfer(picture: &Picture<'_, '_, '_>, json: &mut Json, done: &Transfer)
+    ensures { Writes json.old json.new (transfer picture.now done.now) }
 {
     json.key("does");
     json.string(does(done.does));
@@ -180,7 +180,7 @@ pub fn front(
     let mut json = begin(alloc, event);
     chosen(picture, &mut json, ahead);
     mover(picture, &mut json, m);
-    effect(picture, &mut json, ahead.effect);
+    transfer(picture, &mut json, ahead.transfer);
     receiver(picture, &mut json, m);
     json
 }

@@ -27,7 +27,7 @@ fn proctype_name(json: &mut Json, proctype: &Proctype<'_>)
 {
     let mut name = Writer::new(json.allocator());
     let mut bytes = name.take();
-    let answer = pml_lines::change::proctype_name(&proctype.name, &mut bytes);
+    let answer = run_values::change::proctype_name(&proctype.name, &mut bytes);
     name.put(bytes, answer);
     written(json, "name", &name);
 }

@@ -18,9 +18,10 @@ use Rattle.pml_program.specs.declared.program.Basic.TheBlock.{shape-the_row-Stmt
 use Rattle.pml_program.specs.declared.program.Stmt.{Stmt}
 use Rattle.pml_program.specs.declared.program.Seq.{Seq, Seq', Row_of-Stmt, end_of-Stmt, more_of-Stmt, items-the_row-Stmt, roll-Seq, items_hidden-the_row-Stmt-1}
 use Rattle.promela_process.specs.Control.{steps}
-use Rattle.promela_model.specs.Known.{Globals}
+use Rattle.promela_model.specs.Stands.{Globals}
 use Rattle.promela_model.specs.StandsModel as stands
-use Rattle.promela_model.specs.StandsModel.{item_of, items_of, StandsBasic, StandsItems, StandsSeq, StandsOptions}
+use Rattle.promela_model.specs.StandsModel.{StandsBasic, StandsItems, StandsSeq, StandsOptions}
+use Rattle.promela_model.specs.GrammarOfActions.{item_of, seq_of}
 use Rattle.view_waits.specs.Filled.{IsFilled, HasSteps, SomeSteps, EachStep, HasOptions, EachOption, IsFilledBody}
 
 -- ---- a tree
@@ -82,7 +83,7 @@ basic-is x y is = ap tree_basic (sym is) ∙ fold-roll-Basic Code Code Code basi
 pub item-is : (labels : List Word) (x : TreeBasic) (tokens : List Word) → tree_item (item_of labels x tokens) ≡ tree_basic x
 item-is labels x tokens = fold-roll-Item Code Code Code basic_code item_code seq_code (record { labels = labels; basic = x; tokens = tokens })
 
-pub seq-is : (is : List Item) → tree_seq (items_of is) ≡ (has_step (map tree_item is), all_filled (map tree_item is))
+pub seq-is : (is : List Item) → tree_seq (seq_of is) ≡ (has_step (map tree_item is), all_filled (map tree_item is))
 seq-is is = fold-roll-Seq Code Code Code basic_code item_code seq_code (record { items = is })
 
 pub declare-is : (vs : List Variable) → tree_basic (form.Declare vs) ≡ (false, true)

@@ -10,7 +10,7 @@ use Rattle.promela_run.specs.State.{Begun, first_state}
 use Rattle.promela_run.specs.declared.moves.Move.{Move}
 use Rattle.promela_run.specs.World.{Running, first, rules}
 use Rattle.pml_sim.specs.Lent.{IsFirst}
-use Rattle.pml_play.specs.Run.{Turn, IsRun, PlaysEachPath, last_state}
+use Rattle.pml_play.specs.Run.{Leg, IsRun, PlaysEachPath, last_state}
 use Rattle.pml_play.specs.Transcript.{IsModel}
 use Rattle.pml_play.proofs.EachPath.{just_path, text_plays_each}
 use Rattle.view_walk.specs.Choices.{chosen, led, led_from}
@@ -24,8 +24,8 @@ use Rattle.view_laws.proofs.Along.{Fronts, path_along, goes_along, record_split}
 pub record Found (w : Walked) : Type 0 where
   pub start : Running
   pub is_first : IsFirst w.program w.lossy start
-  pub path : List (Turn Running Move)
-  pub fronts : Fronts rules start path w.turns
+  pub path : List (Leg Running Move)
+  pub fronts : Fronts rules start path w.legs
   pub here : w.is_lost ≡ false → last_state start (take w.at path) ≡ w.state
 
 module _ (w : Walked) (h : IsWalk w) where
@@ -33,17 +33,17 @@ module _ (w : Walked) (h : IsWalk w) where
   from (Ok b) is =
       let start = first w.program b w.lossy in
       let begins : started w.program w.lossy (first_state w.program) ≡ Some start = ap (started w.program w.lossy) is in
-      let whole : led (chosen rules) start w.turns ≡ Some h.last = ap (λ (o : Option Running). led_from rules o w.turns) (sym begins) ∙ h.whole in
-      let p = path_along rules start w.turns h.last whole in
+      let whole : led (chosen rules) start w.legs ≡ Some h.last = ap (λ (o : Option Running). led_from rules o w.legs) (sym begins) ∙ h.whole in
+      let p = path_along rules start w.legs h.last whole in
       record {
         start = start;
         is_first = record { begun = b; starts = is; is = refl };
         path = p.0;
         fronts = p.1;
         here = λ found. same_Some (last_state start (take w.at p.0)) w.state
-            (sym (p.1.leads w.at) ∙ ap (λ (o : Option Running). led_from rules o (take w.at w.turns)) (sym begins) ∙ h.here found);
+            (sym (p.1.leads w.at) ∙ ap (λ (o : Option Running). led_from rules o (take w.at w.legs)) (sym begins) ∙ h.here found);
       }
-  from (Err f) is = absurd (none-some h.last (ap (λ (r : Result Begun Fault). led_from rules (started w.program w.lossy r) w.turns) (sym is) ∙ h.whole))
+  from (Err f) is = absurd (none-some h.last (ap (λ (r : Result Begun Fault). led_from rules (started w.program w.lossy r) w.legs) (sym is) ∙ h.whole))
 
   pub found_path : Found w
   found_path = from (first_state w.program) refl
@@ -53,7 +53,7 @@ has_path w f = record {
   start = f.start;
   is_first = f.is_first;
   path = f.path;
-  along = goes_along rules f.start f.path w.turns f.fronts;
+  along = goes_along rules f.start f.path w.legs f.fronts;
   here = f.here;
 }
 
@@ -73,19 +73,19 @@ module _ (text : List ℕ) (w : Walked) (options : Options) (session : List ℕ 
   each : PlaysEachPath rules options.limit f.start session
   each = text_plays_each is_its_model h.is_transcript
 
-  goes_first : length w.turns ≤ options.limit → (more : List ℕ)
-      → (later : List (Turn Running Move)) × IsRun rules options.limit f.start (f.path ++ later) (session (record_of w.turns ++ more))
+  goes_first : length w.legs ≤ options.limit → (more : List ℕ)
+      → (later : List (Leg Running Move)) × IsRun rules options.limit f.start (f.path ++ later) (session (record_of w.legs ++ more))
   goes_first within more =
-      let along = goes_along rules f.start f.path w.turns f.fronts in
+      let along = goes_along rules f.start f.path w.legs f.fronts in
       let count = along.counted in
-      each f.path (numbers_of w.turns) more along.is_path (omega (arith, within, count))
+      each f.path (numbers_of w.legs) more along.is_path (omega (arith, within, count))
 
-  goes_just : options.limit ≤ length w.turns → (more : List ℕ) → IsRun rules options.limit f.start (take options.limit f.path) (session (record_of w.turns ++ more))
+  goes_just : options.limit ≤ length w.legs → (more : List ℕ) → IsRun rules options.limit f.start (take options.limit f.path) (session (record_of w.legs ++ more))
   goes_just within more =
       let count = f.fronts.counted in
       let few : options.limit ≤ length f.path = omega (arith, within, count) in
-      subst (λ (l : List ℕ). IsRun rules options.limit f.start (take options.limit f.path) (session l)) (sym (record_split options.limit w.turns more))
-      (just_path rules options.limit f.start session each (take options.limit f.path) (numbers_of (take options.limit w.turns)) (record_of (drop options.limit w.turns) ++ more)
+      subst (λ (l : List ℕ). IsRun rules options.limit f.start (take options.limit f.path) (session l)) (sym (record_split options.limit w.legs more))
+      (just_path rules options.limit f.start session each (take options.limit f.path) (numbers_of (take options.limit w.legs)) (record_of (drop options.limit w.legs) ++ more)
       (f.fronts.fronts options.limit) (length-take-le options.limit f.path few))
 
   pub session_goes : GoesAlong w options session text

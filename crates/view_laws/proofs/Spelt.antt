@@ -17,7 +17,7 @@ use Rattle.promela_model.specs.GrammarOfModels.{SpellsBasic, SpellsStatement, Sp
 use Rattle.pml_program.specs.declared.program.Fields.{Fields}
 use Rattle.pml_program.specs.declared.program.Proctype.{Proctype}
 use Rattle.pml_program.specs.declared.program.Program.{Program}
-use Rattle.promela_model.specs.Known.{Globals}
+use Rattle.promela_model.specs.Stands.{Globals}
 use Rattle.promela_model.specs.StandsModel as stands
 use Rattle.promela_model.specs.StandsModel.{StandsUnits, StandsModel}
 use Rattle.view_waits.specs.Filled.{IsFilledBody}
@@ -70,10 +70,10 @@ module _ (r : Range) where
       seq_good (test ∷ s ++ up ∷ []) (ap (λ (c : Code). c.0 || has_step (map tree_item (s ++ up ∷ []))) test_whole)
       (both (tree_item test).1 (all_filled (map tree_item (s ++ up ∷ []))) (ap (λ (c : Code). c.1) test_whole) (all_append s up filled up_whole)) in
       let out_good : good (tree_seq (for_out i.line)) ≡ true = two_good (otherwise_item i.line) (breaking i.line) (item_whole [] _ _ (plain-is a.Else)) (item_whole [] _ _ break-is) in
-      let turn : tree_item (turning i.line (for_on i.line i.compared i.raised i.tokens r.last s ∷ for_out i.line ∷ [])) ≡ whole =
+      let leg : tree_item (turning i.line (for_on i.line i.compared i.raised i.tokens r.last s ∷ for_out i.line ∷ [])) ≡ whole =
       item_whole [] _ _ (turning_whole (for_on i.line i.compared i.raised i.tokens r.last s) (for_out i.line) on_good out_good) in
       let first : Item = setting i.line i.set i.tokens r.first in
-      let all = two_good first (turning i.line (for_on i.line i.compared i.raised i.tokens r.last s ∷ for_out i.line ∷ [])) (item_whole [] _ _ (plain-is _)) turn in
+      let all = two_good first (turning i.line (for_on i.line i.compared i.raised i.tokens r.last s ∷ for_out i.line ∷ [])) (item_whole [] _ _ (plain-is _)) leg in
       block-is (seq_of (first ∷ turning i.line (for_on i.line i.compared i.raised i.tokens r.last s ∷ for_out i.line ∷ []) ∷ [])) ∙ ap (λ (c : Bool). (true, c)) all
 
   select_whole : tree_basic (select_of r) ≡ whole
@@ -83,9 +83,9 @@ module _ (r : Range) where
       let out : Seq = select_out i.line in
       let on_good : good (tree_seq on) ≡ true = two_good _ _ (item_whole [] _ _ (plain-is _)) (item_whole [] _ _ (plain-is (a.Increment i.raised))) in
       let out_good : good (tree_seq out) ≡ true = one_good (breaking i.line) (item_whole [] _ _ break-is) in
-      let turn : tree_item (turning i.line (on ∷ out ∷ [])) ≡ whole = item_whole [] _ _ (turning_whole on out on_good out_good) in
+      let leg : tree_item (turning i.line (on ∷ out ∷ [])) ≡ whole = item_whole [] _ _ (turning_whole on out on_good out_good) in
       let first : Item = setting i.line i.set i.tokens r.first in
-      let all = two_good first (turning i.line (on ∷ out ∷ [])) (item_whole [] _ _ (plain-is _)) turn in
+      let all = two_good first (turning i.line (on ∷ out ∷ [])) (item_whole [] _ _ (plain-is _)) leg in
       block-is (seq_of (first ∷ turning i.line (on ∷ out ∷ []) ∷ [])) ∙ ap (λ (c : Bool). (true, c)) all
 
 -- ---- bodies

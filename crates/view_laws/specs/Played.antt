@@ -6,7 +6,7 @@ use Rattle.promela_session.specs.declared.ends.Options.{Options}
 use Rattle.promela_run.specs.declared.moves.Move.{Move}
 use Rattle.promela_run.specs.World.{Running, rules}
 use Rattle.pml_play.specs.Parts.{IsReady}
-use Rattle.pml_play.specs.Run.{Turn, IsRun, last_state}
+use Rattle.pml_play.specs.Run.{Leg, IsRun, last_state}
 use Rattle.pml_play.specs.Transcript.{IsModel, IsTranscript}
 use Rattle.view_walk.specs.Records.{record_of}
 use Rattle.view_walk.specs.Walks.{Walked, IsWalk}
@@ -23,9 +23,9 @@ pub record IsSessionOn (text : List ℕ) (w : Walked) (options : Options) (sessi
 pub record GoesAlong (w : Walked) (options : Options) (session : List ℕ → Part End) (text : List ℕ) : Type 0 where
   pub walk : HasPath w
   pub is_model : IsModel text options.lossy walk.start
-  pub first : length w.turns ≤ options.limit → (more : List ℕ)
-      → (later : List (Turn Running Move)) × IsRun rules options.limit walk.start (walk.path ++ later) (session (record_of w.turns ++ more))
-  pub just : options.limit ≤ length w.turns → (more : List ℕ)
-      → IsRun rules options.limit walk.start (take options.limit walk.path) (session (record_of w.turns ++ more))
+  pub first : length w.legs ≤ options.limit → (more : List ℕ)
+      → (later : List (Leg Running Move)) × IsRun rules options.limit walk.start (walk.path ++ later) (session (record_of w.legs ++ more))
+  pub just : options.limit ≤ length w.legs → (more : List ℕ)
+      → IsRun rules options.limit walk.start (take options.limit walk.path) (session (record_of w.legs ++ more))
   -- so where its limit is as many steps as choices stand, it ends in the state where the walk stands
   pub there : w.is_lost ≡ false → options.limit ≡ w.at → last_state walk.start (take options.limit walk.path) ≡ w.state

@@ -1,11 +1,11 @@
 //! The channel that a process waits at.
 
-use pml_moves::executable::named;
-use pml_moves::picked::picked;
-use pml_moves::scene::Scene;
 use pml_program::program::{Action, Basic};
 use pml_value::view::View;
 use promela_run::moves::Pick;
+use run_search::executable::named;
+use run_search::picked::picked;
+use run_search::scene::Scene;
 use view_cells::picture::Picture;
 use view_waits::waits::Wait;
 

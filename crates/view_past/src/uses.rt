@@ -3,7 +3,7 @@
 use promela_run::moves::Move;
 use std::alloc::{AllocError, Global};
 use view_cells::picture::Picture;
-use view_waits::effect::{Does, effect_of};
+use view_waits::transfer::{Does, transfer_of};
 use view_waits::waits::starter_of;
 
 /// A step that used a channel, and the process that did.
@@ -109,9 +109,9 @@ impl Uses {
         m: &Move,
         step: usize,
     ) -> Result<(), AllocError> {
-        let effect = effect_of(*self.channels.allocator(), picture, m)?;
+        let transfer = transfer_of(*self.channels.allocator(), picture, m)?;
         self.widen(picture.channel_count())?;
-        self.put(effect.channel, effect.does, m, step);
+        self.put(transfer.channel, transfer.does, m, step);
         Ok(())
     }
 

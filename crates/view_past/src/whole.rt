@@ -1,7 +1,7 @@
 //! A whole state as a text: two states of one model are the same where their texts are.
 
-use pml_moves::scene::Scene;
 use promela_run::live_channel::LiveChannel;
+use run_search::scene::Scene;
 use view_cells::picture::Picture;
 use view_text::writer::Writer;
 
@@ -24,7 +24,7 @@ fn add_processes(scene: &Scene<'_, '_, '_>, out: &mut Writer) {
         None => out.add(b"- "),
     }
     for seat in scene.seats() {
-        add_number(seat.kind, out);
+        add_number(seat.sort, out);
         add_number(seat.node, out);
     }
 }

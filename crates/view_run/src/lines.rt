@@ -12,7 +12,7 @@ use view_session::seen::picture_of;
 use view_session::steps::choose;
 use view_state::choices::add_move;
 use view_text::writer::Writer;
-use view_waits::effect::{Effect, effect_of};
+use view_waits::transfer::{Transfer, transfer_of};
 use view_walk::walk::{Walk, Went};
 
 /// Where the lines and the items of a run are written.
@@ -30,7 +30,7 @@ struct Taking<'s> {
     choice: usize,
     moves: &'s [Move],
     m: Move,
-    effect: &'s Effect,
+    transfer: &'s Transfer,
 }
 
 // What is told of a step before it is taken.
@@ -39,7 +39,7 @@ fn front_of(walk: &Walk<'_, '_>, event: &str, taking: Taking<'_>, sheet: &Sheet)
         step: walk.at().saturating_add(1),
         choice: taking.choice,
         moves: taking.moves,
-        effect: taking.effect,
+        transfer: taking.transfer,
     };
     let picture = picture_of(walk.world());
     front(&picture, sheet.lines.allocator(), event, ahead, &taking.m)
@@ -125,12 +125,12 @@ fn take_choice(
     let Some(m) = move_at(moves, choice) else {
         return Ok(Some("choice misfit"));
     };
-    let effect = effect_of(sheet.lines.allocator(), &picture_of(walk.world()), &m)?;
+    let transfer = transfer_of(sheet.lines.allocator(), &picture_of(walk.world()), &m)?;
     let taking = Taking {
         choice,
         moves,
         m,
-        effect: &effect,
+        transfer: &transfer,
     };
     take(walk, taking, sheet)
 }

@@ -8,7 +8,7 @@ use crate::record::add_record;
 use crate::replay::Along;
 use crate::seen::picture_of;
 use crate::steps::{
-    Taken, take, take_by_chance, take_next, take_of, take_single, take_turns, take_until,
+    Taken, take, take_by_chance, take_legs, take_next, take_of, take_single, take_until,
 };
 use crate::told::Told;
 use crate::until::Goal;
@@ -112,7 +112,7 @@ fn choose(
 
 // Goes to a place of a walk, and asks.
 fn go_to(walk: &mut Walk<'_, '_>, step: usize, told: &mut Told) -> Result<(), AllocError> {
-    let step = step.min(walk.turns().len());
+    let step = step.min(walk.legs().len());
     walk.go_to(step)?;
     add_question(walk, &mut told.out)
 }
@@ -168,7 +168,7 @@ fn go_to_last(
     told.out.keep_refusal(&text);
     match found {
         Some(step) => {
-            let before = step.saturating_sub(1).min(walk.turns().len());
+            let before = step.saturating_sub(1).min(walk.legs().len());
             walk.go_to(before)?;
             take_next(walk, limit, 1, told)?;
             add_question(walk, &mut told.out)
@@ -193,9 +193,9 @@ fn go_to_branch(
     told: &mut Told,
 ) -> Result<(), AllocError> {
     match told.branches.of(number)? {
-        Some(turns) => {
+        Some(legs) => {
             walk.go_to(0)?;
-            take_turns(walk, limit, turns.as_slice(), told)?;
+            take_legs(walk, limit, legs.as_slice(), told)?;
             add_question(walk, &mut told.out)
         }
         None => {
@@ -270,8 +270,8 @@ fn obey<'l>(
         Command::Why => return show_why(walk, &mut told.out),
         Command::Chart => return show_chart(walk, &mut told.out),
         Command::Source => add_source(&picture_of(walk.world()), setting.text, &mut told.out),
-        Command::Record => add_record(walk.turns(), &mut told.out),
-        Command::Branches => told.branches.add(walk.turns(), &mut told.out),
+        Command::Record => add_record(walk.legs(), &mut told.out),
+        Command::Branches => told.branches.add(walk.legs(), &mut told.out),
         Command::Help => told.out.add(HELP.as_bytes()),
         Command::Wrong(form) => told.out.add(form.as_bytes()),
         Command::Unknown => told.out.add(b"no such command: help lists them\n"),
@@ -291,7 +291,7 @@ fn recover(walk: &mut Walk<'_, '_>) -> Result<(), AllocError> {
 
 // Whether a command may cut off steps to come, or other steps behind these.
 fn may_cut<'l>(walk: &Walk<'_, '_>, command: Command<'l>) -> bool {
-    walk.at() < walk.turns().len() || matches!(command, Command::Branch(_))
+    walk.at() < walk.legs().len() || matches!(command, Command::Branch(_))
 }
 
 // Does what a command says, and keeps the walk that it leaves for another.
@@ -306,10 +306,10 @@ fn obey_and_keep<'l>(
         return obey(walk, setting, words, command, told);
     }
     let mut before = Vec::new(told.out.allocator());
-    before.extend_from_slice(walk.turns())?;
+    before.extend_from_slice(walk.legs())?;
     obey(walk, setting, words, command, told)?;
-    told.branches.keep(before.as_slice(), walk.turns())?;
-    told.branches.let_go(walk.turns());
+    told.branches.keep(before.as_slice(), walk.legs())?;
+    told.branches.let_go(walk.legs());
     Ok(())
 }
 

@@ -2,7 +2,7 @@
 
 use std::alloc::{AllocError, Global};
 use view_text::writer::Writer;
-use view_walk::turn::Turn;
+use view_walk::leg::Leg;
 
 // So many branches are kept; the oldest are let go.
 const MOST_BRANCHES: usize = 100;
@@ -10,7 +10,7 @@ const MOST_BRANCHES: usize = 100;
 /// The choices of a walk.
 #[derive(Drop)]
 struct Branch {
-    turns: Vec<Turn>,
+    legs: Vec<Leg>,
 }
 
 /// The walks that were left, the oldest first.
@@ -20,7 +20,7 @@ pub struct Branches {
 }
 
 // How many choices two walks have in common.
-fn common(one: &[Turn], other: &[Turn]) -> usize {
+fn common(one: &[Leg], other: &[Leg]) -> usize {
     let most = one.len().min(other.len());
     for at in 0..most {
         if one[at] != other[at] {
@@ -31,13 +31,13 @@ fn common(one: &[Turn], other: &[Turn]) -> usize {
 }
 
 // Whether a walk goes on from another, or is it.
-fn begins(longer: &[Turn], turns: &[Turn]) -> bool {
-    turns.len() <= longer.len() && common(longer, turns) == turns.len()
+fn begins(longer: &[Leg], legs: &[Leg]) -> bool {
+    legs.len() <= longer.len() && common(longer, legs) == legs.len()
 }
 
-fn copied(alloc: Global, turns: &[Turn]) -> Result<Vec<Turn>, AllocError> {
+fn copied(alloc: Global, legs: &[Leg]) -> Result<Vec<Leg>, AllocError> {
     let mut own = Vec::new(alloc);
-    own.extend_from_slice(turns)?;
+    own.extend_from_slice(legs)?;
     Ok(own)
 }
 
@@ -50,9 +50,9 @@ impl Branches {
     }
 
     // Whether a walk is one of them, or a part of one.
-    fn has(&self, turns: &[Turn]) -> bool {
+    fn has(&self, legs: &[Leg]) -> bool {
         for branch in self.kept.as_slice() {
-            if begins(branch.turns.as_slice(), turns) {
+            if begins(branch.legs.as_slice(), legs) {
                 return true;
             }
         }
@@ -60,37 +60,37 @@ impl Branches {
     }
 
     /// Keeps a walk, unless the present one goes on from it or it is known.
-    pub fn keep(&mut self, turns: &[Turn], present: &[Turn]) -> Result<(), AllocError> {
-        if begins(present, turns) || self.has(turns) {
+    pub fn keep(&mut self, legs: &[Leg], present: &[Leg]) -> Result<(), AllocError> {
+        if begins(present, legs) || self.has(legs) {
             return Ok(());
         }
-        let turns = copied(*self.kept.allocator(), turns)?;
+        let legs = copied(*self.kept.allocator(), legs)?;
         if self.kept.len() >= MOST_BRANCHES {
             let _ = self.kept.remove(0);
         }
-        self.kept.push(Branch { turns })?;
+        self.kept.push(Branch { legs })?;
         Ok(())
     }
 
     /// A copy of the choices of the branch with this number, from 1 on.
-    pub fn of(&self, number: usize) -> Result<Option<Vec<Turn>>, AllocError> {
+    pub fn of(&self, number: usize) -> Result<Option<Vec<Leg>>, AllocError> {
         if number == 0 {
             return Ok(None);
         }
         match self.kept.get(number - 1) {
-            Some(branch) => Ok(Some(copied(*self.kept.allocator(), branch.turns.as_slice())?)),
+            Some(branch) => Ok(Some(copied(*self.kept.allocator(), branch.legs.as_slice())?)),
             None => Ok(None),
         }
     }
 
     /// Lets those go from which the present walk goes on.
-    pub fn let_go(&mut self, present: &[Turn]) {
+    pub fn let_go(&mut self, present: &[Leg]) {
         let mut at = 0usize;
         for _ in 0..self.kept.len() {
             if at >= self.kept.len() {
                 break;
             }
-            if begins(present, self.kept[at].turns.as_slice()) {
+            if begins(present, self.kept[at].legs.as_slice()) {
                 let _ = self.kept.remove(at);
             } else {
                 at += 1;
@@ -99,7 +99,7 @@ impl Branches {
     }
 
     /// Writes each: `branch 1: 9 steps, another from step 6 on: choice 2 of 3`.
-    pub fn add(&self, present: &[Turn], out: &mut Writer) {
+    pub fn add(&self, present: &[Leg], out: &mut Writer) {
         if self.kept.is_empty() {
             out.add(b"no branch\n");
         }
@@ -107,22 +107,22 @@ impl Branches {
             out.add(b"branch ");
             out.number(at + 1);
             out.add(b": ");
-            add_branch(self.kept[at].turns.as_slice(), present, out);
+            add_branch(self.kept[at].legs.as_slice(), present, out);
         }
     }
 }
 
-fn add_branch(turns: &[Turn], present: &[Turn], out: &mut Writer) {
-    let same = common(turns, present);
-    out.number(turns.len());
+fn add_branch(legs: &[Leg], present: &[Leg], out: &mut Writer) {
+    let same = common(legs, present);
+    out.number(legs.len());
     out.add(b" steps, another from step ");
     out.number(same.saturating_add(1));
     out.add(b" on");
-    if let Some(turn) = turns.get(same) {
+    if let Some(leg) = legs.get(same) {
         out.add(b": choice ");
-        out.number(turn.choice);
+        out.number(leg.choice);
         out.add(b" of ");
-        out.number(turn.of);
+        out.number(leg.of);
     }
     out.add(b"\n");
 }

@@ -6,8 +6,8 @@ use promela_run::moves::Move;
 use std::alloc::AllocError;
 use view_chart::chart::{add_birth, add_row, width_of};
 use view_text::writer::Writer;
-use view_waits::effect::effect_of;
-use view_walk::turn::Turn;
+use view_waits::transfer::transfer_of;
+use view_walk::leg::Leg;
 use view_walk::walk::Walk;
 
 // Writes the rows of processes that began at a step.
@@ -26,13 +26,13 @@ fn add_move(
     out: &mut Writer,
 ) -> Result<(), AllocError> {
     let picture = picture_of(walk.world());
-    let effect = effect_of(out.allocator(), &picture, m)?;
+    let transfer = transfer_of(out.allocator(), &picture, m)?;
     add_row(
         &picture,
         width,
         walk.at().saturating_add(1),
         m,
-        &effect,
+        &transfer,
         out,
     );
     Ok(())
@@ -42,15 +42,15 @@ fn add_move(
 fn add_step(
     walk: &mut Walk<'_, '_>,
     width: usize,
-    turn: Turn,
+    leg: Leg,
     out: &mut Writer,
 ) -> Result<(), AllocError> {
     let moves = walk.moves()?;
-    if let Some(m) = move_at(moves.as_slice(), turn.choice) {
+    if let Some(m) = move_at(moves.as_slice(), leg.choice) {
         add_move(walk, width, &m, out)?;
     }
     let older = walk.world().process_count();
-    let step = walk.at().saturating_add(1).min(walk.turns().len());
+    let step = walk.at().saturating_add(1).min(walk.legs().len());
     walk.go_to(step)?;
     add_births(walk, width, older, out);
     Ok(())
@@ -67,10 +67,10 @@ pub fn add_chart(
     walk.go_to(0)?;
     add_births(walk, width, 0, out);
     for _ in 0..steps {
-        let Some(turn) = walk.next() else {
+        let Some(leg) = walk.next() else {
             break;
         };
-        add_step(walk, width, turn, out)?;
+        add_step(walk, width, leg, out)?;
     }
     Ok(())
 }
@@ -79,8 +79,8 @@ pub fn add_chart(
 pub fn most_alive(walk: &mut Walk<'_, '_>, steps: usize) -> Result<usize, AllocError> {
     walk.go_to(0)?;
     let mut most = walk.world().process_count();
-    for step in 0..steps.min(walk.turns().len()) {
-        let next = step.saturating_add(1).min(walk.turns().len());
+    for step in 0..steps.min(walk.legs().len()) {
+        let next = step.saturating_add(1).min(walk.legs().len());
         walk.go_to(next)?;
         most = most.max(walk.world().process_count());
     }

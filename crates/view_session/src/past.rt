@@ -9,14 +9,14 @@ use view_past::round::{add_round, awaited};
 use view_past::uses::Uses;
 use view_text::writer::Writer;
 use view_waits::waits::{Wait, add_waits};
-use view_walk::turn::Turn;
+use view_walk::leg::Leg;
 use view_walk::walk::Walk;
 
 // Takes the next step of a walk, and keeps who used a channel by it.
-fn add_use(walk: &mut Walk<'_, '_>, turn: Turn, uses: &mut Uses) -> Result<(), AllocError> {
+fn add_use(walk: &mut Walk<'_, '_>, leg: Leg, uses: &mut Uses) -> Result<(), AllocError> {
     let moves = walk.moves()?;
-    let step = walk.at().saturating_add(1).min(walk.turns().len());
-    if let Some(m) = move_at(moves.as_slice(), turn.choice) {
+    let step = walk.at().saturating_add(1).min(walk.legs().len());
+    if let Some(m) = move_at(moves.as_slice(), leg.choice) {
         uses.add(&picture_of(walk.world()), &m, step)?;
     }
     walk.go_to(step)?;
@@ -30,10 +30,10 @@ fn uses_of(walk: &mut Walk<'_, '_>, out: &Writer) -> Result<Uses, AllocError> {
     let at = walk.at();
     walk.go_to(0)?;
     for _ in 0..at {
-        let Some(turn) = walk.next() else {
+        let Some(leg) = walk.next() else {
             break;
         };
-        add_use(walk, turn, &mut uses)?;
+        add_use(walk, leg, &mut uses)?;
     }
     Ok(uses)
 }

@@ -59,6 +59,6 @@ pub fn add_question(walk: &mut Walk<'_, '_>, out: &mut Writer) -> Result<(), All
     let moves = walk.moves()?;
     add_list(&picture_of(walk.world()), walk.at(), moves.as_slice(), out)?;
     add_cause(walk, moves.as_slice(), out)?;
-    add_place(walk.at(), walk.turns().len(), moves.as_slice(), out);
+    add_place(walk.at(), walk.legs().len(), moves.as_slice(), out);
     Ok(())
 }

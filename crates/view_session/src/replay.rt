@@ -8,7 +8,7 @@ use rand_core::utils::NextWord;
 use rand_pcg::Pcg32;
 use view_cells::picture::Picture;
 use view_waits::waits::{origin_line, starter_of};
-use view_walk::turn::Turn;
+use view_walk::leg::Leg;
 
 /// How a question is answered.
 #[derive(Clone, Copy, Debug, PartialEq, Eq)]
@@ -173,9 +173,9 @@ fn said_with_place(picture: &Picture<'_, '_, '_>, moves: &[Move], line: &[u8]) -
 }
 
 // What is said where a walk is followed, and this is the next of its choices.
-fn said_along(along: Along, next: Option<Turn>) -> Said {
+fn said_along(along: Along, next: Option<Leg>) -> Said {
     match (next, along) {
-        (Some(turn), _) => Said::Pick(turn.choice),
+        (Some(leg), _) => Said::Pick(leg.choice),
         (None, Along::Fault(choice)) => Said::Pick(choice),
         (None, Along::Stop(said)) => said,
     }
@@ -278,7 +278,7 @@ impl<'t> Replay<'t> {
         &mut self,
         picture: &Picture<'_, '_, '_>,
         moves: &[Move],
-        next: Option<Turn>,
+        next: Option<Leg>,
     ) -> Said {
         if let Some(along) = self.along {
             return said_along(along, next);

@@ -13,7 +13,7 @@ use view_state::choices::add_move;
 use view_text::writer::Writer;
 use view_waits::statement::add_statement_reads;
 use view_waits::waits::starter_of;
-use view_walk::turn::Turn;
+use view_walk::leg::Leg;
 use view_walk::walk::{Walk, Went};
 
 /// The move with this number, counted from 1.
@@ -220,10 +220,10 @@ pub fn take_next(
     told: &mut Told,
 ) -> Result<(), AllocError> {
     for _ in 0..most {
-        let Some(turn) = walk.next() else {
+        let Some(leg) = walk.next() else {
             break;
         };
-        if take(walk, limit, turn.choice, told)? != Taken::Yes {
+        if take(walk, limit, leg.choice, told)? != Taken::Yes {
             break;
         }
     }
@@ -265,17 +265,17 @@ pub fn take_by_chance(
 }
 
 /// Takes these choices, without their lines.
-pub fn take_turns(
+pub fn take_legs(
     walk: &mut Walk<'_, '_>,
     limit: usize,
-    turns: &[Turn],
+    legs: &[Leg],
     told: &mut Told,
 ) -> Result<(), AllocError> {
     let mut printed = Vec::new(told.out.allocator());
     told.step_from(walk.at());
-    for turn in turns {
+    for leg in legs {
         printed.clear();
-        if walk.at() >= limit || choose(walk, turn.choice, &mut printed)? != Went::On {
+        if walk.at() >= limit || choose(walk, leg.choice, &mut printed)? != Went::On {
             break;
         }
     }

@@ -52,7 +52,7 @@ fn keep_all(walk: &mut Walk<'_, '_>, at: usize, told: &mut Told) -> Result<(), A
         if told.states.is_full() {
             break;
         }
-        let step = step.min(walk.turns().len());
+        let step = step.min(walk.legs().len());
         walk.go_to(step)?;
         keep(walk, told)?;
     }
@@ -66,7 +66,7 @@ fn learn(walk: &mut Walk<'_, '_>, told: &mut Told) -> Result<(), AllocError> {
         return Ok(());
     }
     keep_all(walk, at, told)?;
-    let at = at.min(walk.turns().len());
+    let at = at.min(walk.legs().len());
     walk.go_to(at)
 }
 

@@ -61,7 +61,7 @@ pub fn last_written(
     let mut found = None;
     walk.go_to(0)?;
     for step in 1..at.saturating_add(1) {
-        let step = step.min(walk.turns().len());
+        let step = step.min(walk.legs().len());
         walk.go_to(step)?;
         if is_written(walk.world(), path, text)? {
             found = Some(step);

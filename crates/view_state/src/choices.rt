@@ -1,14 +1,14 @@
 //! The list of what can be done.
 
-use pml_texts::ends::{is_valid, stuck};
-use pml_texts::texts::add_move as move_text;
 use promela_run::moves::Move;
+use run_texts::ends::{is_valid, stuck};
+use run_texts::texts::add_move as move_text;
 use std::alloc::AllocError;
 use view_cells::channels::{add_channel_word, add_message, channel_at};
 use view_cells::picture::Picture;
 use view_cells::processes::add_process;
 use view_text::writer::Writer;
-use view_waits::effect::{Does, Effect, effect_of};
+use view_waits::transfer::{Does, Transfer, transfer_of};
 use view_waits::waits::starter_of;
 
 // What a move does with a message, as a word, and what stands between the message and its channel.
@@ -24,17 +24,17 @@ fn words_of(does: Does) -> Option<(&'static str, &'static str)> {
 }
 
 /// Writes what a move does with a message: ` takes (1) from fork[1]`.
-fn add_effect(picture: &Picture<'_, '_, '_>, effect: &Effect, out: &mut Writer) {
-    let Some((word, between)) = words_of(effect.does) else {
+fn add_effect(picture: &Picture<'_, '_, '_>, transfer: &Transfer, out: &mut Writer) {
+    let Some((word, between)) = words_of(transfer.does) else {
         return;
     };
-    let Some(channel) = channel_at(picture, effect.channel) else {
+    let Some(channel) = channel_at(picture, transfer.channel) else {
         return;
     };
     out.add(word.as_bytes());
-    add_message(picture, channel.types(), effect.message.as_slice(), out);
+    add_message(picture, channel.types(), transfer.message.as_slice(), out);
     out.add(between.as_bytes());
-    add_channel_word(picture, effect.channel, out);
+    add_channel_word(picture, transfer.channel, out);
 }
 
 /// Writes the text of a move.
@@ -51,12 +51,12 @@ fn add_choice(
     m: &Move,
     out: &mut Writer,
 ) -> Result<(), AllocError> {
-    let effect = effect_of(out.allocator(), picture, m)?;
+    let transfer = transfer_of(out.allocator(), picture, m)?;
     out.add(b"choice ");
     out.number(number);
     out.add(b": ");
     add_move(picture, m, out);
-    add_effect(picture, &effect, out);
+    add_effect(picture, &transfer, out);
     out.add(b"\n");
     Ok(())
 }
@@ -83,7 +83,7 @@ fn add_grouped(
     heading: &mut Writer,
     out: &mut Writer,
 ) -> Result<(), AllocError> {
-    let effect = effect_of(out.allocator(), picture, m)?;
+    let transfer = transfer_of(out.allocator(), picture, m)?;
     let mut own = Writer::new(out.allocator());
     add_process(picture, starter_of(m), &mut own);
     if own.bytes() != heading.bytes() {
@@ -105,7 +105,7 @@ fn add_grouped(
             .strip_prefix(own.bytes())
             .unwrap_or(text.bytes()),
     );
-    add_effect(picture, &effect, out);
+    add_effect(picture, &transfer, out);
     out.add(b"\n");
     Ok(())
 }

@@ -10,13 +10,13 @@ use Rattle.pml_flow.specs.Points.{point_at}
 use Rattle.promela_process.specs.Expressions.{Reading}
 use Rattle.promela_run.specs.declared.live_channel.LiveChannel.{LiveChannel}
 use Rattle.promela_run.specs.declared.moves.Move.{Move}
-use Rattle.pml_moves.specs.declared.scene.Seat.{Seat}
-use Rattle.pml_moves.specs.declared.scene.Body.{Body}
-use Rattle.pml_moves.specs.Scene.{stand_of, control_at, shows, edges_at, offers_at, StandsIn}
+use Rattle.run_search.specs.declared.scene.Seat.{Seat}
+use Rattle.run_search.specs.declared.scene.Body.{Body}
+use Rattle.run_search.specs.Scene.{stand_of, control_at, shows, edges_at, offers_at, StandsIn}
 use Rattle.promela_run.specs.Moves.{each, moves}
 use Rattle.promela_run.specs.State.{Stand, State, reads, body_of, levels}
-use Rattle.pml_moves.proofs.Placing.{at_node, level_is}
-use Rattle.pml_moves.proofs.Searching.{opens, past}
+use Rattle.run_search.proofs.Placing.{at_node, level_is}
+use Rattle.run_search.proofs.Searching.{opens, past}
 use Rattle.view_waits.specs.declared.waits.Wait.{Wait}
 use Rattle.view_waits.specs.Searched.{control_by}
 use Rattle.view_waits.specs.Waits.{is_in, in_control, waits_on, waits_down, waits_left, waits_at, waits_behind, waits}
@@ -42,11 +42,11 @@ pub left_is : (s : State) (t : Bool) (p : ℕ) (x : Seat) (k : Body) → StandsI
 left_is s t p x k is =
     let b : Seq = k.proctype.now.body in
     let c : Control = point_at b x.node in
-    let control : control_at (body_of s.program x.kind) x.node ≡ c = ap (λ (o : Option Seq). control_at o x.node) is.body in
+    let control : control_at (body_of s.program x.sort) x.node ≡ c = ap (λ (o : Option Seq). control_at o x.node) is.body in
     ap (waits_down s.channels (reads s p t) p) (at_node k x.node is.is)
     ∙ by c is.left
     ∙ ap (waits_left s t p (Some b)) (sym control)
-    ∙ ap (λ (o : Option Seq). waits_left s t p o (control_at (body_of s.program x.kind) x.node)) (sym is.body)
+    ∙ ap (λ (o : Option Seq). waits_left s t p o (control_at (body_of s.program x.sort) x.node)) (sym is.body)
   where
     by : (c : Control) → (c ≡ [] → ⊥) → waits_down s.channels (reads s p t) p (levels k.proctype.now.body c) ≡ waits_left s t p (Some k.proctype.now.body) c
     by [] some = absurd (some refl)

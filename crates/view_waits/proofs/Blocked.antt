@@ -10,7 +10,8 @@ use Rattle.promela_process.specs.Offers.{Offer}
 use Rattle.promela_run.specs.declared.moves.Move.{Move}
 use Rattle.promela_run.specs.declared.moves.Move.TheVariants.{Alone}
 use Rattle.promela_run.specs.State.{Stand, State, body_of, levels}
-use Rattle.promela_run.specs.Moves.{or_else, is_some, is_else, only_if, pick, moves_by, plain_moves, else_moves, moves_on, moves_of, moves_at, moves_under, moves_if, moves_held, moves}
+use Rattle.promela_run.specs.Moves.{or_else, is_some, is_else, only_if, pick, moves_by, plain_moves, else_moves, moves_on, moves_of, moves_at, moves_under, moves_held, moves}
+use Rattle.run_search.specs.Lifted.{moves_if}
 use Rattle.view_waits.specs.Waits.{takes_part, is_in, in_control, last_timeout}
 use Rattle.view_waits.proofs.Searched.{process_all}
 use Rattle.view_waits.proofs.Nothing.{each_none, last_none, or_else_none, or_else_first, only_if_none, some_none, either_none, any_none}
@@ -55,7 +56,7 @@ module _ (s : State) (p : ℕ) where
     where
       own_held : (y : Option Stand) → AllByRecursion (λ m. takes_part p m ≡ true) (moves_if s p y)
       own_held None = tt
-      own_held (Some y) = own_moves false (body_of s.program y.kind) y.control
+      own_held (Some y) = own_moves false (body_of s.program y.sort) y.control
 
   -- where nobody has
   pub none_held : in_control s ≡ None → moves_held s s.holder ≡ []
@@ -80,7 +81,7 @@ module _ (s : State) (p : ℕ) where
   pub no_own : in_control s ≡ None → is_in p (moves s) ≡ false → (y : Stand) → slice_get s.stands p ≡ Some y → moves_at s p (last_timeout s) y ≡ []
   no_own nobody out y at =
       let under : list_any (takes_part p) (moves_under s (last_timeout s)) ≡ false = ap (λ (ms : List Move). list_any (takes_part p) ms) (sym (searched (none_held nobody))) ∙ out in
-      none_taken (takes_part p) (moves_at s p (last_timeout s) y) (own_moves (last_timeout s) (body_of s.program y.kind) y.control)
+      none_taken (takes_part p) (moves_at s p (last_timeout s) y) (own_moves (last_timeout s) (body_of s.program y.sort) y.control)
       (any_none (takes_part p) (λ q x. moves_at s q (last_timeout s) x) s.stands under p y at)
 
   -- so each of its offers gives none, and is no `else`

@@ -25,8 +25,10 @@ use Rattle.promela_process.specs.Store.{cut}
 use Rattle.promela_run.specs.declared.moves.Pick.{Pick}
 use Rattle.promela_run.specs.declared.moves.Move.{Move}
 use Rattle.promela_run.specs.declared.moves.Move.TheVariants.{Alone, Pair}
-use Rattle.promela_run.specs.State.{Stand, State, reads, body_of, levels_in, levels_from, picked, offer_at, offer_on}
-use Rattle.promela_run.specs.Moves.{Named, named, values, is_rendezvous, nonzero, or_fault, can_send, can_receive, Message, message, message_on, accepts, choices, is_else, can_alone, last, only_if, pick, pairs, pairs_on, pairs_with, moves_by}
+use Rattle.promela_run.specs.State.{Stand, State, reads, body_of, levels_in, picked}
+use Rattle.promela_run.specs.Moves.{Named, named, is_rendezvous, or_fault, can_send, can_receive, Message, message, message_on, accepts, choices, is_else, can_alone, last, only_if, pick, pairs, pairs_on, pairs_with, moves_by}
+use Rattle.promela_run.specs.Statements.{values}
+use Rattle.run_search.specs.Lifted.{levels_from, offer_at, offer_on, nonzero}
 use Rattle.view_waits.specs.declared.because.Because.TheVariants as why
 use Rattle.view_waits.specs.Because.{because, of_send, of_receive}
 use Rattle.view_waits.specs.Why.{NobodyReceives, NobodySends, IsWhy, is_false, is_full, is_empty, no_match, no_receiver, no_sender, too_many, no_first}
@@ -46,20 +48,20 @@ pub record Lies (s : State) (j : Pick) (o : Offer) : Type 0 where
   pub stand : Stand
   pub stands : slice_get s.stands j.process ≡ Some stand
   pub level : List Offer
-  pub on : slice_get (levels_in (body_of s.program stand.kind) stand.control) j.level ≡ Some level
+  pub on : slice_get (levels_in (body_of s.program stand.sort) stand.control) j.level ≡ Some level
   pub at : slice_get level j.place ≡ Some o
 
 pub lies : (s : State) (j : Pick) (o : Offer) → picked s j ≡ Some o → Lies s j o
 lies s j o h = by_stand (slice_get s.stands j.process) refl h
   where
-    by_level : (y : Stand) → slice_get s.stands j.process ≡ Some y → (os : Option (List Offer)) → slice_get (levels_in (body_of s.program y.kind) y.control) j.level ≡ os
+    by_level : (y : Stand) → slice_get s.stands j.process ≡ Some y → (os : Option (List Offer)) → slice_get (levels_in (body_of s.program y.sort) y.control) j.level ≡ os
         → offer_on os j.place ≡ Some o → Lies s j o
     by_level y stands None on at = absurd (none-some o at)
     by_level y stands (Some os) on at = record { stand = y; stands = stands; level = os; on = on; at = at }
 
     by_stand : (y : Option Stand) → slice_get s.stands j.process ≡ y → offer_at s j y ≡ Some o → Lies s j o
     by_stand None stands at = absurd (none-some o at)
-    by_stand (Some y) stands at = by_level y stands (slice_get (levels_in (body_of s.program y.kind) y.control) j.level) refl at
+    by_stand (Some y) stands at = by_level y stands (slice_get (levels_in (body_of s.program y.sort) y.control) j.level) refl at
 
 pub nobody_receives : (s : State) (t : Bool) (k : Pick) (m : Message) → pairs s t k (Some m) ≡ [] → NobodyReceives s t k.process m
 nobody_receives s t k m none j o is other =
@@ -67,9 +69,9 @@ nobody_receives s t k m none j o is other =
     let y : Stand = l.stand in
     let with_y = each_none (pairs_with s t k m) s.stands none j.process y l.stands in
     let not_own : nat_eq j.process k.process ≡ false = other_number j.process k.process other in
-    let down : last (pairs_on s t k m j.process) 0 (levels_in (body_of s.program y.kind) y.control) ≡ [] =
-    ap (λ (same : Bool). if same then [] else last (pairs_on s t k m j.process) 0 (levels_in (body_of s.program y.kind) y.control)) (sym not_own) ∙ with_y in
-    let level = last_none (pairs_on s t k m j.process) (levels_in (body_of s.program y.kind) y.control) down j.level l.level l.on in
+    let down : last (pairs_on s t k m j.process) 0 (levels_in (body_of s.program y.sort) y.control) ≡ [] =
+    ap (λ (same : Bool). if same then [] else last (pairs_on s t k m j.process) 0 (levels_in (body_of s.program y.sort) y.control)) (sym not_own) ∙ with_y in
+    let level = last_none (pairs_on s t k m j.process) (levels_in (body_of s.program y.sort) y.control) down j.level l.level l.on in
     let place = each_none (λ i (q : Offer). only_if (accepts s.channels (reads s j.process t) m q.basic) (Pair k (pick j.process j.level i) t)) l.level level j.place o l.at in
     only_if_none (accepts s.channels (reads s j.process t) m o.basic) (Pair k (pick j.process j.level j.place) t) place
 
@@ -103,7 +105,7 @@ some_message : {A : Type 0} (xs : List A) → nat_eq (length xs) 0 ≡ false →
 some_message [] h none = true≢false h
 some_message (x ∷ xs) h none = cc
 
-module _ (s : State) (t : Bool) (k : Pick) (o : Offer) (y : Stand) (b : Seq) (stands : slice_get s.stands k.process ≡ Some y) (body : body_of s.program y.kind ≡ Some b)
+module _ (s : State) (t : Bool) (k : Pick) (o : Offer) (y : Stand) (b : Seq) (stands : slice_get s.stands k.process ≡ Some y) (body : body_of s.program y.sort ≡ Some b)
     (alone : NobodySends s t k o) where
   abbrev Given : Option Basic → Type 0
   Given x = IsWhy s t k o (because s.channels (reads s k.process t) x)

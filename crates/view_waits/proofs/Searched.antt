@@ -9,9 +9,10 @@ use Rattle.promela_process.specs.Offers.{Offer}
 use Rattle.promela_run.specs.declared.moves.Pick.{Pick}
 use Rattle.promela_run.specs.declared.moves.Move.{Move}
 use Rattle.promela_run.specs.declared.moves.Move.TheVariants.{Death, Alone, Pair}
-use Rattle.pml_moves.specs.Laws.{taker}
+use Rattle.run_search.specs.Laws.{taker}
 use Rattle.promela_run.specs.State.{Stand, State, reads, body_of, levels, levels_in}
-use Rattle.promela_run.specs.Moves.{or_else, last, only_if, is_some, is_else, can_alone, Message, message, accepts, pick, pairs_on, pairs_with, pairs, moves_by, plain_moves, else_moves, moves_on, moves_of, moves_at, moves_under, moves_if, moves_held, moves}
+use Rattle.promela_run.specs.Moves.{or_else, last, only_if, is_some, is_else, can_alone, Message, message, accepts, pick, pairs_on, pairs_with, pairs, moves_by, plain_moves, else_moves, moves_on, moves_of, moves_at, moves_under, moves_held, moves}
+use Rattle.run_search.specs.Lifted.{moves_if}
 use Rattle.view_waits.specs.Searched.{is_late, timeout_by, control_by}
 use Rattle.view_waits.specs.Waits.{in_control, last_timeout}
 use Rattle.view_waits.proofs.Nothing.{all_each, each_none, only_if_none}
@@ -36,10 +37,10 @@ module _ (P : Move → Type 0) where
     pairs_with_all : (i : ℕ) (m : Message) (j : ℕ) (y : Stand) → AllByRecursion P (pairs_with s t (pick p l i) m j y)
     pairs_with_all i m j y = by (nat_eq j p)
       where
-        by : (same : Bool) → AllByRecursion P (if same then [] else last (pairs_on s t (pick p l i) m j) 0 (levels_in (body_of s.program y.kind) y.control))
+        by : (same : Bool) → AllByRecursion P (if same then [] else last (pairs_on s t (pick p l i) m j) 0 (levels_in (body_of s.program y.sort) y.control))
         by true = tt
         by false = last_all (pairs_on s t (pick p l i) m j) (λ n os. all_each P (λ h o. only_if (accepts s.channels (reads s j t) m o.basic) (Pair (pick p l i) (pick j n h) t)) os
-            (λ h o at. if_all (accepts s.channels (reads s j t) m o.basic) (Pair (pick p l i) (pick j n h) t) (λ e. meets i (pick j n h)))) 0 (levels_in (body_of s.program y.kind) y.control)
+            (λ h o at. if_all (accepts s.channels (reads s j t) m o.basic) (Pair (pick p l i) (pick j n h) t) (λ e. meets i (pick j n h)))) 0 (levels_in (body_of s.program y.sort) y.control)
 
     pairs_all : (i : ℕ) (m : Option Message) → AllByRecursion P (pairs s t (pick p l i) m)
     pairs_all i None = tt
@@ -79,12 +80,12 @@ module _ (s : State) where
 
   all_early : AllByRecursion (λ m. is_late m ≡ false) early
   all_early = all_each (λ m. is_late m ≡ false) (λ p y. moves_at s p false y) s.stands
-      (λ p y at. process_all (λ m. is_late m ≡ false) s p false (λ k e. refl) (λ k j e. refl) (λ e. refl) (body_of s.program y.kind) y.control)
+      (λ p y at. process_all (λ m. is_late m ≡ false) s p false (λ k e. refl) (λ k j e. refl) (λ e. refl) (body_of s.program y.sort) y.control)
 
   -- where there are none without `timeout`, all of them were found under it
   all_late : early ≡ [] → AllByRecursion (λ m. is_late m ≡ true) late
   all_late none = all_each (λ m. is_late m ≡ true) (λ p y. moves_at s p true y) s.stands
-      (λ p y at. by p (body_of s.program y.kind) y.control (each_none (λ q x. moves_at s q false x) s.stands none p y at))
+      (λ p y at. by p (body_of s.program y.sort) y.control (each_none (λ q x. moves_at s q false x) s.stands none p y at))
     where
       by : (p : ℕ) (b : Option Seq) (c : Control) → moves_of s p false b c ≡ [] → AllByRecursion (λ m. is_late m ≡ true) (moves_of s p true b c)
       by p b [] no_death = if_all (λ m. is_late m ≡ true) (nat_eq (p + 1) (length s.stands)) (Death p) (λ e. absurd (true≢false (sym e ∙ only_if_none (nat_eq (p + 1) (length s.stands)) (Death p) no_death)))
@@ -100,7 +101,7 @@ module _ (s : State) where
           let there : slice_get s.stands h ≡ Some y = ap (slice_get s.stands) (sym e) ∙ at in
           let nothing : moves_at s h false y ≡ [] = ap (moves_if s h) (sym there) ∙ none in
           subst (λ (ms : List Move). AllByRecursion (λ m. nat_eq (taker m) h ≡ false) ms) (sym (ap (λ (q : ℕ). moves_at s q false y) e ∙ nothing)) tt
-      by p y at false is = process_all (λ m. nat_eq (taker m) h ≡ false) s p false (λ k e. ap (λ (q : ℕ). nat_eq q h) e ∙ is) (λ k j e. ap (λ (q : ℕ). nat_eq q h) e ∙ is) (λ e. is) (body_of s.program y.kind) y.control
+      by p y at false is = process_all (λ m. nat_eq (taker m) h ≡ false) s p false (λ k e. ap (λ (q : ℕ). nat_eq q h) e ∙ is) (λ k j e. ap (λ (q : ℕ). nat_eq q h) e ∙ is) (λ e. is) (body_of s.program y.sort) y.control
 
   all_held : (h : ℕ) → AllByRecursion (λ m. (nat_eq (taker m) h && not (is_late m)) ≡ true) (moves_held s (Some h))
   all_held h = by (slice_get s.stands h)
@@ -110,7 +111,7 @@ module _ (s : State) where
 
       by : (y : Option Stand) → AllByRecursion (λ m. (nat_eq (taker m) h && not (is_late m)) ≡ true) (moves_if s h y)
       by None = tt
-      by (Some y) = process_all (λ m. (nat_eq (taker m) h && not (is_late m)) ≡ true) s h false (λ k e. mine (Alone k false) e refl) (λ k j e. mine (Pair k j false) e refl) (λ e. mine (Death h) refl refl) (body_of s.program y.kind) y.control
+      by (Some y) = process_all (λ m. (nat_eq (taker m) h && not (is_late m)) ≡ true) s h false (λ k e. mine (Alone k false) e refl) (λ k j e. mine (Pair k j false) e refl) (λ e. mine (Death h) refl refl) (body_of s.program y.sort) y.control
 
   -- ---- of those of another search
 
@@ -133,7 +134,7 @@ module _ (s : State) where
             where
               of_if : (p : ℕ) (y : Option Stand) → AllByRecursion (λ m. is_late m ≡ false) (moves_if s p y)
               of_if p None = tt
-              of_if p (Some y) = process_all (λ m. is_late m ≡ false) s p false (λ k e. refl) (λ k j e. refl) (λ e. refl) (body_of s.program y.kind) y.control
+              of_if p (Some y) = process_all (λ m. is_late m ≡ false) s p false (λ k e. refl) (λ k j e. refl) (λ e. refl) (body_of s.program y.sort) y.control
 
               of_held : (o : Option ℕ) → AllByRecursion (λ m. is_late m ≡ false) (moves_held s o)
               of_held None = tt

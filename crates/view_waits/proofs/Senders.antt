@@ -16,8 +16,9 @@ use Rattle.promela_run.specs.declared.live_channel.LiveChannel.{LiveChannel}
 use Rattle.promela_run.specs.declared.moves.Pick.{Pick}
 use Rattle.promela_run.specs.declared.moves.Move.{Move}
 use Rattle.promela_run.specs.declared.moves.Move.TheVariants.{Alone, Pair}
-use Rattle.promela_run.specs.Moves.{Named, named, values, is_rendezvous, or_fault, can_send, last, only_if, is_else, can_alone, Message, message, message_on, accepts, pick, pairs_on, pairs_with, pairs, moves_by, plain_moves, else_moves, moves_on, moves_of, moves_at, moves}
-use Rattle.pml_moves.specs.Laws.{taker}
+use Rattle.promela_run.specs.Moves.{Named, named, is_rendezvous, or_fault, can_send, last, only_if, is_else, can_alone, Message, message, message_on, accepts, pick, pairs_on, pairs_with, pairs, moves_by, plain_moves, else_moves, moves_on, moves_of, moves_at, moves}
+use Rattle.promela_run.specs.Statements.{values}
+use Rattle.run_search.specs.Laws.{taker}
 use Rattle.promela_run.specs.State.{picked, Stand, State, reads, body_of, levels, levels_in}
 use Rattle.view_waits.specs.Waits.{takes_part, is_in, in_control, last_timeout}
 use Rattle.view_waits.specs.Why.{level_of, EscapesFrom, NobodySends}
@@ -105,7 +106,7 @@ module _ (s : State) (t : Bool) (j : Pick) (o : Offer) (there : picked s j ≡ S
   has_pair k m other takes =
       let l = lies s j o there in
       let p : ℕ = j.process in
-      let ls : List (List Offer) = levels_in (body_of s.program l.stand.kind) l.stand.control in
+      let ls : List (List Offer) = levels_in (body_of s.program l.stand.sort) l.stand.control in
       let w : Move = Pair k (pick p j.level j.place) t in
       let on_level : Contains (pairs_on s t k m p j.level l.level) w =
       each_contains (λ i (q : Offer). only_if (accepts s.channels (reads s p t) m q.basic) (Pair k (pick p j.level i) t)) l.level j.place o l.at w
@@ -144,7 +145,7 @@ module _ (s : State) (p : ℕ) (out : is_in p (moves s) ≡ false) (nobody : in_
       true≢false (sym (eq-eqb i.process p mine) ∙ parts.1)
 
   pub who_sends : (j : Pick) (o : Offer) → j.process ≡ p → picked s j ≡ Some o → NobodySends s t j o
-  who_sends j o own there k q m at other offers takes = by (body_of s.program l.stand.kind) refl l.stand.control refl l.on
+  who_sends j o own there k q m at other offers takes = by (body_of s.program l.stand.sort) refl l.stand.control refl l.on
     where
       l : Lies s k q
       l = lies s k q at
@@ -153,11 +154,11 @@ module _ (s : State) (p : ℕ) (out : is_in p (moves s) ≡ false) (nobody : in_
       pair = has_pair s t j o there k m other takes
 
       -- the moves of its sender, where that stands in this body
-      stood : (b : Seq) (f : Pending) (c : Control) → body_of s.program l.stand.kind ≡ Some b → l.stand.control ≡ f ∷ c → moves_of s k.process t (Some b) (f ∷ c) ≡ moves_at s k.process t l.stand
+      stood : (b : Seq) (f : Pending) (c : Control) → body_of s.program l.stand.sort ≡ Some b → l.stand.control ≡ f ∷ c → moves_of s k.process t (Some b) (f ∷ c) ≡ moves_at s k.process t l.stand
       stood b f c body control =
           ap (moves_of s k.process t (Some b)) (sym control) ∙ ap (λ (x : Option Seq). moves_of s k.process t x l.stand.control) (sym body)
 
-      by_last : (b : Seq) (f : Pending) (c : Control) → body_of s.program l.stand.kind ≡ Some b → l.stand.control ≡ f ∷ c
+      by_last : (b : Seq) (f : Pending) (c : Control) → body_of s.program l.stand.sort ≡ Some b → l.stand.control ≡ f ∷ c
           → LastGives (moves_on s k.process t b) 0 (levels b (f ∷ c)) k.level pair.0 → EscapesFrom s k
       by_last b f c body control (here has) =
           let among : Contains (moves_at s k.process t l.stand) pair.0 = subst (λ (ms : List Move). Contains ms pair.0) (stood b f c body control) has in
@@ -174,7 +175,7 @@ module _ (s : State) (p : ℕ) (out : is_in p (moves s) ≡ false) (nobody : in_
           IsHere : Move → Type 0
           IsHere z = (taker z ≡ k.process) × (level_of z ≡ n)
 
-      by : (x : Option Seq) → body_of s.program l.stand.kind ≡ x → (c : Control) → l.stand.control ≡ c → slice_get (levels_in x c) k.level ≡ Some l.level → EscapesFrom s k
+      by : (x : Option Seq) → body_of s.program l.stand.sort ≡ x → (c : Control) → l.stand.control ≡ c → slice_get (levels_in x c) k.level ≡ Some l.level → EscapesFrom s k
       by None body c control on = absurd (none-some l.level on)
       by (Some b) body [] control on = absurd (none-some l.level on)
       by (Some b) body (f ∷ c) control on =

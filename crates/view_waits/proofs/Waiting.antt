@@ -9,8 +9,9 @@ use Rattle.promela_process.specs.Control.{Control, Pending}
 use Rattle.promela_process.specs.Offers.{Offer}
 use Rattle.promela_run.specs.declared.moves.Pick.{Pick}
 use Rattle.promela_run.specs.declared.moves.Move.TheVariants.{Death}
-use Rattle.promela_run.specs.State.{picked, offer_at, offer_on, Stand, State, reads, body_of, levels, levels_in}
+use Rattle.promela_run.specs.State.{picked, Stand, State, reads, body_of, levels, levels_in}
 use Rattle.promela_run.specs.Moves.{pick, moves, moves_of}
+use Rattle.run_search.specs.Lifted.{offer_at, offer_on}
 use Rattle.view_waits.specs.declared.because.Because.TheVariants as why
 use Rattle.view_waits.specs.declared.waits.Wait.{Wait}
 use Rattle.view_waits.specs.Laws.{ReasonsAreTrue, IsOfferedNothing, MovesWithoutWaiting, WaitsWithoutMoves, WaitsForEachOffer}
@@ -31,11 +32,11 @@ module _ (s : State) (p : ℕ) (out : is_in p (moves s) ≡ false) where
       younger at closed (omega (arith, lives)) (omega (arith, lives, not_last))
 
   -- where an offer of a level is found
-  at_level : (y : Stand) → slice_get s.stands p ≡ Some y → (c : Control) → y.control ≡ c → (b : Seq) → body_of s.program y.kind ≡ Some b → (l : ℕ) (os : List Offer) → slice_get (levels b c) l ≡ Some os
+  at_level : (y : Stand) → slice_get s.stands p ≡ Some y → (c : Control) → y.control ≡ c → (b : Seq) → body_of s.program y.sort ≡ Some b → (l : ℕ) (os : List Offer) → slice_get (levels b c) l ≡ Some os
       → (i : ℕ) (o : Offer) → slice_get os i ≡ Some o → picked s (pick p l i) ≡ Some o
   at_level y at c is b body l os on i o there =
       ap (offer_at s (pick p l i)) at
-      ∙ ap (λ (d : Control). offer_on (slice_get (levels_in (body_of s.program y.kind) d) l) i) is
+      ∙ ap (λ (d : Control). offer_on (slice_get (levels_in (body_of s.program y.sort) d) l) i) is
       ∙ ap (λ (x : Option Seq). offer_on (slice_get (levels_in x c) l) i) body
       ∙ ap (λ (x : Option (List Offer)). offer_on x i) on
       ∙ there
@@ -44,7 +45,7 @@ module _ (s : State) (p : ℕ) (out : is_in p (moves s) ≡ false) where
     abbrev t : Bool
     t = last_timeout s
 
-    offered_true : (f : Pending) (c : Control) → y.control ≡ f ∷ c → (b : Seq) → body_of s.program y.kind ≡ Some b → moves_of s p t (Some b) (f ∷ c) ≡ [] → (l : ℕ) (os : List Offer) → slice_get (levels b (f ∷ c)) l ≡ Some os
+    offered_true : (f : Pending) (c : Control) → y.control ≡ f ∷ c → (b : Seq) → body_of s.program y.sort ≡ Some b → moves_of s p t (Some b) (f ∷ c) ≡ [] → (l : ℕ) (os : List Offer) → slice_get (levels b (f ∷ c)) l ≡ Some os
         → (i : ℕ) (o : Offer) → slice_get os i ≡ Some o → IsTrueOf s p (wait_of s.channels (reads s p t) (pick p l i) o)
     offered_true f c is b body none l os on i o there =
         let found = at_level y at (f ∷ c) is b body l os on i o there in
@@ -56,7 +57,7 @@ module _ (s : State) (p : ℕ) (out : is_in p (moves s) ≡ false) where
           offer_why s t (pick p l i) o y b at body (who_sends s p out nobody (pick p l i) o refl found) gives.0 gives.1,
         )
 
-    left_true : (c : Control) → y.control ≡ c → (b : Option Seq) → body_of s.program y.kind ≡ b → moves_of s p t b c ≡ [] → AllByRecursion (IsTrueOf s p) (waits_left s t p b c)
+    left_true : (c : Control) → y.control ≡ c → (b : Option Seq) → body_of s.program y.sort ≡ b → moves_of s p t b c ≡ [] → AllByRecursion (IsTrueOf s p) (waits_left s t p b c)
     left_true [] is b body none = (youngest_waits y at is (only_if_none (nat_eq (p + 1) (length s.stands)) (Death p) none), tt)
     left_true (f ∷ c) is None body none = tt
     left_true (f ∷ c) is (Some b) body none =
@@ -65,7 +66,7 @@ module _ (s : State) (p : ℕ) (out : is_in p (moves s) ≡ false) where
 
   at_true : in_control s ≡ None → (y : Option Stand) → slice_get s.stands p ≡ y → AllByRecursion (IsTrueOf s p) (waits_at s (last_timeout s) p y)
   at_true nobody None at = tt
-  at_true nobody (Some y) at = left_true nobody y at y.control refl (body_of s.program y.kind) refl (no_own s p nobody out y at)
+  at_true nobody (Some y) at = left_true nobody y at y.control refl (body_of s.program y.sort) refl (no_own s p nobody out y at)
 
   behind_true : (h : Option ℕ) → in_control s ≡ h → AllByRecursion (IsTrueOf s p) (waits_behind s p h)
   behind_true (Some h) is = let has = in_control_is s p h is in (held has.0 (another_holds s p h is out) has.1, tt)
@@ -85,13 +86,13 @@ moves_without_waiting s p is = ap (λ (b : Bool). if b then [] else waits_behind
 
 -- what nothing waits for is not offered
 module _ (s : State) (p : ℕ) (t : Bool) where
-  none_waits : (y : Stand) → slice_get s.stands p ≡ Some y → (c : Control) → y.control ≡ c → waits_left s t p (body_of s.program y.kind) c ≡ [] → (j : Pick) → j.process ≡ p → (o : Offer) → Lies s j o → ⊥
+  none_waits : (y : Stand) → slice_get s.stands p ≡ Some y → (c : Control) → y.control ≡ c → waits_left s t p (body_of s.program y.sort) c ≡ [] → (j : Pick) → j.process ≡ p → (o : Offer) → Lies s j o → ⊥
   none_waits y at [] is none j own o l = cc
   none_waits y at (f ∷ c) is none j own o l =
       let same : l.stand ≡ y = same_Some l.stand y (sym l.stands ∙ ap (λ (q : ℕ). slice_get s.stands q) own ∙ at) in
-      let on : slice_get (levels_in (body_of s.program y.kind) (f ∷ c)) j.level ≡ Some l.level =
-      ap (λ (d : Control). slice_get (levels_in (body_of s.program y.kind) d) j.level) (sym is) ∙ ap (λ (z : Stand). slice_get (levels_in (body_of s.program z.kind) z.control) j.level) (sym same) ∙ l.on in
-      let level = each_none (waits_on s.channels (reads s p t) p) (levels_in (body_of s.program y.kind) (f ∷ c)) none j.level l.level on in
+      let on : slice_get (levels_in (body_of s.program y.sort) (f ∷ c)) j.level ≡ Some l.level =
+      ap (λ (d : Control). slice_get (levels_in (body_of s.program y.sort) d) j.level) (sym is) ∙ ap (λ (z : Stand). slice_get (levels_in (body_of s.program z.sort) z.control) j.level) (sym same) ∙ l.on in
+      let level = each_none (waits_on s.channels (reads s p t) p) (levels_in (body_of s.program y.sort) (f ∷ c)) none j.level l.level on in
       let place = each_none (λ i (q : Offer). wait_of s.channels (reads s p t) (pick p j.level i) q ∷ []) l.level level j.place o l.at in
       no_wait (wait_of s.channels (reads s p t) (pick p j.level j.place) o) place
     where
@@ -134,15 +135,15 @@ module _ (s : State) (k : Pick) (o : Offer) (l : Lies s k o) where
   one : (w : Wait) → Contains (w ∷ []) w
   one w = (0, omega arith, refl)
 
-  among : Contains (waits_down s.channels (reads s here (last_timeout s)) here (levels_in (body_of s.program l.stand.kind) l.stand.control)) (wait_of s.channels (reads s here (last_timeout s)) k o)
+  among : Contains (waits_down s.channels (reads s here (last_timeout s)) here (levels_in (body_of s.program l.stand.sort) l.stand.control)) (wait_of s.channels (reads s here (last_timeout s)) k o)
   among =
       let w : Wait = wait_of s.channels (reads s here (last_timeout s)) k o in
-      each_contains (waits_on s.channels (reads s here (last_timeout s)) here) (levels_in (body_of s.program l.stand.kind) l.stand.control) k.level l.level l.on w
+      each_contains (waits_on s.channels (reads s here (last_timeout s)) here) (levels_in (body_of s.program l.stand.sort) l.stand.control) k.level l.level l.on w
       (each_contains (λ i (q : Offer). wait_of s.channels (reads s here (last_timeout s)) (pick here k.level i) q ∷ []) l.level k.place o l.at w (one w))
 
-  left_among : (c : Control) → l.stand.control ≡ c → Contains (waits_left s (last_timeout s) here (body_of s.program l.stand.kind) c) (wait_of s.channels (reads s here (last_timeout s)) k o)
-  left_among [] is = absurd (none-some l.level (sym (ap (λ (ls : List (List Offer)). slice_get ls k.level) (no_levels (body_of s.program l.stand.kind))) ∙ ap (λ (d : Control). slice_get (levels_in (body_of s.program l.stand.kind) d) k.level) (sym is) ∙ l.on))
-  left_among (f ∷ c) is = subst (λ (d : Control). Contains (waits_down s.channels (reads s here (last_timeout s)) here (levels_in (body_of s.program l.stand.kind) d)) (wait_of s.channels (reads s here (last_timeout s)) k o)) is among
+  left_among : (c : Control) → l.stand.control ≡ c → Contains (waits_left s (last_timeout s) here (body_of s.program l.stand.sort) c) (wait_of s.channels (reads s here (last_timeout s)) k o)
+  left_among [] is = absurd (none-some l.level (sym (ap (λ (ls : List (List Offer)). slice_get ls k.level) (no_levels (body_of s.program l.stand.sort))) ∙ ap (λ (d : Control). slice_get (levels_in (body_of s.program l.stand.sort) d) k.level) (sym is) ∙ l.on))
+  left_among (f ∷ c) is = subst (λ (d : Control). Contains (waits_down s.channels (reads s here (last_timeout s)) here (levels_in (body_of s.program l.stand.sort) d)) (wait_of s.channels (reads s here (last_timeout s)) k o)) is among
 
 pub waits_for_each_offer : WaitsForEachOffer
 waits_for_each_offer s k o out nobody is =

@@ -3,8 +3,8 @@ use Rattle.std.specs.Prelude.{◌≡◌, ◌<◌, ℕ, true, length, [], Some, s
 use Rattle.pml_program.specs.declared.program.Seq.{Seq, Seq', Row_of-Stmt, end_of-Stmt, more_of-Stmt}
 use Rattle.pml_program.specs.declared.program.Basic.{Basic, Plain, Goto, Break, If', Do', Block, Atomic, DStep, Unless, Row_of-Seq, end_of-Seq, more_of-Seq}
 use Rattle.pml_program.specs.declared.program.Program.{Program}
-use Rattle.pml_moves.specs.declared.state.State.{State as Kept}
-use Rattle.pml_moves.specs.Scene.{control_at, state_of}
+use Rattle.run_search.specs.declared.state.State.{State as Kept}
+use Rattle.run_search.specs.Scene.{control_at, state_of}
 use Rattle.promela_run.specs.Moves.{moves}
 use Rattle.promela_run.specs.State.{Stand, State, body_of}
 use Rattle.view_waits.specs.Waits.{is_in, waits}
@@ -52,7 +52,7 @@ HasFilledBodies pr = (k : ℕ) → IfSome (body_of pr k) IsFilledBody
 
 -- each process stands at a node of its proctype
 abbrev pub StandAtNodes : State → Type 0
-StandAtNodes s = (p : ℕ) (y : Stand) → slice_get s.stands p ≡ Some y → (n : ℕ) × (y.control ≡ control_at (body_of s.program y.kind) n)
+StandAtNodes s = (p : ℕ) (y : Stand) → slice_get s.stands p ≡ Some y → (n : ℕ) × (y.control ≡ control_at (body_of s.program y.sort) n)
 
 -- so do those of each state that is kept of a run
 abbrev pub KeptStatesStandAtNodes : Type 0

@@ -3,7 +3,7 @@ use Rattle.std.specs.Prelude.{ℕ, ◌-◌, if◌then◌else◌, nat_eq, List, [
 use Rattle.promela_process.specs.Offers.{Offer}
 use Rattle.promela_run.specs.declared.moves.Pick.{Pick}
 use Rattle.promela_run.specs.State.{picked, State}
-use Rattle.promela_run.specs.World.{line_in}
+use Rattle.promela_run.specs.World.{line_of}
 
 -- what stands behind the first `[`
 abbrev pub behind : List ℕ → List ℕ
@@ -20,7 +20,7 @@ text_in (Some o) = bare o.text
 
 -- the line of the offer that a pick names
 abbrev pub offered_line : State → Pick → ℕ
-offered_line s k = line_in (picked s k)
+offered_line s k = line_of s k
 
 -- its text
 abbrev pub offered_text : State → Pick → List ℕ

@@ -2,7 +2,7 @@
 use Rattle.std.specs.Prelude.{ℕ, Bool, true, false, not, ◌&&◌, if◌then◌else◌, nat_eq, Option, Some, None}
 use Rattle.promela_run.specs.declared.moves.Move.{Move}
 use Rattle.promela_run.specs.declared.moves.Move.TheVariants.{Death, Alone, Pair}
-use Rattle.pml_moves.specs.Laws.{taker}
+use Rattle.run_search.specs.Laws.{taker}
 
 -- whether a move was found under `timeout`
 abbrev pub is_late : Move → Bool

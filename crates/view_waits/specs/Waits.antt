@@ -57,7 +57,7 @@ waits_left s t p b (f ∷ c) = waits_down s.channels (reads s p t) p (levels_in 
 
 abbrev pub waits_at : State → Bool → ℕ → Option Stand → List Wait
 waits_at s t p None = []
-waits_at s t p (Some y) = waits_left s t p (body_of s.program y.kind) y.control
+waits_at s t p (Some y) = waits_left s t p (body_of s.program y.sort) y.control
 
 -- where it stands
 abbrev pub waits_here : State → Bool → ℕ → List Wait

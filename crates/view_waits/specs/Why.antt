@@ -18,9 +18,10 @@ use Rattle.promela_process.specs.Expressions.{val, asked_by, is_match}
 use Rattle.promela_run.specs.declared.moves.Pick.{Pick}
 use Rattle.promela_run.specs.declared.moves.Move.{Move}
 use Rattle.promela_run.specs.declared.moves.Move.TheVariants.{Death, Alone, Pair}
-use Rattle.pml_moves.specs.Laws.{taker}
+use Rattle.run_search.specs.Laws.{taker}
 use Rattle.promela_run.specs.Moves.{Named, named, is_rendezvous, Message, message, accepts, choices, is_some, moves_held, moves}
-use Rattle.promela_run.specs.State.{picked, Stand, State, reads, body_of, levels_from}
+use Rattle.promela_run.specs.State.{picked, Stand, State, reads, body_of}
+use Rattle.run_search.specs.Lifted.{levels_from}
 use Rattle.view_waits.specs.declared.because.Because.{Because}
 use Rattle.view_waits.specs.declared.because.Because.TheVariants as why
 use Rattle.view_waits.specs.declared.waits.Wait.{Wait}
@@ -75,7 +76,7 @@ pub data IsWhy (s : State) (t : Bool) (k : Pick) (o : Offer) : Because → Type 
   -- it runs a process, and as many live as may
   too_many : {q : Run} → o.basic ≡ Some (Plain (a.Run q)) → MOST_PROCESSES ≤ length s.stands → IsWhy s t k o why.Processes
   -- it is a d_step, and nothing can be taken first in it
-  no_first : {d : Seq} {y : Stand} {b : Seq} → o.basic ≡ Some (DStep d) → slice_get s.stands k.process ≡ Some y → body_of s.program y.kind ≡ Some b
+  no_first : {d : Seq} {y : Stand} {b : Seq} → o.basic ≡ Some (DStep d) → slice_get s.stands k.process ≡ Some y → body_of s.program y.sort ≡ Some b
       → choices s.lossy s.channels (reads s k.process t) (levels_from b o.entry) ≡ [] → IsWhy s t k o why.DStep
 
 -- Why a process has no move, whatever it offers: another has exclusive control and a move, or it is at its closing brace and a younger lives.

@@ -7,10 +7,10 @@ ghost use Rattle.pml_value.specs.Seen.{seen};
 ghost use Rattle.view_waits.specs.Because.{at_send, at_receive, of_send, of_receive, of_action, because, code};
 
 use pml_channel::channel::Channel;
-use pml_moves::executable::named;
 use pml_program::expr::Target;
 use pml_program::program::{Action, Basic};
 use pml_value::view::View;
+use run_search::executable::named;
 
 /// Why what a process could do is no move.
 #[derive(Clone, Copy, Debug, PartialEq, Eq)]

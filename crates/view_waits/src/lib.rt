@@ -2,10 +2,10 @@
 #![tactic(auto)]
 
 pub mod because;
-pub mod effect;
 pub mod laws;
 pub mod offers;
 pub mod reads;
 pub mod statement;
+pub mod transfer;
 pub mod waits;
 pub mod words;

@@ -4,9 +4,9 @@ ghost use Rattle.std.specs.Prelude.{◌≡◌};
 ghost use Rattle.view_text.specs.Written.{Adds};
 ghost use Rattle.view_waits.specs.Offers.{behind, bare, offered_line, offered_text};
 
-use pml_moves::picked::picked;
-use pml_moves::scene::Scene;
 use promela_run::moves::Pick;
+use run_search::picked::picked;
+use run_search::scene::Scene;
 use view_cells::picture::Picture;
 use view_text::writer::Writer;
 

@@ -2,11 +2,11 @@
 
 use crate::reads::{Reads, add_reads, add_target};
 use crate::words::add_all;
-use pml_moves::picked::picked;
 use pml_program::expr::{Expr, Want};
 use pml_program::program::{Action, Basic, Run};
 use pml_value::view::View;
 use promela_run::moves::{Move, Pick};
+use run_search::picked::picked;
 use view_cells::picture::Picture;
 use view_text::writer::Writer;
 

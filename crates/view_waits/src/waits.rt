@@ -1,8 +1,8 @@
 //! What a process without a move waits for.
 
 ghost use Rattle.std.specs.Prelude.{◌≡◌, ◌++◌, ◌<◌, OnOk, Some, count_by, length, slice_get};
-ghost use Rattle.pml_moves.specs.Laws.{taker};
-ghost use Rattle.pml_moves.specs.Scene.{IsBody};
+ghost use Rattle.run_search.specs.Laws.{taker};
+ghost use Rattle.run_search.specs.Scene.{IsBody};
 ghost use Rattle.promela_run.specs.Moves.{moves as all_moves};
 ghost use Rattle.promela_run.specs.State.{State};
 ghost use Rattle.view_waits.specs.Added.{level_waits, node_waits, one_wait, seat_waits};
@@ -12,9 +12,9 @@ ghost use Rattle.view_waits.specs.Waits.{takes_part, is_in, last_timeout, waits_
 use crate::because::{Because, because_of};
 use crate::offers::offer_line;
 use pml_flow::edge::Edge;
-use pml_moves::scene::{Body, Scene, Seat};
 use pml_value::view::View;
 use promela_run::moves::{Move, Pick};
+use run_search::scene::{Body, Scene, Seat};
 use std::alloc::AllocError;
 use view_cells::picture::Picture;
 use view_cells::processes::line_of;

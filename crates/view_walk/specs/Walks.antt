@@ -4,8 +4,8 @@ use Rattle.diagnostics.specs.declared.fault.Fault.{Fault}
 use Rattle.pml_program.specs.declared.program.Program.{Program}
 use Rattle.promela_run.specs.State.{Begun, first_state}
 use Rattle.promela_run.specs.World.{Running, first, moves, rules}
-use Rattle.view_walk.specs.declared.turn.Turn.{Turn}
-use Rattle.view_walk.specs.Choices.{led_from, with_turn}
+use Rattle.view_walk.specs.declared.leg.Leg.{Leg}
+use Rattle.view_walk.specs.Choices.{led_from, with_leg}
 
 -- the first state, where its initialisers have no fault
 abbrev pub started : Program → Bool → Result Begun Fault → Option Running
@@ -13,24 +13,24 @@ started p lossy (Ok b) = Some (first p b lossy)
 started p lossy (Err f) = None
 
 -- the state of a model behind these choices
-abbrev pub walked : Program → Bool → List Turn → Option Running
+abbrev pub walked : Program → Bool → List Leg → Option Running
 walked p lossy ts = led_from rules (started p lossy (first_state p)) ts
 
 -- A walk: its choices, how many of them stand, and the state of the machine. It is lost where memory was refused on the way there.
 pub record Walked : Type 0 where
   pub program : Program
   pub lossy : Bool
-  pub turns : List Turn
+  pub legs : List Leg
   pub at : ℕ
   pub is_lost : Bool
   pub state : Running
 
 -- Its choices lead from state to state, from the first state of the model on; the machine is in the state behind those that stand.
 pub record IsWalk (w : Walked) : Type 0 where
-  pub within : w.at ≤ length w.turns
+  pub within : w.at ≤ length w.legs
   pub last : Running
-  pub whole : walked w.program w.lossy w.turns ≡ Some last
-  pub here : w.is_lost ≡ false → walked w.program w.lossy (take w.at w.turns) ≡ Some w.state
+  pub whole : walked w.program w.lossy w.legs ≡ Some last
+  pub here : w.is_lost ≡ false → walked w.program w.lossy (take w.at w.legs) ≡ Some w.state
 
 -- the same model
 pub record SameModel (old new : Walked) : Type 0 where
@@ -39,9 +39,9 @@ pub record SameModel (old new : Walked) : Type 0 where
 
 -- the same choices, and as many of them stand
 pub record StandsAs (old new : Walked) : Type 0 where
-  pub turns : new.turns ≡ old.turns
+  pub legs : new.legs ≡ old.legs
   pub at : new.at ≡ old.at
 
 -- the choices of a walk behind the one with this number
-abbrev pub turns_behind : Walked → ℕ → List Turn
-turns_behind w k = with_turn w.turns w.at (record { choice = k; of = length (moves w.state) })
+abbrev pub legs_behind : Walked → ℕ → List Leg
+legs_behind w k = with_leg w.legs w.at (record { choice = k; of = length (moves w.state) })

@@ -2,5 +2,5 @@
 //! to play the choices before it again.
 #![tactic(auto)]
 
-pub mod turn;
+pub mod leg;
 pub mod walk;

@@ -3,11 +3,11 @@
 ghost use Rattle.std.specs.Prelude.{◌≡◌, ◌+◌, ◌<◌, ◌≤◌, [], true, false, IfOk, OnOk, OnErr, length, slice_get, vec_len, vec_capacity};
 ghost use Rattle.diagnostics.specs.declared.fault.Fault.{Fault};
 ghost use Rattle.promela_run.specs.World.{moves};
-ghost use Rattle.view_walk.specs.Choices.{numbered, with_turn};
-ghost use Rattle.view_walk.specs.Walks.{turns_behind, SameModel, StandsAs};
+ghost use Rattle.view_walk.specs.Choices.{numbered, with_leg};
+ghost use Rattle.view_walk.specs.Walks.{legs_behind, SameModel, StandsAs};
 ghost use Rattle.view_walk.specs.declared.walk.Went.TheVariants.{On, Faults, Nowhere};
 
-use crate::turn::Turn;
+use crate::leg::Leg;
 use diagnostics::{Fault, Stop};
 use pml_check::Checked;
 use pml_sim::world::World;
@@ -31,7 +31,7 @@ pub struct Walk<'p, 'a> {
     checked: &'p Checked<'a>,
     lossy: bool,
     world: World<'p, 'a>,
-    turns: Vec<Turn>,
+    legs: Vec<Leg>,
     at: usize,
     /// The machine has stopped on its way, for want of memory.
     is_lost: bool,
@@ -50,9 +50,9 @@ impl<'p, 'a> Model for Walk<'p, 'a> {
 
     ghost coded = { Prim.hlevel (codes, worth.the_row.coded, (seq.the_row (record { mir = named 0; lft = [] })).coded, (basic.the_row (record { mir = named 0; lft = [] })).coded) };
 
-    ghost view = { λ w. record { program = w.checked.now; lossy = w.lossy; turns = w.turns.items; at = w.at; is_lost = w.is_lost; state = w.world } };
+    ghost view = { λ w. record { program = w.checked.now; lossy = w.lossy; legs = w.legs.items; at = w.at; is_lost = w.is_lost; state = w.world } };
 
-    ghost invariant = { λ w. IsWalk (record { program = w.checked.now; lossy = w.lossy; turns = w.turns.items; at = w.at; is_lost = w.is_lost; state = w.world }) };
+    ghost invariant = { λ w. IsWalk (record { program = w.checked.now; lossy = w.lossy; legs = w.legs.items; at = w.at; is_lost = w.is_lost; state = w.world }) };
 }
 
 fn move_at(moves: &[Move], choice: usize) -> Option<Move>
@@ -67,25 +67,25 @@ fn move_at(moves: &[Move], choice: usize) -> Option<Move>
     }
 }
 
-fn turn_at(turns: &[Turn], at: usize) -> Option<Turn>
-    ensures { result ≡ slice_get turns.now at }
+fn leg_at(legs: &[Leg], at: usize) -> Option<Leg>
+    ensures { result ≡ slice_get legs.now at }
 {
-    match turns.get(at) {
-        Some(turn) => Some(*turn),
+    match legs.get(at) {
+        Some(leg) => Some(*leg),
         None => None,
     }
 }
 
 // A choice is made at this place. There is room for one more.
-fn put(turns: &mut Vec<Turn>, at: usize, turn: Turn)
-    requires room { vec_len turns.old < vec_capacity turns.old }
-    ensures { turns.new.items ≡ with_turn turns.old.items at turn }
+fn put(legs: &mut Vec<Leg>, at: usize, leg: Leg)
+    requires room { vec_len legs.old < vec_capacity legs.old }
+    ensures { legs.new.items ≡ with_leg legs.old.items at leg }
 {
-    if turn_at(turns.as_slice(), at) == Some(turn) {
+    if leg_at(legs.as_slice(), at) == Some(leg) {
         return;
     }
-    turns.truncate(at);
-    turns.push_reserved(turn);
+    legs.truncate(at);
+    legs.push_reserved(leg);
 }
 
 impl<'p, 'a> Walk<'p, 'a> {
@@ -95,7 +95,7 @@ impl<'p, 'a> Walk<'p, 'a> {
         checked: &'p Checked<'a>,
         lossy: bool,
     ) -> Result<Walk<'p, 'a>, AllocError>
-        ensures turns { IfOk result (λ w. w.turns ≡ []) }
+        ensures legs { IfOk result (λ w. w.legs ≡ []) }
         ensures model { IfOk result (λ w. w.program ≡ checked.now) }
         ensures lossy { IfOk result (λ w. w.lossy ≡ lossy) }
     {
@@ -104,7 +104,7 @@ impl<'p, 'a> Walk<'p, 'a> {
             checked,
             lossy,
             world,
-            turns: Vec::new(alloc),
+            legs: Vec::new(alloc),
             at: 0,
             is_lost: false,
         })
@@ -120,23 +120,23 @@ impl<'p, 'a> Walk<'p, 'a> {
     /// How many choices stand.
     pub fn at(&self) -> usize
         ensures value { result ≡ self.now.at }
-        ensures within { result ≤ length self.now.turns }
+        ensures within { result ≤ length self.now.legs }
     {
         self.at
     }
 
     /// The choices; those behind the place where the walk stands are still to come.
-    pub fn turns(&self) -> &[Turn]
-        ensures { result.now ≡ self.now.turns }
+    pub fn legs(&self) -> &[Leg]
+        ensures { result.now ≡ self.now.legs }
     {
-        self.turns.as_slice()
+        self.legs.as_slice()
     }
 
     /// The next of the choices that are still to come.
-    pub fn next(&self) -> Option<Turn>
-        ensures { result ≡ slice_get self.now.turns self.now.at }
+    pub fn next(&self) -> Option<Leg>
+        ensures { result ≡ slice_get self.now.legs self.now.at }
     {
-        turn_at(self.turns.as_slice(), self.at)
+        leg_at(self.legs.as_slice(), self.at)
     }
 
     /// Whether memory was refused on the way to where it stands: to go anywhere leads out of this.
@@ -156,12 +156,12 @@ impl<'p, 'a> Walk<'p, 'a> {
     // At the first state again, with all choices.
     fn begin_again(&mut self) -> Result<(), AllocError>
         ensures model { SameModel self.old self.new }
-        ensures turns { self.new.turns ≡ self.old.turns }
+        ensures legs { self.new.legs ≡ self.old.legs }
         ensures ok { OnOk result (self.new.at ≡ 0) }
         ensures found { OnOk result (self.new.is_lost ≡ false) }
         ensures err { OnErr result (self.new ≡ self.old) }
     {
-        let alloc = *self.turns.allocator();
+        let alloc = *self.legs.allocator();
         self.world = World::start(alloc, self.checked, self.lossy)?;
         self.at = 0;
         self.is_lost = false;
@@ -171,15 +171,15 @@ impl<'p, 'a> Walk<'p, 'a> {
     // Takes the next of the choices.
     fn step_on(&mut self, printed: &mut Vec<u8>) -> Result<(), AllocError>
         requires found { self.old.is_lost ≡ false }
-        requires next { self.old.at < length self.old.turns }
+        requires next { self.old.at < length self.old.legs }
         ensures model { SameModel self.old self.new }
-        ensures turns { self.new.turns ≡ self.old.turns }
+        ensures legs { self.new.legs ≡ self.old.legs }
         ensures ok { OnOk result (self.new.at ≡ self.old.at + 1) }
         ensures found { OnOk result (self.new.is_lost ≡ false) }
     {
-        let turn = self.turns[self.at];
+        let leg = self.legs[self.at];
         let moves = self.world.moves()?;
-        let Some(m) = move_at(moves.as_slice(), turn.choice) else {
+        let Some(m) = move_at(moves.as_slice(), leg.choice) else {
             unreachable!()
         };
         match self.world.take(&m, printed) {
@@ -199,13 +199,13 @@ impl<'p, 'a> Walk<'p, 'a> {
     fn go_on(&mut self, step: usize) -> Result<(), AllocError>
         requires found { self.old.is_lost ≡ false }
         requires ahead { self.old.at ≤ step }
-        requires within { step ≤ length self.old.turns }
+        requires within { step ≤ length self.old.legs }
         ensures model { SameModel self.old self.new }
-        ensures turns { self.new.turns ≡ self.old.turns }
+        ensures legs { self.new.legs ≡ self.old.legs }
         ensures ok { OnOk result (self.new.at ≡ step) }
         ensures found { OnOk result (self.new.is_lost ≡ false) }
     {
-        let mut printed = Vec::new(*self.turns.allocator());
+        let mut printed = Vec::new(*self.legs.allocator());
         for _at in self.at..step {
             printed.clear();
             self.step_on(&mut printed)?;
@@ -215,9 +215,9 @@ impl<'p, 'a> Walk<'p, 'a> {
 
     /// Goes to the state behind so many choices. Where memory is refused it stands on the way there, or where it stood.
     pub fn go_to(&mut self, step: usize) -> Result<(), AllocError>
-        requires { step ≤ length self.old.turns }
+        requires { step ≤ length self.old.legs }
         ensures model { SameModel self.old self.new }
-        ensures turns { self.new.turns ≡ self.old.turns }
+        ensures legs { self.new.legs ≡ self.old.legs }
         ensures ok { OnOk result (self.new.at ≡ step) }
         ensures found { OnOk result (self.new.is_lost ≡ false) }
     {
@@ -234,20 +234,20 @@ impl<'p, 'a> Walk<'p, 'a> {
         ensures model { SameModel self.old self.new }
         ensures nowhere { IfOk result (λ w. w ≡ Nowhere → self.new ≡ self.old) }
         ensures at { IfOk result (λ w. w ≡ On → self.new.at ≡ self.old.at + 1) }
-        ensures on { IfOk result (λ w. w ≡ On → self.new.turns ≡ turns_behind self.old choice) }
+        ensures on { IfOk result (λ w. w ≡ On → self.new.legs ≡ legs_behind self.old choice) }
         ensures fault { (f : Fault) → IfOk result (λ w. w ≡ Faults f → StandsAs self.old self.new) }
         ensures found { IfOk result (λ w. self.new.is_lost ≡ false) }
-        ensures err { OnErr result (self.new.turns ≡ self.old.turns) }
+        ensures err { OnErr result (self.new.legs ≡ self.old.legs) }
     {
         let moves = self.world.moves()?;
         let Some(m) = move_at(moves.as_slice(), choice) else {
             return Ok(Went::Nowhere);
         };
-        self.turns.reserve(1)?;
+        self.legs.reserve(1)?;
         match self.world.take(&m, printed) {
             Ok(()) => {
                 let of = moves.len();
-                put(&mut self.turns, self.at, Turn { choice, of });
+                put(&mut self.legs, self.at, Leg { choice, of });
                 self.at += 1;
                 Ok(Went::On)
             }

@@ -1,6 +1,6 @@
 use Rattle.std.proofs.Common.{◌≡◌, Option, Some, IfSome, subst}
-use Rattle.pml_causes.specs.declared.cause.Place.{Place}
-use Rattle.pml_refused.specs.Told.{IsTold}
+use Rattle.explain_cause.specs.declared.cause.Segment.{Segment}
+use Rattle.explain_find.specs.Told.{IsTold}
 use Rattle.explain.specs.Request.{asked_for}
 use Rattle.explain.proofs.Telling.{at_told, alone}
 use Rattle.explain.proofs.explain_beside.Goals as goal
@@ -11,7 +11,7 @@ returns-in-Some c =
     let b = c.in-Some.is in
     let here : c.in_ok-place.field-0.place ≡ Some c.in-Some.place = cc in
     let told : IfSome (Some c.in-Some.place) (IsTold c.args.text.now c.args.refusal) =
-    subst (λ (o : Option Place). IfSome o (IsTold c.args.text.now c.args.refusal)) here c.in_ok-place.ensures in
+    subst (λ (o : Option Segment). IfSome o (IsTold c.args.text.now c.args.refusal)) here c.in_ok-place.ensures in
     at_told (asked_for c.args.name.now c.args.text.now c.args.source) c.args.refusal c.in-Some.place c.as_str.result.now c.told_at.result told c.told_at.ensures
 
 pub returns : goal.returns

@@ -4,9 +4,8 @@ use Rattle.std.proofs.lemmas.List.Elements.{All-same}
 use Rattle.promela_text.specs.Tokens.{IsTooDeep, IsOnLine}
 use Rattle.pml_lex.specs.Rows.{AreOnLines}
 use Rattle.pml_token.specs.Word.{Word}
-use Rattle.promela_text.specs.Inlines.{all_differ, definitions}
+use Rattle.promela_text.specs.Inlines.{all_differ, definitions, texts}
 use Rattle.pml_inline.specs.Least.{IsLeast, IsFaultOnLine}
-use Rattle.promela_text.specs.Expansion.{texts}
 use Rattle.pml_inline.specs.Places.{words_of}
 use Rattle.pml_inline.specs.Parts.{inlines_of, IsMarked, number_of}
 use Rattle.pml_inline.proofs.Lists.{words-whole, length-places}

@@ -1,10 +1,11 @@
 use Rattle.std.proofs.Common.{◌∙◌, Some, None, sym, ap, subst}
 use Rattle.pml_program.specs.declared.program.Program.{Program}
 use Rattle.promela_model.specs.Marks.{of_tree}
-use Rattle.pml_resolve.specs.Model.{numbered_model}
+use Rattle.check_resolve.specs.Model.{numbered_model}
 use Rattle.pml_flow.specs.Graph.{AreGraphs}
-use Rattle.pml_start.specs.Bound.{IsWithin}
-use Rattle.promela_run.specs.Judged.{SettleEverywhere, HasGoodStart}
+use Rattle.run_start.specs.Bound.{IsWithin}
+use Rattle.promela_run.specs.Judged.{EachBody, HasGoodStart}
+use Rattle.promela_process.specs.Control.{SettlesEverywhere}
 use Rattle.pml_check.specs.Decided.{all_judged}
 use Rattle.pml_check.proofs.Least.{fit_by, first_is_least}
 use Rattle.pml_check.proofs.Standing.{stands_by}
@@ -40,5 +41,5 @@ pub all_graphs-requires-clause-settle : goal.all_graphs-requires-clause-settle
 all_graphs-requires-clause-settle c =
     let t = c.args.tree in
     let e = c.as_slice.ensures ∙ ap (λ (p : Program). p.proctypes) (c.get.ensures ∙ c.in_ok-subject.ensures.program) in
-    subst SettleEverywhere (sym e)
+    subst (EachBody SettlesEverywhere) (sym e)
     (settles_of (of_tree t) (numbered_model t) (found_of all_judged t c.in_ok-refusal.field-0 None c.in_default.is (c.in_ok-refusal.ensures c.args.tree c.in_ok-subject.ensures)))

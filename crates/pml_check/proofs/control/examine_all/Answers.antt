@@ -2,7 +2,7 @@ use Rattle.std.proofs.Common.{◌+◌, ◌∙◌, ◌∷◌, ◌||◌, [], Bool,
 use Rattle.std.specs.Prelude.{slice_get}
 use Rattle.std.proofs.lemmas.Option.{slice_get_read}
 use Rattle.pml_program.specs.declared.program.Proctype.{Proctype}
-use Rattle.promela_process.specs.Circles.{Circle, SettlesEverywhere, BadFirstPoint, FirstPointsFit}
+use Rattle.promela_process.specs.Control.{Circle, SettlesEverywhere, BadFirstPoint, FirstPointsFit}
 use Rattle.pml_control.specs.Plan.{Plan, IsPlan}
 use Rattle.pml_control.specs.declared.findings.Findings.{Findings}
 use Rattle.pml_check.proofs.Looking.{SoFar, so_far-more}

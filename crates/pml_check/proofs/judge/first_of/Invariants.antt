@@ -2,7 +2,7 @@ use Rattle.std.proofs.Common.{Option, drop}
 use Rattle.diagnostics.specs.declared.refusal.Refusal.{Refusal}
 use Rattle.pml_tree.specs.declared.tree.Tree.{Tree}
 use Rattle.promela_model.specs.Marks.{of_tree}
-use Rattle.pml_resolve.specs.Model.{numbered_model}
+use Rattle.check_resolve.specs.Model.{numbered_model}
 use Rattle.pml_check.specs.Decided.{Finds}
 use Rattle.pml_check.specs.Subject.{IsSubject}
 use Rattle.pml_check.proofs.judge.first_of.Given as goal

@@ -1,7 +1,7 @@
 use Rattle.std.proofs.Common.{◌∙◌, None, sym, subst}
 use Rattle.promela_model.specs.Marks.{of_tree}
-use Rattle.pml_resolve.specs.Model.{numbered_model}
-use Rattle.pml_start.specs.Bound.{IsWithin}
+use Rattle.check_resolve.specs.Model.{numbered_model}
+use Rattle.run_start.specs.Bound.{IsWithin}
 use Rattle.promela_run.specs.Judged.{HasBadStart, HasGoodStart}
 use Rattle.pml_check.specs.Decided.{DecidesStart, judged_before_start}
 use Rattle.pml_check.proofs.Starting.{first_before, first_start, fits_start, fits_cells}

@@ -1,5 +1,5 @@
 use Rattle.std.proofs.Common.{◌≡◌, ◌++◌, length, map, drop}
-use Rattle.pml_flow.specs.Parts.{all_of, bounds_from}
+use Rattle.pml_flow.specs.Arms.{all_of, bounds_from}
 use Rattle.pml_flow.specs.Graph.{edges_level}
 use Rattle.pml_flow.proofs.graph.add_levels.Given as goal
 

@@ -2,7 +2,7 @@ use Rattle.std.proofs.Common.{◌≡◌, ◌+◌, ◌++◌, ◌∷◌, ◌∙◌
 use Rattle.std.proofs.lemmas.List.{drop_more}
 use Rattle.pml_flow.specs.declared.edge.Edge.{Edge}
 use Rattle.pml_flow.specs.Ways.{Site}
-use Rattle.pml_flow.specs.Parts.{all_of, bounds_from}
+use Rattle.pml_flow.specs.Arms.{all_of, bounds_from}
 use Rattle.pml_flow.specs.Graph.{Tables, edges_level, own_levels}
 use Rattle.pml_flow.proofs.Parting.{lists_more, ends_more, numbers_more}
 use Rattle.pml_flow.proofs.graph.all_edges.Goals as goal

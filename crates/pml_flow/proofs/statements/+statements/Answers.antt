@@ -1,7 +1,7 @@
 use Rattle.std.specs.Option.{option_copied}
 use Rattle.std.proofs.Common.{◌≡◌, ◌<◌, ◌+◌, ◌-◌, ◌++◌, ◌∙◌, ap, arith, drop, length}
 use Rattle.pml_flow.specs.Inside.{inner_list}
-use Rattle.pml_flow.proofs.Stating.{done_if, done_do, done_part, one_more}
+use Rattle.pml_flow.proofs.Stating.{done_if, done_do, done_arm, one_more}
 use Rattle.pml_flow.proofs.statements.+statements.Goals as goal
 
 pub add_inner-returns-in_ok-add_options-in-If : goal.add_inner-returns-in_ok-add_options-in-If
@@ -22,6 +22,6 @@ add_steps-loop-left-preserved t c =
       so_far = one_more (option_copied c.args.next) (option_copied c.follower.result) c.args.stmts.now (c.loop-left.left - 1) c.index-stmts-left.result c.index-stmts-left.result c.args.table.now c.loop-left.table c.add_inner.new.table c.add.new.self l c.index-stmts-left.is c.follower.ensures h c.in_ok-add_inner.ensures c.in_ok-add.ensures;
     }
 
-pub add_part-returns : goal.add_part-returns
-add_part-returns t c =
-    done_part (option_copied c.args.next) c.args.seq.now c.as_slice.result.now c.args.table.now c.add.new.self c.add_steps.new.table c.as_slice.ensures c.in_ok-add.ensures c.in_ok-add_steps.ensures
+pub add_arm-returns : goal.add_arm-returns
+add_arm-returns t c =
+    done_arm (option_copied c.args.next) c.args.seq.now c.as_slice.result.now c.args.table.now c.add.new.self c.add_steps.new.table c.as_slice.ensures c.in_ok-add.ensures c.in_ok-add_steps.ensures

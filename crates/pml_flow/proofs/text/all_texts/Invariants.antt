@@ -1,5 +1,5 @@
 use Rattle.std.proofs.Common.{◌≡◌, ◌++◌, length, drop}
-use Rattle.pml_flow.specs.Parts.{all_of, bounds_from}
+use Rattle.pml_flow.specs.Arms.{all_of, bounds_from}
 use Rattle.pml_flow.specs.Composed.{texts_from, offer_lines_from}
 use Rattle.pml_flow.proofs.text.all_texts.Given as goal
 

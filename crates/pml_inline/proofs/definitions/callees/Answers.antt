@@ -1,8 +1,7 @@
 use Rattle.std.proofs.Common.{◌≡◌, ◌∙◌, ◌++◌, ◌∷◌, [], ℕ, List, ap, sym, subst, get_or, map}
 use Rattle.std.proofs.lemmas.List.{take_all, map_more}
 use Rattle.pml_inline.specs.declared.definitions.Definition.{Definition}
-use Rattle.promela_text.specs.Inlines.{all_differ}
-use Rattle.promela_text.specs.Expansion.{parameter}
+use Rattle.promela_text.specs.Inlines.{all_differ, parameter}
 use Rattle.pml_inline.specs.Parts.{inlines_of, texts_of, AreNumbered}
 use Rattle.pml_inline.proofs.Naming.{names-of}
 use Rattle.pml_inline.proofs.Steps.{none_of, some_of}

@@ -2,7 +2,7 @@ use Rattle.std.proofs.Common.{◌≡◌, ◌∙◌, ◌++◌, ◌∷◌, [], ap,
 use Rattle.std.proofs.lemmas.List.{map-append, take_more}
 use Rattle.std.proofs.lemmas.List.Elements.{All-same, All-push}
 use Rattle.pml_inline.specs.declared.definitions.Part.{Part}
-use Rattle.promela_text.specs.Expansion.{parameter}
+use Rattle.promela_text.specs.Inlines.{parameter}
 use Rattle.pml_inline.specs.Places.{word_at}
 use Rattle.pml_inline.specs.Parts.{places_of}
 use Rattle.pml_inline.proofs.definitions.parts.Goals as goal

@@ -1,7 +1,7 @@
 use Rattle.std.proofs.Common.{◌≡◌, ℕ, ◌+◌, ◌<◌, ◌≤◌, ◌++◌, List, take, drop, length, arith, ap, ◌∙◌, subst}
 use Rattle.std.proofs.lemmas.Bool.Decides.{nat_tests}
 use Rattle.prepare.specs.Standing.{Standing}
-use Rattle.prepare.specs.Marks.{mark}
+use Rattle.prepare.specs.Markers.{marker}
 use Rattle.prepare.specs.Numbering.{placed, standing_behind, line_length, first_line, bare}
 use Rattle.prepare.proofs.Lining.{reached_start, reached_line, reached_end, some_line}
 use Rattle.prepare.proofs.numbering.numbered.Goals as goal
@@ -20,11 +20,11 @@ loop-standing-preserved c =
     let some : 0 < length rest = grind (arith, nat_tests) in
     let line : c.split_at.result.0.now ≡ first_line rest = c.split_at.ensures.front ∙ ap (λ (n : ℕ). take n rest) c.line_length.ensures.value in
     let back : c.split_at.result.1.now ≡ drop (line_length rest) rest = c.split_at.ensures.back ∙ ap (λ (n : ℕ). drop n rest) c.line_length.ensures.value in
-    let items : c.add.new.out.items ≡ out ++ placed s (mark (first_line rest)) (first_line rest) = c.in_ok-add.ensures ∙ ap (λ (l : List ℕ). out ++ placed s (mark l) l) line in
-    let stands : c.behind-standing.result ≡ standing_behind s (mark (first_line rest)) (first_line rest) = c.behind-standing.ensures.value ∙ ap (λ (l : List ℕ). standing_behind s (mark l) l) line in
+    let items : c.add.new.out.items ≡ out ++ placed s (marker (first_line rest)) (first_line rest) = c.in_ok-add.ensures ∙ ap (λ (l : List ℕ). out ++ placed s (marker l) l) line in
+    let stands : c.behind-standing.result ≡ standing_behind s (marker (first_line rest)) (first_line rest) = c.behind-standing.ensures.value ∙ ap (λ (l : List ℕ). standing_behind s (marker l) l) line in
     let low : c.behind-standing.result.line + length c.split_at.result.1.now ≤ 9437185 = omega (arith, c.behind-standing.ensures.most, c.split_at.ensures.front_len, c.split_at.ensures.back_len, c.line_length.ensures.within) in
     let low' = subst (λ (x : Standing). x.line + length c.split_at.result.1.now ≤ 9437185) stands low in
-    let low'' = subst (λ (xs : List ℕ). (standing_behind s (mark (first_line rest)) (first_line rest)).line + length xs ≤ 9437185) back low' in
+    let low'' = subst (λ (xs : List ℕ). (standing_behind s (marker (first_line rest)) (first_line rest)).line + length xs ≤ 9437185) back low' in
     rw (items, stands, back) (reached_line c.loop-standing.invariant some low'')
 
 pub loop-standing-smaller : goal.loop-standing-smaller

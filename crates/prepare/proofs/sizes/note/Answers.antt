@@ -14,4 +14,4 @@ returns-in_ok-insert c = λ n.
     let declared = ap (declares r) (sym c.kind.ensures) ∙ sym c.declares.ensures ∙ c.if-declares.true in
     btree_map_updates_str _ old c.insert.new.self _ c.in_ok-insert.ensures.updates n
     ∙ noted_is old name _ size _ n (c.copied-known.ensures ∙ c.get.ensures.value) c.joined.ensures
-    ∙ noted_one r c.args.turn.now c.args.back.now n (size_in old n) name size c.token-name.ensures c.size_behind.ensures declared
+    ∙ noted_one r c.args.stretch.now c.args.back.now n (size_in old n) name size c.token-name.ensures c.size_behind.ensures declared

@@ -3,5 +3,5 @@ use Rattle.std.specs.List.{list_all}
 use Rattle.prepare.specs.Laws.{is_token}
 use Rattle.spinprep_program.proofs.over.are_tokens.Given as goal
 
-abbrev pub invariant-loop-turn : goal.invariant-loop-turn
-invariant-loop-turn l = list_all is_token (take l.turn-index l.turns) ≡ true
+abbrev pub invariant-loop-stretch : goal.invariant-loop-stretch
+invariant-loop-stretch l = list_all is_token (take l.stretch-index l.stretches) ≡ true

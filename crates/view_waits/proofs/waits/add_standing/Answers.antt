@@ -3,7 +3,7 @@ use Rattle.std.specs.Prelude.{OnOk}
 use Rattle.promela_process.specs.Expressions.{Reading}
 use Rattle.promela_run.specs.declared.live_channel.LiveChannel.{LiveChannel}
 use Rattle.pml_value.specs.Seen.{seen}
-use Rattle.pml_moves.specs.Scene.{offers_at, stand_of}
+use Rattle.run_search.specs.Scene.{offers_at, stand_of}
 use Rattle.view_waits.specs.declared.waits.Wait.{Wait}
 use Rattle.view_waits.specs.Waits.{waits_at, waits_down}
 use Rattle.view_waits.proofs.Adding.{left_is}

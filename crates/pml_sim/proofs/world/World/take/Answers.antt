@@ -2,9 +2,9 @@ use Rattle.std.proofs.Common.{rules, ◌≡◌, ◌∙◌, ap, sym, subst, Ok, E
 use Rattle.promela_run.specs.State.{State}
 use Rattle.profile.specs.declared.TheConstants.{MOST_DSTEP_STATEMENTS}
 use Rattle.promela_run.specs.Steps.{step}
-use Rattle.pml_steps.specs.Live.{Does, Joins}
+use Rattle.run_step.specs.Live.{Does, Joins}
 use Rattle.promela_run.specs.World.{Running}
-use Rattle.pml_steps.specs.Taking.{CanDie, PastBy}
+use Rattle.run_step.specs.Taking.{CanDie, PastBy}
 use Rattle.pml_sim.proofs.Living.{moves_within}
 use Rattle.pml_sim.proofs.Stepping.{present, can_die, taken_goes, taken_stops}
 use Rattle.pml_sim.proofs.world.World.take.Goals as goal

@@ -1,6 +1,6 @@
 use Rattle.std.proofs.Common.{◌≡◌, ◌∙◌, ap, sym, subst, length}
 use Rattle.promela_run.specs.State.{State}
-use Rattle.pml_texts.specs.Staying.{IsWithin}
+use Rattle.run_texts.specs.Staying.{IsWithin}
 use Rattle.promela_run.specs.World.{Running}
 use Rattle.pml_sim.proofs.Stepping.{listed_within}
 use Rattle.pml_sim.proofs.world.WorldMachine.origin.Goals as goal

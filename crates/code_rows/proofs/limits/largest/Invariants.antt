@@ -1,7 +1,0 @@
-use Rattle.std.proofs.Common.{◌≡◌, max, drop}
-use Rattle.pml_start.specs.Bound.{largest, room_of_processes}
-use Rattle.code_rows.proofs.limits.largest.Given as goal
-
--- the most by now, and of the other proctypes, is the most of all
-abbrev pub invariant-loop-proctype : goal.invariant-loop-proctype
-invariant-loop-proctype l = (max l.cells (largest (drop l.proctype-index l.proctypes)) ≡ largest l.proctypes) × (max l.room (room_of_processes (drop l.proctype-index l.proctypes)) ≡ room_of_processes l.proctypes)

@@ -1,0 +1,137 @@
+//! Tokens that have their places in place of their lines.
+
+ghost use Rattle.std.specs.Prelude.{◌≡◌, ◌≤◌, ◌+◌, length, take, drop};
+
+use crate::cause::{Cause, Finding, Named, Segment};
+use pml_token::token::{Kind, Token, same_kind};
+
+/// The place of a token.
+pub fn place_of(token: &Token<'_>) -> Segment
+    ensures offset { result.offset ≡ token.now.line }
+    ensures length { result.length ≡ length token.now.text }
+{
+    Segment {
+        offset: token.line() as usize,
+        length: token.text().len(),
+    }
+}
+
+/// The place behind the last byte.
+pub fn end_of(text: &[u8]) -> Segment
+    ensures { result.offset ≡ length text.now }
+{
+    Segment {
+        offset: text.len(),
+        length: 0,
+    }
+}
+
+/// The bytes at a place, or none where it is not in the text.
+pub fn bytes_at(text: &[u8], place: Segment) -> &[u8]
+    ensures { place.offset + place.length ≤ length text.now → result.now ≡ take place.length (drop place.offset text.now) }
+{
+    let end = place.offset.saturating_add(place.length);
+    if place.offset <= end && end <= text.len() {
+        &text[place.offset..end]
+    } else {
+        &text[..0]
+    }
+}
+
+/// The bytes of a token, as they stand in the text.
+pub fn bytes_of<'t>(text: &'t [u8], token: &Token<'_>) -> &'t [u8]
+    ensures { token.now.line + length token.now.text ≤ length text.now → result.now ≡ take (length token.now.text) (drop token.now.line text.now) }
+{
+    bytes_at(text, place_of(token))
+}
+
+/// A token that is a name, with its place.
+pub fn named<'t>(text: &'t [u8], token: &Token<'_>) -> Named<'t> {
+    Named {
+        name: bytes_of(text, token),
+        offset: token.line() as usize,
+    }
+}
+
+/// What is found at a token.
+pub fn at_token<'t>(token: &Token<'_>, cause: Cause<'t>) -> Finding<'t> {
+    Finding {
+        place: Some(place_of(token)),
+        cause,
+    }
+}
+
+/// What is found at a place.
+pub fn at_place(place: Segment, cause: Cause<'_>) -> Finding<'_> {
+    Finding {
+        place: Some(place),
+        cause,
+    }
+}
+
+/// No more is known.
+pub fn untold<'t>() -> Finding<'t> {
+    Finding {
+        place: None,
+        cause: Cause::Untold,
+    }
+}
+
+/// The kind of the token at a place of a list, `End` behind it.
+pub fn kind_at(tokens: &[Token<'_>], at: usize) -> Kind {
+    match tokens.get(at) {
+        Some(token) => token.kind(),
+        None => Kind::End,
+    }
+}
+
+/// The tokens from a place of a list on.
+pub fn from<'s, 't>(tokens: &'s [Token<'t>], at: usize) -> &'s [Token<'t>] {
+    if at <= tokens.len() {
+        &tokens[at..]
+    } else {
+        &tokens[..0]
+    }
+}
+
+/// The tokens from a place of a list to the one in front of another.
+pub fn between<'s, 't>(tokens: &'s [Token<'t>], at: usize, end: usize) -> &'s [Token<'t>] {
+    if at <= end && end <= tokens.len() {
+        &tokens[at..end]
+    } else {
+        &tokens[..0]
+    }
+}
+
+/// Whether a token of this kind stands there.
+pub fn is_at(tokens: &[Token<'_>], at: usize, kind: Kind) -> bool {
+    same_kind(kind_at(tokens, at), kind)
+}
+
+/// Whether a token opens something: `( [ { if do`.
+pub fn opens(kind: Kind) -> bool {
+    matches!(
+        kind,
+        Kind::OpenParen | Kind::OpenBracket | Kind::OpenBrace | Kind::If | Kind::Do
+    )
+}
+
+/// Whether a token closes something: `) ] } fi od`.
+pub fn closes(kind: Kind) -> bool {
+    matches!(
+        kind,
+        Kind::CloseParen | Kind::CloseBracket | Kind::CloseBrace | Kind::Fi | Kind::Od
+    )
+}
+
+/// What closes what this opens.
+pub fn closer_of(kind: Kind) -> Kind {
+    match kind {
+        Kind::OpenParen => Kind::CloseParen,
+        Kind::OpenBracket => Kind::CloseBracket,
+        Kind::OpenBrace => Kind::CloseBrace,
+        Kind::If => Kind::Fi,
+        Kind::Do => Kind::Od,
+        _ => Kind::End,
+    }
+}

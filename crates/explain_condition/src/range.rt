@@ -1,0 +1,154 @@
+//! Numbers out of range, and too many cells.
+
+use crate::sign::{
+    Matter, Sign, behind, front, is_declared, last_proctype, next_name, place_of_name, sign_at,
+};
+use crate::spans::{Part, place_in};
+use explain_cause::cause::{Cause, Finding, Named, RangeCause, Segment};
+use explain_cause::place::{at_place, untold};
+use pml_token::token::Token;
+use profile::MOST_FIELDS;
+use promela_model::mark::{Constant, Mark};
+
+/// A number that is out of range, and where it shows.
+#[derive(Clone, Copy)]
+struct Ranged<'t> {
+    place: Segment,
+    cause: RangeCause<'t>,
+}
+
+/// A cause, by what a constant expression gives.
+fn of_constant<'t>(name: &'t [u8], constant: Constant, outside: RangeCause<'t>) -> RangeCause<'t> {
+    match constant {
+        Constant::Is(_) => outside,
+        _ => RangeCause::Divides(name),
+    }
+}
+
+fn number_of(constant: Constant) -> i32 {
+    match constant {
+        Constant::Is(n) => n,
+        _ => 0,
+    }
+}
+
+fn of_name<'t>(name: Named<'t>, cause: RangeCause<'t>) -> Ranged<'t> {
+    let place = place_of_name(name);
+    Ranged { place, cause }
+}
+
+fn of_starts<'t>(tokens: &[Token<'_>], name: Named<'t>, constant: Constant) -> Ranged<'t> {
+    let outside = RangeCause::Count(name.name, number_of(constant));
+    Ranged {
+        place: place_in(tokens, name, Part::Count),
+        cause: of_constant(name.name, constant, outside),
+    }
+}
+
+fn of_channel<'t>(
+    tokens: &[Token<'_>],
+    name: Named<'t>,
+    constant: Constant,
+    fields: usize,
+) -> Ranged<'t> {
+    if fields > MOST_FIELDS && matches!(constant, Constant::Is(0..=65535)) {
+        return of_name(name, RangeCause::Fields(name.name, fields));
+    }
+    let outside = RangeCause::Capacity(name.name, number_of(constant));
+    Ranged {
+        place: place_in(tokens, name, Part::Capacity),
+        cause: of_constant(name.name, constant, outside),
+    }
+}
+
+fn of_size<'t>(tokens: &[Token<'_>], name: Named<'t>, constant: Constant) -> Ranged<'t> {
+    let outside = RangeCause::Size(name.name, number_of(constant));
+    Ranged {
+        place: place_in(tokens, name, Part::Size),
+        cause: of_constant(name.name, constant, outside),
+    }
+}
+
+/// Of a size, a channel or an initialiser in the declaration of this name.
+fn of_declared<'t>(tokens: &[Token<'_>], name: Named<'t>, matter: Matter) -> Ranged<'t> {
+    match matter {
+        Matter::Channel(constant, fields) => of_channel(tokens, name, constant, fields),
+        Matter::Misplaced(constant, fields) => of_channel(tokens, name, constant, fields),
+        Matter::Size(constant) => of_size(tokens, name, constant),
+        _ => Ranged {
+            place: place_in(tokens, name, Part::Initialiser),
+            cause: RangeCause::Divides(name.name),
+        },
+    }
+}
+
+/// Of a count, or of what stands in the next declaration.
+fn of_value<'t>(
+    text: &'t [u8],
+    tokens: &[Token<'_>],
+    marks: &[Mark<'_>],
+    at: usize,
+    matter: Matter,
+) -> Option<Ranged<'t>> {
+    if let Matter::Starts(constant) = matter {
+        let name = last_proctype(text, front(marks, at))?;
+        return Some(of_starts(tokens, name, constant));
+    }
+    let name = next_name(text, behind(marks, at))?;
+    Some(of_declared(tokens, name, matter))
+}
+
+fn range_at<'t>(
+    text: &'t [u8],
+    tokens: &[Token<'_>],
+    marks: &[Mark<'_>],
+    at: usize,
+) -> Option<Ranged<'t>> {
+    let sign = sign_at(text, marks, at);
+    let name = sign.name;
+    match sign.matter {
+        Matter::Number => Some(of_name(name, RangeCause::Number(name.name))),
+        Matter::Width => Some(of_name(name, RangeCause::Width(name.name))),
+        Matter::Constant => Some(of_name(name, RangeCause::Constants(name.name))),
+        matter => of_value(text, tokens, marks, at, matter),
+    }
+}
+
+fn told(ranged: Option<Ranged<'_>>) -> Finding<'_> {
+    match ranged {
+        Some(ranged) => at_place(ranged.place, Cause::Range(ranged.cause)),
+        None => untold(),
+    }
+}
+
+/// Of a number out of range, in the mark at `at`.
+pub fn of_range<'t>(
+    text: &'t [u8],
+    tokens: &[Token<'_>],
+    marks: &[Mark<'_>],
+    at: usize,
+) -> Finding<'t> {
+    told(range_at(text, tokens, marks, at))
+}
+
+/// Of what has too many cells, and the marks from it on.
+fn of_sign<'t>(text: &'t [u8], rest: &[Mark<'_>], sign: Sign<'t>) -> Option<Ranged<'t>> {
+    match sign.matter {
+        Matter::Channel(_, _) | Matter::Misplaced(_, _) => {
+            let name = next_name(text, rest)?;
+            Some(of_name(name, RangeCause::ChannelCells(name.name)))
+        }
+        matter => {
+            if is_declared(matter) {
+                Some(of_name(sign.name, RangeCause::Cells(sign.name.name)))
+            } else {
+                None
+            }
+        }
+    }
+}
+
+/// Of too many cells, in the mark at `at`.
+pub fn of_cells<'t>(text: &'t [u8], marks: &[Mark<'_>], at: usize) -> Finding<'t> {
+    told(of_sign(text, behind(marks, at), sign_at(text, marks, at)))
+}

@@ -1,0 +1,305 @@
+//! What marks say, as plain values with the names in them.
+
+use explain_cause::cause::{Named, Segment};
+use explain_cause::place::named;
+use promela_model::mark::{Constant, Declared, Holder, Mark, Role, Shape, Structure, Use, What};
+
+/// What a mark says.
+#[derive(Clone, Copy)]
+pub enum Matter {
+    /// A variable is declared.
+    Variable,
+    Field,
+    /// A name of `mtype`.
+    Constant,
+    /// The typedef with these fields is declared.
+    Typedef(usize),
+    /// A proctype with so many parameters.
+    Proctype(usize),
+    Reference(Use),
+    /// A typedef is wanted.
+    Wanted,
+    /// A proctype is wanted, with so many parameters.
+    Run(usize),
+    /// A text is printed, with so many values.
+    Print(usize),
+    Number,
+    Width,
+    Size(Constant),
+    Starts(Constant),
+    Preset,
+    /// The capacity and the number of fields of a `chan`.
+    Channel(Constant, usize),
+    /// Those of a channel behind another type.
+    Misplaced(Constant, usize),
+    Label,
+    Goto,
+    Break,
+    Unless,
+    /// A d_step begins.
+    Step,
+    /// A loop begins.
+    Loop,
+    /// The innermost of them ends.
+    Leave,
+}
+
+/// What a mark says, whose it is, and the name in it, or an empty one.
+#[derive(Clone, Copy)]
+pub struct Sign<'t> {
+    pub owner: usize,
+    pub matter: Matter,
+    pub name: Named<'t>,
+}
+
+/// Which mark with a name is looked for.
+#[derive(Clone, Copy)]
+pub enum Sought {
+    /// The one that declares it for this owner.
+    Declared(usize),
+    /// The label of this owner.
+    Label(usize),
+    /// A label, whose ever it is.
+    AnyLabel,
+    /// A variable of some proctype.
+    Local,
+    Proctype,
+    /// The typedef with these fields, whatever its name is.
+    Fields(usize),
+    /// The one that declares anything, whatever its name is.
+    Any,
+}
+
+/// The first so many marks.
+pub fn front<'m, 'a>(marks: &'m [Mark<'a>], count: usize) -> &'m [Mark<'a>] {
+    if count <= marks.len() {
+        &marks[..count]
+    } else {
+        marks
+    }
+}
+
+/// The marks behind so many.
+pub fn behind<'m, 'a>(marks: &'m [Mark<'a>], count: usize) -> &'m [Mark<'a>] {
+    if count <= marks.len() {
+        &marks[count..]
+    } else {
+        &marks[..0]
+    }
+}
+
+fn declared_as(declared: &Declared<'_>) -> Matter {
+    match declared {
+        Declared::Variable(Role::Variable, _, _, _) => Matter::Variable,
+        Declared::Variable(Role::Field, _, _, _) => Matter::Field,
+        Declared::Constant => Matter::Constant,
+        Declared::Typedef(fields) => Matter::Typedef(*fields),
+        Declared::Proctype(_, parameters) => Matter::Proctype(*parameters),
+    }
+}
+
+fn matter_of(what: &What<'_>) -> Matter {
+    match what {
+        What::Declares(_, declared) => declared_as(declared),
+        What::Uses(how, _) => Matter::Reference(*how),
+        What::Typedef(_) => Matter::Wanted,
+        What::Runs(_, given) => Matter::Run(*given),
+        What::Prints(_, given) => Matter::Print(*given),
+        What::Number(_) => Matter::Number,
+        What::Width(_) => Matter::Width,
+        What::Size(size) => Matter::Size(*size),
+        What::Starts(count) => Matter::Starts(*count),
+        What::Preset(_) => Matter::Preset,
+        What::Channel(Holder::Chan, capacity, fields) => Matter::Channel(*capacity, *fields),
+        What::Channel(Holder::Other, capacity, fields) => Matter::Misplaced(*capacity, *fields),
+        What::Label(_) => Matter::Label,
+        What::Goto(_) => Matter::Goto,
+        What::Break => Matter::Break,
+        What::Unless => Matter::Unless,
+        What::Enter(Structure::DStep) => Matter::Step,
+        What::Enter(Structure::Do) => Matter::Loop,
+        What::Leave => Matter::Leave,
+    }
+}
+
+/// No name.
+pub fn nameless<'t>(text: &'t [u8]) -> Named<'t> {
+    Named {
+        name: &text[..0],
+        offset: 0,
+    }
+}
+
+fn name_of<'t>(text: &'t [u8], what: &What<'_>) -> Named<'t> {
+    match what {
+        What::Declares(token, _) => named(text, token),
+        What::Typedef(token) => named(text, token),
+        What::Runs(token, _) => named(text, token),
+        What::Prints(token, _) => named(text, token),
+        What::Number(token) => named(text, token),
+        What::Width(token) => named(text, token),
+        What::Label(token) => named(text, token),
+        What::Goto(token) => named(text, token),
+        _ => nameless(text),
+    }
+}
+
+/// What a mark says.
+pub fn sign_of<'t>(text: &'t [u8], mark: &Mark<'_>) -> Sign<'t> {
+    Sign {
+        owner: mark.owner,
+        matter: matter_of(&mark.what),
+        name: name_of(text, &mark.what),
+    }
+}
+
+/// What the mark at `at` says; where there is none, a structure ends.
+pub fn sign_at<'t>(text: &'t [u8], marks: &[Mark<'_>], at: usize) -> Sign<'t> {
+    match behind(marks, at) {
+        [mark, ..] => sign_of(text, mark),
+        [] => Sign {
+            owner: 0,
+            matter: Matter::Leave,
+            name: nameless(text),
+        },
+    }
+}
+
+fn steps_of<'m, 'a>(mark: &'m Mark<'a>) -> &'m [Shape<'a>] {
+    match &mark.what {
+        What::Uses(_, steps) => steps.as_slice(),
+        _ => &[],
+    }
+}
+
+/// The names of the reference of the mark at `at`.
+pub fn steps_at<'m, 'a>(marks: &'m [Mark<'a>], at: usize) -> &'m [Shape<'a>] {
+    match behind(marks, at) {
+        [mark, ..] => steps_of(mark),
+        [] => &[],
+    }
+}
+
+/// Whether a name is declared.
+pub fn is_declared(matter: Matter) -> bool {
+    matches!(
+        matter,
+        Matter::Variable
+            | Matter::Field
+            | Matter::Constant
+            | Matter::Typedef(_)
+            | Matter::Proctype(_)
+    )
+}
+
+fn has_fields(matter: Matter, owner: usize) -> bool {
+    match matter {
+        Matter::Typedef(fields) => fields == owner,
+        _ => false,
+    }
+}
+
+/// Whether a mark with some name is one that is looked for.
+fn is_sought(owner: usize, matter: Matter, sought: Sought) -> bool {
+    match sought {
+        Sought::Declared(wanted) => owner == wanted && is_declared(matter),
+        Sought::Label(wanted) => owner == wanted && matches!(matter, Matter::Label),
+        Sought::AnyLabel => matches!(matter, Matter::Label),
+        Sought::Local => 0 < owner && matches!(matter, Matter::Variable),
+        Sought::Proctype => matches!(matter, Matter::Proctype(_)),
+        Sought::Fields(wanted) => has_fields(matter, wanted),
+        Sought::Any => is_declared(matter),
+    }
+}
+
+fn has_any_name(sought: Sought) -> bool {
+    matches!(sought, Sought::Fields(_) | Sought::Any)
+}
+
+fn fits(sign: Sign<'_>, sought: Sought, name: &[u8]) -> bool {
+    is_sought(sign.owner, sign.matter, sought) && (has_any_name(sought) || sign.name.name == name)
+}
+
+/// The first of these marks that is looked for.
+pub fn first<'t>(
+    text: &'t [u8],
+    marks: &[Mark<'_>],
+    sought: Sought,
+    name: &[u8],
+) -> Option<Sign<'t>> {
+    for mark in marks {
+        let sign = sign_of(text, mark);
+        if fits(sign, sought, name) {
+            return Some(sign);
+        }
+    }
+    None
+}
+
+/// The name of the first of these marks that is looked for.
+pub fn first_name<'t>(
+    text: &'t [u8],
+    marks: &[Mark<'_>],
+    sought: Sought,
+    name: &[u8],
+) -> Option<Named<'t>> {
+    match first(text, marks, sought, name) {
+        Some(sign) => Some(sign.name),
+        None => None,
+    }
+}
+
+/// The name that is declared first by these marks.
+pub fn next_name<'t>(text: &'t [u8], marks: &[Mark<'_>]) -> Option<Named<'t>> {
+    first_name(text, marks, Sought::Any, b"")
+}
+
+/// The proctype that is declared last by these marks.
+pub fn last_proctype<'t>(text: &'t [u8], marks: &[Mark<'_>]) -> Option<Named<'t>> {
+    let mut found = None;
+    for mark in marks {
+        let sign = sign_of(text, mark);
+        if is_sought(sign.owner, sign.matter, Sought::Proctype) {
+            found = Some(sign.name);
+        }
+    }
+    found
+}
+
+/// What the first of these marks that declares a name of the owner says.
+fn declared_by(text: &[u8], marks: &[Mark<'_>], owner: usize, name: &[u8]) -> Matter {
+    match first(text, marks, Sought::Declared(owner), name) {
+        Some(sign) => sign.matter,
+        None => Matter::Leave,
+    }
+}
+
+/// The second, where the first declares nothing.
+fn or_else(first: Matter, second: Matter) -> Matter {
+    if is_declared(first) { first } else { second }
+}
+
+fn only_proctype(matter: Matter) -> Matter {
+    match matter {
+        Matter::Proctype(parameters) => Matter::Proctype(parameters),
+        _ => Matter::Leave,
+    }
+}
+
+/// What a name of the owner is declared as where the mark at `at` stands, among its own names, the global ones, or else the proctypes
+/// of the whole text.
+pub fn meaning(text: &[u8], marks: &[Mark<'_>], at: usize, owner: usize, name: &[u8]) -> Matter {
+    let before = front(marks, at);
+    let own = declared_by(text, before, owner, name);
+    let global = declared_by(text, before, 0, name);
+    let later = only_proctype(declared_by(text, marks, 0, name));
+    or_else(own, or_else(global, later))
+}
+
+/// The place of a name.
+pub fn place_of_name(name: Named<'_>) -> Segment {
+    Segment {
+        offset: name.offset,
+        length: name.name.len(),
+    }
+}

@@ -1,0 +1,142 @@
+//! Where a reference leads.
+
+use crate::sign::nameless;
+use check_names::meaning::{field, visible};
+use check_names::names::all_names;
+use check_names::table::Table;
+use explain_cause::cause::Named;
+use explain_cause::place::named;
+use pml_program::form::Form;
+use promela_model::mark::{Mark, Shape};
+use promela_model::thing::Thing;
+use std::alloc::{AllocError, Global};
+
+/// How far a reference leads. Its names are counted from 0.
+#[derive(Clone, Copy)]
+pub enum End {
+    /// It begins where this owner's names are used.
+    Start(usize),
+    /// To a variable of this type.
+    Form(Form),
+    /// The name of this number is lacking among the fields of this owner.
+    Lacking(usize, usize),
+    /// The name of this number stands behind one that has no fields.
+    NoFields(usize),
+    /// To something that is no variable.
+    Other,
+}
+
+/// The first index that is not right.
+#[derive(Clone, Copy)]
+pub enum Index {
+    Right,
+    /// None stands behind the name of this number, which is an array.
+    Missing(usize),
+    /// One stands behind the name of this number, which is no array.
+    Extra(usize),
+}
+
+/// Where a reference leads, and the first index on the way that is not right.
+#[derive(Clone, Copy)]
+pub struct Walk {
+    pub end: End,
+    pub index: Index,
+}
+
+/// A name on the way.
+#[derive(Clone, Copy)]
+enum Step {
+    /// Whether it is an array, and its type.
+    Variable(bool, Form),
+    Last(End),
+}
+
+fn lacking(form: Form, number: usize) -> End {
+    match form {
+        Form::Struct(owner) => End::Lacking(number, owner),
+        _ => End::Other,
+    }
+}
+
+/// What is found of a name.
+fn step_of(thing: Thing) -> Step {
+    match thing {
+        Thing::Variable(v) => Step::Variable(v.array, v.form),
+        _ => Step::Last(End::Other),
+    }
+}
+
+fn first_step(table: &Table<'_>, owner: usize, name: &[u8]) -> Step {
+    match visible(table, owner, name) {
+        Some(thing) => step_of(thing),
+        None => Step::Last(End::Other),
+    }
+}
+
+fn field_step(table: &Table<'_>, form: Form, name: &[u8], number: usize) -> Step {
+    match field(table, form, name) {
+        Some(Some(thing)) => step_of(thing),
+        Some(None) => Step::Last(lacking(form, number)),
+        None => Step::Last(End::NoFields(number)),
+    }
+}
+
+fn next_step(table: &Table<'_>, here: End, name: &[u8], number: usize) -> Step {
+    match here {
+        End::Start(owner) => first_step(table, owner, name),
+        End::Form(form) => field_step(table, form, name, number),
+        end => Step::Last(end),
+    }
+}
+
+/// The first index that is not right, at the name of this number or before it.
+fn index_of(before: Index, number: usize, indexed: bool, array: bool) -> Index {
+    match before {
+        Index::Right => {
+            if indexed == array {
+                Index::Right
+            } else if array {
+                Index::Missing(number)
+            } else {
+                Index::Extra(number)
+            }
+        }
+        wrong => wrong,
+    }
+}
+
+fn walk_in(table: &Table<'_>, owner: usize, steps: &[Shape<'_>]) -> Walk {
+    let mut end = End::Start(owner);
+    let mut index = Index::Right;
+    for (number, step) in steps.iter().enumerate() {
+        match next_step(table, end, step.name.text(), number) {
+            Step::Variable(array, form) => {
+                index = index_of(index, number, step.indexed, array);
+                end = End::Form(form);
+            }
+            Step::Last(end) => return Walk { end, index },
+        }
+    }
+    Walk { end, index }
+}
+
+/// Where a reference leads behind these marks.
+pub fn walk_behind(
+    alloc: Global,
+    before: &[Mark<'_>],
+    owner: usize,
+    steps: &[Shape<'_>],
+) -> Result<Walk, AllocError> {
+    let names = all_names(alloc, before)?;
+    Ok(walk_in(&names.table, owner, steps))
+}
+
+/// The name of this number, or an empty one.
+pub fn name_at<'t>(text: &'t [u8], steps: &[Shape<'_>], number: usize) -> Named<'t> {
+    for (i, step) in steps.iter().enumerate() {
+        if i == number {
+            return named(text, &step.name);
+        }
+    }
+    nameless(text)
+}

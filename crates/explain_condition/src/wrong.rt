@@ -1,0 +1,339 @@
+//! Names and values of the wrong kind.
+
+use crate::sign::{
+    Matter, Sought, behind, first_name, front, last_proctype, meaning, next_name, place_of_name,
+    sign_at, steps_at,
+};
+use crate::spans::{Part, place_in};
+use crate::walk::{End, Index, Walk, name_at, walk_behind};
+use check_names::meaning::{is_any, is_pid, is_special};
+use explain_cause::cause::{Cause, Finding, Named, Segment, Sort, WrongCause};
+use explain_cause::place::{at_place, untold};
+use pml_program::form::Form;
+use pml_token::token::Token;
+use pml_tree::tree::Scalar;
+use promela_model::mark::{Constant, Mark, Shape, Use};
+use std::alloc::{AllocError, Global};
+
+/// What is wrong, and where.
+#[derive(Clone, Copy)]
+struct Wrong<'t> {
+    place: Segment,
+    cause: WrongCause<'t>,
+}
+
+/// A use of a reference, and whose names it uses.
+#[derive(Clone, Copy)]
+struct Used {
+    owner: usize,
+    how: Use,
+}
+
+fn of_name<'t>(name: Named<'t>, cause: WrongCause<'t>) -> Option<Wrong<'t>> {
+    let place = place_of_name(name);
+    Some(Wrong { place, cause })
+}
+
+/// Whether a reference is a name alone.
+fn is_plain(steps: &[Shape<'_>]) -> bool {
+    match steps {
+        [first] => !first.indexed,
+        _ => false,
+    }
+}
+
+/// What the last name of a reference stands for, where that does not fit its use.
+fn of_last<'t>(how: Use, last: Named<'t>, form: Form) -> Option<Wrong<'t>> {
+    match form {
+        Form::Struct(_) => of_name(last, WrongCause::WholeTypedef(last.name)),
+        Form::Unknown => None,
+        Form::Plain(Scalar::Chan) => None,
+        _ => match how {
+            Use::Channel => of_name(last, WrongCause::NoChannel(last.name)),
+            _ => None,
+        },
+    }
+}
+
+/// A field behind a name that has none.
+fn of_no_field<'t>(last: Named<'t>, name: Named<'t>) -> Option<Wrong<'t>> {
+    of_name(name, WrongCause::FieldOfNone(last.name, name.name))
+}
+
+/// Where a reference ends, if that does not fit its use.
+fn of_end<'t>(text: &'t [u8], how: Use, steps: &[Shape<'_>], end: End) -> Option<Wrong<'t>> {
+    match end {
+        End::Form(form) => {
+            let last = name_at(text, steps, steps.len().saturating_sub(1));
+            of_last(how, last, form)
+        }
+        End::NoFields(number) => {
+            let last = name_at(text, steps, number.saturating_sub(1));
+            of_no_field(last, name_at(text, steps, number))
+        }
+        _ => None,
+    }
+}
+
+/// Of a variable and its fields.
+fn of_walk<'t>(text: &'t [u8], how: Use, steps: &[Shape<'_>], walk: Walk) -> Option<Wrong<'t>> {
+    match walk.index {
+        Index::Missing(number) => {
+            let name = name_at(text, steps, number);
+            of_name(name, WrongCause::ArrayWithoutIndex(name.name))
+        }
+        Index::Extra(number) => {
+            let name = name_at(text, steps, number);
+            of_name(name, WrongCause::IndexWithoutArray(name.name))
+        }
+        Index::Right => of_end(text, how, steps, walk.end),
+    }
+}
+
+/// Of a variable behind these marks that does not fit its use.
+fn of_variable<'t>(
+    alloc: Global,
+    text: &'t [u8],
+    before: &[Mark<'_>],
+    used: Used,
+    steps: &[Shape<'_>],
+) -> Result<Option<Wrong<'t>>, AllocError> {
+    let walk = walk_behind(alloc, before, used.owner, steps)?;
+    Ok(of_walk(text, used.how, steps, walk))
+}
+
+fn of_constant<'t>(how: Use, name: Named<'t>, plain: bool) -> Option<Wrong<'t>> {
+    if !plain {
+        return of_name(name, WrongCause::NotPlain(name.name));
+    }
+    match how {
+        Use::Channel => of_name(name, WrongCause::NoChannel(name.name)),
+        _ => of_name(name, WrongCause::StoredConstant(name.name)),
+    }
+}
+
+/// `_`, `_pid` and `_nr_pr`.
+fn of_special<'t>(used: Used, name: Named<'t>, plain: bool) -> Option<Wrong<'t>> {
+    of_name(name, special(used, name, plain))
+}
+
+fn special<'t>(used: Used, name: Named<'t>, plain: bool) -> WrongCause<'t> {
+    let is_read = matches!(used.how, Use::Read);
+    if !plain {
+        WrongCause::NotPlain(name.name)
+    } else if matches!(used.how, Use::Channel) {
+        WrongCause::NoChannel(name.name)
+    } else if is_any(name.name) {
+        WrongCause::ReadUnderscore
+    } else if is_read && is_pid(name.name) && used.owner == 0 {
+        WrongCause::PidOutside
+    } else {
+        WrongCause::StoredSpecial(name.name)
+    }
+}
+
+/// Of a reference whose first name is declared as this, where that does not fit its use.
+fn of_meaning<'t>(
+    alloc: Global,
+    text: &'t [u8],
+    before: &[Mark<'_>],
+    used: Used,
+    steps: &[Shape<'_>],
+    meaning: Matter,
+) -> Result<Option<Wrong<'t>>, AllocError> {
+    let name = name_at(text, steps, 0);
+    match meaning {
+        Matter::Variable | Matter::Field => {
+            if let Use::Preset = used.how {
+                Ok(of_name(name, WrongCause::Preset(name.name)))
+            } else {
+                of_variable(alloc, text, before, used, steps)
+            }
+        }
+        Matter::Constant => Ok(of_constant(used.how, name, is_plain(steps))),
+        _ => Ok(None),
+    }
+}
+
+/// Of a reference that does not fit its use.
+fn of_use<'t>(
+    alloc: Global,
+    text: &'t [u8],
+    marks: &[Mark<'_>],
+    at: usize,
+    used: Used,
+    steps: &[Shape<'_>],
+) -> Result<Option<Wrong<'t>>, AllocError> {
+    let name = name_at(text, steps, 0);
+    if is_special(name.name) {
+        return Ok(of_special(used, name, is_plain(steps)));
+    }
+    let meaning = meaning(text, marks, at, used.owner, name.name);
+    of_meaning(alloc, text, front(marks, at), used, steps, meaning)
+}
+
+fn sort_of(meaning: Matter) -> Sort {
+    match meaning {
+        Matter::Constant => Sort::Constant,
+        Matter::Typedef(_) => Sort::Typedef,
+        Matter::Proctype(_) => Sort::Proctype,
+        _ => Sort::Variable,
+    }
+}
+
+/// The first declaration of a name in front of its use, or else among the global names of the text, or else the use.
+fn declaration_of<'t>(
+    text: &'t [u8],
+    marks: &[Mark<'_>],
+    at: usize,
+    owner: usize,
+    name: Named<'t>,
+) -> Named<'t> {
+    match first_name(text, front(marks, at), Sought::Declared(owner), name.name) {
+        Some(own) => own,
+        None => match first_name(text, marks, Sought::Declared(0), name.name) {
+            Some(global) => global,
+            None => name,
+        },
+    }
+}
+
+/// Of a size, a capacity or an initialiser that is wrong, or a channel behind another type, of this name.
+fn of_declared<'t>(tokens: &[Token<'_>], name: Named<'t>, matter: Matter) -> Wrong<'t> {
+    match matter {
+        Matter::Size(_) => Wrong {
+            place: place_in(tokens, name, Part::Size),
+            cause: WrongCause::OpenSize(name.name),
+        },
+        Matter::Preset => Wrong {
+            place: place_in(tokens, name, Part::Initialiser),
+            cause: WrongCause::OpenPreset(name.name),
+        },
+        Matter::Channel(Constant::Open, _) => Wrong {
+            place: place_in(tokens, name, Part::Capacity),
+            cause: WrongCause::OpenCapacity(name.name),
+        },
+        _ => Wrong {
+            place: place_of_name(name),
+            cause: WrongCause::Holder(name.name),
+        },
+    }
+}
+
+/// Of a count, a size, a capacity or an initialiser that is wrong.
+fn of_value<'t>(
+    text: &'t [u8],
+    tokens: &[Token<'_>],
+    marks: &[Mark<'_>],
+    at: usize,
+    matter: Matter,
+) -> Option<Wrong<'t>> {
+    if let Matter::Starts(_) = matter {
+        let name = last_proctype(text, front(marks, at))?;
+        let place = place_in(tokens, name, Part::Count);
+        let cause = WrongCause::OpenCount(name.name);
+        return Some(Wrong { place, cause });
+    }
+    let name = next_name(text, behind(marks, at))?;
+    Some(of_declared(tokens, name, matter))
+}
+
+/// What a name is where a typedef or a proctype is wanted.
+#[derive(Clone, Copy)]
+struct Otherwise<'t> {
+    first: Named<'t>,
+    sort: Sort,
+}
+
+fn mistaken<'t>(
+    text: &'t [u8],
+    marks: &[Mark<'_>],
+    at: usize,
+    owner: usize,
+    name: Named<'t>,
+) -> Otherwise<'t> {
+    Otherwise {
+        first: declaration_of(text, marks, at, owner, name),
+        sort: sort_of(meaning(text, marks, at, owner, name.name)),
+    }
+}
+
+fn wrong_at<'t>(
+    alloc: Global,
+    text: &'t [u8],
+    tokens: &[Token<'_>],
+    marks: &[Mark<'_>],
+    at: usize,
+) -> Result<Option<Wrong<'t>>, AllocError> {
+    let sign = sign_at(text, marks, at);
+    let owner = sign.owner;
+    let name = sign.name;
+    match sign.matter {
+        Matter::Reference(how) => {
+            let steps = steps_at(marks, at);
+            of_use(alloc, text, marks, at, Used { owner, how }, steps)
+        }
+        Matter::Wanted => {
+            let is = mistaken(text, marks, at, owner, name);
+            Ok(of_name(name, WrongCause::NoTypedef(is.first, is.sort)))
+        }
+        Matter::Run(_) => {
+            let is = mistaken(text, marks, at, owner, name);
+            Ok(of_name(name, WrongCause::NoProctype(is.first, is.sort)))
+        }
+        matter => Ok(of_value(text, tokens, marks, at, matter)),
+    }
+}
+
+/// How many bytes stand before the declaration of a name, where that is another place.
+fn declared_before<'t>(
+    text: &'t [u8],
+    marks: &[Mark<'_>],
+    at: usize,
+    owner: usize,
+    name: Named<'t>,
+) -> Option<usize> {
+    let first = declaration_of(text, marks, at, owner, name).offset;
+    if first == name.offset || is_special(name.name) {
+        None
+    } else {
+        Some(first)
+    }
+}
+
+/// The same of the name that the mark at `at` uses by itself.
+fn declared_at(text: &[u8], marks: &[Mark<'_>], at: usize) -> Option<usize> {
+    let sign = sign_at(text, marks, at);
+    match sign.matter {
+        Matter::Reference(_) => {
+            let steps = steps_at(marks, at);
+            if steps.len() == 1 {
+                declared_before(text, marks, at, sign.owner, name_at(text, steps, 0))
+            } else {
+                None
+            }
+        }
+        _ => None,
+    }
+}
+
+fn told(wrong: Option<Wrong<'_>>, first: Option<usize>) -> Finding<'_> {
+    match wrong {
+        Some(wrong) => at_place(wrong.place, Cause::Wrong(wrong.cause, first)),
+        None => untold(),
+    }
+}
+
+/// Of something that is of the wrong kind, in the mark at `at`.
+pub fn of_wrong<'t>(
+    alloc: Global,
+    text: &'t [u8],
+    tokens: &[Token<'_>],
+    marks: &[Mark<'_>],
+    at: usize,
+) -> Result<Finding<'t>, AllocError> {
+    match wrong_at(alloc, text, tokens, marks, at) {
+        Ok(wrong) => Ok(told(wrong, declared_at(text, marks, at))),
+        Err(AllocError) => Err(AllocError),
+    }
+}

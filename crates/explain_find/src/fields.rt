@@ -1,0 +1,61 @@
+//! Fields of records that are written behind `->`.
+
+use crate::stopped::{is_before, name_at};
+use explain_cause::cause::{Cause, Finding, Named, Sort, UnknownCause};
+use explain_cause::place::is_at;
+use pml_token::token::{Kind, Token};
+
+/// Whether a variable of this name is declared of a typedef.
+fn is_record(tokens: &[Token<'_>], name: &[u8]) -> bool {
+    for (i, token) in tokens.iter().enumerate() {
+        if token.text() == name && is_before(tokens, i, 1, Kind::Name) {
+            return true;
+        }
+    }
+    false
+}
+
+/// The token that so many bytes stand before.
+fn index_of(tokens: &[Token<'_>], offset: usize) -> Option<usize> {
+    for (i, token) in tokens.iter().enumerate() {
+        if token.line() as usize == offset {
+            return Some(i);
+        }
+    }
+    None
+}
+
+/// The record in front of the `->` that stands before a place.
+fn record_before<'t>(text: &'t [u8], tokens: &[Token<'_>], offset: usize) -> Option<Named<'t>> {
+    let at = index_of(tokens, offset)?;
+    let holder = at.checked_sub(2)?;
+    let name = name_at(text, tokens, holder);
+    let is_field = is_before(tokens, at, 1, Kind::Arrow) && is_at(tokens, holder, Kind::Name);
+    if is_field && is_record(tokens, name.name) {
+        Some(name)
+    } else {
+        None
+    }
+}
+
+/// The same finding, or what is told of a field behind `->`.
+fn told<'t>(text: &'t [u8], tokens: &[Token<'_>], finding: Finding<'t>) -> Option<Finding<'t>> {
+    match finding.cause {
+        Cause::Unknown(UnknownCause::Nowhere(Sort::Variable, field, _)) => {
+            let holder = record_before(text, tokens, finding.place?.offset)?;
+            Some(Finding {
+                place: finding.place,
+                cause: Cause::Unknown(UnknownCause::Arrow(holder, field)),
+            })
+        }
+        _ => None,
+    }
+}
+
+/// What is found of a name that is not declared, where it may be a field behind `->`.
+pub fn with_fields<'t>(text: &'t [u8], tokens: &[Token<'_>], finding: Finding<'t>) -> Finding<'t> {
+    match told(text, tokens, finding) {
+        Some(found) => found,
+        None => finding,
+    }
+}

@@ -1,0 +1,67 @@
+//! Definitions and calls of inlines that are not right.
+
+ghost use Rattle.std.specs.Prelude.{◌≡◌, Bool, true, IfSome};
+ghost use Rattle.explain_find.specs.Inlines.{IsOfMisuse};
+
+use crate::inlines::is_of_misuse;
+use crate::kept::placeless;
+use explain_cause::cause::{Cause, Finding, InlineCause, Named};
+use explain_cause::place::{at_token, bytes_of, named, untold};
+use pml_token::token::Token;
+use promela_text::misuse::{Misuse, Rule};
+
+/// What is told of a definition.
+fn of_definition<'t>(rule: Rule, name: &'t [u8], definition: Named<'t>) -> InlineCause<'t> {
+    match rule {
+        Rule::Outside => InlineCause::Within,
+        Rule::Body => InlineCause::OpenBody(definition.name),
+        Rule::Parameters => InlineCause::ParameterTwice(name),
+        Rule::Names => InlineCause::Twice(definition),
+        _ => InlineCause::Form,
+    }
+}
+
+/// What is told where a token of this name breaks a rule.
+fn cause_of<'t>(rule: Rule, name: &'t [u8], definition: Named<'t>) -> InlineCause<'t> {
+    match rule {
+        Rule::Call => InlineCause::OpenCall(name),
+        Rule::Arguments(given, wanted) => InlineCause::Arguments(definition, given, wanted),
+        Rule::Empty => InlineCause::EmptyArgument(name),
+        Rule::Recursion => InlineCause::CallsItself(name),
+        Rule::Depth => InlineCause::TooDeep(name),
+        Rule::Length => InlineCause::TooLong(name),
+        rule => of_definition(rule, name, definition),
+    }
+}
+
+/// The token at a place of a list as a name, or an empty one.
+fn name_at<'t>(text: &'t [u8], tokens: &[Token<'_>], at: usize) -> Named<'t> {
+    match tokens.get(at) {
+        Some(token) => named(text, token),
+        None => Named {
+            name: &text[..0],
+            offset: 0,
+        },
+    }
+}
+
+/// What is found at the token that a misuse names.
+fn found<'t>(text: &'t [u8], tokens: &[Token<'_>], misuse: Misuse) -> Finding<'t> {
+    let Some(token) = tokens.get(misuse.at) else {
+        return untold();
+    };
+    let definition = name_at(text, tokens, misuse.definition);
+    let cause = cause_of(misuse.rule, bytes_of(text, token), definition);
+    at_token(token, Cause::Inline(cause))
+}
+
+/// Of a definition or a call of an inline that is not right.
+pub fn of_misuse<'t>(text: &'t [u8], tokens: &[Token<'_>], misuse: Misuse) -> Finding<'t>
+    ensures { IfSome result.place (IsOfMisuse tokens.now misuse) }
+{
+    let finding = found(text, tokens, misuse);
+    match finding.place {
+        Some(place) if is_of_misuse(tokens, misuse, place) => finding,
+        _ => placeless(finding),
+    }
+}

@@ -1,0 +1,91 @@
+//! Brackets that are not closed, or closed by another one, at the token that no rule reads.
+
+use crate::stopped::opener_before;
+use explain_cause::brackets::{fits, innermost, open_before};
+use explain_cause::place::{closes, kind_at};
+use pml_token::token::{Kind, Token};
+use std::alloc::{AllocError, Global};
+
+/// What is told of brackets that do not fit.
+#[derive(Clone, Copy)]
+pub enum Brackets {
+    /// What this opens is closed by another token.
+    Other(usize),
+    /// Nothing is open.
+    Nothing,
+    /// All tokens were read, and what this opens is not closed.
+    Open(usize),
+    /// They fit.
+    Right,
+}
+
+/// Whether a token of this kind closes what one of that kind opens, or may be meant for it: `fi` and `od` for `if` and `do`.
+fn is_for(kind: Kind, opener: Kind) -> bool {
+    match kind {
+        Kind::CloseParen => matches!(opener, Kind::OpenParen),
+        Kind::CloseBracket => matches!(opener, Kind::OpenBracket),
+        Kind::Fi | Kind::Od => matches!(opener, Kind::If | Kind::Do),
+        _ => true,
+    }
+}
+
+/// Whether a token closes something, and none of these is meant.
+fn is_one_too_many(tokens: &[Token<'_>], open: &[usize], at: usize) -> bool {
+    for opener in open {
+        if is_for(kind_at(tokens, at), kind_at(tokens, *opener)) {
+            return false;
+        }
+    }
+    true
+}
+
+/// Of a token that closes the last of these, or else nothing.
+fn closed_by(tokens: &[Token<'_>], open: &[usize], at: usize) -> Brackets {
+    if is_one_too_many(tokens, open, at) {
+        return Brackets::Nothing;
+    }
+    match innermost(open) {
+        Some(opener) => {
+            if fits(tokens, opener, at) {
+                Brackets::Right
+            } else {
+                Brackets::Other(opener)
+            }
+        }
+        None => Brackets::Nothing,
+    }
+}
+
+/// Of the last token, where this is open in front of its end.
+fn open_at_end(opener: Option<usize>) -> Brackets {
+    match opener {
+        Some(opener) => Brackets::Open(opener),
+        None => Brackets::Right,
+    }
+}
+
+/// What is open at the end of the text, where its last token is the one at `at`.
+fn at_end(alloc: Global, tokens: &[Token<'_>], at: usize) -> Result<Brackets, AllocError> {
+    if at.saturating_add(1) < tokens.len() {
+        return Ok(Brackets::Right);
+    }
+    let opener = opener_before(alloc, tokens, tokens.len())?;
+    Ok(open_at_end(opener))
+}
+
+/// What closes, where something else is open.
+fn at_closer(alloc: Global, tokens: &[Token<'_>], at: usize) -> Result<Brackets, AllocError> {
+    if !closes(kind_at(tokens, at)) {
+        return Ok(Brackets::Right);
+    }
+    let open = open_before(alloc, tokens, at)?;
+    Ok(closed_by(tokens, &open, at))
+}
+
+/// What is told of the brackets at a token.
+pub fn brackets_of(alloc: Global, tokens: &[Token<'_>], at: usize) -> Result<Brackets, AllocError> {
+    match at_closer(alloc, tokens, at)? {
+        Brackets::Right => at_end(alloc, tokens, at),
+        wrong => Ok(wrong),
+    }
+}

@@ -1,5 +1,0 @@
-use Rattle.pml_conditions.proofs.Crossing.{crossing_goto}
-use Rattle.pml_conditions.proofs.laws.crossing_goto.Goals as goal
-
-pub returns : goal.returns
-returns c = crossing_goto

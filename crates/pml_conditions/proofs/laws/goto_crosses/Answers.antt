@@ -1,5 +1,0 @@
-use Rattle.pml_conditions.proofs.Crossing.{goto_crosses}
-use Rattle.pml_conditions.proofs.laws.goto_crosses.Goals as goal
-
-pub returns : goal.returns
-returns c = goto_crosses

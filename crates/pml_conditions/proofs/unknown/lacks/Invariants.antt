@@ -1,7 +1,0 @@
-use Rattle.std.proofs.Common.{◌≡◌, drop}
-use Rattle.pml_names.specs.Entry.{found}
-use Rattle.promela_model.specs.Conditions.{lacks}
-use Rattle.pml_conditions.proofs.unknown.lacks.Given as goal
-
-abbrev pub invariant-loop-step : goal.invariant-loop-step
-invariant-loop-step l = lacks (found l.table) l.here (drop l.step-index l.steps) ≡ lacks (found l.table) l.fn.form l.steps

@@ -1,6 +1,0 @@
-use Rattle.std.proofs.Common.{◌≡◌, ◌++◌, drop}
-use Rattle.promela_model.specs.Marks.{of_constants}
-use Rattle.pml_marks.proofs.model.constants.Given as goal
-
-abbrev pub invariant-loop-i : goal.invariant-loop-i
-invariant-loop-i l = l.out ≡ l.initial.out ++ of_constants (drop l.i l.names)

@@ -1,5 +1,0 @@
-use Rattle.pml_moves.proofs.EachMove.{the_holder_goes_on}
-use Rattle.pml_moves.proofs.laws.the_holder_goes_on.Goals as goal
-
-pub returns : goal.returns
-returns c = the_holder_goes_on

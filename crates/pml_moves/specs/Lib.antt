@@ -1,9 +1,0 @@
-pub mod Fields
-pub mod Waits
-pub mod Listeners
-pub mod Scene
-pub mod Round
-pub mod Paired
-pub mod Kept
-pub mod Laws
-pub mod Viewed

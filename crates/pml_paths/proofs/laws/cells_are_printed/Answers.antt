@@ -1,5 +1,0 @@
-use Rattle.pml_paths.proofs.Reading.{printed-cells}
-use Rattle.pml_paths.proofs.laws.cells_are_printed.Goals as goal
-
-pub returns : goal.returns
-returns c t p ss stands owner k cell s = printed-cells t p ss k cell s stands owner

@@ -1,5 +1,0 @@
-use Rattle.pml_places.proofs.Standing.{stand_there}
-use Rattle.pml_places.proofs.laws.tokens_stand_at_their_places.Goals as goal
-
-pub returns : goal.returns
-returns c = stand_there

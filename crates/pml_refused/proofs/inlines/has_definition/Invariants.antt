@@ -1,9 +1,0 @@
-use Rattle.std.proofs.Common.{◌≡◌, length}
-use Rattle.pml_refused.specs.Inlines.{has_definition}
-use Rattle.pml_refused.proofs.inlines.has_definition.Given as goal
-
-abbrev pub invariant-loop-rest : goal.invariant-loop-rest
-invariant-loop-rest l = has_definition l.name l.rest ≡ has_definition l.name l.tokens
-
-abbrev pub decreases-loop-rest : goal.decreases-loop-rest
-decreases-loop-rest l = length l.rest

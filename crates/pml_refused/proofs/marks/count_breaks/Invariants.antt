@@ -1,7 +1,0 @@
-use Rattle.std.proofs.Common.{◌≡◌, ◌≤◌, take}
-use Rattle.std.specs.Prelude.{count_by}
-use Rattle.pml_refused.specs.Marks.{is_break}
-use Rattle.pml_refused.proofs.marks.count_breaks.Given as goal
-
-abbrev pub invariant-loop-mark : goal.invariant-loop-mark
-invariant-loop-mark l = (l.count ≡ count_by is_break (take l.mark-index l.marks)) × (l.count ≤ l.mark-index)

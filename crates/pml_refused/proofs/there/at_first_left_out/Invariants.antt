@@ -1,6 +1,0 @@
-use Rattle.std.proofs.Common.{◌≡◌, drop}
-use Rattle.pml_refused.specs.Tokens.{at_first_left_out}
-use Rattle.pml_refused.proofs.there.at_first_left_out.Given as goal
-
-abbrev pub invariant-loop-token : goal.invariant-loop-token
-invariant-loop-token l = at_first_left_out (drop l.token-index l.tokens) l.place ≡ at_first_left_out l.tokens l.place

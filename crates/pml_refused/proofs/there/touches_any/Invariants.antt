@@ -1,7 +1,0 @@
-use Rattle.std.proofs.Common.{◌≡◌, drop}
-use Rattle.std.specs.List.{list_any}
-use Rattle.pml_refused.specs.Tokens.{touches}
-use Rattle.pml_refused.proofs.there.touches_any.Given as goal
-
-abbrev pub invariant-loop-token : goal.invariant-loop-token
-invariant-loop-token l = list_any (touches l.place) (drop l.token-index l.tokens) ≡ list_any (touches l.place) l.tokens

@@ -1,6 +1,0 @@
-use Rattle.std.proofs.Common.{◌≡◌, ◌++◌, map, drop}
-use Rattle.pml_resolve.specs.Declarations.{plain}
-use Rattle.pml_resolve.proofs.declare.forms.Given as goal
-
-abbrev pub invariant-loop-one : goal.invariant-loop-one
-invariant-loop-one l = l.forms ++ map plain (drop l.one-index l.types) ≡ map plain l.types

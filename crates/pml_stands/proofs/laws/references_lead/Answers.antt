@@ -1,5 +1,0 @@
-use Rattle.pml_stands.proofs.Going.{reference-leads}
-use Rattle.pml_stands.proofs.laws.references_lead.Goals as goal
-
-pub returns : goal.returns
-returns c = λ gs ls ts among r m h. reference-leads gs ts among h

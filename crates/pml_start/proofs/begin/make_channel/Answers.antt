@@ -1,6 +1,0 @@
-use Rattle.std.proofs.Common.{refl}
-use Rattle.pml_start.proofs.Shapes.{push_keeps, keeps-then}
-use Rattle.pml_start.proofs.begin.make_channel.Goals as goal
-
-pub returns-clause-keeps : goal.returns-clause-keeps
-returns-clause-keeps c = keeps-then c.args.started.now _ _ (push_keeps _ c.args.started.now _ _ refl refl c.push.ensures.items) c.store_number.ensures.keeps

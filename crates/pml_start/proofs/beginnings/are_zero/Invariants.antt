@@ -1,7 +1,0 @@
-use Rattle.std.proofs.Common.{◌≡◌, drop}
-use Rattle.pml_start.specs.Known.{are_zero}
-use Rattle.pml_start.proofs.beginnings.are_zero.Given as goal
-
--- none so far
-abbrev pub invariant-loop-field : goal.invariant-loop-field
-invariant-loop-field l = are_zero (drop l.field-index l.fields) ≡ are_zero l.fields

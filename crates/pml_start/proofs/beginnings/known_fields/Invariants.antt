@@ -1,7 +1,0 @@
-use Rattle.std.proofs.Common.{◌≡◌, ◌++◌, drop, map}
-use Rattle.pml_start.specs.Known.{known}
-use Rattle.pml_start.proofs.beginnings.known_fields.Given as goal
-
--- what is known so far, and of the rest
-abbrev pub invariant-loop-field : goal.invariant-loop-field
-invariant-loop-field l = l.row ++ map known (drop l.field-index l.fields) ≡ map known l.fields

@@ -1,5 +1,0 @@
-use Rattle.pml_steps.proofs.Keeping.{atomic_keeps_control, receivers_keep_control}
-use Rattle.pml_steps.proofs.laws.atomic_keeps_control.Goals as goal
-
-pub returns : goal.returns
-returns c = record { alone = atomic_keeps_control; receivers = receivers_keep_control }

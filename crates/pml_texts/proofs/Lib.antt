@@ -1,6 +1,0 @@
-pub mod Settled
-pub mod Ending
-pub mod Staying
-pub mod Keeping
-pub mod Samples
-pub mod Rows

@@ -1,5 +1,0 @@
-use Rattle.pml_texts.proofs.Ending as lemmas
-use Rattle.pml_texts.proofs.laws.ends_are_valid.Goals as goal
-
-pub returns : goal.returns
-returns _ = lemmas.decides

@@ -1,5 +1,0 @@
-use Rattle.pml_texts.proofs.Staying as lemmas
-use Rattle.pml_texts.proofs.laws.texts_stay.Goals as goal
-
-pub returns : goal.returns
-returns _ s t more m same is h = lemmas.text_stays s t more same is m h

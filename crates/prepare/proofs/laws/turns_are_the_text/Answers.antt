@@ -1,7 +1,0 @@
-use Rattle.std.proofs.Common.{[], length, true}
-use Rattle.prepare.specs.Places.{start}
-use Rattle.prepare.proofs.Plain.{sources_are}
-use Rattle.prepare.proofs.laws.turns_are_the_text.Goals as goal
-
-pub returns : goal.returns
-returns c = λ text. sources_are (length text) true start [] text

@@ -1,9 +1,0 @@
-use Rattle.std.proofs.Common.{◌-◌, length}
-use Rattle.prepare.proofs.Turning.{Reached}
-use Rattle.prepare.proofs.turns.turns.Given as goal
-
-abbrev pub invariant-loop-gap : goal.invariant-loop-gap
-invariant-loop-gap l = Reached l.text l.turns.items l.fresh l.place l.gap l.from
-
-abbrev pub decreases-loop-gap : goal.decreases-loop-gap
-decreases-loop-gap l = length l.from - l.gap

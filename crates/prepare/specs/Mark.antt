@@ -1,6 +1,0 @@
--- A mark as contracts see it: without where its bytes lie in memory.
-use Rattle.std.specs.Prelude.{ℕ, List}
-
-pub record Mark : Type 0 where
-  pub line : ℕ
-  pub file : List ℕ

@@ -1,0 +1,179 @@
+-- Between which processes those lie that may receive on a channel.
+use Rattle.std.proofs.Common.{◌≡◌, ◌⊎◌, inl, inr, ℕ, zero, suc, ◌+◌, ◌<◌, ◌≤◌, Bool, true, false, if◌then◌else◌, nat_lt, ◌&&◌, List, [], ◌∷◌, ◌++◌, ℤ, length, map, drop, refl, sym, ap, ◌∙◌, subst, arith, Option, Some, None}
+use Rattle.std.specs.Prelude.{slice_get, slice_set, slice_index_or}
+use Rattle.std.specs.Ordering.{int_eq}
+use Rattle.std.proofs.lemmas.Int.{ints}
+use Rattle.std.proofs.lemmas.Bool.{cases_lt}
+use Rattle.std.proofs.lemmas.List.{drop_all}
+use Rattle.std.proofs.lemmas.Bool.Decides.{nat_tests}
+use Rattle.promela_run.specs.declared.moves.Pick.{Pick}
+use Rattle.promela_run.specs.declared.moves.Move.{Move}
+use Rattle.run_search.specs.declared.scene.Seat.{Seat}
+use Rattle.run_search.specs.declared.demands.Demand.{Demand}
+use Rattle.run_search.specs.declared.demands.Demand.TheVariants.{Nothing, Channel, Number, Anything}
+use Rattle.run_search.specs.declared.listeners.Span.{Span}
+use Rattle.run_search.specs.declared.listeners.Known.{Known}
+use Rattle.promela_run.specs.State.{State, Stand}
+use Rattle.promela_run.specs.Moves.{Message, each, pairs_with}
+use Rattle.run_search.specs.Demands.{may_take, begins_with, AreDemands}
+use Rattle.run_search.specs.Listeners.{place_of, with_one, joined, widened, spans_with, any_with, LiesIn, Hears, AreHeard, AreKnown}
+use Rattle.run_search.specs.Scene.{stand_of}
+use Rattle.run_search.proofs.Placing.{seat_stands}
+use Rattle.run_search.proofs.Searching.{within, past, there, opens_at, at_end}
+
+-- ---- spans
+
+least : (b : Bool) (j f i : ℕ) → nat_lt j f ≡ b → (f ≤ i) ⊎ (j ≤ i) → (if b then j else f) ≤ i
+least true j f i e (inl h) = let l : j < f = grind (arith, nat_tests) in omega (arith, l, h)
+least true j f i e (inr h) = h
+least false j f i e (inl h) = h
+least false j f i e (inr h) = let l : f ≤ j = grind (arith, nat_tests) in omega (arith, l, h)
+
+most : (b : Bool) (l j i : ℕ) → nat_lt l j ≡ b → (i ≤ l) ⊎ (i ≤ j) → i ≤ (if b then j else l)
+most true l j i e (inl h) = let k : l < j = grind (arith, nat_tests) in omega (arith, k, h)
+most true l j i e (inr h) = h
+most false l j i e (inl h) = h
+most false l j i e (inr h) = let k : j ≤ l = grind (arith, nat_tests) in omega (arith, k, h)
+
+still_in : (x : Span) (j i : ℕ) → LiesIn x i → LiesIn (with_one x j) i
+still_in x j i h = (least (nat_lt j x.first) j x.first i refl (inl h.0), most (nat_lt x.last j) x.last j i refl (inl h.1))
+
+now_in : (x : Span) (j : ℕ) → LiesIn (with_one x j) j
+now_in x j = (least (nat_lt j x.first) j x.first j refl (inr (omega arith)), most (nat_lt x.last j) x.last j j refl (inr (omega arith)))
+
+pub in_both : (x y : Span) (i : ℕ) → LiesIn x i ⊎ LiesIn y i → LiesIn (joined x y) i
+in_both x y i (inl h) = (least (nat_lt y.first x.first) y.first x.first i refl (inl h.0), most (nat_lt x.last y.last) x.last y.last i refl (inl h.1))
+in_both x y i (inr h) = (least (nat_lt y.first x.first) y.first x.first i refl (inr h.0), most (nat_lt x.last y.last) x.last y.last i refl (inr h.1))
+
+-- ---- a span is widened
+
+put_at : {A : Type 0} (xs : List A) (k : ℕ) (x : A) → k < length xs → slice_get (slice_set xs k x) k ≡ Some x
+put_at [] k x h = absurd (omega (arith, h))
+put_at (y ∷ ys) zero x h = refl
+put_at (y ∷ ys) (suc k) x h = let l : k < length ys = omega (arith, h) in put_at ys k x l
+
+-- what stands at a place is as before, or is what was put
+put : {A : Type 0} (P : Option A → Type 0) (xs : List A) (k i : ℕ) (x d : A) → (P (Some (slice_index_or xs k d)) → P (Some x)) → P (slice_get xs i) → P (slice_get (slice_set xs k x) i)
+put P [] k i x d f h = h
+put P (y ∷ ys) zero zero x d f h = f h
+put P (y ∷ ys) zero (suc i) x d f h = h
+put P (y ∷ ys) (suc k) zero x d f h = h
+put P (y ∷ ys) (suc k) (suc i) x d f h = put P ys k i x d f h
+
+nobody : Span
+nobody = record { first = 0; last = 0 }
+
+still_heard : (xs : List Span) (any : Span) (k j at i : ℕ) → Hears (slice_get xs at) any i → Hears (slice_get (widened xs k j) at) any i
+still_heard xs any k j at i h = by (nat_lt k (length xs))
+  where
+    on : Hears (Some (slice_index_or xs k (record { first = 0; last = 0 }))) any i → Hears (Some (with_one (slice_index_or xs k (record { first = 0; last = 0 })) j)) any i
+    on (inl l) = inl (still_in (slice_index_or xs k (record { first = 0; last = 0 })) j i l)
+    on (inr r) = inr r
+
+    by : (b : Bool) → Hears (slice_get (if b then slice_set xs k (with_one (slice_index_or xs k (record { first = 0; last = 0 })) j) else xs) at) any i
+    by true = put (λ o. Hears o any i) xs k at (with_one (slice_index_or xs k (record { first = 0; last = 0 })) j) (record { first = 0; last = 0 }) on h
+    by false = h
+
+now_heard : (xs : List Span) (any : Span) (k j : ℕ) → Hears (slice_get (widened xs k j) k) any j
+now_heard xs any k j = by (nat_lt k (length xs)) refl
+  where
+    by : (b : Bool) → nat_lt k (length xs) ≡ b → Hears (slice_get (if b then slice_set xs k (with_one (slice_index_or xs k (record { first = 0; last = 0 })) j) else xs) k) any j
+    by true e =
+        let l : k < length xs = grind (arith, nat_tests) in
+        subst (λ o. Hears o any j) (sym (put_at xs k (with_one (slice_index_or xs k (record { first = 0; last = 0 })) j) l)) (inl (now_in (slice_index_or xs k (record { first = 0; last = 0 })) j))
+    by false e =
+        let l : length xs ≤ k = grind (arith, nat_tests) in
+        subst (λ o. Hears o any j) (sym (past xs k l)) tt
+
+still_any : (o : Option Span) (any : Span) (j i : ℕ) → Hears o any i → Hears o (with_one any j) i
+still_any None any j i h = tt
+still_any (Some x) any j i (inl l) = inl l
+still_any (Some x) any j i (inr r) = inr (still_in any j i r)
+
+now_any : (o : Option Span) (any : Span) (j : ℕ) → Hears o (with_one any j) j
+now_any None any j = tt
+now_any (Some x) any j = inr (now_in any j)
+
+-- ---- one more process
+
+equal : (a b : ℤ) → int_eq a b ≡ true → a ≡ b
+equal a b e = grind (arith, ints)
+
+first_true : (a b : Bool) → (a && b) ≡ true → a ≡ true
+first_true true b e = refl
+first_true false b e = cc
+
+kept_on : (xs : List Span) (any : Span) (w : Demand) (j at i : ℕ) → Hears (slice_get xs at) any i → Hears (slice_get (spans_with xs w j) at) (any_with any w j) i
+kept_on xs any Nothing j at i h = h
+kept_on xs any (Channel n) j at i h = still_heard xs any (place_of n) j at i h
+kept_on xs any (Number n x) j at i h = still_heard xs any (place_of n) j at i h
+kept_on xs any Anything j at i h = still_any (slice_get xs at) any j i h
+
+here : (xs : List Span) (any : Span) (w : Demand) (j : ℕ) (m : Message) → may_take w m ≡ true → Hears (slice_get (spans_with xs w j) (place_of m.number)) (any_with any w j) j
+here xs any Nothing j m e = cc
+here xs any (Channel n) j m e = subst (λ (a : ℤ). Hears (slice_get (widened xs (place_of n) j) (place_of a)) any j) (equal n m.number e) (now_heard xs any (place_of n) j)
+here xs any (Number n x) j m e = subst (λ (a : ℤ). Hears (slice_get (widened xs (place_of n) j) (place_of a)) any j) (equal n m.number (first_true (int_eq n m.number) (begins_with x m.fields) e)) (now_heard xs any (place_of n) j)
+here xs any Anything j m e = now_any (slice_get xs (place_of m.number)) any j
+
+pub heard_one : (ws : List Demand) (xs : List Span) (any : Span) (w : Demand) (j : ℕ) → slice_get ws j ≡ Some w → AreHeard ws xs any j → AreHeard ws (spans_with xs w j) (any_with any w j) (j + 1)
+heard_one ws xs any w j at h i v m l is e = by (cases_lt i j)
+  where
+    by : (i < j) ⊎ (j ≤ i) → Hears (slice_get (spans_with xs w j) (place_of m.number)) (any_with any w j) i
+    by (inl k) = kept_on xs any w j (place_of m.number) i (h i v m k is e)
+    by (inr k) =
+        let same : i ≡ j = omega (arith, l, k) in
+        let vw : Some v ≡ Some w = sym is ∙ (ap (slice_get ws) same ∙ at) in
+        let one : v ≡ w = cc in
+        subst (λ (a : ℕ). Hears (slice_get (spans_with xs w j) (place_of m.number)) (any_with any w j) a) (sym same)
+        (here xs any w j m (ap (λ (u : Demand). may_take u m) (sym one) ∙ e))
+
+-- ---- what is known
+
+-- who is heard on another channel alone receives nothing
+pub known_all : (s : State) (t : Bool) (k : Known) → AreDemands s t k.demands.now → length k.demands.now ≡ length s.stands → AreHeard k.demands.now k.spans.now k.any (length k.demands.now) → AreKnown s t k
+known_all s t k demands many heard = record {
+  demands = demands;
+  heard = λ i y q m at out.
+      let l : i < length k.demands.now = omega (arith, within s.stands i y at, many) in
+      let w = there k.demands.now i l in
+      by i y q m at out l w.0 w.1 (may_take w.0 m) refl;
+}
+  where
+    by : (i : ℕ) (y : Stand) (q : Pick) (m : Message) → slice_get s.stands i ≡ Some y → (Hears (slice_get k.spans.now (place_of m.number)) k.any i → ⊥) → i < length k.demands.now → (w : Demand) → slice_get k.demands.now i ≡ Some w → (b : Bool) → may_take w m ≡ b → pairs_with s t q m i y ≡ []
+    by i y q m at out l w is true e = absurd (out (heard i w m l is e))
+    by i y q m at out l w is false e = demands i w y is at q m e
+
+-- who does not lie where a channel is heard receives nothing there
+pub outside : (s : State) (t : Bool) (k : Known) (q : Pick) (m : Message) (xs : List Seat) (number : ℤ) (first end : ℕ) → AreKnown s t k → map (stand_of s.program) xs ≡ s.stands → number ≡ m.number → ((i : ℕ) → i < length xs → Hears (slice_get k.spans.now (place_of number)) k.any i → (first ≤ i) × (i < end)) → (i : ℕ) (x : Seat) → slice_get xs i ≡ Some x → (first ≤ i → i < end → ⊥) → pairs_with s t q m i (stand_of s.program x) ≡ []
+outside s t k q m xs number first end known seats of among i x e out =
+    known.heard i (stand_of s.program x) q m (seat_stands s.program xs s.stands i x seats e)
+    (λ h. let r = among i (within xs i x e) (subst (λ (n : ℤ). Hears (slice_get k.spans.now (place_of n)) k.any i) (sym of) h) in out r.0 r.1)
+
+-- ---- the pairs with those of a span
+
+module _ (f : ℕ → Stand → List Move) (g : Seat → Stand) where
+  next : (xs : List Seat) (n : ℕ) (o : Option Seat) → slice_get xs n ≡ o → ((x : Seat) → slice_get xs n ≡ Some x → f n (g x) ≡ []) → each f (n + 1) (map g (drop (n + 1) xs)) ≡ each f n (map g (drop n xs))
+  next xs n (Some x) e h =
+      sym (ap (λ (ys : List Seat). each f n (map g ys)) (opens_at xs n x e) ∙ ap (λ (zs : List Move). zs ++ each f (n + 1) (map g (drop (n + 1) xs))) (h x e))
+  next xs n None e h =
+      let l = at_end xs n e in
+      ap (λ (ys : List Seat). each f (n + 1) (map g ys)) (drop_all (n + 1) xs (omega (arith, l)))
+      ∙ sym (ap (λ (ys : List Seat). each f n (map g ys)) (drop_all n xs l))
+
+  -- those before give nothing
+  pub before : (xs : List Seat) (n : ℕ) → ((i : ℕ) (x : Seat) → i < n → slice_get xs i ≡ Some x → f i (g x) ≡ []) → each f n (map g (drop n xs)) ≡ each f 0 (map g xs)
+  before xs zero h = refl
+  before xs (suc n) h =
+      let c : n + 1 ≡ suc n = omega arith in
+      let rest = before xs n (λ i x l. h i x (omega (arith, l))) in
+      ap (λ (k : ℕ). each f k (map g (drop k xs))) (sym c) ∙ next xs n (slice_get xs n) refl (λ x e. h n x (omega arith) e) ∙ rest
+
+  ended : (d : ℕ) (xs : List Seat) (n : ℕ) → length xs ≤ n + d → ((i : ℕ) (x : Seat) → n ≤ i → slice_get xs i ≡ Some x → f i (g x) ≡ []) → each f n (map g (drop n xs)) ≡ []
+  ended zero xs n l h = let m : length xs ≤ n = omega (arith, l) in ap (λ (ys : List Seat). each f n (map g ys)) (drop_all n xs m)
+  ended (suc d) xs n l h =
+      let m : length xs ≤ n + 1 + d = omega (arith, l) in
+      sym (next xs n (slice_get xs n) refl (λ x e. h n x (omega arith) e)) ∙ ended d xs (n + 1) m (λ i x k. h i x (omega (arith, k)))
+
+  -- those behind give nothing
+  pub behind : (xs : List Seat) (n : ℕ) → ((i : ℕ) (x : Seat) → n ≤ i → slice_get xs i ≡ Some x → f i (g x) ≡ []) → each f n (map g (drop n xs)) ≡ []
+  behind xs n h = ended (length xs) xs n (omega arith) h

@@ -1,0 +1,41 @@
+-- What a process waits for, and which messages it may receive so.
+use Rattle.std.specs.Prelude.{◌≡◌, ℕ, Bool, true, false, ◌&&◌, List, [], ◌∷◌, ℤ, Option, Some, None, slice_get}
+use Rattle.std.specs.Ordering.{int_eq}
+use Rattle.promela_process.specs.Offers.{Offer}
+use Rattle.promela_run.specs.declared.moves.Pick.{Pick}
+use Rattle.run_search.specs.declared.demands.Demand.{Demand}
+use Rattle.run_search.specs.declared.demands.Demand.TheVariants.{Nothing, Channel, Number, Anything}
+use Rattle.promela_run.specs.State.{Stand, State}
+use Rattle.promela_run.specs.Moves.{Message, last, pairs_on, pairs_with}
+
+abbrev pub begins_with : ℤ → List ℤ → Bool
+begins_with n [] = false
+begins_with n (x ∷ xs) = int_eq n x
+
+-- whether what waits so may take a message
+abbrev pub may_take : Demand → Message → Bool
+may_take Nothing m = false
+may_take (Channel n) m = int_eq n m.number
+may_take (Number n x) m = int_eq n m.number && begins_with x m.fields
+may_take Anything m = true
+
+-- where nothing is known it may
+abbrev pub may_at : Option Demand → Message → Bool
+may_at None m = true
+may_at (Some w) m = may_take w m
+
+-- by the offers of a level process j receives no other message
+abbrev pub DemandsOn : State → Bool → ℕ → List Offer → Demand → Type 0
+DemandsOn s t j os w = (k : Pick) (m : Message) (l : ℕ) → may_take w m ≡ false → pairs_on s t k m j l os ≡ []
+
+-- nor by those of the highest level that has a receive of it
+abbrev pub DemandsDown : State → Bool → ℕ → List (List Offer) → Demand → Type 0
+DemandsDown s t j ls w = (k : Pick) (m : Message) → may_take w m ≡ false → last (pairs_on s t k m j) 0 ls ≡ []
+
+-- process j receives no other message
+abbrev pub DemandsFor : State → Bool → ℕ → Stand → Demand → Type 0
+DemandsFor s t j y w = (k : Pick) (m : Message) → may_take w m ≡ false → pairs_with s t k m j y ≡ []
+
+-- each process of which a wait is known receives no other message
+abbrev pub AreDemands : State → Bool → List Demand → Type 0
+AreDemands s t ws = (j : ℕ) (w : Demand) (y : Stand) → slice_get ws j ≡ Some w → slice_get s.stands j ≡ Some y → DemandsFor s t j y w

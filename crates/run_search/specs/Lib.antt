@@ -1,0 +1,10 @@
+pub mod Fields
+pub mod Demands
+pub mod Listeners
+pub mod Scene
+pub mod Round
+pub mod Paired
+pub mod Kept
+pub mod Laws
+pub mod Viewed
+pub mod Lifted

@@ -1,0 +1,215 @@
+//! What processes wait for: a send then asks those alone that may receive its message.
+
+ghost use Rattle.std.specs.Prelude.{◌≡◌, ◌<◌, ◌&&◌, false, IfOk, length, map, slice_get};
+ghost use Rattle.std.specs.Option.{option_copied};
+ghost use Rattle.std.specs.Ordering.{int_eq};
+ghost use Rattle.promela_process.specs.Expressions.{Reading, asked_by};
+ghost use Rattle.pml_value.specs.Seen.{seen};
+ghost use Rattle.promela_run.specs.State.{reads};
+ghost use Rattle.run_search.specs.Scene.{stand_of, IsBody, shows, offers_at};
+ghost use Rattle.promela_run.specs.Moves.{Message as Sent, accepts, does_match};
+ghost use Rattle.run_search.specs.Demands.{begins_with, may_take, may_at, DemandsOn, DemandsDown, DemandsFor, AreDemands};
+
+use crate::executable::named;
+use crate::message::Message;
+use crate::scene::{Body, Scene, Seat};
+use pml_flow::edge::Edge;
+use pml_program::expr::Want;
+use pml_program::program::{Action, Basic};
+use pml_value::view::View;
+use promela_run::live_channel::LiveChannel;
+use std::alloc::{AllocError, Global};
+
+/// As many processes are enough to look beforehand what each waits for.
+const ENOUGH_PROCESSES: usize = 8;
+
+/// What a process may receive, so far as it is said beforehand: nothing; what is sent on the channel with this number; of that only
+/// what begins with this number; or anything.
+#[derive(Clone, Copy)]
+pub enum Demand {
+    Nothing,
+    Channel(i32),
+    Number(i32, i32),
+    Anything,
+}
+
+impl Demand {
+    /// What may be received so, or on the channel with this number.
+    fn or_channel(self, number: i32) -> Demand
+        ensures one { (m : Sent) → may_take result m ≡ false → may_take self m ≡ false }
+        ensures other { (m : Sent) → may_take result m ≡ false → int_eq number m.number ≡ false }
+    {
+        match self {
+            Demand::Nothing => Demand::Channel(number),
+            Demand::Channel(own) if own == number => self,
+            Demand::Number(own, _) if own == number => Demand::Channel(number),
+            _ => Demand::Anything,
+        }
+    }
+
+    /// What may be received so, or begins with this number on the channel with that.
+    fn or_number(self, number: i32, first: i32) -> Demand
+        ensures one { (m : Sent) → may_take result m ≡ false → may_take self m ≡ false }
+        ensures other { (m : Sent) → may_take result m ≡ false → (int_eq number m.number && begins_with first m.fields) ≡ false }
+    {
+        match self {
+            Demand::Nothing => Demand::Number(number, first),
+            Demand::Number(own, one) if own == number && one == first => self,
+            _ => self.or_channel(number),
+        }
+    }
+
+    /// What may be received so, or by a receive from the channel with this number.
+    fn or_from(self, number: i32, arguments: &[Want]) -> Demand
+        ensures one { (m : Sent) → may_take result m ≡ false → may_take self m ≡ false }
+        ensures other { (m : Sent) (r : Reading) → may_take result m ≡ false →
+            (int_eq number m.number && does_match (asked_by arguments.now r) m.fields) ≡ false }
+    {
+        match arguments {
+            [Want::Exactly(first)] => self.or_number(number, *first),
+            _ => self.or_channel(number),
+        }
+    }
+
+    /// What may be received so, or by an offer.
+    fn or_by(self, view: &View<'_>, basic: Option<&Basic<'_>>) -> Demand
+        ensures one { (m : Sent) → may_take result m ≡ false → may_take self m ≡ false }
+        ensures other { (m : Sent) → may_take result m ≡ false → accepts view.now.channels.now (seen view.now) m (option_copied basic.entry) ≡ false }
+    {
+        let Some(Basic::Plain(Action::Receive(target, _, _, arguments))) = basic else {
+            return self;
+        };
+        match named(view, target, arguments.len()) {
+            Ok((number, _)) => self.or_from(number, arguments.as_slice()),
+            Err(_) => self,
+        }
+    }
+
+    /// Whether a message may be received so.
+    fn takes(self, message: &Message<'_, '_>) -> bool
+        ensures { result ≡ may_take self message.now }
+    {
+        match self {
+            Demand::Nothing => false,
+            Demand::Channel(number) => number == message.number(),
+            Demand::Number(number, first) => number == message.number() && begins(message, first),
+            Demand::Anything => true,
+        }
+    }
+}
+
+/// Whether a message begins with this number.
+fn begins(message: &Message<'_, '_>, number: i32) -> bool
+    ensures { result ≡ begins_with number message.now.fields }
+{
+    if message.len() == 0 {
+        return false;
+    }
+    number == message.field(0)
+}
+
+/// What may be received so far, or by the offers of a level.
+fn demand_on(
+    scene: &Scene<'_, '_, '_>,
+    body: &Body<'_, '_, '_>,
+    j: usize,
+    timeout: bool,
+    edges: &[Edge],
+    so_far: Demand,
+) -> Demand
+    requires there { j < length scene.now.stands }
+    requires body { IsBody body.now }
+    ensures one { (m : Sent) → may_take result m ≡ false → may_take so_far m ≡ false }
+    ensures other { DemandsOn scene.now timeout j (map (shows body.now) edges.now) result }
+{
+    let view = scene.view(j, timeout);
+    let mut demand = so_far;
+    for edge in edges {
+        demand = demand.or_by(&view, body.basic(*edge));
+    }
+    demand
+}
+
+/// What may be received at a node of several levels.
+#[inline(never)]
+fn demand_down(
+    scene: &Scene<'_, '_, '_>,
+    body: &Body<'_, '_, '_>,
+    j: usize,
+    timeout: bool,
+    node: usize,
+) -> Demand
+    requires there { j < length scene.now.stands }
+    requires body { IsBody body.now }
+    requires node { node < length body.now.graph.now.nodes }
+    ensures { DemandsDown scene.now timeout j (offers_at body.now node) result }
+{
+    let mut demand = Demand::Nothing;
+    for level in 0..body.graph.level_count(node) {
+        let edges = body.graph.level(node, level);
+        demand = demand_on(scene, body, j, timeout, edges, demand);
+    }
+    demand
+}
+
+/// What a process may receive.
+fn demand_of(scene: &Scene<'_, '_, '_>, j: usize, timeout: bool, seat: Seat) -> Demand
+    requires { j < length scene.now.stands }
+    ensures { DemandsFor scene.now timeout j (stand_of scene.now.program seat) result }
+{
+    let Some(body) = scene.standing(seat) else {
+        return Demand::Nothing;
+    };
+    match body.graph.only_level(seat.node) {
+        Some(edges) => demand_on(scene, &body, j, timeout, edges, Demand::Nothing),
+        None => demand_down(scene, &body, j, timeout, seat.node),
+    }
+}
+
+/// What each process may receive.
+pub(crate) fn all_demands(
+    alloc: Global,
+    scene: &Scene<'_, '_, '_>,
+    timeout: bool,
+) -> Result<Vec<Demand>, AllocError>
+    ensures demands { IfOk result (λ v. AreDemands scene.now timeout v.items) }
+    ensures many { IfOk result (λ v. length v.items ≡ length scene.now.stands) }
+{
+    let seats = scene.seats();
+    let mut demands = Vec::with_capacity(alloc, seats.len())?;
+    for j in 0..seats.len() {
+        demands.push(demand_of(scene, j, timeout, seats[j]))?;
+    }
+    Ok(demands)
+}
+
+/// Whether one of these channels keeps no message.
+fn has_rendezvous(channels: &[LiveChannel]) -> bool {
+    for live in channels {
+        if live.channel.capacity() == 0 {
+            return true;
+        }
+    }
+    false
+}
+
+/// Whether it is worth to look beforehand what processes wait for: many live, and some can meet.
+pub(crate) fn are_worth_knowing(scene: &Scene<'_, '_, '_>) -> bool {
+    scene.process_count() >= ENOUGH_PROCESSES && has_rendezvous(scene.channels())
+}
+
+fn demand_at(demands: &[Demand], j: usize) -> Option<&Demand>
+    ensures { option_copied result ≡ slice_get demands.now j }
+{
+    demands.get(j)
+}
+
+/// Whether process j may receive a message, as far as is known.
+pub(crate) fn may_receive(demands: &[Demand], j: usize, message: &Message<'_, '_>) -> bool
+    ensures { result ≡ may_at (slice_get demands.now j) message.now }
+{
+    match demand_at(demands, j) {
+        Some(demand) => demand.takes(message),
+        None => true,
+    }
+}

@@ -1,0 +1,17 @@
+//! What may be done next in a state of many processes (Holzmann, *The SPIN Model Checker*, chapters 3 and 7).
+#![tactic(auto)]
+
+pub mod alone;
+pub mod d_step;
+pub mod demands;
+pub mod executable;
+pub mod laws;
+pub mod listeners;
+pub mod message;
+pub mod picked;
+pub mod played;
+pub mod rendezvous;
+pub mod scene;
+pub mod search;
+pub mod state;
+pub mod tier;

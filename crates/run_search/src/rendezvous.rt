@@ -1,0 +1,223 @@
+//! The pairs of a message that a rendezvous send offers with the receives of other processes: of each process those on the highest
+//! level that has any.
+
+#![tactic(auto, using(crate::proofs::Keeping::kept_on, crate::proofs::Keeping::kept_same, crate::proofs::Keeping::kept_push))]
+
+ghost use Rattle.std.specs.Prelude.{◌≡◌, ◌++◌, ◌<◌, false, List, [], OnOk, length, slice_get};
+ghost use Rattle.std.specs.Option.{option_copied};
+ghost use Rattle.promela_process.specs.Expressions.{Reading};
+ghost use Rattle.promela_run.specs.declared.live_channel.LiveChannel.{LiveChannel};
+ghost use Rattle.run_search.specs.Kept.{Extends};
+ghost use Rattle.run_search.specs.Scene.{IsBody, shows};
+ghost use Rattle.run_search.specs.Paired.{pair_by, paired_on, paired_down, paired_with, paired_by};
+ghost use Rattle.promela_run.specs.Moves.{Message as Sent, accepts};
+ghost use Rattle.run_search.specs.Demands.{may_at};
+ghost use Rattle.run_search.specs.Listeners.{AreKnown};
+
+use crate::demands::{Demand, may_receive};
+use crate::listeners::Known;
+use crate::message::{Message, is_received};
+use crate::scene::{Body, Scene, Seat};
+use crate::tier::Tier;
+use pml_flow::edge::Edge;
+use pml_program::program::{Action, Basic};
+use promela_run::moves::{Move, Pick};
+use std::alloc::AllocError;
+
+/// A message, by which offer it is sent, and under which value of `timeout`.
+#[derive(Drop)]
+pub(crate) struct Sending<'w, 'p> {
+    pub message: Message<'w, 'p>,
+    pub sender: Pick,
+    pub timeout: bool,
+}
+
+/// Whether a statement is a receive: nothing else takes a message.
+fn is_receive(basic: Option<&Basic<'_>>) -> bool
+    ensures { (cs : List LiveChannel) (r : Reading) (m : Sent) → result ≡ false → accepts cs r m (option_copied basic.entry) ≡ false }
+{
+    match basic {
+        Some(Basic::Plain(Action::Receive(_, _, _, _))) => true,
+        _ => false,
+    }
+}
+
+/// Adds the pair of a message with a receive, where that takes it.
+fn add_received(
+    scene: &Scene<'_, '_, '_>,
+    sending: &Sending<'_, '_>,
+    receiver: Pick,
+    basic: Option<&Basic<'_>>,
+    moves: &mut Vec<Move>,
+) -> Result<(), AllocError>
+    requires there { receiver.process < length scene.now.stands }
+    ensures added { OnOk result (moves.new.items ≡ moves.old.items ++ pair_by scene.now sending.now receiver (option_copied basic.entry)) }
+    ensures kept { Extends moves.new.items moves.old.items }
+{
+    let view = scene.view(receiver.process, sending.timeout);
+    if !is_received(&view, &sending.message, basic) {
+        return Ok(());
+    }
+    moves.push(Move::Pair(sending.sender, receiver, sending.timeout))?;
+    Ok(())
+}
+
+/// Adds the pair of a message with an offer, where that receives it. Only a receive is asked.
+fn add_pair(
+    scene: &Scene<'_, '_, '_>,
+    body: &Body<'_, '_, '_>,
+    sending: &Sending<'_, '_>,
+    receiver: Pick,
+    edge: Edge,
+    moves: &mut Vec<Move>,
+) -> Result<(), AllocError>
+    requires there { receiver.process < length scene.now.stands }
+    requires body { IsBody body.now }
+    ensures added { OnOk result (moves.new.items ≡ moves.old.items ++ pair_by scene.now sending.now receiver (shows body.now edge).basic) }
+    ensures kept { Extends moves.new.items moves.old.items }
+{
+    let basic = body.basic(edge);
+    if !is_receive(basic) {
+        return Ok(());
+    }
+    add_received(scene, sending, receiver, basic, moves)
+}
+
+/// Adds the pairs of a message with the receives of a level of process j.
+#[inline(always)]
+fn add_pairs_on(
+    scene: &Scene<'_, '_, '_>,
+    body: &Body<'_, '_, '_>,
+    sending: &Sending<'_, '_>,
+    tier: Tier,
+    edges: &[Edge],
+    moves: &mut Vec<Move>,
+) -> Result<(), AllocError>
+    requires there { tier.process < length scene.now.stands }
+    requires body { IsBody body.now }
+    ensures added { OnOk result (moves.new.items ≡ moves.old.items ++ paired_on scene.now sending.now body.now tier edges.now) }
+    ensures kept { Extends moves.new.items moves.old.items }
+{
+    for place in 0..edges.len() {
+        add_pair(scene, body, sending, tier.pick(place), edges[place], moves)?;
+    }
+    Ok(())
+}
+
+/// Adds those with the highest level of a node that has a receive of it.
+#[inline(never)]
+fn add_pairs_down(
+    scene: &Scene<'_, '_, '_>,
+    body: &Body<'_, '_, '_>,
+    sending: &Sending<'_, '_>,
+    j: usize,
+    node: usize,
+    moves: &mut Vec<Move>,
+) -> Result<(), AllocError>
+    requires there { j < length scene.now.stands }
+    requires body { IsBody body.now }
+    requires node { node < length body.now.graph.now.nodes }
+    ensures added { OnOk result (moves.new.items ≡ moves.old.items ++ paired_down scene.now sending.now body.now j node) }
+    ensures kept { Extends moves.new.items moves.old.items }
+{
+    let before = moves.len();
+    let mut level = body.graph.level_count(node);
+    while 0 < level {
+        level -= 1;
+        let edges = body.graph.level(node, level);
+        let tier = Tier { process: j, level };
+        add_pairs_on(scene, body, sending, tier, edges, moves)?;
+        if moves.len() != before {
+            return Ok(());
+        }
+    }
+    Ok(())
+}
+
+/// Adds those with the highest level of a node that has a receive of it: at once where the node has just one level, as most have.
+fn add_pairs_in(
+    scene: &Scene<'_, '_, '_>,
+    body: &Body<'_, '_, '_>,
+    sending: &Sending<'_, '_>,
+    j: usize,
+    node: usize,
+    moves: &mut Vec<Move>,
+) -> Result<(), AllocError>
+    requires there { j < length scene.now.stands }
+    requires body { IsBody body.now }
+    requires node { node < length body.now.graph.now.nodes }
+    ensures added { OnOk result (moves.new.items ≡ moves.old.items ++ paired_down scene.now sending.now body.now j node) }
+    ensures kept { Extends moves.new.items moves.old.items }
+{
+    match body.graph.only_level(node) {
+        Some(edges) => {
+            let tier = Tier {
+                process: j,
+                level: 0,
+            };
+            add_pairs_on(scene, body, sending, tier, edges, moves)
+        }
+        None => add_pairs_down(scene, body, sending, j, node, moves),
+    }
+}
+
+/// Adds the pairs of a message with the receives of process j.
+fn add_pairs_with(
+    scene: &Scene<'_, '_, '_>,
+    sending: &Sending<'_, '_>,
+    j: usize,
+    seat: Seat,
+    moves: &mut Vec<Move>,
+) -> Result<(), AllocError>
+    requires there { j < length scene.now.stands }
+    ensures added { OnOk result (moves.new.items ≡ moves.old.items ++ paired_with scene.now sending.now j seat) }
+    ensures kept { Extends moves.new.items moves.old.items }
+{
+    if j == sending.sender.process {
+        return Ok(());
+    }
+    match scene.standing(seat) {
+        None => Ok(()),
+        Some(body) => add_pairs_in(scene, &body, sending, j, seat.node, moves),
+    }
+}
+
+/// Adds the pairs of a message with the receives of process j, unless it waits for another.
+fn add_pairs_where(
+    scene: &Scene<'_, '_, '_>,
+    sending: &Sending<'_, '_>,
+    demands: &[Demand],
+    j: usize,
+    seat: Seat,
+    moves: &mut Vec<Move>,
+) -> Result<(), AllocError>
+    requires there { j < length scene.now.stands }
+    requires demands { may_at (slice_get demands.now j) sending.now.message ≡ false
+        → paired_with scene.now sending.now j seat ≡ [] }
+    ensures added { OnOk result (moves.new.items ≡ moves.old.items ++ paired_with scene.now sending.now j seat) }
+    ensures kept { Extends moves.new.items moves.old.items }
+{
+    if !may_receive(demands, j, &sending.message) {
+        return Ok(());
+    }
+    add_pairs_with(scene, sending, j, seat, moves)
+}
+
+/// Adds the pairs of a message, where this is known of what processes wait for.
+pub(crate) fn add_pairs(
+    scene: &Scene<'_, '_, '_>,
+    sending: &Sending<'_, '_>,
+    known: Known<'_>,
+    moves: &mut Vec<Move>,
+) -> Result<(), AllocError>
+    requires { AreKnown scene.now sending.now.timeout known }
+    ensures added { OnOk result (moves.new.items ≡ moves.old.items ++ paired_by scene.now sending.now) }
+    ensures kept { Extends moves.new.items moves.old.items }
+{
+    let seats = scene.seats();
+    let (first, end) = known.heard(sending.message.number(), seats.len());
+    for j in first..end {
+        add_pairs_where(scene, sending, known.demands, j, seats[j], moves)?;
+    }
+    Ok(())
+}

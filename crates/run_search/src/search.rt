@@ -1,0 +1,377 @@
+//! The search for moves: the holder of exclusive control alone, else all processes, else all under `timeout`; of each process the
+//! highest level that has a move.
+
+#![tactic(auto, using(crate::proofs::Keeping::kept_on, crate::proofs::Keeping::kept_same, crate::proofs::Keeping::kept_push))]
+
+ghost use Rattle.std.specs.Prelude.{◌≡◌, ◌++◌, ◌<◌, false, [], OnOk, length};
+ghost use Rattle.std.specs.Option.{option_copied};
+ghost use Rattle.run_search.specs.Kept.{Extends};
+ghost use Rattle.run_search.specs.Scene.{IsBody, shows};
+ghost use Rattle.run_search.specs.Viewed.{message_in};
+ghost use Rattle.promela_run.specs.Moves.{is_else as else_of, moves_under, moves_held, moves as all_moves, only_if};
+ghost use Rattle.run_search.specs.Round.{IsKnown, round_pairs, round_for, round_plain_for, round_plain, else_on, round_on, round_down, round_at, round_under};
+ghost use Rattle.promela_run.specs.declared.moves.Move.TheVariants.{Alone};
+
+use crate::alone::{can_be_alone, needs_nothing};
+use crate::d_step::is_else;
+use crate::demands::{Demand, all_demands, are_worth_knowing};
+use crate::listeners::{Known, NOBODY, Span, all_listeners};
+use crate::message::offered;
+use crate::rendezvous::{Sending, add_pairs};
+use crate::scene::{Body, Scene, Seat};
+use crate::tier::Tier;
+use pml_flow::edge::Edge;
+use pml_program::program::Basic;
+use pml_value::view::View;
+use promela_run::moves::{Move, Pick};
+use std::alloc::AllocError;
+
+/// A round of the search: over which state, under which value of `timeout`, and what is known of what processes wait for.
+#[derive(Clone, Copy)]
+struct Round<'r, 'w, 'p, 'a> {
+    scene: &'r Scene<'w, 'p, 'a>,
+    timeout: bool,
+    demands: &'r [Demand],
+    spans: &'r [Span],
+    any: Span,
+}
+
+// ---- a process
+
+/// Adds the pairs of what a statement offers to receivers.
+fn add_sent(
+    round: &Round<'_, '_, '_, '_>,
+    view: View<'_>,
+    offer: Pick,
+    basic: Option<&Basic<'_>>,
+    moves: &mut Vec<Move>,
+) -> Result<(), AllocError>
+    requires { IsKnown round.now }
+    ensures added { let m = message_in view.entry (option_copied basic.entry) in
+        OnOk result (moves.new.items ≡ moves.old.items ++ round_pairs round.now offer m) }
+    ensures kept { Extends moves.new.items moves.old.items }
+{
+    match offered(view, basic) {
+        None => Ok(()),
+        Some(message) => {
+            let sending = Sending {
+                message,
+                sender: offer,
+                timeout: round.timeout,
+            };
+            let known = Known {
+                demands: round.demands,
+                spans: round.spans,
+                any: round.any,
+            };
+            add_pairs(round.scene, &sending, known, moves)
+        }
+    }
+}
+
+/// Adds the moves of an offer that is no `else`, as the state has it.
+#[inline(never)]
+fn add_asked(
+    round: &Round<'_, '_, '_, '_>,
+    body: &Body<'_, '_, '_>,
+    offer: Pick,
+    edge: Edge,
+    moves: &mut Vec<Move>,
+) -> Result<(), AllocError>
+    requires known { IsKnown round.now }
+    requires there { offer.process < length round.now.scene.now.stands }
+    requires body { IsBody body.now }
+    ensures added { OnOk result (moves.new.items ≡ moves.old.items ++ round_for round.now body.now offer edge) }
+    ensures kept { Extends moves.new.items moves.old.items }
+{
+    let basic = body.basic(edge);
+    let view = round.scene.view(offer.process, round.timeout);
+    if can_be_alone(&view, round.scene.is_lossy(), body, edge, basic) {
+        moves.push(Move::Alone(offer, round.timeout))?;
+        return Ok(());
+    }
+    add_sent(round, view, offer, basic, moves)
+}
+
+/// Adds the moves of an offer, none where it is an `else`. What needs nothing is offered at once.
+#[inline(always)]
+fn add_plain_by(
+    round: &Round<'_, '_, '_, '_>,
+    body: &Body<'_, '_, '_>,
+    offer: Pick,
+    edge: &Edge,
+    moves: &mut Vec<Move>,
+) -> Result<(), AllocError>
+    requires known { IsKnown round.now }
+    requires there { offer.process < length round.now.scene.now.stands }
+    requires body { IsBody body.now }
+    ensures added { OnOk result (moves.new.items ≡ moves.old.items ++ round_plain_for round.now body.now offer edge.now) }
+    ensures kept { Extends moves.new.items moves.old.items }
+{
+    let basic = body.basic(*edge);
+    if needs_nothing(basic) {
+        moves.reserve(1)?;
+        moves.push_reserved(Move::Alone(offer, round.timeout));
+        return Ok(());
+    }
+    if is_else(basic) {
+        return Ok(());
+    }
+    add_asked(round, body, offer, *edge, moves)
+}
+
+/// Adds the moves of a level's offers that are no `else`.
+#[inline(always)]
+fn add_plain(
+    round: &Round<'_, '_, '_, '_>,
+    body: &Body<'_, '_, '_>,
+    tier: Tier,
+    edges: &[Edge],
+    moves: &mut Vec<Move>,
+) -> Result<(), AllocError>
+    requires known { IsKnown round.now }
+    requires there { tier.process < length round.now.scene.now.stands }
+    requires body { IsBody body.now }
+    ensures added { OnOk result (moves.new.items ≡ moves.old.items ++ round_plain round.now body.now tier edges.now) }
+    ensures kept { Extends moves.new.items moves.old.items }
+{
+    for place in 0..edges.len() {
+        add_plain_by(round, body, tier.pick(place), &edges[place], moves)?;
+    }
+    Ok(())
+}
+
+/// Adds an offer, where it is an `else`.
+fn add_else_by(
+    body: &Body<'_, '_, '_>,
+    timeout: bool,
+    offer: Pick,
+    edge: Edge,
+    moves: &mut Vec<Move>,
+) -> Result<(), AllocError>
+    requires { IsBody body.now }
+    ensures added { OnOk result (moves.new.items ≡ moves.old.items ++ only_if (else_of (shows body.now edge).basic) (Alone offer timeout)) }
+    ensures kept { Extends moves.new.items moves.old.items }
+{
+    if !is_else(body.basic(edge)) {
+        return Ok(());
+    }
+    moves.push(Move::Alone(offer, timeout))?;
+    Ok(())
+}
+
+/// Adds a level's `else` offers.
+#[inline(never)]
+fn add_else(
+    body: &Body<'_, '_, '_>,
+    tier: Tier,
+    timeout: bool,
+    edges: &[Edge],
+    moves: &mut Vec<Move>,
+) -> Result<(), AllocError>
+    requires { IsBody body.now }
+    ensures added { OnOk result (moves.new.items ≡ moves.old.items ++ else_on body.now tier timeout edges.now) }
+    ensures kept { Extends moves.new.items moves.old.items }
+{
+    for place in 0..edges.len() {
+        add_else_by(body, timeout, tier.pick(place), edges[place], moves)?;
+    }
+    Ok(())
+}
+
+/// Adds the moves of a level: its `else` offers where no other gives any.
+#[inline(always)]
+fn add_moves_on(
+    round: &Round<'_, '_, '_, '_>,
+    body: &Body<'_, '_, '_>,
+    tier: Tier,
+    edges: &[Edge],
+    moves: &mut Vec<Move>,
+) -> Result<(), AllocError>
+    requires known { IsKnown round.now }
+    requires there { tier.process < length round.now.scene.now.stands }
+    requires body { IsBody body.now }
+    ensures added { OnOk result (moves.new.items ≡ moves.old.items ++ round_on round.now body.now tier edges.now) }
+    ensures kept { Extends moves.new.items moves.old.items }
+{
+    let before = moves.len();
+    add_plain(round, body, tier, edges, moves)?;
+    if moves.len() != before {
+        return Ok(());
+    }
+    add_else(body, tier, round.timeout, edges, moves)
+}
+
+/// Adds the moves of the highest level of a node that has any.
+#[inline(never)]
+fn add_moves_down(
+    round: &Round<'_, '_, '_, '_>,
+    body: &Body<'_, '_, '_>,
+    process: usize,
+    node: usize,
+    moves: &mut Vec<Move>,
+) -> Result<(), AllocError>
+    requires known { IsKnown round.now }
+    requires there { process < length round.now.scene.now.stands }
+    requires body { IsBody body.now }
+    requires node { node < length body.now.graph.now.nodes }
+    ensures added { OnOk result (moves.new.items ≡ moves.old.items ++ round_down round.now body.now process node) }
+    ensures kept { Extends moves.new.items moves.old.items }
+{
+    let before = moves.len();
+    let mut level = body.graph.level_count(node);
+    while 0 < level {
+        level -= 1;
+        let edges = body.graph.level(node, level);
+        let tier = Tier { process, level };
+        add_moves_on(round, body, tier, edges, moves)?;
+        if moves.len() != before {
+            return Ok(());
+        }
+    }
+    Ok(())
+}
+
+/// Adds the moves of the highest level of a node that has any: at once where the node has just one level, as most have.
+fn add_moves_in(
+    round: &Round<'_, '_, '_, '_>,
+    body: &Body<'_, '_, '_>,
+    process: usize,
+    node: usize,
+    moves: &mut Vec<Move>,
+) -> Result<(), AllocError>
+    requires known { IsKnown round.now }
+    requires there { process < length round.now.scene.now.stands }
+    requires body { IsBody body.now }
+    requires node { node < length body.now.graph.now.nodes }
+    ensures added { OnOk result (moves.new.items ≡ moves.old.items ++ round_down round.now body.now process node) }
+    ensures kept { Extends moves.new.items moves.old.items }
+{
+    match body.graph.only_level(node) {
+        Some(edges) => {
+            let tier = Tier { process, level: 0 };
+            add_moves_on(round, body, tier, edges, moves)
+        }
+        None => add_moves_down(round, body, process, node, moves),
+    }
+}
+
+/// Adds the moves of a process.
+fn add_moves_at(
+    round: &Round<'_, '_, '_, '_>,
+    process: usize,
+    seat: Seat,
+    moves: &mut Vec<Move>,
+) -> Result<(), AllocError>
+    requires known { IsKnown round.now }
+    requires there { process < length round.now.scene.now.stands }
+    ensures added { OnOk result (moves.new.items ≡ moves.old.items ++ round_at round.now process seat) }
+    ensures kept { Extends moves.new.items moves.old.items }
+{
+    if let Some(body) = round.scene.standing(seat) {
+        return add_moves_in(round, &body, process, seat.node, moves);
+    }
+    if round.scene.process_count() == process + 1 {
+        moves.push(Move::Death(process))?;
+    }
+    Ok(())
+}
+
+// ---- a state
+
+/// Adds the moves of all processes.
+fn add_moves_of_all(round: &Round<'_, '_, '_, '_>, moves: &mut Vec<Move>) -> Result<(), AllocError>
+    requires { IsKnown round.now }
+    ensures added { OnOk result (moves.new.items ≡ moves.old.items ++ round_under round.now) }
+    ensures kept { Extends moves.new.items moves.old.items }
+{
+    let seats = round.scene.seats();
+    for process in 0..seats.len() {
+        add_moves_at(round, process, seats[process], moves)?;
+    }
+    Ok(())
+}
+
+/// Adds the moves of all processes, where it is worth to know first what each waits for.
+#[inline(never)]
+fn add_moves_knowing(
+    scene: &Scene<'_, '_, '_>,
+    timeout: bool,
+    moves: &mut Vec<Move>,
+) -> Result<(), AllocError>
+    ensures added { OnOk result (moves.new.items ≡ moves.old.items ++ moves_under scene.now timeout) }
+    ensures kept { Extends moves.new.items moves.old.items }
+{
+    let alloc = *moves.allocator();
+    let demands = all_demands(alloc, scene, timeout)?;
+    let heard = all_listeners(alloc, demands.as_slice(), scene.channels().len())?;
+    let round = Round {
+        scene,
+        timeout,
+        demands: demands.as_slice(),
+        spans: heard.spans.as_slice(),
+        any: heard.any,
+    };
+    add_moves_of_all(&round, moves)
+}
+
+/// Adds the moves of all processes under a value of `timeout`.
+fn add_moves_under(
+    scene: &Scene<'_, '_, '_>,
+    timeout: bool,
+    moves: &mut Vec<Move>,
+) -> Result<(), AllocError>
+    ensures added { OnOk result (moves.new.items ≡ moves.old.items ++ moves_under scene.now timeout) }
+    ensures kept { Extends moves.new.items moves.old.items }
+{
+    if are_worth_knowing(scene) {
+        return add_moves_knowing(scene, timeout, moves);
+    }
+    let round = Round {
+        scene,
+        timeout,
+        demands: &[],
+        spans: &[],
+        any: NOBODY,
+    };
+    add_moves_of_all(&round, moves)
+}
+
+/// Adds the moves of the holder of exclusive control, if there is one.
+fn add_moves_held(scene: &Scene<'_, '_, '_>, moves: &mut Vec<Move>) -> Result<(), AllocError>
+    ensures added { OnOk result (moves.new.items ≡ moves.old.items ++ moves_held scene.now scene.now.holder) }
+    ensures kept { Extends moves.new.items moves.old.items }
+{
+    let Some(process) = scene.holder() else {
+        return Ok(());
+    };
+    let seats = scene.seats();
+    if process < seats.len() {
+        let round = Round {
+            scene,
+            timeout: false,
+            demands: &[],
+            spans: &[],
+            any: NOBODY,
+        };
+        return add_moves_at(&round, process, seats[process], moves);
+    }
+    Ok(())
+}
+
+/// Adds the moves of a state.
+pub fn add_moves(scene: &Scene<'_, '_, '_>, moves: &mut Vec<Move>) -> Result<(), AllocError>
+    ensures added { OnOk result (moves.new.items ≡ moves.old.items ++ all_moves scene.now) }
+    ensures kept { Extends moves.new.items moves.old.items }
+{
+    let before = moves.len();
+    add_moves_held(scene, moves)?;
+    if moves.len() != before {
+        return Ok(());
+    }
+    add_moves_under(scene, false, moves)?;
+    if moves.len() != before {
+        return Ok(());
+    }
+    add_moves_under(scene, true, moves)
+}

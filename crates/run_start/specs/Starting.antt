@@ -1,0 +1,38 @@
+-- What beginning a model answers, and what is declared in it.
+use Rattle.std.specs.Prelude.{◌≡◌, ℕ, ◌+◌, ◌<◌, ◌≤◌, ◌++◌, List, [], ◌∷◌, length, map, replicate, Result, Ok, Err}
+use Rattle.std.specs.List.{AllByRecursion}
+use Rattle.profile.specs.declared.TheConstants.{MOST_PROCESSES}
+use Rattle.diagnostics.specs.declared.fault.Fault.{Fault}
+use Rattle.pml_program.specs.declared.program.Proctype.{Proctype}
+use Rattle.pml_program.specs.declared.program.Program.{Program}
+use Rattle.diagnostics.specs.declared.stop.Stop.{Stop}
+use Rattle.diagnostics.specs.declared.stop.Stop.TheVariants as stop
+use Rattle.run_start.specs.declared.started.Started.{Started}
+use Rattle.promela_run.specs.State.{size, Begun, variables_at}
+use Rattle.run_start.specs.Shown.{shown, shape}
+
+-- the first state, or the first fault; where memory is refused, nothing is said
+abbrev pub Starts : Result Begun Fault → Result Started Stop → Type 0
+Starts (Ok b) (Ok s) = shown s ≡ b
+Starts (Ok b) (Err stop.Memory) = Unit {0}
+Starts (Ok b) (Err (stop.Fault f)) = ⊥
+Starts (Err f) (Err (stop.Fault g)) = g ≡ f
+Starts (Err f) (Err stop.Memory) = Unit {0}
+Starts (Err f) (Ok s) = ⊥
+
+-- the proctypes of the processes that a model starts with, by their numbers, each as often as it starts
+abbrev pub starting : ℕ → List Proctype → List ℕ
+starting k [] = []
+starting k (q ∷ qs) = replicate q.starts k ++ starting (k + 1) qs
+
+-- ---- what is declared
+
+-- how many cells the variables of the globals have, and those of each process
+abbrev pub declared_sizes : Program → List ℕ → List (List ℕ)
+declared_sizes p sorts = map size p.globals ∷ map (λ k. map size (variables_at p k)) sorts
+
+-- the processes are of proctypes that are there, and each variable has the cells that it is declared with
+pub record IsDeclared (p : Program) (b : Begun) : Type 0 where
+  pub few : length b.sorts ≤ MOST_PROCESSES
+  pub sorts : AllByRecursion (λ k. k < length p.proctypes) b.sorts
+  pub sizes : shape b.frames ≡ declared_sizes p b.sorts

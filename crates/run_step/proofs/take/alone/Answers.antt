@@ -1,0 +1,25 @@
+use Rattle.std.proofs.Common.{rules, ◌≡◌, ◌∙◌, ap, Err}
+use Rattle.promela_process.specs.Offers.{Offer as Offered}
+use Rattle.promela_run.specs.State.{picked}
+use Rattle.profile.specs.declared.TheConstants.{MOST_DSTEP_STATEMENTS}
+use Rattle.run_step.specs.Live.{Does}
+use Rattle.promela_run.specs.World.{Running}
+use Rattle.promela_run.specs.Steps.{alone}
+use Rattle.run_step.specs.Taking.{IsOffer}
+use Rattle.run_step.proofs.Taking.{joined_body, followed, stops_before, goes_on}
+use Rattle.run_step.proofs.take.alone.Goals as goal
+use Rattle.run_search.specs.Lifted.{moved}
+
+pub returns-in_err-take_offer-clause-value : goal.returns-in_err-take_offer-clause-value
+returns-in_err-take_offer-clause-value c =
+    let h : IsOffer c.args.live.now.state c.args.pick c.in-Some.offer = c.in-Some.ensures.some in
+    let is : c.from_residual.result ≡ Err c.in_err-take_offer.field-0.0 = search rules in
+    rw (is, h.is) (stops_before _ (moved c.args.pick.process h.offer) c.in_err-take_offer.field-0.0 c.take_offer.new.live.state c.take_offer.new.live.state c.args.text.now.items c.take_offer.new.text.items (c.in_err-take_offer.ensures.value h.offer h.is))
+
+pub returns-clause-value : goal.returns-clause-value
+returns-clause-value c =
+    let h : IsOffer c.args.live.now.state c.args.pick c.in-Some.offer = c.in-Some.ensures.some in
+    let goes = followed c.args.live.now.state c.take_offer.new.live.state c.args.pick c.in-Some.offer h (joined_body c.args.live.now.state c.take_offer.new.live.state c.args.pick.process c.in_ok-take_offer.ensures.grows.joins h.there) in
+    rw (h.is)
+    (goes_on _ c.args.pick.process h.offer tt c.take_offer.new.live.state c.follow.new.self.state c.args.text.now.items c.take_offer.new.text.items (c.in_ok-take_offer.ensures.value h.offer h.is)
+    (ap (λ (l : Running). l.state) c.follow.ensures ∙ goes))

@@ -1,0 +1,383 @@
+//! What lives in a run.
+
+ghost use Rattle.std.specs.Prelude.{◌≡◌, ◌+◌, ◌<◌, ◌≤◌, [], Ok, IfOk, IfSome, OnOk, nat_eq, not, length, map, slice_get};
+ghost use Rattle.std.specs.List.{filter};
+ghost use Rattle.pml_store.specs.Writing.{before};
+ghost use Rattle.promela_run.specs.declared.live_channel.LiveChannel.{LiveChannel};
+ghost use Rattle.std.specs.Option.{option_copied};
+ghost use Rattle.profile.specs.declared.TheConstants.{MOST_CHANNELS, MOST_PROCESSES};
+ghost use Rattle.run_start.specs.Shown.{shown};
+ghost use Rattle.run_start.specs.Bound.{bound, most_cells, IsBounded};
+ghost use Rattle.run_start.specs.Starting.{IsDeclared};
+ghost use Rattle.run_search.specs.Scene.{stand_of};
+ghost use Rattle.promela_run.specs.State.{begins_at, reads};
+ghost use Rattle.pml_value.specs.Seen.{seen};
+ghost use Rattle.promela_run.specs.Statements.{outcome};
+ghost use Rattle.pml_value.specs.Takes.{IsIn};
+ghost use Rattle.promela_run.specs.Steps.{put_by, sorts, there, with_new};
+ghost use Rattle.run_step.specs.Footprint.{all_room, held, message_numbers};
+ghost use Rattle.run_step.specs.Held.{sorts_of};
+ghost use Rattle.run_step.specs.Live.{Leads, Keeps, Joins, PastGrows, ReadsAs, along, at_node, died};
+ghost use Rattle.promela_run.specs.World.{first};
+ghost use Rattle.run_search.specs.Lifted.{put_if};
+ghost use Rattle.run_step.specs.Calls.{sends_by, receives_by, passes};
+
+use crate::pair::{numbers_passed, store_passed};
+use diagnostics::Stop;
+use pml_flow::edge::Edge;
+use pml_program::expr::{Expr, Target};
+use pml_program::program::{Action, Basic, Program};
+use pml_store::store::Store;
+use pml_tree::tree::SendOrder;
+use pml_value::message::send;
+use pml_value::receive::{Reception, receive};
+use pml_value::statement::take;
+use pml_value::view::{Taker, View};
+use promela_run::goes::Goes;
+use promela_run::live_channel::LiveChannel;
+use run_layout::tables::Tables;
+use run_search::played::Played;
+use run_search::scene::{Scene, Seat};
+use run_search::state::State;
+use run_start::create::create;
+use run_start::started::Started;
+use std::alloc::{AllocError, Global};
+use std::marker::Model;
+
+/// A model that is played, and a state of it: what lives. Contracts see the state, and what there was when its step began.
+#[derive(Drop)]
+pub struct Live<'p, 'a> {
+    played: Played<'p, 'a>,
+    state: State,
+}
+
+impl<'p, 'a> Model for Live<'p, 'a> {
+    ghost use Rattle.std.specs.Prelude.{[], map};
+    ghost use Rattle.std.specs.Coded.{codes};
+    ghost use mir.Syntax.{named};
+    ghost use Rattle.pml_program.specs.contracts.expr.Expr as worth;
+    ghost use Rattle.pml_program.specs.contracts.program.Seq as seq;
+    ghost use Rattle.pml_program.specs.contracts.program.Basic as basic;
+    ghost use Rattle.promela_run.specs.World.{Running};
+    ghost use Rattle.promela_run.specs.Steps.{sorts, there, with_new};
+    ghost use Rattle.run_step.specs.Held.{IsHeld, live_of};
+
+    ghost Value = { Running };
+
+    ghost coded = { Prim.hlevel (codes, worth.the_row.coded, (seq.the_row (record { mir = named 0; lft = [] })).coded, (basic.the_row (record { mir = named 0; lft = [] })).coded) };
+
+    ghost view = { λ l. live_of l.played l.state.started.store l.state.started.channels.items l.state.seats.items l.state.holder l.state.lossy };
+
+    ghost invariant = { λ l. IsHeld l.played l.state.started.store l.state.started.channels.items l.state.started.sorts.items l.state.seats.items };
+}
+
+/// Processes before their first statements.
+fn seats_of(
+    alloc: Global,
+    played: &Played<'_, '_>,
+    sorts: &[usize],
+) -> Result<Vec<Seat>, AllocError>
+    ensures stands { IfOk result (λ v. map (stand_of played.now) v.items ≡ map (begins_at played.now) sorts.now) }
+    ensures sorts { IfOk result (λ v. sorts.now ≡ sorts_of v.items) }
+{
+    let mut seats = Vec::with_capacity(alloc, sorts.len())?;
+    for sort in sorts {
+        seats.push(played.begins(*sort))?;
+    }
+    Ok(seats)
+}
+
+/// The channels end that live with this frame.
+fn keep_others(channels: &mut Vec<LiveChannel>, frame: usize)
+    ensures { channels.new.items ≡ filter (λ (o : LiveChannel). not (nat_eq o.frame frame)) channels.old.items }
+{
+    channels.retain(|live| live.frame != frame);
+}
+
+/// How many numbers the messages of channels have.
+fn message_numbers(channels: &[LiveChannel]) -> usize
+    requires { all_room channels.now ≤ 4294967295 }
+    ensures value { result ≡ message_numbers channels.now }
+    ensures few { result ≤ all_room channels.now }
+{
+    let mut count = 0;
+    for live in channels {
+        count += live.channel.numbers();
+    }
+    count
+}
+
+impl<'p, 'a> Live<'p, 'a> {
+    /// The first state.
+    pub fn first(
+        alloc: Global,
+        played: Played<'p, 'a>,
+        started: Started,
+        lossy: bool,
+    ) -> Result<Live<'p, 'a>, AllocError>
+        requires declared { IsDeclared played (shown started) }
+        requires fresh { started.store.written ≡ [] }
+        requires bounded { IsBounded played started.store started.channels.items }
+        ensures { IfOk result (λ l. l ≡ first played.entry (shown started) lossy) }
+    {
+        let seats = seats_of(alloc, &played, started.sorts.as_slice())?;
+        let state = State {
+            started,
+            seats,
+            holder: None,
+            lossy,
+        };
+        Ok(Live { played, state })
+    }
+
+    /// Whether what is sent to a full channel is lost.
+    pub fn is_lossy(&self) -> bool
+        ensures { result ≡ self.now.state.lossy }
+    {
+        self.state.lossy
+    }
+
+    /// The state, as a search looks at it.
+    pub fn scene(&self) -> Scene<'_, 'p, 'a>
+        ensures { result ≡ self.now.state }
+    {
+        Scene::new(&self.played, &self.state)
+    }
+
+    /// A step begins: what is there is what was there before it.
+    pub fn forget(&mut self)
+        ensures { self.new ≡ record self.old { past = self.old.state.frames } }
+    {
+        self.state.started.store.forget();
+    }
+
+    /// A process goes on to a node of its graph.
+    pub fn go_to(&mut self, process: usize, node: usize)
+        ensures { self.new ≡ at_node self.old process node }
+    {
+        if process < self.state.seats.len() {
+            self.state.seats[process].node = node;
+        }
+    }
+
+    /// A process goes where an edge leads, and holds exclusive control where the edge stays in one atomic; else nobody does.
+    pub fn follow(&mut self, process: usize, edge: Edge)
+        ensures { self.new ≡ along self.old process edge }
+    {
+        self.go_to(process, edge.target);
+        self.state.holder = if edge.keeps { Some(process) } else { None };
+    }
+
+    /// The youngest process dies.
+    pub fn die(&mut self)
+        requires { 0 < length self.old.state.stands }
+        ensures { self.new ≡ died self.old }
+    {
+        let youngest = self.state.seats.len() - 1;
+        keep_others(&mut self.state.started.channels, youngest + 1);
+        self.state.started.store.pop_frame();
+        self.state.started.sorts.truncate(youngest);
+        self.state.seats.truncate(youngest);
+        self.state.holder = None;
+    }
+}
+
+impl<'p, 'a> Live<'p, 'a> {
+    /// The model.
+    pub fn program(&self) -> &'p Program<'a>
+        ensures { result.now ≡ self.now.state.program }
+    {
+        self.played.program()
+    }
+
+    /// Its tables.
+    pub fn tables(&self) -> &Tables<'p, 'a>
+        ensures { result.now ≡ self.now.state.program }
+    {
+        self.played.tables()
+    }
+
+    /// What the variables hold, and the log of what was written.
+    pub fn variables(&self) -> &Store
+        ensures frames { result.now.frames ≡ self.now.state.frames }
+        ensures past { before result.now ≡ self.now.past }
+        ensures most { result.now.most ≡ most_cells self.now.state.program }
+    {
+        &self.state.started.store
+    }
+
+    /// The proctypes of the processes, by their numbers.
+    pub fn sorts(&self) -> &[usize]
+        ensures value { result.now ≡ sorts self.now.state }
+        ensures declared { IsDeclared self.now.state.program (there self.now.state) }
+    {
+        self.state.started.sorts.as_slice()
+    }
+
+    /// How many processes live.
+    pub fn process_count(&self) -> usize
+        ensures value { result ≡ length self.now.state.stands }
+        ensures few { result ≤ MOST_PROCESSES }
+        ensures frames { length self.now.state.frames ≡ result + 1 }
+    {
+        self.state.seats.len()
+    }
+
+    /// How much it keeps: the numbers in variables and messages, two for each process and two for each channel.
+    pub fn footprint(&self) -> usize
+        ensures value { result ≡ held self.now.state }
+        ensures bound { result ≤ bound self.now.state.program }
+        ensures processes { length self.now.state.stands ≤ MOST_PROCESSES }
+        ensures channels { length self.now.state.channels ≤ MOST_CHANNELS }
+    {
+        let cells = self.state.started.store.cells().len();
+        let numbers = message_numbers(self.state.started.channels.as_slice());
+        cells + numbers + 2 * self.state.seats.len() + 2 * self.state.started.channels.len()
+    }
+
+    /// What an expression of a process reads.
+    pub fn view(&self, process: usize, timeout: bool) -> View<'_>
+        requires { process < length self.now.state.stands }
+        ensures reads { seen result ≡ reads self.now.state process timeout }
+        ensures channels { result.channels.now ≡ self.now.state.channels }
+    {
+        self.scene().view(process, timeout)
+    }
+
+    /// A process that takes a statement.
+    fn taker(&self, process: usize, timeout: bool) -> Taker
+        requires { process < length self.now.state.stands }
+        ensures { ReadsAs result process (length self.now.state.stands) timeout }
+    {
+        let process_count = self.state.seats.len() as u8;
+        Taker {
+            pid: process as u8,
+            process_count,
+            timeout,
+        }
+    }
+
+    /// Takes an assignment, an increment, a decrement or a condition of a process.
+    #[inline(always)]
+    pub fn store(&mut self, process: usize, timeout: bool, action: &Action<'_>) -> Result<(), Stop>
+        requires { process < length self.old.state.stands }
+        ensures value { Leads (put_by self.old.state (outcome action.now (reads self.old.state process timeout))) result self.new.state }
+        ensures keeps { Keeps self.old self.new }
+    {
+        let taker = self.taker(process, timeout);
+        let channels = self.state.started.channels.as_slice();
+        take(&mut self.state.started.store, channels, taker, action)
+    }
+
+    /// A process sends a message by itself.
+    #[inline(never)]
+    pub fn send(
+        &mut self,
+        process: usize,
+        timeout: bool,
+        target: &Target,
+        order: SendOrder,
+        fields: &[Expr],
+    ) -> Result<(), Stop>
+        requires { process < length self.old.state.stands }
+        ensures value { Leads (sends_by self.old.state process timeout target.now order fields.now) result self.new.state }
+        ensures keeps { Keeps self.old self.new }
+    {
+        let taker = self.taker(process, timeout);
+        let channels = self.state.started.channels.as_mut_slice();
+        send(
+            &self.state.started.store,
+            channels,
+            taker,
+            target,
+            order,
+            fields,
+        )
+    }
+
+    /// A process receives a message by itself.
+    #[inline(never)]
+    pub fn receive(
+        &mut self,
+        process: usize,
+        timeout: bool,
+        reception: Reception<'_>,
+    ) -> Result<(), Stop>
+        requires { process < length self.old.state.stands }
+        ensures value { Leads (receives_by self.old.state process timeout reception.entry) result self.new.state }
+        ensures keeps { Keeps self.old self.new }
+    {
+        let taker = self.taker(process, timeout);
+        let channels = self.state.started.channels.as_mut_slice();
+        receive(&mut self.state.started.store, channels, taker, reception)
+    }
+
+    /// A process stores what another one sends it.
+    #[inline(never)]
+    pub fn pass(
+        &mut self,
+        sender: usize,
+        sent: Option<&Basic<'_>>,
+        receiver: usize,
+        received: Option<&Basic<'_>>,
+        timeout: bool,
+    ) -> Result<(), Stop>
+        requires sends { sender < length self.old.state.stands }
+        requires receives { receiver < length self.old.state.stands }
+        ensures value { Leads (passes self.old.state sender receiver timeout (option_copied sent.entry) (option_copied received.entry)) result
+            self.new.state }
+        ensures keeps { Keeps self.old self.new }
+    {
+        let alloc = *self.state.started.channels.allocator();
+        let sends = self.view(sender, timeout);
+        let receives = self.view(receiver, timeout);
+        match numbers_passed(alloc, sends, sent, &receives, received) {
+            Err(stop) => Err(stop),
+            Ok(numbers) => store_passed(&mut self.state.started.store, numbers.as_slice()),
+        }
+    }
+}
+
+impl<'p, 'a> Live<'p, 'a> {
+    /// Stores a number where it goes, if anywhere.
+    pub fn put(&mut self, goes: Option<Goes>) -> Result<(), Stop>
+        requires { IfSome goes (IsIn self.old.state.frames) }
+        ensures value { Leads (Ok (put_if self.old.state goes)) result self.new.state }
+        ensures keeps { Keeps self.old self.new }
+    {
+        match goes {
+            None => Ok(()),
+            Some(goes) => match self.state.started.store.set(goes.place, goes.number) {
+                Ok(()) => Ok(()),
+                Err(_) => Err(Stop::Memory),
+            },
+        }
+    }
+
+    /// Creates a process of the proctype with this number. Where it cannot be created, what lives stays as it was.
+    pub fn create(&mut self, sort: usize, arguments: &[i32]) -> Result<(), Stop>
+        requires { length self.old.state.stands < MOST_PROCESSES }
+        ensures value { Leads (with_new self.old.state sort (slice_get self.old.state.program.proctypes sort) arguments.now) result self.new.state }
+        ensures joins { Joins self.old.state self.new.state }
+        ensures past { OnOk result (PastGrows self.old self.new) }
+    {
+        let Some(proctype) = self.played.proctype(sort) else {
+            return Ok(());
+        };
+        let seat = self.played.begins(sort);
+        if self.state.seats.push(seat).is_err() {
+            return Err(Stop::Memory);
+        }
+        let created = create(
+            self.played.beginnings(),
+            sort,
+            proctype.variables.as_slice(),
+            arguments,
+            &mut self.state.started,
+        );
+        if created.is_err() {
+            self.state.seats.pop();
+        }
+        created
+    }
+}

@@ -1,0 +1,50 @@
+//! Where a process is, in words.
+
+ghost use Rattle.std.specs.Prelude.{◌≡◌, ◌++◌, OnOk, OnErr};
+ghost use Rattle.std.specs.Io.{StartsWith};
+ghost use Rattle.promela_run.specs.Lines.{proctype_name};
+ghost use Rattle.promela_run.specs.World.{heading as heading_of, line};
+
+use itoa::Buffer;
+use pml_program::program::Proctype;
+use pml_token::token::{Kind, Token, same_kind};
+use run_values::change::proctype_name;
+use std::alloc::AllocError;
+
+/// Appends `proc P (NAME) `.
+#[inline(always)]
+pub fn add_heading(
+    process: usize,
+    proctype: &Proctype<'_>,
+    text: &mut Vec<u8>,
+) -> Result<(), AllocError>
+    ensures added { OnOk result (text.new.items ≡ text.old.items ++ heading_of process proctype.now) }
+    ensures kept { OnErr result (StartsWith text.new.items text.old.items) }
+{
+    let mut digits = Buffer::new();
+    text.extend_from_slice(b"proc ")?;
+    text.extend_from_slice(digits.format(process).as_bytes())?;
+    text.extend_from_slice(b" (")?;
+    proctype_name(&proctype.name, text)?;
+    text.extend_from_slice(b") ")
+}
+
+/// The name of a proctype, or `:init:`.
+pub fn name_of<'a>(name: &Token<'a>) -> &'a [u8]
+    ensures { result.now ≡ proctype_name name.now }
+{
+    if same_kind(name.kind(), Kind::Init) {
+        return b":init:";
+    }
+    name.text()
+}
+
+/// Appends `line L`.
+pub fn add_line(number: u32, text: &mut Vec<u8>) -> Result<(), AllocError>
+    ensures added { OnOk result (text.new.items ≡ text.old.items ++ line number) }
+    ensures kept { OnErr result (StartsWith text.new.items text.old.items) }
+{
+    let mut digits = Buffer::new();
+    text.extend_from_slice(b"line ")?;
+    text.extend_from_slice(digits.format(number).as_bytes())
+}

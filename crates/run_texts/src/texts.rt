@@ -1,0 +1,116 @@
+//! The texts of moves, and where moves come from.
+
+ghost use Rattle.std.specs.Prelude.{◌≡◌, ◌<◌, ◌++◌, OnOk, OnErr, length};
+ghost use Rattle.std.specs.Io.{StartsWith};
+ghost use Rattle.std.specs.Option.{option_copied};
+ghost use Rattle.promela_run.specs.State.{picked as picks};
+ghost use Rattle.promela_run.specs.World.{proctype_of as proctype_in, pick_text, death_text, move_text, origin_of};
+ghost use Rattle.run_search.specs.Lifted.{line_in, brace_of};
+ghost use Rattle.run_texts.specs.Staying.{IsWithin};
+
+use crate::place::{add_heading, add_line};
+use pml_program::program::Proctype;
+use promela_run::moves::{Move, Pick};
+use run_search::picked::picked;
+use run_search::played::proctype_at;
+use run_search::scene::{Scene, seat_at};
+use std::alloc::AllocError;
+
+/// The proctype of a process.
+fn proctype_of<'p, 'a>(scene: &Scene<'_, 'p, 'a>, process: usize) -> Option<&'p Proctype<'a>>
+    ensures { option_copied result ≡ proctype_in scene.now process }
+{
+    proctype_at(scene.program(), seat_at(scene.seats(), process)?.sort)
+}
+
+/// Appends `proc P (NAME) line L [-end-]`, where L is the line of the closing brace.
+fn add_death(
+    process: usize,
+    proctype: Option<&Proctype<'_>>,
+    text: &mut Vec<u8>,
+) -> Result<(), AllocError>
+    ensures added { OnOk result (text.new.items ≡ text.old.items ++ death_text process (option_copied proctype.entry)) }
+    ensures kept { OnErr result (StartsWith text.new.items text.old.items) }
+{
+    let Some(proctype) = proctype else {
+        return Ok(());
+    };
+    add_heading(process, proctype, text)?;
+    add_line(proctype.end.line(), text)?;
+    text.extend_from_slice(b" [-end-]")
+}
+
+/// Appends the text of the offer that a pick names.
+fn add_pick(scene: &Scene<'_, '_, '_>, pick: Pick, text: &mut Vec<u8>) -> Result<(), AllocError>
+    ensures added { OnOk result (text.new.items ≡ text.old.items ++ pick_text scene.now pick) }
+    ensures kept { OnErr result (StartsWith text.new.items text.old.items) }
+{
+    let Some(proctype) = proctype_of(scene, pick.process) else {
+        return Ok(());
+    };
+    let Some(offer) = picked(scene, pick) else {
+        return Ok(());
+    };
+    add_heading(pick.process, proctype, text)?;
+    text.extend_from_slice(offer.body.graph.text(offer.edge.statement))
+}
+
+/// Appends the text of a move.
+#[tactic(auto, using(crate::proofs::Keeping::kept_behind))]
+pub fn add_move(scene: &Scene<'_, '_, '_>, m: Move, text: &mut Vec<u8>) -> Result<(), AllocError>
+    ensures added { OnOk result (text.new.items ≡ text.old.items ++ move_text scene.now m) }
+    ensures kept { OnErr result (StartsWith text.new.items text.old.items) }
+{
+    match m {
+        Move::Death(process) => add_death(process, proctype_of(scene, process), text),
+        Move::Alone(pick, _) => add_pick(scene, pick, text),
+        Move::Pair(sender, receiver, _) => {
+            add_pick(scene, sender, text)?;
+            text.extend_from_slice(b" -> ")?;
+            add_pick(scene, receiver, text)
+        }
+    }
+}
+
+/// The line in the text of the offer that a pick names.
+fn pick_line(scene: &Scene<'_, '_, '_>, pick: Pick) -> u32
+    ensures { result ≡ line_in (picks scene.now pick) }
+{
+    match picked(scene, pick) {
+        Some(offer) => offer.body.graph.offer_line(offer.edge.statement),
+        None => 0,
+    }
+}
+
+/// The line of the closing brace.
+fn brace_of(proctype: Option<&Proctype<'_>>) -> u32
+    ensures { result ≡ brace_of (option_copied proctype.entry) }
+{
+    match proctype {
+        Some(proctype) => proctype.end.line(),
+        None => 0,
+    }
+}
+
+/// The number of a process that lives: there are few.
+fn number_of(scene: &Scene<'_, '_, '_>, process: usize) -> u32
+    requires { process < length scene.now.stands }
+    ensures { result ≡ process }
+{
+    process.min(scene.process_count()) as u32
+}
+
+/// The process and the line of a move, as its text has them: of a rendezvous the sender's, of a death the line of the closing brace.
+pub fn origin(scene: &Scene<'_, '_, '_>, m: Move) -> (u32, u32)
+    requires lives { IsWithin (length scene.now.stands) m }
+    ensures { result ≡ origin_of scene.now m }
+{
+    match m {
+        Move::Death(process) => (
+            number_of(scene, process),
+            brace_of(proctype_of(scene, process)),
+        ),
+        Move::Alone(pick, _) => (number_of(scene, pick.process), pick_line(scene, pick)),
+        Move::Pair(sender, _, _) => (number_of(scene, sender.process), pick_line(scene, sender)),
+    }
+}

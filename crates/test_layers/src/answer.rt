@@ -1,0 +1,45 @@
+//! What a layer makes of a text, in words.
+use crate::layer::View;
+use crate::tokens::{add_count, add_tokens};
+use crate::tree::of_tokens;
+use crate::words::add_words;
+use pml_inline::expand;
+use pml_lex::cut;
+use pml_lex::fault::LexError;
+use pml_token::token::Token;
+use promela_text::inline_fault::InlineError;
+use row_files::{Block, Writer};
+use std::alloc::Global;
+
+fn of_inlines(alloc: Global, view: View, block: Block, tokens: &[Token<'_>], out: &mut Writer) {
+    match expand(alloc, tokens) {
+        Ok(expanded) => of_tokens(alloc, view, block, expanded.as_slice(), out),
+        Err(InlineError::Memory) => out.no_memory(),
+        Err(fault) => out.kind(&fault),
+    }
+}
+
+fn of_cut<'a>(alloc: Global, view: View, block: Block, tokens: &'a [Token<'a>], out: &mut Writer) {
+    match view {
+        View::Tokens => add_tokens(tokens, out),
+        View::Count => add_count(tokens, out),
+        View::BareTree => of_tokens(alloc, view, block, tokens, out),
+        _ => of_inlines(alloc, view, block, tokens, out),
+    }
+}
+
+fn of_text(alloc: Global, view: View, block: Block, text: &[u8], out: &mut Writer) {
+    match cut(alloc, text) {
+        Ok(tokens) => of_cut(alloc, view, block, tokens.as_slice(), out),
+        Err(LexError::Memory) => out.no_memory(),
+        Err(fault) => out.kind(&fault),
+    }
+}
+
+/// Writes what a layer makes of a text, or the refusal of a layer below it. The block says what is asked besides.
+pub fn answer(alloc: Global, view: View, block: Block, text: &[u8], out: &mut Writer) {
+    match view {
+        View::Words => add_words(alloc, text, out),
+        _ => of_text(alloc, view, block, text, out),
+    }
+}

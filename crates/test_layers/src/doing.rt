@@ -1,0 +1,227 @@
+//! What the statements of the first proctype of a model come to, one after another, from its first state on with the numbers of `writes`: as
+//! process 0, the only one, or as the `process` that its part says, `NUMBER of COUNT`, or `NUMBER of COUNT timeout`.
+//!
+//! A condition comes to its value, another statement to `ok`, or either to a fault. The state behind them is its numbers and the messages of
+//! each channel, with ` / ` between the two, and a dash for none.
+use crate::layer::ModelView;
+use crate::lines::write_all;
+use crate::numbers::number;
+use crate::values::{add_dash, add_numbers, add_outcome, add_stop};
+use diagnostics::Stop;
+use pml_channel::channel::Channel;
+use pml_eval::eval::eval;
+use pml_program::expr::Expr;
+use pml_program::program::{Action, Basic, Program, Stmt};
+use pml_token::token::Token;
+use pml_value::message::{assert, send, values};
+use pml_value::receive::{Reception, receive};
+use pml_value::statement::take;
+use pml_value::view::{Taker, View as Seen};
+use profile::MOST_FIELDS;
+use promela_run::live_channel::LiveChannel;
+use row_files::{Block, Writer};
+use run_printf::name_of_number;
+use run_printf::string::printed;
+use run_start::started::Started;
+use std::alloc::Global;
+
+/// A number of processes.
+fn count(text: &str, out: &mut Writer) -> u8 {
+    u8::try_from(number(text, out)).unwrap_or(u8::MAX)
+}
+
+/// Who takes the statements, as these words say.
+fn taker_of(words: &str, out: &mut Writer) -> Taker {
+    let (pid, rest) = words.split_once(" of ").unwrap_or((words, ""));
+    let (process_count, timeout) = rest.split_once(" ").unwrap_or((rest, ""));
+    Taker {
+        pid: count(pid, out),
+        process_count: count(process_count, out),
+        timeout: timeout == "timeout",
+    }
+}
+
+/// What a process reads.
+fn seen<'w>(started: &'w Started, taker: Taker) -> Seen<'w> {
+    Seen::new(&started.store, started.channels.as_slice(), taker)
+}
+
+/// Prints a string with its values, of no more than a message may have fields.
+fn print(
+    constants: &[Token<'_>],
+    string: &Token<'_>,
+    arguments: &[Expr],
+    view: &Seen<'_>,
+    text: &mut Vec<u8>,
+) -> Result<(), Stop> {
+    if arguments.len() > MOST_FIELDS {
+        return Err(Stop::Memory);
+    }
+    let numbers = values(arguments, view).map_err(Stop::Fault)?;
+    printed(constants, string.text(), numbers.as_slice(), text).map_err(|_| Stop::Memory)
+}
+
+/// Prints a number by its name.
+fn print_name(
+    constants: &[Token<'_>],
+    value: &Expr,
+    view: &Seen<'_>,
+    text: &mut Vec<u8>,
+) -> Result<(), Stop> {
+    let number = eval(value, view).map_err(Stop::Fault)?;
+    name_of_number(constants, number, text).map_err(|_| Stop::Memory)
+}
+
+/// Takes a statement that stores or sends.
+fn stored(started: &mut Started, taker: Taker, action: &Action<'_>) -> Result<(), Stop> {
+    let channels = started.channels.as_mut_slice();
+    match action {
+        Action::Send(target, order, fields) => {
+            let fields = fields.as_slice();
+            send(&started.store, channels, taker, target, *order, fields)
+        }
+        Action::Receive(target, search, removal, wants) => {
+            let reception = Reception {
+                target,
+                search: *search,
+                removal: *removal,
+                wants: wants.as_slice(),
+            };
+            receive(&mut started.store, channels, taker, reception)
+        }
+        _ => take(&mut started.store, channels, taker, action),
+    }
+}
+
+/// Writes what a condition is worth.
+fn add_worth(value: &Expr, view: &Seen<'_>, out: &mut Writer) {
+    match eval(value, view) {
+        Ok(number) => out.signed(number),
+        Err(fault) => add_stop(Stop::Fault(fault), out),
+    }
+}
+
+/// Writes what a statement comes to. What it prints is added to the text.
+fn add_result(
+    constants: &[Token<'_>],
+    started: &mut Started,
+    taker: Taker,
+    action: &Action<'_>,
+    text: &mut Vec<u8>,
+    out: &mut Writer,
+) {
+    let ended = match action {
+        Action::Holds(value) => return add_worth(value, &seen(started, taker), out),
+        Action::Assert(value) => assert(value, &seen(started, taker)).map_err(Stop::Fault),
+        Action::Printf(string, arguments) => {
+            let view = seen(started, taker);
+            print(constants, string, arguments.as_slice(), &view, text)
+        }
+        Action::Printm(value) => print_name(constants, value, &seen(started, taker), text),
+        Action::Else | Action::Run(_) | Action::AssignRun(_, _) => {
+            return out.refuse("a statement that needs more than values");
+        }
+        _ => stored(started, taker, action),
+    };
+    add_outcome(ended, out);
+}
+
+/// Writes what statements come to.
+fn add_results(
+    constants: &[Token<'_>],
+    steps: &[Stmt<'_>],
+    started: &mut Started,
+    taker: Taker,
+    text: &mut Vec<u8>,
+    out: &mut Writer,
+) {
+    for stmt in steps {
+        out.space();
+        match &stmt.basic {
+            Basic::Plain(action) => add_result(constants, started, taker, action, text, out),
+            _ => out.refuse("a statement that gives structure"),
+        }
+    }
+}
+
+/// Writes the messages of a channel.
+fn add_messages(out: &mut Writer, channel: &Channel) {
+    out.space();
+    for place in 0..channel.len() {
+        out.word("(");
+        add_numbers(out, channel.message(place));
+        out.word(")");
+    }
+    if channel.len() == 0 {
+        out.word("-");
+    }
+}
+
+/// Writes the numbers, and the messages of each channel.
+fn add_state(out: &mut Writer, cells: &[i32], channels: &[LiveChannel]) {
+    add_numbers(out, cells);
+    out.word(" / ");
+    for live in channels {
+        add_messages(out, &live.channel);
+    }
+    add_dash(out, channels.is_empty());
+}
+
+/// Writes bytes as rows do: a grave accent and two hexadecimal digits for one that is no printable sign.
+fn add_bytes(bytes: &[u8], out: &mut Writer) {
+    for byte in bytes {
+        if *byte < b' ' || *byte > b'~' || *byte == b'`' {
+            out.digits(*byte);
+        } else {
+            out.byte(*byte);
+        }
+    }
+}
+
+/// Takes the statements of the first proctype, writes what they come to, and answers what they print.
+fn take_all(
+    alloc: Global,
+    program: &Program<'_>,
+    started: &mut Started,
+    taker: Taker,
+    out: &mut Writer,
+) -> Vec<u8> {
+    let mut text = Vec::new(alloc);
+    match program.proctypes.as_slice() {
+        [] => out.refuse("no proctype"),
+        [first, ..] => add_results(
+            program.constants.as_slice(),
+            first.body.steps.as_slice(),
+            started,
+            taker,
+            &mut text,
+            out,
+        ),
+    }
+    text
+}
+
+/// Writes what the statements of the first proctype come to, what they print, or the state behind them.
+pub fn add_done(
+    alloc: Global,
+    view: ModelView,
+    block: Block,
+    program: &Program<'_>,
+    started: &mut Started,
+    out: &mut Writer,
+) {
+    let taker = taker_of(block.behind("process").unwrap_or("0 of 1"), out);
+    write_all(alloc, block, &mut started.store, out);
+    let mut results = Writer::new(alloc);
+    let text = take_all(alloc, program, started, taker, &mut results);
+    match (view, results.refused()) {
+        (_, Some(why)) => out.refuse(why),
+        (ModelView::Results, None) => out.word(results.text()),
+        (ModelView::Printed, None) => add_bytes(text.as_slice(), out),
+        _ => add_state(
+            out,
+            started.store.cells().as_slice(),
+            started.channels.as_slice(),
+        ),
+    }
+}
