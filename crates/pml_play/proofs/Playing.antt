@@ -84,7 +84,7 @@ module _ (text : List ℕ) (options : Options) (a b : Holdings) where
   rejected Memory (Err e) is h =
       let t = has_transcript text options in
       let e_is : e ≡ broken.Memory = (let w = h.0 in cc) in
-      record { part = t.0; is_transcript = t.1; breaks = subst (λ (x : Broken). Breaks x a b 0 0 t.0) (sym e_is) (memory_breaks t.0 h.1) }
+      record { part = t.0; is_transcript = t.1; breaks = subst (λ (x : Broken). Breaks a b 0 0 x t.0) (sym e_is) (memory_breaks t.0 h.1) }
   rejected (Refused r line) (Ok end) is h = subst (λ (x : End). PlaysWhole text options a b 0 x) (sym h.1) (record {
     part = refused r line Unread;
     is_transcript = of_refusal is;

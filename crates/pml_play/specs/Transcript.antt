@@ -98,7 +98,7 @@ pub record PlaysWhole (text : List ℕ) (options : Options) (before after : Hold
 pub record BreaksOff (text : List ℕ) (options : Options) (before after : Holdings) (steps : ℕ) (broken : Broken) : Type 0 where
   pub part : List ℕ → Part End
   pub is_transcript : IsTranscript text options part
-  pub breaks : Breaks broken before after 0 steps part
+  pub breaks : Breaks before after 0 steps broken part
 
 -- a device or memory broke the session over the text off, the end says which, and the count of that device alone has risen
 abbrev pub PlaysBroken : List ℕ → Options → Holdings → Holdings → End → Type 0

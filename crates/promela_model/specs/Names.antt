@@ -12,6 +12,7 @@ use Rattle.promela_model.specs.declared.mark.Constant.{Constant}
 use Rattle.promela_model.specs.declared.mark.Constant.TheVariants.{Is, Faulty, Open}
 use Rattle.std.specs.Str.{bytes_eq}
 use Rattle.profile.specs.declared.TheConstants.{MOST_CELLS}
+use Rattle.profile.specs.Characters.{zero_digit}
 use Rattle.pml_program.specs.declared.form.Form.{Form}
 use Rattle.pml_program.specs.declared.form.Form.TheVariants as kind
 use Rattle.promela_model.specs.declared.thing.Thing.{Thing}
@@ -29,7 +30,7 @@ use Rattle.promela_model.specs.declared.mark.Mark.{Mark}
 -- the number that digits spell, behind those that give n
 abbrev pub spelled : ℕ → List ℕ → ℕ
 spelled n [] = n
-spelled n (c ∷ cs) = spelled (n * 10 + (c - 48)) cs
+spelled n (c ∷ cs) = spelled (n * 10 + (c - zero_digit)) cs
 
 -- a number of at most 32 bits
 abbrev pub numeral : List ℕ → Option ℕ

@@ -17,7 +17,7 @@ Descent = ℕ × ℕ
 abbrev pub Position : Type 0
 Position = List Descent × ℕ
 
--- A frame: a statement still to do, back to this do, under this escape, in this atomic, in this d_step.
+-- What is pending: a statement still to do, the way back to this do, what is under this escape, in this atomic, in this d_step.
 pub data Pending : Type 0 where
   Todo : Position → Basic → Pending
   Back : Position → Basic → Pending
@@ -25,7 +25,7 @@ pub data Pending : Type 0 where
   InAtomic : Position → Pending
   InDStep : Position → Pending
 
--- What is still to do, the innermost frame first.
+-- What a process still has to do: what is pending, the innermost first.
 abbrev pub Control : Type 0
 Control = List Pending
 

@@ -47,18 +47,19 @@ Begins broken.Source done all = (event : Event) × (more : List Event) × (is_as
 Begins broken.Out done all = PutsPart done all
 Begins broken.Record done all = KeepsPart done all
 
--- this part was done whole, with this outcome
-pub record Does {T : Type 0} (before after : Holdings) (steps steps' : ℕ) (part : List ℕ → Part T) (value : T) (stream : Stream) : Type 0 where
-  pub done : List Event
-  pub moved : MovedBy before after steps steps' done
-  pub is : (left : List ℕ) → after.source left
-      → part (front done ++ left) ≡ record { events = done; value = value; stream = stream; left = left }
+module _ {T : Type 0} (before after : Holdings) (steps steps' : ℕ) where
+  -- this part was done whole, with this outcome
+  pub record Does (part : List ℕ → Part T) (value : T) (stream : Stream) : Type 0 where
+    pub done : List Event
+    pub moved : MovedBy before after steps steps' done
+    pub is : (left : List ℕ) → after.source left
+        → part (front done ++ left) ≡ record { events = done; value = value; stream = stream; left = left }
 
--- the part was broken off
-pub record Breaks {T : Type 0} (broken : Broken) (before after : Holdings) (steps steps' : ℕ) (part : List ℕ → Part T) : Type 0 where
-  pub done : List Event
-  pub moved : MovedBy before after steps steps' done
-  pub begins : (left : List ℕ) → after.source left → Begins broken done (part (front done ++ left)).events
+  -- the part was broken off
+  pub record Breaks (broken : Broken) (part : List ℕ → Part T) : Type 0 where
+    pub done : List Event
+    pub moved : MovedBy before after steps steps' done
+    pub begins : (left : List ℕ) → after.source left → Begins broken done (part (front done ++ left)).events
 
 -- the counts of failures: that of the device that broke has risen, and no other
 abbrev pub CountsBroken : Broken → FailureCounts → FailureCounts → Type 0
@@ -83,7 +84,7 @@ failure_of broken.Memory = cause.Memory
 -- a device or memory broke the session off, the end says which, and the count of that device alone has risen
 abbrev pub IsBrokenOff : Holdings → Holdings → (List ℕ → Part End) → End → Type 0
 IsBrokenOff before after part end = (broken : Broken) × (end.cause ≡ failure_of broken)
-    × Breaks broken before after 0 end.steps part × CountsBroken broken before.failures after.failures
+    × Breaks before after 0 end.steps broken part × CountsBroken broken before.failures after.failures
 
 -- ---- a run that is played again on its record
 

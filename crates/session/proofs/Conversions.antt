@@ -214,7 +214,7 @@ module _ {T : Type 0} {a b : Holdings} {n n' : ℕ} (part same : List ℕ → Pa
     is = λ left now. rw (front-told d.done) (is (front d.done ++ left) ∙ ap told (d.is left now));
   }
 
-  Breaks-told : (e : Broken) → IsKept e → Breaks e a b n n' part → Breaks (swapped_broken e) (swapped a) (swapped b) n n' same
+  Breaks-told : (e : Broken) → IsKept e → Breaks a b n n' e part → Breaks (swapped a) (swapped b) n n' (swapped_broken e) same
   Breaks-told e kept d = record {
     done = told_events d.done;
     moved = MovedBy-swapped d.done d.moved;
@@ -237,7 +237,7 @@ module _ {S M : Type 0} (rules : Rules S M) (options : Options) (s : S) where
     converts_counted end counted e = subst (λ (n : ℕ). Ends (swapped a) (swapped b) n (converted (transcript rules options s)) end) (sym counted) (converts end e)
 
     -- the output of a conversion cannot break
-    pub breaks_off : (e : Broken) → a.failures.out ≡ b.failures.out → Breaks e a b 0 steps (noting rules (quiet options) s) → CountsBroken e a.failures b.failures
+    pub breaks_off : (e : Broken) → a.failures.out ≡ b.failures.out → Breaks a b 0 steps e (noting rules (quiet options) s) → CountsBroken e a.failures b.failures
         → IsBrokenOff (swapped a) (swapped b) (converted (transcript rules options s)) (end_of (failure_converting e) steps)
     breaks_off broken.Memory still d counts = (broken.Memory, refl, Breaks-told (noting rules (quiet options) s) _ is_told broken.Memory tt d, rw counts refl)
     breaks_off broken.Source still d counts = (broken.Source, refl, Breaks-told (noting rules (quiet options) s) _ is_told broken.Source tt d, (counts.0, counts.2, refl))
@@ -296,5 +296,5 @@ module _ {S M : Type 0} (rules : Rules S M) (options : Options) (s : S) where
   noting_runs (Ok end) a b c steps kept e = (e.0, Leads-does (records header_line header_line (transcript_noting Second rules options s) header_short kept) e.1)
   noting_runs (Err e) a b c steps kept broken = Leads-breaks (records header_line header_line (transcript_noting Second rules options s) header_short kept) broken
 
-  pub noting_breaks : (a b : Holdings) (steps : ℕ) → steps ≡ 0 → RecordsPart a b header_line → Breaks broken.Record a b 0 steps (noting rules options s)
+  pub noting_breaks : (a b : Holdings) (steps : ℕ) → steps ≡ 0 → RecordsPart a b header_line → Breaks a b 0 steps broken.Record (noting rules options s)
   noting_breaks a b steps none kept = rw none (record_breaks header_line header_line (transcript_noting Second rules options s) header_short kept)

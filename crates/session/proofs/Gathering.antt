@@ -168,7 +168,7 @@ module _ {a b : Holdings} {n : ℕ} where
 
   -- the output fails in one of the texts
   cut_breaks : (rest : List ℕ → Part End) (xs : List (List ℕ)) (k : ℕ) (c : Cut 0 k xs) (steps' : ℕ) → steps' ≡ (n + length xs) - later k (begins_from 0 xs)
-      → Moved a b [] (take k (output (told_steps xs))) [] → Breaks broken.Out a b n steps' (behind xs rest)
+      → Moved a b [] (take k (output (told_steps xs))) [] → Breaks a b n steps' broken.Out (behind xs rest)
   cut_breaks rest xs k c steps' is m =
       let part = take c.n c.text in
       let few : later k (begins_from 0 xs) + suc (length c.before) ≡ length xs = subst (λ (j : ℕ). later j (begins_from 0 xs) + suc (length c.before) ≡ length xs) (let zero : 0 + k ≡ k = omega arith in zero) c.count in
@@ -181,7 +181,7 @@ module _ {a b : Holdings} {n : ℕ} where
       }
 
   pub texts_cut : (rest : List ℕ → Part End) (xs : List (List ℕ)) (bytes begins : List ℕ) (steps steps' : ℕ) → AreGathered xs bytes begins → steps ≡ n + length xs
-      → CutsTexts a b bytes begins steps steps' → Breaks broken.Out a b n steps' (behind xs rest)
+      → CutsTexts a b bytes begins steps steps' → Breaks a b n steps' broken.Out (behind xs rest)
   texts_cut rest xs bytes begins steps steps' are is c =
       let within = subst (λ (bs : List ℕ). c.0 < length bs) are.bytes_are c.1 in
       cut_breaks rest xs c.0 (cut 0 c.0 xs within) steps'
@@ -213,11 +213,11 @@ module _ {a b : Holdings} {n n' : ℕ} {whole : List ℕ → Part End} where
   waits_written rest bytes begins w m = Leads-trans w.leads (texts_written rest w.texts bytes begins n' w.are w.count m)
 
   pub waits_cut : {c : Holdings} {n'' : ℕ} (rest : List ℕ → Part End) (bytes begins : List ℕ) → Waits a b n n' whole rest bytes begins → CutsTexts b c bytes begins n' n''
-      → Breaks broken.Out a c n n'' whole
+      → Breaks a c n n'' broken.Out whole
   waits_cut {n'' = n''} rest bytes begins w cuts = Leads-breaks w.leads (texts_cut rest w.texts bytes begins n' n'' w.are w.count cuts)
 
   -- memory was refused, and nothing is gathered
-  pub memory_halts : Breaks broken.Memory a b n n' whole → Halts broken.Memory a b n n' whole [] []
+  pub memory_halts : Breaks a b n n' broken.Memory whole → Halts broken.Memory a b n n' whole [] []
   memory_halts broken =
       let rest : List ℕ → Part End = λ left. let part = whole (front broken.done ++ left) in record { events = drop (length broken.done) part.events; value = part.value; stream = part.stream; left = part.left } in (
         rest,
@@ -232,14 +232,14 @@ module _ {a b : Holdings} {n n' : ℕ} {whole : List ℕ → Part End} where
         },
       )
 
-  pub halts_nil : (e : Broken) → Breaks e a b n n' whole → Halts e a b n n' whole [] []
+  pub halts_nil : (e : Broken) → Breaks a b n n' e whole → Halts e a b n n' whole [] []
   halts_nil broken.Memory broken = memory_halts broken
   halts_nil broken.Source broken = (broken, refl)
   halts_nil broken.Out broken = (broken, refl)
   halts_nil broken.Record broken = (broken, refl)
 
 -- what was broken off, and then no more
-breaks_still : {a b c : Holdings} {n n' : ℕ} {whole : List ℕ → Part End} (e : Broken) → Breaks e a b n n' whole → Moved b c [] [] [] → Breaks e a c n n' whole
+breaks_still : {a b c : Holdings} {n n' : ℕ} {whole : List ℕ → Part End} (e : Broken) → Breaks a b n n' e whole → Moved b c [] [] [] → Breaks a c n n' e whole
 breaks_still e broken m = record {
   done = broken.done;
   moved = record { moved = Moved-still broken.moved.moved m; count = broken.moved.count; readable = broken.moved.readable };
@@ -247,11 +247,11 @@ breaks_still e broken m = record {
 }
 
 module _ (a b c : Holdings) (n n' : ℕ) (whole : List ℕ → Part End) (bytes begins : List ℕ) where
-  bare_written : (e : Broken) → BreaksBare e a b n n' whole bytes → Moved b c [] bytes [] → Breaks e a c n n' whole
+  bare_written : (e : Broken) → BreaksBare e a b n n' whole bytes → Moved b c [] bytes [] → Breaks a c n n' e whole
   bare_written e bare m = breaks_still e bare.0 (subst (λ (bs : List ℕ). Moved b c [] bs []) bare.1 m)
 
   -- what was gathered is written
-  pub halts_written : (e : Broken) → Halts e a b n n' whole bytes begins → Moved b c [] bytes [] → Breaks e a c n n' whole
+  pub halts_written : (e : Broken) → Halts e a b n n' whole bytes begins → Moved b c [] bytes [] → Breaks a c n n' e whole
   halts_written broken.Memory h m =
       let leads = waits_written h.0 bytes begins h.1 m in
       record { done = leads.done; moved = leads.moved; begins = λ left now. ((h.0 left).events, ap (λ (p : Part End). p.events) (leads.is left now)) }
@@ -264,7 +264,7 @@ module _ (a b c : Holdings) (n n' : ℕ) (whole : List ℕ → Part End) (bytes 
       let within = subst (λ (bs : List ℕ). cuts.0 < length bs) bare.1 cuts.1 in omega arith
 
   -- or the output fails
-  pub halts_cut : (n'' : ℕ) (e : Broken) → Halts e a b n n' whole bytes begins → CutsTexts b c bytes begins n' n'' → Breaks broken.Out a c n n'' whole
+  pub halts_cut : (n'' : ℕ) (e : Broken) → Halts e a b n n' whole bytes begins → CutsTexts b c bytes begins n' n'' → Breaks a c n n'' broken.Out whole
   halts_cut n'' broken.Memory h cuts = waits_cut h.0 bytes begins h.1 cuts
   halts_cut n'' broken.Source h cuts = absurd (bare_cut h cuts)
   halts_cut n'' broken.Out h cuts = absurd (bare_cut h cuts)

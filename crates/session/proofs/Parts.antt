@@ -132,7 +132,7 @@ module _ {T : Type 0} where
           (rw (second.is left now) refl)));
     }
 
-    pub Leads-breaks : {e : Broken} → Leads a b n n' whole rest → Breaks e b c n' n'' rest → Breaks e a c n n'' whole
+    pub Leads-breaks : {e : Broken} → Leads a b n n' whole rest → Breaks b c n' n'' e rest → Breaks a c n n'' e whole
     Leads-breaks {e = e} first second = record {
       done = first.done ++ second.done;
       moved = MovedBy-trans first.moved second.moved;
@@ -147,7 +147,7 @@ module _ {T : Type 0} where
     pub puts : {purpose : Purpose} (piece : List ℕ) (rest : List ℕ → Part T) → Moved a b [] piece [] → Leads a b n n (λ left. preceded (Put purpose piece ∷ []) (rest left)) rest
     puts {purpose = purpose} piece rest took = record { done = Put purpose piece ∷ []; moved = MovedBy-put purpose piece took; is = λ left now. refl }
 
-    pub put_breaks : {purpose : Purpose} (piece : List ℕ) (rest : List ℕ → Part T) → WritesPart a b piece → Breaks broken.Out a b n n (λ left. preceded (Put purpose piece ∷ []) (rest left))
+    pub put_breaks : {purpose : Purpose} (piece : List ℕ) (rest : List ℕ → Part T) → WritesPart a b piece → Breaks a b n n broken.Out (λ left. preceded (Put purpose piece ∷ []) (rest left))
     put_breaks {purpose = purpose} piece rest took = record {
       done = Put purpose (take took.0 piece) ∷ [];
       moved = MovedBy-put purpose (take took.0 piece) took.2;
@@ -157,7 +157,7 @@ module _ {T : Type 0} where
     pub records : (line placed : List ℕ) (rest : List ℕ → Part T) → IsReadable line → Moved a b [] [] line → Leads a b n n (λ left. preceded (Recorded line placed ∷ []) (rest left)) rest
     records line placed rest short took = record { done = Recorded line placed ∷ []; moved = MovedBy-recorded line placed short took; is = λ left now. refl }
 
-    pub record_breaks : (line placed : List ℕ) (rest : List ℕ → Part T) → IsReadable line → RecordsPart a b line → Breaks broken.Record a b n n (λ left. preceded (Recorded line placed ∷ []) (rest left))
+    pub record_breaks : (line placed : List ℕ) (rest : List ℕ → Part T) → IsReadable line → RecordsPart a b line → Breaks a b n n broken.Record (λ left. preceded (Recorded line placed ∷ []) (rest left))
     record_breaks line placed rest short took = record {
       done = Recorded (take took.0 line) placed ∷ [];
       moved = MovedBy-recorded (take took.0 line) placed (part_readable line took.0 short) took.2;
@@ -165,7 +165,7 @@ module _ {T : Type 0} where
     }
 
     -- memory was refused, and nothing was done
-    pub memory_breaks : (part : List ℕ → Part T) → Moved a b [] [] [] → Breaks broken.Memory a b n n part
+    pub memory_breaks : (part : List ℕ → Part T) → Moved a b [] [] [] → Breaks a b n n broken.Memory part
     memory_breaks part none = record { done = []; moved = MovedBy-nil none; begins = λ left now. ((part left).events, refl) }
 
     pub asks_does : {part : List ℕ → Part T} {v : T} {stream : Stream} → AsksPart a b part v stream → Does a b n n part v stream
@@ -175,7 +175,7 @@ module _ {T : Type 0} where
       is = λ left now. rw (front-asks asked.bytes asked.ended) (asked.is left now);
     }
 
-    pub ask_breaks : {part : List ℕ → Part T} → AsksBroken a b part → Breaks broken.Source a b n n part
+    pub ask_breaks : {part : List ℕ → Part T} → AsksBroken a b part → Breaks a b n n broken.Source part
     ask_breaks asked = record {
       done = asks asked.bytes false;
       moved = MovedBy-asks asked.bytes false asked.moved;
@@ -190,7 +190,7 @@ module _ {T U : Type 0} {a b : Holdings} {n n' : ℕ} {part : List ℕ → Part 
   pub Does-then : {v : T} {stream : Stream} (next : T → Stream → List ℕ → Part U) → Does a b n n' part v stream → Leads a b n n' (λ rest. followed (part rest) next) (next v stream)
   Does-then next d = record { done = d.done; moved = d.moved; is = λ left now. rw (d.is left now) refl }
 
-  pub Breaks-then : {e : Broken} (next : T → Stream → List ℕ → Part U) → Breaks e a b n n' part → Breaks e a b n n' (λ rest. followed (part rest) next)
+  pub Breaks-then : {e : Broken} (next : T → Stream → List ℕ → Part U) → Breaks a b n n' e part → Breaks a b n n' e (λ rest. followed (part rest) next)
   Breaks-then {e = e} next broken = record { done = broken.done; moved = broken.moved; begins = λ left now. Begins-more e broken.done _ _ (broken.begins left now) }
 
 pub only_does : {T : Type 0} {a : Holdings} {n : ℕ} (value : T) (stream : Stream) → Does a a n n (only value stream) value stream

@@ -47,5 +47,5 @@ module _ {a b c : Holdings} {n n' : ℕ} {whole : List ℕ → Part Answer} wher
   line_bad most place tries stream stream' l asked = Leads-trans (to_line most place tries stream l) (Does-then (after_line (after_bad most place tries)) (asks_does asked))
 
   pub line_breaks : (most : ℕ) (place : ℕ → ℕ × ℕ) (tries : ℕ) (stream : Stream) → Leads a b n n' whole (ask most place tries stream) → AsksBroken b c (one_reply most place stream)
-      → Breaks broken.Source a c n n' whole
+      → Breaks a c n n' broken.Source whole
   line_breaks most place tries stream l asked = Leads-breaks (to_line most place tries stream l) (Breaks-then (after_line (after_bad most place tries)) (ask_breaks asked))

@@ -24,14 +24,14 @@ module _ {T : Type 0} {a b : Holdings} {n : ℕ} {first second : Purpose} (x y :
     is = λ left now. refl;
   }
 
-  cut_in_first : (k : ℕ) → k < length x → Moved a b [] (take k (x ++ y)) [] → Breaks broken.Out a b n n (both first second x y rest)
+  cut_in_first : (k : ℕ) → k < length x → Moved a b [] (take k (x ++ y)) [] → Breaks a b n n broken.Out (both first second x y rest)
   cut_in_first k lt took = record {
     done = Put first (take k x) ∷ [];
     moved = MovedBy-put first (take k x) (subst (λ (bs : List ℕ). Moved a b [] bs []) (take-append-le k x y (omega arith)) took);
     begins = λ left now. ([], first, x, k, Put second y ∷ (rest left).events, lt, refl, refl);
   }
 
-  cut_in_second : (k : ℕ) → k < length y → Moved a b [] (take (length x + k) (x ++ y)) [] → Breaks broken.Out a b n n (both first second x y rest)
+  cut_in_second : (k : ℕ) → k < length y → Moved a b [] (take (length x + k) (x ++ y)) [] → Breaks a b n n broken.Out (both first second x y rest)
   cut_in_second k lt took = record {
     done = Put first x ∷ Put second (take k y) ∷ [];
     moved = record {
@@ -42,10 +42,10 @@ module _ {T : Type 0} {a b : Holdings} {n : ℕ} {first second : Purpose} (x y :
     begins = λ left now. (Put first x ∷ [], second, y, k, (rest left).events, lt, refl, refl);
   }
 
-  both_cut : WritesPart a b (x ++ y) → Breaks broken.Out a b n n (both first second x y rest)
+  both_cut : WritesPart a b (x ++ y) → Breaks a b n n broken.Out (both first second x y rest)
   both_cut w = by_case (nat_lt w.0 (length x)) refl
     where
-      by_case : (is : Bool) → nat_lt w.0 (length x) ≡ is → Breaks broken.Out a b n n (both first second x y rest)
+      by_case : (is : Bool) → nat_lt w.0 (length x) ≡ is → Breaks a b n n broken.Out (both first second x y rest)
       by_case true e = cut_in_first w.0 (ltb-true w.0 (length x) e) w.2
       by_case false e =
           let ge = ltb-false w.0 (length x) e in
@@ -54,7 +54,7 @@ module _ {T : Type 0} {a b : Holdings} {n : ℕ} {first second : Purpose} (x y :
           let is : w.0 ≡ length x + (w.0 - length x) = omega arith in
           cut_in_second (w.0 - length x) (omega arith) (subst (λ (k : ℕ). Moved a b [] (take k (x ++ y)) []) is w.2)
 
-  pub both_broken : (e : Broken) → WriteBreaks e a b (x ++ y) → Breaks e a b n n (both first second x y rest)
+  pub both_broken : (e : Broken) → WriteBreaks e a b (x ++ y) → Breaks a b n n e (both first second x y rest)
   both_broken broken.Memory w = memory_breaks _ w
   both_broken broken.Out w = both_cut w
   both_broken broken.Source w = absurd w

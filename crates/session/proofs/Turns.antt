@@ -23,7 +23,7 @@ use Rattle.promela_session.specs.declared.form.Version.{Version}
 -- ---- pieces and records
 
 module _ {a b : Holdings} {n : ℕ} where
-  pub write_breaks : {T : Type 0} (e : Broken) {purpose : Purpose} (piece : List ℕ) (rest : List ℕ → Part T) → WriteBreaks e a b piece → Breaks e a b n n (λ left. preceded (Put purpose piece ∷ []) (rest left))
+  pub write_breaks : {T : Type 0} (e : Broken) {purpose : Purpose} (piece : List ℕ) (rest : List ℕ → Part T) → WriteBreaks e a b piece → Breaks a b n n e (λ left. preceded (Put purpose piece ∷ []) (rest left))
   write_breaks broken.Memory piece rest w = memory_breaks _ w
   write_breaks broken.Out piece rest w = put_breaks piece rest w
   write_breaks broken.Source piece rest w = absurd w
@@ -37,7 +37,7 @@ module _ {a b : Holdings} {n : ℕ} where
   keep_does notes place answer.Hundred stream short m = only_moves answer.Hundred stream m
   keep_does notes place answer.Misfit stream short m = only_moves answer.Misfit stream m
 
-  pub keep_breaks : (notes : Version) (place : ℕ → ℕ × ℕ) (e : Broken) (said : Answer) (stream : Stream) → IsReadable (kept_text notes place said) → RecordBreaks e a b (kept_text notes place said) → Breaks e a b n n (kept notes place said stream)
+  pub keep_breaks : (notes : Version) (place : ℕ → ℕ × ℕ) (e : Broken) (said : Answer) (stream : Stream) → IsReadable (kept_text notes place said) → RecordBreaks e a b (kept_text notes place said) → Breaks a b n n e (kept notes place said stream)
   keep_breaks notes place broken.Memory said stream short k = memory_breaks _ k
   keep_breaks notes place broken.Record (answer.Pick m) stream short k = record_breaks (noted notes m (place m)) (placed_line m (place m)) (only (answer.Pick m) stream) short k
   keep_breaks notes place broken.Record answer.Quit stream short k = let lt = k.1 in absurd (omega arith)
@@ -91,7 +91,7 @@ module _ {S M : Type 0} (rules : Rules S M) (options : Options) (at : S) (m : M)
   }
 
   pub step_breaks : (e : Broken) (later : S → Stream → List ℕ → Part End) (stream : Stream) (steps' : ℕ) → StepBreaks e rules options at m steps steps' a b
-      → Breaks e a b steps steps' (step_part rules options at m steps later stream)
+      → Breaks a b steps steps' e (step_part rules options at m steps later stream)
   step_breaks e later stream steps' s = record {
     done = s.done;
     moved = s.moved;

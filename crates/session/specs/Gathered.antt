@@ -65,7 +65,7 @@ pub record Waits (before after : Holdings) (steps steps' : ℕ) (whole rest : Li
 
 -- a device broke the part off, and nothing is gathered
 abbrev pub BreaksBare : Broken → Holdings → Holdings → ℕ → ℕ → (List ℕ → Part End) → List ℕ → Type 0
-BreaksBare broken before after steps steps' whole bytes = Breaks broken before after steps steps' whole × (bytes ≡ [])
+BreaksBare broken before after steps steps' whole bytes = Breaks before after steps steps' broken whole × (bytes ≡ [])
 
 -- The part was broken off: for want of memory, behind texts that are gathered.
 abbrev pub Halts : Broken → Holdings → Holdings → ℕ → ℕ → (List ℕ → Part End) → (bytes begins : List ℕ) → Type 0

@@ -26,7 +26,7 @@ pub record Leads {T : Type 0} (before after : Holdings) (steps steps' : ℕ) (pa
 -- the part was done whole, with the outcome that the call answers, or it was broken off
 abbrev pub Plays : {T : Type 0} → Result T Broken → Holdings → Holdings → ℕ → ℕ → (List ℕ → Part T) → Stream → Type 0
 Plays r before after steps steps' part stream =
-    MatchResult r (λ value. Does before after steps steps' part value stream) (λ e. Breaks e before after steps steps' part)
+    MatchResult r (λ value. Does before after steps steps' part value stream) (λ e. Breaks before after steps steps' e part)
 
 -- the same of a part in which no step is taken
 abbrev pub PlaysQuestion : {T : Type 0} → Result T Broken → Holdings → Holdings → (List ℕ → Part T) → Stream → Type 0
@@ -107,7 +107,7 @@ GoesOn before after steps steps' part rest stream (Some end) = Does before after
 -- this rest is to do, or the session ended, or it was broken off
 abbrev pub Continues : Result (Option End) Broken → Holdings → Holdings → ℕ → ℕ → (part rest : List ℕ → Part End) → Stream → Type 0
 Continues r before after steps steps' part rest stream =
-    MatchResult r (GoesOn before after steps steps' part rest stream) (λ e. Breaks e before after steps steps' part)
+    MatchResult r (GoesOn before after steps steps' part rest stream) (λ e. Breaks before after steps steps' e part)
 
 -- a move is selected, and what follows the answer is done
 abbrev pub acted : {S M : Type 0} → Version → Rules S M → Options → S → M → ℕ → (S → Stream → List ℕ → Part End) → Stream → List ℕ → Part End
@@ -130,7 +130,7 @@ Turns r terms rules s t before after steps steps' course course' =
 
 -- it came to its end, or was broken off
 abbrev pub Runs : Result End Broken → Holdings → Holdings → ℕ → (List ℕ → Part End) → Type 0
-Runs r before after steps part = MatchResult r (Ends before after steps part) (λ e. Breaks e before after 0 steps part)
+Runs r before after steps part = MatchResult r (Ends before after steps part) (λ e. Breaks before after 0 steps e part)
 
 -- an end that no device and no want of memory brought about, after so many steps
 pub record IsOwnEnd (steps : ℕ) (end : End) : Type 0 where
