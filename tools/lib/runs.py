@@ -5,6 +5,7 @@ import os
 import re
 
 TOP = os.path.dirname(os.path.dirname(os.path.dirname(os.path.abspath(__file__))))
+LISTS = os.path.join(TOP, "crates", "worked_runs", "runs")
 Run = collections.namedtuple("Run", "name tokens flags limit choices output record status read comment block")
 ESCAPES = {"n": "\n", "t": "\t", '"': '"', "\\": "\\"}
 STRING = r'"(?:[^"\\]|\\.)*"'
