@@ -21,7 +21,7 @@ use Rattle.promela_run.specs.State.{Begun, Stand, State, reads, body_of, levels,
 use Rattle.run_start.proofs.Chaining.{chain, chain_any}
 use Rattle.promela_run.specs.Moves.{choices}
 use Rattle.promela_run.specs.Steps.{put, put_by, put_all, with_sent, with_received, with_new, joined_by, ran, run_number, Done, quiet, run_into, does, effect, behind, first_of, onward, within, within_from, taken, body_by}
-use Rattle.run_search.specs.Lifted.{put_if}
+use Rattle.run_state.specs.Calls.{put_if}
 use Rattle.path_laws.proofs.Fitting.{Fits, at_fits, settle_fits}
 
 -- ---- lists

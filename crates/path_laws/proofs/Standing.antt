@@ -24,7 +24,8 @@ use Rattle.promela_run.specs.declared.moves.Move.TheVariants.{Death, Alone, Pair
 use Rattle.promela_run.specs.Moves.{message}
 use Rattle.promela_run.specs.Steps.{put_all, go_to, went, Done, taken, body_by, alone, both_on, paired, passed, step, moved_to}
 use Rattle.promela_run.specs.World.{Running, first, led_to, rules}
-use Rattle.run_search.specs.Lifted.{begins_by, offer_on, offer_at, moved}
+use Rattle.run_state.specs.Standing.{begins_by}
+use Rattle.run_search.specs.Lifted.{offer_on, offer_at, moved}
 use Rattle.pml_play.specs.Run.{Leg, IsPath, last_state}
 use Rattle.pml_play.specs.Shown.{PathLeads}
 use Rattle.pml_play.specs.Transcript.{IsModel}

@@ -27,7 +27,8 @@ use Rattle.promela_run.specs.declared.moves.Move.{Move}
 use Rattle.promela_run.specs.declared.moves.Move.TheVariants.{Death, Alone, Pair}
 use Rattle.promela_run.specs.Moves.{or_else, choices, is_choice, message}
 use Rattle.promela_run.specs.Steps.{put, put_by, put_all, with_sent, with_received, go_to, went, without_youngest, with_new, joined_by, ran, run_number, Done, quiet, run_into, does, effect, behind, first_of, onward, within, within_from, taken, body_by, alone, both_on, paired, passed, step, moved_to}
-use Rattle.run_search.specs.Lifted.{offer_on, offer_at, is_other, put_if, moved}
+use Rattle.run_search.specs.Lifted.{offer_on, offer_at, is_other, moved}
+use Rattle.run_state.specs.Calls.{put_if}
 use Rattle.pml_sim.proofs.Weight.{weight_part, AreLight, IsLight, light_steps, light_sequence, light_at}
 use Rattle.pml_sim.proofs.Settling.{GoOn, AreFew, few_offers, light_settled}
 use Rattle.pml_sim.proofs.Crowding.{IsLightProctype, IsLightStand, IsLightState}

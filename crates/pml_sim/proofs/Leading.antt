@@ -12,7 +12,7 @@ use Rattle.promela_run.specs.declared.moves.Move.TheVariants.{Death, Alone, Pair
 use Rattle.promela_run.specs.State.{State}
 use Rattle.profile.specs.declared.TheConstants.{MOST_DSTEP_STATEMENTS}
 use Rattle.promela_run.specs.Steps.{Done, step}
-use Rattle.run_step.specs.Live.{Does}
+use Rattle.run_step.specs.Done.{Does}
 use Rattle.promela_run.specs.World.{Running, led_to}
 use Rattle.run_step.specs.Taking.{PastBy}
 

@@ -15,7 +15,7 @@ use Rattle.promela_process.specs.Store.{Frame}
 use Rattle.promela_run.specs.declared.live_channel.LiveChannel.{LiveChannel}
 use Rattle.run_start.specs.Bound.{bound}
 use Rattle.promela_run.specs.State.{Stand, State}
-use Rattle.run_step.specs.Footprint.{held}
+use Rattle.run_state.specs.Footprint.{held}
 
 word : Word
 word = record { kind = kind.Name; text = []; line = 1 }

@@ -29,7 +29,8 @@ use Rattle.promela_run.specs.Steps as outcome
 use Rattle.promela_run.specs.World.{origin_of, Running, first, moves, led_to, step, rules}
 use Rattle.run_texts.specs.Staying.{IsWithin}
 use Rattle.promela_run.specs.declared.halt.Halt.{Halt}
-use Rattle.run_search.specs.Lifted.{begins_by, sort_of, line_in, brace_of, unless_stopped}
+use Rattle.run_state.specs.Standing.{begins_by}
+use Rattle.run_search.specs.Lifted.{sort_of, line_in, brace_of, unless_stopped}
 use Rattle.pml_sim.proofs.Weight.{weight_part}
 use Rattle.pml_sim.proofs.Crowding.{IsLightProctype, IsLightStand, IsLightState, moves_few}
 use Rattle.pml_sim.proofs.Lasting.{IsLightOffer, first_light, get_light, picked_light, step_light, body_weighs}

@@ -24,7 +24,8 @@ use Rattle.promela_run.specs.declared.moves.Move.TheVariants.{Death, Alone, Pair
 use Rattle.promela_run.specs.Moves as search
 use Rattle.profile.specs.declared.TheConstants.{MOST_DSTEP_STATEMENTS}
 use Rattle.promela_run.specs.Steps.{sorts, there, Done, step}
-use Rattle.run_step.specs.Live.{Does, Joins}
+use Rattle.run_step.specs.Done.{Does}
+use Rattle.run_state.specs.Live.{Joins}
 use Rattle.promela_run.specs.World.{Running, first, rules, changed_lines, led_to, move_text}
 use Rattle.run_step.specs.Taking.{CanDie, PastBy}
 use Rattle.run_texts.specs.Staying.{IsWithin}

@@ -10,7 +10,7 @@ ghost use Rattle.run_start.specs.Shown.{shown};
 ghost use Rattle.run_start.specs.Bound.{bound, IsBounded};
 ghost use Rattle.run_start.specs.Starting.{IsDeclared};
 ghost use Rattle.promela_run.specs.State.{channel_at};
-ghost use Rattle.run_step.specs.Footprint.{held};
+ghost use Rattle.run_state.specs.Footprint.{held};
 ghost use Rattle.promela_run.specs.World.{first};
 ghost use Rattle.run_texts.specs.Charts.{told};
 ghost use Rattle.run_texts.specs.Staying as staying;
@@ -27,12 +27,11 @@ use pml_value::view::named;
 use promela_run::halt::Halt;
 use promela_run::moves::Move;
 use run_layout::tables::Tables;
-use run_search::played::Played;
-use run_search::scene::Scene;
 use run_search::search::add_moves;
 use run_start::start::start_by;
 use run_start::started::Started;
-use run_step::live::Live;
+use run_state::live::Live;
+use run_state::played::Played;
 use run_step::take::take;
 use run_texts::ends::{add_stuck, is_valid, stuck};
 use run_texts::texts::{add_move, origin};
@@ -151,7 +150,7 @@ impl<'p, 'a> World<'p, 'a> {
         ensures added { OnOk result (text.new.items ≡ text.old.items ++ world.move_text self.now.state m.now) }
         ensures kept { OnErr result (StartsWith text.new.items text.old.items) }
     {
-        add_move(&self.live.scene(), *m, text)
+        add_move(&self.live, *m, text)
     }
 
     /// The places whose numbers the last step changed, in the order of their value lines: the globals as they are declared, and then
@@ -181,7 +180,7 @@ impl<'p, 'a> World<'p, 'a> {
     pub fn ending(&self) -> Ending
         ensures { result ≡ lends.ending self.now }
     {
-        if is_valid(&self.live.scene()) {
+        if is_valid(&self.live) {
             Ending::Valid
         } else {
             Ending::Invalid
@@ -192,7 +191,7 @@ impl<'p, 'a> World<'p, 'a> {
     pub fn stuck(&self, process: usize) -> Option<(&'p [u8], u32)>
         ensures { option_map told result ≡ staying.stuck_of self.now.state process }
     {
-        stuck(&self.live.scene(), process)
+        stuck(&self.live, process)
     }
 
     /// How much it keeps of a run: the numbers in variables and messages, two for each process and two for each channel; at any time, also
@@ -207,10 +206,10 @@ impl<'p, 'a> World<'p, 'a> {
     }
 
     /// The present state, lent.
-    pub fn scene(&self) -> Scene<'_, 'p, 'a>
-        ensures { result ≡ self.now.state }
+    pub fn live(&self) -> &Live<'p, 'a>
+        ensures { result.now.state ≡ self.now.state }
     {
-        self.live.scene()
+        &self.live
     }
 
     /// The tables of its model, lent.
@@ -232,28 +231,28 @@ impl<'p, 'a> World<'p, 'a> {
         ensures value { result ≡ length self.now.state.stands }
         ensures few { result ≤ MOST_PROCESSES }
     {
-        self.live.scene().process_count()
+        self.live.process_count()
     }
 
     /// The process that has exclusive control.
     pub fn holder(&self) -> Option<usize>
         ensures { result ≡ self.now.state.holder }
     {
-        self.live.scene().holder()
+        self.live.holder()
     }
 
     /// How many channels live.
     pub fn channel_count(&self) -> usize
         ensures { result ≡ length self.now.state.channels }
     {
-        self.live.scene().channels().len()
+        self.live.channels().len()
     }
 
     /// The channel with this number, from 1 on.
     pub fn channel(&self, number: i32) -> Option<&Channel>
         ensures { option_copied result ≡ channel_at self.now.state.channels number }
     {
-        named(self.live.scene().channels(), number)
+        named(self.live.channels(), number)
     }
 
     /// Appends the value lines of the last step.
@@ -280,8 +279,8 @@ impl<'p, 'a> World<'p, 'a> {
         ensures added { OnOk result (text.new.items ≡ text.old.items ++ world.stuck self.now.state) }
         ensures kept { OnErr result (StartsWith text.new.items text.old.items) }
     {
-        let valid = is_valid(&self.live.scene());
-        add_stuck(&self.live.scene(), text)?;
+        let valid = is_valid(&self.live);
+        add_stuck(&self.live, text)?;
         Ok(valid)
     }
 }
@@ -296,15 +295,15 @@ impl Machine for World<'_, '_> {
         if self.halt.is_some() {
             return Ok(());
         }
-        add_moves(&self.live.scene(), moves)
+        add_moves(&self.live, moves)
     }
 
     fn show(&self, m: &Move, text: &mut Vec<u8>) -> Result<(), AllocError> {
-        add_move(&self.live.scene(), *m, text)
+        add_move(&self.live, *m, text)
     }
 
     fn origin(&self, m: &Move) -> (u32, u32) {
-        origin(&self.live.scene(), *m)
+        origin(&self.live, *m)
     }
 
     fn take(&mut self, m: &Move, text: &mut Vec<u8>) -> Result<(), Stop> {

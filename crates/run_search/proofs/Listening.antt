@@ -8,7 +8,7 @@ use Rattle.std.proofs.lemmas.List.{drop_all}
 use Rattle.std.proofs.lemmas.Bool.Decides.{nat_tests}
 use Rattle.promela_run.specs.declared.moves.Pick.{Pick}
 use Rattle.promela_run.specs.declared.moves.Move.{Move}
-use Rattle.run_search.specs.declared.scene.Seat.{Seat}
+use Rattle.run_state.specs.declared.seat.Seat.{Seat}
 use Rattle.run_search.specs.declared.demands.Demand.{Demand}
 use Rattle.run_search.specs.declared.demands.Demand.TheVariants.{Nothing, Channel, Number, Anything}
 use Rattle.run_search.specs.declared.listeners.Span.{Span}
@@ -17,9 +17,9 @@ use Rattle.promela_run.specs.State.{State, Stand}
 use Rattle.promela_run.specs.Moves.{Message, each, pairs_with}
 use Rattle.run_search.specs.Demands.{may_take, begins_with, AreDemands}
 use Rattle.run_search.specs.Listeners.{place_of, with_one, joined, widened, spans_with, any_with, LiesIn, Hears, AreHeard, AreKnown}
-use Rattle.run_search.specs.Scene.{stand_of}
-use Rattle.run_search.proofs.Placing.{seat_stands}
-use Rattle.run_search.proofs.Searching.{within, past, there, opens_at, at_end}
+use Rattle.run_state.specs.Standing.{stand_of}
+use Rattle.run_state.proofs.Placing.{seat_stands}
+use Rattle.run_state.proofs.Finding.{within, past, there, opens_at, at_end}
 
 -- ---- spans
 

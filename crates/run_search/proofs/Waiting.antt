@@ -6,14 +6,14 @@ use Rattle.pml_flow.specs.declared.edge.Edge.{Edge}
 use Rattle.promela_process.specs.Offers.{Offer}
 use Rattle.promela_run.specs.declared.moves.Pick.{Pick}
 use Rattle.promela_run.specs.declared.moves.Move.{Move}
-use Rattle.run_search.specs.declared.scene.Seat.{Seat}
-use Rattle.run_search.specs.declared.scene.Body.{Body}
+use Rattle.run_state.specs.declared.seat.Seat.{Seat}
+use Rattle.run_state.specs.declared.body.Body.{Body}
 use Rattle.run_search.specs.declared.demands.Demand.{Demand}
 use Rattle.promela_run.specs.State.{State, Stand, body_of, levels_in}
-use Rattle.run_search.specs.Scene.{stand_of, StandsIn, shows, edges_at}
+use Rattle.run_state.specs.Standing.{stand_of, StandsIn, shows, edges_at}
 use Rattle.promela_run.specs.Moves.{Message, or_else, each, last, pairs_on, pairs_with}
 use Rattle.run_search.specs.Demands.{may_take, may_at, DemandsFor, AreDemands}
-use Rattle.run_search.proofs.Searching.{opens, opens_at, held}
+use Rattle.run_state.proofs.Finding.{opens, opens_at, held}
 use Rattle.run_search.proofs.Placing.{pairs_in, pairs_closed}
 
 -- ---- a process

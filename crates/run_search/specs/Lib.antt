@@ -1,7 +1,7 @@
 pub mod Fields
 pub mod Demands
 pub mod Listeners
-pub mod Scene
+pub mod Picked
 pub mod Round
 pub mod Paired
 pub mod Kept

@@ -9,13 +9,12 @@ use Rattle.promela_process.specs.Numbers.{is_zero}
 use Rattle.promela_process.specs.Expressions.{◌>>=◌}
 use Rattle.promela_process.specs.Control.{Control}
 use Rattle.promela_process.specs.Offers.{Offer}
-use Rattle.promela_run.specs.declared.goes.Goes.{Goes}
 use Rattle.promela_run.specs.declared.halt.Halt.{Halt}
 use Rattle.promela_run.specs.declared.moves.Move.{Move}
 use Rattle.promela_run.specs.declared.moves.Pick.{Pick}
-use Rattle.promela_run.specs.State.{Stand, State, body_of, first_control, levels, levels_in}
+use Rattle.promela_run.specs.State.{Stand, State, body_of, levels, levels_in}
 use Rattle.promela_run.specs.Moves.{is_else, moves_at}
-use Rattle.promela_run.specs.Steps.{put, Done, went}
+use Rattle.promela_run.specs.Steps.{Done, went}
 
 -- an offer of a level by its place, if the level is there
 abbrev pub offer_on : Option (List Offer) → ℕ → Option Offer
@@ -29,10 +28,6 @@ offer_at s k o = option_and_then (λ y. offer_on (slice_get (levels_in (body_of 
 abbrev pub levels_from : Seq → Option Control → List (List Offer)
 levels_from b o = option_map_or (levels b) o []
 
--- a process of a proctype with this body before its first statement
-abbrev pub begins_by : ℕ → Option Seq → Stand
-begins_by k o = record { sort = k; control = option_map_or first_control o [] }
-
 -- a value is not 0
 abbrev pub nonzero : Result ℤ Fault → Result Bool Fault
 nonzero v = v >>= λ n. Ok (not (is_zero n))
@@ -44,10 +39,6 @@ is_other o = is_else o.basic
 -- the moves of a process, if it is there, while `timeout` is false
 abbrev pub moves_if : State → ℕ → Option Stand → List Move
 moves_if s p o = option_map_or (moves_at s p false) o []
-
--- a number in its cell, where there is one to store
-abbrev pub put_if : State → Option Goes → State
-put_if s o = option_map_or (put s) o s
 
 -- the proctype of a process
 abbrev pub sort_of : Program → Option Stand → Option Proctype

@@ -6,11 +6,12 @@ use Rattle.promela_run.specs.declared.moves.Pick.{Pick}
 use Rattle.promela_run.specs.declared.moves.Move.{Move}
 use Rattle.promela_run.specs.declared.moves.Move.TheVariants.{Pair}
 use Rattle.run_search.specs.declared.rendezvous.Sending.{Sending}
-use Rattle.run_search.specs.declared.scene.Body.{Body}
-use Rattle.run_search.specs.declared.scene.Seat.{Seat}
+use Rattle.run_state.specs.declared.body.Body.{Body}
+use Rattle.run_state.specs.declared.seat.Seat.{Seat}
 use Rattle.run_search.specs.declared.tier.Tier.{Tier}
 use Rattle.promela_run.specs.State.{State, reads}
-use Rattle.run_search.specs.Scene.{stand_of, shows, offers_at}
+use Rattle.promela_run.specs.World.{Running}
+use Rattle.run_state.specs.Standing.{stand_of, shows, offers_at}
 use Rattle.promela_run.specs.Moves.{only_if, accepts, last, pairs_on, pairs_with, pairs}
 
 -- with a receive, where that takes it
@@ -30,5 +31,5 @@ abbrev pub paired_with : State → Sending → ℕ → Seat → List Move
 paired_with s x j y = pairs_with s x.timeout x.sender x.message j (stand_of s.program y)
 
 -- with all
-abbrev pub paired_by : State → Sending → List Move
-paired_by s x = pairs s x.timeout x.sender (Some x.message)
+abbrev pub paired_by : Running → Sending → List Move
+paired_by l x = pairs l.state x.timeout x.sender (Some x.message)

@@ -3,26 +3,27 @@ use Rattle.std.specs.Prelude.{ℕ, Bool, if◌then◌else◌, List, [], map, Opt
 use Rattle.pml_flow.specs.declared.edge.Edge.{Edge}
 use Rattle.promela_run.specs.declared.moves.Pick.{Pick}
 use Rattle.promela_run.specs.declared.moves.Move.{Move}
-use Rattle.run_search.specs.declared.scene.Body.{Body}
-use Rattle.run_search.specs.declared.scene.Seat.{Seat}
+use Rattle.run_state.specs.declared.body.Body.{Body}
+use Rattle.run_state.specs.declared.seat.Seat.{Seat}
 use Rattle.run_search.specs.declared.search.Round.{Round}
 use Rattle.run_search.specs.declared.tier.Tier.{Tier}
-use Rattle.run_search.specs.Scene.{stand_of, shows, offers_at, seq_of}
+use Rattle.run_state.specs.Standing.{stand_of, shows, offers_at, seq_of}
 use Rattle.promela_run.specs.Moves.{Message, is_else, last, pairs, plain_moves, else_moves, moves_on, moves_at, moves_under}
 use Rattle.run_search.specs.Viewed.{moves_for}
 use Rattle.run_search.specs.Listeners.{AreKnown}
+use Rattle.promela_run.specs.World.{Running}
 
 -- what it knows is so
 abbrev pub IsKnown : Round → Type 0
-IsKnown r = AreKnown r.scene.now r.timeout (record { demands = r.demands; spans = r.spans; any = r.any })
+IsKnown r = AreKnown r.live.now.state r.timeout (record { demands = r.demands; spans = r.spans; any = r.any })
 
 -- the pairs of a message
 abbrev pub round_pairs : Round → Pick → Option Message → List Move
-round_pairs r = pairs r.scene.now r.timeout
+round_pairs r = pairs r.live.now.state r.timeout
 
 -- of the offer that is picked, by its edge
 abbrev pub round_for : Round → Body → Pick → Edge → List Move
-round_for r k p e = moves_for r.scene.now r.timeout (seq_of k) p (shows k e)
+round_for r k p e = moves_for r.live.now.state r.timeout (seq_of k) p (shows k e)
 
 -- none, where that is an `else`
 abbrev pub round_plain_for : Round → Body → Pick → Edge → List Move
@@ -30,7 +31,7 @@ round_plain_for r k p e = if is_else (shows k e).basic then [] else round_for r 
 
 -- of a level's offers that are no `else`
 abbrev pub round_plain : Round → Body → Tier → List Edge → List Move
-round_plain r k t es = plain_moves r.scene.now t.process r.timeout (seq_of k) t.level (map (shows k) es)
+round_plain r k t es = plain_moves r.live.now.state t.process r.timeout (seq_of k) t.level (map (shows k) es)
 
 -- of its `else` offers, under this `timeout`
 abbrev pub else_on : Body → Tier → Bool → List Edge → List Move
@@ -38,16 +39,20 @@ else_on k t timeout es = else_moves t.process timeout t.level (map (shows k) es)
 
 -- of a level
 abbrev pub round_on : Round → Body → Tier → List Edge → List Move
-round_on r k t es = moves_on r.scene.now t.process r.timeout (seq_of k) t.level (map (shows k) es)
+round_on r k t es = moves_on r.live.now.state t.process r.timeout (seq_of k) t.level (map (shows k) es)
 
 -- of the highest level of a node that has any
 abbrev pub round_down : Round → Body → ℕ → ℕ → List Move
-round_down r k p n = last (moves_on r.scene.now p r.timeout (seq_of k)) 0 (offers_at k n)
+round_down r k p n = last (moves_on r.live.now.state p r.timeout (seq_of k)) 0 (offers_at k n)
 
 -- of a process
 abbrev pub round_at : Round → ℕ → Seat → List Move
-round_at r p x = moves_at r.scene.now p r.timeout (stand_of r.scene.now.program x)
+round_at r p x = moves_at r.live.now.state p r.timeout (stand_of r.live.now.state.program x)
 
 -- of all
 abbrev pub round_under : Round → List Move
-round_under r = moves_under r.scene.now r.timeout
+round_under r = moves_under r.live.now.state r.timeout
+
+-- of all of what lives, under this `timeout`
+abbrev pub live_under : Running → Bool → List Move
+live_under l t = moves_under l.state t

@@ -3,16 +3,16 @@
 ghost use Rattle.std.specs.Prelude.{◌≡◌, true, false};
 ghost use Rattle.std.specs.Option.{option_copied};
 ghost use Rattle.pml_value.specs.Seen.{seen};
-ghost use Rattle.run_search.specs.Scene.{IsBody, shows, seq_of};
+ghost use Rattle.run_state.specs.Standing.{IsBody, shows, seq_of};
 ghost use Rattle.promela_run.specs.Moves.{is_else as else_of, can_alone};
 ghost use Rattle.run_search.specs.Viewed.{NeedsNothing};
 
 use crate::d_step::can_begin;
 use crate::executable::can_be_taken;
-use crate::scene::Body;
 use pml_flow::edge::Edge;
 use pml_program::program::{Action, Basic};
 use pml_value::view::View;
+use run_state::body::Body;
 
 /// Whether an offer is a move by itself.
 pub(crate) fn can_be_alone(

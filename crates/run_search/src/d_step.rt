@@ -6,16 +6,16 @@ ghost use Rattle.std.specs.Option.{option_copied};
 ghost use Rattle.pml_flow.specs.Graph.{maybe};
 ghost use Rattle.pml_flow.specs.Points.{point_at};
 ghost use Rattle.pml_value.specs.Seen.{seen};
-ghost use Rattle.run_search.specs.Scene.{IsBody, shows, edges_at, offers_at, seq_of};
+ghost use Rattle.run_state.specs.Standing.{IsBody, shows, edges_at, offers_at, seq_of};
 ghost use Rattle.promela_run.specs.Moves.{is_else as else_of, can_inside, is_choice, choices, is_some};
 ghost use Rattle.run_search.specs.Lifted.{levels_from, is_other};
 ghost use Rattle.run_search.specs.Viewed.{first};
 
 use crate::executable::can_be_taken;
-use crate::scene::Body;
 use pml_flow::edge::Edge;
 use pml_program::program::{Action, Basic};
 use pml_value::view::View;
+use run_state::body::Body;
 
 /// Whether a statement is an `else`.
 pub(crate) fn is_else(basic: Option<&Basic<'_>>) -> bool

@@ -6,18 +6,20 @@ ghost use Rattle.std.specs.Ordering.{int_eq};
 ghost use Rattle.promela_process.specs.Expressions.{Reading, asked_by};
 ghost use Rattle.pml_value.specs.Seen.{seen};
 ghost use Rattle.promela_run.specs.State.{reads};
-ghost use Rattle.run_search.specs.Scene.{stand_of, IsBody, shows, offers_at};
+ghost use Rattle.run_state.specs.Standing.{stand_of, IsBody, shows, offers_at};
 ghost use Rattle.promela_run.specs.Moves.{Message as Sent, accepts, does_match};
 ghost use Rattle.run_search.specs.Demands.{begins_with, may_take, may_at, DemandsOn, DemandsDown, DemandsFor, AreDemands};
 
 use crate::executable::named;
 use crate::message::Message;
-use crate::scene::{Body, Scene, Seat};
 use pml_flow::edge::Edge;
 use pml_program::expr::Want;
 use pml_program::program::{Action, Basic};
 use pml_value::view::View;
 use promela_run::live_channel::LiveChannel;
+use run_state::body::Body;
+use run_state::live::Live;
+use run_state::seat::Seat;
 use std::alloc::{AllocError, Global};
 
 /// As many processes are enough to look beforehand what each waits for.
@@ -110,19 +112,19 @@ fn begins(message: &Message<'_, '_>, number: i32) -> bool
 
 /// What may be received so far, or by the offers of a level.
 fn demand_on(
-    scene: &Scene<'_, '_, '_>,
+    live: &Live<'_, '_>,
     body: &Body<'_, '_, '_>,
     j: usize,
     timeout: bool,
     edges: &[Edge],
     so_far: Demand,
 ) -> Demand
-    requires there { j < length scene.now.stands }
+    requires there { j < length live.now.state.stands }
     requires body { IsBody body.now }
     ensures one { (m : Sent) → may_take result m ≡ false → may_take so_far m ≡ false }
-    ensures other { DemandsOn scene.now timeout j (map (shows body.now) edges.now) result }
+    ensures other { DemandsOn live.now.state timeout j (map (shows body.now) edges.now) result }
 {
-    let view = scene.view(j, timeout);
+    let view = live.view(j, timeout);
     let mut demand = so_far;
     for edge in edges {
         demand = demand.or_by(&view, body.basic(*edge));
@@ -133,52 +135,52 @@ fn demand_on(
 /// What may be received at a node of several levels.
 #[inline(never)]
 fn demand_down(
-    scene: &Scene<'_, '_, '_>,
+    live: &Live<'_, '_>,
     body: &Body<'_, '_, '_>,
     j: usize,
     timeout: bool,
     node: usize,
 ) -> Demand
-    requires there { j < length scene.now.stands }
+    requires there { j < length live.now.state.stands }
     requires body { IsBody body.now }
     requires node { node < length body.now.graph.now.nodes }
-    ensures { DemandsDown scene.now timeout j (offers_at body.now node) result }
+    ensures { DemandsDown live.now.state timeout j (offers_at body.now node) result }
 {
     let mut demand = Demand::Nothing;
     for level in 0..body.graph.level_count(node) {
         let edges = body.graph.level(node, level);
-        demand = demand_on(scene, body, j, timeout, edges, demand);
+        demand = demand_on(live, body, j, timeout, edges, demand);
     }
     demand
 }
 
 /// What a process may receive.
-fn demand_of(scene: &Scene<'_, '_, '_>, j: usize, timeout: bool, seat: Seat) -> Demand
-    requires { j < length scene.now.stands }
-    ensures { DemandsFor scene.now timeout j (stand_of scene.now.program seat) result }
+fn demand_of(live: &Live<'_, '_>, j: usize, timeout: bool, seat: Seat) -> Demand
+    requires { j < length live.now.state.stands }
+    ensures { DemandsFor live.now.state timeout j (stand_of live.now.state.program seat) result }
 {
-    let Some(body) = scene.standing(seat) else {
+    let Some(body) = live.standing(seat) else {
         return Demand::Nothing;
     };
     match body.graph.only_level(seat.node) {
-        Some(edges) => demand_on(scene, &body, j, timeout, edges, Demand::Nothing),
-        None => demand_down(scene, &body, j, timeout, seat.node),
+        Some(edges) => demand_on(live, &body, j, timeout, edges, Demand::Nothing),
+        None => demand_down(live, &body, j, timeout, seat.node),
     }
 }
 
 /// What each process may receive.
 pub(crate) fn all_demands(
     alloc: Global,
-    scene: &Scene<'_, '_, '_>,
+    live: &Live<'_, '_>,
     timeout: bool,
 ) -> Result<Vec<Demand>, AllocError>
-    ensures demands { IfOk result (λ v. AreDemands scene.now timeout v.items) }
-    ensures many { IfOk result (λ v. length v.items ≡ length scene.now.stands) }
+    ensures demands { IfOk result (λ v. AreDemands live.now.state timeout v.items) }
+    ensures many { IfOk result (λ v. length v.items ≡ length live.now.state.stands) }
 {
-    let seats = scene.seats();
+    let seats = live.seats();
     let mut demands = Vec::with_capacity(alloc, seats.len())?;
     for j in 0..seats.len() {
-        demands.push(demand_of(scene, j, timeout, seats[j]))?;
+        demands.push(demand_of(live, j, timeout, seats[j]))?;
     }
     Ok(demands)
 }
@@ -194,8 +196,8 @@ fn has_rendezvous(channels: &[LiveChannel]) -> bool {
 }
 
 /// Whether it is worth to look beforehand what processes wait for: many live, and some can meet.
-pub(crate) fn are_worth_knowing(scene: &Scene<'_, '_, '_>) -> bool {
-    scene.process_count() >= ENOUGH_PROCESSES && has_rendezvous(scene.channels())
+pub(crate) fn are_worth_knowing(live: &Live<'_, '_>) -> bool {
+    live.process_count() >= ENOUGH_PROCESSES && has_rendezvous(live.channels())
 }
 
 fn demand_at(demands: &[Demand], j: usize) -> Option<&Demand>

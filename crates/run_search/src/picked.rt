@@ -2,13 +2,16 @@
 
 ghost use Rattle.std.specs.Prelude.{◌≡◌, ◌<◌, IfSome, length, map, option_map, slice_get};
 ghost use Rattle.std.specs.Option.{option_copied};
-ghost use Rattle.run_search.specs.Scene.{IsBody, shows, offers_at, IsPicked};
+ghost use Rattle.run_state.specs.Standing.{IsBody, shows, offers_at};
+ghost use Rattle.run_search.specs.Picked.{IsPicked};
 ghost use Rattle.promela_run.specs.State.{picked as picks};
 ghost use Rattle.run_search.specs.Lifted.{offer_on};
 
-use crate::scene::{Body, Scene, seat_at};
 use pml_flow::edge::Edge;
 use promela_run::moves::Pick;
+use run_state::body::Body;
+use run_state::live::Live;
+use run_state::seat::seat_at;
 
 /// An offer: the body in which its process stands, and its edge.
 #[derive(Drop)]
@@ -51,12 +54,12 @@ fn edge_of<'p>(body: &Body<'_, 'p, '_>, node: usize, pick: Pick) -> Option<&'p E
 
 /// The offer that a pick names, if its process stands where it has such an offer.
 #[inline(always)]
-pub fn picked<'w, 'p, 'a>(scene: &Scene<'w, 'p, 'a>, pick: Pick) -> Option<Offered<'w, 'p, 'a>>
-    ensures offer { option_map (λ k. shows k.body k.edge.now) result ≡ picks scene.now pick }
-    ensures is { IfSome result (λ k. IsPicked scene.now pick k.body) }
+pub fn picked<'w, 'p, 'a>(live: &'w Live<'p, 'a>, pick: Pick) -> Option<Offered<'w, 'p, 'a>>
+    ensures offer { option_map (λ k. shows k.body k.edge.now) result ≡ picks live.now.state pick }
+    ensures is { IfSome result (λ k. IsPicked live.now.state pick k.body) }
 {
-    let seat = *seat_at(scene.seats(), pick.process)?;
-    let body = scene.standing(seat)?;
+    let seat = *seat_at(live.seats(), pick.process)?;
+    let body = live.standing(seat)?;
     let edge = edge_of(&body, seat.node, pick)?;
     Some(Offered { body, edge })
 }

@@ -6,10 +6,10 @@
 ghost use Rattle.std.specs.Prelude.{◌≡◌, ◌++◌, ◌<◌, false, [], OnOk, length};
 ghost use Rattle.std.specs.Option.{option_copied};
 ghost use Rattle.run_search.specs.Kept.{Extends};
-ghost use Rattle.run_search.specs.Scene.{IsBody, shows};
+ghost use Rattle.run_state.specs.Standing.{IsBody, shows};
 ghost use Rattle.run_search.specs.Viewed.{message_in};
-ghost use Rattle.promela_run.specs.Moves.{is_else as else_of, moves_under, moves_held, moves as all_moves, only_if};
-ghost use Rattle.run_search.specs.Round.{IsKnown, round_pairs, round_for, round_plain_for, round_plain, else_on, round_on, round_down, round_at, round_under};
+ghost use Rattle.promela_run.specs.Moves.{is_else as else_of, moves_held, moves as all_moves, only_if};
+ghost use Rattle.run_search.specs.Round.{IsKnown, round_pairs, round_for, round_plain_for, round_plain, else_on, round_on, round_down, round_at, round_under, live_under};
 ghost use Rattle.promela_run.specs.declared.moves.Move.TheVariants.{Alone};
 
 use crate::alone::{can_be_alone, needs_nothing};
@@ -18,18 +18,20 @@ use crate::demands::{Demand, all_demands, are_worth_knowing};
 use crate::listeners::{Known, NOBODY, Span, all_listeners};
 use crate::message::offered;
 use crate::rendezvous::{Sending, add_pairs};
-use crate::scene::{Body, Scene, Seat};
 use crate::tier::Tier;
 use pml_flow::edge::Edge;
 use pml_program::program::Basic;
 use pml_value::view::View;
 use promela_run::moves::{Move, Pick};
+use run_state::body::Body;
+use run_state::live::Live;
+use run_state::seat::Seat;
 use std::alloc::AllocError;
 
 /// A round of the search: over which state, under which value of `timeout`, and what is known of what processes wait for.
 #[derive(Clone, Copy)]
-struct Round<'r, 'w, 'p, 'a> {
-    scene: &'r Scene<'w, 'p, 'a>,
+struct Round<'r, 'p, 'a> {
+    live: &'r Live<'p, 'a>,
     timeout: bool,
     demands: &'r [Demand],
     spans: &'r [Span],
@@ -40,7 +42,7 @@ struct Round<'r, 'w, 'p, 'a> {
 
 /// Adds the pairs of what a statement offers to receivers.
 fn add_sent(
-    round: &Round<'_, '_, '_, '_>,
+    round: &Round<'_, '_, '_>,
     view: View<'_>,
     offer: Pick,
     basic: Option<&Basic<'_>>,
@@ -64,7 +66,7 @@ fn add_sent(
                 spans: round.spans,
                 any: round.any,
             };
-            add_pairs(round.scene, &sending, known, moves)
+            add_pairs(round.live, &sending, known, moves)
         }
     }
 }
@@ -72,21 +74,21 @@ fn add_sent(
 /// Adds the moves of an offer that is no `else`, as the state has it.
 #[inline(never)]
 fn add_asked(
-    round: &Round<'_, '_, '_, '_>,
+    round: &Round<'_, '_, '_>,
     body: &Body<'_, '_, '_>,
     offer: Pick,
     edge: Edge,
     moves: &mut Vec<Move>,
 ) -> Result<(), AllocError>
     requires known { IsKnown round.now }
-    requires there { offer.process < length round.now.scene.now.stands }
+    requires there { offer.process < length round.now.live.now.state.stands }
     requires body { IsBody body.now }
     ensures added { OnOk result (moves.new.items ≡ moves.old.items ++ round_for round.now body.now offer edge) }
     ensures kept { Extends moves.new.items moves.old.items }
 {
     let basic = body.basic(edge);
-    let view = round.scene.view(offer.process, round.timeout);
-    if can_be_alone(&view, round.scene.is_lossy(), body, edge, basic) {
+    let view = round.live.view(offer.process, round.timeout);
+    if can_be_alone(&view, round.live.is_lossy(), body, edge, basic) {
         moves.push(Move::Alone(offer, round.timeout))?;
         return Ok(());
     }
@@ -96,14 +98,14 @@ fn add_asked(
 /// Adds the moves of an offer, none where it is an `else`. What needs nothing is offered at once.
 #[inline(always)]
 fn add_plain_by(
-    round: &Round<'_, '_, '_, '_>,
+    round: &Round<'_, '_, '_>,
     body: &Body<'_, '_, '_>,
     offer: Pick,
     edge: &Edge,
     moves: &mut Vec<Move>,
 ) -> Result<(), AllocError>
     requires known { IsKnown round.now }
-    requires there { offer.process < length round.now.scene.now.stands }
+    requires there { offer.process < length round.now.live.now.state.stands }
     requires body { IsBody body.now }
     ensures added { OnOk result (moves.new.items ≡ moves.old.items ++ round_plain_for round.now body.now offer edge.now) }
     ensures kept { Extends moves.new.items moves.old.items }
@@ -123,14 +125,14 @@ fn add_plain_by(
 /// Adds the moves of a level's offers that are no `else`.
 #[inline(always)]
 fn add_plain(
-    round: &Round<'_, '_, '_, '_>,
+    round: &Round<'_, '_, '_>,
     body: &Body<'_, '_, '_>,
     tier: Tier,
     edges: &[Edge],
     moves: &mut Vec<Move>,
 ) -> Result<(), AllocError>
     requires known { IsKnown round.now }
-    requires there { tier.process < length round.now.scene.now.stands }
+    requires there { tier.process < length round.now.live.now.state.stands }
     requires body { IsBody body.now }
     ensures added { OnOk result (moves.new.items ≡ moves.old.items ++ round_plain round.now body.now tier edges.now) }
     ensures kept { Extends moves.new.items moves.old.items }
@@ -182,14 +184,14 @@ fn add_else(
 /// Adds the moves of a level: its `else` offers where no other gives any.
 #[inline(always)]
 fn add_moves_on(
-    round: &Round<'_, '_, '_, '_>,
+    round: &Round<'_, '_, '_>,
     body: &Body<'_, '_, '_>,
     tier: Tier,
     edges: &[Edge],
     moves: &mut Vec<Move>,
 ) -> Result<(), AllocError>
     requires known { IsKnown round.now }
-    requires there { tier.process < length round.now.scene.now.stands }
+    requires there { tier.process < length round.now.live.now.state.stands }
     requires body { IsBody body.now }
     ensures added { OnOk result (moves.new.items ≡ moves.old.items ++ round_on round.now body.now tier edges.now) }
     ensures kept { Extends moves.new.items moves.old.items }
@@ -205,14 +207,14 @@ fn add_moves_on(
 /// Adds the moves of the highest level of a node that has any.
 #[inline(never)]
 fn add_moves_down(
-    round: &Round<'_, '_, '_, '_>,
+    round: &Round<'_, '_, '_>,
     body: &Body<'_, '_, '_>,
     process: usize,
     node: usize,
     moves: &mut Vec<Move>,
 ) -> Result<(), AllocError>
     requires known { IsKnown round.now }
-    requires there { process < length round.now.scene.now.stands }
+    requires there { process < length round.now.live.now.state.stands }
     requires body { IsBody body.now }
     requires node { node < length body.now.graph.now.nodes }
     ensures added { OnOk result (moves.new.items ≡ moves.old.items ++ round_down round.now body.now process node) }
@@ -234,14 +236,14 @@ fn add_moves_down(
 
 /// Adds the moves of the highest level of a node that has any: at once where the node has just one level, as most have.
 fn add_moves_in(
-    round: &Round<'_, '_, '_, '_>,
+    round: &Round<'_, '_, '_>,
     body: &Body<'_, '_, '_>,
     process: usize,
     node: usize,
     moves: &mut Vec<Move>,
 ) -> Result<(), AllocError>
     requires known { IsKnown round.now }
-    requires there { process < length round.now.scene.now.stands }
+    requires there { process < length round.now.live.now.state.stands }
     requires body { IsBody body.now }
     requires node { node < length body.now.graph.now.nodes }
     ensures added { OnOk result (moves.new.items ≡ moves.old.items ++ round_down round.now body.now process node) }
@@ -258,20 +260,20 @@ fn add_moves_in(
 
 /// Adds the moves of a process.
 fn add_moves_at(
-    round: &Round<'_, '_, '_, '_>,
+    round: &Round<'_, '_, '_>,
     process: usize,
     seat: Seat,
     moves: &mut Vec<Move>,
 ) -> Result<(), AllocError>
     requires known { IsKnown round.now }
-    requires there { process < length round.now.scene.now.stands }
+    requires there { process < length round.now.live.now.state.stands }
     ensures added { OnOk result (moves.new.items ≡ moves.old.items ++ round_at round.now process seat) }
     ensures kept { Extends moves.new.items moves.old.items }
 {
-    if let Some(body) = round.scene.standing(seat) {
+    if let Some(body) = round.live.standing(seat) {
         return add_moves_in(round, &body, process, seat.node, moves);
     }
-    if round.scene.process_count() == process + 1 {
+    if round.live.process_count() == process + 1 {
         moves.push(Move::Death(process))?;
     }
     Ok(())
@@ -280,12 +282,12 @@ fn add_moves_at(
 // ---- a state
 
 /// Adds the moves of all processes.
-fn add_moves_of_all(round: &Round<'_, '_, '_, '_>, moves: &mut Vec<Move>) -> Result<(), AllocError>
+fn add_moves_of_all(round: &Round<'_, '_, '_>, moves: &mut Vec<Move>) -> Result<(), AllocError>
     requires { IsKnown round.now }
     ensures added { OnOk result (moves.new.items ≡ moves.old.items ++ round_under round.now) }
     ensures kept { Extends moves.new.items moves.old.items }
 {
-    let seats = round.scene.seats();
+    let seats = round.live.seats();
     for process in 0..seats.len() {
         add_moves_at(round, process, seats[process], moves)?;
     }
@@ -295,18 +297,18 @@ fn add_moves_of_all(round: &Round<'_, '_, '_, '_>, moves: &mut Vec<Move>) -> Res
 /// Adds the moves of all processes, where it is worth to know first what each waits for.
 #[inline(never)]
 fn add_moves_knowing(
-    scene: &Scene<'_, '_, '_>,
+    live: &Live<'_, '_>,
     timeout: bool,
     moves: &mut Vec<Move>,
 ) -> Result<(), AllocError>
-    ensures added { OnOk result (moves.new.items ≡ moves.old.items ++ moves_under scene.now timeout) }
+    ensures added { OnOk result (moves.new.items ≡ moves.old.items ++ live_under live.now timeout) }
     ensures kept { Extends moves.new.items moves.old.items }
 {
     let alloc = *moves.allocator();
-    let demands = all_demands(alloc, scene, timeout)?;
-    let heard = all_listeners(alloc, demands.as_slice(), scene.channels().len())?;
+    let demands = all_demands(alloc, live, timeout)?;
+    let heard = all_listeners(alloc, demands.as_slice(), live.channels().len())?;
     let round = Round {
-        scene,
+        live,
         timeout,
         demands: demands.as_slice(),
         spans: heard.spans.as_slice(),
@@ -317,18 +319,18 @@ fn add_moves_knowing(
 
 /// Adds the moves of all processes under a value of `timeout`.
 fn add_moves_under(
-    scene: &Scene<'_, '_, '_>,
+    live: &Live<'_, '_>,
     timeout: bool,
     moves: &mut Vec<Move>,
 ) -> Result<(), AllocError>
-    ensures added { OnOk result (moves.new.items ≡ moves.old.items ++ moves_under scene.now timeout) }
+    ensures added { OnOk result (moves.new.items ≡ moves.old.items ++ live_under live.now timeout) }
     ensures kept { Extends moves.new.items moves.old.items }
 {
-    if are_worth_knowing(scene) {
-        return add_moves_knowing(scene, timeout, moves);
+    if are_worth_knowing(live) {
+        return add_moves_knowing(live, timeout, moves);
     }
     let round = Round {
-        scene,
+        live,
         timeout,
         demands: &[],
         spans: &[],
@@ -338,17 +340,17 @@ fn add_moves_under(
 }
 
 /// Adds the moves of the holder of exclusive control, if there is one.
-fn add_moves_held(scene: &Scene<'_, '_, '_>, moves: &mut Vec<Move>) -> Result<(), AllocError>
-    ensures added { OnOk result (moves.new.items ≡ moves.old.items ++ moves_held scene.now scene.now.holder) }
+fn add_moves_held(live: &Live<'_, '_>, moves: &mut Vec<Move>) -> Result<(), AllocError>
+    ensures added { OnOk result (moves.new.items ≡ moves.old.items ++ moves_held live.now.state live.now.state.holder) }
     ensures kept { Extends moves.new.items moves.old.items }
 {
-    let Some(process) = scene.holder() else {
+    let Some(process) = live.holder() else {
         return Ok(());
     };
-    let seats = scene.seats();
+    let seats = live.seats();
     if process < seats.len() {
         let round = Round {
-            scene,
+            live,
             timeout: false,
             demands: &[],
             spans: &[],
@@ -360,18 +362,18 @@ fn add_moves_held(scene: &Scene<'_, '_, '_>, moves: &mut Vec<Move>) -> Result<()
 }
 
 /// Adds the moves of a state.
-pub fn add_moves(scene: &Scene<'_, '_, '_>, moves: &mut Vec<Move>) -> Result<(), AllocError>
-    ensures added { OnOk result (moves.new.items ≡ moves.old.items ++ all_moves scene.now) }
+pub fn add_moves(live: &Live<'_, '_>, moves: &mut Vec<Move>) -> Result<(), AllocError>
+    ensures added { OnOk result (moves.new.items ≡ moves.old.items ++ all_moves live.now.state) }
     ensures kept { Extends moves.new.items moves.old.items }
 {
     let before = moves.len();
-    add_moves_held(scene, moves)?;
+    add_moves_held(live, moves)?;
     if moves.len() != before {
         return Ok(());
     }
-    add_moves_under(scene, false, moves)?;
+    add_moves_under(live, false, moves)?;
     if moves.len() != before {
         return Ok(());
     }
-    add_moves_under(scene, true, moves)
+    add_moves_under(live, true, moves)
 }

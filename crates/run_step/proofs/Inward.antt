@@ -15,15 +15,16 @@ use Rattle.pml_flow.specs.Points.{point_at}
 use Rattle.promela_process.specs.Expressions.{Reading, ◌>>=◌}
 use Rattle.promela_process.specs.Store.{Frame}
 use Rattle.promela_run.specs.declared.live_channel.LiveChannel.{LiveChannel}
-use Rattle.run_search.specs.declared.scene.Body.{Body}
+use Rattle.run_state.specs.declared.body.Body.{Body}
 use Rattle.promela_run.specs.State.{State, Stand, body_of, reads, levels}
-use Rattle.run_search.specs.Scene.{IsBody, shows, edges_at}
+use Rattle.run_state.specs.Standing.{IsBody, shows, edges_at}
 use Rattle.promela_run.specs.Moves.{choices}
 use Rattle.run_search.specs.Viewed.{first}
-use Rattle.run_search.proofs.Placing.{at_node}
+use Rattle.run_state.proofs.Placing.{at_node}
 use Rattle.run_step.specs.declared.within.Inner.TheVariants.{Left, At}
 use Rattle.run_step.specs.Inside.{Advance, Advances, then_at, advanced_by, advanced}
-use Rattle.run_step.specs.Live.{Joins, PastGrows, Does}
+use Rattle.run_state.specs.Live.{Joins, PastGrows}
+use Rattle.run_step.specs.Done.{Does}
 use Rattle.promela_run.specs.World.{Running}
 use Rattle.promela_run.specs.Steps.{Done, body_by, effect, behind, first_of, onward, within}
 
@@ -41,10 +42,9 @@ first_shown k n b lossy loses cs ds q r e is same losing channels reading h =
     ∙ ap (λ (x : Reading). first (choices loses ds x (levels b (point_at b n)))) reading
     )
 
--- the body of the scene is that of the state
-pub body_same : (x s : State) (p : ℕ) (k : Body) (b : Seq) → x ≡ s → Some k.proctype.now.body ≡ body_by x (slice_get x.stands p) → body_by s (slice_get s.stands p) ≡ Some b → b ≡ k.proctype.now.body
-body_same x s p k b e f h =
-    let g : Some k.proctype.now.body ≡ Some b = f ∙ (ap (λ (y : State). body_by y (slice_get y.stands p)) e ∙ h) in cc
+-- a process stands in one body
+pub body_same : (s : State) (p : ℕ) (k : Body) (b : Seq) → Some k.proctype.now.body ≡ body_by s (slice_get s.stands p) → body_by s (slice_get s.stands p) ≡ Some b → b ≡ k.proctype.now.body
+body_same s p k b f h = let g : Some k.proctype.now.body ≡ Some b = f ∙ h in cc
 
 -- ---- the loop
 

@@ -1,13 +1,12 @@
 -- Who holds exclusive control behind a step.
-use Rattle.std.proofs.Common.{◌≡◌, ℕ, Bool, true, false, List, Option, Some, None, Result, Ok, Err, slice_get, refl, sym, subst, ap}
+use Rattle.std.proofs.Common.{◌≡◌, ℕ, true, List, Some, Result, Ok, Err, refl, sym}
 use Rattle.diagnostics.specs.declared.fault.Fault.{Fault}
 use Rattle.promela_process.specs.Offers.{Offer}
 use Rattle.promela_run.specs.declared.goes.Goes.{Goes}
-use Rattle.promela_run.specs.declared.moves.Pick.{Pick}
-use Rattle.promela_run.specs.State.{State, reads, picked}
+use Rattle.promela_run.specs.State.{State, reads}
 use Rattle.promela_run.specs.Moves.{message}
 use Rattle.promela_process.specs.Expressions.{◌>>=◌}
-use Rattle.promela_run.specs.Steps.{went, Done, step, alone, paired, taken, body_by, passed, both_on}
+use Rattle.promela_run.specs.Steps.{went, Done, taken, passed, both_on}
 use Rattle.run_step.specs.Laws.{AtomicKeepsControl, ReceiversKeepControl}
 use Rattle.run_search.specs.Lifted.{moved}
 

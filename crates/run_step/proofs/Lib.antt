@@ -1,10 +1,5 @@
-pub mod Beginning
-pub mod Going
-pub mod Dying
-pub mod Holding
-pub mod Creating
 pub mod Passing
+pub mod Leading
 pub mod Inward
 pub mod Taking
 pub mod Keeping
-pub mod Counting

@@ -1,6 +1,6 @@
 -- Where processes go that take offers.
 use Rattle.std.proofs.Common.{◌≡◌, ℕ, zero, suc, ◌<◌, arith, Bool, List, [], ◌∷◌, ◌++◌, map, length, refl, sym, ap, ◌∙◌, subst, Option, Some, None, Result, Ok, Err}
-use Rattle.std.specs.Prelude.{slice_get, slice_set, slice_index_or, option_map, if◌then◌else◌}
+use Rattle.std.specs.Prelude.{slice_get, option_map, if◌then◌else◌}
 use Rattle.std.specs.Option.{option_copied}
 use Rattle.std.proofs.lemmas.Option.{slice_get-map}
 use Rattle.std.proofs.Math.Seq.{map-set_same}
@@ -13,19 +13,19 @@ use Rattle.pml_program.specs.declared.program.Seq.{Seq}
 use Rattle.pml_program.specs.declared.program.Program.{Program}
 use Rattle.promela_process.specs.Control.{Control}
 use Rattle.promela_process.specs.Offers.{Offer as Offered}
-use Rattle.pml_flow.specs.Points.{point_at}
 use Rattle.promela_process.specs.Expressions.{◌>>=◌}
 use Rattle.promela_run.specs.declared.goes.Goes.{Goes}
 use Rattle.promela_run.specs.declared.moves.Pick.{Pick}
 use Rattle.promela_run.specs.State.{Stand, State, body_of, reads, picked}
-use Rattle.run_search.specs.Scene.{control_at}
+use Rattle.run_state.specs.Standing.{control_at}
 use Rattle.promela_run.specs.Moves.{message}
-use Rattle.run_search.proofs.Searching.{got}
+use Rattle.run_state.proofs.Finding.{got}
 use Rattle.run_step.specs.declared.take.Offer.{Offer}
-use Rattle.promela_run.specs.Steps.{put_all, go_to, went, Done, quiet, taken, body_by, alone, passed, both_on, paired, moved_to}
+use Rattle.promela_run.specs.Steps.{go_to, went, Done, body_by, passed, both_on, paired, moved_to}
 use Rattle.run_search.specs.Lifted.{moved}
-use Rattle.run_step.specs.Calls.{put_any}
-use Rattle.run_step.specs.Live.{Does, Leads, Joins}
+use Rattle.run_step.specs.Passing.{put_any}
+use Rattle.run_step.specs.Done.{Does}
+use Rattle.run_state.specs.Live.{Leads, Joins}
 use Rattle.run_step.specs.Taking.{IsOffer}
 
 -- ---- where the bodies are

@@ -1,9 +1,6 @@
-pub mod Live
-pub mod Footprint
-pub mod Held
+pub mod Done
 pub mod Taking
 pub mod Arguments
 pub mod Passing
 pub mod Inside
 pub mod Laws
-pub mod Calls

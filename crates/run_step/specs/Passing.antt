@@ -1,10 +1,8 @@
 -- What is passed on by a rendezvous.
-use Rattle.std.specs.Prelude.{◌≡◌, ℤ, List, Option, Result, Ok, Err, IsOk}
-use Rattle.std.specs.List.{AllByRecursion}
+use Rattle.std.specs.Prelude.{◌≡◌, ℕ, ℤ, Bool, List, Option, Result, Ok, Err, IsOk}
 use Rattle.diagnostics.specs.declared.fault.Fault.{Fault}
 use Rattle.diagnostics.specs.declared.stop.Stop.{Stop}
 use Rattle.diagnostics.specs.declared.stop.Stop.TheVariants as stop
-use Rattle.promela_process.specs.Store.{Frame}
 use Rattle.pml_program.specs.declared.expr.Want.{Want}
 use Rattle.promela_process.specs.Expressions.{Reading, asked_by, ◌>>=◌}
 use Rattle.pml_program.specs.declared.program.Basic.{Basic}
@@ -12,12 +10,10 @@ use Rattle.promela_run.specs.declared.goes.Goes.{Goes}
 use Rattle.pml_value.specs.declared.view.View.{View}
 use Rattle.pml_value.specs.Seen.{seen}
 use Rattle.promela_run.specs.Statements.{stores}
-use Rattle.pml_value.specs.Takes.{IsIn}
 use Rattle.run_search.specs.Viewed.{message_in}
-use Rattle.promela_run.specs.Steps.{passed}
-
-abbrev pub AreIn : List Frame → List Goes → Type 0
-AreIn frames = AllByRecursion (IsIn frames)
+use Rattle.promela_run.specs.State.{State, reads}
+use Rattle.promela_run.specs.Moves.{message}
+use Rattle.promela_run.specs.Steps.{passed, put_all}
 
 -- what is stored of these fields by one who asks this of them
 abbrev pub taken_by : List Want → List ℤ → Reading → Result (List Goes) Fault
@@ -31,3 +27,11 @@ passed_between v x w y = passed (seen w) (message_in v x) y
 abbrev pub Refuses : {A : Type 0} → Result A Fault → Stop → Type 0
 Refuses r (stop.Fault f) = r ≡ Err f
 Refuses r stop.Memory = IsOk r
+
+-- numbers in their cells from left to right, or the fault
+abbrev pub put_any : State → Result (List Goes) Fault → Result State Fault
+put_any s r = r >>= λ gs. Ok (put_all s gs)
+
+-- it stores that
+abbrev pub passes : State → ℕ → ℕ → Bool → Option Basic → Option Basic → Result State Fault
+passes s i j t x y = put_any s (passed (reads s j t) (message s.channels (reads s i t) x) y)

@@ -12,7 +12,8 @@ use Rattle.promela_run.specs.declared.moves.Move.TheVariants.{Death, Alone, Pair
 use Rattle.promela_run.specs.State.{State, picked}
 use Rattle.run_step.specs.declared.take.Offer.{Offer}
 use Rattle.promela_run.specs.Steps.{body_by, within_from, taken}
-use Rattle.run_step.specs.Live.{Does, PastGrows}
+use Rattle.run_step.specs.Done.{Does}
+use Rattle.run_state.specs.Live.{PastGrows}
 use Rattle.promela_run.specs.World.{Running}
 
 -- It is what a pick names, in the body in which its process stands.

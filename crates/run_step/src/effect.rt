@@ -7,10 +7,10 @@ ghost use Rattle.pml_program.specs.declared.program.Action.TheVariants.{Printf, 
 ghost use Rattle.promela_run.specs.Statements.{asserted};
 ghost use Rattle.promela_run.specs.State.{reads};
 ghost use Rattle.promela_run.specs.Steps.{ran, run_number, run_into as runs_into, does as does_by, effect as effect_of};
-ghost use Rattle.run_step.specs.Live.{Leads, Does, Joins, PastGrows, Grows};
+ghost use Rattle.run_state.specs.Live.{Leads, Joins, PastGrows};
+ghost use Rattle.run_step.specs.Done.{Does, Grows};
 
 use crate::arguments::{goes_to, values_of};
-use crate::live::Live;
 use diagnostics::{Fault, Stop};
 use pml_eval::eval::eval;
 use pml_program::expr::{Expr, Target};
@@ -21,6 +21,7 @@ use pml_value::receive::Reception;
 use profile::MOST_PROCESSES;
 use run_printf::name_of_number;
 use run_printf::string::printed;
+use run_state::live::Live;
 use std::alloc::Global;
 
 /// Creates a process, unless too many live.

@@ -5,7 +5,6 @@
 pub mod arguments;
 pub mod effect;
 pub mod laws;
-pub mod live;
 pub mod pair;
 pub mod take;
 pub mod within;

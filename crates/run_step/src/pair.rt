@@ -1,28 +1,27 @@
 //! What the receiver of a rendezvous stores.
 
-ghost use Rattle.std.specs.Prelude.{◌≡◌, ◌∷◌, ◌++◌, [], drop, Ok, IfOk, IfErr, OnOk, OnErr};
+ghost use Rattle.std.specs.Prelude.{◌≡◌, ◌∷◌, ◌++◌, ◌<◌, [], drop, Ok, IfOk, IfErr, OnOk, length};
 ghost use Rattle.std.specs.Option.{option_copied};
 ghost use Rattle.promela_process.specs.Store.{size_at};
-ghost use Rattle.pml_store.specs.Writing.{before};
 ghost use Rattle.pml_eval.specs.There.{IsThere};
 ghost use Rattle.promela_process.specs.Expressions.{asked_by};
 ghost use Rattle.promela_run.specs.Statements.{goes_of, stores};
-ghost use Rattle.pml_value.specs.Storing.{stored_all, StoresSome};
 ghost use Rattle.pml_value.specs.Seen.{seen};
 ghost use Rattle.run_step.specs.Arguments.{Stops};
-ghost use Rattle.run_step.specs.Live.{StoresAll};
-ghost use Rattle.run_step.specs.Passing.{AreIn, Refuses, taken_by, passed_between};
+ghost use Rattle.run_state.specs.Live.{Keeps, Leads};
+ghost use Rattle.run_state.specs.Storing.{AreIn};
+ghost use Rattle.run_step.specs.Passing.{Refuses, taken_by, passed_between, passes};
 
 use diagnostics::Stop;
 use pml_eval::clip::clip;
 use pml_eval::eval::{first_fault, want};
 use pml_program::expr::Want;
 use pml_program::program::{Action, Basic};
-use pml_store::store::Store;
 use pml_value::view::View;
 use promela_process::sought::Sought;
 use promela_run::goes::Goes;
 use run_search::message::{Message, offered};
+use run_state::live::Live;
 use std::alloc::{AllocError, Global};
 
 /// Adds where a field goes, if it has a place.
@@ -84,7 +83,7 @@ fn taken_of(
 
 /// What the receiver of a rendezvous stores, or its fault, of a message as it is before anything is stored. Where the sender offers no
 /// message, or the other receives none, nothing is stored.
-pub fn numbers_passed(
+fn numbers_passed(
     alloc: Global,
     sender: View<'_>,
     sent: Option<&Basic<'_>>,
@@ -107,27 +106,27 @@ pub fn numbers_passed(
     taken_of(alloc, wants.as_slice(), &message, receiver)
 }
 
-/// Stores numbers from left to right. Want of memory leaves those that are stored by then.
-fn store_all(store: &mut Store, numbers: &[Goes]) -> Result<(), AllocError>
-    requires { AreIn store.old.frames numbers.now }
-    ensures ok { OnOk result (store.new ≡ stored_all store.old numbers.now) }
-    ensures err { OnErr result (StoresSome store.old store.new numbers.now) }
-    ensures past { before store.new ≡ before store.old }
+/// A process stores what another one sends it.
+#[inline(never)]
+pub fn pass(
+    live: &mut Live<'_, '_>,
+    sender: usize,
+    sent: Option<&Basic<'_>>,
+    receiver: usize,
+    received: Option<&Basic<'_>>,
+    timeout: bool,
+) -> Result<(), Stop>
+    requires sends { sender < length live.old.state.stands }
+    requires receives { receiver < length live.old.state.stands }
+    ensures value { Leads (passes live.old.state sender receiver timeout (option_copied sent.entry) (option_copied received.entry)) result
+        live.new.state }
+    ensures keeps { Keeps live.old live.new }
 {
-    for one in numbers {
-        store.set(one.place, one.number)?;
-    }
-    Ok(())
-}
-
-/// Stores what was passed on.
-pub fn store_passed(store: &mut Store, numbers: &[Goes]) -> Result<(), Stop>
-    requires { AreIn store.old.frames numbers.now }
-    ensures value { StoresAll (Ok numbers.now) result store.old store.new }
-    ensures past { before store.new ≡ before store.old }
-{
-    match store_all(store, numbers) {
-        Ok(()) => Ok(()),
-        Err(_) => Err(Stop::Memory),
+    let alloc = *live.variables().cells().allocator();
+    let sends = live.view(sender, timeout);
+    let receives = live.view(receiver, timeout);
+    match numbers_passed(alloc, sends, sent, &receives, received) {
+        Err(stop) => Err(stop),
+        Ok(numbers) => live.put_all(numbers.as_slice()),
     }
 }

@@ -5,18 +5,20 @@ ghost use Rattle.std.specs.Io.{StartsWith};
 ghost use Rattle.promela_run.specs.State.{picked as picks};
 ghost use Rattle.promela_run.specs.declared.moves.Move.TheVariants.{Alone, Pair};
 ghost use Rattle.profile.specs.declared.TheConstants.{MOST_DSTEP_STATEMENTS};
-ghost use Rattle.run_step.specs.Live.{Does, Joins, PastGrows, Grows};
+ghost use Rattle.run_step.specs.Done.{Does, Grows};
+ghost use Rattle.run_state.specs.Live.{Joins, PastGrows};
 ghost use Rattle.promela_run.specs.Steps.{step};
 ghost use Rattle.run_step.specs.Taking.{IsOffer, DoesWithin, DoesOffer, CanDie, PastBy};
 
 use crate::effect::effect;
-use crate::live::Live;
+use crate::pair::pass;
 use crate::within::within;
 use diagnostics::Stop;
 use pml_flow::edge::Edge;
 use pml_program::program::Basic;
 use promela_run::moves::{Move, Pick};
 use run_search::picked::picked;
+use run_state::live::Live;
 
 /// An offer: its edge, and its statement without its labels.
 #[derive(Drop)]
@@ -31,7 +33,7 @@ fn find_offer<'p, 'a>(live: &Live<'p, 'a>, pick: Pick) -> Option<Offer<'p, 'a>>
     ensures some { IfSome result (λ o. IsOffer live.now.state pick o) }
     ensures none { result ≡ None → picks live.now.state pick ≡ None }
 {
-    let offered = picked(&live.scene(), pick)?;
+    let offered = picked(live, pick)?;
     let edge = offered.edge;
     let basic = offered.body.basic(*edge);
     Some(Offer { edge, basic })
@@ -110,7 +112,8 @@ fn pass_on(
     ensures program { live.new.state.program ≡ live.old.state.program }
     ensures past { OnOk result (PastGrows live.old live.new) }
 {
-    live.pass(
+    pass(
+        live,
         sender.process,
         sent.basic,
         receiver.process,

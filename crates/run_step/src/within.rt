@@ -3,20 +3,22 @@
 ghost use Rattle.std.specs.Prelude.{◌≡◌, ◌<◌, Some, IfSome, OnOk, length, option_map, slice_get};
 ghost use Rattle.std.specs.Io.{StartsWith};
 ghost use Rattle.std.specs.Option.{option_copied};
-ghost use Rattle.run_search.specs.Scene.{IsBody};
+ghost use Rattle.run_state.specs.Standing.{IsBody};
 ghost use Rattle.profile.specs.declared.TheConstants.{MOST_DSTEP_STATEMENTS};
-ghost use Rattle.run_step.specs.Live.{Joins, PastGrows, Grows};
+ghost use Rattle.run_state.specs.Live.{Joins, PastGrows};
+ghost use Rattle.run_step.specs.Done.{Grows};
 ghost use Rattle.promela_run.specs.Steps.{body_by};
 ghost use Rattle.run_step.specs.Taking.{DoesWithin};
 ghost use Rattle.run_step.specs.Inside.{ChoosesAt, AdvancesAt};
 
 use crate::effect::effect;
-use crate::live::Live;
 use diagnostics::{Fault, Stop};
 use pml_program::program::Basic;
 use profile::MOST_DSTEP_STATEMENTS;
 use run_search::d_step::choice;
-use run_search::scene::{Body, Scene, seat_at};
+use run_state::body::Body;
+use run_state::live::Live;
+use run_state::seat::seat_at;
 
 /// What is taken inside a d_step, and where control is then.
 #[derive(Clone, Copy, Debug, PartialEq, Eq)]
@@ -36,12 +38,12 @@ struct Choice<'p, 'a> {
 }
 
 /// The body in which a process stands.
-fn body_in<'w, 'p, 'a>(scene: &Scene<'w, 'p, 'a>, process: usize) -> Option<Body<'w, 'p, 'a>>
-    ensures body { option_map (λ k. k.proctype.now.body) result ≡ body_by scene.now (slice_get scene.now.stands process) }
+fn body_in<'w, 'p, 'a>(live: &'w Live<'p, 'a>, process: usize) -> Option<Body<'w, 'p, 'a>>
+    ensures body { option_map (λ k. k.proctype.now.body) result ≡ body_by live.now.state (slice_get live.now.state.stands process) }
     ensures is { IfSome result IsBody }
 {
-    let seat = *seat_at(scene.seats(), process)?;
-    scene.body(seat.sort)
+    let seat = *seat_at(live.seats(), process)?;
+    live.body(seat.sort)
 }
 
 /// What is taken at a node inside a d_step.
@@ -54,7 +56,7 @@ fn chosen<'p, 'a>(
     requires { process < length live.now.state.stands }
     ensures { ChoosesAt live.now.state process timeout node result }
 {
-    let body = body_in(&live.scene(), process)?;
+    let body = body_in(live, process)?;
     let edge = choice(&live.view(process, timeout), live.is_lossy(), &body, node)?;
     Some(Choice {
         basic: body.basic(edge),

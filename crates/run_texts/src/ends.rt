@@ -5,7 +5,7 @@ ghost use Rattle.std.specs.Io.{StartsWith};
 ghost use Rattle.profile.specs.Characters.{line_feed};
 ghost use Rattle.pml_flow.specs.Points.{point_at};
 ghost use Rattle.promela_process.specs.Offers.{line_at};
-ghost use Rattle.run_search.specs.Scene.{stand_of};
+ghost use Rattle.run_state.specs.Standing.{stand_of};
 ghost use Rattle.promela_run.specs.World.{may_end as may_end_at, is_done as done_at, is_valid as ends_well, heading, line as line_text, stuck_at, stuck};
 ghost use Rattle.run_texts.specs.Staying.{stuck_by, stuck_in, stuck_place, stuck_of};
 ghost use Rattle.run_texts.specs.Charts.{HasGraph, told};
@@ -13,7 +13,8 @@ ghost use Rattle.run_texts.specs.Charts.{HasGraph, told};
 use crate::place::{add_heading, add_line, name_of};
 use pml_flow::graph::Graph;
 use pml_program::program::Proctype;
-use run_search::scene::{Scene, Seat, seat_at};
+use run_state::live::Live;
+use run_state::seat::{Seat, seat_at};
 use std::alloc::AllocError;
 
 /// A proctype and its graph.
@@ -24,11 +25,11 @@ struct Chart<'p, 'a> {
 }
 
 /// The proctype with this number, and its graph.
-fn chart_at<'p, 'a>(scene: &Scene<'_, 'p, 'a>, sort: usize) -> Option<Chart<'p, 'a>>
-    ensures proctype { option_map (λ k. k.proctype.now) result ≡ slice_get scene.now.program.proctypes sort }
+fn chart_at<'p, 'a>(live: &Live<'p, 'a>, sort: usize) -> Option<Chart<'p, 'a>>
+    ensures proctype { option_map (λ k. k.proctype.now) result ≡ slice_get live.now.state.program.proctypes sort }
     ensures graph { IfSome result HasGraph }
 {
-    let body = scene.body(sort)?;
+    let body = live.body(sort)?;
     Some(Chart {
         proctype: body.proctype,
         graph: body.graph,
@@ -96,22 +97,22 @@ impl<'p, 'a> Chart<'p, 'a> {
 }
 
 /// Whether a process may end where it stands.
-fn is_done(scene: &Scene<'_, '_, '_>, seat: Seat) -> bool
-    ensures { result ≡ done_at scene.now.program (stand_of scene.now.program seat) }
+fn is_done(live: &Live<'_, '_>, seat: Seat) -> bool
+    ensures { result ≡ done_at live.now.state.program (stand_of live.now.state.program seat) }
 {
-    match chart_at(scene, seat.sort) {
+    match chart_at(live, seat.sort) {
         Some(chart) => chart.may_end(seat.node),
         None => true,
     }
 }
 
 /// Whether a run that ends here ends well.
-pub fn is_valid(scene: &Scene<'_, '_, '_>) -> bool
-    ensures { result ≡ ends_well scene.now }
+pub fn is_valid(live: &Live<'_, '_>) -> bool
+    ensures { result ≡ ends_well live.now.state }
 {
-    let seats = scene.seats();
+    let seats = live.seats();
     for seat in seats {
-        if !is_done(scene, *seat) {
+        if !is_done(live, *seat) {
             return false;
         }
     }
@@ -120,48 +121,48 @@ pub fn is_valid(scene: &Scene<'_, '_, '_>) -> bool
 
 /// Appends where a process stands, if it may not end there.
 fn add_stuck_at(
-    scene: &Scene<'_, '_, '_>,
+    live: &Live<'_, '_>,
     process: usize,
     seat: Seat,
     text: &mut Vec<u8>,
 ) -> Result<(), AllocError>
-    ensures added { OnOk result (text.new.items ≡ text.old.items ++ stuck_by scene.now.program process (stand_of scene.now.program seat)) }
+    ensures added { OnOk result (text.new.items ≡ text.old.items ++ stuck_by live.now.state.program process (stand_of live.now.state.program seat)) }
     ensures kept { OnErr result (StartsWith text.new.items text.old.items) }
 {
-    match chart_at(scene, seat.sort) {
+    match chart_at(live, seat.sort) {
         Some(chart) => chart.add_stuck(process, seat.node, text),
         None => Ok(()),
     }
 }
 
 /// Appends, for each process that may not end where it stands, a line that says where: `at: proc P (NAME) line L`.
-pub fn add_stuck(scene: &Scene<'_, '_, '_>, text: &mut Vec<u8>) -> Result<(), AllocError>
-    ensures added { OnOk result (text.new.items ≡ text.old.items ++ stuck scene.now) }
+pub fn add_stuck(live: &Live<'_, '_>, text: &mut Vec<u8>) -> Result<(), AllocError>
+    ensures added { OnOk result (text.new.items ≡ text.old.items ++ stuck live.now.state) }
     ensures kept { OnErr result (StartsWith text.new.items text.old.items) }
 {
-    let seats = scene.seats();
+    let seats = live.seats();
     for process in 0..seats.len() {
-        add_stuck_at(scene, process, seats[process], text)?;
+        add_stuck_at(live, process, seats[process], text)?;
     }
     Ok(())
 }
 
 /// The name and the line of a process that may not end where it stands.
-fn stuck_at_seat<'p>(scene: &Scene<'_, 'p, '_>, seat: Seat) -> Option<(&'p [u8], u32)>
-    ensures { option_map told result ≡ stuck_place scene.now.program (Some (stand_of scene.now.program seat)) }
+fn stuck_at_seat<'p>(live: &Live<'p, '_>, seat: Seat) -> Option<(&'p [u8], u32)>
+    ensures { option_map told result ≡ stuck_place live.now.state.program (Some (stand_of live.now.state.program seat)) }
 {
-    match chart_at(scene, seat.sort) {
+    match chart_at(live, seat.sort) {
         Some(chart) => chart.stuck(seat.node),
         None => None,
     }
 }
 
 /// The name and the line of the process with this number, where it lives and may not end where it stands. It takes no memory.
-pub fn stuck<'p>(scene: &Scene<'_, 'p, '_>, process: usize) -> Option<(&'p [u8], u32)>
-    ensures { option_map told result ≡ stuck_of scene.now process }
+pub fn stuck<'p>(live: &Live<'p, '_>, process: usize) -> Option<(&'p [u8], u32)>
+    ensures { option_map told result ≡ stuck_of live.now.state process }
 {
-    match seat_at(scene.seats(), process) {
-        Some(seat) => stuck_at_seat(scene, *seat),
+    match seat_at(live.seats(), process) {
+        Some(seat) => stuck_at_seat(live, *seat),
         None => None,
     }
 }

@@ -12,15 +12,16 @@ use crate::place::{add_heading, add_line};
 use pml_program::program::Proctype;
 use promela_run::moves::{Move, Pick};
 use run_search::picked::picked;
-use run_search::played::proctype_at;
-use run_search::scene::{Scene, seat_at};
+use run_state::live::Live;
+use run_state::played::proctype_at;
+use run_state::seat::seat_at;
 use std::alloc::AllocError;
 
 /// The proctype of a process.
-fn proctype_of<'p, 'a>(scene: &Scene<'_, 'p, 'a>, process: usize) -> Option<&'p Proctype<'a>>
-    ensures { option_copied result ≡ proctype_in scene.now process }
+fn proctype_of<'p, 'a>(live: &Live<'p, 'a>, process: usize) -> Option<&'p Proctype<'a>>
+    ensures { option_copied result ≡ proctype_in live.now.state process }
 {
-    proctype_at(scene.program(), seat_at(scene.seats(), process)?.sort)
+    proctype_at(live.program(), seat_at(live.seats(), process)?.sort)
 }
 
 /// Appends `proc P (NAME) line L [-end-]`, where L is the line of the closing brace.
@@ -41,14 +42,14 @@ fn add_death(
 }
 
 /// Appends the text of the offer that a pick names.
-fn add_pick(scene: &Scene<'_, '_, '_>, pick: Pick, text: &mut Vec<u8>) -> Result<(), AllocError>
-    ensures added { OnOk result (text.new.items ≡ text.old.items ++ pick_text scene.now pick) }
+fn add_pick(live: &Live<'_, '_>, pick: Pick, text: &mut Vec<u8>) -> Result<(), AllocError>
+    ensures added { OnOk result (text.new.items ≡ text.old.items ++ pick_text live.now.state pick) }
     ensures kept { OnErr result (StartsWith text.new.items text.old.items) }
 {
-    let Some(proctype) = proctype_of(scene, pick.process) else {
+    let Some(proctype) = proctype_of(live, pick.process) else {
         return Ok(());
     };
-    let Some(offer) = picked(scene, pick) else {
+    let Some(offer) = picked(live, pick) else {
         return Ok(());
     };
     add_heading(pick.process, proctype, text)?;
@@ -57,26 +58,26 @@ fn add_pick(scene: &Scene<'_, '_, '_>, pick: Pick, text: &mut Vec<u8>) -> Result
 
 /// Appends the text of a move.
 #[tactic(auto, using(crate::proofs::Keeping::kept_behind))]
-pub fn add_move(scene: &Scene<'_, '_, '_>, m: Move, text: &mut Vec<u8>) -> Result<(), AllocError>
-    ensures added { OnOk result (text.new.items ≡ text.old.items ++ move_text scene.now m) }
+pub fn add_move(live: &Live<'_, '_>, m: Move, text: &mut Vec<u8>) -> Result<(), AllocError>
+    ensures added { OnOk result (text.new.items ≡ text.old.items ++ move_text live.now.state m) }
     ensures kept { OnErr result (StartsWith text.new.items text.old.items) }
 {
     match m {
-        Move::Death(process) => add_death(process, proctype_of(scene, process), text),
-        Move::Alone(pick, _) => add_pick(scene, pick, text),
+        Move::Death(process) => add_death(process, proctype_of(live, process), text),
+        Move::Alone(pick, _) => add_pick(live, pick, text),
         Move::Pair(sender, receiver, _) => {
-            add_pick(scene, sender, text)?;
+            add_pick(live, sender, text)?;
             text.extend_from_slice(b" -> ")?;
-            add_pick(scene, receiver, text)
+            add_pick(live, receiver, text)
         }
     }
 }
 
 /// The line in the text of the offer that a pick names.
-fn pick_line(scene: &Scene<'_, '_, '_>, pick: Pick) -> u32
-    ensures { result ≡ line_in (picks scene.now pick) }
+fn pick_line(live: &Live<'_, '_>, pick: Pick) -> u32
+    ensures { result ≡ line_in (picks live.now.state pick) }
 {
-    match picked(scene, pick) {
+    match picked(live, pick) {
         Some(offer) => offer.body.graph.offer_line(offer.edge.statement),
         None => 0,
     }
@@ -93,24 +94,24 @@ fn brace_of(proctype: Option<&Proctype<'_>>) -> u32
 }
 
 /// The number of a process that lives: there are few.
-fn number_of(scene: &Scene<'_, '_, '_>, process: usize) -> u32
-    requires { process < length scene.now.stands }
+fn number_of(live: &Live<'_, '_>, process: usize) -> u32
+    requires { process < length live.now.state.stands }
     ensures { result ≡ process }
 {
-    process.min(scene.process_count()) as u32
+    process.min(live.process_count()) as u32
 }
 
 /// The process and the line of a move, as its text has them: of a rendezvous the sender's, of a death the line of the closing brace.
-pub fn origin(scene: &Scene<'_, '_, '_>, m: Move) -> (u32, u32)
-    requires lives { IsWithin (length scene.now.stands) m }
-    ensures { result ≡ origin_of scene.now m }
+pub fn origin(live: &Live<'_, '_>, m: Move) -> (u32, u32)
+    requires lives { IsWithin (length live.now.state.stands) m }
+    ensures { result ≡ origin_of live.now.state m }
 {
     match m {
         Move::Death(process) => (
-            number_of(scene, process),
-            brace_of(proctype_of(scene, process)),
+            number_of(live, process),
+            brace_of(proctype_of(live, process)),
         ),
-        Move::Alone(pick, _) => (number_of(scene, pick.process), pick_line(scene, pick)),
-        Move::Pair(sender, _, _) => (number_of(scene, sender.process), pick_line(scene, sender)),
+        Move::Alone(pick, _) => (number_of(live, pick.process), pick_line(live, pick)),
+        Move::Pair(sender, _, _) => (number_of(live, sender.process), pick_line(live, sender)),
     }
 }

@@ -26,7 +26,7 @@ fn channel_in(channels: &[LiveChannel], number: usize) -> Option<&Channel>
 pub fn channel_at<'w>(picture: &Picture<'w, '_, '_>, number: usize) -> Option<&'w Channel>
     ensures { option_copied result ≡ channel_at picture.now.channels (pos number) }
 {
-    channel_in(picture.scene().channels(), number)
+    channel_in(picture.live().channels(), number)
 }
 
 // Writes whose a cell is: `P[2].` of a process.

@@ -112,7 +112,7 @@ pub fn made_for(picture: &Picture<'_, '_, '_>, number: usize) -> Option<Place> {
     if number == 0 {
         return None;
     }
-    let channels = picture.scene().channels();
+    let channels = picture.live().channels();
     let frame = frame_of(channels, number - 1)?;
     nth_made(picture, frame, older(channels, frame, number - 1))
 }

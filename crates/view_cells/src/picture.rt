@@ -1,4 +1,4 @@
-//! A state of a model, lent, with the tables of its variables.
+//! A state of a model, lent.
 
 ghost use Rattle.std.specs.Prelude.{◌≡◌, ◌≤◌, length};
 ghost use Rattle.profile.specs.declared.TheConstants.{MOST_PROCESSES};
@@ -6,19 +6,17 @@ ghost use Rattle.profile.specs.declared.TheConstants.{MOST_PROCESSES};
 use pml_program::program::Program;
 use pml_store::store::Store;
 use run_layout::tables::Tables;
-use run_search::scene::Scene;
+use run_state::live::Live;
 use std::marker::Model;
 
-/// A state of a model, with the tables of the model and the numbers of its variables, lent. Contracts see the state.
+/// A state of a model, lent. Contracts see the state.
 #[derive(Drop)]
 pub struct Picture<'w, 'p, 'a> {
-    scene: Scene<'w, 'p, 'a>,
-    tables: &'w Tables<'p, 'a>,
-    variables: &'w Store,
+    live: &'w Live<'p, 'a>,
 }
 
 impl<'w, 'p, 'a> Model for Picture<'w, 'p, 'a> {
-    ghost use Rattle.std.specs.Prelude.{◌≡◌, []};
+    ghost use Rattle.std.specs.Prelude.{[]};
     ghost use Rattle.std.specs.Coded.{codes};
     ghost use mir.Syntax.{named};
     ghost use Rattle.pml_program.specs.contracts.expr.Expr as worth;
@@ -30,55 +28,43 @@ impl<'w, 'p, 'a> Model for Picture<'w, 'p, 'a> {
 
     ghost coded = { Prim.hlevel (codes, worth.the_row.coded, (seq.the_row (record { mir = named 0; lft = [] })).coded, (basic.the_row (record { mir = named 0; lft = [] })).coded) };
 
-    ghost view = { λ p. p.scene };
-
-    ghost invariant = { λ p. (p.tables.now ≡ p.scene.program) × (p.variables.now.frames ≡ p.scene.frames) };
+    ghost view = { λ p. p.live.now.state };
 }
 
 impl<'w, 'p, 'a> Picture<'w, 'p, 'a> {
-    /// A state, with the tables of its model and its variables.
-    pub fn new(
-        scene: Scene<'w, 'p, 'a>,
-        tables: &'w Tables<'p, 'a>,
-        variables: &'w Store,
-    ) -> Picture<'w, 'p, 'a>
-        requires tables { tables.now ≡ scene.program }
-        requires variables { variables.now.frames ≡ scene.frames }
-        ensures { result ≡ scene.entry }
+    /// A state.
+    pub fn new(live: &'w Live<'p, 'a>) -> Picture<'w, 'p, 'a>
+        ensures { result ≡ live.now.state }
     {
-        Picture {
-            scene,
-            tables,
-            variables,
-        }
+        Picture { live }
     }
 
-    /// The state.
-    pub fn scene(&self) -> &Scene<'w, 'p, 'a>
-        ensures { result.now ≡ self.now }
+    /// What lives in it.
+    pub fn live(&self) -> &'w Live<'p, 'a>
+        ensures { result.now.state ≡ self.now }
     {
-        &self.scene
+        self.live
     }
 
     /// The tables of the model.
     pub fn tables(&self) -> &'w Tables<'p, 'a>
         ensures { result.now ≡ self.now.program }
     {
-        self.tables
+        self.live.tables()
     }
 
     /// The variables.
     pub fn variables(&self) -> &'w Store
         ensures { result.now.frames ≡ self.now.frames }
     {
-        self.variables
+        self.live.variables()
     }
 
     /// The model.
     pub fn program(&self) -> &'p Program<'a>
         ensures { result.now ≡ self.now.program }
     {
-        self.scene.program()
+        self.live.program()
     }
 
     /// How many processes live.
@@ -86,20 +72,20 @@ impl<'w, 'p, 'a> Picture<'w, 'p, 'a> {
         ensures value { result ≡ length self.now.stands }
         ensures few { result ≤ MOST_PROCESSES }
     {
-        self.scene.process_count()
+        self.live.process_count()
     }
 
     /// The process that has exclusive control.
     pub fn holder(&self) -> Option<usize>
         ensures { result ≡ self.now.holder }
     {
-        self.scene.holder()
+        self.live.holder()
     }
 
     /// How many channels live.
     pub fn channel_count(&self) -> usize
         ensures { result ≡ length self.now.channels }
     {
-        self.scene.channels().len()
+        self.live.channels().len()
     }
 }

@@ -5,14 +5,16 @@ ghost use Rattle.std.specs.Option.{option_copied};
 ghost use Rattle.std.specs.Fmt.{decimal};
 ghost use Rattle.pml_flow.specs.Points.{point_at};
 ghost use Rattle.promela_process.specs.Offers.{line_at};
-ghost use Rattle.run_search.specs.Scene.{IsBody, stand_of};
+ghost use Rattle.run_state.specs.Standing.{IsBody, stand_of};
 ghost use Rattle.promela_run.specs.World.{proctype_of as proctype_in};
 ghost use Rattle.view_text.specs.Written.{Adds};
 ghost use Rattle.view_cells.specs.Processes.{name_of, line_by, line_of};
 
 use crate::picture::Picture;
 use pml_program::program::{Proctype, Program};
-use run_search::scene::{Body, Scene, Seat, seat_at};
+use run_state::body::Body;
+use run_state::live::Live;
+use run_state::seat::{Seat, seat_at};
 use run_values::change::proctype_name;
 use view_text::writer::Writer;
 
@@ -22,10 +24,10 @@ fn proctype_at<'p, 'a>(program: &'p Program<'a>, kind: usize) -> Option<&'p Proc
     program.proctypes.as_slice().get(kind)
 }
 
-fn proctype_in<'p, 'a>(scene: &Scene<'_, 'p, 'a>, process: usize) -> Option<&'p Proctype<'a>>
-    ensures { option_copied result ≡ proctype_in scene.now process }
+fn proctype_in<'p, 'a>(live: &Live<'p, 'a>, process: usize) -> Option<&'p Proctype<'a>>
+    ensures { option_copied result ≡ proctype_in live.now.state process }
 {
-    proctype_at(scene.program(), seat_at(scene.seats(), process)?.sort)
+    proctype_at(live.program(), seat_at(live.seats(), process)?.sort)
 }
 
 /// The proctype of a process.
@@ -35,7 +37,7 @@ pub fn proctype_of<'p, 'a>(
 ) -> Option<&'p Proctype<'a>>
     ensures { option_copied result ≡ proctype_in picture.now process }
 {
-    proctype_in(picture.scene(), process)
+    proctype_in(picture.live(), process)
 }
 
 /// Writes the name of a process's proctype, or `:init:`.
@@ -73,20 +75,20 @@ fn line_in(body: &Body<'_, '_, '_>, node: usize) -> u32
 }
 
 // The line of what stands first at a seat.
-fn line_at_seat(scene: &Scene<'_, '_, '_>, seat: Seat) -> u32
-    ensures { result ≡ line_by scene.now.program (Some (stand_of scene.now.program seat)) }
+fn line_at_seat(live: &Live<'_, '_>, seat: Seat) -> u32
+    ensures { result ≡ line_by live.now.state.program (Some (stand_of live.now.state.program seat)) }
 {
-    match scene.body(seat.sort) {
+    match live.body(seat.sort) {
         Some(body) => line_in(&body, seat.node),
         None => 0,
     }
 }
 
-fn line_in_scene(scene: &Scene<'_, '_, '_>, process: usize) -> u32
-    ensures { result ≡ line_of scene.now process }
+fn line_in_live(live: &Live<'_, '_>, process: usize) -> u32
+    ensures { result ≡ line_of live.now.state process }
 {
-    match seat_at(scene.seats(), process) {
-        Some(seat) => line_at_seat(scene, *seat),
+    match seat_at(live.seats(), process) {
+        Some(seat) => line_at_seat(live, *seat),
         None => 0,
     }
 }
@@ -95,15 +97,15 @@ fn line_in_scene(scene: &Scene<'_, '_, '_>, process: usize) -> u32
 pub fn line_of(picture: &Picture<'_, '_, '_>, process: usize) -> u32
     ensures { result ≡ line_of picture.now process }
 {
-    line_in_scene(picture.scene(), process)
+    line_in_live(picture.live(), process)
 }
 
-fn is_closed(scene: &Scene<'_, '_, '_>, seat: Seat) -> bool {
-    scene.standing(seat).is_none()
+fn is_closed(live: &Live<'_, '_>, seat: Seat) -> bool {
+    live.standing(seat).is_none()
 }
 
-fn has_line(scene: &Scene<'_, '_, '_>, kind: usize, line: u32) -> bool {
-    let Some(body) = scene.body(kind) else {
+fn has_line(live: &Live<'_, '_>, kind: usize, line: u32) -> bool {
+    let Some(body) = live.body(kind) else {
         return false;
     };
     for node in 0..body.graph.node_count() {
@@ -117,7 +119,7 @@ fn has_line(scene: &Scene<'_, '_, '_>, kind: usize, line: u32) -> bool {
 /// Whether some process can stand at a line: before a statement that begins there, or at its closing brace.
 pub fn is_standing_line(picture: &Picture<'_, '_, '_>, line: u32) -> bool {
     for kind in 0..picture.program().proctypes.len() {
-        if has_line(picture.scene(), kind, line) {
+        if has_line(picture.live(), kind, line) {
             return true;
         }
     }
@@ -126,8 +128,8 @@ pub fn is_standing_line(picture: &Picture<'_, '_, '_>, line: u32) -> bool {
 
 /// Whether nothing is left to do in a process.
 pub fn is_at_brace(picture: &Picture<'_, '_, '_>, process: usize) -> bool {
-    match seat_at(picture.scene().seats(), process) {
-        Some(seat) => is_closed(picture.scene(), *seat),
+    match seat_at(picture.live().seats(), process) {
+        Some(seat) => is_closed(picture.live(), *seat),
         None => true,
     }
 }

@@ -54,7 +54,7 @@ fn move_text(picture: &Picture<'_, '_, '_>, json: &mut Json, m: Move)
 {
     let mut line = Writer::new(json.allocator());
     let mut bytes = line.take();
-    let answer = add_move(picture.scene(), m, &mut bytes);
+    let answer = add_move(picture.live(), m, &mut bytes);
     line.put(bytes, answer);
     whole(json, &line);
 }
@@ -221,7 +221,7 @@ fn stuck_place(json: &mut Json, process: usize, name: &[u8], line: u32)
 fn stuck(picture: &Picture<'_, '_, '_>, json: &mut Json, process: usize)
     ensures { Writes json.old json.new (stuck picture.now process) }
 {
-    if let Some((name, line)) = pml_stuck(picture.scene(), process) {
+    if let Some((name, line)) = pml_stuck(picture.live(), process) {
         stuck_place(json, process, name, line);
     }
 }

@@ -5,7 +5,7 @@ use pml_value::view::View;
 use promela_run::moves::Pick;
 use run_search::executable::named;
 use run_search::picked::picked;
-use run_search::scene::Scene;
+use run_state::live::Live;
 use view_cells::picture::Picture;
 use view_waits::waits::Wait;
 
@@ -34,12 +34,12 @@ fn of_basic(view: &View<'_>, basic: Option<&Basic<'_>>) -> Option<usize> {
     }
 }
 
-fn of_pick(scene: &Scene<'_, '_, '_>, pick: Pick, timeout: bool) -> Option<usize> {
-    if pick.process >= scene.process_count() {
+fn of_pick(live: &Live<'_, '_>, pick: Pick, timeout: bool) -> Option<usize> {
+    if pick.process >= live.process_count() {
         return None;
     }
-    let view = scene.view(pick.process, timeout);
-    match picked(scene, pick) {
+    let view = live.view(pick.process, timeout);
+    match picked(live, pick) {
         Some(offer) => of_basic(&view, offer.body.basic(*offer.edge)),
         None => None,
     }
@@ -48,7 +48,7 @@ fn of_pick(scene: &Scene<'_, '_, '_>, pick: Pick, timeout: bool) -> Option<usize
 /// The number of the channel that a process waits at to send or to receive.
 pub fn channel_of(picture: &Picture<'_, '_, '_>, wait: &Wait) -> Option<usize> {
     match wait.pick {
-        Some(pick) => of_pick(picture.scene(), pick, wait.timeout),
+        Some(pick) => of_pick(picture.live(), pick, wait.timeout),
         None => None,
     }
 }

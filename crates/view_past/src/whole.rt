@@ -1,7 +1,7 @@
 //! A whole state as a text: two states of one model are the same where their texts are.
 
 use promela_run::live_channel::LiveChannel;
-use run_search::scene::Scene;
+use run_state::live::Live;
 use view_cells::picture::Picture;
 use view_text::writer::Writer;
 
@@ -18,12 +18,12 @@ fn add_numbers(numbers: &[i32], out: &mut Writer) {
 }
 
 // Who has exclusive control, and where each process stands.
-fn add_processes(scene: &Scene<'_, '_, '_>, out: &mut Writer) {
-    match scene.holder() {
+fn add_processes(live: &Live<'_, '_>, out: &mut Writer) {
+    match live.holder() {
         Some(holder) => add_number(holder, out),
         None => out.add(b"- "),
     }
-    for seat in scene.seats() {
+    for seat in live.seats() {
         add_number(seat.sort, out);
         add_number(seat.node, out);
     }
@@ -40,9 +40,9 @@ fn add_channel(live: &LiveChannel, out: &mut Writer) {
 
 /// Writes a whole state.
 pub fn add_whole(picture: &Picture<'_, '_, '_>, out: &mut Writer) {
-    add_processes(picture.scene(), out);
+    add_processes(picture.live(), out);
     out.add(b"; ");
-    for live in picture.scene().channels() {
+    for live in picture.live().channels() {
         add_channel(live, out);
     }
     out.add(b"; ");

@@ -9,5 +9,5 @@ use view_cells::picture::Picture;
 pub fn picture_of<'w, 'p, 'a>(world: &'w World<'p, 'a>) -> Picture<'w, 'p, 'a>
     ensures { result ≡ world.now.state }
 {
-    Picture::new(world.scene(), world.tables(), world.variables())
+    Picture::new(world.live())
 }

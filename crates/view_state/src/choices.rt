@@ -40,7 +40,7 @@ fn add_effect(picture: &Picture<'_, '_, '_>, transfer: &Transfer, out: &mut Writ
 /// Writes the text of a move.
 pub fn add_move(picture: &Picture<'_, '_, '_>, m: &Move, out: &mut Writer) {
     let mut text = out.take();
-    let answer = move_text(picture.scene(), *m, &mut text);
+    let answer = move_text(picture.live(), *m, &mut text);
     out.put(text, answer);
 }
 
@@ -141,7 +141,7 @@ pub fn add_choices(
 
 // Writes where a process is stuck, if it is.
 fn add_stuck(picture: &Picture<'_, '_, '_>, process: usize, out: &mut Writer) {
-    if let Some((name, line)) = stuck(picture.scene(), process) {
+    if let Some((name, line)) = stuck(picture.live(), process) {
         out.add(b"at: proc ");
         out.number(process);
         out.add(b" (");
@@ -166,7 +166,7 @@ pub fn add_ending(picture: &Picture<'_, '_, '_>, steps: usize, out: &mut Writer)
 
 /// Whether a run that ends here ends well, as a word.
 pub fn ending_of(picture: &Picture<'_, '_, '_>) -> &'static str {
-    if is_valid(picture.scene()) {
+    if is_valid(picture.live()) {
         "valid"
     } else {
         "invalid"

@@ -10,13 +10,13 @@ use Rattle.pml_flow.specs.Points.{point_at}
 use Rattle.promela_process.specs.Expressions.{Reading}
 use Rattle.promela_run.specs.declared.live_channel.LiveChannel.{LiveChannel}
 use Rattle.promela_run.specs.declared.moves.Move.{Move}
-use Rattle.run_search.specs.declared.scene.Seat.{Seat}
-use Rattle.run_search.specs.declared.scene.Body.{Body}
-use Rattle.run_search.specs.Scene.{stand_of, control_at, shows, edges_at, offers_at, StandsIn}
+use Rattle.run_state.specs.declared.seat.Seat.{Seat}
+use Rattle.run_state.specs.declared.body.Body.{Body}
+use Rattle.run_state.specs.Standing.{stand_of, control_at, shows, edges_at, offers_at, StandsIn}
 use Rattle.promela_run.specs.Moves.{each, moves}
 use Rattle.promela_run.specs.State.{Stand, State, reads, body_of, levels}
-use Rattle.run_search.proofs.Placing.{at_node, level_is}
-use Rattle.run_search.proofs.Searching.{opens, past}
+use Rattle.run_state.proofs.Placing.{at_node, level_is}
+use Rattle.run_state.proofs.Finding.{opens, past}
 use Rattle.view_waits.specs.declared.waits.Wait.{Wait}
 use Rattle.view_waits.specs.Searched.{control_by}
 use Rattle.view_waits.specs.Waits.{is_in, in_control, waits_on, waits_down, waits_left, waits_at, waits_behind, waits}

@@ -10,8 +10,8 @@ use Rattle.promela_process.specs.Control.{Descent, Position, Control, Todo, Back
 use Rattle.promela_process.specs.Offers.{Edge, Levels, one, join, begins, begins_seq, begins_row, begins_any, escapes, offers, Offer, offer_of}
 use Rattle.pml_flow.specs.Points.{points_in, points_arm, points_row, points_options, point_at}
 use Rattle.promela_run.specs.State.{picked, Stand, State, body_of, levels, levels_in}
-use Rattle.run_search.specs.declared.scene.Seat.{Seat}
-use Rattle.run_search.specs.Scene.{control_at, stand_of}
+use Rattle.run_state.specs.declared.seat.Seat.{Seat}
+use Rattle.run_state.specs.Standing.{control_at, stand_of}
 use Rattle.promela_run.specs.Moves.{pick, moves}
 use Rattle.run_search.specs.Lifted.{offer_at, offer_on}
 use Rattle.view_waits.specs.Filled.{KeptStatesStandAtNodes, IsFilled, HasSteps, SomeSteps, EachStep, HasOptions, EachOption, IsFilledBody, HasFilledBodies, StandAtNodes}
@@ -194,7 +194,7 @@ module _ (s : State) (filled : HasFilledBodies s.program) (at_nodes : StandAtNod
 -- ---- the states that are kept of a run
 
 pub kept_stand : KeptStatesStandAtNodes
-kept_stand pr c p y at = by c.seats.items p at
+kept_stand pr store cs xs holder lossy p y at = by xs p at
   where
     by : (xs : List Seat) (q : ℕ) → slice_get (map (stand_of pr) xs) q ≡ Some y → (n : ℕ) × (y.control ≡ control_at (body_of pr y.sort) n)
     by [] q h = absurd (none-some y h)

@@ -4,9 +4,9 @@ use Rattle.pml_flow.specs.declared.edge.Edge.{Edge}
 use Rattle.pml_value.specs.declared.view.View.{View}
 use Rattle.pml_value.specs.Seen.{seen}
 use Rattle.promela_run.specs.declared.moves.Pick.{Pick}
-use Rattle.run_search.specs.declared.scene.Body.{Body}
-use Rattle.run_search.specs.declared.scene.Seat.{Seat}
-use Rattle.run_search.specs.Scene.{stand_of, shows, offers_at}
+use Rattle.run_state.specs.declared.body.Body.{Body}
+use Rattle.run_state.specs.declared.seat.Seat.{Seat}
+use Rattle.run_state.specs.Standing.{stand_of, shows, offers_at}
 use Rattle.promela_run.specs.State.{State}
 use Rattle.view_waits.specs.declared.because.Because.{Because}
 use Rattle.view_waits.specs.declared.waits.Wait.{Wait}

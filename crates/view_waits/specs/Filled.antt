@@ -1,10 +1,13 @@
 -- Bodies in which something can be done wherever something is left.
-use Rattle.std.specs.Prelude.{◌≡◌, ◌<◌, ℕ, true, length, [], Some, slice_get, IfSome}
+use Rattle.std.specs.Prelude.{◌≡◌, ◌<◌, ℕ, Bool, true, List, length, [], Option, Some, slice_get, IfSome}
 use Rattle.pml_program.specs.declared.program.Seq.{Seq, Seq', Row_of-Stmt, end_of-Stmt, more_of-Stmt}
 use Rattle.pml_program.specs.declared.program.Basic.{Basic, Plain, Goto, Break, If', Do', Block, Atomic, DStep, Unless, Row_of-Seq, end_of-Seq, more_of-Seq}
 use Rattle.pml_program.specs.declared.program.Program.{Program}
-use Rattle.run_search.specs.declared.state.State.{State as Kept}
-use Rattle.run_search.specs.Scene.{control_at, state_of}
+use Rattle.pml_store.specs.Writing.{Contents}
+use Rattle.promela_run.specs.declared.live_channel.LiveChannel.{LiveChannel}
+use Rattle.run_state.specs.declared.seat.Seat.{Seat}
+use Rattle.run_state.specs.Held.{live_of}
+use Rattle.run_state.specs.Standing.{control_at}
 use Rattle.promela_run.specs.Moves.{moves}
 use Rattle.promela_run.specs.State.{Stand, State, body_of}
 use Rattle.view_waits.specs.Waits.{is_in, waits}
@@ -56,7 +59,8 @@ StandAtNodes s = (p : ℕ) (y : Stand) → slice_get s.stands p ≡ Some y → (
 
 -- so do those of each state that is kept of a run
 abbrev pub KeptStatesStandAtNodes : Type 0
-KeptStatesStandAtNodes = (pr : Program) (c : Kept) → StandAtNodes (state_of pr c)
+KeptStatesStandAtNodes = (pr : Program) (store : Contents) (cs : List LiveChannel) (xs : List Seat) (holder : Option ℕ) (lossy : Bool)
+    → StandAtNodes (live_of pr store cs xs holder lossy).state
 
 -- In a model of filled bodies a process waits for nothing exactly where it takes part in a move.
 abbrev pub WaitsExactlyWithoutMoves : Type 0

@@ -6,7 +6,7 @@ ghost use Rattle.view_waits.specs.Offers.{behind, bare, offered_line, offered_te
 
 use promela_run::moves::Pick;
 use run_search::picked::picked;
-use run_search::scene::Scene;
+use run_state::live::Live;
 use view_cells::picture::Picture;
 use view_text::writer::Writer;
 
@@ -33,19 +33,19 @@ fn bare(text: &[u8]) -> &[u8]
     &rest[..rest.len() - 1]
 }
 
-fn line_in_scene(scene: &Scene<'_, '_, '_>, pick: Pick) -> u32
-    ensures { result ≡ offered_line scene.now pick }
+fn line_in_live(live: &Live<'_, '_>, pick: Pick) -> u32
+    ensures { result ≡ offered_line live.now.state pick }
 {
-    match picked(scene, pick) {
+    match picked(live, pick) {
         Some(offer) => offer.body.graph.offer_line(offer.edge.statement),
         None => 0,
     }
 }
 
-fn text_in_scene<'p>(scene: &Scene<'_, 'p, '_>, pick: Pick) -> &'p [u8]
-    ensures { result.now ≡ offered_text scene.now pick }
+fn text_in_live<'p>(live: &Live<'p, '_>, pick: Pick) -> &'p [u8]
+    ensures { result.now ≡ offered_text live.now.state pick }
 {
-    match picked(scene, pick) {
+    match picked(live, pick) {
         Some(offer) => bare(offer.body.graph.text(offer.edge.statement)),
         None => &[],
     }
@@ -55,12 +55,12 @@ fn text_in_scene<'p>(scene: &Scene<'_, 'p, '_>, pick: Pick) -> &'p [u8]
 pub fn offer_line(picture: &Picture<'_, '_, '_>, pick: Pick) -> u32
     ensures { result ≡ offered_line picture.now pick }
 {
-    line_in_scene(picture.scene(), pick)
+    line_in_live(picture.live(), pick)
 }
 
 /// Writes the text of the offer that a pick names, without its line and its brackets.
 pub fn add_offer(picture: &Picture<'_, '_, '_>, pick: Pick, out: &mut Writer)
     ensures { Adds out.old out.new (offered_text picture.now pick) }
 {
-    out.add(text_in_scene(picture.scene(), pick));
+    out.add(text_in_live(picture.live(), pick));
 }

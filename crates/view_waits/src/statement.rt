@@ -74,8 +74,8 @@ fn add_pick(picture: &Picture<'_, '_, '_>, pick: Pick, timeout: bool, out: &mut 
     if pick.process >= picture.process_count() {
         return;
     }
-    let view = picture.scene().view(pick.process, timeout);
-    if let Some(offer) = picked(picture.scene(), pick) {
+    let view = picture.live().view(pick.process, timeout);
+    if let Some(offer) = picked(picture.live(), pick) {
         add_basic(picture, &view, offer.body.basic(*offer.edge), out);
     }
 }

@@ -13,7 +13,7 @@ use promela_process::sought::Sought;
 use promela_run::moves::{Move, Pick};
 use run_search::executable::named;
 use run_search::picked::picked;
-use run_search::scene::Scene;
+use run_state::live::Live;
 use std::alloc::{AllocError, Global};
 use view_cells::picture::Picture;
 
@@ -176,15 +176,15 @@ fn of_basic(
 
 fn of_pick(
     alloc: Global,
-    scene: &Scene<'_, '_, '_>,
+    live: &Live<'_, '_>,
     pick: Pick,
     timeout: bool,
 ) -> Result<Transfer, AllocError> {
-    if pick.process >= scene.process_count() {
+    if pick.process >= live.process_count() {
         return Ok(plain(alloc, Does::Statement));
     }
-    let view = scene.view(pick.process, timeout);
-    match picked(scene, pick) {
+    let view = live.view(pick.process, timeout);
+    match picked(live, pick) {
         Some(offer) => of_basic(alloc, &view, offer.body.basic(*offer.edge)),
         None => Ok(plain(alloc, Does::Statement)),
     }
@@ -198,7 +198,7 @@ pub fn transfer_of(
 ) -> Result<Transfer, AllocError> {
     match m {
         Move::Death(_) => Ok(plain(alloc, Does::End)),
-        Move::Alone(pick, timeout) => of_pick(alloc, picture.scene(), *pick, *timeout),
-        Move::Pair(sender, _, timeout) => of_pick(alloc, picture.scene(), *sender, *timeout),
+        Move::Alone(pick, timeout) => of_pick(alloc, picture.live(), *pick, *timeout),
+        Move::Pair(sender, _, timeout) => of_pick(alloc, picture.live(), *sender, *timeout),
     }
 }

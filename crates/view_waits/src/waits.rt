@@ -2,7 +2,7 @@
 
 ghost use Rattle.std.specs.Prelude.{◌≡◌, ◌++◌, ◌<◌, OnOk, Some, count_by, length, slice_get};
 ghost use Rattle.run_search.specs.Laws.{taker};
-ghost use Rattle.run_search.specs.Scene.{IsBody};
+ghost use Rattle.run_state.specs.Standing.{IsBody};
 ghost use Rattle.promela_run.specs.Moves.{moves as all_moves};
 ghost use Rattle.promela_run.specs.State.{State};
 ghost use Rattle.view_waits.specs.Added.{level_waits, node_waits, one_wait, seat_waits};
@@ -14,7 +14,9 @@ use crate::offers::offer_line;
 use pml_flow::edge::Edge;
 use pml_value::view::View;
 use promela_run::moves::{Move, Pick};
-use run_search::scene::{Body, Scene, Seat};
+use run_state::body::Body;
+use run_state::live::Live;
+use run_state::seat::Seat;
 use std::alloc::AllocError;
 use view_cells::picture::Picture;
 use view_cells::processes::line_of;
@@ -188,19 +190,19 @@ fn put(because: Because, waits: &mut Vec<Wait>) -> Result<(), AllocError>
 
 // Adds what a process waits for that stands here, under this `timeout`.
 fn add_standing(
-    scene: &Scene<'_, '_, '_>,
+    live: &Live<'_, '_>,
     process: usize,
     seat: Seat,
     timeout: bool,
     waits: &mut Vec<Wait>,
 ) -> Result<(), AllocError>
-    requires { process < length scene.now.stands }
-    ensures { OnOk result (waits.new.items ≡ waits.old.items ++ seat_waits scene.now timeout process seat) }
+    requires { process < length live.now.state.stands }
+    ensures { OnOk result (waits.new.items ≡ waits.old.items ++ seat_waits live.now.state timeout process seat) }
 {
-    let view = scene.view(process, timeout);
-    match scene.standing(seat) {
+    let view = live.view(process, timeout);
+    match live.standing(seat) {
         None => put(
-            Because::Younger(scene.process_count().saturating_sub(1)),
+            Because::Younger(live.process_count().saturating_sub(1)),
             waits,
         ),
         Some(body) => add_offers(&view, &body, process, seat.node, waits),
@@ -209,16 +211,16 @@ fn add_standing(
 
 // Adds what a process waits for where it stands, under this `timeout`.
 fn add_here(
-    scene: &Scene<'_, '_, '_>,
+    live: &Live<'_, '_>,
     process: usize,
     timeout: bool,
     waits: &mut Vec<Wait>,
 ) -> Result<(), AllocError>
-    ensures { OnOk result (waits.new.items ≡ waits.old.items ++ waits_here scene.now timeout process) }
+    ensures { OnOk result (waits.new.items ≡ waits.old.items ++ waits_here live.now.state timeout process) }
 {
-    let seats = scene.seats();
+    let seats = live.seats();
     if process < seats.len() {
-        return add_standing(scene, process, seats[process], timeout, waits);
+        return add_standing(live, process, seats[process], timeout, waits);
     }
     Ok(())
 }
@@ -237,7 +239,7 @@ pub fn add_waits(
     }
     match in_control(picture.holder(), moves) {
         Some(holder) => put(Because::Held(holder), waits),
-        None => add_here(picture.scene(), process, timeout_of(moves), waits),
+        None => add_here(picture.live(), process, timeout_of(moves), waits),
     }
 }
 

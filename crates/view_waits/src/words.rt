@@ -15,7 +15,7 @@ use promela_process::sought::Sought;
 use promela_run::moves::Pick;
 use run_search::executable::named;
 use run_search::picked::picked;
-use run_search::scene::Scene;
+use run_state::live::Live;
 use view_cells::cells::{add_cell, add_value};
 use view_cells::channels::{add_channel_word, add_message, channel_at};
 use view_cells::picture::Picture;
@@ -288,16 +288,16 @@ fn add_basic(
 
 fn add_pick(
     picture: &Picture<'_, '_, '_>,
-    scene: &Scene<'_, '_, '_>,
+    live: &Live<'_, '_>,
     pick: Pick,
     timeout: bool,
     out: &mut Writer,
 ) {
-    if pick.process >= scene.process_count() {
+    if pick.process >= live.process_count() {
         return;
     }
-    let view = scene.view(pick.process, timeout);
-    if let Some(offer) = picked(scene, pick) {
+    let view = live.view(pick.process, timeout);
+    if let Some(offer) = picked(live, pick) {
         add_basic(picture, &view, offer.body.basic(*offer.edge), out);
     }
 }
@@ -314,7 +314,7 @@ pub fn add_words(picture: &Picture<'_, '_, '_>, wait: &Wait, out: &mut Writer) {
             add_process(picture, youngest, out);
             out.add(b" has ended");
         }
-        (_, Some(pick)) => add_pick(picture, picture.scene(), pick, wait.timeout, out),
+        (_, Some(pick)) => add_pick(picture, picture.live(), pick, wait.timeout, out),
         _ => {}
     }
 }

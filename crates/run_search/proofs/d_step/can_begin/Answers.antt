@@ -5,7 +5,7 @@ use Rattle.pml_flow.specs.Points.{point_at}
 use Rattle.pml_value.specs.Seen.{seen}
 use Rattle.promela_run.specs.Moves.{choices, is_some}
 use Rattle.run_search.specs.Lifted.{levels_from}
-use Rattle.run_search.proofs.Placing.{at_node}
+use Rattle.run_state.proofs.Placing.{at_node}
 use Rattle.run_search.proofs.d_step.can_begin.Goals as goal
 
 pub returns-in-Some : goal.returns-in-Some

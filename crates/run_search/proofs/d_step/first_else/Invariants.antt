@@ -1,6 +1,6 @@
 use Rattle.std.proofs.Common.{◌≡◌, drop, map}
 use Rattle.std.specs.List.{filter}
-use Rattle.run_search.specs.Scene.{shows}
+use Rattle.run_state.specs.Standing.{shows}
 use Rattle.run_search.specs.Viewed.{first}
 use Rattle.run_search.proofs.d_step.first_else.Given as goal
 use Rattle.run_search.specs.Lifted.{is_other}

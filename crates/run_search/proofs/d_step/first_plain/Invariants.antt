@@ -1,7 +1,7 @@
 use Rattle.std.proofs.Common.{◌≡◌, drop, map}
 use Rattle.std.specs.List.{filter}
 use Rattle.pml_value.specs.Seen.{seen}
-use Rattle.run_search.specs.Scene.{shows}
+use Rattle.run_state.specs.Standing.{shows}
 use Rattle.run_search.specs.Viewed.{first}
 use Rattle.promela_run.specs.Moves.{is_choice}
 use Rattle.run_search.proofs.d_step.first_plain.Given as goal

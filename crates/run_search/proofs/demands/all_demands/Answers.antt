@@ -1,14 +1,14 @@
 use Rattle.std.proofs.Common.{rules, ◌≡◌, ◌++◌, ◌<◌, List, [], ◌∷◌, length, length-append, sym, ap, subst, arith}
 use Rattle.run_search.specs.declared.demands.Demand.{Demand}
 use Rattle.run_search.specs.Demands.{AreDemands}
-use Rattle.run_search.proofs.Searching.{held}
-use Rattle.run_search.proofs.Placing.{seat_stands}
+use Rattle.run_state.proofs.Finding.{held}
+use Rattle.run_state.proofs.Placing.{seat_stands}
 use Rattle.run_search.proofs.Waiting.{demands_push}
 use Rattle.run_search.proofs.demands.all_demands.Goals as goal
 
 pub loop-j-preserved : goal.loop-j-preserved
 loop-j-preserved c =
-    let s = c.args.scene.now in
+    let s = c.args.live.now.state in
     let ws : List Demand = c.loop-j.demands.items in
     let l : c.loop-j.j < length c.seats-seats.result.now = search (rules, c.loop-j-test.true) in
     let e : c.push.new.self.items ≡ ws ++ c.demand_of.result ∷ [] = c.in_ok-push.ensures.items in

@@ -5,6 +5,6 @@ use Rattle.run_search.proofs.demands.all_demands.Given as goal
 -- each that was looked at is known
 abbrev pub invariant-loop-j : goal.invariant-loop-j
 invariant-loop-j l = record {
-  known : AreDemands l.scene l.timeout l.demands.items;
+  known : AreDemands l.live.state l.timeout l.demands.items;
   many : length l.demands.items ≡ l.j;
 }

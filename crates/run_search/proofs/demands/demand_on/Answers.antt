@@ -7,7 +7,7 @@ use Rattle.promela_run.specs.declared.live_channel.LiveChannel.{LiveChannel}
 use Rattle.pml_value.specs.Seen.{seen}
 use Rattle.promela_run.specs.declared.moves.Move.TheVariants.{Pair}
 use Rattle.promela_run.specs.State.{reads}
-use Rattle.run_search.specs.Scene.{shows}
+use Rattle.run_state.specs.Standing.{shows}
 use Rattle.promela_run.specs.Moves.{accepts, only_if, pick}
 use Rattle.run_search.proofs.Waiting.{skip_at, over}
 use Rattle.run_search.proofs.demands.demand_on.Goals as goal
@@ -16,8 +16,8 @@ pub loop-edge-preserved : goal.loop-edge-preserved
 loop-edge-preserved c = record {
   one = λ m d. c.loop-edge.invariant.one m (c.or_by-demand.ensures.one m d);
   other = λ k m v d.
-      let cs = c.args.scene.now.channels in
-      let r = reads c.args.scene.now c.args.j c.args.timeout in
+      let cs = c.args.live.now.state.channels in
+      let r = reads c.args.live.now.state c.args.j c.args.timeout in
       let a0 : accepts c.view-view.result.channels.now (seen c.view-view.result) m (option_copied c.basic.result) ≡ false = c.or_by-demand.ensures.other m d in
       let a1 : accepts cs r m (option_copied c.basic.result) ≡ false =
       ap (λ (x : List LiveChannel). accepts x r m (option_copied c.basic.result)) (sym c.view-view.ensures.channels)
@@ -30,4 +30,4 @@ loop-edge-preserved c = record {
 
 pub returns-clause-other : goal.returns-clause-other
 returns-clause-other c = λ k m l d.
-    over (λ i (o : Offer). only_if (accepts c.args.scene.now.channels (reads c.args.scene.now c.args.j c.args.timeout) m o.basic) (Pair k (pick c.args.j l i) c.args.timeout)) (shows c.args.body.now) c.args.edges.now c.loop-edge.edge-index _ (omega (arith, c.loop-edge-test.false)) (c.loop-edge.invariant.other k m l d)
+    over (λ i (o : Offer). only_if (accepts c.args.live.now.state.channels (reads c.args.live.now.state c.args.j c.args.timeout) m o.basic) (Pair k (pick c.args.j l i) c.args.timeout)) (shows c.args.body.now) c.args.edges.now c.loop-edge.edge-index _ (omega (arith, c.loop-edge-test.false)) (c.loop-edge.invariant.other k m l d)

@@ -3,7 +3,7 @@ use Rattle.run_search.specs.declared.demands.Demand.{Demand}
 use Rattle.run_search.specs.declared.demands.Demand.TheVariants.{Nothing}
 use Rattle.run_search.specs.declared.listeners.Span.{Span}
 use Rattle.run_search.specs.Listeners.{spans_with, AreHeard}
-use Rattle.run_search.proofs.Searching.{held}
+use Rattle.run_state.proofs.Finding.{held}
 use Rattle.run_search.proofs.Listening.{heard_one}
 use Rattle.run_search.proofs.listeners.all_listeners.Goals as goal
 

@@ -1,11 +1,11 @@
 use Rattle.std.proofs.Common.{rules, to_z, of_z, w32, ◌≡◌, ◌++◌, ◌<◌, ◌≤◌, ℕ, List, length, append-nil, refl, sym, ap, ◌∙◌, arith}
 use Rattle.promela_run.specs.declared.moves.Move.{Move}
-use Rattle.run_search.specs.declared.scene.Seat.{Seat}
+use Rattle.run_state.specs.declared.seat.Seat.{Seat}
 use Rattle.promela_run.specs.State.{Stand}
-use Rattle.run_search.specs.Scene.{stand_of}
+use Rattle.run_state.specs.Standing.{stand_of}
 use Rattle.promela_run.specs.Moves.{each, pairs_with}
-use Rattle.run_search.proofs.Searching.{held}
-use Rattle.run_search.proofs.Placing.{seat_stands}
+use Rattle.run_state.proofs.Finding.{held}
+use Rattle.run_state.proofs.Placing.{seat_stands}
 use Rattle.run_search.proofs.Keeping.{kept_same}
 use Rattle.run_search.proofs.Waiting.{demands_at}
 use Rattle.run_search.proofs.Listening.{outside, before, behind}
@@ -13,7 +13,7 @@ use Rattle.run_search.proofs.rendezvous.add_pairs.Goals as goal
 
 pub loop-j-init : goal.loop-j-init
 loop-j-init c =
-    let s = c.args.scene.now in
+    let s = c.args.live.now.state in
     let x = c.args.sending.now in
     let xs : List Seat = c.seats-seats.result.now in
     let f : ℕ → Stand → List Move = pairs_with s x.timeout x.sender x.message in
@@ -26,7 +26,7 @@ loop-j-init c =
 
 pub add_pairs_where-requires-clause-demands : goal.add_pairs_where-requires-clause-demands
 add_pairs_where-requires-clause-demands c =
-    let s = c.args.scene.now in
+    let s = c.args.live.now.state in
     let x = c.args.sending.now in
     let xs : List Seat = c.seats-seats.result.now in
     let l : c.loop-j.j < length xs = omega (arith, c.loop-j-test.true, c.heard-first.ensures.within) in
@@ -35,7 +35,7 @@ add_pairs_where-requires-clause-demands c =
 
 pub returns-clause-added : goal.returns-clause-added
 returns-clause-added c =
-    let s = c.args.scene.now in
+    let s = c.args.live.now.state in
     let x = c.args.sending.now in
     let xs : List Seat = c.seats-seats.result.now in
     let f : ℕ → Stand → List Move = pairs_with s x.timeout x.sender x.message in

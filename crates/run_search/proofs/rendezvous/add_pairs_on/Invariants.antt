@@ -3,7 +3,7 @@ use Rattle.promela_process.specs.Offers.{Offer}
 use Rattle.promela_run.specs.declared.moves.Move.{Move}
 use Rattle.promela_run.specs.declared.moves.Move.TheVariants.{Pair}
 use Rattle.promela_run.specs.State.{reads}
-use Rattle.run_search.specs.Scene.{shows}
+use Rattle.run_state.specs.Standing.{shows}
 use Rattle.run_search.specs.Kept.{Extends}
 use Rattle.promela_run.specs.Moves.{each, accepts, only_if, pick}
 use Rattle.run_search.proofs.rendezvous.add_pairs_on.Given as goal
@@ -11,7 +11,7 @@ use Rattle.run_search.proofs.rendezvous.add_pairs_on.Given as goal
 -- what is added and the rest's are all
 abbrev pub invariant-loop-place : goal.invariant-loop-place
 invariant-loop-place l =
-    let f : ℕ → Offer → List Move = λ i o. only_if (accepts l.scene.channels (reads l.scene l.tier.process l.sending.timeout) l.sending.message o.basic) (Pair l.sending.sender (pick l.tier.process l.tier.level i) l.sending.timeout) in
+    let f : ℕ → Offer → List Move = λ i o. only_if (accepts l.live.state.channels (reads l.live.state l.tier.process l.sending.timeout) l.sending.message o.basic) (Pair l.sending.sender (pick l.tier.process l.tier.level i) l.sending.timeout) in
     record {
       same : l.moves.items ++ each f l.place (map (shows l.body) (drop l.place l.edges)) ≡ l.initial.moves.items ++ each f 0 (map (shows l.body) l.edges);
       kept : Extends l.moves.items l.initial.moves.items;

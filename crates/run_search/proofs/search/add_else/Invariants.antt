@@ -2,7 +2,7 @@ use Rattle.std.proofs.Common.{◌≡◌, ◌++◌, drop, map, List, ℕ}
 use Rattle.promela_process.specs.Offers.{Offer}
 use Rattle.promela_run.specs.declared.moves.Move.{Move}
 use Rattle.promela_run.specs.declared.moves.Move.TheVariants.{Alone}
-use Rattle.run_search.specs.Scene.{shows}
+use Rattle.run_state.specs.Standing.{shows}
 use Rattle.run_search.specs.Kept.{Extends}
 use Rattle.promela_run.specs.Moves.{each, is_else, only_if, pick}
 use Rattle.run_search.proofs.search.add_else.Given as goal

@@ -6,5 +6,5 @@ use Rattle.run_search.proofs.search.add_moves_at.Goals as goal
 pub returns-in-Some-clause-added : goal.returns-in-Some-clause-added
 returns-in-Some-clause-added c =
     subst (λ (l : List Move). OnOk c.add_moves_in.result (c.add_moves_in.new.moves.items ≡ l))
-    (ap (λ (z : List Move). c.args.moves.now.items ++ z) (sym (moves_in c.args.seat c.in-Some.body c.args.round.now.scene.now c.args.process c.args.round.now.timeout c.in-Some.ensures.left)))
+    (ap (λ (z : List Move). c.args.moves.now.items ++ z) (sym (moves_in c.args.seat c.in-Some.body c.args.round.now.live.now.state c.args.process c.args.round.now.timeout c.in-Some.ensures.left)))
     c.add_moves_in.ensures.added

@@ -1,16 +1,16 @@
 use Rattle.std.proofs.Common.{rules, ◌≡◌, ℕ, ◌+◌, ◌-◌, ◌<◌, ◌++◌, ◌∙◌, List, [], map, drop, length, ap, arith}
 use Rattle.promela_process.specs.Offers.{Offer}
 use Rattle.promela_run.specs.declared.moves.Move.{Move}
-use Rattle.run_search.specs.declared.scene.Body.{Body}
-use Rattle.run_search.specs.Scene.{shows, edges_at}
+use Rattle.run_state.specs.declared.body.Body.{Body}
+use Rattle.run_state.specs.Standing.{shows, edges_at}
 use Rattle.promela_run.specs.Moves.{last, moves_on}
-use Rattle.run_search.proofs.Placing.{level_is}
+use Rattle.run_state.proofs.Placing.{level_is}
 use Rattle.run_search.proofs.Searching.{ends, goes_on}
 use Rattle.run_search.proofs.search.add_moves_down.Goals as goal
 
 pub returns-then-len-before-clause-added : goal.returns-then-len-before-clause-added
 returns-then-len-before-clause-added c =
-    let f : ℕ → List Offer → List Move = moves_on c.args.round.now.scene.now c.args.process c.args.round.now.timeout c.args.body.now.proctype.now.body in
+    let f : ℕ → List Offer → List Move = moves_on c.args.round.now.live.now.state c.args.process c.args.round.now.timeout c.args.body.now.proctype.now.body in
     let b : Body = c.args.body.now in
     let ls : List (List Offer) = map (map (shows b)) (edges_at b c.args.node) in
     let k = c.loop-level.level - 1 in
@@ -27,7 +27,7 @@ returns-then-len-before-clause-added c =
 
 pub loop-level-preserved : goal.loop-level-preserved
 loop-level-preserved c =
-    let f : ℕ → List Offer → List Move = moves_on c.args.round.now.scene.now c.args.process c.args.round.now.timeout c.args.body.now.proctype.now.body in
+    let f : ℕ → List Offer → List Move = moves_on c.args.round.now.live.now.state c.args.process c.args.round.now.timeout c.args.body.now.proctype.now.body in
     let b : Body = c.args.body.now in
     let ls : List (List Offer) = map (map (shows b)) (edges_at b c.args.node) in
     let k = c.loop-level.level - 1 in

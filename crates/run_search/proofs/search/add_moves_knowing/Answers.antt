@@ -8,7 +8,7 @@ use Rattle.run_search.proofs.search.add_moves_knowing.Goals as goal
 
 pub add_moves_of_all-requires : goal.add_moves_of_all-requires
 add_moves_of_all-requires c =
-    let s = c.args.scene.now in
+    let s = c.args.live.now.state in
     let any : Span = c.in_ok-heard.heard.any in
     let ws : List Demand = c.as_slice-2.result.now in
     let heard : c.as_slice.result.now ≡ ws = c.as_slice.ensures.value ∙ sym c.as_slice-2.ensures.value in

@@ -1,4 +1,4 @@
-use Rattle.run_step.proofs.Holding.{leads_quiet}
+use Rattle.run_step.proofs.Leading.{leads_quiet}
 use Rattle.run_step.proofs.effect.does.Goals as goal
 
 pub returns-in-Run-clause-value : goal.returns-in-Run-clause-value

@@ -1,10 +1,5 @@
 use Rattle.std.proofs.Common.{rules, ◌≡◌, ◌∙◌, ap, Err}
-use Rattle.promela_process.specs.Offers.{Offer as Offered}
-use Rattle.promela_run.specs.State.{picked}
-use Rattle.profile.specs.declared.TheConstants.{MOST_DSTEP_STATEMENTS}
-use Rattle.run_step.specs.Live.{Does}
 use Rattle.promela_run.specs.World.{Running}
-use Rattle.promela_run.specs.Steps.{alone}
 use Rattle.run_step.specs.Taking.{IsOffer}
 use Rattle.run_step.proofs.Taking.{joined_body, followed, stops_before, goes_on}
 use Rattle.run_step.proofs.take.alone.Goals as goal

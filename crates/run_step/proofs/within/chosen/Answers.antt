@@ -3,9 +3,9 @@ use Rattle.pml_flow.specs.declared.edge.Edge.{Edge}
 use Rattle.promela_process.specs.Offers.{Offer}
 use Rattle.pml_flow.specs.Points.{point_at}
 use Rattle.pml_value.specs.Seen.{seen}
-use Rattle.run_search.specs.declared.scene.Body.{Body}
+use Rattle.run_state.specs.declared.body.Body.{Body}
 use Rattle.promela_run.specs.State.{State, reads}
-use Rattle.run_search.specs.Scene.{shows}
+use Rattle.run_state.specs.Standing.{shows}
 use Rattle.promela_run.specs.Steps.{body_by}
 use Rattle.run_step.specs.Inside.{Chooses}
 use Rattle.run_step.proofs.Inward.{first_shown, body_same}
@@ -14,11 +14,10 @@ use Rattle.run_step.proofs.within.chosen.Goals as goal
 pub returns-in_err-edge : goal.returns-in_err-edge
 returns-in_err-edge c b h =
     let k : Body = c.in_ok-body.body in
-    let x : State = c.scene.result in
     let s : State = c.args.live.now.state in
     let p = c.args.process in
-    let at : Some k.proctype.now.body ≡ body_by x (slice_get x.stands p) = search rules in
-    let same = body_same x s p k b c.scene.ensures at h in
+    let at : Some k.proctype.now.body ≡ body_by s (slice_get s.stands p) = search rules in
+    let same = body_same s p k b at h in
     let channels : c.view.result.channels.now ≡ s.channels = search rules in
     let reading : seen c.view.result ≡ reads s p c.args.timeout = search rules in
     let one = first_shown k c.args.node b _ s.lossy _ s.channels _ (reads s p c.args.timeout) c.choice.result (search rules) same c.is_lossy.ensures channels reading c.choice.ensures in
@@ -30,11 +29,10 @@ pub returns : goal.returns
 returns c b h =
     let k : Body = c.in_ok-body.body in
     let e : Edge = c.in_ok-edge.edge in
-    let x : State = c.scene.result in
     let s : State = c.args.live.now.state in
     let p = c.args.process in
-    let at : Some k.proctype.now.body ≡ body_by x (slice_get x.stands p) = search rules in
-    let same = body_same x s p k b c.scene.ensures at h in
+    let at : Some k.proctype.now.body ≡ body_by s (slice_get s.stands p) = search rules in
+    let same = body_same s p k b at h in
     let channels : c.view.result.channels.now ≡ s.channels = search rules in
     let reading : seen c.view.result ≡ reads s p c.args.timeout = search rules in
     let one = first_shown k c.args.node b _ s.lossy _ s.channels _ (reads s p c.args.timeout) c.choice.result (search rules) same c.is_lossy.ensures channels reading c.choice.ensures in

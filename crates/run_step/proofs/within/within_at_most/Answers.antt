@@ -5,7 +5,7 @@ use Rattle.diagnostics.specs.declared.stop.Stop.{Stop}
 use Rattle.pml_flow.specs.Points.{point_at}
 use Rattle.run_step.specs.declared.within.Inner.{Inner}
 use Rattle.run_step.specs.declared.within.Inner.TheVariants.{Left, At}
-use Rattle.run_step.specs.Live.{Does}
+use Rattle.run_step.specs.Done.{Does}
 use Rattle.promela_run.specs.Steps.{within}
 use Rattle.run_step.specs.Inside.{Advances, advanced}
 use Rattle.run_step.proofs.Inward.{follows_first, follows_next, follows_left, follows_stop, follows_long, joins_same, joins_on, past_same, past_on, still_there, body_still}

@@ -2,7 +2,7 @@ use Rattle.std.proofs.Common.{◌≡◌, Some, slice_get}
 use Rattle.std.specs.Io.{StartsWith}
 use Rattle.pml_program.specs.declared.program.Seq.{Seq}
 use Rattle.pml_flow.specs.Points.{point_at}
-use Rattle.run_step.specs.Live.{Joins, PastGrows}
+use Rattle.run_state.specs.Live.{Joins, PastGrows}
 use Rattle.promela_run.specs.Steps.{body_by}
 use Rattle.run_step.proofs.Inward.{Follows}
 use Rattle.run_step.proofs.within.within_at_most.Given as goal

@@ -1,7 +1,7 @@
 use Rattle.std.proofs.Common.{◌≡◌, ◌++◌, ◌∷◌, [], drop, map, List, ℕ}
 use Rattle.promela_process.specs.Offers.{Offer}
 use Rattle.pml_value.specs.Seen.{seen}
-use Rattle.run_search.specs.Scene.{shows}
+use Rattle.run_state.specs.Standing.{shows}
 use Rattle.promela_run.specs.Moves.{each, pick}
 use Rattle.view_waits.specs.declared.waits.Wait.{Wait}
 use Rattle.view_waits.specs.Waits.{wait_of}

@@ -1,6 +1,6 @@
 use Rattle.std.proofs.Common.{rules, ◌≡◌, ◌++◌, ◌<◌, length, map, arith}
 use Rattle.pml_value.specs.Seen.{seen}
-use Rattle.run_search.specs.Scene.{shows, edges_at}
+use Rattle.run_state.specs.Standing.{shows, edges_at}
 use Rattle.view_waits.specs.Waits.{waits_on}
 use Rattle.view_waits.proofs.Adding.{level_more}
 use Rattle.view_waits.proofs.waits.add_offers.Goals as goal

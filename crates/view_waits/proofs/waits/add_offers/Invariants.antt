@@ -1,6 +1,6 @@
 use Rattle.std.proofs.Common.{◌≡◌, ◌++◌, drop}
 use Rattle.pml_value.specs.Seen.{seen}
-use Rattle.run_search.specs.Scene.{offers_at}
+use Rattle.run_state.specs.Standing.{offers_at}
 use Rattle.promela_run.specs.Moves.{each}
 use Rattle.view_waits.specs.Waits.{waits_on}
 use Rattle.view_waits.proofs.waits.add_offers.Given as goal

@@ -22,7 +22,7 @@ returns-in-None c are =
     let is : None ≡ control_by s.holder (slice_get c.args.moves.now 0) =
     sym c.in-None.is ∙ c.in_control.ensures ∙ ap (λ (h : Option ℕ). control_by h (slice_get c.args.moves.now 0)) c.holder.ensures in
     subst (λ (w : List Wait). OnOk c.add_here.result (c.add_here.new.waits.items ≡ c.args.waits.now.items ++ w))
-    (ap (λ (x : State). waits_here x c.timeout_of.result c.args.process) c.scene.ensures
+    (ap (λ (x : State). waits_here x c.timeout_of.result c.args.process) c.live.ensures
     ∙ ap (λ (t : Bool). waits_at s t c.args.process (slice_get s.stands c.args.process)) (c.timeout_of.ensures.last s are)
     ∙ all_of_it s c.args.process c.args.moves.now are out None is)
     c.add_here.ensures

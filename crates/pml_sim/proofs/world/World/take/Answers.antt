@@ -2,7 +2,8 @@ use Rattle.std.proofs.Common.{rules, ◌≡◌, ◌∙◌, ap, sym, subst, Ok, E
 use Rattle.promela_run.specs.State.{State}
 use Rattle.profile.specs.declared.TheConstants.{MOST_DSTEP_STATEMENTS}
 use Rattle.promela_run.specs.Steps.{step}
-use Rattle.run_step.specs.Live.{Does, Joins}
+use Rattle.run_step.specs.Done.{Does}
+use Rattle.run_state.specs.Live.{Joins}
 use Rattle.promela_run.specs.World.{Running}
 use Rattle.run_step.specs.Taking.{CanDie, PastBy}
 use Rattle.pml_sim.proofs.Living.{moves_within}

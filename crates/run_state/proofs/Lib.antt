@@ -1,0 +1,9 @@
+pub mod Finding
+pub mod Placing
+pub mod Beginning
+pub mod Going
+pub mod Dying
+pub mod Holding
+pub mod Stored
+pub mod Creating
+pub mod Counting

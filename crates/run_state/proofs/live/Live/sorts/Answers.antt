@@ -1,0 +1,16 @@
+use Rattle.std.proofs.Common.{rules, ◌≡◌, ◌∙◌, sym, subst, List, ℕ}
+use Rattle.run_start.specs.Shown.{held}
+use Rattle.run_start.specs.Starting.{IsDeclared}
+use Rattle.run_state.proofs.Creating.{sorts_are}
+use Rattle.run_state.proofs.live.Live.sorts.Goals as goal
+
+pub returns-clause-value : goal.returns-clause-value
+returns-clause-value c =
+    let same : c.as_slice.result.now ≡ c.self.inside.started.sorts.items = search rules in
+    rw (← c.self.view_is) (same ∙ c.self.invariant.seated ∙ sym (sorts_are c.self.inside.played c.self.inside.seats.items))
+
+pub returns-clause-declared : goal.returns-clause-declared
+returns-clause-declared c =
+    rw (← c.self.view_is)
+    (subst (λ (ks : List ℕ). IsDeclared c.self.inside.played (held c.self.inside.started.store c.self.inside.started.channels.items ks))
+    (c.self.invariant.seated ∙ sym (sorts_are c.self.inside.played c.self.inside.seats.items)) c.self.invariant.declared)

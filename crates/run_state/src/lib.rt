@@ -1,0 +1,9 @@
+//! A state of a run: a model with what is made of it once, and what lives in it.
+#![tactic(auto)]
+
+pub mod body;
+mod footprint;
+pub mod live;
+pub mod played;
+pub mod seat;
+mod storing;

@@ -1,7 +1,0 @@
-use Rattle.run_step.proofs.Holding.{held_still, set_stays}
-use Rattle.run_step.proofs.live.Live.put.Goals as goal
-
-pub invariant_of-self : goal.invariant_of-self
-invariant_of-self c =
-    held_still c.self.inside.played c.self.inside.state.started.store c.set.new.self c.self.inside.state.started.channels.items c.self.inside.state.started.channels.items
-    c.self.inside.state.started.sorts.items c.self.inside.state.seats.items c.self.invariant (set_stays c.set.result c.self.inside.state.started.store c.set.new.self _ _ c.set.ensures.ok c.set.ensures.err) c.self.invariant.bounded.live
