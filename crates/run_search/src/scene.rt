@@ -13,7 +13,7 @@ use pml_flow::edge::Edge;
 use pml_flow::graph::Graph;
 use pml_flow::statements::Statements;
 use pml_program::program::{Basic, Proctype, Program};
-use pml_value::view::{Taker, View};
+use pml_value::view::View;
 use promela_run::live_channel::LiveChannel;
 use std::marker::Model;
 
@@ -125,12 +125,8 @@ impl<'w, 'p, 'a> Scene<'w, 'p, 'a> {
         ensures channels { result.channels.now ≡ self.now.channels }
     {
         let process_count = self.state.seats.len() as u8;
-        let taker = Taker {
-            pid: process as u8,
-            process_count,
-            timeout,
-        };
-        View::new(&self.state.started.store, self.channels(), taker)
+        let store = &self.state.started.store;
+        View::new(store, self.channels(), process as u8, process_count, timeout)
     }
 
     /// The body of the proctype with this number.

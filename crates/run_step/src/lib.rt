@@ -6,6 +6,7 @@ pub mod arguments;
 pub mod effect;
 pub mod laws;
 pub mod live;
+pub mod messages;
 pub mod pair;
 pub mod take;
 pub mod within;
