@@ -1,15 +1,12 @@
--- What an expression reads, by who takes its statement.
-use Rattle.std.specs.Prelude.{ℕ, ◌+◌, Bool, if◌then◌else◌, List, Option, Result}
+-- What an expression reads, by who reads it.
+use Rattle.std.specs.Prelude.{ℕ, ◌+◌, Bool, if◌then◌else◌, Option, Some, Result, Ok}
 use Rattle.promela_process.specs.Expressions.{Reading, val, ◌>>=◌}
-use Rattle.promela_process.specs.Store.{Frame}
 use Rattle.diagnostics.specs.declared.fault.Fault.{Fault}
 use Rattle.pml_program.specs.declared.expr.Expr.{Expr}
 use Rattle.pml_program.specs.declared.expr.Target.{Target}
 use Rattle.promela_run.specs.declared.goes.Goes.{Goes}
 use Rattle.promela_run.specs.Statements.{goes_to}
-use Rattle.pml_value.specs.declared.view.Taker.{Taker}
 use Rattle.pml_value.specs.declared.view.View.{View}
-use Rattle.promela_run.specs.declared.live_channel.LiveChannel.{LiveChannel}
 use Rattle.promela_run.specs.State.{reading_of}
 
 -- the frame of a variable, as the process with this number reads it
@@ -20,10 +17,10 @@ frame_of pid local = if local then pid + 1 else 0
 abbrev pub assigned : Option Target → Expr → Reading → Result (Option Goes) Fault
 assigned t v r = val v r >>= λ n. goes_to t n r
 
--- what is read by who takes a statement
-abbrev pub read_by : List Frame → List LiveChannel → Taker → Reading
-read_by frames channels taker = reading_of frames channels taker.pid taker.process_count taker.timeout
+-- where one number goes, as what a statement stores
+abbrev pub one_outcome : Result Goes Fault → Result (Option Goes) Fault
+one_outcome d = d >>= λ g. Ok (Some g)
 
 -- what a view reads
 abbrev pub seen : View → Reading
-seen v = read_by v.store.now.frames v.channels.now v.taker
+seen v = reading_of v.store.now.frames v.channels.now v.pid v.process_count v.timeout

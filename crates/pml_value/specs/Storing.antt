@@ -1,22 +1,10 @@
--- What a call that sends, stores or receives leaves.
-use Rattle.std.specs.Prelude.{◌≡◌, ℕ, List, [], ◌∷◌, ◌++◌, Result, Ok, Err}
-use Rattle.diagnostics.specs.declared.fault.Fault.{Fault}
-use Rattle.diagnostics.specs.declared.stop.Stop.{Stop}
-use Rattle.diagnostics.specs.declared.stop.Stop.TheVariants as stop
+-- What a call that stores or receives leaves.
+use Rattle.std.specs.Prelude.{◌≡◌, ℕ, List, [], ◌∷◌, ◌++◌}
 use Rattle.promela_process.specs.Store.{size_at}
 use Rattle.pml_store.specs.Writing.{Contents, stored}
 use Rattle.promela_run.specs.declared.live_channel.LiveChannel.{LiveChannel}
 use Rattle.promela_run.specs.declared.goes.Goes.{Goes}
 use Rattle.promela_run.specs.Statements.{Received}
-
--- the message is put; or nothing changes, for the fault, which is answered, or for want of memory
-abbrev pub SendsMessage : Result (List LiveChannel) Fault → Result (Unit {0}) Stop → List LiveChannel → List LiveChannel → Type 0
-SendsMessage (Ok cs) (Ok u) old new = new ≡ cs
-SendsMessage (Ok cs) (Err stop.Memory) old new = new ≡ old
-SendsMessage (Ok cs) (Err (stop.Fault f)) old new = ⊥
-SendsMessage (Err f) (Err (stop.Fault g)) old new = (g ≡ f) × (new ≡ old)
-SendsMessage (Err f) (Err stop.Memory) old new = ⊥
-SendsMessage (Err f) (Ok u) old new = ⊥
 
 -- one number after the other is stored
 abbrev pub stored_all : Contents → List Goes → Contents
@@ -41,12 +29,3 @@ AllReceived x old new ds = (new ≡ stored_all old x.numbers) × (ds ≡ x.live)
 -- a part of the numbers is stored, and the channels stay
 abbrev pub PartReceived : Received → Contents → Contents → List LiveChannel → List LiveChannel → Type 0
 PartReceived x old new cs ds = StoresSome old new x.numbers × (ds ≡ cs)
-
--- it is done; or nothing changes, and the fault is answered; or for want of memory the channels stay and a part of the numbers is stored
-abbrev pub ReceivesMessage : Result Received Fault → Result (Unit {0}) Stop → Contents → Contents → List LiveChannel → List LiveChannel → Type 0
-ReceivesMessage (Ok x) (Ok u) old new cs ds = AllReceived x old new ds
-ReceivesMessage (Ok x) (Err stop.Memory) old new cs ds = PartReceived x old new cs ds
-ReceivesMessage (Ok x) (Err (stop.Fault f)) old new cs ds = ⊥
-ReceivesMessage (Err f) (Err (stop.Fault g)) old new cs ds = (g ≡ f) × (new ≡ old) × (ds ≡ cs)
-ReceivesMessage (Err f) (Err stop.Memory) old new cs ds = ⊥
-ReceivesMessage (Err f) (Ok u) old new cs ds = ⊥

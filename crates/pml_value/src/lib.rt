@@ -1,7 +1,7 @@
 //! What a process reads of a state, and what its statements store (Holzmann, *The SPIN Model Checker*, chapter 3).
 #![tactic(auto)]
 
-mod few;
+pub mod few;
 pub mod fields;
 pub mod laws;
 pub mod message;

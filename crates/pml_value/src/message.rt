@@ -3,19 +3,17 @@
 ghost use Rattle.std.specs.Prelude.{◌≡◌, ◌<◌, ◌≤◌, [], Ok, Err, IfOk, IfErr, OnOk, OnErr, length};
 ghost use Rattle.profile.specs.declared.TheConstants.{MOST_FIELDS};
 ghost use Rattle.pml_value.specs.declared.few.TheConstants.{FEW_FIELDS};
-ghost use Rattle.promela_run.specs.Statements.{named, contents_at, changed, values, with_message, addressed, sent, asserted};
-ghost use Rattle.pml_value.specs.Storing.{SendsMessage};
-ghost use Rattle.pml_value.specs.Seen.{read_by, seen};
+ghost use Rattle.promela_run.specs.Statements.{named, contents_at, changed, values, with_message, addressed, asserted};
+ghost use Rattle.pml_value.specs.Seen.{seen};
 
 use crate::few::{FEW_FIELDS, FewFields};
 use crate::fields::Fields;
-use crate::view::{Taker, View, named as channel_at};
-use diagnostics::{Fault, Stop};
+use crate::view::{View, named as channel_at};
+use diagnostics::Fault;
 use pml_channel::channel::Channel;
 use pml_eval::eval::{eval, place};
 use pml_eval::ground::Ground;
 use pml_program::expr::{Expr, Target};
-use pml_store::store::Store;
 use pml_tree::tree::SendOrder;
 use profile::MOST_FIELDS;
 use promela_run::live_channel::LiveChannel;
@@ -63,7 +61,7 @@ pub fn assert(value: &Expr, view: &View<'_>) -> Result<(), Fault>
 }
 
 /// Where a message goes, and its fields.
-fn addressed(
+pub fn addressed(
     target: &Target,
     expressions: &[Expr],
     view: &View<'_>,
@@ -74,36 +72,6 @@ fn addressed(
 {
     let at = named(view, target, expressions.len())?;
     Ok((at, values(expressions, view)?))
-}
-
-/// Puts a message into a channel that is not full. Want of memory changes nothing.
-fn put(channel: &mut Channel, order: SendOrder, fields: &[i32]) -> Result<(), AllocError>
-    requires { length fields.now ≡ length channel.old.types }
-    ensures ok { OnOk result (channel.new ≡ with_message order fields.now channel.old) }
-    ensures err { OnErr result (channel.new ≡ channel.old) }
-{
-    if channel.len() >= usize::from(channel.capacity()) {
-        return Ok(());
-    }
-    match order {
-        SendOrder::Fifo => channel.send(fields),
-        SendOrder::Sorted => channel.send_sorted(fields),
-    }
-}
-
-/// The same to the channel at a place.
-fn put_at(
-    channels: &mut [LiveChannel],
-    at: usize,
-    order: SendOrder,
-    fields: &[i32],
-) -> Result<(), AllocError>
-    requires there { at < length channels.old }
-    requires arity { length fields.now ≡ length (contents_at channels.old at).types }
-    ensures ok { OnOk result (channels.new ≡ changed at (with_message order fields.now) channels.old) }
-    ensures err { OnErr result (channels.new ≡ channels.old) }
-{
-    put(&mut channels[at].channel, order, fields)
 }
 
 /// Adds the values of a few expressions, or answers the first fault from the left.
@@ -120,8 +88,8 @@ fn add_values(expressions: &[Expr], view: &View<'_>, fields: &mut FewFields) -> 
     Ok(())
 }
 
-/// Where a message of a few fields goes; its fields are added.
-fn address_few(
+/// The same of a message of a few fields, which are added.
+pub fn address_few(
     target: &Target,
     expressions: &[Expr],
     view: &View<'_>,
@@ -139,63 +107,32 @@ fn address_few(
     Ok(at)
 }
 
-/// Sends a message of a few fields.
-fn send_few(
-    store: &Store,
-    channels: &mut [LiveChannel],
-    taker: Taker,
-    target: &Target,
-    order: SendOrder,
-    fields: &[Expr],
-) -> Result<(), Stop>
-    requires { length fields.now ≤ FEW_FIELDS }
-    ensures { SendsMessage (sent channels.old (read_by store.now.frames channels.old taker) target.now order fields.now) result channels.old channels.new }
+/// Puts a message into a channel that is not full. Want of memory changes nothing.
+fn put(channel: &mut Channel, order: SendOrder, fields: &[i32]) -> Result<(), AllocError>
+    requires { length fields.now ≡ length channel.old.types }
+    ensures ok { OnOk result (channel.new ≡ with_message order fields.now channel.old) }
+    ensures err { OnErr result (channel.new ≡ channel.old) }
 {
-    let view = View::new(store, &*channels, taker);
-    let mut numbers = FewFields::new();
-    match address_few(target, fields, &view, &mut numbers) {
-        Err(fault) => Err(Stop::Fault(fault)),
-        Ok(at) => match put_at(channels, at, order, numbers.as_slice()) {
-            Ok(()) => Ok(()),
-            Err(_) => Err(Stop::Memory),
-        },
+    if channel.len() >= usize::from(channel.capacity()) {
+        return Ok(());
+    }
+    match order {
+        SendOrder::Fifo => channel.send(fields),
+        SendOrder::Sorted => channel.send_sorted(fields),
     }
 }
 
-/// Sends a message of any number of fields.
-fn send_many(
-    store: &Store,
+/// Puts a message into the channel at a place, where that is not full. Want of memory changes nothing.
+pub fn put_at(
     channels: &mut [LiveChannel],
-    taker: Taker,
-    target: &Target,
+    at: usize,
     order: SendOrder,
-    fields: &[Expr],
-) -> Result<(), Stop>
-    ensures { SendsMessage (sent channels.old (read_by store.now.frames channels.old taker) target.now order fields.now) result channels.old channels.new }
+    fields: &[i32],
+) -> Result<(), AllocError>
+    requires there { at < length channels.old }
+    requires arity { length fields.now ≡ length (contents_at channels.old at).types }
+    ensures ok { OnOk result (channels.new ≡ changed at (with_message order fields.now) channels.old) }
+    ensures err { OnErr result (channels.new ≡ channels.old) }
 {
-    let view = View::new(store, &*channels, taker);
-    match addressed(target, fields, &view) {
-        Err(fault) => Err(Stop::Fault(fault)),
-        Ok((at, numbers)) => match put_at(channels, at, order, numbers.as_slice()) {
-            Ok(()) => Ok(()),
-            Err(_) => Err(Stop::Memory),
-        },
-    }
-}
-
-/// Sends a message.
-pub fn send(
-    store: &Store,
-    channels: &mut [LiveChannel],
-    taker: Taker,
-    target: &Target,
-    order: SendOrder,
-    fields: &[Expr],
-) -> Result<(), Stop>
-    ensures { SendsMessage (sent channels.old (read_by store.now.frames channels.old taker) target.now order fields.now) result channels.old channels.new }
-{
-    if fields.len() <= FEW_FIELDS {
-        return send_few(store, channels, taker, target, order, fields);
-    }
-    send_many(store, channels, taker, target, order, fields)
+    put(&mut channels[at].channel, order, fields)
 }

@@ -8,13 +8,12 @@ ghost use Rattle.pml_value.specs.declared.few.TheConstants.{FEW_FIELDS};
 ghost use Rattle.pml_eval.specs.There.{IsThere, AreThere};
 ghost use Rattle.promela_run.specs.Statements.{contents_at, changed, found, goes_of, stores, without, taken_at, asked_at};
 ghost use Rattle.pml_value.specs.Storing.{stored_all, AreAsLarge, StoresSome, AllReceived, PartReceived};
-ghost use Rattle.pml_value.specs.Reception.{Receives};
 ghost use Rattle.pml_value.specs.Seen.{seen};
 
 use crate::few::{FEW_FIELDS, FewSought};
 use crate::message::named;
-use crate::view::{Taker, View};
-use diagnostics::{Fault, Stop};
+use crate::view::View;
+use diagnostics::Fault;
 use pml_channel::channel::Channel;
 use pml_eval::clip::clip;
 use pml_eval::eval::{pattern, want};
@@ -34,6 +33,49 @@ pub struct Reception<'a> {
     pub search: Search,
     pub removal: Removal,
     pub wants: &'a [Want],
+}
+
+/// Where a message is received, and what is asked of it.
+pub fn asked_at(target: &Target, wants: &[Want], view: &View<'_>) -> Result<(usize, Pattern), Fault>
+    ensures value { result ≡ asked_at view.now.channels.now (seen view.now) target.now wants.now }
+    ensures there { IfOk result (λ x. x.0 < length view.now.channels.now) }
+    ensures places { IfOk result (λ x. AreThere (size_at view.now.store.now.frames) x.1) }
+{
+    let at = named(view, target, wants.len())?;
+    Ok((at, pattern(wants, view)?))
+}
+
+/// Adds what a few arguments ask, or answers the first fault from the left.
+fn add_wants(wants: &[Want], view: &View<'_>, sought: &mut FewSought) -> Result<(), Fault>
+    requires few { length wants.now ≤ FEW_FIELDS }
+    requires none { sought.old ≡ [] }
+    ensures ok { OnOk result (asked_by wants.now (seen view.now) ≡ Ok sought.new) }
+    ensures err { IfErr result (λ f. asked_by wants.now (seen view.now) ≡ Err f) }
+    ensures places { OnOk result (AreThere (size_at view.now.store.now.frames) sought.new) }
+{
+    for one in wants {
+        sought.push(want(one, view)?);
+    }
+    Ok(())
+}
+
+/// Where a message of a few fields is received; what is asked of it is added.
+pub fn ask_few(
+    target: &Target,
+    wants: &[Want],
+    view: &View<'_>,
+    sought: &mut FewSought,
+) -> Result<usize, Fault>
+    requires few { length wants.now ≤ FEW_FIELDS }
+    requires none { sought.old ≡ [] }
+    ensures ok { IfOk result (λ n. asked_at view.now.channels.now (seen view.now) target.now wants.now ≡ Ok (n, sought.new)) }
+    ensures err { IfErr result (λ f. asked_at view.now.channels.now (seen view.now) target.now wants.now ≡ Err f) }
+    ensures there { IfOk result (λ n. n < length view.now.channels.now) }
+    ensures places { OnOk result (AreThere (size_at view.now.store.now.frames) sought.new) }
+{
+    let at = named(view, target, wants.len())?;
+    add_wants(wants, view, sought)?;
+    Ok(at)
 }
 
 /// The place of the message that is received: the oldest if it matches, or the first that does.
@@ -79,16 +121,6 @@ pub fn store_fields(store: &mut Store, sought: &[Sought], fields: &[i32]) -> Res
     Ok(())
 }
 
-/// Where a message is received, and what is asked of it.
-fn asked_at(target: &Target, wants: &[Want], view: &View<'_>) -> Result<(usize, Pattern), Fault>
-    ensures value { result ≡ asked_at view.now.channels.now (seen view.now) target.now wants.now }
-    ensures there { IfOk result (λ x. x.0 < length view.now.channels.now) }
-    ensures places { IfOk result (λ x. AreThere (size_at view.now.store.now.frames) x.1) }
-{
-    let at = named(view, target, wants.len())?;
-    Ok((at, pattern(wants, view)?))
-}
-
 /// Removes a message of the channel at a place.
 fn remove_at(channels: &mut [LiveChannel], at: usize, removal: Removal, message: usize)
     requires there { at < length channels.old }
@@ -102,7 +134,7 @@ fn remove_at(channels: &mut [LiveChannel], at: usize, removal: Removal, message:
 }
 
 /// Receives the message that is found, if there is one. Want of memory leaves the channels, and what is stored by then.
-fn take_from(
+pub fn take_from(
     store: &mut Store,
     channels: &mut [LiveChannel],
     at: usize,
@@ -124,109 +156,4 @@ fn take_from(
     store_fields(store, sought, channels[at].channel.message(message))?;
     remove_at(channels, at, removal, message);
     Ok(())
-}
-
-/// Adds what a few arguments ask, or answers the first fault from the left.
-fn add_wants(wants: &[Want], view: &View<'_>, sought: &mut FewSought) -> Result<(), Fault>
-    requires few { length wants.now ≤ FEW_FIELDS }
-    requires none { sought.old ≡ [] }
-    ensures ok { OnOk result (asked_by wants.now (seen view.now) ≡ Ok sought.new) }
-    ensures err { IfErr result (λ f. asked_by wants.now (seen view.now) ≡ Err f) }
-    ensures places { OnOk result (AreThere (size_at view.now.store.now.frames) sought.new) }
-{
-    for one in wants {
-        sought.push(want(one, view)?);
-    }
-    Ok(())
-}
-
-/// Where a message of a few fields is received; what is asked of it is added.
-fn ask_few(
-    target: &Target,
-    wants: &[Want],
-    view: &View<'_>,
-    sought: &mut FewSought,
-) -> Result<usize, Fault>
-    requires few { length wants.now ≤ FEW_FIELDS }
-    requires none { sought.old ≡ [] }
-    ensures ok { IfOk result (λ n. asked_at view.now.channels.now (seen view.now) target.now wants.now ≡ Ok (n, sought.new)) }
-    ensures err { IfErr result (λ f. asked_at view.now.channels.now (seen view.now) target.now wants.now ≡ Err f) }
-    ensures there { IfOk result (λ n. n < length view.now.channels.now) }
-    ensures places { OnOk result (AreThere (size_at view.now.store.now.frames) sought.new) }
-{
-    let at = named(view, target, wants.len())?;
-    add_wants(wants, view, sought)?;
-    Ok(at)
-}
-
-/// Receives a message of a few fields.
-fn receive_few(
-    store: &mut Store,
-    channels: &mut [LiveChannel],
-    taker: Taker,
-    reception: Reception<'_>,
-) -> Result<(), Stop>
-    requires { length reception.wants.now ≤ FEW_FIELDS }
-    ensures value { Receives taker reception.entry result store.old store.new channels.old channels.new }
-    ensures past { before store.new ≡ before store.old }
-{
-    let Reception {
-        target,
-        search,
-        removal,
-        wants,
-    } = reception;
-    let view = View::new(&*store, &*channels, taker);
-    let mut sought = FewSought::new();
-    match ask_few(target, wants, &view, &mut sought) {
-        Err(fault) => Err(Stop::Fault(fault)),
-        Ok(at) => match take_from(store, channels, at, search, removal, sought.as_slice()) {
-            Ok(()) => Ok(()),
-            Err(_) => Err(Stop::Memory),
-        },
-    }
-}
-
-/// Receives a message of any number of fields.
-fn receive_many(
-    store: &mut Store,
-    channels: &mut [LiveChannel],
-    taker: Taker,
-    reception: Reception<'_>,
-) -> Result<(), Stop>
-    ensures value { Receives taker reception.entry result store.old store.new channels.old channels.new }
-    ensures past { before store.new ≡ before store.old }
-{
-    let Reception {
-        target,
-        search,
-        removal,
-        wants,
-    } = reception;
-    let view = View::new(&*store, &*channels, taker);
-    match asked_at(target, wants, &view) {
-        Err(fault) => Err(Stop::Fault(fault)),
-        Ok((at, sought)) => {
-            match take_from(store, channels, at, search, removal, sought.as_slice()) {
-                Ok(()) => Ok(()),
-                Err(_) => Err(Stop::Memory),
-            }
-        }
-    }
-}
-
-/// Receives a message.
-pub fn receive(
-    store: &mut Store,
-    channels: &mut [LiveChannel],
-    taker: Taker,
-    reception: Reception<'_>,
-) -> Result<(), Stop>
-    ensures value { Receives taker reception.entry result store.old store.new channels.old channels.new }
-    ensures past { before store.new ≡ before store.old }
-{
-    if reception.wants.len() <= FEW_FIELDS {
-        return receive_few(store, channels, taker, reception);
-    }
-    receive_many(store, channels, taker, reception)
 }

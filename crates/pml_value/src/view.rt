@@ -3,8 +3,8 @@
 ghost use Rattle.std.specs.Prelude.{◌≡◌, option_map};
 ghost use Rattle.std.specs.Option.{option_copied};
 ghost use Rattle.pml_eval.specs.Ground.{shown};
-ghost use Rattle.promela_run.specs.State.{channel_at, filling};
-ghost use Rattle.pml_value.specs.Seen.{frame_of, read_by, seen};
+ghost use Rattle.promela_run.specs.State.{channel_at, filling, reading_of};
+ghost use Rattle.pml_value.specs.Seen.{frame_of, seen};
 
 use pml_channel::channel::Channel;
 use pml_eval::ground::{Filled, Ground};
@@ -12,45 +12,47 @@ use pml_store::store::Store;
 use promela_process::place::Place;
 use promela_run::live_channel::LiveChannel;
 
-/// The process that takes a statement: its number, how many processes live, and `timeout`.
-#[derive(Clone, Copy, PartialEq, Eq, Debug)]
-pub struct Taker {
+/// The store and the live channels, and who reads them: the number of a process, how many live, and `timeout`.
+#[derive(Drop)]
+pub struct View<'a> {
+    pub store: &'a Store,
+    pub channels: &'a [LiveChannel],
     pub pid: u8,
     pub process_count: u8,
     pub timeout: bool,
 }
 
-/// The store and the live channels, and who reads them.
-#[derive(Drop)]
-pub struct View<'a> {
-    pub store: &'a Store,
-    pub channels: &'a [LiveChannel],
-    pub taker: Taker,
-}
-
 impl<'a> View<'a> {
     /// What a process reads of a store and live channels.
     #[inline(always)]
-    pub fn new(store: &'a Store, channels: &'a [LiveChannel], taker: Taker) -> View<'a>
-        ensures reads { seen result ≡ read_by store.now.frames channels.now taker }
+    pub fn new(
+        store: &'a Store,
+        channels: &'a [LiveChannel],
+        pid: u8,
+        process_count: u8,
+        timeout: bool,
+    ) -> View<'a>
+        ensures reads { seen result ≡ reading_of store.now.frames channels.now pid process_count timeout }
         ensures store { result.store.now ≡ store.now }
         ensures channels { result.channels.now ≡ channels.now }
     {
         View {
             store,
             channels,
-            taker,
+            pid,
+            process_count,
+            timeout,
         }
     }
 }
 
 impl Ground for View<'_> {
-    ghost use Rattle.pml_value.specs.Seen.{read_by};
+    ghost use Rattle.pml_value.specs.Seen.{seen};
 
-    ghost reading = { λ v. read_by v.store.now.frames v.channels.now v.taker };
+    ghost reading = { seen };
 
     fn frame(&self, local: bool) -> usize {
-        frame_of(self.taker.pid, local)
+        frame_of(self.pid, local)
     }
 
     fn size(&self, frame: usize, variable: usize) -> usize {
@@ -62,15 +64,15 @@ impl Ground for View<'_> {
     }
 
     fn pid(&self) -> i32 {
-        i32::from(self.taker.pid)
+        i32::from(self.pid)
     }
 
     fn process_count(&self) -> i32 {
-        i32::from(self.taker.process_count)
+        i32::from(self.process_count)
     }
 
     fn timeout(&self) -> bool {
-        self.taker.timeout
+        self.timeout
     }
 
     fn channel(&self, number: i32) -> Option<Filled> {

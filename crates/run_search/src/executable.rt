@@ -139,7 +139,7 @@ pub fn can_be_taken(view: &View<'_>, lossy: bool, in_d_step: bool, action: &Acti
 {
     match action {
         Action::Holds(value) => holds(view, value),
-        Action::Run(_) => usize::from(view.taker.process_count) < MOST_PROCESSES,
+        Action::Run(_) => usize::from(view.process_count) < MOST_PROCESSES,
         Action::Send(target, _, fields) => {
             can_send_to(view, lossy, in_d_step, target, fields.as_slice())
         }

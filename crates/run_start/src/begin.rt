@@ -18,7 +18,7 @@ use pml_eval::eval::eval;
 use pml_program::expr::Expr;
 use pml_program::form::Form;
 use pml_program::program::{Initial, Slot};
-use pml_value::view::{Taker, View};
+use pml_value::view::View;
 use profile::{MOST_CHANNELS, MOST_MESSAGES};
 use promela_process::place::Place;
 use promela_run::beginning::Beginning;
@@ -33,12 +33,9 @@ fn initial_value(started: &Started, value: &Expr, form: Form) -> Result<i32, Fau
     ensures { result ≡ initial_value value.now form (shown started.now) }
 {
     let count = started.sorts.len();
-    let taker = Taker {
-        pid: count.saturating_sub(1) as u8,
-        process_count: count as u8,
-        timeout: false,
-    };
-    let view = View::new(&started.store, started.channels.as_slice(), taker);
+    let pid = count.saturating_sub(1) as u8;
+    let channels = started.channels.as_slice();
+    let view = View::new(&started.store, channels, pid, count as u8, false);
     let number = eval(value, &view)?;
     Ok(clip(form, number))
 }

@@ -13,7 +13,7 @@ use pml_program::expr::Expr;
 use pml_program::form::Form;
 use pml_program::program::{Fields, Initial, Program, Slot};
 use pml_store::store::Store;
-use pml_value::view::{Taker, View};
+use pml_value::view::View;
 use promela_run::beginning::Beginning;
 use run_layout::cursor::Cursor;
 use run_layout::tables::Tables;
@@ -27,12 +27,7 @@ pub fn constant(alloc: Global, value: &Expr, form: Form) -> Result<i32, Fault>
     ensures { result ≡ initial_value value.now form nothing }
 {
     let store = Store::new(alloc, 0);
-    let nobody = Taker {
-        pid: 0,
-        process_count: 0,
-        timeout: false,
-    };
-    let view = View::new(&store, &[], nobody);
+    let view = View::new(&store, &[], 0, 0, false);
     let number = eval(value, &view)?;
     Ok(clip(form, number))
 }

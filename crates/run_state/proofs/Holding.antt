@@ -1,5 +1,5 @@
 -- What is always so stays so, and what a call does to the parts it does to the state.
-use Rattle.std.proofs.Common.{◌≡◌, ℕ, zero, suc, ◌*◌, ◌≤◌, nat_lt, if◌then◌else◌, true, false, OnOk, OnErr, arith, Bool, ℤ, take, drop, List, [], ◌∷◌, ◌++◌, map, length, refl, sym, ap, ◌∙◌, subst, Option, Some, None, Result, Ok, Err}
+use Rattle.std.proofs.Common.{◌≡◌, ℕ, zero, suc, ◌*◌, ◌<◌, ◌≤◌, nat_lt, if◌then◌else◌, true, false, OnOk, OnErr, arith, Bool, ℤ, take, drop, List, [], ◌∷◌, ◌++◌, map, length, refl, sym, ap, ◌∙◌, subst, Option, Some, None, IfSome, Result, Ok, Err}
 use Rattle.std.specs.List.{AllByRecursion}
 use Rattle.std.proofs.lemmas.List.{length-map}
 use Rattle.std.proofs.Math.Seq.{take-append_seam}
@@ -8,31 +8,24 @@ use Rattle.diagnostics.specs.declared.stop.Stop.{Stop}
 use Rattle.diagnostics.specs.declared.stop.Stop.TheVariants as stop
 use Rattle.pml_program.specs.declared.program.Program.{Program}
 use Rattle.promela_process.specs.declared.sought.Sought.{Sought}
-use Rattle.promela_process.specs.Expressions.{Reading, ◌>>=◌}
-use Rattle.promela_process.specs.Store.{ChannelState, cut}
+use Rattle.promela_process.specs.Store.{ChannelState, cut, Frame, size_at}
 use Rattle.pml_tree.specs.declared.tree.SendOrder.{SendOrder}
 use Rattle.pml_tree.specs.declared.tree.Search.{Search}
 use Rattle.pml_tree.specs.declared.tree.Removal.{Removal}
 use Rattle.pml_tree.specs.declared.tree.Removal.TheVariants as removal
-use Rattle.pml_program.specs.declared.expr.Expr.{Expr}
-use Rattle.pml_program.specs.declared.expr.Target.{Target}
-use Rattle.pml_program.specs.declared.expr.Want.{Want}
-use Rattle.pml_value.specs.declared.view.Taker.{Taker}
-use Rattle.pml_value.specs.Seen.{read_by}
 use Rattle.promela_process.specs.declared.place.Place.{Place}
 use Rattle.pml_store.specs.Writing.{Contents, stored}
 use Rattle.promela_run.specs.declared.goes.Goes.{Goes}
 use Rattle.promela_run.specs.declared.live_channel.LiveChannel.{LiveChannel}
-use Rattle.pml_value.specs.Takes.{TakesStatement}
-use Rattle.promela_run.specs.Statements.{changed, contents_at, ordered, with_message, addressed, sent, found, without, taken_from, taken_at, asked_at, received, Received}
-use Rattle.pml_value.specs.Storing.{stored_all, StoresSome, SendsMessage, ReceivesMessage}
+use Rattle.pml_value.specs.Takes.{IsIn}
+use Rattle.promela_run.specs.Statements.{changed, contents_at, ordered, with_message, found, without, taken_from, taken_at, Received}
+use Rattle.pml_value.specs.Storing.{stored_all, StoresSome, AllReceived, PartReceived}
 use Rattle.run_start.specs.Shown.{shape}
 use Rattle.run_start.specs.Bound.{room, most_room, AreBounded}
 use Rattle.run_start.proofs.Shapes.{shape-with_number}
 use Rattle.run_state.specs.declared.seat.Seat.{Seat}
-use Rattle.promela_run.specs.State.{State, reads}
-use Rattle.promela_run.specs.Steps.{put, put_all, put_by, with_sent, with_received}
-use Rattle.run_state.specs.Live.{Leads, ReadsAs}
+use Rattle.promela_run.specs.State.{State}
+use Rattle.promela_run.specs.Steps.{put, put_all}
 use Rattle.run_state.specs.Held.{IsHeld, live_of}
 
 -- the variables have as many cells, and there may be as many
@@ -70,28 +63,17 @@ pub set_stays : {E : Type 0} (r : Result (Unit {0}) E) (old new : Contents) (p :
 set_stays (Ok u) old new p v h k = record { shape = ap (λ (c : Contents). shape c.frames) h ∙ shape-with_number old.frames p v; most = ap (λ (c : Contents). c.most) h }
 set_stays (Err e) old new p v h k = same_stays old new k
 
-pub taken_stays : (d : Result (Option Goes) Fault) (r : Result (Unit {0}) Stop) (old new : Contents) → TakesStatement d r old new → Stays old new
-taken_stays (Ok None) (Ok u) old new h = same_stays old new h
-taken_stays (Ok None) (Err s) old new h = absurd h
-taken_stays (Ok (Some g)) (Ok u) old new h = all_are old new (g ∷ []) h
-taken_stays (Ok (Some g)) (Err stop.Memory) old new h = same_stays old new h
-taken_stays (Ok (Some g)) (Err (stop.Fault f)) old new h = absurd h
-taken_stays (Err f) (Err (stop.Fault g)) old new h = same_stays old new h.1
-taken_stays (Err f) (Err stop.Memory) old new h = absurd h
-taken_stays (Err f) (Ok u) old new h = absurd h
-
-pub received_stays : (d : Result Received Fault) (r : Result (Unit {0}) Stop) (old new : Contents) (cs ds : List LiveChannel) → ReceivesMessage d r old new cs ds → Stays old new
-received_stays (Ok x) (Ok u) old new cs ds h = all_are old new x.numbers h.0
-received_stays (Ok x) (Err stop.Memory) old new cs ds h = all_are old new h.0.before h.0.stands
-received_stays (Ok x) (Err (stop.Fault f)) old new cs ds h = absurd h
-received_stays (Err f) (Err (stop.Fault g)) old new cs ds h = same_stays old new h.1
-received_stays (Err f) (Err stop.Memory) old new cs ds h = absurd h
-received_stays (Err f) (Ok u) old new cs ds h = absurd h
+pub received_stays : {E : Type 0} (r : Result (Unit {0}) E) (x : Received) (old new : Contents) (cs ds : List LiveChannel) → OnOk r (AllReceived x old new ds) → OnErr r (PartReceived x old new cs ds) → Stays old new
+received_stays (Ok u) x old new cs ds h k = all_are old new x.numbers h.0
+received_stays (Err e) x old new cs ds h k = all_are old new k.0.before k.0.stands
 
 -- to store numbers, all or some
 pub all_stay_or_some : {E : Type 0} (r : Result (Unit {0}) E) (old new : Contents) (gs : List Goes) → OnOk r (new ≡ stored_all old gs) → OnErr r (StoresSome old new gs) → Stays old new
 all_stay_or_some (Ok u) old new gs h k = all_are old new gs h
 all_stay_or_some (Err e) old new gs h k = all_are old new k.before k.stands
+
+pub one_in_same : (fs hs : List Frame) (o : Option Goes) → size_at fs ≡ size_at hs → IfSome o (IsIn fs) → IfSome o (IsIn hs)
+one_in_same fs hs o e h = subst (λ (f : ℕ → ℕ → ℕ). IfSome o (λ (g : Goes). g.place.cell < f g.place.frame g.place.variable)) e h
 
 -- ---- the state
 
@@ -114,35 +96,12 @@ module _ (p : Program) (cs ds : List LiveChannel) (xs : List Seat) (holder : Opt
   abbrev with_store : Contents → State
   with_store c = (live_of p c cs xs holder lossy).state
 
-  pub taken_leads : (d : Result (Option Goes) Fault) (r : Result (Unit {0}) Stop) → TakesStatement d r old new → Leads (put_by was d) r (with_store new)
-  taken_leads (Ok None) (Ok u) h = ap with_store h
-  taken_leads (Ok None) (Err s) h = absurd h
-  taken_leads (Ok (Some g)) (Ok u) h = ap with_store h
-  taken_leads (Ok (Some g)) (Err stop.Memory) h = tt
-  taken_leads (Ok (Some g)) (Err (stop.Fault f)) h = absurd h
-  taken_leads (Err f) (Err (stop.Fault g)) h = h.0
-  taken_leads (Err f) (Err stop.Memory) h = absurd h
-  taken_leads (Err f) (Ok u) h = absurd h
-
-  pub received_leads : (d : Result Received Fault) (r : Result (Unit {0}) Stop) → ReceivesMessage d r old new cs ds → Leads (with_received was d) r now_is
-  received_leads (Ok x) (Ok u) h =
+  pub received_leads : (x : Received) → AllReceived x old new ds → now_is ≡ record (put_all was x.numbers) { channels = x.live }
+  received_leads x h =
       ap (λ (c : Contents). (live_of p c ds xs holder lossy).state) h.0 ∙ all_put p old cs ds xs holder lossy x.numbers ∙ ap (λ (es : List LiveChannel). record (put_all was x.numbers) { channels = es }) h.1
-  received_leads (Ok x) (Err stop.Memory) h = tt
-  received_leads (Ok x) (Err (stop.Fault f)) h = absurd h
-  received_leads (Err f) (Err (stop.Fault g)) h = h.0
-  received_leads (Err f) (Err stop.Memory) h = absurd h
-  received_leads (Err f) (Ok u) h = absurd h
 
   pub all_lead : (gs : List Goes) → new ≡ stored_all old gs → with_store new ≡ put_all was gs
   all_lead gs h = ap with_store h ∙ all_put p old cs cs xs holder lossy gs ∙ put_keeps was gs
-
-pub sent_leads : (s : State) (d : Result (List LiveChannel) Fault) (r : Result (Unit {0}) Stop) (ds : List LiveChannel) → SendsMessage d r s.channels ds → Leads (with_sent s d) r (record s { channels = ds })
-sent_leads s (Ok cs) (Ok u) ds h = ap (λ (es : List LiveChannel). record s { channels = es }) h
-sent_leads s (Ok cs) (Err stop.Memory) ds h = tt
-sent_leads s (Ok cs) (Err (stop.Fault f)) ds h = absurd h
-sent_leads s (Err f) (Err (stop.Fault g)) ds h = h.0
-sent_leads s (Err f) (Err stop.Memory) ds h = absurd h
-sent_leads s (Err f) (Ok u) ds h = absurd h
 
 -- ---- as many channels as before, with as much room
 
@@ -171,33 +130,18 @@ without_keeps_room removal.Keep n c = refl
 as_many : (cs ds : List LiveChannel) → map room ds ≡ map room cs → length ds ≡ length cs
 as_many cs ds e = sym (length-map ds room) ∙ ap length e ∙ length-map cs room
 
-sent_rooms : (x : Result (ℕ × List ℤ) Fault) (order : SendOrder) (r : Result (Unit {0}) Stop) (cs ds : List LiveChannel) → SendsMessage (x >>= λ m. Ok (changed m.0 (with_message order m.1) cs)) r cs ds → map room ds ≡ map room cs
-sent_rooms (Ok m) order (Ok u) cs ds h = ap (map room) h ∙ changed_rooms m.0 (with_message order m.1) cs (message_keeps_room order m.1)
-sent_rooms (Ok m) order (Err stop.Memory) cs ds h = ap (map room) h
-sent_rooms (Ok m) order (Err (stop.Fault f)) cs ds h = absurd h
-sent_rooms (Err f) order (Ok u) cs ds h = absurd h
-sent_rooms (Err f) order (Err stop.Memory) cs ds h = absurd h
-sent_rooms (Err f) order (Err (stop.Fault g)) cs ds h = ap (map room) h.1
-
-sent_length : (x : Result (ℕ × List ℤ) Fault) (order : SendOrder) (r : Result (Unit {0}) Stop) (cs ds : List LiveChannel) → SendsMessage (x >>= λ m. Ok (changed m.0 (with_message order m.1) cs)) r cs ds → length ds ≡ length cs
-sent_length x order r cs ds h = as_many cs ds (sent_rooms x order r cs ds h)
+put_rooms : {E : Type 0} (r : Result (Unit {0}) E) (n : ℕ) (order : SendOrder) (vs : List ℤ) (cs ds : List LiveChannel) → OnOk r (ds ≡ changed n (with_message order vs) cs) → OnErr r (ds ≡ cs) → map room ds ≡ map room cs
+put_rooms (Ok u) n order vs cs ds h k = ap (map room) h ∙ changed_rooms n (with_message order vs) cs (message_keeps_room order vs)
+put_rooms (Err e) n order vs cs ds h k = ap (map room) k
 
 taken_rooms : (cs : List LiveChannel) (n : ℕ) (how : Removal) (ws : List Sought) (m : Option ℕ) → map room (taken_from cs n how ws m).live ≡ map room cs
 taken_rooms cs n how ws None = refl
 taken_rooms cs n how ws (Some m) = changed_rooms n (without how m) cs (without_keeps_room how m)
 
-received_rooms : (x : Result (ℕ × List Sought) Fault) (search : Search) (how : Removal) (r : Result (Unit {0}) Stop) (old new : Contents) (cs ds : List LiveChannel) →
-    ReceivesMessage (x >>= λ y. Ok (taken_at cs y.0 search how y.1)) r old new cs ds → map room ds ≡ map room cs
-received_rooms (Ok x) search how (Ok u) old new cs ds h = ap (map room) h.1 ∙ taken_rooms cs x.0 how x.1 (found search x.1 (contents_at cs x.0).messages)
-received_rooms (Ok x) search how (Err stop.Memory) old new cs ds h = ap (map room) h.1
-received_rooms (Ok x) search how (Err (stop.Fault f)) old new cs ds h = absurd h
-received_rooms (Err f) search how (Ok u) old new cs ds h = absurd h
-received_rooms (Err f) search how (Err stop.Memory) old new cs ds h = absurd h
-received_rooms (Err f) search how (Err (stop.Fault g)) old new cs ds h = ap (map room) h.2
-
-received_length : (x : Result (ℕ × List Sought) Fault) (search : Search) (how : Removal) (r : Result (Unit {0}) Stop) (old new : Contents) (cs ds : List LiveChannel) →
-    ReceivesMessage (x >>= λ y. Ok (taken_at cs y.0 search how y.1)) r old new cs ds → length ds ≡ length cs
-received_length x search how r old new cs ds h = as_many cs ds (received_rooms x search how r old new cs ds h)
+received_rooms : {E : Type 0} (r : Result (Unit {0}) E) (n : ℕ) (search : Search) (how : Removal) (ws : List Sought) (old new : Contents) (cs ds : List LiveChannel) →
+    OnOk r (AllReceived (taken_at cs n search how ws) old new ds) → OnErr r (PartReceived (taken_at cs n search how ws) old new cs ds) → map room ds ≡ map room cs
+received_rooms (Ok u) n search how ws old new cs ds h k = ap (map room) h.1 ∙ taken_rooms cs n how ws (found search ws (contents_at cs n).messages)
+received_rooms (Err e) n search how ws old new cs ds h k = ap (map room) k.1
 
 -- with as much room, no more than the model says
 same_bounded : (p : Program) (cs ds : List LiveChannel) → AreBounded p cs → map room ds ≡ map room cs → AreBounded p ds
@@ -211,31 +155,28 @@ kept_whole : {A : Type 0} (n : ℕ) (xs ys : List A) → n ≡ length ys → len
 kept_whole n xs ys e l =
     ap (λ (i : ℕ). take i (xs ++ drop (length xs) ys)) (e ∙ sym l) ∙ take-append_seam xs (drop (length xs) ys)
 
--- ---- the same of what calls read by other names
+-- ---- a message is put in or taken out
 
-module _ (p : Program) (store : Contents) (cs : List LiveChannel) (xs : List Seat) (holder : Option ℕ) (lossy : Bool) (process : ℕ) (timeout : Bool) (k : Taker) where
+module _ (p : Program) (store : Contents) (cs : List LiveChannel) (xs : List Seat) (holder : Option ℕ) (lossy : Bool) where
   abbrev before : State
   before = (live_of p store cs xs holder lossy).state
 
-  pub sent_lives : (n : ℕ) (ds es : List LiveChannel) (target : Target) (order : SendOrder) (fields : List Expr) (r : Result (Unit {0}) Stop) → n ≡ length cs → ds ≡ cs → ReadsAs k process (length before.stands) timeout
-      → SendsMessage (sent ds (read_by store.frames ds k) target order fields) r ds es
-      → Leads (with_sent before (sent before.channels (reads before process timeout) target order fields)) r (record before { channels = take n (es ++ drop (length es) cs) })
-  sent_lives n ds es target order fields r count_is e same h =
-      let one : SendsMessage (sent cs (read_by store.frames cs k) target order fields) r cs es = subst (λ (l : List LiveChannel). SendsMessage (sent l (read_by store.frames l k) target order fields) r l es) e h in
-      let two : SendsMessage (sent cs (reads before process timeout) target order fields) r cs es = subst (λ (g : Reading). SendsMessage (sent cs g target order fields) r cs es) (same store.frames cs) one in
-      let whole = kept_whole n es cs count_is (sent_length (addressed cs (reads before process timeout) target fields) order r cs es two) in
-      sent_leads before (sent cs (reads before process timeout) target order fields) r (take n (es ++ drop (length es) cs))
-      (subst (λ (l : List LiveChannel). SendsMessage (sent cs (reads before process timeout) target order fields) r cs l) (sym whole) two)
+  pub sent_lives : (count n : ℕ) (order : SendOrder) (vs : List ℤ) (ds es : List LiveChannel) → count ≡ length cs → ds ≡ cs → es ≡ changed n (with_message order vs) ds
+      → record before { channels = take count (es ++ drop (length es) cs) } ≡ record before { channels = changed n (with_message order vs) cs }
+  sent_lives count n order vs ds es count_is same h =
+      let now : es ≡ changed n (with_message order vs) cs = h ∙ ap (changed n (with_message order vs)) same in
+      let rooms : map room es ≡ map room cs = ap (map room) now ∙ changed_rooms n (with_message order vs) cs (message_keeps_room order vs) in
+      ap (λ (l : List LiveChannel). record before { channels = l }) (kept_whole count es cs count_is (as_many cs es rooms) ∙ now)
 
-  pub received_lives : (n : ℕ) (ds es : List LiveChannel) (new : Contents) (target : Target) (search : Search) (removal : Removal) (wants : List Want) (r : Result (Unit {0}) Stop) → n ≡ length cs → ds ≡ cs → ReadsAs k process (length before.stands) timeout
-      → ReceivesMessage (received ds (read_by store.frames ds k) target search removal wants) r store new ds es
-      → Leads (with_received before (received before.channels (reads before process timeout) target search removal wants)) r (live_of p new (take n (es ++ drop (length es) cs)) xs holder lossy).state
-  received_lives n ds es new target search removal wants r count_is e same h =
-      let one : ReceivesMessage (received cs (read_by store.frames cs k) target search removal wants) r store new cs es = subst (λ (l : List LiveChannel). ReceivesMessage (received l (read_by store.frames l k) target search removal wants) r store new l es) e h in
-      let two : ReceivesMessage (received cs (reads before process timeout) target search removal wants) r store new cs es = subst (λ (g : Reading). ReceivesMessage (received cs g target search removal wants) r store new cs es) (same store.frames cs) one in
-      let whole = kept_whole n es cs count_is (received_length (asked_at cs (reads before process timeout) target wants) search removal r store new cs es two) in
-      received_leads p cs (take n (es ++ drop (length es) cs)) xs holder lossy store new (received cs (reads before process timeout) target search removal wants) r
-      (subst (λ (l : List LiveChannel). ReceivesMessage (received cs (reads before process timeout) target search removal wants) r store new cs l) (sym whole) two)
+  pub received_lives : (count n : ℕ) (search : Search) (how : Removal) (ws : List Sought) (ds es : List LiveChannel) (new : Contents) → count ≡ length cs → ds ≡ cs
+      → AllReceived (taken_at ds n search how ws) store new es
+      → (live_of p new (take count (es ++ drop (length es) cs)) xs holder lossy).state
+      ≡ record (put_all before (taken_at cs n search how ws).numbers) { channels = (taken_at cs n search how ws).live }
+  received_lives count n search how ws ds es new count_is same h =
+      let now : AllReceived (taken_at cs n search how ws) store new es = subst (λ (l : List LiveChannel). AllReceived (taken_at l n search how ws) store new es) same h in
+      let rooms : map room es ≡ map room cs = ap (map room) now.1 ∙ taken_rooms cs n how ws (found search ws (contents_at cs n).messages) in
+      let whole = kept_whole count es cs count_is (as_many cs es rooms) in
+      received_leads p cs (take count (es ++ drop (length es) cs)) xs holder lossy store new (taken_at cs n search how ws) (now.0, whole ∙ now.1)
 
 -- no channel has more room after a send or a receive
 module _ (p : Program) (cs ds es : List LiveChannel) (n : ℕ) (count_is : n ≡ length cs) (same : ds ≡ cs) (b : AreBounded p cs) where
@@ -245,13 +186,9 @@ module _ (p : Program) (cs ds es : List LiveChannel) (n : ℕ) (count_is : n ≡
   whole_bounded : map room es ≡ map room cs → AreBounded p back
   whole_bounded e = subst (AreBounded p) (sym (kept_whole n es cs count_is (as_many cs es e))) (same_bounded p cs es b e)
 
-  pub sent_bounded : (g : Reading) (target : Target) (order : SendOrder) (fields : List Expr) (r : Result (Unit {0}) Stop) → SendsMessage (sent ds g target order fields) r ds es → AreBounded p back
-  sent_bounded g target order fields r h =
-      let one : SendsMessage (sent cs g target order fields) r cs es = subst (λ (l : List LiveChannel). SendsMessage (sent l g target order fields) r l es) same h in
-      whole_bounded (sent_rooms (addressed cs g target fields) order r cs es one)
+  pub sent_bounded : {E : Type 0} (r : Result (Unit {0}) E) (at : ℕ) (order : SendOrder) (vs : List ℤ) → OnOk r (es ≡ changed at (with_message order vs) ds) → OnErr r (es ≡ ds) → AreBounded p back
+  sent_bounded r at order vs h k = whole_bounded (put_rooms r at order vs ds es h k ∙ ap (map room) same)
 
-  pub received_bounded : (g : Reading) (old new : Contents) (target : Target) (search : Search) (removal : Removal) (wants : List Want) (r : Result (Unit {0}) Stop) →
-      ReceivesMessage (received ds g target search removal wants) r old new ds es → AreBounded p back
-  received_bounded g old new target search removal wants r h =
-      let one : ReceivesMessage (received cs g target search removal wants) r old new cs es = subst (λ (l : List LiveChannel). ReceivesMessage (received l g target search removal wants) r old new l es) same h in
-      whole_bounded (received_rooms (asked_at cs g target wants) search removal r old new cs es one)
+  pub received_bounded : {E : Type 0} (r : Result (Unit {0}) E) (at : ℕ) (search : Search) (how : Removal) (ws : List Sought) (old new : Contents) →
+      OnOk r (AllReceived (taken_at ds at search how ws) old new es) → OnErr r (PartReceived (taken_at ds at search how ws) old new ds es) → AreBounded p back
+  received_bounded r at search how ws old new h k = whole_bounded (received_rooms r at search how ws old new ds es h k ∙ ap (map room) same)

@@ -4,11 +4,8 @@ use Rattle.diagnostics.specs.declared.fault.Fault.{Fault}
 use Rattle.diagnostics.specs.declared.stop.Stop.{Stop}
 use Rattle.diagnostics.specs.declared.stop.Stop.TheVariants as stop
 use Rattle.promela_process.specs.Store.{Frame}
-use Rattle.promela_run.specs.State.{Stand, State, reading_of}
+use Rattle.promela_run.specs.State.{Stand, State}
 use Rattle.pml_flow.specs.declared.edge.Edge.{Edge}
-use Rattle.promela_run.specs.declared.live_channel.LiveChannel.{LiveChannel}
-use Rattle.pml_value.specs.declared.view.Taker.{Taker}
-use Rattle.pml_value.specs.Seen.{read_by}
 use Rattle.promela_run.specs.Steps.{go_to, without_youngest}
 use Rattle.run_state.specs.Calls.{control_of}
 use Rattle.promela_run.specs.World.{Running}
@@ -40,10 +37,6 @@ along l p e = record l { state = record (go_to l.state p (control_of l.state p e
 -- the youngest process dies, and what its variables held before goes with it
 abbrev pub died : Running → Running
 died l = record l { state = without_youngest l.state; past = take (length l.state.stands) l.past }
-
--- it reads what the process with this number reads, where so many live
-abbrev pub ReadsAs : Taker → ℕ → ℕ → Bool → Type 0
-ReadsAs k p n t = (fs : List Frame) (cs : List LiveChannel) → read_by fs cs k ≡ reading_of fs cs p n t
 
 -- what is wanted is reached; or its fault is answered, or memory is refused
 abbrev pub Reaches : {A : Type 0} → Result A Fault → Result (Unit {0}) Stop → (A → Type 0) → Type 0

@@ -4,6 +4,7 @@
 pub mod body;
 mod footprint;
 pub mod live;
+mod messages;
 pub mod played;
 pub mod seat;
 mod storing;

@@ -1,6 +1,6 @@
 //! What lives in a run.
 
-ghost use Rattle.std.specs.Prelude.{◌≡◌, ◌+◌, ◌<◌, ◌≤◌, [], None, Ok, IfOk, IfSome, OnOk, nat_eq, not, length, map, option_map, slice_get};
+ghost use Rattle.std.specs.Prelude.{◌≡◌, ◌+◌, ◌<◌, ◌≤◌, [], None, Ok, Some, IfOk, IfSome, OnOk, nat_eq, not, length, map, option_map, slice_get};
 ghost use Rattle.std.specs.List.{filter};
 ghost use Rattle.pml_store.specs.Writing.{before};
 ghost use Rattle.promela_run.specs.declared.live_channel.LiveChannel.{LiveChannel};
@@ -11,14 +11,16 @@ ghost use Rattle.run_start.specs.Bound.{bound, most_cells, IsBounded};
 ghost use Rattle.run_start.specs.Starting.{IsDeclared};
 ghost use Rattle.run_state.specs.Standing.{stand_of, IsBody, StandsIn};
 ghost use Rattle.promela_run.specs.State.{body_of, reads};
-ghost use Rattle.pml_value.specs.Seen.{seen};
-ghost use Rattle.promela_run.specs.Statements.{outcome};
+ghost use Rattle.pml_value.specs.Seen.{assigned, seen};
+ghost use Rattle.promela_run.specs.Statements.{changed, contents_at, outcome, taken_at, with_message};
+ghost use Rattle.promela_process.specs.Store.{size_at};
+ghost use Rattle.pml_eval.specs.There.{AreThere};
 ghost use Rattle.pml_value.specs.Takes.{IsIn};
-ghost use Rattle.promela_run.specs.Steps.{put_all, put_by, sorts, there, with_new};
+ghost use Rattle.promela_run.specs.Steps.{put_all, put_by, sorts, there, with_new, with_received, with_sent};
 ghost use Rattle.run_state.specs.Footprint.{held};
-ghost use Rattle.run_state.specs.Live.{Leads, Keeps, Joins, PastGrows, ReadsAs, along, at_node, died};
+ghost use Rattle.run_state.specs.Live.{Leads, Keeps, Joins, PastGrows, along, at_node, died};
 ghost use Rattle.promela_run.specs.World.{first};
-ghost use Rattle.run_state.specs.Calls.{put_if, sends_by, receives_by};
+ghost use Rattle.run_state.specs.Calls.{put_if};
 ghost use Rattle.run_state.specs.Storing.{AreIn};
 
 use crate::body::Body;
@@ -31,11 +33,12 @@ use pml_flow::edge::Edge;
 use pml_program::expr::{Expr, Target};
 use pml_program::program::{Action, Program};
 use pml_store::store::Store;
-use pml_tree::tree::SendOrder;
-use pml_value::message::send;
-use pml_value::receive::{Reception, receive};
-use pml_value::statement::take;
-use pml_value::view::{Taker, View};
+use pml_tree::tree::{Removal, Search, SendOrder};
+use pml_value::message::put_at;
+use pml_value::receive::take_from;
+use pml_value::statement::{assigned, outcome};
+use pml_value::view::View;
+use promela_process::sought::Sought;
 use promela_run::goes::Goes;
 use promela_run::live_channel::LiveChannel;
 use run_layout::tables::Tables;
@@ -256,20 +259,36 @@ impl<'p, 'a> Live<'p, 'a> {
         ensures reads { seen result ≡ reads self.now.state process timeout }
         ensures channels { result.channels.now ≡ self.now.state.channels }
     {
-        let taker = self.taker(process, timeout);
-        View::new(&self.started.store, self.channels(), taker)
-    }
-
-    /// A process that takes a statement.
-    fn taker(&self, process: usize, timeout: bool) -> Taker
-        requires { process < length self.now.state.stands }
-        ensures { ReadsAs result process (length self.now.state.stands) timeout }
-    {
         let process_count = self.seats.len() as u8;
-        Taker {
-            pid: process as u8,
+        let store = &self.started.store;
+        View::new(
+            store,
+            self.channels(),
+            process as u8,
             process_count,
             timeout,
+        )
+    }
+
+    /// Takes an assignment to a variable.
+    #[inline(always)]
+    fn assign(
+        &mut self,
+        process: usize,
+        timeout: bool,
+        target: &Target,
+        value: &Expr,
+    ) -> Result<(), Stop>
+        requires { process < length self.old.state.stands }
+        ensures value { Leads (put_by self.old.state (assigned (Some target.now) value.now (reads self.old.state process timeout))) result self.new.state }
+        ensures keeps { Keeps self.old self.new }
+    {
+        match assigned(target, value, &self.view(process, timeout)) {
+            Err(fault) => Err(Stop::Fault(fault)),
+            Ok(goes) => match self.started.store.set(goes.place, goes.number) {
+                Ok(()) => Ok(()),
+                Err(_) => Err(Stop::Memory),
+            },
         }
     }
 
@@ -280,50 +299,56 @@ impl<'p, 'a> Live<'p, 'a> {
         ensures value { Leads (put_by self.old.state (outcome action.now (reads self.old.state process timeout))) result self.new.state }
         ensures keeps { Keeps self.old self.new }
     {
-        let taker = self.taker(process, timeout);
-        let channels = self.started.channels.as_slice();
-        take(&mut self.started.store, channels, taker, action)
+        if let Action::Assign(Some(target), value) = action {
+            return self.assign(process, timeout, target, value);
+        }
+        match outcome(action, &self.view(process, timeout)) {
+            Err(fault) => Err(Stop::Fault(fault)),
+            Ok(goes) => self.put(goes),
+        }
     }
 
-    /// A process sends a message by itself.
-    #[inline(never)]
-    pub fn send(
-        &mut self,
-        process: usize,
-        timeout: bool,
-        target: &Target,
-        order: SendOrder,
-        fields: &[Expr],
-    ) -> Result<(), Stop>
-        requires { process < length self.old.state.stands }
-        ensures value { Leads (sends_by self.old.state process timeout target.now order fields.now) result self.new.state }
+    /// Puts a message into the channel at a place.
+    #[inline(always)]
+    pub fn put_message(&mut self, at: usize, order: SendOrder, fields: &[i32]) -> Result<(), Stop>
+        requires there { at < length self.old.state.channels }
+        requires arity { length fields.now ≡ length (contents_at self.old.state.channels at).types }
+        ensures value { Leads (with_sent self.old.state (Ok (changed at (with_message order fields.now) self.old.state.channels))) result self.new.state }
         ensures keeps { Keeps self.old self.new }
     {
-        let taker = self.taker(process, timeout);
         let channels = self.started.channels.as_mut_slice();
-        send(&self.started.store, channels, taker, target, order, fields)
+        match put_at(channels, at, order, fields) {
+            Ok(()) => Ok(()),
+            Err(_) => Err(Stop::Memory),
+        }
     }
 
-    /// A process receives a message by itself.
-    #[inline(never)]
-    pub fn receive(
+    /// Receives the message of the channel at a place that is found, if there is one.
+    #[inline(always)]
+    pub fn take_message(
         &mut self,
-        process: usize,
-        timeout: bool,
-        reception: Reception<'_>,
+        at: usize,
+        search: Search,
+        removal: Removal,
+        sought: &[Sought],
     ) -> Result<(), Stop>
-        requires { process < length self.old.state.stands }
-        ensures value { Leads (receives_by self.old.state process timeout reception.entry) result self.new.state }
+        requires there { at < length self.old.state.channels }
+        requires places { AreThere (size_at self.old.state.frames) sought.now }
+        ensures value { Leads (with_received self.old.state (Ok (taken_at self.old.state.channels at search removal sought.now))) result self.new.state }
         ensures keeps { Keeps self.old self.new }
     {
-        let taker = self.taker(process, timeout);
+        let store = &mut self.started.store;
         let channels = self.started.channels.as_mut_slice();
-        receive(&mut self.started.store, channels, taker, reception)
+        match take_from(store, channels, at, search, removal, sought) {
+            Ok(()) => Ok(()),
+            Err(_) => Err(Stop::Memory),
+        }
     }
 }
 
 impl<'p, 'a> Live<'p, 'a> {
     /// Stores a number where it goes, if anywhere.
+    #[inline(always)]
     pub fn put(&mut self, goes: Option<Goes>) -> Result<(), Stop>
         requires { IfSome goes (IsIn self.old.state.frames) }
         ensures value { Leads (Ok (put_if self.old.state goes)) result self.new.state }

@@ -83,7 +83,7 @@ fn places(rt: HostRuntime) {
     let mut store = Store::new(rt.alloc(), 4);
     store.push_frame(&[]).expect(&rt, "the globals");
     store.push_frame(&[0, 0, 4]).expect(&rt, "the locals");
-    let view = View::new(&store, &[], parts::TAKER);
+    let view = parts::seen(&store, &[]);
     for element in &ELEMENTS {
         is_there(&rt, rt.alloc(), &view, element);
     }

@@ -1,9 +1,11 @@
 //! What the tests share: lists, a channel, names, variables and elements.
-ghost use Rattle.std.specs.Prelude.{◌≡◌, [], ◌∷◌, IfOk};
+ghost use Rattle.std.specs.Prelude.{◌≡◌, [], ◌∷◌, IfOk, IfSome};
 ghost use Rattle.pml_program.specs.declared.form.Form.TheVariants.{Plain};
 ghost use Rattle.pml_tree.specs.declared.tree.Scalar.TheVariants.{Byte, Short};
+ghost use Rattle.pml_value.specs.Takes.{IsIn};
 
 use crate::beginnings::slot;
+use diagnostics::{Fault, Stop};
 use pml_channel::channel::Channel;
 use pml_program::expr::{Expr, Target, Turn};
 use pml_program::form::Form;
@@ -11,8 +13,9 @@ use pml_program::program::{Initial, Slot};
 use pml_store::store::Store;
 use pml_token::token::{Kind, Token};
 use pml_tree::tree::{Infix, Scalar};
-use pml_value::view::Taker;
+use pml_value::view::View;
 use promela_process::place::Place;
+use promela_run::goes::Goes;
 use promela_run::live_channel::LiveChannel;
 use sqlite_items::{Boxed, Items};
 use std::alloc::{AllocError, Global};
@@ -50,12 +53,24 @@ pub fn constants() -> [Token<'static>; 2] {
     ]
 }
 
-/// The only process.
-pub const TAKER: Taker = Taker {
-    pid: 0,
-    process_count: 1,
-    timeout: false,
-};
+/// What the only process reads.
+pub fn seen<'w>(store: &'w Store, channels: &'w [LiveChannel]) -> View<'w>
+    ensures store { result.store.now ≡ store.now }
+    ensures channels { result.channels.now ≡ channels.now }
+{
+    View::new(store, channels, 0, 1, false)
+}
+
+/// Stores what a statement comes to.
+pub fn taken(store: &mut Store, goes: Result<Option<Goes>, Fault>) -> Result<(), Stop>
+    requires { IfOk goes (λ s. IfSome s (IsIn store.old.frames)) }
+{
+    match goes {
+        Err(fault) => Err(Stop::Fault(fault)),
+        Ok(None) => Ok(()),
+        Ok(Some(goes)) => store.set(goes.place, goes.number).map_err(|_| Stop::Memory),
+    }
+}
 
 /// A global variable.
 pub fn variable(alloc: Global, variable: usize, word: Scalar) -> Target {

@@ -7,16 +7,17 @@ ghost use Rattle.pml_tree.specs.declared.tree.Scalar.TheVariants.{Byte, Short};
 use crate::beginnings::begun_whole;
 use crate::compare::same;
 use crate::limits::sizes_of;
-use crate::parts::{TAKER, all, constants, globals, of_three, only, variable, variables};
+use crate::parts::{all, constants, globals, of_three, only, seen, taken, variable, variables};
 use diagnostics::Stop;
 use pml_channel::channel::Channel;
 use pml_program::expr::{Expr, Target, Want};
 use pml_program::program::{Action, Program, Slot};
 use pml_store::store::Store;
 use pml_tree::tree::{Removal, Scalar, Search, SendOrder};
-use pml_value::message::send;
-use pml_value::receive::{Reception, receive};
-use pml_value::statement::take;
+use pml_value::fields::Fields;
+use pml_value::message::{addressed, put_at};
+use pml_value::receive::{Asked, asked_at, take_from};
+use pml_value::statement::outcome;
 use promela_process::place::Place;
 use promela_run::live_channel::LiveChannel;
 use run_printf::string::printed;
@@ -153,7 +154,8 @@ fn counted(alloc: Global) -> Result<Items<Action<'static>>, AllocError> {
 /// A statement is taken, or it stores nothing.
 fn takes<R: Abort>(rt: &R, store: &mut Store, action: &Action<'_>, held: i32) -> i32 {
     let next = held.wrapping_add(1);
-    match take(store, &[], TAKER, action) {
+    let goes = outcome(action, &seen(&*store, &[]));
+    match taken(store, goes) {
         Ok(()) => {
             same(rt, "x++", "counts", store.cells().as_slice(), &[next]);
             next
@@ -209,18 +211,19 @@ fn goes_through<R: Abort>(
     wants: &[Want],
 ) {
     let fields = [Expr::Number(300), Expr::Number(7)];
-    if send(store, channels, TAKER, q, SendOrder::Sorted, &fields).is_err() {
+    let mut numbers = Fields::new();
+    let Ok(at) = addressed(q, &fields, &seen(&*store, &*channels), &mut numbers) else {
+        return;
+    };
+    if put_at(channels, at, SendOrder::Sorted, numbers.as_slice()).is_err() {
         return;
     }
-    let reception = Reception {
-        target: q,
-        search: Search::First,
-        removal: Removal::Remove,
-        wants,
+    let mut asked = Asked::new();
+    let Ok(at) = asked_at(q, wants, &seen(&*store, &*channels), &mut asked) else {
+        return;
     };
-    let received = receive(store, channels, TAKER, reception);
-    if let Err(stop) = received {
-        same(rt, "a message", "is refused", stop, Stop::Memory);
+    let how = Removal::Remove;
+    if take_from(store, channels, at, Search::First, how, asked.as_slice()).is_err() {
         let cells: &[i32] = &[1, 0, 0, 0, 0];
         same(
             rt,

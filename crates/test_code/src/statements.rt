@@ -5,8 +5,8 @@ use diagnostics::{Fault, Stop};
 use pml_program::expr::{Expr, Target};
 use pml_program::program::Action;
 use pml_store::store::Store;
-use pml_value::statement::take;
-use pml_value::view::Taker;
+use pml_value::statement::outcome;
+use pml_value::view::View;
 use sqlite_items::Items;
 use std::alloc::{AllocError, Global};
 use std::process::Abort;
@@ -140,12 +140,8 @@ fn statement(alloc: Global, row: &Row) -> Result<Items<Action<'static>>, AllocEr
 }
 
 fn does<R: Abort>(rt: &R, store: &mut Store, row: &Row, action: &Action<'_>) {
-    let taker = Taker {
-        pid: row.pid,
-        process_count: 2,
-        timeout: false,
-    };
-    let taken = take(store, &[], taker, action);
+    let goes = outcome(action, &View::new(&*store, &[], row.pid, 2, false));
+    let taken = parts::taken(store, goes);
     same(rt, row.name, "is taken", taken, row.wanted);
     let cells = store.cells().as_slice();
     same(rt, row.name, "the cells", cells, row.cells.as_slice());

@@ -3,6 +3,8 @@
 //!
 //! A condition comes to its value, another statement to `ok`, or either to a fault. The state behind them is its numbers and the messages of
 //! each channel, with ` / ` between the two, and a dash for none.
+ghost use Rattle.std.specs.Prelude.{◌≡◌};
+
 use crate::layer::ModelView;
 use crate::lines::write_all;
 use crate::numbers::number;
@@ -10,13 +12,15 @@ use crate::values::{add_dash, add_numbers, add_outcome, add_stop};
 use diagnostics::Stop;
 use pml_channel::channel::Channel;
 use pml_eval::eval::eval;
-use pml_program::expr::Expr;
+use pml_program::expr::{Expr, Target, Want};
 use pml_program::program::{Action, Basic, Program, Stmt};
 use pml_token::token::Token;
-use pml_value::message::{assert, send, values};
-use pml_value::receive::{Reception, receive};
-use pml_value::statement::take;
-use pml_value::view::{Taker, View as Seen};
+use pml_tree::tree::{Removal, Search, SendOrder};
+use pml_value::fields::Fields;
+use pml_value::message::{addressed, assert, put_at, values};
+use pml_value::receive::{Asked, asked_at, take_from};
+use pml_value::statement::outcome;
+use pml_value::view::View as Seen;
 use profile::MOST_FIELDS;
 use promela_run::live_channel::LiveChannel;
 use row_files::{Block, Writer};
@@ -28,6 +32,14 @@ use std::alloc::Global;
 /// A number of processes.
 fn count(text: &str, out: &mut Writer) -> u8 {
     u8::try_from(number(text, out)).unwrap_or(u8::MAX)
+}
+
+/// Who takes statements: the number of a process, how many live, and `timeout`.
+#[derive(Clone, Copy)]
+struct Taker {
+    pid: u8,
+    process_count: u8,
+    timeout: bool,
 }
 
 /// Who takes the statements, as these words say.
@@ -42,8 +54,18 @@ fn taker_of(words: &str, out: &mut Writer) -> Taker {
 }
 
 /// What a process reads.
-fn seen<'w>(started: &'w Started, taker: Taker) -> Seen<'w> {
-    Seen::new(&started.store, started.channels.as_slice(), taker)
+fn seen<'w>(started: &'w Started, taker: Taker) -> Seen<'w>
+    ensures store { result.store.now ≡ started.now.store }
+    ensures channels { result.channels.now ≡ started.now.channels.items }
+{
+    let channels = started.channels.as_slice();
+    Seen::new(
+        &started.store,
+        channels,
+        taker.pid,
+        taker.process_count,
+        taker.timeout,
+    )
 }
 
 /// Prints a string with its values, of no more than a message may have fields.
@@ -72,24 +94,52 @@ fn print_name(
     name_of_number(constants, number, text).map_err(|_| Stop::Memory)
 }
 
+/// Sends a message.
+fn send(
+    started: &mut Started,
+    taker: Taker,
+    target: &Target,
+    order: SendOrder,
+    fields: &[Expr],
+) -> Result<(), Stop> {
+    let mut numbers = Fields::new();
+    let at = addressed(target, fields, &seen(started, taker), &mut numbers).map_err(Stop::Fault)?;
+    let channels = started.channels.as_mut_slice();
+    put_at(channels, at, order, numbers.as_slice()).map_err(|_| Stop::Memory)
+}
+
+/// Receives a message.
+fn receive(
+    started: &mut Started,
+    taker: Taker,
+    target: &Target,
+    how: (Search, Removal),
+    wants: &[Want],
+) -> Result<(), Stop> {
+    let mut asked = Asked::new();
+    let at = asked_at(target, wants, &seen(started, taker), &mut asked).map_err(Stop::Fault)?;
+    let channels = started.channels.as_mut_slice();
+    let asked = asked.as_slice();
+    take_from(&mut started.store, channels, at, how.0, how.1, asked).map_err(|_| Stop::Memory)
+}
+
 /// Takes a statement that stores or sends.
 fn stored(started: &mut Started, taker: Taker, action: &Action<'_>) -> Result<(), Stop> {
-    let channels = started.channels.as_mut_slice();
     match action {
         Action::Send(target, order, fields) => {
-            let fields = fields.as_slice();
-            send(&started.store, channels, taker, target, *order, fields)
+            send(started, taker, target, *order, fields.as_slice())
         }
         Action::Receive(target, search, removal, wants) => {
-            let reception = Reception {
-                target,
-                search: *search,
-                removal: *removal,
-                wants: wants.as_slice(),
-            };
-            receive(&mut started.store, channels, taker, reception)
+            let how = (*search, *removal);
+            receive(started, taker, target, how, wants.as_slice())
         }
-        _ => take(&mut started.store, channels, taker, action),
+        _ => match outcome(action, &seen(started, taker)).map_err(Stop::Fault)? {
+            None => Ok(()),
+            Some(goes) => {
+                let stored = started.store.set(goes.place, goes.number);
+                stored.map_err(|_| Stop::Memory)
+            }
+        },
     }
 }
 

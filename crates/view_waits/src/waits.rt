@@ -147,7 +147,7 @@ fn add_level(
         waits.push(Wait {
             pick: Some(Pick { place, ..first }),
             because,
-            timeout: view.taker.timeout,
+            timeout: view.timeout,
         })?;
     }
     Ok(())

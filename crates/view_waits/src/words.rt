@@ -44,13 +44,13 @@ pub fn add_read(picture: &Picture<'_, '_, '_>, view: &View<'_>, read: Read, out:
         Read::Cell(place) => add_cell(picture, place, out),
         Read::Pid => {
             out.add(b"_pid = ");
-            out.number(usize::from(view.taker.pid));
+            out.number(usize::from(view.pid));
         }
         Read::ProcessCount => {
             out.add(b"_nr_pr = ");
-            out.number(usize::from(view.taker.process_count));
+            out.number(usize::from(view.process_count));
         }
-        Read::Timeout => out.add(if view.taker.timeout {
+        Read::Timeout => out.add(if view.timeout {
             b"timeout = 1"
         } else {
             b"timeout = 0"

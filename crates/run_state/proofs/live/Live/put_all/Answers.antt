@@ -14,8 +14,8 @@ returns-clause-value c =
     let old = c.self.inside.started in
     rw (← c.self.view_is)
     (elim c.match-store_all.branch [
-      in-Ok w ↦
+      | in-Ok w ↦
           rw w.result-is
           (all_lead c.self.inside.played old.channels.items old.channels.items c.self.inside.seats.items c.self.inside.holder c.self.inside.lossy old.store c.store_all.new.store c.args.numbers.now (search rules))
-    | in-Err w ↦ rw w.result-is tt
+      | in-Err w ↦ rw w.result-is tt
     ])
