@@ -2,7 +2,7 @@
 #![tactic(auto)]
 
 pub mod body;
-mod footprint;
+mod channels;
 pub mod live;
 mod messages;
 pub mod played;

@@ -1,9 +1,7 @@
 //! What lives in a run.
 
-ghost use Rattle.std.specs.Prelude.{◌≡◌, ◌+◌, ◌<◌, ◌≤◌, [], None, Ok, Some, IfOk, IfSome, OnOk, nat_eq, not, length, map, option_map, slice_get};
-ghost use Rattle.std.specs.List.{filter};
+ghost use Rattle.std.specs.Prelude.{◌≡◌, ◌+◌, ◌<◌, ◌≤◌, [], None, Ok, Some, IfOk, IfSome, OnOk, length, map, option_map, slice_get};
 ghost use Rattle.pml_store.specs.Writing.{before};
-ghost use Rattle.promela_run.specs.declared.live_channel.LiveChannel.{LiveChannel};
 ghost use Rattle.std.specs.Option.{option_copied};
 ghost use Rattle.profile.specs.declared.TheConstants.{MOST_CHANNELS, MOST_PROCESSES};
 ghost use Rattle.run_start.specs.Shown.{shown};
@@ -24,7 +22,7 @@ ghost use Rattle.run_state.specs.Calls.{put_if};
 ghost use Rattle.run_state.specs.Storing.{AreIn};
 
 use crate::body::Body;
-use crate::footprint::message_numbers;
+use crate::channels::{keep_others, message_numbers};
 use crate::played::{Played, seats_of};
 use crate::seat::Seat;
 use crate::storing::store_all;
@@ -77,13 +75,6 @@ impl<'p, 'a> Model for Live<'p, 'a> {
     ghost view = { λ l. live_of l.played l.started.store l.started.channels.items l.seats.items l.holder l.lossy };
 
     ghost invariant = { λ l. IsHeld l.played l.started.store l.started.channels.items l.started.sorts.items l.seats.items };
-}
-
-/// The channels end that live with this frame.
-fn keep_others(channels: &mut Vec<LiveChannel>, frame: usize)
-    ensures { channels.new.items ≡ filter (λ (o : LiveChannel). not (nat_eq o.frame frame)) channels.old.items }
-{
-    channels.retain(|live| live.frame != frame);
 }
 
 impl<'p, 'a> Live<'p, 'a> {

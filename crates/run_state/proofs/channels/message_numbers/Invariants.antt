@@ -1,6 +1,6 @@
 use Rattle.std.proofs.Common.{◌≡◌, ◌+◌, ◌≤◌, drop}
 use Rattle.run_state.specs.Footprint.{message_numbers, all_room}
-use Rattle.run_state.proofs.footprint.message_numbers.Given as goal
+use Rattle.run_state.proofs.channels.message_numbers.Given as goal
 
 -- those that are counted by now, and those of the other channels, are all
 abbrev pub invariant-loop-live : goal.invariant-loop-live
