@@ -1,5 +1,5 @@
 -- What lives in a run, and what calls make of it.
-use Rattle.std.specs.Prelude.{◌≡◌, ℕ, Bool, List, length, take, ◌++◌, Option, if◌then◌else◌, Some, None, Result, Ok, Err, OnOk, OnErr}
+use Rattle.std.specs.Prelude.{◌≡◌, ℕ, List, length, take, ◌++◌, if◌then◌else◌, Some, None, Result, Ok, Err, OnOk, OnErr}
 use Rattle.std.specs.Io.{StartsWith}
 use Rattle.diagnostics.specs.declared.fault.Fault.{Fault}
 use Rattle.diagnostics.specs.declared.stop.Stop.{Stop}
