@@ -1,5 +1,5 @@
 -- What lives in a run, and what calls make of it.
-use Rattle.std.specs.Prelude.{◌≡◌, ℕ, Bool, List, length, take, ◌++◌, if◌then◌else◌, Some, None, Result, Ok, Err}
+use Rattle.std.specs.Prelude.{◌≡◌, ℕ, List, length, take, ◌++◌, if◌then◌else◌, Some, None, Result, Ok, Err}
 use Rattle.diagnostics.specs.declared.fault.Fault.{Fault}
 use Rattle.diagnostics.specs.declared.stop.Stop.{Stop}
 use Rattle.diagnostics.specs.declared.stop.Stop.TheVariants as stop

@@ -14,9 +14,9 @@ use pml_program::expr::{Expr, Target, Want};
 use pml_program::program::{Action, Program, Slot};
 use pml_store::store::Store;
 use pml_tree::tree::{Removal, Scalar, Search, SendOrder};
-use pml_value::fields::Fields;
-use pml_value::message::{addressed, put_at};
-use pml_value::receive::{Asked, asked_at, take_from};
+use pml_value::few::{FewFields, FewSought};
+use pml_value::message::{address_few, put_at};
+use pml_value::receive::{ask_few, take_from};
 use pml_value::statement::outcome;
 use promela_process::place::Place;
 use promela_run::live_channel::LiveChannel;
@@ -208,18 +208,18 @@ fn goes_through<R: Abort>(
     store: &mut Store,
     channels: &mut [LiveChannel],
     q: &Target,
-    wants: &[Want],
+    wants: &[Want; 2],
 ) {
     let fields = [Expr::Number(300), Expr::Number(7)];
-    let mut numbers = Fields::new();
-    let Ok(at) = addressed(q, &fields, &seen(&*store, &*channels), &mut numbers) else {
+    let mut numbers = FewFields::new();
+    let Ok(at) = address_few(q, &fields, &seen(&*store, &*channels), &mut numbers) else {
         return;
     };
     if put_at(channels, at, SendOrder::Sorted, numbers.as_slice()).is_err() {
         return;
     }
-    let mut asked = Asked::new();
-    let Ok(at) = asked_at(q, wants, &seen(&*store, &*channels), &mut asked) else {
+    let mut asked = FewSought::new();
+    let Ok(at) = ask_few(q, wants, &seen(&*store, &*channels), &mut asked) else {
         return;
     };
     let how = Removal::Remove;

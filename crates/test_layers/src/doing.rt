@@ -16,9 +16,8 @@ use pml_program::expr::{Expr, Target, Want};
 use pml_program::program::{Action, Basic, Program, Stmt};
 use pml_token::token::Token;
 use pml_tree::tree::{Removal, Search, SendOrder};
-use pml_value::fields::Fields;
 use pml_value::message::{addressed, assert, put_at, values};
-use pml_value::receive::{Asked, asked_at, take_from};
+use pml_value::receive::{asked_at, take_from};
 use pml_value::statement::outcome;
 use pml_value::view::View as Seen;
 use profile::MOST_FIELDS;
@@ -102,8 +101,7 @@ fn send(
     order: SendOrder,
     fields: &[Expr],
 ) -> Result<(), Stop> {
-    let mut numbers = Fields::new();
-    let at = addressed(target, fields, &seen(started, taker), &mut numbers).map_err(Stop::Fault)?;
+    let (at, numbers) = addressed(target, fields, &seen(started, taker)).map_err(Stop::Fault)?;
     let channels = started.channels.as_mut_slice();
     put_at(channels, at, order, numbers.as_slice()).map_err(|_| Stop::Memory)
 }
@@ -116,11 +114,21 @@ fn receive(
     how: (Search, Removal),
     wants: &[Want],
 ) -> Result<(), Stop> {
-    let mut asked = Asked::new();
-    let at = asked_at(target, wants, &seen(started, taker), &mut asked).map_err(Stop::Fault)?;
-    let channels = started.channels.as_mut_slice();
-    let asked = asked.as_slice();
-    take_from(&mut started.store, channels, at, how.0, how.1, asked).map_err(|_| Stop::Memory)
+    match asked_at(target, wants, &seen(started, taker)) {
+        Err(fault) => Err(Stop::Fault(fault)),
+        Ok((at, asked)) => {
+            let channels = started.channels.as_mut_slice();
+            let taken = take_from(
+                &mut started.store,
+                channels,
+                at,
+                how.0,
+                how.1,
+                asked.as_slice(),
+            );
+            taken.map_err(|_| Stop::Memory)
+        }
+    }
 }
 
 /// Takes a statement that stores or sends.

@@ -1,4 +1,4 @@
-use Rattle.std.proofs.Common.{◌≡◌, ap}
+use Rattle.std.proofs.Common.{ap}
 use Rattle.promela_process.specs.Expressions.{Reading}
 use Rattle.run_state.proofs.Holding.{one_in_same}
 use Rattle.run_state.proofs.live.Live.store.Goals as goal
