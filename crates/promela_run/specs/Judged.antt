@@ -15,7 +15,7 @@ use Rattle.pml_program.specs.declared.program.Proctype.{Proctype}
 use Rattle.pml_program.specs.declared.program.Program.{Program}
 use Rattle.pml_program.specs.declared.program.Seq.{Seq}
 use Rattle.promela_model.specs.StandsModel.{StandsModel}
-use Rattle.promela_run.specs.State.{Begun, first_state}
+use Rattle.promela_run.specs.State.{State, first_state}
 use Rattle.promela_process.specs.Control.{Circle, SettlesEverywhere, BadFirstPoint, FirstPointsFit}
 
 -- ---- what is asked of control, of the body of each proctype, and of the first state
@@ -34,7 +34,7 @@ HasBadStart p = (f : Fault) × (first_state p ≡ Err f)
 
 -- the initialisers have no fault
 abbrev pub HasGoodStart : Program → Type 0
-HasGoodStart p = (b : Begun) × (first_state p ≡ Ok b)
+HasGoodStart p = (s : State) × (first_state p ≡ Ok s)
 
 -- ---- what is decided on the marks of the tree alone
 

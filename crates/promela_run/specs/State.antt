@@ -87,110 +87,6 @@ reading_of frames channels pid process_count timeout = record {
   channel = λ n. option_map filling (channel_at channels n);
 }
 
--- ---- what the variables of a frame begin with
-
--- What the variables of each frame hold, the live channels, and the proctypes of the live processes by their numbers in the
--- model. Frame 0 has the globals, and frame n + 1 the variables of process n.
-pub record Begun : Type 0 where
-  pub frames : List Frame
-  pub channels : List LiveChannel
-  pub sorts : List ℕ
-
--- a beginning in which nothing is there
-abbrev pub nothing : Begun
-nothing = record { frames = []; channels = []; sorts = [] }
-
--- what the initialisers of the youngest frame read: its number, how many processes live, and what is there by now
-abbrev pub read_in : Begun → Reading
-read_in b = reading_of b.frames b.channels (length b.sorts - 1) (length b.sorts) false
-
--- a cell of a variable of the youngest frame
-abbrev pub cell_in : Begun → ℕ → ℕ → Place
-cell_in b variable cell = record { frame = length b.sorts; variable = variable; cell = cell }
-
--- a number in a cell
-abbrev pub with_value : ℕ → ℕ → ℤ → Begun → Begun
-with_value variable cell v b = record b { frames = with_number b.frames (cell_in b variable cell) v }
-
--- a channel has a capacity of at most 65,535, which is all that a checked model asks for
-abbrev pub empty_channel : ℕ → List Form → ChannelState
-empty_channel capacity types = record { capacity = min capacity MOST_MESSAGES; types = types; messages = [] }
-
--- a new channel, and its number in a cell
-abbrev pub with_channel : ℕ → ℕ → ChannelState → Begun → Result Begun Fault
-with_channel variable cell c b =
-    if nat_lt (length b.channels) MOST_CHANNELS then Ok (record b {
-      frames = with_number b.frames (cell_in b variable cell) (pos (length b.channels + 1));
-      channels = b.channels ++ record { frame = length b.sorts; channel = c } ∷ [];
-    }) else Err TooManyChannels
-
--- what a type keeps of the value of an initialiser
-abbrev pub initial_value : Expr → Form → Begun → Result ℤ Fault
-initial_value v form b = val v (read_in b) >>= λ n. Ok (clipped form n)
-
--- what a cell begins with. The initialiser of a field is a constant: it is evaluated where nothing is there.
-abbrev pub cell_begun : Initial → Form → ℕ → ℕ → Begun → Result Begun Fault
-cell_begun i.Zero form variable cell b = Ok b
-cell_begun (i.Value v) form variable cell b = initial_value v form nothing >>= λ n. Ok (with_value variable cell n b)
-cell_begun (i.Channel capacity types) form variable cell b = with_channel variable cell (empty_channel capacity types) b
-
--- a number in n cells, from this one on
-abbrev pub with_values : ℕ → ℤ → ℕ → ℕ → Begun → Begun
-with_values variable v cell zero b = b
-with_values variable v cell (suc n) b = with_values variable v (cell + 1) n (with_value variable cell v b)
-
--- n cells of a variable in order, from this one on: each by the field that has it, or by the variable itself where its
--- type has no fields
-abbrev pub fields_begun : List Fields → Slot → ℕ → ℕ → ℕ → Begun → Result Begun Fault
-fields_begun ts s variable cell zero b = Ok b
-fields_begun ts s variable cell (suc n) b =
-    cell_begun (leaf ts s cell).initial (leaf ts s cell).form variable cell b
-    >>= fields_begun ts s variable (cell + 1) n
-
--- what a variable begins with: a value is evaluated once, for all cells; without one, each cell begins by itself, and a channel
--- is made for each
-abbrev pub variable_begun : List Fields → Initial → Slot → ℕ → Begun → Result Begun Fault
-variable_begun ts (i.Value v) s variable b = initial_value v s.form b >>= λ n. Ok (with_values variable n 0 (size s) b)
-variable_begun ts _ s variable b = fields_begun ts s variable 0 (size s) b
-
--- the variables of a frame in order of declaration, from this number on
-abbrev pub variables_begun : List Fields → List Slot → ℕ → Begun → Result Begun Fault
-variables_begun ts [] variable b = Ok b
-variables_begun ts (s ∷ ss) variable b = variable_begun ts s.initial s variable b >>= variables_begun ts ss (variable + 1)
-
--- one more frame, with 0 in each cell
-abbrev pub with_frame : List Slot → Begun → Begun
-with_frame ss b = record b { frames = b.frames ++ zeros (map size ss) ∷ [] }
-
--- the variables of one more frame: 0 in each cell, and then the initialisers
-abbrev pub frame_begun : List Fields → List Slot → Begun → Result Begun Fault
-frame_begun ts ss b = variables_begun ts ss 0 (with_frame ss b)
-
--- ---- which processes begin, and with what
-
--- the variables of the proctype with this number, if it is there
-abbrev pub variables_at : Program → ℕ → List Slot
-variables_at p k = option_map_or (λ q. q.variables) (slice_get p.proctypes k) []
-
--- a process of the proctype with this number; none is the 256th
-abbrev pub process_begun : Program → ℕ → Begun → Result Begun Fault
-process_begun p k b =
-    if nat_lt (length b.sorts) MOST_PROCESSES then frame_begun p.typedefs (variables_at p k) (record b { sorts = b.sorts ++ k ∷ [] }) else Ok b
-
--- n such processes
-abbrev pub sort_begun : Program → ℕ → ℕ → Begun → Result Begun Fault
-sort_begun p k zero b = Ok b
-sort_begun p k (suc n) b = process_begun p k b >>= sort_begun p k n
-
--- the processes that these proctypes start with, from the one with the number k on
-abbrev pub sorts_begun : Program → ℕ → List Proctype → Begun → Result Begun Fault
-sorts_begun p k [] b = Ok b
-sorts_begun p k (q ∷ qs) b = sort_begun p k q.starts b >>= sorts_begun p (k + 1) qs
-
--- the globals, and then the processes one after the other
-abbrev pub first_state : Program → Result Begun Fault
-first_state p = frame_begun p.typedefs p.globals nothing >>= sorts_begun p 0 p.proctypes
-
 -- ---- a state, and what its processes are offered
 
 -- A process: its proctype, by its number in the model, and what it still has to do. At its closing brace nothing is left.
@@ -216,6 +112,121 @@ reads s process timeout = reading_of s.frames s.channels process (length s.stand
 abbrev pub body_of : Program → ℕ → Option Seq
 body_of pr k = option_map (λ q. q.body) (slice_get pr.proctypes k)
 
+-- what a process of this body has to do before its first statement
+abbrev pub first_control : Seq → Control
+first_control b = settle b (at (steps b) ([], 0))
+
+-- a process of the proctype with this number before its first statement
+abbrev pub begins_at : Program → ℕ → Stand
+begins_at p k = record { sort = k; control = option_map_or first_control (body_of p k) [] }
+
+-- ---- what the variables of a frame begin with
+
+-- a state in which nothing is there yet
+abbrev pub nothing : Program → State
+nothing p = record { program = p; frames = []; stands = []; channels = []; holder = None; lossy = false }
+
+-- what the initialisers of the youngest frame read: its number, how many processes live, and what is there by now
+abbrev pub read_in : State → Reading
+read_in s = reads s (length s.stands - 1) false
+
+-- a cell of a variable of the youngest frame
+abbrev pub cell_in : State → ℕ → ℕ → Place
+cell_in now variable cell = record { frame = length now.stands; variable = variable; cell = cell }
+
+-- a number in a cell
+abbrev pub with_value : ℕ → ℕ → ℤ → State → State
+with_value variable cell v now = record now { frames = with_number now.frames (cell_in now variable cell) v }
+
+-- a channel has a capacity of at most 65,535, which is all that a checked model asks for
+abbrev pub empty_channel : ℕ → List Form → ChannelState
+empty_channel capacity types = record { capacity = min capacity MOST_MESSAGES; types = types; messages = [] }
+
+-- a new channel, and its number in a cell
+abbrev pub with_channel : ℕ → ℕ → ChannelState → State → Result State Fault
+with_channel variable cell c now =
+    if nat_lt (length now.channels) MOST_CHANNELS then Ok (record now {
+      frames = with_number now.frames (cell_in now variable cell) (pos (length now.channels + 1));
+      channels = now.channels ++ record { frame = length now.stands; channel = c } ∷ [];
+    }) else Err TooManyChannels
+
+-- what a type keeps of the value of an initialiser
+abbrev pub initial_value : Expr → Form → Reading → Result ℤ Fault
+initial_value v form r = val v r >>= λ n. Ok (clipped form n)
+
+-- what a constant reads: nothing is there
+abbrev pub unread : Reading
+unread = reading_of [] [] 0 0 false
+
+-- what a cell begins with. The initialiser of a field is a constant.
+abbrev pub cell_begun : Initial → Form → ℕ → ℕ → State → Result State Fault
+cell_begun i.Zero form variable cell now = Ok now
+cell_begun (i.Value v) form variable cell now = initial_value v form unread >>= λ n. Ok (with_value variable cell n now)
+cell_begun (i.Channel capacity types) form variable cell now = with_channel variable cell (empty_channel capacity types) now
+
+-- a number in n cells, from this one on
+abbrev pub with_values : ℕ → ℤ → ℕ → ℕ → State → State
+with_values variable v cell zero now = now
+with_values variable v cell (suc n) now = with_values variable v (cell + 1) n (with_value variable cell v now)
+
+-- n cells of a variable in order, from this one on: each by the field that has it, or by the variable itself where its
+-- type has no fields
+abbrev pub fields_begun : List Fields → Slot → ℕ → ℕ → ℕ → State → Result State Fault
+fields_begun ts s variable cell zero now = Ok now
+fields_begun ts s variable cell (suc n) now =
+    cell_begun (leaf ts s cell).initial (leaf ts s cell).form variable cell now
+    >>= fields_begun ts s variable (cell + 1) n
+
+-- what a variable begins with: a value is evaluated once, for all cells; without one, each cell begins by itself, and a channel
+-- is made for each
+abbrev pub variable_begun : List Fields → Initial → Slot → ℕ → State → Result State Fault
+variable_begun ts (i.Value v) s variable now = initial_value v s.form (read_in now) >>= λ n. Ok (with_values variable n 0 (size s) now)
+variable_begun ts _ s variable now = fields_begun ts s variable 0 (size s) now
+
+-- the variables of a frame in order of declaration, from this number on
+abbrev pub variables_begun : List Fields → List Slot → ℕ → State → Result State Fault
+variables_begun ts [] variable now = Ok now
+variables_begun ts (s ∷ ss) variable now = variable_begun ts s.initial s variable now >>= variables_begun ts ss (variable + 1)
+
+-- one more frame, with 0 in each cell
+abbrev pub with_frame : List Slot → State → State
+with_frame ss now = record now { frames = now.frames ++ zeros (map size ss) ∷ [] }
+
+-- the variables of one more frame: 0 in each cell, and then the initialisers
+abbrev pub frame_begun : List Fields → List Slot → State → Result State Fault
+frame_begun ts ss now = variables_begun ts ss 0 (with_frame ss now)
+
+-- ---- which processes begin, and with what
+
+-- the variables of the proctype with this number, if it is there
+abbrev pub variables_at : Program → ℕ → List Slot
+variables_at p k = option_map_or (λ q. q.variables) (slice_get p.proctypes k) []
+
+-- a process more, the youngest, that stands so
+abbrev pub joined : Stand → State → State
+joined y now = record now { stands = now.stands ++ y ∷ [] }
+
+-- a process of the proctype with this number; none is the 256th
+abbrev pub process_begun : Program → ℕ → State → Result State Fault
+process_begun p k now =
+    if nat_lt (length now.stands) MOST_PROCESSES then frame_begun p.typedefs (variables_at p k) (joined (begins_at p k) now) else Ok now
+
+-- n such processes
+abbrev pub sort_begun : Program → ℕ → ℕ → State → Result State Fault
+sort_begun p k zero now = Ok now
+sort_begun p k (suc n) now = process_begun p k now >>= sort_begun p k n
+
+-- the processes that these proctypes start with, from the one with the number k on
+abbrev pub sorts_begun : Program → ℕ → List Proctype → State → Result State Fault
+sorts_begun p k [] now = Ok now
+sorts_begun p k (q ∷ qs) now = sort_begun p k q.starts now >>= sorts_begun p (k + 1) qs
+
+-- The globals, and then the processes one after the other: all stand before their first statements, and nobody holds exclusive control.
+abbrev pub first_state : Program → Result State Fault
+first_state p = frame_begun p.typedefs p.globals (nothing p) >>= sorts_begun p 0 p.proctypes
+
+-- ---- what processes are offered
+
 -- the offers of a point of a body, level by level from 0 upwards
 abbrev pub levels : Seq → Control → List (List Offer)
 levels b c = map (map (offer_of b)) (offers b c)
@@ -224,22 +235,6 @@ levels b c = map (map (offer_of b)) (offers b c)
 abbrev pub levels_in : Option Seq → Control → List (List Offer)
 levels_in None c = []
 levels_in (Some b) c = levels b c
-
--- what a process of this body has to do before its first statement
-abbrev pub first_control : Seq → Control
-first_control b = settle b (at (steps b) ([], 0))
-
--- ---- before the first statement
-
--- a process of the proctype with this number before its first statement
-abbrev pub begins_at : Program → ℕ → Stand
-begins_at p k = record { sort = k; control = option_map_or first_control (body_of p k) [] }
-
--- ---- the first state
-
--- all processes stand before their first statements, and nobody holds exclusive control
-abbrev pub begun_state : Program → Begun → Bool → State
-begun_state p b lossy = record { program = p; frames = b.frames; stands = map (begins_at p) b.sorts; channels = b.channels; holder = None; lossy = lossy }
 
 -- the offer of a process by its level and its place there, if there is such a process, level and place
 abbrev pub picked : State → Pick → Option Offer

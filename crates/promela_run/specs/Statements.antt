@@ -21,7 +21,7 @@ use Rattle.promela_process.specs.Expressions.{matched, Reading, val, place, aske
 use Rattle.promela_process.specs.Store.{ChannelState, cut, sorted_in}
 use Rattle.promela_run.specs.declared.live_channel.LiveChannel.{LiveChannel}
 use Rattle.promela_run.specs.declared.goes.Goes.{Goes}
-use Rattle.promela_run.specs.State.{channel_at, size, leaf, Begun, with_value, with_frame, variables_begun}
+use Rattle.promela_run.specs.State.{channel_at, size, leaf, Stand, State, with_value, with_frame, joined, variables_begun}
 use Rattle.pml_program.specs.declared.program.Action.{Action}
 use Rattle.pml_program.specs.declared.program.Action.TheVariants as a
 use Rattle.pml_program.specs.declared.program.Initial.{Initial}
@@ -187,14 +187,14 @@ channels_of ts (s ∷ ss) = channels_by ts s.initial s + channels_of ts ss
 -- ---- a process begins
 
 -- the variables of the youngest frame from this number on hold these numbers, cut to their types
-abbrev pub with_arguments : ℕ → List Slot → List ℤ → Begun → Begun
-with_arguments variable ss [] b = b
-with_arguments variable [] (v ∷ vs) b = b
-with_arguments variable (s ∷ ss) (v ∷ vs) b = with_arguments (variable + 1) ss vs (with_value variable 0 (clipped s.form v) b)
+abbrev pub with_arguments : ℕ → List Slot → List ℤ → State → State
+with_arguments variable ss [] now = now
+with_arguments variable [] (v ∷ vs) now = now
+with_arguments variable (s ∷ ss) (v ∷ vs) now = with_arguments (variable + 1) ss vs (with_value variable 0 (clipped s.form v) now)
 
--- A new process of the proctype with this number and these variables: it has nothing in them, the arguments are set, and then the
--- variables begin in the order of the text. Too many channels are a fault before anything begins.
-abbrev pub created : List Fields → ℕ → List Slot → List ℤ → Begun → Result Begun Fault
-created ts sort ss vs b =
-    if nat_lt MOST_CHANNELS (length b.channels + channels_of ts ss) then Err TooManyChannels
-    else variables_begun ts ss 0 (with_arguments 0 ss vs (with_frame ss (record b { sorts = b.sorts ++ sort ∷ [] })))
+-- A new process that stands so, with these variables: it has nothing in them, the arguments are set, and then the variables begin in
+-- the order of the text. Too many channels are a fault before anything begins.
+abbrev pub created : List Fields → Stand → List Slot → List ℤ → State → Result State Fault
+created ts y ss vs now =
+    if nat_lt MOST_CHANNELS (length now.channels + channels_of ts ss) then Err TooManyChannels
+    else variables_begun ts ss 0 (with_arguments 0 ss vs (with_frame ss (joined y now)))

@@ -8,7 +8,7 @@ use Rattle.pml_program.specs.declared.program.Proctype.{Proctype}
 use Rattle.pml_program.specs.declared.program.Run.{Run}
 use Rattle.promela_process.specs.Expressions.{Reading, ◌>>=◌, val, asked_by}
 use Rattle.promela_run.specs.Statements.{values, Received, created, outcome, goes_to, sent, received, stores, asserted}
-use Rattle.promela_run.specs.State.{Begun, Stand, State, first_control, reads, body_of, levels, picked}
+use Rattle.promela_run.specs.State.{Stand, State, first_control, reads, body_of, levels, picked}
 use Rattle.std.specs.List.{filter}
 use Rattle.std.specs.Option.{option_map_or}
 use Rattle.promela_process.specs.Control.{Control}
@@ -74,22 +74,10 @@ without_youngest s = record s {
 abbrev pub sorts : State → List ℕ
 sorts s = map (λ (y : Stand). y.sort) s.stands
 
--- what is there by now
-abbrev pub there : State → Begun
-there s = record { frames = s.frames; channels = s.channels; sorts = sorts s }
-
--- what is there now, and one process more
-abbrev pub joined_by : State → ℕ → Seq → Begun → Result State Fault
-joined_by s sort b begun = Ok (record s {
-  frames = begun.frames;
-  channels = begun.channels;
-  stands = s.stands ++ record { sort = sort; control = first_control b } ∷ [];
-})
-
 -- a process of a proctype is created with these arguments; none, where there is no such proctype
 abbrev pub with_new : State → ℕ → Option Proctype → List ℤ → Result State Fault
 with_new s sort None vs = Ok s
-with_new s sort (Some q) vs = created s.program.typedefs sort q.variables vs (there s) >>= joined_by s sort q.body
+with_new s sort (Some q) vs = created s.program.typedefs (record { sort = sort; control = first_control q.body }) q.variables vs s
 
 -- the arguments from left to right, and then the process; where 255 live, nothing is evaluated, and none is created
 abbrev pub ran : State → Reading → Run → Result State Fault

@@ -9,7 +9,7 @@ use Rattle.pml_program.specs.declared.program.Seq.{Seq}
 use Rattle.pml_program.specs.declared.program.Program.{Program}
 use Rattle.promela_process.specs.Control.{Position, Control, Todo, steps, at, all_of, settle}
 use Rattle.promela_process.specs.Offers.{any_end, same_position, Offer, line_at}
-use Rattle.promela_run.specs.State.{Stand, State, body_of, picked, Begun, begun_state}
+use Rattle.promela_run.specs.State.{Stand, State, body_of, picked}
 use Rattle.std.specs.Fmt.{decimal}
 use Rattle.profile.specs.Characters.{line_feed}
 use Rattle.pml_program.specs.declared.program.Proctype.{Proctype}
@@ -120,8 +120,8 @@ pub record Running : Type 0 where
   pub halt : Option Halt
 
 -- before the first step nothing has changed
-abbrev pub first : Program → Begun → Bool → Running
-first p b lossy = record { state = begun_state p b lossy; past = b.frames; halt = None }
+abbrev pub first : State → Bool → Running
+first s lossy = record { state = record s { lossy = lossy }; past = s.frames; halt = None }
 
 -- ---- its moves, its steps, and the texts
 
