@@ -91,14 +91,14 @@ size_now old new i n k e =
 pub counted : (s : Started) → length (shown s).stands ≡ length s.sorts.items
 counted s = length-map s.sorts.items idle
 
-sorts_of : (ks : List ℕ) → map (λ (y : Stand). y.sort) (map idle ks) ≡ ks
-sorts_of [] = refl
-sorts_of (k ∷ ks) = ap (λ (x : List ℕ). k ∷ x) (sorts_of ks)
+pub idle_sorts : (ks : List ℕ) → map (λ (y : Stand). y.sort) (map idle ks) ≡ ks
+idle_sorts [] = refl
+idle_sorts (k ∷ ks) = ap (λ (x : List ℕ). k ∷ x) (idle_sorts ks)
 
 pub same_sorts : (a b : Started) (ys : List Stand) (ks : List ℕ) → (shown a).stands ≡ (shown b).stands ++ ys → map (λ (y : Stand). y.sort) ys ≡ ks → a.sorts.items ≡ b.sorts.items ++ ks
 same_sorts a b ys ks e h =
-    sym (sorts_of a.sorts.items) ∙ ap (map (λ (y : Stand). y.sort)) e ∙ map-append (λ (y : Stand). y.sort) (shown b).stands ys
-    ∙ ap (λ (x : List ℕ). x ++ map (λ (y : Stand). y.sort) ys) (sorts_of b.sorts.items) ∙ ap (λ (x : List ℕ). b.sorts.items ++ x) h
+    sym (idle_sorts a.sorts.items) ∙ ap (map (λ (y : Stand). y.sort)) e ∙ map-append (λ (y : Stand). y.sort) (shown b).stands ys
+    ∙ ap (λ (x : List ℕ). x ++ map (λ (y : Stand). y.sort) ys) (idle_sorts b.sorts.items) ∙ ap (λ (x : List ℕ). b.sorts.items ++ x) h
 
 pub place_is : (s : Started) (v c : ℕ) → ◌≡◌ {A = Place} (cell_in (shown s) v c) (record { frame = length s.sorts.items; variable = v; cell = c })
 place_is s v c = ap (λ (n : ℕ). record { frame = n; variable = v; cell = c }) (counted s)

@@ -35,11 +35,11 @@ few-taken (suc n) zero (x ∷ xs) h = absurd (omega (arith, h))
 few-taken (suc n) (suc m) (x ∷ xs) h = let l = few-taken n m xs (omega (arith, h)) in omega (arith, l)
 
 -- the variables of the others are declared
-pub declared_less : (p : Program) (fs : List Frame) (cs ds : List LiveChannel) (ks : List ℕ) (n : ℕ) → IsDeclared p (record { frames = fs; channels = cs; sorts = ks }) → length ks ≡ n + 1 →
-    IsDeclared p (record { frames = but_last fs; channels = ds; sorts = take n ks })
-declared_less p fs cs ds ks n h e =
+pub declared_less : (p : Program) (fs : List Frame) (ks : List ℕ) (n : ℕ) → IsDeclared p fs ks → length ks ≡ n + 1 →
+    IsDeclared p (but_last fs) (take n ks)
+declared_less p fs ks n h e =
     let k : ℕ → List ℕ = λ k. map size (variables_at p k) in
-    let m = frames_of_sorts p (record { frames = fs; channels = cs; sorts = ks }) h in
+    let m = frames_of_sorts p fs ks h in
     let count : length fs - 1 ≡ suc n = omega (arith, m, e) in
     record {
       few = few-taken n 255 ks h.few;

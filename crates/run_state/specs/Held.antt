@@ -3,7 +3,6 @@ use Rattle.std.specs.Prelude.{◌≡◌, ℕ, Bool, List, map, Option, None}
 use Rattle.pml_program.specs.declared.program.Program.{Program}
 use Rattle.pml_store.specs.Writing.{Contents, before}
 use Rattle.promela_run.specs.declared.live_channel.LiveChannel.{LiveChannel}
-use Rattle.run_start.specs.Shown.{held}
 use Rattle.run_start.specs.Bound.{IsBounded}
 use Rattle.run_start.specs.Starting.{IsDeclared}
 use Rattle.run_state.specs.declared.seat.Seat.{Seat}
@@ -15,7 +14,7 @@ sorts_of xs = map (λ (x : Seat). x.sort) xs
 
 -- each variable has the cells that it is declared with, and no more is kept than the model says
 pub record IsHeld (p : Program) (store : Contents) (channels : List LiveChannel) (sorts : List ℕ) (seats : List Seat) : Type 0 where
-  pub declared : IsDeclared p (held store channels sorts)
+  pub declared : IsDeclared p store.frames sorts
   pub seated : sorts ≡ sorts_of seats
   pub bounded : IsBounded p store channels
 

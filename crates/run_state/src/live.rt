@@ -4,7 +4,7 @@ ghost use Rattle.std.specs.Prelude.{◌≡◌, ◌+◌, ◌<◌, ◌≤◌, [], 
 ghost use Rattle.pml_store.specs.Writing.{before};
 ghost use Rattle.std.specs.Option.{option_copied};
 ghost use Rattle.profile.specs.declared.TheConstants.{MOST_CHANNELS, MOST_PROCESSES};
-ghost use Rattle.run_start.specs.Shown.{shown};
+ghost use Rattle.run_start.specs.Shown.{begun};
 ghost use Rattle.run_start.specs.Bound.{bound, most_cells, IsBounded};
 ghost use Rattle.run_start.specs.Starting.{IsDeclared};
 ghost use Rattle.run_state.specs.Standing.{stand_of, IsBody, StandsIn};
@@ -14,7 +14,7 @@ ghost use Rattle.promela_run.specs.Statements.{changed, contents_at, outcome, ta
 ghost use Rattle.promela_process.specs.Store.{size_at};
 ghost use Rattle.pml_eval.specs.There.{AreThere};
 ghost use Rattle.pml_value.specs.Takes.{IsIn};
-ghost use Rattle.promela_run.specs.Steps.{put_all, put_by, sorts, there, with_new, with_received, with_sent};
+ghost use Rattle.promela_run.specs.Steps.{put_all, put_by, sorts, with_new, with_received, with_sent};
 ghost use Rattle.run_state.specs.Footprint.{held};
 ghost use Rattle.run_state.specs.Live.{Leads, Keeps, Joins, PastGrows, along, at_node, died};
 ghost use Rattle.promela_run.specs.World.{first};
@@ -65,7 +65,7 @@ impl<'p, 'a> Model for Live<'p, 'a> {
     ghost use Rattle.pml_program.specs.contracts.program.Seq as seq;
     ghost use Rattle.pml_program.specs.contracts.program.Basic as basic;
     ghost use Rattle.promela_run.specs.World.{Running};
-    ghost use Rattle.promela_run.specs.Steps.{sorts, there, with_new};
+    ghost use Rattle.promela_run.specs.Steps.{sorts, with_new};
     ghost use Rattle.run_state.specs.Held.{IsHeld, live_of};
 
     ghost Value = { Running };
@@ -85,10 +85,10 @@ impl<'p, 'a> Live<'p, 'a> {
         started: Started,
         lossy: bool,
     ) -> Result<Live<'p, 'a>, AllocError>
-        requires declared { IsDeclared played (shown started) }
+        requires declared { IsDeclared played started.store.frames started.sorts.items }
         requires fresh { started.store.written ≡ [] }
         requires bounded { IsBounded played started.store started.channels.items }
-        ensures { IfOk result (λ l. l ≡ first played.entry (shown started) lossy) }
+        ensures { IfOk result (λ l. l ≡ first (begun played.entry started) lossy) }
     {
         let seats = seats_of(alloc, &played, started.sorts.as_slice())?;
         Ok(Live {
@@ -165,7 +165,7 @@ impl<'p, 'a> Live<'p, 'a> {
     /// The proctypes of the processes, by their numbers.
     pub fn sorts(&self) -> &[usize]
         ensures value { result.now ≡ sorts self.now.state }
-        ensures declared { IsDeclared self.now.state.program (there self.now.state) }
+        ensures declared { IsDeclared self.now.state.program self.now.state.frames (sorts self.now.state) }
     {
         self.started.sorts.as_slice()
     }

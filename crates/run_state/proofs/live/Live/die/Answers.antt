@@ -1,7 +1,6 @@
 use Rattle.std.proofs.Common.{rules, ◌≡◌, ◌+◌, ◌-◌, ◌<◌, ◌∙◌, ap, sym, length, map, take, arith, ℕ}
 use Rattle.std.proofs.lemmas.List.{length-map}
 use Rattle.pml_store.specs.Writing.{Contents}
-use Rattle.run_start.specs.Shown.{held}
 use Rattle.run_start.proofs.Declaring.{frames_of_sorts}
 use Rattle.run_state.specs.declared.seat.Seat.{Seat}
 use Rattle.run_state.specs.Standing.{stand_of}
@@ -10,7 +9,7 @@ use Rattle.run_state.proofs.live.Live.die.Goals as goal
 
 pub pop_frame-requires : goal.pop_frame-requires
 pop_frame-requires c =
-    let m = frames_of_sorts c.self.inside.played (held c.self.inside.started.store c.self.inside.started.channels.items c.self.inside.started.sorts.items) c.self.invariant.declared in
+    let m = frames_of_sorts c.self.inside.played c.self.inside.started.store.frames c.self.inside.started.sorts.items c.self.invariant.declared in
     omega (arith, m)
 
 one_more : (m n : ℕ) → 0 < m → n ≡ m → m ≡ n - 1 + 1
@@ -28,7 +27,7 @@ invariant_of-self c =
       declared =
           rw c.truncate.ensures.items
           (rw c.pop_frame.ensures
-          (declared_less c.self.inside.played c.self.inside.started.store.frames c.self.inside.started.channels.items c.keep_others.new.channels.items c.self.inside.started.sorts.items n c.self.invariant.declared sorts));
+          (declared_less c.self.inside.played c.self.inside.started.store.frames c.self.inside.started.sorts.items n c.self.invariant.declared sorts));
       seated =
           c.truncate.ensures.items ∙ ap (take n) c.self.invariant.seated ∙ sym (map-take (λ (x : Seat). x.sort) n seats)
           ∙ sym (ap (map (λ (x : Seat). x.sort)) c.truncate-2.ensures.items);
@@ -46,7 +45,7 @@ returns c =
     let n : ℕ = c.len-youngest.result - 1 in
     let whole : c.len-youngest.result ≡ length seats = search rules in
     let count : length seats ≡ n + 1 = one_more (length seats) c.len-youngest.result (rw (length-map seats (stand_of c.self.inside.played)) at some) whole in
-    let frames = frames_of_sorts c.self.inside.played (held c.self.inside.started.store c.self.inside.started.channels.items c.self.inside.started.sorts.items) c.self.invariant.declared in
+    let frames = frames_of_sorts c.self.inside.played c.self.inside.started.store.frames c.self.inside.started.sorts.items c.self.invariant.declared in
     let sorts : length c.self.inside.started.sorts.items ≡ length seats = ap length c.self.invariant.seated ∙ length-map seats (λ (x : Seat). x.sort) in
     rw (← c.self.view_is)
     (live_died c.self.inside.played c.self.inside.started.store c.pop_frame.new.self c.self.inside.started.channels.items c.keep_others.new.channels.items seats c.truncate-2.new.self.items c.self.inside.holder c.self.inside.lossy n count

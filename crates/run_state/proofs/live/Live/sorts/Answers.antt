@@ -1,5 +1,4 @@
-use Rattle.std.proofs.Common.{rules, ◌≡◌, ◌∙◌, sym, subst, List, ℕ}
-use Rattle.run_start.specs.Shown.{held}
+use Rattle.std.proofs.Common.{rules, ◌≡◌, ◌∙◌, sym, subst}
 use Rattle.run_start.specs.Starting.{IsDeclared}
 use Rattle.run_state.proofs.Creating.{sorts_are}
 use Rattle.run_state.proofs.live.Live.sorts.Goals as goal
@@ -12,5 +11,5 @@ returns-clause-value c =
 pub returns-clause-declared : goal.returns-clause-declared
 returns-clause-declared c =
     rw (← c.self.view_is)
-    (subst (λ (ks : List ℕ). IsDeclared c.self.inside.played (held c.self.inside.started.store c.self.inside.started.channels.items ks))
+    (subst (IsDeclared c.self.inside.played c.self.inside.started.store.frames)
     (c.self.invariant.seated ∙ sym (sorts_are c.self.inside.played c.self.inside.seats.items)) c.self.invariant.declared)
