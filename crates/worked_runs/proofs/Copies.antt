@@ -63,7 +63,7 @@ module _ (means : Means) where
 
   abbrev pub state-variable_begun : List Fields → Initial → Slot → ℕ → State → Result State Fault
   state-variable_begun ts (initials.Value v) s variable now = state-initial_value v s.form (read_in now) >>= λ n. Ok (with_values variable n 0
-    (size s) now)
+      (size s) now)
   state-variable_begun ts _ s variable now = state-fields_begun ts s variable 0 (size s) now
 
   abbrev pub state-variables_begun : List Fields → List Slot → ℕ → State → Result State Fault
@@ -139,7 +139,7 @@ module _ (means : Means) where
   moves-ready lossy cs r in_d_step (actions.Holds e) = means.val e r >>= λ n. Ok (not (is_zero n))
   moves-ready lossy cs r in_d_step (actions.Run q) = Ok (int_lt r.process_count (pos MOST_PROCESSES))
   moves-ready lossy cs r in_d_step (actions.Send t order es) = moves-named cs r t (length es) >>= λ c. can_send lossy in_d_step c.contents
-    (statement-values es r)
+      (statement-values es r)
   moves-ready lossy cs r in_d_step (actions.Receive t search _ ws) =
       moves-named cs r t (length ws) >>= λ c. can_receive search c.contents (value-asked_by ws r)
   moves-ready lossy cs r in_d_step _ = Ok true
@@ -220,7 +220,7 @@ module _ (means : Means) where
   abbrev pub steps-ran : State → Reading → Run → Result State Fault
   steps-ran s r q =
       if nat_lt (length s.stands) MOST_PROCESSES then (statement-values q.arguments r >>= steps-with_new s q.proctype (slice_get
-        s.program.proctypes q.proctype))
+      s.program.proctypes q.proctype))
       else Ok s
 
   abbrev pub steps-run_into : State → ℕ → Bool → Option Target → Run → Result State Fault
