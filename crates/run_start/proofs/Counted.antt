@@ -9,7 +9,7 @@ use Rattle.pml_program.specs.declared.program.Initial.{Initial}
 use Rattle.pml_program.specs.declared.program.Initial.TheVariants as i
 use Rattle.pml_program.specs.declared.program.Slot.{Slot}
 use Rattle.pml_program.specs.declared.program.Fields.{Fields}
-use Rattle.promela_run.specs.State.{leaf, nothing, initial_value}
+use Rattle.promela_run.specs.State.{leaf, unread, initial_value}
 use Rattle.promela_run.specs.declared.beginning.Beginning.{Beginning}
 use Rattle.run_start.specs.Known.{is_zero, have_no_initials, known, known_of, value_known}
 use Rattle.promela_run.specs.Statements.{is_channel, channels_in, channels_by, channels_of}
@@ -27,7 +27,7 @@ no_channel (Err f) = refl
 
 known_by : (x : Initial) (f : Form) → channels_at (known_of x f) ≡ (if is_channel x then 1 else 0)
 known_by i.Zero f = refl
-known_by (i.Value v) f = no_channel (initial_value v f nothing)
+known_by (i.Value v) f = no_channel (initial_value v f unread)
 known_by (i.Channel capacity types) f = refl
 
 -- a cell more, by what is known of it

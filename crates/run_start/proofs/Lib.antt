@@ -2,6 +2,8 @@ pub mod Shapes
 pub mod Stepping
 pub mod Declaring
 pub mod Chaining
+pub mod Touching
+mod Carrying
 pub mod Living
 pub mod Holding
 pub mod Zeroed

@@ -1,6 +1,6 @@
 -- How many cells each variable has.
-use Rattle.std.proofs.Common.{◌≡◌, ℕ, ◌<◌, List, [], ◌∷◌, ◌++◌, length, get_or, set, map, take, ◌≤◌, Bool, true, false, if◌then◌else◌, ℤ, pos, Result, Ok, Err, OnOk, OnErr, refl, sym, ap, ◌∙◌, arith}
-use Rattle.std.proofs.lemmas.List.{length-set, length-replicate, get_or_push, map-append, get_or-map as get_or-map_within, length-take, take-take, take-set-le}
+use Rattle.std.proofs.Common.{◌≡◌, ℕ, ◌<◌, List, [], ◌∷◌, ◌++◌, length, get_or, set, map, take, ◌≤◌, Bool, true, false, if◌then◌else◌, ℤ, pos, Result, Ok, Err, OnOk, OnErr, refl, sym, ap, ◌∙◌, subst, arith}
+use Rattle.std.proofs.lemmas.List.{length-map, length-set, length-replicate, get_or_push, map-append, get_or-map as get_or-map_within, length-take, take-take, take-set-le}
 use Rattle.std.proofs.Math.Seq.{take-append_seam, take-length, map-set_same}
 use Rattle.std.proofs.Math.ListN.{get_or-map}
 use Rattle.pml_program.specs.declared.program.Slot.{Slot}
@@ -8,10 +8,10 @@ use Rattle.promela_process.specs.declared.place.Place.{Place}
 use Rattle.promela_process.specs.Store.{Frame, frame_at, cells_at, size_at, with_number, zeros}
 use Rattle.pml_store.specs.Writing.{Contents, HasPlace, stored, before}
 use Rattle.pml_store.proofs.Back.{has_cell, before_set}
-use Rattle.promela_run.specs.State.{size, Begun, cell_in, with_frame}
+use Rattle.promela_run.specs.State.{size, Stand, State, cell_in, with_frame}
 use Rattle.promela_run.specs.declared.live_channel.LiveChannel.{LiveChannel}
 use Rattle.run_start.specs.declared.started.Started.{Started}
-use Rattle.run_start.specs.Shown.{shape, shown}
+use Rattle.run_start.specs.Shown.{shape, idle, shown}
 use Rattle.run_start.specs.Known.{Keeps}
 
 pub shape-with_number : (fs : List Frame) (p : Place) (v : ℤ) → shape (with_number fs p v) ≡ shape fs
@@ -87,10 +87,26 @@ size_now : (old new : Started) (i n : ℕ) → Keeps old new → size_at old.sto
 size_now old new i n k e =
     ap (λ (m : ℕ). size_at new.store.frames m i) (ap length k.sorts) ∙ same_size old.store.frames new.store.frames (length old.sorts.items) i k.shape ∙ e
 
+-- as many processes are shown as there are, and those
+pub counted : (s : Started) → length (shown s).stands ≡ length s.sorts.items
+counted s = length-map s.sorts.items idle
+
+sorts_of : (ks : List ℕ) → map (λ (y : Stand). y.sort) (map idle ks) ≡ ks
+sorts_of [] = refl
+sorts_of (k ∷ ks) = ap (λ (x : List ℕ). k ∷ x) (sorts_of ks)
+
+pub same_sorts : (a b : Started) (ys : List Stand) (ks : List ℕ) → (shown a).stands ≡ (shown b).stands ++ ys → map (λ (y : Stand). y.sort) ys ≡ ks → a.sorts.items ≡ b.sorts.items ++ ks
+same_sorts a b ys ks e h =
+    sym (sorts_of a.sorts.items) ∙ ap (map (λ (y : Stand). y.sort)) e ∙ map-append (λ (y : Stand). y.sort) (shown b).stands ys
+    ∙ ap (λ (x : List ℕ). x ++ map (λ (y : Stand). y.sort) ys) (sorts_of b.sorts.items) ∙ ap (λ (x : List ℕ). b.sorts.items ++ x) h
+
+pub place_is : (s : Started) (v c : ℕ) → ◌≡◌ {A = Place} (cell_in (shown s) v c) (record { frame = length s.sorts.items; variable = v; cell = c })
+place_is s v c = ap (λ (n : ℕ). record { frame = n; variable = v; cell = c }) (counted s)
+
 pub cell_there : (old new : Started) (i cell n : ℕ) → Keeps old new → size_at old.store.frames (length old.sorts.items) i ≡ n → cell < n → HasPlace new.store.frames (cell_in (shown new) i cell)
 cell_there old new i cell n k e h =
     let s = size_now old new i n k e in
-    has_cell new.store.frames (cell_in (shown new) i cell) (omega (arith, s, h))
+    subst (HasPlace new.store.frames) (sym (place_is new i cell)) (has_cell new.store.frames (record { frame = length new.sorts.items; variable = i; cell = cell }) (omega (arith, s, h)))
 
 pub variable_there : (old new : Started) (ss : List Slot) (i : ℕ) (d : Slot) → Keeps old new → map length (frame_at old.store.frames (length old.sorts.items)) ≡ map size ss → i < length ss → size_at new.store.frames (length new.sorts.items) i ≡ size (get_or ss i d)
 variable_there old new ss i d k e h =
@@ -103,14 +119,18 @@ zero_sizes [] = refl
 zero_sizes (n ∷ ns) = ap (λ (x : ℕ). x ∷ map length (zeros ns)) (length-replicate n (pos 0)) ∙ ap (λ (x : List ℕ). n ∷ x) (zero_sizes ns)
 
 -- the sizes in a frame that is added
-pub added_sizes : (ss : List Slot) (b n : Begun) → n ≡ with_frame ss b → length b.frames ≡ length b.sorts → map length (frame_at n.frames (length n.sorts)) ≡ map size ss
+pub added_sizes : (ss : List Slot) (b n : State) → n ≡ with_frame ss b → length b.frames ≡ length b.stands → map length (frame_at n.frames (length n.stands)) ≡ map size ss
 added_sizes ss b n e l =
-    ap (λ (x : Begun). map length (frame_at x.frames (length x.sorts))) e
-    ∙ ap (λ (x : Frame). map length x) (get_or_push b.frames (zeros (map size ss)) [] (length b.sorts) l) ∙ zero_sizes (map size ss)
+    ap (λ (x : State). map length (frame_at x.frames (length x.stands))) e
+    ∙ ap (λ (x : Frame). map length x) (get_or_push b.frames (zeros (map size ss)) [] (length b.stands) l) ∙ zero_sizes (map size ss)
 
-pub added_shape : (ss : List Slot) (b n : Begun) → n ≡ with_frame ss b → shape n.frames ≡ shape b.frames ++ map size ss ∷ []
+pub frame_sizes : (ss : List Slot) (old new : Started) → shown new ≡ with_frame ss (shown old) → length old.store.frames ≡ length old.sorts.items → map length (frame_at new.store.frames (length new.sorts.items)) ≡ map size ss
+frame_sizes ss old new e l =
+    subst (λ (n : ℕ). map length (frame_at new.store.frames n) ≡ map size ss) (counted new) (added_sizes ss (shown old) (shown new) e (l ∙ sym (counted old)))
+
+pub added_shape : (ss : List Slot) (b n : State) → n ≡ with_frame ss b → shape n.frames ≡ shape b.frames ++ map size ss ∷ []
 added_shape ss b n e =
-    ap (λ (x : Begun). shape x.frames) e ∙ map-append (map length) b.frames (zeros (map size ss) ∷ [])
+    ap (λ (x : State). shape x.frames) e ∙ map-append (map length) b.frames (zeros (map size ss) ∷ [])
     ∙ ap (λ (x : List ℕ). shape b.frames ++ x ∷ []) (zero_sizes (map size ss))
 
 -- they stay

@@ -7,7 +7,7 @@ use Rattle.pml_program.specs.declared.program.Initial.{Initial}
 use Rattle.pml_program.specs.declared.program.Initial.TheVariants as i
 use Rattle.pml_program.specs.declared.program.Slot.{Slot}
 use Rattle.pml_program.specs.declared.program.Fields.{Fields}
-use Rattle.promela_run.specs.State.{size, slot_of, cell_of, fields_at, fields_of, last_field, leaf, Begun, fields_begun}
+use Rattle.promela_run.specs.State.{size, slot_of, cell_of, fields_at, fields_of, last_field, leaf, State, fields_begun}
 use Rattle.run_start.specs.Known.{is_zero, are_zero, have_no_initials}
 
 abbrev HasNone : Slot → Type 0
@@ -55,7 +55,7 @@ pub leaf_none : (ts : List Fields) (s : Slot) (cell : ℕ) → have_no_initials 
 leaf_none ts s cell h e = last_none ts (length ts) s (cell % s.stride) h (zero_is s.initial e)
 
 -- no cell of a variable begins with anything
-pub nothing_begun : (ts : List Fields) (s : Slot) (v c n : ℕ) (b : Begun) → have_no_initials ts ≡ true → is_zero s.initial ≡ true → fields_begun ts s v c n b ≡ Ok b
+pub nothing_begun : (ts : List Fields) (s : Slot) (v c n : ℕ) (b : State) → have_no_initials ts ≡ true → is_zero s.initial ≡ true → fields_begun ts s v c n b ≡ Ok b
 nothing_begun ts s v c zero b h e = refl
 nothing_begun ts s v c (suc n) b h e =
     let x : (leaf ts s c).initial ≡ i.Zero = leaf_none ts s c h e in

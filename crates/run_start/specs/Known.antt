@@ -12,7 +12,7 @@ use Rattle.diagnostics.specs.declared.fault.Fault.{Fault}
 use Rattle.run_start.specs.declared.started.Started.{Started}
 use Rattle.promela_run.specs.declared.beginning.Beginning.{Beginning}
 use Rattle.promela_run.specs.declared.beginning.Beginning.TheVariants.{Nothing, Number, Fails, Channel}
-use Rattle.promela_run.specs.State.{leaf, Begun, nothing, initial_value, cell_begun, with_frame, variables_begun}
+use Rattle.promela_run.specs.State.{leaf, Stand, State, unread, initial_value, cell_begun, with_frame, joined, variables_begun}
 use Rattle.promela_run.specs.Statements.{with_arguments}
 use Rattle.run_start.specs.Shown.{shape}
 
@@ -27,8 +27,8 @@ pub record Keeps (old new : Started) : Type 0 where
   pub most : new.store.most ≡ old.store.most
 
 -- a place in the youngest frame's variable with this number
-abbrev pub is_of : Begun → ℕ → Place → Bool
-is_of b variable q = nat_eq (length b.sorts) q.frame && nat_eq variable q.variable
+abbrev pub is_of : State → ℕ → Place → Bool
+is_of b variable q = nat_eq (length b.stands) q.frame && nat_eq variable q.variable
 
 -- a type without fields
 abbrev pub IsPlain : Form → Type 0
@@ -44,7 +44,7 @@ value_known (Err f) = Fails f
 -- of a channel it is known that it is one
 abbrev pub known_of : Initial → Form → Beginning
 known_of i.Zero form = Nothing
-known_of (i.Value v) form = value_known (initial_value v form nothing)
+known_of (i.Value v) form = value_known (initial_value v form unread)
 known_of (i.Channel capacity types) form = Channel
 
 abbrev pub known : Slot → Beginning
@@ -85,13 +85,13 @@ known_cells ts s (suc n) = known_cells ts s n ++ known (leaf ts s n) ∷ []
 -- ---- words of what begins
 
 -- what a cell of a variable begins with, by the field that has it, or the variable itself where its type has no fields
-abbrev pub leaf_begun : List Fields → Slot → ℕ → ℕ → Begun → Result Begun Fault
+abbrev pub leaf_begun : List Fields → Slot → ℕ → ℕ → State → Result State Fault
 leaf_begun ts s variable cell = cell_begun (leaf ts s cell).initial (leaf ts s cell).form variable cell
 
--- a process more, of the proctype with this number, with nothing in its variables
-abbrev pub with_process : ℕ → List Slot → Begun → Begun
-with_process sort ss b = with_frame ss (record b { sorts = b.sorts ++ sort ∷ [] })
+-- a process more that stands so, with nothing in its variables
+abbrev pub with_process : Stand → List Slot → State → State
+with_process y ss b = with_frame ss (joined y b)
 
 -- variables are begun: the first of them with arguments, the others as they are declared
-abbrev pub begun_with : List Fields → List Slot → List ℤ → Begun → Result Begun Fault
+abbrev pub begun_with : List Fields → List Slot → List ℤ → State → Result State Fault
 begun_with ts slots xs b = variables_begun ts slots 0 (with_arguments 0 slots xs b)

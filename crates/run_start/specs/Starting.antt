@@ -7,18 +7,19 @@ use Rattle.pml_program.specs.declared.program.Proctype.{Proctype}
 use Rattle.pml_program.specs.declared.program.Program.{Program}
 use Rattle.diagnostics.specs.declared.stop.Stop.{Stop}
 use Rattle.diagnostics.specs.declared.stop.Stop.TheVariants as stop
+use Rattle.promela_process.specs.Store.{Frame}
 use Rattle.run_start.specs.declared.started.Started.{Started}
-use Rattle.promela_run.specs.State.{size, Begun, variables_at}
-use Rattle.run_start.specs.Shown.{shown, shape}
+use Rattle.promela_run.specs.State.{size, State, variables_at}
+use Rattle.run_start.specs.Shown.{begun, shape}
 
--- the first state, or the first fault; where memory is refused, nothing is said
-abbrev pub Starts : Result Begun Fault → Result Started Stop → Type 0
-Starts (Ok b) (Ok s) = shown s ≡ b
-Starts (Ok b) (Err stop.Memory) = Unit {0}
-Starts (Ok b) (Err (stop.Fault f)) = ⊥
-Starts (Err f) (Err (stop.Fault g)) = g ≡ f
-Starts (Err f) (Err stop.Memory) = Unit {0}
-Starts (Err f) (Ok s) = ⊥
+-- the first state of this model, or the first fault; where memory is refused, nothing is said
+abbrev pub Starts : Program → Result State Fault → Result Started Stop → Type 0
+Starts p (Ok b) (Ok s) = begun p s ≡ b
+Starts p (Ok b) (Err stop.Memory) = Unit {0}
+Starts p (Ok b) (Err (stop.Fault f)) = ⊥
+Starts p (Err f) (Err (stop.Fault g)) = g ≡ f
+Starts p (Err f) (Err stop.Memory) = Unit {0}
+Starts p (Err f) (Ok s) = ⊥
 
 -- the proctypes of the processes that a model starts with, by their numbers, each as often as it starts
 abbrev pub starting : ℕ → List Proctype → List ℕ
@@ -32,7 +33,7 @@ abbrev pub declared_sizes : Program → List ℕ → List (List ℕ)
 declared_sizes p sorts = map size p.globals ∷ map (λ k. map size (variables_at p k)) sorts
 
 -- the processes are of proctypes that are there, and each variable has the cells that it is declared with
-pub record IsDeclared (p : Program) (b : Begun) : Type 0 where
-  pub few : length b.sorts ≤ MOST_PROCESSES
-  pub sorts : AllByRecursion (λ k. k < length p.proctypes) b.sorts
-  pub sizes : shape b.frames ≡ declared_sizes p b.sorts
+pub record IsDeclared (p : Program) (frames : List Frame) (ks : List ℕ) : Type 0 where
+  pub few : length ks ≤ MOST_PROCESSES
+  pub sorts : AllByRecursion (λ k. k < length p.proctypes) ks
+  pub sizes : shape frames ≡ declared_sizes p ks

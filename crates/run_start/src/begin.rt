@@ -4,7 +4,7 @@ ghost use Rattle.std.specs.Prelude.{◌≡◌, ◌+◌, ◌<◌, ◌≤◌, ◌+
 ghost use Rattle.profile.specs.declared.TheConstants.{MOST_PROCESSES};
 ghost use Rattle.promela_process.specs.Store.{frame_at, size_at};
 ghost use Rattle.pml_store.specs.Writing.{HasPlace, joined};
-ghost use Rattle.promela_run.specs.State.{initial_value, cell_in, with_value, with_frame, with_channel, empty_channel, cell_begun, with_values, fields_begun, variable_begun, variables_begun, frame_begun, size, leaf};
+ghost use Rattle.promela_run.specs.State.{initial_value, read_in, cell_in, with_value, with_frame, with_channel, empty_channel, cell_begun, with_values, fields_begun, variable_begun, variables_begun, frame_begun, size, leaf};
 ghost use Rattle.run_start.specs.Shown.{Begins, shown, shape};
 ghost use Rattle.run_start.specs.Bound.{cells_of};
 ghost use Rattle.run_start.specs.Known.{Keeps, known, leaf_begun};
@@ -30,7 +30,7 @@ use std::alloc::{AllocError, Global};
 /// What a type keeps of the value of an initialiser.
 fn initial_value(started: &Started, value: &Expr, form: Form) -> Result<i32, Fault>
     requires { length started.now.sorts.items ≤ MOST_PROCESSES }
-    ensures { result ≡ initial_value value.now form (shown started.now) }
+    ensures { result ≡ initial_value value.now form (read_in (shown started.now)) }
 {
     let count = started.sorts.len();
     let pid = count.saturating_sub(1) as u8;

@@ -3,7 +3,7 @@
 ghost use Rattle.std.specs.Prelude.{◌≡◌, ◌<◌, IfOk, map, slice_get, slice_index_or};
 ghost use Rattle.std.specs.Option.{option_copied};
 ghost use Rattle.run_layout.specs.Tables.{field_by};
-ghost use Rattle.promela_run.specs.State.{initial_value, nothing, read_in};
+ghost use Rattle.promela_run.specs.State.{initial_value, unread};
 ghost use Rattle.run_start.specs.Known.{is_zero, are_zero, have_no_initials, known, known_fields, known_in, known_cells};
 
 use diagnostics::Fault;
@@ -24,7 +24,7 @@ use std::marker::Model;
 
 /// What a type keeps of the value of a field's initialiser.
 pub fn constant(alloc: Global, value: &Expr, form: Form) -> Result<i32, Fault>
-    ensures { result ≡ initial_value value.now form nothing }
+    ensures { result ≡ initial_value value.now form unread }
 {
     let store = Store::new(alloc, 0);
     let view = View::new(&store, &[], 0, 0, false);

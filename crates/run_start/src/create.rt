@@ -5,7 +5,7 @@ ghost use Rattle.profile.specs.declared.TheConstants.{MOST_PROCESSES};
 ghost use Rattle.promela_process.specs.Store.{Frame, frame_at};
 ghost use Rattle.pml_store.specs.Writing.{before, but_last, joined};
 ghost use Rattle.promela_run.specs.State.{size, with_value};
-ghost use Rattle.run_start.specs.Shown.{Begins, shown, shape};
+ghost use Rattle.run_start.specs.Shown.{Begins, idle, shown, shape};
 ghost use Rattle.run_start.specs.Bound.{cells_of};
 ghost use Rattle.promela_run.specs.Statements.{with_arguments, created};
 ghost use Rattle.run_start.specs.Known.{Keeps, with_process, begun_with};
@@ -68,7 +68,7 @@ fn add_process(
     slots: &[Slot<'_>],
 ) -> Result<(), Stop>
     requires { length (joined started.old.store.frames) + cells_of slots.now ≤ started.old.store.most }
-    ensures value { Begins (Ok (with_process sort slots.now (shown started.old))) result (shown started.new) }
+    ensures value { Begins (Ok (with_process (idle sort) slots.now (shown started.old))) result (shown started.new) }
     ensures log { started.new.store.written ≡ started.old.store.written }
     ensures kept { OnErr result (shown started.new ≡ shown started.old) }
     ensures most { started.new.store.most ≡ started.old.store.most }
@@ -107,7 +107,7 @@ pub fn create(
     requires few { length started.old.sorts.items < MOST_PROCESSES }
     requires next { length started.old.store.frames ≡ length started.old.sorts.items + 1 }
     requires room { length (joined started.old.store.frames) + cells_of slots.now ≤ started.old.store.most }
-    ensures value { Begins (created beginnings.now.typedefs sort slots.now arguments.now (shown started.old)) result (shown started.new) }
+    ensures value { Begins (created beginnings.now.typedefs (idle sort) slots.now arguments.now (shown started.old)) result (shown started.new) }
     ensures kept { OnErr result (shown started.new ≡ shown started.old) }
     ensures past { OnOk result ((rest : List Frame) × (before started.new.store ≡ before started.old.store ++ rest)) }
     ensures shape { OnOk result (shape started.new.store.frames ≡ shape started.old.store.frames ++ map size slots.now ∷ []) }

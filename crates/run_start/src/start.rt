@@ -1,7 +1,7 @@
 //! The globals and the processes that a model begins with.
 
 ghost use Rattle.std.specs.Prelude.{◌≡◌, ◌<◌, [], IfOk, OnOk, length};
-ghost use Rattle.run_start.specs.Shown.{Begins, shown};
+ghost use Rattle.run_start.specs.Shown.{Begins, begun};
 ghost use Rattle.run_start.specs.Bound.{most_cells, IsWithin, IsBounded};
 ghost use Rattle.promela_run.specs.State.{first_state, process_begun, sort_begun};
 ghost use Rattle.run_start.specs.Starting.{Starts, IsDeclared};
@@ -26,10 +26,10 @@ fn add_process(
 ) -> Result<(), Stop>
     requires known { beginnings.now.typedefs ≡ program.now.typedefs }
     requires there { sort < length program.now.proctypes }
-    requires declared { IsDeclared program.now (shown started.old) }
+    requires declared { IsDeclared program.now started.old.store.frames started.old.sorts.items }
     requires most { started.old.store.most ≡ most_cells program.now }
-    ensures value { Begins (process_begun program.now sort (shown started.old)) result (shown started.new) }
-    ensures declared { OnOk result (IsDeclared program.now (shown started.new)) }
+    ensures value { Begins (process_begun program.now sort (begun program.now started.old)) result (begun program.now started.new) }
+    ensures declared { OnOk result (IsDeclared program.now started.new.store.frames started.new.sorts.items) }
     ensures most { started.new.store.most ≡ most_cells program.now }
 {
     if started.sorts.len() >= MOST_PROCESSES {
@@ -47,18 +47,18 @@ fn begin_process(
     program: &Program<'_>,
     beginnings: &Beginnings<'_, '_>,
     sort: usize,
-    begun: &mut Started,
+    started: &mut Started,
 ) -> Result<(), Stop>
     requires known { beginnings.now.typedefs ≡ program.now.typedefs }
     requires there { sort < length program.now.proctypes }
-    requires declared { IsDeclared program.now (shown begun.old) }
-    requires most { begun.old.store.most ≡ most_cells program.now }
-    ensures value { Begins (process_begun program.now sort (shown begun.old)) result (shown begun.new) }
-    ensures declared { OnOk result (IsDeclared program.now (shown begun.new)) }
-    ensures most { begun.new.store.most ≡ most_cells program.now }
+    requires declared { IsDeclared program.now started.old.store.frames started.old.sorts.items }
+    requires most { started.old.store.most ≡ most_cells program.now }
+    ensures value { Begins (process_begun program.now sort (begun program.now started.old)) result (begun program.now started.new) }
+    ensures declared { OnOk result (IsDeclared program.now started.new.store.frames started.new.sorts.items) }
+    ensures most { started.new.store.most ≡ most_cells program.now }
 {
-    add_process(alloc, program, beginnings, sort, begun)?;
-    begun.store.forget();
+    add_process(alloc, program, beginnings, sort, started)?;
+    started.store.forget();
     Ok(())
 }
 
@@ -73,10 +73,10 @@ fn begin_processes(
 ) -> Result<(), Stop>
     requires known { beginnings.now.typedefs ≡ program.now.typedefs }
     requires there { sort < length program.now.proctypes }
-    requires declared { IsDeclared program.now (shown started.old) }
+    requires declared { IsDeclared program.now started.old.store.frames started.old.sorts.items }
     requires most { started.old.store.most ≡ most_cells program.now }
-    ensures value { Begins (sort_begun program.now sort starts (shown started.old)) result (shown started.new) }
-    ensures declared { OnOk result (IsDeclared program.now (shown started.new)) }
+    ensures value { Begins (sort_begun program.now sort starts (begun program.now started.old)) result (begun program.now started.new) }
+    ensures declared { OnOk result (IsDeclared program.now started.new.store.frames started.new.sorts.items) }
     ensures most { started.new.store.most ≡ most_cells program.now }
 {
     for _start in 0..starts {
@@ -93,9 +93,9 @@ pub fn start_by(
 ) -> Result<Started, Stop>
     requires within { IsWithin program.now }
     requires known { beginnings.now.typedefs ≡ program.now.typedefs }
-    ensures value { Starts (first_state program.now) result }
+    ensures value { Starts program.now (first_state program.now) result }
     ensures forgotten { IfOk result (λ s. s.store.written ≡ []) }
-    ensures declared { IfOk result (λ s. IsDeclared program.now (shown s)) }
+    ensures declared { IfOk result (λ s. IsDeclared program.now s.store.frames s.sorts.items) }
     ensures bounded { IfOk result (λ s. IsBounded program.now s.store s.channels.items) }
 {
     let mut started = Started {
@@ -116,9 +116,9 @@ pub fn start_by(
 /// The first state of a checked model.
 pub fn start(alloc: Global, program: &Program<'_>) -> Result<Started, Stop>
     requires within { IsWithin program.now }
-    ensures value { Starts (first_state program.now) result }
+    ensures value { Starts program.now (first_state program.now) result }
     ensures forgotten { IfOk result (λ s. s.store.written ≡ []) }
-    ensures declared { IfOk result (λ s. IsDeclared program.now (shown s)) }
+    ensures declared { IfOk result (λ s. IsDeclared program.now s.store.frames s.sorts.items) }
     ensures bounded { IfOk result (λ s. IsBounded program.now s.store s.channels.items) }
 {
     match Beginnings::new(alloc, program) {
