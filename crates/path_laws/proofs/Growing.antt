@@ -16,11 +16,12 @@ use Rattle.promela_process.specs.Offers.{Offer}
 use Rattle.promela_process.specs.Expressions.{Reading, val, ◌>>=◌}
 use Rattle.promela_run.specs.declared.moves.Pick.{Pick}
 use Rattle.promela_run.specs.declared.goes.Goes.{Goes as Stored}
-use Rattle.promela_run.specs.Statements.{outcome, goes_to, sent, received, values, asserted}
-use Rattle.promela_run.specs.State.{Begun, Stand, State, reads, body_of, levels, first_control}
-use Rattle.run_start.proofs.Chaining.{chain, chain_any}
+use Rattle.promela_run.specs.Statements.{outcome, created, goes_to, sent, received, values, asserted}
+use Rattle.promela_run.specs.State.{Stand, State, reads, body_of, levels, first_control, joined}
+use Rattle.run_start.proofs.Chaining.{chain, chain_any, weaker}
+use Rattle.run_start.proofs.Touching.{Touched, created_touches}
 use Rattle.promela_run.specs.Moves.{choices}
-use Rattle.promela_run.specs.Steps.{put, put_by, put_all, with_sent, with_received, with_new, joined_by, ran, run_number, Done, quiet, run_into, does, effect, behind, first_of, onward, within, within_from, taken, body_by}
+use Rattle.promela_run.specs.Steps.{put, put_by, put_all, with_sent, with_received, with_new, ran, run_number, Done, quiet, run_into, does, effect, behind, first_of, onward, within, within_from, taken, body_by}
 use Rattle.run_state.specs.Calls.{put_if}
 use Rattle.path_laws.proofs.Fitting.{Fits, at_fits, settle_fits}
 
@@ -112,17 +113,20 @@ by_stays s r = chain_any (Grows s) r (λ g. Ok (put_if s g)) (λ g. put_stays s 
 pub first_fits : (b : Seq) → Fits b (first_control b)
 first_fits b = settle_fits b (at (steps b) ([], 0)) (at_fits b ([], 0))
 
-joined_grows : (s : State) (kind : ℕ) (q : Proctype) (b : Begun) → slice_get s.program.proctypes kind ≡ Some q → IfOk (joined_by s kind q.body b) (Grows s)
-joined_grows s kind q b e = record {
-  program = refl;
+joined_grows : (s n : State) (kind : ℕ) (q : Proctype) → slice_get s.program.proctypes kind ≡ Some q → Touched (joined (record { sort = kind; control = first_control q.body }) s) n → Grows s n
+joined_grows s n kind q e touched = record {
+  program = ap (λ (t : State). t.program) touched;
   more = record { sort = kind; control = first_control q.body } ∷ [];
   fit = (record { body = q.body; is = ap (option_map (λ (r : Proctype). r.body)) e; fits = first_fits q.body }, tt);
-  stands = refl;
+  stands = ap (λ (t : State). t.stands) touched;
 }
 
 new_grows : (s : State) (kind : ℕ) (o : Option Proctype) (vs : List ℤ) → slice_get s.program.proctypes kind ≡ o → IfOk (with_new s kind o vs) (Grows s)
 new_grows s kind None vs e = itself s
-new_grows s kind (Some q) vs e = chain_any (Grows s) _ (joined_by s kind q.body) (λ b. joined_grows s kind q b e)
+new_grows s kind (Some q) vs e =
+    let y : Stand = record { sort = kind; control = first_control q.body } in
+    weaker (Touched (joined y s)) (Grows s) (created s.program.typedefs y q.variables vs s) (λ n touched. joined_grows s n kind q e touched)
+    (created_touches s.program.typedefs y q.variables vs s)
 
 ran_grows : (s : State) (r : Reading) (q : Run) → IfOk (ran s r q) (Grows s)
 ran_grows s r q = by (nat_lt (length s.stands) MOST_PROCESSES)

@@ -14,7 +14,8 @@ use Rattle.promela_process.specs.Control.{Control, at, steps, sequence}
 use Rattle.promela_process.specs.Offers.{Edge, Levels, offers, Offer, offer_of, statement_at, offer_text}
 use Rattle.pml_control.proofs.Positions.{found}
 use Rattle.promela_process.specs.Store.{Frame}
-use Rattle.promela_run.specs.State.{Begun, first_state, Stand, State, reads, body_of, levels_in, begins_at, picked}
+use Rattle.promela_run.specs.State.{first_state, Stand, State, reads, body_of, levels_in, begins_at, picked}
+use Rattle.run_start.specs.Laws.{IsFirst}
 use Rattle.run_start.specs.Starting.{starting}
 use Rattle.run_start.proofs.Chaining.{chain, chain_any}
 use Rattle.run_start.proofs.Living.{living_are}
@@ -214,10 +215,14 @@ begins_fit pr (k ∷ ks) h = (by (body_of pr k) refl h.0, begins_fit pr ks h.1)
     by None e (b, is) = absurd (not_some b (sym e ∙ is))
     by (Some b) e there = record { body = b; is = e; fits = first_fits b }
 
-begun_fits : (pr : Program) (b : Begun) (lossy : Bool) → first_state pr ≡ Ok b → IsFitState (first pr b lossy).state
-begun_fits pr b lossy e =
-    let are = subst (λ (r : Result Begun Fault). IfOk r (λ n. n.sorts ≡ take 255 (starting 0 pr.proctypes))) e (living_are pr) in
-    begins_fit pr b.sorts (subst (AllByRecursion (HasBody pr)) (sym are) (all_taken (HasBody pr) 255 (starting 0 pr.proctypes) (starting_there pr 0 pr.proctypes refl)))
+first_fits_by : (pr : Program) (s : State) (lossy : Bool) → IsFirst pr s → IsFitState (first s lossy).state
+first_fits_by pr s lossy f =
+    let there = all_taken (HasBody pr) 255 (starting 0 pr.proctypes) (starting_there pr 0 pr.proctypes refl) in
+    subst (λ (q : Program). AreFit q s.stands) (sym f.program)
+    (subst (AreFit pr) (sym f.stands) (begins_fit pr (take 255 (starting 0 pr.proctypes)) there))
+
+begun_fits : (pr : Program) (s : State) (lossy : Bool) → first_state pr ≡ Ok s → IsFitState (first s lossy).state
+begun_fits pr s lossy e = first_fits_by pr s lossy (subst (λ (r : Result State Fault). IfOk r (IsFirst pr)) e (living_are pr))
 
 -- each state that a path of a text's model leads to
 pub reached_fits : (text : List ℕ) (lossy : Bool) (model state : Running) → IsModel text lossy model → PathLeads rules model state → IsFitState state.state

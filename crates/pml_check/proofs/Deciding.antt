@@ -26,7 +26,7 @@ use Rattle.pml_program.specs.declared.program.Seq.{Seq}
 use Rattle.pml_program.specs.declared.program.Proctype.{Proctype}
 use Rattle.pml_program.specs.declared.program.Program.{Program}
 use Rattle.check_resolve.specs.Model.{numbered_model}
-use Rattle.promela_run.specs.State.{Begun, first_state}
+use Rattle.promela_run.specs.State.{State, first_state}
 use Rattle.promela_run.specs.Judged.{condition_of, BreaksModel, KeepsModel, HasBadStart, HasGoodStart, AppliesTo, FitsTo, Applies, Fits, IsFit, IsLeast}
 use Rattle.pml_check.specs.Decided.{all_judged, FitsAll, IsFirst}
 use Rattle.pml_check.proofs.Seeking.{OneBelow, NoneBelow, below, of_list}
@@ -133,8 +133,8 @@ module _ (b : Seq) where
 on_start : (p : Program) → HasBadStart p ⊎ HasGoodStart p
 on_start p = by_result (first_state p) refl
   where
-    by_result : (d : Result Begun Fault) → first_state p ≡ d → HasBadStart p ⊎ HasGoodStart p
-    by_result (Ok b) e = inr (b, e)
+    by_result : (d : Result State Fault) → first_state p ≡ d → HasBadStart p ⊎ HasGoodStart p
+    by_result (Ok s) e = inr (s, e)
     by_result (Err f) e = inl (f, e)
 
 on_model : (x : Refusal) (p : Program) → BreaksModel x p ⊎ KeepsModel x p

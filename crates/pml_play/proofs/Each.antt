@@ -168,7 +168,7 @@ module _ (text : List ℕ) (options : Options) where
   of_state : (t : Tree) → IsSpelled text t → IsFit t → Has
   of_state t is fits =
       let start = good_start t fits in (
-        transcript rules options (first (numbered_model t) start.0 options.lossy),
+        transcript rules options (first start.0 options.lossy),
         of_model (record { tree = t; is_spelled = is; fits = fits; program = numbered_model t; stands = model-stands t; begun = start.0; starts = start.1; is = refl }),
       )
 

@@ -22,7 +22,7 @@ use Rattle.promela_model.specs.declared.mark.Mark.{Mark}
 use Rattle.promela_run.specs.Judged.{AppliesTo, IsFit, IsLeast}
 use Rattle.pml_check.proofs.Least.{one_least, fit_has_none}
 use Rattle.diagnostics.specs.declared.fault.Fault.{Fault}
-use Rattle.promela_run.specs.State.{Begun, first_state}
+use Rattle.promela_run.specs.State.{State, first_state}
 use Rattle.promela_run.specs.World.{Running, first, rules}
 use Rattle.promela_session.specs.Devices.{CanBeReplayed}
 use Rattle.session.proofs.CutShort.{can_be_replayed, refused_can_be_replayed}
@@ -30,7 +30,7 @@ use Rattle.pml_play.specs.Transcript.{AreExpanded, IsSpelled, IsModel, HasNoExpa
 use Rattle.pml_play.specs.Outcomes.{HasLine}
 use Rattle.promela_session.specs.declared.form.Stream.TheVariants.{Unread}
 
-ok_is : {x y : Begun} → ◌≡◌ {A = Result Begun Fault} (Ok x) (Ok y) → x ≡ y
+ok_is : {x y : State} → ◌≡◌ {A = Result State Fault} (Ok x) (Ok y) → x ≡ y
 ok_is h = cc
 
 -- a condition on the tree has no line
@@ -173,14 +173,13 @@ module _ {text : List ℕ} where
   no_model h m = no_fit h m.is_spelled m.fits
 
   -- equal models begin alike
-  same_begun : {t u : Tree} {p q : Program} {b c : Begun} (lossy : Bool) → IsSpelled text t → IsSpelled text u → StandsModel t p → StandsModel u q → first_state p ≡ Ok b → first_state q ≡ Ok c → first p b lossy ≡ first q c lossy
-  same_begun {t} {u} {p} {q} {b} {c} lossy is other stands too sb sc =
+  same_begun : {t u : Tree} {p q : Program} {b c : State} → IsSpelled text t → IsSpelled text u → StandsModel t p → StandsModel u q → first_state p ≡ Ok b → first_state q ≡ Ok c → b ≡ c
+  same_begun {t} {u} {p} {q} is other stands too sb sc =
       let same : p ≡ q = one-model t p q stands (subst (λ (x : Tree). StandsModel x q) (same_tree other is) too) in
-      let begun : b ≡ c = ok_is (sym sb ∙ ap first_state same ∙ sc) in
-      ap (λ (x : Program). first x b lossy) same ∙ ap (λ (x : Begun). first q x lossy) begun
+      ok_is (sym sb ∙ ap first_state same ∙ sc)
 
   pub one_model : {lossy : Bool} {a b : Running} → IsModel text lossy a → IsModel text lossy b → a ≡ b
-  one_model {lossy} {a} {b} m n = m.is ∙ same_begun lossy m.is_spelled n.is_spelled m.stands n.stands m.starts n.starts ∙ sym n.is
+  one_model {lossy} {a} {b} m n = m.is ∙ ap (λ (s : State). first s lossy) (same_begun m.is_spelled n.is_spelled m.stands n.stands m.starts n.starts) ∙ sym n.is
 
   pub line_of : {a : Refusal} {line : ℕ} → IsRefused text a line → HasLine text a line
   line_of (too_long h) = refl

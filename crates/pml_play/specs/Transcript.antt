@@ -19,7 +19,7 @@ use Rattle.promela_model.specs.GrammarOfModels.{Spells}
 use Rattle.promela_model.specs.StandsModel.{StandsModel}
 use Rattle.promela_run.specs.Judged.{IsFit, IsLeast}
 use Rattle.pml_program.specs.declared.program.Program.{Program}
-use Rattle.promela_run.specs.State.{Begun, first_state}
+use Rattle.promela_run.specs.State.{State, first_state}
 use Rattle.promela_run.specs.World.{Running, first, rules}
 use Rattle.promela_session.specs.declared.form.Stream.TheVariants.{Unread}
 use Rattle.promela_session.specs.declared.ends.Cause.TheVariants as cause
@@ -43,9 +43,9 @@ pub record IsModel (text : List ℕ) (lossy : Bool) (state : Running) : Type 0 w
   pub fits : IsFit tree
   pub program : Program
   pub stands : StandsModel tree program
-  pub begun : Begun
+  pub begun : State
   pub starts : first_state program ≡ Ok begun
-  pub is : state ≡ first program begun lossy
+  pub is : state ≡ first begun lossy
 
 -- The text has tokens, and nothing comes of them.
 pub record HasNoExpansion (text : List ℕ) : Type 0 where

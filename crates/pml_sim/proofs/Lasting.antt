@@ -19,14 +19,15 @@ use Rattle.promela_process.specs.Offers.{Edge, Levels, offers, Offer, offer_of, 
 use Rattle.promela_process.specs.Expressions.{Reading, val, ◌>>=◌}
 use Rattle.promela_run.specs.declared.goes.Goes.{Goes}
 use Rattle.promela_run.specs.declared.live_channel.LiveChannel.{LiveChannel}
-use Rattle.promela_run.specs.Statements.{outcome, goes_to, sent, received, values, asserted}
-use Rattle.promela_run.specs.State.{Begun, Stand, State, reads, body_of, levels, levels_in, first_control, picked}
-use Rattle.run_start.proofs.Chaining.{chain, chain_any}
+use Rattle.promela_run.specs.Statements.{outcome, created, goes_to, sent, received, values, asserted}
+use Rattle.promela_run.specs.State.{Stand, State, reads, body_of, levels, levels_in, first_control, joined, picked}
+use Rattle.run_start.proofs.Chaining.{chain, chain_any, weaker}
+use Rattle.run_start.proofs.Touching.{Touched, created_touches}
 use Rattle.promela_run.specs.declared.moves.Pick.{Pick}
 use Rattle.promela_run.specs.declared.moves.Move.{Move}
 use Rattle.promela_run.specs.declared.moves.Move.TheVariants.{Death, Alone, Pair}
 use Rattle.promela_run.specs.Moves.{or_else, choices, is_choice, message}
-use Rattle.promela_run.specs.Steps.{put, put_by, put_all, with_sent, with_received, go_to, went, without_youngest, with_new, joined_by, ran, run_number, Done, quiet, run_into, does, effect, behind, first_of, onward, within, within_from, taken, body_by, alone, both_on, paired, passed, step, moved_to}
+use Rattle.promela_run.specs.Steps.{put, put_by, put_all, with_sent, with_received, go_to, went, without_youngest, with_new, ran, run_number, Done, quiet, run_into, does, effect, behind, first_of, onward, within, within_from, taken, body_by, alone, both_on, paired, passed, step, moved_to}
 use Rattle.run_search.specs.Lifted.{offer_on, offer_at, is_other, moved}
 use Rattle.run_state.specs.Calls.{put_if}
 use Rattle.pml_sim.proofs.Weight.{weight_part, AreLight, IsLight, light_steps, light_sequence, light_at}
@@ -211,16 +212,20 @@ module _ (most : ℕ) where
     stands = take_light (IsLightStand most) (length s.stands - 1) s.stands h.stands;
   }
 
-  joined_light : (s : State) (sort : ℕ) (q : Proctype) (b : Begun) → IsLightProctype most q → length s.stands < 255 → Light s → IfOk (joined_by s sort q.body b) Light
-  joined_light s sort q b w room h = record {
+  -- a process more, that stands before its first statement, and what is there then
+  joined_light : (s n : State) (sort : ℕ) (q : Proctype) → IsLightProctype most q → length s.stands < 255 → Light s → Touched (joined (record { sort = sort; control = first_control q.body }) s) n → Light n
+  joined_light s n sort q w room h touched = subst Light (sym touched) (record {
     few = let e = length-append s.stands (record { sort = sort; control = first_control q.body } ∷ []) in omega (arith, e, room);
     bodies = h.bodies;
     stands = append_light (IsLightStand most) s.stands (record { sort = sort; control = first_control q.body } ∷ []) h.stands (first_light q.body (omega (arith, w)), tt);
-  }
+  })
 
   new_light : (s : State) (sort : ℕ) (o : Option Proctype) (vs : List ℤ) → IfSome o (IsLightProctype most) → length s.stands < 255 → Light s → IfOk (with_new s sort o vs) Light
   new_light s sort None vs w room h = h
-  new_light s sort (Some q) vs w room h = chain_any Light _ (joined_by s sort q.body) (λ b. joined_light s sort q b w room h)
+  new_light s sort (Some q) vs w room h =
+      let y : Stand = record { sort = sort; control = first_control q.body } in
+      weaker (Touched (joined y s)) Light (created s.program.typedefs y q.variables vs s) (λ n touched. joined_light s n sort q w room h touched)
+      (created_touches s.program.typedefs y q.variables vs s)
 
   ran_light : (s : State) (r : Reading) (q : Run) → Light s → IfOk (ran s r q) Light
   ran_light s r q h = by (nat_lt (length s.stands) MOST_PROCESSES) refl

@@ -17,7 +17,8 @@ use Rattle.pml_program.specs.declared.program.Proctype.{Proctype}
 use Rattle.pml_program.specs.declared.program.Program.{Program}
 use Rattle.promela_process.specs.Offers.{Offer}
 use Rattle.promela_process.specs.Store.{Frame}
-use Rattle.promela_run.specs.State.{Begun, first_state, Stand, State, body_of, begins_at, picked}
+use Rattle.promela_run.specs.State.{first_state, Stand, State, body_of, begins_at, picked}
+use Rattle.run_start.specs.Laws.{IsFirst}
 use Rattle.run_start.specs.Starting.{starting}
 use Rattle.run_start.proofs.Living.{living_are}
 use Rattle.promela_run.specs.declared.moves.Move.{Move}
@@ -129,16 +130,22 @@ light_stands w options h choices = can_be_converted rules options w choices (ses
 
 -- ---- the first state
 
-begun_few : (p : Program) (b : Begun) → first_state p ≡ Ok b → length b.sorts ≤ 255
-begun_few p b e = let are = subst (λ (r : Result Begun Fault). IfOk r (λ n. n.sorts ≡ take 255 (starting 0 p.proctypes))) e (living_are p) in let l = ap length are ∙ length-take 255 (starting 0 p.proctypes) in omega (arith, l)
+begun_few : (p : Program) (s : State) → IsFirst p s → length s.stands ≤ 255
+begun_few p s f =
+    let ks = take 255 (starting 0 p.proctypes) in
+    let l = ap length f.stands ∙ length-map ks (begins_at p) ∙ length-take 255 (starting 0 p.proctypes) in
+    omega (arith, l)
 
 begun_stands : (p : Program) → AllByRecursion (IsLightProctype most) p.proctypes → (ks : List ℕ) → AllByRecursion (IsLightStand most) (map (begins_at p) ks)
 begun_stands p h [] = tt
 begun_stands p h (k ∷ ks) = (begins_light k (body_of p k) (body_weighs most p k h), begun_stands p h ks)
 
-pub first_is_light : (p : Program) (b : Begun) (lossy : Bool) → AllByRecursion (IsLightProctype most) p.proctypes → first_state p ≡ Ok b → IsLightState most (first p b lossy).state
-first_is_light p b lossy h e = record {
-  few = let f = begun_few p b e in let l = length-map b.sorts (begins_at p) in omega (arith, f, l);
-  bodies = h;
-  stands = begun_stands p h b.sorts;
+first_light_by : (p : Program) (s : State) (lossy : Bool) → AllByRecursion (IsLightProctype most) p.proctypes → IsFirst p s → IsLightState most (first s lossy).state
+first_light_by p s lossy h f = record {
+  few = begun_few p s f;
+  bodies = subst (λ (q : Program). AllByRecursion (IsLightProctype most) q.proctypes) (sym f.program) h;
+  stands = subst (AllByRecursion (IsLightStand most)) (sym f.stands) (begun_stands p h (take 255 (starting 0 p.proctypes)));
 }
+
+pub first_is_light : (p : Program) (s : State) (lossy : Bool) → AllByRecursion (IsLightProctype most) p.proctypes → first_state p ≡ Ok s → IsLightState most (first s lossy).state
+first_is_light p s lossy h e = first_light_by p s lossy h (subst (λ (r : Result State Fault). IfOk r (IsFirst p)) e (living_are p))

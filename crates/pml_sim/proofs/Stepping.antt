@@ -10,8 +10,8 @@ use Rattle.session.specs.Takes.{CanBeTaken, IsReason}
 use Rattle.pml_program.specs.declared.program.Program.{Program}
 use Rattle.promela_process.specs.Store.{Frame}
 use Rattle.pml_store.specs.Writing.{Contents, before}
-use Rattle.promela_run.specs.State.{Begun, first_state as begin, State}
-use Rattle.run_start.specs.Shown.{shown}
+use Rattle.promela_run.specs.State.{first_state as begin, State}
+use Rattle.run_start.specs.Shown.{begun}
 use Rattle.run_start.specs.declared.started.Started.{Started}
 use Rattle.run_start.specs.Starting.{IsDeclared, Starts}
 use Rattle.promela_run.specs.Judged.{HasGoodStart}
@@ -23,7 +23,7 @@ use Rattle.promela_run.specs.declared.moves.Move.{Move}
 use Rattle.promela_run.specs.declared.moves.Move.TheVariants.{Death, Alone, Pair}
 use Rattle.promela_run.specs.Moves as search
 use Rattle.profile.specs.declared.TheConstants.{MOST_DSTEP_STATEMENTS}
-use Rattle.promela_run.specs.Steps.{sorts, there, Done, step}
+use Rattle.promela_run.specs.Steps.{sorts, Done, step}
 use Rattle.run_step.specs.Done.{Does}
 use Rattle.run_state.specs.Live.{Joins}
 use Rattle.promela_run.specs.World.{Running, first, rules, changed_lines, led_to, move_text}
@@ -108,20 +108,20 @@ lines_are w live p ks store older n globals locals s past pr k st log ni =
     ∙ ap (λ (t : State). value_lines t.program (sorts t) w.past t.frames globals locals) (sym s)
 
 pub are_declared : (live : Running) (p : Program) (ks : List ℕ) (store : Contents) (n : ℕ) → p ≡ live.state.program → ks ≡ sorts live.state → store.frames ≡ live.state.frames →
-    IsDeclared live.state.program (there live.state) → AreDeclared p (take n ks) store.frames
+    IsDeclared live.state.program live.state.frames (sorts live.state) → AreDeclared p (take n ks) store.frames
 are_declared live p ks store n pr k st h =
     subst (λ (fs : List Frame). AreDeclared p (take n ks) fs) (sym st)
     (subst (λ (l : List ℕ). AreDeclared p (take n l) live.state.frames) (sym k)
-    (subst (λ (q : Program). AreDeclared q (take n (sorts live.state)) live.state.frames) (sym pr) (first_declared live.state.program (there live.state) n h)))
+    (subst (λ (q : Program). AreDeclared q (take n (sorts live.state)) live.state.frames) (sym pr) (first_declared live.state.program live.state.frames (sorts live.state) n h)))
 
 -- ---- its changes
 
 pub changes_are : (w live : Running) (ks : List ℕ) (store : Contents) (older n : ℕ) → w.state ≡ live.state → w.past ≡ take (older + 1) live.past →
-    ks ≡ sorts live.state → store.frames ≡ live.state.frames → before store ≡ live.past → n ≡ min older (length ks) → IsDeclared live.state.program (there live.state) →
+    ks ≡ sorts live.state → store.frames ≡ live.state.frames → before store ≡ live.past → n ≡ min older (length ks) → IsDeclared live.state.program live.state.frames (sorts live.state) →
     step_changes (take n ks) store ≡ lends.changes w
 changes_are w live ks store older n s past k st log ni h =
     ap (λ (i : ℕ). step_changes (take i ks) store) ni ∙ ap (λ (l : List ℕ). step_changes (take (min older (length l)) l) store) k
-    ∙ changes_of_first older (sorts live.state) store (ap length st ∙ frames_declared live.state.program (there live.state) h)
+    ∙ changes_of_first older (sorts live.state) store (ap length st ∙ frames_declared live.state.program live.state.frames (sorts live.state) h)
     ∙ ap (λ (fs : List Frame). changed (take (older + 1) fs) store.frames) log
     ∙ ap (λ (fs : List Frame). changed (take (older + 1) live.past) fs) st
     ∙ ap (λ (fs : List Frame). changed fs live.state.frames) (sym past)
@@ -129,24 +129,24 @@ changes_are w live ks store older n s past k st log ni h =
 
 -- ---- the first state
 
-no_fault_of : (b : Begun) (d : Result Begun Fault) (e : Stop) (f : Fault) → d ≡ Ok b → e ≡ stop.Fault f → Starts d (Err e) → ⊥
-no_fault_of b d e f is of h = subst (λ (k : Stop). Starts (Ok b) (Err k)) of (subst (λ (x : Result Begun Fault). Starts x (Err e)) is h)
+no_fault_of : (p : Program) (s : State) (d : Result State Fault) (e : Stop) (f : Fault) → d ≡ Ok s → e ≡ stop.Fault f → Starts p d (Err e) → ⊥
+no_fault_of p s d e f is of h = subst (λ (k : Stop). Starts p (Ok s) (Err k)) of (subst (λ (x : Result State Fault). Starts p x (Err e)) is h)
 
 -- no initialiser of a checked model has a fault
-pub no_start_fault : (p : Program) (e : Stop) (f : Fault) → HasGoodStart p → e ≡ stop.Fault f → Starts (begin p) (Err e) → ⊥
-no_start_fault p e f good of h = no_fault_of good.0 (begin p) e f good.1 of h
+pub no_start_fault : (p : Program) (e : Stop) (f : Fault) → HasGoodStart p → e ≡ stop.Fault f → Starts p (begin p) (Err e) → ⊥
+no_start_fault p e f good of h = no_fault_of p good.0 (begin p) e f good.1 of h
 
-begun_is : (d : Result Begun Fault) (s : Started) → Starts d (Ok s) → d ≡ Ok (shown s)
-begun_is (Ok b) s h = ap Ok (sym h)
-begun_is (Err f) s h = absurd h
+begun_is : (p : Program) (d : Result State Fault) (s : Started) → Starts p d (Ok s) → d ≡ Ok (begun p s)
+begun_is p (Ok t) s h = ap Ok (sym h)
+begun_is p (Err f) s h = absurd h
 
-is_first : (p q : Program) (lossy : Bool) (s : Started) (w : Running) → q ≡ p → Starts (begin q) (Ok s) → w ≡ first q (shown s) lossy → IsFirst p lossy w
+is_first : (p q : Program) (lossy : Bool) (s : Started) (w : Running) → q ≡ p → Starts q (begin q) (Ok s) → w ≡ first (begun q s) lossy → IsFirst p lossy w
 is_first p q lossy s w same starts is = record {
-  begun = shown s;
-  starts = sym (ap begin same) ∙ begun_is (begin q) s starts;
-  is = is ∙ ap (λ (r : Program). first r (shown s) lossy) same;
+  begun = begun q s;
+  starts = sym (ap begin same) ∙ begun_is q (begin q) s starts;
+  is = is;
 }
 
-pub first_of : {E : Type 0} (p q : Program) (lossy : Bool) (s : Started) (r : Result Running E) → q ≡ p → Starts (begin q) (Ok s) → IfOk r (λ w. w ≡ first q (shown s) lossy) → IfOk r (IsFirst p lossy)
+pub first_of : {E : Type 0} (p q : Program) (lossy : Bool) (s : Started) (r : Result Running E) → q ≡ p → Starts q (begin q) (Ok s) → IfOk r (λ w. w ≡ first (begun q s) lossy) → IfOk r (IsFirst p lossy)
 first_of p q lossy s (Ok w) same starts is = is_first p q lossy s w same starts is
 first_of p q lossy s (Err e) same starts is = tt

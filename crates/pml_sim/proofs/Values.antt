@@ -7,7 +7,7 @@ use Rattle.pml_program.specs.declared.program.Program.{Program}
 use Rattle.promela_process.specs.Store.{Frame}
 use Rattle.pml_store.specs.Writing.{Contents, before}
 use Rattle.pml_store.proofs.Back.{before_shape}
-use Rattle.promela_run.specs.State.{size, Begun, variables_at}
+use Rattle.promela_run.specs.State.{size, variables_at}
 use Rattle.run_start.specs.Shown.{shape}
 use Rattle.run_start.specs.Starting.{IsDeclared}
 use Rattle.run_values.specs.declared.change.Wanted.{Wanted}
@@ -32,12 +32,12 @@ locals p i zero (k ∷ ks) (f ∷ fs) h = tt
 locals p i (suc n) (k ∷ ks) (f ∷ fs) h = (head_is h, locals p (i + 1) n ks fs (tail_is h))
 
 -- the first processes have what they are declared with
-pub first_declared : (p : Program) (b : Begun) (n : ℕ) → IsDeclared p b → AreDeclared p (take n b.sorts) b.frames
-first_declared p b n h = go b.frames h.sizes
+pub first_declared : (p : Program) (frames : List Frame) (sorts : List ℕ) (n : ℕ) → IsDeclared p frames sorts → AreDeclared p (take n sorts) frames
+first_declared p frames sorts n h = go frames h.sizes
   where
-    go : (frames : List Frame) → shape frames ≡ map size p.globals ∷ map (λ k. map size (variables_at p k)) b.sorts → AreDeclared p (take n b.sorts) frames
+    go : (fs : List Frame) → shape fs ≡ map size p.globals ∷ map (λ k. map size (variables_at p k)) sorts → AreDeclared p (take n sorts) fs
     go [] e = tt
-    go (f ∷ fs) e = (head_is e, locals p 0 n b.sorts fs (tail_is e))
+    go (f ∷ fs) e = (head_is e, locals p 0 n sorts fs (tail_is e))
 
 -- ---- as many owners as frames
 
@@ -78,8 +78,8 @@ frames_before : (store : Contents) → length (before store) ≡ length store.fr
 frames_before store = sym (length-map (before store) (map length)) ∙ ap length (before_shape store) ∙ length-map store.frames (map length)
 
 -- those of the globals and of each process
-pub frames_declared : (p : Program) (b : Begun) → IsDeclared p b → length b.frames ≡ suc (length b.sorts)
-frames_declared p b h = sym (length-map b.frames (map length)) ∙ ap length h.sizes ∙ ap suc (length-map b.sorts (λ (k : ℕ). map size (variables_at p k)))
+pub frames_declared : (p : Program) (frames : List Frame) (sorts : List ℕ) → IsDeclared p frames sorts → length frames ≡ suc (length sorts)
+frames_declared p frames sorts h = sym (length-map frames (map length)) ∙ ap length h.sizes ∙ ap suc (length-map sorts (λ (k : ℕ). map size (variables_at p k)))
 
 -- the numbers before of the first n processes, and so many processes
 pub changes_of_first : (n : ℕ) (sorts : List ℕ) (store : Contents) → length store.frames ≡ suc (length sorts) → step_changes (take (min n (length sorts)) sorts) store ≡ changes (take (n + 1) (before store)) store.frames

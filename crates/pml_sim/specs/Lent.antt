@@ -1,7 +1,7 @@
 -- What a world lends to look at: its first state, its changes and its end.
 use Rattle.std.specs.Prelude.{◌≡◌, ℕ, Bool, if◌then◌else◌, List, Ok}
 use Rattle.pml_program.specs.declared.program.Program.{Program}
-use Rattle.promela_run.specs.State.{Begun, first_state as begin}
+use Rattle.promela_run.specs.State.{State, first_state as begin}
 use Rattle.run_values.specs.declared.changed.Change.{Change}
 use Rattle.run_values.specs.Changed.{changes as changed, value_line as line_of}
 use Rattle.promela_run.specs.Steps.{sorts}
@@ -12,9 +12,9 @@ use Rattle.promela_run.specs.World.{Running, first}
 
 -- the first state of a model, whose initialisers have no fault
 pub record IsFirst (p : Program) (lossy : Bool) (w : Running) : Type 0 where
-  pub begun : Begun
+  pub begun : State
   pub starts : begin p ≡ Ok begun
-  pub is : w ≡ first p begun lossy
+  pub is : w ≡ first begun lossy
 
 -- the places that are there before the last step and now and whose numbers differ
 abbrev pub changes : Running → List Change

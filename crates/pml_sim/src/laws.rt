@@ -3,8 +3,7 @@
 ghost use Rattle.std.specs.Prelude.{◌≡◌, Bool, List, [], ℕ, length, take};
 ghost use Rattle.std.specs.List.{flat_map};
 ghost use Rattle.promela_session.specs.Session.{Goes};
-ghost use Rattle.pml_program.specs.declared.program.Program.{Program};
-ghost use Rattle.promela_run.specs.State.{Begun};
+ghost use Rattle.promela_run.specs.State.{State};
 ghost use Rattle.run_values.specs.Changed.{wanted_changes};
 ghost use Rattle.promela_run.specs.declared.moves.Move.{Move};
 ghost use Rattle.pml_sim.specs.Origins.{TextsNameOrigins};
@@ -23,7 +22,7 @@ pub fn texts_name_origins()
 
 /// Before the first step nothing has changed.
 pub fn nothing_has_changed_at_first()
-    ensures { (p : Program) (b : Begun) (lossy : Bool) → changes (first p b lossy) ≡ [] }
+    ensures { (s : State) (lossy : Bool) → changes (first s lossy) ≡ [] }
 {}
 
 /// The value lines of a step are those of its changes, as far as they are wanted.

@@ -6,7 +6,7 @@ ghost use Rattle.std.specs.List.{Contains};
 ghost use Rattle.std.specs.Option.{option_copied};
 ghost use Rattle.profile.specs.declared.TheConstants.{MOST_CHANNELS, MOST_PROCESSES};
 ghost use Rattle.session.specs.Takes.{CanBeTaken, StaysStopped, TakesStep};
-ghost use Rattle.run_start.specs.Shown.{shown};
+ghost use Rattle.run_start.specs.Shown.{begun};
 ghost use Rattle.run_start.specs.Bound.{bound, IsBounded};
 ghost use Rattle.run_start.specs.Starting.{IsDeclared};
 ghost use Rattle.promela_run.specs.State.{channel_at};
@@ -74,10 +74,10 @@ impl<'p, 'a> World<'p, 'a> {
         started: Started,
         lossy: bool,
     ) -> Result<World<'p, 'a>, AllocError>
-        requires declared { IsDeclared played (shown started) }
+        requires declared { IsDeclared played started.store.frames started.sorts.items }
         requires fresh { started.store.written ≡ [] }
         requires bounded { IsBounded played started.store started.channels.items }
-        ensures { IfOk result (λ w. w ≡ first played.entry (shown started) lossy) }
+        ensures { IfOk result (λ w. w ≡ first (begun played.entry started) lossy) }
     {
         let live = Live::first(alloc, played, started, lossy)?;
         let older = live.process_count();

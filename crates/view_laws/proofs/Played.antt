@@ -6,7 +6,7 @@ use Rattle.diagnostics.specs.declared.fault.Fault.{Fault}
 use Rattle.promela_session.specs.Events.{Part}
 use Rattle.promela_session.specs.declared.ends.End.{End}
 use Rattle.promela_session.specs.declared.ends.Options.{Options}
-use Rattle.promela_run.specs.State.{Begun, first_state}
+use Rattle.promela_run.specs.State.{State, first_state}
 use Rattle.promela_run.specs.declared.moves.Move.{Move}
 use Rattle.promela_run.specs.World.{Running, first, rules}
 use Rattle.pml_sim.specs.Lent.{IsFirst}
@@ -29,21 +29,21 @@ pub record Found (w : Walked) : Type 0 where
   pub here : w.is_lost ≡ false → last_state start (take w.at path) ≡ w.state
 
 module _ (w : Walked) (h : IsWalk w) where
-  from : (r : Result Begun Fault) → first_state w.program ≡ r → Found w
-  from (Ok b) is =
-      let start = first w.program b w.lossy in
-      let begins : started w.program w.lossy (first_state w.program) ≡ Some start = ap (started w.program w.lossy) is in
+  from : (r : Result State Fault) → first_state w.program ≡ r → Found w
+  from (Ok s) is =
+      let start = first s w.lossy in
+      let begins : started w.lossy (first_state w.program) ≡ Some start = ap (started w.lossy) is in
       let whole : led (chosen rules) start w.legs ≡ Some h.last = ap (λ (o : Option Running). led_from rules o w.legs) (sym begins) ∙ h.whole in
       let p = path_along rules start w.legs h.last whole in
       record {
         start = start;
-        is_first = record { begun = b; starts = is; is = refl };
+        is_first = record { begun = s; starts = is; is = refl };
         path = p.0;
         fronts = p.1;
         here = λ found. same_Some (last_state start (take w.at p.0)) w.state
             (sym (p.1.leads w.at) ∙ ap (λ (o : Option Running). led_from rules o (take w.at w.legs)) (sym begins) ∙ h.here found);
       }
-  from (Err f) is = absurd (none-some h.last (ap (λ (r : Result Begun Fault). led_from rules (started w.program w.lossy r) w.legs) (sym is) ∙ h.whole))
+  from (Err f) is = absurd (none-some h.last (ap (λ (r : Result State Fault). led_from rules (started w.lossy r) w.legs) (sym is) ∙ h.whole))
 
   pub found_path : Found w
   found_path = from (first_state w.program) refl
@@ -67,7 +67,7 @@ module _ (text : List ℕ) (w : Walked) (options : Options) (session : List ℕ 
     stands = h.ready.stands;
     begun = f.is_first.begun;
     starts = f.is_first.starts;
-    is = f.is_first.is ∙ ap (first w.program f.is_first.begun) (sym h.loses);
+    is = f.is_first.is ∙ ap (first f.is_first.begun) (sym h.loses);
   }
 
   each : PlaysEachPath rules options.limit f.start session

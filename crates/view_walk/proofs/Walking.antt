@@ -16,7 +16,7 @@ use Rattle.view_walk.specs.Walks.{started, walked, Walked, IsWalk}
 use Rattle.view_walk.proofs.Leads.{next_leads, choice_counts, chosen_is, is_chosen, no_fault, same_leads, leg_leads}
 
 pub begun : (p : Program) (lossy : Bool) (s : Running) → IsFirst p lossy s → walked p lossy [] ≡ Some s
-begun p lossy s h = ap (λ r. on (started p lossy r) (λ u. Some u)) h.starts ∙ ap Some (sym h.is)
+begun p lossy s h = ap (λ r. on (started lossy r) (λ u. Some u)) h.starts ∙ ap Some (sym h.is)
 
 -- a walk without a choice
 pub is_begun : (p : Program) (lossy : Bool) (s : Running) → IsFirst p lossy s
@@ -34,10 +34,10 @@ gets_lost w s h = record { within = h.within; last = h.last; whole = h.whole; he
 module _ (w : Walked) (h : IsWalk w) (found : w.is_lost ≡ false) where
   -- the first state
   first_of : Option Running
-  first_of = started w.program w.lossy (first_state w.program)
+  first_of = started w.lossy (first_state w.program)
 
   next : (t : Leg) → slice_get w.legs w.at ≡ Some t → (u : Running) × (chosen rules w.state t ≡ Some u)
-  next t at = next_leads rules (started w.program w.lossy (first_state w.program)) w.legs w.at t w.state h.last at (h.here found) h.whole
+  next t at = next_leads rules (started w.lossy (first_state w.program)) w.legs w.at t w.state h.last at (h.here found) h.whole
 
   -- the next choice is that of a move
   pub has_move : (t : Leg) → slice_get w.legs w.at ≡ Some t → numbered (moves w.state) t.choice ≡ None → ⊥
@@ -54,7 +54,7 @@ module _ (w : Walked) (h : IsWalk w) (found : w.is_lost ≡ false) where
       let n = next t at in
       let c = choice_counts rules w.state t n.0 n.1 in
       let is = is_chosen rules w.state t m u printed c number goes in
-      let l = same_leads rules (started w.program w.lossy (first_state w.program)) w.legs w.at t w.state u (h.here found) is h.last h.whole at in
+      let l = same_leads rules (started w.lossy (first_state w.program)) w.legs w.at t w.state u (h.here found) is h.last h.whole at in
       record { within = l.within; last = l.last; whole = l.whole; here = λ _. l.here }
 
   -- a choice leads on
@@ -63,5 +63,5 @@ module _ (w : Walked) (h : IsWalk w) (found : w.is_lost ≡ false) where
   turned k m u printed number goes =
       let t : Leg = record { choice = k; of = length (moves w.state) } in
       let is = is_chosen rules w.state t m u printed refl number goes in
-      let l = leg_leads rules (started w.program w.lossy (first_state w.program)) w.legs w.at t w.state u (h.here found) is h.last h.whole h.within in
+      let l = leg_leads rules (started w.lossy (first_state w.program)) w.legs w.at t w.state u (h.here found) is h.last h.whole h.within in
       record { within = l.within; last = l.last; whole = l.whole; here = λ _. l.here }

@@ -2,19 +2,19 @@
 use Rattle.std.specs.Prelude.{◌≡◌, ◌≤◌, ℕ, Bool, false, List, length, take, Option, Some, None, Result, Ok, Err}
 use Rattle.diagnostics.specs.declared.fault.Fault.{Fault}
 use Rattle.pml_program.specs.declared.program.Program.{Program}
-use Rattle.promela_run.specs.State.{Begun, first_state}
+use Rattle.promela_run.specs.State.{State, first_state}
 use Rattle.promela_run.specs.World.{Running, first, moves, rules}
 use Rattle.view_walk.specs.declared.leg.Leg.{Leg}
 use Rattle.view_walk.specs.Choices.{led_from, with_leg}
 
 -- the first state, where its initialisers have no fault
-abbrev pub started : Program → Bool → Result Begun Fault → Option Running
-started p lossy (Ok b) = Some (first p b lossy)
-started p lossy (Err f) = None
+abbrev pub started : Bool → Result State Fault → Option Running
+started lossy (Ok s) = Some (first s lossy)
+started lossy (Err f) = None
 
 -- the state of a model behind these choices
 abbrev pub walked : Program → Bool → List Leg → Option Running
-walked p lossy ts = led_from rules (started p lossy (first_state p)) ts
+walked p lossy ts = led_from rules (started lossy (first_state p)) ts
 
 -- A walk: its choices, how many of them stand, and the state of the machine. It is lost where memory was refused on the way there.
 pub record Walked : Type 0 where

@@ -26,9 +26,9 @@ use Rattle.promela_process.specs.Offers.{Offer}
 use Rattle.promela_process.specs.declared.sought.Sought.{Sought}
 use Rattle.promela_run.specs.Lines.{name_of_number, printed}
 use Rattle.promela_run.specs.Moves.{Message, Named, accepts_on, can_receive, can_send, each, else_moves, is_else, is_some, last, message_on, only_if, or_else, or_fault, pick, with_fields as moves-with_fields}
-use Rattle.promela_run.specs.State.{Begun, Stand, State, body_of, channel_at, empty_channel, leaf, levels, levels_in, nothing, picked, read_in, reads, size, variables_at, with_channel, with_frame, with_value, with_values}
+use Rattle.promela_run.specs.State.{Stand, State, begins_at, body_of, channel_at, empty_channel, first_control, joined, leaf, levels, levels_in, nothing, picked, read_in, reads, size, unread, variables_at, with_channel, with_frame, with_value, with_values}
 use Rattle.promela_run.specs.Statements.{Received, changed, channels_of, stores, taken_at, with_arguments, with_fields, with_message}
-use Rattle.promela_run.specs.Steps.{Done, behind, body_by, both_on, first_of, joined_by, onward, prints, put_by, quiet, run_number, there, went, with_received, with_sent, without_youngest}
+use Rattle.promela_run.specs.Steps.{Done, behind, body_by, both_on, first_of, onward, prints, put_by, quiet, run_number, went, with_received, with_sent, without_youngest}
 use Rattle.promela_run.specs.World.{Running, changed_lines, is_valid, led_to, move_text, origin_of, stuck}
 use Rattle.promela_run.specs.declared.goes.Goes.{Goes}
 use Rattle.promela_run.specs.declared.live_channel.LiveChannel.{LiveChannel}
@@ -47,46 +47,46 @@ module _ (means : Means) where
   abbrev pub value-asked_by : List Want → Reading → Result (List Sought) Fault
   value-asked_by ws = wants_of (map means.want ws)
 
-  abbrev pub state-initial_value : Expr → Form → Begun → Result ℤ Fault
-  state-initial_value v form b = means.val v (read_in b) >>= λ n. Ok (clipped form n)
+  abbrev pub state-initial_value : Expr → Form → Reading → Result ℤ Fault
+  state-initial_value v form r = means.val v r >>= λ n. Ok (clipped form n)
 
-  abbrev pub state-cell_begun : Initial → Form → ℕ → ℕ → Begun → Result Begun Fault
-  state-cell_begun initials.Zero form variable cell b = Ok b
-  state-cell_begun (initials.Value v) form variable cell b = state-initial_value v form nothing >>= λ n. Ok (with_value variable cell n b)
-  state-cell_begun (initials.Channel capacity types) form variable cell b = with_channel variable cell (empty_channel capacity types) b
+  abbrev pub state-cell_begun : Initial → Form → ℕ → ℕ → State → Result State Fault
+  state-cell_begun initials.Zero form variable cell now = Ok now
+  state-cell_begun (initials.Value v) form variable cell now = state-initial_value v form unread >>= λ n. Ok (with_value variable cell n now)
+  state-cell_begun (initials.Channel capacity types) form variable cell now = with_channel variable cell (empty_channel capacity types) now
 
-  abbrev pub state-fields_begun : List Fields → Slot → ℕ → ℕ → ℕ → Begun → Result Begun Fault
-  state-fields_begun ts s variable cell zero b = Ok b
-  state-fields_begun ts s variable cell (suc n) b =
-      state-cell_begun (leaf ts s cell).initial (leaf ts s cell).form variable cell b
+  abbrev pub state-fields_begun : List Fields → Slot → ℕ → ℕ → ℕ → State → Result State Fault
+  state-fields_begun ts s variable cell zero now = Ok now
+  state-fields_begun ts s variable cell (suc n) now =
+      state-cell_begun (leaf ts s cell).initial (leaf ts s cell).form variable cell now
       >>= state-fields_begun ts s variable (cell + 1) n
 
-  abbrev pub state-variable_begun : List Fields → Initial → Slot → ℕ → Begun → Result Begun Fault
-  state-variable_begun ts (initials.Value v) s variable b = state-initial_value v s.form b >>= λ n. Ok (with_values variable n 0 (size s) b)
-  state-variable_begun ts _ s variable b = state-fields_begun ts s variable 0 (size s) b
+  abbrev pub state-variable_begun : List Fields → Initial → Slot → ℕ → State → Result State Fault
+  state-variable_begun ts (initials.Value v) s variable now = state-initial_value v s.form (read_in now) >>= λ n. Ok (with_values variable n 0
+      (size s) now)
+  state-variable_begun ts _ s variable now = state-fields_begun ts s variable 0 (size s) now
 
-  abbrev pub state-variables_begun : List Fields → List Slot → ℕ → Begun → Result Begun Fault
-  state-variables_begun ts [] variable b = Ok b
-  state-variables_begun ts (s ∷ ss) variable b = state-variable_begun ts s.initial s variable b >>= state-variables_begun ts ss (variable + 1)
+  abbrev pub state-variables_begun : List Fields → List Slot → ℕ → State → Result State Fault
+  state-variables_begun ts [] variable now = Ok now
+  state-variables_begun ts (s ∷ ss) variable now = state-variable_begun ts s.initial s variable now >>= state-variables_begun ts ss (variable + 1)
 
-  abbrev pub state-frame_begun : List Fields → List Slot → Begun → Result Begun Fault
-  state-frame_begun ts ss b = state-variables_begun ts ss 0 (with_frame ss b)
+  abbrev pub state-frame_begun : List Fields → List Slot → State → Result State Fault
+  state-frame_begun ts ss now = state-variables_begun ts ss 0 (with_frame ss now)
 
-  abbrev pub state-process_begun : Program → ℕ → Begun → Result Begun Fault
-  state-process_begun p k b =
-      if nat_lt (length b.sorts) MOST_PROCESSES then state-frame_begun p.typedefs (variables_at p k) (record b { sorts = b.sorts ++ k ∷ [] }) else
-      Ok b
+  abbrev pub state-process_begun : Program → ℕ → State → Result State Fault
+  state-process_begun p k now =
+      if nat_lt (length now.stands) MOST_PROCESSES then state-frame_begun p.typedefs (variables_at p k) (joined (begins_at p k) now) else Ok now
 
-  abbrev pub state-kind_begun : Program → ℕ → ℕ → Begun → Result Begun Fault
-  state-kind_begun p k zero b = Ok b
-  state-kind_begun p k (suc n) b = state-process_begun p k b >>= state-kind_begun p k n
+  abbrev pub state-sort_begun : Program → ℕ → ℕ → State → Result State Fault
+  state-sort_begun p k zero now = Ok now
+  state-sort_begun p k (suc n) now = state-process_begun p k now >>= state-sort_begun p k n
 
-  abbrev pub state-kinds_begun : Program → ℕ → List Proctype → Begun → Result Begun Fault
-  state-kinds_begun p k [] b = Ok b
-  state-kinds_begun p k (q ∷ qs) b = state-kind_begun p k q.starts b >>= state-kinds_begun p (k + 1) qs
+  abbrev pub state-sorts_begun : Program → ℕ → List Proctype → State → Result State Fault
+  state-sorts_begun p k [] now = Ok now
+  state-sorts_begun p k (q ∷ qs) now = state-sort_begun p k q.starts now >>= state-sorts_begun p (k + 1) qs
 
-  abbrev pub state-first_state : Program → Result Begun Fault
-  state-first_state p = state-frame_begun p.typedefs p.globals nothing >>= state-kinds_begun p 0 p.proctypes
+  abbrev pub state-first_state : Program → Result State Fault
+  state-first_state p = state-frame_begun p.typedefs p.globals (nothing p) >>= state-sorts_begun p 0 p.proctypes
 
   abbrev pub statement-named : List LiveChannel → Reading → Target → ℕ → Result ℕ Fault
   statement-named cs r t count = means.place t r >>= λ at. with_fields count (r.holds at) (channel_at cs (r.holds at))
@@ -127,10 +127,10 @@ module _ (means : Means) where
   statement-outcome (actions.Holds v) r = means.val v r >>= λ n. Ok None
   statement-outcome s r = Ok None
 
-  abbrev pub statement-created : List Fields → ℕ → List Slot → List ℤ → Begun → Result Begun Fault
-  statement-created ts kind ss vs b =
-      if nat_lt MOST_CHANNELS (length b.channels + channels_of ts ss) then Err TooManyChannels
-      else state-variables_begun ts ss 0 (with_arguments 0 ss vs (with_frame ss (record b { sorts = b.sorts ++ kind ∷ [] })))
+  abbrev pub statement-created : List Fields → Stand → List Slot → List ℤ → State → Result State Fault
+  statement-created ts y ss vs now =
+      if nat_lt MOST_CHANNELS (length now.channels + channels_of ts ss) then Err TooManyChannels
+      else state-variables_begun ts ss 0 (with_arguments 0 ss vs (with_frame ss (joined y now)))
 
   abbrev pub moves-named : List LiveChannel → Reading → Target → ℕ → Result Named Fault
   moves-named cs r t count = means.place t r >>= λ at. moves-with_fields count (r.holds at) (channel_at cs (r.holds at))
@@ -214,8 +214,8 @@ module _ (means : Means) where
   moves-moves s = or_else (moves-moves_held s s.holder) (or_else (moves-moves_under s false) (moves-moves_under s true))
 
   abbrev pub steps-with_new : State → ℕ → Option Proctype → List ℤ → Result State Fault
-  steps-with_new s kind None vs = Ok s
-  steps-with_new s kind (Some q) vs = statement-created s.program.typedefs kind q.variables vs (there s) >>= joined_by s kind q.body
+  steps-with_new s sort None vs = Ok s
+  steps-with_new s sort (Some q) vs = statement-created s.program.typedefs (record { sort = sort; control = first_control q.body }) q.variables vs s
 
   abbrev pub steps-ran : State → Reading → Run → Result State Fault
   steps-ran s r q =

@@ -19,7 +19,7 @@ use Rattle.pml_program.specs.declared.program.Seq.{roll-Seq}
 use Rattle.pml_program.specs.declared.program.Basic.TheBlock.{shape-the_row-Stmt-1, hidden-the_row-Stmt-1, shape-the_row-Seq-0, hidden-the_row-Seq-0}
 use Rattle.promela_process.specs.Control.{settle}
 use Rattle.promela_process.specs.Numbers.{bits_of, is_signed}
-use Rattle.promela_run.specs.State.{Begun, first_state}
+use Rattle.promela_run.specs.State.{State, first_state}
 use Rattle.promela_run.specs.World.{first, rules}
 use Rattle.worked_runs.specs.Seen.{Seen, seen_of, played, seen}
 use Rattle.worked_runs.proofs.Means.{Means, stated, computing, means-are}
@@ -27,12 +27,12 @@ use Rattle.worked_runs.proofs.Copies.{state-first_state, world-rules}
 
 -- ---- over any means
 
-abbrev pub played_from_by : Means → Options → Program → List ℕ → Result Begun Fault → Option (Part End)
-played_from_by m o p choices (Ok b) = Some (transcript (world-rules m) o (first p b o.lossy) choices)
-played_from_by m o p choices (Err f) = None
+abbrev pub played_from_by : Means → Options → List ℕ → Result State Fault → Option (Part End)
+played_from_by m o choices (Ok s) = Some (transcript (world-rules m) o (first s o.lossy) choices)
+played_from_by m o choices (Err f) = None
 
 abbrev pub played_by : Means → Options → Program → List ℕ → Option (Part End)
-played_by m o p choices = played_from_by m o p choices (state-first_state m p)
+played_by m o p choices = played_from_by m o choices (state-first_state m p)
 
 abbrev pub seen_by : Means → Options → Program → List ℕ → Option Seen
 seen_by m o p choices = option_map seen_of (played_by m o p choices)

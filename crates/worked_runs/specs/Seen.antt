@@ -6,17 +6,17 @@ use Rattle.promela_session.specs.declared.ends.End.{End}
 use Rattle.promela_session.specs.Events.{output, recorded, front, Part}
 use Rattle.promela_session.specs.Session.{transcript}
 use Rattle.pml_program.specs.declared.program.Program.{Program}
-use Rattle.promela_run.specs.State.{Begun, first_state}
+use Rattle.promela_run.specs.State.{State, first_state}
 use Rattle.promela_run.specs.World.{first, rules}
 
 -- the transcript from a first state
-abbrev pub played_from : Options → Program → List ℕ → Result Begun Fault → Option (Part End)
-played_from o p choices (Ok b) = Some (transcript rules o (first p b o.lossy) choices)
-played_from o p choices (Err f) = None
+abbrev pub played_from : Options → List ℕ → Result State Fault → Option (Part End)
+played_from o choices (Ok s) = Some (transcript rules o (first s o.lossy) choices)
+played_from o choices (Err f) = None
 
 -- the transcript of a model, where it has a first state
 abbrev pub played : Options → Program → List ℕ → Option (Part End)
-played o p choices = played_from o p choices (first_state p)
+played o p choices = played_from o choices (first_state p)
 
 -- its output, its record, its exit status, and how many bytes of the choices it reads
 pub record Seen : Type 0 where
