@@ -1,5 +1,5 @@
 //! The texts of a session, composed in buffers that are kept.
-ghost use Rattle.std.specs.Prelude.{◌≡◌, ◌+◌, ◌++◌, ◌<◌, ◌≤◌, ◌^◌, [], ◌∷◌, length, IfOk, OnOk, if◌then◌else◌, codes};
+ghost use Rattle.std.specs.Prelude.{◌≡◌, ◌+◌, ◌++◌, ◌<◌, ◌≤◌, ◌^◌, [], ◌∷◌, drop, length, IfOk, OnOk, if◌then◌else◌, codes};
 ghost use Rattle.std.specs.Fmt.{decimal};
 ghost use Rattle.profile.specs.declared.TheConstants.{LINE_BYTES};
 ghost use Rattle.session.specs.Takes.{CanBeShown};
@@ -7,7 +7,7 @@ ghost use Rattle.promela_session.specs.Events.{list_from, prompt, record_line, p
 
 use crate::{Cause, Machine};
 use diagnostics::{Fault, Refusal};
-use itoa::Buffer;
+use itoa::write_digits;
 use std::alloc::{AllocError, Global};
 
 /// The buffers that a session keeps for what is composed.
@@ -29,26 +29,49 @@ impl Draft {
     }
 }
 
-// Appends a number in decimal.
+// Where the places of words and digits end.
+const ROOM: usize = 32;
+
+// Appends words and a number in decimal, and what stands behind the places of both, at once.
 #[inline(always)]
-fn add_number(piece: &mut Vec<u8>, n: u64) -> Result<(), AllocError>
-    ensures { OnOk result (piece.new.items ≡ piece.old.items ++ decimal n) }
+fn add_number(
+    piece: &mut Vec<u8>,
+    words: &[u8],
+    n: u64,
+    places: &mut [u8],
+) -> Result<(), AllocError>
+    requires room { 32 ≤ length places.old }
+    requires short { length words.now ≤ 12 }
+    ensures { OnOk result (piece.new.items ≡ piece.old.items ++ (words.now ++ (decimal n ++ drop 32 places.old))) }
 {
-    let mut digits = Buffer::new();
-    piece.extend_from_slice(digits.format(n).as_bytes())
+    let digits = write_digits(n, places, ROOM);
+    let begin = digits - words.len();
+    places[begin..digits].copy_from_slice(words);
+    piece.extend_from_slice(&places[begin..])
 }
 
-// Appends `WORDS N` and a line feed.
-fn add_counted(piece: &mut Vec<u8>, words: &[u8], n: u64) -> Result<(), AllocError>
-    ensures { OnOk result (piece.new.items ≡ piece.old.items ++ (words.now ++ (decimal n ++ codes "\n"))) }
+// Appends a line feed.
+#[inline(always)]
+fn add_line_feed(piece: &mut Vec<u8>) -> Result<(), AllocError>
+    ensures { OnOk result (piece.new.items ≡ piece.old.items ++ codes "\n") }
 {
-    piece.extend_from_slice(words)?;
-    add_number(piece, n)?;
-    piece.push(b'\n')?;
+    piece.reserve(1)?;
+    piece.push_reserved(b'\n');
     Ok(())
 }
 
+// Appends `WORDS N` and a line feed.
+#[inline(always)]
+fn add_counted(piece: &mut Vec<u8>, words: &[u8], n: u64) -> Result<(), AllocError>
+    requires { length words.now ≤ 12 }
+    ensures { OnOk result (piece.new.items ≡ piece.old.items ++ (words.now ++ (decimal n ++ codes "\n"))) }
+{
+    let mut places = *b"................................\n";
+    add_number(piece, words, n, &mut places)
+}
+
 // Appends `WORDS N: TEXT` and a line feed, with the text of a move.
+#[inline(always)]
 fn add_move<M: Machine>(
     machine: &M,
     m: &M::Move,
@@ -57,23 +80,22 @@ fn add_move<M: Machine>(
     piece: &mut Vec<u8>,
 ) -> Result<(), AllocError>
     requires present { CanBeShown M.rules machine.now m.now }
+    requires short { length words.now ≤ 12 }
     ensures { OnOk result (piece.new.items ≡ piece.old.items ++ (words.now ++ (decimal n ++ (codes ": " ++ (M.rules.text machine.now m.now ++ codes "\n"))))) }
 {
-    piece.extend_from_slice(words)?;
-    add_number(piece, n)?;
-    piece.extend_from_slice(b": ")?;
+    let mut places = *b"................................: ";
+    add_number(piece, words, n, &mut places)?;
     machine.show(m, piece)?;
-    piece.push(b'\n')?;
-    Ok(())
+    add_line_feed(piece)
 }
 
 // Appends `LETTERS N (WORDS)`.
 fn add_diagnosis(piece: &mut Vec<u8>, letters: &[u8], n: u8, words: &[u8]) -> Result<(), AllocError>
+    requires { length letters.now ≤ 12 }
     ensures { OnOk result (piece.new.items ≡ piece.old.items ++ (letters.now ++ (decimal n ++ (codes " (" ++ (words.now ++ codes ")"))))) }
 {
-    piece.extend_from_slice(letters)?;
-    add_number(piece, u64::from(n))?;
-    piece.extend_from_slice(b" (")?;
+    let mut places = *b"................................ (";
+    add_number(piece, letters, u64::from(n), &mut places)?;
     piece.extend_from_slice(words)?;
     piece.extend_from_slice(b")")
 }
@@ -115,13 +137,11 @@ pub fn draft_record(n: usize, piece: &mut Vec<u8>) -> Result<(), AllocError>
 fn add_placed(piece: &mut Vec<u8>, n: u64, process: u32, line: u32) -> Result<(), AllocError>
     ensures { OnOk result (piece.new.items ≡ piece.old.items ++ (decimal n ++ (codes " " ++ (decimal process ++ (codes " " ++ (decimal line ++ codes "\n")))))) }
 {
-    add_number(piece, n)?;
-    piece.push(b' ')?;
-    add_number(piece, u64::from(process))?;
-    piece.push(b' ')?;
-    add_number(piece, u64::from(line))?;
-    piece.push(b'\n')?;
-    Ok(())
+    let mut places = *b"................................ ";
+    add_number(piece, b"", n, &mut places)?;
+    let mut places = *b"................................ ";
+    add_number(piece, b"", u64::from(process), &mut places)?;
+    add_counted(piece, b"", u64::from(line))
 }
 
 /// Composes the line of an accepted number with the process and the line of its move.
@@ -159,7 +179,8 @@ pub fn draft_last(cause: Cause, steps: u32, piece: &mut Vec<u8>) -> Result<(), A
     ensures { OnOk result (piece.new.items ≡ last_line cause steps) }
 {
     piece.clear();
-    add_counted(piece, words_of(cause), u64::from(steps))
+    piece.extend_from_slice(words_of(cause))?;
+    add_counted(piece, b"", u64::from(steps))
 }
 
 /// Begins the text of a step: its line, or nothing.
@@ -181,6 +202,7 @@ pub fn draft_step<M: Machine>(
 }
 
 /// Composes the line of a fault.
+#[inline(never)]
 pub fn draft_fault<M: Machine>(
     machine: &M,
     m: &M::Move,

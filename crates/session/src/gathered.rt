@@ -48,6 +48,7 @@ impl Gathered {
     }
 
     /// Adds the text of a step; an empty one behind none is written already. Want of memory changes nothing.
+    #[inline(always)]
     pub fn add(&mut self, text: &[u8]) -> Result<(), AllocError>
         ensures ok { OnOk result (AddsText self.old.bytes.items self.old.begins.items text.now self.new.bytes.items self.new.begins.items) }
         ensures err_bytes { OnErr result (self.new.bytes.items ≡ self.old.bytes.items) }

@@ -122,6 +122,7 @@ pub fn keep<M: Machine, D: Devices>(
 
 /// Takes a step and composes its text, or the line of its fault. Where steps are not shown, the move's text is composed for
 /// a fault alone.
+#[inline(always)]
 pub fn take_step<M: Machine>(
     machine: &mut M,
     m: &M::Move,
