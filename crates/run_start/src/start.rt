@@ -47,18 +47,18 @@ fn begin_process(
     program: &Program<'_>,
     beginnings: &Beginnings<'_, '_>,
     sort: usize,
-    started: &mut Started,
+    state: &mut Started,
 ) -> Result<(), Stop>
     requires known { beginnings.now.typedefs ≡ program.now.typedefs }
     requires there { sort < length program.now.proctypes }
-    requires declared { IsDeclared program.now started.old.store.frames started.old.sorts.items }
-    requires most { started.old.store.most ≡ most_cells program.now }
-    ensures value { Begins (process_begun program.now sort (begun program.now started.old)) result (begun program.now started.new) }
-    ensures declared { OnOk result (IsDeclared program.now started.new.store.frames started.new.sorts.items) }
-    ensures most { started.new.store.most ≡ most_cells program.now }
+    requires declared { IsDeclared program.now state.old.store.frames state.old.sorts.items }
+    requires most { state.old.store.most ≡ most_cells program.now }
+    ensures value { Begins (process_begun program.now sort (begun program.now state.old)) result (begun program.now state.new) }
+    ensures declared { OnOk result (IsDeclared program.now state.new.store.frames state.new.sorts.items) }
+    ensures most { state.new.store.most ≡ most_cells program.now }
 {
-    add_process(alloc, program, beginnings, sort, started)?;
-    started.store.forget();
+    add_process(alloc, program, beginnings, sort, state)?;
+    state.store.forget();
     Ok(())
 }
 

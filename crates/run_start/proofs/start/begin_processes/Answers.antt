@@ -10,7 +10,7 @@ returns-in_err-begin_process-clause-value c =
 
 pub loop-start-preserved : goal.loop-start-preserved
 loop-start-preserved c = record {
-  same = sort_made c.args.program.now c.args.sort c.loop-start._start c.args.starts (begun c.args.program.now c.loop-start.started) (begun c.args.program.now c.begin_process.new.started) _ _ c.loop-start-test.true c.loop-start.invariant.same c.in_ok-begin_process.ensures.value;
+  same = sort_made c.args.program.now c.args.sort c.loop-start._start c.args.starts (begun c.args.program.now c.loop-start.started) (begun c.args.program.now c.begin_process.new.state) _ _ c.loop-start-test.true c.loop-start.invariant.same c.in_ok-begin_process.ensures.value;
   declared = c.in_ok-begin_process.ensures.declared;
   most = c.in_ok-begin_process.ensures.most;
 }
