@@ -8,7 +8,7 @@ ghost use Rattle.profile.specs.declared.TheConstants.{MOST_CHANNELS, MOST_PROCES
 ghost use Rattle.session.specs.Takes.{CanBeTaken, StaysStopped, TakesStep};
 ghost use Rattle.run_start.specs.Shown.{begun};
 ghost use Rattle.run_start.specs.Bound.{bound, IsBounded};
-ghost use Rattle.run_start.specs.Starting.{IsDeclared};
+ghost use Rattle.run_start.specs.Starting.{Declares};
 ghost use Rattle.promela_run.specs.State.{channel_at};
 ghost use Rattle.run_state.specs.Footprint.{held};
 ghost use Rattle.promela_run.specs.World.{first};
@@ -74,7 +74,7 @@ impl<'p, 'a> World<'p, 'a> {
         started: Started,
         lossy: bool,
     ) -> Result<World<'p, 'a>, AllocError>
-        requires declared { IsDeclared played started.store.frames started.sorts.items }
+        requires declared { Declares played started }
         requires fresh { started.store.written ≡ [] }
         requires bounded { IsBounded played started.store started.channels.items }
         ensures { IfOk result (λ w. w ≡ first (begun played.entry started) lossy) }

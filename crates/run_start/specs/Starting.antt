@@ -10,7 +10,7 @@ use Rattle.diagnostics.specs.declared.stop.Stop.TheVariants as stop
 use Rattle.promela_process.specs.Store.{Frame}
 use Rattle.run_start.specs.declared.started.Started.{Started}
 use Rattle.promela_run.specs.State.{size, State, variables_at}
-use Rattle.run_start.specs.Shown.{begun, shape}
+use Rattle.run_start.specs.Shown.{Begins, begun, shape}
 
 -- the first state of this model, or the first fault; where memory is refused, nothing is said
 abbrev pub Starts : Program → Result State Fault → Result Started Stop → Type 0
@@ -37,3 +37,11 @@ pub record IsDeclared (p : Program) (frames : List Frame) (ks : List ℕ) : Type
   pub few : length ks ≤ MOST_PROCESSES
   pub sorts : AllByRecursion (λ k. k < length p.proctypes) ks
   pub sizes : shape frames ≡ declared_sizes p ks
+
+-- so it is with what has been started
+abbrev pub Declares : Program → Started → Type 0
+Declares p s = IsDeclared p s.store.frames s.sorts.items
+
+-- what begins leads from what had been started to what has been, or answers its fault
+abbrev pub Grows : Program → (State → Result State Fault) → Started → Result (Unit {0}) Stop → Started → Type 0
+Grows p begins old answer new = Begins (begins (begun p old)) answer (begun p new)

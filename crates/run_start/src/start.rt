@@ -1,10 +1,9 @@
 //! The globals and the processes that a model begins with.
 
 ghost use Rattle.std.specs.Prelude.{◌≡◌, ◌<◌, [], IfOk, OnOk, length};
-ghost use Rattle.run_start.specs.Shown.{Begins, begun};
 ghost use Rattle.run_start.specs.Bound.{most_cells, IsWithin, IsBounded};
 ghost use Rattle.promela_run.specs.State.{first_state, process_begun, sort_begun};
-ghost use Rattle.run_start.specs.Starting.{Starts, IsDeclared};
+ghost use Rattle.run_start.specs.Starting.{Declares, Grows, Starts};
 
 use crate::begin::begin_frame;
 use crate::beginnings::Beginnings;
@@ -26,10 +25,10 @@ fn add_process(
 ) -> Result<(), Stop>
     requires known { beginnings.now.typedefs ≡ program.now.typedefs }
     requires there { sort < length program.now.proctypes }
-    requires declared { IsDeclared program.now started.old.store.frames started.old.sorts.items }
+    requires declared { Declares program.now started.old }
     requires most { started.old.store.most ≡ most_cells program.now }
-    ensures value { Begins (process_begun program.now sort (begun program.now started.old)) result (begun program.now started.new) }
-    ensures declared { OnOk result (IsDeclared program.now started.new.store.frames started.new.sorts.items) }
+    ensures value { Grows program.now (process_begun program.now sort) started.old result started.new }
+    ensures declared { OnOk result (Declares program.now started.new) }
     ensures most { started.new.store.most ≡ most_cells program.now }
 {
     if started.sorts.len() >= MOST_PROCESSES {
@@ -51,10 +50,10 @@ fn begin_process(
 ) -> Result<(), Stop>
     requires known { beginnings.now.typedefs ≡ program.now.typedefs }
     requires there { sort < length program.now.proctypes }
-    requires declared { IsDeclared program.now state.old.store.frames state.old.sorts.items }
+    requires declared { Declares program.now state.old }
     requires most { state.old.store.most ≡ most_cells program.now }
-    ensures value { Begins (process_begun program.now sort (begun program.now state.old)) result (begun program.now state.new) }
-    ensures declared { OnOk result (IsDeclared program.now state.new.store.frames state.new.sorts.items) }
+    ensures value { Grows program.now (process_begun program.now sort) state.old result state.new }
+    ensures declared { OnOk result (Declares program.now state.new) }
     ensures most { state.new.store.most ≡ most_cells program.now }
 {
     add_process(alloc, program, beginnings, sort, state)?;
@@ -73,10 +72,10 @@ fn begin_processes(
 ) -> Result<(), Stop>
     requires known { beginnings.now.typedefs ≡ program.now.typedefs }
     requires there { sort < length program.now.proctypes }
-    requires declared { IsDeclared program.now started.old.store.frames started.old.sorts.items }
+    requires declared { Declares program.now started.old }
     requires most { started.old.store.most ≡ most_cells program.now }
-    ensures value { Begins (sort_begun program.now sort starts (begun program.now started.old)) result (begun program.now started.new) }
-    ensures declared { OnOk result (IsDeclared program.now started.new.store.frames started.new.sorts.items) }
+    ensures value { Grows program.now (sort_begun program.now sort starts) started.old result started.new }
+    ensures declared { OnOk result (Declares program.now started.new) }
     ensures most { started.new.store.most ≡ most_cells program.now }
 {
     for _start in 0..starts {
@@ -95,7 +94,7 @@ pub fn start_by(
     requires known { beginnings.now.typedefs ≡ program.now.typedefs }
     ensures value { Starts program.now (first_state program.now) result }
     ensures forgotten { IfOk result (λ s. s.store.written ≡ []) }
-    ensures declared { IfOk result (λ s. IsDeclared program.now s.store.frames s.sorts.items) }
+    ensures declared { IfOk result (Declares program.now) }
     ensures bounded { IfOk result (λ s. IsBounded program.now s.store s.channels.items) }
 {
     let mut started = Started {
@@ -118,7 +117,7 @@ pub fn start(alloc: Global, program: &Program<'_>) -> Result<Started, Stop>
     requires within { IsWithin program.now }
     ensures value { Starts program.now (first_state program.now) result }
     ensures forgotten { IfOk result (λ s. s.store.written ≡ []) }
-    ensures declared { IfOk result (λ s. IsDeclared program.now s.store.frames s.sorts.items) }
+    ensures declared { IfOk result (Declares program.now) }
     ensures bounded { IfOk result (λ s. IsBounded program.now s.store s.channels.items) }
 {
     match Beginnings::new(alloc, program) {

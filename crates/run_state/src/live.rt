@@ -6,7 +6,7 @@ ghost use Rattle.std.specs.Option.{option_copied};
 ghost use Rattle.profile.specs.declared.TheConstants.{MOST_CHANNELS, MOST_PROCESSES};
 ghost use Rattle.run_start.specs.Shown.{begun};
 ghost use Rattle.run_start.specs.Bound.{bound, most_cells, IsBounded};
-ghost use Rattle.run_start.specs.Starting.{IsDeclared};
+ghost use Rattle.run_start.specs.Starting.{Declares, IsDeclared};
 ghost use Rattle.run_state.specs.Standing.{stand_of, IsBody, StandsIn};
 ghost use Rattle.promela_run.specs.State.{body_of, reads};
 ghost use Rattle.pml_value.specs.Seen.{assigned, seen};
@@ -85,7 +85,7 @@ impl<'p, 'a> Live<'p, 'a> {
         started: Started,
         lossy: bool,
     ) -> Result<Live<'p, 'a>, AllocError>
-        requires declared { IsDeclared played started.store.frames started.sorts.items }
+        requires declared { Declares played started }
         requires fresh { started.store.written ≡ [] }
         requires bounded { IsBounded played started.store started.channels.items }
         ensures { IfOk result (λ l. l ≡ first (begun played.entry started) lossy) }
