@@ -121,6 +121,7 @@ impl<'p, 'a> World<'p, 'a> {
 
     /// Takes a move of the present list, and appends what it prints. After a fault or want of memory it has stopped: each later call
     /// answers the same, and changes nothing. Whatever it answers, the model is the one that it was.
+    #[inline(always)]
     pub fn take(&mut self, m: &Move, text: &mut Vec<u8>) -> Result<(), Stop>
         requires present { CanBeTaken world.rules self.old m.now }
         ensures step { Contains (world.moves self.old) m.now → TakesStep world.rules self.old m.now self.new text.old.items text.new.items result }
@@ -256,6 +257,7 @@ impl<'p, 'a> World<'p, 'a> {
     }
 
     /// Appends the value lines of the last step.
+    #[inline(always)]
     fn add_values(&self, wanted: Wanted, text: &mut Vec<u8>) -> Result<(), AllocError>
         ensures added { OnOk result (text.new.items ≡ text.old.items ++ world.changed_lines self.now wanted.globals wanted.locals) }
         ensures kept { OnErr result (StartsWith text.new.items text.old.items) }
@@ -274,6 +276,7 @@ impl<'p, 'a> World<'p, 'a> {
     }
 
     /// Appends a line for each process that may not end where it stands, and answers whether each may.
+    #[inline(never)]
     fn add_ending(&self, text: &mut Vec<u8>) -> Result<bool, AllocError>
         ensures valid { IfOk result (λ valid. valid ≡ world.is_valid self.now.state) }
         ensures added { OnOk result (text.new.items ≡ text.old.items ++ world.stuck self.now.state) }
@@ -290,6 +293,7 @@ impl Machine for World<'_, '_> {
 
     ghost rules = { world.rules };
 
+    #[inline(always)]
     fn moves(&self, moves: &mut Vec<Move>) -> Result<(), AllocError> {
         moves.clear();
         if self.halt.is_some() {
@@ -306,10 +310,12 @@ impl Machine for World<'_, '_> {
         origin(&self.live, *m)
     }
 
+    #[inline(always)]
     fn take(&mut self, m: &Move, text: &mut Vec<u8>) -> Result<(), Stop> {
         World::take(self, m, text)
     }
 
+    #[inline(always)]
     fn report(&self, what: Report, text: &mut Vec<u8>) -> Result<bool, AllocError> {
         match what {
             Report::Values(globals, locals) => {

@@ -10,6 +10,7 @@ ghost use Rattle.run_search.specs.Viewed.{NeedsNothing};
 use crate::d_step::can_begin;
 use crate::executable::can_be_taken;
 use pml_flow::edge::Edge;
+use pml_program::expr::Expr;
 use pml_program::program::{Action, Basic};
 use pml_value::view::View;
 use run_state::body::Body;
@@ -33,13 +34,14 @@ pub(crate) fn can_be_alone(
     }
 }
 
-/// Whether a statement can be taken whatever the state, by itself: it is no `else`, and asks for nothing.
+/// Whether a statement can be taken whatever the state, by itself: it is no `else`, and asks for nothing, as `skip` does.
 pub(crate) fn needs_nothing(basic: Option<&Basic<'_>>) -> bool
     ensures plain { result ≡ true → else_of (option_copied basic.entry) ≡ false }
     ensures alone { result ≡ true → NeedsNothing (option_copied basic.entry) }
 {
     match basic {
         Some(Basic::Plain(action)) => match action {
+            Action::Holds(Expr::Number(number)) => *number != 0,
             Action::Else
             | Action::Run(_)
             | Action::Send(_, _, _)

@@ -3,7 +3,7 @@
 
 #![tactic(auto, using(crate::proofs::Keeping::kept_on, crate::proofs::Keeping::kept_same, crate::proofs::Keeping::kept_push))]
 
-ghost use Rattle.std.specs.Prelude.{◌≡◌, ◌++◌, ◌<◌, false, [], OnOk, length};
+ghost use Rattle.std.specs.Prelude.{◌≡◌, ◌++◌, ◌<◌, true, false, [], OnOk, length};
 ghost use Rattle.std.specs.Option.{option_copied};
 ghost use Rattle.run_search.specs.Kept.{Extends};
 ghost use Rattle.run_state.specs.Standing.{IsBody, shows};
@@ -235,6 +235,7 @@ fn add_moves_down(
 }
 
 /// Adds the moves of the highest level of a node that has any: at once where the node has just one level, as most have.
+#[inline(always)]
 fn add_moves_in(
     round: &Round<'_, '_, '_>,
     body: &Body<'_, '_, '_>,
@@ -259,6 +260,7 @@ fn add_moves_in(
 }
 
 /// Adds the moves of a process.
+#[inline(always)]
 fn add_moves_at(
     round: &Round<'_, '_, '_>,
     process: usize,
@@ -282,6 +284,7 @@ fn add_moves_at(
 // ---- a state
 
 /// Adds the moves of all processes.
+#[inline(always)]
 fn add_moves_of_all(round: &Round<'_, '_, '_>, moves: &mut Vec<Move>) -> Result<(), AllocError>
     requires { IsKnown round.now }
     ensures added { OnOk result (moves.new.items ≡ moves.old.items ++ round_under round.now) }
@@ -318,6 +321,7 @@ fn add_moves_knowing(
 }
 
 /// Adds the moves of all processes under a value of `timeout`.
+#[inline(always)]
 fn add_moves_under(
     live: &Live<'_, '_>,
     timeout: bool,
@@ -337,6 +341,15 @@ fn add_moves_under(
         any: NOBODY,
     };
     add_moves_of_all(&round, moves)
+}
+
+/// Adds the moves of all processes under `timeout`, which is seldom asked.
+#[inline(never)]
+fn add_moves_at_last(live: &Live<'_, '_>, moves: &mut Vec<Move>) -> Result<(), AllocError>
+    ensures added { OnOk result (moves.new.items ≡ moves.old.items ++ live_under live.now true) }
+    ensures kept { Extends moves.new.items moves.old.items }
+{
+    add_moves_under(live, true, moves)
 }
 
 /// Adds the moves of the holder of exclusive control, if there is one.
@@ -375,5 +388,5 @@ pub fn add_moves(live: &Live<'_, '_>, moves: &mut Vec<Move>) -> Result<(), Alloc
     if moves.len() != before {
         return Ok(());
     }
-    add_moves_under(live, true, moves)
+    add_moves_at_last(live, moves)
 }

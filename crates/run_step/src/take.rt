@@ -145,6 +145,7 @@ fn pair(live: &mut Live<'_, '_>, sender: Pick, receiver: Pick, timeout: bool) ->
 
 /// Takes a move, and appends what it prints. After a fault, or want of memory, variables and channels may hold anything; no process has
 /// moved, but some may have been added.
+#[inline(always)]
 pub fn take(live: &mut Live<'_, '_>, m: &Move, text: &mut Vec<u8>) -> Result<(), Stop>
     requires { CanDie live.old.state m.now }
     ensures value { Does (step MOST_DSTEP_STATEMENTS live.old.state m.now) result live.new.state text.old.items text.new.items }

@@ -183,7 +183,22 @@ pub fn draft_last(cause: Cause, steps: u32, piece: &mut Vec<u8>) -> Result<(), A
     add_counted(piece, b"", u64::from(steps))
 }
 
+// Appends the line of a step.
+#[inline(never)]
+fn add_step<M: Machine>(
+    machine: &M,
+    m: &M::Move,
+    n: u64,
+    piece: &mut Vec<u8>,
+) -> Result<(), AllocError>
+    requires present { CanBeShown M.rules machine.now m.now }
+    ensures { OnOk result (piece.new.items ≡ piece.old.items ++ step_line n (M.rules.text machine.now m.now)) }
+{
+    add_move(machine, m, b"step ", n, piece)
+}
+
 /// Begins the text of a step: its line, or nothing.
+#[inline(always)]
 pub fn draft_step<M: Machine>(
     machine: &M,
     m: &M::Move,
@@ -196,7 +211,7 @@ pub fn draft_step<M: Machine>(
 {
     draft.piece.clear();
     if wanted {
-        add_move(machine, m, b"step ", n, &mut draft.piece)?;
+        add_step(machine, m, n, &mut draft.piece)?;
     }
     Ok(())
 }
