@@ -1,5 +1,5 @@
 -- What a step leads to weighs no more than the bodies of the model.
-use Rattle.std.proofs.Common.{◌≡◌, ℕ, zero, suc, ◌-◌, ◌<◌, ◌≤◌, Bool, true, false, List, [], ◌∷◌, ◌++◌, length, map, take, ℤ, Option, Some, None, Result, Ok, IfOk, refl, ap, arith, length-append, nat_lt}
+use Rattle.std.proofs.Common.{◌≡◌, ℕ, zero, suc, ◌-◌, ◌<◌, ◌≤◌, Bool, true, false, List, [], ◌∷◌, ◌++◌, length, map, take, ℤ, Option, Some, None, Result, Ok, IfOk, refl, ap, arith, length-append, nat_lt, sym, subst}
 use Rattle.std.specs.Prelude.{slice_get, slice_set, unwrap_or, option_map, IfSome, if◌then◌else◌}
 use Rattle.std.specs.List.{filter, AllByRecursion}
 use Rattle.std.proofs.lemmas.Bool.{ltb-true}

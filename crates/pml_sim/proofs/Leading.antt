@@ -5,7 +5,6 @@ use Rattle.std.proofs.lemmas.Bool.{cases_lt}
 use Rattle.diagnostics.specs.declared.fault.Fault.{Fault}
 use Rattle.promela_session.specs.Session.{Outcome, Goes, Faults}
 use Rattle.promela_process.specs.Store.{Frame}
-use Rattle.diagnostics.specs.declared.stop.Stop.{Stop}
 use Rattle.diagnostics.specs.declared.stop.Stop.TheVariants as stop
 use Rattle.promela_run.specs.declared.moves.Move.{Move}
 use Rattle.promela_run.specs.declared.moves.Move.TheVariants.{Death, Alone, Pair}

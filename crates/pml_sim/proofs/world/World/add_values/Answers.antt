@@ -1,4 +1,4 @@
-use Rattle.std.proofs.Common.{rules, ◌≡◌, ◌++◌, ap, sym, take, subst, List, ℕ, OnOk}
+use Rattle.std.proofs.Common.{rules, ◌≡◌, ◌++◌, ap, sym, subst, List, ℕ, OnOk}
 use Rattle.promela_run.specs.World.{Running}
 use Rattle.pml_sim.proofs.Stepping.{lines_are, are_declared}
 use Rattle.pml_sim.proofs.world.World.add_values.Goals as goal
