@@ -11,7 +11,7 @@ use Rattle.promela_run.specs.Lines.{element, fields_path, path}
 use Rattle.promela_model.specs.Stands.{Place, StandsReference, Globals}
 use Rattle.promela_model.specs.StandsModel.{StandsModel}
 use Rattle.check_meaning.specs.Tiled as tiled
-use Rattle.check_meaning.specs.Tiled.{fields_at, Tile, IsTiled, Leads, IsOwner, reached, variables_of, fields_under, names_along, first_of, LeadsOn}
+use Rattle.check_meaning.specs.Tiled.{fields_at, Tile, IsTiled, Leads, IsOwner, reached, variables_of, fields_under, names_along, first_of}
 use Rattle.check_meaning.proofs.Tiling.{model-tiled}
 use Rattle.check_meaning.proofs.Leading.{Good, apart, lies-in, all-tile, tile-at, model-paths}
 use Rattle.check_meaning.proofs.Going.{reference-leads}

@@ -1,5 +1,5 @@
 -- What is written of a place.
-use Rattle.std.proofs.Common.{◌≡◌, ◌∙◌, ap, sym, subst, refl, ℕ, zero, suc, ◌<◌, ◌-◌, true, List, ◌++◌, length, Ok, Err, Result, Option, Some, None, string_bytes, IfOk, IfSome, arith}
+use Rattle.std.proofs.Common.{◌≡◌, ◌∙◌, ap, sym, refl, ℕ, zero, suc, ◌<◌, ◌-◌, true, List, ◌++◌, length, Ok, Err, Result, Option, Some, None, string_bytes, IfOk, arith}
 use Rattle.std.specs.Prelude.{String}
 use Rattle.std.specs.Str.{IsUtf8, chars, is_utf8}
 use Rattle.std.specs.Char.{encode_utf8}
@@ -10,9 +10,9 @@ use Rattle.diagnostics.specs.Words.{refusal_words}
 use Rattle.explain_cause.specs.declared.cause.Segment.{Segment}
 use Rattle.explain_find.specs.Told.{IsTold}
 use Rattle.source_lines.specs.Places.{shown_offset, number_at, start_at, line_at}
-use Rattle.source_lines.specs.Beside.{Sight, itself, seen_in}
+use Rattle.source_lines.specs.Beside.{Sight, seen_in}
 use Rattle.source_lines.proofs.Own.{own_sight}
-use Rattle.explain.specs.Explained.{shown_name, said, told_of, told_at, sight_at, sight_beside, told_beside, Request, TellsPlace, of_own, of_included, Explains, placeless, placed, ExplainsBeside, placeless_beside, placed_beside}
+use Rattle.explain.specs.Explained.{shown_name, said, told_of, told_at, told_beside, Request, TellsPlace, of_own, of_included, Explains, placeless, placed, ExplainsBeside, placeless_beside, placed_beside}
 
 -- the words of each refusal are a text
 words_compute : (x : Refusal) → is_utf8 (refusal_words x) ≡ true

@@ -1,5 +1,5 @@
 -- The invariant of the loop that finds the tokens of a text with their places, and what one lexeme does to it.
-use Rattle.std.proofs.Common.{◌≡◌, ℕ, ◌+◌, ◌<◌, Bool, true, false, List, [], ◌∷◌, ◌++◌, length, take, drop, Option, Some, None, sym, refl, ap, ◌∙◌, subst, append_assoc, append-nil, take-append-drop, length-take-le, arith}
+use Rattle.std.proofs.Common.{◌≡◌, ℕ, ◌+◌, ◌<◌, Bool, true, false, List, [], ◌∷◌, ◌++◌, length, take, drop, Some, sym, refl, ap, ◌∙◌, subst, append_assoc, append-nil, take-append-drop, length-take-le, arith}
 use Rattle.std.specs.Prelude.{is_some}
 use Rattle.std.proofs.lemmas.Bool.{false≢true}
 use Rattle.std.proofs.Math.Seq.{take-nil, drop-append_seam, take-append_seam}
@@ -10,7 +10,7 @@ use Rattle.promela_text.specs.declared.lexeme.Lexeme.{Lexeme}
 use Rattle.promela_text.specs.declared.lexeme.Lexeme.TheVariants.{Skipped, Token}
 use Rattle.pml_token.specs.declared.token.Kind.{Kind}
 use Rattle.pml_token.specs.Word.{Word}
-use Rattle.promela_text.specs.Tokens.{lexeme, CanStand, IsLongest, IsDivision, IsCut, word, fresh_from, is_fresh}
+use Rattle.promela_text.specs.Tokens.{lexeme, CanStand, IsLongest, IsDivision, word, fresh_from, is_fresh}
 use Rattle.pml_lex.proofs.Wholes.{Divides, to_whole, from_whole}
 use Rattle.pml_lex.proofs.Places.{token_place}
 use Rattle.pml_lex.proofs.Longest.{IsNextAt}

@@ -1,10 +1,8 @@
 -- The tokens of a text, each with its place.
-use Rattle.std.specs.Prelude.{◌≡◌, ◌<◌, ◌≤◌, ℕ, List, [], ◌++◌, ◌∷◌, length, take, drop}
-use Rattle.std.specs.List.{concat}
+use Rattle.std.specs.Prelude.{◌≡◌, ◌<◌, ℕ, List, [], ◌++◌, ◌∷◌, length, take, drop}
 use Rattle.profile.specs.declared.TheConstants.{MOST_TEXT_BYTES}
 use Rattle.pml_lex.specs.declared.fault.LexError.{LexError}
 use Rattle.pml_lex.specs.declared.fault.LexError.TheVariants.{Memory, TooLong, Lexical, LeftOut}
-use Rattle.pml_token.specs.declared.token.Kind.{Kind}
 use Rattle.pml_token.specs.Word.{Word}
 use Rattle.promela_text.specs.Tokens.{lexeme, CanStand, IsLongest, IsDivision, IsCut, is_fresh, word}
 

@@ -1,5 +1,5 @@
 -- Which inline a name calls, which token closes its parentheses, and what its arguments are, by rules.
-use Rattle.std.specs.Prelude.{◌≡◌, ◌≢◌, ℕ, nat_eq, true, false, ◌&&◌, List, [], ◌∷◌, ◌++◌, length, Option, Some}
+use Rattle.std.specs.Prelude.{◌≡◌, ◌≢◌, ℕ, nat_eq, true, false, ◌&&◌, List, [], ◌∷◌, ◌++◌, length, Some}
 use Rattle.pml_token.specs.declared.token.Kind.{Kind}
 use Rattle.pml_token.specs.declared.token.Kind.TheVariants.{OpenParen, Comma}
 use Rattle.pml_token.specs.Word.{same_kind, Word}

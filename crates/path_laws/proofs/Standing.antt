@@ -23,7 +23,7 @@ use Rattle.promela_run.specs.declared.moves.Pick.{Pick}
 use Rattle.promela_run.specs.declared.moves.Move.{Move}
 use Rattle.promela_run.specs.declared.moves.Move.TheVariants.{Death, Alone, Pair}
 use Rattle.promela_run.specs.Moves.{message}
-use Rattle.promela_run.specs.Steps.{put_all, go_to, went, Done, taken, body_by, alone, both_on, paired, passed, step, moved_to}
+use Rattle.promela_run.specs.Steps.{put_all, go_to, went, Done, taken, alone, both_on, paired, passed, step, moved_to}
 use Rattle.promela_run.specs.World.{Running, first, led_to, rules}
 use Rattle.run_state.specs.Standing.{begins_by}
 use Rattle.run_search.specs.Lifted.{offer_on, offer_at, moved}

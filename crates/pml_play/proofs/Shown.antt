@@ -14,7 +14,7 @@ use Rattle.promela_session.specs.Session.{Rules, Goes, step_text, story, transcr
 use Rattle.session.proofs.Records.{IsPlain}
 use Rattle.promela_run.specs.World.{Running, rules}
 use Rattle.pml_sim.proofs.Short.{IsLightHere, goes_light, number_fits}
-use Rattle.pml_play.specs.Run.{Leg, IsChosen, IsStep, IsPath, last_state}
+use Rattle.pml_play.specs.Run.{Leg, IsChosen, IsStep, IsPath}
 use Rattle.pml_play.specs.Shown.{printed_by, question_for, numbers_behind, step_done, along, ShowsEachPath, PathLeads, ComesTo}
 use Rattle.pml_play.specs.Transcript.{IsModel, IsTranscript}
 use Rattle.pml_play.proofs.Each.{has_transcript}

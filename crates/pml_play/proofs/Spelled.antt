@@ -23,7 +23,7 @@ use Rattle.promela_model.specs.declared.range.Range.{Range}
 use Rattle.promela_model.specs.GrammarOfActions as grammar
 use Rattle.promela_model.specs.GrammarOfModels as bodies
 use Rattle.promela_model.specs.GrammarOfActions.{SpellsOpener, SpellsDeclaration, item_of, seq_of}
-use Rattle.promela_model.specs.GrammarOfModels.{SpellsBasic, SpellsStatement, SpellsItem, SpellsItems, SpellsOptions, SpellsRange, SpellsBody, made, setting, comparing, raising, otherwise_item, breaking, turning, for_on, for_out, select_on, select_out, for_of, select_of}
+use Rattle.promela_model.specs.GrammarOfModels.{SpellsBasic, SpellsStatement, SpellsItem, SpellsItems, SpellsOptions, SpellsRange, made, setting, comparing, raising, otherwise_item, breaking, turning, for_on, for_out, select_on, select_out, for_of, select_of}
 use Rattle.pml_syntax.proofs.Begins.{action_moves}
 use Rattle.pml_syntax.proofs.Kept.{visibility_leads, variables_lead, separators_lead, labels_lead, gap_leads, item_leads, items_lead}
 use Rattle.pml_syntax.proofs.Ranges.{range_moves, range_leads}

@@ -1,12 +1,11 @@
 -- Lines of small texts, and how they are shown.
-use Rattle.std.proofs.Common.{◌≡◌, refl, ℕ, ◌+◌, List, [], ◌∷◌, ◌++◌, codes, Some, None}
+use Rattle.std.proofs.Common.{◌≡◌, refl, ℕ, ◌+◌, List, [], ◌∷◌, codes, Some, None}
 use Rattle.std.specs.Str.{chars, is_utf8}
 use Rattle.std.specs.Char.{encode_utf8}
 use Rattle.std.specs.Fmt.{digits}
 use Rattle.source_lines.specs.Places.{shown_offset, number_at, start_at, line_at, column_at}
-use Rattle.source_lines.specs.Windows.{window_round}
 use Rattle.source_lines.specs.Shown.{shown, carets, line_with_carets, line_alone}
-use Rattle.source_lines.specs.Beside.{numbered_line, itself, seen_in}
+use Rattle.source_lines.specs.Beside.{numbered_line, seen_in}
 
 abbrev text : List ℕ
 text = codes "byte x;\ninit { y = 1 }\n"

@@ -43,6 +43,7 @@ impl<D> Heard<D> {
     }
 
     // Keeps an error, and answers one of the same kind.
+    #[inline(never)]
     fn keep(&mut self, error: io::Error) -> io::Error
         ensures { self.new ≡ self.old }
     {

@@ -1,5 +1,5 @@
 -- The number at a place, where there is one.
-use Rattle.std.proofs.Common.{◌≡◌, sym, ℕ, ◌<◌, ◌≤◌, List, length, pos}
+use Rattle.std.proofs.Common.{◌≡◌, sym, ◌<◌, ◌≤◌, List, pos}
 use Rattle.std.proofs.lemmas.List.{get_or_past}
 use Rattle.promela_process.specs.declared.place.Place.{Place}
 use Rattle.promela_process.specs.Store.{Frame, cells_at, size_at, number_at}

@@ -12,7 +12,7 @@ use Rattle.promela_run.specs.declared.moves.Move.TheVariants.{Death, Alone, Pair
 use Rattle.promela_run.specs.World.{move_text}
 use Rattle.view_waits.specs.declared.transfer.Transfer.{Transfer}
 use Rattle.view_json.specs.declared.lines.Ahead.{Ahead}
-use Rattle.view_json.specs.Objects.{count, text, member, fields}
+use Rattle.view_json.specs.Objects.{text, fields}
 use Rattle.view_json.specs.Lines.{texts, picked, mover, receiver, passed, transfer, choices, front}
 use Rattle.view_json.proofs.Listed.{ends_from, object_ends, array_ends}
 use Rattle.view_json.proofs.Stepped.{ends_append}

@@ -1,6 +1,6 @@
 -- The lines of a run.
-use Rattle.std.proofs.Common.{◌≡◌, ap, sym, refl, subst, List, ℕ, [], ◌∷◌, ◌++◌}
-use Rattle.view_text.specs.Written.{Written, Adds}
+use Rattle.std.proofs.Common.{subst, List, [], ◌∷◌, ◌++◌}
+use Rattle.view_text.specs.Written.{Adds}
 use Rattle.view_text.proofs.Writing.{chained, none}
 use Rattle.view_json.specs.Lines.{line}
 use Rattle.view_json.specs.Shown.{Shown}

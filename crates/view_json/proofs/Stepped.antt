@@ -1,5 +1,5 @@
 -- Lines of steps.
-use Rattle.std.proofs.Common.{◌≡◌, ◌∙◌, ap, sym, refl, subst, ℕ, Bool, true, false, if◌then◌else◌, List, [], ◌∷◌, ◌++◌, append_assoc, length, codes}
+use Rattle.std.proofs.Common.{◌≡◌, ◌∙◌, ap, sym, refl, subst, ℕ, Bool, true, false, if◌then◌else◌, List, [], ◌∷◌, ◌++◌, append_assoc, codes}
 use Rattle.std.specs.List.{flat_map}
 use Rattle.std.proofs.lemmas.Bool.{true≢false}
 use Rattle.json.specs.Token.{Token, end_object}
@@ -10,7 +10,6 @@ use Rattle.run_values.specs.declared.changed.Change.{Change}
 use Rattle.promela_run.specs.declared.moves.Move.{Move}
 use Rattle.promela_run.specs.State.{State}
 use Rattle.view_text.specs.Written.{Written, Adds}
-use Rattle.view_text.proofs.Writing.{chained}
 use Rattle.view_json.specs.Printed.{Printed, Writes}
 use Rattle.view_json.specs.Objects.{member, cells, frame_cells}
 use Rattle.view_json.specs.Lines.{line, ReadsBack}

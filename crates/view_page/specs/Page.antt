@@ -1,5 +1,5 @@
 -- The page of a run, and the steps as items of a list.
-use Rattle.std.specs.Prelude.{ℕ, ◌≡◌, Bool, true, false, ltb, if◌then◌else◌, nat_eq, List, [], ◌∷◌, ◌++◌, codes}
+use Rattle.std.specs.Prelude.{ℕ, ◌≡◌, false, ltb, if◌then◌else◌, nat_eq, List, [], ◌∷◌, ◌++◌, codes}
 use Rattle.std.specs.List.{flat_map, list_any}
 use Rattle.std.specs.Fmt.{decimal}
 use Rattle.diagnostics.specs.declared.fault.Fault.{Fault}

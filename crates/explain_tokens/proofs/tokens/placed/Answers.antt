@@ -5,7 +5,7 @@ use Rattle.pml_token.specs.Word.{Word}
 use Rattle.pml_lex.proofs.Longest.{IsNext, IsNextAt}
 use Rattle.pml_lex.proofs.Steps.{same_word}
 use Rattle.pml_lex.proofs.Scan.{next_is}
-use Rattle.explain_tokens.proofs.Reaching.{Reached, reached_start, reached_end, reached_none, reached_token, reached_skipped, reached_within}
+use Rattle.explain_tokens.proofs.Reaching.{Reached, reached_start, reached_end, reached_none, reached_token, reached_skipped}
 use Rattle.explain_tokens.proofs.tokens.placed.Goals as goal
 use Rattle.explain_tokens.proofs.tokens.placed.Goals.{In-Some}
 

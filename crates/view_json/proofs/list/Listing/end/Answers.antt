@@ -1,4 +1,4 @@
-use Rattle.std.proofs.Common.{sym, subst, ◌∙◌}
+use Rattle.std.proofs.Common.{sym, subst}
 use Rattle.view_text.specs.Written.{Adds}
 use Rattle.view_text.proofs.Writing.{none}
 use Rattle.view_json.proofs.Listed.{listed_nowhere, listed_some, listed_always, array_added, end_printable, nowhere_printable}
