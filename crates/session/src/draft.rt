@@ -136,6 +136,7 @@ pub fn draft_list<M: Machine>(
 }
 
 /// Composes the prompt for one of so many moves.
+#[inline(always)]
 pub fn draft_prompt(most: usize, piece: &mut Vec<u8>) -> Result<(), AllocError>
     ensures { OnOk result (piece.new.items ≡ prompt most) }
 {
@@ -144,6 +145,7 @@ pub fn draft_prompt(most: usize, piece: &mut Vec<u8>) -> Result<(), AllocError>
 }
 
 /// Composes the record's line of an accepted number.
+#[inline(always)]
 pub fn draft_record(n: usize, piece: &mut Vec<u8>) -> Result<(), AllocError>
     ensures line { OnOk result (piece.new.items ≡ record_line n) }
     ensures short { length (record_line n) ≤ LINE_BYTES + 1 }
