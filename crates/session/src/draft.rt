@@ -32,6 +32,23 @@ impl Draft {
 // Where the places of words and digits end.
 const ROOM: usize = 32;
 
+// Appends words and the places behind them, from here on.
+#[inline(always)]
+fn add_before(
+    piece: &mut Vec<u8>,
+    words: &[u8],
+    places: &mut [u8],
+    from: usize,
+) -> Result<(), AllocError>
+    requires within { from ≤ length places.old }
+    requires room { length words.now ≤ from }
+    ensures { OnOk result (piece.new.items ≡ piece.old.items ++ (words.now ++ drop from places.old)) }
+{
+    let begin = from - words.len();
+    places[begin..from].copy_from_slice(words);
+    piece.extend_from_slice(&places[begin..])
+}
+
 // Appends words and a number in decimal, and what stands behind the places of both, at once.
 #[inline(always)]
 fn add_number(
@@ -44,10 +61,12 @@ fn add_number(
     requires short { length words.now ≤ 12 }
     ensures { OnOk result (piece.new.items ≡ piece.old.items ++ (words.now ++ (decimal n ++ drop 32 places.old))) }
 {
+    if n < 10 {
+        places[ROOM - 1] = b'0' + n as u8;
+        return add_before(piece, words, places, ROOM - 1);
+    }
     let digits = write_digits(n, places, ROOM);
-    let begin = digits - words.len();
-    places[begin..digits].copy_from_slice(words);
-    piece.extend_from_slice(&places[begin..])
+    add_before(piece, words, places, digits)
 }
 
 // Appends a line feed.
@@ -117,6 +136,7 @@ pub fn draft_list<M: Machine>(
 }
 
 /// Composes the prompt for one of so many moves.
+#[inline(always)]
 pub fn draft_prompt(most: usize, piece: &mut Vec<u8>) -> Result<(), AllocError>
     ensures { OnOk result (piece.new.items ≡ prompt most) }
 {
@@ -125,6 +145,7 @@ pub fn draft_prompt(most: usize, piece: &mut Vec<u8>) -> Result<(), AllocError>
 }
 
 /// Composes the record's line of an accepted number.
+#[inline(always)]
 pub fn draft_record(n: usize, piece: &mut Vec<u8>) -> Result<(), AllocError>
     ensures line { OnOk result (piece.new.items ≡ record_line n) }
     ensures short { length (record_line n) ≤ LINE_BYTES + 1 }

@@ -71,6 +71,7 @@ pub fn write_ending<M: Machine, D: Devices>(
 }
 
 /// Composes the line of an accepted number, in this version.
+#[inline(always)]
 fn draft_noted<M: Machine>(
     notes: Version,
     n: usize,
