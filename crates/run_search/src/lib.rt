@@ -6,6 +6,7 @@ pub mod d_step;
 pub mod demands;
 pub mod executable;
 pub mod laws;
+pub mod lent;
 pub mod listeners;
 pub mod message;
 pub mod picked;
