@@ -1,5 +1,5 @@
 -- The moves of a send, by what is found of its channel.
-use Rattle.std.proofs.Common.{◌≡◌, ◌||◌, Bool, true, false, if◌then◌else◌, nat_lt, List, [], ◌∷◌, ℤ, length, Some, None, Result, Ok, Err, refl, sym, ap, ◌∙◌}
+use Rattle.std.proofs.Common.{◌≡◌, ◌||◌, Bool, true, false, if◌then◌else◌, nat_lt, List, [], ◌∷◌, ℤ, length, Some, Result, Ok, Err, refl, sym, ap, ◌∙◌}
 use Rattle.diagnostics.specs.declared.fault.Fault.{Fault}
 use Rattle.pml_program.specs.declared.expr.Expr.{Expr}
 use Rattle.pml_program.specs.declared.expr.Target.{Target}
@@ -16,26 +16,11 @@ use Rattle.run_search.specs.Round.{sent_moves}
 use Rattle.run_search.proofs.Offering.{message_some}
 
 module _ (s : State) (t : Bool) (p : Pick) where
-  -- where that has a fault it is a move by itself
-  pub sent_fault : (c : Result Named Fault) (f : Fault) (vs : Result (List ℤ) Fault) → c ≡ Err f → sent_moves s t p c vs ≡ Alone p t ∷ []
-  sent_fault c f vs h = ap (λ (x : Result Named Fault). sent_moves s t p x vs) h
-
+  -- by whether it can be taken by itself
   by_channel : (c : Result Named Fault) (n : Named) (vs : Result (List ℤ) Fault) (b : Bool) → c ≡ Ok n → or_fault (can_send s.lossy false n.contents vs) ≡ b → sent_moves s t p c vs ≡ (if b then Alone p t ∷ [] else pairs s t p (message_on (Ok n) vs))
   by_channel c n vs b h k =
       ap (λ (x : Result Named Fault). sent_moves s t p x vs) h
       ∙ ap (λ (b : Bool). if b then Alone p t ∷ [] else pairs s t p (message_on (Ok n) vs)) k
-
-  -- where it can be taken so it is one
-  pub sent_alone : (c : Result Named Fault) (n : Named) (vs : Result (List ℤ) Fault) → c ≡ Ok n → or_fault (can_send s.lossy false n.contents vs) ≡ true → sent_moves s t p c vs ≡ Alone p t ∷ []
-  sent_alone c n vs h k = by_channel c n vs true h k
-
-  unmet : (n : Named) (vs : Result (List ℤ) Fault) → is_rendezvous n.contents ≡ false → message_on (Ok n) vs ≡ None
-  unmet n (Ok vs) h = ap (λ (b : Bool). if b then Some (record { number = n.number; fields = cut n.contents.types vs }) else None) h
-  unmet n (Err f) h = refl
-
-  -- over a channel that keeps messages nobody is met
-  pub sent_nothing : (c : Result Named Fault) (n : Named) (vs : Result (List ℤ) Fault) → c ≡ Ok n → or_fault (can_send s.lossy false n.contents vs) ≡ false → is_rendezvous n.contents ≡ false → sent_moves s t p c vs ≡ []
-  sent_nothing c n vs h k i = by_channel c n vs false h k ∙ ap (pairs s t p) (unmet n vs i)
 
   -- a rendezvous that is no move by itself has a value in each field
   valued : (c : ChannelState) (vs : Result (List ℤ) Fault) → or_fault (can_send s.lossy false c vs) ≡ false → is_rendezvous c ≡ true → evaluated vs ≡ Ok tt
@@ -44,7 +29,7 @@ module _ (s : State) (t : Bool) (p : Pick) where
       let b : true ≡ false = sym (ap (λ (b : Bool). or_fault (if b then (Err f >>= λ (vs : List ℤ). Ok false) else Ok (s.lossy || nat_lt (length c.messages) c.capacity))) i) ∙ k in
       cc
 
-  -- else it has the pairs of its message
+  -- it has the pairs of its message
   pub sent_message : (cs : List LiveChannel) (r : Reading) (x : Target) (es : List Expr) (n : Named) → named cs r x (length es) ≡ Ok n → or_fault (can_send s.lossy false n.contents (values es r)) ≡ false → is_rendezvous n.contents ≡ true
       → sent_moves s t p (named cs r x (length es)) (values es r) ≡ pairs s t p (Some (record { number = n.number; fields = cut n.contents.types (worths es r) }))
   sent_message cs r x es n h k i =

@@ -12,7 +12,7 @@ use Rattle.promela_run.specs.State.{State, reads}
 use Rattle.promela_run.specs.Statements.{values}
 use Rattle.run_state.specs.declared.body.Body.{Body}
 use Rattle.run_state.specs.declared.seat.Seat.{Seat}
-use Rattle.run_search.specs.declared.search.Round.{Round}
+use Rattle.run_search.specs.declared.round.Round.{Round}
 use Rattle.run_search.specs.declared.tier.Tier.{Tier}
 use Rattle.run_state.specs.Standing.{stand_of, shows, offers_at, seq_of}
 use Rattle.promela_run.specs.Moves.{Message, Named, named, or_fault, can_send, message_on, is_else, last, pairs, plain_moves, else_moves, moves_on, moves_at, moves_under}

@@ -11,5 +11,6 @@ pub mod listeners;
 pub mod message;
 pub mod picked;
 pub mod rendezvous;
+pub mod round;
 pub mod search;
 pub mod tier;

@@ -9,7 +9,7 @@ use Rattle.promela_run.specs.Moves.{Message, Named, named, or_fault, can_send, i
 use Rattle.pml_value.specs.Seen.{seen}
 use Rattle.run_search.specs.Fields.{worths}
 use Rattle.run_search.proofs.Sends.{sent_message}
-use Rattle.run_search.proofs.search.add_send.Goals as goal
+use Rattle.run_search.proofs.round.add_send.Goals as goal
 
 pub returns-clause-added : goal.returns-clause-added
 returns-clause-added c =

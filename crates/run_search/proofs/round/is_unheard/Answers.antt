@@ -2,7 +2,7 @@ use Rattle.std.proofs.Common.{rules, ◌≡◌, ◌<◌, ℤ, to_z, of_z, w32, s
 use Rattle.std.specs.Prelude.{slice_get}
 use Rattle.run_search.specs.Listeners.{place_of, Hears}
 use Rattle.run_search.proofs.Listening.{unheard}
-use Rattle.run_search.proofs.search.is_unheard.Goals as goal
+use Rattle.run_search.proofs.round.is_unheard.Goals as goal
 
 pub returns : goal.returns
 returns c offer m none of =
