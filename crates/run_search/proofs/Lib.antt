@@ -1,6 +1,7 @@
 pub mod Searching
 pub mod Naming
 pub mod Offering
+pub mod Sends
 pub mod Placing
 pub mod Waiting
 pub mod Listening

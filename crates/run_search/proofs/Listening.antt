@@ -14,7 +14,7 @@ use Rattle.run_search.specs.declared.demands.Demand.TheVariants.{Nothing, Channe
 use Rattle.run_search.specs.declared.listeners.Span.{Span}
 use Rattle.run_search.specs.declared.listeners.Known.{Known}
 use Rattle.promela_run.specs.State.{State, Stand}
-use Rattle.promela_run.specs.Moves.{Message, each, pairs_with}
+use Rattle.promela_run.specs.Moves.{Message, each, pairs, pairs_with}
 use Rattle.run_search.specs.Demands.{may_take, begins_with, AreDemands}
 use Rattle.run_search.specs.Listeners.{place_of, with_one, joined, widened, spans_with, any_with, LiesIn, Hears, AreHeard, AreKnown}
 use Rattle.run_state.specs.Standing.{stand_of}
@@ -148,6 +148,24 @@ pub outside : (s : State) (t : Bool) (k : Known) (q : Pick) (m : Message) (xs : 
 outside s t k q m xs number first end known seats of among i x e out =
     known.heard i (stand_of s.program x) q m (seat_stands s.program xs s.stands i x seats e)
     (λ h. let r = among i (within xs i x e) (subst (λ (n : ℤ). Hears (slice_get k.spans.now (place_of n)) k.any i) (sym of) h) in out r.0 r.1)
+
+-- ---- a channel on which nobody is heard
+
+each_none : {A B : Type 0} (f : ℕ → A → List B) (n : ℕ) (xs : List A) → ((i : ℕ) (x : A) → slice_get xs i ≡ Some x → f (n + i) x ≡ []) → each f n xs ≡ []
+each_none {B = B} f n [] h = refl
+each_none {B = B} f n (x ∷ xs) h =
+    let e : n + 0 ≡ n = omega arith in
+    let first : f n x ≡ [] = ap (λ (i : ℕ). f i x) (sym e) ∙ h 0 x refl in
+    let rest : each f (n + 1) xs ≡ [] = each_none f (n + 1) xs (λ i y at. let k : n + 1 + i ≡ n + suc i = omega arith in ap (λ (j : ℕ). f j y) k ∙ h (suc i) y at) in
+    ap (λ (ys : List B). ys ++ each f (n + 1) xs) first ∙ rest
+
+-- a message over it has no pairs
+pub unheard : (s : State) (t : Bool) (k : Known) (q : Pick) (m : Message) (number : ℤ) → AreKnown s t k → number ≡ m.number → ((i : ℕ) → i < length s.stands → Hears (slice_get k.spans.now (place_of number)) k.any i → ⊥) → pairs s t q (Some m) ≡ []
+unheard s t k q m number known of none =
+    each_none (pairs_with s t q m) 0 s.stands (λ i y at.
+    let e : 0 + i ≡ i = omega arith in
+    let l : i < length s.stands = within s.stands i y at in
+    ap (λ (j : ℕ). pairs_with s t q m j y) e ∙ known.heard i y q m at (λ h. none i l (subst (λ (n : ℤ). Hears (slice_get k.spans.now (place_of n)) k.any i) (sym of) h)))
 
 -- ---- the pairs with those of a span
 

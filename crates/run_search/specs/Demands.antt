@@ -1,12 +1,13 @@
 -- What a process waits for, and which messages it may receive so.
 use Rattle.std.specs.Prelude.{◌≡◌, ℕ, Bool, true, false, ◌&&◌, List, [], ◌∷◌, ℤ, Option, Some, None, slice_get}
 use Rattle.std.specs.Ordering.{int_eq}
+use Rattle.pml_program.specs.declared.program.Basic.{Basic}
 use Rattle.promela_process.specs.Offers.{Offer}
 use Rattle.promela_run.specs.declared.moves.Pick.{Pick}
 use Rattle.run_search.specs.declared.demands.Demand.{Demand}
 use Rattle.run_search.specs.declared.demands.Demand.TheVariants.{Nothing, Channel, Number, Anything}
-use Rattle.promela_run.specs.State.{Stand, State}
-use Rattle.promela_run.specs.Moves.{Message, last, pairs_on, pairs_with}
+use Rattle.promela_run.specs.State.{Stand, State, reads}
+use Rattle.promela_run.specs.Moves.{Message, accepts, last, pairs_on, pairs_with}
 
 abbrev pub begins_with : ℤ → List ℤ → Bool
 begins_with n [] = false
@@ -23,6 +24,10 @@ may_take Anything m = true
 abbrev pub may_at : Option Demand → Message → Bool
 may_at None m = true
 may_at (Some w) m = may_take w m
+
+-- whether process j receives a message by a statement
+abbrev pub does_accept : State → ℕ → Bool → Message → Option Basic → Bool
+does_accept s j t m o = accepts s.channels (reads s j t) m o
 
 -- by the offers of a level process j receives no other message
 abbrev pub DemandsOn : State → Bool → ℕ → List Offer → Demand → Type 0

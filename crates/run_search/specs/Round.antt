@@ -1,14 +1,21 @@
 -- A round of the search: the moves that it finds.
-use Rattle.std.specs.Prelude.{ℕ, Bool, if◌then◌else◌, List, [], map, Option}
+use Rattle.std.specs.Prelude.{ℕ, Bool, false, if◌then◌else◌, List, [], ◌∷◌, ℤ, length, map, Option, Result}
+use Rattle.diagnostics.specs.declared.fault.Fault.{Fault}
+use Rattle.pml_program.specs.declared.expr.Expr.{Expr}
+use Rattle.pml_program.specs.declared.expr.Target.{Target}
+use Rattle.promela_process.specs.Expressions.{◌>>=◌}
 use Rattle.pml_flow.specs.declared.edge.Edge.{Edge}
 use Rattle.promela_run.specs.declared.moves.Pick.{Pick}
 use Rattle.promela_run.specs.declared.moves.Move.{Move}
+use Rattle.promela_run.specs.declared.moves.Move.TheVariants.{Alone}
+use Rattle.promela_run.specs.State.{State, reads}
+use Rattle.promela_run.specs.Statements.{values}
 use Rattle.run_state.specs.declared.body.Body.{Body}
 use Rattle.run_state.specs.declared.seat.Seat.{Seat}
-use Rattle.run_search.specs.declared.search.Round.{Round}
+use Rattle.run_search.specs.declared.round.Round.{Round}
 use Rattle.run_search.specs.declared.tier.Tier.{Tier}
 use Rattle.run_state.specs.Standing.{stand_of, shows, offers_at, seq_of}
-use Rattle.promela_run.specs.Moves.{Message, is_else, last, pairs, plain_moves, else_moves, moves_on, moves_at, moves_under}
+use Rattle.promela_run.specs.Moves.{Message, Named, named, or_fault, can_send, message_on, is_else, last, pairs, plain_moves, else_moves, moves_on, moves_at, moves_under}
 use Rattle.run_search.specs.Viewed.{moves_for}
 use Rattle.run_search.specs.Listeners.{AreKnown}
 use Rattle.promela_run.specs.World.{Running}
@@ -17,6 +24,11 @@ use Rattle.promela_run.specs.World.{Running}
 abbrev pub IsKnown : Round → Type 0
 IsKnown r = AreKnown r.live.now.state r.timeout (record { demands = r.demands; spans = r.spans; any = r.any })
 
+-- of a send over the channel that is named, with these values in its fields, where either may have a fault
+abbrev pub sent_moves : State → Bool → Pick → Result Named Fault → Result (List ℤ) Fault → List Move
+sent_moves s t p c vs =
+    if or_fault (c >>= λ c. can_send s.lossy false c.contents vs) then Alone p t ∷ [] else pairs s t p (message_on c vs)
+
 -- the pairs of a message
 abbrev pub round_pairs : Round → Pick → Option Message → List Move
 round_pairs r = pairs r.live.now.state r.timeout
@@ -24,6 +36,12 @@ round_pairs r = pairs r.live.now.state r.timeout
 -- of the offer that is picked, by its edge
 abbrev pub round_for : Round → Body → Pick → Edge → List Move
 round_for r k p e = moves_for r.live.now.state r.timeout (seq_of k) p (shows k e)
+
+-- of a send, by the variable that names its channel and its fields
+abbrev pub round_send : Round → Pick → Target → List Expr → List Move
+round_send r p t es =
+    let s = r.live.now.state in
+    sent_moves s r.timeout p (named s.channels (reads s p.process r.timeout) t (length es)) (values es (reads s p.process r.timeout))
 
 -- none, where that is an `else`
 abbrev pub round_plain_for : Round → Body → Pick → Edge → List Move

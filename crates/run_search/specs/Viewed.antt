@@ -30,6 +30,10 @@ NeedsNothing x = (lossy : Bool) (cs : List LiveChannel) (r : Reading) (b : Seq) 
 abbrev pub message_in : View → Option Basic → Option Message
 message_in v x = message v.channels.now (seen v) x
 
+-- a statement that sends nothing over a rendezvous, whatever the state is
+abbrev pub IsSilent : Option Basic → Type 0
+IsSilent x = (cs : List LiveChannel) (r : Reading) → message cs r x ≡ None
+
 -- of the offer that is picked
 abbrev pub moves_for : State → Bool → Seq → Pick → Offer → List Move
 moves_for s t b k o = moves_by s k.process t b k.level k.place o

@@ -5,13 +5,13 @@ ghost use Rattle.std.specs.Option.{option_copied};
 ghost use Rattle.std.specs.Ordering.{int_eq};
 ghost use Rattle.promela_process.specs.Expressions.{Reading, asked_by};
 ghost use Rattle.pml_value.specs.Seen.{seen};
-ghost use Rattle.promela_run.specs.State.{reads};
 ghost use Rattle.run_state.specs.Standing.{stand_of, IsBody, shows, offers_at};
 ghost use Rattle.promela_run.specs.Moves.{Message as Sent, accepts, does_match};
-ghost use Rattle.run_search.specs.Demands.{begins_with, may_take, may_at, DemandsOn, DemandsDown, DemandsFor, AreDemands};
+ghost use Rattle.run_search.specs.Demands.{begins_with, may_take, may_at, does_accept, DemandsOn, DemandsDown, DemandsFor, AreDemands};
 
 use crate::executable::named;
-use crate::message::Message;
+use crate::lent::lent;
+use crate::message::{Message, is_receive};
 use pml_flow::edge::Edge;
 use pml_program::expr::Want;
 use pml_program::program::{Action, Basic};
@@ -87,6 +87,41 @@ impl Demand {
         }
     }
 
+    /// What may be received so, or by a statement of process j.
+    #[inline(never)]
+    fn or_received(
+        self,
+        live: &Live<'_, '_>,
+        j: usize,
+        timeout: bool,
+        basic: Option<&Basic<'_>>,
+    ) -> Demand
+        requires { j < length live.now.state.stands }
+        ensures one { (m : Sent) → may_take result m ≡ false → may_take self m ≡ false }
+        ensures other { (m : Sent) → may_take result m ≡ false → does_accept live.now.state j timeout m (option_copied basic.entry) ≡ false }
+    {
+        self.or_by(&live.view(j, timeout), basic)
+    }
+
+    /// What may be received so, or by a statement of process j. Only a receive is asked.
+    #[inline(always)]
+    fn or_offer(
+        self,
+        live: &Live<'_, '_>,
+        j: usize,
+        timeout: bool,
+        basic: Option<&Basic<'_>>,
+    ) -> Demand
+        requires { j < length live.now.state.stands }
+        ensures one { (m : Sent) → may_take result m ≡ false → may_take self m ≡ false }
+        ensures other { (m : Sent) → may_take result m ≡ false → does_accept live.now.state j timeout m (option_copied basic.entry) ≡ false }
+    {
+        if !is_receive(basic) {
+            return self;
+        }
+        self.or_received(live, j, timeout, basic)
+    }
+
     /// Whether a message may be received so.
     fn takes(self, message: &Message<'_, '_>) -> bool
         ensures { result ≡ may_take self message.now }
@@ -111,6 +146,7 @@ fn begins(message: &Message<'_, '_>, number: i32) -> bool
 }
 
 /// What may be received so far, or by the offers of a level.
+#[inline(always)]
 fn demand_on(
     live: &Live<'_, '_>,
     body: &Body<'_, '_, '_>,
@@ -124,10 +160,9 @@ fn demand_on(
     ensures one { (m : Sent) → may_take result m ≡ false → may_take so_far m ≡ false }
     ensures other { DemandsOn live.now.state timeout j (map (shows body.now) edges.now) result }
 {
-    let view = live.view(j, timeout);
     let mut demand = so_far;
     for edge in edges {
-        demand = demand.or_by(&view, body.basic(*edge));
+        demand = demand.or_offer(live, j, timeout, body.basic(*edge));
     }
     demand
 }
@@ -164,7 +199,7 @@ fn demand_of(live: &Live<'_, '_>, j: usize, timeout: bool, seat: Seat) -> Demand
     };
     match body.graph.only_level(seat.node) {
         Some(edges) => demand_on(live, &body, j, timeout, edges, Demand::Nothing),
-        None => demand_down(live, &body, j, timeout, seat.node),
+        None => demand_down(live, &lent(&body), j, timeout, seat.node),
     }
 }
 

@@ -24,6 +24,7 @@ use pml_value::view::{View, named as channel_at};
 use profile::MOST_PROCESSES;
 
 /// The channel that a variable names, with its number, where it has so many fields.
+#[inline(always)]
 pub fn named<'w>(
     view: &View<'w>,
     target: &Target,
@@ -47,6 +48,7 @@ pub fn named<'w>(
 }
 
 /// The first fault from the left in the values of expressions, if there is one.
+#[inline(always)]
 pub fn first_fault_of(list: &[Expr], view: &View<'_>) -> Result<(), Fault>
     ensures { result ≡ evaluated (values list.now (seen view.now)) }
 {
@@ -68,7 +70,8 @@ fn holds(view: &View<'_>, value: &Expr) -> bool
 }
 
 /// Whether a send can be taken by itself.
-fn can_send(
+#[inline(always)]
+pub(crate) fn can_send(
     view: &View<'_>,
     lossy: bool,
     in_d_step: bool,

@@ -1,6 +1,6 @@
 //! Between which processes those lie that may receive on a channel: a send then looks at no other.
 
-ghost use Rattle.std.specs.Prelude.{◌≡◌, ◌<◌, ◌≤◌, ◌⊎◌, ℕ, IfOk, length, slice_get};
+ghost use Rattle.std.specs.Prelude.{◌≡◌, ◌<◌, ◌≤◌, ◌⊎◌, ℕ, true, IfOk, length, slice_get};
 ghost use Rattle.std.specs.Option.{option_copied};
 ghost use Rattle.run_search.specs.Listeners.{place_of, with_one, widened, spans_with, any_with, joined, LiesIn, HearsOn, AreHeard};
 
@@ -156,5 +156,14 @@ impl<'k> Known<'k> {
                 (all.first, all.end(count))
             }
         }
+    }
+
+    /// Whether nobody is heard on a channel, where so many live.
+    #[inline(always)]
+    pub fn is_unheard(self, number: i32, count: usize) -> bool
+        ensures { result ≡ true → (i : ℕ) → i < count → HearsOn self.entry number i → ⊥ }
+    {
+        let (first, end) = self.heard(number, count);
+        end <= first
     }
 }

@@ -1,11 +1,12 @@
 //! The message that a rendezvous send offers.
 
-ghost use Rattle.std.specs.Prelude.{◌≡◌, ◌<◌, List, Ok, length, pos, get_or};
+ghost use Rattle.std.specs.Prelude.{◌≡◌, ◌<◌, List, Ok, false, length, pos, get_or};
 ghost use Rattle.std.specs.Option.{option_copied};
 ghost use Rattle.promela_process.specs.declared.sought.Sought.{Sought};
-ghost use Rattle.promela_process.specs.Expressions.{matched, val, asked_by};
+ghost use Rattle.promela_process.specs.Expressions.{Reading, matched, val, asked_by};
 ghost use Rattle.pml_value.specs.Seen.{seen};
-ghost use Rattle.promela_run.specs.Moves.{named as names, message_on, does_match, accepts};
+ghost use Rattle.promela_run.specs.declared.live_channel.LiveChannel.{LiveChannel};
+ghost use Rattle.promela_run.specs.Moves.{Message as Sent, named as names, message_on, does_match, accepts};
 ghost use Rattle.promela_run.specs.Statements.{values};
 ghost use Rattle.run_search.specs.Fields.{worth, worths};
 ghost use Rattle.promela_process.specs.Store.{cut};
@@ -13,6 +14,7 @@ ghost use Rattle.run_search.specs.Viewed.{message_in};
 
 use crate::executable::{first_fault_of, named};
 use diagnostics::Fault;
+use pml_channel::channel::Channel;
 use pml_eval::clip::clip;
 use pml_eval::eval::{eval, first_fault, want};
 use pml_eval::pattern::takes;
@@ -93,6 +95,24 @@ fn worth_of(e: &Expr, view: &View<'_>) -> i32
     }
 }
 
+/// The message that is sent over a channel.
+pub(crate) fn message_over<'w, 'p>(
+    view: View<'w>,
+    number: i32,
+    channel: &'w Channel,
+    fields: &'p [Expr],
+) -> Message<'w, 'p>
+    requires { length fields.now ≡ length channel.now.types }
+    ensures { result ≡ record { number = number; fields = cut channel.now.types (worths fields.now (seen view.entry)) } }
+{
+    Message {
+        view,
+        number,
+        types: channel.types(),
+        fields,
+    }
+}
+
 /// The message of a rendezvous on the channel that a variable names, where that and all fields have a value.
 fn message_to<'w, 'p>(
     view: View<'w>,
@@ -107,12 +127,7 @@ fn message_to<'w, 'p>(
     if channel.capacity() != 0 || first_fault_of(fields, &view).is_err() {
         return None;
     }
-    Some(Message {
-        view,
-        number,
-        types: channel.types(),
-        fields,
-    })
+    Some(message_over(view, number, channel, fields))
 }
 
 /// What a statement offers to receivers, if nothing in it has a fault.
@@ -153,6 +168,17 @@ fn is_matched(arguments: &[Want], m: &Message<'_, '_>, view: &View<'_>) -> bool
     match is_asked(arguments, m, view) {
         Ok(matches) => matches,
         Err(_) => true,
+    }
+}
+
+/// Whether a statement is a receive: nothing else takes a message.
+#[inline(always)]
+pub(crate) fn is_receive(basic: Option<&Basic<'_>>) -> bool
+    ensures { (cs : List LiveChannel) (r : Reading) (m : Sent) → result ≡ false → accepts cs r m (option_copied basic.entry) ≡ false }
+{
+    match basic {
+        Some(Basic::Plain(Action::Receive(_, _, _, _))) => true,
+        _ => false,
     }
 }
 

@@ -3,23 +3,20 @@
 
 #![tactic(auto, using(crate::proofs::Keeping::kept_on, crate::proofs::Keeping::kept_same, crate::proofs::Keeping::kept_push))]
 
-ghost use Rattle.std.specs.Prelude.{◌≡◌, ◌++◌, ◌<◌, false, List, [], OnOk, length, slice_get};
+ghost use Rattle.std.specs.Prelude.{◌≡◌, ◌++◌, ◌<◌, false, [], OnOk, length, slice_get};
 ghost use Rattle.std.specs.Option.{option_copied};
-ghost use Rattle.promela_process.specs.Expressions.{Reading};
-ghost use Rattle.promela_run.specs.declared.live_channel.LiveChannel.{LiveChannel};
 ghost use Rattle.run_search.specs.Kept.{Extends};
 ghost use Rattle.run_state.specs.Standing.{IsBody, shows};
 ghost use Rattle.run_search.specs.Paired.{pair_by, paired_on, paired_down, paired_with, paired_by};
-ghost use Rattle.promela_run.specs.Moves.{Message as Sent, accepts};
 ghost use Rattle.run_search.specs.Demands.{may_at};
 ghost use Rattle.run_search.specs.Listeners.{AreKnown};
 
 use crate::demands::{Demand, may_receive};
 use crate::listeners::Known;
-use crate::message::{Message, is_received};
+use crate::message::{Message, is_receive, is_received};
 use crate::tier::Tier;
 use pml_flow::edge::Edge;
-use pml_program::program::{Action, Basic};
+use pml_program::program::Basic;
 use promela_run::moves::{Move, Pick};
 use run_state::body::Body;
 use run_state::live::Live;
@@ -32,16 +29,6 @@ pub(crate) struct Sending<'w, 'p> {
     pub message: Message<'w, 'p>,
     pub sender: Pick,
     pub timeout: bool,
-}
-
-/// Whether a statement is a receive: nothing else takes a message.
-fn is_receive(basic: Option<&Basic<'_>>) -> bool
-    ensures { (cs : List LiveChannel) (r : Reading) (m : Sent) → result ≡ false → accepts cs r m (option_copied basic.entry) ≡ false }
-{
-    match basic {
-        Some(Basic::Plain(Action::Receive(_, _, _, _))) => true,
-        _ => false,
-    }
 }
 
 /// Adds the pair of a message with a receive, where that takes it.
@@ -206,6 +193,7 @@ fn add_pairs_where(
 }
 
 /// Adds the pairs of a message, where this is known of what processes wait for.
+#[inline(never)]
 pub(crate) fn add_pairs(
     live: &Live<'_, '_>,
     sending: &Sending<'_, '_>,

@@ -4,96 +4,27 @@
 #![tactic(auto, using(crate::proofs::Keeping::kept_on, crate::proofs::Keeping::kept_same, crate::proofs::Keeping::kept_push))]
 
 ghost use Rattle.std.specs.Prelude.{◌≡◌, ◌++◌, ◌<◌, true, false, [], OnOk, length};
-ghost use Rattle.std.specs.Option.{option_copied};
 ghost use Rattle.run_search.specs.Kept.{Extends};
 ghost use Rattle.run_state.specs.Standing.{IsBody, shows};
-ghost use Rattle.run_search.specs.Viewed.{message_in};
 ghost use Rattle.promela_run.specs.Moves.{is_else as else_of, moves_held, moves as all_moves, only_if};
-ghost use Rattle.run_search.specs.Round.{IsKnown, round_pairs, round_for, round_plain_for, round_plain, else_on, round_on, round_down, round_at, round_under, live_under};
+ghost use Rattle.run_search.specs.Round.{IsKnown, round_plain_for, round_plain, else_on, round_on, round_down, round_at, round_under, live_under};
 ghost use Rattle.promela_run.specs.declared.moves.Move.TheVariants.{Alone};
 
-use crate::alone::{can_be_alone, needs_nothing};
+use crate::alone::needs_nothing;
 use crate::d_step::is_else;
-use crate::demands::{Demand, all_demands, are_worth_knowing};
-use crate::listeners::{Known, NOBODY, Span, all_listeners};
-use crate::message::offered;
-use crate::rendezvous::{Sending, add_pairs};
+use crate::demands::{all_demands, are_worth_knowing};
+use crate::lent::lent;
+use crate::listeners::{NOBODY, all_listeners};
+use crate::round::{Round, add_alone, add_asked};
 use crate::tier::Tier;
 use pml_flow::edge::Edge;
-use pml_program::program::Basic;
-use pml_value::view::View;
 use promela_run::moves::{Move, Pick};
 use run_state::body::Body;
 use run_state::live::Live;
 use run_state::seat::Seat;
 use std::alloc::AllocError;
 
-/// A round of the search: over which state, under which value of `timeout`, and what is known of what processes wait for.
-#[derive(Clone, Copy)]
-struct Round<'r, 'p, 'a> {
-    live: &'r Live<'p, 'a>,
-    timeout: bool,
-    demands: &'r [Demand],
-    spans: &'r [Span],
-    any: Span,
-}
-
 // ---- a process
-
-/// Adds the pairs of what a statement offers to receivers.
-fn add_sent(
-    round: &Round<'_, '_, '_>,
-    view: View<'_>,
-    offer: Pick,
-    basic: Option<&Basic<'_>>,
-    moves: &mut Vec<Move>,
-) -> Result<(), AllocError>
-    requires { IsKnown round.now }
-    ensures added { let m = message_in view.entry (option_copied basic.entry) in
-        OnOk result (moves.new.items ≡ moves.old.items ++ round_pairs round.now offer m) }
-    ensures kept { Extends moves.new.items moves.old.items }
-{
-    match offered(view, basic) {
-        None => Ok(()),
-        Some(message) => {
-            let sending = Sending {
-                message,
-                sender: offer,
-                timeout: round.timeout,
-            };
-            let known = Known {
-                demands: round.demands,
-                spans: round.spans,
-                any: round.any,
-            };
-            add_pairs(round.live, &sending, known, moves)
-        }
-    }
-}
-
-/// Adds the moves of an offer that is no `else`, as the state has it.
-#[inline(never)]
-fn add_asked(
-    round: &Round<'_, '_, '_>,
-    body: &Body<'_, '_, '_>,
-    offer: Pick,
-    edge: Edge,
-    moves: &mut Vec<Move>,
-) -> Result<(), AllocError>
-    requires known { IsKnown round.now }
-    requires there { offer.process < length round.now.live.now.state.stands }
-    requires body { IsBody body.now }
-    ensures added { OnOk result (moves.new.items ≡ moves.old.items ++ round_for round.now body.now offer edge) }
-    ensures kept { Extends moves.new.items moves.old.items }
-{
-    let basic = body.basic(edge);
-    let view = round.live.view(offer.process, round.timeout);
-    if can_be_alone(&view, round.live.is_lossy(), body, edge, basic) {
-        moves.push(Move::Alone(offer, round.timeout))?;
-        return Ok(());
-    }
-    add_sent(round, view, offer, basic, moves)
-}
 
 /// Adds the moves of an offer, none where it is an `else`. What needs nothing is offered at once.
 #[inline(always)]
@@ -119,7 +50,7 @@ fn add_plain_by(
     if is_else(basic) {
         return Ok(());
     }
-    add_asked(round, body, offer, *edge, moves)
+    add_asked(round, body, offer, edge, moves)
 }
 
 /// Adds the moves of a level's offers that are no `else`.
@@ -158,12 +89,11 @@ fn add_else_by(
     if !is_else(body.basic(edge)) {
         return Ok(());
     }
-    moves.push(Move::Alone(offer, timeout))?;
-    Ok(())
+    add_alone(offer, timeout, moves)
 }
 
 /// Adds a level's `else` offers.
-#[inline(never)]
+#[inline(always)]
 fn add_else(
     body: &Body<'_, '_, '_>,
     tier: Tier,
@@ -255,7 +185,7 @@ fn add_moves_in(
             let tier = Tier { process, level: 0 };
             add_moves_on(round, body, tier, edges, moves)
         }
-        None => add_moves_down(round, body, process, node, moves),
+        None => add_moves_down(round, &lent(body), process, node, moves),
     }
 }
 

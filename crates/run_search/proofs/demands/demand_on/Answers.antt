@@ -1,10 +1,6 @@
-use Rattle.std.proofs.Common.{rules, ◌≡◌, Bool, false, List, Option, sym, ap, ◌∙◌, arith}
-use Rattle.std.specs.Option.{option_copied}
+use Rattle.std.proofs.Common.{rules, Bool, Option, sym, ap, ◌∙◌, arith}
 use Rattle.pml_program.specs.declared.program.Basic.{Basic}
 use Rattle.promela_process.specs.Offers.{Offer}
-use Rattle.promela_process.specs.Expressions.{Reading}
-use Rattle.promela_run.specs.declared.live_channel.LiveChannel.{LiveChannel}
-use Rattle.pml_value.specs.Seen.{seen}
 use Rattle.promela_run.specs.declared.moves.Move.TheVariants.{Pair}
 use Rattle.promela_run.specs.State.{reads}
 use Rattle.run_state.specs.Standing.{shows}
@@ -14,18 +10,14 @@ use Rattle.run_search.proofs.demands.demand_on.Goals as goal
 
 pub loop-edge-preserved : goal.loop-edge-preserved
 loop-edge-preserved c = record {
-  one = λ m d. c.loop-edge.invariant.one m (c.or_by-demand.ensures.one m d);
+  one = λ m d. c.loop-edge.invariant.one m (c.or_offer-demand.ensures.one m d);
   other = λ k m v d.
       let cs = c.args.live.now.state.channels in
       let r = reads c.args.live.now.state c.args.j c.args.timeout in
-      let a0 : accepts c.view-view.result.channels.now (seen c.view-view.result) m (option_copied c.basic.result) ≡ false = c.or_by-demand.ensures.other m d in
-      let a1 : accepts cs r m (option_copied c.basic.result) ≡ false =
-      ap (λ (x : List LiveChannel). accepts x r m (option_copied c.basic.result)) (sym c.view-view.ensures.channels)
-      ∙ (ap (λ (q : Reading). accepts c.view-view.result.channels.now q m (option_copied c.basic.result)) (sym c.view-view.ensures.reads) ∙ a0) in
-      let a2 = ap (λ (o : Option Basic). accepts cs r m o) (sym c.basic.ensures) ∙ a1 in
+      let none = ap (λ (o : Option Basic). accepts cs r m o) (sym c.basic.ensures) ∙ c.or_offer-demand.ensures.other m d in
       skip_at (λ i (o : Offer). only_if (accepts cs r m o.basic) (Pair k (pick c.args.j v i) c.args.timeout)) (shows c.args.body.now) c.args.edges.now c.loop-edge.edge-index _ _ (search rules)
-      (ap (λ (b : Bool). only_if b (Pair k (pick c.args.j v c.loop-edge.edge-index) c.args.timeout)) a2)
-      (c.loop-edge.invariant.other k m v (c.or_by-demand.ensures.one m d));
+      (ap (λ (b : Bool). only_if b (Pair k (pick c.args.j v c.loop-edge.edge-index) c.args.timeout)) none)
+      (c.loop-edge.invariant.other k m v (c.or_offer-demand.ensures.one m d));
 }
 
 pub returns-clause-other : goal.returns-clause-other
