@@ -180,7 +180,8 @@ fn does(
     }
 }
 
-/// Does what a statement does that gives no structure, an assignment, as most are, at once.
+/// Does what a statement does that gives no structure, an assignment or a condition, as most are, at once; where that is a number, as of
+/// `skip`, nothing is asked.
 #[inline(always)]
 fn does_at_once(
     live: &mut Live<'_, '_>,
@@ -195,6 +196,9 @@ fn does_at_once(
 {
     match action {
         Action::Assign(_, _) => live.store(process, timeout, action),
+        Action::Else | Action::Holds(Expr::Number(_)) => Ok(()),
+        Action::Holds(_) => live.store(process, timeout, action),
+        Action::Increment(_) | Action::Decrement(_) => live.store(process, timeout, action),
         _ => does(live, process, timeout, action, text),
     }
 }
