@@ -25,6 +25,7 @@ use run_state::live::Live;
 use std::alloc::Global;
 
 /// Creates a process, unless too many live.
+#[inline(never)]
 fn run(
     alloc: Global,
     live: &mut Live<'_, '_>,
@@ -61,6 +62,7 @@ fn next_number(live: &Live<'_, '_>) -> i32
 }
 
 /// Creates a process, and stores its number.
+#[inline(never)]
 fn run_into(
     alloc: Global,
     live: &mut Live<'_, '_>,
@@ -83,6 +85,7 @@ fn run_into(
 }
 
 /// Prints a string, with values for its conversions.
+#[inline(never)]
 fn print(
     live: &Live<'_, '_>,
     process: usize,
@@ -103,6 +106,7 @@ fn print(
 }
 
 /// Prints a number by its name.
+#[inline(never)]
 fn print_name(
     live: &Live<'_, '_>,
     process: usize,
@@ -120,6 +124,7 @@ fn print_name(
 }
 
 /// Asks that a value is not 0.
+#[inline(never)]
 fn check(live: &Live<'_, '_>, process: usize, timeout: bool, value: &Expr) -> Result<(), Fault>
     requires { process < length live.now.state.stands }
     ensures { result ≡ asserted value.now (reads live.now.state process timeout) }
@@ -128,7 +133,7 @@ fn check(live: &Live<'_, '_>, process: usize, timeout: bool, value: &Expr) -> Re
 }
 
 /// Does what a statement does that gives no structure, and appends what it prints.
-#[inline(never)]
+#[inline(always)]
 fn does(
     live: &mut Live<'_, '_>,
     process: usize,
@@ -180,7 +185,8 @@ fn does(
     }
 }
 
-/// Does what a statement does that gives no structure, an assignment, as most are, at once.
+/// Does what a statement does that gives no structure, an assignment or a condition, as most are, at once; where that is a number, as of
+/// `skip`, nothing is asked.
 #[inline(always)]
 fn does_at_once(
     live: &mut Live<'_, '_>,
@@ -195,6 +201,9 @@ fn does_at_once(
 {
     match action {
         Action::Assign(_, _) => live.store(process, timeout, action),
+        Action::Else | Action::Holds(Expr::Number(_)) => Ok(()),
+        Action::Holds(_) => live.store(process, timeout, action),
+        Action::Increment(_) | Action::Decrement(_) => live.store(process, timeout, action),
         _ => does(live, process, timeout, action, text),
     }
 }

@@ -5,3 +5,4 @@ pub mod Staying
 pub mod Keeping
 pub mod Samples
 pub mod Rows
+pub mod Digits

@@ -1,6 +1,6 @@
 //! Where a process is, in words.
 
-ghost use Rattle.std.specs.Prelude.{◌≡◌, ◌++◌, OnOk, OnErr, codes};
+ghost use Rattle.std.specs.Prelude.{◌≡◌, ◌<◌, ◌≤◌, ◌++◌, OnOk, OnErr, codes};
 ghost use Rattle.std.specs.Fmt.{decimal};
 ghost use Rattle.std.specs.Io.{StartsWith};
 ghost use Rattle.promela_run.specs.Lines.{proctype_name};
@@ -9,10 +9,52 @@ ghost use Rattle.promela_run.specs.World.{heading as heading_of, line};
 use itoa::Buffer;
 use pml_program::program::Proctype;
 use pml_token::token::{Kind, Token, same_kind};
-use run_values::change::proctype_name;
 use std::alloc::AllocError;
 
-/// Appends `proc P (`: at once where P is one digit.
+/// Appends `proc P (` where P has two digits.
+#[inline(always)]
+#[tactic(auto, using(crate::proofs::Digits::two))]
+fn add_of_two(process: usize, text: &mut Vec<u8>) -> Result<(), AllocError>
+    requires most { process < 100 }
+    requires least { 10 ≤ process }
+    ensures added { OnOk result (text.new.items ≡ text.old.items ++ (codes "proc " ++ (decimal process ++ codes " ("))) }
+    ensures kept { OnErr result (StartsWith text.new.items text.old.items) }
+{
+    let number = process as u8;
+    let ten = b'0' + number / 10;
+    let one = b'0' + number % 10;
+    text.extend_from_slice(&[b'p', b'r', b'o', b'c', b' ', ten, one, b' ', b'('])
+}
+
+/// Appends `proc P (` where P has three digits, and fits a byte.
+#[inline(always)]
+#[tactic(auto, using(crate::proofs::Digits::three))]
+fn add_of_three(process: usize, text: &mut Vec<u8>) -> Result<(), AllocError>
+    requires most { process < 256 }
+    requires least { 100 ≤ process }
+    ensures added { OnOk result (text.new.items ≡ text.old.items ++ (codes "proc " ++ (decimal process ++ codes " ("))) }
+    ensures kept { OnErr result (StartsWith text.new.items text.old.items) }
+{
+    let number = process as u8;
+    let hundred = b'0' + number / 100;
+    let ten = b'0' + number / 10 % 10;
+    let one = b'0' + number % 10;
+    text.extend_from_slice(&[b'p', b'r', b'o', b'c', b' ', hundred, ten, one, b' ', b'('])
+}
+
+/// Appends `proc P (` for any P.
+#[inline(never)]
+fn add_of_many(process: usize, text: &mut Vec<u8>) -> Result<(), AllocError>
+    ensures added { OnOk result (text.new.items ≡ text.old.items ++ (codes "proc " ++ (decimal process ++ codes " ("))) }
+    ensures kept { OnErr result (StartsWith text.new.items text.old.items) }
+{
+    let mut digits = Buffer::new();
+    text.extend_from_slice(b"proc ")?;
+    text.extend_from_slice(digits.format(process).as_bytes())?;
+    text.extend_from_slice(b" (")
+}
+
+/// Appends `proc P (`: at once where P fits a byte, as that of each process does.
 #[inline(always)]
 #[tactic(auto, using(std::proofs::lemmas::Fmt::decimal_digit))]
 fn add_process(process: usize, text: &mut Vec<u8>) -> Result<(), AllocError>
@@ -23,10 +65,13 @@ fn add_process(process: usize, text: &mut Vec<u8>) -> Result<(), AllocError>
         let digit = b'0' + process as u8;
         return text.extend_from_slice(&[b'p', b'r', b'o', b'c', b' ', digit, b' ', b'(']);
     }
-    let mut digits = Buffer::new();
-    text.extend_from_slice(b"proc ")?;
-    text.extend_from_slice(digits.format(process).as_bytes())?;
-    text.extend_from_slice(b" (")
+    if process < 100 {
+        return add_of_two(process, text);
+    }
+    if process < 256 {
+        return add_of_three(process, text);
+    }
+    add_of_many(process, text)
 }
 
 /// Appends `) `.
@@ -41,6 +86,19 @@ fn add_closing(text: &mut Vec<u8>) -> Result<(), AllocError>
     Ok(())
 }
 
+/// Appends `NAME) `: at once where it is `:init:) `.
+#[inline(always)]
+fn add_name(name: &Token<'_>, text: &mut Vec<u8>) -> Result<(), AllocError>
+    ensures added { OnOk result (text.new.items ≡ text.old.items ++ (proctype_name name.now ++ codes ") ")) }
+    ensures kept { OnErr result (StartsWith text.new.items text.old.items) }
+{
+    if same_kind(name.kind(), Kind::Init) {
+        return text.extend_from_slice(&[b':', b'i', b'n', b'i', b't', b':', b')', b' ']);
+    }
+    text.extend_from_slice(name.text())?;
+    add_closing(text)
+}
+
 /// Appends `proc P (NAME) `.
 #[inline(always)]
 pub fn add_heading(
@@ -52,8 +110,7 @@ pub fn add_heading(
     ensures kept { OnErr result (StartsWith text.new.items text.old.items) }
 {
     add_process(process, text)?;
-    proctype_name(&proctype.name, text)?;
-    add_closing(text)
+    add_name(&proctype.name, text)
 }
 
 /// The name of a proctype, or `:init:`.

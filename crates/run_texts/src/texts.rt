@@ -1,6 +1,6 @@
 //! The texts of moves, and where moves come from.
 
-ghost use Rattle.std.specs.Prelude.{◌≡◌, ◌<◌, ◌++◌, OnOk, OnErr, length};
+ghost use Rattle.std.specs.Prelude.{◌≡◌, ◌<◌, ◌++◌, OnOk, OnErr, length, codes};
 ghost use Rattle.std.specs.Io.{StartsWith};
 ghost use Rattle.std.specs.Option.{option_copied};
 ghost use Rattle.promela_run.specs.State.{picked as picks};
@@ -25,6 +25,7 @@ fn proctype_of<'p, 'a>(live: &Live<'p, 'a>, process: usize) -> Option<&'p Procty
 }
 
 /// Appends `proc P (NAME) line L [-end-]`, where L is the line of the closing brace.
+#[inline(never)]
 fn add_death(
     process: usize,
     proctype: Option<&Proctype<'_>>,
@@ -42,6 +43,7 @@ fn add_death(
 }
 
 /// Appends the text of the offer that a pick names.
+#[inline(always)]
 fn add_pick(live: &Live<'_, '_>, pick: Pick, text: &mut Vec<u8>) -> Result<(), AllocError>
     ensures added { OnOk result (text.new.items ≡ text.old.items ++ pick_text live.now.state pick) }
     ensures kept { OnErr result (StartsWith text.new.items text.old.items) }
@@ -56,8 +58,26 @@ fn add_pick(live: &Live<'_, '_>, pick: Pick, text: &mut Vec<u8>) -> Result<(), A
     text.extend_from_slice(offer.body.graph.text(offer.edge.statement))
 }
 
-/// Appends the text of a move.
+/// Appends the texts of the offers of a sender and of a receiver.
+#[inline(never)]
 #[tactic(auto, using(crate::proofs::Keeping::kept_behind))]
+fn add_pair(
+    live: &Live<'_, '_>,
+    sender: Pick,
+    receiver: Pick,
+    text: &mut Vec<u8>,
+) -> Result<(), AllocError>
+    ensures added { let s = live.now.state in
+        OnOk result (text.new.items ≡ text.old.items ++ (pick_text s sender ++ (codes " -> " ++ pick_text s receiver))) }
+    ensures kept { OnErr result (StartsWith text.new.items text.old.items) }
+{
+    add_pick(live, sender, text)?;
+    text.extend_from_slice(b" -> ")?;
+    add_pick(live, receiver, text)
+}
+
+/// Appends the text of a move.
+#[inline(never)]
 pub fn add_move(live: &Live<'_, '_>, m: Move, text: &mut Vec<u8>) -> Result<(), AllocError>
     ensures added { OnOk result (text.new.items ≡ text.old.items ++ move_text live.now.state m) }
     ensures kept { OnErr result (StartsWith text.new.items text.old.items) }
@@ -65,11 +85,7 @@ pub fn add_move(live: &Live<'_, '_>, m: Move, text: &mut Vec<u8>) -> Result<(), 
     match m {
         Move::Death(process) => add_death(process, proctype_of(live, process), text),
         Move::Alone(pick, _) => add_pick(live, pick, text),
-        Move::Pair(sender, receiver, _) => {
-            add_pick(live, sender, text)?;
-            text.extend_from_slice(b" -> ")?;
-            add_pick(live, receiver, text)
-        }
+        Move::Pair(sender, receiver, _) => add_pair(live, sender, receiver, text),
     }
 }
 
