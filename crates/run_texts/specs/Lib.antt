@@ -1,2 +1,3 @@
 pub mod Staying
 pub mod Charts
+pub mod Opening

@@ -1,10 +1,10 @@
 //! Where a process is, in words.
 
 ghost use Rattle.std.specs.Prelude.{◌≡◌, ◌<◌, ◌≤◌, ◌++◌, OnOk, OnErr, codes};
-ghost use Rattle.std.specs.Fmt.{decimal};
 ghost use Rattle.std.specs.Io.{StartsWith};
 ghost use Rattle.promela_run.specs.Lines.{proctype_name};
 ghost use Rattle.promela_run.specs.World.{heading as heading_of, line};
+ghost use Rattle.run_texts.specs.Opening.{opening};
 
 use itoa::Buffer;
 use pml_program::program::Proctype;
@@ -17,7 +17,7 @@ use std::alloc::AllocError;
 fn add_of_two(process: usize, text: &mut Vec<u8>) -> Result<(), AllocError>
     requires most { process < 100 }
     requires least { 10 ≤ process }
-    ensures added { OnOk result (text.new.items ≡ text.old.items ++ (codes "proc " ++ (decimal process ++ codes " ("))) }
+    ensures added { OnOk result (text.new.items ≡ text.old.items ++ opening process) }
     ensures kept { OnErr result (StartsWith text.new.items text.old.items) }
 {
     let number = process as u8;
@@ -32,7 +32,7 @@ fn add_of_two(process: usize, text: &mut Vec<u8>) -> Result<(), AllocError>
 fn add_of_three(process: usize, text: &mut Vec<u8>) -> Result<(), AllocError>
     requires most { process < 256 }
     requires least { 100 ≤ process }
-    ensures added { OnOk result (text.new.items ≡ text.old.items ++ (codes "proc " ++ (decimal process ++ codes " ("))) }
+    ensures added { OnOk result (text.new.items ≡ text.old.items ++ opening process) }
     ensures kept { OnErr result (StartsWith text.new.items text.old.items) }
 {
     let number = process as u8;
@@ -45,7 +45,7 @@ fn add_of_three(process: usize, text: &mut Vec<u8>) -> Result<(), AllocError>
 /// Appends `proc P (` for any P.
 #[inline(never)]
 fn add_of_many(process: usize, text: &mut Vec<u8>) -> Result<(), AllocError>
-    ensures added { OnOk result (text.new.items ≡ text.old.items ++ (codes "proc " ++ (decimal process ++ codes " ("))) }
+    ensures added { OnOk result (text.new.items ≡ text.old.items ++ opening process) }
     ensures kept { OnErr result (StartsWith text.new.items text.old.items) }
 {
     let mut digits = Buffer::new();
@@ -58,7 +58,7 @@ fn add_of_many(process: usize, text: &mut Vec<u8>) -> Result<(), AllocError>
 #[inline(always)]
 #[tactic(auto, using(std::proofs::lemmas::Fmt::decimal_digit))]
 fn add_process(process: usize, text: &mut Vec<u8>) -> Result<(), AllocError>
-    ensures added { OnOk result (text.new.items ≡ text.old.items ++ (codes "proc " ++ (decimal process ++ codes " ("))) }
+    ensures added { OnOk result (text.new.items ≡ text.old.items ++ opening process) }
     ensures kept { OnErr result (StartsWith text.new.items text.old.items) }
 {
     if process < 10 {
