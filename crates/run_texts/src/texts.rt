@@ -77,7 +77,7 @@ fn add_pair(
 }
 
 /// Appends the text of a move.
-#[inline(never)]
+#[inline(always)]
 pub fn add_move(live: &Live<'_, '_>, m: Move, text: &mut Vec<u8>) -> Result<(), AllocError>
     ensures added { OnOk result (text.new.items ≡ text.old.items ++ move_text live.now.state m) }
     ensures kept { OnErr result (StartsWith text.new.items text.old.items) }
