@@ -3,7 +3,7 @@ use crate::stop::{NoRun, not_opened};
 use profile::MOST_TEXT_BYTES;
 use spinplay::Arguments;
 use std::fs::{File, Metadata, OpenFile};
-use std::io::{BufReader, Read, Stdin};
+use std::io::{BufRead, BufReader, Read, Stdin};
 use std::os::unix::fs::MetadataExt;
 use std::{fs, io};
 
@@ -71,9 +71,20 @@ pub enum Input {
 }
 
 impl Read for Input {
+    #[inline(always)]
     fn read(&mut self, buf: &mut [u8]) -> io::Result<usize> {
         match self {
-            Input::Ahead(reader) => reader.read(buf),
+            Input::Ahead(reader) => {
+                // a run asks for one byte at a time: what was read ahead is handed over at once
+                if buf.len() == 1 {
+                    if let Some(byte) = reader.buffer().first().copied() {
+                        buf[0] = byte;
+                        reader.consume(1);
+                        return Ok(1);
+                    }
+                }
+                reader.read(buf)
+            }
             Input::Direct(file) => file.read(buf),
             Input::Standard(input) => input.read(buf),
         }

@@ -56,6 +56,7 @@ impl<R> Followed<R> {
     }
 
     // Keeps a byte that was read. One that memory is refused for is left out of what is shown.
+    #[inline(always)]
     fn keep(&mut self, byte: u8)
         ensures { self.new ≡ self.old }
     {
@@ -70,6 +71,7 @@ impl<R> Followed<R> {
     }
 
     // Keeps the bytes that were read.
+    #[inline(always)]
     fn follow(&mut self, bytes: &[u8])
         ensures { self.new ≡ self.old }
     {
@@ -82,6 +84,7 @@ impl<R> Followed<R> {
 impl<R: Read> Read for Followed<R> {
     ghost remaining = { λ f. R.remaining f };
 
+    #[inline(always)]
     fn read(&mut self, buf: &mut [u8]) -> io::Result<usize> {
         let count = self.reader.read(buf)?;
         self.has_ended = count == 0;

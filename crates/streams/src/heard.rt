@@ -56,6 +56,7 @@ impl<D> Heard<D> {
 impl<R: Read> Read for Heard<R> {
     ghost remaining = { λ h. R.remaining h };
 
+    #[inline(always)]
     fn read(&mut self, buf: &mut [u8]) -> io::Result<usize> {
         match self.device.read(buf) {
             Ok(count) => Ok(count),

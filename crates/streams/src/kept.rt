@@ -56,6 +56,7 @@ impl<R: Read, L: Ledger> Source for KeptReader<R, L> {
 
     ghost failures = { λ s. s.failures };
 
+    #[inline(always)]
     fn next(&mut self) -> Next {
         if self.ended {
             return Next::End;
