@@ -4,7 +4,7 @@ ghost use Rattle.std.specs.Prelude.{◌≡◌, ◌<◌, ◌≤◌, ◌++◌, OnO
 ghost use Rattle.std.specs.Io.{StartsWith};
 ghost use Rattle.promela_run.specs.Lines.{proctype_name};
 ghost use Rattle.promela_run.specs.World.{heading as heading_of, line};
-ghost use Rattle.run_texts.specs.Opening.{opening};
+ghost use Rattle.run_texts.specs.Opening.{opening, init_heading};
 
 use itoa::Buffer;
 use pml_program::program::Proctype;
@@ -86,17 +86,51 @@ fn add_closing(text: &mut Vec<u8>) -> Result<(), AllocError>
     Ok(())
 }
 
-/// Appends `NAME) `: at once where it is `:init:) `.
+/// Appends `NAME) `.
 #[inline(always)]
-fn add_name(name: &Token<'_>, text: &mut Vec<u8>) -> Result<(), AllocError>
-    ensures added { OnOk result (text.new.items ≡ text.old.items ++ (proctype_name name.now ++ codes ") ")) }
+fn add_name(name: &[u8], text: &mut Vec<u8>) -> Result<(), AllocError>
+    ensures added { OnOk result (text.new.items ≡ text.old.items ++ (name.now ++ codes ") ")) }
     ensures kept { OnErr result (StartsWith text.new.items text.old.items) }
 {
-    if same_kind(name.kind(), Kind::Init) {
-        return text.extend_from_slice(&[b':', b'i', b'n', b'i', b't', b':', b')', b' ']);
-    }
-    text.extend_from_slice(name.text())?;
+    text.extend_from_slice(name)?;
     add_closing(text)
+}
+
+/// Appends `proc P (:init:) ` where P has one digit.
+#[inline(always)]
+#[tactic(auto, using(std::proofs::lemmas::Fmt::decimal_digit))]
+fn add_init_of_one(process: usize, text: &mut Vec<u8>) -> Result<(), AllocError>
+    requires { process < 10 }
+    ensures added { OnOk result (text.new.items ≡ text.old.items ++ init_heading process) }
+    ensures kept { OnErr result (StartsWith text.new.items text.old.items) }
+{
+    let numeral = b'0' + process as u8;
+    text.extend_from_slice(&[
+        b'p', b'r', b'o', b'c', b' ', numeral, b' ', b'(', b':', b'i', b'n', b'i', b't', b':',
+        b')', b' ',
+    ])
+}
+
+/// Appends `proc P (:init:) ` for any P.
+#[inline(never)]
+fn add_init_of_many(process: usize, text: &mut Vec<u8>) -> Result<(), AllocError>
+    ensures added { OnOk result (text.new.items ≡ text.old.items ++ init_heading process) }
+    ensures kept { OnErr result (StartsWith text.new.items text.old.items) }
+{
+    add_process(process, text)?;
+    text.extend_from_slice(b":init:) ")
+}
+
+/// Appends `proc P (:init:) `: at once where P has one digit, as it has in most models.
+#[inline(always)]
+fn add_init(process: usize, text: &mut Vec<u8>) -> Result<(), AllocError>
+    ensures added { OnOk result (text.new.items ≡ text.old.items ++ init_heading process) }
+    ensures kept { OnErr result (StartsWith text.new.items text.old.items) }
+{
+    if process < 10 {
+        return add_init_of_one(process, text);
+    }
+    add_init_of_many(process, text)
 }
 
 /// Appends `proc P (NAME) `.
@@ -109,8 +143,11 @@ pub fn add_heading(
     ensures added { OnOk result (text.new.items ≡ text.old.items ++ heading_of process proctype.now) }
     ensures kept { OnErr result (StartsWith text.new.items text.old.items) }
 {
+    if same_kind(proctype.name.kind(), Kind::Init) {
+        return add_init(process, text);
+    }
     add_process(process, text)?;
-    add_name(&proctype.name, text)
+    add_name(proctype.name.text(), text)
 }
 
 /// The name of a proctype, or `:init:`.

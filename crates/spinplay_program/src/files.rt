@@ -70,24 +70,32 @@ pub enum Input {
     Standard(Stdin),
 }
 
-impl Read for Input {
-    #[inline(always)]
-    fn read(&mut self, buf: &mut [u8]) -> io::Result<usize> {
+impl Input {
+    // Reads what is not at hand.
+    #[inline(never)]
+    fn read_on(&mut self, buf: &mut [u8]) -> io::Result<usize> {
         match self {
-            Input::Ahead(reader) => {
-                // a run asks for one byte at a time: what was read ahead is handed over at once
-                if buf.len() == 1 {
-                    if let Some(byte) = reader.buffer().first().copied() {
-                        buf[0] = byte;
-                        reader.consume(1);
-                        return Ok(1);
-                    }
-                }
-                reader.read(buf)
-            }
+            Input::Ahead(reader) => reader.read(buf),
             Input::Direct(file) => file.read(buf),
             Input::Standard(input) => input.read(buf),
         }
+    }
+}
+
+impl Read for Input {
+    // A run asks for one byte at a time: what was read ahead is handed over at once.
+    #[inline(always)]
+    fn read(&mut self, buf: &mut [u8]) -> io::Result<usize> {
+        if let Input::Ahead(reader) = self {
+            if buf.len() == 1 {
+                if let Some(byte) = reader.buffer().first().copied() {
+                    buf[0] = byte;
+                    reader.consume(1);
+                    return Ok(1);
+                }
+            }
+        }
+        self.read_on(buf)
     }
 }
 
