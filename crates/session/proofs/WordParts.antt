@@ -1,9 +1,11 @@
 -- What a line of the second version says.
-use Rattle.std.proofs.Common.{◌≡◌, ℕ, ◌-◌, ◌<◌, ◌≤◌, List, length, get_or, Bool, true, false, cond, ◌&&◌, Option, Some, None, refl, sym, ap, ◌∙◌, arith}
+use Rattle.std.proofs.Common.{◌≡◌, ℕ, ◌-◌, ◌<◌, ◌≤◌, List, [], ◌∷◌, length, take, drop, get_or, Bool, true, false, cond, ◌&&◌, Option, Some, None, refl, sym, ap, ◌∙◌, arith}
+use Rattle.std.proofs.lemmas.Bool.Decides.{nat_tests}
 use Rattle.std.specs.Prelude.{unwrap_or, option_map}
+use Rattle.std.proofs.lemmas.List.{length-drop, take_all}
 use Rattle.std.proofs.lemmas.Option.{slice_get_read}
 use Rattle.promela_session.specs.declared.choice.Answer.TheVariants as answer
-use Rattle.promela_session.specs.Lines.{is_quit, trimmed, first_word, behind_word, number_up_to, writes, placed_answer, placed_reply}
+use Rattle.promela_session.specs.Lines.{is_blank, is_digit, is_gap, is_quit, end_trimmed, without_front, trimmed, first_word, behind_word, number_up_to, writes, reply_of, placed_answer, placed_reply}
 use Rattle.promela_session.specs.Session.{Rules, place_of}
 
 -- ---- what a line says
@@ -37,3 +39,44 @@ module _ (word line p l : List ℕ) (place at : ℕ × ℕ) (is : word ≡ line)
 
   pub second_not : writes p place.0 ≡ true → writes l place.1 ≡ false → (writes (first_word (behind_word line)) at.0 && writes (behind_word (behind_word line)) at.1) ≡ false
   second_not a b = rw (same, ← is, ← p_is, ← l_is, a, b) refl
+
+-- ---- the first word, and what is behind it
+
+pub word_short : (xs : List ℕ) → length (first_word xs) ≤ length xs
+word_short [] = omega arith
+word_short (x ∷ xs) = by (is_gap x) (word_short xs)
+  where
+    by : (gap : Bool) → length (first_word xs) ≤ length xs → length (cond gap [] (x ∷ first_word xs)) ≤ length (x ∷ xs)
+    by true rest = omega arith
+    by false rest = omega arith
+
+behind_is : (xs : List ℕ) → without_front is_gap (drop (length (first_word xs)) xs) ≡ behind_word xs
+behind_is [] = refl
+behind_is (x ∷ xs) = by (is_gap x) refl (behind_is xs)
+  where
+    by : (gap : Bool) → is_gap x ≡ gap → without_front is_gap (drop (length (first_word xs)) xs) ≡ behind_word xs → without_front is_gap (drop (length (first_word (x ∷ xs))) (x ∷ xs)) ≡ behind_word (x ∷ xs)
+    by true is rest = rw is (rw is refl)
+    by false is rest = rw is rest
+
+pub rest_is : (line word : List ℕ) → word ≡ first_word line → without_front is_gap (take (length line - length word) (drop (length word) line)) ≡ behind_word line
+rest_is line word is =
+    let rest = length-drop (length word) line in
+    let all = take_all (length line - length word) (drop (length word) line) (omega arith) in
+    ap (without_front is_gap) (all ∙ ap (λ (w : List ℕ). drop (length w) line) is) ∙ behind_is line
+
+-- ---- a line of one digit
+
+reply_digit : (most b n : ℕ) → is_digit b ≡ true → number_up_to most (b ∷ []) ≡ Some n → reply_of most (b ∷ []) ≡ Some (answer.Pick n)
+unfolding reply_of
+reply_digit most b n digit some =
+    let word : is_blank b ≡ false = grind (arith, nat_tests) in
+    let other : is_quit (b ∷ []) ≡ false = grind (arith, nat_tests) in
+    let front : without_front is_blank (b ∷ []) ≡ b ∷ [] = rw word refl in
+    let end : end_trimmed (b ∷ []) ≡ b ∷ [] = rw word refl in
+    let whole : trimmed (b ∷ []) ≡ b ∷ [] = ap end_trimmed front ∙ end in
+    rw (whole, other, some) refl
+
+pub digit_said : (most : ℕ) (line : List ℕ) (n : ℕ) → length line ≡ 1 → is_digit (get_or line 0 0) ≡ true → number_up_to most (get_or line 0 0 ∷ []) ≡ Some n → Some (answer.Pick n) ≡ reply_of most line
+digit_said most [] n one digit some = absurd (omega arith)
+digit_said most (b ∷ []) n one digit some = sym (reply_digit most b n digit some)
+digit_said most (b ∷ c ∷ bs) n one digit some = absurd (omega arith)

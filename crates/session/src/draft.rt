@@ -10,21 +10,21 @@ use diagnostics::{Fault, Refusal};
 use itoa::write_digits;
 use std::alloc::{AllocError, Global};
 
-/// The buffers that a session keeps for what is composed.
+/// The buffer that a session keeps for what is composed.
 #[derive(Drop)]
 pub struct Draft {
     /// The piece that is composed.
     pub piece: Vec<u8>,
-    /// The prompt of the question that is asked.
-    pub prompt: Vec<u8>,
+    /// Where in it the prompt of the question that is asked begins.
+    pub prompt: usize,
 }
 
 impl Draft {
-    /// Empty buffers.
+    /// An empty buffer.
     pub fn new(alloc: Global) -> Self {
         Draft {
             piece: Vec::new(alloc),
-            prompt: Vec::new(alloc),
+            prompt: 0,
         }
     }
 }
@@ -89,6 +89,59 @@ fn add_counted(piece: &mut Vec<u8>, words: &[u8], n: u64) -> Result<(), AllocErr
     add_number(piece, words, n, &mut places)
 }
 
+// Appends a number and a line feed: at once where it has one digit.
+#[inline(always)]
+#[tactic(auto, using(std::proofs::lemmas::Fmt::decimal_digit))]
+fn add_line(piece: &mut Vec<u8>, n: u64) -> Result<(), AllocError>
+    ensures { OnOk result (piece.new.items ≡ piece.old.items ++ (decimal n ++ codes "\n")) }
+{
+    if n < 10 {
+        let digit = b'0' + n as u8;
+        return piece.extend_from_slice(&[digit, b'\n']);
+    }
+    add_counted(piece, b"", n)
+}
+
+// Appends `choose 1..N` and a line feed: at once where N has one digit.
+#[inline(always)]
+fn add_prompt(piece: &mut Vec<u8>, most: u64) -> Result<(), AllocError>
+    ensures { OnOk result (piece.new.items ≡ piece.old.items ++ prompt most) }
+{
+    if most < 10 {
+        let digit = b'0' + most as u8;
+        return piece.extend_from_slice(&[
+            b'c', b'h', b'o', b'o', b's', b'e', b' ', b'1', b'.', b'.', digit, b'\n',
+        ]);
+    }
+    add_counted(piece, b"choose 1..", most)
+}
+
+// Appends `choice N: `: at once where N has one digit.
+#[inline(always)]
+#[tactic(auto, using(std::proofs::lemmas::Fmt::decimal_digit))]
+fn add_choice(piece: &mut Vec<u8>, n: u64) -> Result<(), AllocError>
+    ensures { OnOk result (piece.new.items ≡ piece.old.items ++ (codes "choice " ++ (decimal n ++ codes ": "))) }
+{
+    if n < 10 {
+        let digit = b'0' + n as u8;
+        return piece.extend_from_slice(&[
+            b'c', b'h', b'o', b'i', b'c', b'e', b' ', digit, b':', b' ',
+        ]);
+    }
+    let mut places = *b"................................: ";
+    add_number(piece, b"choice ", n, &mut places)
+}
+
+// Appends the text of a move and a line feed.
+#[inline(always)]
+fn add_text<M: Machine>(machine: &M, m: &M::Move, piece: &mut Vec<u8>) -> Result<(), AllocError>
+    requires { CanBeShown M.rules machine.now m.now }
+    ensures { OnOk result (piece.new.items ≡ piece.old.items ++ (M.rules.text machine.now m.now ++ codes "\n")) }
+{
+    machine.show(m, piece)?;
+    add_line_feed(piece)
+}
+
 // Appends `WORDS N: TEXT` and a line feed, with the text of a move.
 #[inline(always)]
 fn add_move<M: Machine>(
@@ -104,8 +157,7 @@ fn add_move<M: Machine>(
 {
     let mut places = *b"................................: ";
     add_number(piece, words, n, &mut places)?;
-    machine.show(m, piece)?;
-    add_line_feed(piece)
+    add_text(machine, m, piece)
 }
 
 // Appends `LETTERS N (WORDS)`.
@@ -120,6 +172,7 @@ fn add_diagnosis(piece: &mut Vec<u8>, letters: &[u8], n: u8, words: &[u8]) -> Re
 }
 
 /// Composes the list of a question.
+#[inline(always)]
 pub fn draft_list<M: Machine>(
     machine: &M,
     moves: &[M::Move],
@@ -130,18 +183,20 @@ pub fn draft_list<M: Machine>(
 {
     draft.piece.clear();
     for (i, m) in moves.iter().enumerate() {
-        add_move(machine, m, b"choice ", i as u64 + 1, &mut draft.piece)?;
+        add_choice(&mut draft.piece, i as u64 + 1)?;
+        add_text(machine, m, &mut draft.piece)?;
     }
     Ok(())
 }
 
-/// Composes the prompt for one of so many moves.
+/// Composes the prompt for one of so many moves behind the piece, and keeps where it begins.
 #[inline(always)]
-pub fn draft_prompt(most: usize, piece: &mut Vec<u8>) -> Result<(), AllocError>
-    ensures { OnOk result (piece.new.items ≡ prompt most) }
+pub fn draft_prompt(most: usize, draft: &mut Draft) -> Result<(), AllocError>
+    ensures piece { OnOk result (draft.new.piece.items ≡ draft.old.piece.items ++ prompt most) }
+    ensures begins { OnOk result (draft.new.prompt ≡ length draft.old.piece.items) }
 {
-    piece.clear();
-    add_counted(piece, b"choose 1..", most as u64)
+    draft.prompt = draft.piece.len();
+    add_prompt(&mut draft.piece, most as u64)
 }
 
 /// Composes the record's line of an accepted number.
@@ -151,7 +206,7 @@ pub fn draft_record(n: usize, piece: &mut Vec<u8>) -> Result<(), AllocError>
     ensures short { length (record_line n) ≤ LINE_BYTES + 1 }
 {
     piece.clear();
-    add_counted(piece, b"", n as u64)
+    add_line(piece, n as u64)
 }
 
 // Appends a number, a process and a line, parted by spaces, and a line feed.

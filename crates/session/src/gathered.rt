@@ -73,8 +73,9 @@ impl Gathered {
         self.bytes.len() >= ENOUGH_BYTES || self.begins.len() >= ENOUGH_TEXTS
     }
 
-    /// Writes all texts. Where the output fails, the steps whose texts it has not begun to take are counted no more.
-    pub fn write<D: Devices>(&mut self, steps: &mut u32, devices: &mut D) -> Result<(), Broken>
+    // Writes the texts that wait.
+    #[inline(never)]
+    fn write_waiting<D: Devices>(&mut self, steps: &mut u32, devices: &mut D) -> Result<(), Broken>
         ensures text { OnOk result (Moved (D.holds devices.old) (D.holds devices.new) [] self.old.bytes.items []) }
         ensures same { OnOk result (steps.new ≡ steps.old) }
         ensures cut { OnErr result (CutsTexts (D.holds devices.old) (D.holds devices.new) self.old.bytes.items self.old.begins.items steps.old steps.new) }
@@ -93,5 +94,22 @@ impl Gathered {
             Ok(()) => Ok(()),
             Err(_) => Err(Broken::Out),
         }
+    }
+
+    /// Writes all texts. Where the output fails, the steps whose texts it has not begun to take are counted no more.
+    #[inline(always)]
+    pub fn write<D: Devices>(&mut self, steps: &mut u32, devices: &mut D) -> Result<(), Broken>
+        ensures text { OnOk result (Moved (D.holds devices.old) (D.holds devices.new) [] self.old.bytes.items []) }
+        ensures same { OnOk result (steps.new ≡ steps.old) }
+        ensures cut { OnErr result (CutsTexts (D.holds devices.old) (D.holds devices.new) self.old.bytes.items self.old.begins.items steps.old steps.new) }
+        ensures broken { IfErr result (λ e. e ≡ Out) }
+        ensures bytes { self.new.bytes.items ≡ [] }
+        ensures begins { self.new.begins.items ≡ [] }
+        ensures count { CountsAll result (D.holds devices.old).failures (D.holds devices.new).failures }
+    {
+        if self.bytes.is_empty() && self.begins.is_empty() {
+            return Ok(());
+        }
+        self.write_waiting(steps, devices)
     }
 }

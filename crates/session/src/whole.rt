@@ -33,7 +33,8 @@ fn choose<M: Machine, D: Devices>(
     ensures count { CountsAll result (D.holds devices.old).failures (D.holds devices.new).failures }
 {
     write_question(machine, moves, draft, devices)?;
-    let said = question(devices, stream, machine, moves, &draft.prompt)?;
+    let prompt = &draft.piece[draft.prompt..];
+    let said = question(devices, stream, machine, moves, prompt)?;
     keep(notes, said, machine, moves, draft, devices)?;
     Ok(said)
 }

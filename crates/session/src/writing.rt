@@ -1,5 +1,5 @@
 //! Functions that compose a piece and hand it over.
-ghost use Rattle.std.specs.Prelude.{◌≡◌, ◌+◌, ◌<◌, ◌≤◌, ◌^◌, ◌++◌, IfOk, IfErr, OnOk, length};
+ghost use Rattle.std.specs.Prelude.{◌≡◌, ◌+◌, ◌<◌, ◌≤◌, ◌^◌, ◌++◌, IfOk, IfErr, OnOk, length, drop};
 ghost use Rattle.std.specs.List.{Contains};
 ghost use Rattle.promela_session.specs.declared.ends.Broken.TheVariants.{Memory};
 ghost use Rattle.session.specs.Writes.{CountsAll, Writes, kept_text, RecordsAnswer, Composes, Steps};
@@ -18,7 +18,7 @@ use devices::Devices;
 use diagnostics::Fault;
 use std::alloc::AllocError;
 
-/// Writes the list of a question and the prompt behind it, by one call, and leaves the prompt in the draft.
+/// Writes the list of a question and the prompt behind it, by one call, and leaves both in the draft.
 pub fn write_question<M: Machine, D: Devices>(
     machine: &M,
     moves: &[M::Move],
@@ -26,13 +26,13 @@ pub fn write_question<M: Machine, D: Devices>(
     devices: &mut D,
 ) -> Result<(), Broken>
     requires { moves.now ≡ M.rules.moves machine.now }
-    ensures prompt { OnOk result (draft.new.prompt.items ≡ prompt (length moves.now)) }
+    ensures within { OnOk result (draft.new.prompt ≤ length draft.new.piece.items) }
+    ensures prompt { OnOk result (drop draft.new.prompt draft.new.piece.items ≡ prompt (length moves.now)) }
     ensures text { Writes result (D.holds devices.old) (D.holds devices.new) (list_from (M.rules.text machine.now) 1 moves.now ++ prompt (length moves.now)) }
     ensures count { CountsAll result (D.holds devices.old).failures (D.holds devices.new).failures }
 {
     draft_list(machine, moves, draft)?;
-    draft_prompt(moves.len(), &mut draft.prompt)?;
-    draft.piece.extend_from_slice(&draft.prompt)?;
+    draft_prompt(moves.len(), draft)?;
     put_out(devices, &draft.piece)
 }
 
