@@ -11,6 +11,7 @@ ghost use Rattle.run_state.specs.Live.{Leads, Joins, PastGrows};
 ghost use Rattle.run_step.specs.Done.{Does, Grows};
 
 use crate::arguments::{goes_to, values_of};
+use crate::storing::{ask, assign};
 use diagnostics::{Fault, Stop};
 use pml_eval::eval::eval;
 use pml_program::expr::{Expr, Target};
@@ -133,7 +134,7 @@ fn check(live: &Live<'_, '_>, process: usize, timeout: bool, value: &Expr) -> Re
 }
 
 /// Does what a statement does that gives no structure, and appends what it prints.
-#[inline(always)]
+#[inline(never)]
 fn does(
     live: &mut Live<'_, '_>,
     process: usize,
@@ -147,10 +148,9 @@ fn does(
 {
     match action {
         Action::Else => Ok(()),
-        Action::Assign(_, _) => live.store(process, timeout, action),
+        Action::Assign(_, _) | Action::Holds(_) => live.store(process, timeout, action),
         Action::Increment(_) => live.store(process, timeout, action),
         Action::Decrement(_) => live.store(process, timeout, action),
-        Action::Holds(_) => live.store(process, timeout, action),
         Action::Run(creation) => run(*text.allocator(), live, process, timeout, creation),
         Action::AssignRun(target, creation) => run_into(
             *text.allocator(),
@@ -185,8 +185,8 @@ fn does(
     }
 }
 
-/// Does what a statement does that gives no structure, an assignment or a condition, as most are, at once; where that is a number, as of
-/// `skip`, nothing is asked.
+/// Does what a statement does that gives no structure: at once what most do, a store, a condition, a send or a receive; where a condition
+/// is a number, as of `skip`, nothing is asked.
 #[inline(always)]
 fn does_at_once(
     live: &mut Live<'_, '_>,
@@ -200,10 +200,22 @@ fn does_at_once(
     ensures grows { Grows result live.old live.new text.old.items text.new.items }
 {
     match action {
-        Action::Assign(_, _) => live.store(process, timeout, action),
+        Action::Assign(Some(target), value) => assign(live, process, timeout, target, value),
         Action::Else | Action::Holds(Expr::Number(_)) => Ok(()),
-        Action::Holds(_) => live.store(process, timeout, action),
+        Action::Holds(value) => ask(live, process, timeout, value),
         Action::Increment(_) | Action::Decrement(_) => live.store(process, timeout, action),
+        Action::Send(target, order, fields) => {
+            live.send(process, timeout, target, *order, fields.as_slice())
+        }
+        Action::Receive(target, search, removal, wants) => {
+            let reception = Reception {
+                target,
+                search: *search,
+                removal: *removal,
+                wants: wants.as_slice(),
+            };
+            live.receive(process, timeout, reception)
+        }
         _ => does(live, process, timeout, action, text),
     }
 }

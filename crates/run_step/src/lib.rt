@@ -6,5 +6,7 @@ pub mod arguments;
 pub mod effect;
 pub mod laws;
 pub mod pair;
+mod storing;
 pub mod take;
+mod value;
 pub mod within;

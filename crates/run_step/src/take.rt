@@ -79,14 +79,20 @@ fn take_offer(
 }
 
 /// A process takes an offer by itself.
-fn alone(live: &mut Live<'_, '_>, pick: Pick, timeout: bool, text: &mut Vec<u8>) -> Result<(), Stop>
-    ensures value { let d = step MOST_DSTEP_STATEMENTS live.old.state (Alone pick timeout) in
+fn alone(
+    live: &mut Live<'_, '_>,
+    pick: &Pick,
+    timeout: bool,
+    text: &mut Vec<u8>,
+) -> Result<(), Stop>
+    ensures value { let d = step MOST_DSTEP_STATEMENTS live.old.state (Alone pick.now timeout) in
         Does d result live.new.state text.old.items text.new.items }
     ensures kept { OnErr result (StartsWith text.new.items text.old.items) }
     ensures joins { OnErr result (Joins live.old.state live.new.state) }
     ensures program { live.new.state.program ≡ live.old.state.program }
     ensures past { OnOk result (PastGrows live.old live.new) }
 {
+    let pick = *pick;
     let Some(offer) = find_offer(live, pick) else {
         return Ok(());
     };
@@ -159,7 +165,7 @@ pub fn take(live: &mut Live<'_, '_>, m: &Move, text: &mut Vec<u8>) -> Result<(),
             live.die();
             Ok(())
         }
-        Move::Alone(pick, timeout) => alone(live, *pick, *timeout, text),
+        Move::Alone(pick, timeout) => alone(live, pick, *timeout, text),
         Move::Pair(sender, receiver, timeout) => pair(live, *sender, *receiver, *timeout),
     }
 }
