@@ -185,8 +185,8 @@ fn does(
     }
 }
 
-/// Does what a statement does that gives no structure: at once what most do, a store, a condition, a send or a receive; where a condition
-/// is a number, as of `skip`, nothing is asked.
+/// Does what a statement does that gives no structure: at once a store or a condition, as most are; where a condition is a number, as of
+/// `skip`, nothing is asked.
 #[inline(always)]
 fn does_at_once(
     live: &mut Live<'_, '_>,
@@ -204,18 +204,6 @@ fn does_at_once(
         Action::Else | Action::Holds(Expr::Number(_)) => Ok(()),
         Action::Holds(value) => ask(live, process, timeout, value),
         Action::Increment(_) | Action::Decrement(_) => live.store(process, timeout, action),
-        Action::Send(target, order, fields) => {
-            live.send(process, timeout, target, *order, fields.as_slice())
-        }
-        Action::Receive(target, search, removal, wants) => {
-            let reception = Reception {
-                target,
-                search: *search,
-                removal: *removal,
-                wants: wants.as_slice(),
-            };
-            live.receive(process, timeout, reception)
-        }
         _ => does(live, process, timeout, action, text),
     }
 }
