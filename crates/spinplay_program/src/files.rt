@@ -1,4 +1,7 @@
 // The files of a command line: the model, the choices and the record.
+ghost use Rattle.std.specs.Prelude.{IfOk};
+ghost use Rattle.std.specs.Counts.{IsPrefixLen};
+
 use crate::stop::{NoRun, not_opened};
 use profile::MOST_TEXT_BYTES;
 use spinplay::Arguments;
@@ -73,7 +76,9 @@ pub enum Input {
 impl Input {
     // Reads what is not at hand.
     #[inline(never)]
-    fn read_on(&mut self, buf: &mut [u8]) -> io::Result<usize> {
+    fn read_on(&mut self, buf: &mut [u8]) -> io::Result<usize>
+        ensures { IfOk result (λ n. IsPrefixLen n buf.new) }
+    {
         match self {
             Input::Ahead(reader) => reader.read(buf),
             Input::Direct(file) => file.read(buf),
