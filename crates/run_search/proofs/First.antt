@@ -1,16 +1,19 @@
 -- The moves of who is asked first are those of the state.
-use Rattle.std.proofs.Common.{◌≡◌, ℕ, ◌+◌, ◌-◌, false, true, List, [], ◌∷◌, ◌++◌, length, map, take, append-nil, Option, Some, None, refl, sym, ap, ◌∙◌, arith}
+use Rattle.std.proofs.Common.{◌≡◌, ℕ, ◌+◌, ◌-◌, ◌<◌, false, true, if◌then◌else◌, List, [], ◌∷◌, ◌++◌, length, map, take, drop, append-nil, append_assoc, Option, Some, None, sym, ap, ◌∙◌, subst, arith}
 use Rattle.std.proofs.Math.Seq.{take-append_seam}
-use Rattle.std.specs.Prelude.{slice_get}
+use Rattle.std.specs.Prelude.{slice_get, slice_index_or}
 use Rattle.pml_flow.specs.declared.edge.Edge.{Edge}
+use Rattle.promela_process.specs.Offers.{Offer}
 use Rattle.run_state.specs.declared.body.Body.{Body}
-use Rattle.run_state.specs.Standing.{shows, seq_of}
+use Rattle.run_state.specs.declared.seat.Seat.{Seat}
+use Rattle.run_state.specs.Standing.{stand_of, shows, seq_of}
 use Rattle.run_search.specs.Kept.{Extends}
 use Rattle.promela_run.specs.declared.moves.Move.{Move}
 use Rattle.promela_run.specs.State.{State, Stand}
-use Rattle.promela_run.specs.Moves.{or_else, each, plain_moves, else_moves, moves_at, moves_under, moves_held, moves}
-use Rattle.run_search.specs.First.{AreFirst, moves_of_level}
+use Rattle.promela_run.specs.Moves.{or_else, each, is_else, pick, moves_by, plain_moves, else_moves, moves_at, moves_under, moves_held, moves}
+use Rattle.run_search.specs.First.{AreFirst, moves_from, moves_of_level, moves_of_offer}
 use Rattle.run_search.specs.Lifted.{moves_if}
+use Rattle.run_state.proofs.Finding.{opens, held, index_total}
 use Rattle.run_search.proofs.Searching.{or_else_none, or_else_some}
 
 -- the holder's
@@ -43,7 +46,27 @@ of_only s y e n at =
       none = λ z. held;
     }
 
+-- those of the process that stands there
+pub of_seat : (s : State) (p : ℕ) (xs : List Seat) (d : Seat) → map (stand_of s.program) xs ≡ s.stands → p < length s.stands
+    → ((y : Stand) → slice_get s.stands p ≡ Some y → AreFirst s (moves_at s p false y)) → AreFirst s (moves_from s p (slice_index_or xs p d))
+of_seat s p xs d e l first =
+    let g : Seat → Stand = stand_of s.program in
+    let there : p < length (map g xs) = subst (λ (ys : List Stand). p < length ys) (sym e) l in
+    first (g (slice_index_or xs p d)) (ap (λ (ys : List Stand). slice_get ys p) (sym e) ∙ (held (map g xs) p (g d) there ∙ ap Some (index_total g xs p d)))
+
 -- ---- what is added
+
+-- one more of a level
+pub one_more : (s : State) (k : Body) (p i : ℕ) (es : List Edge) (d : Edge) (new mid old : List Move) → i < length es
+    → new ≡ mid ++ moves_of_offer s k (pick p 0 i) (slice_index_or es i d)
+    → mid ++ each (λ (j : ℕ) (o : Offer). if is_else o.basic then [] else moves_by s p false (seq_of k) 0 j o) i (map (shows k) (drop i es)) ≡ old ++ plain_moves s p false (seq_of k) 0 (map (shows k) es)
+    → new ++ each (λ (j : ℕ) (o : Offer). if is_else o.basic then [] else moves_by s p false (seq_of k) 0 j o) (i + 1) (map (shows k) (drop (i + 1) es)) ≡ old ++ plain_moves s p false (seq_of k) 0 (map (shows k) es)
+one_more s k p i es d new mid old l e h =
+    let f : ℕ → Offer → List Move = λ j o. if is_else o.basic then [] else moves_by s p false (seq_of k) 0 j o in
+    let rest : List Move = each f (i + 1) (map (shows k) (drop (i + 1) es)) in
+    ap (λ (ms : List Move). ms ++ rest) e
+    ∙ (append_assoc mid (moves_of_offer s k (pick p 0 i) (slice_index_or es i d)) rest
+    ∙ (ap (λ (ys : List Edge). mid ++ each f i (map (shows k) ys)) (sym (opens es i d l)) ∙ h))
 
 -- what stood before the last ones
 pub before_those : (new old : List Move) (n : ℕ) → Extends new old → length new ≡ length old + n → take (length new - n) new ≡ old

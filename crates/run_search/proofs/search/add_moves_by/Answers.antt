@@ -1,6 +1,5 @@
-use Rattle.std.proofs.Common.{rules, ◌≡◌, ◌++◌, List, length, sym, ap, ◌∙◌, append-nil, subst, OnOk}
+use Rattle.std.proofs.Common.{rules, ◌≡◌, ◌++◌, List, length, sym, ap, ◌∙◌}
 use Rattle.promela_run.specs.declared.moves.Move.{Move}
-use Rattle.promela_run.specs.Moves.{moves}
 use Rattle.run_search.specs.First.{moves_from}
 use Rattle.run_search.proofs.Searching.{grown, not_grown}
 use Rattle.run_search.proofs.search.add_moves_by.Goals as goal
