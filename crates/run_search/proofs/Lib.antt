@@ -1,4 +1,6 @@
 pub mod Searching
+pub mod Taking
+pub mod First
 pub mod Naming
 pub mod Offering
 pub mod Sends

@@ -4,19 +4,19 @@ use Rattle.std.specs.Prelude.{slice_index_or}
 use Rattle.run_state.proofs.Finding.{opens}
 use Rattle.promela_run.specs.Moves.{or_else, last}
 
-or_else_none : {A : Type 0} → (xs ys : List A) → xs ≡ [] → or_else xs ys ≡ ys
+pub or_else_none : {A : Type 0} → (xs ys : List A) → xs ≡ [] → or_else xs ys ≡ ys
 or_else_none [] ys h = refl
 or_else_none (x ∷ xs) ys h = cc
 
-or_else_some : {A : Type 0} → (xs ys : List A) → (xs ≡ [] → ⊥) → or_else xs ys ≡ xs
+pub or_else_some : {A : Type 0} → (xs ys : List A) → (xs ≡ [] → ⊥) → or_else xs ys ≡ xs
 or_else_some [] ys h = absurd (h refl)
 or_else_some (x ∷ xs) ys h = refl
 
 -- of a list that has grown, what was added is not empty, and of one that has not it is
-grown : {A : Type 0} (a b x : List A) (n k : ℕ) → b ≡ a ++ x → n ≡ length a → k ≡ length b → (k ≡ n → ⊥) → x ≡ [] → ⊥
+pub grown : {A : Type 0} (a b x : List A) (n k : ℕ) → b ≡ a ++ x → n ≡ length a → k ≡ length b → (k ≡ n → ⊥) → x ≡ [] → ⊥
 grown a b x n k e p q h z = h (q ∙ (ap length e ∙ (ap (λ y. length (a ++ y)) z ∙ (ap length (append-nil a) ∙ sym p))))
 
-not_grown : {A : Type 0} (a b x : List A) (n k : ℕ) → b ≡ a ++ x → n ≡ length a → k ≡ length b → k ≡ n → x ≡ []
+pub not_grown : {A : Type 0} (a b x : List A) (n k : ℕ) → b ≡ a ++ x → n ≡ length a → k ≡ length b → k ≡ n → x ≡ []
 not_grown a b [] n k e p q h = refl
 not_grown a b (y ∷ x) n k e p q h =
     let l : length b ≡ length a + length (y ∷ x) = ap length e ∙ length-append a (y ∷ x) in

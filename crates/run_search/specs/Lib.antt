@@ -3,6 +3,8 @@ pub mod Demands
 pub mod Listeners
 pub mod Picked
 pub mod Round
+pub mod Taking
+pub mod First
 pub mod Paired
 pub mod Kept
 pub mod Laws

@@ -15,7 +15,7 @@ use Rattle.run_state.specs.declared.seat.Seat.{Seat}
 use Rattle.run_search.specs.declared.round.Round.{Round}
 use Rattle.run_search.specs.declared.tier.Tier.{Tier}
 use Rattle.run_state.specs.Standing.{stand_of, shows, offers_at, seq_of}
-use Rattle.promela_run.specs.Moves.{Message, Named, named, or_fault, can_send, message_on, is_else, last, pairs, plain_moves, else_moves, moves_on, moves_at, moves_under}
+use Rattle.promela_run.specs.Moves.{Message, Named, named, or_fault, can_send, can_alone, message_on, is_else, last, pairs, plain_moves, else_moves, moves_on, moves_at, moves_under}
 use Rattle.run_search.specs.Viewed.{moves_for}
 use Rattle.run_search.specs.Listeners.{AreKnown}
 use Rattle.promela_run.specs.World.{Running}
@@ -32,6 +32,10 @@ sent_moves s t p c vs =
 -- the pairs of a message
 abbrev pub round_pairs : Round → Pick → Option Message → List Move
 round_pairs r = pairs r.live.now.state r.timeout
+
+-- whether an offer of process p is a move by itself, by its edge
+abbrev pub alone_at : State → Bool → Body → ℕ → Edge → Bool
+alone_at s t k p e = can_alone s.lossy s.channels (reads s p t) (seq_of k) (shows k e) (shows k e).basic
 
 -- of the offer that is picked, by its edge
 abbrev pub round_for : Round → Body → Pick → Edge → List Move

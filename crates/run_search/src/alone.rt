@@ -53,3 +53,24 @@ pub(crate) fn needs_nothing(basic: Option<&Basic<'_>>) -> bool
         _ => true,
     }
 }
+
+/// Whether a statement stores, writes or asserts: each of these can be taken whatever the state, by itself.
+#[inline(always)]
+pub(crate) fn is_deed(basic: Option<&Basic<'_>>) -> bool
+    ensures plain { result ≡ true → else_of (option_copied basic.entry) ≡ false }
+    ensures alone { result ≡ true → NeedsNothing (option_copied basic.entry) }
+{
+    match basic {
+        Some(Basic::Plain(action)) => match action {
+            Action::Assign(_, _)
+            | Action::AssignRun(_, _)
+            | Action::Increment(_)
+            | Action::Decrement(_)
+            | Action::Printf(_, _)
+            | Action::Printm(_)
+            | Action::Assert(_) => true,
+            _ => false,
+        },
+        _ => false,
+    }
+}

@@ -1,6 +1,6 @@
 //! When a statement can be taken by itself.
 
-ghost use Rattle.std.specs.Prelude.{◌≡◌, Bool, IfOk, IfErr, Ok, Err, Some, length};
+ghost use Rattle.std.specs.Prelude.{◌≡◌, Bool, true, IfOk, IfErr, Ok, Err, Some, length};
 ghost use Rattle.pml_tree.specs.declared.tree.SendOrder.{SendOrder};
 ghost use Rattle.pml_tree.specs.declared.tree.Removal.{Removal};
 ghost use Rattle.pml_program.specs.declared.program.Action.TheVariants.{Send, Receive};
@@ -12,6 +12,7 @@ ghost use Rattle.promela_run.specs.Moves.{named as names, or_fault, can_send as 
 ghost use Rattle.promela_run.specs.Statements.{values};
 ghost use Rattle.run_search.specs.Lifted.{nonzero};
 ghost use Rattle.run_search.specs.Viewed.{can_by};
+ghost use Rattle.run_search.specs.Taking.{TakesAny, EachTakesAny};
 
 use diagnostics::Fault;
 use pml_channel::channel::Channel;
@@ -86,7 +87,34 @@ pub(crate) fn can_send(
     !in_d_step && first_fault_of(fields, view).is_err()
 }
 
-/// Whether a receive from the channel with this number can be taken by itself.
+/// Whether an argument takes any number, as a variable and `_` do.
+#[inline(always)]
+#[tactic(auto, using(crate::proofs::Taking::into_any, crate::proofs::Taking::anything_any))]
+fn takes_any(argument: &Want) -> bool
+    ensures { result ≡ true → TakesAny argument.now }
+{
+    match argument {
+        Want::Into(_) | Want::Anything => true,
+        _ => false,
+    }
+}
+
+/// Whether each argument takes any number.
+#[inline(always)]
+#[tactic(auto, using(crate::proofs::Taking::also_any))]
+fn take_any(arguments: &[Want]) -> bool
+    ensures { result ≡ true → EachTakesAny arguments.now }
+{
+    for argument in arguments {
+        if !takes_any(argument) {
+            return false;
+        }
+    }
+    true
+}
+
+/// Whether a receive from the channel with this number can be taken by itself: the oldest message will do where any is asked.
+#[tactic(auto, using(crate::proofs::Taking::received))]
 fn can_receive(
     view: &View<'_>,
     search: Search,
@@ -99,6 +127,9 @@ fn can_receive(
 {
     if channel.capacity() == 0 || channel.len() == 0 {
         return false;
+    }
+    if take_any(arguments) && channel.message(0).len() == arguments.len() {
+        return true;
     }
     match has_match(arguments, search, number, view) {
         Ok(found) => found,

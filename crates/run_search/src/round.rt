@@ -2,18 +2,20 @@
 
 #![tactic(auto, using(crate::proofs::Keeping::kept_on, crate::proofs::Keeping::kept_same, crate::proofs::Keeping::kept_push))]
 
-ghost use Rattle.std.specs.Prelude.{◌≡◌, ◌++◌, ◌<◌, ◌∷◌, true, Some, [], OnOk, length};
+ghost use Rattle.std.specs.Prelude.{◌≡◌, ◌++◌, ◌+◌, ◌<◌, ◌∷◌, true, false, Some, [], OnOk, length};
 ghost use Rattle.run_search.specs.Kept.{Extends};
 ghost use Rattle.run_state.specs.Standing.{IsBody, shows};
 ghost use Rattle.run_search.specs.Viewed.{IsSilent};
 ghost use Rattle.run_search.specs.Listeners.{AreKnown};
-ghost use Rattle.promela_run.specs.Moves.{Message as Sent};
-ghost use Rattle.run_search.specs.Round.{IsKnown, round_pairs, round_send, round_for};
+ghost use Rattle.promela_run.specs.Moves.{Message as Sent, can};
+ghost use Rattle.promela_run.specs.State.{State, reads};
+ghost use Rattle.run_search.specs.First.{moves_of_offer};
+ghost use Rattle.run_search.specs.Round.{IsKnown, alone_at, round_pairs, round_send, round_for};
 ghost use Rattle.promela_run.specs.declared.moves.Move.TheVariants.{Alone};
 
-use crate::alone::can_be_alone;
+use crate::alone::{can_be_alone, is_deed};
 use crate::demands::Demand;
-use crate::executable::{can_send, named};
+use crate::executable::{can_be_taken, can_send, named};
 use crate::lent::lent;
 use crate::listeners::{Known, Span};
 use crate::message::{Message, message_over};
@@ -45,6 +47,27 @@ pub(crate) fn add_alone(offer: Pick, timeout: bool, moves: &mut Vec<Move>) -> Re
 {
     moves.push(Move::Alone(offer, timeout))?;
     Ok(())
+}
+
+/// Adds the move of an offer that needs nothing at first sight, where there is room for it: whether it did.
+#[inline(always)]
+pub(crate) fn is_added_at_once(
+    body: &Body<'_, '_, '_>,
+    offer: Pick,
+    edge: Edge,
+    moves: &mut Vec<Move>,
+) -> bool
+    requires { IsBody body.now }
+    ensures added { result ≡ true → (s : State) → moves.new.items ≡ moves.old.items ++ moves_of_offer s body.now offer edge }
+    ensures one { result ≡ true → length moves.new.items ≡ length moves.old.items + 1 }
+    ensures nothing { result ≡ false → moves.new.items ≡ moves.old.items }
+    ensures kept { Extends moves.new.items moves.old.items }
+{
+    if !is_deed(body.basic(edge)) || moves.len() == moves.capacity() {
+        return false;
+    }
+    moves.push_reserved(Move::Alone(offer, false));
+    true
 }
 
 /// What a round knows of what processes wait for.
@@ -121,8 +144,54 @@ fn add_send(
     )
 }
 
-/// Adds the move of an offer that sends nothing, where it can be taken by itself.
+/// Whether a statement of a process can be taken by itself.
 #[inline(never)]
+fn can_act(live: &Live<'_, '_>, timeout: bool, process: usize, action: &Action<'_>) -> bool
+    requires { process < length live.now.state.stands }
+    ensures { result ≡ can live.now.state.lossy live.now.state.channels (reads live.now.state process timeout) false action.now }
+{
+    let view = live.view(process, timeout);
+    can_be_taken(&view, live.is_lossy(), false, action)
+}
+
+/// Whether an offer of a process, mostly a d_step, is a move by itself.
+#[inline(never)]
+fn can_begin_alone(
+    live: &Live<'_, '_>,
+    body: &Body<'_, '_, '_>,
+    timeout: bool,
+    process: usize,
+    edge: &Edge,
+) -> bool
+    requires there { process < length live.now.state.stands }
+    requires body { IsBody body.now }
+    ensures { result ≡ alone_at live.now.state timeout body.now process edge.now }
+{
+    let view = live.view(process, timeout);
+    can_be_alone(&view, live.is_lossy(), body, *edge, body.basic(*edge))
+}
+
+/// Whether an offer of a process is a move by itself.
+#[inline(always)]
+fn goes_alone(
+    live: &Live<'_, '_>,
+    body: &Body<'_, '_, '_>,
+    timeout: bool,
+    process: usize,
+    edge: &Edge,
+) -> bool
+    requires there { process < length live.now.state.stands }
+    requires body { IsBody body.now }
+    ensures { result ≡ alone_at live.now.state timeout body.now process edge.now }
+{
+    match body.basic(*edge) {
+        Some(Basic::Plain(action)) => can_act(live, timeout, process, action),
+        _ => can_begin_alone(live, &lent(body), timeout, process, edge),
+    }
+}
+
+/// Adds the move of an offer that sends nothing, where it can be taken by itself.
+#[inline(always)]
 fn add_other(
     round: &Round<'_, '_, '_>,
     body: &Body<'_, '_, '_>,
@@ -136,8 +205,7 @@ fn add_other(
     ensures added { OnOk result (moves.new.items ≡ moves.old.items ++ round_for round.now body.now offer edge.now) }
     ensures kept { Extends moves.new.items moves.old.items }
 {
-    let view = round.live.view(offer.process, round.timeout);
-    if can_be_alone(&view, round.live.is_lossy(), body, *edge, body.basic(*edge)) {
+    if goes_alone(round.live, body, round.timeout, offer.process, edge) {
         return add_alone(offer, round.timeout, moves);
     }
     Ok(())
@@ -162,6 +230,6 @@ pub(crate) fn add_asked(
         Some(Basic::Plain(Action::Send(target, _, fields))) => {
             add_send(round, offer, target, fields.as_slice(), moves)
         }
-        _ => add_other(round, &lent(body), offer, edge, moves),
+        _ => add_other(round, body, offer, edge, moves),
     }
 }

@@ -3,215 +3,28 @@
 
 #![tactic(auto, using(crate::proofs::Keeping::kept_on, crate::proofs::Keeping::kept_same, crate::proofs::Keeping::kept_push))]
 
-ghost use Rattle.std.specs.Prelude.{◌≡◌, ◌++◌, ◌<◌, true, false, [], OnOk, length};
+ghost use Rattle.std.specs.Prelude.{◌≡◌, ◌++◌, ◌-◌, ◌<◌, ◌≤◌, true, false, [], OnOk, length, take};
 ghost use Rattle.run_search.specs.Kept.{Extends};
-ghost use Rattle.run_state.specs.Standing.{IsBody, shows};
-ghost use Rattle.promela_run.specs.Moves.{is_else as else_of, moves_held, moves as all_moves, only_if};
-ghost use Rattle.run_search.specs.Round.{IsKnown, round_plain_for, round_plain, else_on, round_on, round_down, round_at, round_under, live_under};
-ghost use Rattle.promela_run.specs.declared.moves.Move.TheVariants.{Alone};
+ghost use Rattle.run_state.specs.Standing.{IsBody};
+ghost use Rattle.promela_run.specs.Moves.{moves_held, moves as all_moves};
+ghost use Rattle.run_search.specs.First.{AreFirst, moves_from, moves_of_level};
+ghost use Rattle.run_search.specs.Round.{IsKnown, round_under, live_under};
 
-use crate::alone::needs_nothing;
-use crate::d_step::is_else;
 use crate::demands::{all_demands, are_worth_knowing};
+use crate::foremost::first_asked;
 use crate::lent::lent;
 use crate::listeners::{NOBODY, all_listeners};
-use crate::round::{Round, add_alone, add_asked};
+use crate::process::{add_moves_at, add_moves_on};
+use crate::round::{Round, is_added_at_once};
 use crate::tier::Tier;
 use pml_flow::edge::Edge;
-use promela_run::moves::{Move, Pick};
+use promela_run::moves::Move;
 use run_state::body::Body;
 use run_state::live::Live;
 use run_state::seat::Seat;
 use std::alloc::AllocError;
 
-// ---- a process
-
-/// Adds the moves of an offer, none where it is an `else`. What needs nothing is offered at once.
-#[inline(always)]
-fn add_plain_by(
-    round: &Round<'_, '_, '_>,
-    body: &Body<'_, '_, '_>,
-    offer: Pick,
-    edge: &Edge,
-    moves: &mut Vec<Move>,
-) -> Result<(), AllocError>
-    requires known { IsKnown round.now }
-    requires there { offer.process < length round.now.live.now.state.stands }
-    requires body { IsBody body.now }
-    ensures added { OnOk result (moves.new.items ≡ moves.old.items ++ round_plain_for round.now body.now offer edge.now) }
-    ensures kept { Extends moves.new.items moves.old.items }
-{
-    let basic = body.basic(*edge);
-    if needs_nothing(basic) {
-        moves.reserve(1)?;
-        moves.push_reserved(Move::Alone(offer, round.timeout));
-        return Ok(());
-    }
-    if is_else(basic) {
-        return Ok(());
-    }
-    add_asked(round, body, offer, edge, moves)
-}
-
-/// Adds the moves of a level's offers that are no `else`.
-#[inline(always)]
-fn add_plain(
-    round: &Round<'_, '_, '_>,
-    body: &Body<'_, '_, '_>,
-    tier: Tier,
-    edges: &[Edge],
-    moves: &mut Vec<Move>,
-) -> Result<(), AllocError>
-    requires known { IsKnown round.now }
-    requires there { tier.process < length round.now.live.now.state.stands }
-    requires body { IsBody body.now }
-    ensures added { OnOk result (moves.new.items ≡ moves.old.items ++ round_plain round.now body.now tier edges.now) }
-    ensures kept { Extends moves.new.items moves.old.items }
-{
-    for place in 0..edges.len() {
-        add_plain_by(round, body, tier.pick(place), &edges[place], moves)?;
-    }
-    Ok(())
-}
-
-/// Adds an offer, where it is an `else`.
-fn add_else_by(
-    body: &Body<'_, '_, '_>,
-    timeout: bool,
-    offer: Pick,
-    edge: Edge,
-    moves: &mut Vec<Move>,
-) -> Result<(), AllocError>
-    requires { IsBody body.now }
-    ensures added { OnOk result (moves.new.items ≡ moves.old.items ++ only_if (else_of (shows body.now edge).basic) (Alone offer timeout)) }
-    ensures kept { Extends moves.new.items moves.old.items }
-{
-    if !is_else(body.basic(edge)) {
-        return Ok(());
-    }
-    add_alone(offer, timeout, moves)
-}
-
-/// Adds a level's `else` offers.
-#[inline(always)]
-fn add_else(
-    body: &Body<'_, '_, '_>,
-    tier: Tier,
-    timeout: bool,
-    edges: &[Edge],
-    moves: &mut Vec<Move>,
-) -> Result<(), AllocError>
-    requires { IsBody body.now }
-    ensures added { OnOk result (moves.new.items ≡ moves.old.items ++ else_on body.now tier timeout edges.now) }
-    ensures kept { Extends moves.new.items moves.old.items }
-{
-    for place in 0..edges.len() {
-        add_else_by(body, timeout, tier.pick(place), edges[place], moves)?;
-    }
-    Ok(())
-}
-
-/// Adds the moves of a level: its `else` offers where no other gives any.
-#[inline(always)]
-fn add_moves_on(
-    round: &Round<'_, '_, '_>,
-    body: &Body<'_, '_, '_>,
-    tier: Tier,
-    edges: &[Edge],
-    moves: &mut Vec<Move>,
-) -> Result<(), AllocError>
-    requires known { IsKnown round.now }
-    requires there { tier.process < length round.now.live.now.state.stands }
-    requires body { IsBody body.now }
-    ensures added { OnOk result (moves.new.items ≡ moves.old.items ++ round_on round.now body.now tier edges.now) }
-    ensures kept { Extends moves.new.items moves.old.items }
-{
-    let before = moves.len();
-    add_plain(round, body, tier, edges, moves)?;
-    if moves.len() != before {
-        return Ok(());
-    }
-    add_else(body, tier, round.timeout, edges, moves)
-}
-
-/// Adds the moves of the highest level of a node that has any.
-#[inline(never)]
-fn add_moves_down(
-    round: &Round<'_, '_, '_>,
-    body: &Body<'_, '_, '_>,
-    process: usize,
-    node: usize,
-    moves: &mut Vec<Move>,
-) -> Result<(), AllocError>
-    requires known { IsKnown round.now }
-    requires there { process < length round.now.live.now.state.stands }
-    requires body { IsBody body.now }
-    requires node { node < length body.now.graph.now.nodes }
-    ensures added { OnOk result (moves.new.items ≡ moves.old.items ++ round_down round.now body.now process node) }
-    ensures kept { Extends moves.new.items moves.old.items }
-{
-    let before = moves.len();
-    let mut level = body.graph.level_count(node);
-    while 0 < level {
-        level -= 1;
-        let edges = body.graph.level(node, level);
-        let tier = Tier { process, level };
-        add_moves_on(round, body, tier, edges, moves)?;
-        if moves.len() != before {
-            return Ok(());
-        }
-    }
-    Ok(())
-}
-
-/// Adds the moves of the highest level of a node that has any: at once where the node has just one level, as most have.
-#[inline(always)]
-fn add_moves_in(
-    round: &Round<'_, '_, '_>,
-    body: &Body<'_, '_, '_>,
-    process: usize,
-    node: usize,
-    moves: &mut Vec<Move>,
-) -> Result<(), AllocError>
-    requires known { IsKnown round.now }
-    requires there { process < length round.now.live.now.state.stands }
-    requires body { IsBody body.now }
-    requires node { node < length body.now.graph.now.nodes }
-    ensures added { OnOk result (moves.new.items ≡ moves.old.items ++ round_down round.now body.now process node) }
-    ensures kept { Extends moves.new.items moves.old.items }
-{
-    match body.graph.only_level(node) {
-        Some(edges) => {
-            let tier = Tier { process, level: 0 };
-            add_moves_on(round, body, tier, edges, moves)
-        }
-        None => add_moves_down(round, &lent(body), process, node, moves),
-    }
-}
-
-/// Adds the moves of a process.
-#[inline(always)]
-fn add_moves_at(
-    round: &Round<'_, '_, '_>,
-    process: usize,
-    seat: Seat,
-    moves: &mut Vec<Move>,
-) -> Result<(), AllocError>
-    requires known { IsKnown round.now }
-    requires there { process < length round.now.live.now.state.stands }
-    ensures added { OnOk result (moves.new.items ≡ moves.old.items ++ round_at round.now process seat) }
-    ensures kept { Extends moves.new.items moves.old.items }
-{
-    if let Some(body) = round.live.standing(seat) {
-        return add_moves_in(round, &body, process, seat.node, moves);
-    }
-    if round.live.process_count() == process + 1 {
-        moves.push(Move::Death(process))?;
-    }
-    Ok(())
-}
-
-// ---- a state
+// ---- all processes
 
 /// Adds the moves of all processes.
 #[inline(always)]
@@ -282,26 +95,130 @@ fn add_moves_at_last(live: &Live<'_, '_>, moves: &mut Vec<Move>) -> Result<(), A
     add_moves_under(live, true, moves)
 }
 
-/// Adds the moves of the holder of exclusive control, if there is one.
-fn add_moves_held(live: &Live<'_, '_>, moves: &mut Vec<Move>) -> Result<(), AllocError>
-    ensures added { OnOk result (moves.new.items ≡ moves.old.items ++ moves_held live.now.state live.now.state.holder) }
+/// Adds the moves of a state, where nobody who holds exclusive control has any.
+#[inline(never)]
+fn add_moves_unheld(live: &Live<'_, '_>, moves: &mut Vec<Move>) -> Result<(), AllocError>
+    requires { moves_held live.now.state live.now.state.holder ≡ [] }
+    ensures added { OnOk result (moves.new.items ≡ moves.old.items ++ all_moves live.now.state) }
     ensures kept { Extends moves.new.items moves.old.items }
 {
-    let Some(process) = live.holder() else {
+    let before = moves.len();
+    add_moves_under(live, false, moves)?;
+    if moves.len() != before {
         return Ok(());
+    }
+    add_moves_at_last(live, moves)
+}
+
+// ---- who is asked first
+
+/// Adds the moves of a state by who is asked first.
+#[inline(never)]
+fn add_moves_by(
+    live: &Live<'_, '_>,
+    process: usize,
+    seat: Seat,
+    moves: &mut Vec<Move>,
+) -> Result<(), AllocError>
+    requires there { process < length live.now.state.stands }
+    requires first { AreFirst live.now.state (moves_from live.now.state process seat) }
+    ensures added { OnOk result (moves.new.items ≡ moves.old.items ++ all_moves live.now.state) }
+    ensures kept { Extends moves.new.items moves.old.items }
+{
+    let before = moves.len();
+    let round = Round {
+        live,
+        timeout: false,
+        demands: &[],
+        spans: &[],
+        any: NOBODY,
     };
-    let seats = live.seats();
-    if process < seats.len() {
-        let round = Round {
-            live,
-            timeout: false,
-            demands: &[],
-            spans: &[],
-            any: NOBODY,
-        };
-        return add_moves_at(&round, process, seats[process], moves);
+    add_moves_at(&round, process, seat, moves)?;
+    if moves.len() != before {
+        return Ok(());
+    }
+    add_moves_unheld(live, moves)
+}
+
+/// Adds the moves of a state by the one level of who is asked first, where so many of the last moves are of that level already.
+#[inline(never)]
+fn add_moves_after(
+    live: &Live<'_, '_>,
+    body: &Body<'_, '_, '_>,
+    process: usize,
+    edges: &[Edge],
+    place: usize,
+    moves: &mut Vec<Move>,
+) -> Result<(), AllocError>
+    requires there { process < length live.now.state.stands }
+    requires body { IsBody body.now }
+    requires first { AreFirst live.now.state (moves_of_level live.now.state body.now process edges.now) }
+    requires so_far { place ≤ length moves.old.items }
+    ensures added { OnOk result (moves.new.items ≡ take (length moves.old.items - place) moves.old.items ++ all_moves live.now.state) }
+    ensures kept { Extends moves.new.items (take (length moves.old.items - place) moves.old.items) }
+{
+    let before = moves.len() - place;
+    moves.truncate(before);
+    let round = Round {
+        live,
+        timeout: false,
+        demands: &[],
+        spans: &[],
+        any: NOBODY,
+    };
+    add_moves_on(&round, body, Tier { process, level: 0 }, edges, moves)?;
+    if moves.len() != before {
+        return Ok(());
+    }
+    add_moves_unheld(live, moves)
+}
+
+/// Adds the moves of a state by the one level of who is asked first: at once, while its offers need nothing at first sight.
+#[inline(always)]
+fn add_moves_at_once(
+    live: &Live<'_, '_>,
+    body: &Body<'_, '_, '_>,
+    process: usize,
+    edges: &[Edge],
+    moves: &mut Vec<Move>,
+) -> Result<(), AllocError>
+    requires there { process < length live.now.state.stands }
+    requires body { IsBody body.now }
+    requires first { AreFirst live.now.state (moves_of_level live.now.state body.now process edges.now) }
+    ensures added { OnOk result (moves.new.items ≡ moves.old.items ++ all_moves live.now.state) }
+    ensures kept { Extends moves.new.items moves.old.items }
+{
+    let tier = Tier { process, level: 0 };
+    for place in 0..edges.len() {
+        if !is_added_at_once(body, tier.pick(place), edges[place], moves) {
+            return add_moves_after(live, &lent(body), process, edges, place, moves);
+        }
+    }
+    if edges.is_empty() {
+        return add_moves_unheld(live, moves);
     }
     Ok(())
+}
+
+/// Adds the moves of a state by who is asked first.
+#[inline(always)]
+fn add_moves_first(
+    live: &Live<'_, '_>,
+    process: usize,
+    seat: Seat,
+    moves: &mut Vec<Move>,
+) -> Result<(), AllocError>
+    requires there { process < length live.now.state.stands }
+    requires first { AreFirst live.now.state (moves_from live.now.state process seat) }
+    ensures added { OnOk result (moves.new.items ≡ moves.old.items ++ all_moves live.now.state) }
+    ensures kept { Extends moves.new.items moves.old.items }
+{
+    if let Some(body) = live.standing(seat) {
+        if let Some(edges) = body.graph.only_level(seat.node) {
+            return add_moves_at_once(live, &body, process, edges, moves);
+        }
+    }
+    add_moves_by(live, process, seat, moves)
 }
 
 /// Adds the moves of a state.
@@ -309,14 +226,8 @@ pub fn add_moves(live: &Live<'_, '_>, moves: &mut Vec<Move>) -> Result<(), Alloc
     ensures added { OnOk result (moves.new.items ≡ moves.old.items ++ all_moves live.now.state) }
     ensures kept { Extends moves.new.items moves.old.items }
 {
-    let before = moves.len();
-    add_moves_held(live, moves)?;
-    if moves.len() != before {
-        return Ok(());
+    match first_asked(live) {
+        Some(process) => add_moves_first(live, process, live.seats()[process], moves),
+        None => add_moves_unheld(live, moves),
     }
-    add_moves_under(live, false, moves)?;
-    if moves.len() != before {
-        return Ok(());
-    }
-    add_moves_at_last(live, moves)
 }

@@ -1,7 +1,7 @@
 use Rattle.std.proofs.Common.{◌≡◌, ◌++◌, List, sym, ap, subst, OnOk}
 use Rattle.promela_run.specs.declared.moves.Move.{Move}
 use Rattle.run_search.proofs.Placing.{moves_in}
-use Rattle.run_search.proofs.search.add_moves_at.Goals as goal
+use Rattle.run_search.proofs.process.add_moves_at.Goals as goal
 
 pub returns-in-Some-clause-added : goal.returns-in-Some-clause-added
 returns-in-Some-clause-added c =

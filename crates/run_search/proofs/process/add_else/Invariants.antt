@@ -5,7 +5,7 @@ use Rattle.promela_run.specs.declared.moves.Move.TheVariants.{Alone}
 use Rattle.run_state.specs.Standing.{shows}
 use Rattle.run_search.specs.Kept.{Extends}
 use Rattle.promela_run.specs.Moves.{each, is_else, only_if, pick}
-use Rattle.run_search.proofs.search.add_else.Given as goal
+use Rattle.run_search.proofs.process.add_else.Given as goal
 
 -- what is added and the rest's are all
 abbrev pub invariant-loop-place : goal.invariant-loop-place

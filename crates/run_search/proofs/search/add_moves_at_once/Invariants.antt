@@ -1,16 +1,17 @@
-use Rattle.std.proofs.Common.{◌≡◌, ◌++◌, drop, map, List, [], ℕ, if◌then◌else◌}
+use Rattle.std.proofs.Common.{◌≡◌, ◌+◌, ◌++◌, drop, map, false, length, List, [], ℕ, if◌then◌else◌}
 use Rattle.promela_process.specs.Offers.{Offer}
 use Rattle.promela_run.specs.declared.moves.Move.{Move}
 use Rattle.run_state.specs.Standing.{shows}
 use Rattle.run_search.specs.Kept.{Extends}
 use Rattle.promela_run.specs.Moves.{each, is_else, moves_by}
-use Rattle.run_search.proofs.search.add_plain.Given as goal
+use Rattle.run_search.proofs.search.add_moves_at_once.Given as goal
 
--- what is added and the rest's are all
+-- what is added and the rest's are all, and each offer so far has added a move
 abbrev pub invariant-loop-place : goal.invariant-loop-place
 invariant-loop-place l =
-    let f : ℕ → Offer → List Move = λ i o. if is_else o.basic then [] else moves_by l.round.live.now.state l.tier.process l.round.timeout l.body.proctype.now.body l.tier.level i o in
+    let f : ℕ → Offer → List Move = λ i o. if is_else o.basic then [] else moves_by l.live.state l.process false l.body.proctype.now.body 0 i o in
     record {
       same : l.moves.items ++ each f l.place (map (shows l.body) (drop l.place l.edges)) ≡ l.initial.moves.items ++ each f 0 (map (shows l.body) l.edges);
+      many : length l.moves.items ≡ length l.initial.moves.items + l.place;
       kept : Extends l.moves.items l.initial.moves.items;
     }

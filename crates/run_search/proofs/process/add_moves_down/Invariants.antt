@@ -1,7 +1,7 @@
 use Rattle.std.proofs.Common.{◌≡◌, ◌≤◌, length, drop, map, []}
 use Rattle.run_state.specs.Standing.{shows, edges_at}
 use Rattle.promela_run.specs.Moves.{last, moves_on}
-use Rattle.run_search.proofs.search.add_moves_down.Given as goal
+use Rattle.run_search.proofs.process.add_moves_down.Given as goal
 
 abbrev pub decreases-loop-level : goal.decreases-loop-level
 decreases-loop-level l = l.level

@@ -6,7 +6,7 @@ use Rattle.run_state.specs.Standing.{shows, edges_at}
 use Rattle.promela_run.specs.Moves.{last, moves_on}
 use Rattle.run_state.proofs.Placing.{level_is}
 use Rattle.run_search.proofs.Searching.{ends, goes_on}
-use Rattle.run_search.proofs.search.add_moves_down.Goals as goal
+use Rattle.run_search.proofs.process.add_moves_down.Goals as goal
 
 pub returns-then-len-before-clause-added : goal.returns-then-len-before-clause-added
 returns-then-len-before-clause-added c =
