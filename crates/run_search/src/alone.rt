@@ -35,6 +35,7 @@ pub(crate) fn can_be_alone(
 }
 
 /// Whether a statement can be taken whatever the state, by itself: it is no `else`, and asks for nothing, as `skip` does.
+#[inline(always)]
 pub(crate) fn needs_nothing(basic: Option<&Basic<'_>>) -> bool
     ensures plain { result ≡ true → else_of (option_copied basic.entry) ≡ false }
     ensures alone { result ≡ true → NeedsNothing (option_copied basic.entry) }
@@ -51,26 +52,5 @@ pub(crate) fn needs_nothing(basic: Option<&Basic<'_>>) -> bool
         },
         Some(Basic::DStep(_)) => false,
         _ => true,
-    }
-}
-
-/// Whether a statement stores, writes or asserts: each of these can be taken whatever the state, by itself.
-#[inline(always)]
-pub(crate) fn is_deed(basic: Option<&Basic<'_>>) -> bool
-    ensures plain { result ≡ true → else_of (option_copied basic.entry) ≡ false }
-    ensures alone { result ≡ true → NeedsNothing (option_copied basic.entry) }
-{
-    match basic {
-        Some(Basic::Plain(action)) => match action {
-            Action::Assign(_, _)
-            | Action::AssignRun(_, _)
-            | Action::Increment(_)
-            | Action::Decrement(_)
-            | Action::Printf(_, _)
-            | Action::Printm(_)
-            | Action::Assert(_) => true,
-            _ => false,
-        },
-        _ => false,
     }
 }

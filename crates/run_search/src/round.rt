@@ -13,7 +13,7 @@ ghost use Rattle.run_search.specs.First.{moves_of_offer};
 ghost use Rattle.run_search.specs.Round.{IsKnown, alone_at, round_pairs, round_send, round_for};
 ghost use Rattle.promela_run.specs.declared.moves.Move.TheVariants.{Alone};
 
-use crate::alone::{can_be_alone, is_deed};
+use crate::alone::{can_be_alone, needs_nothing};
 use crate::demands::Demand;
 use crate::executable::{can_be_taken, can_send, named};
 use crate::lent::lent;
@@ -49,7 +49,7 @@ pub(crate) fn add_alone(offer: Pick, timeout: bool, moves: &mut Vec<Move>) -> Re
     Ok(())
 }
 
-/// Adds the move of an offer that needs nothing at first sight, where there is room for it: whether it did.
+/// Adds the move of an offer that needs nothing, where there is room for it: whether it did.
 #[inline(always)]
 pub(crate) fn is_added_at_once(
     body: &Body<'_, '_, '_>,
@@ -63,7 +63,7 @@ pub(crate) fn is_added_at_once(
     ensures nothing { result ≡ false → moves.new.items ≡ moves.old.items }
     ensures kept { Extends moves.new.items moves.old.items }
 {
-    if !is_deed(body.basic(edge)) || moves.len() == moves.capacity() {
+    if !needs_nothing(body.basic(edge)) || moves.len() == moves.capacity() {
         return false;
     }
     moves.push_reserved(Move::Alone(offer, false));

@@ -173,7 +173,7 @@ fn add_moves_after(
     add_moves_unheld(live, moves)
 }
 
-/// Adds the moves of a state by the one level of who is asked first: at once, while its offers need nothing at first sight.
+/// Adds the moves of a state by the one level of who is asked first: at once, while its offers need nothing.
 #[inline(always)]
 fn add_moves_at_once(
     live: &Live<'_, '_>,
