@@ -119,8 +119,15 @@ def transcript(lines):
 
 # ---- the page
 
+def shown(text):
+    """What others wrote, as a terminal is shown it."""
+    text = re.sub("[\u200b-\u200f\u2028-\u202e\u2066-\u2069\ufeff]", lambda sign: "\\u{%04x}" % ord(sign[0]), text.replace("\r", ""))
+    return re.sub("[\x00-\x08\x0b-\x1f\x7f-\x9f]", "?", text)
+
+
 def escaped(text):
-    for sign, name in ("&", "&amp;"), ("<", "&lt;"), (">", "&gt;"), ('"', "&quot;"), ("\r", "&#13;"):
+    text = shown(text)
+    for sign, name in ("&", "&amp;"), ("<", "&lt;"), (">", "&gt;"), ('"', "&quot;"):
         text = text.replace(sign, name)
     return text
 

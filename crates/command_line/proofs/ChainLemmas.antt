@@ -73,7 +73,7 @@ id_at : (xs : List Arg) (k : ℕ) (d : Arg) → map (λ (a : Arg). a.id.now) xs 
     → slice_index_or ids k d.id.now ≡ (slice_index_or xs k d).id.now
 id_at xs k d e lt = ap (λ l. slice_index_or l k d.id.now) (sym e) ∙ get_or-map (λ (a : Arg). a.id.now) xs k d d.id.now lt
 
-count_of_arguments : (xs : List Arg) → map (λ (a : Arg). a.id.now) xs ≡ ids → length xs ≡ 15
+count_of_arguments : (xs : List Arg) → map (λ (a : Arg). a.id.now) xs ≡ ids → length xs ≡ 20
 count_of_arguments xs e = sym (length-map xs (λ (a : Arg). a.id.now)) ∙ ap length e
 
 distinct_ids : (xs : List Arg) → map (λ (a : Arg). a.id.now) xs ≡ ids → HasDistinctIds xs
@@ -121,7 +121,7 @@ more id start c d x xs names a r made added is rule = record {
 -- all arguments are added
 pub finished : (start c : Command) (xs : List Arg) → IsMade start c command_line xs ids → (args_of start ≡ []) × (groups_of start ≡ [])
     → (fields_of start).has_globals ≡ false → (fields_of start).subcommand_negates_reqs ≡ false
-    → ((d : Arg) → TakesValue (slice_index_or xs 14 d)) → IsCommandLine c
+    → ((d : Arg) → TakesValue (slice_index_or xs 19 d)) → IsCommandLine c
 finished start c xs made empty local negates model = record {
   app = made.app;
   start = start;
@@ -140,11 +140,11 @@ pub model_given : (c : Command) (m : ArgMatches) → IsCommandLine c → IsParse
 model_given c m is p = go is.added is.in_turn is.ids is.plain is.model
   where
     go : (xs : List Arg) → AddsInTurn AddsArg is.start xs c → map (λ (a : Arg). a.id.now) xs ≡ ids → All (λ a. IsPlainArg a × (a.global ≡ false)) xs
-        → ((d : Arg) → TakesValue (slice_index_or xs 14 d)) → is_some (first_value (found_of m) (codes "MODEL")) ≡ true
-    go [] turn e plain value = let none : 0 ≡ 15 = count_of_arguments [] e in cc
+        → ((d : Arg) → TakesValue (slice_index_or xs 19 d)) → is_some (first_value (found_of m) (codes "MODEL")) ≡ true
+    go [] turn e plain value = let none : 0 ≡ 20 = count_of_arguments [] e in cc
     go (a ∷ rest) turn e plain value =
         let n = count_of_arguments (a ∷ rest) e in
-        let lt : 14 < length (a ∷ rest) = omega arith in
-        let given = required_in_chain is.start c (a ∷ rest) 14 a m turn is.empty.0 is.empty.1 is.local is.negates
+        let lt : 19 < length (a ∷ rest) = omega arith in
+        let given = required_in_chain is.start c (a ∷ rest) 19 a m turn is.empty.0 is.empty.1 is.local is.negates
         (each_fits (a ∷ rest) e plain) (distinct_ids (a ∷ rest) e) lt (value a) p in
-        subst (λ id. is_some (first_value (found_of m) id) ≡ true) (sym (id_at (a ∷ rest) 14 a e lt)) given
+        subst (λ id. is_some (first_value (found_of m) id) ≡ true) (sym (id_at (a ∷ rest) 19 a e lt)) given

@@ -7,7 +7,7 @@ use Rattle.clap.specs.Words.{groups_of, new_app, new_rule, with_rule}
 use Rattle.clap.specs.declared.builder.arg.Arg.{Arg}
 use Rattle.clap.specs.declared.builder.command.Command.{Command}
 use Rattle.clap.specs.declared.builder.command.Command.TheViews.{out-Command as fields_of}
-use Rattle.clap.specs.declared.builder.action.ArgAction.TheVariants.{Set, Count}
+use Rattle.clap.specs.declared.builder.action.ArgAction.TheVariants.{Set, Append, Count}
 use Rattle.clap.specs.declared.builder.value_parser.ValueParser.TheVariants as vp
 
 -- a flag, whose uses are counted
@@ -17,6 +17,10 @@ counted_letter id letter = record (new_rule id) { short = Some letter; action = 
 -- the same of a whole word
 abbrev pub counted_word : Text → Rule
 counted_word id = record (new_rule id) { long = Some id; action = Some Count }
+
+-- `-D NAME` and `-I FOLDER`, whose uses are kept in turn
+abbrev pub appended_letter : Text → ℕ → Rule
+appended_letter id letter = record (new_rule id) { short = Some letter; action = Some Append; value_names = 1 }
 
 -- `-uN`, a number of 32 bits
 abbrev pub limit_rule : Rule
@@ -51,8 +55,8 @@ pub record IsNamed (c : Command) : Type 0 where
   pub local : (fields_of c).has_globals ≡ false
   pub negates : (fields_of c).subcommand_negates_reqs ≡ false
 
--- `spinplay [-i] [-p] [-g] [-l] [-m] [-T] [-uN] [--choices FILE] [--record FILE] [--convert] [--explain] [--name NAME] [--source FILE]
--- [--lines FILE] MODEL`
+-- `spinplay [-i] [-p] [-g] [-l] [-m] [-T] [-uN] [--choices FILE] [--record FILE] [--convert] [--check] [--explain] [--name NAME]
+-- [--source FILE] [--lines FILE] [--prepare] [--no-cpp] [-D NAME].. [-I FOLDER].. MODEL`
 unfoldable pub command_line : App
 command_line = with_all named (
     counted_letter (codes "i") 105
@@ -65,10 +69,15 @@ command_line = with_all named (
     ∷ file_rule (codes "choices")
     ∷ file_rule (codes "record")
     ∷ counted_word (codes "convert")
+    ∷ counted_word (codes "check")
     ∷ counted_word (codes "explain")
     ∷ file_rule (codes "name")
     ∷ file_rule (codes "source")
     ∷ file_rule (codes "lines")
+    ∷ counted_word (codes "prepare")
+    ∷ counted_word (codes "no-cpp")
+    ∷ appended_letter (codes "D") 68
+    ∷ appended_letter (codes "I") 73
     ∷ model_rule
     ∷ [])
 
@@ -76,8 +85,8 @@ command_line = with_all named (
 abbrev pub ids : List Text
 ids =
     codes "i" ∷ codes "p" ∷ codes "g" ∷ codes "l" ∷ codes "m" ∷ codes "T" ∷ codes "u"
-    ∷ codes "choices" ∷ codes "record" ∷ codes "convert" ∷ codes "explain"
-    ∷ codes "name" ∷ codes "source" ∷ codes "lines" ∷ codes "MODEL" ∷ []
+    ∷ codes "choices" ∷ codes "record" ∷ codes "convert" ∷ codes "check" ∷ codes "explain"
+    ∷ codes "name" ∷ codes "source" ∷ codes "lines" ∷ codes "prepare" ∷ codes "no-cpp" ∷ codes "D" ∷ codes "I" ∷ codes "MODEL" ∷ []
 
 -- the argument excludes no other, belongs to this command alone and has this id
 abbrev pub IsArgument : Text → Arg → Type 0
@@ -94,4 +103,4 @@ pub record IsCommandLine (c : Command) : Type 0 where
   pub in_turn : AddsInTurn AddsArg start added c
   pub plain : All (λ a. IsPlainArg a × (a.global ≡ false)) added
   pub ids : map (λ a. a.id.now) added ≡ ids
-  pub model : (d : Arg) → TakesValue (slice_index_or added 14 d)
+  pub model : (d : Arg) → TakesValue (slice_index_or added 19 d)

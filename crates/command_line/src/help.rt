@@ -20,7 +20,13 @@ Options:
   --choices <FILE>  Read the choices from FILE, in place of standard input
   --record <FILE>   Write the accepted choices to FILE, which is emptied first
   --convert         Print the accepted choices with their lines, and no run
+  --check           Check the model, and play nothing: status 0 or 3
   --explain         Say why and where a model is refused, on standard error
+  --prepare         Prepare the model first, as Spin would read it: its macros,
+                    conditions, included files, ends of lines, ltl
+  -D <NAME>         With --prepare: define NAME, or NAME=VALUE, before its text
+  -I <FOLDER>       With --prepare: look for included files in FOLDER too
+  --no-cpp          With --prepare: leave its # lines and macros as they are
   --name <NAME>     Call the model NAME there
   --source <FILE>   Show lines of FILE there, of which MODEL was prepared
   --lines <FILE>    Tell lines of included files there, as FILE of spinprep does
@@ -31,8 +37,9 @@ Options:
 Flags may be repeated and joined, as in -pgl.
 
 A model with #define, ltl or a never claim, or with ends of lines in place of
-';', is prepared and played by spinprep, which takes the same options:
-  spinprep --play -p model.pml
+';', is played by --prepare. What is blanked or left as it is stands on standard
+error, and what is told of the model speaks of its own files and lines:
+  spinplay --prepare --explain -p model.pml
 
 Where more than one statement can be taken, they are listed, and a line is
 read: the number of one of them, or q to quit. Any other line is answered by

@@ -1,9 +1,9 @@
 // The words of the command line.
-ghost use Rattle.std.specs.Prelude.{◌≡◌, IfOk, codes, map, option_map};
+ghost use Rattle.std.specs.Prelude.{◌≡◌, IfOk, codes, map, [], option_map, unwrap_or};
 ghost use Rattle.std.specs.String.{string_bytes};
 ghost use Rattle.clap.specs.Built.{TakesValue};
-ghost use Rattle.clap.specs.Words.{FailsBy, fault_of, first_value, found_of, matches_of, rule_of};
-ghost use Rattle.command_line.specs.CommandLine.{command_line, counted_letter, counted_word, file_rule, limit_rule};
+ghost use Rattle.clap.specs.Words.{FailsBy, fault_of, first_value, found_of, matched_of, matches_of, raw_values, rule_of};
+ghost use Rattle.command_line.specs.CommandLine.{command_line, appended_letter, counted_letter, counted_word, file_rule, limit_rule};
 ghost use Rattle.command_line.specs.CommandLine.{model_rule, IsArgument, IsCommandLine, IsNamed};
 ghost use Rattle.command_line.specs.Matched.{IsReadFrom};
 
@@ -75,6 +75,18 @@ fn name<'a>(alloc: Global) -> Arg<'a>
         .help("Call the model NAME in explanations")
 }
 
+// `-D NAME` and `-I FOLDER`, each of which may stand several times.
+fn appended<'a>(alloc: Global, id: &'a str, letter: char, help: &'a str) -> Arg<'a>
+    ensures rule { rule_of result ≡ appended_letter id.entry.now letter }
+    ensures plain { IsArgument id.entry.now result }
+{
+    Arg::new(alloc, id)
+        .short(letter)
+        .action(ArgAction::Append)
+        .value_name("NAME")
+        .help(help)
+}
+
 // `MODEL`.
 fn model<'a>(alloc: Global) -> Arg<'a>
     ensures rule { rule_of result ≡ model_rule }
@@ -130,6 +142,7 @@ fn command<'a>(alloc: Global) -> Result<Command<'a>, AllocError>
             "convert",
             "Write the accepted choices with their lines, and show nothing",
         ))?
+        .arg(long_flag(alloc, "check", "Check the model, and play nothing"))?
         .arg(long_flag(alloc, "explain", "Say why a model is refused, and where"))?
         .arg(name(alloc))?
         .arg(file(alloc, "source", "Show lines of FILE in explanations"))?
@@ -138,6 +151,10 @@ fn command<'a>(alloc: Global) -> Result<Command<'a>, AllocError>
             "lines",
             "Tell lines of included files by FILE in explanations",
         ))?
+        .arg(long_flag(alloc, "prepare", "Prepare the model first"))?
+        .arg(long_flag(alloc, "no-cpp", "Prepare it without its macros"))?
+        .arg(appended(alloc, "D", 'D', "Define NAME before its text"))?
+        .arg(appended(alloc, "I", 'I', "Look for included files in NAME too"))?
         .arg(model(alloc))
 }
 
@@ -148,6 +165,29 @@ fn text_of(alloc: Global, matches: &ArgMatches<'_>, id: &str) -> Result<Option<S
     match matches.get_str(id) {
         Some(text) => Ok(Some(String::from_str(alloc, text)?)),
         None => Ok(None),
+    }
+}
+
+// Texts, on the heap.
+fn owned(alloc: Global, texts: &[&str]) -> Result<Vec<String>, AllocError>
+    ensures { IfOk result (λ v. map string_bytes v.items ≡ map (λ t. t.now) texts.now) }
+{
+    let mut all = Vec::new(alloc);
+    let mut rest = texts;
+    while let [text, behind @ ..] = rest {
+        all.push(String::from_str(alloc, text)?)?;
+        rest = behind;
+    }
+    Ok(all)
+}
+
+// All texts of an option, on the heap.
+fn texts_of(alloc: Global, matches: &ArgMatches<'_>, id: &str) -> Result<Vec<String>, AllocError>
+    ensures { IfOk result (λ v. map string_bytes v.items ≡ unwrap_or (option_map raw_values (matched_of (found_of matches.now) id.now)) []) }
+{
+    match matches.get_strs(id) {
+        Some(texts) => owned(alloc, texts),
+        None => Ok(Vec::new(alloc)),
     }
 }
 
@@ -170,15 +210,22 @@ pub fn arguments<'a>(alloc: Global, words: &'a [&'a str]) -> Result<Arguments, E
     let name = text_of(alloc, &matches, "name")?;
     let source = text_of(alloc, &matches, "source")?;
     let lines = text_of(alloc, &matches, "lines")?;
+    let defines = texts_of(alloc, &matches, "D")?;
+    let folders = texts_of(alloc, &matches, "I")?;
     Ok(Arguments {
         options,
         model,
         choices,
         rec,
         convert: matches.get_count("convert") > 0,
+        check: matches.get_count("check") > 0,
         explain: matches.get_count("explain") > 0,
         name,
         source,
         lines,
+        prepare: matches.get_count("prepare") > 0,
+        no_cpp: matches.get_count("no-cpp") > 0,
+        defines,
+        folders,
     })
 }

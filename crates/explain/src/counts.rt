@@ -288,6 +288,10 @@ fn of_call(message: &mut Message<'_>, cause: InlineCause<'_>) -> Result<(), Allo
         InlineCause::OpenCall(name) => message.around("the call of ", name, " has no `)`"),
         InlineCause::Arguments(name, given, wanted) => arguments(message, name, given, wanted),
         InlineCause::EmptyArgument(name) => message.around("an argument of ", name, " is empty"),
+        InlineCause::NameTaken(inline) => {
+            message.placed("", inline, " is an inline (", "): ")?;
+            message.push("choose another name for one of the two")
+        }
         InlineCause::CallsItself(name) => {
             message.around("", name, " is called by what comes out of its own call")
         }
@@ -315,6 +319,9 @@ pub fn of_inline(message: &mut Message<'_>, cause: InlineCause<'_>) -> Result<()
         InlineCause::Within => message.push("an inline may be defined only outside of all braces"),
         InlineCause::Form => message.push(
             "a definition is `inline f(a, b) { .. }`: its parameters are names, without types",
+        ),
+        InlineCause::NoBody => message.push(
+            "a definition is `inline f(a, b) { .. }`: its body stands in braces",
         ),
         InlineCause::OpenBody(name) => {
             message.around("the body of ", name, " has no `}` at its end")

@@ -20,7 +20,7 @@ fn of_more_words(foreign: Foreign) -> &'static str {
         Foreign::Otherwise => "all other cases are the option `:: else -> ..`",
         Foreign::Join =>
             "the end of a process is awaited by what it does last, as by a message or `done == 1`",
-        _ => "",
+        foreign => of_declared(foreign),
     }
 }
 
@@ -77,7 +77,8 @@ fn of_declaration(foreign: Foreign) -> &'static str {
             "there are no fractions: the types of numbers are `bit`, `byte`, `short`, `int` and `unsigned x : 8`",
         Foreign::True => "write `true`",
         Foreign::False => "write `false`",
-        Foreign::Nothing => "there is no such value: write 0, or a name of `mtype`",
+        Foreign::Nothing =>
+            "there is no such value: write 0, or a name of `mtype`; the statement that does nothing is `skip`",
         Foreign::Include => "write `#include \"FILE\"`, which `spinprep` replaces",
         Foreign::Main => "write `init { .. }`",
         Foreign::To => "a range is written `1 .. 3`",
@@ -187,6 +188,63 @@ fn of_place(foreign: Foreign) -> &'static str {
     }
 }
 
+/// Of what one word or one declaration does not have.
+fn of_declared(foreign: Foreign) -> &'static str {
+    match foreign {
+        Foreign::ParameterArray =>
+            "a parameter is no array: let the array be global, and give the process an index of it",
+        Foreign::ParameterValue =>
+            "a parameter begins with what `run` gives it, as in `run P(3)`: leave the value out",
+        Foreign::LoopRange =>
+            "a range has a first and a last number, as in `for (i : 0 .. 2) { .. }`",
+        Foreign::PrintTexts =>
+            "`printf` has one text, with `%d` where a value stands, as in `printf(\"x is %d\\n\", x)`",
+        Foreign::DeclaredEqual =>
+            "`==` compares: a variable begins with a value by `=`, as in `byte x = 5`",
+        Foreign::ProctypeType =>
+            "a type before it is wrong: a proctype, an inline and `init` give no value",
+        Foreign::ReceiveValue =>
+            "a receive takes variables and numbers: one value alone is taken by `eval`, as in `c ? eval(x + 1)`",
+        Foreign::ElseCondition =>
+            "`else` stands alone, for when no other option can be taken: a condition is an option of its own, as `:: x > 0 -> ..`",
+        Foreign::ChannelAlone =>
+            "a channel stands alone there: what it is compared with stands behind the `)`, as in `len(c) > 0`",
+        Foreign::GotoLabel => "a label is wanted behind `goto`, as in `goto again`",
+        Foreign::OptionArrow =>
+            "a condition is wanted before it, as in `:: x == 1 -> ..`; an option without one has no `->` there",
+        Foreign::InRange => "a range is asked by two comparisons, as in `x >= 1 && x <= 3`",
+        foreign => of_missing(foreign),
+    }
+}
+
+/// Of what lacks a sign, or has one that is not wanted.
+fn of_missing(foreign: Foreign) -> &'static str {
+    match foreign {
+        Foreign::LoopBody => "the body of a loop stands in braces, as in `for (i : 0 .. 9) { .. }`",
+        Foreign::PeekEnd => "`>` is wanted before it, as in `c ? <x>`",
+        Foreign::EvalParens => "`eval` has its value in parentheses, as in `c ? eval(x)`",
+        Foreign::ChannelParens => "the channel stands in parentheses, as in `len(c)`",
+        Foreign::NoParameters => "a proctype without parameters is written `proctype P() { .. }`",
+        Foreign::NoFields => "a message has one field at least, as in `chan c = [2] of { byte }`",
+        Foreign::CommentSign =>
+            "no statement begins with it; a comment is written `/* .. */` or `// ..`",
+        Foreign::Setting => "an assignment has no word before it, as in `x = 1`",
+        Foreign::TwoIndexes =>
+            "an array has one index: an array of records has two, as in `a[1].c[2]`",
+        Foreign::EmptyIndex => "an index is wanted between the brackets, as in `a[0]`",
+        Foreign::ArgumentType => "an argument is a value, and has no type, as in `run P(1)`",
+        Foreign::ListValue =>
+            "a variable begins with one value, and so does each element: others are assigned, as in `a[1] = 2`",
+        Foreign::FieldComma => "write `,` for it, as in `chan c = [2] of { byte, byte }`",
+        Foreign::Headless =>
+            "a definition begins with a word, as in `proctype P() { .. }` and `inline f(a) { .. }`",
+        Foreign::StatementWord => "it begins a statement, and none can stand there",
+        Foreign::Leave =>
+            "a loop is left by `break`, a body ends with its `}`, and `skip` does nothing",
+        _ => "",
+    }
+}
+
 /// Of signs that are written otherwise.
 fn of_other_sign(foreign: Foreign) -> &'static str {
     match foreign {
@@ -234,6 +292,8 @@ fn of_other_sign(foreign: Foreign) -> &'static str {
 pub fn advice(foreign: Foreign) -> &'static str {
     match foreign {
         Foreign::AssertText => "`assert` has one expression, and no text",
+        Foreign::BodyBrace =>
+            "`{` is wanted before it: a body stands between `{` and `}`, as in `proctype P() { .. }`",
         Foreign::InitParameters => "write `init { .. }`, without parentheses",
         Foreign::Channel => "a channel is declared as `chan c = [2] of { byte }`",
         Foreign::Size => "a size stands behind the name, as in `int a[5]`",

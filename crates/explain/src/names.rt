@@ -144,6 +144,18 @@ pub fn of_unknown(message: &mut Message<'_>, cause: UnknownCause<'_>) -> Result<
             message.around("", name, " is declared nowhere: ")?;
             message.push(advice(foreign))
         }
+        UnknownCause::Bare(name) => {
+            message.around("", name, " is declared nowhere: ")?;
+            message.push(
+                "a variable is declared before its use, as by `int a`, a label has a `:` behind it, and a loop is left by `break`",
+            )
+        }
+        UnknownCause::Inline(inline) => message.placed(
+            "",
+            inline,
+            " is an inline (",
+            "), and is called with parentheses, as in `f()`",
+        ),
         UnknownCause::Word(name, word) => {
             message.name(name)?;
             message.around("; did you mean ", word, "?")
@@ -156,6 +168,12 @@ pub fn of_unknown(message: &mut Message<'_>, cause: UnknownCause<'_>) -> Result<
 fn of_use(cause: WrongCause<'_>) -> &'static str {
     match cause {
         WrongCause::ArrayWithoutIndex(_) => " is an array, and wants an index",
+        WrongCause::ArrayLength(_) => {
+            " is an array: how many elements it has is the number of its declaration"
+        }
+        WrongCause::ArrayForChannel(_) => {
+            " is an array, and a channel is wanted: `len(c)` is how many messages `c` holds, and an array's size is the number of its declaration"
+        }
         WrongCause::IndexWithoutArray(_) => " is no array, and takes no index",
         WrongCause::WholeTypedef(_) => " is of a typedef, and one of its fields is wanted",
         WrongCause::NoChannel(_) => " is no `chan`, where a channel is wanted",
@@ -172,6 +190,8 @@ fn of_use(cause: WrongCause<'_>) -> &'static str {
 fn used(cause: WrongCause<'_>) -> &[u8] {
     match cause {
         WrongCause::ArrayWithoutIndex(name) => name,
+        WrongCause::ArrayLength(name) => name,
+        WrongCause::ArrayForChannel(name) => name,
         WrongCause::IndexWithoutArray(name) => name,
         WrongCause::WholeTypedef(name) => name,
         WrongCause::NoChannel(name) => name,

@@ -71,6 +71,27 @@ fn wants_closer_before(message: &mut Message<'_>, opener: Named<'_>) -> Result<(
     message.placed(" is wanted before it, for the ", opener, " of ", "")
 }
 
+/// Of a name in a declaration that has no type.
+fn untyped(message: &mut Message<'_>, name: &[u8]) -> Result<(), AllocError> {
+    message.around(
+        "",
+        name,
+        " has no type: a declaration begins with one, as in `byte x`, ",
+    )?;
+    message.push("and a `,` parts names of one type")
+}
+
+/// Of a name that an inline has, and something else too.
+fn name_of_inline(
+    message: &mut Message<'_>,
+    name: &[u8],
+    inline: Named<'_>,
+) -> Result<(), AllocError> {
+    message.around("", name, " is an inline")?;
+    message.line(" (", inline.offset, "), ")?;
+    message.push("and stands for what comes of its call: choose another name for one of the two")
+}
+
 /// What is told of names, where something of theirs is wanted.
 fn wants_of_name(message: &mut Message<'_>, wanted: Wanted<'_>) -> Result<(), AllocError> {
     match wanted {
@@ -136,7 +157,7 @@ fn wants_sign(message: &mut Message<'_>, wanted: Wanted<'_>) -> Result<(), Alloc
         }
         Wanted::Options(word) => wants_options(message, word),
         Wanted::Nothing => message.push("it is one too many"),
-        Wanted::Comma => message.push("a `,` is wanted before it"),
+        Wanted::Comma | Wanted::CommaBefore(_) => message.push("a `,` is wanted before it"),
         _ => message.push("it cannot stand here"),
     }
 }
@@ -210,6 +231,8 @@ fn of_word(message: &mut Message<'_>, wanted: Wanted<'_>) -> Result<bool, AllocE
         Wanted::Index(name) => called(message, name.name)?,
         Wanted::InlineValue(name) => inline_value(message, name.name)?,
         Wanted::Inline(name, later) => wants_inline(message, name.name, later)?,
+        Wanted::NameOfInline(name, inline) => name_of_inline(message, name.name, inline)?,
+        Wanted::Untyped(name) => untyped(message, name.name)?,
         _ => return Ok(false),
     }
     Ok(true)

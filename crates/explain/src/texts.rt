@@ -83,6 +83,8 @@ fn about_word(word: &[u8]) -> &'static str {
 fn about(word: &[u8]) -> &'static str {
     if begins_claim(word) {
         " is for a verification, and a simulation does not need it: take it out, or play the model by `spinprep --play MODEL`"
+    } else if word == b"@".as_slice() {
+        " asks at which label another process stands, as claims of a verification do, and is left out: let that process set a variable there"
     } else if is_of_claims(word) {
         " is for claims of a verification, and is left out"
     } else if is_embedded(word) {
@@ -151,7 +153,7 @@ fn left_out(message: &mut Message<'_>, word: &[u8]) -> Result<(), AllocError> {
             return message.around("", word, ": a comment is written `/* .. */` or `// ..`");
         }
         let words =
-            " is for a preprocessor: play the model by `spinprep --play MODEL`, which runs `cpp` first";
+            " is for a preprocessor: play the model by `spinprep --play MODEL`, which reads its `#` lines first";
         return message.around("", directive(word), words);
     }
     message.around("", word, about(word))
@@ -204,6 +206,9 @@ pub fn of_text(message: &mut Message<'_>, cause: TextCause<'_>) -> Result<(), Al
         TextCause::Stray(byte) => stray(message, byte),
         TextCause::Sign(sign) => outside_of_ascii(message, sign),
         TextCause::Slashes => message.push("write `&&` for `/\\`, and `||` for `\\/`"),
+        TextCause::Dollar => {
+            message.push("`$` begins no token: a name has letters, digits and `_` alone")
+        }
         TextCause::OpenString => message.push("the string has no `\"` at its end on this line"),
         TextCause::OpenComment => message.push("the comment has no `*/` at its end"),
         TextCause::LeftOut(word) => left_out(message, word),

@@ -27,6 +27,8 @@ pub enum TextCause<'t> {
     Sign(&'t [u8]),
     /// `/\` or `\/`.
     Slashes,
+    /// A `$` in front of a name.
+    Dollar,
     OpenString,
     OpenComment,
     /// A word, a sign or a `#` line that is left out.
@@ -116,6 +118,12 @@ pub enum Wanted<'t> {
     OptionFor,
     /// A `,` in front of the token.
     Comma,
+    /// A `,` in front of this name, which stands behind another one.
+    CommaBefore(Named<'t>),
+    /// A type in front of this name.
+    Untyped(Named<'t>),
+    /// Another name than this one, which an inline has.
+    NameOfInline(Named<'t>, Named<'t>),
     /// One of these.
     OneOf(Classes),
     /// More than one thing may stand there.
@@ -200,6 +208,10 @@ pub enum UnknownCause<'t> {
     Arrow(Named<'t>, &'t [u8]),
     /// It is a word of another language.
     Foreign(&'t [u8], Foreign),
+    /// It stands alone as a statement.
+    Bare(&'t [u8]),
+    /// It is an inline that is defined here, and stands without the parentheses of its call.
+    Inline(Named<'t>),
     /// It is near to a word of the language.
     Word(&'t [u8], &'static [u8]),
     /// A field that this typedef lacks, and the nearest field.
@@ -210,6 +222,10 @@ pub enum UnknownCause<'t> {
 #[derive(Clone, Copy)]
 pub enum WrongCause<'t> {
     ArrayWithoutIndex(&'t [u8]),
+    /// How many elements an array has is asked as a field of it.
+    ArrayLength(&'t [u8]),
+    /// An array where a channel is wanted.
+    ArrayForChannel(&'t [u8]),
     IndexWithoutArray(&'t [u8]),
     FieldOfNone(&'t [u8], &'t [u8]),
     WholeTypedef(&'t [u8]),
@@ -323,6 +339,8 @@ pub enum InlineCause<'t> {
     Within,
     /// A definition that is not of the form.
     Form,
+    /// A definition without the `{` of its body.
+    NoBody,
     /// A definition without its last `}`.
     OpenBody(&'t [u8]),
     Twice(Named<'t>),
@@ -331,6 +349,8 @@ pub enum InlineCause<'t> {
     OpenCall(&'t [u8]),
     Arguments(Named<'t>, usize, usize),
     EmptyArgument(&'t [u8]),
+    /// Something else is declared by the name of this one.
+    NameTaken(Named<'t>),
     CallsItself(&'t [u8]),
     TooDeep(&'t [u8]),
     TooLong(&'t [u8]),

@@ -220,4 +220,62 @@ pub enum Foreign {
     ChannelParameter,
     /// `c = [1] of { byte }` as a statement
     ChannelAssignment,
+    /// `proctype P(byte a[3])`
+    ParameterArray,
+    /// `proctype P(byte a = 3)`
+    ParameterValue,
+    /// `for (i : 3)`
+    LoopRange,
+    /// `printf("..", x, "..")`
+    PrintTexts,
+    /// `byte x == 5`
+    DeclaredEqual,
+    /// `byte proctype P()`
+    ProctypeType,
+    /// `c ? x + 1`
+    ReceiveValue,
+    /// `else && x > 0`
+    ElseCondition,
+    /// `len(c > 0)`
+    ChannelAlone,
+    /// `goto;`
+    GotoLabel,
+    /// `:: -> x = 1`
+    OptionArrow,
+    /// `x in 1 .. 3` as a condition
+    InRange,
+    /// `proctype P() x = 1 }`
+    BodyBrace,
+    /// `for (i : 1 .. 3) skip`
+    LoopBody,
+    /// `c ? <x`
+    PeekEnd,
+    /// `c ? eval x`
+    EvalParens,
+    /// `len c`
+    ChannelParens,
+    /// `proctype P(void)`
+    NoParameters,
+    /// `of { }`
+    NoFields,
+    /// `/ text` as a statement
+    CommentSign,
+    /// `set x = 1`
+    Setting,
+    /// `a[1, 2] = 3`
+    TwoIndexes,
+    /// `a[] = 1`
+    EmptyIndex,
+    /// `run P(byte 1)`
+    ArgumentType,
+    /// `end` as a statement
+    Leave,
+    /// `byte a[3] = 1, 2, 3`
+    ListValue,
+    /// `of { byte; byte }`
+    FieldComma,
+    /// `f() { .. }` outside of all braces
+    Headless,
+    /// `(printf`
+    StatementWord,
 }

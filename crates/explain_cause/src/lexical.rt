@@ -28,6 +28,7 @@ fn stray_at(rest: &[u8]) -> TextCause<'_> {
         [b'"', ..] => TextCause::OpenString,
         [b'/', ..] => TextCause::OpenComment,
         [b'\\', b'/', ..] => TextCause::Slashes,
+        [b'$', next, ..] if next.is_ascii_alphabetic() => TextCause::Dollar,
         [first, ..] => stray(rest, *first),
         [] => TextCause::OpenComment,
     }

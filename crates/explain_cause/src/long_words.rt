@@ -54,7 +54,7 @@ const OF_5_C: [(&[u8], Foreign); 14] = [
     (b"queue", Foreign::Channel),
 ];
 
-const OF_5_D: [(&[u8], Foreign); 11] = [
+const OF_5_D: [(&[u8], Foreign); 12] = [
     (b"clock", Foreign::Sleep),
     (b"debug", Foreign::Print),
     (b"panic", Foreign::Exit),
@@ -66,6 +66,7 @@ const OF_5_D: [(&[u8], Foreign); 11] = [
     (b"after", Foreign::Sleep),
     (b"every", Foreign::Sleep),
     (b"timer", Foreign::Sleep),
+    (b"leave", Foreign::Leave),
 ];
 
 const OF_6_A: [(&[u8], Foreign); 14] = [
@@ -120,7 +121,7 @@ const OF_6_C: [(&[u8], Foreign); 13] = [
 
 const OF_7_A: [(&[u8], Foreign); 14] = [
     (b"forever", Foreign::Loop),
-    (b"foreach", Foreign::Loop),
+    (b"foreach", Foreign::In),
     (b"println", Foreign::Print),
     (b"writeln", Foreign::Print),
     (b"fprintf", Foreign::Print),

@@ -60,7 +60,7 @@ const OF_3_B: [(&[u8], Foreign); 14] = [
     (b"i32", Foreign::Number),
 ];
 
-const OF_3_C: [(&[u8], Foreign); 10] = [
+const OF_3_C: [(&[u8], Foreign); 11] = [
     (b"i64", Foreign::Number),
     (b"f32", Foreign::Fraction),
     (b"f64", Foreign::Fraction),
@@ -71,6 +71,7 @@ const OF_3_C: [(&[u8], Foreign); 10] = [
     (b"sem", Foreign::Lock),
     (b"VAR", Foreign::Variable),
     (b"fmt", Foreign::Print),
+    (b"set", Foreign::Setting),
 ];
 
 const OF_4_A: [(&[u8], Foreign); 14] = [
@@ -141,12 +142,14 @@ const OF_4_D: [(&[u8], Foreign); 14] = [
     (b"from", Foreign::To),
 ];
 
-const OF_4_E: [(&[u8], Foreign); 5] = [
+const OF_4_E: [(&[u8], Foreign); 7] = [
     (b"vars", Foreign::Variable),
     (b"cerr", Foreign::Print),
     (b"esac", Foreign::EndIf),
     (b"endl", Foreign::Print),
     (b"node", Foreign::Process),
+    (b"call", Foreign::Spawn),
+    (b"exec", Foreign::Spawn),
 ];
 
 fn of_2(word: &[u8]) -> Option<Foreign> {

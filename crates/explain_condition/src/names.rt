@@ -136,6 +136,7 @@ fn is_thing(foreign: Foreign) -> bool {
 fn meant_for(name: &[u8], sort: Sort) -> Option<Foreign> {
     match foreign_word(name) {
         Some(foreign) if matches!(sort, Sort::Variable) && is_thing(foreign) => None,
+        Some(Foreign::Body) if matches!(sort, Sort::Variable) => Some(Foreign::Leave),
         foreign => foreign,
     }
 }

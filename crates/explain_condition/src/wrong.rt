@@ -8,7 +8,9 @@ use crate::spans::{Part, place_in};
 use crate::walk::{End, Index, Walk, name_at, walk_behind};
 use check_names::meaning::{is_any, is_pid, is_special};
 use explain_cause::cause::{Cause, Finding, Named, Segment, Sort, WrongCause};
+use explain_cause::foreign::Foreign;
 use explain_cause::place::{at_place, untold};
+use explain_cause::words::foreign_word;
 use pml_program::form::Form;
 use pml_token::token::Token;
 use pml_tree::tree::Scalar;
@@ -75,13 +77,48 @@ fn of_end<'t>(text: &'t [u8], how: Use, steps: &[Shape<'_>], end: End) -> Option
     }
 }
 
+/// Whether a reference asks behind an array how many elements it has, as if that were a field.
+fn asks_length(text: &[u8], steps: &[Shape<'_>], end: End) -> bool {
+    match end {
+        End::NoFields(number) => {
+            matches!(
+                foreign_word(name_at(text, steps, number).name),
+                Some(Foreign::Length)
+            )
+        }
+        _ => false,
+    }
+}
+
+/// Of an array without an index, which stands behind `number` names.
+fn of_array<'t>(
+    text: &'t [u8],
+    how: Use,
+    steps: &[Shape<'_>],
+    end: End,
+    number: usize,
+) -> Option<Wrong<'t>> {
+    let name = name_at(text, steps, number);
+    if asks_length(text, steps, end) {
+        of_name(name, WrongCause::ArrayLength(name.name))
+    } else {
+        of_name(name, of_missing(how, name, end))
+    }
+}
+
+/// Of an array without an index: of channels, or of something else where a channel is wanted.
+fn of_missing<'t>(how: Use, array: Named<'t>, end: End) -> WrongCause<'t> {
+    let is_channel = matches!(end, End::Form(Form::Plain(Scalar::Chan)));
+    match how {
+        Use::Channel if !is_channel => WrongCause::ArrayForChannel(array.name),
+        _ => WrongCause::ArrayWithoutIndex(array.name),
+    }
+}
+
 /// Of a variable and its fields.
 fn of_walk<'t>(text: &'t [u8], how: Use, steps: &[Shape<'_>], walk: Walk) -> Option<Wrong<'t>> {
     match walk.index {
-        Index::Missing(number) => {
-            let name = name_at(text, steps, number);
-            of_name(name, WrongCause::ArrayWithoutIndex(name.name))
-        }
+        Index::Missing(number) => of_array(text, how, steps, walk.end, number),
         Index::Extra(number) => {
             let name = name_at(text, steps, number);
             of_name(name, WrongCause::IndexWithoutArray(name.name))

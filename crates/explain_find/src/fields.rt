@@ -1,8 +1,8 @@
 //! Fields of records that are written behind `->`.
 
-use crate::stopped::{is_before, name_at};
 use explain_cause::cause::{Cause, Finding, Named, Sort, UnknownCause};
 use explain_cause::place::is_at;
+use explain_syntax::stopped::{is_before, name_at};
 use pml_token::token::{Kind, Token};
 
 /// Whether a variable of this name is declared of a typedef.

@@ -5,6 +5,7 @@ ghost use Rattle.explain_find.specs.Tokens.{lies, at_first_left_out};
 ghost use Rattle.explain_find.specs.Marks.{first_is_told, IsOfMark};
 ghost use Rattle.explain_find.specs.Told.{is_stop};
 
+use crate::bare::with_inline;
 use crate::marks::{is_at_break, is_of_mark};
 use crate::there::{at_first_left_out, lies};
 use diagnostics::Refusal;
@@ -41,8 +42,8 @@ pub fn there<'t>(
     ensures lies { IfSome result.place (λ p. lies refusal text.now tokens.now p ≡ true) }
 {
     match finding.place {
-        Some(place) if lies(refusal, text, tokens, place) => finding,
-        _ => placeless(finding),
+        Some(place) if lies(refusal, text, tokens, place) => with_inline(text, tokens, finding),
+        _ => placeless(with_inline(text, tokens, finding)),
     }
 }
 

@@ -6,8 +6,9 @@ ghost use Rattle.explain_find.specs.Inlines.{IsOfMisuse};
 use crate::inlines::is_of_misuse;
 use crate::kept::placeless;
 use explain_cause::cause::{Cause, Finding, InlineCause, Named};
-use explain_cause::place::{at_token, bytes_of, named, untold};
-use pml_token::token::Token;
+use explain_cause::place::{at_token, between, bytes_of, named, untold};
+use explain_syntax::stopped::is_type;
+use pml_token::token::{Kind, Token};
 use promela_text::misuse::{Misuse, Rule};
 
 /// What is told of a definition.
@@ -34,6 +35,26 @@ fn cause_of<'t>(rule: Rule, name: &'t [u8], definition: Named<'t>) -> InlineCaus
     }
 }
 
+/// Whether a name stands behind a word that declares something of it: `proctype` or a type.
+fn is_taken(tokens: &[Token<'_>], at: usize) -> bool {
+    match between(tokens, at.saturating_sub(1), at) {
+        [before, ..] => {
+            is_type(before.kind()) || matches!(before.kind(), Kind::Unsigned | Kind::Proctype)
+        }
+        [] => false,
+    }
+}
+
+/// Whether a definition has its parameters, and no `{` behind them.
+fn is_bodiless(tokens: &[Token<'_>], misuse: Misuse) -> bool {
+    match between(tokens, misuse.at.saturating_sub(1), misuse.at) {
+        [before, ..] => {
+            matches!(misuse.rule, Rule::Form) && matches!(before.kind(), Kind::CloseParen)
+        }
+        [] => false,
+    }
+}
+
 /// The token at a place of a list as a name, or an empty one.
 fn name_at<'t>(text: &'t [u8], tokens: &[Token<'_>], at: usize) -> Named<'t> {
     match tokens.get(at) {
@@ -51,7 +72,13 @@ fn found<'t>(text: &'t [u8], tokens: &[Token<'_>], misuse: Misuse) -> Finding<'t
         return untold();
     };
     let definition = name_at(text, tokens, misuse.definition);
-    let cause = cause_of(misuse.rule, bytes_of(text, token), definition);
+    let cause = if is_taken(tokens, misuse.at) {
+        InlineCause::NameTaken(definition)
+    } else if is_bodiless(tokens, misuse) {
+        InlineCause::NoBody
+    } else {
+        cause_of(misuse.rule, bytes_of(text, token), definition)
+    };
     at_token(token, Cause::Inline(cause))
 }
 

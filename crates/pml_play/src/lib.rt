@@ -7,4 +7,4 @@ pub mod laws;
 mod whole;
 
 pub use converting::convert;
-pub use whole::play;
+pub use whole::{Rejection, checked_of, expanded_of, play, world_of};

@@ -104,7 +104,7 @@ fn add_line(piece: &mut Vec<u8>, n: u64) -> Result<(), AllocError>
 
 // Appends `choose 1..N` and a line feed: at once where N has one digit.
 #[inline(always)]
-fn add_prompt(piece: &mut Vec<u8>, most: u64) -> Result<(), AllocError>
+pub fn add_prompt(piece: &mut Vec<u8>, most: u64) -> Result<(), AllocError>
     ensures { OnOk result (piece.new.items ≡ piece.old.items ++ prompt most) }
 {
     if most < 10 {

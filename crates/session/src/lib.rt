@@ -1,7 +1,7 @@
 //! A session over any machine, any source of choices and any two sinks.
 #![tactic(auto)]
 
-mod choice;
+pub mod choice;
 mod converting;
 mod course;
 mod draft;
@@ -9,7 +9,7 @@ mod gathered;
 pub mod laws;
 mod line;
 mod machine;
-mod question;
+pub mod question;
 mod refused;
 mod whole;
 mod writing;

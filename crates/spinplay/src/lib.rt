@@ -16,7 +16,7 @@ pub use pml_check::{CheckFault, Checked, check};
 pub use pml_inline::expand;
 pub use pml_lex::cut;
 pub use pml_lex::fault::LexError;
-pub use pml_play::{convert, play};
+pub use pml_play::{Rejection, checked_of, convert, expanded_of, play, world_of};
 pub use pml_sim::ending::Ending;
 pub use pml_sim::world::World;
 pub use pml_syntax::{SyntaxError, parse};

@@ -1,21 +1,27 @@
--- How a run of the program ends, and the status that it ends with.
-use Rattle.std.specs.Prelude.{◌≡◌, ◌≢◌, ℕ, List, Result, Ok, Err}
-use Rattle.clap.specs.declared.error.Error.{Error}
-use Rattle.clap.specs.declared.error.kind.ErrorKind.TheVariants as kind
-use Rattle.clap.specs.Words.{Text, kind_of, matches_of}
+-- What comes of the words of a command line, and the status that the program ends with.
+use Rattle.std.specs.Prelude.{◌≡◌, ◌⊎◌, is_some, not, ◌&&◌, ◌==◌, if◌then◌else◌, length, Bool, ℕ, List, Option, Some, None, Result, Ok, Err, ⊤, true, false}
+use Rattle.clap.specs.Kinds.{HasKind}
+use Rattle.clap.specs.Words.{Text, fault_of, matches_of}
 use Rattle.command_line.specs.Matched.{IsReadFrom}
 use Rattle.command_line.specs.CommandLine.{command_line}
 use Rattle.command_line.specs.declared.options.Arguments.{Arguments}
+use Rattle.pml_play.specs.Parts.{IsReady, IsRejected}
+use Rattle.pml_play.specs.declared.whole.Rejection.{Rejection}
+use Rattle.pml_play.specs.declared.whole.Rejection.TheVariants as rejection
+use Rattle.pml_program.specs.declared.program.Program.{Program}
+use Rattle.program_files.specs.Held.{IsStatusOfFile}
+use Rattle.program_files.specs.Words.{IsStatusOfWords}
 use Rattle.promela_session.specs.declared.ends.End.{End}
 use Rattle.streams.specs.Streams.{EndsOver, Known}
+use Rattle.spinplay_program.specs.declared.checked.Ran.{Ran}
+use Rattle.spinplay_program.specs.declared.checked.Ran.TheVariants as ran
 use Rattle.spinplay_program.specs.declared.stop.NoRun.{NoRun}
 use Rattle.spinplay_program.specs.declared.stop.NoRun.TheVariants as no
 use Rattle.spinplay_program.specs.declared.stop.Unplayed.{Unplayed}
 
--- they are what the matches of some words hold
-pub record IsAskedFor (asked : Arguments) : Type 0 where
-  pub words : List Text
-  pub read : IsReadFrom (matches_of command_line words) asked
+-- they are what the matches of these words hold
+abbrev pub IsAskedFor : List Text → Arguments → Type 0
+IsAskedFor words asked = IsReadFrom (matches_of command_line words) asked
 
 -- A session over the text, by the options that were read, came to this end over streams of which this was known before and after: played or, where that
 -- is asked for, converted, whole or broken off.
@@ -24,45 +30,91 @@ pub record HasPlayed (asked : Arguments) (text : List ℕ) (end : End) : Type 0 
   pub after : Known
   pub ends : EndsOver asked.convert text asked.options before after end
 
--- one over some text did
-pub record HasPlayedText (asked : Arguments) (end : End) : Type 0 where
+-- the text stands for a model, or is rejected so
+abbrev pub IsChecked : List ℕ → Option Rejection → Type 0
+IsChecked text None = (p : Program) × IsReady text p
+IsChecked text (Some why) = IsRejected text why
+
+-- a text was checked where that is asked for, and else a session over it ended
+abbrev pub HasRun : Arguments → List ℕ → Ran → Type 0
+HasRun asked text (ran.Ended end) = (asked.check ≡ false) × HasPlayed asked text end
+HasRun asked text (ran.Checked why) = (asked.check ≡ true) × IsChecked text why
+
+-- so it is of some text
+pub record HasRunSome (asked : Arguments) (r : Ran) : Type 0 where
   pub text : List ℕ
-  pub played : HasPlayed asked text end
+  pub has : HasRun asked text r
 
--- the end of a session as words asked for it
-pub record IsEnd (end : End) : Type 0 where
+-- this came of a model as these words ask for it
+pub record IsRun (words : List Text) (r : Ran) : Type 0 where
   pub asked : Arguments
-  pub read : IsAskedFor asked
-  pub played : HasPlayedText asked end
+  pub read : IsAskedFor words asked
+  pub has : HasRunSome asked r
 
--- words that ask for no help and no version, and are no command line either
-abbrev pub IsMistake : Error → Type 0
-IsMistake error = (kind_of error ≢ kind.DisplayHelp) × (kind_of error ≢ kind.DisplayVersion)
+-- whether the options of preparing fit together: those that say how a model is prepared stand where it is, and no file of another preparation beside them
+abbrev pub fit : Arguments → Bool
+fit asked = if asked.prepare then not (is_some asked.source) && not (is_some asked.lines)
+    else not asked.no_cpp && (length asked.defines.items == 0 && length asked.folders.items == 0)
 
--- The status of words that lead to no run: 4 where they are a mistake, 0 where the help or the version was asked for and shown, and 6 where it could not be
--- shown or memory was refused.
-pub data IsStatusOfWords (error : Error) : ℕ → Type 0 where
-  no_memory : kind_of error ≡ kind.OutOfMemory → IsStatusOfWords error 6
-  mistake : (kind_of error ≢ kind.OutOfMemory) → IsMistake error → IsStatusOfWords error 4
-  shown : (IsMistake error → ⊥) → IsStatusOfWords error 0
-  not_shown : (IsMistake error → ⊥) → IsStatusOfWords error 6
+-- Why nothing is asked for: the words are no command line, by one of the faults that they have; or they ask to convert and to record, or for what does not fit
+-- together; or memory was refused.
+abbrev pub IsNoCommand : List Text → NoRun → Type 0
+IsNoCommand words (no.Words error) = HasKind (fault_of command_line words) error
+IsNoCommand words no.NotText = ⊥
+IsNoCommand words no.ConvertWithRecord = (asked : Arguments) × IsAskedFor words asked × (asked.convert ≡ true) × (is_some asked.rec ≡ true)
+IsNoCommand words no.NotTogether = (asked : Arguments) × IsAskedFor words asked × (fit asked ≡ false)
+IsNoCommand words (no.File fault) = ⊥
+IsNoCommand words no.Memory = ⊤
 
--- the status where there is no run
+-- a file cannot be used
+abbrev pub IsOfFiles : NoRun → Type 0
+IsOfFiles (no.Words error) = ⊥
+IsOfFiles no.NotText = ⊥
+IsOfFiles no.ConvertWithRecord = ⊥
+IsOfFiles no.NotTogether = ⊥
+IsOfFiles (no.File fault) = ⊤
+IsOfFiles no.Memory = ⊥
+
+-- the words ask for something, and a file of it cannot be used
+pub record FailsByFile (words : List Text) (stop : NoRun) : Type 0 where
+  pub asked : Arguments
+  pub read : IsAskedFor words asked
+  pub of_file : IsOfFiles stop
+
+-- why nothing came of these words
+abbrev pub IsCause : List Text → NoRun → Type 0
+IsCause words stop = IsNoCommand words stop ⊎ FailsByFile words stop
+
+-- what came of these words, or why nothing did
+abbrev pub IsOutcome : List Text → Result Ran Unplayed → Type 0
+IsOutcome words (Ok r) = IsRun words r
+IsOutcome words (Err unplayed) = IsCause words unplayed.stop
+
+-- ---- the status
+
+-- the status where nothing came of the words
 abbrev pub IsStatusOfStop : NoRun → ℕ → Type 0
 IsStatusOfStop (no.Words error) status = IsStatusOfWords error status
 IsStatusOfStop no.NotText status = status ≡ 4
 IsStatusOfStop no.ConvertWithRecord status = status ≡ 4
-IsStatusOfStop (no.CannotOpen name error) status = status ≡ 4
-IsStatusOfStop (no.CannotRead name error) status = status ≡ 4
-IsStatusOfStop (no.WouldEmpty name what) status = status ≡ 4
+IsStatusOfStop no.NotTogether status = status ≡ 4
+IsStatusOfStop (no.File fault) status = IsStatusOfFile fault status
 IsStatusOfStop no.Memory status = status ≡ 6
 
--- the status is that of the end, or of why there is none
-abbrev pub IsStatusOf : Result End Unplayed → ℕ → Type 0
-IsStatusOf (Ok end) status = status ≡ end.status
+-- that of a session is its end's; of a text that was checked 0 where it stands for a model, 3 where it is refused, and 6 where memory was
+abbrev pub IsStatusOfRun : Ran → ℕ → Type 0
+IsStatusOfRun (ran.Ended end) status = status ≡ end.status
+IsStatusOfRun (ran.Checked None) status = status ≡ 0
+IsStatusOfRun (ran.Checked (Some rejection.Memory)) status = status ≡ 6
+IsStatusOfRun (ran.Checked (Some (rejection.Refused refusal line))) status = status ≡ 3
+
+-- the status is that of what came of the words, or of why nothing did
+abbrev pub IsStatusOf : Result Ran Unplayed → ℕ → Type 0
+IsStatusOf (Ok r) status = IsStatusOfRun r status
 IsStatusOf (Err unplayed) status = IsStatusOfStop unplayed.stop status
 
--- The status of the program: that of the end of a session as words asked for it, or of why there was none.
-pub data IsStatus : ℕ → Type 0 where
-  of_end : {end : End} {status : ℕ} → IsEnd end → status ≡ end.status → IsStatus status
-  of_stop : (stop : NoRun) {status : ℕ} → IsStatusOfStop stop status → IsStatus status
+-- The status of the program, on these words: that of what came of them, or of why nothing did.
+pub record IsStatus (words : List Text) (status : ℕ) : Type 0 where
+  pub outcome : Result Ran Unplayed
+  pub is_outcome : IsOutcome words outcome
+  pub is_status : IsStatusOf outcome status

@@ -1,27 +1,36 @@
 // Reads the words, opens the files, plays and ends with a status.
 #![tactic(auto)]
 
-ghost use Rattle.std.specs.Prelude.{IfOk};
+ghost use Rattle.std.specs.Prelude.{◌≡◌, IfOk, IfErr, map};
 ghost use Rattle.std.specs.Process.{exit_status};
+ghost use Rattle.std.specs.String.{string_bytes};
 ghost use Rattle.streams.specs.Streams.{EndsOver, known};
-ghost use Rattle.spinplay_program.specs.Ended.{HasPlayed, HasPlayedText, IsAskedFor, IsEnd, IsStatus, IsStatusOf};
+ghost use Rattle.spinplay_program.specs.Ended.{HasPlayed, HasRun, HasRunSome, fit, IsAskedFor, IsNoCommand, IsOfFiles, IsOutcome, IsStatus, IsStatusOf, IsStatusOfRun};
 
+mod checked;
 mod files;
-mod misfits;
 mod stop;
 mod telling;
 
-use files::{Input, Model, choices_of, created, model_of, others_of};
-use misfits::explain_choices;
-use spinplay::{Arguments, End, Followed, Heard, Played, Streams, arguments, session_over};
-use std::alloc::Global;
+use checked::{Ran, check_model};
+use files::{choices_of, created, held_of};
+use program_files::fault::NoFile;
+use program_files::input::Input;
+use program_files::models;
+use program_files::models::{Model, model_in};
+use spinplay::{
+    Arguments, End, Followed, Heard, Played, Rejection, Streams, arguments, session_over,
+};
+use std::alloc::{AllocError, Global};
 use std::fs::{File, OpenFile};
 use std::io::{Read, Write};
 use std::process::ExitCode;
 use std::rt::Stdout;
 use std::{env, fs, io};
 use stop::{NoRun, Unplayed};
-use telling::{Errors, explain_end, tell_end, tell_refusal, tell_stop};
+use telling::{
+    Errors, PROGRAM, explain_choices, explain_end, name_of, tell_end, tell_refusal, tell_stop,
+};
 
 fn words_of(rt: &HostRuntime) -> Result<Vec<String>, NoRun> {
     match env::args(rt) {
@@ -31,15 +40,48 @@ fn words_of(rt: &HostRuntime) -> Result<Vec<String>, NoRun> {
     }
 }
 
-// What the words of the command line ask for.
-fn asked_of(rt: &HostRuntime) -> Result<Arguments, NoRun>
-    ensures { IfOk result IsAskedFor }
+// The words of a command line, as texts.
+fn texts_of<'w>(alloc: Global, words: &'w [String]) -> Result<Vec<&'w str>, AllocError>
+    ensures { IfOk result (λ texts. map (λ w. w.now) texts.items ≡ map string_bytes words.now) }
 {
-    let words = words_of(rt)?;
-    let texts: Vec<&str> = words.iter().map(|word| word.as_str()).collect(rt.alloc())?;
-    let asked = arguments(rt.alloc(), texts.as_slice()).map_err(NoRun::Words)?;
+    let mut texts = Vec::new(alloc);
+    let mut rest = words;
+    while let [word, behind @ ..] = rest {
+        texts.push(word.as_str())?;
+        rest = behind;
+    }
+    Ok(texts)
+}
+
+// Whether the options of preparing fit together: the files of another that prepared the model are of no use beside it.
+fn fit_together(asked: &Arguments) -> bool
+    ensures { result ≡ fit asked.now }
+{
+    if asked.prepare {
+        asked.source.is_none() && asked.lines.is_none()
+    } else {
+        !asked.no_cpp && (asked.defines.is_empty() && asked.folders.is_empty())
+    }
+}
+
+// What these words of a command line ask for.
+fn asked_of(alloc: Global, words: &[String]) -> Result<Arguments, NoRun>
+    ensures ok { IfOk result (IsAskedFor (map string_bytes words.now)) }
+    ensures err { IfErr result (IsNoCommand (map string_bytes words.now)) }
+{
+    let texts = match texts_of(alloc, words) {
+        Ok(texts) => texts,
+        Err(_) => return Err(NoRun::Memory),
+    };
+    let asked = match arguments(alloc, texts.as_slice()) {
+        Ok(asked) => asked,
+        Err(error) => return Err(NoRun::Words(error)),
+    };
     if asked.convert && asked.rec.is_some() {
         return Err(NoRun::ConvertWithRecord);
+    }
+    if !fit_together(&asked) {
+        return Err(NoRun::NotTogether);
     }
     Ok(asked)
 }
@@ -48,12 +90,12 @@ fn asked_of(rt: &HostRuntime) -> Result<Arguments, NoRun>
 type Opened = Streams<Heard<Followed<Input>>, Heard<Stdout>, Heard<File>>;
 
 // Opens the choices and then the record.
-fn open_all(rt: &HostRuntime, asked: &Arguments, model: &Model) -> Result<Opened, NoRun> {
+fn open_all(rt: &HostRuntime, asked: &Arguments, model: &Model) -> Result<Opened, NoFile> {
     let choices = choices_of(rt, asked)?;
     let rec = match &asked.rec {
         Some(name) => {
-            let others = others_of(rt, asked, model.file, choices.file)?;
-            Some(Heard::new(created(rt, name.as_str(), others)?))
+            let held = held_of(rt, asked, model.file, choices.file)?;
+            Some(Heard::new(created(rt, name.as_str(), &held)?))
         }
         None => None,
     };
@@ -65,10 +107,10 @@ fn open_all(rt: &HostRuntime, asked: &Arguments, model: &Model) -> Result<Opened
 }
 
 // A run that was played over what was opened.
-type Ran = Played<Heard<Followed<Input>>, Heard<Stdout>, Heard<File>>;
+type PlayedOver = Played<Heard<Followed<Input>>, Heard<Stdout>, Heard<File>>;
 
 // Explains what came of a run that was no run, or that a device ended.
-fn explained(rt: &HostRuntime, asked: &Arguments, text: &[u8], ran: &Ran) {
+fn explained(rt: &HostRuntime, asked: &Arguments, model: &Model, ran: &PlayedOver) {
     let rec = match &ran.streams.rec {
         Some(file) => file.error(),
         None => None,
@@ -78,7 +120,7 @@ fn explained(rt: &HostRuntime, asked: &Arguments, text: &[u8], ran: &Ran) {
         out: ran.streams.out.error(),
         rec,
     };
-    explain_end(rt, asked, text, &ran.end, errors);
+    explain_end(rt, asked, model, &ran.end, errors);
     explain_choices(rt, &asked.choices, ran.streams.source.device(), &ran.end);
 }
 
@@ -95,28 +137,38 @@ fn played_over<R: Read, O: Write, K: Write>(
     session_over(alloc, text, &asked.options, asked.convert, streams)
 }
 
-// Plays this text over what was opened, says what is to be said of the end, and answers it.
-fn run_text(rt: &HostRuntime, asked: &Arguments, text: &[u8], opened: Opened) -> End
-    ensures { HasPlayed asked.now text.now result }
+// Plays this text over streams, and says what is to be said of the end.
+fn run_text<R: Read, O: Write, K: Write>(
+    rt: &HostRuntime,
+    asked: &Arguments,
+    text: &[u8],
+    streams: Streams<R, O, K>,
+) -> Played<R, O, K>
+    ensures { let k = known R.remaining O.contents K.contents in
+        EndsOver asked.now.convert text.now asked.now.options (k streams) (k result.streams) result.end }
 {
-    let played = played_over(rt.alloc(), text, asked, opened);
+    let played = played_over(rt.alloc(), text, asked, streams);
     if asked.convert {
         tell_refusal(rt, &played.end);
     }
     tell_end(rt, &played.end);
-    if asked.explain {
-        explained(rt, asked, text, &played);
-    }
-    played.end
+    played
 }
 
-// Plays the model that is asked for, and answers the end, whose status is that of the program.
-fn run(rt: &HostRuntime, asked: &Arguments) -> Result<End, NoRun>
-    ensures { IfOk result (HasPlayedText asked.now) }
+// Plays a model as it is asked for, and answers the end, whose status is that of the program.
+fn run(rt: &HostRuntime, asked: &Arguments, model: &Model) -> Result<End, NoRun>
+    ensures ok { IfOk result (HasPlayed asked.now model.now.bytes.items) }
+    ensures err { IfErr result IsOfFiles }
 {
-    let model = model_of(rt, asked.model.as_str())?;
-    let opened = open_all(rt, asked, &model)?;
-    Ok(run_text(rt, asked, model.text.as_slice(), opened))
+    let opened = match open_all(rt, asked, model) {
+        Ok(opened) => opened,
+        Err(fault) => return Err(NoRun::File(fault)),
+    };
+    let played = run_text(rt, asked, model.bytes.as_slice(), opened);
+    if asked.explain {
+        explained(rt, asked, model, &played);
+    }
+    Ok(played.end)
 }
 
 // Holds the descriptors 0 to 2 where the caller has closed them, so that no file of a run takes the place of one. A folder gives no byte
@@ -125,39 +177,87 @@ fn held_descriptors(rt: &HostRuntime) -> [io::Result<File>; 3] {
     [fs::open(rt, "/"), fs::open(rt, "/"), fs::open(rt, "/")]
 }
 
-// Plays as the words ask for, and answers the end, or why there is none.
-fn outcome_of(rt: &HostRuntime) -> Result<End, Unplayed>
-    ensures { IfOk result IsEnd }
+// Checks or plays a model, as it is asked for.
+fn run_model(rt: &HostRuntime, asked: &Arguments, model: &Model) -> Result<Ran, NoRun>
+    ensures ok { IfOk result (HasRun asked.now model.now.bytes.items) }
+    ensures err { IfErr result IsOfFiles }
 {
-    let asked = match asked_of(rt) {
+    if asked.check {
+        return Ok(Ran::Checked(check_model(rt, asked, model)));
+    }
+    match run(rt, asked, model) {
+        Ok(end) => Ok(Ran::Ended(end)),
+        Err(stop) => Err(stop),
+    }
+}
+
+// The same of the model that is asked for.
+fn run_asked(rt: &HostRuntime, asked: &Arguments) -> Result<Ran, NoRun>
+    ensures ok { IfOk result (HasRunSome asked.now) }
+    ensures err { IfErr result IsOfFiles }
+{
+    let wanted = models::Asked {
+        file: asked.model.as_str(),
+        name: name_of(asked),
+        prepare: asked.prepare,
+        no_cpp: asked.no_cpp,
+        defines: asked.defines.as_slice(),
+        folders: asked.folders.as_slice(),
+    };
+    match model_in(rt, PROGRAM, wanted) {
+        Ok(model) => run_model(rt, asked, &model),
+        Err(fault) => Err(NoRun::File(fault)),
+    }
+}
+
+// Does what these words ask for. What came of it, or why nothing did.
+fn outcome_of(rt: &HostRuntime, words: &[String]) -> Result<Ran, Unplayed>
+    ensures { IsOutcome (map string_bytes words.now) result }
+{
+    let asked = match asked_of(rt.alloc(), words) {
         Ok(asked) => asked,
         Err(stop) => return Err(Unplayed::new(stop, false)),
     };
-    match run(rt, &asked) {
-        Ok(end) => Ok(end),
+    match run_asked(rt, &asked) {
+        Ok(ran) => Ok(ran),
         Err(stop) => Err(Unplayed::new(stop, asked.explain)),
     }
 }
 
-// The status of an outcome. Of one that is no end it is told why.
-fn status_of(rt: &HostRuntime, outcome: &Result<End, Unplayed>) -> u8
+// The status of what came of a model.
+fn status_of_run(ran: Ran) -> u8
+    ensures { IsStatusOfRun ran result }
+{
+    match ran {
+        Ran::Ended(end) => end.status,
+        Ran::Checked(None) => 0,
+        Ran::Checked(Some(Rejection::Refused(_, _))) => 3,
+        Ran::Checked(Some(Rejection::Memory)) => 6,
+    }
+}
+
+// The status of an outcome. Where nothing came of the words it is told why.
+fn status_of(rt: &HostRuntime, outcome: &Result<Ran, Unplayed>) -> u8
     ensures { IsStatusOf outcome.now result }
 {
     match outcome {
-        Ok(end) => end.status,
+        Ok(ran) => status_of_run(*ran),
         Err(unplayed) => tell_stop(rt, &unplayed.stop, unplayed.explains),
     }
 }
 
-// Plays as the words ask for, and answers the status of the program.
-fn ended(rt: &HostRuntime) -> ExitCode
-    ensures { IsStatus (exit_status result) }
+// Does what these words ask for, and answers the status of the program.
+fn ended(rt: &HostRuntime, words: &[String]) -> ExitCode
+    ensures { IsStatus (map string_bytes words.now) (exit_status result) }
 {
-    let outcome = outcome_of(rt);
+    let outcome = outcome_of(rt, words);
     ExitCode::from(status_of(rt, &outcome))
 }
 
 fn main(rt: HostRuntime) -> ExitCode {
     let _held = held_descriptors(&rt);
-    ended(&rt)
+    match words_of(&rt) {
+        Ok(words) => ended(&rt, words.as_slice()),
+        Err(stop) => ExitCode::from(tell_stop(&rt, &stop, false)),
+    }
 }

@@ -1,8 +1,8 @@
 // Why there is no run.
 ghost use Rattle.std.specs.Prelude.{◌≡◌};
 
+use program_files::fault::NoFile;
 use std::alloc::AllocError;
-use std::io;
 
 // Why there is no run.
 #[derive(Drop)]
@@ -10,10 +10,9 @@ pub enum NoRun {
     Words(clap::Error),
     NotText,
     ConvertWithRecord,
-    CannotOpen(String, io::Error),
-    CannotRead(String, io::Error),
-    // The record would empty the file of the model, or that of the choices.
-    WouldEmpty(String, &'static str),
+    // Options that are no use together.
+    NotTogether,
+    File(NoFile),
     Memory,
 }
 
@@ -37,16 +36,5 @@ impl Unplayed {
 impl From<AllocError> for NoRun {
     fn from(_error: AllocError) -> NoRun {
         NoRun::Memory
-    }
-}
-
-// Why a file of this name was not opened: the name and the error, unless memory was refused.
-pub fn not_opened(rt: &HostRuntime, name: &str, error: io::Error) -> NoRun {
-    if error.kind() == io::ErrorKind::OutOfMemory {
-        return NoRun::Memory;
-    }
-    match String::from_str(rt.alloc(), name) {
-        Ok(name) => NoRun::CannotOpen(name, error),
-        Err(_) => NoRun::Memory,
     }
 }

@@ -1,101 +1,86 @@
 // What standard error says. A message that cannot be shown is left out.
-ghost use Rattle.spinplay_program.specs.Ended.{IsStatusOfStop, IsStatusOfWords};
+ghost use Rattle.spinplay_program.specs.Ended.{IsStatusOfStop};
 
-use crate::files::source_of;
 use crate::stop::NoRun;
-use clap::error::ErrorKind;
-use spinplay::{
-    Arguments, Cause, End, Prepared, Refusal, explain_beside, included_file, shown_file,
-};
+use program_files::fault::NoFile;
+use program_files::input::Input;
+use program_files::models::Model;
+use program_files::refusal::{Shown, explained, explained_beside};
+use program_files::telling::{explain_device, tell_cut, tell_file, tell_misfit};
+use program_files::words::{Program, tell_words};
+use spinplay::{Arguments, Cause, End, Followed, Refusal, shown_file};
 use std::alloc::{AllocError, Global};
 use std::io;
 
-// The letters of Spin's options that have no meaning here.
-const OPTIONS_OF_SPIN: &str = "aAbBcCdeEfFjJkLMnNoOPqrsStvwWxXyYzZ";
+// What the program is called in what it says.
+pub const PROGRAM: &str = "spinplay";
 
-// Those of them that spinprep has.
-const OPTIONS_OF_CPP: &str = "DUI";
+// Says why a model is refused: the line that a run would have in its output.
+pub fn tell_refused(rt: &HostRuntime, refusal: Refusal) {
+    if let Ok(words) = str::from_utf8(refusal.words()) {
+        let _ = eprintln!(rt; "refused M{} ({words})", refusal.number());
+    }
+}
 
-// How every command line is.
-const USAGE: &str = "Usage: spinplay [OPTIONS] <MODEL>";
+// Says the line of a refusal, where it has one.
+pub fn tell_line(rt: &HostRuntime, refusal: Refusal, line: u32) {
+    if line > 0 {
+        let _ = eprintln!(rt; "spinplay: line {line}: M{}", refusal.number());
+    }
+}
 
-// Says why a model is refused whose choices are converted: the line that a run would have in its output.
+// Says why a model is refused whose choices are converted.
 pub fn tell_refusal(rt: &HostRuntime, end: &End) {
     if let Cause::Refused(refusal, _) = end.cause {
-        if let Ok(words) = str::from_utf8(refusal.words()) {
-            let _ = eprintln!(rt; "refused M{} ({words})", refusal.number());
-        }
+        tell_refused(rt, refusal);
     }
 }
 
 // What is said of an end, beside the output.
 pub fn tell_end(rt: &HostRuntime, end: &End) {
-    let _ = match end.cause {
-        Cause::Refused(refusal, line) if line > 0 => {
-            eprintln!(rt; "spinplay: line {line}: M{}", refusal.number())
-        }
+    match end.cause {
+        Cause::Refused(refusal, line) => tell_line(rt, refusal, line),
         Cause::SourceFailed | Cause::OutFailed | Cause::RecordFailed => {
-            eprintln!(rt; "spinplay: device failed")
+            let _ = eprintln!(rt; "spinplay: device failed");
         }
-        Cause::Memory => eprintln!(rt; "spinplay: out of memory"),
-        _ => Ok(()),
-    };
+        Cause::Memory => {
+            let _ = eprintln!(rt; "spinplay: out of memory");
+        }
+        _ => {}
+    }
 }
 
 // What explanations call a model.
-fn name_of(asked: &Arguments) -> &str {
+pub fn name_of(asked: &Arguments) -> &str {
     match &asked.name {
         Some(name) => name.as_str(),
         None => asked.model.as_str(),
     }
 }
 
-// The text of a file that an explanation shows or reads, where there is one and it can be read.
-fn shown_text(rt: &HostRuntime, name: &Option<String>) -> Result<Option<Vec<u8>>, NoRun> {
-    match name {
-        Some(name) => source_of(rt, name.as_str()),
-        None => Ok(None),
-    }
-}
-
-// The text of the included file in which a refusal lies.
-fn included_text(
-    rt: &HostRuntime,
-    text: &[u8],
-    lines: &[u8],
-    refusal: Refusal,
-) -> Result<Option<Vec<u8>>, NoRun> {
-    match included_file(rt.alloc(), text, lines, refusal)? {
-        Some(name) => source_of(rt, name),
-        None => Ok(None),
-    }
-}
-
-// Why the model of this text is refused, and where.
-fn explained(
+// Why a model is refused, and where, with the lines of what it was prepared of.
+fn words_of_refusal(
     rt: &HostRuntime,
     asked: &Arguments,
-    text: &[u8],
+    model: &Model,
     refusal: Refusal,
-) -> Result<String, NoRun> {
-    let own = shown_text(rt, &asked.source)?;
-    let lines = shown_text(rt, &asked.lines)?.unwrap_or(Vec::new(rt.alloc()));
-    let included = included_text(rt, text, lines.as_slice(), refusal)?;
-    let included = included.unwrap_or(Vec::new(rt.alloc()));
-    let source = Prepared {
-        text: match &own {
-            Some(own) => own.as_slice(),
-            None => text,
-        },
-        lines: lines.as_slice(),
-        included: included.as_slice(),
+) -> Result<String, NoFile> {
+    let text = model.bytes.as_slice();
+    if let Some(own) = &model.own {
+        return explained_beside(rt, name_of(asked), text, own, refusal);
+    }
+    let shown = Shown {
+        name: name_of(asked),
+        text,
+        source: &asked.source,
+        lines: &asked.lines,
     };
-    Ok(explain_beside(rt.alloc(), name_of(asked), text, source, refusal)?)
+    explained(rt, shown, refusal)
 }
 
-// Says that, unless memory is refused for it: without its files it would show another line.
-fn explain_refusal(rt: &HostRuntime, asked: &Arguments, text: &[u8], refusal: Refusal) {
-    if let Ok(words) = explained(rt, asked, text, refusal) {
+// Says why a model is refused, and where, unless memory is refused for it: without its files it would show another line.
+pub fn explain_refusal(rt: &HostRuntime, asked: &Arguments, model: &Model, refusal: Refusal) {
+    if let Ok(words) = words_of_refusal(rt, asked, model, refusal) {
         let _ = eprint!(rt; "{words}");
     }
 }
@@ -108,11 +93,38 @@ fn choices_of(alloc: Global, asked: &Arguments) -> Result<String, AllocError> {
     }
 }
 
+// Adds the values of an option, as a shell takes them.
+fn add_values(out: &mut String, option: &str, values: &[String]) -> Result<(), AllocError> {
+    let alloc = *out.allocator();
+    for value in values {
+        let value = shown_file(alloc, value.as_str())?;
+        let word = format!(in alloc; " {option}'{value}'")?;
+        out.push_str(word.as_str())?;
+    }
+    Ok(())
+}
+
+// The options that say how a model is prepared.
+fn preparing(alloc: Global, asked: &Arguments) -> Result<String, AllocError> {
+    let mut words = String::new(alloc);
+    if asked.prepare {
+        words.push_str(" --prepare")?;
+        add_values(&mut words, "-D", asked.defines.as_slice())?;
+        add_values(&mut words, "-I", asked.folders.as_slice())?;
+    }
+    if asked.no_cpp {
+        words.push_str(" --no-cpp")?;
+    }
+    Ok(words)
+}
+
 // Says by which command the values are shown that the statement of a fault read: a run keeps no state behind it, and spinview goes over it again.
 fn explain_fault(rt: &HostRuntime, asked: &Arguments) -> Result<(), AllocError> {
     let own = shown_file(rt.alloc(), name_of(asked))?;
     let choices = choices_of(rt.alloc(), asked)?;
     let lossy = if asked.options.lossy { " -m" } else { "" };
+    let prepare = preparing(rt.alloc(), asked)?;
+    let prepare = prepare.as_str();
     let recorded = if asked.choices.is_none() && asked.rec.is_none() {
         "record the choices by --record FILE, and then: "
     } else {
@@ -124,18 +136,10 @@ fn explain_fault(rt: &HostRuntime, asked: &Arguments) -> Result<(), AllocError> 
         )
     } else {
         eprintln!(rt;
-            "spinplay: to see the values that it read: {recorded}spinview{lossy} --choices {choices} {own}"
+            "spinplay: to see the values that it read: {recorded}spinview{prepare}{lossy} --choices {choices} {own}"
         )
     };
     Ok(())
-}
-
-// Says which device failed, and why, where an error said so.
-fn explain_device(rt: &HostRuntime, device: &str, why: Option<&io::Error>) {
-    let _ = match why {
-        Some(error) => eprintln!(rt; "spinplay: device failed: {device}: {error}"),
-        None => eprintln!(rt; "spinplay: device failed: {device}"),
-    };
 }
 
 // Why the devices of a run failed last, where an error said so.
@@ -147,24 +151,36 @@ pub struct Errors<'e> {
 }
 
 // Explains an end that is no run's own, as a refusal or a device that failed, or that is a fault.
-pub fn explain_end(rt: &HostRuntime, asked: &Arguments, text: &[u8], end: &End, errors: Errors) {
+pub fn explain_end(rt: &HostRuntime, asked: &Arguments, model: &Model, end: &End, errors: Errors) {
     match end.cause {
-        Cause::Refused(refusal, _) => explain_refusal(rt, asked, text, refusal),
+        Cause::Refused(refusal, _) => explain_refusal(rt, asked, model, refusal),
         Cause::Fault(_) => {
             let _ = explain_fault(rt, asked);
         }
-        Cause::SourceFailed => explain_device(rt, "choices", errors.source),
-        Cause::OutFailed => explain_device(rt, "output", errors.out),
-        Cause::RecordFailed => explain_device(rt, "record", errors.rec),
+        Cause::SourceFailed => explain_device(rt, PROGRAM, "choices", errors.source),
+        Cause::OutFailed => explain_device(rt, PROGRAM, "output", errors.out),
+        Cause::RecordFailed => explain_device(rt, PROGRAM, "record", errors.rec),
         _ => {}
     }
 }
 
-// Says why a file was not opened or read, where that is asked for.
-fn explain_file(rt: &HostRuntime, is_asked: bool, name: &str, error: &io::Error) {
-    if is_asked {
-        if let Ok(name) = shown_file(rt.alloc(), name) {
-            let _ = eprintln!(rt; "spinplay: {name}: {error}");
+// Explains what came of the choices of a file, or of standard input where there is no name of one.
+pub fn explain_choices(
+    rt: &HostRuntime,
+    name: &Option<String>,
+    choices: &Followed<Input>,
+    end: &End,
+) {
+    if let Cause::Misfit = end.cause {
+        let shown = match name {
+            Some(name) => name.as_str(),
+            None => "standard input",
+        };
+        let _ = tell_misfit(rt, PROGRAM, shown, choices);
+    }
+    if let Some(name) = name {
+        if choices.ends_within() {
+            let _ = tell_cut(rt, PROGRAM, name.as_str(), choices);
         }
     }
 }
@@ -174,7 +190,7 @@ pub fn tell_stop(rt: &HostRuntime, stop: &NoRun, explains: bool) -> u8
     ensures { IsStatusOfStop stop.now result }
 {
     match stop {
-        NoRun::Words(error) => tell_words(rt, error),
+        NoRun::Words(error) => tell_words(rt, Program::Play, error),
         NoRun::NotText => {
             let _ = eprintln!(rt; "error: invalid UTF-8 was detected in one or more arguments");
             4
@@ -183,100 +199,16 @@ pub fn tell_stop(rt: &HostRuntime, stop: &NoRun, explains: bool) -> u8
             let _ = eprintln!(rt; "spinplay: --convert with --record");
             4
         }
-        NoRun::CannotOpen(name, error) => {
-            let _ = eprintln!(rt; "spinplay: cannot open {name}");
-            explain_file(rt, explains, name.as_str(), error);
-            4
-        }
-        NoRun::CannotRead(name, error) => {
-            let _ = eprintln!(rt; "spinplay: cannot read {name}");
-            explain_file(rt, explains, name.as_str(), error);
-            4
-        }
-        NoRun::WouldEmpty(name, what) => {
-            let _ = eprintln!(rt; "spinplay: cannot open {name}");
+        NoRun::NotTogether => {
             let _ = eprintln!(rt;
-                "spinplay: it is the file of the {what}, which a record would empty"
+                "spinplay: -D, -I and --no-cpp want --prepare, which goes without --source and --lines"
             );
             4
         }
+        NoRun::File(fault) => tell_file(rt, PROGRAM, fault, explains),
         NoRun::Memory => {
             let _ = eprintln!(rt; "spinplay: out of memory");
             6
         }
-    }
-}
-
-// What is told of a letter in place of the tip to hand it on as a value.
-fn tip_of(alloc: Global, letter: char) -> Result<String, AllocError> {
-    if OPTIONS_OF_CPP.contains(letter) {
-        format!(in alloc;
-            "'-{letter}' is for cpp, which spinprep runs: spinprep --play -{letter}.. MODEL"
-        )
-    } else {
-        format!(in alloc;
-            "leave '-{letter}' out: it is an option of Spin, and spinplay has none like it"
-        )
-    }
-}
-
-// What is shown of an unexpected word: an option of Spin that has no meaning here is to be left out, not to be handed on as a value.
-fn without_options_of_spin(alloc: Global, text: String) -> Result<String, AllocError> {
-    for letter in OPTIONS_OF_SPIN.chars().chain(OPTIONS_OF_CPP.chars()) {
-        let tip = format!(in alloc; "to pass '-{letter}' as a value, use '-- -{letter}'")?;
-        if text.contains(tip.as_str()) {
-            return text.replace(alloc, tip.as_str(), tip_of(alloc, letter)?.as_str());
-        }
-    }
-    Ok(text)
-}
-
-// A mistake in the words, with the usage of every command line in place of one with the words that were read.
-fn with_usage(alloc: Global, error: &clap::Error) -> Result<String, AllocError> {
-    let told = format!(in alloc; "{error}")?;
-    let mut text = String::new(alloc);
-    for line in told.lines() {
-        text.push_str(if line.starts_with("Usage: spinplay ") {
-            USAGE
-        } else {
-            line
-        })?;
-        text.push('\n')?;
-    }
-    Ok(text)
-}
-
-// What is shown of a mistake in the words.
-fn mistake(alloc: Global, error: &clap::Error) -> Result<String, AllocError> {
-    without_options_of_spin(alloc, with_usage(alloc, error)?)
-}
-
-// Shows a mistake in the words, or help.
-fn shown_words(rt: &HostRuntime, error: &clap::Error) -> io::Result<()> {
-    if !error.use_stderr() {
-        return error.print(rt);
-    }
-    match mistake(rt.alloc(), error) {
-        Ok(text) => eprint!(rt; "{text}"),
-        Err(_) => error.print(rt),
-    }
-}
-
-// Help goes to standard output, and a mistake in the words to standard error.
-fn tell_words(rt: &HostRuntime, error: &clap::Error) -> u8
-    ensures { IsStatusOfWords error.now result }
-{
-    if error.kind() == ErrorKind::OutOfMemory {
-        let _ = eprintln!(rt; "spinplay: out of memory");
-        return 6;
-    }
-    let shown = shown_words(rt, error).is_ok();
-    if error.use_stderr() {
-        4
-    } else if shown {
-        0
-    } else {
-        let _ = eprintln!(rt; "spinplay: device failed");
-        6
     }
 }

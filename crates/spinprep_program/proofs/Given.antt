@@ -1,12 +1,11 @@
 -- What a reader gives up to a limit is all of it where that is less.
-use Rattle.std.proofs.Common.{◌≡◌, ℕ, ◌<◌, List, [], ◌∷◌, ◌++◌, Option, None, Some, Result, Ok, Err, OnErr, length, take, drop, refl, sym, ap, ◌∙◌, subst, append_assoc, append-nil, take-append-drop, length-take, length-drop, ◌-◌, arith}
+use Rattle.std.proofs.Common.{◌≡◌, ℕ, ◌<◌, List, [], ◌∷◌, ◌++◌, Option, None, Some, length, take, drop, refl, sym, ap, ◌∙◌, subst, append_assoc, append-nil, take-append-drop, length-take, length-drop, ◌-◌, arith}
 use Rattle.std.specs.Prelude.{IfSome}
 use Rattle.std.specs.Io.KnownBytes.{Keeps, Appends}
 use Rattle.std.specs.Option.{option_map}
 use Rattle.std.proofs.lemmas.List.{take_all}
 use Rattle.std.proofs.Math.Seq.{take-length}
-use Rattle.prepare.specs.Laws.{prepared}
-use Rattle.spinprep_program.specs.Over.{IsBegun, BreaksOver}
+use Rattle.spinprep_program.specs.Over.{IsBegun}
 
 pub taken : (o : Option (List ℕ)) (n : ℕ) (old new : List ℕ) → old ≡ [] → IfSome (option_map (take n) o) (λ xs. new ≡ old ++ xs) → IfSome o (λ xs. new ≡ take n xs)
 taken None n old new e h = tt
@@ -71,20 +70,3 @@ grown_none (Some b) (Some e) k = k ∙ sym (append-nil b)
 
 pub whole_rest : (n : ℕ) (xs : List ℕ) → take (length xs - n) (drop n xs) ≡ drop n xs
 whole_rest n xs = rw (← length-drop n xs) (take-length (drop n xs))
-
--- what breaks off leaves a beginning of what was to be written of the bytes that were given
-pub breaks : (given before after : Option (List ℕ)) (n : ℕ) (text : List ℕ) → IfSome given (λ xs. text ≡ take n xs) → length text < n → IsBegun before after (prepared text) → BreaksOver given before after
-breaks given before after n text h short begun = by given (whole given n text short h)
-  where
-    by : (o : Option (List ℕ)) → IfSome o (λ xs. text ≡ xs) → BreaksOver o before after
-    by None e = tt
-    by (Some xs) e = subst (λ (t : List ℕ). IsBegun before after (prepared t)) e begun
-
--- and where nothing is written, of any
-pub breaks_none : (given before : Option (List ℕ)) → BreaksOver given before before
-breaks_none None before = tt
-breaks_none (Some xs) before = none_begun before (prepared xs)
-
-pub on_err : {A E : Type 0} (r : Result A E) (P : Type 0) → P → OnErr r P
-on_err (Ok x) P p = tt
-on_err (Err e) P p = p

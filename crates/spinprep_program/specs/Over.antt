@@ -1,20 +1,14 @@
--- What is prepared over a reader of a text and a writer.
-use Rattle.std.specs.Prelude.{◌≡◌, ◌≤◌, ℕ, Bool, true, false, List, ◌++◌, Option, None, Some, IfSome, length}
+-- What is prepared of a text, over a writer.
+use Rattle.std.specs.Prelude.{◌≡◌, ℕ, List, ◌++◌, Option, None, Some, ◌⊎◌}
 use Rattle.std.specs.Io.KnownBytes.{Appends}
-use Rattle.prepare.specs.declared.TheConstants.{MOST_BYTES}
-use Rattle.prepare.specs.Laws.{lined, prepared, has_tokens_alone}
-use Rattle.spinprep_program.specs.declared.over.Done.{Done}
+use Rattle.prepared.specs.declared.given.How.{How}
+use Rattle.prepared.specs.declared.made.Prepared.{Prepared}
+use Rattle.prepared.specs.Made.{IsPreparedOf}
 
--- where it is told that nothing is left, the tokens of the text outside blocks are such as the language has
-abbrev pub TellsTokens : Bool → List ℕ → Type 0
-TellsTokens is_left text = is_left ≡ false → has_tokens_alone (lined text) ≡ true
-
--- The text is all that the reader gives, and has no more bytes than it may. What is known of the writer has grown by just what is prepared of it.
-pub record PreparesOver (given before after : Option (List ℕ)) (done : Done) : Type 0 where
-  pub read : IfSome given (λ bytes. done.text.items ≡ bytes)
-  pub short : length done.text.items ≤ MOST_BYTES
-  pub written : Appends before after (prepared done.text.items)
-  pub told : TellsTokens done.is_left done.text.items
+-- It is prepared of the author's text, and what is known of the writer has grown by just that.
+pub record PreparesOver (how : How) (own : List ℕ) (before after : Option (List ℕ)) (p : Prepared) : Type 0 where
+  pub prepared : IsPreparedOf how own p
+  pub written : Appends before after p.text.items
 
 -- how many bytes are told to be taken
 abbrev pub count : Option ℕ → ℕ
@@ -36,6 +30,12 @@ Takes contents before after bytes = Appends (contents before) (contents after) b
 abbrev pub TakesFront : {W : Type 0} → (W → Option (List ℕ)) → W → W → List ℕ → Type 0
 TakesFront contents before after bytes = IsBegun (contents before) (contents after) bytes
 
--- What is known of the writer has grown by a beginning of what is prepared of what the reader gives.
-abbrev pub BreaksOver : Option (List ℕ) → Option (List ℕ) → Option (List ℕ) → Type 0
-BreaksOver given before after = IfSome given (λ bytes. IsBegun before after (prepared bytes))
+-- what is prepared of the author's text, of which a beginning was written
+pub record BreaksWithin (how : How) (own : List ℕ) (before after : Option (List ℕ)) : Type 0 where
+  pub p : Prepared
+  pub prepared : IsPreparedOf how own p
+  pub begun : IsBegun before after p.text.items
+
+-- What is known of the writer is as it was, or has grown by a beginning of what is prepared of the author's text.
+abbrev pub BreaksOver : How → List ℕ → Option (List ℕ) → Option (List ℕ) → Type 0
+BreaksOver how own before after = (after ≡ before) ⊎ BreaksWithin how own before after

@@ -1,16 +1,17 @@
 -- The statuses of the program.
 use Rattle.std.specs.Prelude.{◌≡◌, ℕ, Bool, ◌&&◌, if◌then◌else◌, ◌⊎◌}
+use Rattle.prepared.specs.Statuses.{IsStatusOfUnprepared}
 use Rattle.spinprep_program.specs.declared.stop.Stop.{Stop}
 use Rattle.spinprep_program.specs.declared.stop.Stop.TheVariants as stop
 
--- the status that is answered where nothing is prepared: 3 where the text is too long, 4 where the words or the file are wrong, 6 where a device
+-- the status that is answered where nothing is prepared: that of the text where it is refused, 4 where the words are wrong or a file cannot be read, 6 where a device
 -- or memory fails, and of the help 0, or 6 where it cannot be shown
 abbrev pub IsStatus : Stop → ℕ → Type 0
 IsStatus stop.Help n = (n ≡ 0) ⊎ (n ≡ 6)
 IsStatus stop.Words n = n ≡ 4
+IsStatus (stop.Unprepared why) n = IsStatusOfUnprepared why n
 IsStatus (stop.CannotOpen name) n = n ≡ 4
 IsStatus (stop.CannotRead name) n = n ≡ 4
-IsStatus stop.TooLong n = n ≡ 3
 IsStatus stop.Device n = n ≡ 6
 IsStatus stop.Memory n = n ≡ 6
 

@@ -3,25 +3,34 @@
 ghost use Rattle.std.specs.Prelude.{◌≡◌};
 ghost use Rattle.spinprep_program.specs.Statuses.{IsStatus, status};
 
-use prepare::MOST_BYTES;
-use std::alloc::AllocError;
+use prepared::unprepared::{Unprepared, say, tell_unprepared};
+use std::alloc::{AllocError, AllocFailed};
 
-const HELP: &str = "Prepares the text of a Promela model, as cpp leaves it, for spinplay.
+// What the program is called in what it says.
+pub const PROGRAM: &str = "spinprep";
 
-usage: spinprep-text [--strict] [--name=NAME] [--lines=TABLE] FILE
+const HELP: &str =
+    "Prepares the text of a Promela model for spinplay, as Spin would read it: its macros, conditions and included files too.
 
-Writes a text with the same lines as the model's own file: blanks in place of ltl, never, trace, notrace and subtypes of mtype,
-the range of a for over an array, and the separators that the ends of lines stand for. What is blanked and what is left as it is
-stands on standard error, with its lines.
-bin/spinprep runs cpp and then this, and with --play bin/spinplay on what comes out.
+usage: spinprep-text [OPTIONS] FILE
 
+Writes a text with the same lines as the model's own file: what comes of its macros, blanks in place of ltl, never, trace, notrace and
+subtypes of mtype, the range of a for over an array, and the separators that the ends of lines stand for. What is blanked and what is
+left as it is stands on standard error, with its lines.
+bin/spinprep runs this, and with --play bin/spinplay on what comes out.
+
+  -DNAME, -DNAME=VALUE, -UNAME   as if '#define NAME 1', '#define NAME VALUE', '#undef NAME' stood before the text
+  -IFOLDER      looks for included files in FOLDER too
+  --no-cpp      reads FILE as it is: its '#' lines are not read
+  --expand      writes the text with its macros replaced, with marks of lines, and prepares nothing
   --strict      ends with status 1 where something is left that spinplay does not play
   --name=NAME   calls the file NAME in what is said
   --lines=TABLE writes to the file TABLE where the lines of included files stand, for spinplay --lines
+  --            ends the options
   --help        says this
 
-Exit statuses: 0 prepared; 1 something is left (--strict); 3 the text has more than 8388608 bytes; 4 wrong words, or a file that
-cannot be opened or read; 6 a device or memory failed.
+Exit statuses: 0 prepared; 1 something is left (--strict); 3 a '#' line or a call is not right, or the text is too long: 1048576 bytes of
+a file, 8388608 of all; 4 wrong words, or a file that cannot be opened or read; 6 a device or memory failed.
 ";
 
 // Why nothing is prepared.
@@ -29,9 +38,9 @@ cannot be opened or read; 6 a device or memory failed.
 pub enum Stop {
     Help,
     Words,
+    Unprepared(Unprepared),
     CannotOpen(String),
     CannotRead(String),
-    TooLong,
     Device,
     Memory,
 }
@@ -42,11 +51,34 @@ impl From<AllocError> for Stop {
     }
 }
 
+impl<T: Drop> From<AllocFailed<T>> for Stop {
+    fn from(_failed: AllocFailed<T>) -> Stop {
+        Stop::Memory
+    }
+}
+
+impl From<Unprepared> for Stop {
+    fn from(why: Unprepared) -> Stop {
+        match why {
+            Unprepared::Memory => Stop::Memory,
+            other => Stop::Unprepared(other),
+        }
+    }
+}
+
 // The status where something was prepared.
 pub fn status_of(is_strict: bool, is_left: bool) -> u8
     ensures { result ≡ status is_strict is_left }
 {
     u8::from(is_strict && is_left)
+}
+
+// Says something of a file. What memory is refused for is left out.
+fn say_of_file(rt: &HostRuntime, front: &str, name: &str) {
+    let alloc = rt.alloc();
+    if let Ok(words) = format!(in alloc; "{front}{name}") {
+        say(rt, PROGRAM, words.as_str());
+    }
 }
 
 // Shows why nothing is prepared, and answers the status. A message that cannot be shown is left out.
@@ -57,21 +89,18 @@ pub fn tell_stop(rt: &HostRuntime, stop: Stop) -> u8
         Stop::Help => { if print!(rt; "{HELP}").is_ok() { 0 } else { 6 } }
         Stop::Words => {
             let _ = eprintln!(rt;
-                "usage: spinprep-text [--strict] [--name=NAME] [--lines=TABLE] FILE"
+                "usage: spinprep [--play | --view] [--strict] [--no-cpp] [-DNAME=VALUE] [-IFOLDER] MODEL"
             );
             4
         }
+        Stop::Unprepared(why) => tell_unprepared(rt, PROGRAM, &why),
         Stop::CannotOpen(name) => {
-            let _ = eprintln!(rt; "spinprep: cannot open {name}");
+            say_of_file(rt, "cannot open ", name.as_str());
             4
         }
         Stop::CannotRead(name) => {
-            let _ = eprintln!(rt; "spinprep: cannot read {name}");
+            say_of_file(rt, "cannot read ", name.as_str());
             4
-        }
-        Stop::TooLong => {
-            let _ = eprintln!(rt; "spinprep: the text has more than {MOST_BYTES} bytes");
-            3
         }
         Stop::Device => {
             let _ = eprintln!(rt; "spinprep: device failed");

@@ -1,17 +1,25 @@
 // A run without a session: its lines, its chart, its page.
-use crate::files::write;
-use crate::shown::show;
-use crate::stop::NoView;
+use crate::asking::run_asking;
+use crate::opened::Files;
+use crate::output::{show, show_lines};
+use crate::stop::{Device, NoView};
 use crate::telling::shown_name;
+use crate::writing::PageFile;
+use devices::Source;
+use program_files::reading::ReadChoices;
+use program_files::telling::tell_misfit;
 use rand_pcg::Pcg32;
+use session::Answer;
+use std::io;
+use view_foreign::escaped::add_escaped;
 use view_json::lines::{Shown, add_start};
 use view_page::page::{Contents, add_page};
 use view_run::lines::{Sheet, add_next};
 use view_run::next::is_misfit;
 use view_run::plain::run;
 use view_run::steps::add_step;
-use view_session::charted::add_chart;
-use view_session::replay::{Along, Replay};
+use view_session::charted::{add_chart, most_alive};
+use view_session::replay::{Along, Reading, Replay};
 use view_session::seen::picture_of;
 use view_session::told::Told;
 use view_text::writer::Writer;
@@ -22,15 +30,69 @@ use view_words::{Asked, Form};
 const AT_ONCE: usize = 60_000;
 
 // The choices of a run: along a trail, of a file or of standard input, or of a generator.
-fn replay_of<'t>(asked: &Asked, (choices, along): (&'t [u8], Option<Along>)) -> Replay<'t> {
+fn replay_of(asked: &Asked, files: &mut Files, along: Option<Along>) -> Replay<ReadChoices> {
     if let Some(along) = along {
-        return Replay::along(along);
+        return Replay::Along(along);
     }
-    match asked.seed {
-        Some(seed) if asked.choices.is_none() => {
-            Replay::new(choices, Some(Pcg32::new(u64::from(seed), 54)))
+    match (files.choices.take(), asked.seed) {
+        (Some(choices), _) => Replay::Read(Reading::new(ReadChoices::new(choices))),
+        (None, Some(seed)) => Replay::Chance(Pcg32::new(u64::from(seed), 54)),
+        (None, None) => Replay::Along(Along::Stop(Answer::Ended)),
+    }
+}
+
+// What the choices are called.
+fn choices_name(asked: &Asked) -> &str {
+    match &asked.choices {
+        Some(name) => name.as_str(),
+        None => "standard input",
+    }
+}
+
+// Says how many lines of the choices were bad.
+fn tell_bad_lines(rt: &HostRuntime, name: &str, count: u32) {
+    let _ = match count {
+        0 => Ok(()),
+        1 => eprintln!(rt; "spinview: {name}: 1 line is no choice, and was passed over"),
+        _ => eprintln!(rt; "spinview: {name}: {count} lines are no choices, and were passed over"),
+    };
+}
+
+// Says which line of the choices does not fit, and whether some were bad.
+pub fn tell_choices(rt: &HostRuntime, asked: &Asked, replay: &Replay<ReadChoices>, end: &str) {
+    let Replay::Read(reading) = replay else {
+        return;
+    };
+    let name = choices_name(asked);
+    tell_bad_lines(rt, name, replay.bad_lines());
+    let choices = &reading.devices.source.reader;
+    if end == "choice misfit" {
+        let _ = tell_misfit(rt, "spinview", name, choices);
+    } else if is_misfit(end) {
+        let number = choices.number();
+        let _ = eprintln!(rt; "spinview: {name}:{number}: {end}");
+    }
+}
+
+// The same error once more.
+fn same(error: &io::Error) -> io::Error {
+    match error.raw_os_error() {
+        Some(code) => io::Error::from_raw_os_error(code),
+        None => io::Error::from(error.kind()),
+    }
+}
+
+// Why a run stopped; of choices that cannot be read with what the system said of them.
+pub fn why_unread(stop: NoView, replay: &Replay<ReadChoices>) -> NoView {
+    match (stop, replay) {
+        (NoView::Failed(Device::Choices, None), Replay::Read(reading)) => {
+            let why = match &reading.devices.source.error {
+                Some(error) => Some(same(error)),
+                None => None,
+            };
+            NoView::Failed(Device::Choices, why)
         }
-        _ => Replay::new(choices, None),
+        (stop, _) => stop,
     }
 }
 
@@ -50,25 +112,35 @@ fn told(end: &'static str) -> Result<(), NoView> {
     Ok(())
 }
 
-// Writes the chart of a run.
+// Writes the chart of a walk that ended so, in which so many processes lived at once.
+fn write_chart(
+    rt: &HostRuntime,
+    walk: &mut Walk<'_, '_>,
+    most: usize,
+    end: &'static str,
+) -> Result<&'static str, NoView> {
+    let steps = walk.legs().len();
+    let mut out = Writer::new(rt.alloc());
+    add_chart(walk, steps, most, &mut out)?;
+    view_chart::chart::add_end(steps, end.as_bytes(), &mut out);
+    show(rt, &out)?;
+    Ok(end)
+}
+
+// Runs, and writes the chart.
 fn run_chart(
     rt: &HostRuntime,
     walk: &mut Walk<'_, '_>,
-    replay: &mut Replay<'_>,
+    replay: &mut Replay<ReadChoices>,
     limit: usize,
 ) -> Result<&'static str, NoView> {
     let mut printed = Vec::new(rt.alloc());
     let ran = run(walk, replay, limit, &mut printed)?;
-    let steps = walk.legs().len();
-    let mut out = Writer::new(rt.alloc());
-    add_chart(walk, steps, ran.most, &mut out)?;
-    view_chart::chart::add_end(steps, ran.end.as_bytes(), &mut out);
-    show(rt, &out)?;
-    Ok(ran.end)
+    write_chart(rt, walk, ran.most, ran.end)
 }
 
-// Writes the line of the first state.
-fn begin(walk: &Walk<'_, '_>, asked: &Asked, sheet: &mut Sheet) -> Result<(), NoView> {
+// Writes the line of a state with which lines begin.
+pub fn begin(walk: &Walk<'_, '_>, asked: &Asked, sheet: &mut Sheet) -> Result<(), NoView> {
     let moves = walk.moves()?;
     let picture = picture_of(walk.world());
     add_start(
@@ -88,25 +160,25 @@ fn flush(rt: &HostRuntime, is_kept: bool, sheet: &mut Sheet) -> Result<(), NoVie
         return Err(NoView::Memory);
     }
     if !is_kept && sheet.lines.len() > AT_ONCE {
-        show(rt, &sheet.lines)?;
+        show_lines(rt, &sheet.lines)?;
         sheet.lines.clear();
         sheet.items.clear();
     }
     Ok(())
 }
 
-// Runs to the end. Why it ended.
-fn run_lines(
+// Takes steps until a walk has so many, or goes no further, and writes each. Why it goes no further.
+pub fn go_on<S: Source>(
     rt: &HostRuntime,
     walk: &mut Walk<'_, '_>,
-    replay: &mut Replay<'_>,
-    asked: &Asked,
+    replay: &mut Replay<S>,
+    limit: usize,
+    is_kept: bool,
     sheet: &mut Sheet,
 ) -> Result<&'static str, NoView> {
-    begin(walk, asked, sheet)?;
     for _ in 0..u64::MAX {
-        let end = add_next(walk, replay, asked.limit as usize, sheet)?;
-        flush(rt, asked.page.is_some(), sheet)?;
+        let end = add_next(walk, replay, limit, sheet)?;
+        flush(rt, is_kept, sheet)?;
         if let Some(end) = end {
             return Ok(end);
         }
@@ -117,44 +189,50 @@ fn run_lines(
 // Writes the page of a run.
 fn write_page(
     rt: &HostRuntime,
-    name: &str,
+    file: &mut PageFile,
     asked: &Asked,
     model: &[u8],
     sheet: &Sheet,
 ) -> Result<(), NoView> {
     let mut page = Writer::new(rt.alloc());
+    let mut lines = Writer::new(rt.alloc());
+    add_escaped(sheet.lines.bytes(), &mut lines);
+    page.keep_refusal(&lines);
     let contents = Contents {
         name: name_of(shown_name(asked)).as_bytes(),
         model,
         steps: sheet.items.bytes(),
-        lines: sheet.lines.bytes(),
+        lines: lines.bytes(),
     };
     add_page(contents, &mut page);
     if page.is_refused() {
         return Err(NoView::Memory);
     }
-    write(rt, name, page.bytes())
+    Ok(file.write(rt, page.bytes())?)
 }
 
 // Writes the lines of a run, where they are asked for, and its page.
 fn run_sheet(
     rt: &HostRuntime,
     walk: &mut Walk<'_, '_>,
-    replay: &mut Replay<'_>,
+    replay: &mut Replay<ReadChoices>,
     asked: &Asked,
     model: &[u8],
+    page: &mut Option<PageFile>,
 ) -> Result<&'static str, NoView> {
     let mut sheet = Sheet {
         lines: Writer::new(rt.alloc()),
         items: Writer::new(rt.alloc()),
         shown: Shown::new(rt.alloc()),
     };
-    let end = run_lines(rt, walk, replay, asked, &mut sheet)?;
+    begin(walk, asked, &mut sheet)?;
+    let limit = asked.limit as usize;
+    let end = go_on(rt, walk, replay, limit, page.is_some(), &mut sheet)?;
     if asked.form == Form::Json {
-        show(rt, &sheet.lines)?;
+        show_lines(rt, &sheet.lines)?;
     }
-    if let Some(name) = &asked.page {
-        write_page(rt, name.as_str(), asked, model, &sheet)?;
+    if let Some(file) = page {
+        write_page(rt, file, asked, model, &sheet)?;
     }
     Ok(end)
 }
@@ -163,7 +241,7 @@ fn run_sheet(
 fn run_steps(
     rt: &HostRuntime,
     walk: &mut Walk<'_, '_>,
-    replay: &mut Replay<'_>,
+    replay: &mut Replay<ReadChoices>,
     limit: usize,
 ) -> Result<&'static str, NoView> {
     let mut told = Told::new(rt.alloc());
@@ -180,27 +258,50 @@ fn run_steps(
     Ok("step limit")
 }
 
-// A run without a session, of these choices, or along the walk.
+// Shows a run in each form that is asked for. Why it ended.
+fn run_forms(
+    rt: &HostRuntime,
+    walk: &mut Walk<'_, '_>,
+    replay: &mut Replay<ReadChoices>,
+    asked: &Asked,
+    model: &[u8],
+    page: &mut Option<PageFile>,
+) -> Result<&'static str, NoView> {
+    let limit = asked.limit as usize;
+    if asked.form == Form::Json || page.is_some() {
+        let end = run_sheet(rt, walk, replay, asked, model, page)?;
+        if asked.form != Form::Chart {
+            return Ok(end);
+        }
+        let steps = walk.legs().len();
+        let most = most_alive(walk, steps)?;
+        return write_chart(rt, walk, most, end);
+    }
+    match asked.form {
+        Form::Chart => run_chart(rt, walk, replay, limit),
+        _ => run_steps(rt, walk, replay, limit),
+    }
+}
+
+// A run without a session, of its choices, or along the walk.
 pub fn run_all(
     rt: &HostRuntime,
     walk: &mut Walk<'_, '_>,
     asked: &Asked,
     model: &[u8],
-    given: (&[u8], Option<Along>),
+    files: &mut Files,
+    along: Option<Along>,
 ) -> Result<(), NoView> {
     walk.go_to(0)?;
-    let mut replay = replay_of(asked, given);
-    if asked.form == Form::Json || asked.page.is_some() {
-        let end = run_sheet(rt, walk, &mut replay, asked, model)?;
-        if asked.form != Form::Chart {
-            return told(end);
+    let mut replay = replay_of(asked, files, along);
+    if asked.asks {
+        return run_asking(rt, walk, &mut replay, asked, files);
+    }
+    match run_forms(rt, walk, &mut replay, asked, model, &mut files.page) {
+        Ok(end) => {
+            tell_choices(rt, asked, &replay, end);
+            told(end)
         }
-        walk.go_to(0)?;
-        replay = replay_of(asked, given);
+        Err(stop) => Err(why_unread(stop, &replay)),
     }
-    let limit = asked.limit as usize;
-    if asked.form == Form::Chart {
-        return told(run_chart(rt, walk, &mut replay, limit)?);
-    }
-    told(run_steps(rt, walk, &mut replay, limit)?)
 }

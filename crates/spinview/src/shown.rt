@@ -1,37 +1,41 @@
-// What is seen of a walk: a session, or all of a run.
-use crate::files::{Others, is_saved, write};
-use crate::stop::{NoView, no_line};
-use std::io::Write;
-use view_session::answers::{Reply, Setting, answer, begin, resume};
-use view_session::record::{add_record, choice_count};
-use view_session::replay::{Along, Replay, Said};
-use view_session::seen::picture_of;
+// A session: its first choices, and its lines.
+use crate::opened::Files;
+use crate::output::show;
+use crate::runs::{tell_choices, why_unread};
+use crate::stop::{Device, NoView, failed};
+use crate::writing::{Unsaved, save};
+use program_files::reading::ReadChoices;
+use session::Answer;
+use std::alloc::AllocError;
+use std::io::{BufRead, BufReader};
+use view_session::answers::{Reply, Setting, answer, begin, go_further, resume};
+use view_session::record::choice_count;
+use view_session::replay::{Along, Reading, Replay, end_of};
 use view_session::steps::choose;
 use view_session::told::Told;
 use view_text::writer::Writer;
 use view_walk::walk::{Walk, Went};
+use view_words::Asked;
 
-// Writes what is to be shown.
-pub fn show(rt: &HostRuntime, out: &Writer) -> Result<(), NoView> {
-    if out.is_refused() {
-        return Err(NoView::Memory);
-    }
-    match rt.stdout().write_all(out.bytes()) {
-        Ok(()) => Ok(()),
-        Err(_) => Err(NoView::Device),
+// What a session tells, and the file that was named to save in, where it was asked about.
+#[derive(Drop)]
+struct Session {
+    told: Told,
+    sure: Option<String>,
+}
+
+impl Session {
+    // Whether a file was named before to save in.
+    fn is_sure(&self, name: &str) -> bool {
+        match &self.sure {
+            Some(sure) => sure.as_str() == name,
+            None => false,
+        }
     }
 }
 
-// Saves the choices of a walk, and says whether that was done.
-fn save(rt: &HostRuntime, walk: &Walk<'_, '_>, name: &str, others: Others, out: &mut Writer) {
-    let mut record = Writer::new(rt.alloc());
-    add_record(walk.legs(), &mut record);
-    if record.is_refused() || !is_saved(rt, name, others, record.bytes()) {
-        out.add(b"cannot save ");
-        out.add(name.as_bytes());
-        out.add(b"\n");
-        return;
-    }
+// Says that choices were saved.
+fn add_saved(walk: &Walk<'_, '_>, out: &mut Writer) {
     let count = choice_count(walk.legs());
     out.add(b"saved: ");
     out.number(count);
@@ -44,6 +48,50 @@ fn save(rt: &HostRuntime, walk: &Walk<'_, '_>, name: &str, others: Others, out: 
     out.add(b" stops at this step\n");
 }
 
+// Saves the choices of a walk, and says whether that was done.
+fn save_as(
+    rt: &HostRuntime,
+    walk: &Walk<'_, '_>,
+    files: &Files,
+    name: &str,
+    session: &mut Session,
+) -> Result<(), AllocError> {
+    let is_sure = session.is_sure(name);
+    session.sure = None;
+    match save(rt, name, is_sure, &files.held, walk.legs()) {
+        Ok(()) => add_saved(walk, &mut session.told.out),
+        Err(Unsaved::Asked) => {
+            session.sure = Some(String::from_str(rt.alloc(), name)?);
+            session.told.out.add(name.as_bytes());
+            session
+                .told
+                .out
+                .add(b" is there: save it again to write over it\n");
+        }
+        Err(Unsaved::Failed) => {
+            session.told.out.add(b"cannot save ");
+            session.told.out.add(name.as_bytes());
+            session.told.out.add(b"\n");
+        }
+    }
+    Ok(())
+}
+
+// Keeps the record of the walk, and then shows what there is to be shown of it.
+fn show_all(
+    rt: &HostRuntime,
+    walk: &Walk<'_, '_>,
+    files: &mut Files,
+    session: &mut Session,
+) -> Result<(), NoView> {
+    if let Some(record) = &mut files.rec {
+        record.keep(rt, walk.legs())?;
+    }
+    show(rt, &session.told.out)?;
+    session.told.out.clear();
+    Ok(())
+}
+
 // Says that memory was refused, and leads out of that.
 fn recover(walk: &mut Walk<'_, '_>, out: &mut Writer) -> Result<(), NoView> {
     let at = walk.at();
@@ -52,108 +100,194 @@ fn recover(walk: &mut Walk<'_, '_>, out: &mut Writer) -> Result<(), NoView> {
     Ok(())
 }
 
+// Does what follows a line, which is shown piece by piece: no choice is made between two pieces. Whether the session goes on.
+fn follow<'l>(
+    rt: &HostRuntime,
+    walk: &mut Walk<'_, '_>,
+    setting: Setting<'_>,
+    files: &mut Files,
+    first: Result<Reply<'l>, AllocError>,
+    session: &mut Session,
+) -> Result<bool, NoView> {
+    let mut reply = first;
+    for _ in 0..u64::MAX {
+        match reply {
+            Ok(Reply::Further(command)) => {
+                show(rt, &session.told.out)?;
+                session.told.out.clear();
+                reply = go_further(walk, setting, command, &mut session.told);
+            }
+            Ok(Reply::Save(name)) => {
+                save_as(rt, walk, files, name, session)?;
+                return Ok(true);
+            }
+            Ok(Reply::On) => return Ok(true),
+            Ok(Reply::End) => return Ok(false),
+            Err(_) => {
+                recover(walk, &mut session.told.out)?;
+                return Ok(true);
+            }
+        }
+    }
+    Ok(true)
+}
+
+// Whether a line is to save once more.
+fn is_save<'l>(first: &Result<Reply<'l>, AllocError>) -> bool {
+    matches!(first, Ok(Reply::Save(_)))
+}
+
 // Answers a line. Whether the session goes on.
 fn answer_line(
     rt: &HostRuntime,
     walk: &mut Walk<'_, '_>,
     setting: Setting<'_>,
-    others: Others,
-    line: &str,
-    told: &mut Told,
+    files: &mut Files,
+    line: &[u8],
+    session: &mut Session,
 ) -> Result<bool, NoView> {
-    let mut goes_on = true;
-    match answer(walk, setting, line, told) {
-        Ok(Reply::On) => {}
-        Ok(Reply::Save(name)) => save(rt, walk, name, others, &mut told.out),
-        Ok(Reply::End) => goes_on = false,
-        Err(_) => recover(walk, &mut told.out)?,
+    let first = answer(walk, setting, line, &mut session.told);
+    if !is_save(&first) {
+        session.sure = None;
     }
-    show(rt, &told.out)?;
-    told.out.clear();
+    let goes_on = follow(rt, walk, setting, files, first, session)?;
+    show_all(rt, walk, files, session)?;
     Ok(goes_on)
 }
 
-// Takes the next of the choices that are to be taken first, without its lines. Whether there was one.
+// Takes the next of the choices that are to be taken first, without its lines. What they say, where it is no step.
 fn take_next(
+    rt: &HostRuntime,
     walk: &mut Walk<'_, '_>,
-    replay: &mut Replay<'_>,
+    replay: &mut Replay<ReadChoices>,
     printed: &mut Vec<u8>,
-) -> Result<bool, NoView> {
+) -> Result<Option<Answer>, NoView> {
     let moves = walk.moves()?;
     if moves.is_empty() {
-        return Ok(false);
+        return Ok(Some(Answer::Ended));
     }
-    let said = replay.next(&picture_of(walk.world()), moves.as_slice(), None);
-    let Said::Pick(choice) = said else {
-        return Ok(false);
+    let said = replay.next(rt.alloc(), walk, moves.as_slice())?;
+    let Answer::Pick(choice) = said else {
+        return Ok(Some(said));
     };
     printed.clear();
-    Ok(choose(walk, choice, printed)? == Went::On)
+    match choose(walk, choice, printed)? {
+        Went::On => Ok(None),
+        _ => Ok(Some(Answer::Ended)),
+    }
 }
 
-// Takes the choices that are to be taken first.
+// Takes the choices that are to be taken first, up to the limit. What they say, where they end.
 fn take_all(
     rt: &HostRuntime,
     walk: &mut Walk<'_, '_>,
-    choices: &[u8],
+    replay: &mut Replay<ReadChoices>,
     limit: usize,
-) -> Result<(), NoView> {
-    let mut replay = Replay::new(choices, None);
+) -> Result<Answer, NoView> {
     let mut printed = Vec::new(rt.alloc());
     for _ in walk.at()..limit {
-        if !take_next(walk, &mut replay, &mut printed)? {
-            break;
+        if let Some(said) = take_next(rt, walk, replay, &mut printed)? {
+            return Ok(said);
         }
     }
-    Ok(())
+    Ok(Answer::Ended)
+}
+
+// Takes the choices of a file first, and says where they do not fit.
+fn take_first(
+    rt: &HostRuntime,
+    walk: &mut Walk<'_, '_>,
+    asked: &Asked,
+    files: &mut Files,
+) -> Result<(), NoView> {
+    let Some(choices) = files.choices.take() else {
+        return Ok(());
+    };
+    let mut replay = Replay::Read(Reading::new(ReadChoices::new(choices)));
+    match take_all(rt, walk, &mut replay, asked.limit as usize) {
+        Ok(said) => {
+            tell_choices(rt, asked, &replay, end_of(said));
+            Ok(())
+        }
+        Err(stop) => Err(why_unread(stop, &replay)),
+    }
 }
 
 // Shows where a session begins: behind its first choices, or at the end of a trail.
 fn begin_behind(
     rt: &HostRuntime,
     walk: &mut Walk<'_, '_>,
-    limit: usize,
-    (choices, along): (Option<&[u8]>, Option<Along>),
+    asked: &Asked,
+    files: &mut Files,
+    along: Option<Along>,
     told: &mut Told,
 ) -> Result<(), NoView> {
+    let limit = asked.limit as usize;
     if let Some(along) = along {
         resume(walk, limit, along, told)?;
         return Ok(());
     }
-    if let Some(choices) = choices {
-        take_all(rt, walk, choices, limit)?;
-    }
+    take_first(rt, walk, asked, files)?;
     begin(walk, limit, told)?;
     Ok(())
 }
 
-// A session.
-pub fn session(
+// A line without what ends it.
+pub fn without_end(line: &[u8]) -> &[u8] {
+    match line {
+        [front @ .., b'\n'] => front,
+        _ => line,
+    }
+}
+
+// Reads lines and answers them.
+fn answer_lines(
     rt: &HostRuntime,
     walk: &mut Walk<'_, '_>,
     setting: Setting<'_>,
-    others: Others,
-    first: (Option<&[u8]>, Option<Along>),
+    files: &mut Files,
+    session: &mut Session,
 ) -> Result<(), NoView> {
-    let mut told = Told::new(rt.alloc());
-    begin_behind(rt, walk, setting.limit, first, &mut told)?;
-    show(rt, &told.out)?;
-    told.out.clear();
-    for line in rt.lines(rt.alloc()) {
-        let line = line.map_err(no_line)?;
-        if !answer_line(rt, walk, setting, others, line.as_str(), &mut told)? {
+    let mut input = match BufReader::new(rt.alloc(), rt.stdin()) {
+        Ok(input) => input,
+        Err(_) => return Err(NoView::Memory),
+    };
+    let mut line = Vec::new(rt.alloc());
+    for _ in 0..u64::MAX {
+        line.clear();
+        match input.read_until(b'\n', &mut line) {
+            Ok(0) => break,
+            Ok(_) => {}
+            Err(error) => return Err(failed(Device::Input, error)),
+        }
+        if !answer_line(
+            rt,
+            walk,
+            setting,
+            files,
+            without_end(line.as_slice()),
+            session,
+        )? {
             break;
         }
     }
     Ok(())
 }
 
-// Writes the record of a walk.
-pub fn write_record(rt: &HostRuntime, walk: &Walk<'_, '_>, name: &str) -> Result<(), NoView> {
-    let mut record = Writer::new(rt.alloc());
-    add_record(walk.legs(), &mut record);
-    if record.is_refused() {
-        return Err(NoView::Memory);
-    }
-    write(rt, name, record.bytes())
+// A session.
+pub fn run_session(
+    rt: &HostRuntime,
+    walk: &mut Walk<'_, '_>,
+    asked: &Asked,
+    setting: Setting<'_>,
+    files: &mut Files,
+    along: Option<Along>,
+) -> Result<(), NoView> {
+    let mut session = Session {
+        told: Told::new(rt.alloc()),
+        sure: None,
+    };
+    begin_behind(rt, walk, asked, files, along, &mut session.told)?;
+    show_all(rt, walk, files, &mut session)?;
+    answer_lines(rt, walk, setting, files, &mut session)
 }

@@ -1,24 +1,45 @@
 // Why there is nothing to see.
+use program_files::fault::NoFile;
+use session::Broken;
 use std::alloc::AllocError;
 use std::io;
+
+// A device that a run is shown over.
+#[derive(Clone, Copy)]
+pub enum Device {
+    Choices,
+    Input,
+    Output,
+    Record,
+}
+
+impl Device {
+    // What it is called.
+    pub fn words(self) -> &'static str {
+        match self {
+            Device::Choices => "choices",
+            Device::Input => "input",
+            Device::Output => "output",
+            Device::Record => "record",
+        }
+    }
+}
 
 // Why there is nothing to see.
 #[derive(Drop)]
 pub enum NoView {
     Words(clap::Error),
     NotText,
-    JsonWithChart,
-    CannotOpen(String, io::Error),
-    CannotRead(String, io::Error),
-    CannotWrite(String, io::Error),
-    // The file would be emptied, and it is another one of the run.
-    WouldEmpty(String, &'static str),
+    // Options that are no use together.
+    NotTogether,
+    File(NoFile),
     // The model is refused, which was said.
     Refused,
     // The choices do not fit, which was said.
     Misfit,
     Memory,
-    Device,
+    // A device failed, and perhaps it said why.
+    Failed(Device, Option<io::Error>),
 }
 
 impl From<AllocError> for NoView {
@@ -27,44 +48,32 @@ impl From<AllocError> for NoView {
     }
 }
 
-// Why a line of standard input was not read.
-pub fn no_line(error: io::Error) -> NoView {
+impl From<NoFile> for NoView {
+    fn from(fault: NoFile) -> NoView {
+        match fault {
+            NoFile::Memory => NoView::Memory,
+            other => NoView::File(other),
+        }
+    }
+}
+
+// A run without a session is broken off where its choices cannot be read: nothing else is asked of a device by it.
+impl From<Broken> for NoView {
+    fn from(broken: Broken) -> NoView {
+        match broken {
+            Broken::Memory => NoView::Memory,
+            Broken::Source => NoView::Failed(Device::Choices, None),
+            Broken::Out => NoView::Failed(Device::Output, None),
+            Broken::Record => NoView::Failed(Device::Record, None),
+        }
+    }
+}
+
+// Why a device failed, unless memory was refused.
+pub fn failed(device: Device, error: io::Error) -> NoView {
     if error.kind() == io::ErrorKind::OutOfMemory {
         NoView::Memory
     } else {
-        NoView::Device
-    }
-}
-
-// Why a file was not opened.
-pub fn cannot_open(rt: &HostRuntime, name: &str, error: io::Error) -> NoView {
-    if error.kind() == io::ErrorKind::OutOfMemory {
-        return NoView::Memory;
-    }
-    match String::from_str(rt.alloc(), name) {
-        Ok(name) => NoView::CannotOpen(name, error),
-        Err(_) => NoView::Memory,
-    }
-}
-
-// Why it was not read.
-pub fn cannot_read(rt: &HostRuntime, name: &str, error: io::Error) -> NoView {
-    if error.kind() == io::ErrorKind::OutOfMemory {
-        return NoView::Memory;
-    }
-    match String::from_str(rt.alloc(), name) {
-        Ok(name) => NoView::CannotRead(name, error),
-        Err(_) => NoView::Memory,
-    }
-}
-
-// Why it was not written.
-pub fn cannot_write(rt: &HostRuntime, name: &str, error: io::Error) -> NoView {
-    if error.kind() == io::ErrorKind::OutOfMemory {
-        return NoView::Memory;
-    }
-    match String::from_str(rt.alloc(), name) {
-        Ok(name) => NoView::CannotWrite(name, error),
-        Err(_) => NoView::Memory,
+        NoView::Failed(device, Some(error))
     }
 }

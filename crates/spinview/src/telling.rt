@@ -1,86 +1,51 @@
 // What standard error says. A message that cannot be shown is left out.
-use crate::files::source_of;
-use crate::stop::NoView;
-use clap::error::ErrorKind;
+use crate::stop::{Device, NoView};
 use diagnostics::Refusal;
-use explain::{Source, explain_beside, included_file, shown_file};
+use program_files::fault::NoFile;
+use program_files::models::Model;
+use program_files::refusal::{Shown, explained, explained_beside};
+use program_files::telling::{explain_device, tell_file};
+use program_files::words::{Program, tell_words};
+use std::alloc::{AllocError, Global};
 use std::io;
-use view_run::trailed::Followed;
 use view_words::Asked;
 
-// Says why a file failed, where that is asked for.
-fn explain_file(rt: &HostRuntime, is_asked: bool, name: &str, error: &io::Error) {
-    if is_asked {
-        if let Ok(name) = shown_file(rt.alloc(), name) {
-            let _ = eprintln!(rt; "spinview: {name}: {error}");
-        }
-    }
-}
+// What the program is called in what it says.
+pub const PROGRAM: &str = "spinview";
 
-// Help goes to standard output, and a mistake in the words to standard error.
-fn tell_words(rt: &HostRuntime, error: &clap::Error) -> u8 {
-    if error.kind() == ErrorKind::OutOfMemory {
-        let _ = eprintln!(rt; "spinview: out of memory");
-        return 6;
+// Says that a device failed, and which, where that is asked for.
+fn tell_device(rt: &HostRuntime, device: Device, why: Option<&io::Error>, explains: bool) {
+    let _ = eprintln!(rt; "spinview: device failed");
+    if explains {
+        explain_device(rt, PROGRAM, device.words(), why);
     }
-    let shown = error.print(rt).is_ok();
-    if error.use_stderr() {
-        4
-    } else if shown {
-        0
-    } else {
-        let _ = eprintln!(rt; "spinview: device failed");
-        6
-    }
-}
-
-// Says of a file that it failed, and answers the status.
-fn tell_file(rt: &HostRuntime, stop: &NoView, explains: bool) -> u8 {
-    match stop {
-        NoView::CannotOpen(name, error) => {
-            let _ = eprintln!(rt; "spinview: cannot open {name}");
-            explain_file(rt, explains, name.as_str(), error);
-        }
-        NoView::CannotRead(name, error) => {
-            let _ = eprintln!(rt; "spinview: cannot read {name}");
-            explain_file(rt, explains, name.as_str(), error);
-        }
-        NoView::CannotWrite(name, error) => {
-            let _ = eprintln!(rt; "spinview: cannot write {name}");
-            explain_file(rt, explains, name.as_str(), error);
-        }
-        NoView::WouldEmpty(name, what) => {
-            let _ = eprintln!(rt; "spinview: cannot open {name}");
-            let _ = eprintln!(rt; "spinview: it is the file of the {what}, which would be emptied");
-        }
-        _ => {}
-    }
-    4
 }
 
 // Says why there was nothing to see, and answers the status.
 pub fn tell_stop(rt: &HostRuntime, stop: &NoView, explains: bool) -> u8 {
     match stop {
-        NoView::Words(error) => tell_words(rt, error),
+        NoView::Words(error) => tell_words(rt, Program::View, error),
         NoView::NotText => {
             let _ = eprintln!(rt; "error: invalid UTF-8 was detected in one or more arguments");
             4
         }
-        NoView::JsonWithChart => {
-            let _ = eprintln!(rt; "spinview: --json with --chart");
+        NoView::NotTogether => {
+            let _ = eprintln!(rt;
+                "spinview: -D, -I and --no-cpp want --prepare, which goes without --source and --lines"
+            );
             4
         }
+        NoView::File(fault) => tell_file(rt, PROGRAM, fault, explains),
         NoView::Refused => 3,
         NoView::Misfit => 5,
         NoView::Memory => {
             let _ = eprintln!(rt; "spinview: out of memory");
             6
         }
-        NoView::Device => {
-            let _ = eprintln!(rt; "spinview: device failed");
+        NoView::Failed(device, why) => {
+            tell_device(rt, *device, why.as_ref(), explains);
             6
         }
-        _ => tell_file(rt, stop, explains),
     }
 }
 
@@ -92,87 +57,47 @@ pub fn shown_name(asked: &Asked) -> &str {
     }
 }
 
-// Which lines of the model are of included files, as far as that can be read.
-fn included_lines(rt: &HostRuntime, asked: &Asked) -> Result<Option<Vec<u8>>, NoView> {
-    match &asked.lines {
-        Some(name) => source_of(rt, name.as_str()),
-        None => Ok(None),
-    }
+// The words of an explanation, which names the program that prepares and shows a model in place of the one that plays it.
+fn for_view(alloc: Global, words: String) -> Result<String, AllocError> {
+    words.replace(alloc, "spinprep --play MODEL", "spinprep --view MODEL")
 }
 
-// The text of the included file in which a refusal lies.
-fn included_text(
-    rt: &HostRuntime,
-    text: &[u8],
-    lines: &[u8],
-    refusal: Refusal,
-) -> Result<Option<Vec<u8>>, NoView> {
-    match included_file(rt.alloc(), text, lines, refusal)? {
-        Some(name) => source_of(rt, name),
-        None => Ok(None),
-    }
-}
-
-// Why the model of this text is refused, and where, with the lines of its source or of the file that it includes.
-fn explained(
+// Why a model is refused, and where, with the lines of what it was prepared of.
+fn words_of_refusal(
     rt: &HostRuntime,
     asked: &Asked,
-    (text, own): (&[u8], &[u8]),
+    model: &Model,
     refusal: Refusal,
-) -> Result<String, NoView> {
-    let lines = included_lines(rt, asked)?.unwrap_or(Vec::new(rt.alloc()));
-    let included = included_text(rt, text, lines.as_slice(), refusal)?;
-    let included = included.unwrap_or(Vec::new(rt.alloc()));
-    let source = Source {
-        text: own,
-        lines: lines.as_slice(),
-        included: included.as_slice(),
+) -> Result<String, NoFile> {
+    let text = model.bytes.as_slice();
+    if let Some(own) = &model.own {
+        return explained_beside(rt, shown_name(asked), text, own, refusal);
+    }
+    let shown = Shown {
+        name: shown_name(asked),
+        text,
+        source: &asked.source,
+        lines: &asked.lines,
     };
-    Ok(explain_beside(rt.alloc(), shown_name(asked), text, source, refusal)?)
+    explained(rt, shown, refusal)
 }
 
-// Says that, unless memory is refused for it.
-fn explain_refusal(rt: &HostRuntime, asked: &Asked, texts: (&[u8], &[u8]), refusal: Refusal) {
-    if let Ok(words) = explained(rt, asked, texts, refusal) {
-        let _ = eprint!(rt; "{words}");
+// Says why a model is refused, and where, unless memory is refused for it.
+fn explain_refusal(rt: &HostRuntime, asked: &Asked, model: &Model, refusal: Refusal) {
+    if let Ok(words) = words_of_refusal(rt, asked, model, refusal) {
+        if let Ok(words) = for_view(rt.alloc(), words) {
+            let _ = eprint!(rt; "{words}");
+        }
     }
 }
 
-// Says that the model is refused, and why where that is asked for.
-pub fn tell_refusal(
-    rt: &HostRuntime,
-    asked: &Asked,
-    texts: (&[u8], &[u8]),
-    refusal: Refusal,
-    line: u32,
-) {
+// Says that the model is refused, and why.
+pub fn tell_refusal(rt: &HostRuntime, asked: &Asked, model: &Model, refusal: Refusal, line: u32) {
     if let Ok(words) = str::from_utf8(refusal.words()) {
         let _ = eprintln!(rt; "refused M{} ({words})", refusal.number());
     }
     if line > 0 {
         let _ = eprintln!(rt; "spinview: line {line}: M{}", refusal.number());
     }
-    if asked.explains {
-        explain_refusal(rt, asked, texts, refusal);
-    }
-}
-
-// Says which line of a trail does not fit, where one is left.
-pub fn tell_trail(rt: &HostRuntime, name: &str, followed: Followed) {
-    match followed {
-        Followed::Empty => {
-            let _ = eprintln!(rt;
-                "spinview: {name}: no line of a trail, as spin -t -p prints them"
-            );
-        }
-        Followed::Misfit(line) => {
-            let _ = eprintln!(rt; "spinview: {name}:{line}: no choice fits this line of the trail");
-        }
-        Followed::Fault(_, Some(line)) => {
-            let _ = eprintln!(rt;
-                "spinview: {name}:{line}: the run comes to a fault before this line of the trail"
-            );
-        }
-        _ => {}
-    }
+    explain_refusal(rt, asked, model, refusal);
 }

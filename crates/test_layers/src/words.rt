@@ -1,4 +1,4 @@
-//! What is read of a command line: a letter for each flag, or a dash, the limit and the files, with a dash for what is not there, and words for `--explain`, `--name`, `--source` and `--lines`.
+//! What is read of a command line: a letter for each flag, or a dash, the limit and the files, with a dash for what is not there, and words for the options behind them.
 use command_line::{Arguments, arguments};
 use row_files::Writer;
 use std::alloc::{AllocError, Global};
@@ -22,6 +22,13 @@ fn add_named(word: &str, name: &Option<String>, out: &mut Writer) {
     }
 }
 
+fn add_all(word: &str, texts: &[String], out: &mut Writer) {
+    for text in texts {
+        out.word(word);
+        out.word(text.as_str());
+    }
+}
+
 fn add_read(read: &Arguments, out: &mut Writer) {
     add_flag(read.options.steps, "p", out);
     add_flag(read.options.globals, "g", out);
@@ -35,10 +42,15 @@ fn add_read(read: &Arguments, out: &mut Writer) {
     add_file(&read.rec, out);
     out.word(" ");
     add_flag(read.convert, "convert", out);
+    out.word(if read.check { " check" } else { "" });
     out.word(if read.explain { " explain" } else { "" });
     add_named(" name ", &read.name, out);
     add_named(" source ", &read.source, out);
     add_named(" lines ", &read.lines, out);
+    out.word(if read.prepare { " prepare" } else { "" });
+    out.word(if read.no_cpp { " no-cpp" } else { "" });
+    add_all(" D ", read.defines.as_slice(), out);
+    add_all(" I ", read.folders.as_slice(), out);
 }
 
 fn words_of(alloc: Global, text: &[u8]) -> Result<Vec<&str>, AllocError> {

@@ -126,7 +126,9 @@ pub fn add_value(picture: &Picture<'_, '_, '_>, form: Form, number: i32, out: &m
 }
 
 // Writes the name of the channel that the number of a cell names, where it has one that is not this cell.
-fn add_named(picture: &Picture<'_, '_, '_>, place: Place, number: i32, out: &mut Writer) {
+fn add_named(picture: &Picture<'_, '_, '_>, place: Place, number: i32, out: &mut Writer)
+    ensures { Stays out.old out.new }
+{
     if number <= 0 || made_for(picture, number as usize) == Some(place) {
         return;
     }
@@ -138,7 +140,9 @@ fn add_named(picture: &Picture<'_, '_, '_>, place: Place, number: i32, out: &mut
 }
 
 /// Writes `PATH = VALUE`, and behind a channel's number its name.
-pub fn add_cell(picture: &Picture<'_, '_, '_>, place: Place, out: &mut Writer) {
+pub fn add_cell(picture: &Picture<'_, '_, '_>, place: Place, out: &mut Writer)
+    ensures { Stays out.old out.new }
+{
     add_path(picture, place, out);
     out.add(b" = ");
     let form = form_at(picture, place);
@@ -180,7 +184,9 @@ fn cell_of(
     variable: usize,
     wanted: &[u8],
     text: &mut Writer,
-) -> Option<Place> {
+) -> Option<Place>
+    ensures { Stays text.old text.new }
+{
     for cell in 0..cell_count(picture, frame, variable) {
         let place = Place {
             frame,
@@ -202,7 +208,9 @@ pub fn place_of(
     frame: usize,
     wanted: &[u8],
     text: &mut Writer,
-) -> Option<Place> {
+) -> Option<Place>
+    ensures { Stays text.old text.new }
+{
     for variable in 0..variable_count(picture, frame) {
         let found = cell_of(picture, frame, variable, wanted, text);
         if found.is_some() {

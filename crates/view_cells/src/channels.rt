@@ -3,6 +3,7 @@
 ghost use Rattle.std.specs.Prelude.{◌≡◌, pos};
 ghost use Rattle.std.specs.Option.{option_copied};
 ghost use Rattle.promela_run.specs.State.{channel_at};
+ghost use Rattle.view_text.specs.Written.{Stays};
 
 use crate::cells::{add_path, add_value};
 use crate::made::made_for;
@@ -30,7 +31,9 @@ pub fn channel_at<'w>(picture: &Picture<'w, '_, '_>, number: usize) -> Option<&'
 }
 
 // Writes whose a cell is: `P[2].` of a process.
-fn add_owner(picture: &Picture<'_, '_, '_>, frame: usize, out: &mut Writer) {
+fn add_owner(picture: &Picture<'_, '_, '_>, frame: usize, out: &mut Writer)
+    ensures { Stays out.old out.new }
+{
     if frame > 0 {
         add_name(picture, frame - 1, out);
         out.add(b"[");
@@ -40,7 +43,9 @@ fn add_owner(picture: &Picture<'_, '_, '_>, frame: usize, out: &mut Writer) {
 }
 
 /// Writes the name of a channel, by the cell that it was made for: `q[1]`, or `P[2].q` of a process. Whether it has one.
-pub fn add_channel_name(picture: &Picture<'_, '_, '_>, number: usize, out: &mut Writer) -> bool {
+pub fn add_channel_name(picture: &Picture<'_, '_, '_>, number: usize, out: &mut Writer) -> bool
+    ensures { Stays out.old out.new }
+{
     let Some(place) = made_for(picture, number) else {
         return false;
     };
@@ -49,13 +54,17 @@ pub fn add_channel_name(picture: &Picture<'_, '_, '_>, number: usize, out: &mut 
     true
 }
 // Writes `chan N`.
-fn add_number(number: usize, out: &mut Writer) {
+fn add_number(number: usize, out: &mut Writer)
+    ensures { Stays out.old out.new }
+{
     out.add(b"chan ");
     out.number(number);
 }
 
 /// Writes the name of a channel without its process, or `chan N`.
-pub fn add_short_name(picture: &Picture<'_, '_, '_>, number: usize, out: &mut Writer) {
+pub fn add_short_name(picture: &Picture<'_, '_, '_>, number: usize, out: &mut Writer)
+    ensures { Stays out.old out.new }
+{
     match made_for(picture, number) {
         Some(place) => add_path(picture, place, out),
         None => add_number(number, out),
@@ -63,7 +72,9 @@ pub fn add_short_name(picture: &Picture<'_, '_, '_>, number: usize, out: &mut Wr
 }
 
 /// Writes `chan N NAME`.
-pub fn add_channel(picture: &Picture<'_, '_, '_>, number: usize, out: &mut Writer) {
+pub fn add_channel(picture: &Picture<'_, '_, '_>, number: usize, out: &mut Writer)
+    ensures { Stays out.old out.new }
+{
     add_number(number, out);
     let mut name = Writer::new(out.allocator());
     if add_channel_name(picture, number, &mut name) {
@@ -73,7 +84,9 @@ pub fn add_channel(picture: &Picture<'_, '_, '_>, number: usize, out: &mut Write
 }
 
 /// Writes the name of a channel, or `chan N` where it has none.
-pub fn add_channel_word(picture: &Picture<'_, '_, '_>, number: usize, out: &mut Writer) {
+pub fn add_channel_word(picture: &Picture<'_, '_, '_>, number: usize, out: &mut Writer)
+    ensures { Stays out.old out.new }
+{
     if !add_channel_name(picture, number, out) {
         add_number(number, out);
     }
@@ -93,7 +106,9 @@ pub fn add_fields(
     fields: &[i32],
     between: &[u8],
     out: &mut Writer,
-) {
+)
+    ensures { Stays out.old out.new }
+{
     for i in 0..fields.len() {
         if i > 0 {
             out.add(between);
@@ -103,12 +118,9 @@ pub fn add_fields(
 }
 
 /// Writes a message: `(ping, 1)`.
-pub fn add_message(
-    picture: &Picture<'_, '_, '_>,
-    types: &[Form],
-    fields: &[i32],
-    out: &mut Writer,
-) {
+pub fn add_message(picture: &Picture<'_, '_, '_>, types: &[Form], fields: &[i32], out: &mut Writer)
+    ensures { Stays out.old out.new }
+{
     out.add(b"(");
     add_fields(picture, types, fields, b", ", out);
     out.add(b")");

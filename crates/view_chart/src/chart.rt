@@ -1,5 +1,7 @@
 //! The rows of a chart.
 
+ghost use Rattle.view_text.specs.Written.{Stays};
+
 use crate::row::Row;
 use promela_run::moves::Move;
 use view_cells::channels::{add_fields, add_short_name, channel_at};
@@ -18,7 +20,9 @@ pub fn width_of(most: usize) -> usize {
 }
 
 // Writes the name of a channel, a sign, and the fields of a message: `q!1,2`.
-fn add_label(picture: &Picture<'_, '_, '_>, transfer: &Transfer, sign: &[u8], out: &mut Writer) {
+fn add_label(picture: &Picture<'_, '_, '_>, transfer: &Transfer, sign: &[u8], out: &mut Writer)
+    ensures { Stays out.old out.new }
+{
     add_short_name(picture, transfer.channel, out);
     out.add(sign);
     if let Some(channel) = channel_at(picture, transfer.channel) {
@@ -39,7 +43,9 @@ pub fn add_birth(
     step: usize,
     process: usize,
     out: &mut Writer,
-) {
+)
+    ensures { Stays out.old out.new }
+{
     let mut label = Writer::new(out.allocator());
     add_name(picture, process, &mut label);
     label.add(b" ");
@@ -51,7 +57,9 @@ pub fn add_birth(
     out.keep_refusal(&label);
 }
 
-fn add_death(width: usize, step: usize, process: usize, out: &mut Writer) {
+fn add_death(width: usize, step: usize, process: usize, out: &mut Writer)
+    ensures { Stays out.old out.new }
+{
     let mut row = Row::new(out.allocator(), width, step);
     row.living(process);
     row.column(b"x", b"");
@@ -92,7 +100,9 @@ pub fn add_row(
     m: &Move,
     transfer: &Transfer,
     out: &mut Writer,
-) {
+)
+    ensures { Stays out.old out.new }
+{
     if let Move::Death(process) = m {
         return add_death(width, step, *process, out);
     }
@@ -120,7 +130,9 @@ pub fn add_row(
 }
 
 /// Writes the last row: `end: valid, steps 9`.
-pub fn add_end(steps: usize, end: &[u8], out: &mut Writer) {
+pub fn add_end(steps: usize, end: &[u8], out: &mut Writer)
+    ensures { Stays out.old out.new }
+{
     let mut row = Row::new(out.allocator(), 0, steps);
     row.words(b"end: ");
     row.words(end);

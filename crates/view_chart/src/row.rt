@@ -1,5 +1,7 @@
 //! A row of a chart.
 
+ghost use Rattle.view_text.specs.Written.{Stays};
+
 use std::alloc::Global;
 use view_text::writer::Writer;
 
@@ -7,7 +9,9 @@ use view_text::writer::Writer;
 const STEP_WIDTH: usize = 6;
 
 /// Writes a label of at most so many bytes: of a longer one the last is a mark.
-fn add_cut(label: &[u8], most: usize, out: &mut Writer) {
+fn add_cut(label: &[u8], most: usize, out: &mut Writer)
+    ensures { Stays out.old out.new }
+{
     if label.len() <= most {
         out.add(label);
     } else if most > 0 {
@@ -90,7 +94,9 @@ impl Row {
     }
 
     /// Writes the row, without the blanks at its end.
-    pub fn end(&self, out: &mut Writer) {
+    pub fn end(&self, out: &mut Writer)
+        ensures { Stays out.old out.new }
+    {
         out.add(without_blanks(self.text.bytes()));
         out.add(b"\n");
         if self.text.is_refused() {

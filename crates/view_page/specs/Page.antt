@@ -5,6 +5,7 @@ use Rattle.std.specs.Fmt.{decimal}
 use Rattle.diagnostics.specs.declared.fault.Fault.{Fault}
 use Rattle.diagnostics.specs.Words.{fault_number, fault_words}
 use Rattle.view_text.specs.Written.{quoted}
+use Rattle.view_foreign.specs.Shown.{shown_bytes}
 use Rattle.view_page.specs.declared.parts.TheConstants.{TO_TITLE, TO_HEADING, TO_SOURCE, TO_STEPS, TO_LINES}
 use Rattle.view_page.specs.declared.script.TheConstants.{TO_END}
 use Rattle.view_page.specs.declared.page.Contents.{Contents}
@@ -18,6 +19,10 @@ shown_byte b =
 abbrev pub shown : List ℕ → List ℕ
 shown = flat_map shown_byte
 
+-- bytes that others wrote, so that HTML shows them as a terminal does
+abbrev pub foreign : List ℕ → List ℕ
+foreign bs = shown (shown_bytes bs)
+
 -- a byte of JSON within an element: `<` by its number
 abbrev pub held_byte : ℕ → List ℕ
 held_byte b = if nat_eq b 60 then codes "\\u003c" else b ∷ []
@@ -27,7 +32,7 @@ held = flat_map held_byte
 
 -- what stands before the steps
 abbrev pub source : Contents → List ℕ
-source c = TO_TITLE.now ++ (shown c.name.now ++ (TO_HEADING.now ++ (shown c.name.now ++ (TO_SOURCE.now ++ shown c.model.now))))
+source c = TO_TITLE.now ++ (foreign c.name.now ++ (TO_HEADING.now ++ (foreign c.name.now ++ (TO_SOURCE.now ++ foreign c.model.now))))
 
 -- A page: its parts, and between them the name of the model, its text, the items of its steps, and the lines of JSON.
 abbrev pub page : Contents → List ℕ
@@ -42,16 +47,16 @@ choice_text choice of = if ltb 1 of then codes ", choice " ++ (decimal choice ++
 -- what it printed, if anything
 abbrev pub printed_text : List ℕ → List ℕ
 printed_text [] = []
-printed_text (b ∷ bs) = codes ", prints " ++ shown (quoted (b ∷ bs))
+printed_text (b ∷ bs) = codes ", prints " ++ foreign (quoted (b ∷ bs))
 
 abbrev pub item : List ℕ → List ℕ
 item inside = codes "<li>" ++ (inside ++ codes "</li>\n")
 
 abbrev pub step_item : List ℕ → List ℕ → ℕ → ℕ → List ℕ
-step_item text printed choice of = item (shown text ++ (choice_text choice of ++ printed_text printed))
+step_item text printed choice of = item (foreign text ++ (choice_text choice of ++ printed_text printed))
 
 abbrev pub fault_item : List ℕ → Fault → List ℕ
-fault_item text f = item (shown text ++ (codes ": fault F" ++ (decimal (fault_number f) ++ (codes " (" ++ (shown (fault_words f) ++ codes ")")))))
+fault_item text f = item (foreign text ++ (codes ": fault F" ++ (decimal (fault_number f) ++ (codes " (" ++ (shown (fault_words f) ++ codes ")")))))
 
 abbrev pub end_item : List ℕ → List ℕ
 end_item end = item (codes "end: " ++ shown end)

@@ -1,11 +1,12 @@
 //! The page, and the steps as a list that is read without scripts.
 
 ghost use Rattle.view_text.specs.Written.{Adds};
-ghost use Rattle.view_page.specs.Page.{shown_byte, shown, held_byte, held, source, page, choice_text, printed_text, step_item, fault_item, end_item};
+ghost use Rattle.view_page.specs.Page.{shown_byte, shown, foreign, held_byte, held, source, page, choice_text, printed_text, step_item, fault_item, end_item};
 
 use crate::parts::{TO_HEADING, TO_LINES, TO_SOURCE, TO_STEPS, TO_TITLE};
 use crate::script::TO_END;
 use diagnostics::Fault;
+use view_foreign::shown::add_shown;
 use view_text::writer::Writer;
 
 fn add_escaped_byte(byte: u8, out: &mut Writer)
@@ -28,6 +29,16 @@ fn add_escaped(bytes: &[u8], out: &mut Writer)
     for byte in bytes {
         add_escaped_byte(*byte, out);
     }
+}
+
+// Writes bytes that others wrote so that HTML shows them as a terminal does.
+fn add_foreign(bytes: &[u8], out: &mut Writer)
+    ensures { Adds out.old out.new (foreign bytes.now) }
+{
+    let mut text = Writer::new(out.allocator());
+    add_shown(bytes, &mut text);
+    add_escaped(text.bytes(), out);
+    out.keep_refusal(&text);
 }
 
 fn add_held_byte(byte: u8, out: &mut Writer)
@@ -69,11 +80,11 @@ fn add_source(contents: Contents<'_>, out: &mut Writer)
     ensures { Adds out.old out.new (source contents.entry) }
 {
     add_part(TO_TITLE, out);
-    add_escaped(contents.name, out);
+    add_foreign(contents.name, out);
     add_part(TO_HEADING, out);
-    add_escaped(contents.name, out);
+    add_foreign(contents.name, out);
     add_part(TO_SOURCE, out);
-    add_escaped(contents.model, out);
+    add_foreign(contents.model, out);
 }
 
 /// Writes the page.
@@ -110,7 +121,7 @@ fn add_printed(printed: &[u8], out: &mut Writer)
     let mut quoted = Writer::new(out.allocator());
     quoted.quoted(printed);
     out.add(b", prints ");
-    add_escaped(quoted.bytes(), out);
+    add_foreign(quoted.bytes(), out);
     if quoted.is_refused() {
         out.refuse();
     }
@@ -121,7 +132,7 @@ pub fn add_item(text: &[u8], printed: &[u8], choice: usize, of: usize, out: &mut
     ensures { Adds out.old out.new (step_item text.now printed.now choice of) }
 {
     out.add(b"<li>");
-    add_escaped(text, out);
+    add_foreign(text, out);
     add_choice(choice, of, out);
     add_printed(printed, out);
     out.add(b"</li>\n");
@@ -132,7 +143,7 @@ pub fn add_fault_item(text: &[u8], fault: Fault, out: &mut Writer)
     ensures { Adds out.old out.new (fault_item text.now fault) }
 {
     out.add(b"<li>");
-    add_escaped(text, out);
+    add_foreign(text, out);
     out.add(b": fault F");
     out.number(fault.number() as usize);
     out.add(b" (");

@@ -78,7 +78,7 @@ td, th { text-align: left; vertical-align: top; padding: 3px 8px 3px 0; font-wei
 .vars { display: flex; flex-wrap: wrap; gap: 3px 6px; margin-top: 3px; }
 .proc .vars { margin-left: 24px; }
 .v { font: 12.5px/18px var(--mono); background: var(--faint); border-radius: 5px; padding: 0 6px; }
-.v { cursor: pointer; }
+button.v { border: 0; text-align: left; overflow-wrap: anywhere; }
 .v b { font-weight: 600; }
 .v.new { background: var(--mark); }
 .v.new s { color: var(--soft); text-decoration-thickness: 1px; }
@@ -95,8 +95,10 @@ td, th { text-align: left; vertical-align: top; padding: 3px 8px 3px 0; font-wei
 .chan.new .top .m { background: var(--mark); border-radius: 4px; box-shadow: 0 0 0 3px var(--mark); }
 ol.moves { margin: 0; padding-left: 26px; }
 ol.moves li { padding: 1px 4px; font: 12.5px/19px var(--mono); border-radius: 5px; overflow-wrap: anywhere; }
-ol.moves li.taken { background: var(--now); font-weight: 600; }
-ol.moves li.taken::after { content: "taken next"; display: inline-block; white-space: nowrap; margin-left: 8px; font: 600 11px var(--sans); color: var(--now-ink); }
+ol.moves button { font: inherit; text-align: left; width: 100%; overflow-wrap: anywhere; background: var(--card); }
+ol.moves button:hover { background: var(--faint); } ol.moves .taken button { background: var(--now); font-weight: 600; }
+ol.moves li.taken:not(:has(button)) { background: var(--now); font-weight: 600; }
+ol.moves li.taken:not(:has(button))::after { content: "taken next"; display: inline-block; white-space: nowrap; margin-left: 8px; font: 600 11px var(--sans); color: var(--now-ink); }
 #printed { margin: 0; white-space: pre-wrap; overflow-wrap: anywhere; max-height: 11em; overflow: auto; }
 #printed mark { background: var(--mark); color: inherit; }
 .none { color: var(--soft); font-size: 13px; }
@@ -118,18 +120,27 @@ kbd { font: 11px var(--mono); border: 1px solid var(--line); border-bottom-width
 noscript ol { font-family: var(--mono); font-size: 12.5px; }
 @media (max-width: 1080px) {
   main { grid-template-columns: minmax(0, 1fr) minmax(0, 1fr); }
-  #a-source { grid-column: 1 / -1; order: 3; }
+  main.wide { grid-template-columns: minmax(0, 1fr) minmax(0, 1fr); }
+  #a-source { grid-column: 1 / -1; order: 3; } #wide { display: none; }
   .tall { position: static; height: min(70vh, 620px); }
 }
 @media (max-width: 720px) {
   header { padding: 8px 10px; }
-  main { grid-template-columns: minmax(0, 1fr); padding: 10px; }
+  main, main.wide { grid-template-columns: minmax(0, 1fr); padding: 10px; }
+  .stack { order: -1; }
   #a-chart { height: auto; max-height: 52vh; min-height: 0; }
   #keys { display: none; }
   .bar .grow { order: 9; flex-basis: 100%; }
   label.none { margin-left: auto; }
 }
-@media print { header { position: static; } .tall { height: auto; } }
+main.wide { grid-template-columns: minmax(250px, 52fr) minmax(300px, 30fr) minmax(240px, 18fr); }
+.card > h2 button { float: right; font: 11px var(--sans); text-transform: none; letter-spacing: 0; padding: 0 7px; margin-top: -2px; }
+summary { cursor: pointer; color: var(--soft); font-size: 13px; padding: 4px 0; }
+#source .l:focus-visible { outline-offset: -2px; }
+@media print {
+  body, main { display: block; } header, .tall, #heads { position: static; } .tall { height: auto; max-height: none; } .card { margin: 8px 0; break-inside: auto; }
+  .tall > .scroll, #printed { overflow: visible; max-height: none; } button, select, label, input, #strip, #keys, #tip { display: none; } button.v, ol.moves button { display: inline; } #source { white-space: pre-wrap; min-width: 0; } #source .t { white-space: pre-wrap; }
+}
 </style>
 </head>
 <body>
@@ -150,17 +161,17 @@ pub const TO_SOURCE: &str = r##"</h1>
     <span id="count"></span>
     <span><label class="none">stop at <select id="stops"></select></label> <label class="none"><input type="checkbox" id="only"> hide others</label></span>
   </div>
-  <div id="said" aria-live="polite"></div>
+  <div id="said" role="status"></div>
 </header>
 <main>
-  <section class="card tall" id="a-source" aria-label="source"><h2>Source</h2><div class="scroll" tabindex="0"><pre id="source">
+  <section class="card tall" id="a-source" aria-label="source"><h2>Source <button id="wide" aria-pressed="false">wider</button></h2><div class="scroll" tabindex="0"><pre id="source">
 "##;
 
 /// Up to the list of steps.
 pub const TO_STEPS: &str = r##"</pre></div></section>
   <section class="card tall" id="a-chart" aria-label="chart"><h2>Messages</h2><div class="scroll" id="view" tabindex="0"><svg id="heads" height="30"></svg><div id="chart"></div></div></section>
   <div class="stack">
-    <section class="card"><h2 id="h-moves">Choices</h2><div class="in" id="moves"></div></section>
+    <section class="card" id="a-moves"><h2 id="h-moves">Choices</h2><div class="in" id="moves" tabindex="-1"></div></section>
     <section class="card"><h2>Processes</h2><div class="in" id="processes"></div></section>
     <section class="card" id="a-channels"><h2>Channels</h2><div class="in" id="channels"></div></section>
     <section class="card" id="a-globals"><h2>Globals</h2><div class="in" id="globals"></div></section>

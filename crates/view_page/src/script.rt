@@ -4,15 +4,17 @@
 pub const TO_END: &str = r##"</script>
 <script>
 "use strict";
-(function () {
-  const $ = id => document.getElementById(id);
-  const events = $("run").textContent.trim().split("\n").map(l => JSON.parse(l));
-  const start = events[0], end = events[events.length - 1];
-  const steps = events.filter(e => e.event === "step");
-  const fault = events.find(e => e.event === "fault");
-  const count = steps.length;
-  const esc = s => String(s).replace(/[&<>"]/g, c => ({ "&": "&amp;", "<": "&lt;", ">": "&gt;", '"': "&quot;" })[c]);
-  const tidy = t => t.split(/("(?:[^"\\]|\\.)*")/).map((x, i) => i % 2 ? x : x.replace(/ ([,;)\]])/g, "$1").replace(/([(\[]) /g, "$1").replace(/([A-Za-z_]\w*) \[/g, "$1[").replace(/(^|[\[(&|]\s?)! /g, "$1!").replace(/ \. /g, ".").replace(/(\w) (\+\+|--)/g, "$1$2").replace(/\b(printf|printm|assert|run \w+|len|full|empty|nfull|nempty|eval) \(/g, "$1(").replace(/([!?]) (\w+) \(/g, "$1 $2(")).join("");
+// what walks: null in the page of a run, which is as it is; tools/wasm/page puts the machine and the walk in its place
+const WALK = null;
+const $ = id => document.getElementById(id);
+const plain = (k, v) => typeof v !== "string" ? v : v.replace(/[\u200b-\u200f\u2028-\u202e\u2066-\u2069\ufeff]/g, c => "\\u{" + c.charCodeAt(0).toString(16) + "}").replace(/[^\t\n -~\u00a0-\uffff]/g, "?");
+const parsed = lines => lines.trim().split("\n").map(l => JSON.parse(l, plain));
+const esc = s => String(s).replace(/[&<>"]/g, c => ({ "&": "&amp;", "<": "&lt;", ">": "&gt;", '"': "&quot;" })[c]);
+const tidy = t => t.split(/("(?:[^"\\]|\\.)*")/).map((x, i) => i % 2 ? x : x.replace(/ ([,;)\]])/g, "$1").replace(/([(\[]) /g, "$1").replace(/([A-Za-z_]\w*) \[/g, "$1[").replace(/(^|[\[(&|]\s?)! /g, "$1!").replace(/ \. /g, ".").replace(/(\w) (\+\+|--)/g, "$1$2").replace(/\b(printf|printm|assert|run \w+|len|full|empty|nfull|nempty|eval) \(/g, "$1(").replace(/([!?]) (\w+) \(/g, "$1 $2(")).join("");
+// shows a run, of which these are the lines of JSON, at a step; `ended` ends it, for another to be shown
+function shown(events, model, first, ended) {
+  const start = events[0], steps = events.filter(e => e.event === "step"), heard = { signal: ended };
+  let end = events[events.length - 1], fault = events.find(e => e.event === "fault"), count = steps.length;
   const show = v => v !== null && typeof v === "object" ? names[v.chan - 1] || "chan " + v.chan : v;
   const list = m => m.map(show).join(", ");
   const hue = p => "var(--p" + (p % 8) + ")";
@@ -35,7 +37,11 @@ pub const TO_END: &str = r##"</script>
   const base = { globals: cells(), channels: [], processes: [], printed: "", alive: 0 };
   fold(base, start); base.alive = base.processes.length;
   const kept = [base];
-  (function () { let s = copy(base); s.alive = base.alive; for (let i = 0; i < count; i++) { fold(s, steps[i]); if ((i + 1) % 200 === 0) { const k = copy(s); k.alive = s.alive; kept.push(k); } } })();
+  const tip = copy(base);
+  let folded = 0;
+  tip.alive = base.alive;
+  function keep() { for (; folded < count; folded++) { fold(tip, steps[folded]); if ((folded + 1) % 200 === 0) { const k = copy(tip); k.alive = tip.alive; kept.push(k); } } }
+  keep();
   function stateAt(k) { const from = Math.floor(k / 200); const s = copy(kept[from]); s.alive = kept[from].alive; for (let i = from * 200; i < k; i++) fold(s, steps[i]); return s; }
 
   // the names of the channels, in the state that is spoken of: a number is given again where a channel is gone
@@ -44,17 +50,15 @@ pub const TO_END: &str = r##"</script>
   const named = n => names[n - 1] || "chan " + n;
 
   // ---- the chart: rows of steps, columns of processes, arrows from sends to receives
-  const lives = [], arrows = [], dots = [];
-  let columns = 0;
-  (function () {
-    const open = [], queues = new Map();
-    const born = (p, k) => { open[p.proc] = { proc: p.proc, name: p.name, from: k, to: count + 3 }; lives.push(open[p.proc]); columns = Math.max(columns, p.proc + 1); };
-    for (const p of start.processes) born(p, 0);
-    for (const c of start.channels) queues.set(c.chan, c.messages.map(() => null));
-    name(start);
-    let alive = start.processes.length;
-    steps.forEach((e, i) => {
-      const k = i + 1;
+  const lives = [], arrows = [], dots = [], open = [], queues = new Map();
+  let columns = 0, alive = start.processes.length, charted = 0, last = 0, into = new Map();
+  const born = (p, k) => { open[p.proc] = { proc: p.proc, name: p.name, from: k, to: Infinity }; lives.push(open[p.proc]); columns = Math.max(columns, p.proc + 1); };
+  for (const p of start.processes) born(p, 0);
+  for (const c of start.channels) queues.set(c.chan, c.messages.map(() => null));
+  name(start);
+  function chart() {
+    for (; charted < count; charted++) {
+      const e = steps[charted], k = charted + 1;
       for (const p of e.processes || []) if (p.proc >= alive) born(p, k);
       if (e.alive < alive) for (let p = e.alive; p < alive; p++) { open[p].to = k; open[p].dies = true; }
       alive = e.alive;
@@ -78,15 +82,18 @@ pub const TO_END: &str = r##"</script>
       }
       for (const c of e.channels || []) if (!queues.has(c.chan)) queues.set(c.chan, []);
       for (const n of Array.from(queues.keys())) if (n > e.open) queues.delete(n);
-    });
+    }
     if (fault) dots.push({ k: count + 1, proc: fault.proc, label: tidy(fault.text), e: fault, fault: true });
-  })();
-  const last = count + (fault ? 1 : 0), into = new Map(arrows.filter(a => a.b > a.a && a.r !== a.p).map(a => [a.b, a]));
+    last = count + (fault ? 1 : 0);
+    into = new Map(arrows.filter(a => a.b > a.a && a.r !== a.p).map(a => [a.b, a]));
+  }
+  chart();
 
   // the rows of the chart: of all steps, or of those that are wanted, of births, deaths and a fault
-  const rowAt = new Int32Array(last + 2), births = new Set(lives.map(l => l.from));
-  let stepAt = [], rows = 0;
+  let rowAt = null, births = null, stepAt = [], rows = 0;
   function layout(wanted) {
+    rowAt = new Int32Array(last + 2);
+    births = new Set(lives.map(l => l.from));
     stepAt = [0];
     for (let k = 1; k <= last; k++) {
       const e = dots[k - 1].e;
@@ -97,25 +104,26 @@ pub const TO_END: &str = r##"</script>
   }
   layout(null);
   const R = k => rowAt[Math.min(k, last + 1)], has = k => stepAt[R(k)] === k;
-  const H = 26, left = 40;
-  let W = 130, width = 0;
+  const H = 26;
+  let W = 130, width = 0, left = 40, isPrinted = false;
   const X = p => left + W * p + 14, Y = k => R(k) * H + H / 2;
   function cut(t, px) { const n = Math.max(3, Math.floor(px / 7.3)); return t.length <= n ? t : t.slice(0, n - 1) + "\u2026"; }
   function measure() {
     const room = $("view").clientWidth;
+    left = 40 + 8 * Math.max(0, String(last).length - 4);
     W = Math.max(72, Math.min(210, (room - left - Math.min(110, room / (columns > 3 ? 8 : 3.4))) / Math.max(1, columns - 0.4)));
     width = Math.max(room, X(columns - 1) + 60);
     $("chart").style.height = rows * H + 8 + "px";
     $("chart").style.width = width + "px";
   }
-  function head(x, y, p, nm, dim) { return '<g' + (dim ? ' class="later"' : "") + '><rect x="' + (x - 12) + '" y="' + (y - 9) + '" width="' + Math.min(W - 4, (p + " " + nm).length * 7.3 + 10) + '" height="18" rx="5" fill="' + hue(p) + '"/><text x="' + (x - 6) + '" y="' + (y + 4) + '" style="fill:var(--card);font-weight:600">' + esc(cut(p + " " + nm, W - 14)) + "</text></g>"; }
+  function head(x, y, p, nm, dim, top) { return '<g' + (dim ? ' class="later"' : "") + (top && WALK ? ' data-head="' + p + '" role="button" tabindex="0" aria-label="a move of process ' + p + " " + esc(nm) + '"' : "") + '><title>' + p + " " + esc(nm) + '</title><rect x="' + (x - 12) + '" y="' + (y - 9) + '" width="' + Math.min(W - 4, (p + " " + nm).length * 7.3 + 10) + '" height="18" rx="5" fill="' + hue(p) + '"/><text x="' + (x - 6) + '" y="' + (y + 4) + '" style="fill:var(--card);font-weight:600">' + esc(cut(p + " " + nm, W - 14)) + "</text></g>"; }
   function heads(s) {
     let o = "";
-    for (let p = 0; p < columns; p++) { const q = s.processes[p]; const nm = q ? q.name : (lives.find(l => l.proc === p) || {}).name || ""; o += head(X(p), 15, p, nm, !q); }
+    for (let p = 0; p < columns; p++) { const q = s.processes[p]; const nm = q ? q.name : (lives.find(l => l.proc === p) || {}).name || ""; o += head(X(p), 15, p, nm, !q, true); }
     $("heads").setAttribute("width", width); $("heads").innerHTML = o;
   }
   function draw() {
-    const view = $("view"), top = Math.max(0, Math.floor((view.scrollTop - 60) / H) - 8), bottom = Math.min(rows, Math.ceil((view.scrollTop + view.clientHeight) / H) + 8);
+    const view = $("view"), top = isPrinted ? 0 : Math.max(0, Math.floor((view.scrollTop - 60) / H) - 8), bottom = isPrinted ? rows : Math.min(rows, Math.ceil((view.scrollTop + view.clientHeight) / H) + 8);
     const y0 = top * H, h = (bottom - top) * H + 8; let o = "", tips = "";
     const y = k => Y(k) - y0;
     if (hover >= top && hover <= bottom && hover !== R(at)) o += '<rect class="band hover" x="0" y="' + (hover * H - y0) + '" width="' + width + '" height="' + H + '"/>';
@@ -176,14 +184,13 @@ pub const TO_END: &str = r##"</script>
     svg.style.top = y0 + "px"; svg.setAttribute("width", width); svg.setAttribute("height", h); svg.innerHTML = o;
   }
 
-  const final = stateAt(count);
+  let final = stateAt(count);
 
   // ---- the panes
-  const lines = $("source").textContent.replace(/\n$/, "").split("\n");
-  $("source").innerHTML = lines.map((t, i) => '<div class="l" id="L' + (i + 1) + '"><span class="n">' + (i + 1) + '</span><span class="t">' + (esc(t.replace(/\r$/, "").replace(/\r/g, "\u240d")) || " ") + '</span><span class="c"></span></div>').join("");
+  $("source").innerHTML = model.replace(/\n$/, "").split("\n").map((t, i) => '<div class="l" id="L' + (i + 1) + '" tabindex="' + (i ? -1 : 0) + '"><span class="n">' + (i + 1) + '</span><span class="t">' + (esc(t.replace(/\r$/, "").replace(/\r/g, "\u240d")) || " ") + '</span><span class="c"></span></div>').join("");
   let marked = [];
   function source(s, e) {
-    for (const l of marked) { l.className = "l"; l.lastChild.innerHTML = ""; l.style.borderLeftColor = ""; }
+    for (const l of marked) { l.classList.remove("took"); l.lastChild.innerHTML = ""; l.style.borderLeftColor = ""; }
     marked = [];
     const put = n => { const l = $("L" + n); if (l && !marked.includes(l)) marked.push(l); return l; };
     const there = new Map();
@@ -192,7 +199,7 @@ pub const TO_END: &str = r##"</script>
       const l = put(n), shown = all.length > 7 ? all.slice(0, 6) : all;
       if (l) l.lastChild.innerHTML = shown.map(p => " " + chip(p.proc, p.moves === 0)).join("") + (shown.length < all.length ? ' <span class="none">+' + (all.length - shown.length) + "</span>" : "");
     });
-    if (e) { for (const x of [e, e.to]) if (x) { const l = put(x.line); if (l) { l.className = "l took"; l.style.borderLeftColor = hue(x.proc); } } }
+    if (e) { for (const x of [e, e.to]) if (x) { const l = put(x.line); if (l) { l.classList.add("took"); l.style.borderLeftColor = hue(x.proc); } } }
   }
   // scrolls source and chart to what is shown; before anything is written, so that the page is laid out once
   function follow(line, keep) {
@@ -200,11 +207,17 @@ pub const TO_END: &str = r##"</script>
     if (target) { const a = target.offsetTop - box.offsetTop, b = box.scrollTop; if (a < b + 20 || a > b + box.clientHeight - 40) box.scrollTop = Math.max(0, a - box.clientHeight / 2); }
     if (!keep) { const v = $("view"), y = R(at) * H; if (y < v.scrollTop + H || y > v.scrollTop + v.clientHeight - 3 * H - 30) v.scrollTop = Math.max(0, y - v.clientHeight * 0.6); }
   }
-  const val = (k, v, old, isNew, p) => (v = show(v), old = old === undefined ? old : show(old), isNew = isNew && v !== old, '<span class="v' + (isNew ? " new" : "") + '" data-k="' + esc(k) + '"' + (p === undefined ? "" : ' data-p="' + p + '"') + '>' + esc(k) + " = " + (isNew && old !== undefined ? "<s>" + esc(old) + "</s> " : "") + "<b>" + esc(v) + "</b></span>");
+  const val = (k, v, old, isNew, p) => (v = show(v), old = old === undefined ? old : show(old), isNew = isNew && v !== old, '<button class="v' + (isNew ? " new" : "") + '" data-k="' + esc(k) + '"' + (p === undefined ? "" : ' data-p="' + p + '"') + '>' + esc(k) + " = " + (isNew && old !== undefined ? "<s>" + esc(old) + "</s> " : "") + "<b>" + esc(v) + "</b></button>");
   function vars(now, before, p) {
     const keys = Object.keys(now).filter(k => names[(now[k] || {}).chan - 1] !== k);
     const first = keys.length > 200 ? keys.filter((k, i) => i < 200 || (before && before[k] !== now[k])) : keys;
     return first.map(k => val(k, now[k], before && before[k], !!before, p)).join("") + (keys.length > first.length ? '<span class="none">and ' + (keys.length - first.length) + " more</span>" : "");
+  }
+  // the first of many, and the others folded away; of these it is said how many changed
+  function folding(id, all, most, isNew) {
+    if (all.length <= most + 3) return all.join("");
+    const rest = all.slice(most), fresh = rest.filter(isNew).length, old = $(id).querySelector("details");
+    return all.slice(0, most).join("") + "<details" + (old && old.open ? " open" : "") + "><summary>" + rest.length + " more" + (fresh ? ", " + fresh + " of them changed" : "") + "</summary>" + rest.join("") + "</details>";
   }
   function panes(s, b, e) {
     $("processes").innerHTML = s.processes.map(p => {
@@ -215,11 +228,12 @@ pub const TO_END: &str = r##"</script>
         (Object.keys(p.locals).length ? '<div class="vars">' + vars(p.locals, b && (old ? old.locals : cells()), p.proc) + "</div>" : "") + "</div>";
     }).join("") || '<span class="none">none is alive</span>';
     $("a-channels").hidden = !s.channels.length && !start.channels.length;
-    $("channels").innerHTML = s.channels.map(c => {
+    const channels = s.channels.map(c => {
       const old = b && b.channels[c.chan - 1], isNew = b && (!old || JSON.stringify(old.messages) !== JSON.stringify(c.messages));
       const slots = c.messages.map(m => '<span class="slot">' + esc(list(m)) + "</span>").join("") + (c.capacity <= 12 ? '<span class="slot free">.</span>'.repeat(c.capacity - c.messages.length) : "");
       return '<div class="chan' + (isNew ? " new" : "") + '"><div class="top"><span class="m">' + esc(c.name || "chan " + c.chan) + '</span><span class="none">{ ' + esc(c.fields.join(", ")) + " }</span><span>" + (c.capacity ? c.messages.length + " of " + c.capacity : "rendezvous") + "</span></div>" + (c.capacity ? '<div class="slots">' + slots + "</div>" : "") + "</div>";
-    }).join("") || '<span class="none">none is open</span>';
+    });
+    $("channels").innerHTML = folding("channels", channels, 12, x => x.startsWith('<div class="chan new')) || '<span class="none">none is open</span>';
     $("a-globals").hidden = !vars(s.globals, null);
     $("globals").innerHTML = '<div class="vars">' + vars(s.globals, b && b.globals) + "</div>";
     $("a-printed").hidden = !steps.some(x => x.printed);
@@ -227,11 +241,15 @@ pub const TO_END: &str = r##"</script>
     $("printed").innerHTML = esc(all.slice(0, all.length - tail.length)) + (tail ? "<mark>" + esc(tail) + "</mark>" : "") || '<span class="none">nothing yet</span>';
     if (all) $("printed").scrollTop = 1e6;
   }
+  // the moves of the state behind step k: buttons where one walks, and a list of which one was taken where not
   function choices(k) {
-    const n = k < count ? steps[k] : k === count ? fault || null : null;
-    const all = n ? n.moves || [one(n)] : end.moves || [];
+    const n = k < count ? steps[k] : fault || null, all = n ? n.moves || [one(n)] : end.moves || [], had = $("moves").contains(document.activeElement);
+    const text = t => t.split(" -> proc ").map((x, i) => esc(tidy((i ? "\u2192 proc " : "") + x))).join("<br>");
+    const item = (t, i) => { const is = n && i + 1 === n.choice; return "<li" + (is ? ' class="taken">' : ">") + (WALK ? '<button data-k="' + k + '" data-m="' + (i + 1) + '" data-of="' + all.length + '"' + (is ? ' aria-current="step"' : "") + ">" + text(t) + "</button>" : text(t)) + "</li>"; };
     $("h-moves").textContent = all.length > 1 ? "Choices" : all.length ? "Only move" : "No move";
-    $("moves").innerHTML = all.length ? '<ol class="moves">' + all.map((t, i) => "<li" + (n && i + 1 === n.choice ? ' class="taken"' : "") + ">" + t.split(" -> proc ").map((x, i) => esc(tidy((i ? "\u2192 proc " : "") + x))).join("<br>") + "</li>").join("") + "</ol>" : '<span class="none">' + (end.end === "invalid" ? "The run ends here, and not every process may." : "The run ends here.") + "</span>";
+    $("moves").innerHTML = all.length ? '<ol class="moves">' + all.map(item).join("") + "</ol>" : '<span class="none">' + (end.end === "invalid" ? "The run ends here, and not every process may." : "The run ends here.") + "</span>";
+    if (had) ($("moves").querySelector("button") || $("moves")).focus({ preventScroll: true });
+    if (WALK) WALK.listed(k === count && !fault ? all : []);
   }
   function one(e) { return "proc " + e.proc + " (" + e.name + ") line " + e.line + " [" + e.text + "]" + (e.to ? " -> proc " + e.to.proc + " (" + e.to.name + ") line " + e.to.line + " [" + e.to.text + "]" : ""); }
   function sentence(e) {
@@ -244,8 +262,13 @@ pub const TO_END: &str = r##"</script>
 
   // ---- where to stop
   const stops = [["every step", () => true], ["choices", e => e.of > 1], ["messages", e => e.chan > 0], ["printed text", e => !!e.printed]];
-  for (let p = 0; p < Math.min(columns, 60); p++) stops.push(["process " + p + " " + (lives.find(l => l.proc === p) || {}).name, e => e.proc === p || (e.to && e.to.proc === p)]);
-  $("stops").innerHTML = stops.map((s, i) => '<option value="' + i + '">' + esc(s[0]) + "</option>").join("");
+  function listed() {
+    const chosen = $("stops").value;
+    for (let p = stops.length - 4; p < Math.min(columns, 60); p++) stops.push(["process " + p + " " + (lives.find(l => l.proc === p) || {}).name, e => e.proc === p || (e.to && e.to.proc === p)]);
+    $("stops").innerHTML = stops.map((s, i) => '<option value="' + i + '">' + esc(s[0]) + "</option>").join("");
+    $("stops").value = chosen && stops[+chosen] ? chosen : "0";
+  }
+  listed();
   function near(by) {
     const wanted = stops[+$("stops").value][1];
     for (let k = at + by; k > 0 && k <= count; k += by) if (wanted(steps[k - 1])) return k;
@@ -278,30 +301,44 @@ pub const TO_END: &str = r##"</script>
     $("first").disabled = $("prev").disabled = at === 0; $("next").disabled = $("last").disabled = at === count;
     $("said").innerHTML = sentence(e) + (at === count && fault ? ' <span class="bad">then fault F' + fault.fault + ": " + esc(fault.words) + " at " + esc(tidy(one(fault))) + "</span>" : "");
     heads(s); source(s, e); choices(at); panes(s, b, e);
-    try { history.replaceState(null, "", "#" + at); } catch (x) { /* a page of a file may not have one */ }
+    if (WALK) WALK.moved();
+    else try { history.replaceState(null, "", "#" + at); } catch (x) { /* a page of a file may not have one */ }
   }
-  const words = { valid: ["good", "valid end"], invalid: ["bad", "invalid end"], fault: ["bad", fault ? "F" + fault.fault + ": " + fault.words : "fault"] }[end.end] || ["mild", end.end];
-  $("verdict").className = "pill " + words[0]; $("verdict").textContent = words[1];
-  $("slider").max = count;
-  $("slider").addEventListener("input", () => go(+$("slider").value));
+  function told() {
+    const open = WALK ? "can go on" : end.end, words = { valid: ["good", "valid end"], invalid: ["bad", "invalid end"], fault: ["bad", fault ? "F" + fault.fault + ": " + fault.words : "fault"], "choices ended": ["mild", open], "step limit": ["mild", open] }[end.end] || ["mild", end.end];
+    $("verdict").className = "pill " + words[0]; $("verdict").textContent = words[1]; $("slider").max = count;
+  }
+  told();
+  $("slider").addEventListener("input", () => go(+$("slider").value), heard);
   $("first").onclick = () => go(0); $("prev").onclick = () => go(near(-1)); $("next").onclick = () => go(near(1)); $("last").onclick = () => go(count);
   document.addEventListener("keydown", x => {
-    if (x.ctrlKey || x.metaKey || x.altKey) return;
-    if (x.target === $("stops") || (x.target === $("only") && x.key === " ")) return;
+    if (x.ctrlKey || x.metaKey || x.altKey || document.querySelector("dialog[open]")) return;
+    if (/^(SELECT|INPUT|TEXTAREA)$/.test(x.target.tagName) && x.target.type !== "range") return;
+    const line = x.target.closest(".l"), head = x.target.closest("[data-head]");
+    if ((line || head) && (x.key === "Enter" || x.key === " ")) { x.preventDefault(); act(x.target); return; }
+    if (line && (x.key === "ArrowUp" || x.key === "ArrowDown")) { const to = x.key === "ArrowUp" ? line.previousSibling : line.nextSibling; if (to) { line.tabIndex = -1; to.tabIndex = 0; to.focus(); } x.preventDefault(); return; }
     if (x.key === "ArrowLeft" || x.key === "ArrowRight") { x.preventDefault(); go(near(x.key === "ArrowLeft" ? -1 : 1)); return; }
+    // a pane that has the focus keeps the keys by which it is scrolled
+    if (x.target.closest(".scroll, #printed, details")) return;
     const by = { PageUp: -10, PageDown: 10, Home: -count, End: count }[x.key];
     if (by !== undefined) { x.preventDefault(); go(at + by); }
-  });
-  document.querySelector("main").addEventListener("click", x => {
-    const v = x.target.closest(".v"), l = x.target.closest("#source .l");
-    if (v) go(setter(v.dataset.k, v.dataset.p === undefined ? undefined : +v.dataset.p));
-    if (l) { const n = +l.id.slice(1), on = e => e.line === n || (e.to && e.to.line === n); for (let i = 1; i <= count; i++) { const k = (at + i - 1) % count + 1; if (on(steps[k - 1])) { go(k); break; } } }
-  });
-  $("view").addEventListener("scroll", () => requestAnimationFrame(draw));
+  }, heard);
+  // does what a click on a variable, a line of the source or the head of a process does
+  function act(it) {
+    const v = it.closest(".v"), l = it.closest("#source .l"), h = it.closest("[data-head]");
+    if (h) WALK.taken(m => m.proc === +h.dataset.head);
+    if (v) { const key = v.dataset.k, p = v.dataset.p; go(setter(key, p === undefined ? undefined : +p)); const again = [...document.querySelectorAll(".v")].find(b => b.dataset.k === key && b.dataset.p === p); if (again) again.focus({ preventScroll: true }); }
+    if (!l) return;
+    const n = +l.id.slice(1), on = e => e.line === n || (e.to && e.to.line === n);
+    if (WALK && l.classList.contains("open")) { WALK.taken(m => m.line === n); return; }
+    for (let i = 1; i <= count; i++) { const k = (at + i - 1) % count + 1; if (on(steps[k - 1])) { go(k); break; } }
+  }
+  document.querySelector("main").addEventListener("click", x => { if (!(WALK && x.target.closest("#source .n"))) act(x.target); }, heard);
+  $("view").addEventListener("scroll", () => requestAnimationFrame(draw), heard);
   const rowOf = x => Math.max(0, Math.min(rows - 1, Math.floor((x.clientY - $("chart").getBoundingClientRect().top) / H)));
   function choose() { layout($("only").checked ? stops[+$("stops").value][1] : null); measure(); go(at); }
-  $("stops").addEventListener("change", choose); $("only").addEventListener("change", choose);
-  $("chart").addEventListener("click", x => go(stepAt[rowOf(x)], true));
+  $("stops").addEventListener("change", choose, heard); $("only").addEventListener("change", choose, heard);
+  $("chart").addEventListener("click", x => go(stepAt[rowOf(x)], true), heard);
   $("chart").addEventListener("mousemove", x => {
     const row = rowOf(x), k = stepAt[row], e = k > 0 && dots[k - 1] ? dots[k - 1].e : null, tip = $("tip");
     if (row !== hover) { hover = row; draw(); }
@@ -309,16 +346,35 @@ pub const TO_END: &str = r##"</script>
     tip.textContent = "step " + k + ": " + one(e) + (e.of > 1 ? ", choice " + e.choice + " of " + e.of : "") + (e.printed ? ", prints " + JSON.stringify(e.printed) : "") + (e.event === "fault" ? ", fault: " + e.words : "");
     tip.style.display = "block";
     tip.style.left = Math.min(x.clientX + 14, innerWidth - tip.offsetWidth - 8) + "px"; tip.style.top = Math.min(x.clientY + 16, innerHeight - tip.offsetHeight - 8) + "px";
-  });
-  $("chart").addEventListener("mouseleave", () => { hover = -1; $("tip").style.display = "none"; draw(); });
-  function headed() { document.documentElement.style.setProperty("--head", document.querySelector("header").offsetHeight + "px"); }
+  }, heard);
+  $("chart").addEventListener("mouseleave", () => { hover = -1; $("tip").style.display = "none"; draw(); }, heard);
   function fit() { headed(); measure(); strip(); go(at); }
-  new ResizeObserver(headed).observe(document.querySelector("header"));
-  addEventListener("resize", fit);
-  addEventListener("hashchange", () => { const k = +location.hash.slice(1); if (k !== at && location.hash.length > 1) go(k); });
-  at = location.hash.length > 1 ? +location.hash.slice(1) || 0 : count;
+  addEventListener("resize", fit, heard);
+  matchMedia("(prefers-color-scheme: dark)").addEventListener("change", strip, heard);
+  for (const [when, is] of [["beforeprint", true], ["afterprint", false]]) addEventListener(when, () => { isPrinted = is; measure(); draw(); }, heard);
+  // more steps behind the last one, and the line that tells where the run stands then
+  function extend(more) {
+    if (fault) dots.pop();
+    const was = columns;
+    for (const e of more) if (e.event === "step") steps.push(e);
+    fault = more.find(e => e.event === "fault"); end = more[more.length - 1]; count = steps.length;
+    keep(); chart(); layout($("only").checked ? stops[+$("stops").value][1] : null); final = stateAt(count);
+    if (columns !== was) listed();
+    told(); measure(); strip(); go(count);
+  }
+  $("chart").innerHTML = "";
+  at = first === undefined ? count : first;
   fit();
-})();
+  return { go, extend, steps, start, at: () => at, end: () => end, fault: () => fault, state: () => stateAt(at) };
+}
+function headed() { document.documentElement.style.setProperty("--head", document.querySelector("header").offsetHeight + "px"); }
+new ResizeObserver(headed).observe(document.querySelector("header"));
+$("wide").onclick = () => { $("wide").setAttribute("aria-pressed", document.querySelector("main").classList.toggle("wide")); dispatchEvent(new Event("resize")); };
+if (WALK) WALK.begin();
+else {
+  const step = () => location.hash.length > 1 ? +location.hash.slice(1) || 0 : undefined, run = shown(parsed($("run").textContent), $("source").textContent, step());
+  addEventListener("hashchange", () => { const k = step(); if (k !== undefined && k !== run.at()) run.go(k); });
+}
 </script>
 </body>
 </html>

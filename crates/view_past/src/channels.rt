@@ -1,5 +1,7 @@
 //! Who used last what processes wait at, as text.
 
+ghost use Rattle.view_text.specs.Written.{Stays};
+
 use crate::target::channel_of;
 use crate::uses::{Last, Use, Uses};
 use std::alloc::AllocError;
@@ -10,7 +12,9 @@ use view_text::writer::Writer;
 use view_waits::waits::Wait;
 
 // Writes who did something: `proc 2 (P) took`.
-fn add_use(picture: &Picture<'_, '_, '_>, used: Use, word: &[u8], out: &mut Writer) {
+fn add_use(picture: &Picture<'_, '_, '_>, used: Use, word: &[u8], out: &mut Writer)
+    ensures { Stays out.old out.new }
+{
     if used.lives {
         add_process(picture, used.process, out);
     } else {
@@ -21,13 +25,17 @@ fn add_use(picture: &Picture<'_, '_, '_>, used: Use, word: &[u8], out: &mut Writ
     out.add(word);
 }
 
-fn add_step(step: usize, out: &mut Writer) {
+fn add_step(step: usize, out: &mut Writer)
+    ensures { Stays out.old out.new }
+{
     out.add(b" last, at step ");
     out.number(step);
 }
 
 // Writes who used a channel last.
-fn add_last(picture: &Picture<'_, '_, '_>, last: Last, out: &mut Writer) {
+fn add_last(picture: &Picture<'_, '_, '_>, last: Last, out: &mut Writer)
+    ensures { Stays out.old out.new }
+{
     match (last.sent, last.took) {
         (None, None) => out.add(b"nothing was sent or taken"),
         (Some(sent), None) => {
@@ -44,7 +52,9 @@ fn add_last(picture: &Picture<'_, '_, '_>, last: Last, out: &mut Writer) {
     }
 }
 
-fn add_both(picture: &Picture<'_, '_, '_>, sent: Use, took: Use, out: &mut Writer) {
+fn add_both(picture: &Picture<'_, '_, '_>, sent: Use, took: Use, out: &mut Writer)
+    ensures { Stays out.old out.new }
+{
     if sent.step == took.step {
         add_use(picture, sent, b" sent and ", out);
         add_use(picture, took, b" took", out);
@@ -74,7 +84,9 @@ fn add_channel(
     uses: &Uses,
     known: &mut Vec<usize>,
     out: &mut Writer,
-) -> Result<(), AllocError> {
+) -> Result<(), AllocError>
+    ensures { Stays out.old out.new }
+{
     let Some(number) = channel_of(picture, wait) else {
         return Ok(());
     };
@@ -96,7 +108,9 @@ pub fn add_channels(
     uses: &Uses,
     known: &mut Vec<usize>,
     out: &mut Writer,
-) -> Result<(), AllocError> {
+) -> Result<(), AllocError>
+    ensures { Stays out.old out.new }
+{
     for wait in waits {
         add_channel(picture, wait, uses, known, out)?;
     }

@@ -1,5 +1,7 @@
 //! Whom a process waits for, and processes that wait for one another in a round.
 
+ghost use Rattle.view_text.specs.Written.{Stays};
+
 use crate::target::channel_of;
 use crate::uses::{Use, Uses};
 use view_cells::picture::Picture;
@@ -68,7 +70,9 @@ fn is_in_round(awaits: &[Option<usize>], first: usize) -> bool {
 }
 
 // Writes the round of a process: `round: 1 waits for 2, 2 for 3, 3 for 1`.
-fn add_from(awaits: &[Option<usize>], first: usize, out: &mut Writer) {
+fn add_from(awaits: &[Option<usize>], first: usize, out: &mut Writer)
+    ensures { Stays out.old out.new }
+{
     let mut process = first;
     for count in 0..awaits.len() {
         let Some(next) = next_of(awaits, process) else {
@@ -87,7 +91,9 @@ fn add_from(awaits: &[Option<usize>], first: usize, out: &mut Writer) {
 }
 
 /// Writes the round of the first process that is led to itself, where each waits for the one at its place, if there is such a one.
-pub fn add_round(awaits: &[Option<usize>], out: &mut Writer) {
+pub fn add_round(awaits: &[Option<usize>], out: &mut Writer)
+    ensures { Stays out.old out.new }
+{
     for first in 0..awaits.len() {
         if is_in_round(awaits, first) {
             add_from(awaits, first, out);

@@ -1,16 +1,22 @@
 //! A whole state as a text: two states of one model are the same where their texts are.
 
+ghost use Rattle.view_text.specs.Written.{Stays};
+
 use promela_run::live_channel::LiveChannel;
 use run_state::live::Live;
 use view_cells::picture::Picture;
 use view_text::writer::Writer;
 
-fn add_number(number: usize, out: &mut Writer) {
+fn add_number(number: usize, out: &mut Writer)
+    ensures { Stays out.old out.new }
+{
     out.number(number);
     out.add(b" ");
 }
 
-fn add_numbers(numbers: &[i32], out: &mut Writer) {
+fn add_numbers(numbers: &[i32], out: &mut Writer)
+    ensures { Stays out.old out.new }
+{
     for number in numbers {
         out.signed(*number);
         out.add(b" ");
@@ -18,7 +24,9 @@ fn add_numbers(numbers: &[i32], out: &mut Writer) {
 }
 
 // Who has exclusive control, and where each process stands.
-fn add_processes(live: &Live<'_, '_>, out: &mut Writer) {
+fn add_processes(live: &Live<'_, '_>, out: &mut Writer)
+    ensures { Stays out.old out.new }
+{
     match live.holder() {
         Some(holder) => add_number(holder, out),
         None => out.add(b"- "),
@@ -30,7 +38,9 @@ fn add_processes(live: &Live<'_, '_>, out: &mut Writer) {
 }
 
 // A channel: whose it is, and its messages. Its size and its types are those of the declaration that it was made for.
-fn add_channel(live: &LiveChannel, out: &mut Writer) {
+fn add_channel(live: &LiveChannel, out: &mut Writer)
+    ensures { Stays out.old out.new }
+{
     add_number(live.frame, out);
     add_number(live.channel.len(), out);
     for place in 0..live.channel.len() {
@@ -39,7 +49,9 @@ fn add_channel(live: &LiveChannel, out: &mut Writer) {
 }
 
 /// Writes a whole state.
-pub fn add_whole(picture: &Picture<'_, '_, '_>, out: &mut Writer) {
+pub fn add_whole(picture: &Picture<'_, '_, '_>, out: &mut Writer)
+    ensures { Stays out.old out.new }
+{
     add_processes(picture.live(), out);
     out.add(b"; ");
     for live in picture.live().channels() {

@@ -4,5 +4,6 @@
 pub mod lines;
 pub mod next;
 pub mod plain;
+pub mod search;
 pub mod steps;
 pub mod trailed;

@@ -1,8 +1,10 @@
 //! A run as lines of JSON, and as items of a list.
 
 use crate::next::{Next, follow, move_at};
+use devices::Source;
 use diagnostics::Fault;
 use promela_run::moves::Move;
+use session::Broken;
 use std::alloc::AllocError;
 use view_json::lines::{Ahead, Done, Shown, add_end, add_fault, add_step, front};
 use view_json::tokens::Json;
@@ -136,15 +138,16 @@ fn take_choice(
 }
 
 /// Takes the next step of a run and writes it, or writes its end. Why it ends, where it does.
-pub fn add_next(
+pub fn add_next<S: Source>(
     walk: &mut Walk<'_, '_>,
-    replay: &mut Replay<'_>,
+    replay: &mut Replay<S>,
     limit: usize,
     sheet: &mut Sheet,
-) -> Result<Option<&'static str>, AllocError> {
+) -> Result<Option<&'static str>, Broken> {
     let moves = walk.moves()?;
-    match follow(walk, moves.as_slice(), replay, limit) {
-        Next::Take(choice) => take_choice(walk, moves.as_slice(), choice, sheet),
+    let alloc = sheet.lines.allocator();
+    match follow(alloc, walk, moves.as_slice(), replay, limit)? {
+        Next::Take(choice) => Ok(take_choice(walk, moves.as_slice(), choice, sheet)?),
         Next::End(end) => {
             let picture = picture_of(walk.world());
             add_end(&picture, walk.at(), end, moves.as_slice(), &mut sheet.lines);

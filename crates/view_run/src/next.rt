@@ -1,7 +1,13 @@
 //! What follows in a run.
 
+ghost use Rattle.std.specs.Prelude.{◌≡◌};
+ghost use Rattle.promela_run.specs.World as world;
+
+use devices::Source;
 use promela_run::moves::Move;
-use view_session::replay::{Replay, Said};
+use session::{Answer, Broken};
+use std::alloc::Global;
+use view_session::replay::{Replay, end_of};
 use view_session::seen::picture_of;
 use view_state::choices::ending_of;
 use view_walk::walk::Walk;
@@ -20,17 +26,24 @@ pub fn is_misfit(end: &str) -> bool {
 }
 
 /// What follows where a walk stands, which has these moves.
-pub fn follow(walk: &Walk<'_, '_>, moves: &[Move], replay: &mut Replay<'_>, limit: usize) -> Next {
-    let picture = picture_of(walk.world());
+pub fn follow<S: Source>(
+    alloc: Global,
+    walk: &Walk<'_, '_>,
+    moves: &[Move],
+    replay: &mut Replay<S>,
+    limit: usize,
+) -> Result<Next, Broken>
+    requires { moves.now ≡ world.moves walk.now.state }
+{
     if moves.is_empty() {
-        return Next::End(ending_of(&picture));
+        return Ok(Next::End(ending_of(&picture_of(walk.world()))));
     }
     if walk.at() >= limit {
-        return Next::End("step limit");
+        return Ok(Next::End("step limit"));
     }
-    match replay.next(&picture, moves, walk.next()) {
-        Said::Pick(choice) => Next::Take(choice),
-        other => Next::End(other.end()),
+    match replay.next(alloc, walk, moves)? {
+        Answer::Pick(choice) => Ok(Next::Take(choice)),
+        other => Ok(Next::End(end_of(other))),
     }
 }
 

@@ -1,7 +1,8 @@
 //! A run of which nothing is shown.
 
 use crate::next::{Next, follow};
-use std::alloc::AllocError;
+use devices::Source;
+use session::Broken;
 use view_session::replay::Replay;
 use view_session::steps::choose;
 use view_walk::walk::{Walk, Went};
@@ -14,14 +15,15 @@ pub struct Ran {
 }
 
 // Takes the next step. Why the run ends, where it does.
-fn step(
+fn step<S: Source>(
     walk: &mut Walk<'_, '_>,
-    replay: &mut Replay<'_>,
+    replay: &mut Replay<S>,
     limit: usize,
     printed: &mut Vec<u8>,
-) -> Result<Option<&'static str>, AllocError> {
+) -> Result<Option<&'static str>, Broken> {
     let moves = walk.moves()?;
-    match follow(walk, moves.as_slice(), replay, limit) {
+    let alloc = *printed.allocator();
+    match follow(alloc, walk, moves.as_slice(), replay, limit)? {
         Next::End(end) => Ok(Some(end)),
         Next::Take(choice) => {
             printed.clear();
@@ -35,12 +37,12 @@ fn step(
 }
 
 /// Runs to the end.
-pub fn run(
+pub fn run<S: Source>(
     walk: &mut Walk<'_, '_>,
-    replay: &mut Replay<'_>,
+    replay: &mut Replay<S>,
     limit: usize,
     printed: &mut Vec<u8>,
-) -> Result<Ran, AllocError> {
+) -> Result<Ran, Broken> {
     let mut most = walk.world().process_count();
     for _ in 0..u64::MAX {
         if let Some(end) = step(walk, replay, limit, printed)? {

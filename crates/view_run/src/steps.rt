@@ -1,7 +1,8 @@
 //! A run as the lines of its steps.
 
 use crate::next::{Next, follow};
-use std::alloc::AllocError;
+use devices::Source;
+use session::Broken;
 use view_session::replay::Replay;
 use view_session::seen::picture_of;
 use view_session::steps::{Taken, take};
@@ -28,14 +29,15 @@ fn add_last(walk: &Walk<'_, '_>, end: &str, has_moves: bool, out: &mut Writer) {
 }
 
 /// Takes the next step of a run and writes its lines, or those of its end. Why it ends, where it does.
-pub fn add_step(
+pub fn add_step<S: Source>(
     walk: &mut Walk<'_, '_>,
-    replay: &mut Replay<'_>,
+    replay: &mut Replay<S>,
     limit: usize,
     told: &mut Told,
-) -> Result<Option<&'static str>, AllocError> {
+) -> Result<Option<&'static str>, Broken> {
     let moves = walk.moves()?;
-    match follow(walk, moves.as_slice(), replay, limit) {
+    let alloc = told.out.allocator();
+    match follow(alloc, walk, moves.as_slice(), replay, limit)? {
         Next::End(end) => {
             add_last(walk, end, !moves.is_empty(), &mut told.out);
             Ok(Some(end))

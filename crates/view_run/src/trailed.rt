@@ -1,13 +1,18 @@
 //! A walk along a trail of Spin.
 
+use crate::search::{Fork, Search, go_to};
+use session::Answer;
 use std::alloc::AllocError;
-use view_session::replay::{Along, Said};
+use view_session::replay::Along;
 use view_session::seen::picture_of;
 use view_session::steps::choose;
 use view_text::writer::Writer;
-use view_trail::entry::is_ended;
+use view_trail::difference::{Difference, difference_at};
+use view_trail::entry::{Entry, is_ended};
+use view_trail::marks::Marks;
 use view_trail::trail::Trail;
-use view_trail::which::{Named, which};
+use view_trail::way::{Way, Ways};
+use view_trail::which::ways_on;
 use view_walk::walk::{Walk, Went};
 
 /// How far a trail was followed.
@@ -17,8 +22,8 @@ pub enum Followed {
     Whole,
     /// It has no line of a process, and no line that ends a trail.
     Empty,
-    /// No move fits the line with this number of its file.
-    Misfit(usize),
+    /// No move fits the line with this number of its file; for this difference of Spin, where that is known.
+    Misfit(usize, Option<Difference>),
     /// The move with this number comes to a fault; the line with that number, if there is one, is left.
     Fault(usize, Option<usize>),
     /// Up to the limit of steps.
@@ -29,11 +34,48 @@ impl Followed {
     /// How a run goes on that has come so far.
     pub fn along(self) -> Along {
         match self {
-            Followed::Whole | Followed::Limit => Along::Stop(Said::Ended),
-            Followed::Misfit(_) | Followed::Empty => Along::Stop(Said::Misfit),
+            Followed::Whole | Followed::Limit => Along::Stop(Answer::Ended),
+            Followed::Misfit(_, _) | Followed::Empty => Along::Stop(Answer::Misfit),
             Followed::Fault(choice, _) => Along::Fault(choice),
         }
     }
+}
+
+/// What came of a trail.
+#[derive(Clone, Copy, Debug)]
+pub struct Came {
+    pub followed: Followed,
+    /// Not all ways were tried that its lines leave.
+    pub is_cut: bool,
+    /// Behind how many steps the line stands that was asked for.
+    pub before: usize,
+    /// The line of a declaration that gave its variable another number than 0, and was passed over.
+    pub valued: Option<usize>,
+}
+
+// Where a line came to be the next: its number, behind how many steps, and the trail there.
+#[derive(Clone, Copy)]
+struct Arrival<'t> {
+    row: usize,
+    at: usize,
+    trail: Trail<'t>,
+}
+
+// Where a walk is led along a trail.
+#[derive(Drop)]
+struct Lead<'s, 't> {
+    marks: &'s Marks<'s>,
+    limit: usize,
+    trail: Trail<'t>,
+    /// How many ways on from here were tried.
+    tried: usize,
+    /// Where the next line came to be the next.
+    arrival: Arrival<'t>,
+    /// The farthest that no way leads on from.
+    farthest: Arrival<'t>,
+    search: Search<'t>,
+    scratch: Writer,
+    printed: Vec<u8>,
 }
 
 // The number of the line that is left behind a fault; the others of the same step are none.
@@ -45,60 +87,254 @@ fn line_left(trail: &mut Trail<'_>) -> Option<usize> {
     }
 }
 
-// Takes the move with this number, which the last line names. How far the trail was followed, where it is not on.
-fn take(
-    walk: &mut Walk<'_, '_>,
-    trail: &mut Trail<'_>,
-    choice: usize,
-    printed: &mut Vec<u8>,
-) -> Result<Option<Followed>, AllocError> {
-    printed.clear();
-    match choose(walk, choice, printed)? {
-        Went::On => Ok(None),
-        Went::Faults(_) => Ok(Some(Followed::Fault(choice, line_left(trail)))),
-        Went::Nowhere => Ok(Some(Followed::Whole)),
+// How a way went.
+#[derive(Clone, Copy)]
+enum Gone {
+    On,
+    /// No way leads on by the next line, to which so many steps led.
+    Dead(usize, Followed),
+    End(Followed),
+}
+
+// How it goes on behind a fault of the move with this number.
+fn faulted(trail: &mut Trail<'_>, choice: usize, at: usize) -> Gone {
+    let left = line_left(trail);
+    match left {
+        Some(_) => Gone::Dead(at, Followed::Fault(choice, left)),
+        None => Gone::End(Followed::Fault(choice, None)),
     }
 }
 
-// Takes the next step. How far the trail was followed, where it is not on.
-fn step(
-    walk: &mut Walk<'_, '_>,
-    trail: &mut Trail<'_>,
-    limit: usize,
+// The ways on from where a walk stands by a line of a trail.
+fn ways_from<'t>(
+    walk: &Walk<'_, '_>,
+    marks: &Marks<'_>,
+    trail: &Trail<'t>,
+    entry: &Entry<'_>,
     scratch: &mut Writer,
-    printed: &mut Vec<u8>,
-) -> Result<Option<Followed>, AllocError> {
-    if walk.at() >= limit {
-        return Ok(Some(Followed::Limit));
-    }
+) -> Result<Ways<'t>, AllocError> {
     let moves = walk.moves()?;
-    let named = which(&picture_of(walk.world()), moves.as_slice(), trail, scratch);
-    if scratch.is_refused() {
-        return Err(AllocError);
-    }
-    match named {
-        Named::Take(choice) => take(walk, trail, choice, printed),
-        Named::Ended => Ok(Some(Followed::Whole)),
-        Named::Misfit(row) => Ok(Some(Followed::Misfit(row))),
-    }
+    let picture = picture_of(walk.world());
+    ways_on(&picture, moves.as_slice(), marks, trail, entry, scratch)
 }
 
-/// Follows the trail that is the text of a file, by at most so many steps.
-pub fn follow_trail(
-    walk: &mut Walk<'_, '_>,
-    text: &[u8],
-    limit: usize,
-    printed: &mut Vec<u8>,
-) -> Result<Followed, AllocError> {
-    let mut scratch = Writer::new(*printed.allocator());
-    let mut trail = Trail::new(text);
-    if trail.next().is_none() && !is_ended(text) {
-        return Ok(Followed::Empty);
-    }
-    for _ in 0..u64::MAX {
-        if let Some(followed) = step(walk, &mut trail, limit, &mut scratch, printed)? {
-            return Ok(followed);
+// For which difference of Spin no way leads on from where a walk stands.
+fn difference_from(
+    walk: &Walk<'_, '_>,
+    marks: &Marks<'_>,
+    trail: &Trail<'_>,
+    entry: &Entry<'_>,
+    scratch: &mut Writer,
+) -> Option<Difference> {
+    difference_at(&picture_of(walk.world()), marks, trail, entry, scratch)
+}
+
+impl<'s, 't> Lead<'s, 't> {
+    // Takes the move with this number for a line.
+    fn take(
+        &mut self,
+        walk: &mut Walk<'_, '_>,
+        choice: usize,
+        row: usize,
+    ) -> Result<Gone, AllocError> {
+        self.search.step(walk.at(), row)?;
+        self.printed.clear();
+        match choose(walk, choice, &mut self.printed)? {
+            Went::On => Ok(Gone::On),
+            Went::Faults(_) => Ok(faulted(&mut self.trail, choice, walk.at())),
+            Went::Nowhere => Ok(Gone::End(Followed::Whole)),
         }
     }
-    Ok(Followed::Limit)
+
+    // Takes a way.
+    fn go(
+        &mut self,
+        walk: &mut Walk<'_, '_>,
+        way: Way<'t>,
+        row: usize,
+    ) -> Result<Gone, AllocError> {
+        self.trail = way.trail;
+        self.tried = 0;
+        match way.choice {
+            Some(choice) => self.take(walk, choice, row),
+            None => Ok(Gone::On),
+        }
+    }
+
+    // Keeps the ways on from here that are left behind the one that is taken.
+    fn keep(&mut self, at: usize, count: usize) -> Result<(), AllocError> {
+        let tried = self.tried.saturating_add(1);
+        if tried >= count {
+            return Ok(());
+        }
+        self.search.keep(Fork {
+            at,
+            trail: self.trail,
+            tried,
+        })
+    }
+
+    // No way leads on by the line with this number, to which so many steps led.
+    fn dead(&self, row: usize) -> Gone {
+        Gone::Dead(self.arrival.at, Followed::Misfit(row, None))
+    }
+
+    // The next line came to be the next, if it is another than before.
+    fn arrive(&mut self, row: usize, at: usize) {
+        if self.arrival.row != row {
+            self.arrival = Arrival {
+                row,
+                at,
+                trail: self.trail,
+            };
+        }
+    }
+
+    // Takes the next way on by a line.
+    fn follow(&mut self, walk: &mut Walk<'_, '_>, entry: &Entry<'_>) -> Result<Gone, AllocError> {
+        let mut scratch = Writer::new(*self.printed.allocator());
+        let trail = self.trail;
+        let marks = self.marks;
+        let ways = ways_from(walk, marks, &trail, entry, &mut scratch)?;
+        self.scratch.keep_refusal(&scratch);
+        match ways.get(self.tried) {
+            Some(way) => {
+                self.keep(walk.at(), ways.len())?;
+                self.go(walk, way, entry.row)
+            }
+            None => Ok(self.dead(entry.row)),
+        }
+    }
+
+    // Goes on by a way.
+    fn step(&mut self, walk: &mut Walk<'_, '_>) -> Result<Gone, AllocError> {
+        let Some(entry) = self.trail.next() else {
+            return Ok(Gone::End(Followed::Whole));
+        };
+        if walk.at() >= self.limit {
+            return Ok(Gone::End(Followed::Limit));
+        }
+        self.arrive(entry.row, walk.at());
+        let gone = self.follow(walk, &entry)?;
+        if self.scratch.is_refused() {
+            return Err(AllocError);
+        }
+        Ok(gone)
+    }
+
+    // Goes back to the last place with a way that is left. Whether there is one.
+    fn back(&mut self, walk: &mut Walk<'_, '_>) -> Result<bool, AllocError> {
+        let Some(fork) = self.search.back() else {
+            return Ok(false);
+        };
+        go_to(walk, fork.at)?;
+        self.trail = fork.trail;
+        self.tried = fork.tried;
+        self.arrival.row = 0;
+        Ok(true)
+    }
+
+    // Keeps how far a way came from which none leads on, if none came farther. How far the trail was followed then.
+    fn keep_farthest(
+        &mut self,
+        walk: &Walk<'_, '_>,
+        at: usize,
+        followed: Followed,
+    ) -> Result<Option<Followed>, AllocError> {
+        let at = at.min(walk.legs().len());
+        if !self.search.end(&walk.legs()[..at], self.arrival.row)? {
+            return Ok(None);
+        }
+        self.farthest = self.arrival;
+        Ok(Some(followed))
+    }
+
+    // For which difference of Spin no way leads on from where a walk stands, at the farthest line.
+    fn explained(&mut self, walk: &Walk<'_, '_>, followed: Followed) -> Followed {
+        let (Followed::Misfit(row, _), Some(entry)) = (followed, self.farthest.trail.next()) else {
+            return followed;
+        };
+        let mut scratch = Writer::new(*self.printed.allocator());
+        let trail = self.farthest.trail;
+        let marks = self.marks;
+        let difference = difference_from(walk, marks, &trail, &entry, &mut scratch);
+        self.scratch.keep_refusal(&scratch);
+        Followed::Misfit(row, difference)
+    }
+
+    // Follows the trail to its end, or as far as any way leads.
+    fn follow_all(&mut self, walk: &mut Walk<'_, '_>) -> Result<(bool, Followed), AllocError> {
+        let mut farthest = Followed::Whole;
+        for _ in 0..u64::MAX {
+            match self.step(walk)? {
+                Gone::On => {}
+                Gone::End(followed) => return Ok((true, followed)),
+                Gone::Dead(at, followed) => {
+                    farthest = self.keep_farthest(walk, at, followed)?.unwrap_or(farthest);
+                    if !self.back(walk)? {
+                        break;
+                    }
+                }
+            }
+        }
+        Ok((false, farthest))
+    }
+
+    // Follows the trail, and leads to its farthest line where no way leads on. How far that was.
+    fn run(&mut self, walk: &mut Walk<'_, '_>) -> Result<Followed, AllocError> {
+        let (is_end, followed) = self.follow_all(walk)?;
+        if is_end {
+            return Ok(followed);
+        }
+        self.search.lead(walk, &mut self.printed)?;
+        let followed = self.explained(walk, followed);
+        if self.scratch.is_refused() {
+            return Err(AllocError);
+        }
+        Ok(followed)
+    }
+}
+
+/// Follows the trail that is the text of a file, by at most so many steps; and asks for the place of a line of it.
+pub fn follow_trail(
+    walk: &mut Walk<'_, '_>,
+    marks: &Marks<'_>,
+    text: &[u8],
+    limit: usize,
+    asked: usize,
+    printed: Vec<u8>,
+) -> Result<Came, AllocError> {
+    let alloc = *printed.allocator();
+    let trail = Trail::new(text);
+    let first = Arrival {
+        row: 0,
+        at: 0,
+        trail,
+    };
+    let mut lead = Lead {
+        marks,
+        limit,
+        trail,
+        tried: 0,
+        arrival: first,
+        farthest: first,
+        search: Search::new(alloc),
+        scratch: Writer::new(alloc),
+        printed,
+    };
+    if lead.trail.next().is_none() && !is_ended(text) {
+        return Ok(Came {
+            followed: Followed::Empty,
+            is_cut: false,
+            before: 0,
+            valued: None,
+        });
+    }
+    let followed = lead.run(walk)?;
+    Ok(Came {
+        followed,
+        is_cut: lead.search.is_cut(),
+        before: lead.search.steps_before(walk.at(), asked),
+        valued: lead.trail.valued(),
+    })
 }

@@ -1,20 +1,16 @@
 //! A session.
 
 use crate::charted::{add_chart, most_alive};
-use crate::command::{Command, MOST_UNASKED, USUAL_RUN, read};
-use crate::help::HELP;
-use crate::question::{add_cause, add_question};
+use crate::command::{Command, MOST_UNASKED, read};
+use crate::going::go;
+use crate::help::{HELP, add_help};
+use crate::question::{add_cause, add_question, add_whole_question};
 use crate::record::add_record;
 use crate::replay::Along;
 use crate::seen::picture_of;
-use crate::steps::{
-    Taken, take, take_by_chance, take_legs, take_next, take_of, take_single, take_until,
-};
+use crate::steps::{Taken, take, take_single};
 use crate::told::Told;
-use crate::until::Goal;
-use crate::written::{is_there, last_written};
 use std::alloc::AllocError;
-use view_cells::processes::is_standing_line;
 use view_state::source::add_source;
 use view_state::state::add_state;
 use view_state::why::add_why;
@@ -29,6 +25,8 @@ const MOST_LINE: usize = 1001;
 pub enum Reply<'l> {
     /// What was written is shown, and the next line is read.
     On,
+    /// What was written is shown, and this is done then, by `go_further`.
+    Further(Command<'l>),
     /// The choices are to be saved in this file.
     Save(&'l str),
     End,
@@ -110,142 +108,9 @@ fn choose(
     Ok(())
 }
 
-// Goes to a place of a walk, and asks.
-fn go_to(walk: &mut Walk<'_, '_>, step: usize, told: &mut Told) -> Result<(), AllocError> {
-    let step = step.min(walk.legs().len());
-    walk.go_to(step)?;
-    add_question(walk, &mut told.out)
-}
-
-// Says that no cell with this path is there, if that is so.
-fn add_if_unknown(walk: &Walk<'_, '_>, path: &str, told: &mut Told) -> Result<bool, AllocError> {
-    let mut text = Writer::new(told.out.allocator());
-    if is_there(walk.world(), path.as_bytes(), &mut text)? {
-        return Ok(false);
-    }
-    told.out.add(b"no variable ");
-    told.out.add(path.as_bytes());
-    told.out
-        .add(b" is there: one of process 1, a P, is P[1].x\n");
-    Ok(true)
-}
-
-// Says that no process can stand at a line, if that is so.
-fn add_if_no_line(walk: &Walk<'_, '_>, line: u32, out: &mut Writer) {
-    if !is_standing_line(&picture_of(walk.world()), line) {
-        out.add(b"no process can stand at line ");
-        out.number(line as usize);
-        out.add(b"\n");
-    }
-}
-
-// Takes steps until one leads where a run is to stop; a variable may be there only behind some.
-fn go_until<'l>(
-    walk: &mut Walk<'_, '_>,
-    limit: usize,
-    goal: Goal<'l>,
-    told: &mut Told,
-) -> Result<(), AllocError> {
-    take_until(walk, limit, USUAL_RUN, goal, told)?;
-    if let Goal::Line(line) = goal {
-        add_if_no_line(walk, line, &mut told.out);
-    }
-    if let Some(path) = goal.path() {
-        add_if_unknown(walk, path, told)?;
-    }
-    Ok(())
-}
-
-// Goes back to the last step that changed a variable, shows it, and asks.
-fn go_to_last(
-    walk: &mut Walk<'_, '_>,
-    limit: usize,
-    path: &str,
-    told: &mut Told,
-) -> Result<(), AllocError> {
-    let mut text = Writer::new(told.out.allocator());
-    let found = last_written(walk, path.as_bytes(), &mut text)?;
-    told.out.keep_refusal(&text);
-    match found {
-        Some(step) => {
-            let before = step.saturating_sub(1).min(walk.legs().len());
-            walk.go_to(before)?;
-            take_next(walk, limit, 1, told)?;
-            add_question(walk, &mut told.out)
-        }
-        None => {
-            if add_if_unknown(walk, path, told)? {
-                return Ok(());
-            }
-            told.out.add(b"no step up to here changed ");
-            told.out.add(path.as_bytes());
-            told.out.add(b"\n");
-            Ok(())
-        }
-    }
-}
-
-// Goes to the end of the branch with this number, and asks.
-fn go_to_branch(
-    walk: &mut Walk<'_, '_>,
-    limit: usize,
-    number: usize,
-    told: &mut Told,
-) -> Result<(), AllocError> {
-    match told.branches.of(number)? {
-        Some(legs) => {
-            walk.go_to(0)?;
-            take_legs(walk, limit, legs.as_slice(), told)?;
-            add_question(walk, &mut told.out)
-        }
-        None => {
-            told.out.add(b"no such branch: branches lists them\n");
-            Ok(())
-        }
-    }
-}
-
-// Does what leads back.
-fn go_back<'l>(
-    walk: &mut Walk<'_, '_>,
-    limit: usize,
-    command: Command<'l>,
-    told: &mut Told,
-) -> Result<(), AllocError> {
-    match command {
-        Command::Back(by) => {
-            let to = walk.at().saturating_sub(by);
-            go_to(walk, to, told)
-        }
-        Command::Goto(step) => go_to(walk, step, told),
-        Command::Last(path) => go_to_last(walk, limit, path, told),
-        Command::Branch(number) => go_to_branch(walk, limit, number, told),
-        _ => go_to(walk, 0, told),
-    }
-}
-
-// Does what leads somewhere.
-fn go<'l>(
-    walk: &mut Walk<'_, '_>,
-    limit: usize,
-    command: Command<'l>,
-    told: &mut Told,
-) -> Result<(), AllocError> {
-    match command {
-        Command::Forward(by) => take_next(walk, limit, by, told)?,
-        Command::Run(most) => take_single(walk, limit, most, told)?,
-        Command::Process(process) => take_of(walk, limit, USUAL_RUN, process, told)?,
-        Command::Until(goal) => go_until(walk, limit, goal, told)?,
-        Command::Random(most, seed) => take_by_chance(walk, limit, most, seed, told)?,
-        Command::Moves => {}
-        _ => return go_back(walk, limit, command, told),
-    }
-    add_question(walk, &mut told.out)
-}
-
-fn show_why(walk: &mut Walk<'_, '_>, out: &mut Writer) -> Result<(), AllocError> {
+fn show_why(walk: &mut Walk<'_, '_>, is_all: bool, out: &mut Writer) -> Result<(), AllocError> {
     let moves = walk.moves()?;
-    add_why(&picture_of(walk.world()), moves.as_slice(), out)?;
+    add_why(&picture_of(walk.world()), moves.as_slice(), is_all, out)?;
     add_cause(walk, moves.as_slice(), out)
 }
 
@@ -256,28 +121,30 @@ fn show_chart(walk: &mut Walk<'_, '_>, out: &mut Writer) -> Result<(), AllocErro
     add_chart(walk, steps, most, out)
 }
 
-// Does what a command says that neither ends nor saves.
+// Does what a command says that neither ends nor saves. What is still to be done, behind what is shown first.
 fn obey<'l>(
     walk: &mut Walk<'_, '_>,
     setting: Setting<'_>,
     words: &[&'l str],
     command: Command<'l>,
     told: &mut Told,
-) -> Result<(), AllocError> {
+) -> Result<Option<Command<'l>>, AllocError> {
     match command {
-        Command::Choose => return choose(walk, setting.limit, words, told),
-        Command::State => add_state(&picture_of(walk.world()), &mut told.out),
-        Command::Why => return show_why(walk, &mut told.out),
-        Command::Chart => return show_chart(walk, &mut told.out),
+        Command::Choose => choose(walk, setting.limit, words, told)?,
+        Command::State(is_all) => add_state(&picture_of(walk.world()), is_all, &mut told.out),
+        Command::Why(is_all) => show_why(walk, is_all, &mut told.out)?,
+        Command::Moves(true) => add_whole_question(walk, &mut told.out)?,
+        Command::Chart => show_chart(walk, &mut told.out)?,
         Command::Source => add_source(&picture_of(walk.world()), setting.text, &mut told.out),
         Command::Record => add_record(walk.legs(), &mut told.out),
         Command::Branches => told.branches.add(walk.legs(), &mut told.out),
         Command::Help => told.out.add(HELP.as_bytes()),
+        Command::HelpOf(name) => add_help(name, &mut told.out),
         Command::Wrong(form) => told.out.add(form.as_bytes()),
         Command::Unknown => told.out.add(b"no such command: help lists them\n"),
         _ => return go(walk, setting.limit, command, told),
     }
-    Ok(())
+    Ok(None)
 }
 
 // Leads out of where memory was refused.
@@ -289,9 +156,13 @@ fn recover(walk: &mut Walk<'_, '_>) -> Result<(), AllocError> {
     Ok(())
 }
 
-// Whether a command may cut off steps to come, or other steps behind these.
+// Whether a command may cut off steps to come, or other steps behind these. Steps that need no choice are those that were taken before.
 fn may_cut<'l>(walk: &Walk<'_, '_>, command: Command<'l>) -> bool {
-    walk.at() < walk.legs().len() || matches!(command, Command::Branch(_))
+    match command {
+        Command::Branch(_) => true,
+        Command::Forward(_) | Command::Run(_) | Command::Until(_) => false,
+        _ => walk.at() < walk.legs().len(),
+    }
 }
 
 // Does what a command says, and keeps the walk that it leaves for another.
@@ -301,23 +172,57 @@ fn obey_and_keep<'l>(
     words: &[&'l str],
     command: Command<'l>,
     told: &mut Told,
-) -> Result<(), AllocError> {
+) -> Result<Option<Command<'l>>, AllocError> {
     if !may_cut(walk, command) {
         return obey(walk, setting, words, command, told);
     }
     let mut before = Vec::new(told.out.allocator());
     before.extend_from_slice(walk.legs())?;
-    obey(walk, setting, words, command, told)?;
+    let more = obey(walk, setting, words, command, told)?;
     told.branches.keep(before.as_slice(), walk.legs())?;
     told.branches.let_go(walk.legs());
-    Ok(())
+    Ok(more)
 }
 
-/// Answers a line.
-pub fn answer<'l>(
+// What follows a command.
+fn reply_of<'l>(more: Option<Command<'l>>) -> Reply<'l> {
+    match more {
+        Some(command) => Reply::Further(command),
+        None => Reply::On,
+    }
+}
+
+/// Does what is still to be done of a line.
+pub fn go_further<'l>(
+    walk: &mut Walk<'_, '_>,
+    setting: Setting<'_>,
+    command: Command<'l>,
+    told: &mut Told,
+) -> Result<Reply<'l>, AllocError> {
+    recover(walk)?;
+    Ok(reply_of(obey_and_keep(walk, setting, &[], command, told)?))
+}
+
+// Answers a line of text.
+fn answer_text<'l>(
     walk: &mut Walk<'_, '_>,
     setting: Setting<'_>,
     line: &'l str,
+    told: &mut Told,
+) -> Result<Reply<'l>, AllocError> {
+    let words: Vec<&'l str> = line.split_whitespace().collect(told.out.allocator())?;
+    match read(words.as_slice()) {
+        Command::Quit => Ok(Reply::End),
+        Command::Save(file) => Ok(Reply::Save(file)),
+        other => Ok(reply_of(obey_and_keep(walk, setting, words.as_slice(), other, told)?)),
+    }
+}
+
+/// Answers a line: one that is no text is no command.
+pub fn answer<'l>(
+    walk: &mut Walk<'_, '_>,
+    setting: Setting<'_>,
+    line: &'l [u8],
     told: &mut Told,
 ) -> Result<Reply<'l>, AllocError> {
     if line.len() >= MOST_LINE {
@@ -325,12 +230,10 @@ pub fn answer<'l>(
         return Ok(Reply::On);
     }
     recover(walk)?;
-    let words: Vec<&'l str> = line.split_whitespace().collect(told.out.allocator())?;
-    match read(words.as_slice()) {
-        Command::Quit => Ok(Reply::End),
-        Command::Save(file) => Ok(Reply::Save(file)),
-        other => {
-            obey_and_keep(walk, setting, words.as_slice(), other, told)?;
+    match str::from_utf8(line) {
+        Ok(text) => answer_text(walk, setting, text, told),
+        Err(_) => {
+            told.out.add(b"no such command: help lists them\n");
             Ok(Reply::On)
         }
     }

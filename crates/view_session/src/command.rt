@@ -1,6 +1,7 @@
 //! What a line of a session says.
 
 use crate::names::{Name, name_of};
+use crate::others::told_of;
 use crate::until::{Goal, wanted};
 
 /// How many steps with one move are taken unasked.
@@ -14,9 +15,10 @@ pub const USUAL_RUN: usize = 1000;
 pub enum Command<'l> {
     /// The numbers of choices, the first of them, and whether more stand behind it.
     Choose,
-    Moves,
-    State,
-    Why,
+    /// The question again, the state, and what the processes wait for: the first of it, or all.
+    Moves(bool),
+    State(bool),
+    Why(bool),
     Source,
     Back(usize),
     Forward(usize),
@@ -37,6 +39,8 @@ pub enum Command<'l> {
     Record,
     Save(&'l str),
     Help,
+    /// The help of the command that this word names.
+    HelpOf(&'l str),
     Quit,
     /// A command with wrong words behind it: how it is written.
     Wrong(&'static str),
@@ -130,13 +134,16 @@ fn save<'l>(rest: &[&'l str]) -> Command<'l> {
     }
 }
 
+// How a process is named; and what is there for who takes the letter for another word.
+const PROCESS_FORM: &str = "p N, the number of a process; state shows the values\n";
+
 fn process<'l>(rest: &[&str]) -> Command<'l> {
     match rest {
         [word] => match number(word) {
             Some(process) => Command::Process(process),
-            None => Command::Wrong("p N\n"),
+            None => Command::Wrong(PROCESS_FORM),
         },
-        _ => Command::Wrong("p N\n"),
+        _ => Command::Wrong(PROCESS_FORM),
     }
 }
 
@@ -149,12 +156,34 @@ fn until<'l>(rest: &[&'l str]) -> Command<'l> {
     }
 }
 
+fn help<'l>(rest: &[&'l str]) -> Command<'l> {
+    match rest {
+        [] => Command::Help,
+        [word, ..] => Command::HelpOf(word),
+    }
+}
+
 // A command that has no words behind its name.
 fn alone<'l>(command: Command<'l>, rest: &[&str]) -> Command<'l> {
     if rest.is_empty() {
         command
     } else {
         Command::Unknown
+    }
+}
+
+fn is_all(rest: &[&str]) -> bool {
+    match rest {
+        [word, ..] => *word == "all",
+        [] => false,
+    }
+}
+
+// The words behind `all`, or all of them where it does not stand first.
+fn behind_all<'s, 'l>(rest: &'s [&'l str]) -> &'s [&'l str] {
+    match rest {
+        [word, behind @ ..] if *word == "all" => behind,
+        _ => rest,
     }
 }
 
@@ -172,13 +201,13 @@ fn with_words<'l>(name: Name, rest: &[&'l str]) -> Command<'l> {
         Name::Branch => branch(rest),
         Name::Branches => alone(Command::Branches, rest),
         Name::Chart => alone(Command::Chart, rest),
-        Name::Moves => alone(Command::Moves, rest),
-        Name::State => alone(Command::State, rest),
-        Name::Why => alone(Command::Why, rest),
+        Name::Moves => alone(Command::Moves(is_all(rest)), behind_all(rest)),
+        Name::State => alone(Command::State(is_all(rest)), behind_all(rest)),
+        Name::Why => alone(Command::Why(is_all(rest)), behind_all(rest)),
         Name::Source => alone(Command::Source, rest),
         Name::Restart => alone(Command::Restart, rest),
         Name::Record => alone(Command::Record, rest),
-        Name::Help => alone(Command::Help, rest),
+        Name::Help => help(rest),
         Name::Quit => alone(Command::Quit, rest),
     }
 }
@@ -193,17 +222,25 @@ fn is_number(word: &str) -> bool {
     true
 }
 
+// A word that is no command: where another program has it, what there is in its place.
+fn unknown<'l>(word: &str) -> Command<'l> {
+    match told_of(word) {
+        Some(words) => Command::Wrong(words),
+        None => Command::Unknown,
+    }
+}
+
 /// What these words say.
 pub fn read<'l>(words: &[&'l str]) -> Command<'l> {
     match words {
-        [] => Command::Moves,
+        [] => Command::Moves(false),
         [first, rest @ ..] => {
             if is_number(first) {
                 return Command::Choose;
             }
             match name_of(first) {
                 Some(name) => with_words(name, rest),
-                None => Command::Unknown,
+                None => unknown(first),
             }
         }
     }

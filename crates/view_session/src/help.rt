@@ -1,5 +1,8 @@
 //! The commands of a session, a line each.
 
+use crate::names::{Name, long_name, name_of};
+use view_text::writer::Writer;
+
 /// What `help` says.
 pub const HELP: &str = "\
 N [N ..]                take choice N, and then the others
@@ -16,7 +19,42 @@ branches, branch N      the ways that were left for others; goes to the end of o
 random N [SEED]         N steps by chance (1)
 chart                   the messages of the walk up to here
 record, save FILE       the choices of the walk, as spinplay --choices reads them
-quit                    ends the session
+help [NAME], quit       this, or what it says of one; ends the session
 A beginning does for a name where no other begins so, and first letters for
 state, why, moves, back, forward, goto, restart, help and quit.
 ";
+
+// What stands before the explanation in a line of the help.
+fn head_of(line: &str) -> &str {
+    match line.split_once("  ") {
+        Some((head, _)) => head,
+        None => "",
+    }
+}
+
+// Whether a line of the help is about a command.
+fn is_about(line: &str, name: &str) -> bool {
+    for word in head_of(line).split_whitespace() {
+        if word == name || word.strip_suffix(",") == Some(name) {
+            return true;
+        }
+    }
+    false
+}
+
+/// Writes the lines of the help that are about the command that a word names, or that there is none.
+pub fn add_help(word: &str, out: &mut Writer) {
+    let Some(name) = name_of(word) else {
+        out.add(b"no such command: help lists them\n");
+        return;
+    };
+    if name == Name::Help {
+        out.add(HELP.as_bytes());
+    }
+    for line in HELP.lines() {
+        if is_about(line, long_name(name)) {
+            out.add(line.as_bytes());
+            out.add(b"\n");
+        }
+    }
+}

@@ -59,6 +59,16 @@ fn named(word: &str) -> Option<Name> {
     None
 }
 
+/// The whole name of a command.
+pub fn long_name(name: Name) -> &'static str {
+    for (other, long, _) in NAMES {
+        if other == name {
+            return long;
+        }
+    }
+    ""
+}
+
 // The one command whose name begins so.
 fn begun(word: &str) -> Option<Name> {
     let mut found = None;

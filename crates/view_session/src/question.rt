@@ -30,6 +30,7 @@ fn add_list(
     picture: &Picture<'_, '_, '_>,
     at: usize,
     moves: &[Move],
+    is_all: bool,
     out: &mut Writer,
 ) -> Result<(), AllocError> {
     if moves.is_empty() {
@@ -38,8 +39,8 @@ fn add_list(
             return Ok(());
         }
     }
-    add_choices(picture, moves, out)?;
-    add_blocked(picture, moves, out)
+    add_choices(picture, moves, is_all, out)?;
+    add_blocked(picture, moves, is_all, out)
 }
 
 /// Writes what led to the end where a walk stands that has these moves, where that is an invalid one.
@@ -54,11 +55,27 @@ pub fn add_cause(
     Ok(())
 }
 
-/// Writes what is asked where a walk stands.
-pub fn add_question(walk: &mut Walk<'_, '_>, out: &mut Writer) -> Result<(), AllocError> {
+// Writes what is asked where a walk stands: all of it, or the first of a long list.
+fn ask(walk: &mut Walk<'_, '_>, is_all: bool, out: &mut Writer) -> Result<(), AllocError> {
     let moves = walk.moves()?;
-    add_list(&picture_of(walk.world()), walk.at(), moves.as_slice(), out)?;
+    add_list(
+        &picture_of(walk.world()),
+        walk.at(),
+        moves.as_slice(),
+        is_all,
+        out,
+    )?;
     add_cause(walk, moves.as_slice(), out)?;
     add_place(walk.at(), walk.legs().len(), moves.as_slice(), out);
     Ok(())
+}
+
+/// Writes what is asked where a walk stands; of a long list the first of it.
+pub fn add_question(walk: &mut Walk<'_, '_>, out: &mut Writer) -> Result<(), AllocError> {
+    ask(walk, false, out)
+}
+
+/// Writes all that is asked where a walk stands.
+pub fn add_whole_question(walk: &mut Walk<'_, '_>, out: &mut Writer) -> Result<(), AllocError> {
+    ask(walk, true, out)
 }

@@ -2,7 +2,7 @@
 
 use crate::seen::picture_of;
 use crate::told::{Told, add_same};
-use crate::until::{Goal, is_reached};
+use crate::until::{Aim, is_reached};
 use diagnostics::Fault;
 use pml_sim::world::World;
 use promela_run::moves::Move;
@@ -11,10 +11,14 @@ use rand_pcg::Pcg32;
 use std::alloc::AllocError;
 use view_state::choices::add_move;
 use view_text::writer::Writer;
+use view_waits::fault::{add_detail, detail_of};
 use view_waits::statement::add_statement_reads;
 use view_waits::waits::starter_of;
 use view_walk::leg::Leg;
 use view_walk::walk::{Walk, Went};
+
+/// As many bytes are enough to be shown at once.
+pub const ENOUGH_BYTES: usize = 60_000;
 
 /// The move with this number, counted from 1.
 pub fn move_at(moves: &[Move], choice: usize) -> Option<Move> {
@@ -127,7 +131,9 @@ pub fn take(
         }
         Went::Faults(fault) => {
             add_fault(fault, step, text.bytes(), &mut told.out);
-            add_statement_reads(&picture_of(walk.world()), &m, &mut told.out);
+            let picture = picture_of(walk.world());
+            add_statement_reads(&picture, &m, &mut told.out);
+            add_detail(detail_of(&picture, &m, fault), &mut told.out);
             Ok(Taken::Faulted)
         }
         Went::Nowhere => Ok(Taken::Bad),
@@ -149,24 +155,40 @@ pub fn take_single(
     Ok(())
 }
 
-/// Takes steps with one move until one leads where a run is to stop, at most so many.
-pub fn take_until<'l>(
+/// Takes steps with one move, at most so many, until there is enough to be shown at once. How many are left then.
+pub fn take_run(
     walk: &mut Walk<'_, '_>,
     limit: usize,
     most: usize,
-    goal: Goal<'l>,
+    told: &mut Told,
+) -> Result<usize, AllocError> {
+    for taken in 0..most {
+        if told.out.len() >= ENOUGH_BYTES {
+            return Ok(most - taken);
+        }
+        if walk.moves()?.len() != 1 || take(walk, limit, 1, told)? != Taken::Yes {
+            break;
+        }
+    }
+    Ok(0)
+}
+
+/// Takes steps with one move until one leads where a run is to stop, at most so many.
+pub fn take_until(
+    walk: &mut Walk<'_, '_>,
+    limit: usize,
+    most: usize,
+    aim: Aim,
     told: &mut Told,
 ) -> Result<(), AllocError> {
-    let mut text = Writer::new(told.out.allocator());
     for _ in 0..most {
         if walk.moves()?.len() != 1 || take(walk, limit, 1, told)? != Taken::Yes {
             break;
         }
-        if is_reached(walk.world(), goal, &mut text)? {
+        if is_reached(walk.world(), aim)? {
             break;
         }
     }
-    told.out.keep_refusal(&text);
     Ok(())
 }
 
@@ -212,14 +234,18 @@ pub fn take_of(
     Ok(())
 }
 
-/// Takes steps along the choices that are still to come, at most so many.
+/// Takes steps along the choices that are still to come, at most so many, until there is enough to be shown at once. How many are left
+/// then.
 pub fn take_next(
     walk: &mut Walk<'_, '_>,
     limit: usize,
     most: usize,
     told: &mut Told,
-) -> Result<(), AllocError> {
-    for _ in 0..most {
+) -> Result<usize, AllocError> {
+    for taken in 0..most {
+        if told.out.len() >= ENOUGH_BYTES {
+            return Ok(most - taken);
+        }
         let Some(leg) = walk.next() else {
             break;
         };
@@ -227,7 +253,7 @@ pub fn take_next(
             break;
         }
     }
-    Ok(())
+    Ok(0)
 }
 
 // Takes a step by chance, without its lines. Whether there was one.

@@ -1,15 +1,23 @@
 //! Where a run is to stop.
 
+ghost use Rattle.std.specs.Prelude.{◌≡◌};
+ghost use Rattle.std.specs.Ordering.{int_eq};
+ghost use Rattle.promela_process.specs.Numbers.{clipped};
+ghost use Rattle.promela_process.specs.Store.{number_at};
+
 use crate::seen::picture_of;
-use crate::written::is_written;
+use crate::written::{Cell, cell_named, is_owned, is_written};
+use pml_eval::clip::clip;
+use pml_program::form::Form;
 use pml_sim::world::World;
+use promela_process::place::Place;
 use std::alloc::AllocError;
-use view_cells::cells::{add_value, form_at, number_at, place_of};
+use view_cells::cells::{form_at, is_mtype, number_at};
 use view_cells::picture::Picture;
-use view_cells::processes::{add_name, line_of};
+use view_cells::processes::{is_standing_line, line_of};
 use view_text::writer::Writer;
 
-/// Where a run is to stop.
+/// Where a run is to stop, in the words of a line.
 #[derive(Clone, Copy, Debug, PartialEq, Eq)]
 pub enum Goal<'l> {
     /// Where a process stands at this line.
@@ -39,81 +47,165 @@ fn at_line<'l>(word: &str) -> Option<Goal<'l>> {
     }
 }
 
+fn compared<'l>(path: &'l str, sign: &str, value: &'l str) -> Option<Goal<'l>> {
+    if path.is_empty() || value.is_empty() {
+        None
+    } else if sign == "==" {
+        Some(Goal::Equal(path, value))
+    } else if sign == "!=" {
+        Some(Goal::Other(path, value))
+    } else {
+        None
+    }
+}
+
+// What one word wants: a comparison without blanks, or a variable.
+fn joined<'l>(word: &'l str) -> Option<Goal<'l>> {
+    if let Some((path, value)) = word.split_once("==") {
+        return compared(path, "==", value);
+    }
+    if let Some((path, value)) = word.split_once("!=") {
+        return compared(path, "!=", value);
+    }
+    Some(Goal::Written(word))
+}
+
+// What two words want: a line, or a comparison with one blank.
+fn parted<'l>(first: &'l str, second: &'l str) -> Option<Goal<'l>> {
+    if first == "line" {
+        return at_line(second);
+    }
+    for sign in ["==", "!="] {
+        if let Some(path) = first.strip_suffix(sign) {
+            return compared(path, sign, second);
+        }
+        if let Some(value) = second.strip_prefix(sign) {
+            return compared(first, sign, value);
+        }
+    }
+    None
+}
+
 /// What these words want.
 pub fn wanted<'l>(words: &[&'l str]) -> Option<Goal<'l>> {
     match words {
-        [path] => Some(Goal::Written(path)),
-        [word, number] => {
-            if *word == "line" {
-                at_line(number)
-            } else {
-                None
-            }
-        }
-        [path, sign, value] => {
-            if *sign == "==" {
-                Some(Goal::Equal(path, value))
-            } else if *sign == "!=" {
-                Some(Goal::Other(path, value))
-            } else {
-                None
-            }
-        }
+        [word] => joined(word),
+        [first, second] => parted(first, second),
+        [path, sign, value] => compared(path, sign, value),
         _ => None,
     }
 }
 
-// Whether the cell of a frame with this path has this value; none, where there is no such cell.
-fn has_value(
-    picture: &Picture<'_, '_, '_>,
-    frame: usize,
-    path: &[u8],
-    value: &[u8],
-    text: &mut Writer,
-) -> Option<bool> {
-    let place = place_of(picture, frame, path, text)?;
-    text.clear();
-    add_value(
-        picture,
-        form_at(picture, place),
-        number_at(picture, place),
-        text,
-    );
-    Some(text.bytes() == value)
+/// Where a run is to stop, as it was found in a state.
+#[derive(Clone, Copy, Debug, PartialEq, Eq)]
+pub enum Aim {
+    /// Where a process stands at this line.
+    Line(u32),
+    /// Where the cell has this number.
+    Equal(Cell, i32),
+    /// Where it has another.
+    Other(Cell, i32),
+    /// Behind a step that changed it.
+    Written(Cell),
 }
 
-/// What is behind `P[2].` in a path, where that is this process.
-pub fn path_within<'l>(
-    picture: &Picture<'_, '_, '_>,
-    process: usize,
-    path: &'l [u8],
-    text: &mut Writer,
-) -> Option<&'l [u8]> {
-    text.clear();
-    add_name(picture, process, text);
-    text.add(b"[");
-    text.number(process);
-    text.add(b"].");
-    path.strip_prefix(text.bytes())
+/// Why a run cannot stop so.
+#[derive(Clone, Copy, Debug, PartialEq, Eq)]
+pub enum NoAim {
+    /// No process can stand at the line.
+    Line,
+    /// No cell has this path.
+    Variable,
+    /// The word is no value.
+    Value,
+    /// A variable of this type never has the number.
+    Range,
 }
 
-// Whether the cell with this path, of the globals or of a process, has this value.
-fn is_value(
-    picture: &Picture<'_, '_, '_>,
-    path: &[u8],
-    value: &[u8],
-    text: &mut Writer,
-) -> Option<bool> {
-    let found = has_value(picture, 0, path, value, text);
-    if found.is_some() {
-        return found;
-    }
-    for process in 0..picture.process_count() {
-        if let Some(within) = path_within(picture, process, path, text) {
-            return has_value(picture, process.saturating_add(1), within, value, text);
+/// Whether a variable of this type can have a number.
+pub fn can_have(form: Form, number: i32) -> bool
+    ensures { result ≡ int_eq (clipped form number) number }
+{
+    clip(form, number) == number
+}
+
+// The number of an mtype's name.
+fn number_of_name(picture: &Picture<'_, '_, '_>, word: &str) -> Option<i32> {
+    let constants = picture.program().constants.as_slice();
+    let mut number = 0i32;
+    for constant in constants {
+        number = number.saturating_add(1);
+        if constant.text() == word.as_bytes() {
+            return Some(number);
         }
     }
     None
+}
+
+// The number that a word is of a variable of this type.
+fn number_of(picture: &Picture<'_, '_, '_>, form: Form, word: &str) -> Option<i32> {
+    if is_mtype(form) {
+        if let Some(number) = number_of_name(picture, word) {
+            return Some(number);
+        }
+    }
+    match word {
+        "true" => Some(1),
+        "false" => Some(0),
+        _ => match word.parse::<i32>() {
+            Ok(number) => Some(number),
+            Err(_) => None,
+        },
+    }
+}
+
+// The cell of a path and the number of a word, where a run can stop so.
+fn cell_and_number(
+    picture: &Picture<'_, '_, '_>,
+    cell: Cell,
+    value: &str,
+    is_equal: bool,
+) -> Result<Aim, NoAim> {
+    let form = form_at(picture, cell.place);
+    let Some(number) = number_of(picture, form, value) else {
+        return Err(NoAim::Value);
+    };
+    if !is_equal {
+        return Ok(Aim::Other(cell, number));
+    }
+    if can_have(form, number) {
+        Ok(Aim::Equal(cell, number))
+    } else {
+        Err(NoAim::Range)
+    }
+}
+
+// Where a run is to stop that asks of a cell.
+fn aim_at<'l>(picture: &Picture<'_, '_, '_>, cell: Cell, goal: Goal<'l>) -> Result<Aim, NoAim> {
+    match goal {
+        Goal::Equal(_, value) => cell_and_number(picture, cell, value, true),
+        Goal::Other(_, value) => cell_and_number(picture, cell, value, false),
+        _ => Ok(Aim::Written(cell)),
+    }
+}
+
+/// Where a run is to stop that begins in a state, or why it cannot; `text` is for what is compared.
+pub fn aim_of<'l>(
+    world: &World<'_, '_>,
+    goal: Goal<'l>,
+    text: &mut Writer,
+) -> Result<Result<Aim, NoAim>, AllocError> {
+    let picture = picture_of(world);
+    match goal {
+        Goal::Line(line) if is_standing_line(&picture, line) => Ok(Ok(Aim::Line(line))),
+        Goal::Line(_) => Ok(Err(NoAim::Line)),
+        Goal::Equal(path, _) | Goal::Other(path, _) | Goal::Written(path) => {
+            match cell_named(&picture, path.as_bytes(), text)? {
+                Some(cell) => Ok(aim_at(&picture, cell, goal)),
+                None => Ok(Err(NoAim::Variable)),
+            }
+        }
+    }
 }
 
 fn is_at_line(picture: &Picture<'_, '_, '_>, line: u32) -> bool {
@@ -125,37 +217,24 @@ fn is_at_line(picture: &Picture<'_, '_, '_>, line: u32) -> bool {
     false
 }
 
-/// What is compared stands there whole, or memory was refused for it.
-pub fn whole(text: &Writer) -> Result<(), AllocError> {
-    if text.is_refused() {
-        return Err(AllocError);
-    }
-    Ok(())
+// Whether a cell has a number.
+fn has_number(picture: &Picture<'_, '_, '_>, place: Place, number: i32) -> bool
+    ensures { result ≡ int_eq (number_at picture.now.frames place) number }
+{
+    number_at(picture, place) == number
 }
 
-// Whether the cell with this path has this value, or has not.
-fn is_so(
-    world: &World<'_, '_>,
-    (path, value): (&str, &str),
-    is_wanted: bool,
-    text: &mut Writer,
-) -> Result<bool, AllocError> {
+/// Whether a state is one where a run is to stop.
+pub fn is_reached(world: &World<'_, '_>, aim: Aim) -> Result<bool, AllocError> {
     let picture = picture_of(world);
-    let found = is_value(&picture, path.as_bytes(), value.as_bytes(), text);
-    whole(text)?;
-    Ok(found == Some(is_wanted))
-}
-
-/// Whether a state is one where a run is to stop; `text` is for what is compared.
-pub fn is_reached<'l>(
-    world: &World<'_, '_>,
-    goal: Goal<'l>,
-    text: &mut Writer,
-) -> Result<bool, AllocError> {
-    match goal {
-        Goal::Line(line) => Ok(is_at_line(&picture_of(world), line)),
-        Goal::Equal(path, value) => is_so(world, (path, value), true, text),
-        Goal::Other(path, value) => is_so(world, (path, value), false, text),
-        Goal::Written(path) => is_written(world, path.as_bytes(), text),
+    match aim {
+        Aim::Line(line) => Ok(is_at_line(&picture, line)),
+        Aim::Equal(cell, number) => {
+            Ok(is_owned(&picture, cell) && has_number(&picture, cell.place, number))
+        }
+        Aim::Other(cell, number) => {
+            Ok(is_owned(&picture, cell) && !has_number(&picture, cell.place, number))
+        }
+        Aim::Written(cell) => is_written(world, cell),
     }
 }

@@ -1,69 +1,162 @@
-//! Steps that changed a variable.
+//! The cells that names name, and the steps that changed them.
 
 use crate::seen::picture_of;
-use crate::until::{path_within, whole};
 use pml_sim::world::World;
 use promela_process::place::Place;
+use run_state::seat::seat_at;
 use std::alloc::AllocError;
 use view_cells::cells::place_of;
 use view_cells::picture::Picture;
+use view_cells::processes::add_name;
 use view_text::writer::Writer;
 use view_walk::walk::Walk;
 
-// The cell of this path, of the globals or of a process.
-fn place_named(picture: &Picture<'_, '_, '_>, path: &[u8], text: &mut Writer) -> Option<Place> {
-    let found = place_of(picture, 0, path, text);
-    if found.is_some() {
-        return found;
+/// A process, and which proctype it is of.
+#[derive(Clone, Copy, Debug, PartialEq, Eq)]
+pub struct Owner {
+    pub process: usize,
+    pub sort: usize,
+}
+
+/// A cell of the globals or of a process.
+#[derive(Clone, Copy, Debug, PartialEq, Eq)]
+pub struct Cell {
+    pub place: Place,
+    pub owner: Option<Owner>,
+}
+
+// The process with a number, if it lives.
+fn owner_at(picture: &Picture<'_, '_, '_>, process: usize) -> Option<Owner> {
+    match seat_at(picture.live().seats(), process) {
+        Some(seat) => Some(Owner {
+            process,
+            sort: seat.sort,
+        }),
+        None => None,
     }
+}
+
+/// Whether the process of a cell still lives, or another of its proctype in its place.
+pub fn is_owned(picture: &Picture<'_, '_, '_>, cell: Cell) -> bool {
+    match cell.owner {
+        Some(owner) => owner_at(picture, owner.process) == Some(owner),
+        None => true,
+    }
+}
+
+// What is behind `P[2].` in a path, where that is this process.
+fn path_within<'l>(
+    picture: &Picture<'_, '_, '_>,
+    process: usize,
+    path: &'l [u8],
+    text: &mut Writer,
+) -> Option<&'l [u8]> {
+    text.clear();
+    add_name(picture, process, text);
+    text.add(b"[");
+    text.number(process);
+    text.add(b"].");
+    path.strip_prefix(text.bytes())
+}
+
+// What is compared stands there whole, or memory was refused for it.
+fn whole(text: &Writer) -> Result<(), AllocError> {
+    if text.is_refused() {
+        return Err(AllocError);
+    }
+    Ok(())
+}
+
+// The cell of a process with a path within it.
+fn cell_within(
+    picture: &Picture<'_, '_, '_>,
+    process: usize,
+    within: &[u8],
+    text: &mut Writer,
+) -> Option<Cell> {
+    let place = place_of(picture, process.saturating_add(1), within, text)?;
+    Some(Cell {
+        place,
+        owner: owner_at(picture, process),
+    })
+}
+
+// The cell of a process with this path.
+fn found_within(picture: &Picture<'_, '_, '_>, path: &[u8], text: &mut Writer) -> Option<Cell> {
     for process in 0..picture.process_count() {
         if let Some(within) = path_within(picture, process, path, text) {
-            return place_of(picture, process.saturating_add(1), within, text);
+            return cell_within(picture, process, within, text);
         }
     }
     None
 }
 
-/// Whether a cell with this path, of the globals or of a process, is there.
-pub fn is_there(world: &World<'_, '_>, path: &[u8], text: &mut Writer) -> Result<bool, AllocError> {
-    let found = place_named(&picture_of(world), path, text);
-    whole(text)?;
-    Ok(found.is_some())
+fn found(picture: &Picture<'_, '_, '_>, path: &[u8], text: &mut Writer) -> Option<Cell> {
+    match place_of(picture, 0, path, text) {
+        Some(place) => Some(Cell { place, owner: None }),
+        None => found_within(picture, path, text),
+    }
 }
 
-/// Whether the last step changed the cell with this path; `text` is for what is compared.
-pub fn is_written(
-    world: &World<'_, '_>,
+/// The cell with this path, of the globals or of a process; `text` is for what is compared.
+pub fn cell_named(
+    picture: &Picture<'_, '_, '_>,
     path: &[u8],
     text: &mut Writer,
-) -> Result<bool, AllocError> {
-    let found = place_named(&picture_of(world), path, text);
+) -> Result<Option<Cell>, AllocError> {
+    let cell = found(picture, path, text);
     whole(text)?;
-    let Some(place) = found else {
+    Ok(cell)
+}
+
+/// Whether the last step changed a cell.
+pub fn is_written(world: &World<'_, '_>, cell: Cell) -> Result<bool, AllocError> {
+    if !is_owned(&picture_of(world), cell) {
         return Ok(false);
-    };
+    }
     let changes = world.changes()?;
     for change in changes.as_slice() {
-        if change.place == place {
+        if change.place == cell.place {
             return Ok(true);
         }
     }
     Ok(false)
 }
 
-/// The last step up to where a walk stands that changed the cell with this path. The walk stands where it stood.
-pub fn last_written(
+/// The cell with this path of a process that lived before where a walk stands. The walk stands where it stood.
+pub fn cell_before(
     walk: &mut Walk<'_, '_>,
     path: &[u8],
     text: &mut Writer,
-) -> Result<Option<usize>, AllocError> {
+) -> Result<Option<Cell>, AllocError> {
+    let at = walk.at();
+    let mut cell = None;
+    if !path.contains(&b'.') {
+        return Ok(None);
+    }
+    for step in 0..at {
+        let step = step.min(walk.legs().len());
+        walk.go_to(step)?;
+        cell = found_within(&picture_of(walk.world()), path, text);
+        whole(text)?;
+        if cell.is_some() {
+            break;
+        }
+    }
+    let at = at.min(walk.legs().len());
+    walk.go_to(at)?;
+    Ok(cell)
+}
+
+/// The last step up to where a walk stands that changed a cell. The walk stands where it stood.
+pub fn last_written(walk: &mut Walk<'_, '_>, cell: Cell) -> Result<Option<usize>, AllocError> {
     let at = walk.at();
     let mut found = None;
     walk.go_to(0)?;
     for step in 1..at.saturating_add(1) {
         let step = step.min(walk.legs().len());
         walk.go_to(step)?;
-        if is_written(walk.world(), path, text)? {
+        if is_written(walk.world(), cell)? {
             found = Some(step);
         }
     }

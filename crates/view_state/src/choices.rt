@@ -1,5 +1,8 @@
 //! The list of what can be done.
 
+ghost use Rattle.view_text.specs.Written.{Stays};
+
+use crate::cut::{Room, add_more_line};
 use promela_run::moves::Move;
 use run_texts::ends::{is_valid, stuck};
 use run_texts::texts::add_move as move_text;
@@ -24,7 +27,9 @@ fn words_of(does: Does) -> Option<(&'static str, &'static str)> {
 }
 
 /// Writes what a move does with a message: ` takes (1) from fork[1]`.
-fn add_effect(picture: &Picture<'_, '_, '_>, transfer: &Transfer, out: &mut Writer) {
+pub fn add_effect(picture: &Picture<'_, '_, '_>, transfer: &Transfer, out: &mut Writer)
+    ensures { Stays out.old out.new }
+{
     let Some((word, between)) = words_of(transfer.does) else {
         return;
     };
@@ -38,7 +43,9 @@ fn add_effect(picture: &Picture<'_, '_, '_>, transfer: &Transfer, out: &mut Writ
 }
 
 /// Writes the text of a move.
-pub fn add_move(picture: &Picture<'_, '_, '_>, m: &Move, out: &mut Writer) {
+pub fn add_move(picture: &Picture<'_, '_, '_>, m: &Move, out: &mut Writer)
+    ensures { Stays out.old out.new }
+{
     let mut text = out.take();
     let answer = move_text(picture.live(), *m, &mut text);
     out.put(text, answer);
@@ -50,7 +57,9 @@ fn add_choice(
     number: usize,
     m: &Move,
     out: &mut Writer,
-) -> Result<(), AllocError> {
+) -> Result<(), AllocError>
+    ensures { Stays out.old out.new }
+{
     let transfer = transfer_of(out.allocator(), picture, m)?;
     out.add(b"choice ");
     out.number(number);
@@ -65,7 +74,9 @@ fn add_choice(
 const MOST_LINES: usize = 20;
 
 // Writes a number behind blanks, as wide as this one.
-fn add_aligned(number: usize, widest: usize, out: &mut Writer) {
+fn add_aligned(number: usize, widest: usize, out: &mut Writer)
+    ensures { Stays out.old out.new }
+{
     let mut digits = Writer::new(out.allocator());
     digits.number(number);
     let mut most = Writer::new(out.allocator());
@@ -78,11 +89,14 @@ fn add_aligned(number: usize, widest: usize, out: &mut Writer) {
 // Writes a line of a list that is shown by process, and before it that of its process, where it is another than that of the heading.
 fn add_grouped(
     picture: &Picture<'_, '_, '_>,
-    (number, count): (usize, usize),
+    numbered: (usize, usize),
     m: &Move,
     heading: &mut Writer,
     out: &mut Writer,
-) -> Result<(), AllocError> {
+) -> Result<(), AllocError>
+    ensures { Stays out.old out.new }
+{
+    let (number, count) = numbered;
     let transfer = transfer_of(out.allocator(), picture, m)?;
     let mut own = Writer::new(out.allocator());
     add_process(picture, starter_of(m), &mut own);
@@ -114,24 +128,30 @@ fn add_grouped(
 fn add_by_process(
     picture: &Picture<'_, '_, '_>,
     moves: &[Move],
+    count: usize,
     out: &mut Writer,
-) -> Result<(), AllocError> {
+) -> Result<(), AllocError>
+    ensures { Stays out.old out.new }
+{
     let mut heading = Writer::new(out.allocator());
     for at in 0..moves.len() {
-        let number = (at + 1, moves.len());
+        let number = (at + 1, count);
         add_grouped(picture, number, &moves[at], &mut heading, out)?;
     }
     Ok(())
 }
 
-/// Writes the list of the present moves; one of more than 20 by process.
-pub fn add_choices(
+// Writes the list of moves from the first on, of so many; one of more than 20 by process.
+fn add_list(
     picture: &Picture<'_, '_, '_>,
     moves: &[Move],
+    count: usize,
     out: &mut Writer,
-) -> Result<(), AllocError> {
-    if moves.len() > MOST_LINES {
-        return add_by_process(picture, moves, out);
+) -> Result<(), AllocError>
+    ensures { Stays out.old out.new }
+{
+    if count > MOST_LINES {
+        return add_by_process(picture, moves, count, out);
     }
     for at in 0..moves.len() {
         add_choice(picture, at + 1, &moves[at], out)?;
@@ -139,8 +159,43 @@ pub fn add_choices(
     Ok(())
 }
 
+/// Writes the list of the present moves: all, or the first 1000; one of more than 20 by process.
+pub fn add_choices(
+    picture: &Picture<'_, '_, '_>,
+    moves: &[Move],
+    is_all: bool,
+    out: &mut Writer,
+) -> Result<(), AllocError>
+    ensures { Stays out.old out.new }
+{
+    let count = moves.len();
+    let shown = Room::new(is_all).take(count).min(count);
+    add_list(picture, &moves[..shown], count, out)?;
+    add_more_line(count - shown, "moves", out);
+    Ok(())
+}
+
+/// Writes the lines of the moves that a process starts, each with its number in the list.
+pub fn add_choices_of(
+    picture: &Picture<'_, '_, '_>,
+    moves: &[Move],
+    process: usize,
+    out: &mut Writer,
+) -> Result<(), AllocError>
+    ensures { Stays out.old out.new }
+{
+    for at in 0..moves.len() {
+        if starter_of(&moves[at]) == process {
+            add_choice(picture, at + 1, &moves[at], out)?;
+        }
+    }
+    Ok(())
+}
+
 // Writes where a process is stuck, if it is.
-fn add_stuck(picture: &Picture<'_, '_, '_>, process: usize, out: &mut Writer) {
+fn add_stuck(picture: &Picture<'_, '_, '_>, process: usize, out: &mut Writer)
+    ensures { Stays out.old out.new }
+{
     if let Some((name, line)) = stuck(picture.live(), process) {
         out.add(b"at: proc ");
         out.number(process);
@@ -153,7 +208,9 @@ fn add_stuck(picture: &Picture<'_, '_, '_>, process: usize, out: &mut Writer) {
 }
 
 /// Writes how a run ends that has no move: `end: invalid, steps 9`, and where each process is that may not end there.
-pub fn add_ending(picture: &Picture<'_, '_, '_>, steps: usize, out: &mut Writer) {
+pub fn add_ending(picture: &Picture<'_, '_, '_>, steps: usize, out: &mut Writer)
+    ensures { Stays out.old out.new }
+{
     out.add(b"end: ");
     out.add(ending_of(picture).as_bytes());
     out.add(b", steps ");

@@ -2,6 +2,8 @@
 #![tactic(auto)]
 
 pub mod choices;
+pub mod counted;
+pub mod cut;
 pub mod source;
 pub mod state;
 pub mod why;

@@ -1,5 +1,7 @@
 //! The text of the model, with the processes at their lines.
 
+ghost use Rattle.view_text.specs.Written.{Stays};
+
 use view_cells::picture::Picture;
 use view_cells::processes::line_of;
 use view_text::writer::Writer;
@@ -8,7 +10,9 @@ use view_text::writer::Writer;
 const BEHIND_MARKS: usize = 6;
 
 // Writes the numbers of the processes that stand at a line, and its number.
-fn add_marks(picture: &Picture<'_, '_, '_>, line: u32, out: &mut Writer) {
+fn add_marks(picture: &Picture<'_, '_, '_>, line: u32, out: &mut Writer)
+    ensures { Stays out.old out.new }
+{
     let start = out.len();
     for process in 0..picture.process_count() {
         if line_of(picture, process) == line {
@@ -27,7 +31,9 @@ fn add_marks(picture: &Picture<'_, '_, '_>, line: u32, out: &mut Writer) {
 }
 
 /// Writes the text of the model.
-pub fn add_source(picture: &Picture<'_, '_, '_>, text: &[u8], out: &mut Writer) {
+pub fn add_source(picture: &Picture<'_, '_, '_>, text: &[u8], out: &mut Writer)
+    ensures { Stays out.old out.new }
+{
     let mut line = 1u32;
     add_marks(picture, line, out);
     for byte in text {

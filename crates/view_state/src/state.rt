@@ -1,5 +1,8 @@
 //! Globals, channels, and processes with their variables.
 
+ghost use Rattle.view_text.specs.Written.{Stays};
+
+use crate::cut::{Room, add_more};
 use pml_channel::channel::Channel;
 use promela_process::place::Place;
 use view_cells::cells::{add_cell, cell_count, variable_count};
@@ -15,16 +18,19 @@ pub const BEHIND_HEADING: usize = 22;
 // How far lines are set in that go on.
 const INDENT: usize = 30;
 
-// `PATH = VALUE` of each cell of a variable.
+// `PATH = VALUE` of the first cells of a variable, so many.
 fn add_variable(
     picture: &Picture<'_, '_, '_>,
     frame: usize,
     variable: usize,
+    shown: usize,
     filled: &mut Filled,
     out: &mut Writer,
-) {
+)
+    ensures { Stays out.old out.new }
+{
     let mut item = Writer::new(out.allocator());
-    for cell in 0..cell_count(picture, frame, variable) {
+    for cell in 0..shown {
         item.clear();
         let place = Place {
             frame,
@@ -36,35 +42,75 @@ fn add_variable(
     }
 }
 
-// Those of each variable of a frame.
-fn add_frame(picture: &Picture<'_, '_, '_>, frame: usize, filled: &mut Filled, out: &mut Writer) {
-    for variable in 0..variable_count(picture, frame) {
-        add_variable(picture, frame, variable, filled, out);
+// An item for those that are left out, if there are any.
+fn add_rest(count: usize, filled: &mut Filled, out: &mut Writer)
+    ensures { Stays out.old out.new }
+{
+    if count > 0 {
+        let mut item = Writer::new(out.allocator());
+        add_more(count, "state", &mut item);
+        filled.add(&item, out);
     }
 }
 
-fn add_globals(picture: &Picture<'_, '_, '_>, out: &mut Writer) {
+// Those of each variable of a frame, as far as there is room.
+fn add_frame(
+    picture: &Picture<'_, '_, '_>,
+    frame: usize,
+    room: &mut Room,
+    filled: &mut Filled,
+    out: &mut Writer,
+)
+    ensures { Stays out.old out.new }
+{
+    let mut rest = 0usize;
+    for variable in 0..variable_count(picture, frame) {
+        let count = cell_count(picture, frame, variable);
+        let shown = room.take(count);
+        add_variable(picture, frame, variable, shown, filled, out);
+        rest = rest.saturating_add(count.saturating_sub(shown));
+    }
+    add_rest(rest, filled, out);
+}
+
+fn add_globals(picture: &Picture<'_, '_, '_>, room: &mut Room, out: &mut Writer)
+    ensures { Stays out.old out.new }
+{
     let mut filled = Filled::new(out.len(), 8);
     out.add(b"global");
-    add_frame(picture, 0, &mut filled, out);
+    add_frame(picture, 0, room, &mut filled, out);
     out.add(b"\n");
 }
 
 fn add_messages(
     picture: &Picture<'_, '_, '_>,
     channel: &Channel,
+    room: &mut Room,
     filled: &mut Filled,
     out: &mut Writer,
-) {
+)
+    ensures { Stays out.old out.new }
+{
     let mut item = Writer::new(out.allocator());
-    for place in 0..channel.len() {
+    let count = channel.len();
+    let shown = room.take(count).min(count);
+    for place in 0..shown {
         item.clear();
         add_message(picture, channel.types(), channel.message(place), &mut item);
         filled.add(&item, out);
     }
+    add_rest(count - shown, filled, out);
 }
 
-fn add_contents(picture: &Picture<'_, '_, '_>, channel: &Channel, start: usize, out: &mut Writer) {
+fn add_contents(
+    picture: &Picture<'_, '_, '_>,
+    channel: &Channel,
+    start: usize,
+    room: &mut Room,
+    out: &mut Writer,
+)
+    ensures { Stays out.old out.new }
+{
     if channel.capacity() == 0 {
         out.add(b"rendezvous");
         return;
@@ -73,52 +119,63 @@ fn add_contents(picture: &Picture<'_, '_, '_>, channel: &Channel, start: usize, 
     out.number(channel.len());
     out.add(b" of ");
     out.number(usize::from(channel.capacity()));
-    add_messages(picture, channel, &mut filled, out);
+    add_messages(picture, channel, room, &mut filled, out);
 }
 
-fn add_one_channel(picture: &Picture<'_, '_, '_>, number: usize, out: &mut Writer) {
+fn add_one_channel(picture: &Picture<'_, '_, '_>, number: usize, room: &mut Room, out: &mut Writer)
+    ensures { Stays out.old out.new }
+{
     let start = out.len();
     add_channel(picture, number, out);
     out.pad(start, BEHIND_HEADING);
     if let Some(channel) = channel_at(picture, number) {
-        add_contents(picture, channel, start, out);
+        add_contents(picture, channel, start, room, out);
     }
     out.add(b"\n");
 }
 
 /// Writes `proc P (NAME)` and blanks, up to where more stands.
-pub fn add_heading(picture: &Picture<'_, '_, '_>, process: usize, out: &mut Writer) {
+pub fn add_heading(picture: &Picture<'_, '_, '_>, process: usize, out: &mut Writer)
+    ensures { Stays out.old out.new }
+{
     let start = out.len();
     add_process(picture, process, out);
     out.pad(start, BEHIND_HEADING);
 }
 
 /// Writes `line L` of where a process stands.
-pub fn add_line(picture: &Picture<'_, '_, '_>, process: usize, out: &mut Writer) {
+pub fn add_line(picture: &Picture<'_, '_, '_>, process: usize, out: &mut Writer)
+    ensures { Stays out.old out.new }
+{
     out.add(b"line ");
     out.number(line_of(picture, process) as usize);
 }
 
-fn add_one_process(picture: &Picture<'_, '_, '_>, process: usize, out: &mut Writer) {
+fn add_one_process(picture: &Picture<'_, '_, '_>, process: usize, room: &mut Room, out: &mut Writer)
+    ensures { Stays out.old out.new }
+{
     let mut filled = Filled::new(out.len(), INDENT);
     add_heading(picture, process, out);
     add_line(picture, process, out);
     if picture.holder() == Some(process) {
         out.add(b", exclusive");
     }
-    add_frame(picture, process.saturating_add(1), &mut filled, out);
+    add_frame(picture, process.saturating_add(1), room, &mut filled, out);
     out.add(b"\n");
 }
 
-/// Writes the state.
-pub fn add_state(picture: &Picture<'_, '_, '_>, out: &mut Writer) {
+/// Writes the state: all, or the first 1000 cells and messages.
+pub fn add_state(picture: &Picture<'_, '_, '_>, is_all: bool, out: &mut Writer)
+    ensures { Stays out.old out.new }
+{
+    let mut room = Room::new(is_all);
     if variable_count(picture, 0) > 0 {
-        add_globals(picture, out);
+        add_globals(picture, &mut room, out);
     }
     for before in 0..picture.channel_count() {
-        add_one_channel(picture, before + 1, out);
+        add_one_channel(picture, before + 1, &mut room, out);
     }
     for process in 0..picture.process_count() {
-        add_one_process(picture, process, out);
+        add_one_process(picture, process, &mut room, out);
     }
 }

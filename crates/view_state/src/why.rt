@@ -1,5 +1,9 @@
 //! What each process waits for.
 
+ghost use Rattle.view_text.specs.Written.{Stays};
+
+use crate::counted::{count_at, counts_of};
+use crate::cut::{Room, add_more_line};
 use crate::state::{add_heading, add_line};
 use promela_run::moves::Move;
 use std::alloc::AllocError;
@@ -7,11 +11,13 @@ use view_cells::picture::Picture;
 use view_cells::processes::is_at_brace;
 use view_text::writer::Writer;
 use view_waits::offers::{add_offer, offer_line};
-use view_waits::waits::{Wait, add_waits, moves_of};
+use view_waits::waits::{Wait, add_waits};
 use view_waits::words::add_words;
 
 // Writes a line: where the process stands, what it could do there, and why it is no move.
-fn add_wait(picture: &Picture<'_, '_, '_>, process: usize, wait: &Wait, out: &mut Writer) {
+fn add_wait(picture: &Picture<'_, '_, '_>, process: usize, wait: &Wait, out: &mut Writer)
+    ensures { Stays out.old out.new }
+{
     add_heading(picture, process, out);
     match wait.pick {
         Some(pick) => {
@@ -28,22 +34,29 @@ fn add_wait(picture: &Picture<'_, '_, '_>, process: usize, wait: &Wait, out: &mu
     out.add(b"\n");
 }
 
-/// Writes a line for each thing that a process without a move waits for.
-pub fn add_waiting(
+// Writes a line for each thing that a process without a move waits for, as far as there is room. How many are left out.
+fn add_waiting(
     picture: &Picture<'_, '_, '_>,
     moves: &[Move],
     process: usize,
+    room: &mut Room,
     out: &mut Writer,
-) -> Result<(), AllocError> {
+) -> Result<usize, AllocError>
+    ensures { Stays out.old out.new }
+{
     let mut waits = Vec::new(out.allocator());
     add_waits(picture, moves, process, &mut waits)?;
-    for wait in waits.as_slice() {
+    let count = waits.len();
+    let shown = room.take(count).min(count);
+    for wait in &waits.as_slice()[..shown] {
         add_wait(picture, process, wait, out);
     }
-    Ok(())
+    Ok(count - shown)
 }
 
-fn add_can_move(picture: &Picture<'_, '_, '_>, process: usize, count: usize, out: &mut Writer) {
+fn add_can_move(picture: &Picture<'_, '_, '_>, process: usize, count: usize, out: &mut Writer)
+    ensures { Stays out.old out.new }
+{
     add_heading(picture, process, out);
     out.add(b"can move: ");
     out.number(count);
@@ -54,20 +67,28 @@ fn add_can_move(picture: &Picture<'_, '_, '_>, process: usize, count: usize, out
     });
 }
 
-/// Writes for each process in how many moves it takes part, or what it waits for.
+/// Writes for each process in how many moves it takes part, or what it waits for: all, or the first 1000 lines.
 pub fn add_why(
     picture: &Picture<'_, '_, '_>,
     moves: &[Move],
+    is_all: bool,
     out: &mut Writer,
-) -> Result<(), AllocError> {
+) -> Result<(), AllocError>
+    ensures { Stays out.old out.new }
+{
+    let mut room = Room::new(is_all);
+    let mut rest = 0usize;
+    let counts = counts_of(out.allocator(), picture.process_count(), moves)?;
     for process in 0..picture.process_count() {
-        let count = moves_of(process, moves);
+        let count = count_at(counts.as_slice(), process);
         if count == 0 {
-            add_waiting(picture, moves, process, out)?;
+            let left = add_waiting(picture, moves, process, &mut room, out)?;
+            rest = rest.saturating_add(left);
         } else {
             add_can_move(picture, process, count, out);
         }
     }
+    add_more_line(rest, "why", out);
     Ok(())
 }
 
@@ -75,12 +96,20 @@ pub fn add_why(
 pub fn add_blocked(
     picture: &Picture<'_, '_, '_>,
     moves: &[Move],
+    is_all: bool,
     out: &mut Writer,
-) -> Result<(), AllocError> {
+) -> Result<(), AllocError>
+    ensures { Stays out.old out.new }
+{
+    let mut room = Room::new(is_all);
+    let mut rest = 0usize;
+    let counts = counts_of(out.allocator(), picture.process_count(), moves)?;
     for process in 0..picture.process_count() {
-        if moves_of(process, moves) == 0 && !is_at_brace(picture, process) {
-            add_waiting(picture, moves, process, out)?;
+        if count_at(counts.as_slice(), process) == 0 && !is_at_brace(picture, process) {
+            let left = add_waiting(picture, moves, process, &mut room, out)?;
+            rest = rest.saturating_add(left);
         }
     }
+    add_more_line(rest, "moves", out);
     Ok(())
 }

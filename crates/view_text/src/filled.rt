@@ -1,5 +1,7 @@
 //! Items one behind another, on lines that a terminal holds.
 
+ghost use Rattle.view_text.specs.Written.{Stays};
+
 use crate::writer::Writer;
 
 /// Where a line of a terminal ends.
@@ -30,7 +32,9 @@ impl Filled {
     }
 
     /// Writes an item.
-    pub fn add(&mut self, item: &Writer, out: &mut Writer) {
+    pub fn add(&mut self, item: &Writer, out: &mut Writer)
+        ensures { Stays out.old out.new }
+    {
         if self.has_room(out.len(), item.bytes()) {
             out.add(b"  ");
         } else {

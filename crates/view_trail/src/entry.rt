@@ -12,6 +12,26 @@ pub enum Event<'t> {
     Death,
 }
 
+impl<'t> Event<'t> {
+    /// Whether it is an `else`.
+    pub fn is_else(&self) -> bool {
+        match self {
+            Event::Statement(_, text) => *text == b"else".as_slice(),
+            Event::Death => false,
+        }
+    }
+
+    /// Whether it gives a variable another number than 0.
+    pub fn gives_value(&self) -> bool {
+        match self {
+            Event::Statement(_, text) => {
+                parted(text, b" = ").is_some() && !text.ends_with(b" = 0")
+            }
+            Event::Death => false,
+        }
+    }
+}
+
 /// A line of a trail that tells of a process.
 #[derive(Clone, Copy, Debug, PartialEq, Eq)]
 pub struct Entry<'t> {

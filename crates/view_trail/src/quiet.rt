@@ -16,14 +16,16 @@ const JUMPS: [&[u8]; 10] = [
     b"-end-",
 ];
 
-/// Whether Spin may show this of a statement that is no step of the machine.
+/// Whether Spin may show this of a statement that is no step of the machine: of a record that is declared behind a statement it shows nothing.
 pub fn is_of_spin(text: &[u8]) -> bool {
     for jump in JUMPS {
         if text == jump {
             return true;
         }
     }
-    behind_word(text, b"goto ").is_some() || behind_word(text, b"D_STEP").is_some()
+    text.is_empty()
+        || behind_word(text, b"goto ").is_some()
+        || behind_word(text, b"D_STEP").is_some()
 }
 
 /// Whether the machine may take a step with this text that Spin does not show.
@@ -32,4 +34,14 @@ pub fn is_of_machine(text: &[u8]) -> bool {
         || text == b"break".as_slice()
         || text == b"skip".as_slice()
         || behind_word(text, b"goto ").is_some()
+}
+
+/// Whether this is what Spin shows of a `break`: `goto :b0`.
+pub fn is_break(text: &[u8]) -> bool {
+    behind_word(text, b"goto :b").is_some()
+}
+
+/// Whether two spelled statements are both a `printm`, which Spin shows by numbers.
+pub fn is_printm(spelled: &[u8], wanted: &[u8]) -> bool {
+    behind_word(spelled, b"printm").is_some() && behind_word(wanted, b"printm").is_some()
 }

@@ -17,8 +17,8 @@ fn is_left_out(byte: u8) -> bool {
     }
 }
 
-// How many bytes of a word or a number stand first.
-fn word_size(text: &[u8]) -> usize {
+/// How many bytes of a word or a number stand first.
+pub fn word_size(text: &[u8]) -> usize {
     for at in 0..text.len() {
         if !is_of_word(text[at]) {
             return at;

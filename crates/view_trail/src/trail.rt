@@ -15,6 +15,10 @@ pub struct Trail<'t> {
     held: Option<(usize, usize)>,
     /// How often a `select` is still to count up.
     counts: usize,
+    /// The process and the line of an `else` that was passed over, since which that process took no line.
+    skipped: Option<(usize, usize)>,
+    /// The first line of a declaration that was passed over which gives another number than 0.
+    valued: Option<usize>,
 }
 
 impl<'t> Trail<'t> {
@@ -26,6 +30,8 @@ impl<'t> Trail<'t> {
             last: None,
             held: None,
             counts: 0,
+            skipped: None,
+            valued: None,
         }
     }
 
@@ -48,6 +54,32 @@ impl<'t> Trail<'t> {
         None
     }
 
+    /// Goes behind the next line, which is no step here.
+    pub fn pass_over(&mut self) {
+        let Some(entry) = self.pass() else {
+            return;
+        };
+        if entry.event.is_else() {
+            self.skipped = Some((entry.process, entry.row));
+        }
+        if self.valued.is_none() && entry.event.gives_value() {
+            self.valued = Some(entry.row);
+        }
+    }
+
+    /// The first line of a declaration that was passed over which gives another number than 0.
+    pub fn valued(&self) -> Option<usize> {
+        self.valued
+    }
+
+    /// The line of an `else` of this process that was passed over, where the process took no line since then.
+    pub fn skipped_of(&self, process: usize) -> Option<usize> {
+        match self.skipped {
+            Some((other, row)) if other == process => Some(row),
+            _ => None,
+        }
+    }
+
     /// Goes behind the next line.
     pub fn pass(&mut self) -> Option<Entry<'t>> {
         for _ in 0..u64::MAX {
@@ -58,6 +90,7 @@ impl<'t> Trail<'t> {
                 self.last = Some((entry.process, entry.step));
                 self.held = None;
                 self.quiet = 0;
+                self.forget_skipped(entry.process);
                 return Some(entry);
             }
         }
@@ -90,6 +123,13 @@ impl<'t> Trail<'t> {
                 Event::Statement(_, text) if is_of_spin(text) => {}
                 _ => return,
             }
+        }
+    }
+
+    // A line of this process is followed.
+    fn forget_skipped(&mut self, process: usize) {
+        if self.skipped_of(process).is_some() {
+            self.skipped = None;
         }
     }
 

@@ -1,129 +1,50 @@
-//! Which of the present moves the next line of a trail names.
+//! Which ways lead on by the next line of a trail.
+
+ghost use Rattle.std.specs.Prelude.{◌≡◌, true, IfSome};
+ghost use Rattle.run_search.specs.Laws.{taker};
 
 use crate::entry::{Entry, Event};
+use crate::fits::{behind, distance, spelling_of, text_of};
+use crate::marks::Marks;
 use crate::quiet::{is_of_machine, is_of_spin};
 use crate::select::{Stride, counts_to, stride_of};
-use crate::spelled::add_spelled;
+use crate::spelled::word_size;
 use crate::trail::Trail;
-use promela_run::moves::{Move, Pick};
+use crate::way::{Way, Ways};
+use promela_run::moves::Move;
+use std::alloc::AllocError;
 use view_cells::picture::Picture;
 use view_text::writer::Writer;
-use view_waits::offers::{add_offer, offer_line};
 
-/// What a trail says of the present moves.
-#[derive(Clone, Copy, Debug, PartialEq, Eq)]
-pub enum Named {
-    /// The move with this number is taken, counted from 1.
-    Take(usize),
-    /// The trail has ended.
-    Ended,
-    /// No move fits the line with this number of its file.
-    Misfit(usize),
-}
+// The ranks of ways behind those of moves that fit: a `select` that counts up, a line that is passed over, and a step that Spin may leave out.
+const OF_SELECT: usize = 4_100_000_000;
 
-// How far a move is from what a line names: the difference of their lines. A d_step, of which Spin shows what is in it, is farthest.
-const OF_D_STEP: usize = 1_000_000_000;
+const OF_PASSING: usize = 4_200_000_000;
 
-// The text of the offer that a pick names.
-fn text_of(picture: &Picture<'_, '_, '_>, pick: Pick, out: &mut Writer) -> Writer {
-    let mut text = Writer::new(out.allocator());
-    add_offer(picture, pick, &mut text);
-    out.keep_refusal(&text);
-    text
-}
+const OF_QUIET: usize = 4_300_000_000;
 
-fn is_spelled(one: &[u8], other: &[u8], out: &mut Writer) -> bool {
-    let mut spelled = Writer::new(out.allocator());
-    add_spelled(one, &mut spelled);
-    let mut wanted = Writer::new(out.allocator());
-    add_spelled(other, &mut wanted);
-    out.keep_refusal(&spelled);
-    out.keep_refusal(&wanted);
-    spelled.bytes() == wanted.bytes()
-}
-
-// How far what a pick names is from this line of this process, where it fits it.
-fn distance_of(
-    picture: &Picture<'_, '_, '_>,
-    pick: Pick,
-    entry: &Entry<'_>,
-    out: &mut Writer,
-) -> Option<usize> {
-    let Event::Statement(line, wanted) = entry.event else {
-        return None;
-    };
-    if pick.process != entry.process {
-        return None;
-    }
-    let text = text_of(picture, pick, out);
-    if text.bytes() == b"d_step".as_slice() {
-        return Some(OF_D_STEP);
-    }
-    if !is_spelled(text.bytes(), wanted, out) {
-        return None;
-    }
-    Some(line.abs_diff(offer_line(picture, pick) as usize))
-}
-
-// How far the two halves of a rendezvous are from the next two lines.
-fn distance_of_pair(
-    picture: &Picture<'_, '_, '_>,
-    sender: Pick,
-    receiver: Pick,
-    trail: &Trail<'_>,
-    entry: &Entry<'_>,
-    out: &mut Writer,
-) -> Option<usize> {
-    let first = distance_of(picture, sender, entry, out)?;
-    let second = trail.second()?;
-    let behind = distance_of(picture, receiver, &second, out)?;
-    Some(first.saturating_add(behind))
-}
-
-// How far a move is from the next line, where it fits it.
-fn distance(
-    picture: &Picture<'_, '_, '_>,
-    m: &Move,
-    trail: &Trail<'_>,
-    entry: &Entry<'_>,
-    out: &mut Writer,
-) -> Option<usize> {
-    match m {
-        Move::Death(process) => {
-            if entry.event == Event::Death && *process == entry.process {
-                Some(0)
-            } else {
-                None
-            }
-        }
-        Move::Alone(pick, _) => distance_of(picture, *pick, entry, out),
-        Move::Pair(sender, receiver, _) => {
-            distance_of_pair(picture, *sender, *receiver, trail, entry, out)
-        }
-    }
-}
-
-// The number of the nearest move that fits the next line, and how far it is.
-fn nearest(
+// Adds the moves that fit the next line.
+fn add_fits<'t>(
     picture: &Picture<'_, '_, '_>,
     moves: &[Move],
-    trail: &Trail<'_>,
+    trail: &Trail<'t>,
     entry: &Entry<'_>,
+    ways: &mut Ways<'t>,
     out: &mut Writer,
-) -> Option<(usize, usize)> {
-    let mut best: Option<(usize, usize)> = None;
+) -> Result<(), AllocError> {
     for at in 0..moves.len() {
         if let Some(far) = distance(picture, &moves[at], trail, entry, out) {
-            let is_nearer = match best {
-                Some((_, least)) => far < least,
-                None => true,
-            };
-            if is_nearer {
-                best = Some((at + 1, far));
-            }
+            let trail = behind(trail, &moves[at], far);
+            ways.add(
+                far,
+                Way {
+                    choice: Some(at + 1),
+                    trail,
+                },
+            )?;
         }
     }
-    best
+    Ok(())
 }
 
 // The spelling of what a process does by this move alone.
@@ -132,13 +53,13 @@ fn spelled_of(
     m: &Move,
     process: usize,
     out: &mut Writer,
-) -> Option<Writer> {
+) -> Option<Writer>
+    ensures { IfSome result (λ w. taker m.now ≡ process) }
+{
     match m {
         Move::Alone(pick, _) if pick.process == process => {
-            let mut spelled = Writer::new(out.allocator());
-            add_spelled(text_of(picture, *pick, out).bytes(), &mut spelled);
-            out.keep_refusal(&spelled);
-            Some(spelled)
+            let text = text_of(picture, *pick, out);
+            Some(spelling_of(text.bytes(), out))
         }
         _ => None,
     }
@@ -155,33 +76,91 @@ fn counts_behind(spelled: &[u8], wanted: &[u8], counts: usize) -> Option<usize> 
     }
 }
 
-// A step of a `select` that comes to what a line says, and how often it is to count up then.
-fn selecting(
+// A trail behind a step that it does not show, if that may be; a `select` is to count up so often then.
+fn behind_quiet<'t>(trail: &Trail<'t>, counts: Option<usize>) -> Option<Trail<'t>> {
+    let mut trail = *trail;
+    if !trail.keep_quiet() {
+        return None;
+    }
+    if let Some(counts) = counts {
+        trail.count(counts);
+    }
+    Some(trail)
+}
+
+// Adds steps of a `select` that come to what a line says.
+fn add_selecting<'t>(
     picture: &Picture<'_, '_, '_>,
     moves: &[Move],
-    trail: &Trail<'_>,
+    trail: &Trail<'t>,
     entry: &Entry<'_>,
+    ways: &mut Ways<'t>,
     out: &mut Writer,
-) -> Option<(usize, usize)> {
+) -> Result<(), AllocError> {
     let Event::Statement(_, text) = entry.event else {
-        return None;
+        return Ok(());
     };
-    let mut wanted = Writer::new(out.allocator());
-    add_spelled(text, &mut wanted);
-    out.keep_refusal(&wanted);
+    let wanted = spelling_of(text, out);
     for at in 0..moves.len() {
-        if let Some(spelled) = spelled_of(picture, &moves[at], entry.process, out) {
-            let counts = counts_behind(spelled.bytes(), wanted.bytes(), trail.counts());
-            if let Some(counts) = counts {
-                return Some((at + 1, counts));
-            }
-        }
+        let Some(spelled) = spelled_of(picture, &moves[at], entry.process, out) else {
+            continue;
+        };
+        let counts = counts_behind(spelled.bytes(), wanted.bytes(), trail.counts());
+        add_counting(trail, at + 1, counts, ways)?;
     }
-    None
+    Ok(())
+}
+
+// Adds a step of a `select`, where it is one.
+fn add_counting<'t>(
+    trail: &Trail<'t>,
+    choice: usize,
+    counts: Option<usize>,
+    ways: &mut Ways<'t>,
+) -> Result<(), AllocError> {
+    if counts.is_none() {
+        return Ok(());
+    }
+    match behind_quiet(trail, counts) {
+        Some(trail) => ways.add(
+            OF_SELECT,
+            Way {
+                choice: Some(choice),
+                trail,
+            },
+        ),
+        None => Ok(()),
+    }
+}
+
+// Whether Spin may show a line where the machine takes no step: a jump, or a declaration behind a statement.
+fn is_shown_alone(marks: &Marks<'_>, entry: &Entry<'_>) -> bool {
+    match entry.event {
+        Event::Statement(line, text) => {
+            let name = &text[..word_size(text).min(text.len())];
+            is_of_spin(text) || marks.is_declared(name, line)
+        }
+        Event::Death => false,
+    }
+}
+
+// Adds that the next line is passed over.
+fn add_passing<'t>(trail: &Trail<'t>, ways: &mut Ways<'t>) -> Result<(), AllocError> {
+    let mut trail = *trail;
+    trail.pass_over();
+    ways.add(
+        OF_PASSING,
+        Way {
+            choice: None,
+            trail,
+        },
+    )
 }
 
 // Whether a process takes a step by this move that Spin may leave out.
-fn is_quiet(picture: &Picture<'_, '_, '_>, m: &Move, process: usize, out: &mut Writer) -> bool {
+fn is_quiet(picture: &Picture<'_, '_, '_>, m: &Move, process: usize, out: &mut Writer) -> bool
+    ensures { result ≡ true → taker m.now ≡ process }
+{
     match m {
         Move::Alone(pick, _) if pick.process == process => {
             is_of_machine(text_of(picture, *pick, out).bytes())
@@ -190,95 +169,66 @@ fn is_quiet(picture: &Picture<'_, '_, '_>, m: &Move, process: usize, out: &mut W
     }
 }
 
-// The number of such a move.
-fn quiet_of(
+// Adds the steps of a process that Spin may leave out.
+fn add_quiet<'t>(
     picture: &Picture<'_, '_, '_>,
     moves: &[Move],
     process: usize,
+    trail: &Trail<'t>,
+    ways: &mut Ways<'t>,
     out: &mut Writer,
-) -> Option<usize> {
+) -> Result<(), AllocError> {
+    let Some(trail) = behind_quiet(trail, None) else {
+        return Ok(());
+    };
     for at in 0..moves.len() {
         if is_quiet(picture, &moves[at], process, out) {
-            return Some(at + 1);
+            ways.add(
+                OF_QUIET,
+                Way {
+                    choice: Some(at + 1),
+                    trail,
+                },
+            )?;
         }
     }
-    None
+    Ok(())
 }
 
-// A step that Spin may leave out: of the process of the next line, or of the one that has exclusive control.
-fn unshown(
+// Adds the steps that Spin may leave out: of the process of the next line, and of the one that has exclusive control.
+fn add_unshown<'t>(
     picture: &Picture<'_, '_, '_>,
     moves: &[Move],
+    trail: &Trail<'t>,
+    entry: &Entry<'_>,
+    ways: &mut Ways<'t>,
+    out: &mut Writer,
+) -> Result<(), AllocError> {
+    add_quiet(picture, moves, entry.process, trail, ways, out)?;
+    match picture.holder() {
+        Some(holder) if holder != entry.process => {
+            add_quiet(picture, moves, holder, trail, ways, out)
+        }
+        _ => Ok(()),
+    }
+}
+
+/// The ways on from where a trail has a next line: each passes over it, or takes a move of its process or of the one that has exclusive
+/// control. Where memory was refused for a text that was compared, it is kept in `out`, and what is answered says nothing.
+pub fn ways_on<'t>(
+    picture: &Picture<'_, '_, '_>,
+    moves: &[Move],
+    marks: &Marks<'_>,
+    trail: &Trail<'t>,
     entry: &Entry<'_>,
     out: &mut Writer,
-) -> Option<usize> {
-    let found = quiet_of(picture, moves, entry.process, out);
-    if found.is_some() {
-        return found;
+) -> Result<Ways<'t>, AllocError> {
+    let mut ways = Ways::new(out.allocator());
+    add_fits(picture, moves, trail, entry, &mut ways, out)?;
+    add_selecting(picture, moves, trail, entry, &mut ways, out)?;
+    if is_shown_alone(marks, entry) {
+        add_passing(trail, &mut ways)?;
     }
-    match picture.holder() {
-        Some(holder) => quiet_of(picture, moves, holder, out),
-        None => None,
-    }
-}
-
-fn is_pair(moves: &[Move], number: usize) -> bool {
-    match moves.get(number.saturating_sub(1)) {
-        Some(Move::Pair(_, _, _)) => true,
-        _ => false,
-    }
-}
-
-// Goes behind the lines that a move fits.
-fn pass(trail: &mut Trail<'_>, moves: &[Move], number: usize, far: usize) {
-    if trail.pass().is_none() {
-        return;
-    }
-    if is_pair(moves, number) {
-        trail.pass_second();
-    } else if far == OF_D_STEP {
-        trail.hold();
-    }
-}
-
-// Whether Spin may show a line where the machine takes no step.
-fn is_shown_alone(entry: &Entry<'_>) -> bool {
-    match entry.event {
-        Event::Statement(_, text) => is_of_spin(text),
-        Event::Death => false,
-    }
-}
-
-/// Which of the present moves is next; the trail goes on behind the lines that name it. Where memory was refused for a text that was compared, it is kept in `out`,
-/// and what is answered says nothing.
-pub fn which(
-    picture: &Picture<'_, '_, '_>,
-    moves: &[Move],
-    trail: &mut Trail<'_>,
-    out: &mut Writer,
-) -> Named {
-    for _ in 0..u64::MAX {
-        let Some(entry) = trail.next() else {
-            return Named::Ended;
-        };
-        if let Some((number, far)) = nearest(picture, moves, trail, &entry, out) {
-            pass(trail, moves, number, far);
-            return Named::Take(number);
-        }
-        if let Some((number, counts)) = selecting(picture, moves, trail, &entry, out) {
-            if !trail.keep_quiet() {
-                return Named::Misfit(entry.row);
-            }
-            trail.count(counts);
-            return Named::Take(number);
-        }
-        if !is_shown_alone(&entry) {
-            return match unshown(picture, moves, &entry, out) {
-                Some(number) if trail.keep_quiet() => Named::Take(number),
-                _ => Named::Misfit(entry.row),
-            };
-        }
-        let _ = trail.pass();
-    }
-    Named::Ended
+    add_unshown(picture, moves, trail, entry, &mut ways, out)?;
+    Ok(ways)
 }

@@ -2,6 +2,7 @@
 #![tactic(auto)]
 
 pub mod because;
+pub mod fault;
 pub mod laws;
 pub mod offers;
 pub mod reads;

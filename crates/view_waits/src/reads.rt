@@ -82,6 +82,11 @@ pub fn add_target(target: &Target, view: &View<'_>, reads: &mut Reads) {
     add_cell(target, view, reads);
 }
 
+/// Adds what the indices of a reference read.
+pub fn add_indices(target: &Target, view: &View<'_>, reads: &mut Reads) {
+    add_turns(target.turns.as_slice(), view, reads);
+}
+
 #[cycle(reads)]
 fn add_turns(turns: &[Turn], view: &View<'_>, reads: &mut Reads) {
     for turn in turns {

@@ -1,6 +1,8 @@
 //! What a statement reads of a state.
 
-use crate::reads::{Reads, add_reads, add_target};
+ghost use Rattle.view_text.specs.Written.{Stays};
+
+use crate::reads::{Reads, add_indices, add_reads, add_target};
 use crate::words::add_all;
 use pml_program::expr::{Expr, Want};
 use pml_program::program::{Action, Basic, Run};
@@ -34,9 +36,13 @@ fn add_run(run: &Run, view: &View<'_>, reads: &mut Reads) {
 fn add_action(action: &Action<'_>, view: &View<'_>, reads: &mut Reads) {
     match action {
         Action::Else => {}
-        Action::Assign(_, e) | Action::Printm(e) | Action::Assert(e) | Action::Holds(e) => {
-            add_reads(e, view, reads)
+        Action::Assign(target, e) => {
+            add_reads(e, view, reads);
+            if let Some(target) = target {
+                add_indices(target, view, reads);
+            }
         }
+        Action::Printm(e) | Action::Assert(e) | Action::Holds(e) => add_reads(e, view, reads),
         Action::AssignRun(_, run) | Action::Run(run) => add_run(run, view, reads),
         Action::Increment(target) | Action::Decrement(target) => add_target(target, view, reads),
         Action::Send(target, _, fields) => {
@@ -56,7 +62,9 @@ fn add_basic(
     view: &View<'_>,
     basic: Option<&Basic<'_>>,
     out: &mut Writer,
-) {
+)
+    ensures { Stays out.old out.new }
+{
     let Some(Basic::Plain(action)) = basic else {
         return;
     };
@@ -70,7 +78,9 @@ fn add_basic(
     }
 }
 
-fn add_pick(picture: &Picture<'_, '_, '_>, pick: Pick, timeout: bool, out: &mut Writer) {
+fn add_pick(picture: &Picture<'_, '_, '_>, pick: Pick, timeout: bool, out: &mut Writer)
+    ensures { Stays out.old out.new }
+{
     if pick.process >= picture.process_count() {
         return;
     }
@@ -81,7 +91,9 @@ fn add_pick(picture: &Picture<'_, '_, '_>, pick: Pick, timeout: bool, out: &mut 
 }
 
 /// Writes a line with what the statement of a move reads: `  reads: x = 0, a[1] = 3`; none, where it reads nothing.
-pub fn add_statement_reads(picture: &Picture<'_, '_, '_>, m: &Move, out: &mut Writer) {
+pub fn add_statement_reads(picture: &Picture<'_, '_, '_>, m: &Move, out: &mut Writer)
+    ensures { Stays out.old out.new }
+{
     match m {
         Move::Death(_) => {}
         Move::Alone(pick, timeout) => add_pick(picture, *pick, *timeout, out),

@@ -1,5 +1,7 @@
 //! Why a process has no move, in words.
 
+ghost use Rattle.view_text.specs.Written.{Stays};
+
 use crate::because::Because;
 use crate::reads::{Read, Reads, add_reads};
 use crate::waits::Wait;
@@ -27,7 +29,9 @@ fn number_of(number: i32) -> usize {
 }
 
 // Writes `len(NAME) = N`.
-fn add_length(picture: &Picture<'_, '_, '_>, number: i32, out: &mut Writer) {
+fn add_length(picture: &Picture<'_, '_, '_>, number: i32, out: &mut Writer)
+    ensures { Stays out.old out.new }
+{
     out.add(b"len(");
     if number > 0 {
         add_channel_word(picture, number_of(number), out);
@@ -39,7 +43,9 @@ fn add_length(picture: &Picture<'_, '_, '_>, number: i32, out: &mut Writer) {
 }
 
 /// Writes what is read, with its value: `x = 1`.
-pub fn add_read(picture: &Picture<'_, '_, '_>, view: &View<'_>, read: Read, out: &mut Writer) {
+pub fn add_read(picture: &Picture<'_, '_, '_>, view: &View<'_>, read: Read, out: &mut Writer)
+    ensures { Stays out.old out.new }
+{
     match read {
         Read::Cell(place) => add_cell(picture, place, out),
         Read::Pid => {
@@ -60,7 +66,9 @@ pub fn add_read(picture: &Picture<'_, '_, '_>, view: &View<'_>, read: Read, out:
 }
 
 /// Writes what is read, one behind another.
-pub fn add_all(picture: &Picture<'_, '_, '_>, view: &View<'_>, reads: &Reads, out: &mut Writer) {
+pub fn add_all(picture: &Picture<'_, '_, '_>, view: &View<'_>, reads: &Reads, out: &mut Writer)
+    ensures { Stays out.old out.new }
+{
     let mut is_first = true;
     for read in reads.items() {
         out.add(if is_first { b": " } else { b", " });
@@ -70,7 +78,9 @@ pub fn add_all(picture: &Picture<'_, '_, '_>, view: &View<'_>, reads: &Reads, ou
     out.keep(reads.answer());
 }
 
-fn add_false(picture: &Picture<'_, '_, '_>, view: &View<'_>, e: &Expr, out: &mut Writer) {
+fn add_false(picture: &Picture<'_, '_, '_>, view: &View<'_>, e: &Expr, out: &mut Writer)
+    ensures { Stays out.old out.new }
+{
     out.add(b"false");
     let mut reads = Reads::new(out.allocator());
     add_reads(e, view, &mut reads);
@@ -91,7 +101,9 @@ fn add_want(
     form: Form,
     wanted: &Want,
     out: &mut Writer,
-) {
+)
+    ensures { Stays out.old out.new }
+{
     match want(wanted, view) {
         Ok(Sought::Exactly(number)) => add_value(picture, form, number, out),
         _ => out.add(b"_"),
@@ -105,7 +117,9 @@ fn add_wanted(
     types: &[Form],
     wants: &[Want],
     out: &mut Writer,
-) {
+)
+    ensures { Stays out.old out.new }
+{
     out.add(b"(");
     for i in 0..wants.len() {
         if i > 0 {
@@ -122,7 +136,9 @@ fn add_field(
     form: Form,
     field: &Expr,
     out: &mut Writer,
-) {
+)
+    ensures { Stays out.old out.new }
+{
     match eval(field, view) {
         Ok(number) => add_value(picture, form, clip(form, number), out),
         Err(_) => out.add(b"?"),
@@ -136,7 +152,9 @@ fn add_sent(
     types: &[Form],
     fields: &[Expr],
     out: &mut Writer,
-) {
+)
+    ensures { Stays out.old out.new }
+{
     out.add(b"(");
     for i in 0..fields.len() {
         if i > 0 {
@@ -153,7 +171,9 @@ fn add_other_message(
     channel: &Channel,
     name: &[u8],
     out: &mut Writer,
-) {
+)
+    ensures { Stays out.old out.new }
+{
     out.add(b"the oldest message of ");
     out.add(name);
     out.add(b" is ");
@@ -166,11 +186,14 @@ fn add_other_message(
 fn add_receive_from(
     picture: &Picture<'_, '_, '_>,
     view: &View<'_>,
-    (name, channel): (&[u8], &Channel),
+    named: (&[u8], &Channel),
     search: Search,
     wants: &[Want],
     out: &mut Writer,
-) {
+)
+    ensures { Stays out.old out.new }
+{
+    let (name, channel) = named;
     if channel.capacity() == 0 {
         out.add(b"no process sends ");
         add_wanted(picture, view, channel.types(), wants, out);
@@ -197,10 +220,13 @@ fn add_receive_from(
 fn add_send_to(
     picture: &Picture<'_, '_, '_>,
     view: &View<'_>,
-    (name, channel): (&[u8], &Channel),
+    named: (&[u8], &Channel),
     fields: &[Expr],
     out: &mut Writer,
-) {
+)
+    ensures { Stays out.old out.new }
+{
+    let (name, channel) = named;
     if channel.capacity() == 0 {
         out.add(b"no process receives ");
         add_sent(picture, view, channel.types(), fields, out);
@@ -227,7 +253,9 @@ fn add_receive(
     search: Search,
     wants: &[Want],
     out: &mut Writer,
-) {
+)
+    ensures { Stays out.old out.new }
+{
     match named(view, target, wants.len()) {
         Ok((number, channel)) => {
             let name = name_of(picture, number, out);
@@ -244,7 +272,9 @@ fn add_send(
     target: &Target,
     fields: &[Expr],
     out: &mut Writer,
-) {
+)
+    ensures { Stays out.old out.new }
+{
     match named(view, target, fields.len()) {
         Ok((number, channel)) => {
             let name = name_of(picture, number, out);
@@ -255,12 +285,9 @@ fn add_send(
     }
 }
 
-fn add_action(
-    picture: &Picture<'_, '_, '_>,
-    view: &View<'_>,
-    action: &Action<'_>,
-    out: &mut Writer,
-) {
+fn add_action(picture: &Picture<'_, '_, '_>, view: &View<'_>, action: &Action<'_>, out: &mut Writer)
+    ensures { Stays out.old out.new }
+{
     match action {
         Action::Else => out.add(b"another statement can be taken"),
         Action::Holds(e) => add_false(picture, view, e, out),
@@ -278,7 +305,9 @@ fn add_basic(
     view: &View<'_>,
     basic: Option<&Basic<'_>>,
     out: &mut Writer,
-) {
+)
+    ensures { Stays out.old out.new }
+{
     match basic {
         Some(Basic::Plain(action)) => add_action(picture, view, action, out),
         Some(Basic::DStep(_)) => out.add(b"nothing can be taken first in it"),
@@ -292,7 +321,9 @@ fn add_pick(
     pick: Pick,
     timeout: bool,
     out: &mut Writer,
-) {
+)
+    ensures { Stays out.old out.new }
+{
     if pick.process >= live.process_count() {
         return;
     }
@@ -303,7 +334,9 @@ fn add_pick(
 }
 
 /// Writes why, with what it reads.
-pub fn add_words(picture: &Picture<'_, '_, '_>, wait: &Wait, out: &mut Writer) {
+pub fn add_words(picture: &Picture<'_, '_, '_>, wait: &Wait, out: &mut Writer)
+    ensures { Stays out.old out.new }
+{
     match (wait.because, wait.pick) {
         (Because::Held(holder), _) => {
             add_process(picture, holder, out);

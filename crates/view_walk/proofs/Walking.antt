@@ -1,5 +1,5 @@
 -- What steps and choices make of a walk.
-use Rattle.std.proofs.Common.{◌≡◌, ◌∙◌, ap, sym, refl, ℕ, ◌+◌, Bool, true, false, List, [], length, Option, Some, None, arith}
+use Rattle.std.proofs.Common.{◌≡◌, ◌∙◌, ap, sym, refl, ℕ, ◌+◌, Bool, true, false, List, [], length, take, Option, Some, None, arith}
 use Rattle.std.specs.Prelude.{slice_get}
 use Rattle.std.proofs.lemmas.Option.{none-some}
 use Rattle.std.proofs.lemmas.Bool.{true≢false}
@@ -13,6 +13,7 @@ use Rattle.pml_sim.specs.Lent.{IsFirst}
 use Rattle.view_walk.specs.declared.leg.Leg.{Leg}
 use Rattle.view_walk.specs.Choices.{numbered, chosen, on, with_leg}
 use Rattle.view_walk.specs.Walks.{started, walked, Walked, IsWalk}
+use Rattle.view_walk.proofs.Taken.{take_again, length_taken}
 use Rattle.view_walk.proofs.Leads.{next_leads, choice_counts, chosen_is, is_chosen, no_fault, same_leads, leg_leads}
 
 pub begun : (p : Program) (lossy : Bool) (s : Running) → IsFirst p lossy s → walked p lossy [] ≡ Some s
@@ -65,3 +66,12 @@ module _ (w : Walked) (h : IsWalk w) (found : w.is_lost ≡ false) where
       let is = is_chosen rules w.state t m u printed refl number goes in
       let l = leg_leads rules (started w.lossy (first_state w.program)) w.legs w.at t w.state u (h.here found) is h.last h.whole h.within in
       record { within = l.within; last = l.last; whole = l.whole; here = λ _. l.here }
+
+  -- the choices that are still to come are forgotten
+  pub forgotten : IsWalk (record w { legs = take w.at w.legs })
+  forgotten = record {
+    within = length_taken w.at w.legs h.within;
+    last = w.state;
+    whole = h.here found;
+    here = λ _. ap (λ (ts : List Leg). walked w.program w.lossy ts) (take_again w.at w.legs) ∙ h.here found;
+  }

@@ -1,6 +1,6 @@
 //! A walk.
 
-ghost use Rattle.std.specs.Prelude.{◌≡◌, ◌+◌, ◌<◌, ◌≤◌, [], true, false, IfOk, OnOk, OnErr, length, slice_get, vec_len, vec_capacity};
+ghost use Rattle.std.specs.Prelude.{◌≡◌, ◌+◌, ◌<◌, ◌≤◌, [], true, false, IfOk, OnOk, OnErr, length, take, slice_get, vec_len, vec_capacity};
 ghost use Rattle.diagnostics.specs.declared.fault.Fault.{Fault};
 ghost use Rattle.promela_run.specs.World.{moves};
 ghost use Rattle.view_walk.specs.Choices.{numbered, with_leg};
@@ -225,6 +225,17 @@ impl<'p, 'a> Walk<'p, 'a> {
             self.begin_again()?;
         }
         self.go_on(step)
+    }
+
+    /// Forgets the choices that are still to come.
+    pub fn forget(&mut self)
+        requires found { self.old.is_lost ≡ false }
+        ensures model { SameModel self.old self.new }
+        ensures legs { self.new.legs ≡ take self.old.at self.old.legs }
+        ensures at { self.new.at ≡ self.old.at }
+        ensures found { self.new.is_lost ≡ false }
+    {
+        self.legs.truncate(self.at);
     }
 
     /// Takes the move with this number, counted from 1, of the state where it stands, and appends what it prints. The choices that were to

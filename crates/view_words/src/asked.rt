@@ -20,6 +20,14 @@ pub struct Asked {
     pub source: Option<String>,
     /// The file that says which lines of the model are of included files, where it was prepared.
     pub lines: Option<String>,
+    /// Whether the model is prepared first.
+    pub prepare: bool,
+    /// Whether it is prepared as it is, without its macros and conditions.
+    pub no_cpp: bool,
+    /// The macros that are given before its text, as `NAME` or `NAME=VALUE`.
+    pub defines: Vec<String>,
+    /// The folders in which included files are looked for too.
+    pub folders: Vec<String>,
     /// The file of the choices that are taken first.
     pub choices: Option<String>,
     /// The file of a trail of Spin that is followed first.
@@ -31,10 +39,23 @@ pub struct Asked {
     /// The seed of the generator that answers questions.
     pub seed: Option<u32>,
     pub form: Form,
+    /// Whether lines are read that go on with a run, each answered by lines of JSON.
+    pub asks: bool,
     /// Whether messages that are sent to full channels are lost.
     pub is_lossy: bool,
     /// How many steps are taken at most.
     pub limit: u32,
     /// Whether it is said why a model is refused, or a file fails.
     pub explains: bool,
+}
+
+impl Asked {
+    /// Whether the options of preparing fit together: the files of another that prepared the model are of no use beside it.
+    pub fn fits_together(&self) -> bool {
+        if self.prepare {
+            self.source.is_none() && self.lines.is_none()
+        } else {
+            !self.no_cpp && (self.defines.is_empty() && self.folders.is_empty())
+        }
+    }
 }

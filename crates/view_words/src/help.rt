@@ -16,14 +16,20 @@ Arguments:
 Options:
   --choices <FILE>  Take the choices of FILE first
   --trail <FILE>    Take first the steps that spin -t -p printed into FILE
-  --record <FILE>   Write the choices of the walk to FILE when the session ends
+  --record <FILE>   Keep the choices of the walk in FILE
   --random <SEED>   Answer each question by a generator, without a session
   --json            Without a session: a line of JSON for each step
+  --ask             Without a session: lines of JSON for each line of input
   --chart           Without a session: the chart of messages
   --page <FILE>     Without a session: write FILE, a page for a browser
   -m                Lose messages that are sent to a full channel
   -u <N>            Take at most N steps (1000000 where it is not given)
-  --explain         Say why and where a model is refused, or why a file fails
+  --explain         Say why a file or a device fails
+  --prepare         Prepare the model first, as Spin would read it: its macros,
+                    conditions, included files, ends of lines, ltl
+  -D <NAME>         With --prepare: define NAME, or NAME=VALUE, before its text
+  -I <FOLDER>       With --prepare: look for included files in FOLDER too
+  --no-cpp          With --prepare: leave its # lines and macros as they are
   --name <NAME>     Call the model NAME
   --source <FILE>   Show the lines of FILE, of which MODEL was prepared
   --lines <FILE>    Tell lines of included files, as FILE of spinprep does
@@ -31,13 +37,15 @@ Options:
   -V, --version     Print version
 
 A model with #define, ltl or a never claim, or with ends of lines in place of
-';', is prepared and shown by spinprep, which takes the same options:
-  spinprep --view model.pml
+';', is shown by --prepare:
+  spinview --prepare model.pml
 
 A session reads a line at a time: the number of a choice, or a command; help
 lists them. Without a session the choices are those of the trail, else those of
 FILE, else those of the generator, else those of standard input, as spinplay
 reads them.
+
+A model that is refused is explained.
 
 To see a counterexample of Spin:
   spin -a m.pml && gcc -o pan pan.c && ./pan

@@ -29,6 +29,21 @@ fn name<'a>(alloc: Global) -> Arg<'a> {
         .value_name("NAME")
 }
 
+// An option with a name behind it that may stand several times.
+fn appended<'a>(alloc: Global, id: &'a str, letter: char) -> Arg<'a> {
+    Arg::new(alloc, id)
+        .short(letter)
+        .action(ArgAction::Append)
+        .value_name("NAME")
+}
+
+// The flag of a run that goes on by lines, which has no other form.
+fn asks<'a>(alloc: Global) -> Result<Arg<'a>, AllocError> {
+    flag(alloc, "ask")
+        .conflicts_with("chart")?
+        .conflicts_with("page")
+}
+
 fn seed<'a>(alloc: Global) -> Arg<'a> {
     Arg::new(alloc, "random")
         .long("random")
@@ -70,12 +85,17 @@ fn command<'a>(alloc: Global) -> Result<Command<'a>, AllocError> {
         .arg(seed(alloc))?
         .arg(flag(alloc, "json"))?
         .arg(flag(alloc, "chart"))?
+        .arg(asks(alloc)?)?
         .arg(lossy(alloc))?
         .arg(limit(alloc))?
         .arg(flag(alloc, "explain"))?
         .arg(name(alloc))?
         .arg(file(alloc, "source"))?
         .arg(file(alloc, "lines"))?
+        .arg(flag(alloc, "prepare"))?
+        .arg(flag(alloc, "no-cpp"))?
+        .arg(appended(alloc, "D", 'D'))?
+        .arg(appended(alloc, "I", 'I'))?
         .arg(model(alloc))
 }
 
@@ -91,8 +111,19 @@ fn text_of(
     }
 }
 
+// All texts of an option, on the heap.
+fn texts_of(alloc: Global, matches: &ArgMatches<'_>, id: &str) -> Result<Vec<String>, AllocError> {
+    let mut all = Vec::new(alloc);
+    if let Some(texts) = matches.get_strs(id) {
+        for text in texts {
+            all.push(String::from_str(alloc, text)?)?;
+        }
+    }
+    Ok(all)
+}
+
 fn form_of(matches: &ArgMatches<'_>) -> Form {
-    if matches.get_count("json") > 0 {
+    if matches.get_count("json") > 0 || matches.get_count("ask") > 0 {
         Form::Json
     } else if matches.get_count("chart") > 0 {
         Form::Chart
@@ -112,17 +143,24 @@ pub fn read<'a>(alloc: Global, words: &'a [&'a str]) -> Result<Asked, Error> {
     let name = text_of(alloc, &matches, "name")?;
     let source = text_of(alloc, &matches, "source")?;
     let lines = text_of(alloc, &matches, "lines")?;
+    let defines = texts_of(alloc, &matches, "D")?;
+    let folders = texts_of(alloc, &matches, "I")?;
     Ok(Asked {
         model,
         name,
         source,
         lines,
+        prepare: matches.get_count("prepare") > 0,
+        no_cpp: matches.get_count("no-cpp") > 0,
+        defines,
+        folders,
         choices,
         trail,
         rec,
         page,
         seed: matches.get_one::<u32>("random"),
         form: form_of(&matches),
+        asks: matches.get_count("ask") > 0,
         is_lossy: matches.get_count("m") > 0,
         limit: matches.get_one::<u32>("u").unwrap_or(USUAL_LIMIT),
         explains: matches.get_count("explain") > 0,

@@ -5,7 +5,7 @@
 mod shown;
 
 use crate::shown::{add_changes, add_ending, add_moves, add_number};
-use spinplay::{Checked, Stop, Token, Tree, World, check, cut, expand, parse};
+use spinplay::{Checked, Rejection, Stop, Token, World, checked_of, expanded_of};
 use std::alloc::{AllocError, Global};
 use std::io::Write;
 use std::process::ExitCode;
@@ -76,32 +76,25 @@ fn walk_model(alloc: Global, checked: &Checked<'_>) -> Result<Vec<u8>, NoWalk> {
     }
 }
 
-fn walk_tree(alloc: Global, tree: Tree<'_>) -> Result<Vec<u8>, NoWalk> {
-    match check(alloc, tree) {
-        Ok(checked) => walk_model(alloc, &checked),
-        Err(_) => Err(NoWalk::Refused),
+fn of_rejection(rejection: Rejection) -> NoWalk {
+    match rejection {
+        Rejection::Memory => NoWalk::Memory,
+        Rejection::Refused(_, _) => NoWalk::Refused,
     }
 }
 
 fn walk_tokens<'a>(alloc: Global, tokens: &'a [Token<'a>]) -> Result<Vec<u8>, NoWalk> {
-    match parse(alloc, tokens) {
-        Ok(tree) => walk_tree(alloc, tree),
-        Err(_) => Err(NoWalk::Refused),
-    }
-}
-
-fn walk_cut(alloc: Global, tokens: &[Token<'_>]) -> Result<Vec<u8>, NoWalk> {
-    match expand(alloc, tokens) {
-        Ok(expanded) => walk_tokens(alloc, expanded.as_slice()),
-        Err(_) => Err(NoWalk::Refused),
+    match checked_of(alloc, tokens) {
+        Ok(checked) => walk_model(alloc, &checked),
+        Err(rejection) => Err(of_rejection(rejection)),
     }
 }
 
 // What is shown of a walk through the model of this text.
 fn walk(alloc: Global, text: &[u8]) -> Result<Vec<u8>, NoWalk> {
-    match cut(alloc, text) {
-        Ok(tokens) => walk_cut(alloc, tokens.as_slice()),
-        Err(_) => Err(NoWalk::Refused),
+    match expanded_of(alloc, text) {
+        Ok(tokens) => walk_tokens(alloc, tokens.as_slice()),
+        Err(rejection) => Err(of_rejection(rejection)),
     }
 }
 

@@ -6,8 +6,8 @@ use Rattle.clap.specs.Faults.{is_simple_and_free}
 use Rattle.clap.specs.Kinds.{HasKind}
 use Rattle.clap.proofs.CallerLemmas.{some_of_text}
 use Rattle.command_line.proofs.ChainLemmas.{model_given}
-use Rattle.clap.specs.Words.{fault_of, App, ReadsOne, Text, count_of, first_of, found_of, is_simple, matches_of, one_of, rows_of}
-use Rattle.clap.proofs.WalkLemmas.{first_value-rows, one_text-rows}
+use Rattle.clap.specs.Words.{fault_of, App, ReadsOne, Text, all_of, count_of, first_of, found_of, is_simple, matches_of, one_of, rows_of}
+use Rattle.clap.proofs.WalkLemmas.{first_value-rows, one_text-rows, raw_values-rows}
 use Rattle.command_line.specs.CommandLine.{command_line}
 use Rattle.command_line.specs.Matched.{Spells, IsLimit}
 use Rattle.command_line.proofs.words.arguments.Goals as goal
@@ -62,6 +62,7 @@ returns-clause-ok c =
     let rows_are : rows_of f ≡ matches_of command_line words = (c.in_ok-matches.ensures.matches (ap is_simple command_is ∙ simple)).0 ∙ ap (λ (a : App). matches_of a words) command_is in
     let counted = λ (id : Text). ap (count_of id) rows_are in
     let first = λ (id : Text). first_value-rows f id ∙ ap (first_of id) rows_are in
+    let every = λ (id : Text). ap (λ o. unwrap_or o []) (raw_values-rows f id ∙ ap (all_of id) rows_are) in
     let limit = limit_read (λ bs r. ParsesUnsigned 32 10 bs r × ExplainsUnsignedError 10 bs r × HasUnsignedDigitsIfOk bs r) _ c.get_one.result (λ u x g. g.0) c.get_one.ensures.none c.get_one.ensures.value in
     record {
       steps = set_where _ _ (c.get_count.ensures.value ∙ counted (codes "p"));
@@ -73,8 +74,13 @@ returns-clause-ok c =
       choices = sym (first (codes "choices")) ∙ sym c.in_ok-choices.ensures;
       rec = sym (first (codes "record")) ∙ sym c.in_ok-rec.ensures;
       convert = set_where _ _ (c.get_count-5.ensures.value ∙ counted (codes "convert"));
-      explain = set_where _ _ (c.get_count-6.ensures.value ∙ counted (codes "explain"));
+      check = set_where _ _ (c.get_count-6.ensures.value ∙ counted (codes "check"));
+      explain = set_where _ _ (c.get_count-7.ensures.value ∙ counted (codes "explain"));
       name = sym (first (codes "name")) ∙ sym c.in_ok-name.ensures;
       source = sym (first (codes "source")) ∙ sym c.in_ok-source.ensures;
       lines = sym (first (codes "lines")) ∙ sym c.in_ok-lines.ensures;
+      prepare = set_where _ _ (c.get_count-8.ensures.value ∙ counted (codes "prepare"));
+      no_cpp = set_where _ _ (c.get_count-9.ensures.value ∙ counted (codes "no-cpp"));
+      defines = c.in_ok-defines.ensures ∙ every (codes "D");
+      folders = c.in_ok-folders.ensures ∙ every (codes "I");
     }

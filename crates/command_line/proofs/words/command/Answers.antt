@@ -18,10 +18,15 @@ returns c =
     let eight = more (codes "choices") _ _ _ _ _ _ _ _ seven c.in_ok-arg-8.ensures c.file.ensures.plain c.file.ensures.rule in
     let nine = more (codes "record") _ _ _ _ _ _ _ _ eight c.in_ok-arg-9.ensures c.file-2.ensures.plain c.file-2.ensures.rule in
     let ten = more (codes "convert") _ _ _ _ _ _ _ _ nine c.in_ok-arg-10.ensures c.long_flag.ensures.plain c.long_flag.ensures.rule in
-    let eleven = more (codes "explain") _ _ _ _ _ _ _ _ ten c.in_ok-arg-11.ensures c.long_flag-2.ensures.plain c.long_flag-2.ensures.rule in
-    let twelve = more (codes "name") _ _ _ _ _ _ _ _ eleven c.in_ok-arg-12.ensures c.name.ensures.plain c.name.ensures.rule in
-    let thirteen = more (codes "source") _ _ _ _ _ _ _ _ twelve c.in_ok-arg-13.ensures c.file-3.ensures.plain c.file-3.ensures.rule in
-    let fourteen = more (codes "lines") _ _ _ _ _ _ _ _ thirteen c.in_ok-arg-14.ensures c.file-4.ensures.plain c.file-4.ensures.rule in
-    IfOk-weaker c.arg-15.result _ _ (λ d last.
-    finished c.spinplay.result d _ (more (codes "MODEL") _ _ d _ _ _ _ _ fourteen last c.model.ensures.plain c.model.ensures.rule)
-    (c.spinplay.ensures.empty.0, c.spinplay.ensures.empty.1) c.spinplay.ensures.local c.spinplay.ensures.negates (λ _. c.model.ensures.value)) c.arg-15.ensures
+    let eleven = more (codes "check") _ _ _ _ _ _ _ _ ten c.in_ok-arg-11.ensures c.long_flag-2.ensures.plain c.long_flag-2.ensures.rule in
+    let twelve = more (codes "explain") _ _ _ _ _ _ _ _ eleven c.in_ok-arg-12.ensures c.long_flag-3.ensures.plain c.long_flag-3.ensures.rule in
+    let thirteen = more (codes "name") _ _ _ _ _ _ _ _ twelve c.in_ok-arg-13.ensures c.name.ensures.plain c.name.ensures.rule in
+    let fourteen = more (codes "source") _ _ _ _ _ _ _ _ thirteen c.in_ok-arg-14.ensures c.file-3.ensures.plain c.file-3.ensures.rule in
+    let fifteen = more (codes "lines") _ _ _ _ _ _ _ _ fourteen c.in_ok-arg-15.ensures c.file-4.ensures.plain c.file-4.ensures.rule in
+    let sixteen = more (codes "prepare") _ _ _ _ _ _ _ _ fifteen c.in_ok-arg-16.ensures c.long_flag-4.ensures.plain c.long_flag-4.ensures.rule in
+    let seventeen = more (codes "no-cpp") _ _ _ _ _ _ _ _ sixteen c.in_ok-arg-17.ensures c.long_flag-5.ensures.plain c.long_flag-5.ensures.rule in
+    let eighteen = more (codes "D") _ _ _ _ _ _ _ _ seventeen c.in_ok-arg-18.ensures c.appended.ensures.plain c.appended.ensures.rule in
+    let nineteen = more (codes "I") _ _ _ _ _ _ _ _ eighteen c.in_ok-arg-19.ensures c.appended-2.ensures.plain c.appended-2.ensures.rule in
+    IfOk-weaker c.arg-20.result _ _ (λ d last.
+    finished c.spinplay.result d _ (more (codes "MODEL") _ _ d _ _ _ _ _ nineteen last c.model.ensures.plain c.model.ensures.rule)
+    (c.spinplay.ensures.empty.0, c.spinplay.ensures.empty.1) c.spinplay.ensures.local c.spinplay.ensures.negates (λ _. c.model.ensures.value)) c.arg-20.ensures

@@ -1,0 +1,10 @@
+# made by tools/completions
+complete -c spinprep -s D -d 'as if '\''#define NAME 1'\'', '\''#define NAME VALUE'\'', '\''#undef NAME'\'' stood before the text'
+complete -c spinprep -s U -d 'as if '\''#define NAME 1'\'', '\''#define NAME VALUE'\'', '\''#undef NAME'\'' stood before the text'
+complete -c spinprep -s I -d 'looks for included files in FOLDER too'
+complete -c spinprep -l no-cpp -d 'reads MODEL as it is: its '\''#'\'' lines are not read'
+complete -c spinprep -l expand -d 'writes the text with its macros replaced, with marks of lines, and prepares nothing'
+complete -c spinprep -l strict -d 'ends with status 1 where something is left that spinplay does not play'
+complete -c spinprep -l play -d 'is spinplay --prepare --explain, with the options of that (see spinplay --help)'
+complete -c spinprep -l view -d 'is spinview --prepare --explain, with the options of that (see spinview --help)'
+complete -c spinprep -l help -d 'says this'

@@ -1,0 +1,261 @@
+//! What stands in front of the token that no rule reads.
+
+use explain_cause::brackets::{innermost, open_before};
+use explain_cause::cause::Named;
+use explain_cause::place::{between, closes, is_at, kind_at, named};
+use pml_token::token::{Kind, Token, same_kind};
+use std::alloc::{AllocError, Global};
+
+/// Whether only blanks stand before a place on its line.
+pub fn begins_line(text: &[u8], offset: usize) -> bool {
+    let mut fresh = true;
+    for (i, byte) in text.iter().enumerate() {
+        if i >= offset {
+            return fresh;
+        }
+        if *byte == b'\n' {
+            fresh = true;
+        } else if *byte != b' ' && *byte != b'\t' && *byte != b'\r' {
+            fresh = false;
+        }
+    }
+    fresh
+}
+
+/// The token at a place of a list as a name, or an empty one.
+pub fn name_at<'t>(text: &'t [u8], tokens: &[Token<'_>], at: usize) -> Named<'t> {
+    match tokens.get(at) {
+        Some(token) => named(text, token),
+        None => Named {
+            name: &text[..0],
+            offset: text.len(),
+        },
+    }
+}
+
+/// Whether so many tokens before the one at `at` one of a kind stands.
+pub fn is_before(tokens: &[Token<'_>], at: usize, count: usize, kind: Kind) -> bool {
+    match at.checked_sub(count) {
+        Some(place) => is_at(tokens, place, kind),
+        None => false,
+    }
+}
+
+/// The token that stands so many before the one at `at`, or an empty name.
+pub fn name_before<'t>(text: &'t [u8], tokens: &[Token<'_>], at: usize, count: usize) -> Named<'t> {
+    name_at(text, tokens, at.saturating_sub(count))
+}
+
+/// The innermost token that opens what is open in front of the one at `end`.
+pub fn opener_before(
+    alloc: Global,
+    tokens: &[Token<'_>],
+    end: usize,
+) -> Result<Option<usize>, AllocError> {
+    let open = open_before(alloc, tokens, end)?;
+    Ok(innermost(&open))
+}
+
+/// What is told by the token and those in front of it alone.
+#[derive(Clone, Copy)]
+pub enum Neighbours {
+    /// A `{` or a `[` behind `=`.
+    List,
+    /// A `:` behind `mtype`.
+    Subtype,
+    /// A `=` behind an operator, or a `+` behind a `=`.
+    Assignment,
+    /// `run` and a name stand before it.
+    Process,
+    /// An operator stands before the end of its operand.
+    Operand,
+    /// `if` or `do` stands before it.
+    Options,
+    /// A process is begun in front of an operator.
+    Begun,
+    /// Nothing.
+    Other,
+}
+
+/// Whether a kind is that of a word that is a type.
+pub fn is_type(kind: Kind) -> bool {
+    matches!(
+        kind,
+        Kind::Bit
+            | Kind::Bool
+            | Kind::Byte
+            | Kind::Chan
+            | Kind::Int
+            | Kind::Mtype
+            | Kind::Pid
+            | Kind::Short
+    )
+}
+
+/// Whether a kind is that of a sign that parts statements or declarations.
+fn parts(kind: Kind) -> bool {
+    matches!(
+        kind,
+        Kind::Semicolon
+            | Kind::Arrow
+            | Kind::DoubleColon
+            | Kind::OpenBrace
+            | Kind::CloseBrace
+            | Kind::Fi
+            | Kind::Od
+    )
+}
+
+/// The first token of the statement or of the declaration that a token stands in, as far as signs part them.
+pub fn begin_of(tokens: &[Token<'_>], at: usize) -> usize {
+    let mut begin = 0usize;
+    for (i, token) in tokens.iter().enumerate() {
+        if i >= at {
+            return begin;
+        }
+        if parts(token.kind()) {
+            begin = i.saturating_add(1);
+        }
+    }
+    begin
+}
+
+/// Whether a token of this kind stands before another one in its statement.
+pub fn is_in_statement(tokens: &[Token<'_>], at: usize, kind: Kind) -> bool {
+    for token in between(tokens, begin_of(tokens, at), at) {
+        if same_kind(token.kind(), kind) {
+            return true;
+        }
+    }
+    false
+}
+
+fn is_arithmetic(kind: Kind) -> bool {
+    matches!(
+        kind,
+        Kind::Plus
+            | Kind::Minus
+            | Kind::Star
+            | Kind::Slash
+            | Kind::Percent
+            | Kind::Ampersand
+            | Kind::Bar
+            | Kind::Caret
+            | Kind::ShiftLeft
+            | Kind::ShiftRight
+    )
+}
+
+/// Whether a sign wants a value behind it.
+fn wants_value(kind: Kind) -> bool {
+    is_arithmetic(kind)
+        || matches!(
+            kind,
+            Kind::Assign
+                | Kind::Equal
+                | Kind::Unequal
+                | Kind::Less
+                | Kind::Greater
+                | Kind::AtMost
+                | Kind::AtLeast
+                | Kind::AndAnd
+                | Kind::OrOr
+                | Kind::Bang
+                | Kind::BangBang
+                | Kind::Query
+                | Kind::QueryQuery
+        )
+}
+
+/// The kind of the token directly before the one at `at`.
+fn kind_in_front(tokens: &[Token<'_>], at: usize) -> Kind {
+    match at.checked_sub(1) {
+        Some(place) => kind_at(tokens, place),
+        None => Kind::End,
+    }
+}
+
+/// Whether a token stands where an operand ends.
+fn ends_operand(kind: Kind) -> bool {
+    closes(kind)
+        || matches!(
+            kind,
+            Kind::Semicolon | Kind::Arrow | Kind::DoubleColon | Kind::Comma
+        )
+}
+
+/// Whether a sign compares two values.
+fn compares(kind: Kind) -> bool {
+    matches!(
+        kind,
+        Kind::Less | Kind::Greater | Kind::AtMost | Kind::AtLeast | Kind::Equal | Kind::Unequal
+    )
+}
+
+/// Whether a sign of arithmetic stands behind another one, and cannot be one of a single value.
+fn is_second_sign(before: Kind, kind: Kind) -> bool {
+    let is_single = matches!(kind, Kind::Minus | Kind::Plus | Kind::Ampersand);
+    let is_power = same_kind(before, Kind::Star) && matches!(kind, Kind::Star | Kind::Slash);
+    let is_third = same_kind(before, Kind::Equal) && same_kind(kind, Kind::Greater);
+    let is_compared = joins(before) && (joins(kind) || compares(kind)) && !is_third;
+    is_compared || (is_arithmetic(before) && is_arithmetic(kind) && !is_single && !is_power)
+}
+
+/// Whether a sign of two characters stands between two values.
+fn joins(kind: Kind) -> bool {
+    matches!(
+        kind,
+        Kind::Equal | Kind::Unequal | Kind::AtMost | Kind::AtLeast | Kind::AndAnd | Kind::OrOr
+    )
+}
+
+/// Whether a value is computed of the one that a process gives where it is begun.
+fn is_of_run(tokens: &[Token<'_>], at: usize, kind: Kind) -> bool {
+    let is_sign = (is_arithmetic(kind) && !same_kind(kind, Kind::Bar)) || compares(kind);
+    is_sign && is_before(tokens, at, 1, Kind::CloseParen) && is_in_statement(tokens, at, Kind::Run)
+}
+
+/// What is told by the words in front of a token.
+fn by_words(tokens: &[Token<'_>], at: usize, kind: Kind) -> Neighbours {
+    if is_before(tokens, at, 1, Kind::Name) && is_before(tokens, at, 2, Kind::Run) {
+        return Neighbours::Process;
+    }
+    let is_same = same_kind(kind, Kind::Arrow) && is_before(tokens, at, 1, Kind::Less);
+    if !is_same && wants_value(kind_in_front(tokens, at)) && ends_operand(kind) {
+        return Neighbours::Operand;
+    }
+    if is_second_sign(kind_in_front(tokens, at), kind) {
+        return Neighbours::Operand;
+    }
+    if compares(kind) && matches!(kind_in_front(tokens, at), Kind::AndAnd | Kind::OrOr) {
+        return Neighbours::Operand;
+    }
+    if is_of_run(tokens, at, kind) {
+        return Neighbours::Begun;
+    }
+    if is_before(tokens, at, 1, Kind::If) || is_before(tokens, at, 1, Kind::Do) {
+        Neighbours::Options
+    } else {
+        Neighbours::Other
+    }
+}
+
+/// What is told by the token and those in front of it alone.
+pub fn neighbours_of(tokens: &[Token<'_>], at: usize) -> Neighbours {
+    let kind = kind_at(tokens, at);
+    let opens = matches!(kind, Kind::OpenBrace | Kind::OpenBracket);
+    if opens && is_before(tokens, at, 1, Kind::Assign) {
+        return Neighbours::List;
+    }
+    if same_kind(kind, Kind::Colon) && is_before(tokens, at, 1, Kind::Mtype) {
+        return Neighbours::Subtype;
+    }
+    let is_joined = same_kind(kind, Kind::Assign) && is_arithmetic(kind_in_front(tokens, at));
+    if is_joined || (same_kind(kind, Kind::Plus) && is_before(tokens, at, 1, Kind::Assign)) {
+        return Neighbours::Assignment;
+    }
+    if same_kind(kind, Kind::DoubleColon) {
+        return Neighbours::Other;
+    }
+    by_words(tokens, at, kind)
+}

@@ -1,0 +1,399 @@
+//! Where no rule reads the tokens, and what was wanted there.
+
+use crate::called::{definition_of, is_call, shown_at, value_at};
+use crate::declared::{inline_at, names_beside};
+use crate::elements::in_brackets;
+use crate::forms::{form_at, is_behind_head, kind_before};
+use crate::layout::unclosed_by_layout;
+use crate::stopped::{
+    Neighbours, begin_of, is_before, name_at, name_before, neighbours_of, opener_before,
+};
+use crate::told::{found_at, told};
+use crate::trial::stop;
+use crate::tried::wanted_by_trial;
+use crate::typed::is_select_range;
+use crate::unclosed::{Brackets, brackets_of};
+use crate::within::{
+    arrow_between, begins_unit, form_within, is_left_open, is_outside_sign, is_statement,
+};
+use crate::words::{
+    called_variable, foreign_beside, foreign_call, is_typed, near_at, near_beside, no_word,
+    number_beside, proctype_beside, type_before,
+};
+use explain_cause::cause::{Finding, Named, Wanted};
+use explain_cause::foreign::Foreign;
+use explain_cause::place::{end_of, is_at, kind_at, untold};
+use pml_token::token::{Kind, Token, same_kind};
+use std::alloc::{AllocError, Global};
+
+/// What a list in braces or brackets is meant for.
+fn list_at<'t>(tokens: &[Token<'_>], at: usize) -> Wanted<'t> {
+    if is_at(tokens, at.saturating_add(3), Kind::Of) {
+        return Wanted::Form(if is_at(tokens, at, Kind::OpenBracket) {
+            Foreign::ChannelAssignment
+        } else {
+            Foreign::Channel
+        });
+    }
+    if is_before(tokens, at, 2, Kind::Mtype) {
+        Wanted::Form(Foreign::Enumeration)
+    } else if is_before(tokens, at, 3, Kind::Mtype) {
+        Wanted::Form(Foreign::NamedMtype)
+    } else {
+        Wanted::NoList
+    }
+}
+
+/// What is told by the token and those in front of it alone.
+fn by_neighbours<'t>(text: &'t [u8], tokens: &[Token<'_>], at: usize) -> Option<Wanted<'t>> {
+    let name = name_before(text, tokens, at, 1).name;
+    match neighbours_of(tokens, at) {
+        Neighbours::List => Some(list_at(tokens, at)),
+        Neighbours::Subtype => Some(Wanted::NoSubtype),
+        Neighbours::Assignment => Some(Wanted::PlainAssignment),
+        Neighbours::Process => Some(Wanted::Arguments(name)),
+        Neighbours::Operand => Some(Wanted::Operand(name)),
+        Neighbours::Options if is_before(tokens, at, 2, Kind::Else) => {
+            Some(Wanted::Form(Foreign::ElseIf))
+        }
+        Neighbours::Options => Some(Wanted::Options(name)),
+        Neighbours::Begun => Some(Wanted::NoRun),
+        Neighbours::Other => None,
+    }
+}
+
+/// What is told by a form of another language, or by the name of a proctype.
+fn by_forms<'t>(text: &'t [u8], tokens: &[Token<'_>], at: usize) -> Option<Wanted<'t>> {
+    match form_at(tokens, at) {
+        Some(form) => Some(Wanted::Form(form)),
+        None => proctype_beside(text, tokens, at),
+    }
+}
+
+/// What is told by a word or a number of another language, or else by a form.
+fn by_words<'t>(text: &'t [u8], tokens: &[Token<'_>], at: usize) -> Option<Wanted<'t>> {
+    if is_select_range(tokens, at) {
+        return Some(Wanted::Form(Foreign::SelectRange));
+    }
+    let word = foreign_beside(text, tokens, at).or(number_beside(text, tokens, at));
+    match word {
+        Some(wanted) => Some(wanted),
+        None => by_forms(text, tokens, at),
+    }
+}
+
+/// What is told by the token and those in front of it, where it is no word that is only mistyped.
+fn by_tokens<'t>(text: &'t [u8], tokens: &[Token<'_>], at: usize) -> Option<Wanted<'t>> {
+    match by_neighbours(text, tokens, at) {
+        Some(wanted) => Some(wanted),
+        None => by_words(text, tokens, at),
+    }
+}
+
+/// Of a call of what is not declared, in front of the `(` at `at`.
+fn called_name<'t>(tokens: &[Token<'_>], at: usize, name: Named<'t>) -> Wanted<'t> {
+    match kind_before(tokens, at, 2) {
+        Kind::Assign | Kind::OpenParen | Kind::Comma | Kind::Equal | Kind::Plus | Kind::Minus => {
+            Wanted::ForeignWord(Foreign::Function, name)
+        }
+        _ => Wanted::Inline(name, None),
+    }
+}
+
+/// Of a call of a variable, or of an inline that is not defined before it.
+fn by_call<'t>(
+    text: &'t [u8],
+    originals: &[Token<'_>],
+    tokens: &[Token<'_>],
+    at: usize,
+) -> Option<Wanted<'t>> {
+    if !is_call(tokens, at) {
+        return None;
+    }
+    let name = name_before(text, tokens, at, 1);
+    match definition_of(text, originals, name.name) {
+        None => called_variable(text, tokens, at).or(Some(called_name(tokens, at, name))),
+        definition => Some(Wanted::Inline(name, definition)),
+    }
+}
+
+/// What a name within `if` or `do` is, where it is the `end` of another language.
+fn end_within<'t>(
+    text: &'t [u8],
+    tokens: &[Token<'_>],
+    opener: usize,
+    at: usize,
+) -> Option<Wanted<'t>> {
+    let name = name_at(text, tokens, at);
+    if name.name != b"end".as_slice() {
+        return None;
+    }
+    match kind_at(tokens, opener) {
+        Kind::If => Some(Wanted::ForeignWord(Foreign::EndIf, name)),
+        Kind::Do => Some(Wanted::ForeignWord(Foreign::EndLoop, name)),
+        _ => None,
+    }
+}
+
+/// Whether a list in brackets or a condition in parentheses goes on at a token that it cannot go on with.
+fn unfit_within<'t>(
+    text: &'t [u8],
+    tokens: &[Token<'_>],
+    opener: usize,
+    at: usize,
+) -> Option<Wanted<'t>> {
+    let kind = kind_at(tokens, at);
+    let is_bracket = is_at(tokens, opener, Kind::OpenBracket);
+    let is_paren = is_at(tokens, opener, Kind::OpenParen);
+    if is_bracket && same_kind(kind, Kind::Comma) {
+        return Some(in_brackets(tokens, opener));
+    }
+    if is_paren && same_kind(kind, Kind::Assign) {
+        return before_arrow(text, tokens, opener, at);
+    }
+    end_within(text, tokens, opener, at)
+}
+
+/// Whether a parenthesis is to be closed in front of the `->` that stands in it.
+fn before_arrow<'t>(
+    text: &'t [u8],
+    tokens: &[Token<'_>],
+    opener: usize,
+    at: usize,
+) -> Option<Wanted<'t>> {
+    let arrow = arrow_between(tokens, opener, at)?;
+    Some(Wanted::CloserBeforeArrow(name_at(text, tokens, opener), name_at(text, tokens, arrow)))
+}
+
+/// What is told by what is open at the token.
+fn within<'t>(
+    text: &'t [u8],
+    tokens: &[Token<'_>],
+    opener: usize,
+    at: usize,
+) -> Option<Wanted<'t>> {
+    if let Some(word) = foreign_call(text, tokens, opener) {
+        return Some(word);
+    }
+    if let Some(form) = form_within(tokens, opener, at) {
+        return Some(Wanted::Form(form));
+    }
+    if is_left_open(tokens, opener, kind_at(tokens, at)) {
+        Some(Wanted::CloserBefore(name_at(text, tokens, opener)))
+    } else {
+        unfit_within(text, tokens, opener, at)
+    }
+}
+
+/// The same of a token that something may be open at.
+fn by_opener<'t>(
+    text: &'t [u8],
+    tokens: &[Token<'_>],
+    opener: Option<usize>,
+    at: usize,
+) -> Option<Wanted<'t>> {
+    within(text, tokens, opener?, at)
+}
+
+/// What is told of a `=` behind two names, of which the first is no type.
+fn by_type<'t>(
+    alloc: Global,
+    text: &'t [u8],
+    tokens: &[Token<'_>],
+    at: usize,
+) -> Result<Option<Wanted<'t>>, AllocError> {
+    let Some(wanted) = type_before(text, tokens, at) else {
+        return Ok(None);
+    };
+    if let Some(word) = foreign_beside(text, tokens, at) {
+        return Ok(Some(word));
+    }
+    match near_at(alloc, text, tokens, at.saturating_sub(2))? {
+        Some(word) => Ok(Some(word)),
+        None => Ok(Some(wanted)),
+    }
+}
+
+/// What a token that stands in no braces is meant for.
+fn outside_form(tokens: &[Token<'_>], at: usize) -> Foreign {
+    if is_behind_head(tokens, at) || is_before(tokens, at, 1, Kind::Init) {
+        Foreign::BodyBrace
+    } else if is_statement(kind_at(tokens, at)) {
+        Foreign::Outside
+    } else {
+        Foreign::OutsideSign
+    }
+}
+
+/// What is told of a statement or a sign that stands in no braces.
+fn outside<'t>(
+    alloc: Global,
+    text: &'t [u8],
+    tokens: &[Token<'_>],
+    at: usize,
+) -> Result<Wanted<'t>, AllocError> {
+    if let Some(wanted) = foreign_beside(text, tokens, at) {
+        return Ok(wanted);
+    }
+    match near_beside(alloc, text, tokens, at)? {
+        Some(wanted) => Ok(wanted),
+        None => Ok(Wanted::Form(outside_form(tokens, at))),
+    }
+}
+
+/// What is told of a mistyped word before a name and its parentheses, as of that of a proctype.
+fn near_unit<'t>(
+    alloc: Global,
+    text: &'t [u8],
+    tokens: &[Token<'_>],
+    at: usize,
+) -> Result<Option<Wanted<'t>>, AllocError> {
+    if is_call(tokens, at) && is_before(tokens, at, 2, Kind::Name) {
+        near_at(alloc, text, tokens, at.saturating_sub(2))
+    } else {
+        Ok(None)
+    }
+}
+
+/// What is told of a name that is mistyped, of a call, or by reading the tokens once more.
+fn wanted_by_name<'t>(
+    alloc: Global,
+    text: &'t [u8],
+    originals: &[Token<'_>],
+    tokens: &[Token<'_>],
+    at: usize,
+) -> Result<Wanted<'t>, AllocError> {
+    if let Some(wanted) = near_beside(alloc, text, tokens, at)? {
+        return Ok(wanted);
+    }
+    if let Some(wanted) = near_unit(alloc, text, tokens, at)? {
+        return Ok(wanted);
+    }
+    let called = by_call(text, originals, tokens, at).or(no_word(text, tokens, at));
+    match called {
+        Some(wanted) => Ok(wanted),
+        None => {
+            let shown = shown_at(text, originals, tokens, at);
+            wanted_by_trial(alloc, text, tokens, at, shown)
+        }
+    }
+}
+
+/// What is told of the tokens where nothing that is open tells it.
+fn wanted_by_tokens<'t>(
+    alloc: Global,
+    text: &'t [u8],
+    originals: &[Token<'_>],
+    tokens: &[Token<'_>],
+    at: usize,
+) -> Result<Wanted<'t>, AllocError> {
+    if let Some(wanted) = by_type(alloc, text, tokens, at)? {
+        return Ok(wanted);
+    }
+    let value = inline_at(text, originals, tokens, at).or(value_at(text, originals, tokens, at));
+    match value.or(by_tokens(text, tokens, at)) {
+        Some(wanted) => Ok(wanted),
+        None => wanted_by_name(alloc, text, originals, tokens, at),
+    }
+}
+
+/// Whether a statement, or a sign that begins no declaration, stands in no braces at a token.
+fn is_outside(tokens: &[Token<'_>], opener: Option<usize>, at: usize) -> bool {
+    let kind = kind_at(tokens, at);
+    let is_first = is_outside_sign(kind) && begin_of(tokens, at) == at;
+    let is_declared = is_typed(tokens, at) || is_before(tokens, at, 2, Kind::Typedef);
+    opener.is_none() && (is_statement(kind) || is_first) && !is_declared
+}
+
+fn wanted_of<'t>(
+    alloc: Global,
+    text: &'t [u8],
+    originals: &[Token<'_>],
+    tokens: &[Token<'_>],
+    at: usize,
+) -> Result<Wanted<'t>, AllocError> {
+    let opener = opener_before(alloc, tokens, at)?;
+    if begins_unit(kind_at(tokens, at)) {
+        if let Some(suspect) = unclosed_by_layout(alloc, text, tokens, opener, at)? {
+            return Ok(Wanted::CloserByLayout(name_at(text, tokens, suspect)));
+        }
+    }
+    if let Some(wanted) = by_opener(text, tokens, opener, at) {
+        return Ok(wanted);
+    }
+    if let Some(wanted) = names_beside(text, tokens, opener, at) {
+        return Ok(wanted);
+    }
+    if is_outside(tokens, opener, at) {
+        return outside(alloc, text, tokens, at);
+    }
+    wanted_by_tokens(alloc, text, originals, tokens, at)
+}
+
+/// What is wanted at the end of the text, where this is open.
+fn at_end<'t>(
+    alloc: Global,
+    text: &'t [u8],
+    tokens: &[Token<'_>],
+    opener: usize,
+) -> Result<Wanted<'t>, AllocError> {
+    match unclosed_by_layout(alloc, text, tokens, Some(opener), tokens.len())? {
+        Some(suspect) => Ok(Wanted::EndByLayout(name_at(text, tokens, suspect))),
+        None => Ok(Wanted::EndOf(name_at(text, tokens, opener))),
+    }
+}
+
+fn wanted_at<'t>(
+    alloc: Global,
+    text: &'t [u8],
+    originals: &[Token<'_>],
+    tokens: &[Token<'_>],
+    at: usize,
+) -> Result<Wanted<'t>, AllocError> {
+    match brackets_of(alloc, tokens, at)? {
+        Brackets::Other(opener) => Ok(Wanted::Closer(name_at(text, tokens, opener))),
+        Brackets::Nothing => Ok(Wanted::NothingOpen),
+        Brackets::Open(opener) => at_end(alloc, text, tokens, opener),
+        Brackets::Right => wanted_of(alloc, text, originals, tokens, at),
+    }
+}
+
+/// Of the token that no rule reads.
+fn of_stop<'t>(
+    alloc: Global,
+    text: &'t [u8],
+    originals: &[Token<'_>],
+    tokens: &[Token<'_>],
+    at: usize,
+) -> Result<Finding<'t>, AllocError> {
+    let token = shown_at(text, originals, tokens, at);
+    match wanted_at(alloc, text, originals, tokens, at) {
+        Ok(wanted) => Ok(told(text, token, wanted)),
+        Err(AllocError) => Err(AllocError),
+    }
+}
+
+/// A text without a token.
+fn empty(text: &[u8]) -> Finding<'_> {
+    found_at(end_of(text), &text[..0], Wanted::Untold)
+}
+
+/// Of tokens that no tree spells; `originals` are those of the text.
+pub fn of_syntax<'t>(
+    alloc: Global,
+    text: &'t [u8],
+    originals: &[Token<'_>],
+    tokens: &[Token<'_>],
+) -> Result<Finding<'t>, AllocError> {
+    match stop(alloc, tokens) {
+        Ok(Some(at)) => {
+            if at < tokens.len() {
+                of_stop(alloc, text, originals, tokens, at)
+            } else {
+                Ok(empty(text))
+            }
+        }
+        Ok(None) => Ok(untold()),
+        Err(AllocError) => Err(AllocError),
+    }
+}

@@ -1,0 +1,348 @@
+//! What is wanted where no rule reads a token, told by reading the tokens once more with a change of one of them.
+
+use crate::classes::classes_at;
+use crate::declared::ends_statement;
+use crate::elements::is_declaration;
+use crate::forms::kind_behind;
+use crate::stopped::{
+    begin_of, begins_line, is_before, is_in_statement, name_at, name_before, opener_before,
+};
+use crate::trial::{Change, may_stand, reads_on};
+use crate::within::{has_arrow, is_closed, is_statement};
+use explain_cause::cause::{Named, Wanted};
+use explain_cause::foreign::Foreign;
+use explain_cause::place::{between, from, is_at, kind_at};
+use pml_token::token::{Kind, Token, same_kind};
+use std::alloc::{AllocError, Global};
+
+/// What is told by reading the tokens with a change of one of them.
+#[derive(Clone, Copy)]
+enum Trial {
+    Semicolon,
+    Statement,
+    Run,
+    Name,
+    Nothing,
+    Comma,
+    SemicolonFor,
+    OptionFor,
+    Untold,
+}
+
+fn is_opener(tokens: &[Token<'_>], opener: Option<usize>) -> bool {
+    match opener {
+        Some(at) => is_at(tokens, at, Kind::If) || is_at(tokens, at, Kind::Do),
+        None => false,
+    }
+}
+
+/// Whether `::` is wanted in front of an `else`: it stands in a selection or a loop, and not behind `::`.
+fn wants_option(alloc: Global, tokens: &[Token<'_>], at: usize) -> Result<bool, AllocError> {
+    if !is_at(tokens, at, Kind::Else) {
+        return Ok(false);
+    }
+    let opener = opener_before(alloc, tokens, at)?;
+    Ok(is_opener(tokens, opener))
+}
+
+fn is_word(bytes: &[u8]) -> bool {
+    match bytes {
+        [first, ..] => (b'a' <= *first && *first <= b'z') || (b'A' <= *first && *first <= b'Z'),
+        [] => false,
+    }
+}
+
+fn is_word_at(tokens: &[Token<'_>], at: usize) -> bool {
+    match tokens.get(at) {
+        Some(token) => is_word(token.text()),
+        None => false,
+    }
+}
+
+fn is_sign(kind: Kind) -> bool {
+    matches!(
+        kind,
+        Kind::Semicolon | Kind::Comma | Kind::Arrow | Kind::Dot
+    )
+}
+
+/// Whether an option stands behind a token: an `else`, or what has a `->`.
+fn begins_option(tokens: &[Token<'_>], at: usize) -> bool {
+    let behind = at.saturating_add(1);
+    same_kind(kind_behind(tokens, at), Kind::Else)
+        || has_arrow(tokens, behind, end_of_condition(tokens, behind))
+}
+
+/// What is told by a `,` or a `:` that another sign may stand in place of.
+fn by_sign(alloc: Global, tokens: &[Token<'_>], at: usize) -> Result<Trial, AllocError> {
+    let kind = kind_at(tokens, at);
+    let is_colon = same_kind(kind, Kind::Colon);
+    if !is_colon && !same_kind(kind, Kind::Comma) {
+        return Ok(Trial::Untold);
+    }
+    let double = Change::Replace(Kind::DoubleColon, b"::");
+    if is_colon && begins_option(tokens, at) && reads_on(alloc, tokens, at, double)? {
+        return Ok(Trial::OptionFor);
+    }
+    if reads_on(alloc, tokens, at, Change::Replace(Kind::Semicolon, b";"))? {
+        Ok(Trial::SemicolonFor)
+    } else {
+        Ok(Trial::Untold)
+    }
+}
+
+/// What is told by leaving a sign out, or by a `,` before a token.
+fn by_less(alloc: Global, tokens: &[Token<'_>], at: usize) -> Result<Trial, AllocError> {
+    if is_sign(kind_at(tokens, at)) && reads_on(alloc, tokens, at, Change::Remove)? {
+        return Ok(Trial::Nothing);
+    }
+    if reads_on(alloc, tokens, at, Change::Insert(Kind::Comma, b","))? {
+        Ok(Trial::Comma)
+    } else {
+        Ok(Trial::Untold)
+    }
+}
+
+/// Whether a token is a word, and a name is wanted in place of it, and no statement.
+fn is_name_wanted(alloc: Global, tokens: &[Token<'_>], at: usize) -> Result<bool, AllocError> {
+    if !is_word_at(tokens, at) || may_stand(alloc, tokens, at, Kind::Goto, b"goto")? {
+        return Ok(false);
+    }
+    reads_on(alloc, tokens, at, Change::Replace(Kind::Name, b"x"))
+}
+
+/// What is told by reading the tokens with another one in the place of one of them.
+fn by_change(alloc: Global, tokens: &[Token<'_>], at: usize) -> Result<Trial, AllocError> {
+    if same_kind(kind_at(tokens, at), Kind::Run) {
+        return Ok(Trial::Run);
+    }
+    if is_name_wanted(alloc, tokens, at)? {
+        return Ok(Trial::Name);
+    }
+    match by_sign(alloc, tokens, at)? {
+        Trial::Untold => by_less(alloc, tokens, at),
+        trial => Ok(trial),
+    }
+}
+
+/// Whether a label stands in front of a token.
+fn is_labelled(tokens: &[Token<'_>], at: usize) -> bool {
+    is_before(tokens, at, 1, Kind::Colon) && is_before(tokens, at, 2, Kind::Name)
+}
+
+/// Whether a message is sent or received in the statement of a token.
+fn is_in_message(tokens: &[Token<'_>], at: usize) -> bool {
+    is_in_statement(tokens, at, Kind::Bang)
+        || is_in_statement(tokens, at, Kind::BangBang)
+        || is_in_statement(tokens, at, Kind::Query)
+        || is_in_statement(tokens, at, Kind::QueryQuery)
+}
+
+/// Whether a token seems to be a further field of a message: a number, or the last word of its statement.
+fn is_field(tokens: &[Token<'_>], at: usize) -> bool {
+    match kind_at(tokens, at) {
+        Kind::Number => true,
+        Kind::Name | Kind::True | Kind::False => {
+            ends_statement(kind_behind(tokens, at)) && is_in_message(tokens, at)
+        }
+        _ => false,
+    }
+}
+
+/// What is told by reading the tokens with something in front of the one at `at`, which may begin a line.
+fn tried(
+    alloc: Global,
+    tokens: &[Token<'_>],
+    at: usize,
+    begins: bool,
+) -> Result<Trial, AllocError> {
+    let comma = Change::Insert(Kind::Comma, b",");
+    if !begins && is_field(tokens, at) && reads_on(alloc, tokens, at, comma)? {
+        return Ok(Trial::Comma);
+    }
+    tried_otherwise(alloc, tokens, at)
+}
+
+fn tried_otherwise(alloc: Global, tokens: &[Token<'_>], at: usize) -> Result<Trial, AllocError> {
+    let semicolon = Change::Insert(Kind::Semicolon, b";");
+    if reads_on(alloc, tokens, at, semicolon)? {
+        return Ok(Trial::Semicolon);
+    }
+    let skip = Change::Insert(Kind::Skip, b"skip");
+    if is_labelled(tokens, at) && reads_on(alloc, tokens, at, skip)? {
+        return Ok(Trial::Statement);
+    }
+    by_change(alloc, tokens, at)
+}
+
+/// The first token at or behind `at` that parts statements or opens something, or that is a `=`.
+fn end_of_condition(tokens: &[Token<'_>], at: usize) -> usize {
+    for (i, token) in from(tokens, at).iter().enumerate() {
+        if matches!(
+            token.kind(),
+            Kind::Semicolon
+                | Kind::DoubleColon
+                | Kind::Assign
+                | Kind::OpenBrace
+                | Kind::CloseBrace
+                | Kind::If
+                | Kind::Fi
+                | Kind::Do
+                | Kind::Od
+        ) {
+            return at.saturating_add(i);
+        }
+    }
+    tokens.len()
+}
+
+/// Whether an `if` or a `do` stands directly before what closes a body, as one that is meant for its `fi` or `od`.
+fn is_last_word(tokens: &[Token<'_>], at: usize) -> bool {
+    matches!(kind_at(tokens, at), Kind::If | Kind::Do)
+        && matches!(kind_behind(tokens, at), Kind::CloseBrace | Kind::End)
+}
+
+/// What is wanted in front of a token that begins a line, of a `;` or more, where this is open there.
+fn at_line<'t>(
+    text: &'t [u8],
+    tokens: &[Token<'_>],
+    opener: Option<usize>,
+    at: usize,
+) -> Wanted<'t> {
+    let last = name_before(text, tokens, at, 1);
+    match opener {
+        Some(open) if is_opener(tokens, opener) => {
+            let opening = name_at(text, tokens, open);
+            if is_last_word(tokens, at) {
+                Wanted::Closer(opening)
+            } else if !is_closed(tokens, open) {
+                Wanted::CloserAndSemicolon(opening)
+            } else if has_arrow(tokens, at, end_of_condition(tokens, at)) {
+                Wanted::SemicolonOrOption(last)
+            } else {
+                Wanted::SemicolonAtLineEnd(last)
+            }
+        }
+        _ => Wanted::SemicolonAtLineEnd(last),
+    }
+}
+
+/// Whether a sign stands in a condition.
+fn is_of_condition(kind: Kind) -> bool {
+    matches!(
+        kind,
+        Kind::Equal
+            | Kind::Unequal
+            | Kind::Less
+            | Kind::Greater
+            | Kind::AtMost
+            | Kind::AtLeast
+            | Kind::AndAnd
+            | Kind::OrOr
+    )
+}
+
+/// Whether a condition begins the option that a token stands in, and ends before the token.
+fn is_behind_condition(tokens: &[Token<'_>], at: usize) -> bool {
+    let begin = begin_of(tokens, at);
+    if !is_before(tokens, begin, 1, Kind::DoubleColon) {
+        return false;
+    }
+    for token in between(tokens, begin, at) {
+        if is_of_condition(token.kind()) {
+            return true;
+        }
+    }
+    false
+}
+
+/// What is wanted in front of a token on the line of the one before it.
+fn on_line<'t>(tokens: &[Token<'_>], at: usize) -> Wanted<'t> {
+    if is_behind_condition(tokens, at) {
+        Wanted::Form(Foreign::Then)
+    } else {
+        Wanted::Semicolon
+    }
+}
+
+/// A `;` in front of a token, and where; `shown` is the token as it stands in the text.
+fn semicolon<'t>(
+    alloc: Global,
+    text: &'t [u8],
+    tokens: &[Token<'_>],
+    at: usize,
+    shown: Named<'t>,
+) -> Result<Wanted<'t>, AllocError> {
+    if at == 0 || !begins_line(text, shown.offset) {
+        return Ok(on_line(tokens, at));
+    }
+    let opener = opener_before(alloc, tokens, at)?;
+    Ok(at_line(text, tokens, opener, at))
+}
+
+/// Whether a name is declared, or a label named, where a token stands.
+fn is_declared_at(tokens: &[Token<'_>], at: usize) -> bool {
+    is_before(tokens, at, 1, Kind::Goto)
+        || is_before(tokens, at, 1, Kind::Proctype)
+        || is_before(tokens, at, 1, Kind::OpenBrace)
+        || is_declaration(tokens, at)
+}
+
+/// What is wanted in place of the token, or in front of it, but for a `;`.
+fn by_trial<'t>(text: &'t [u8], tokens: &[Token<'_>], at: usize, trial: Trial) -> Wanted<'t> {
+    match trial {
+        Trial::Semicolon => Wanted::Semicolon,
+        Trial::Statement => Wanted::Statement(name_before(text, tokens, at, 2).name),
+        Trial::Run => Wanted::NoRun,
+        Trial::Name if is_statement(kind_at(tokens, at)) && !is_declared_at(tokens, at) => {
+            Wanted::Form(Foreign::StatementWord)
+        }
+        Trial::Name => Wanted::Name,
+        Trial::Nothing => Wanted::Nothing,
+        Trial::Comma => Wanted::Comma,
+        Trial::SemicolonFor => Wanted::SemicolonFor,
+        Trial::OptionFor => Wanted::OptionFor,
+        Trial::Untold => Wanted::Untold,
+    }
+}
+
+/// What may stand there, by class.
+fn one_of<'t>(alloc: Global, tokens: &[Token<'_>], at: usize) -> Result<Wanted<'t>, AllocError> {
+    let classes = classes_at(alloc, tokens, at)?;
+    if classes.first.is_none() {
+        Ok(Wanted::Untold)
+    } else {
+        Ok(Wanted::OneOf(classes))
+    }
+}
+
+/// What is told by a trial.
+fn wanted_of<'t>(
+    alloc: Global,
+    text: &'t [u8],
+    tokens: &[Token<'_>],
+    at: usize,
+    shown: Named<'t>,
+    trial: Trial,
+) -> Result<Wanted<'t>, AllocError> {
+    match trial {
+        Trial::Semicolon => semicolon(alloc, text, tokens, at, shown),
+        Trial::Untold => one_of(alloc, tokens, at),
+        trial => Ok(by_trial(text, tokens, at, trial)),
+    }
+}
+
+/// What is wanted at a token, which stands so in the text.
+pub fn wanted_by_trial<'t>(
+    alloc: Global,
+    text: &'t [u8],
+    tokens: &[Token<'_>],
+    at: usize,
+    shown: Named<'t>,
+) -> Result<Wanted<'t>, AllocError> {
+    if wants_option(alloc, tokens, at)? {
+        return Ok(Wanted::OptionSign);
+    }
+    let trial = tried(alloc, tokens, at, begins_line(text, shown.offset))?;
+    wanted_of(alloc, text, tokens, at, shown, trial)
+}

@@ -1,0 +1,356 @@
+//! Words of other languages, and names that are near to words of this one, beside the token that no rule reads.
+
+use crate::declared::meant_at;
+use crate::forms::{kind_before, kind_behind};
+use crate::stopped::{begin_of, is_before, is_type, name_at};
+use crate::within::{begins_unit, is_headless};
+use explain_cause::cause::{Named, Segment, Wanted};
+use explain_cause::foreign::Foreign;
+use explain_cause::place::{between, bytes_at, is_at, kind_at, named};
+use explain_cause::words::foreign_word;
+use explain_condition::near::nearest_word;
+use pml_token::token::{Kind, Token};
+use std::alloc::{AllocError, Global};
+
+/// Whether a name that stands behind a token of this kind is declared there.
+fn declares(kind: Kind) -> bool {
+    matches!(
+        kind,
+        Kind::Bit
+            | Kind::Bool
+            | Kind::Byte
+            | Kind::Chan
+            | Kind::Int
+            | Kind::Mtype
+            | Kind::Pid
+            | Kind::Short
+            | Kind::Unsigned
+            | Kind::Proctype
+            | Kind::Typedef
+            | Kind::Name
+            | Kind::Comma
+            | Kind::OpenBrace
+    )
+}
+
+/// Whether a name seems to be declared in front of the token at `end`.
+fn is_declared(tokens: &[Token<'_>], end: usize, name: &[u8]) -> bool {
+    let mut declared = false;
+    for (i, token) in tokens.iter().enumerate() {
+        if i >= end {
+            return false;
+        }
+        if declared && token.text() == name {
+            return true;
+        }
+        declared = declares(token.kind());
+    }
+    false
+}
+
+/// The proctype of a name.
+pub fn proctype_of<'t>(text: &'t [u8], tokens: &[Token<'_>], name: &[u8]) -> Option<Named<'t>> {
+    let mut declares = false;
+    for token in tokens {
+        if declares && token.text() == name {
+            return Some(named(text, token));
+        }
+        declares = matches!(token.kind(), Kind::Proctype);
+    }
+    None
+}
+
+/// A word of another language, and what it is meant for.
+#[derive(Clone, Copy)]
+struct Spoken<'t> {
+    foreign: Foreign,
+    name: Named<'t>,
+}
+
+/// A name that a definition without its first word begins with.
+fn headless<'t>(name: Named<'t>) -> Option<Spoken<'t>> {
+    let foreign = match foreign_word(name.name) {
+        Some(Foreign::Main) => Foreign::Main,
+        _ => Foreign::Headless,
+    };
+    Some(Spoken { foreign, name })
+}
+
+/// The token at `at`, where it is a name that nothing declares in front of it and a word of another language.
+fn word_at<'t>(text: &'t [u8], tokens: &[Token<'_>], at: usize) -> Option<Spoken<'t>> {
+    if !is_at(tokens, at, Kind::Name) {
+        return None;
+    }
+    let name = name_at(text, tokens, at);
+    if is_headless(tokens, at) {
+        return headless(name);
+    }
+    match foreign_word(name.name) {
+        Some(foreign) if !is_declared(tokens, at, name.name) => {
+            Some(Spoken {
+                foreign: meant_at(tokens, at, foreign),
+                name,
+            })
+        }
+        _ => None,
+    }
+}
+
+/// The token that stands so many before the one at `at`, where it is a word of another language.
+fn word_before<'t>(
+    text: &'t [u8],
+    tokens: &[Token<'_>],
+    at: usize,
+    count: usize,
+) -> Option<Spoken<'t>> {
+    word_at(text, tokens, at.checked_sub(count)?)
+}
+
+/// Of two words side by side the first, but for one in front of `main`.
+fn first_of<'t>(first: Option<Spoken<'t>>, second: Option<Spoken<'t>>) -> Option<Spoken<'t>> {
+    match (first, second) {
+        (Some(_), Some(word)) if matches!(word.foreign, Foreign::Main) => second,
+        (Some(_), _) => first,
+        _ => second,
+    }
+}
+
+/// A word of another language up to three tokens before the one at `at`, as the kind of what stands between them allows.
+fn spoken_before<'t>(text: &'t [u8], tokens: &[Token<'_>], at: usize) -> Option<Spoken<'t>> {
+    let second = word_before(text, tokens, at, 2);
+    match kind_before(tokens, at, 1) {
+        Kind::Name => first_of(second, word_before(text, tokens, at, 1)),
+        Kind::Bang => second,
+        before => {
+            if is_type(before) && is_before(tokens, at, 2, Kind::Name) {
+                word_before(text, tokens, at, 3)
+            } else {
+                None
+            }
+        }
+    }
+}
+
+/// The last `typedef` in front of a token.
+fn last_typedef(tokens: &[Token<'_>], at: usize) -> Option<usize> {
+    let mut last = None;
+    for (i, token) in between(tokens, 0, at).iter().enumerate() {
+        if matches!(token.kind(), Kind::Typedef) {
+            last = Some(i);
+        }
+    }
+    last
+}
+
+/// The `struct` of a `typedef` that has its name behind its fields, where a token stands behind that name.
+fn struct_before<'t>(text: &'t [u8], tokens: &[Token<'_>], at: usize) -> Option<Spoken<'t>> {
+    if !is_before(tokens, at, 1, Kind::Name) || !is_before(tokens, at, 2, Kind::CloseBrace) {
+        return None;
+    }
+    word_at(text, tokens, last_typedef(tokens, at)?.saturating_add(1))
+}
+
+/// A word of another language before the token that no rule reads.
+fn word_in_front<'t>(text: &'t [u8], tokens: &[Token<'_>], at: usize) -> Option<Spoken<'t>> {
+    let beside = spoken_before(text, tokens, at).or(struct_before(text, tokens, at));
+    if is_at(tokens, at, Kind::Of) {
+        beside.or(word_at(text, tokens, begin_of(tokens, at)))
+    } else {
+        beside
+    }
+}
+
+/// A word of another language at the token that no rule reads, or before it.
+pub fn foreign_beside<'t>(text: &'t [u8], tokens: &[Token<'_>], at: usize) -> Option<Wanted<'t>> {
+    match word_at(text, tokens, at).or(word_in_front(text, tokens, at)) {
+        Some(word) => Some(Wanted::ForeignWord(word.foreign, word.name)),
+        None => None,
+    }
+}
+
+/// A word of another language with `!` in front of the `(` that is open.
+pub fn foreign_call<'t>(text: &'t [u8], tokens: &[Token<'_>], opener: usize) -> Option<Wanted<'t>> {
+    if !is_at(tokens, opener, Kind::OpenParen) || !is_before(tokens, opener, 1, Kind::Bang) {
+        return None;
+    }
+    let word = word_before(text, tokens, opener, 2)?;
+    Some(Wanted::ForeignWord(word.foreign, word.name))
+}
+
+/// The number and the name that stand side by side without a blank, the name at `at`.
+fn joined_at<'t>(text: &'t [u8], tokens: &[Token<'_>], at: usize) -> Option<Named<'t>> {
+    let number = name_at(text, tokens, at.checked_sub(1)?);
+    let name = name_at(text, tokens, at);
+    let length = number.name.len().saturating_add(name.name.len());
+    let is_joined = number.offset.saturating_add(number.name.len()) == name.offset;
+    if is_joined && is_before(tokens, at, 1, Kind::Number) && is_at(tokens, at, Kind::Name) {
+        let offset = number.offset;
+        Some(Named {
+            name: bytes_at(text, Segment { offset, length }),
+            offset,
+        })
+    } else {
+        None
+    }
+}
+
+/// A number of another form, at the token that no rule reads or directly before it.
+pub fn number_beside<'t>(text: &'t [u8], tokens: &[Token<'_>], at: usize) -> Option<Wanted<'t>> {
+    let own = joined_at(text, tokens, at);
+    match own.or(joined_at(text, tokens, at.saturating_sub(1))) {
+        Some(number) => Some(Wanted::ForeignWord(Foreign::Digits, number)),
+        None => None,
+    }
+}
+
+/// Whether a `=` stands behind two names, as of a type and its variable.
+pub fn is_typed(tokens: &[Token<'_>], at: usize) -> bool {
+    is_at(tokens, at, Kind::Assign)
+        && is_before(tokens, at, 1, Kind::Name)
+        && is_before(tokens, at, 2, Kind::Name)
+}
+
+/// The name of a type that a variable is declared of, where a `=` stands behind the variable.
+pub fn type_before<'t>(text: &'t [u8], tokens: &[Token<'_>], at: usize) -> Option<Wanted<'t>> {
+    if !is_typed(tokens, at) {
+        return None;
+    }
+    let place = at.checked_sub(2)?;
+    let name = name_at(text, tokens, place);
+    if is_declared(tokens, place, name.name) {
+        return Some(Wanted::Form(Foreign::RecordValue));
+    }
+    let variable = name_at(text, tokens, at.saturating_sub(1));
+    if is_declared(tokens, place, variable.name) {
+        Some(Wanted::ForeignWord(Foreign::LabelColon, name))
+    } else {
+        Some(Wanted::NoType(name))
+    }
+}
+
+/// Whether a word declares something, or begins a unit.
+fn begins_declaration(kind: Kind) -> bool {
+    is_type(kind) || begins_unit(kind)
+}
+
+/// The name that stands in front of a type or of a unit, and is none of the words that do.
+pub fn no_word<'t>(text: &'t [u8], tokens: &[Token<'_>], at: usize) -> Option<Wanted<'t>> {
+    let place = at.checked_sub(1)?;
+    if !begins_declaration(kind_at(tokens, at)) || !is_at(tokens, place, Kind::Name) {
+        return None;
+    }
+    let name = name_at(text, tokens, place);
+    let is_second = is_before(tokens, place, 1, Kind::Name)
+        || is_type(kind_before(tokens, place, 1));
+    if is_declared(tokens, place, name.name) || is_second {
+        None
+    } else if matches!(kind_behind(tokens, at), Kind::Assign | Kind::Semicolon) {
+        Some(Wanted::Form(Foreign::TypeBehind))
+    } else {
+        Some(Wanted::NoWord(name))
+    }
+}
+
+/// A variable that is called as a function, in front of the `(` at `at`.
+pub fn called_variable<'t>(text: &'t [u8], tokens: &[Token<'_>], at: usize) -> Option<Wanted<'t>> {
+    let place = at.checked_sub(1)?;
+    let name = name_at(text, tokens, place);
+    if is_declared(tokens, place, name.name) {
+        Some(Wanted::Index(name))
+    } else {
+        None
+    }
+}
+
+/// What a name in front of `(` or `{` is: the name of a proctype, or of one that is being declared.
+pub fn proctype_beside<'t>(text: &'t [u8], tokens: &[Token<'_>], at: usize) -> Option<Wanted<'t>> {
+    if !is_before(tokens, at, 1, Kind::Name) {
+        return None;
+    }
+    let name = name_at(text, tokens, at.saturating_sub(1));
+    if is_before(tokens, at, 2, Kind::Proctype) {
+        return Some(Wanted::Parameters(name.name));
+    }
+    if !is_at(tokens, at, Kind::OpenParen) {
+        return None;
+    }
+    match proctype_of(text, tokens, name.name) {
+        Some(proctype) => Some(Wanted::RunOf(proctype, name)),
+        None => None,
+    }
+}
+
+/// The word of the language that the token at `at` is near to, where it is a name that nothing declares in front of it.
+pub fn near_at<'t>(
+    alloc: Global,
+    text: &'t [u8],
+    tokens: &[Token<'_>],
+    at: usize,
+) -> Result<Option<Wanted<'t>>, AllocError> {
+    if !matches!(kind_at(tokens, at), Kind::Name) {
+        return Ok(None);
+    }
+    let name = name_at(text, tokens, at);
+    if is_declared(tokens, at, name.name) {
+        return Ok(None);
+    }
+    match nearest_word(alloc, name.name)? {
+        Some(word) => Ok(Some(Wanted::Word(name, word))),
+        None => Ok(None),
+    }
+}
+
+/// The words of the language that `(` may stand behind, or is written behind by those who know them from elsewhere.
+const CALLED: [&[u8]; 15] = [
+    b"assert", b"atomic", b"do", b"empty", b"eval", b"for", b"full", b"if", b"init", b"len",
+    b"nempty", b"nfull", b"printf", b"printm", b"select",
+];
+
+/// Whether `(` may stand behind a word of the language.
+fn is_called(word: &[u8]) -> bool {
+    for called in &CALLED {
+        if *called == word {
+            return true;
+        }
+    }
+    false
+}
+
+/// Whether a word may stand for the name directly in front of a token.
+fn may_be_meant(tokens: &[Token<'_>], at: usize, wanted: Option<Wanted<'_>>) -> bool {
+    match wanted {
+        Some(Wanted::Word(_, word)) => !is_at(tokens, at, Kind::OpenParen) || is_called(word),
+        _ => false,
+    }
+}
+
+/// The word of the language that the name directly before the token that no rule reads is near to.
+fn near_before<'t>(
+    alloc: Global,
+    text: &'t [u8],
+    tokens: &[Token<'_>],
+    at: usize,
+) -> Result<Option<Wanted<'t>>, AllocError> {
+    let Some(before) = at.checked_sub(1) else {
+        return Ok(None);
+    };
+    let wanted = near_at(alloc, text, tokens, before)?;
+    if may_be_meant(tokens, at, wanted) {
+        Ok(wanted)
+    } else {
+        Ok(None)
+    }
+}
+
+/// The word of the language that a name at the token that no rule reads, or directly before it, is near to.
+pub fn near_beside<'t>(
+    alloc: Global,
+    text: &'t [u8],
+    tokens: &[Token<'_>],
+    at: usize,
+) -> Result<Option<Wanted<'t>>, AllocError> {
+    match near_at(alloc, text, tokens, at)? {
+        Some(wanted) => Ok(Some(wanted)),
+        None => near_before(alloc, text, tokens, at),
+    }
+}

@@ -1,0 +1,184 @@
+//! The macros of a text: which are defined, and what comes of tokens that name them.
+
+use crate::definition::definition;
+use crate::refusal::{Refusal, Why, of_trouble, refused};
+use crate::state::{Note, Remark, State};
+use pml_macros::atom::{Atom, Place, Sort, same_sort};
+use pml_macros::calls::replaced_calls;
+use pml_macros::table::{Macro, Part, Role};
+use std::alloc::{AllocError, Global};
+
+/// Whether a name is known without a `#define`.
+fn is_built_in(text: &[u8]) -> bool {
+    match text {
+        b"__LINE__" => true,
+        b"__FILE__" => true,
+        _ => false,
+    }
+}
+
+/// Whether a name is that of a macro.
+pub fn is_known(state: &State, name: usize) -> bool {
+    state.table.knows(name) || is_built_in(state.work.book.text(name))
+}
+
+/// The text of a file's name as a string: a quote and a backslash stand behind a backslash.
+fn quoted(alloc: Global, name: &[u8]) -> Result<Vec<u8>, AllocError> {
+    let mut text = Vec::new(alloc);
+    text.push(b'"')?;
+    for b in name {
+        if *b == b'"' || *b == b'\\' {
+            text.push(b'\\')?;
+        }
+        text.push(*b)?;
+    }
+    text.push(b'"')?;
+    Ok(text)
+}
+
+/// A token with another text.
+fn spelled(
+    alloc: Global,
+    state: &mut State,
+    atom: Atom,
+    sort: Sort,
+    text: &[u8],
+) -> Result<Atom, AllocError> {
+    Ok(Atom {
+        sort,
+        text: state.work.book.number(alloc, text)?,
+        is_spaced: atom.is_spaced,
+        is_painted: false,
+        place: atom.place,
+        call: atom.call,
+    })
+}
+
+/// `__LINE__` and `__FILE__` as what they stand for, each other token as it is.
+fn told(alloc: Global, state: &mut State, atom: Atom) -> Result<Atom, AllocError> {
+    match state.work.book.text(atom.text) {
+        b"__LINE__" => {
+            let line = atom.call.line;
+            let digits = format!(in alloc; "{line}")?;
+            spelled(alloc, state, atom, Sort::Number, digits.as_bytes())
+        }
+        b"__FILE__" => {
+            let text = quoted(alloc, state.name(atom.call.file))?;
+            spelled(alloc, state, atom, Sort::Quoted, &text)
+        }
+        _ => Ok(atom),
+    }
+}
+
+/// Writes what `__LINE__` and `__FILE__` stand for in their place.
+fn tell_places(alloc: Global, state: &mut State, atoms: &mut [Atom]) -> Result<(), AllocError> {
+    for atom in atoms.iter_mut() {
+        if same_sort(atom.sort, Sort::Name) {
+            *atom = told(alloc, state, *atom)?;
+        }
+    }
+    Ok(())
+}
+
+/// Whether some token is the name of a macro.
+fn names_macro(state: &State, atoms: &[Atom]) -> bool {
+    for atom in atoms {
+        if same_sort(atom.sort, Sort::Name) && state.table.knows(atom.text) {
+            return true;
+        }
+    }
+    false
+}
+
+/// What comes of tokens, by what is known.
+pub fn replaced(
+    alloc: Global,
+    state: &mut State,
+    atoms: Vec<Atom>,
+    place: Place,
+) -> Result<Vec<Atom>, Refusal> {
+    let mut atoms = atoms;
+    tell_places(alloc, state, &mut atoms)?;
+    if !names_macro(state, &atoms) {
+        return Ok(atoms);
+    }
+    match replaced_calls(alloc, &state.table, &mut state.work, &atoms) {
+        Ok(mut all) => {
+            tell_places(alloc, state, &mut all)?;
+            Ok(all)
+        }
+        Err(trouble) => Err(of_trouble(trouble, place)),
+    }
+}
+
+/// Replaces the calls in what came since the last `#` line.
+pub fn flush(alloc: Global, state: &mut State) -> Result<(), Refusal> {
+    let run = std::mem::replace(&mut state.run, Vec::new(alloc));
+    let [first, ..] = run.as_slice() else {
+        return Ok(());
+    };
+    let place = first.place;
+    let mut all = replaced(alloc, state, run, place)?;
+    state.out.append(&mut all)?;
+    Ok(())
+}
+
+/// Whether two tokens of bodies are the same.
+fn is_same_part(a: &Part, b: &Part) -> bool {
+    a.atom.text == b.atom.text && a.role == b.role && a.is_joined == b.is_joined
+}
+
+/// Whether two macros are the same, but for blanks and the names of parameters.
+fn is_same_macro(a: &Macro, b: &Macro) -> bool {
+    if a.parameters != b.parameters || a.body.len() != b.body.len() {
+        return false;
+    }
+    for (one, other) in a.body.iter().zip(b.body.iter()) {
+        if !is_same_part(one, other) {
+            return false;
+        }
+    }
+    true
+}
+
+/// Whether a macro of this name was given before the text, and this is another.
+fn is_again(state: &State, made: &Macro) -> bool {
+    match state.table.find(made.name) {
+        Some(known) => state.given.contains(&made.name) && !is_same_macro(known, made),
+        None => false,
+    }
+}
+
+/// `#define`.
+pub fn define(
+    alloc: Global,
+    state: &mut State,
+    atoms: &[Atom],
+    place: Place,
+) -> Result<(), Refusal> {
+    match definition(alloc, atoms)? {
+        None => Err(refused(Why::Form, place)),
+        Some(made) => {
+            if matches!(state.work.book.text(made.name), b"defined") {
+                return Err(refused(Why::Form, place));
+            }
+            if is_again(state, &made) {
+                let remark = Remark::Again(made.name);
+                state.notes.push(Note { remark, place })?;
+            }
+            state.table.define(made)?;
+            Ok(())
+        }
+    }
+}
+
+/// `#undef`.
+pub fn undefine(state: &mut State, atoms: &[Atom], place: Place) -> Result<(), Refusal> {
+    match atoms {
+        [first, ..] if same_sort(first.sort, Sort::Name) => {
+            state.table.forget(first.text);
+            Ok(())
+        }
+        _ => Err(refused(Why::Form, place)),
+    }
+}

@@ -1,0 +1,76 @@
+//! Why a text is refused.
+
+use pml_macros::atom::Place;
+use pml_macros::trouble::Trouble;
+use std::alloc::{AllocError, AllocFailed};
+
+/// What is wrong, and where.
+#[derive(Clone, Copy, Debug)]
+pub enum Why {
+    Memory,
+    /// A comment is not closed.
+    Comment,
+    /// A file is too long.
+    Long,
+    /// Includes are too deep.
+    Includes,
+    /// There is no such file.
+    File,
+    /// No word that a `#` line may begin with.
+    Word,
+    /// `#error`.
+    Error,
+    /// What stands behind the word is not right.
+    Form,
+    /// `#else`, `#elif` or `#endif` without an `#if`.
+    Closer,
+    /// An `#if` without an `#endif`.
+    Opener,
+    /// A condition that has no value.
+    Condition,
+    Call(Trouble),
+}
+
+/// Why a text is refused, and where.
+#[derive(Clone, Copy, Debug)]
+pub struct Refusal {
+    pub why: Why,
+    pub place: Place,
+}
+
+/// A refusal at a place.
+pub fn refused(why: Why, place: Place) -> Refusal {
+    Refusal { why, place }
+}
+
+/// What macros were in trouble with, as a refusal: of a call at the call.
+pub fn of_trouble(trouble: Trouble, place: Place) -> Refusal {
+    match trouble {
+        Trouble::Memory => refused(Why::Memory, place),
+        Trouble::Open(atom) => refused(Why::Call(trouble), atom.call),
+        Trouble::Arguments(atom, _) => refused(Why::Call(trouble), atom.call),
+        Trouble::Joined(atom) => refused(Why::Call(trouble), atom.call),
+        Trouble::Much(atom) => refused(Why::Call(trouble), atom.call),
+        Trouble::Deep(atom) => refused(Why::Call(trouble), atom.call),
+    }
+}
+
+/// Where memory is refused no place is told.
+const NOWHERE: Place = Place {
+    file: 0,
+    offset: 0,
+    line: 1,
+    column: 1,
+};
+
+impl From<AllocError> for Refusal {
+    fn from(_: AllocError) -> Refusal {
+        refused(Why::Memory, NOWHERE)
+    }
+}
+
+impl<T: Drop> From<AllocFailed<T>> for Refusal {
+    fn from(_: AllocFailed<T>) -> Refusal {
+        refused(Why::Memory, NOWHERE)
+    }
+}

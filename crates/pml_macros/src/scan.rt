@@ -1,0 +1,221 @@
+//! The lexeme that stands at the front of a text, as a preprocessor cuts it.
+
+ghost use Rattle.std.specs.Prelude.{◌≤◌, ◌<◌, length, IfSome};
+
+use crate::atom::Sort;
+
+/// What a lexeme is.
+#[derive(Clone, Copy, Debug, PartialEq, Eq)]
+pub enum Lexeme {
+    /// A blank, or a comment.
+    Blank,
+    LineFeed,
+    Token(Sort),
+    /// A comment that is not closed, with all that stands behind it.
+    Unclosed,
+}
+
+/// Whether a byte is a digit.
+pub fn is_digit(b: u8) -> bool {
+    b'0' <= b && b <= b'9'
+}
+
+/// Whether a byte may begin a name.
+pub fn is_letter(b: u8) -> bool {
+    (b'a' <= b && b <= b'z') || ((b'A' <= b && b <= b'Z') || b == b'_')
+}
+
+fn is_blank(b: u8) -> bool {
+    b == b' ' || (b'\t' <= b && b <= b'\r')
+}
+
+fn is_name_byte(b: u8) -> bool {
+    is_letter(b) || is_digit(b)
+}
+
+/// How many bytes a name goes on.
+fn name_bytes(text: &[u8]) -> usize
+    ensures { result ≤ length text.now }
+{
+    let mut end = 0;
+    while end < text.len() && is_name_byte(text[end]) {
+        end += 1;
+    }
+    end
+}
+
+/// How many bytes a number goes on: digits, letters, and a dot that has no other behind it.
+fn number_bytes(text: &[u8]) -> usize
+    ensures { result ≤ length text.now }
+{
+    let mut end = 0;
+    while end < text.len() {
+        let b = text[end];
+        if is_name_byte(b) {
+            end += 1;
+        } else {
+            return end;
+        }
+    }
+    end
+}
+
+/// How many bytes stand before the line feed.
+fn line_bytes(text: &[u8]) -> usize
+    ensures { result ≤ length text.now }
+{
+    let mut end = 0;
+    while end < text.len() && text[end] != b'\n' {
+        end += 1;
+    }
+    end
+}
+
+/// The place behind the closing quote, in a text whose first byte is the opening one.
+fn quote_end(quote: u8, text: &[u8]) -> Option<usize>
+    requires { 0 < length text.now }
+    ensures { IfSome result (λ n. (0 < n) × (n ≤ length text.now)) }
+{
+    let mut end = 1;
+    let mut escaped = false;
+    while end < text.len() {
+        let b = text[end];
+        if b == b'\n' {
+            return None;
+        }
+        end += 1;
+        if escaped {
+            escaped = false;
+        } else if b == quote {
+            return Some(end);
+        } else {
+            escaped = b == b'\\';
+        }
+    }
+    None
+}
+
+/// The place behind the first `*/`, in a text that begins with `/*`.
+fn comment_end(text: &[u8]) -> Option<usize>
+    requires { 0 < length text.now }
+    ensures { IfSome result (λ n. (0 < n) × (n ≤ length text.now)) }
+{
+    let mut end = 2;
+    while end < text.len() {
+        if text[end] == b'/' && end > 2 && text[end - 1] == b'*' {
+            return Some(end + 1);
+        }
+        end += 1;
+    }
+    None
+}
+
+fn quoted(sort: Sort, quote: u8, text: &[u8]) -> (usize, Lexeme)
+    requires { 0 < length text.now }
+    ensures { (0 < result.0) × (result.0 ≤ length text.now) }
+{
+    match quote_end(quote, text) {
+        Some(end) => (end, Lexeme::Token(sort)),
+        None => (1 + line_bytes(&text[1..]), Lexeme::Token(Sort::Stray)),
+    }
+}
+
+fn slash(text: &[u8]) -> (usize, Lexeme)
+    requires { 0 < length text.now }
+    ensures { (0 < result.0) × (result.0 ≤ length text.now) }
+{
+    match text {
+        [_, b'*', ..] => match comment_end(text) {
+            Some(end) => (end, Lexeme::Blank),
+            None => (text.len(), Lexeme::Unclosed),
+        },
+        [_, b'/', rest @ ..] => (2 + line_bytes(rest), Lexeme::Blank),
+        _ => (1, Lexeme::Token(Sort::Sign)),
+    }
+}
+
+/// Whether two bytes are one sign.
+fn is_sign_of_two(a: u8, b: u8) -> bool {
+    if b == b'=' {
+        a == b'=' || a == b'!' || a == b'<' || a == b'>'
+    } else if a == b'-' {
+        b == b'>' || b == b'-'
+    } else {
+        a == b
+            && (a == b':'
+                || a == b'.'
+                || a == b'+'
+                || a == b'<'
+                || a == b'>'
+                || a == b'&'
+                || a == b'|'
+                || a == b'!'
+                || a == b'?')
+    }
+}
+
+fn sort_of_one(b: u8) -> Sort {
+    if b == b'(' {
+        Sort::OpenParen
+    } else if b == b')' {
+        Sort::CloseParen
+    } else if b == b',' {
+        Sort::Comma
+    } else if b == b'#' {
+        Sort::Hash
+    } else {
+        Sort::Sign
+    }
+}
+
+fn sign(text: &[u8]) -> (usize, Lexeme)
+    requires { 0 < length text.now }
+    ensures { (0 < result.0) × (result.0 ≤ length text.now) }
+{
+    match text {
+        [b'#', b'#', ..] => (2, Lexeme::Token(Sort::HashHash)),
+        [first, second, ..] if is_sign_of_two(*first, *second) => (2, Lexeme::Token(Sort::Sign)),
+        _ => (1, Lexeme::Token(sort_of_one(text[0]))),
+    }
+}
+
+/// The lexeme at the front of a text.
+pub fn next(text: &[u8]) -> (usize, Lexeme)
+    requires { 0 < length text.now }
+    ensures { (0 < result.0) × (result.0 ≤ length text.now) }
+{
+    let first = text[0];
+    if first == b'\n' {
+        (1, Lexeme::LineFeed)
+    } else if is_blank(first) {
+        (1, Lexeme::Blank)
+    } else if is_letter(first) {
+        (name_bytes(text).max(1), Lexeme::Token(Sort::Name))
+    } else if is_digit(first) {
+        (number_bytes(text).max(1), Lexeme::Token(Sort::Number))
+    } else if first == b'"' {
+        quoted(Sort::Quoted, b'"', text)
+    } else if first == b'\'' {
+        quoted(Sort::Character, b'\'', text)
+    } else if first == b'/' {
+        slash(text)
+    } else {
+        sign(text)
+    }
+}
+
+/// What a text is, if it is one token.
+pub fn sort_of_whole(text: &[u8]) -> Option<Sort> {
+    if text.is_empty() {
+        return None;
+    }
+    let (length, lexeme) = next(text);
+    if length != text.len() {
+        return None;
+    }
+    match lexeme {
+        Lexeme::Token(Sort::Stray) => None,
+        Lexeme::Token(sort) => Some(sort),
+        _ => None,
+    }
+}

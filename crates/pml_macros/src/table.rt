@@ -1,0 +1,101 @@
+//! The macros that are known.
+
+ghost use Rattle.std.specs.Prelude.{◌≡◌, option_map, is_some};
+ghost use Rattle.pml_macros.specs.Calls.{known, rule_of};
+
+use crate::atom::Atom;
+use std::alloc::{AllocError, AllocFailed, Global};
+use std::collections::BTreeMap;
+
+/// What stands in place of a token of a macro's body.
+#[derive(Clone, Copy, Debug, PartialEq, Eq)]
+pub enum Role {
+    Itself,
+    /// What comes of this argument.
+    Expanded(usize),
+    /// The argument as it is, beside `##`.
+    Raw(usize),
+    /// The argument as a string, behind `#`.
+    Shown(usize),
+}
+
+/// A token of a macro's body.
+#[derive(Clone, Copy, Debug)]
+pub struct Part {
+    pub atom: Atom,
+    pub role: Role,
+    /// `##` stands before it.
+    pub is_joined: bool,
+}
+
+/// A macro.
+#[derive(Drop)]
+pub struct Macro {
+    /// The number of its name.
+    pub name: usize,
+    /// How many parameters it has, where it is called with parentheses.
+    pub parameters: Option<usize>,
+    pub body: Vec<Part>,
+}
+
+/// All that are known.
+#[derive(Drop)]
+pub struct Table {
+    macros: Vec<Macro>,
+    places: BTreeMap<usize, usize>,
+}
+
+impl Table {
+    /// No macro.
+    pub fn new(alloc: Global) -> Table {
+        Table {
+            macros: Vec::new(alloc),
+            places: BTreeMap::new(alloc),
+        }
+    }
+
+    /// The macro of a name.
+    pub fn find(&self, name: usize) -> Option<&Macro>
+        ensures { option_map (λ m. rule_of m.now) result ≡ known self.now name }
+    {
+        match self.places.get(&name) {
+            Some(place) => {
+                let place = *place;
+                if place < self.macros.len() {
+                    Some(&self.macros[place])
+                } else {
+                    None
+                }
+            }
+            None => None,
+        }
+    }
+
+    /// Whether a macro of this name is known.
+    pub fn knows(&self, name: usize) -> bool {
+        self.places.contains_key(&name)
+    }
+
+    /// The names of all that were defined.
+    pub fn names(&self) -> Result<Vec<usize>, AllocError> {
+        let mut names = Vec::new(*self.macros.allocator());
+        for made in &self.macros {
+            names.push(made.name)?;
+        }
+        Ok(names)
+    }
+
+    /// Makes a macro known, in place of one of its name.
+    pub fn define(&mut self, made: Macro) -> Result<(), AllocError> {
+        let place = self.macros.len();
+        let name = made.name;
+        self.macros.push(made)?;
+        self.places.insert(name, place)?;
+        Ok(())
+    }
+
+    /// Makes a macro unknown.
+    pub fn forget(&mut self, name: usize) {
+        self.places.remove(&name);
+    }
+}

@@ -1,0 +1,28 @@
+-- What is prepared of an author's text.
+use Rattle.std.specs.Prelude.{◌≡◌, ◌≤◌, ℕ, Bool, true, false, List, [], length}
+use Rattle.pml_directives.specs.Plain.{is_plain}
+use Rattle.prepare.specs.declared.TheConstants.{MOST_BYTES}
+use Rattle.prepare.specs.Laws.{lined, prepared, has_tokens_alone}
+use Rattle.prepared.specs.declared.given.How.{How}
+use Rattle.prepared.specs.declared.made.Prepared.{Prepared}
+
+-- where it is told that nothing is left, the tokens of the text outside blocks are such as the language has
+abbrev pub TellsTokens : Bool → List ℕ → Type 0
+TellsTokens is_left text = is_left ≡ false → has_tokens_alone (lined text) ≡ true
+
+-- it is made of a text that is without `#` lines and macros, and has no more bytes than it may
+pub record IsMadeOf (text : List ℕ) (p : Prepared) : Type 0 where
+  pub short : length text ≤ MOST_BYTES
+  pub made : p.text.items ≡ prepared text
+  pub told : TellsTokens p.is_left text
+
+-- what a preprocessor may leave of an author's text: the text itself, where it is to be read as it is, and where no macro is given and nothing in it is for one
+pub record IsLeftOf (how : How) (own text : List ℕ) : Type 0 where
+  pub asked : how.is_plain ≡ true → text ≡ own
+  pub plain : how.given.items ≡ [] → is_plain own ≡ true → text ≡ own
+
+-- it is made of what the preprocessor leaves of the author's text
+pub record IsPreparedOf (how : How) (own : List ℕ) (p : Prepared) : Type 0 where
+  pub text : List ℕ
+  pub left : IsLeftOf how own text
+  pub made : IsMadeOf text p

@@ -1,0 +1,178 @@
+//! What is made of a text, and what is said of it.
+
+ghost use Rattle.std.specs.Prelude.{◌≡◌, ◌≤◌, length, IfOk};
+ghost use Rattle.std.specs.List.{list_all};
+ghost use Rattle.prepare.specs.declared.TheConstants.{MOST_BYTES};
+ghost use Rattle.prepare.specs.Stretches as as_stretches;
+ghost use Rattle.prepare.specs.Spelling as as_spelling;
+ghost use Rattle.prepare.specs.Laws as laws;
+ghost use Rattle.prepared.specs.Made.{TellsTokens, IsMadeOf, IsPreparedOf};
+
+use crate::given::How;
+use crate::lines::lines_of;
+use crate::model::model_text;
+use crate::report::{Called, Report};
+use crate::unprepared::Unprepared;
+use pml_token::token::{Kind, same_kind};
+use prepare::MOST_BYTES;
+use prepare::changes::{exchanges, respelled};
+use prepare::coding::coded;
+use prepare::numbering::numbered;
+use prepare::spelling::spelled;
+use prepare::stretch::{Form, Stretch};
+use prepare::stretches::stretches;
+use std::alloc::{AllocError, Global};
+
+/// What is prepared of a text.
+#[derive(Drop)]
+pub struct Prepared {
+    pub text: Vec<u8>,
+    /// Where the lines of included files stand in it.
+    pub lines: Vec<u8>,
+    /// What is to be said of it.
+    pub said: String,
+    /// Whether something is left that is not played.
+    pub is_left: bool,
+}
+
+// Whether a token is that of a block, or one that the language has.
+fn is_token(stretch: &Stretch<'_>) -> bool
+    ensures { result ≡ laws.is_token stretch.now }
+{
+    matches!(stretch.form(), Form::Blanked) || !same_kind(stretch.kind(), Kind::LeftOut)
+}
+
+// Whether all are.
+fn are_tokens(stretches: &[Stretch<'_>]) -> bool
+    ensures { result ≡ list_all laws.is_token stretches.now }
+{
+    for stretch in stretches {
+        if !is_token(stretch) {
+            return false;
+        }
+    }
+    true
+}
+
+// What is made of a text by its ends of lines and its blocks.
+#[derive(Drop)]
+struct WithSeparators {
+    text: Vec<u8>,
+    // whether its tokens are such as the language has, but for those of blocks
+    are_tokens: bool,
+}
+
+// What is made of a text by its ends of lines and its blocks, of which the report hears.
+fn separated<'t>(
+    alloc: Global,
+    text: &'t [u8],
+    report: &mut Report<'t>,
+) -> Result<WithSeparators, AllocError>
+    ensures text { IfOk result (λ s. s.text.items ≡ as_spelling.spelled (as_stretches.stretches text.now)) }
+    ensures tokens { IfOk result (λ s. s.are_tokens ≡ laws.has_tokens_alone text.now) }
+{
+    let stretches = stretches(alloc, text)?;
+    for stretch in &stretches {
+        report.stretch(stretch);
+    }
+    report.again();
+    let are_tokens = are_tokens(&stretches);
+    let text = spelled(alloc, &stretches)?;
+    Ok(WithSeparators { text, are_tokens })
+}
+
+// What is made of it then by its subtypes and its loops over arrays.
+fn exchanged<'t>(
+    alloc: Global,
+    text: &'t [u8],
+    report: &mut Report<'t>,
+) -> Result<Vec<u8>, AllocError>
+    ensures { IfOk result (λ v. v.items ≡ laws.exchanged text.now) }
+{
+    let tokens = stretches(alloc, text)?;
+    let exchanges = exchanges(alloc, &tokens)?;
+    drop(tokens);
+    for exchange in &exchanges {
+        report.exchange(exchange);
+    }
+    respelled(alloc, &exchanges)
+}
+
+// A text that is made, with what is said of it.
+#[derive(Drop)]
+struct Made {
+    text: Vec<u8>,
+    said: String,
+    is_left: bool,
+}
+
+// What is made of a text with its separators, of which the report has heard.
+fn made_of_separated<'t>(
+    alloc: Global,
+    text: &'t [u8],
+    report: Report<'t>,
+    called: Called<'_>,
+) -> Result<Made, AllocError>
+    ensures { IfOk result (λ m. m.text.items ≡ laws.exchanged text.now) }
+{
+    let mut report = report;
+    let text = exchanged(alloc, text, &mut report)?;
+    let (said, is_left) = report.end(called);
+    Ok(Made {
+        text,
+        said,
+        is_left,
+    })
+}
+
+// What is made of a text.
+fn made_of(alloc: Global, text: &[u8], called: Called<'_>) -> Result<Made, AllocError>
+    requires { length text.now ≤ MOST_BYTES }
+    ensures made { IfOk result (λ m. m.text.items ≡ laws.prepared text.now) }
+    ensures told { IfOk result (λ m. TellsTokens m.is_left text.now) }
+{
+    let lines = numbered(alloc, text)?;
+    let numbers = coded(alloc, &lines)?;
+    let mut report = Report::new(alloc);
+    let separated = separated(alloc, &numbers, &mut report)?;
+    let Made {
+        text,
+        said,
+        is_left,
+    } = made_of_separated(alloc, &separated.text, report, called)?;
+    Ok(Made {
+        text,
+        said,
+        is_left: is_left || !separated.are_tokens,
+    })
+}
+
+/// What is prepared of a text that is without `#` lines and macros.
+pub fn prepared_from(alloc: Global, text: &[u8], called: Called<'_>) -> Result<Prepared, Unprepared>
+    ensures { IfOk result (IsMadeOf text.now) }
+{
+    if text.len() > MOST_BYTES {
+        return Err(Unprepared::TooLong);
+    }
+    let lines = lines_of(alloc, text)?;
+    let made = made_of(alloc, text, called)?;
+    Ok(Prepared {
+        text: made.text,
+        lines,
+        said: made.said,
+        is_left: made.is_left,
+    })
+}
+
+/// What is prepared of an author's text, in the way that is asked for.
+pub fn prepared_of(
+    rt: &HostRuntime,
+    how: &How,
+    text: &[u8],
+    called: Called<'_>,
+) -> Result<Prepared, Unprepared>
+    ensures { IfOk result (IsPreparedOf how.now text.now) }
+{
+    let expanded = model_text(rt, how, called, text)?;
+    prepared_from(rt.alloc(), &expanded, called)
+}

@@ -1,0 +1,148 @@
+//! What is said on standard error: which blocks are blanked, and what is left as it is, a line for each kind with all its places.
+
+use crate::kinds::{Kinds, What};
+use prepare::changes::{Change, Exchange};
+use prepare::stretch::{Form, Remark, Stretch};
+use std::alloc::Global;
+
+// A block that is blanked: its word, its first line, and the line of the last token of it so far.
+#[derive(Drop)]
+struct Block<'t> {
+    word: &'t [u8],
+    first: u64,
+    last: u64,
+    is_closed: bool,
+}
+
+/// The names of a program that prepares a text and of the text's file, and what the text is called.
+#[derive(Clone, Copy)]
+pub struct Called<'c> {
+    pub program: &'c str,
+    pub file: &'c str,
+    pub name: &'c str,
+}
+
+/// What is said of a text that is prepared, as it is read.
+#[derive(Drop)]
+pub struct Report<'t> {
+    // the line of the next byte
+    line: u64,
+    block: Option<Block<'t>>,
+    kinds: Kinds<'t>,
+    is_left: bool,
+}
+
+fn feeds(text: &[u8]) -> u64 {
+    let mut count: u64 = 0;
+    for b in text {
+        if *b == b'\n' {
+            count = count.saturating_add(1);
+        }
+    }
+    count
+}
+
+// What kind of thing a token is that is left out.
+fn left_out(token: &[u8]) -> What {
+    match token {
+        [b'\'', ..] => What::Apostrophe,
+        [b, ..] if *b < b' ' || *b > b'~' => What::Bytes,
+        _ => What::LeftOut,
+    }
+}
+
+impl<'t> Report<'t> {
+    /// Nothing is said before the first line.
+    pub fn new(alloc: Global) -> Report<'t> {
+        Report {
+            line: 1,
+            block: None,
+            kinds: Kinds::new(alloc),
+            is_left: false,
+        }
+    }
+
+    // Keeps the block that is at its end.
+    fn end_block(&mut self) {
+        if let Some(block) = self.block.take() {
+            let what = if block.is_closed {
+                What::Blanked
+            } else {
+                self.is_left = true;
+                What::Unclosed
+            };
+            self.kinds.add(what, block.word, block.first, block.last);
+        }
+    }
+
+    fn left(&mut self, what: What, token: &'t [u8]) {
+        self.is_left = true;
+        self.kinds.add(what, token, self.line, self.line);
+    }
+
+    fn remark(&mut self, stretch: &Stretch<'t>) {
+        match stretch.remark() {
+            Remark::Nothing => {}
+            Remark::BlockEnds => {
+                if let Some(block) = &mut self.block {
+                    block.is_closed = true;
+                }
+            }
+            Remark::BlockBegins => {
+                self.block = Some(Block {
+                    word: stretch.token(),
+                    first: self.line,
+                    last: self.line,
+                    is_closed: false,
+                });
+            }
+            Remark::LeftOut => self.left(left_out(stretch.token()), stretch.token()),
+            Remark::List => self.left(What::List, stretch.token()),
+        }
+    }
+
+    /// Reads one stretch more.
+    pub fn stretch(&mut self, stretch: &Stretch<'t>) {
+        self.line = self.line.saturating_add(feeds(stretch.gap()));
+        let is_blanked = matches!(stretch.form(), Form::Blanked);
+        if !is_blanked || matches!(stretch.remark(), Remark::BlockBegins) {
+            self.end_block();
+        }
+        self.remark(stretch);
+        if let Some(block) = &mut self.block {
+            block.last = self.line;
+        }
+        self.line = self.line.saturating_add(feeds(stretch.token()));
+    }
+
+    /// Goes back to the first line, to read what becomes of the tokens.
+    pub fn again(&mut self) {
+        self.end_block();
+        self.line = 1;
+    }
+
+    /// Reads one token more, with what becomes of it.
+    pub fn exchange(&mut self, exchange: &Exchange<'t>) {
+        self.line = self.line.saturating_add(feeds(exchange.gap()));
+        let token = exchange.token();
+        match exchange.change() {
+            Change::Blanked => self.kinds.add(What::Subtypes, token, self.line, self.line),
+            Change::Left => self.left(
+                if token == b":".as_slice() {
+                    What::Subtype
+                } else {
+                    What::Loop
+                },
+                token,
+            ),
+            Change::Kept | Change::Colon | Change::Range(_) => {}
+        }
+        self.line = self.line.saturating_add(feeds(token));
+    }
+
+    /// All that is to be said, and whether something is left.
+    pub fn end(mut self, called: Called<'_>) -> (String, bool) {
+        self.end_block();
+        (self.kinds.told(called), self.is_left)
+    }
+}

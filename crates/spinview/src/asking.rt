@@ -1,0 +1,154 @@
+// A run that goes on by lines of standard input: each is answered by lines of JSON, the last of them an `end`, before the next is read.
+ghost use Rattle.std.specs.Prelude.{◌≡◌};
+ghost use Rattle.view_walk.specs.Walks.{SameModel};
+
+use crate::opened::Files;
+use crate::output::show_lines;
+use crate::runs::{begin, go_on, tell_choices, why_unread};
+use crate::shown::without_end;
+use crate::stop::{Device, NoView, failed};
+use devices::SliceSource;
+use program_files::reading::ReadChoices;
+use std::alloc::AllocError;
+use std::io::{BufRead, BufReader};
+use view_json::lines::{Shown, add_end};
+use view_run::lines::Sheet;
+use view_session::replay::{Reading, Replay};
+use view_session::seen::picture_of;
+use view_text::writer::Writer;
+use view_walk::walk::Walk;
+use view_words::Asked;
+
+// What a line asks for.
+#[derive(Clone, Copy)]
+enum Wish<'l> {
+    // the state behind so many steps
+    At(usize),
+    // so many steps at most, of which the first question is answered so
+    On(usize, &'l str),
+}
+
+// What a line asks for, if it is one of those that ask.
+fn wish_of<'l>(line: &'l [u8]) -> Option<Wish<'l>> {
+    let Ok(line) = str::from_utf8(line) else {
+        return None;
+    };
+    let (word, rest) = match line.split_once(' ') {
+        Some(two) => two,
+        None => (line, ""),
+    };
+    if let Ok(most) = word.parse::<usize>() {
+        return Some(Wish::On(most, rest));
+    }
+    match rest.parse::<usize>() {
+        Ok(step) if word == "at" => Some(Wish::At(step)),
+        _ => None,
+    }
+}
+
+// Goes to the state behind so many steps, or to the last one.
+fn go_to(walk: &mut Walk<'_, '_>, step: usize) -> Result<(), AllocError>
+    ensures model { SameModel walk.old walk.new }
+    ensures legs { walk.new.legs ≡ walk.old.legs }
+{
+    let step = step.min(walk.legs().len());
+    walk.go_to(step)
+}
+
+// Writes that a line asks for nothing.
+fn add_bad_line(walk: &Walk<'_, '_>, sheet: &mut Sheet) -> Result<(), AllocError> {
+    let moves = walk.moves()?;
+    let picture = picture_of(walk.world());
+    let lines = &mut sheet.lines;
+    add_end(&picture, walk.at(), "bad line", moves.as_slice(), lines);
+    Ok(())
+}
+
+// Writes the lines that answer a line.
+fn obey(
+    rt: &HostRuntime,
+    walk: &mut Walk<'_, '_>,
+    asked: &Asked,
+    line: &[u8],
+    sheet: &mut Sheet,
+) -> Result<(), NoView> {
+    let (most, choice) = match wish_of(line) {
+        Some(Wish::On(most, choice)) => (most, choice),
+        Some(Wish::At(step)) => {
+            go_to(walk, step)?;
+            sheet.shown = Shown::new(rt.alloc());
+            begin(walk, asked, sheet)?;
+            (0, "")
+        }
+        None => return Ok(add_bad_line(walk, sheet)?),
+    };
+    let limit = walk.at().saturating_add(most);
+    let answers = SliceSource::new(choice.as_bytes());
+    let mut replay = Replay::Read(Reading::new(answers));
+    go_on(rt, walk, &mut replay, limit, false, sheet)?;
+    Ok(())
+}
+
+// Shows what there is of the lines, behind the record of the walk.
+fn show_all(
+    rt: &HostRuntime,
+    walk: &Walk<'_, '_>,
+    files: &mut Files,
+    sheet: &mut Sheet,
+) -> Result<(), NoView> {
+    if let Some(record) = &mut files.rec {
+        record.keep(rt, walk.legs())?;
+    }
+    show_lines(rt, &sheet.lines)?;
+    sheet.lines.clear();
+    sheet.items.clear();
+    Ok(())
+}
+
+// Reads lines and answers them.
+fn answer_lines(
+    rt: &HostRuntime,
+    walk: &mut Walk<'_, '_>,
+    asked: &Asked,
+    files: &mut Files,
+    sheet: &mut Sheet,
+) -> Result<(), NoView> {
+    let mut input = match BufReader::new(rt.alloc(), rt.stdin()) {
+        Ok(input) => input,
+        Err(_) => return Err(NoView::Memory),
+    };
+    let mut line = Vec::new(rt.alloc());
+    for _ in 0..u64::MAX {
+        line.clear();
+        match input.read_until(b'\n', &mut line) {
+            Ok(0) => break,
+            Ok(_) => {}
+            Err(error) => return Err(failed(Device::Input, error)),
+        }
+        obey(rt, walk, asked, without_end(line.as_slice()), sheet)?;
+        show_all(rt, walk, files, sheet)?;
+    }
+    Ok(())
+}
+
+// A run that begins with the choices that it is given, and goes on by lines.
+pub fn run_asking(
+    rt: &HostRuntime,
+    walk: &mut Walk<'_, '_>,
+    replay: &mut Replay<ReadChoices>,
+    asked: &Asked,
+    files: &mut Files,
+) -> Result<(), NoView> {
+    let mut sheet = Sheet {
+        lines: Writer::new(rt.alloc()),
+        items: Writer::new(rt.alloc()),
+        shown: Shown::new(rt.alloc()),
+    };
+    begin(walk, asked, &mut sheet)?;
+    match go_on(rt, walk, replay, asked.limit as usize, false, &mut sheet) {
+        Ok(end) => tell_choices(rt, asked, replay, end),
+        Err(stop) => return Err(why_unread(stop, replay)),
+    }
+    show_all(rt, walk, files, &mut sheet)?;
+    answer_lines(rt, walk, asked, files, &mut sheet)
+}

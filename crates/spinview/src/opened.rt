@@ -1,0 +1,197 @@
+// The files of a command line, opened before anything is written.
+use crate::stop::NoView;
+use crate::telling::{PROGRAM, shown_name};
+use crate::writing::{PageFile, Record};
+use program_files::fault::{NoFile, not_opened, not_read};
+use program_files::held::{Held, Role};
+use program_files::identity::{Identity, identity_at};
+use program_files::input::{Choices, Input, choices_in};
+use program_files::models;
+use program_files::models::{Model, model_in};
+use program_files::texts::{MOST_SOURCE, Text, text_of};
+use std::alloc::Global;
+use std::{fs, io};
+use streams::followed::Followed;
+use view_words::{Asked, Form};
+
+// At most so many bytes of a trail are read.
+const MOST_TRAIL: u64 = 268_435_456;
+
+// Whether lines are read and answered.
+pub fn has_session(asked: &Asked) -> bool {
+    asked.form == Form::Session && asked.page.is_none() && asked.seed.is_none()
+}
+
+// The texts of a run.
+#[derive(Drop)]
+pub struct Texts {
+    pub model: Model,
+    // the text of another file, of which the model was prepared
+    pub source: Option<Vec<u8>>,
+    pub trail: Option<Vec<u8>>,
+}
+
+impl Texts {
+    // The text whose lines are shown.
+    pub fn shown(&self) -> &[u8] {
+        match (&self.model.own, &self.source) {
+            (Some(own), _) => own.text.as_slice(),
+            (None, Some(source)) => source.as_slice(),
+            (None, None) => self.model.bytes.as_slice(),
+        }
+    }
+}
+
+// What a run reads beside its texts, and what it writes.
+#[derive(Drop)]
+pub struct Files {
+    // the choices that are taken without a question
+    pub choices: Option<Followed<Input>>,
+    pub rec: Option<Record>,
+    pub page: Option<PageFile>,
+    pub held: Held,
+}
+
+// All that a run is over.
+#[derive(Drop)]
+pub struct Opened {
+    pub texts: Texts,
+    pub files: Files,
+}
+
+// A text that is shown beside the model. One that is no regular file may not be there twice, and is left out.
+fn source_in(
+    rt: &HostRuntime,
+    name: &Option<String>,
+    role: Role,
+    held: &mut Held,
+) -> Result<Option<Vec<u8>>, NoFile> {
+    let Some(name) = name else {
+        return Ok(None);
+    };
+    match fs::metadata(rt, name.as_str()) {
+        Ok(about) if !about.is_file() => Ok(None),
+        Ok(_) => {
+            let text = text_of(rt, name.as_str(), MOST_SOURCE)?;
+            held.add(text.file, role)?;
+            Ok(Some(text.bytes))
+        }
+        Err(error) => Err(not_opened(rt.alloc(), name.as_str(), error)),
+    }
+}
+
+// A trail that is not read whole is none.
+fn whole(alloc: Global, name: &str, text: Text) -> Result<Text, NoFile> {
+    if text.bytes.len() as u64 > MOST_TRAIL {
+        let error = io::Error::new(
+            io::ErrorKind::InvalidData,
+            "it has more than 268435456 bytes",
+        );
+        return Err(not_read(alloc, name, error));
+    }
+    Ok(text)
+}
+
+// The trail that is followed first.
+fn trail_in(
+    rt: &HostRuntime,
+    name: &Option<String>,
+    held: &mut Held,
+) -> Result<Option<Vec<u8>>, NoFile> {
+    let Some(name) = name else {
+        return Ok(None);
+    };
+    let read = text_of(rt, name.as_str(), MOST_TRAIL + 1)?;
+    let text = whole(rt.alloc(), name.as_str(), read)?;
+    held.add(text.file, Role::Trail)?;
+    Ok(Some(text.bytes))
+}
+
+fn followed(rt: &HostRuntime, choices: Choices) -> Followed<Input> {
+    Followed::new(rt.alloc(), choices.input)
+}
+
+// The choices that are taken without a question, where there are any: of a file, or of standard input where there is no session.
+fn choices_asked(
+    rt: &HostRuntime,
+    asked: &Asked,
+    held: &mut Held,
+) -> Result<Option<Followed<Input>>, NoFile> {
+    if let Some(name) = &asked.choices {
+        let choices = choices_in(rt, name.as_str())?;
+        held.add(choices.file, Role::Choices)?;
+        return Ok(Some(followed(rt, choices)));
+    }
+    let is_asked = has_session(asked) || asked.asks;
+    if is_asked || asked.seed.is_some() || asked.trail.is_some() {
+        return Ok(None);
+    }
+    let standard = Choices {
+        input: Input::Standard(rt.stdin()),
+        file: None,
+    };
+    Ok(Some(followed(rt, standard)))
+}
+
+// The model that is asked for, prepared if that is asked for too.
+fn model_asked(rt: &HostRuntime, asked: &Asked) -> Result<Model, NoFile> {
+    let wanted = models::Asked {
+        file: asked.model.as_str(),
+        name: shown_name(asked),
+        prepare: asked.prepare,
+        no_cpp: asked.no_cpp,
+        defines: asked.defines.as_slice(),
+        folders: asked.folders.as_slice(),
+    };
+    model_in(rt, PROGRAM, wanted)
+}
+
+fn texts_of(rt: &HostRuntime, asked: &Asked, held: &mut Held) -> Result<Texts, NoFile> {
+    let model = model_asked(rt, asked)?;
+    held.add(model.file, Role::Model)?;
+    let source = source_in(rt, &asked.source, Role::Model, held)?;
+    let _ = source_in(rt, &asked.lines, Role::Lines, held)?;
+    Ok(Texts {
+        model,
+        source,
+        trail: trail_in(rt, &asked.trail, held)?,
+    })
+}
+
+// Notes the files that the program was begun with.
+fn add_standard(rt: &HostRuntime, held: &mut Held) -> Result<(), NoFile> {
+    let standard: [(&str, Role); 2] = [
+        ("/dev/stdin", Role::Choices),
+        ("/dev/stdout", Role::Output),
+    ];
+    for (name, role) in standard {
+        let file: Option<Identity> = identity_at(rt, name)?;
+        held.add(file, role)?;
+    }
+    Ok(())
+}
+
+// Opens all: what is written keeps what it holds.
+pub fn open_all(rt: &HostRuntime, asked: &Asked) -> Result<Opened, NoView> {
+    let mut held = Held::new(rt.alloc());
+    let texts = texts_of(rt, asked, &mut held)?;
+    let choices = choices_asked(rt, asked, &mut held)?;
+    add_standard(rt, &mut held)?;
+    let rec = match &asked.rec {
+        Some(name) => Some(Record::open(rt, name.as_str(), &mut held)?),
+        None => None,
+    };
+    let page = match &asked.page {
+        Some(name) => Some(PageFile::open(rt, name.as_str(), &mut held)?),
+        None => None,
+    };
+    Ok(Opened {
+        texts,
+        files: Files {
+            choices,
+            rec,
+            page,
+            held,
+        },
+    })
+}

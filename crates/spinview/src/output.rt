@@ -1,0 +1,58 @@
+// What goes to standard output: bytes that others wrote are shown as a terminal can show them, and lines of JSON have their escapes.
+use crate::stop::{Device, NoView, failed};
+use std::io::Write;
+use view_foreign::escaped::add_escaped;
+use view_foreign::shown::add_shown;
+use view_text::writer::Writer;
+
+// Writes what is to be shown to a person.
+pub fn show(rt: &HostRuntime, out: &Writer) -> Result<(), NoView> {
+    let mut shown = Writer::new(rt.alloc());
+    add_shown(out.bytes(), &mut shown);
+    shown.keep_refusal(out);
+    send(rt, &shown)
+}
+
+// Writes bytes to standard output.
+fn send(rt: &HostRuntime, out: &Writer) -> Result<(), NoView> {
+    if out.is_refused() {
+        return Err(NoView::Memory);
+    }
+    match rt.stdout().write_all(out.bytes()) {
+        Ok(()) => Ok(()),
+        Err(error) => Err(failed(Device::Output, error)),
+    }
+}
+
+// So many bytes of a line are escaped at once.
+const AT_ONCE: usize = 60_000;
+
+// Where the first piece of a text ends: before a character.
+fn piece_end(text: &[u8]) -> usize {
+    for end in AT_ONCE..text.len() {
+        if text[end] < 128 || text[end] >= 192 {
+            return end;
+        }
+    }
+    text.len()
+}
+
+// Writes lines of JSON, piece by piece.
+pub fn show_lines(rt: &HostRuntime, lines: &Writer) -> Result<(), NoView> {
+    if lines.is_refused() {
+        return Err(NoView::Memory);
+    }
+    let mut rest = lines.bytes();
+    let mut piece = Writer::new(rt.alloc());
+    for _ in 0..rest.len() {
+        if rest.is_empty() {
+            break;
+        }
+        let end = piece_end(rest).min(rest.len());
+        piece.clear();
+        add_escaped(&rest[..end], &mut piece);
+        send(rt, &piece)?;
+        rest = &rest[end..];
+    }
+    Ok(())
+}

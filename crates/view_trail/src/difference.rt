@@ -1,0 +1,92 @@
+//! Differences of Spin for which a line of its trail fits no move.
+
+use crate::entry::Entry;
+use crate::fits::text_of;
+use crate::marks::Marks;
+use crate::scan::parted;
+use crate::trail::Trail;
+use promela_run::moves::Pick;
+use view_cells::picture::Picture;
+use view_text::writer::Writer;
+use view_waits::offers::offer_line;
+
+/// A difference of Spin.
+#[derive(Clone, Copy, Debug, PartialEq, Eq)]
+pub enum Difference {
+    /// It takes the `else` of a selection that begins an option, which stands behind the outer options here. The line of the trail says so.
+    InnerElse(usize),
+    /// A jump to the label before a `for` or a `select`, on this line of the model, leads behind the first assignment.
+    LabelBeforeLoop(usize),
+    /// A declaration gives its variable a number where it stands, and here where its process begins. The line of the trail says so.
+    Declaration(usize),
+}
+
+// Whether a process offers an `else`, taken or not.
+fn offers_else(picture: &Picture<'_, '_, '_>, process: usize, out: &mut Writer) -> bool {
+    for level in 0..usize::MAX {
+        for place in 0..usize::MAX {
+            let text = text_of(
+                picture,
+                Pick {
+                    process,
+                    level,
+                    place,
+                },
+                out,
+            );
+            if text.bytes().is_empty() {
+                if place == 0 {
+                    return false;
+                }
+                break;
+            }
+            if text.bytes() == b"else".as_slice() {
+                return true;
+            }
+        }
+    }
+    false
+}
+
+// The line of the assignment that a process offers first, where a label stands before the loop that it begins.
+fn labelled_of(
+    picture: &Picture<'_, '_, '_>,
+    marks: &Marks<'_>,
+    process: usize,
+    out: &mut Writer,
+) -> Option<usize> {
+    let pick = Pick {
+        process,
+        level: 0,
+        place: 0,
+    };
+    let text = text_of(picture, pick, out);
+    let line = offer_line(picture, pick) as usize;
+    if marks.is_labelled(line) && parted(text.bytes(), b" = ").is_some() {
+        Some(line)
+    } else {
+        None
+    }
+}
+
+/// For which difference a line fits no move, as far as that is known.
+pub fn difference_at(
+    picture: &Picture<'_, '_, '_>,
+    marks: &Marks<'_>,
+    trail: &Trail<'_>,
+    entry: &Entry<'_>,
+    out: &mut Writer,
+) -> Option<Difference> {
+    if let Some(line) = labelled_of(picture, marks, entry.process, out) {
+        return Some(Difference::LabelBeforeLoop(line));
+    }
+    if let Some(row) = trail.skipped_of(entry.process) {
+        if offers_else(picture, entry.process, out) {
+            return Some(Difference::InnerElse(row));
+        }
+    }
+    match trail.valued() {
+        Some(row) => Some(Difference::Declaration(row)),
+        None => None,
+    }
+}

@@ -1,0 +1,140 @@
+//! What Spin says of a trail beside its steps: where a cycle starts, which assertion failed, and the claim that ended it.
+
+use crate::scan::{before_blanks, behind_blanks, behind_word, parted};
+use view_text::writer::Writer;
+
+/// What is said.
+#[derive(Clone, Copy, Debug)]
+pub struct Said<'t> {
+    /// The number of the line that says where a cycle starts.
+    pub cycle: Option<usize>,
+    /// The place and the text of an assertion that failed.
+    pub failed: Option<Failed<'t>>,
+    /// The name of a claim that ended the trail.
+    pub claim: Option<&'t [u8]>,
+}
+
+/// An assertion that failed, in the model or in a claim.
+#[derive(Clone, Copy, Debug)]
+pub struct Failed<'t> {
+    pub place: &'t [u8],
+    pub text: &'t [u8],
+    pub is_of_claim: bool,
+}
+
+// `  <<<<<START OF CYCLE>>>>>`
+fn is_cycle(line: &[u8]) -> bool {
+    behind_word(behind_blanks(line), b"<<<<<START OF CYCLE").is_some()
+}
+
+// The place in `spin: m.pml:9, Error: assertion violated`.
+fn failed_at(line: &[u8]) -> Option<&[u8]> {
+    let (place, _) = parted(
+        behind_word(line, b"spin: ")?,
+        b", Error: assertion violated",
+    )?;
+    Some(place)
+}
+
+// The text in `spin: text of failed assertion: assert(0)`.
+fn failed_text(line: &[u8]) -> Option<&[u8]> {
+    Some(before_blanks(behind_word(line, b"spin: text of failed assertion: ")?))
+}
+
+fn is_of_claim(line: &[u8]) -> bool {
+    behind_word(line, b"Never claim moves to line ").is_some() && parted(line, b"[assert").is_some()
+}
+
+// The name in ` 13: proc  - (p:1) ..`, which is said of a claim behind the trail's end, and whether it stands where it may end.
+fn claim_in(line: &[u8]) -> Option<(&[u8], bool)> {
+    let (_, behind) = parted(line, b"proc  - (")?;
+    let (name, rest) = parted(behind, b":")?;
+    Some((name, parted(rest, b"<valid end state>").is_some()))
+}
+
+impl<'t> Said<'t> {
+    // What a line adds.
+    fn add(&mut self, row: usize, line: &'t [u8]) {
+        if is_cycle(line) {
+            self.cycle = Some(row);
+        } else if let Some(place) = failed_at(line) {
+            self.failed = Some(Failed {
+                place,
+                text: b"",
+                is_of_claim: false,
+            });
+        } else if let Some(failed) = self.failed {
+            self.failed = Some(behind_failed(failed, line));
+        }
+        if let Some((name, is_end)) = claim_in(line) {
+            self.end_by(name, is_end);
+        }
+    }
+
+    // Where the claim of this name stands behind the last step.
+    fn end_by(&mut self, name: &'t [u8], is_end: bool) {
+        let fails = match self.failed {
+            Some(failed) => failed.is_of_claim,
+            None => false,
+        };
+        if self.cycle.is_none() && (is_end || fails) {
+            self.claim = Some(name);
+        }
+    }
+}
+
+// What a line behind that of an assertion adds to it.
+fn behind_failed<'t>(failed: Failed<'t>, line: &'t [u8]) -> Failed<'t> {
+    match failed_text(line) {
+        Some(text) => Failed { text, ..failed },
+        None => Failed {
+            is_of_claim: failed.is_of_claim || is_of_claim(line),
+            ..failed
+        },
+    }
+}
+
+/// What a file says beside its steps.
+pub fn said_in(text: &[u8]) -> Said<'_> {
+    let mut said = Said {
+        cycle: None,
+        failed: None,
+        claim: None,
+    };
+    let mut rest = text;
+    for row in 0..text.len() {
+        let Some((line, behind)) = parted(rest, b"\n") else {
+            said.add(row.saturating_add(1), rest);
+            break;
+        };
+        said.add(row.saturating_add(1), line);
+        rest = behind;
+    }
+    said
+}
+
+// Writes which assertion failed.
+fn add_failed(failed: &Failed<'_>, out: &mut Writer) {
+    out.add(b"trail: assertion violated, ");
+    out.add(failed.place);
+    out.add(b": ");
+    out.add(failed.text);
+    out.add(b"\n");
+}
+
+/// Writes what is said, a line for each; the cycle starts behind so many steps.
+pub fn add_said(said: &Said<'_>, before: usize, out: &mut Writer) {
+    if said.cycle.is_some() {
+        out.add(b"trail: a cycle starts behind step ");
+        out.number(before);
+        out.add(b"\n");
+    }
+    if let Some(failed) = &said.failed {
+        add_failed(failed, out);
+    }
+    if let Some(claim) = said.claim {
+        out.add(b"trail: the claim ");
+        out.add(claim);
+        out.add(b" ended it\n");
+    }
+}

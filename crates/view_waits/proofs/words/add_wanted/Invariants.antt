@@ -1,0 +1,5 @@
+use Rattle.view_text.specs.Written.{Stays}
+use Rattle.view_waits.proofs.words.add_wanted.Given as goal
+
+abbrev pub invariant-loop-i : goal.invariant-loop-i
+invariant-loop-i l = Stays l.fn.out l.out
