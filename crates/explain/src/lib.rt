@@ -11,13 +11,14 @@ mod syntax;
 mod texts;
 mod told;
 
-ghost use Rattle.std.specs.Prelude.{◌≡◌, [], IfOk, string_bytes};
+ghost use Rattle.std.specs.Prelude.{◌≡◌, [], IfOk, IfSome, string_bytes};
+ghost use Rattle.explain_find.specs.Told.{IsTold};
 ghost use Rattle.explain.specs.Explained.{Explains, ExplainsBeside};
 ghost use Rattle.explain.specs.Request.{asked_for};
 
 use counts::{of_control, of_count, of_inline, of_label, of_range, of_start};
 use diagnostics::Refusal;
-use explain_cause::cause::{Cause, Finding};
+use explain_cause::cause::{Cause, Finding, Segment};
 use explain_find::cause_of;
 use included::included_at;
 use message::Message;
@@ -61,6 +62,28 @@ fn words_of(
     message.push(": ")?;
     tell(&mut message, cause)?;
     Ok(message.into_text())
+}
+
+/// What is told of a refused text, apart from its lines.
+#[derive(Drop)]
+pub struct Explanation {
+    /// The part of the text that is told, if one is.
+    pub place: Option<Segment>,
+    /// What is said behind the refusal's own words: empty, or from a colon on.
+    pub words: String,
+}
+
+/// What a user is told of a refused text, in parts. `refusal` is what `play` refused it with.
+pub fn explanation_of(
+    alloc: Global,
+    text: &[u8],
+    refusal: Refusal,
+) -> Result<Explanation, AllocError>
+    ensures { IfOk result (λ e. IfSome e.place (IsTold text.now refusal)) }
+{
+    let Finding { place, cause } = cause_of(alloc, text, refusal)?;
+    let words = words_of(alloc, text, b"", cause)?;
+    Ok(Explanation { place, words })
 }
 
 /// What a text was prepared of.

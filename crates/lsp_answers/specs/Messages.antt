@@ -1,0 +1,21 @@
+-- Messages of a language server as values of JSON (JSON-RPC 2.0).
+use Rattle.std.specs.Prelude.{◌≡◌, ℕ, ℤ, List, Option, Some, None, codes}
+use Rattle.serde_json.specs.Data.{Data, string, object, member, no_members}
+use Rattle.serde_json.specs.Find.{get}
+
+-- the number by which a request is known, or its text; a notification has none
+abbrev pub id_of : Data → Option Data
+id_of message = get (codes "id") message
+
+-- the reply to a request that is answered
+abbrev pub reply_of : Data → Data → Data
+reply_of id what = object (member (codes "id") id (member (codes "jsonrpc") (string (codes "2.0")) (member (codes "result") what no_members)))
+
+-- the reply to one that is refused
+abbrev pub refusal_of : Data → Data → Data
+refusal_of id fault = object (member (codes "error") fault (member (codes "id") id (member (codes "jsonrpc") (string (codes "2.0")) no_members)))
+
+-- one reply to each request, with its own id, and none to a notification
+abbrev pub RepliesTo : Data → Option Data → Type 0
+RepliesTo message None = id_of message ≡ None
+RepliesTo message (Some reply) = (id : Data) × (id_of message ≡ Some id) × (id_of reply ≡ Some id)

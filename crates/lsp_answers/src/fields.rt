@@ -1,0 +1,26 @@
+//! What stands in a message.
+
+use serde_json::Value;
+
+/// The text at a path of a message, or an empty one.
+pub fn text_at<'v>(message: &'v Value, path: &str) -> &'v str {
+    match message.pointer(path).and_then(Value::as_str) {
+        Some(text) => text,
+        None => "",
+    }
+}
+
+/// Whether a list at a path of a message has this text.
+pub fn lists(message: &Value, path: &str, text: &str) -> bool {
+    let Some(items) = message.pointer(path).and_then(Value::as_array) else {
+        return false;
+    };
+    for item in items.as_slice() {
+        if let Some(found) = item.as_str() {
+            if found == text {
+                return true;
+            }
+        }
+    }
+    false
+}

@@ -1,0 +1,161 @@
+//! What is answered to a message.
+
+ghost use Rattle.std.specs.Prelude.{◌≡◌, codes, Some, IfOk, option_map};
+ghost use Rattle.serde_json.specs.Find.{get};
+ghost use Rattle.serde_json.specs.View.{view};
+ghost use Rattle.lsp_answers.specs.Messages.{RepliesTo};
+
+use crate::documents::Documents;
+use crate::fields::{lists, text_at};
+use crate::replies::{Fault, refused, reply};
+use crate::told::{told_nothing, told_of};
+use serde_json::{Value, json};
+use std::alloc::{AllocError, Global};
+use text_places::Unit;
+
+/// A server of one client.
+#[derive(Drop)]
+pub struct Server {
+    documents: Documents,
+    unit: Unit,
+    is_ready: bool,
+    is_shut: bool,
+}
+
+fn capabilities(alloc: Global, unit: Unit) -> Result<Value, AllocError> {
+    let encoding = match unit {
+        Unit::Utf8 => "utf-8",
+        Unit::Utf16 => "utf-16",
+    };
+    json!(in alloc; {
+        "capabilities": {
+            "positionEncoding": encoding,
+            "textDocumentSync": {"openClose": true, "change": 1, "save": false}
+        },
+        "serverInfo": {"name": "spinlsp", "version": "0.9.0"}
+    })
+}
+
+impl Server {
+    /// One that waits for `initialize`.
+    pub fn new(alloc: Global) -> Server {
+        Server {
+            documents: Documents::new(alloc),
+            unit: Unit::Utf16,
+            is_ready: false,
+            is_shut: false,
+        }
+    }
+
+    /// Whether the client has said that it will ask no more.
+    pub fn is_shut(&self) -> bool {
+        self.is_shut
+    }
+
+    // Columns are bytes where the client can count them, and else units of UTF-16.
+    fn begin(&mut self, message: &Value) {
+        self.is_ready = true;
+        if lists(
+            message,
+            "/params/capabilities/general/positionEncodings",
+            "utf-8",
+        ) {
+            self.unit = Unit::Utf8;
+        }
+    }
+
+    // What stands in the way of an answer.
+    fn fault_of(&self, method: &str) -> Fault {
+        if method.is_empty() {
+            Fault::NoRequest
+        } else if !self.is_ready {
+            Fault::NotInitialized
+        } else if self.is_shut {
+            Fault::ShutDown
+        } else {
+            Fault::NoMethod
+        }
+    }
+
+    fn requested(
+        &mut self,
+        alloc: Global,
+        id: &Value,
+        method: &str,
+        message: &Value,
+    ) -> Result<Value, AllocError>
+        ensures { IfOk result (λ v. get (codes "id") (view v) ≡ Some (view id.now)) }
+    {
+        if method == "initialize" && !self.is_ready {
+            self.begin(message);
+            let what = capabilities(alloc, self.unit)?;
+            return reply(alloc, id, &what);
+        }
+        if method == "shutdown" && self.is_ready {
+            self.is_shut = true;
+            return reply(alloc, id, &Value::Null);
+        }
+        refused(alloc, id, self.fault_of(method))
+    }
+
+    // Keeps a text as it is behind the last of its changes, which each have the whole of it.
+    fn change(&mut self, alloc: Global, uri: &str, message: &Value) -> Result<(), AllocError> {
+        let version = message
+            .pointer("/params/textDocument/version")
+            .and_then(Value::as_i64);
+        let Some(changes) = message
+            .pointer("/params/contentChanges")
+            .and_then(Value::as_array)
+        else {
+            return Ok(());
+        };
+        match changes.as_slice() {
+            [.., last] => self
+                .documents
+                .keep(alloc, uri, text_at(last, "/text"), version),
+            [] => Ok(()),
+        }
+    }
+
+    fn notified(&mut self, alloc: Global, method: &str, message: &Value) -> Result<(), AllocError> {
+        let uri = text_at(message, "/params/textDocument/uri");
+        match method {
+            "textDocument/didOpen" => {
+                let version = message
+                    .pointer("/params/textDocument/version")
+                    .and_then(Value::as_i64);
+                let text = text_at(message, "/params/textDocument/text");
+                self.documents.keep(alloc, uri, text, version)
+            }
+            "textDocument/didChange" => self.change(alloc, uri, message),
+            "textDocument/didClose" => self.documents.close(alloc, uri),
+            _ => Ok(()),
+        }
+    }
+
+    /// Takes a message, and answers it where it is a request.
+    pub fn answer(&mut self, alloc: Global, message: &Value) -> Result<Option<Value>, AllocError>
+        ensures { IfOk result (λ r. RepliesTo (view message.now) (option_map view r)) }
+    {
+        let method = text_at(message, "/method");
+        match message.get("id") {
+            Some(id) => Ok(Some(self.requested(alloc, id, method, message)?)),
+            None => {
+                self.notified(alloc, method, message)?;
+                Ok(None)
+            }
+        }
+    }
+
+    /// What is still to be told of the texts, a notification at a time: of one that was closed nothing more, of one that was opened or changed what is
+    /// wrong with it.
+    pub fn told(&mut self, alloc: Global) -> Result<Option<Value>, AllocError> {
+        if let Some(uri) = self.documents.take_closed() {
+            return Ok(Some(told_nothing(alloc, uri.as_str())?));
+        }
+        match self.documents.take_new() {
+            Some(document) => Ok(Some(told_of(alloc, self.unit, document)?)),
+            None => Ok(None),
+        }
+    }
+}
