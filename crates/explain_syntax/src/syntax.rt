@@ -5,6 +5,7 @@ use crate::declared::{inline_at, names_beside};
 use crate::elements::in_brackets;
 use crate::forms::{form_at, is_behind_head, kind_before};
 use crate::layout::unclosed_by_layout;
+use crate::meant::{meant_first, near_unit};
 use crate::stopped::{
     Neighbours, begin_of, is_before, name_at, name_before, neighbours_of, opener_before,
 };
@@ -13,12 +14,10 @@ use crate::trial::stop;
 use crate::tried::wanted_by_trial;
 use crate::typed::is_select_range;
 use crate::unclosed::{Brackets, brackets_of};
-use crate::within::{
-    arrow_between, begins_unit, form_within, is_left_open, is_outside_sign, is_statement,
-};
+use crate::within::{arrow_between, form_within, is_left_open, is_outside_sign, is_statement};
 use crate::words::{
-    called_variable, foreign_beside, foreign_call, is_typed, near_at, near_beside, no_word,
-    number_beside, proctype_beside, type_before,
+    called_variable, foreign_beside, foreign_call, is_record, is_typed, near_at, near_beside,
+    no_word, number_beside, proctype_beside, type_before,
 };
 use explain_cause::cause::{Finding, Named, Wanted};
 use explain_cause::foreign::Foreign;
@@ -39,6 +38,8 @@ fn list_at<'t>(tokens: &[Token<'_>], at: usize) -> Wanted<'t> {
         Wanted::Form(Foreign::Enumeration)
     } else if is_before(tokens, at, 3, Kind::Mtype) {
         Wanted::Form(Foreign::NamedMtype)
+    } else if is_record(tokens, at.saturating_sub(2)) {
+        Wanted::Form(Foreign::RecordList)
     } else {
         Wanted::NoList
     }
@@ -241,20 +242,6 @@ fn outside<'t>(
     }
 }
 
-/// What is told of a mistyped word before a name and its parentheses, as of that of a proctype.
-fn near_unit<'t>(
-    alloc: Global,
-    text: &'t [u8],
-    tokens: &[Token<'_>],
-    at: usize,
-) -> Result<Option<Wanted<'t>>, AllocError> {
-    if is_call(tokens, at) && is_before(tokens, at, 2, Kind::Name) {
-        near_at(alloc, text, tokens, at.saturating_sub(2))
-    } else {
-        Ok(None)
-    }
-}
-
 /// What is told of a name that is mistyped, of a call, or by reading the tokens once more.
 fn wanted_by_name<'t>(
     alloc: Global,
@@ -301,7 +288,9 @@ fn wanted_by_tokens<'t>(
 fn is_outside(tokens: &[Token<'_>], opener: Option<usize>, at: usize) -> bool {
     let kind = kind_at(tokens, at);
     let is_first = is_outside_sign(kind) && begin_of(tokens, at) == at;
-    let is_declared = is_typed(tokens, at) || is_before(tokens, at, 2, Kind::Typedef);
+    let is_declared = is_typed(tokens, at)
+        || is_before(tokens, at, 2, Kind::Typedef)
+        || is_before(tokens, at, 2, Kind::Unsigned);
     opener.is_none() && (is_statement(kind) || is_first) && !is_declared
 }
 
@@ -313,10 +302,8 @@ fn wanted_of<'t>(
     at: usize,
 ) -> Result<Wanted<'t>, AllocError> {
     let opener = opener_before(alloc, tokens, at)?;
-    if begins_unit(kind_at(tokens, at)) {
-        if let Some(suspect) = unclosed_by_layout(alloc, text, tokens, opener, at)? {
-            return Ok(Wanted::CloserByLayout(name_at(text, tokens, suspect)));
-        }
+    if let Some(wanted) = meant_first(alloc, text, tokens, opener, at)? {
+        return Ok(wanted);
     }
     if let Some(wanted) = by_opener(text, tokens, opener, at) {
         return Ok(wanted);

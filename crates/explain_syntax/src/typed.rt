@@ -102,6 +102,7 @@ fn at_type(tokens: &[Token<'_>], at: usize, before: Kind) -> Option<Foreign> {
         Kind::Of => Some(Foreign::ChannelTypes),
         Kind::Chan | Kind::CloseBracket => Some(Foreign::Channel),
         Kind::Typedef => Some(Foreign::Record),
+        Kind::Proctype => Some(Foreign::ProctypeResult),
         Kind::Name if is_before(tokens, at, 2, Kind::Typedef) => Some(Foreign::Record),
         Kind::Assign => assigned_type(kind_at(tokens, at)),
         Kind::Query | Kind::QueryQuery => Some(Foreign::ReceivedType),

@@ -113,7 +113,7 @@ pub fn is_left_open(tokens: &[Token<'_>], opener: usize, kind: Kind) -> bool {
 }
 
 /// Whether braces stand round the fields of a channel.
-fn is_of_fields(tokens: &[Token<'_>], opener: usize) -> bool {
+pub fn is_of_fields(tokens: &[Token<'_>], opener: usize) -> bool {
     is_at(tokens, opener, Kind::OpenBrace) && is_before(tokens, opener, 1, Kind::Of)
 }
 
@@ -152,6 +152,7 @@ fn parts(kind: Kind) -> bool {
 fn in_parens(before: Kind, kind: Kind) -> Option<Foreign> {
     match before {
         Kind::Assert if same_kind(kind, Kind::Comma) => Some(Foreign::AssertText),
+        Kind::For if same_kind(kind, Kind::DotDot) => Some(Foreign::LoopRange),
         Kind::For if parts(kind) => Some(Foreign::Counting),
         Kind::Semicolon | Kind::OpenBrace | Kind::Arrow if same_kind(kind, Kind::Comma) => {
             Some(Foreign::TwoAssignments)
@@ -219,6 +220,14 @@ fn in_fields(tokens: &[Token<'_>], opener: usize, at: usize, kind: Kind) -> Opti
     }
 }
 
+/// What a `::` is meant for that stands in no `if` and no `do`.
+fn option_at(tokens: &[Token<'_>], at: usize) -> Foreign {
+    match kind_before(tokens, at, 1) {
+        Kind::Fi | Kind::Od => Foreign::OptionBehind,
+        _ => Foreign::Cases,
+    }
+}
+
 /// What the token at `at` is meant for within braces.
 fn within_braces(tokens: &[Token<'_>], opener: usize, at: usize, kind: Kind) -> Option<Foreign> {
     if same_kind(kind, Kind::Assign) && is_of_names(tokens, opener) {
@@ -228,7 +237,7 @@ fn within_braces(tokens: &[Token<'_>], opener: usize, at: usize, kind: Kind) -> 
         return in_fields(tokens, opener, at, kind);
     }
     if same_kind(kind, Kind::DoubleColon) && !is_of_option(tokens, opener) {
-        Some(Foreign::Cases)
+        Some(option_at(tokens, at))
     } else if begins_unit(kind) && is_closed(tokens, opener) {
         Some(Foreign::NestedUnit)
     } else {

@@ -228,6 +228,21 @@ pub fn type_before<'t>(text: &'t [u8], tokens: &[Token<'_>], at: usize) -> Optio
     }
 }
 
+/// Whether the name at a place is declared in front of it as one of a typedef.
+pub fn is_record(tokens: &[Token<'_>], at: usize) -> bool {
+    let Some(name) = tokens.get(at) else {
+        return false;
+    };
+    let mut is_named = false;
+    for token in between(tokens, 0, at) {
+        if is_named && token.text() == name.text() {
+            return true;
+        }
+        is_named = matches!(token.kind(), Kind::Name);
+    }
+    false
+}
+
 /// Whether a word declares something, or begins a unit.
 fn begins_declaration(kind: Kind) -> bool {
     is_type(kind) || begins_unit(kind)
