@@ -286,4 +286,10 @@ pub enum Foreign {
     ProctypeResult,
     /// `true()`
     ValueParens,
+    /// `assert{x == 1}`
+    CallParens,
+    /// `short int x`
+    TwoTypes,
+    /// `atomic proctype P()`
+    AtomicUnit,
 }

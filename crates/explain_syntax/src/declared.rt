@@ -142,12 +142,13 @@ fn computes(kind: Kind) -> bool {
     )
 }
 
-/// Whether a sign that computes stands behind an argument of a receive.
+/// Whether a sign that computes or stores stands behind an argument of a receive.
 fn is_of_receive(tokens: &[Token<'_>], at: usize, kind: Kind) -> bool {
     let receives = is_in_statement(tokens, at, Kind::Query)
         || is_in_statement(tokens, at, Kind::QueryQuery);
     let is_behind = matches!(kind_before(tokens, at, 1), Kind::Name | Kind::Number);
-    computes(kind) && is_behind && receives && !is_in_statement(tokens, at, Kind::Eval)
+    let is_sign = computes(kind) || same_kind(kind, Kind::Assign);
+    is_sign && is_behind && receives && !is_in_statement(tokens, at, Kind::Eval)
 }
 
 /// Whether a token is none of a label.
@@ -211,6 +212,8 @@ fn behind_word(tokens: &[Token<'_>], at: usize, kind: Kind) -> Option<Foreign> {
         before if asks_channel(before) && same_kind(kind, Kind::Name) => {
             Some(Foreign::ChannelParens)
         }
+        Kind::Assert | Kind::Printf | Kind::Printm | Kind::Eval
+            if matches!(kind, Kind::OpenBrace | Kind::OpenBracket) => { Some(Foreign::CallParens) }
         _ => None,
     }
 }
@@ -262,6 +265,9 @@ pub fn declared_form(tokens: &[Token<'_>], at: usize, kind: Kind) -> Option<Fore
     match kind {
         Kind::Assign if are_before(tokens, at, Kind::Unsigned, Kind::Name) => Some(Foreign::Width),
         Kind::OpenBracket if is_behind_fields(tokens, at) => Some(Foreign::Size),
+        Kind::OpenBrace if are_before(tokens, at, Kind::Mtype, Kind::Name) => {
+            Some(Foreign::NamedMtype)
+        }
         Kind::Equal if is_typed_name(tokens, at) => Some(Foreign::DeclaredEqual),
         Kind::Proctype | Kind::Inline | Kind::Init if is_valued => Some(Foreign::ProctypeType),
         kind if ends_statement(kind) && is_peek(tokens, at) => Some(Foreign::PeekEnd),

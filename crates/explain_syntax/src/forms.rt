@@ -247,6 +247,7 @@ fn at_operator(tokens: &[Token<'_>], at: usize, kind: Kind) -> Option<Foreign> {
 fn at_less(tokens: &[Token<'_>], at: usize, before: Kind) -> Option<Foreign> {
     match before {
         Kind::Chan => Some(Foreign::Channel),
+        Kind::Bang | Kind::BangBang => Some(Foreign::MessageFields),
         Kind::Assign if is_at(tokens, at.saturating_add(1), Kind::Minus) => {
             Some(Foreign::ReceivedValue)
         }

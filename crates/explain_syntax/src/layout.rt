@@ -2,7 +2,7 @@
 
 use crate::stopped::name_at;
 use explain_cause::cause::Segment;
-use explain_cause::place::{between, bytes_at, closes, is_at, opens};
+use explain_cause::place::{between, bytes_at, closes, is_at, kind_at, opens};
 use pml_token::token::{Kind, Token};
 use std::alloc::{AllocError, Global};
 
@@ -145,7 +145,8 @@ pub fn left_by_layout(
     let own = margin_of(text, tokens, at);
     let is_set_in = first.fresh && outer < first.width;
     let is_behind = own.fresh && own.width <= outer;
-    if is_at(tokens, open, Kind::OpenBrace) && !is_label(tokens, at) && is_set_in && is_behind {
+    let is_statement = !is_label(tokens, at) && !closes(kind_at(tokens, at));
+    if is_at(tokens, open, Kind::OpenBrace) && is_statement && is_set_in && is_behind {
         Some(open)
     } else {
         None

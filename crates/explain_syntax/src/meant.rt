@@ -1,11 +1,12 @@
 //! What is told before what is open and what stands beside a token: by the layout of lines, by words that are mistyped, and by a sign for `->`.
 
 use crate::called::is_call;
+use crate::forms::kind_before;
 use crate::layout::{left_by_layout, unclosed_by_layout};
 use crate::stopped::{is_before, name_at, name_before};
 use crate::tried::is_behind_condition;
 use crate::within::{begins_unit, is_of_fields};
-use crate::words::near_at;
+use crate::words::{foreign_beside, is_declared, near_at};
 use explain_cause::cause::{Named, Segment, Wanted};
 use explain_cause::place::{bytes_at, is_at, kind_at};
 use explain_condition::near::nearest_word;
@@ -48,6 +49,43 @@ fn near_type<'t>(
     match opener {
         Some(open) if is_of_fields(tokens, open) => near_at(alloc, text, tokens, at),
         _ => Ok(None),
+    }
+}
+
+/// What is told of the type of a parameter, where that is a name which nothing declares: the name of the parameter stands at `at`.
+fn unknown_type<'t>(
+    alloc: Global,
+    text: &'t [u8],
+    tokens: &[Token<'_>],
+    opener: Option<usize>,
+    at: usize,
+) -> Result<Option<Wanted<'t>>, AllocError> {
+    let Some(place) = unknown_before(tokens, opener, at) else {
+        return Ok(None);
+    };
+    if let Some(word) = foreign_beside(text, tokens, at) {
+        return Ok(Some(word));
+    }
+    match near_at(alloc, text, tokens, place)? {
+        Some(word) => Ok(Some(word)),
+        None => Ok(Some(Wanted::NoType(name_at(text, tokens, place)))),
+    }
+}
+
+/// The name that stands for a type directly before the name of a parameter, where nothing declares it.
+fn unknown_before(tokens: &[Token<'_>], opener: Option<usize>, at: usize) -> Option<usize> {
+    let place = at.checked_sub(1)?;
+    let names = is_at(tokens, at, Kind::Name) && is_at(tokens, place, Kind::Name);
+    let is_parameter = is_before(tokens, opener?, 2, Kind::Proctype);
+    let is_first = matches!(
+        kind_before(tokens, place, 1),
+        Kind::OpenParen | Kind::Comma | Kind::Semicolon
+    );
+    let name = tokens.get(place)?;
+    if names && is_parameter && is_first && !is_declared(tokens, place, name.text()) {
+        Some(place)
+    } else {
+        None
     }
 }
 
@@ -97,6 +135,9 @@ pub fn meant_first<'t>(
         return Ok(Some(wanted));
     }
     if let Some(wanted) = near_type(alloc, text, tokens, opener, at)? {
+        return Ok(Some(wanted));
+    }
+    if let Some(wanted) = unknown_type(alloc, text, tokens, opener, at)? {
         return Ok(Some(wanted));
     }
     match near_run(alloc, text, tokens, at)? {

@@ -3,7 +3,7 @@
 use crate::called::{definition_of, is_call, shown_at, value_at};
 use crate::declared::{inline_at, names_beside};
 use crate::elements::in_brackets;
-use crate::forms::{form_at, is_behind_head, kind_before};
+use crate::forms::{form_at, is_behind_head, kind_before, kind_behind};
 use crate::layout::unclosed_by_layout;
 use crate::meant::{meant_first, near_unit};
 use crate::stopped::{
@@ -14,7 +14,10 @@ use crate::trial::stop;
 use crate::tried::wanted_by_trial;
 use crate::typed::is_select_range;
 use crate::unclosed::{Brackets, brackets_of};
-use crate::within::{arrow_between, form_within, is_left_open, is_outside_sign, is_statement};
+use crate::within::{
+    arrow_between, begins_unit, form_within, is_block, is_declared_word, is_left_open,
+    is_outside_sign, is_statement,
+};
 use crate::words::{
     called_variable, foreign_beside, foreign_call, is_record, is_typed, near_at, near_beside,
     no_word, number_beside, proctype_beside, type_before,
@@ -179,7 +182,7 @@ fn within<'t>(
     if let Some(form) = form_within(tokens, opener, at) {
         return Some(Wanted::Form(form));
     }
-    if is_left_open(tokens, opener, kind_at(tokens, at)) {
+    if is_left_open(tokens, opener, kind_at(tokens, at)) && !is_declared_word(tokens, at) {
         Some(Wanted::CloserBefore(name_at(text, tokens, opener)))
     } else {
         unfit_within(text, tokens, opener, at)
@@ -219,6 +222,8 @@ fn by_type<'t>(
 fn outside_form(tokens: &[Token<'_>], at: usize) -> Foreign {
     if is_behind_head(tokens, at) || is_before(tokens, at, 1, Kind::Init) {
         Foreign::BodyBrace
+    } else if begins_unit(kind_behind(tokens, at)) && is_block(kind_at(tokens, at)) {
+        Foreign::AtomicUnit
     } else if is_statement(kind_at(tokens, at)) {
         Foreign::Outside
     } else {

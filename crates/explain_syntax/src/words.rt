@@ -34,7 +34,7 @@ fn declares(kind: Kind) -> bool {
 }
 
 /// Whether a name seems to be declared in front of the token at `end`.
-fn is_declared(tokens: &[Token<'_>], end: usize, name: &[u8]) -> bool {
+pub fn is_declared(tokens: &[Token<'_>], end: usize, name: &[u8]) -> bool {
     let mut declared = false;
     for (i, token) in tokens.iter().enumerate() {
         if i >= end {
