@@ -8,3 +8,4 @@ complete -c spinprep -l strict -d 'ends with status 1 where something is left th
 complete -c spinprep -l play -d 'is spinplay --prepare --explain, with the options of that (see spinplay --help)'
 complete -c spinprep -l view -d 'is spinview --prepare --explain, with the options of that (see spinview --help)'
 complete -c spinprep -l help -d 'says this'
+complete -c spinprep -l version -d 'says which version it is'

@@ -27,9 +27,9 @@ Options:
   -D <NAME>         With --prepare: define NAME, or NAME=VALUE, before its text
   -I <FOLDER>       With --prepare: look for included files in FOLDER too
   --no-cpp          With --prepare: leave its # lines and macros as they are
-  --name <NAME>     Call the model NAME there
-  --source <FILE>   Show lines of FILE there, of which MODEL was prepared
-  --lines <FILE>    Tell lines of included files there, as FILE of spinprep does
+  --name <NAME>     With --explain: call the model NAME
+  --source <FILE>   With --explain: show FILE, of which MODEL was prepared
+  --lines <FILE>    With --explain: tell lines of included files by FILE
   -i, -T            Accepted as Spin has them, and change nothing
   -h, --help        Print help
   -V, --version     Print version

@@ -239,6 +239,18 @@ fn of_missing(foreign: Foreign) -> &'static str {
         Foreign::Headless =>
             "a definition begins with a word, as in `proctype P() { .. }` and `inline f(a) { .. }`",
         Foreign::StatementWord => "it begins a statement, and none can stand there",
+        Foreign::RecordList =>
+            "a variable of a typedef takes no list: assign its fields, as in `r.a = 1`",
+        Foreign::OptionBehind =>
+            "an option stands before the `fi` or the `od` that ends its `if` or `do`",
+        Foreign::ProctypeResult =>
+            "a proctype has no type: its name stands behind `proctype`, as in `proctype P() { .. }`",
+        Foreign::ValueParens => "`true` and `false` stand without parentheses",
+        Foreign::CallParens =>
+            "parentheses are wanted there, as in `assert(x == 1)` and `printf(\"..\n\")`",
+        Foreign::TwoTypes => "one type alone stands before a name, as in `int x`",
+        Foreign::AtomicUnit =>
+            "`atomic` and `d_step` stand in a body, as in `proctype P() { atomic { .. } }`",
         Foreign::Leave =>
             "a loop is left by `break`, a body ends with its `}`, and `skip` does nothing",
         _ => "",

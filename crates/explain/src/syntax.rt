@@ -145,6 +145,7 @@ fn wants_sign(message: &mut Message<'_>, wanted: Wanted<'_>) -> Result<(), Alloc
         ),
         Wanted::SemicolonFor => message.push("write `;` for it, or `->` behind a condition"),
         Wanted::OptionFor => message.push("write `::` for it"),
+        Wanted::ArrowFor(_) => message.push("write `->` for it, as in `x == 1 -> x = 2`"),
         Wanted::Semicolon => message.push("a `;` is wanted before it"),
         Wanted::OptionSign => message.push("`::` is wanted before it"),
         Wanted::Operand(operator) => wants_operand(message, operator),

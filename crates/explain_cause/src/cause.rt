@@ -116,6 +116,8 @@ pub enum Wanted<'t> {
     SemicolonFor,
     /// `::` in place of the token.
     OptionFor,
+    /// `->` in place of this sign.
+    ArrowFor(Named<'t>),
     /// A `,` in front of the token.
     Comma,
     /// A `,` in front of this name, which stands behind another one.

@@ -278,4 +278,18 @@ pub enum Foreign {
     Headless,
     /// `(printf`
     StatementWord,
+    /// `r = { 1, 2 }`, where `r` is of a typedef.
+    RecordList,
+    /// An option behind the `fi` or the `od` of its statement.
+    OptionBehind,
+    /// `proctype byte P()`
+    ProctypeResult,
+    /// `true()`
+    ValueParens,
+    /// `assert{x == 1}`
+    CallParens,
+    /// `short int x`
+    TwoTypes,
+    /// `atomic proctype P()`
+    AtomicUnit,
 }

@@ -4,6 +4,7 @@ use crate::called::{call_at, definition_of};
 use crate::forms::{are_before, kind_before, kind_behind};
 use crate::stopped::{begin_of, begins_line, is_before, is_in_statement, is_type, name_at};
 use crate::words::{foreign_beside, proctype_of};
+use explain_cause::brackets::closing;
 use explain_cause::cause::{Named, Wanted};
 use explain_cause::foreign::Foreign;
 use explain_cause::place::{between, is_at, kind_at};
@@ -141,12 +142,13 @@ fn computes(kind: Kind) -> bool {
     )
 }
 
-/// Whether a sign that computes stands behind an argument of a receive.
+/// Whether a sign that computes or stores stands behind an argument of a receive.
 fn is_of_receive(tokens: &[Token<'_>], at: usize, kind: Kind) -> bool {
     let receives = is_in_statement(tokens, at, Kind::Query)
         || is_in_statement(tokens, at, Kind::QueryQuery);
     let is_behind = matches!(kind_before(tokens, at, 1), Kind::Name | Kind::Number);
-    computes(kind) && is_behind && receives && !is_in_statement(tokens, at, Kind::Eval)
+    let is_sign = computes(kind) || same_kind(kind, Kind::Assign);
+    is_sign && is_behind && receives && !is_in_statement(tokens, at, Kind::Eval)
 }
 
 /// Whether a token is none of a label.
@@ -161,6 +163,7 @@ fn is_no_label(kind: Kind) -> bool {
             | Kind::Od
             | Kind::Number
             | Kind::Quoted
+            | Kind::OpenParen
     )
 }
 
@@ -203,17 +206,68 @@ fn behind_word(tokens: &[Token<'_>], at: usize, kind: Kind) -> Option<Foreign> {
         Kind::DoubleColon if same_kind(kind, Kind::Arrow) => Some(Foreign::OptionArrow),
         Kind::Unless if ends_statement(kind) => Some(Foreign::Try),
         Kind::Eval if same_kind(kind, Kind::Name) => Some(Foreign::EvalParens),
+        Kind::True | Kind::False if same_kind(kind, Kind::OpenParen) => {
+            Some(Foreign::ValueParens)
+        }
         before if asks_channel(before) && same_kind(kind, Kind::Name) => {
             Some(Foreign::ChannelParens)
         }
+        Kind::Assert | Kind::Printf | Kind::Printm | Kind::Eval
+            if matches!(kind, Kind::OpenBrace | Kind::OpenBracket) => { Some(Foreign::CallParens) }
         _ => None,
     }
+}
+
+/// Whether a token stands directly behind the braces round the fields of a channel.
+fn is_behind_fields(tokens: &[Token<'_>], at: usize) -> bool {
+    let mut is_of_fields = false;
+    let mut before = Kind::End;
+    for token in between(tokens, 0, at) {
+        if matches!(token.kind(), Kind::OpenBrace) {
+            is_of_fields = same_kind(before, Kind::Of);
+        }
+        before = token.kind();
+    }
+    is_of_fields && same_kind(before, Kind::CloseBrace)
+}
+
+/// Whether a type, a name and parentheses stand in front of a `{`, as in the definition of a function; the parentheses begin at `at`.
+pub fn is_function(tokens: &[Token<'_>], at: usize) -> bool {
+    match closing(tokens, at) {
+        Some(end) => is_typed_name(tokens, at)
+            && is_at(tokens, end.saturating_add(1), Kind::OpenBrace),
+        None => false,
+    }
+}
+
+/// What a token behind the parameters of a proctype is meant for.
+pub fn behind_head(tokens: &[Token<'_>], at: usize) -> Foreign {
+    let begins_other = is_at(tokens, at.saturating_add(1), Kind::Proctype)
+        || is_at(tokens, at.saturating_add(4), Kind::Proctype);
+    if is_at(tokens, at, Kind::Active) && !begins_other {
+        Foreign::ActiveProctype
+    } else {
+        Foreign::BodyBrace
+    }
+}
+
+/// Whether a token stands in a statement that takes values, as `printf` does.
+pub fn is_in_call(tokens: &[Token<'_>], at: usize) -> bool {
+    is_in_statement(tokens, at, Kind::Printf)
+        || is_in_statement(tokens, at, Kind::Printm)
+        || is_in_statement(tokens, at, Kind::Assert)
+        || is_in_statement(tokens, at, Kind::Run)
 }
 
 /// What a token is meant for by its own kind and what stands before it.
 pub fn declared_form(tokens: &[Token<'_>], at: usize, kind: Kind) -> Option<Foreign> {
     let is_valued = is_type(kind_before(tokens, at, 1));
     match kind {
+        Kind::Assign if are_before(tokens, at, Kind::Unsigned, Kind::Name) => Some(Foreign::Width),
+        Kind::OpenBracket if is_behind_fields(tokens, at) => Some(Foreign::Size),
+        Kind::OpenBrace if are_before(tokens, at, Kind::Mtype, Kind::Name) => {
+            Some(Foreign::NamedMtype)
+        }
         Kind::Equal if is_typed_name(tokens, at) => Some(Foreign::DeclaredEqual),
         Kind::Proctype | Kind::Inline | Kind::Init if is_valued => Some(Foreign::ProctypeType),
         kind if ends_statement(kind) && is_peek(tokens, at) => Some(Foreign::PeekEnd),

@@ -1,6 +1,6 @@
 //! Forms of other languages, told by the sign that no rule reads and its neighbours.
 
-use crate::declared::declared_form;
+use crate::declared::{behind_head, declared_form, is_function, is_in_call};
 use crate::elements::{empty_brackets, is_comment, is_declaration, is_of_thousands};
 use crate::stopped::{begin_of, is_before, is_in_statement, is_type};
 use crate::typed::form_of_word;
@@ -118,6 +118,7 @@ fn behind_name(before: Kind) -> Option<Foreign> {
 /// What a `(` is meant for.
 fn at_paren(tokens: &[Token<'_>], at: usize) -> Option<Foreign> {
     match kind_before(tokens, at, 1) {
+        Kind::Name if is_function(tokens, at) => Some(Foreign::Function),
         Kind::Name => behind_name(kind_before(tokens, at, 2)),
         before => behind_word(before),
     }
@@ -142,7 +143,7 @@ fn at_bracket(tokens: &[Token<'_>], at: usize, before: Kind) -> Option<Foreign> 
 /// What a `?` is meant for.
 fn at_query(tokens: &[Token<'_>], at: usize, before: Kind) -> Foreign {
     let is_named = matches!(before, Kind::Name | Kind::CloseBracket);
-    if is_named && is_before(tokens, at, 2, Kind::Assign) {
+    if is_named && (is_before(tokens, at, 2, Kind::Assign) || is_in_call(tokens, at)) {
         Foreign::ReceivedValue
     } else if is_named && is_before(tokens, at, 2, Kind::Comma) {
         Foreign::TwoMessages
@@ -246,6 +247,7 @@ fn at_operator(tokens: &[Token<'_>], at: usize, kind: Kind) -> Option<Foreign> {
 fn at_less(tokens: &[Token<'_>], at: usize, before: Kind) -> Option<Foreign> {
     match before {
         Kind::Chan => Some(Foreign::Channel),
+        Kind::Bang | Kind::BangBang => Some(Foreign::MessageFields),
         Kind::Assign if is_at(tokens, at.saturating_add(1), Kind::Minus) => {
             Some(Foreign::ReceivedValue)
         }
@@ -382,7 +384,7 @@ pub fn form_at(tokens: &[Token<'_>], at: usize) -> Option<Foreign> {
         return Some(Foreign::LastSemicolon);
     }
     if is_behind_head(tokens, at) {
-        return Some(Foreign::BodyBrace);
+        return Some(behind_head(tokens, at));
     }
     form_by_kind(tokens, at, kind).or(at_beginning(tokens, at))
 }

@@ -1,8 +1,9 @@
 //! What the indentation of lines tells of brackets that are not closed.
 
+use crate::stopped::name_at;
 use explain_cause::cause::Segment;
-use explain_cause::place::{between, bytes_at, closes, opens};
-use pml_token::token::Token;
+use explain_cause::place::{between, bytes_at, closes, is_at, kind_at, opens};
+use pml_token::token::{Kind, Token};
 use std::alloc::{AllocError, Global};
 
 /// How far a line is set in up to a place of it, and whether only blanks stand before that place.
@@ -44,6 +45,16 @@ fn behind_all(margin: Margin, bytes: &[u8]) -> Margin {
         last = behind(last, *byte);
     }
     last
+}
+
+/// How far the line is set in on which a token stands, and whether the token begins it.
+fn margin_of(text: &[u8], tokens: &[Token<'_>], at: usize) -> Margin {
+    let first = Margin {
+        width: 0,
+        fresh: true,
+    };
+    let length = name_at(text, tokens, at).offset;
+    behind_all(first, bytes_at(text, Segment { offset: 0, length }))
 }
 
 /// A token that opens something, and how far its line is set in.
@@ -112,6 +123,33 @@ impl<'t> Layout<'t> {
             return Ok(self.close());
         }
         Ok(None)
+    }
+}
+
+/// Whether a label stands at a token.
+fn is_label(tokens: &[Token<'_>], at: usize) -> bool {
+    is_at(tokens, at, Kind::Name) && is_at(tokens, at.saturating_add(1), Kind::Colon)
+}
+
+/// The `{` in which a token stands as far as it is closed, and by the layout does not: what stands in it first begins a line that is set in
+/// further than the line of the `{`, and the token begins one that is not.
+pub fn left_by_layout(
+    text: &[u8],
+    tokens: &[Token<'_>],
+    opener: Option<usize>,
+    at: usize,
+) -> Option<usize> {
+    let open = opener?;
+    let outer = margin_of(text, tokens, open).width;
+    let first = margin_of(text, tokens, open.saturating_add(1));
+    let own = margin_of(text, tokens, at);
+    let is_set_in = first.fresh && outer < first.width;
+    let is_behind = own.fresh && own.width <= outer;
+    let is_statement = !is_label(tokens, at) && !closes(kind_at(tokens, at));
+    if is_at(tokens, open, Kind::OpenBrace) && is_statement && is_set_in && is_behind {
+        Some(open)
+    } else {
+        None
     }
 }
 

@@ -7,6 +7,7 @@ mod declared;
 mod elements;
 mod forms;
 mod layout;
+mod meant;
 pub mod stopped;
 mod syntax;
 mod told;

@@ -3,8 +3,9 @@
 use crate::called::{definition_of, is_call, shown_at, value_at};
 use crate::declared::{inline_at, names_beside};
 use crate::elements::in_brackets;
-use crate::forms::{form_at, is_behind_head, kind_before};
+use crate::forms::{form_at, is_behind_head, kind_before, kind_behind};
 use crate::layout::unclosed_by_layout;
+use crate::meant::{meant_first, near_unit};
 use crate::stopped::{
     Neighbours, begin_of, is_before, name_at, name_before, neighbours_of, opener_before,
 };
@@ -14,11 +15,12 @@ use crate::tried::wanted_by_trial;
 use crate::typed::is_select_range;
 use crate::unclosed::{Brackets, brackets_of};
 use crate::within::{
-    arrow_between, begins_unit, form_within, is_left_open, is_outside_sign, is_statement,
+    arrow_between, begins_unit, form_within, is_block, is_declared_word, is_left_open,
+    is_outside_sign, is_statement,
 };
 use crate::words::{
-    called_variable, foreign_beside, foreign_call, is_typed, near_at, near_beside, no_word,
-    number_beside, proctype_beside, type_before,
+    called_variable, foreign_beside, foreign_call, is_record, is_typed, near_at, near_beside,
+    no_word, number_beside, proctype_beside, type_before,
 };
 use explain_cause::cause::{Finding, Named, Wanted};
 use explain_cause::foreign::Foreign;
@@ -39,6 +41,8 @@ fn list_at<'t>(tokens: &[Token<'_>], at: usize) -> Wanted<'t> {
         Wanted::Form(Foreign::Enumeration)
     } else if is_before(tokens, at, 3, Kind::Mtype) {
         Wanted::Form(Foreign::NamedMtype)
+    } else if is_record(tokens, at.saturating_sub(2)) {
+        Wanted::Form(Foreign::RecordList)
     } else {
         Wanted::NoList
     }
@@ -178,7 +182,7 @@ fn within<'t>(
     if let Some(form) = form_within(tokens, opener, at) {
         return Some(Wanted::Form(form));
     }
-    if is_left_open(tokens, opener, kind_at(tokens, at)) {
+    if is_left_open(tokens, opener, kind_at(tokens, at)) && !is_declared_word(tokens, at) {
         Some(Wanted::CloserBefore(name_at(text, tokens, opener)))
     } else {
         unfit_within(text, tokens, opener, at)
@@ -218,6 +222,8 @@ fn by_type<'t>(
 fn outside_form(tokens: &[Token<'_>], at: usize) -> Foreign {
     if is_behind_head(tokens, at) || is_before(tokens, at, 1, Kind::Init) {
         Foreign::BodyBrace
+    } else if begins_unit(kind_behind(tokens, at)) && is_block(kind_at(tokens, at)) {
+        Foreign::AtomicUnit
     } else if is_statement(kind_at(tokens, at)) {
         Foreign::Outside
     } else {
@@ -238,20 +244,6 @@ fn outside<'t>(
     match near_beside(alloc, text, tokens, at)? {
         Some(wanted) => Ok(wanted),
         None => Ok(Wanted::Form(outside_form(tokens, at))),
-    }
-}
-
-/// What is told of a mistyped word before a name and its parentheses, as of that of a proctype.
-fn near_unit<'t>(
-    alloc: Global,
-    text: &'t [u8],
-    tokens: &[Token<'_>],
-    at: usize,
-) -> Result<Option<Wanted<'t>>, AllocError> {
-    if is_call(tokens, at) && is_before(tokens, at, 2, Kind::Name) {
-        near_at(alloc, text, tokens, at.saturating_sub(2))
-    } else {
-        Ok(None)
     }
 }
 
@@ -301,7 +293,9 @@ fn wanted_by_tokens<'t>(
 fn is_outside(tokens: &[Token<'_>], opener: Option<usize>, at: usize) -> bool {
     let kind = kind_at(tokens, at);
     let is_first = is_outside_sign(kind) && begin_of(tokens, at) == at;
-    let is_declared = is_typed(tokens, at) || is_before(tokens, at, 2, Kind::Typedef);
+    let is_declared = is_typed(tokens, at)
+        || is_before(tokens, at, 2, Kind::Typedef)
+        || is_before(tokens, at, 2, Kind::Unsigned);
     opener.is_none() && (is_statement(kind) || is_first) && !is_declared
 }
 
@@ -313,10 +307,8 @@ fn wanted_of<'t>(
     at: usize,
 ) -> Result<Wanted<'t>, AllocError> {
     let opener = opener_before(alloc, tokens, at)?;
-    if begins_unit(kind_at(tokens, at)) {
-        if let Some(suspect) = unclosed_by_layout(alloc, text, tokens, opener, at)? {
-            return Ok(Wanted::CloserByLayout(name_at(text, tokens, suspect)));
-        }
+    if let Some(wanted) = meant_first(alloc, text, tokens, opener, at)? {
+        return Ok(wanted);
     }
     if let Some(wanted) = by_opener(text, tokens, opener, at) {
         return Ok(wanted);

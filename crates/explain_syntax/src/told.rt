@@ -22,6 +22,7 @@ fn word_of(wanted: Wanted<'_>) -> Option<Named<'_>> {
         Wanted::NameOfInline(name, _) => Some(name),
         Wanted::Untyped(name) => Some(name),
         Wanted::CommaBefore(name) => Some(name),
+        Wanted::ArrowFor(sign) => Some(sign),
         Wanted::CloserBeforeArrow(_, arrow) => Some(arrow),
         _ => None,
     }

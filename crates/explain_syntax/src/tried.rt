@@ -196,10 +196,13 @@ fn end_of_condition(tokens: &[Token<'_>], at: usize) -> usize {
     tokens.len()
 }
 
-/// Whether an `if` or a `do` stands directly before what closes a body, as one that is meant for its `fi` or `od`.
+/// Whether an `if` or a `do` stands directly before what ends a statement, as one that is meant for its `fi` or `od`.
 fn is_last_word(tokens: &[Token<'_>], at: usize) -> bool {
     matches!(kind_at(tokens, at), Kind::If | Kind::Do)
-        && matches!(kind_behind(tokens, at), Kind::CloseBrace | Kind::End)
+        && matches!(
+            kind_behind(tokens, at),
+            Kind::CloseBrace | Kind::End | Kind::Semicolon | Kind::Fi | Kind::Od
+        )
 }
 
 /// What is wanted in front of a token that begins a line, of a `;` or more, where this is open there.
@@ -243,7 +246,7 @@ fn is_of_condition(kind: Kind) -> bool {
 }
 
 /// Whether a condition begins the option that a token stands in, and ends before the token.
-fn is_behind_condition(tokens: &[Token<'_>], at: usize) -> bool {
+pub fn is_behind_condition(tokens: &[Token<'_>], at: usize) -> bool {
     let begin = begin_of(tokens, at);
     if !is_before(tokens, begin, 1, Kind::DoubleColon) {
         return false;
@@ -273,11 +276,16 @@ fn semicolon<'t>(
     at: usize,
     shown: Named<'t>,
 ) -> Result<Wanted<'t>, AllocError> {
-    if at == 0 || !begins_line(text, shown.offset) {
+    let is_first = at > 0 && begins_line(text, shown.offset);
+    if !is_first && !is_last_word(tokens, at) {
         return Ok(on_line(tokens, at));
     }
     let opener = opener_before(alloc, tokens, at)?;
-    Ok(at_line(text, tokens, opener, at))
+    if is_first || is_opener(tokens, opener) {
+        Ok(at_line(text, tokens, opener, at))
+    } else {
+        Ok(on_line(tokens, at))
+    }
 }
 
 /// Whether a name is declared, or a label named, where a token stands.

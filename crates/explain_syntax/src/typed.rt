@@ -102,6 +102,7 @@ fn at_type(tokens: &[Token<'_>], at: usize, before: Kind) -> Option<Foreign> {
         Kind::Of => Some(Foreign::ChannelTypes),
         Kind::Chan | Kind::CloseBracket => Some(Foreign::Channel),
         Kind::Typedef => Some(Foreign::Record),
+        Kind::Proctype => Some(Foreign::ProctypeResult),
         Kind::Name if is_before(tokens, at, 2, Kind::Typedef) => Some(Foreign::Record),
         Kind::Assign => assigned_type(kind_at(tokens, at)),
         Kind::Query | Kind::QueryQuery => Some(Foreign::ReceivedType),
@@ -109,6 +110,7 @@ fn at_type(tokens: &[Token<'_>], at: usize, before: Kind) -> Option<Foreign> {
         Kind::Comma if is_type(kind_at(tokens, begin_of(tokens, at))) => {
             Some(Foreign::RepeatedType)
         }
+        before if is_type(before) => Some(Foreign::TwoTypes),
         Kind::OpenParen if is_before(tokens, at, 2, Kind::For) => Some(Foreign::LoopType),
         Kind::OpenParen if same_kind(kind_behind(tokens, at), Kind::CloseParen) => {
             Some(Foreign::Cast)

@@ -19,11 +19,12 @@ pub enum Brackets {
     Right,
 }
 
-/// Whether a token of this kind closes what one of that kind opens, or may be meant for it: `fi` and `od` for `if` and `do`.
+/// Whether a token of this kind closes what one of that kind opens, or may be meant for it: `fi` and `od` for `if` and `do`, `)` and `]` for `(` and `[`.
 fn is_for(kind: Kind, opener: Kind) -> bool {
     match kind {
-        Kind::CloseParen => matches!(opener, Kind::OpenParen),
-        Kind::CloseBracket => matches!(opener, Kind::OpenBracket),
+        Kind::CloseParen | Kind::CloseBracket => {
+            matches!(opener, Kind::OpenParen | Kind::OpenBracket)
+        }
         Kind::Fi | Kind::Od => matches!(opener, Kind::If | Kind::Do),
         _ => true,
     }

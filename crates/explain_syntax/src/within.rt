@@ -29,12 +29,26 @@ pub fn is_statement(kind: Kind) -> bool {
     )
 }
 
+/// Whether a word stands before a block that is one step, or goes on alone.
+pub fn is_block(kind: Kind) -> bool {
+    matches!(kind, Kind::Atomic | Kind::DStep)
+}
+
 /// Whether a token begins a unit of a model, which stands in no braces.
 pub fn begins_unit(kind: Kind) -> bool {
     matches!(
         kind,
         Kind::Active | Kind::Proctype | Kind::Init | Kind::Typedef | Kind::Inline
     )
+}
+
+/// Whether a word stands where a name is declared: between a type and what goes on with the declaration or ends it.
+pub fn is_declared_word(tokens: &[Token<'_>], at: usize) -> bool {
+    is_type(kind_before(tokens, at, 1))
+        && matches!(
+            kind_behind(tokens, at),
+            Kind::Semicolon | Kind::Comma | Kind::Assign | Kind::OpenBracket
+        )
 }
 
 /// Whether a sign begins what is no declaration.
@@ -113,13 +127,29 @@ pub fn is_left_open(tokens: &[Token<'_>], opener: usize, kind: Kind) -> bool {
 }
 
 /// Whether braces stand round the fields of a channel.
-fn is_of_fields(tokens: &[Token<'_>], opener: usize) -> bool {
+pub fn is_of_fields(tokens: &[Token<'_>], opener: usize) -> bool {
     is_at(tokens, opener, Kind::OpenBrace) && is_before(tokens, opener, 1, Kind::Of)
 }
 
-/// Whether braces stand behind the `->` of an option.
+/// Whether an `if` or a `do` is open in front of a token.
+fn is_in_options(tokens: &[Token<'_>], at: usize) -> bool {
+    let mut open = 0usize;
+    for token in between(tokens, 0, at) {
+        match token.kind() {
+            Kind::If | Kind::Do => open = open.saturating_add(1),
+            Kind::Fi | Kind::Od => open = open.saturating_sub(1),
+            _ => {}
+        }
+    }
+    open > 0
+}
+
+/// Whether braces with a statement in them stand in an option.
 fn is_of_option(tokens: &[Token<'_>], opener: usize) -> bool {
-    is_at(tokens, opener, Kind::OpenBrace) && is_before(tokens, opener, 1, Kind::Arrow)
+    let is_filled = !is_at(tokens, opener.saturating_add(1), Kind::DoubleColon);
+    is_at(tokens, opener, Kind::OpenBrace)
+        && (is_before(tokens, opener, 1, Kind::Arrow)
+            || (is_filled && is_in_options(tokens, opener)))
 }
 
 /// Whether the parameters of a proctype are open, and a name without a type stands directly before a token.
@@ -152,6 +182,7 @@ fn parts(kind: Kind) -> bool {
 fn in_parens(before: Kind, kind: Kind) -> Option<Foreign> {
     match before {
         Kind::Assert if same_kind(kind, Kind::Comma) => Some(Foreign::AssertText),
+        Kind::For if same_kind(kind, Kind::DotDot) => Some(Foreign::LoopRange),
         Kind::For if parts(kind) => Some(Foreign::Counting),
         Kind::Semicolon | Kind::OpenBrace | Kind::Arrow if same_kind(kind, Kind::Comma) => {
             Some(Foreign::TwoAssignments)
@@ -219,6 +250,14 @@ fn in_fields(tokens: &[Token<'_>], opener: usize, at: usize, kind: Kind) -> Opti
     }
 }
 
+/// What a `::` is meant for that stands in no `if` and no `do`.
+fn option_at(tokens: &[Token<'_>], at: usize) -> Foreign {
+    match kind_before(tokens, at, 1) {
+        Kind::Fi | Kind::Od => Foreign::OptionBehind,
+        _ => Foreign::Cases,
+    }
+}
+
 /// What the token at `at` is meant for within braces.
 fn within_braces(tokens: &[Token<'_>], opener: usize, at: usize, kind: Kind) -> Option<Foreign> {
     if same_kind(kind, Kind::Assign) && is_of_names(tokens, opener) {
@@ -228,8 +267,8 @@ fn within_braces(tokens: &[Token<'_>], opener: usize, at: usize, kind: Kind) -> 
         return in_fields(tokens, opener, at, kind);
     }
     if same_kind(kind, Kind::DoubleColon) && !is_of_option(tokens, opener) {
-        Some(Foreign::Cases)
-    } else if begins_unit(kind) && is_closed(tokens, opener) {
+        Some(option_at(tokens, at))
+    } else if begins_unit(kind) && is_closed(tokens, opener) && !is_declared_word(tokens, at) {
         Some(Foreign::NestedUnit)
     } else {
         None

@@ -34,7 +34,7 @@ fn declares(kind: Kind) -> bool {
 }
 
 /// Whether a name seems to be declared in front of the token at `end`.
-fn is_declared(tokens: &[Token<'_>], end: usize, name: &[u8]) -> bool {
+pub fn is_declared(tokens: &[Token<'_>], end: usize, name: &[u8]) -> bool {
     let mut declared = false;
     for (i, token) in tokens.iter().enumerate() {
         if i >= end {
@@ -226,6 +226,21 @@ pub fn type_before<'t>(text: &'t [u8], tokens: &[Token<'_>], at: usize) -> Optio
     } else {
         Some(Wanted::NoType(name))
     }
+}
+
+/// Whether the name at a place is declared in front of it as one of a typedef.
+pub fn is_record(tokens: &[Token<'_>], at: usize) -> bool {
+    let Some(name) = tokens.get(at) else {
+        return false;
+    };
+    let mut is_named = false;
+    for token in between(tokens, 0, at) {
+        if is_named && token.text() == name.text() {
+            return true;
+        }
+        is_named = matches!(token.kind(), Kind::Name);
+    }
+    false
 }
 
 /// Whether a word declares something, or begins a unit.

@@ -48,22 +48,23 @@ pub fn begin(alloc: Global, event: &str) -> Json
     json
 }
 
-// Writes the text of a move.
-fn move_text(picture: &Picture<'_, '_, '_>, json: &mut Json, m: Move)
+// Writes the text of a move, in the memory of a line that is begun anew.
+fn move_text(picture: &Picture<'_, '_, '_>, json: &mut Json, m: Move, line: &mut Writer)
     ensures { Writes json.old json.new (text (move_text picture.now m)) }
 {
-    let mut line = Writer::new(json.allocator());
+    line.clear();
     let mut bytes = line.take();
     let answer = add_move(picture.live(), m, &mut bytes);
     line.put(bytes, answer);
-    whole(json, &line);
+    whole(json, line);
 }
 
 fn move_texts(picture: &Picture<'_, '_, '_>, json: &mut Json, moves: &[Move])
     ensures { Writes json.old json.new (flat_map (λ m. text (move_text picture.now m)) moves.now) }
 {
+    let mut line = Writer::new(json.allocator());
     for m in moves {
-        move_text(picture, json, *m);
+        move_text(picture, json, *m, &mut line);
     }
 }
 

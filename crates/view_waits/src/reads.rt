@@ -3,7 +3,7 @@
 use pml_eval::eval::place;
 use pml_eval::ground::Ground;
 use pml_program::expr::{Expr, Target, Turn, Want};
-use pml_value::view::View;
+use pml_value::view::{View, named};
 use promela_process::place::Place;
 use std::alloc::{AllocError, Global};
 
@@ -69,9 +69,14 @@ fn add_cell(target: &Target, view: &View<'_>, reads: &mut Reads) {
     }
 }
 
+// Adds how many messages a channel holds, or the number that is there where no channel has it.
 fn add_length(target: &Target, view: &View<'_>, reads: &mut Reads) {
     if let Ok(at) = place(target, view) {
-        reads.keep(Read::Length(view.number(at)));
+        let number = view.number(at);
+        reads.keep(match named(view.channels, number) {
+            Some(_) => Read::Length(number),
+            None => Read::Cell(at),
+        });
     }
 }
 
