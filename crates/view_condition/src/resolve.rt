@@ -1,0 +1,433 @@
+//! An expression of a condition, with its names replaced by what they stand for. A name is looked up once.
+
+use crate::names::{Shape, constant_named, field_named, shape_named, sort_named};
+use crate::places::LINE;
+use crate::refusal::{Cause, Unread, refused};
+use crate::sight::{Sight, Whose};
+use check_uses::arithmetic::{negative, read as digits_read, value};
+use pml_program::expr::{Expr, Target, Turn, Want};
+use pml_program::form::Form;
+use pml_token::token::Token;
+use pml_tree::tree::{Argument, Expr as TreeExpr, Reference, Scalar, Sign, Step};
+use promela_model::mark::Constant;
+use sqlite_items::{Boxed, Items};
+use std::alloc::{AllocError, Global};
+use view_cells::cells::is_chan;
+use view_cells::picture::Picture;
+use view_cells::processes::is_standing_line;
+
+// A variable that is named, and as what it is declared.
+#[derive(Clone, Copy)]
+struct Found {
+    sight: Sight,
+    shape: Shape,
+}
+
+// What the first names of a reference lead to.
+#[derive(Clone, Copy)]
+enum Base {
+    Number(i32),
+    ProcessCount,
+    // whether somebody stands at a line
+    Fact(Sight),
+    Global(Found),
+    // a variable of a process, which the first of the fields names
+    Local(Found),
+}
+
+fn literal(token: &Token<'_>, sign: Sign) -> Result<i32, Unread> {
+    let number = value(token.text());
+    let signed = match sign {
+        Sign::Plus => number,
+        Sign::Minus => negative(number),
+    };
+    match signed {
+        Constant::Is(number) => Ok(number),
+        _ => Err(refused(Cause::Number, token.line())),
+    }
+}
+
+// The index of a step, where that is a number alone.
+fn number_in(step: &Step<'_>) -> Option<u32> {
+    match step.index.as_ref()?.get() {
+        TreeExpr::Number(token) => digits_read(token.text()),
+        _ => None,
+    }
+}
+
+// That somebody stands at a line: this process, or any.
+fn fact(
+    whose: Option<Whose>,
+    step: &Step<'_>,
+    rest: &[Step<'_>],
+    picture: &Picture<'_, '_, '_>,
+) -> Result<Base, Unread> {
+    if let [field, ..] = rest {
+        return Err(refused(Cause::Field, field.name.line()));
+    }
+    match (number_in(step), whose) {
+        (Some(line), _) if !is_standing_line(picture, line) => Err(refused(
+            Cause::Line,
+            step.name.line().saturating_add(5),
+        )),
+        (Some(line), Some(whose)) => Ok(Base::Fact(Sight::At(whose, line))),
+        (Some(line), None) => Ok(Base::Fact(Sight::Line(line))),
+        (None, _) => Err(refused(Cause::Number, step.name.line())),
+    }
+}
+
+// The process that is named by its proctype, of this number, and its own.
+fn whose_of(sort: usize, step: &Step<'_>) -> Result<Whose, Unread> {
+    match number_in(step) {
+        Some(number) => match u8::try_from(number) {
+            Ok(process) => Ok(Whose { process, sort }),
+            Err(_) => Err(refused(Cause::Process, step.name.line())),
+        },
+        None => Err(refused(Cause::Process, step.name.line())),
+    }
+}
+
+// What a process, of the proctype with this number, has under the name of a field.
+fn of_process(
+    sort: usize,
+    r: &Reference<'_>,
+    picture: &Picture<'_, '_, '_>,
+) -> Result<Base, Unread> {
+    let whose = whose_of(sort, &r.first)?;
+    let [step, rest @ ..] = r.fields.as_slice() else {
+        return Err(refused(Cause::Process, r.first.name.line()));
+    };
+    if step.name.text() == LINE {
+        return fact(Some(whose), step, rest, picture);
+    }
+    let Some(proctype) = picture.program().proctypes.as_slice().get(sort) else {
+        return Err(refused(Cause::Process, r.first.name.line()));
+    };
+    match shape_named(proctype.variables.as_slice(), step.name.text()) {
+        Some(shape) => Ok(Base::Local(Found {
+            sight: Sight::Local(whose, shape.number),
+            shape,
+        })),
+        None => Err(refused(Cause::Name, step.name.line())),
+    }
+}
+
+// A number that a name stands for, which has no index and no field.
+fn plain(base: Base, r: &Reference<'_>) -> Result<Base, Unread> {
+    if r.first.index.is_some() || !r.fields.is_empty() {
+        return Err(refused(Cause::Index, r.first.name.line()));
+    }
+    Ok(base)
+}
+
+// What is of one process, and named by no process.
+fn is_alone(name: &[u8]) -> bool {
+    name == b"_pid".as_slice() || name == b"_".as_slice()
+}
+
+// What the first names of a reference lead to.
+fn base_of(r: &Reference<'_>, picture: &Picture<'_, '_, '_>) -> Result<Base, Unread> {
+    let name = r.first.name.text();
+    if name == LINE {
+        return fact(None, &r.first, r.fields.as_slice(), picture);
+    }
+    if is_alone(name) {
+        return Err(refused(Cause::Alone, r.first.name.line()));
+    }
+    if name == b"_nr_pr".as_slice() {
+        return plain(Base::ProcessCount, r);
+    }
+    let program = picture.program();
+    if let Some(shape) = shape_named(program.globals.as_slice(), name) {
+        return Ok(Base::Global(Found {
+            sight: Sight::Global(shape.number),
+            shape,
+        }));
+    }
+    if let Some(number) = constant_named(program.constants.as_slice(), name) {
+        return plain(Base::Number(number), r);
+    }
+    match sort_named(program.proctypes.as_slice(), name) {
+        Some(sort) => of_process(sort, r, picture),
+        None => Err(refused(Cause::Name, r.first.name.line())),
+    }
+}
+
+// The number that the next variable of a condition has, which is this.
+fn numbered(sight: Sight, sights: &mut Vec<Sight>) -> Result<usize, AllocError> {
+    let number = sights.len();
+    sights.push(sight)?;
+    Ok(number)
+}
+
+// A fact, as a variable.
+fn fact_read(alloc: Global, sight: Sight, sights: &mut Vec<Sight>) -> Result<Expr, AllocError> {
+    let mut turns = Items::new(alloc);
+    turns.push(Turn {
+        offset: 0,
+        length: 1,
+        stride: 1,
+        index: None,
+    })?;
+    Ok(Expr::Read(Target {
+        local: false,
+        variable: numbered(sight, sights)?,
+        form: Form::Plain(Scalar::Bit),
+        turns,
+    }))
+}
+
+/// The index of a variable or a field, which an array has and nothing else.
+#[cycle(resolve)]
+fn index(
+    alloc: Global,
+    is_array: bool,
+    step: &Step<'_>,
+    picture: &Picture<'_, '_, '_>,
+    sights: &mut Vec<Sight>,
+) -> Result<Option<Boxed<Expr>>, Unread> {
+    match &step.index {
+        None => {
+            if is_array {
+                return Err(refused(Cause::Array, step.name.line()));
+            }
+            Ok(None)
+        }
+        Some(e) => {
+            if !is_array {
+                return Err(refused(Cause::Index, step.name.line()));
+            }
+            Ok(Some(boxed(alloc, e.get(), picture, sights)?))
+        }
+    }
+}
+
+/// The turn of a variable, from its first cell on, or of a field.
+#[cycle(resolve)]
+fn turn(
+    alloc: Global,
+    shape: Shape,
+    step: &Step<'_>,
+    picture: &Picture<'_, '_, '_>,
+    sights: &mut Vec<Sight>,
+) -> Result<Turn, Unread> {
+    let index = index(alloc, shape.array, step, picture, sights)?;
+    Ok(Turn {
+        offset: shape.offset,
+        length: shape.length,
+        stride: shape.stride,
+        index,
+    })
+}
+
+/// Adds the turns of fields. The type that they lead to.
+#[cycle(resolve)]
+fn through(
+    alloc: Global,
+    form: Form,
+    steps: &[Step<'_>],
+    picture: &Picture<'_, '_, '_>,
+    sights: &mut Vec<Sight>,
+    turns: &mut Items<Turn>,
+) -> Result<Form, Unread> {
+    let mut here = form;
+    for step in steps {
+        let typedefs = picture.program().typedefs.as_slice();
+        let Some(shape) = field_named(typedefs, here, step.name.text()) else {
+            return Err(refused(Cause::Field, step.name.line()));
+        };
+        turns.push(turn(alloc, shape, step, picture, sights)?)?;
+        here = shape.form;
+    }
+    Ok(here)
+}
+
+/// The place that a variable and the fields behind it lead to.
+#[cycle(resolve)]
+fn target(
+    alloc: Global,
+    found: Found,
+    step: &Step<'_>,
+    rest: &[Step<'_>],
+    picture: &Picture<'_, '_, '_>,
+    sights: &mut Vec<Sight>,
+) -> Result<Target, Unread> {
+    let first = Shape {
+        offset: 0,
+        ..found.shape
+    };
+    let mut turns = Items::new(alloc);
+    turns.push(turn(alloc, first, step, picture, sights)?)?;
+    let form = through(alloc, first.form, rest, picture, sights, &mut turns)?;
+    if let Form::Struct(_) = form {
+        return Err(refused(Cause::Structure, step.name.line()));
+    }
+    let variable = numbered(found.sight, sights)?;
+    Ok(Target {
+        local: false,
+        variable,
+        form,
+        turns,
+    })
+}
+
+/// The place of a variable of a process, behind whose name these fields stand.
+#[cycle(resolve)]
+fn local_target(
+    alloc: Global,
+    found: Found,
+    r: &Reference<'_>,
+    picture: &Picture<'_, '_, '_>,
+    sights: &mut Vec<Sight>,
+) -> Result<Target, Unread> {
+    match r.fields.as_slice() {
+        [step, rest @ ..] => target(alloc, found, step, rest, picture, sights),
+        [] => Err(refused(Cause::Process, r.first.name.line())),
+    }
+}
+
+/// What a reference is worth.
+#[cycle(resolve)]
+fn read(
+    alloc: Global,
+    r: &Reference<'_>,
+    picture: &Picture<'_, '_, '_>,
+    sights: &mut Vec<Sight>,
+) -> Result<Expr, Unread> {
+    match base_of(r, picture)? {
+        Base::Number(number) => Ok(Expr::Number(number)),
+        Base::ProcessCount => Ok(Expr::ProcessCount),
+        Base::Fact(sight) => Ok(fact_read(alloc, sight, sights)?),
+        Base::Global(found) => Ok(Expr::Read(target(
+            alloc,
+            found,
+            &r.first,
+            r.fields.as_slice(),
+            picture,
+            sights,
+        )?)),
+        Base::Local(found) => Ok(Expr::Read(local_target(alloc, found, r, picture, sights)?)),
+    }
+}
+
+/// The place that a reference leads to.
+#[cycle(resolve)]
+fn placed(
+    alloc: Global,
+    r: &Reference<'_>,
+    picture: &Picture<'_, '_, '_>,
+    sights: &mut Vec<Sight>,
+) -> Result<Target, Unread> {
+    match base_of(r, picture)? {
+        Base::Global(found) => target(alloc, found, &r.first, r.fields.as_slice(), picture, sights),
+        Base::Local(found) => local_target(alloc, found, r, picture, sights),
+        _ => Err(refused(Cause::Channel, r.first.name.line())),
+    }
+}
+
+/// A channel that is asked.
+#[cycle(resolve)]
+fn channel(
+    alloc: Global,
+    r: &Reference<'_>,
+    picture: &Picture<'_, '_, '_>,
+    sights: &mut Vec<Sight>,
+) -> Result<Boxed<Target>, Unread> {
+    let place = placed(alloc, r, picture, sights)?;
+    if !is_chan(place.form) {
+        return Err(refused(Cause::Channel, r.first.name.line()));
+    }
+    Ok(Boxed::new(alloc, place)?)
+}
+
+/// What a name asks of a field of a message.
+#[cycle(resolve)]
+fn into(
+    alloc: Global,
+    r: &Reference<'_>,
+    picture: &Picture<'_, '_, '_>,
+    sights: &mut Vec<Sight>,
+) -> Result<Want, Unread> {
+    if r.first.name.text() == b"_".as_slice() {
+        return Ok(Want::Anything);
+    }
+    if let Base::Number(number) = base_of(r, picture)? {
+        return Ok(Want::Exactly(number));
+    }
+    Ok(Want::Into(placed(alloc, r, picture, sights)?))
+}
+
+#[cycle(resolve)]
+fn want(
+    alloc: Global,
+    argument: &Argument<'_>,
+    picture: &Picture<'_, '_, '_>,
+    sights: &mut Vec<Sight>,
+) -> Result<Want, Unread> {
+    match argument {
+        Argument::Exactly(sign, token) => Ok(Want::Exactly(literal(token, *sign)?)),
+        Argument::Fixed(truth) => Ok(Want::Exactly(if *truth { 1 } else { 0 })),
+        Argument::Eval(e) => Ok(Want::Equal(boxed(alloc, e.get(), picture, sights)?)),
+        Argument::Into(r) => into(alloc, r, picture, sights),
+    }
+}
+
+#[cycle(resolve)]
+fn wants(
+    alloc: Global,
+    arguments: &[Argument<'_>],
+    picture: &Picture<'_, '_, '_>,
+    sights: &mut Vec<Sight>,
+) -> Result<Items<Want>, Unread> {
+    let mut found = Items::new(alloc);
+    for argument in arguments {
+        found.push(want(alloc, argument, picture, sights)?)?;
+    }
+    Ok(found)
+}
+
+/// An expression, in a box.
+#[cycle(resolve)]
+fn boxed(
+    alloc: Global,
+    e: &TreeExpr<'_>,
+    picture: &Picture<'_, '_, '_>,
+    sights: &mut Vec<Sight>,
+) -> Result<Boxed<Expr>, Unread> {
+    let worth = resolved(alloc, e, picture, sights)?;
+    Ok(Boxed::new(alloc, worth)?)
+}
+
+/// An expression with its names replaced; what its variables are is added.
+#[cycle(resolve)]
+pub fn resolved(
+    alloc: Global,
+    e: &TreeExpr<'_>,
+    picture: &Picture<'_, '_, '_>,
+    sights: &mut Vec<Sight>,
+) -> Result<Expr, Unread> {
+    match e {
+        TreeExpr::Number(token) => Ok(Expr::Number(literal(token, Sign::Plus)?)),
+        TreeExpr::Truth(truth) => Ok(Expr::Number(if *truth { 1 } else { 0 })),
+        TreeExpr::Timeout => Ok(Expr::Timeout),
+        TreeExpr::Read(r) => read(alloc, r, picture, sights),
+        TreeExpr::Ask(fill, r) => Ok(Expr::Ask(*fill, channel(alloc, r, picture, sights)?)),
+        TreeExpr::Poll(r, search, arguments) => {
+            let at = channel(alloc, r, picture, sights)?;
+            let asked = wants(alloc, arguments.as_slice(), picture, sights)?;
+            Ok(Expr::Poll(at, *search, asked))
+        }
+        TreeExpr::Unary(op, a) => Ok(Expr::Unary(*op, boxed(alloc, a.get(), picture, sights)?)),
+        TreeExpr::Binary(op, a, b) => {
+            let left = boxed(alloc, a.get(), picture, sights)?;
+            let right = boxed(alloc, b.get(), picture, sights)?;
+            Ok(Expr::Binary(*op, left, right))
+        }
+        TreeExpr::Choice(a, b, c) => {
+            let condition = boxed(alloc, a.get(), picture, sights)?;
+            let one = boxed(alloc, b.get(), picture, sights)?;
+            let other = boxed(alloc, c.get(), picture, sights)?;
+            Ok(Expr::Choice(condition, one, other))
+        }
+    }
+}
