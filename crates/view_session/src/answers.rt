@@ -4,10 +4,13 @@ use crate::charted::{add_chart, most_alive};
 use crate::command::{Command, MOST_UNASKED, read};
 use crate::going::go;
 use crate::help::{HELP, add_help};
+use crate::listed::{add_moves_of, add_steps};
 use crate::question::{add_cause, add_question, add_whole_question};
 use crate::record::add_record;
 use crate::replay::Along;
+use crate::seeking::Way;
 use crate::seen::picture_of;
+use crate::showing::show;
 use crate::steps::{Taken, take, take_single};
 use crate::told::Told;
 use std::alloc::AllocError;
@@ -42,7 +45,7 @@ pub struct Setting<'t> {
 // Takes the steps that need no choice, and asks.
 fn go_on(walk: &mut Walk<'_, '_>, limit: usize, told: &mut Told) -> Result<(), AllocError> {
     take_single(walk, limit, MOST_UNASKED, told)?;
-    add_question(walk, &mut told.out)
+    add_question(walk, told)
 }
 
 /// Shows where a session begins.
@@ -60,7 +63,7 @@ pub fn resume(
     if let Along::Fault(choice) = along {
         take(walk, limit, choice, told)?;
     }
-    add_question(walk, &mut told.out)
+    add_question(walk, told)
 }
 
 fn number(word: &str) -> usize {
@@ -103,7 +106,7 @@ fn choose(
         }
     }
     if asks {
-        return add_question(walk, &mut told.out);
+        return add_question(walk, told);
     }
     Ok(())
 }
@@ -133,7 +136,7 @@ fn obey<'l>(
         Command::Choose => choose(walk, setting.limit, words, told)?,
         Command::State(is_all) => add_state(&picture_of(walk.world()), is_all, &mut told.out),
         Command::Why(is_all) => show_why(walk, is_all, &mut told.out)?,
-        Command::Moves(true) => add_whole_question(walk, &mut told.out)?,
+        Command::Moves(true) => add_whole_question(walk, told)?,
         Command::Chart => show_chart(walk, &mut told.out)?,
         Command::Source => add_source(&picture_of(walk.world()), setting.text, &mut told.out),
         Command::Record => add_record(walk.legs(), &mut told.out),
@@ -142,6 +145,14 @@ fn obey<'l>(
         Command::HelpOf(name) => add_help(name, &mut told.out),
         Command::Wrong(form) => told.out.add(form.as_bytes()),
         Command::Unknown => told.out.add(b"no such command: help lists them\n"),
+        Command::Steps(from) => add_steps(walk, from, &mut told.out)?,
+        Command::MovesOf(process) => add_moves_of(walk, process, &mut told.out)?,
+        Command::Break(_) | Command::Breaks | Command::Delete(_) => {
+            show(walk.world(), command, told)?;
+        }
+        Command::Print(_) | Command::Display(_) | Command::Undisplay(_) => {
+            show(walk.world(), command, told)?;
+        }
         _ => return go(walk, setting.limit, command, told),
     }
     Ok(None)
@@ -160,7 +171,7 @@ fn recover(walk: &mut Walk<'_, '_>) -> Result<(), AllocError> {
 fn may_cut<'l>(walk: &Walk<'_, '_>, command: Command<'l>) -> bool {
     match command {
         Command::Branch(_) => true,
-        Command::Forward(_) | Command::Run(_) | Command::Until(_) => false,
+        Command::Forward(_) | Command::Run(_) | Command::Until(Way::Forced, _) => false,
         _ => walk.at() < walk.legs().len(),
     }
 }
@@ -211,7 +222,7 @@ fn answer_text<'l>(
     told: &mut Told,
 ) -> Result<Reply<'l>, AllocError> {
     let words: Vec<&'l str> = line.split_whitespace().collect(told.out.allocator())?;
-    match read(words.as_slice()) {
+    match read(line, words.as_slice()) {
         Command::Quit => Ok(Reply::End),
         Command::Save(file) => Ok(Reply::Save(file)),
         other => Ok(reply_of(obey_and_keep(walk, setting, words.as_slice(), other, told)?)),

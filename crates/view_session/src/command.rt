@@ -2,7 +2,7 @@
 
 use crate::names::{Name, name_of};
 use crate::others::told_of;
-use crate::until::{Goal, wanted};
+use crate::seeking::Way;
 
 /// How many steps with one move are taken unasked.
 pub const MOST_UNASKED: usize = 100;
@@ -17,6 +17,8 @@ pub enum Command<'l> {
     Choose,
     /// The question again, the state, and what the processes wait for: the first of it, or all.
     Moves(bool),
+    /// The choices of the process with this number.
+    MovesOf(usize),
     State(bool),
     Why(bool),
     Source,
@@ -29,8 +31,20 @@ pub enum Command<'l> {
     Random(usize, u64),
     /// Steps of the process with this number alone.
     Process(usize),
-    /// Steps with one move, until one leads there.
-    Until(Goal<'l>),
+    /// Steps, until one leads where these words say.
+    Until(Way, &'l str),
+    /// Back to the last state where they say.
+    BackUntil(&'l str),
+    /// Each run stops where these words say; the numbers of these, and without one.
+    Break(&'l str),
+    Breaks,
+    Delete(usize),
+    /// What an expression is worth, here or at each question; without the one with this number.
+    Print(&'l str),
+    Display(&'l str),
+    Undisplay(usize),
+    /// The steps so far, from this one on.
+    Steps(Option<usize>),
     /// Back to the last step that changed this variable.
     Last(&'l str),
     Branches,
@@ -54,6 +68,14 @@ fn number(word: &str) -> Option<usize> {
     }
 }
 
+// What stands behind a word at the beginning of a text.
+fn behind<'l>(text: &'l str, word: &str) -> &'l str {
+    match text.trim_start().strip_prefix(word) {
+        Some(rest) => rest.trim(),
+        None => "",
+    }
+}
+
 // The one number behind a name, or the usual one where there is none.
 fn one_or(rest: &[&str], usual: usize) -> Option<usize> {
     match rest {
@@ -63,10 +85,13 @@ fn one_or(rest: &[&str], usual: usize) -> Option<usize> {
     }
 }
 
-fn back<'l>(rest: &[&str]) -> Command<'l> {
+fn back<'l>(rest: &[&'l str], text: &'l str) -> Command<'l> {
+    if is_until(rest) {
+        return Command::BackUntil(behind(text, UNTIL));
+    }
     match one_or(rest, 1) {
         Some(by) => Command::Back(by),
-        None => Command::Wrong("back [N]\n"),
+        None => Command::Wrong("back [N], back until COND\n"),
     }
 }
 
@@ -84,13 +109,99 @@ fn run<'l>(rest: &[&str]) -> Command<'l> {
     }
 }
 
-fn goto<'l>(rest: &[&str]) -> Command<'l> {
+// The one number behind a name.
+fn one(rest: &[&str]) -> Option<usize> {
     match rest {
-        [word] => match number(word) {
-            Some(step) => Command::Goto(step),
-            None => Command::Wrong("goto K\n"),
-        },
-        _ => Command::Wrong("goto K\n"),
+        [word] => number(word),
+        _ => None,
+    }
+}
+
+fn goto<'l>(rest: &[&str]) -> Command<'l> {
+    match one(rest) {
+        Some(step) => Command::Goto(step),
+        None => Command::Wrong("goto K\n"),
+    }
+}
+
+fn delete<'l>(rest: &[&str]) -> Command<'l> {
+    match one(rest) {
+        Some(number) => Command::Delete(number),
+        None => Command::Wrong("delete N, the number of a break\n"),
+    }
+}
+
+fn undisplay<'l>(rest: &[&str]) -> Command<'l> {
+    match one(rest) {
+        Some(number) => Command::Undisplay(number),
+        None => Command::Wrong("undisplay N, the number of a display\n"),
+    }
+}
+
+fn steps<'l>(rest: &[&str]) -> Command<'l> {
+    match (rest, one(rest)) {
+        ([], _) => Command::Steps(None),
+        (_, Some(step)) => Command::Steps(Some(step)),
+        (_, None) => Command::Wrong("steps [K]\n"),
+    }
+}
+
+fn moves<'l>(rest: &[&str]) -> Command<'l> {
+    match one(rest) {
+        Some(process) => Command::MovesOf(process),
+        None => alone(Command::Moves(is_all(rest)), behind_all(rest)),
+    }
+}
+
+// The word behind which a condition stands.
+const UNTIL: &str = "until";
+
+// Whether a condition stands there.
+fn is_until(rest: &[&str]) -> bool {
+    match rest {
+        [word, _, ..] => *word == UNTIL,
+        _ => false,
+    }
+}
+
+// Whether a number behind a word is no part of a condition that ends in that word.
+fn is_seed(before: &str, last: &str) -> bool {
+    if before == "line" || number(last).is_none() {
+        return false;
+    }
+    match before.as_bytes() {
+        [.., end] => end.is_ascii_alphanumeric() || b"_)]".contains(end),
+        [] => false,
+    }
+}
+
+// The seed that stands behind a condition.
+fn seed_in<'l>(rest: &[&'l str]) -> Option<&'l str> {
+    match rest {
+        [_, .., before, last] if is_seed(before, last) => Some(last),
+        _ => None,
+    }
+}
+
+fn by_chance<'l>(rest: &[&'l str], text: &'l str) -> Command<'l> {
+    let text = behind(text, UNTIL);
+    let Some(word) = seed_in(rest) else {
+        return Command::Until(Way::Chance(1), text);
+    };
+    match (text.strip_suffix(word), number(word)) {
+        (Some(condition), Some(seed)) => {
+            Command::Until(Way::Chance(seed as u64), condition.trim())
+        }
+        _ => Command::Wrong(RANDOM_FORM),
+    }
+}
+
+// A command with a text behind its name, which is wrong without one.
+fn with_text<'l>(command: Command<'l>, text: &str, form: &'static str) -> Command<'l> {
+    if text.is_empty() {
+        Command::Wrong(form)
+    } else {
+        command
     }
 }
 
@@ -103,10 +214,15 @@ fn count_and_seed(rest: &[&str]) -> Option<(usize, u64)> {
     }
 }
 
-fn random<'l>(rest: &[&str]) -> Command<'l> {
+const RANDOM_FORM: &str = "random N [SEED], random until COND [SEED]\n";
+
+fn random<'l>(rest: &[&'l str], text: &'l str) -> Command<'l> {
+    if is_until(rest) {
+        return by_chance(rest, text);
+    }
     match count_and_seed(rest) {
         Some((count, seed)) => Command::Random(count, seed),
-        None => Command::Wrong("random N [SEED]\n"),
+        None => Command::Wrong(RANDOM_FORM),
     }
 }
 
@@ -118,12 +234,9 @@ fn last<'l>(rest: &[&'l str]) -> Command<'l> {
 }
 
 fn branch<'l>(rest: &[&str]) -> Command<'l> {
-    match rest {
-        [word] => match number(word) {
-            Some(branch) => Command::Branch(branch),
-            None => Command::Wrong("branch N\n"),
-        },
-        _ => Command::Wrong("branch N\n"),
+    match one(rest) {
+        Some(branch) => Command::Branch(branch),
+        None => Command::Wrong("branch N\n"),
     }
 }
 
@@ -135,26 +248,27 @@ fn save<'l>(rest: &[&'l str]) -> Command<'l> {
 }
 
 // How a process is named; and what is there for who takes the letter for another word.
-const PROCESS_FORM: &str = "p N, the number of a process; state shows the values\n";
+const PROCESS_FORM: &str =
+    "p N, p N until COND: N is the number of a process; state shows the values, print EXPR one\n";
 
-fn process<'l>(rest: &[&str]) -> Command<'l> {
+fn process<'l>(rest: &[&'l str], text: &'l str) -> Command<'l> {
     match rest {
         [word] => match number(word) {
             Some(process) => Command::Process(process),
+            None => Command::Wrong(PROCESS_FORM),
+        },
+        [word, more @ ..] if is_until(more) => match number(word) {
+            Some(process) => {
+                Command::Until(Way::Process(process), behind(behind(text, word), UNTIL))
+            }
             None => Command::Wrong(PROCESS_FORM),
         },
         _ => Command::Wrong(PROCESS_FORM),
     }
 }
 
-fn until<'l>(rest: &[&'l str]) -> Command<'l> {
-    match wanted(rest) {
-        Some(goal) => Command::Until(goal),
-        None => Command::Wrong(
-            "until NAME, until line L, until NAME == VALUE, until NAME != VALUE\n",
-        ),
-    }
-}
+const UNTIL_FORM: &str =
+    "until NAME, until line L, until NAME == VALUE, until NAME != VALUE, until COND\n";
 
 fn help<'l>(rest: &[&'l str]) -> Command<'l> {
     match rest {
@@ -187,21 +301,29 @@ fn behind_all<'s, 'l>(rest: &'s [&'l str]) -> &'s [&'l str] {
     }
 }
 
-fn with_words<'l>(name: Name, rest: &[&'l str]) -> Command<'l> {
+// A command with a text behind its name; `rest` are the words of that.
+fn with_words<'l>(name: Name, rest: &[&'l str], text: &'l str) -> Command<'l> {
     match name {
-        Name::Back => back(rest),
+        Name::Back => back(rest, text),
         Name::Forward => forward(rest),
         Name::Goto => goto(rest),
         Name::Run => run(rest),
-        Name::Random => random(rest),
+        Name::Random => random(rest, text),
         Name::Save => save(rest),
-        Name::Process => process(rest),
-        Name::Until => until(rest),
+        Name::Process => process(rest, text),
+        Name::Until => with_text(Command::Until(Way::Forced, text), text, UNTIL_FORM),
+        Name::Break => with_text(Command::Break(text), text, "break COND, break line L\n"),
+        Name::Breaks => alone(Command::Breaks, rest),
+        Name::Delete => delete(rest),
+        Name::Print => with_text(Command::Print(text), text, "print EXPR\n"),
+        Name::Display => with_text(Command::Display(text), text, "display EXPR\n"),
+        Name::Undisplay => undisplay(rest),
+        Name::Steps => steps(rest),
         Name::Last => last(rest),
         Name::Branch => branch(rest),
         Name::Branches => alone(Command::Branches, rest),
         Name::Chart => alone(Command::Chart, rest),
-        Name::Moves => alone(Command::Moves(is_all(rest)), behind_all(rest)),
+        Name::Moves => moves(rest),
         Name::State => alone(Command::State(is_all(rest)), behind_all(rest)),
         Name::Why => alone(Command::Why(is_all(rest)), behind_all(rest)),
         Name::Source => alone(Command::Source, rest),
@@ -230,8 +352,8 @@ fn unknown<'l>(word: &str) -> Command<'l> {
     }
 }
 
-/// What these words say.
-pub fn read<'l>(words: &[&'l str]) -> Command<'l> {
+/// What a line says that has these words.
+pub fn read<'l>(line: &'l str, words: &[&'l str]) -> Command<'l> {
     match words {
         [] => Command::Moves(false),
         [first, rest @ ..] => {
@@ -239,7 +361,7 @@ pub fn read<'l>(words: &[&'l str]) -> Command<'l> {
                 return Command::Choose;
             }
             match name_of(first) {
-                Some(name) => with_words(name, rest),
+                Some(name) => with_words(name, rest, behind(line, first)),
                 None => unknown(first),
             }
         }

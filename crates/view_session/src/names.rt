@@ -16,6 +16,13 @@ pub enum Name {
     Process,
     Until,
     Last,
+    Break,
+    Breaks,
+    Delete,
+    Print,
+    Display,
+    Undisplay,
+    Steps,
     Branches,
     Branch,
     Chart,
@@ -26,7 +33,7 @@ pub enum Name {
 }
 
 // Each name, and the short one that means it too.
-const NAMES: [(Name, &str, &str); 20] = [
+const NAMES: [(Name, &str, &str); 27] = [
     (Name::Moves, "moves", "m"),
     (Name::State, "state", "s"),
     (Name::Why, "why", "w"),
@@ -40,6 +47,13 @@ const NAMES: [(Name, &str, &str); 20] = [
     (Name::Process, "p", "p"),
     (Name::Until, "until", "until"),
     (Name::Last, "last", "last"),
+    (Name::Break, "break", "break"),
+    (Name::Breaks, "breaks", "breaks"),
+    (Name::Delete, "delete", "delete"),
+    (Name::Print, "print", "print"),
+    (Name::Display, "display", "display"),
+    (Name::Undisplay, "undisplay", "undisplay"),
+    (Name::Steps, "steps", "steps"),
     (Name::Branches, "branches", "branches"),
     (Name::Branch, "branch", "branch"),
     (Name::Chart, "chart", "chart"),
@@ -85,8 +99,10 @@ fn begun(word: &str) -> Option<Name> {
 
 /// The command that a word names: whole, short, or by a beginning that no other has.
 pub fn name_of(word: &str) -> Option<Name> {
-    if word == "?" {
-        return Some(Name::Help);
+    match word {
+        "?" => return Some(Name::Help),
+        "undo" => return Some(Name::Back),
+        _ => {}
     }
     match named(word) {
         Some(name) => Some(name),

@@ -1,5 +1,8 @@
 //! What led to an invalid end: who used last what processes wait at, and the round of those that wait for one another.
 
+ghost use Rattle.view_text.specs.Written.{Stays};
+ghost use Rattle.view_walk.specs.Walks.{SameModel};
+
 use crate::seen::picture_of;
 use crate::steps::move_at;
 use std::alloc::AllocError;
@@ -13,7 +16,9 @@ use view_walk::leg::Leg;
 use view_walk::walk::Walk;
 
 // Takes the next step of a walk, and keeps who used a channel by it.
-fn add_use(walk: &mut Walk<'_, '_>, leg: Leg, uses: &mut Uses) -> Result<(), AllocError> {
+fn add_use(walk: &mut Walk<'_, '_>, leg: Leg, uses: &mut Uses) -> Result<(), AllocError>
+    ensures { SameModel walk.old walk.new }
+{
     let moves = walk.moves()?;
     let step = walk.at().saturating_add(1).min(walk.legs().len());
     if let Some(m) = move_at(moves.as_slice(), leg.choice) {
@@ -25,11 +30,13 @@ fn add_use(walk: &mut Walk<'_, '_>, leg: Leg, uses: &mut Uses) -> Result<(), All
 }
 
 // Who used each channel last, up to where a walk stands, and where it stands then.
-fn uses_of(walk: &mut Walk<'_, '_>, out: &Writer) -> Result<Uses, AllocError> {
+fn uses_of(walk: &mut Walk<'_, '_>, out: &Writer) -> Result<Uses, AllocError>
+    ensures { SameModel walk.old walk.new }
+{
     let mut uses = Uses::new(out.allocator());
     let at = walk.at();
     walk.go_to(0)?;
-    for _ in 0..at {
+    for _turn in 0..at {
         let Some(leg) = walk.next() else {
             break;
         };
@@ -52,11 +59,9 @@ fn awaited_by(
 }
 
 // Writes who used last what each process waits at, and the round.
-fn add_uses(
-    picture: &Picture<'_, '_, '_>,
-    uses: &Uses,
-    out: &mut Writer,
-) -> Result<(), AllocError> {
+fn add_uses(picture: &Picture<'_, '_, '_>, uses: &Uses, out: &mut Writer) -> Result<(), AllocError>
+    ensures { Stays out.old out.new }
+{
     let mut known = Vec::new(out.allocator());
     let mut awaits = Vec::new(out.allocator());
     for process in 0..picture.process_count() {
@@ -70,7 +75,10 @@ fn add_uses(
 }
 
 /// Writes what led to the end where a walk stands.
-pub fn add_past(walk: &mut Walk<'_, '_>, out: &mut Writer) -> Result<(), AllocError> {
+pub fn add_past(walk: &mut Walk<'_, '_>, out: &mut Writer) -> Result<(), AllocError>
+    ensures model { SameModel walk.old walk.new }
+    ensures stays { Stays out.old out.new }
+{
     let uses = uses_of(walk, out)?;
     add_uses(&picture_of(walk.world()), &uses, out)
 }
