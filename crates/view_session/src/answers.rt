@@ -1,5 +1,8 @@
 //! A session.
 
+ghost use Rattle.view_text.specs.Written.{Stays};
+ghost use Rattle.view_walk.specs.Walks.{SameModel};
+
 use crate::charted::{add_chart, most_alive};
 use crate::command::{Command, MOST_UNASKED, read};
 use crate::going::go;
@@ -43,13 +46,19 @@ pub struct Setting<'t> {
 }
 
 // Takes the steps that need no choice, and asks.
-fn go_on(walk: &mut Walk<'_, '_>, limit: usize, told: &mut Told) -> Result<(), AllocError> {
+fn go_on(walk: &mut Walk<'_, '_>, limit: usize, told: &mut Told) -> Result<(), AllocError>
+    ensures model { SameModel walk.old walk.new }
+    ensures stays { Stays told.old.out told.new.out }
+{
     take_single(walk, limit, MOST_UNASKED, told)?;
     add_question(walk, told)
 }
 
 /// Shows where a session begins.
-pub fn begin(walk: &mut Walk<'_, '_>, limit: usize, told: &mut Told) -> Result<(), AllocError> {
+pub fn begin(walk: &mut Walk<'_, '_>, limit: usize, told: &mut Told) -> Result<(), AllocError>
+    ensures model { SameModel walk.old walk.new }
+    ensures stays { Stays told.old.out told.new.out }
+{
     go_on(walk, limit, told)
 }
 
@@ -59,7 +68,10 @@ pub fn resume(
     limit: usize,
     along: Along,
     told: &mut Told,
-) -> Result<(), AllocError> {
+) -> Result<(), AllocError>
+    ensures model { SameModel walk.old walk.new }
+    ensures stays { Stays told.old.out told.new.out }
+{
     if let Along::Fault(choice) = along {
         take(walk, limit, choice, told)?;
     }
@@ -79,7 +91,10 @@ fn choose_one(
     limit: usize,
     choice: usize,
     told: &mut Told,
-) -> Result<Taken, AllocError> {
+) -> Result<Taken, AllocError>
+    ensures model { SameModel walk.old walk.new }
+    ensures stays { Stays told.old.out told.new.out }
+{
     let taken = take(walk, limit, choice, told)?;
     match taken {
         Taken::Yes => take_single(walk, limit, MOST_UNASKED, told)?,
@@ -96,7 +111,10 @@ fn choose(
     limit: usize,
     words: &[&str],
     told: &mut Told,
-) -> Result<(), AllocError> {
+) -> Result<(), AllocError>
+    ensures model { SameModel walk.old walk.new }
+    ensures stays { Stays told.old.out told.new.out }
+{
     let mut asks = false;
     for word in words {
         let taken = choose_one(walk, limit, number(word), told)?;
@@ -111,14 +129,20 @@ fn choose(
     Ok(())
 }
 
-fn show_why(walk: &mut Walk<'_, '_>, is_all: bool, out: &mut Writer) -> Result<(), AllocError> {
+fn show_why(walk: &mut Walk<'_, '_>, is_all: bool, out: &mut Writer) -> Result<(), AllocError>
+    ensures model { SameModel walk.old walk.new }
+    ensures stays { Stays out.old out.new }
+{
     let moves = walk.moves()?;
     add_why(&picture_of(walk.world()), moves.as_slice(), is_all, out)?;
     add_cause(walk, moves.as_slice(), out)
 }
 
 // Writes the chart of a walk up to where it stands.
-fn show_chart(walk: &mut Walk<'_, '_>, out: &mut Writer) -> Result<(), AllocError> {
+fn show_chart(walk: &mut Walk<'_, '_>, out: &mut Writer) -> Result<(), AllocError>
+    ensures model { SameModel walk.old walk.new }
+    ensures stays { Stays out.old out.new }
+{
     let steps = walk.at();
     let most = most_alive(walk, steps)?;
     add_chart(walk, steps, most, out)
@@ -131,7 +155,10 @@ fn obey<'l>(
     words: &[&'l str],
     command: Command<'l>,
     told: &mut Told,
-) -> Result<Option<Command<'l>>, AllocError> {
+) -> Result<Option<Command<'l>>, AllocError>
+    ensures model { SameModel walk.old walk.new }
+    ensures stays { Stays told.old.out told.new.out }
+{
     match command {
         Command::Choose => choose(walk, setting.limit, words, told)?,
         Command::State(is_all) => add_state(&picture_of(walk.world()), is_all, &mut told.out),
@@ -159,7 +186,9 @@ fn obey<'l>(
 }
 
 // Leads out of where memory was refused.
-fn recover(walk: &mut Walk<'_, '_>) -> Result<(), AllocError> {
+fn recover(walk: &mut Walk<'_, '_>) -> Result<(), AllocError>
+    ensures { SameModel walk.old walk.new }
+{
     if walk.is_lost() {
         let at = walk.at();
         walk.go_to(at)?;
@@ -183,7 +212,10 @@ fn obey_and_keep<'l>(
     words: &[&'l str],
     command: Command<'l>,
     told: &mut Told,
-) -> Result<Option<Command<'l>>, AllocError> {
+) -> Result<Option<Command<'l>>, AllocError>
+    ensures model { SameModel walk.old walk.new }
+    ensures stays { Stays told.old.out told.new.out }
+{
     if !may_cut(walk, command) {
         return obey(walk, setting, words, command, told);
     }
@@ -209,7 +241,10 @@ pub fn go_further<'l>(
     setting: Setting<'_>,
     command: Command<'l>,
     told: &mut Told,
-) -> Result<Reply<'l>, AllocError> {
+) -> Result<Reply<'l>, AllocError>
+    ensures model { SameModel walk.old walk.new }
+    ensures stays { Stays told.old.out told.new.out }
+{
     recover(walk)?;
     Ok(reply_of(obey_and_keep(walk, setting, &[], command, told)?))
 }
@@ -220,7 +255,10 @@ fn answer_text<'l>(
     setting: Setting<'_>,
     line: &'l str,
     told: &mut Told,
-) -> Result<Reply<'l>, AllocError> {
+) -> Result<Reply<'l>, AllocError>
+    ensures model { SameModel walk.old walk.new }
+    ensures stays { Stays told.old.out told.new.out }
+{
     let words: Vec<&'l str> = line.split_whitespace().collect(told.out.allocator())?;
     match read(line, words.as_slice()) {
         Command::Quit => Ok(Reply::End),
@@ -235,7 +273,10 @@ pub fn answer<'l>(
     setting: Setting<'_>,
     line: &'l [u8],
     told: &mut Told,
-) -> Result<Reply<'l>, AllocError> {
+) -> Result<Reply<'l>, AllocError>
+    ensures model { SameModel walk.old walk.new }
+    ensures stays { Stays told.old.out told.new.out }
+{
     if line.len() >= MOST_LINE {
         told.out.add(b"line too long\n");
         return Ok(Reply::On);

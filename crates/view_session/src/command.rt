@@ -139,10 +139,12 @@ fn undisplay<'l>(rest: &[&str]) -> Command<'l> {
 }
 
 fn steps<'l>(rest: &[&str]) -> Command<'l> {
-    match (rest, one(rest)) {
-        ([], _) => Command::Steps(None),
-        (_, Some(step)) => Command::Steps(Some(step)),
-        (_, None) => Command::Wrong("steps [K]\n"),
+    if rest.is_empty() {
+        return Command::Steps(None);
+    }
+    match one(rest) {
+        Some(step) => Command::Steps(Some(step)),
+        None => Command::Wrong("steps [K]\n"),
     }
 }
 
@@ -170,7 +172,7 @@ fn is_seed(before: &str, last: &str) -> bool {
         return false;
     }
     match before.as_bytes() {
-        [.., end] => end.is_ascii_alphanumeric() || b"_)]".contains(end),
+        [.., end] => end.is_ascii_alphanumeric() || matches!(*end, b'_' | b')' | b']'),
         [] => false,
     }
 }
@@ -178,7 +180,7 @@ fn is_seed(before: &str, last: &str) -> bool {
 // The seed that stands behind a condition.
 fn seed_in<'l>(rest: &[&'l str]) -> Option<&'l str> {
     match rest {
-        [_, .., before, last] if is_seed(before, last) => Some(last),
+        [_, .., before, last] if is_seed(before, last) => Some(*last),
         _ => None,
     }
 }

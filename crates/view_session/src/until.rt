@@ -240,14 +240,14 @@ pub enum Reached {
     Absent(Whose),
 }
 
-fn reached(is_so: bool) -> Reached {
+fn reached_if(is_so: bool) -> Reached {
     if is_so { Reached::Yes } else { Reached::No }
 }
 
 // Whether a condition holds in a state.
 fn holds(picture: &Picture<'_, '_, '_>, condition: &Condition) -> Reached {
     match condition.worth(picture) {
-        Ok(worth) => reached(worth != 0),
+        Ok(worth) => reached_if(worth != 0),
         Err(fault) => match condition.absent(picture) {
             Some(whose) => Reached::Absent(whose),
             None => Reached::Fault(fault),
@@ -259,14 +259,14 @@ fn holds(picture: &Picture<'_, '_, '_>, condition: &Condition) -> Reached {
 pub fn is_reached(world: &World<'_, '_>, aim: &Aim) -> Result<Reached, AllocError> {
     let picture = picture_of(world);
     match aim {
-        Aim::Line(line) => Ok(reached(is_at_line(&picture, *line))),
-        Aim::Equal(cell, number) => Ok(reached(
+        Aim::Line(line) => Ok(reached_if(is_at_line(&picture, *line))),
+        Aim::Equal(cell, number) => Ok(reached_if(
             is_owned(&picture, *cell) && has_number(&picture, cell.place, *number),
         )),
-        Aim::Other(cell, number) => Ok(reached(
+        Aim::Other(cell, number) => Ok(reached_if(
             is_owned(&picture, *cell) && !has_number(&picture, cell.place, *number),
         )),
-        Aim::Written(cell) => Ok(reached(is_written(world, *cell)?)),
+        Aim::Written(cell) => Ok(reached_if(is_written(world, *cell)?)),
         Aim::Holds(condition) => Ok(holds(&picture, condition)),
     }
 }

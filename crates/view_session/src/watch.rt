@@ -36,7 +36,8 @@ impl Watch {
     }
 }
 
-fn watch(alloc: Global, text: &str, aim: Aim) -> Result<Watch, AllocError> {
+// A watch with these words.
+fn watch_with(alloc: Global, text: &str, aim: Aim) -> Result<Watch, AllocError> {
     let mut words = Vec::new(alloc);
     words.extend_from_slice(text.as_bytes())?;
     Ok(Watch {
@@ -85,10 +86,14 @@ fn add_no_aim<'l>(why: NoAim, goal: Goal<'l>, out: &mut Writer)
     }
 }
 
+fn is_plain_byte(byte: u8) -> bool {
+    byte.is_ascii_alphanumeric() || matches!(byte, b'_' | b'.' | b'[' | b']' | b':' | b'-')
+}
+
 // Whether a text is of what the name of a cell has, or a value.
 fn is_plain(text: &str) -> bool {
     for byte in text.as_bytes() {
-        if !byte.is_ascii_alphanumeric() && !b"_.[]:-".contains(byte) {
+        if !is_plain_byte(*byte) {
             return false;
         }
     }
@@ -139,7 +144,7 @@ pub fn watch_for(
     ensures { Stays out.old out.new }
 {
     match condition_of(world, text, out)? {
-        Some(condition) => Ok(Some(watch(out.allocator(), text, Aim::Holds(condition))?)),
+        Some(condition) => Ok(Some(watch_with(out.allocator(), text, Aim::Holds(condition))?)),
         None => Ok(None),
     }
 }
@@ -179,7 +184,7 @@ fn watch_by<'l>(
 {
     let mut compared = Writer::new(out.allocator());
     match aim_of(world, goal, &mut compared)? {
-        Ok(aim) => Ok(Some(watch(out.allocator(), text, aim)?)),
+        Ok(aim) => Ok(Some(watch_with(out.allocator(), text, aim)?)),
         Err(why) => else_condition(world, text, why, goal, out),
     }
 }

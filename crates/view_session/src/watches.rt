@@ -110,9 +110,10 @@ pub fn first_met(
 ) -> Result<Option<usize>, AllocError>
     ensures { Stays out.old out.new }
 {
-    for numbered in watches.kept.as_mut_slice() {
-        if meets(world, &mut numbered.watch, out)? {
-            return Ok(Some(numbered.number));
+    let kept = watches.kept.as_mut_slice();
+    for at in 0..kept.len() {
+        if meets(world, &mut kept[at].watch, out)? {
+            return Ok(Some(kept[at].number));
         }
     }
     Ok(None)
