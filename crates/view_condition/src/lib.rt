@@ -1,6 +1,7 @@
 //! Conditions over all of a state: how they are read, and what they are worth.
 #![tactic(auto)]
 
+mod base;
 pub mod condition;
 mod names;
 mod places;

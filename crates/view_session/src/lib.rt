@@ -5,6 +5,7 @@ pub mod answers;
 pub mod branches;
 pub mod charted;
 pub mod command;
+mod forms;
 mod going;
 mod help;
 mod listed;

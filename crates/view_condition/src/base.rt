@@ -1,0 +1,135 @@
+//! What the first names of a reference lead to.
+
+use crate::names::{Shape, constant_named, shape_named, sort_named};
+use crate::places::LINE;
+use crate::refusal::{Cause, Unread, refused};
+use crate::sight::{Sight, Whose};
+use check_uses::arithmetic::read;
+use pml_tree::tree::{Expr, Reference, Step};
+use view_cells::picture::Picture;
+use view_cells::processes::is_standing_line;
+
+/// A variable that is named, and as what it is declared.
+#[derive(Clone, Copy)]
+pub struct Found {
+    pub sight: Sight,
+    pub shape: Shape,
+}
+
+/// What the first names of a reference lead to.
+#[derive(Clone, Copy)]
+pub enum Base {
+    Number(i32),
+    ProcessCount,
+    /// Whether somebody stands at a line.
+    Fact(Sight),
+    Global(Found),
+    /// A variable of a process, which the first of the fields names.
+    Local(Found),
+}
+
+// The index of a step, where that is a number alone.
+fn number_in(step: &Step<'_>) -> Option<u32> {
+    match step.index.as_ref()?.get() {
+        Expr::Number(token) => read(token.text()),
+        _ => None,
+    }
+}
+
+// That somebody stands at a line: this process, or any.
+fn fact(
+    whose: Option<Whose>,
+    step: &Step<'_>,
+    rest: &[Step<'_>],
+    picture: &Picture<'_, '_, '_>,
+) -> Result<Base, Unread> {
+    if let [field, ..] = rest {
+        return Err(refused(Cause::Field, field.name.line()));
+    }
+    match (number_in(step), whose) {
+        (Some(line), _) if !is_standing_line(picture, line) => Err(refused(
+            Cause::Line,
+            step.name.line().saturating_add(5),
+        )),
+        (Some(line), Some(whose)) => Ok(Base::Fact(Sight::At(whose, line))),
+        (Some(line), None) => Ok(Base::Fact(Sight::Line(line))),
+        (None, _) => Err(refused(Cause::Number, step.name.line())),
+    }
+}
+
+// The process that is named by its proctype, of this number, and its own.
+fn whose_of(sort: usize, step: &Step<'_>) -> Result<Whose, Unread> {
+    match number_in(step) {
+        Some(number) => match u8::try_from(number) {
+            Ok(process) => Ok(Whose { process, sort }),
+            Err(_) => Err(refused(Cause::Process, step.name.line())),
+        },
+        None => Err(refused(Cause::Process, step.name.line())),
+    }
+}
+
+// What a process, of the proctype with this number, has under the name of a field.
+fn of_process(
+    sort: usize,
+    r: &Reference<'_>,
+    picture: &Picture<'_, '_, '_>,
+) -> Result<Base, Unread> {
+    let whose = whose_of(sort, &r.first)?;
+    let [step, rest @ ..] = r.fields.as_slice() else {
+        return Err(refused(Cause::Process, r.first.name.line()));
+    };
+    if step.name.text() == LINE {
+        return fact(Some(whose), step, rest, picture);
+    }
+    let Some(proctype) = picture.program().proctypes.as_slice().get(sort) else {
+        return Err(refused(Cause::Process, r.first.name.line()));
+    };
+    match shape_named(proctype.variables.as_slice(), step.name.text()) {
+        Some(shape) => Ok(Base::Local(Found {
+            sight: Sight::Local(whose, shape.number),
+            shape,
+        })),
+        None => Err(refused(Cause::Name, step.name.line())),
+    }
+}
+
+// A number that a name stands for, which has no index and no field.
+fn plain(base: Base, r: &Reference<'_>) -> Result<Base, Unread> {
+    if r.first.index.is_some() || !r.fields.is_empty() {
+        return Err(refused(Cause::Index, r.first.name.line()));
+    }
+    Ok(base)
+}
+
+// What is of one process, and named by no process.
+fn is_alone(name: &[u8]) -> bool {
+    name == b"_pid".as_slice() || name == b"_".as_slice()
+}
+
+/// What the first names of a reference lead to.
+pub fn base_of(r: &Reference<'_>, picture: &Picture<'_, '_, '_>) -> Result<Base, Unread> {
+    let name = r.first.name.text();
+    if name == LINE {
+        return fact(None, &r.first, r.fields.as_slice(), picture);
+    }
+    if is_alone(name) {
+        return Err(refused(Cause::Alone, r.first.name.line()));
+    }
+    if name == b"_nr_pr".as_slice() {
+        return plain(Base::ProcessCount, r);
+    }
+    let program = picture.program();
+    if let Some(shape) = shape_named(program.globals.as_slice(), name) {
+        return Ok(Base::Global(Found {
+            sight: Sight::Global(shape.number),
+            shape,
+        }));
+    }
+    if let Some(number) = constant_named(program.constants.as_slice(), name) {
+        return plain(Base::Number(number), r);
+    }
+    match sort_named(program.proctypes.as_slice(), name) {
+        Some(sort) => of_process(sort, r, picture),
+        None => Err(refused(Cause::Name, r.first.name.line())),
+    }
+}
