@@ -20,6 +20,7 @@ pub mod seen;
 mod showing;
 pub mod steps;
 pub mod stopped;
+mod taking;
 pub mod told;
 pub mod until;
 pub mod watch;

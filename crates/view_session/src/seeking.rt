@@ -3,8 +3,9 @@
 ghost use Rattle.view_text.specs.Written.{Stays};
 ghost use Rattle.view_walk.specs.Walks.{SameModel};
 
-use crate::steps::{Taken, can_move, choose, only_of, take};
+use crate::steps::{Taken, choose, take};
 use crate::stopped::Stopped;
+use crate::taking::{can_move, only_of};
 use crate::told::{Told, met_break};
 use crate::watch::{Watch, meets};
 use promela_run::moves::Move;
