@@ -8,10 +8,10 @@ use Rattle.promela_run.specs.State.{State, channel_at, filling}
 use Rattle.promela_run.specs.Steps.{sorts}
 use Rattle.pml_value.specs.Seen as view
 use Rattle.view_cells.specs.Processes.{line_of}
-use Rattle.view_condition.specs.declared.sight.Whose.{Whose}
-use Rattle.view_condition.specs.declared.sight.Sight.{Sight}
-use Rattle.view_condition.specs.declared.sight.Sight.TheVariants.{Global, Local, At, Line}
-use Rattle.view_condition.specs.declared.whole.Whole.{Whole}
+use Rattle.view_condition.specs.declared.subject.Whose.{Whose}
+use Rattle.view_condition.specs.declared.subject.Subject.{Subject}
+use Rattle.view_condition.specs.declared.subject.Subject.TheVariants.{Global, Local, At, Line}
+use Rattle.view_condition.specs.declared.overview.Overview.{Overview}
 
 abbrev pub is_sort : ℕ → Option ℕ → Bool
 is_sort k None = false
@@ -31,7 +31,7 @@ any_at s line zero = false
 any_at s line (suc n) = any_at s line n || (line_of s n == line)
 
 -- how many cells a variable has: those of a process that is not there has none
-abbrev pub size_by : State → Option Sight → ℕ
+abbrev pub size_by : State → Option Subject → ℕ
 size_by s None = 0
 size_by s (Some (Global v)) = size_at s.frames 0 v
 size_by s (Some (Local w v)) = if is_there s w then size_at s.frames (w.process + 1) v else 0
@@ -43,7 +43,7 @@ abbrev pub number_by_frame : State → ℕ → ℕ → ℕ → ℤ
 number_by_frame s frame variable cell = number_at s.frames (record { frame = frame; variable = variable; cell = cell })
 
 -- the number of a cell of a variable
-abbrev pub number_by : State → Option Sight → ℕ → ℤ
+abbrev pub number_by : State → Option Subject → ℕ → ℤ
 number_by s None cell = pos 0
 number_by s (Some (Global v)) cell = number_by_frame s 0 v cell
 number_by s (Some (Local w v)) cell = number_by_frame s (w.process + 1) v cell
@@ -51,11 +51,11 @@ number_by s (Some (At w line)) cell = truth (stands_at s w line)
 number_by s (Some (Line line)) cell = truth (any_at s line (length s.stands))
 
 -- what a condition reads of a state, where its variables are these
-abbrev pub all_of : State → List Sight → Reading
-all_of s sights = record {
+abbrev pub all_of : State → List Subject → Reading
+all_of s subjects = record {
   frame = λ local. 0;
-  cells = λ frame variable. size_by s (slice_get sights variable);
-  holds = λ p. number_by s (slice_get sights p.variable) p.cell;
+  cells = λ frame variable. size_by s (slice_get subjects variable);
+  holds = λ p. number_by s (slice_get subjects p.variable) p.cell;
   pid = pos 0;
   process_count = pos (length s.stands);
   timeout = false;
@@ -63,11 +63,11 @@ all_of s sights = record {
 }
 
 -- the same of what is lent
-abbrev pub seen : Whole → Reading
+abbrev pub seen : Overview → Reading
 seen w = record {
   frame = λ local. 0;
-  cells = λ frame variable. size_by w.picture.now (slice_get w.sights.now variable);
-  holds = λ p. number_by w.picture.now (slice_get w.sights.now p.variable) p.cell;
+  cells = λ frame variable. size_by w.picture.now (slice_get w.subjects.now variable);
+  holds = λ p. number_by w.picture.now (slice_get w.subjects.now p.variable) p.cell;
   pid = pos 0;
   process_count = (view.seen w.view).process_count;
   timeout = false;

@@ -1,9 +1,9 @@
 //! What the first names of a reference lead to.
 
-use crate::names::{Shape, constant_named, shape_named, sort_named};
+use crate::names::{Declaration, constant_named, declared_as, sort_named};
 use crate::places::LINE;
-use crate::refusal::{Cause, Unread, refused};
-use crate::sight::{Sight, Whose};
+use crate::subject::{Subject, Whose};
+use crate::unread::{Flaw, Unread, flawed};
 use check_uses::arithmetic::read;
 use pml_tree::tree::{Expr, Reference, Step};
 use view_cells::picture::Picture;
@@ -12,8 +12,8 @@ use view_cells::processes::is_standing_line;
 /// A variable that is named, and as what it is declared.
 #[derive(Clone, Copy)]
 pub struct Found {
-    pub sight: Sight,
-    pub shape: Shape,
+    pub subject: Subject,
+    pub declared: Declaration,
 }
 
 /// What the first names of a reference lead to.
@@ -22,7 +22,7 @@ pub enum Base {
     Number(i32),
     ProcessCount,
     /// Whether somebody stands at a line.
-    Fact(Sight),
+    Fact(Subject),
     Global(Found),
     /// A variable of a process, which the first of the fields names.
     Local(Found),
@@ -44,16 +44,16 @@ fn fact(
     picture: &Picture<'_, '_, '_>,
 ) -> Result<Base, Unread> {
     if let [field, ..] = rest {
-        return Err(refused(Cause::Field, field.name.line()));
+        return Err(flawed(Flaw::Field, field.name.line()));
     }
     match (number_in(step), whose) {
-        (Some(line), _) if !is_standing_line(picture, line) => Err(refused(
-            Cause::Line,
+        (Some(line), _) if !is_standing_line(picture, line) => Err(flawed(
+            Flaw::Line,
             step.name.line().saturating_add(5),
         )),
-        (Some(line), Some(whose)) => Ok(Base::Fact(Sight::At(whose, line))),
-        (Some(line), None) => Ok(Base::Fact(Sight::Line(line))),
-        (None, _) => Err(refused(Cause::Number, step.name.line())),
+        (Some(line), Some(whose)) => Ok(Base::Fact(Subject::At(whose, line))),
+        (Some(line), None) => Ok(Base::Fact(Subject::Line(line))),
+        (None, _) => Err(flawed(Flaw::Number, step.name.line())),
     }
 }
 
@@ -62,9 +62,9 @@ fn whose_of(sort: usize, step: &Step<'_>) -> Result<Whose, Unread> {
     match number_in(step) {
         Some(number) => match u8::try_from(number) {
             Ok(process) => Ok(Whose { process, sort }),
-            Err(_) => Err(refused(Cause::Process, step.name.line())),
+            Err(_) => Err(flawed(Flaw::Process, step.name.line())),
         },
-        None => Err(refused(Cause::Process, step.name.line())),
+        None => Err(flawed(Flaw::Process, step.name.line())),
     }
 }
 
@@ -76,27 +76,27 @@ fn of_process(
 ) -> Result<Base, Unread> {
     let whose = whose_of(sort, &r.first)?;
     let [step, rest @ ..] = r.fields.as_slice() else {
-        return Err(refused(Cause::Process, r.first.name.line()));
+        return Err(flawed(Flaw::Process, r.first.name.line()));
     };
     if step.name.text() == LINE {
         return fact(Some(whose), step, rest, picture);
     }
     let Some(proctype) = picture.program().proctypes.as_slice().get(sort) else {
-        return Err(refused(Cause::Process, r.first.name.line()));
+        return Err(flawed(Flaw::Process, r.first.name.line()));
     };
-    match shape_named(proctype.variables.as_slice(), step.name.text()) {
-        Some(shape) => Ok(Base::Local(Found {
-            sight: Sight::Local(whose, shape.number),
-            shape,
+    match declared_as(proctype.variables.as_slice(), step.name.text()) {
+        Some(declared) => Ok(Base::Local(Found {
+            subject: Subject::Local(whose, declared.number),
+            declared,
         })),
-        None => Err(refused(Cause::Name, step.name.line())),
+        None => Err(flawed(Flaw::Name, step.name.line())),
     }
 }
 
 // A number that a name stands for, which has no index and no field.
 fn plain(base: Base, r: &Reference<'_>) -> Result<Base, Unread> {
     if r.first.index.is_some() || !r.fields.is_empty() {
-        return Err(refused(Cause::Index, r.first.name.line()));
+        return Err(flawed(Flaw::Index, r.first.name.line()));
     }
     Ok(base)
 }
@@ -113,16 +113,16 @@ pub fn base_of(r: &Reference<'_>, picture: &Picture<'_, '_, '_>) -> Result<Base,
         return fact(None, &r.first, r.fields.as_slice(), picture);
     }
     if is_alone(name) {
-        return Err(refused(Cause::Alone, r.first.name.line()));
+        return Err(flawed(Flaw::Alone, r.first.name.line()));
     }
     if name == b"_nr_pr".as_slice() {
         return plain(Base::ProcessCount, r);
     }
     let program = picture.program();
-    if let Some(shape) = shape_named(program.globals.as_slice(), name) {
+    if let Some(declared) = declared_as(program.globals.as_slice(), name) {
         return Ok(Base::Global(Found {
-            sight: Sight::Global(shape.number),
-            shape,
+            subject: Subject::Global(declared.number),
+            declared,
         }));
     }
     if let Some(number) = constant_named(program.constants.as_slice(), name) {
@@ -130,6 +130,6 @@ pub fn base_of(r: &Reference<'_>, picture: &Picture<'_, '_, '_>) -> Result<Base,
     }
     match sort_named(program.proctypes.as_slice(), name) {
         Some(sort) => of_process(sort, r, picture),
-        None => Err(refused(Cause::Name, r.first.name.line())),
+        None => Err(flawed(Flaw::Name, r.first.name.line())),
     }
 }

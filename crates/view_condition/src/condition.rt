@@ -4,11 +4,11 @@ ghost use Rattle.std.specs.Prelude.{◌≡◌};
 ghost use Rattle.promela_process.specs.Expressions.{val};
 ghost use Rattle.view_condition.specs.Seen.{all_of};
 
+use crate::overview::Overview;
 use crate::places::respelled;
-use crate::refusal::{Cause, Unread, refused};
 use crate::resolve::resolved;
-use crate::sight::{Sight, Whose, is_there};
-use crate::whole::Whole;
+use crate::subject::{Subject, Whose, is_there};
+use crate::unread::{Flaw, Unread, flawed};
 use diagnostics::Fault;
 use explain_tokens::placed;
 use pml_eval::eval::eval;
@@ -34,7 +34,7 @@ pub const MOST_DEPTH: usize = 100;
 #[derive(Drop)]
 pub struct Condition {
     worth: Expr,
-    sights: Vec<Sight>,
+    subjects: Vec<Subject>,
 }
 
 // The tokens of a text, each with its place.
@@ -42,8 +42,8 @@ fn tokens_of<'t>(alloc: Global, text: &'t [u8]) -> Result<Vec<Token<'t>>, Unread
     match placed(alloc, text) {
         Ok(tokens) => Ok(respelled(alloc, tokens.as_slice())?),
         Err(LexError::Memory) => Err(Unread::Memory),
-        Err(LexError::Lexical(at)) => Err(refused(Cause::Lexical, at)),
-        Err(_) => Err(refused(Cause::Long, 0)),
+        Err(LexError::Lexical(at)) => Err(flawed(Flaw::Lexical, at)),
+        Err(_) => Err(flawed(Flaw::Long, 0)),
     }
 }
 
@@ -58,8 +58,8 @@ fn place_of(tokens: &[Token<'_>], left: usize) -> Option<u32> {
 // That no rule reads the token from which on there are so many.
 fn unreadable(tokens: &[Token<'_>], left: usize) -> Unread {
     match place_of(tokens, left) {
-        Some(at) => refused(Cause::Syntax, at),
-        None => refused(Cause::Short, u32::MAX),
+        Some(at) => flawed(Flaw::Syntax, at),
+        None => flawed(Flaw::Short, u32::MAX),
     }
 }
 
@@ -91,7 +91,7 @@ fn tree_of<'a>(
 // Why tokens are none that is nested as deep as a condition may be.
 fn why_none(alloc: Global, tokens: &[Token<'_>], left: usize) -> Unread {
     match tree_of(alloc, MOST_BYTES, tokens) {
-        Ok(_) => refused(Cause::Deep, u32::MAX),
+        Ok(_) => flawed(Flaw::Deep, u32::MAX),
         Err(ReadFault::Memory) => Unread::Memory,
         Err(ReadFault::Syntax(_)) => unreadable(tokens, left),
     }
@@ -103,11 +103,11 @@ fn condition_of(
     tokens: &[Token<'_>],
     picture: &Picture<'_, '_, '_>,
 ) -> Result<Condition, Unread> {
-    let mut sights = Vec::new(alloc);
+    let mut subjects = Vec::new(alloc);
     match tree_of(alloc, MOST_DEPTH, tokens) {
         Ok(tree) => {
-            let worth = resolved(alloc, tree.get(), picture, &mut sights)?;
-            Ok(Condition { worth, sights })
+            let worth = resolved(alloc, tree.get(), picture, &mut subjects)?;
+            Ok(Condition { worth, subjects })
         }
         Err(ReadFault::Memory) => Err(Unread::Memory),
         Err(ReadFault::Syntax(left)) => Err(why_none(alloc, tokens, left)),
@@ -121,11 +121,11 @@ pub fn condition_in(
     picture: &Picture<'_, '_, '_>,
 ) -> Result<Condition, Unread> {
     if text.len() > MOST_BYTES {
-        return Err(refused(Cause::Long, u32::MAX));
+        return Err(flawed(Flaw::Long, u32::MAX));
     }
     let tokens = tokens_of(alloc, text)?;
     if let Some(at) = timeout_in(tokens.as_slice()) {
-        return Err(refused(Cause::Alone, at));
+        return Err(flawed(Flaw::Alone, at));
     }
     condition_of(alloc, tokens.as_slice(), picture)
 }
@@ -133,16 +133,16 @@ pub fn condition_in(
 impl Condition {
     /// Its worth in a state, or the first fault from the left.
     pub fn worth(&self, picture: &Picture<'_, '_, '_>) -> Result<i32, Fault>
-        ensures { result ≡ val self.now.worth (all_of picture.now self.now.sights.items) }
+        ensures { result ≡ val self.now.worth (all_of picture.now self.now.subjects.items) }
     {
-        let whole = Whole::new(picture, self.sights.as_slice());
-        eval(&self.worth, &whole)
+        let overview = Overview::new(picture, self.subjects.as_slice());
+        eval(&self.worth, &overview)
     }
 
     /// A process that it names, and that is not there in a state.
     pub fn absent(&self, picture: &Picture<'_, '_, '_>) -> Option<Whose> {
-        for sight in self.sights.as_slice() {
-            if let Some(whose) = sight.whose() {
+        for subject in self.subjects.as_slice() {
+            if let Some(whose) = subject.whose() {
                 if !is_there(picture, whose) {
                     return Some(whose);
                 }

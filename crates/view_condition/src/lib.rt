@@ -4,8 +4,8 @@
 mod base;
 pub mod condition;
 mod names;
+pub mod overview;
 mod places;
-pub mod refusal;
 mod resolve;
-pub mod sight;
-pub mod whole;
+pub mod subject;
+pub mod unread;

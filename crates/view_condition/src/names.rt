@@ -8,7 +8,7 @@ use pml_token::token::Token;
 
 /// A variable or a field, by its number among its owner's, as it is declared.
 #[derive(Clone, Copy, Debug, PartialEq, Eq)]
-pub struct Shape {
+pub struct Declaration {
     pub number: usize,
     pub form: Form,
     pub array: bool,
@@ -18,13 +18,13 @@ pub struct Shape {
 }
 
 /// The variable or the field with this name.
-pub fn shape_named(slots: &[Slot<'_>], name: &[u8]) -> Option<Shape>
+pub fn declared_as(slots: &[Slot<'_>], name: &[u8]) -> Option<Declaration>
     ensures { IfSome result (λ s. s.number < length slots.now) }
 {
     for number in 0..slots.len() {
         let slot = &slots[number];
         if slot.name.text() == name {
-            return Some(Shape {
+            return Some(Declaration {
                 number,
                 form: slot.form,
                 array: slot.array,
@@ -38,13 +38,13 @@ pub fn shape_named(slots: &[Slot<'_>], name: &[u8]) -> Option<Shape>
 }
 
 /// The field with this name of a type.
-pub fn field_named(typedefs: &[Fields<'_>], form: Form, name: &[u8]) -> Option<Shape> {
+pub fn field_named(typedefs: &[Fields<'_>], form: Form, name: &[u8]) -> Option<Declaration> {
     let Form::Struct(owner) = form else {
         return None;
     };
     for fields in typedefs {
         if fields.owner == owner {
-            return shape_named(fields.fields.as_slice(), name);
+            return declared_as(fields.fields.as_slice(), name);
         }
     }
     None

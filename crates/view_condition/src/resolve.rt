@@ -1,9 +1,9 @@
 //! An expression of a condition, with its names replaced by what they stand for. A name is looked up once.
 
 use crate::base::{Base, Found, base_of};
-use crate::names::{Shape, field_named};
-use crate::refusal::{Cause, Unread, refused};
-use crate::sight::Sight;
+use crate::names::{Declaration, field_named};
+use crate::subject::Subject;
+use crate::unread::{Flaw, Unread, flawed};
 use check_uses::arithmetic::{negative, value};
 use pml_program::expr::{Expr, Target, Turn, Want};
 use pml_program::form::Form;
@@ -24,19 +24,23 @@ fn literal(token: &Token<'_>, sign: Sign) -> Result<i32, Unread> {
     };
     match signed {
         Constant::Is(number) => Ok(number),
-        _ => Err(refused(Cause::Number, token.line())),
+        _ => Err(flawed(Flaw::Number, token.line())),
     }
 }
 
 // The number that the next variable of a condition has, which is this.
-fn numbered(sight: Sight, sights: &mut Vec<Sight>) -> Result<usize, AllocError> {
-    let number = sights.len();
-    sights.push(sight)?;
+fn numbered(subject: Subject, subjects: &mut Vec<Subject>) -> Result<usize, AllocError> {
+    let number = subjects.len();
+    subjects.push(subject)?;
     Ok(number)
 }
 
 // A fact, as a variable.
-fn fact_read(alloc: Global, sight: Sight, sights: &mut Vec<Sight>) -> Result<Expr, AllocError> {
+fn fact_read(
+    alloc: Global,
+    subject: Subject,
+    subjects: &mut Vec<Subject>,
+) -> Result<Expr, AllocError> {
     let mut turns = Items::new(alloc);
     turns.push(Turn {
         offset: 0,
@@ -46,7 +50,7 @@ fn fact_read(alloc: Global, sight: Sight, sights: &mut Vec<Sight>) -> Result<Exp
     })?;
     Ok(Expr::Read(Target {
         local: false,
-        variable: numbered(sight, sights)?,
+        variable: numbered(subject, subjects)?,
         form: Form::Plain(Scalar::Bit),
         turns,
     }))
@@ -59,20 +63,20 @@ fn index(
     is_array: bool,
     step: &Step<'_>,
     picture: &Picture<'_, '_, '_>,
-    sights: &mut Vec<Sight>,
+    subjects: &mut Vec<Subject>,
 ) -> Result<Option<Boxed<Expr>>, Unread> {
     match &step.index {
         None => {
             if is_array {
-                return Err(refused(Cause::Array, step.name.line()));
+                return Err(flawed(Flaw::Array, step.name.line()));
             }
             Ok(None)
         }
         Some(e) => {
             if !is_array {
-                return Err(refused(Cause::Index, step.name.line()));
+                return Err(flawed(Flaw::Index, step.name.line()));
             }
-            Ok(Some(boxed(alloc, e.get(), picture, sights)?))
+            Ok(Some(boxed(alloc, e.get(), picture, subjects)?))
         }
     }
 }
@@ -81,16 +85,16 @@ fn index(
 #[cycle(resolve)]
 fn turn(
     alloc: Global,
-    shape: Shape,
+    declared: Declaration,
     step: &Step<'_>,
     picture: &Picture<'_, '_, '_>,
-    sights: &mut Vec<Sight>,
+    subjects: &mut Vec<Subject>,
 ) -> Result<Turn, Unread> {
-    let index = index(alloc, shape.array, step, picture, sights)?;
+    let index = index(alloc, declared.array, step, picture, subjects)?;
     Ok(Turn {
-        offset: shape.offset,
-        length: shape.length,
-        stride: shape.stride,
+        offset: declared.offset,
+        length: declared.length,
+        stride: declared.stride,
         index,
     })
 }
@@ -102,17 +106,17 @@ fn through(
     form: Form,
     steps: &[Step<'_>],
     picture: &Picture<'_, '_, '_>,
-    sights: &mut Vec<Sight>,
+    subjects: &mut Vec<Subject>,
     turns: &mut Items<Turn>,
 ) -> Result<Form, Unread> {
     let mut here = form;
     for step in steps {
         let typedefs = picture.program().typedefs.as_slice();
-        let Some(shape) = field_named(typedefs, here, step.name.text()) else {
-            return Err(refused(Cause::Field, step.name.line()));
+        let Some(declared) = field_named(typedefs, here, step.name.text()) else {
+            return Err(flawed(Flaw::Field, step.name.line()));
         };
-        turns.push(turn(alloc, shape, step, picture, sights)?)?;
-        here = shape.form;
+        turns.push(turn(alloc, declared, step, picture, subjects)?)?;
+        here = declared.form;
     }
     Ok(here)
 }
@@ -125,19 +129,19 @@ fn target(
     step: &Step<'_>,
     rest: &[Step<'_>],
     picture: &Picture<'_, '_, '_>,
-    sights: &mut Vec<Sight>,
+    subjects: &mut Vec<Subject>,
 ) -> Result<Target, Unread> {
-    let first = Shape {
+    let first = Declaration {
         offset: 0,
-        ..found.shape
+        ..found.declared
     };
     let mut turns = Items::new(alloc);
-    turns.push(turn(alloc, first, step, picture, sights)?)?;
-    let form = through(alloc, first.form, rest, picture, sights, &mut turns)?;
+    turns.push(turn(alloc, first, step, picture, subjects)?)?;
+    let form = through(alloc, first.form, rest, picture, subjects, &mut turns)?;
     if let Form::Struct(_) = form {
-        return Err(refused(Cause::Structure, step.name.line()));
+        return Err(flawed(Flaw::Structure, step.name.line()));
     }
-    let variable = numbered(found.sight, sights)?;
+    let variable = numbered(found.subject, subjects)?;
     Ok(Target {
         local: false,
         variable,
@@ -153,11 +157,11 @@ fn local_target(
     found: Found,
     r: &Reference<'_>,
     picture: &Picture<'_, '_, '_>,
-    sights: &mut Vec<Sight>,
+    subjects: &mut Vec<Subject>,
 ) -> Result<Target, Unread> {
     match r.fields.as_slice() {
-        [step, rest @ ..] => target(alloc, found, step, rest, picture, sights),
-        [] => Err(refused(Cause::Process, r.first.name.line())),
+        [step, rest @ ..] => target(alloc, found, step, rest, picture, subjects),
+        [] => Err(flawed(Flaw::Process, r.first.name.line())),
     }
 }
 
@@ -167,21 +171,21 @@ fn read(
     alloc: Global,
     r: &Reference<'_>,
     picture: &Picture<'_, '_, '_>,
-    sights: &mut Vec<Sight>,
+    subjects: &mut Vec<Subject>,
 ) -> Result<Expr, Unread> {
     match base_of(r, picture)? {
         Base::Number(number) => Ok(Expr::Number(number)),
         Base::ProcessCount => Ok(Expr::ProcessCount),
-        Base::Fact(sight) => Ok(fact_read(alloc, sight, sights)?),
+        Base::Fact(subject) => Ok(fact_read(alloc, subject, subjects)?),
         Base::Global(found) => Ok(Expr::Read(target(
             alloc,
             found,
             &r.first,
             r.fields.as_slice(),
             picture,
-            sights,
+            subjects,
         )?)),
-        Base::Local(found) => Ok(Expr::Read(local_target(alloc, found, r, picture, sights)?)),
+        Base::Local(found) => Ok(Expr::Read(local_target(alloc, found, r, picture, subjects)?)),
     }
 }
 
@@ -191,12 +195,19 @@ fn placed(
     alloc: Global,
     r: &Reference<'_>,
     picture: &Picture<'_, '_, '_>,
-    sights: &mut Vec<Sight>,
+    subjects: &mut Vec<Subject>,
 ) -> Result<Target, Unread> {
     match base_of(r, picture)? {
-        Base::Global(found) => target(alloc, found, &r.first, r.fields.as_slice(), picture, sights),
-        Base::Local(found) => local_target(alloc, found, r, picture, sights),
-        _ => Err(refused(Cause::Channel, r.first.name.line())),
+        Base::Global(found) => target(
+            alloc,
+            found,
+            &r.first,
+            r.fields.as_slice(),
+            picture,
+            subjects,
+        ),
+        Base::Local(found) => local_target(alloc, found, r, picture, subjects),
+        _ => Err(flawed(Flaw::Channel, r.first.name.line())),
     }
 }
 
@@ -206,11 +217,11 @@ fn channel(
     alloc: Global,
     r: &Reference<'_>,
     picture: &Picture<'_, '_, '_>,
-    sights: &mut Vec<Sight>,
+    subjects: &mut Vec<Subject>,
 ) -> Result<Boxed<Target>, Unread> {
-    let place = placed(alloc, r, picture, sights)?;
+    let place = placed(alloc, r, picture, subjects)?;
     if !is_chan(place.form) {
-        return Err(refused(Cause::Channel, r.first.name.line()));
+        return Err(flawed(Flaw::Channel, r.first.name.line()));
     }
     Ok(Boxed::new(alloc, place)?)
 }
@@ -221,7 +232,7 @@ fn into(
     alloc: Global,
     r: &Reference<'_>,
     picture: &Picture<'_, '_, '_>,
-    sights: &mut Vec<Sight>,
+    subjects: &mut Vec<Subject>,
 ) -> Result<Want, Unread> {
     if r.first.name.text() == b"_".as_slice() {
         return Ok(Want::Anything);
@@ -229,7 +240,7 @@ fn into(
     if let Base::Number(number) = base_of(r, picture)? {
         return Ok(Want::Exactly(number));
     }
-    Ok(Want::Into(placed(alloc, r, picture, sights)?))
+    Ok(Want::Into(placed(alloc, r, picture, subjects)?))
 }
 
 #[cycle(resolve)]
@@ -237,13 +248,13 @@ fn want(
     alloc: Global,
     argument: &Argument<'_>,
     picture: &Picture<'_, '_, '_>,
-    sights: &mut Vec<Sight>,
+    subjects: &mut Vec<Subject>,
 ) -> Result<Want, Unread> {
     match argument {
         Argument::Exactly(sign, token) => Ok(Want::Exactly(literal(token, *sign)?)),
         Argument::Fixed(truth) => Ok(Want::Exactly(if *truth { 1 } else { 0 })),
-        Argument::Eval(e) => Ok(Want::Equal(boxed(alloc, e.get(), picture, sights)?)),
-        Argument::Into(r) => into(alloc, r, picture, sights),
+        Argument::Eval(e) => Ok(Want::Equal(boxed(alloc, e.get(), picture, subjects)?)),
+        Argument::Into(r) => into(alloc, r, picture, subjects),
     }
 }
 
@@ -252,11 +263,11 @@ fn wants(
     alloc: Global,
     arguments: &[Argument<'_>],
     picture: &Picture<'_, '_, '_>,
-    sights: &mut Vec<Sight>,
+    subjects: &mut Vec<Subject>,
 ) -> Result<Items<Want>, Unread> {
     let mut found = Items::new(alloc);
     for argument in arguments {
-        found.push(want(alloc, argument, picture, sights)?)?;
+        found.push(want(alloc, argument, picture, subjects)?)?;
     }
     Ok(found)
 }
@@ -267,9 +278,9 @@ fn boxed(
     alloc: Global,
     e: &TreeExpr<'_>,
     picture: &Picture<'_, '_, '_>,
-    sights: &mut Vec<Sight>,
+    subjects: &mut Vec<Subject>,
 ) -> Result<Boxed<Expr>, Unread> {
-    let worth = resolved(alloc, e, picture, sights)?;
+    let worth = resolved(alloc, e, picture, subjects)?;
     Ok(Boxed::new(alloc, worth)?)
 }
 
@@ -279,29 +290,29 @@ pub fn resolved(
     alloc: Global,
     e: &TreeExpr<'_>,
     picture: &Picture<'_, '_, '_>,
-    sights: &mut Vec<Sight>,
+    subjects: &mut Vec<Subject>,
 ) -> Result<Expr, Unread> {
     match e {
         TreeExpr::Number(token) => Ok(Expr::Number(literal(token, Sign::Plus)?)),
         TreeExpr::Truth(truth) => Ok(Expr::Number(if *truth { 1 } else { 0 })),
         TreeExpr::Timeout => Ok(Expr::Timeout),
-        TreeExpr::Read(r) => read(alloc, r, picture, sights),
-        TreeExpr::Ask(fill, r) => Ok(Expr::Ask(*fill, channel(alloc, r, picture, sights)?)),
+        TreeExpr::Read(r) => read(alloc, r, picture, subjects),
+        TreeExpr::Ask(fill, r) => Ok(Expr::Ask(*fill, channel(alloc, r, picture, subjects)?)),
         TreeExpr::Poll(r, search, arguments) => {
-            let at = channel(alloc, r, picture, sights)?;
-            let asked = wants(alloc, arguments.as_slice(), picture, sights)?;
+            let at = channel(alloc, r, picture, subjects)?;
+            let asked = wants(alloc, arguments.as_slice(), picture, subjects)?;
             Ok(Expr::Poll(at, *search, asked))
         }
-        TreeExpr::Unary(op, a) => Ok(Expr::Unary(*op, boxed(alloc, a.get(), picture, sights)?)),
+        TreeExpr::Unary(op, a) => Ok(Expr::Unary(*op, boxed(alloc, a.get(), picture, subjects)?)),
         TreeExpr::Binary(op, a, b) => {
-            let left = boxed(alloc, a.get(), picture, sights)?;
-            let right = boxed(alloc, b.get(), picture, sights)?;
+            let left = boxed(alloc, a.get(), picture, subjects)?;
+            let right = boxed(alloc, b.get(), picture, subjects)?;
             Ok(Expr::Binary(*op, left, right))
         }
         TreeExpr::Choice(a, b, c) => {
-            let condition = boxed(alloc, a.get(), picture, sights)?;
-            let one = boxed(alloc, b.get(), picture, sights)?;
-            let other = boxed(alloc, c.get(), picture, sights)?;
+            let condition = boxed(alloc, a.get(), picture, subjects)?;
+            let one = boxed(alloc, b.get(), picture, subjects)?;
+            let other = boxed(alloc, c.get(), picture, subjects)?;
             Ok(Expr::Choice(condition, one, other))
         }
     }

@@ -11,7 +11,7 @@ use crate::listed::{add_moves_of, add_steps};
 use crate::question::{add_cause, add_question, add_whole_question};
 use crate::record::add_record;
 use crate::replay::Along;
-use crate::seeking::Way;
+use crate::seeking::Mode;
 use crate::seen::picture_of;
 use crate::showing::show;
 use crate::steps::{Taken, take};
@@ -201,7 +201,7 @@ fn recover(walk: &mut Walk<'_, '_>) -> Result<(), AllocError>
 fn may_cut<'l>(walk: &Walk<'_, '_>, command: Command<'l>) -> bool {
     match command {
         Command::Branch(_) => true,
-        Command::Forward(_) | Command::Run(_) | Command::Until(Way::Forced, _) => false,
+        Command::Forward(_) | Command::Run(_) | Command::Until(Mode::Forced, _) => false,
         _ => walk.at() < walk.legs().len(),
     }
 }

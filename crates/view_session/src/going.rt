@@ -6,7 +6,7 @@ ghost use Rattle.view_walk.specs.Walks.{SameModel};
 use crate::command::{Command, USUAL_RUN};
 use crate::listed::add_no_process;
 use crate::question::add_question;
-use crate::seeking::{Way, go_back_by, go_back_seeking, go_seeking};
+use crate::seeking::{Mode, go_back_by, go_back_seeking, go_seeking};
 use crate::seen::picture_of;
 use crate::stopped::add_stop;
 use crate::taking::{take_by_chance, take_legs, take_next, take_of, take_run};
@@ -42,7 +42,7 @@ fn go_back_to(walk: &mut Walk<'_, '_>, by: usize, told: &mut Told) -> Result<(),
 fn go_until(
     walk: &mut Walk<'_, '_>,
     limit: usize,
-    way: Way,
+    mode: Mode,
     text: &str,
     told: &mut Told,
 ) -> Result<(), AllocError>
@@ -50,7 +50,7 @@ fn go_until(
     ensures stays { Stays told.old.out told.new.out }
 {
     if let Some(mut watch) = watch_of(walk.world(), text, &mut told.out)? {
-        let stopped = go_seeking(walk, limit, way, &mut watch, told)?;
+        let stopped = go_seeking(walk, limit, mode, &mut watch, told)?;
         add_stop(stopped, watch.words(), &told.breaks, &mut told.out);
     }
     add_question(walk, told)
@@ -60,7 +60,7 @@ fn go_until(
 fn go_until_by(
     walk: &mut Walk<'_, '_>,
     limit: usize,
-    way: Way,
+    mode: Mode,
     text: &str,
     told: &mut Told,
 ) -> Result<(), AllocError>
@@ -68,12 +68,12 @@ fn go_until_by(
     ensures stays { Stays told.old.out told.new.out }
 {
     let living = walk.world().process_count();
-    match way {
-        Way::Process(process) if process >= living => {
+    match mode {
+        Mode::Process(process) if process >= living => {
             add_no_process(process, living, &mut told.out);
             Ok(())
         }
-        _ => go_until(walk, limit, way, text, told),
+        _ => go_until(walk, limit, mode, text, told),
     }
 }
 
@@ -255,7 +255,7 @@ pub fn go<'l>(
             return Ok(further(left, Command::Run(left)));
         }
         Command::Process(process) => go_with(walk, limit, process, told)?,
-        Command::Until(way, text) => go_until_by(walk, limit, way, text, told)?,
+        Command::Until(mode, text) => go_until_by(walk, limit, mode, text, told)?,
         Command::Random(most, seed) => {
             take_by_chance(walk, limit, most, seed, told)?;
             add_question(walk, told)?;

@@ -22,11 +22,11 @@ until COND              the same, until COND holds, as len(q) > 2 && P[2].x == 1
 p N until COND          steps of process N, until COND holds
 random until COND [S]   steps by chance (seed S, 1), until COND holds
 back until COND         back to the last state where COND held
-break COND, break line L, breaks, delete N
-                        each run stops where COND holds; what these are; without break N
+break COND, or line L   each run stops where that holds
+breaks, delete N        where each run stops; lets break N go
 print EXPR              what an expression is worth here
-display EXPR, undisplay N
-                        the same at each question; without display N
+display EXPR            the same at each question
+undisplay N             lets display N go
 branches, branch N      the ways that were left for others; goes to the end of one
 random N [SEED]         N steps by chance (1)
 chart                   the messages of the walk up to here
@@ -54,11 +54,6 @@ fn is_about(line: &str, name: &str) -> bool {
     false
 }
 
-// Whether a line of the help goes on with the one before it.
-fn goes_on(line: &str) -> bool {
-    line.starts_with("   ")
-}
-
 /// Writes the lines of the help that are about the command that a word names, or that there is none.
 pub fn add_help(word: &str, out: &mut Writer)
     ensures { Stays out.old out.new }
@@ -70,10 +65,8 @@ pub fn add_help(word: &str, out: &mut Writer)
     if name == Name::Help {
         out.add(HELP.as_bytes());
     }
-    let mut is_shown = false;
     for line in HELP.lines() {
-        is_shown = is_about(line, long_name(name)) || (is_shown && goes_on(line));
-        if is_shown {
+        if is_about(line, long_name(name)) {
             out.add(line.as_bytes());
             out.add(b"\n");
         }

@@ -22,7 +22,7 @@ pub const MOST_BY_CHANCE: usize = 1_000_000;
 
 /// How a run goes on.
 #[derive(Clone, Copy, Debug, PartialEq, Eq)]
-pub enum Way {
+pub enum Mode {
     /// By steps with one move.
     Forced,
     /// By steps of the process with this number alone.
@@ -194,23 +194,23 @@ fn go_by_chance(
 pub fn go_seeking(
     walk: &mut Walk<'_, '_>,
     limit: usize,
-    way: Way,
+    mode: Mode,
     watch: &mut Watch,
     told: &mut Told,
 ) -> Result<Stopped, AllocError>
     ensures model { SameModel walk.old walk.new }
     ensures stays { Stays told.old.out told.new.out }
 {
-    match way {
-        Way::Forced => go_shown(walk, limit, None, watch, told),
-        Way::Process(process) => go_shown(walk, limit, Some(process), watch, told),
-        Way::Chance(seed) => go_by_chance(walk, limit, seed, watch, told),
+    match mode {
+        Mode::Forced => go_shown(walk, limit, None, watch, told),
+        Mode::Process(process) => go_shown(walk, limit, Some(process), watch, told),
+        Mode::Chance(seed) => go_by_chance(walk, limit, seed, watch, told),
     }
 }
 
 // A state before where a walk stood, and why a run back stops there.
 #[derive(Clone, Copy)]
-struct Place {
+struct Found {
     step: usize,
     stopped: Stopped,
 }
@@ -221,7 +221,7 @@ fn last_seen(
     count: usize,
     watch: &mut Watch,
     told: &mut Told,
-) -> Result<Option<Place>, AllocError>
+) -> Result<Option<Found>, AllocError>
     ensures model { SameModel walk.old walk.new }
     ensures stays { Stays told.old.out told.new.out }
 {
@@ -230,7 +230,7 @@ fn last_seen(
         let step = step.min(walk.legs().len());
         walk.go_to(step)?;
         if let Some(stopped) = stop_at(walk, watch, told)? {
-            found = Some(Place { step, stopped });
+            found = Some(Found { step, stopped });
         }
     }
     Ok(found)
@@ -248,7 +248,7 @@ pub fn go_back_seeking(
     let at = walk.at();
     let place = match last_seen(walk, at, watch, told)? {
         Some(place) => place,
-        None => Place {
+        None => Found {
             step: 0,
             stopped: Stopped::Start,
         },
@@ -264,7 +264,7 @@ fn last_broken(
     first: usize,
     end: usize,
     told: &mut Told,
-) -> Result<Option<Place>, AllocError>
+) -> Result<Option<Found>, AllocError>
     ensures model { SameModel walk.old walk.new }
     ensures stays { Stays told.old.out told.new.out }
 {
@@ -276,7 +276,7 @@ fn last_broken(
         let step = step.min(walk.legs().len());
         walk.go_to(step)?;
         if let Some(number) = met_break(walk, told)? {
-            found = Some(Place {
+            found = Some(Found {
                 step,
                 stopped: Stopped::Break(number),
             });

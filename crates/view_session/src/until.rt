@@ -17,7 +17,7 @@ use view_cells::cells::{form_at, is_mtype, number_at};
 use view_cells::picture::Picture;
 use view_cells::processes::{is_standing_line, line_of};
 use view_condition::condition::Condition;
-use view_condition::sight::Whose;
+use view_condition::subject::Whose;
 use view_text::writer::Writer;
 
 /// Where a run is to stop, in the words of a line.

@@ -8,8 +8,8 @@ use diagnostics::Fault;
 use pml_sim::world::World;
 use std::alloc::{AllocError, Global};
 use view_condition::condition::{Condition, condition_in};
-use view_condition::refusal::Unread;
-use view_condition::sight::Whose;
+use view_condition::subject::Whose;
+use view_condition::unread::Unread;
 use view_text::writer::Writer;
 
 /// What a run looks for, with the words that it was named by.
@@ -128,8 +128,8 @@ pub fn condition_of(
     match condition_in(out.allocator(), text.as_bytes(), &picture_of(world)) {
         Ok(condition) => Ok(Some(condition)),
         Err(Unread::Memory) => Err(AllocError),
-        Err(Unread::Refused(refusal)) => {
-            refusal.add(text.as_bytes(), out);
+        Err(Unread::Refused(refused)) => {
+            refused.add(text.as_bytes(), out);
             Ok(None)
         }
     }

@@ -18,7 +18,7 @@ pub struct Whose {
 
 /// What a variable of a condition is in a state.
 #[derive(Clone, Copy, Debug, PartialEq, Eq)]
-pub enum Sight {
+pub enum Subject {
     /// A variable of the globals.
     Global(usize),
     /// A variable of a process, while it is of this proctype.
@@ -29,22 +29,22 @@ pub enum Sight {
     Line(u32),
 }
 
-impl Sight {
+impl Subject {
     /// The process that it is of.
     pub fn whose(self) -> Option<Whose> {
         match self {
-            Sight::Local(whose, _) | Sight::At(whose, _) => Some(whose),
-            Sight::Global(_) | Sight::Line(_) => None,
+            Subject::Local(whose, _) | Subject::At(whose, _) => Some(whose),
+            Subject::Global(_) | Subject::Line(_) => None,
         }
     }
 }
 
 /// What the variable with this number is.
-pub fn sight_at(sights: &[Sight], variable: usize) -> Option<Sight>
-    ensures { result ≡ slice_get sights.now variable }
+pub fn subject_at(subjects: &[Subject], variable: usize) -> Option<Subject>
+    ensures { result ≡ slice_get subjects.now variable }
 {
-    match sights.get(variable) {
-        Some(sight) => Some(*sight),
+    match subjects.get(variable) {
+        Some(subject) => Some(*subject),
         None => None,
     }
 }
@@ -79,7 +79,7 @@ fn any_at(picture: &Picture<'_, '_, '_>, line: u32, count: usize) -> bool
 
 // How many cells a variable of a process has, while it is there.
 fn local_size(picture: &Picture<'_, '_, '_>, whose: Whose, variable: usize) -> usize
-    ensures { result ≡ size_by picture.now (Some (Sight.Local whose variable)) }
+    ensures { result ≡ size_by picture.now (Some (Subject.Local whose variable)) }
 {
     if is_there(picture, whose) {
         cell_count(picture, usize::from(whose.process) + 1, variable)
@@ -89,13 +89,13 @@ fn local_size(picture: &Picture<'_, '_, '_>, whose: Whose, variable: usize) -> u
 }
 
 /// How many cells a variable has.
-pub fn size_by(picture: &Picture<'_, '_, '_>, sight: Option<Sight>) -> usize
-    ensures { result ≡ size_by picture.now sight }
+pub fn size_by(picture: &Picture<'_, '_, '_>, subject: Option<Subject>) -> usize
+    ensures { result ≡ size_by picture.now subject }
 {
-    match sight {
-        Some(Sight::Global(variable)) => cell_count(picture, 0, variable),
-        Some(Sight::Local(whose, variable)) => local_size(picture, whose, variable),
-        Some(Sight::At(_, _)) | Some(Sight::Line(_)) => 1,
+    match subject {
+        Some(Subject::Global(variable)) => cell_count(picture, 0, variable),
+        Some(Subject::Local(whose, variable)) => local_size(picture, whose, variable),
+        Some(Subject::At(_, _)) | Some(Subject::Line(_)) => 1,
         None => 0,
     }
 }
@@ -113,16 +113,16 @@ fn number_in(picture: &Picture<'_, '_, '_>, frame: usize, variable: usize, cell:
 }
 
 /// The number of a cell of a variable.
-pub fn number_by(picture: &Picture<'_, '_, '_>, sight: Option<Sight>, cell: usize) -> i32
-    ensures { result ≡ number_by picture.now sight cell }
+pub fn number_by(picture: &Picture<'_, '_, '_>, subject: Option<Subject>, cell: usize) -> i32
+    ensures { result ≡ number_by picture.now subject cell }
 {
-    match sight {
-        Some(Sight::Global(variable)) => number_in(picture, 0, variable, cell),
-        Some(Sight::Local(whose, variable)) => {
+    match subject {
+        Some(Subject::Global(variable)) => number_in(picture, 0, variable, cell),
+        Some(Subject::Local(whose, variable)) => {
             number_in(picture, usize::from(whose.process) + 1, variable, cell)
         }
-        Some(Sight::At(whose, line)) => number_of(stands_at(picture, whose, line)),
-        Some(Sight::Line(line)) => number_of(any_at(picture, line, picture.process_count())),
+        Some(Subject::At(whose, line)) => number_of(stands_at(picture, whose, line)),
+        Some(Subject::Line(line)) => number_of(any_at(picture, line, picture.process_count())),
         None => 0,
     }
 }

@@ -8,7 +8,7 @@ use view_text::writer::Writer;
 
 /// What is wrong in a condition.
 #[derive(Clone, Copy, Debug, PartialEq, Eq)]
-pub enum Cause {
+pub enum Flaw {
     /// It has too many bytes.
     Long,
     /// It is nested too deep.
@@ -41,45 +41,45 @@ pub enum Cause {
     Alone,
 }
 
-impl Cause {
+impl Flaw {
     // What stands before the word that it is about, and behind it.
     fn words(self) -> (&'static str, &'static str) {
         match self {
-            Cause::Long => ("a condition has 1,000 bytes at most", ""),
-            Cause::Deep => ("a condition is nested 100 deep at most", ""),
-            Cause::Lexical => ("`", "` begins no word of a condition"),
-            Cause::Syntax => (
+            Flaw::Long => ("a condition has 1,000 bytes at most", ""),
+            Flaw::Deep => ("a condition is nested 100 deep at most", ""),
+            Flaw::Lexical => ("`", "` begins no word of a condition"),
+            Flaw::Syntax => (
                 "cannot be read at `",
                 "`: a condition is an expression, as x == 2 && len(q) > 1",
             ),
-            Cause::Short => ("the condition ends too soon", ""),
-            Cause::Name => (
+            Flaw::Short => ("the condition ends too soon", ""),
+            Flaw::Name => (
                 "no variable ",
                 " is there: one of process 1, a P, is P[1].x",
             ),
-            Cause::Field => ("no field ", " is there"),
-            Cause::Array => (
+            Flaw::Field => ("no field ", " is there"),
+            Flaw::Array => (
                 "",
                 " is an array: name an element of it, as the first by [0]",
             ),
-            Cause::Index => ("", " has no index and no field"),
-            Cause::Structure => ("", " is of a typedef: name a field of it"),
-            Cause::Process => (
+            Flaw::Index => ("", " has no index and no field"),
+            Flaw::Structure => ("", " is of a typedef: name a field of it"),
+            Flaw::Process => (
                 "",
                 " is a proctype: x of process 1, where that is a P, is P[1].x",
             ),
-            Cause::Channel => ("", " is no channel"),
-            Cause::Number => ("", " is no number of 32 bits"),
-            Cause::Line => ("no process can stand at line ", ""),
-            Cause::Alone => ("", " is of one process, and a condition is of all"),
+            Flaw::Channel => ("", " is no channel"),
+            Flaw::Number => ("", " is no number of 32 bits"),
+            Flaw::Line => ("no process can stand at line ", ""),
+            Flaw::Alone => ("", " is of one process, and a condition is of all"),
         }
     }
 }
 
 /// Why a condition is refused, and how many of its bytes stand before what that is about.
 #[derive(Clone, Copy, Debug, PartialEq, Eq)]
-pub struct Refusal {
-    pub cause: Cause,
+pub struct Refused {
+    pub flaw: Flaw,
     pub at: usize,
 }
 
@@ -98,12 +98,12 @@ fn word_at(text: &[u8], at: usize) -> &[u8] {
     rest
 }
 
-impl Refusal {
+impl Refused {
     /// Writes why a condition with this text is refused, as a line.
     pub fn add(self, text: &[u8], out: &mut Writer)
         ensures { Stays out.old out.new }
     {
-        let (front, back) = self.cause.words();
+        let (front, back) = self.flaw.words();
         out.add(front.as_bytes());
         out.add(word_at(text, self.at));
         out.add(back.as_bytes());
@@ -116,22 +116,22 @@ impl Refusal {
 pub enum Unread {
     /// Memory was refused.
     Memory,
-    Refused(Refusal),
+    Refused(Refused),
 }
 
 /// That a condition is refused, at this place of its text.
-pub fn refused(cause: Cause, at: u32) -> Unread
-    ensures { result ≡ Unread.Refused (record { cause = cause; at = at }) }
+pub fn flawed(flaw: Flaw, at: u32) -> Unread
+    ensures { result ≡ Unread.Refused (record { flaw = flaw; at = at }) }
 {
-    Unread::Refused(Refusal {
-        cause,
+    Unread::Refused(Refused {
+        flaw,
         at: at as usize,
     })
 }
 
 impl From<AllocError> for Unread {
     ghost use Rattle.std.specs.Prelude.{◌≡◌};
-    ghost use Rattle.view_condition.specs.declared.refusal.Unread.TheVariants.{Memory};
+    ghost use Rattle.view_condition.specs.declared.unread.Unread.TheVariants.{Memory};
 
     ghost from_gives = { λ _ f. f ≡ Memory };
 
@@ -142,7 +142,7 @@ impl From<AllocError> for Unread {
 
 impl<T: Drop> From<AllocFailed<T>> for Unread {
     ghost use Rattle.std.specs.Prelude.{◌≡◌};
-    ghost use Rattle.view_condition.specs.declared.refusal.Unread.TheVariants.{Memory};
+    ghost use Rattle.view_condition.specs.declared.unread.Unread.TheVariants.{Memory};
 
     ghost from_gives = { λ _ f. f ≡ Memory };
 

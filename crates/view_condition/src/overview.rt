@@ -3,7 +3,7 @@
 ghost use Rattle.std.specs.Prelude.{◌≡◌};
 ghost use Rattle.view_condition.specs.Seen.{all_of, seen};
 
-use crate::sight::{Sight, number_by, sight_at, size_by};
+use crate::subject::{Subject, number_by, size_by, subject_at};
 use pml_eval::ground::{Filled, Ground};
 use pml_value::view::View;
 use promela_process::place::Place;
@@ -11,17 +11,20 @@ use view_cells::picture::Picture;
 
 /// All of a state, as the variables of a condition show it.
 #[derive(Drop)]
-pub struct Whole<'g, 'w, 'p, 'a> {
+pub struct Overview<'g, 'w, 'p, 'a> {
     pub picture: &'g Picture<'w, 'p, 'a>,
-    pub sights: &'g [Sight],
+    pub subjects: &'g [Subject],
     /// What is read of channels, and how many processes live.
     pub view: View<'g>,
 }
 
-impl<'g, 'w, 'p, 'a> Whole<'g, 'w, 'p, 'a> {
+impl<'g, 'w, 'p, 'a> Overview<'g, 'w, 'p, 'a> {
     /// What a condition reads of a state, whose variables are these.
-    pub fn new(picture: &'g Picture<'w, 'p, 'a>, sights: &'g [Sight]) -> Whole<'g, 'w, 'p, 'a>
-        ensures { seen result ≡ all_of picture.now sights.now }
+    pub fn new(
+        picture: &'g Picture<'w, 'p, 'a>,
+        subjects: &'g [Subject],
+    ) -> Overview<'g, 'w, 'p, 'a>
+        ensures { seen result ≡ all_of picture.now subjects.now }
     {
         let count = picture.process_count() as u8;
         let view = View::new(
@@ -31,15 +34,15 @@ impl<'g, 'w, 'p, 'a> Whole<'g, 'w, 'p, 'a> {
             count,
             false,
         );
-        Whole {
+        Overview {
             picture,
-            sights,
+            subjects,
             view,
         }
     }
 }
 
-impl Ground for Whole<'_, '_, '_, '_> {
+impl Ground for Overview<'_, '_, '_, '_> {
     ghost use Rattle.view_condition.specs.Seen.{seen};
 
     ghost reading = { seen };
@@ -49,13 +52,13 @@ impl Ground for Whole<'_, '_, '_, '_> {
     }
 
     fn size(&self, _frame: usize, variable: usize) -> usize {
-        size_by(self.picture, sight_at(self.sights, variable))
+        size_by(self.picture, subject_at(self.subjects, variable))
     }
 
     fn number(&self, place: Place) -> i32 {
         number_by(
             self.picture,
-            sight_at(self.sights, place.variable),
+            subject_at(self.subjects, place.variable),
             place.cell,
         )
     }
