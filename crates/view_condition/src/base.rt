@@ -36,6 +36,17 @@ fn number_in(step: &Step<'_>) -> Option<u32> {
     }
 }
 
+// Where that number stands.
+fn place_in(step: &Step<'_>) -> u32 {
+    match &step.index {
+        Some(index) => match index.get() {
+            Expr::Number(token) => token.line(),
+            _ => step.name.line(),
+        },
+        None => step.name.line(),
+    }
+}
+
 // That somebody stands at a line: this process, or any.
 fn fact(
     whose: Option<Whose>,
@@ -49,11 +60,11 @@ fn fact(
     match (number_in(step), whose) {
         (Some(line), _) if !is_standing_line(picture, line) => Err(flawed(
             Flaw::Line,
-            step.name.line().saturating_add(5),
+            place_in(step),
         )),
         (Some(line), Some(whose)) => Ok(Base::Fact(Subject::At(whose, line))),
         (Some(line), None) => Ok(Base::Fact(Subject::Line(line))),
-        (None, _) => Err(flawed(Flaw::Number, step.name.line())),
+        (None, _) => Err(flawed(Flaw::Number, place_in(step))),
     }
 }
 

@@ -189,6 +189,15 @@ fn watch_by<'l>(
     }
 }
 
+// Says that a number is no condition: it may be meant as a line.
+fn add_number_alone(text: &str, out: &mut Writer)
+    ensures { Stays out.old out.new }
+{
+    out.add(b"a number alone is no condition: line ");
+    out.add(text.as_bytes());
+    out.add(b" is one\n");
+}
+
 /// What these words look for from a state on; or why they look for nothing, which is written.
 pub fn watch_of(
     world: &World<'_, '_>,
@@ -197,6 +206,10 @@ pub fn watch_of(
 ) -> Result<Option<Watch>, AllocError>
     ensures { Stays out.old out.new }
 {
+    if text.parse::<u32>().is_ok() {
+        add_number_alone(text, out);
+        return Ok(None);
+    }
     let words: Vec<&str> = text.split_whitespace().collect(out.allocator())?;
     match wanted(words.as_slice()) {
         Some(goal) => watch_by(world, text, goal, out),
