@@ -16,6 +16,21 @@ pub struct Found {
     pub declared: Declaration,
 }
 
+impl Found {
+    /// Whether it is of a process.
+    pub fn is_local(self) -> bool {
+        matches!(self.subject, Subject::Local(_, _))
+    }
+
+    /// The variable from its first cell on.
+    pub fn whole(self) -> Declaration {
+        Declaration {
+            offset: 0,
+            ..self.declared
+        }
+    }
+}
+
 /// What the first names of a reference lead to.
 #[derive(Clone, Copy)]
 pub enum Base {
@@ -23,14 +38,14 @@ pub enum Base {
     ProcessCount,
     /// Whether somebody stands at a line.
     Fact(Subject),
-    Global(Found),
-    /// A variable of a process, which the first of the fields names.
-    Local(Found),
+    /// A variable of the globals, or one of a process, which the first of the fields names.
+    Variable(Found),
 }
 
 // The index of a step, where that is a number alone.
 fn number_in(step: &Step<'_>) -> Option<u32> {
-    match step.index.as_ref()?.get() {
+    let index = step.index.as_ref()?;
+    match index.get() {
         Expr::Number(token) => read(token.text()),
         _ => None,
     }
@@ -96,7 +111,7 @@ fn of_process(
         return Err(flawed(Flaw::Process, r.first.name.line()));
     };
     match declared_as(proctype.variables.as_slice(), step.name.text()) {
-        Some(declared) => Ok(Base::Local(Found {
+        Some(declared) => Ok(Base::Variable(Found {
             subject: Subject::Local(whose, declared.number),
             declared,
         })),
@@ -131,7 +146,7 @@ pub fn base_of(r: &Reference<'_>, picture: &Picture<'_, '_, '_>) -> Result<Base,
     }
     let program = picture.program();
     if let Some(declared) = declared_as(program.globals.as_slice(), name) {
-        return Ok(Base::Global(Found {
+        return Ok(Base::Variable(Found {
             subject: Subject::Global(declared.number),
             declared,
         }));

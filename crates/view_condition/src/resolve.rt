@@ -121,25 +121,65 @@ fn through(
     Ok(here)
 }
 
-/// The place that a variable and the fields behind it lead to.
+/// Adds the turns of a variable of the globals, which the first name of a reference names. The type that they lead to.
+#[cycle(resolve)]
+fn global_turns(
+    alloc: Global,
+    declared: Declaration,
+    r: &Reference<'_>,
+    picture: &Picture<'_, '_, '_>,
+    subjects: &mut Vec<Subject>,
+    turns: &mut Items<Turn>,
+) -> Result<Form, Unread> {
+    turns.push(turn(alloc, declared, &r.first, picture, subjects)?)?;
+    through(
+        alloc,
+        declared.form,
+        r.fields.as_slice(),
+        picture,
+        subjects,
+        turns,
+    )
+}
+
+/// Adds the turns of a variable of a process, which the first of these fields names. The type that they lead to.
+#[cycle(resolve)]
+fn local_turns(
+    alloc: Global,
+    declared: Declaration,
+    steps: &[Step<'_>],
+    picture: &Picture<'_, '_, '_>,
+    subjects: &mut Vec<Subject>,
+    turns: &mut Items<Turn>,
+) -> Result<Form, Unread> {
+    match steps {
+        [step, rest @ ..] => {
+            turns.push(turn(alloc, declared, step, picture, subjects)?)?;
+            through(alloc, declared.form, rest, picture, subjects, turns)
+        }
+        [] => Ok(declared.form),
+    }
+}
+
+/// The place that a reference leads to, whose first names are found.
 #[cycle(resolve)]
 fn target(
     alloc: Global,
     found: Found,
-    step: &Step<'_>,
-    rest: &[Step<'_>],
+    r: &Reference<'_>,
     picture: &Picture<'_, '_, '_>,
     subjects: &mut Vec<Subject>,
 ) -> Result<Target, Unread> {
-    let first = Declaration {
-        offset: 0,
-        ..found.declared
-    };
+    let declared = found.whole();
     let mut turns = Items::new(alloc);
-    turns.push(turn(alloc, first, step, picture, subjects)?)?;
-    let form = through(alloc, first.form, rest, picture, subjects, &mut turns)?;
+    let form = if found.is_local() {
+        let steps = r.fields.as_slice();
+        local_turns(alloc, declared, steps, picture, subjects, &mut turns)?
+    } else {
+        global_turns(alloc, declared, r, picture, subjects, &mut turns)?
+    };
     if let Form::Struct(_) = form {
-        return Err(flawed(Flaw::Structure, step.name.line()));
+        return Err(flawed(Flaw::Structure, r.first.name.line()));
     }
     let variable = numbered(found.subject, subjects)?;
     Ok(Target {
@@ -148,21 +188,6 @@ fn target(
         form,
         turns,
     })
-}
-
-/// The place of a variable of a process, behind whose name these fields stand.
-#[cycle(resolve)]
-fn local_target(
-    alloc: Global,
-    found: Found,
-    r: &Reference<'_>,
-    picture: &Picture<'_, '_, '_>,
-    subjects: &mut Vec<Subject>,
-) -> Result<Target, Unread> {
-    match r.fields.as_slice() {
-        [step, rest @ ..] => target(alloc, found, step, rest, picture, subjects),
-        [] => Err(flawed(Flaw::Process, r.first.name.line())),
-    }
 }
 
 /// What a reference is worth.
@@ -177,15 +202,7 @@ fn read(
         Base::Number(number) => Ok(Expr::Number(number)),
         Base::ProcessCount => Ok(Expr::ProcessCount),
         Base::Fact(subject) => Ok(fact_read(alloc, subject, subjects)?),
-        Base::Global(found) => Ok(Expr::Read(target(
-            alloc,
-            found,
-            &r.first,
-            r.fields.as_slice(),
-            picture,
-            subjects,
-        )?)),
-        Base::Local(found) => Ok(Expr::Read(local_target(alloc, found, r, picture, subjects)?)),
+        Base::Variable(found) => Ok(Expr::Read(target(alloc, found, r, picture, subjects)?)),
     }
 }
 
@@ -198,15 +215,7 @@ fn placed(
     subjects: &mut Vec<Subject>,
 ) -> Result<Target, Unread> {
     match base_of(r, picture)? {
-        Base::Global(found) => target(
-            alloc,
-            found,
-            &r.first,
-            r.fields.as_slice(),
-            picture,
-            subjects,
-        ),
-        Base::Local(found) => local_target(alloc, found, r, picture, subjects),
+        Base::Variable(found) => target(alloc, found, r, picture, subjects),
         _ => Err(flawed(Flaw::Channel, r.first.name.line())),
     }
 }

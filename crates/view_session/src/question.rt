@@ -72,8 +72,8 @@ fn ask(walk: &mut Walk<'_, '_>, is_all: bool, told: &mut Told) -> Result<(), All
     ensures model { SameModel walk.old walk.new }
     ensures stays { Stays told.old.out told.new.out }
 {
-    let moves = walk.moves()?;
-    let moves = moves.as_slice();
+    let found = walk.moves()?;
+    let moves = found.as_slice();
     let at = walk.at();
     add_list(&picture_of(walk.world()), at, moves, is_all, &mut told.out)?;
     add_cause(walk, moves, &mut told.out)?;
