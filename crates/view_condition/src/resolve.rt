@@ -1,5 +1,7 @@
 //! An expression of a condition, with its names replaced by what they stand for. A name is looked up once.
 
+ghost use Rattle.std.specs.Prelude.{◌≡◌, ◌∷◌, ◌++◌, [], IfOk, OnOk, length};
+
 use crate::base::{Base, Found, base_of};
 use crate::names::{Declaration, field_named};
 use crate::subject::Subject;
@@ -29,7 +31,10 @@ fn literal(token: &Token<'_>, sign: Sign) -> Result<i32, Unread> {
 }
 
 // The number that the next variable of a condition has, which is this.
-fn numbered(subject: Subject, subjects: &mut Vec<Subject>) -> Result<usize, AllocError> {
+fn numbered(subject: Subject, subjects: &mut Vec<Subject>) -> Result<usize, AllocError>
+    ensures number { IfOk result (λ n. n ≡ length subjects.old.items) }
+    ensures added { OnOk result (subjects.new.items ≡ subjects.old.items ++ subject ∷ []) }
+{
     let number = subjects.len();
     subjects.push(subject)?;
     Ok(number)

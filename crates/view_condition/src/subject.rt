@@ -66,8 +66,8 @@ fn stands_at(picture: &Picture<'_, '_, '_>, whose: Whose, line: u32) -> bool
     is_there(picture, whose) && line_of(picture, usize::from(whose.process)) == line
 }
 
-// Whether one of so many processes stands at this line.
-fn any_at(picture: &Picture<'_, '_, '_>, line: u32, count: usize) -> bool
+/// Whether one of so many processes stands at this line.
+pub fn any_at(picture: &Picture<'_, '_, '_>, line: u32, count: usize) -> bool
     ensures { result ≡ any_at picture.now line count }
 {
     let mut found = false;

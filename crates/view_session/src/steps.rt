@@ -1,6 +1,8 @@
 //! Steps of a walk, and their lines.
 
+ghost use Rattle.std.specs.Prelude.{◌≡◌};
 ghost use Rattle.view_text.specs.Written.{Stays};
+ghost use Rattle.view_walk.specs.Choices.{numbered};
 ghost use Rattle.view_walk.specs.Walks.{SameModel};
 
 use crate::seen::picture_of;
@@ -20,7 +22,9 @@ use view_walk::walk::{Walk, Went};
 pub const ENOUGH_BYTES: usize = 60_000;
 
 /// The move with this number, counted from 1.
-pub fn move_at(moves: &[Move], choice: usize) -> Option<Move> {
+pub fn move_at(moves: &[Move], choice: usize) -> Option<Move>
+    ensures { result ≡ numbered moves.now choice }
+{
     if choice == 0 {
         return None;
     }

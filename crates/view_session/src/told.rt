@@ -1,6 +1,6 @@
 //! What a session tells, and what it keeps for that.
 
-ghost use Rattle.std.specs.Prelude.{◌≡◌};
+ghost use Rattle.std.specs.Prelude.{◌≡◌, [], false};
 ghost use Rattle.view_text.specs.Written.{Stays};
 ghost use Rattle.view_walk.specs.Walks.{SameModel};
 
@@ -27,7 +27,9 @@ pub struct Told {
 
 impl Told {
     /// Nothing yet.
-    pub fn new(alloc: Global) -> Told {
+    pub fn new(alloc: Global) -> Told
+        ensures { result.out ≡ record { text = []; refused = false } }
+    {
         Told {
             out: Writer::new(alloc),
             branches: Branches::new(alloc),

@@ -15,9 +15,9 @@ use promela_process::place::Place;
 use std::alloc::AllocError;
 use view_cells::cells::{form_at, is_mtype, number_at};
 use view_cells::picture::Picture;
-use view_cells::processes::{is_standing_line, line_of};
+use view_cells::processes::is_standing_line;
 use view_condition::condition::Condition;
-use view_condition::subject::Whose;
+use view_condition::subject::{Whose, any_at};
 use view_text::writer::Writer;
 
 /// Where a run is to stop, in the words of a line.
@@ -213,15 +213,6 @@ pub fn aim_of<'l>(
     }
 }
 
-fn is_at_line(picture: &Picture<'_, '_, '_>, line: u32) -> bool {
-    for process in 0..picture.process_count() {
-        if line_of(picture, process) == line {
-            return true;
-        }
-    }
-    false
-}
-
 // Whether a cell has a number.
 fn has_number(picture: &Picture<'_, '_, '_>, place: Place, number: i32) -> bool
     ensures { result ≡ int_eq (number_at picture.now.frames place) number }
@@ -259,7 +250,7 @@ fn holds(picture: &Picture<'_, '_, '_>, condition: &Condition) -> Reached {
 pub fn is_reached(world: &World<'_, '_>, aim: &Aim) -> Result<Reached, AllocError> {
     let picture = picture_of(world);
     match aim {
-        Aim::Line(line) => Ok(reached_if(is_at_line(&picture, *line))),
+        Aim::Line(line) => Ok(reached_if(any_at(&picture, *line, picture.process_count()))),
         Aim::Equal(cell, number) => Ok(reached_if(
             is_owned(&picture, *cell) && has_number(&picture, cell.place, *number),
         )),
