@@ -1,5 +1,7 @@
 //! The names of commands.
 
+use crate::others::told_of;
+
 /// A command, without what stands behind its name.
 #[derive(Clone, Copy, Debug, PartialEq, Eq)]
 pub enum Name {
@@ -97,7 +99,7 @@ fn begun(word: &str) -> Option<Name> {
     found
 }
 
-/// The command that a word names: whole, short, or by a beginning that no other has.
+/// The command that a word names: whole, short, or by a beginning that no other has, and that is no word of another program.
 pub fn name_of(word: &str) -> Option<Name> {
     match word {
         "?" => return Some(Name::Help),
@@ -106,6 +108,7 @@ pub fn name_of(word: &str) -> Option<Name> {
     }
     match named(word) {
         Some(name) => Some(name),
+        None if told_of(word).is_some() => None,
         None => begun(word),
     }
 }

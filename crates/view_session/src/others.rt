@@ -1,7 +1,7 @@
 //! Words that other programs have for what a session does.
 
 // What is told of each.
-const OTHERS: [(&str, &str); 21] = [
+const OTHERS: [(&str, &str); 20] = [
     ("info", VALUES),
     ("eval", VALUES),
     ("examine", VALUES),
@@ -15,7 +15,6 @@ const OTHERS: [(&str, &str); 21] = [
     ("next", STEP),
     ("n", STEP),
     ("continue", RUN),
-    ("c", RUN),
     ("finish", RUN),
     ("trace", PAST),
     ("history", PAST),
