@@ -7,3 +7,4 @@ pub mod states;
 pub mod target;
 pub mod uses;
 pub mod whole;
+pub mod writers;

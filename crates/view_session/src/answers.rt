@@ -1,14 +1,21 @@
 //! A session.
 
+ghost use Rattle.view_text.specs.Written.{Stays};
+ghost use Rattle.view_walk.specs.Walks.{SameModel};
+
 use crate::charted::{add_chart, most_alive};
 use crate::command::{Command, MOST_UNASKED, read};
 use crate::going::go;
 use crate::help::{HELP, add_help};
+use crate::listed::{add_moves_of, add_steps};
 use crate::question::{add_cause, add_question, add_whole_question};
 use crate::record::add_record;
 use crate::replay::Along;
+use crate::seeking::Mode;
 use crate::seen::picture_of;
-use crate::steps::{Taken, take, take_single};
+use crate::showing::show;
+use crate::steps::{Taken, take};
+use crate::taking::take_single;
 use crate::told::Told;
 use std::alloc::AllocError;
 use view_state::source::add_source;
@@ -40,13 +47,19 @@ pub struct Setting<'t> {
 }
 
 // Takes the steps that need no choice, and asks.
-fn go_on(walk: &mut Walk<'_, '_>, limit: usize, told: &mut Told) -> Result<(), AllocError> {
+fn go_on(walk: &mut Walk<'_, '_>, limit: usize, told: &mut Told) -> Result<(), AllocError>
+    ensures model { SameModel walk.old walk.new }
+    ensures stays { Stays told.old.out told.new.out }
+{
     take_single(walk, limit, MOST_UNASKED, told)?;
-    add_question(walk, &mut told.out)
+    add_question(walk, told)
 }
 
 /// Shows where a session begins.
-pub fn begin(walk: &mut Walk<'_, '_>, limit: usize, told: &mut Told) -> Result<(), AllocError> {
+pub fn begin(walk: &mut Walk<'_, '_>, limit: usize, told: &mut Told) -> Result<(), AllocError>
+    ensures model { SameModel walk.old walk.new }
+    ensures stays { Stays told.old.out told.new.out }
+{
     go_on(walk, limit, told)
 }
 
@@ -56,11 +69,14 @@ pub fn resume(
     limit: usize,
     along: Along,
     told: &mut Told,
-) -> Result<(), AllocError> {
+) -> Result<(), AllocError>
+    ensures model { SameModel walk.old walk.new }
+    ensures stays { Stays told.old.out told.new.out }
+{
     if let Along::Fault(choice) = along {
         take(walk, limit, choice, told)?;
     }
-    add_question(walk, &mut told.out)
+    add_question(walk, told)
 }
 
 fn number(word: &str) -> usize {
@@ -76,7 +92,10 @@ fn choose_one(
     limit: usize,
     choice: usize,
     told: &mut Told,
-) -> Result<Taken, AllocError> {
+) -> Result<Taken, AllocError>
+    ensures model { SameModel walk.old walk.new }
+    ensures stays { Stays told.old.out told.new.out }
+{
     let taken = take(walk, limit, choice, told)?;
     match taken {
         Taken::Yes => take_single(walk, limit, MOST_UNASKED, told)?,
@@ -93,7 +112,10 @@ fn choose(
     limit: usize,
     words: &[&str],
     told: &mut Told,
-) -> Result<(), AllocError> {
+) -> Result<(), AllocError>
+    ensures model { SameModel walk.old walk.new }
+    ensures stays { Stays told.old.out told.new.out }
+{
     let mut asks = false;
     for word in words {
         let taken = choose_one(walk, limit, number(word), told)?;
@@ -103,19 +125,25 @@ fn choose(
         }
     }
     if asks {
-        return add_question(walk, &mut told.out);
+        return add_question(walk, told);
     }
     Ok(())
 }
 
-fn show_why(walk: &mut Walk<'_, '_>, is_all: bool, out: &mut Writer) -> Result<(), AllocError> {
+fn show_why(walk: &mut Walk<'_, '_>, is_all: bool, out: &mut Writer) -> Result<(), AllocError>
+    ensures model { SameModel walk.old walk.new }
+    ensures stays { Stays out.old out.new }
+{
     let moves = walk.moves()?;
     add_why(&picture_of(walk.world()), moves.as_slice(), is_all, out)?;
     add_cause(walk, moves.as_slice(), out)
 }
 
 // Writes the chart of a walk up to where it stands.
-fn show_chart(walk: &mut Walk<'_, '_>, out: &mut Writer) -> Result<(), AllocError> {
+fn show_chart(walk: &mut Walk<'_, '_>, out: &mut Writer) -> Result<(), AllocError>
+    ensures model { SameModel walk.old walk.new }
+    ensures stays { Stays out.old out.new }
+{
     let steps = walk.at();
     let most = most_alive(walk, steps)?;
     add_chart(walk, steps, most, out)
@@ -128,12 +156,15 @@ fn obey<'l>(
     words: &[&'l str],
     command: Command<'l>,
     told: &mut Told,
-) -> Result<Option<Command<'l>>, AllocError> {
+) -> Result<Option<Command<'l>>, AllocError>
+    ensures model { SameModel walk.old walk.new }
+    ensures stays { Stays told.old.out told.new.out }
+{
     match command {
         Command::Choose => choose(walk, setting.limit, words, told)?,
         Command::State(is_all) => add_state(&picture_of(walk.world()), is_all, &mut told.out),
         Command::Why(is_all) => show_why(walk, is_all, &mut told.out)?,
-        Command::Moves(true) => add_whole_question(walk, &mut told.out)?,
+        Command::Moves(true) => add_whole_question(walk, told)?,
         Command::Chart => show_chart(walk, &mut told.out)?,
         Command::Source => add_source(&picture_of(walk.world()), setting.text, &mut told.out),
         Command::Record => add_record(walk.legs(), &mut told.out),
@@ -142,13 +173,23 @@ fn obey<'l>(
         Command::HelpOf(name) => add_help(name, &mut told.out),
         Command::Wrong(form) => told.out.add(form.as_bytes()),
         Command::Unknown => told.out.add(b"no such command: help lists them\n"),
+        Command::Steps(from) => add_steps(walk, from, &mut told.out)?,
+        Command::MovesOf(process) => add_moves_of(walk, process, &mut told.out)?,
+        Command::Break(_) | Command::Breaks | Command::Delete(_) => {
+            show(walk.world(), command, told)?;
+        }
+        Command::Print(_) | Command::Display(_) | Command::Undisplay(_) => {
+            show(walk.world(), command, told)?;
+        }
         _ => return go(walk, setting.limit, command, told),
     }
     Ok(None)
 }
 
 // Leads out of where memory was refused.
-fn recover(walk: &mut Walk<'_, '_>) -> Result<(), AllocError> {
+fn recover(walk: &mut Walk<'_, '_>) -> Result<(), AllocError>
+    ensures { SameModel walk.old walk.new }
+{
     if walk.is_lost() {
         let at = walk.at();
         walk.go_to(at)?;
@@ -160,7 +201,7 @@ fn recover(walk: &mut Walk<'_, '_>) -> Result<(), AllocError> {
 fn may_cut<'l>(walk: &Walk<'_, '_>, command: Command<'l>) -> bool {
     match command {
         Command::Branch(_) => true,
-        Command::Forward(_) | Command::Run(_) | Command::Until(_) => false,
+        Command::Forward(_) | Command::Run(_) | Command::Until(Mode::Forced, _) => false,
         _ => walk.at() < walk.legs().len(),
     }
 }
@@ -172,7 +213,10 @@ fn obey_and_keep<'l>(
     words: &[&'l str],
     command: Command<'l>,
     told: &mut Told,
-) -> Result<Option<Command<'l>>, AllocError> {
+) -> Result<Option<Command<'l>>, AllocError>
+    ensures model { SameModel walk.old walk.new }
+    ensures stays { Stays told.old.out told.new.out }
+{
     if !may_cut(walk, command) {
         return obey(walk, setting, words, command, told);
     }
@@ -198,7 +242,10 @@ pub fn go_further<'l>(
     setting: Setting<'_>,
     command: Command<'l>,
     told: &mut Told,
-) -> Result<Reply<'l>, AllocError> {
+) -> Result<Reply<'l>, AllocError>
+    ensures model { SameModel walk.old walk.new }
+    ensures stays { Stays told.old.out told.new.out }
+{
     recover(walk)?;
     Ok(reply_of(obey_and_keep(walk, setting, &[], command, told)?))
 }
@@ -209,9 +256,12 @@ fn answer_text<'l>(
     setting: Setting<'_>,
     line: &'l str,
     told: &mut Told,
-) -> Result<Reply<'l>, AllocError> {
+) -> Result<Reply<'l>, AllocError>
+    ensures model { SameModel walk.old walk.new }
+    ensures stays { Stays told.old.out told.new.out }
+{
     let words: Vec<&'l str> = line.split_whitespace().collect(told.out.allocator())?;
-    match read(words.as_slice()) {
+    match read(line, words.as_slice()) {
         Command::Quit => Ok(Reply::End),
         Command::Save(file) => Ok(Reply::Save(file)),
         other => Ok(reply_of(obey_and_keep(walk, setting, words.as_slice(), other, told)?)),
@@ -224,7 +274,10 @@ pub fn answer<'l>(
     setting: Setting<'_>,
     line: &'l [u8],
     told: &mut Told,
-) -> Result<Reply<'l>, AllocError> {
+) -> Result<Reply<'l>, AllocError>
+    ensures model { SameModel walk.old walk.new }
+    ensures stays { Stays told.old.out told.new.out }
+{
     if line.len() >= MOST_LINE {
         told.out.add(b"line too long\n");
         return Ok(Reply::On);

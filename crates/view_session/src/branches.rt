@@ -1,5 +1,7 @@
 //! The futures of a walk that another choice cut off.
 
+ghost use Rattle.view_text.specs.Written.{Stays};
+
 use std::alloc::{AllocError, Global};
 use view_text::writer::Writer;
 use view_walk::leg::Leg;
@@ -99,7 +101,9 @@ impl Branches {
     }
 
     /// Writes each: `branch 1: 9 steps, another from step 6 on: choice 2 of 3`.
-    pub fn add(&self, present: &[Leg], out: &mut Writer) {
+    pub fn add(&self, present: &[Leg], out: &mut Writer)
+        ensures { Stays out.old out.new }
+    {
         if self.kept.is_empty() {
             out.add(b"no branch\n");
         }
@@ -112,7 +116,9 @@ impl Branches {
     }
 }
 
-fn add_branch(legs: &[Leg], present: &[Leg], out: &mut Writer) {
+fn add_branch(legs: &[Leg], present: &[Leg], out: &mut Writer)
+    ensures { Stays out.old out.new }
+{
     let same = common(legs, present);
     out.number(legs.len());
     out.add(b" steps, another from step ");

@@ -1,5 +1,8 @@
 //! The chart of a walk.
 
+ghost use Rattle.view_text.specs.Written.{Stays};
+ghost use Rattle.view_walk.specs.Walks.{SameModel};
+
 use crate::seen::picture_of;
 use crate::steps::move_at;
 use promela_run::moves::Move;
@@ -11,7 +14,9 @@ use view_walk::leg::Leg;
 use view_walk::walk::Walk;
 
 // Writes the rows of processes that began at a step.
-fn add_births(walk: &Walk<'_, '_>, width: usize, older: usize, out: &mut Writer) {
+fn add_births(walk: &Walk<'_, '_>, width: usize, older: usize, out: &mut Writer)
+    ensures { Stays out.old out.new }
+{
     let picture = picture_of(walk.world());
     for process in older..picture.process_count() {
         add_birth(&picture, width, walk.at(), process, out);
@@ -19,12 +24,9 @@ fn add_births(walk: &Walk<'_, '_>, width: usize, older: usize, out: &mut Writer)
 }
 
 // Writes the row of a move of the state where a walk stands.
-fn add_move(
-    walk: &Walk<'_, '_>,
-    width: usize,
-    m: &Move,
-    out: &mut Writer,
-) -> Result<(), AllocError> {
+fn add_move(walk: &Walk<'_, '_>, width: usize, m: &Move, out: &mut Writer) -> Result<(), AllocError>
+    ensures { Stays out.old out.new }
+{
     let picture = picture_of(walk.world());
     let transfer = transfer_of(out.allocator(), &picture, m)?;
     add_row(
@@ -44,7 +46,10 @@ fn add_step(
     width: usize,
     leg: Leg,
     out: &mut Writer,
-) -> Result<(), AllocError> {
+) -> Result<(), AllocError>
+    ensures model { SameModel walk.old walk.new }
+    ensures stays { Stays out.old out.new }
+{
     let moves = walk.moves()?;
     if let Some(m) = move_at(moves.as_slice(), leg.choice) {
         add_move(walk, width, &m, out)?;
@@ -62,11 +67,14 @@ pub fn add_chart(
     steps: usize,
     most: usize,
     out: &mut Writer,
-) -> Result<(), AllocError> {
+) -> Result<(), AllocError>
+    ensures model { SameModel walk.old walk.new }
+    ensures stays { Stays out.old out.new }
+{
     let width = width_of(most);
     walk.go_to(0)?;
     add_births(walk, width, 0, out);
-    for _ in 0..steps {
+    for _turn in 0..steps {
         let Some(leg) = walk.next() else {
             break;
         };
@@ -76,7 +84,9 @@ pub fn add_chart(
 }
 
 /// How many processes live at once at most in so many steps of a walk, which stands behind them then.
-pub fn most_alive(walk: &mut Walk<'_, '_>, steps: usize) -> Result<usize, AllocError> {
+pub fn most_alive(walk: &mut Walk<'_, '_>, steps: usize) -> Result<usize, AllocError>
+    ensures { SameModel walk.old walk.new }
+{
     walk.go_to(0)?;
     let mut most = walk.world().process_count();
     for step in 0..steps.min(walk.legs().len()) {

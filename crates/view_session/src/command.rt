@@ -1,8 +1,9 @@
 //! What a line of a session says.
 
-use crate::names::{Name, name_of};
+use crate::forms::{behind, with_words};
+use crate::names::name_of;
 use crate::others::told_of;
-use crate::until::{Goal, wanted};
+use crate::seeking::Mode;
 
 /// How many steps with one move are taken unasked.
 pub const MOST_UNASKED: usize = 100;
@@ -17,6 +18,8 @@ pub enum Command<'l> {
     Choose,
     /// The question again, the state, and what the processes wait for: the first of it, or all.
     Moves(bool),
+    /// The choices of the process with this number.
+    MovesOf(usize),
     State(bool),
     Why(bool),
     Source,
@@ -29,8 +32,20 @@ pub enum Command<'l> {
     Random(usize, u64),
     /// Steps of the process with this number alone.
     Process(usize),
-    /// Steps with one move, until one leads there.
-    Until(Goal<'l>),
+    /// Steps, until one leads where these words say.
+    Until(Mode, &'l str),
+    /// Back to the last state where they say.
+    BackUntil(&'l str),
+    /// Each run stops where these words say; the numbers of these, and without one.
+    Break(&'l str),
+    Breaks,
+    Delete(usize),
+    /// What an expression is worth, here or at each question; without the one with this number.
+    Print(&'l str),
+    Display(&'l str),
+    Undisplay(usize),
+    /// The steps so far, from this one on.
+    Steps(Option<usize>),
     /// Back to the last step that changed this variable.
     Last(&'l str),
     Branches,
@@ -45,171 +60,6 @@ pub enum Command<'l> {
     /// A command with wrong words behind it: how it is written.
     Wrong(&'static str),
     Unknown,
-}
-
-fn number(word: &str) -> Option<usize> {
-    match word.parse::<usize>() {
-        Ok(number) => Some(number),
-        Err(_) => None,
-    }
-}
-
-// The one number behind a name, or the usual one where there is none.
-fn one_or(rest: &[&str], usual: usize) -> Option<usize> {
-    match rest {
-        [] => Some(usual),
-        [word] => number(word),
-        _ => None,
-    }
-}
-
-fn back<'l>(rest: &[&str]) -> Command<'l> {
-    match one_or(rest, 1) {
-        Some(by) => Command::Back(by),
-        None => Command::Wrong("back [N]\n"),
-    }
-}
-
-fn forward<'l>(rest: &[&str]) -> Command<'l> {
-    match one_or(rest, 1) {
-        Some(by) => Command::Forward(by),
-        None => Command::Wrong("forward [N]\n"),
-    }
-}
-
-fn run<'l>(rest: &[&str]) -> Command<'l> {
-    match one_or(rest, USUAL_RUN) {
-        Some(most) => Command::Run(most),
-        None => Command::Wrong("run [N]\n"),
-    }
-}
-
-fn goto<'l>(rest: &[&str]) -> Command<'l> {
-    match rest {
-        [word] => match number(word) {
-            Some(step) => Command::Goto(step),
-            None => Command::Wrong("goto K\n"),
-        },
-        _ => Command::Wrong("goto K\n"),
-    }
-}
-
-// A count and a seed.
-fn count_and_seed(rest: &[&str]) -> Option<(usize, u64)> {
-    match rest {
-        [count] => Some((number(count)?, 1)),
-        [count, seed] => Some((number(count)?, number(seed)? as u64)),
-        _ => None,
-    }
-}
-
-fn random<'l>(rest: &[&str]) -> Command<'l> {
-    match count_and_seed(rest) {
-        Some((count, seed)) => Command::Random(count, seed),
-        None => Command::Wrong("random N [SEED]\n"),
-    }
-}
-
-fn last<'l>(rest: &[&'l str]) -> Command<'l> {
-    match rest {
-        [path] => Command::Last(path),
-        _ => Command::Wrong("last NAME\n"),
-    }
-}
-
-fn branch<'l>(rest: &[&str]) -> Command<'l> {
-    match rest {
-        [word] => match number(word) {
-            Some(branch) => Command::Branch(branch),
-            None => Command::Wrong("branch N\n"),
-        },
-        _ => Command::Wrong("branch N\n"),
-    }
-}
-
-fn save<'l>(rest: &[&'l str]) -> Command<'l> {
-    match rest {
-        [file] => Command::Save(file),
-        _ => Command::Wrong("save FILE\n"),
-    }
-}
-
-// How a process is named; and what is there for who takes the letter for another word.
-const PROCESS_FORM: &str = "p N, the number of a process; state shows the values\n";
-
-fn process<'l>(rest: &[&str]) -> Command<'l> {
-    match rest {
-        [word] => match number(word) {
-            Some(process) => Command::Process(process),
-            None => Command::Wrong(PROCESS_FORM),
-        },
-        _ => Command::Wrong(PROCESS_FORM),
-    }
-}
-
-fn until<'l>(rest: &[&'l str]) -> Command<'l> {
-    match wanted(rest) {
-        Some(goal) => Command::Until(goal),
-        None => Command::Wrong(
-            "until NAME, until line L, until NAME == VALUE, until NAME != VALUE\n",
-        ),
-    }
-}
-
-fn help<'l>(rest: &[&'l str]) -> Command<'l> {
-    match rest {
-        [] => Command::Help,
-        [word, ..] => Command::HelpOf(word),
-    }
-}
-
-// A command that has no words behind its name.
-fn alone<'l>(command: Command<'l>, rest: &[&str]) -> Command<'l> {
-    if rest.is_empty() {
-        command
-    } else {
-        Command::Unknown
-    }
-}
-
-fn is_all(rest: &[&str]) -> bool {
-    match rest {
-        [word, ..] => *word == "all",
-        [] => false,
-    }
-}
-
-// The words behind `all`, or all of them where it does not stand first.
-fn behind_all<'s, 'l>(rest: &'s [&'l str]) -> &'s [&'l str] {
-    match rest {
-        [word, behind @ ..] if *word == "all" => behind,
-        _ => rest,
-    }
-}
-
-fn with_words<'l>(name: Name, rest: &[&'l str]) -> Command<'l> {
-    match name {
-        Name::Back => back(rest),
-        Name::Forward => forward(rest),
-        Name::Goto => goto(rest),
-        Name::Run => run(rest),
-        Name::Random => random(rest),
-        Name::Save => save(rest),
-        Name::Process => process(rest),
-        Name::Until => until(rest),
-        Name::Last => last(rest),
-        Name::Branch => branch(rest),
-        Name::Branches => alone(Command::Branches, rest),
-        Name::Chart => alone(Command::Chart, rest),
-        Name::Moves => alone(Command::Moves(is_all(rest)), behind_all(rest)),
-        Name::State => alone(Command::State(is_all(rest)), behind_all(rest)),
-        Name::Why => alone(Command::Why(is_all(rest)), behind_all(rest)),
-        Name::Source => alone(Command::Source, rest),
-        Name::Restart => alone(Command::Restart, rest),
-        Name::Record => alone(Command::Record, rest),
-        Name::Help => help(rest),
-        Name::Quit => alone(Command::Quit, rest),
-    }
 }
 
 // Whether a word is of digits.
@@ -230,8 +80,8 @@ fn unknown<'l>(word: &str) -> Command<'l> {
     }
 }
 
-/// What these words say.
-pub fn read<'l>(words: &[&'l str]) -> Command<'l> {
+/// What a line says that has these words.
+pub fn read<'l>(line: &'l str, words: &[&'l str]) -> Command<'l> {
     match words {
         [] => Command::Moves(false),
         [first, rest @ ..] => {
@@ -239,7 +89,7 @@ pub fn read<'l>(words: &[&'l str]) -> Command<'l> {
                 return Command::Choose;
             }
             match name_of(first) {
-                Some(name) => with_words(name, rest),
+                Some(name) => with_words(name, rest, behind(line, first)),
                 None => unknown(first),
             }
         }

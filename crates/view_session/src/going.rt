@@ -1,79 +1,99 @@
 //! What leads somewhere: steps on and back.
 
+ghost use Rattle.view_text.specs.Written.{Stays};
+ghost use Rattle.view_walk.specs.Walks.{SameModel};
+
 use crate::command::{Command, USUAL_RUN};
+use crate::listed::add_no_process;
 use crate::question::add_question;
+use crate::seeking::{Mode, go_back_by, go_back_seeking, go_seeking};
 use crate::seen::picture_of;
-use crate::steps::{take_by_chance, take_legs, take_next, take_of, take_run, take_until};
+use crate::stopped::add_stop;
+use crate::taking::{take_by_chance, take_legs, take_next, take_of, take_run};
 use crate::told::Told;
-use crate::until::{Goal, NoAim, aim_of};
+use crate::watch::{add_unknown, watch_of};
 use crate::written::{Cell, cell_before, cell_named, last_written};
 use std::alloc::AllocError;
 use view_text::writer::Writer;
 use view_walk::walk::Walk;
 
 // Goes to a place of a walk, and asks.
-fn go_to(walk: &mut Walk<'_, '_>, step: usize, told: &mut Told) -> Result<(), AllocError> {
+fn go_to(walk: &mut Walk<'_, '_>, step: usize, told: &mut Told) -> Result<(), AllocError>
+    ensures model { SameModel walk.old walk.new }
+    ensures stays { Stays told.old.out told.new.out }
+{
     let step = step.min(walk.legs().len());
     walk.go_to(step)?;
-    add_question(walk, &mut told.out)
+    add_question(walk, told)
 }
 
-// Says that no cell with this path is there.
-fn add_unknown(path: &str, out: &mut Writer) {
-    out.add(b"no variable ");
-    out.add(path.as_bytes());
-    out.add(b" is there: one of process 1, a P, is P[1].x\n");
-}
-
-// Says why a run cannot stop so.
-fn add_no_aim<'l>(why: NoAim, goal: Goal<'l>, out: &mut Writer) {
-    match (why, goal) {
-        (NoAim::Line, Goal::Line(line)) => {
-            out.add(b"no process can stand at line ");
-            out.number(line as usize);
-            out.add(b"\n");
-        }
-        (NoAim::Value, Goal::Equal(_, value) | Goal::Other(_, value)) => {
-            out.add(b"no value ");
-            out.add(value.as_bytes());
-            out.add(b": a value is a number, or a name of mtype where the variable is one\n");
-        }
-        (NoAim::Range, Goal::Equal(path, value)) => {
-            out.add(path.as_bytes());
-            out.add(b" is never ");
-            out.add(value.as_bytes());
-            out.add(b": its type has no such number\n");
-        }
-        _ => add_unknown(goal.path().unwrap_or(""), out),
+// Goes back so many steps, or to where a break stops it, and asks.
+fn go_back_to(walk: &mut Walk<'_, '_>, by: usize, told: &mut Told) -> Result<(), AllocError>
+    ensures model { SameModel walk.old walk.new }
+    ensures stays { Stays told.old.out told.new.out }
+{
+    if let Some(stopped) = go_back_by(walk, by, told)? {
+        add_stop(stopped, b"", &told.breaks, &mut told.out);
     }
+    add_question(walk, told)
 }
 
 // Takes steps until one leads where a run is to stop, and asks; or says why it cannot stop so.
-fn go_until<'l>(
+fn go_until(
     walk: &mut Walk<'_, '_>,
     limit: usize,
-    goal: Goal<'l>,
+    mode: Mode,
+    text: &str,
     told: &mut Told,
-) -> Result<(), AllocError> {
-    let mut text = Writer::new(told.out.allocator());
-    match aim_of(walk.world(), goal, &mut text)? {
-        Ok(aim) => {
-            take_until(walk, limit, USUAL_RUN, aim, told)?;
-            add_question(walk, &mut told.out)
+) -> Result<(), AllocError>
+    ensures model { SameModel walk.old walk.new }
+    ensures stays { Stays told.old.out told.new.out }
+{
+    if let Some(mut watch) = watch_of(walk.world(), text, &mut told.out)? {
+        let stopped = go_seeking(walk, limit, mode, &mut watch, told)?;
+        add_stop(stopped, watch.words(), &told.breaks, &mut told.out);
+    }
+    add_question(walk, told)
+}
+
+// The same by the process with this number, where it lives.
+fn go_until_by(
+    walk: &mut Walk<'_, '_>,
+    limit: usize,
+    mode: Mode,
+    text: &str,
+    told: &mut Told,
+) -> Result<(), AllocError>
+    ensures model { SameModel walk.old walk.new }
+    ensures stays { Stays told.old.out told.new.out }
+{
+    let living = walk.world().process_count();
+    match mode {
+        Mode::Process(process) if process >= living => {
+            add_no_process(process, living, &mut told.out);
+            Ok(())
         }
-        Err(why) => {
-            add_no_aim(why, goal, &mut told.out);
-            add_question(walk, &mut told.out)
-        }
+        _ => go_until(walk, limit, mode, text, told),
     }
 }
 
+// Goes back until a state is one where a run is to stop, and asks; or says why it cannot stop so.
+fn go_back_until(walk: &mut Walk<'_, '_>, text: &str, told: &mut Told) -> Result<(), AllocError>
+    ensures model { SameModel walk.old walk.new }
+    ensures stays { Stays told.old.out told.new.out }
+{
+    if let Some(mut watch) = watch_of(walk.world(), text, &mut told.out)? {
+        let stopped = go_back_seeking(walk, &mut watch, told)?;
+        add_stop(stopped, watch.words(), &told.breaks, &mut told.out);
+    }
+    add_question(walk, told)
+}
+
 // The cell with this path where a walk stands, or of a process that lived before.
-fn cell_of(
-    walk: &mut Walk<'_, '_>,
-    path: &str,
-    told: &mut Told,
-) -> Result<Option<Cell>, AllocError> {
+fn cell_of(walk: &mut Walk<'_, '_>, path: &str, told: &mut Told) -> Result<Option<Cell>, AllocError>
+    ensures model { SameModel walk.old walk.new }
+    ensures stays { Stays told.old.out told.new.out }
+{
     let mut text = Writer::new(told.out.allocator());
     match cell_named(&picture_of(walk.world()), path.as_bytes(), &mut text)? {
         Some(cell) => Ok(Some(cell)),
@@ -87,7 +107,10 @@ fn go_to_last(
     limit: usize,
     path: &str,
     told: &mut Told,
-) -> Result<(), AllocError> {
+) -> Result<(), AllocError>
+    ensures model { SameModel walk.old walk.new }
+    ensures stays { Stays told.old.out told.new.out }
+{
     let Some(cell) = cell_of(walk, path, told)? else {
         add_unknown(path, &mut told.out);
         return Ok(());
@@ -97,7 +120,7 @@ fn go_to_last(
             let before = step.saturating_sub(1).min(walk.legs().len());
             walk.go_to(before)?;
             let _ = take_next(walk, limit, 1, told)?;
-            add_question(walk, &mut told.out)
+            add_question(walk, told)
         }
         None => {
             told.out.add(b"no step up to here changed ");
@@ -114,12 +137,15 @@ fn go_to_branch(
     limit: usize,
     number: usize,
     told: &mut Told,
-) -> Result<(), AllocError> {
+) -> Result<(), AllocError>
+    ensures model { SameModel walk.old walk.new }
+    ensures stays { Stays told.old.out told.new.out }
+{
     match told.branches.of(number)? {
         Some(legs) => {
             walk.go_to(0)?;
             take_legs(walk, limit, legs.as_slice(), told)?;
-            add_question(walk, &mut told.out)
+            add_question(walk, told)
         }
         None => {
             told.out.add(b"no such branch: branches lists them\n");
@@ -134,12 +160,13 @@ fn go_back<'l>(
     limit: usize,
     command: Command<'l>,
     told: &mut Told,
-) -> Result<(), AllocError> {
+) -> Result<(), AllocError>
+    ensures model { SameModel walk.old walk.new }
+    ensures stays { Stays told.old.out told.new.out }
+{
     match command {
-        Command::Back(by) => {
-            let to = walk.at().saturating_sub(by);
-            go_to(walk, to, told)
-        }
+        Command::Back(by) => go_back_to(walk, by, told),
+        Command::BackUntil(text) => go_back_until(walk, text, told),
         Command::Goto(step) => go_to(walk, step, told),
         Command::Last(path) => go_to_last(walk, limit, path, told),
         Command::Branch(number) => go_to_branch(walk, limit, number, told),
@@ -153,18 +180,17 @@ fn go_with(
     limit: usize,
     process: usize,
     told: &mut Told,
-) -> Result<(), AllocError> {
+) -> Result<(), AllocError>
+    ensures model { SameModel walk.old walk.new }
+    ensures stays { Stays told.old.out told.new.out }
+{
     let living = walk.world().process_count();
     if process >= living {
-        told.out.add(b"no process ");
-        told.out.number(process);
-        told.out.add(b" lives: ");
-        told.out.number(living);
-        told.out.add(b" do, from 0 on\n");
+        add_no_process(process, living, &mut told.out);
         return Ok(());
     }
     take_of(walk, limit, USUAL_RUN, process, told)?;
-    add_question(walk, &mut told.out)
+    add_question(walk, told)
 }
 
 // Takes steps with one move, and asks. How many are left, where there is enough to be shown first.
@@ -173,13 +199,16 @@ fn go_on_by(
     limit: usize,
     most: usize,
     told: &mut Told,
-) -> Result<usize, AllocError> {
+) -> Result<usize, AllocError>
+    ensures model { SameModel walk.old walk.new }
+    ensures stays { Stays told.old.out told.new.out }
+{
     if walk.moves()?.len() > 1 {
         told.out.add(b"run takes no choice: a number does, and random N takes N by chance\n");
     }
     let left = take_run(walk, limit, most, told)?;
     if left == 0 {
-        add_question(walk, &mut told.out)?;
+        add_question(walk, told)?;
     }
     Ok(left)
 }
@@ -190,10 +219,13 @@ fn go_forward(
     limit: usize,
     by: usize,
     told: &mut Told,
-) -> Result<usize, AllocError> {
+) -> Result<usize, AllocError>
+    ensures model { SameModel walk.old walk.new }
+    ensures stays { Stays told.old.out told.new.out }
+{
     let left = take_next(walk, limit, by, told)?;
     if left == 0 {
-        add_question(walk, &mut told.out)?;
+        add_question(walk, told)?;
     }
     Ok(left)
 }
@@ -209,7 +241,10 @@ pub fn go<'l>(
     limit: usize,
     command: Command<'l>,
     told: &mut Told,
-) -> Result<Option<Command<'l>>, AllocError> {
+) -> Result<Option<Command<'l>>, AllocError>
+    ensures model { SameModel walk.old walk.new }
+    ensures stays { Stays told.old.out told.new.out }
+{
     match command {
         Command::Forward(by) => {
             let left = go_forward(walk, limit, by, told)?;
@@ -220,12 +255,12 @@ pub fn go<'l>(
             return Ok(further(left, Command::Run(left)));
         }
         Command::Process(process) => go_with(walk, limit, process, told)?,
-        Command::Until(goal) => go_until(walk, limit, goal, told)?,
+        Command::Until(mode, text) => go_until_by(walk, limit, mode, text, told)?,
         Command::Random(most, seed) => {
             take_by_chance(walk, limit, most, seed, told)?;
-            add_question(walk, &mut told.out)?;
+            add_question(walk, told)?;
         }
-        Command::Moves(_) => add_question(walk, &mut told.out)?,
+        Command::Moves(_) => add_question(walk, told)?,
         _ => go_back(walk, limit, command, told)?,
     }
     Ok(None)

@@ -1,5 +1,7 @@
 //! The names of commands.
 
+use crate::others::told_of;
+
 /// A command, without what stands behind its name.
 #[derive(Clone, Copy, Debug, PartialEq, Eq)]
 pub enum Name {
@@ -16,6 +18,13 @@ pub enum Name {
     Process,
     Until,
     Last,
+    Break,
+    Breaks,
+    Delete,
+    Print,
+    Display,
+    Undisplay,
+    Steps,
     Branches,
     Branch,
     Chart,
@@ -26,7 +35,7 @@ pub enum Name {
 }
 
 // Each name, and the short one that means it too.
-const NAMES: [(Name, &str, &str); 20] = [
+const NAMES: [(Name, &str, &str); 27] = [
     (Name::Moves, "moves", "m"),
     (Name::State, "state", "s"),
     (Name::Why, "why", "w"),
@@ -40,6 +49,13 @@ const NAMES: [(Name, &str, &str); 20] = [
     (Name::Process, "p", "p"),
     (Name::Until, "until", "until"),
     (Name::Last, "last", "last"),
+    (Name::Break, "break", "break"),
+    (Name::Breaks, "breaks", "breaks"),
+    (Name::Delete, "delete", "delete"),
+    (Name::Print, "print", "print"),
+    (Name::Display, "display", "display"),
+    (Name::Undisplay, "undisplay", "undisplay"),
+    (Name::Steps, "steps", "steps"),
     (Name::Branches, "branches", "branches"),
     (Name::Branch, "branch", "branch"),
     (Name::Chart, "chart", "chart"),
@@ -83,13 +99,16 @@ fn begun(word: &str) -> Option<Name> {
     found
 }
 
-/// The command that a word names: whole, short, or by a beginning that no other has.
+/// The command that a word names: whole, short, or by a beginning that no other has, and that is no word of another program.
 pub fn name_of(word: &str) -> Option<Name> {
-    if word == "?" {
-        return Some(Name::Help);
+    match word {
+        "?" => return Some(Name::Help),
+        "undo" => return Some(Name::Back),
+        _ => {}
     }
     match named(word) {
         Some(name) => Some(name),
+        None if told_of(word).is_some() => None,
         None => begun(word),
     }
 }

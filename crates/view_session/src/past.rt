@@ -1,76 +1,132 @@
 //! What led to an invalid end: who used last what processes wait at, and the round of those that wait for one another.
 
+ghost use Rattle.view_text.specs.Written.{Stays};
+ghost use Rattle.view_walk.specs.Walks.{SameModel};
+
 use crate::seen::picture_of;
 use crate::steps::move_at;
-use std::alloc::AllocError;
+use std::alloc::{AllocError, Global};
 use view_cells::picture::Picture;
 use view_past::channels::add_channels;
 use view_past::round::{add_round, awaited};
 use view_past::uses::Uses;
+use view_past::writers::{Writing, Writings, add_writers, awaited_writer};
 use view_text::writer::Writer;
-use view_waits::waits::{Wait, add_waits};
+use view_waits::waits::{Wait, add_waits, starter_of};
 use view_walk::leg::Leg;
 use view_walk::walk::Walk;
 
-// Takes the next step of a walk, and keeps who used a channel by it.
-fn add_use(walk: &mut Walk<'_, '_>, leg: Leg, uses: &mut Uses) -> Result<(), AllocError> {
-    let moves = walk.moves()?;
-    let step = walk.at().saturating_add(1).min(walk.legs().len());
-    if let Some(m) = move_at(moves.as_slice(), leg.choice) {
-        uses.add(&picture_of(walk.world()), &m, step)?;
+/// Who used each channel last, and who wrote each variable last, on a walk.
+#[derive(Drop)]
+struct History {
+    uses: Uses,
+    writings: Writings,
+}
+
+// Keeps what the last step of a walk wrote, which a process took.
+fn keep_writings(
+    walk: &Walk<'_, '_>,
+    process: usize,
+    writings: &mut Writings,
+) -> Result<(), AllocError> {
+    let changes = walk.world().changes()?;
+    for change in changes.as_slice() {
+        if change.place.frame == 0 {
+            writings.keep(Writing {
+                place: change.place,
+                number: change.number,
+                step: walk.at(),
+                process,
+                lives: true,
+            })?;
+        }
     }
-    walk.go_to(step)?;
-    uses.settle(walk.world().channel_count(), walk.world().process_count());
     Ok(())
 }
 
-// Who used each channel last, up to where a walk stands, and where it stands then.
-fn uses_of(walk: &mut Walk<'_, '_>, out: &Writer) -> Result<Uses, AllocError> {
-    let mut uses = Uses::new(out.allocator());
+// Takes the next step of a walk, and keeps who used a channel by it and who wrote a variable.
+fn add_step(walk: &mut Walk<'_, '_>, leg: Leg, history: &mut History) -> Result<(), AllocError>
+    ensures { SameModel walk.old walk.new }
+{
+    let moves = walk.moves()?;
+    let step = walk.at().saturating_add(1).min(walk.legs().len());
+    let Some(m) = move_at(moves.as_slice(), leg.choice) else {
+        return walk.go_to(step);
+    };
+    history.uses.add(&picture_of(walk.world()), &m, step)?;
+    walk.go_to(step)?;
+    keep_writings(walk, starter_of(&m), &mut history.writings)?;
+    let processes = walk.world().process_count();
+    history.uses.settle(walk.world().channel_count(), processes);
+    history.writings.settle(processes);
+    Ok(())
+}
+
+// What came up to where a walk stands, and where it stands then.
+fn history_of(walk: &mut Walk<'_, '_>, out: &Writer) -> Result<History, AllocError>
+    ensures { SameModel walk.old walk.new }
+{
+    let mut history = History {
+        uses: Uses::new(out.allocator()),
+        writings: Writings::new(out.allocator()),
+    };
     let at = walk.at();
     walk.go_to(0)?;
-    for _ in 0..at {
+    for _turn in 0..at {
         let Some(leg) = walk.next() else {
             break;
         };
-        add_use(walk, leg, &mut uses)?;
+        add_step(walk, leg, &mut history)?;
     }
-    Ok(uses)
+    Ok(history)
 }
 
 // Whom a process waits for, where it waits for one thing alone.
 fn awaited_by(
+    alloc: Global,
     picture: &Picture<'_, '_, '_>,
     process: usize,
     waits: &[Wait],
-    uses: &Uses,
-) -> Option<usize> {
+    history: &History,
+) -> Result<Option<usize>, AllocError> {
     match waits {
-        [wait] => awaited(picture, process, wait, uses),
-        _ => None,
+        [wait] => match awaited(picture, process, wait, &history.uses) {
+            Some(other) => Ok(Some(other)),
+            None => awaited_writer(alloc, picture, process, wait, &history.writings),
+        },
+        _ => Ok(None),
     }
 }
 
-// Writes who used last what each process waits at, and the round.
+// Writes who used and who wrote last what each process waits at, and the round.
 fn add_uses(
     picture: &Picture<'_, '_, '_>,
-    uses: &Uses,
+    history: &History,
     out: &mut Writer,
-) -> Result<(), AllocError> {
-    let mut known = Vec::new(out.allocator());
-    let mut awaits = Vec::new(out.allocator());
+) -> Result<(), AllocError>
+    ensures { Stays out.old out.new }
+{
+    let alloc = out.allocator();
+    let mut known = Vec::new(alloc);
+    let mut written = Vec::new(alloc);
+    let mut awaits = Vec::new(alloc);
     for process in 0..picture.process_count() {
-        let mut waits = Vec::new(out.allocator());
+        let mut waits = Vec::new(alloc);
         add_waits(picture, &[], process, &mut waits)?;
-        add_channels(picture, waits.as_slice(), uses, &mut known, out)?;
-        awaits.push(awaited_by(picture, process, waits.as_slice(), uses))?;
+        let waits = waits.as_slice();
+        add_channels(picture, waits, &history.uses, &mut known, out)?;
+        add_writers(picture, waits, &history.writings, &mut written, out)?;
+        awaits.push(awaited_by(alloc, picture, process, waits, history)?)?;
     }
     add_round(awaits.as_slice(), out);
     Ok(())
 }
 
 /// Writes what led to the end where a walk stands.
-pub fn add_past(walk: &mut Walk<'_, '_>, out: &mut Writer) -> Result<(), AllocError> {
-    let uses = uses_of(walk, out)?;
-    add_uses(&picture_of(walk.world()), &uses, out)
+pub fn add_past(walk: &mut Walk<'_, '_>, out: &mut Writer) -> Result<(), AllocError>
+    ensures model { SameModel walk.old walk.new }
+    ensures stays { Stays out.old out.new }
+{
+    let history = history_of(walk, out)?;
+    add_uses(&picture_of(walk.world()), &history, out)
 }

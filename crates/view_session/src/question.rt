@@ -1,7 +1,12 @@
 //! What is asked.
 
+ghost use Rattle.view_text.specs.Written.{Stays};
+ghost use Rattle.view_walk.specs.Walks.{SameModel};
+
 use crate::past::add_past;
 use crate::seen::picture_of;
+use crate::told::Told;
+use crate::watches::add_displays;
 use promela_run::moves::Move;
 use std::alloc::AllocError;
 use view_cells::picture::Picture;
@@ -11,7 +16,9 @@ use view_text::writer::Writer;
 use view_walk::walk::Walk;
 
 // Writes where a walk stands, and of how many moves one is asked for.
-fn add_place(at: usize, length: usize, moves: &[Move], out: &mut Writer) {
+fn add_place(at: usize, length: usize, moves: &[Move], out: &mut Writer)
+    ensures { Stays out.old out.new }
+{
     out.add(b"at ");
     out.number(at);
     out.add(b" of ");
@@ -32,7 +39,9 @@ fn add_list(
     moves: &[Move],
     is_all: bool,
     out: &mut Writer,
-) -> Result<(), AllocError> {
+) -> Result<(), AllocError>
+    ensures { Stays out.old out.new }
+{
     if moves.is_empty() {
         add_ending(picture, at, out);
         if ending_of(picture) == "valid" {
@@ -48,7 +57,10 @@ pub fn add_cause(
     walk: &mut Walk<'_, '_>,
     moves: &[Move],
     out: &mut Writer,
-) -> Result<(), AllocError> {
+) -> Result<(), AllocError>
+    ensures model { SameModel walk.old walk.new }
+    ensures stays { Stays out.old out.new }
+{
     if moves.is_empty() && ending_of(&picture_of(walk.world())) == "invalid" {
         return add_past(walk, out);
     }
@@ -56,26 +68,32 @@ pub fn add_cause(
 }
 
 // Writes what is asked where a walk stands: all of it, or the first of a long list.
-fn ask(walk: &mut Walk<'_, '_>, is_all: bool, out: &mut Writer) -> Result<(), AllocError> {
-    let moves = walk.moves()?;
-    add_list(
-        &picture_of(walk.world()),
-        walk.at(),
-        moves.as_slice(),
-        is_all,
-        out,
-    )?;
-    add_cause(walk, moves.as_slice(), out)?;
-    add_place(walk.at(), walk.legs().len(), moves.as_slice(), out);
+fn ask(walk: &mut Walk<'_, '_>, is_all: bool, told: &mut Told) -> Result<(), AllocError>
+    ensures model { SameModel walk.old walk.new }
+    ensures stays { Stays told.old.out told.new.out }
+{
+    let found = walk.moves()?;
+    let moves = found.as_slice();
+    let at = walk.at();
+    add_list(&picture_of(walk.world()), at, moves, is_all, &mut told.out)?;
+    add_cause(walk, moves, &mut told.out)?;
+    add_displays(walk.world(), &told.displays, &mut told.out);
+    add_place(walk.at(), walk.legs().len(), moves, &mut told.out);
     Ok(())
 }
 
 /// Writes what is asked where a walk stands; of a long list the first of it.
-pub fn add_question(walk: &mut Walk<'_, '_>, out: &mut Writer) -> Result<(), AllocError> {
-    ask(walk, false, out)
+pub fn add_question(walk: &mut Walk<'_, '_>, told: &mut Told) -> Result<(), AllocError>
+    ensures model { SameModel walk.old walk.new }
+    ensures stays { Stays told.old.out told.new.out }
+{
+    ask(walk, false, told)
 }
 
 /// Writes all that is asked where a walk stands.
-pub fn add_whole_question(walk: &mut Walk<'_, '_>, out: &mut Writer) -> Result<(), AllocError> {
-    ask(walk, true, out)
+pub fn add_whole_question(walk: &mut Walk<'_, '_>, told: &mut Told) -> Result<(), AllocError>
+    ensures model { SameModel walk.old walk.new }
+    ensures stays { Stays told.old.out told.new.out }
+{
+    ask(walk, true, told)
 }

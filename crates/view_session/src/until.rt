@@ -7,6 +7,7 @@ ghost use Rattle.promela_process.specs.Store.{number_at};
 
 use crate::seen::picture_of;
 use crate::written::{Cell, cell_named, is_owned, is_written};
+use diagnostics::Fault;
 use pml_eval::clip::clip;
 use pml_program::form::Form;
 use pml_sim::world::World;
@@ -14,7 +15,9 @@ use promela_process::place::Place;
 use std::alloc::AllocError;
 use view_cells::cells::{form_at, is_mtype, number_at};
 use view_cells::picture::Picture;
-use view_cells::processes::{is_standing_line, line_of};
+use view_cells::processes::is_standing_line;
+use view_condition::condition::Condition;
+use view_condition::subject::{Whose, any_at};
 use view_text::writer::Writer;
 
 /// Where a run is to stop, in the words of a line.
@@ -97,7 +100,7 @@ pub fn wanted<'l>(words: &[&'l str]) -> Option<Goal<'l>> {
 }
 
 /// Where a run is to stop, as it was found in a state.
-#[derive(Clone, Copy, Debug, PartialEq, Eq)]
+#[derive(Drop)]
 pub enum Aim {
     /// Where a process stands at this line.
     Line(u32),
@@ -107,6 +110,8 @@ pub enum Aim {
     Other(Cell, i32),
     /// Behind a step that changed it.
     Written(Cell),
+    /// Where this holds.
+    Holds(Condition),
 }
 
 /// Why a run cannot stop so.
@@ -208,15 +213,6 @@ pub fn aim_of<'l>(
     }
 }
 
-fn is_at_line(picture: &Picture<'_, '_, '_>, line: u32) -> bool {
-    for process in 0..picture.process_count() {
-        if line_of(picture, process) == line {
-            return true;
-        }
-    }
-    false
-}
-
 // Whether a cell has a number.
 fn has_number(picture: &Picture<'_, '_, '_>, place: Place, number: i32) -> bool
     ensures { result ≡ int_eq (number_at picture.now.frames place) number }
@@ -225,16 +221,43 @@ fn has_number(picture: &Picture<'_, '_, '_>, place: Place, number: i32) -> bool
 }
 
 /// Whether a state is one where a run is to stop.
-pub fn is_reached(world: &World<'_, '_>, aim: Aim) -> Result<bool, AllocError> {
+#[derive(Clone, Copy, Debug, PartialEq, Eq)]
+pub enum Reached {
+    Yes,
+    No,
+    /// A condition comes to a fault, which counts as not so.
+    Fault(Fault),
+    /// It reads a variable of a process that is not there, which does too.
+    Absent(Whose),
+}
+
+fn reached_if(is_so: bool) -> Reached {
+    if is_so { Reached::Yes } else { Reached::No }
+}
+
+// Whether a condition holds in a state.
+fn holds(picture: &Picture<'_, '_, '_>, condition: &Condition) -> Reached {
+    match condition.worth(picture) {
+        Ok(worth) => reached_if(worth != 0),
+        Err(fault) => match condition.absent(picture) {
+            Some(whose) => Reached::Absent(whose),
+            None => Reached::Fault(fault),
+        },
+    }
+}
+
+/// Whether a state is one where a run is to stop.
+pub fn is_reached(world: &World<'_, '_>, aim: &Aim) -> Result<Reached, AllocError> {
     let picture = picture_of(world);
     match aim {
-        Aim::Line(line) => Ok(is_at_line(&picture, line)),
-        Aim::Equal(cell, number) => {
-            Ok(is_owned(&picture, cell) && has_number(&picture, cell.place, number))
-        }
-        Aim::Other(cell, number) => {
-            Ok(is_owned(&picture, cell) && !has_number(&picture, cell.place, number))
-        }
-        Aim::Written(cell) => is_written(world, cell),
+        Aim::Line(line) => Ok(reached_if(any_at(&picture, *line, picture.process_count()))),
+        Aim::Equal(cell, number) => Ok(reached_if(
+            is_owned(&picture, *cell) && has_number(&picture, cell.place, *number),
+        )),
+        Aim::Other(cell, number) => Ok(reached_if(
+            is_owned(&picture, *cell) && !has_number(&picture, cell.place, *number),
+        )),
+        Aim::Written(cell) => Ok(reached_if(is_written(world, *cell)?)),
+        Aim::Holds(condition) => Ok(holds(&picture, condition)),
     }
 }

@@ -1,5 +1,7 @@
 //! The cells that names name, and the steps that changed them.
 
+ghost use Rattle.view_walk.specs.Walks.{SameModel};
+
 use crate::seen::picture_of;
 use pml_sim::world::World;
 use promela_process::place::Place;
@@ -128,7 +130,9 @@ pub fn cell_before(
     walk: &mut Walk<'_, '_>,
     path: &[u8],
     text: &mut Writer,
-) -> Result<Option<Cell>, AllocError> {
+) -> Result<Option<Cell>, AllocError>
+    ensures { SameModel walk.old walk.new }
+{
     let at = walk.at();
     let mut cell = None;
     if !path.contains(&b'.') {
@@ -149,7 +153,9 @@ pub fn cell_before(
 }
 
 /// The last step up to where a walk stands that changed a cell. The walk stands where it stood.
-pub fn last_written(walk: &mut Walk<'_, '_>, cell: Cell) -> Result<Option<usize>, AllocError> {
+pub fn last_written(walk: &mut Walk<'_, '_>, cell: Cell) -> Result<Option<usize>, AllocError>
+    ensures { SameModel walk.old walk.new }
+{
     let at = walk.at();
     let mut found = None;
     walk.go_to(0)?;

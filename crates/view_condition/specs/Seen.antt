@@ -1,0 +1,75 @@
+-- All of a state, as the variables of a condition show it.
+use Rattle.std.specs.Prelude.{ℕ, zero, suc, ◌+◌, ◌==◌, ◌&&◌, ◌||◌, Bool, false, if◌then◌else◌, List, length, Option, Some, None, slice_get, ℤ, pos, option_map}
+use Rattle.promela_process.specs.Expressions.{Reading}
+use Rattle.promela_process.specs.Numbers.{truth}
+use Rattle.promela_process.specs.Store.{size_at, number_at}
+use Rattle.promela_process.specs.declared.place.Place.{Place}
+use Rattle.promela_run.specs.State.{State, channel_at, filling}
+use Rattle.promela_run.specs.Steps.{sorts}
+use Rattle.pml_value.specs.Seen as view
+use Rattle.view_cells.specs.Processes.{line_of}
+use Rattle.view_condition.specs.declared.subject.Whose.{Whose}
+use Rattle.view_condition.specs.declared.subject.Subject.{Subject}
+use Rattle.view_condition.specs.declared.subject.Subject.TheVariants.{Global, Local, At, Line}
+use Rattle.view_condition.specs.declared.overview.Overview.{Overview}
+
+abbrev pub is_sort : ℕ → Option ℕ → Bool
+is_sort k None = false
+is_sort k (Some j) = j == k
+
+-- whether a process lives, and is of this proctype
+abbrev pub is_there : State → Whose → Bool
+is_there s w = is_sort w.sort (slice_get (sorts s) w.process)
+
+-- whether it is there, and stands at this line
+abbrev pub stands_at : State → Whose → ℕ → Bool
+stands_at s w line = is_there s w && (line_of s w.process == line)
+
+-- whether one of so many processes stands at this line
+abbrev pub any_at : State → ℕ → ℕ → Bool
+any_at s line zero = false
+any_at s line (suc n) = any_at s line n || (line_of s n == line)
+
+-- how many cells a variable has: those of a process that is not there has none
+abbrev pub size_by : State → Option Subject → ℕ
+size_by s None = 0
+size_by s (Some (Global v)) = size_at s.frames 0 v
+size_by s (Some (Local w v)) = if is_there s w then size_at s.frames (w.process + 1) v else 0
+size_by s (Some (At w line)) = 1
+size_by s (Some (Line line)) = 1
+
+-- the number of a cell of a frame
+abbrev pub number_by_frame : State → ℕ → ℕ → ℕ → ℤ
+number_by_frame s frame variable cell = number_at s.frames (record { frame = frame; variable = variable; cell = cell })
+
+-- the number of a cell of a variable
+abbrev pub number_by : State → Option Subject → ℕ → ℤ
+number_by s None cell = pos 0
+number_by s (Some (Global v)) cell = number_by_frame s 0 v cell
+number_by s (Some (Local w v)) cell = number_by_frame s (w.process + 1) v cell
+number_by s (Some (At w line)) cell = truth (stands_at s w line)
+number_by s (Some (Line line)) cell = truth (any_at s line (length s.stands))
+
+-- what a condition reads of a state, where its variables are these
+abbrev pub all_of : State → List Subject → Reading
+all_of s subjects = record {
+  frame = λ local. 0;
+  cells = λ frame variable. size_by s (slice_get subjects variable);
+  holds = λ p. number_by s (slice_get subjects p.variable) p.cell;
+  pid = pos 0;
+  process_count = pos (length s.stands);
+  timeout = false;
+  channel = λ n. option_map filling (channel_at s.channels n);
+}
+
+-- the same of what is lent
+abbrev pub seen : Overview → Reading
+seen w = record {
+  frame = λ local. 0;
+  cells = λ frame variable. size_by w.picture.now (slice_get w.subjects.now variable);
+  holds = λ p. number_by w.picture.now (slice_get w.subjects.now p.variable) p.cell;
+  pid = pos 0;
+  process_count = (view.seen w.view).process_count;
+  timeout = false;
+  channel = (view.seen w.view).channel;
+}

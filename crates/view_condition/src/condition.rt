@@ -1,0 +1,161 @@
+//! Conditions over all of a state.
+
+ghost use Rattle.std.specs.Prelude.{◌≡◌};
+ghost use Rattle.promela_process.specs.Expressions.{val};
+ghost use Rattle.view_condition.specs.Seen.{all_of};
+
+use crate::overview::Overview;
+use crate::places::respelled;
+use crate::resolve::resolved;
+use crate::subject::{Subject, Whose, is_there};
+use crate::unread::{Flaw, Unread, flawed};
+use diagnostics::Fault;
+use explain_tokens::placed;
+use pml_eval::eval::eval;
+use pml_expression::cursor::Cursor;
+use pml_expression::expr::boxed_expr;
+use pml_expression::fault::ReadFault;
+use pml_lex::fault::LexError;
+use pml_program::expr::Expr;
+use pml_program::form::Form;
+use pml_token::token::{Kind, Token};
+use pml_tree::tree::Expr as TreeExpr;
+use sqlite_items::Boxed;
+use std::alloc::Global;
+use view_cells::picture::Picture;
+
+/// A condition has at most so many bytes.
+pub const MOST_BYTES: usize = 1_000;
+
+/// It is nested at most so deep.
+pub const MOST_DEPTH: usize = 100;
+
+/// A condition over all of a state.
+#[derive(Drop)]
+pub struct Condition {
+    worth: Expr,
+    subjects: Vec<Subject>,
+}
+
+// The tokens of a text, each with its place.
+fn tokens_of<'t>(alloc: Global, text: &'t [u8]) -> Result<Vec<Token<'t>>, Unread> {
+    match placed(alloc, text) {
+        Ok(tokens) => Ok(respelled(alloc, tokens.as_slice())?),
+        Err(LexError::Memory) => Err(Unread::Memory),
+        Err(LexError::Lexical(at)) => Err(flawed(Flaw::Lexical, at)),
+        Err(_) => Err(flawed(Flaw::Long, 0)),
+    }
+}
+
+// Where the token stands from which on there are so many.
+fn place_of(tokens: &[Token<'_>], left: usize) -> Option<u32> {
+    match tokens.get(tokens.len().saturating_sub(left)) {
+        Some(token) => Some(token.line()),
+        None => None,
+    }
+}
+
+// That no rule reads the token from which on there are so many.
+fn unreadable(tokens: &[Token<'_>], left: usize) -> Unread {
+    match place_of(tokens, left) {
+        Some(at) => flawed(Flaw::Syntax, at),
+        None => flawed(Flaw::Short, u32::MAX),
+    }
+}
+
+// What stands alone in the language, and is of one process.
+fn timeout_in(tokens: &[Token<'_>]) -> Option<u32> {
+    for token in tokens {
+        if token.kind() == Kind::Timeout {
+            return Some(token.line());
+        }
+    }
+    None
+}
+
+// The expression that tokens are, or from which token on none is there.
+fn tree_of<'a>(
+    alloc: Global,
+    depth: usize,
+    tokens: &'a [Token<'a>],
+) -> Result<Boxed<TreeExpr<'a>>, ReadFault> {
+    let mut cursor = Cursor::new(tokens);
+    let tree = boxed_expr(alloc, depth, 1, &mut cursor)?;
+    if cursor.is_empty() {
+        Ok(tree)
+    } else {
+        Err(cursor.refuse())
+    }
+}
+
+// Why tokens are none that is nested as deep as a condition may be.
+fn why_none(alloc: Global, tokens: &[Token<'_>], left: usize) -> Unread {
+    match tree_of(alloc, MOST_BYTES, tokens) {
+        Ok(_) => flawed(Flaw::Deep, u32::MAX),
+        Err(ReadFault::Memory) => Unread::Memory,
+        Err(ReadFault::Syntax(_)) => unreadable(tokens, left),
+    }
+}
+
+// The condition that these tokens are, over the states of a model, of which this is one.
+fn condition_of(
+    alloc: Global,
+    tokens: &[Token<'_>],
+    picture: &Picture<'_, '_, '_>,
+) -> Result<Condition, Unread> {
+    let mut subjects = Vec::new(alloc);
+    match tree_of(alloc, MOST_DEPTH, tokens) {
+        Ok(tree) => {
+            let worth = resolved(alloc, tree.get(), picture, &mut subjects)?;
+            Ok(Condition { worth, subjects })
+        }
+        Err(ReadFault::Memory) => Err(Unread::Memory),
+        Err(ReadFault::Syntax(left)) => Err(why_none(alloc, tokens, left)),
+    }
+}
+
+/// Reads a condition over the states of a model, of which this is one.
+pub fn condition_in(
+    alloc: Global,
+    text: &[u8],
+    picture: &Picture<'_, '_, '_>,
+) -> Result<Condition, Unread> {
+    if text.len() > MOST_BYTES {
+        return Err(flawed(Flaw::Long, u32::MAX));
+    }
+    let tokens = tokens_of(alloc, text)?;
+    if let Some(at) = timeout_in(tokens.as_slice()) {
+        return Err(flawed(Flaw::Alone, at));
+    }
+    condition_of(alloc, tokens.as_slice(), picture)
+}
+
+impl Condition {
+    /// Its worth in a state, or the first fault from the left.
+    pub fn worth(&self, picture: &Picture<'_, '_, '_>) -> Result<i32, Fault>
+        ensures { result ≡ val self.now.worth (all_of picture.now self.now.subjects.items) }
+    {
+        let overview = Overview::new(picture, self.subjects.as_slice());
+        eval(&self.worth, &overview)
+    }
+
+    /// A process that it names, and that is not there in a state.
+    pub fn absent(&self, picture: &Picture<'_, '_, '_>) -> Option<Whose> {
+        for subject in self.subjects.as_slice() {
+            if let Some(whose) = subject.whose() {
+                if !is_there(picture, whose) {
+                    return Some(whose);
+                }
+            }
+        }
+        None
+    }
+
+    /// The type of what it reads, where it is one variable, or one field or element of it.
+    pub fn form(&self) -> Option<Form> {
+        match &self.worth {
+            Expr::Read(target) => Some(target.form),
+            _ => None,
+        }
+    }
+}

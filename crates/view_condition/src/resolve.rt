@@ -1,0 +1,333 @@
+//! An expression of a condition, with its names replaced by what they stand for. A name is looked up once.
+
+ghost use Rattle.std.specs.Prelude.{◌≡◌, ◌∷◌, ◌++◌, [], IfOk, OnOk, length};
+
+use crate::base::{Base, Found, base_of};
+use crate::names::{Declaration, field_named};
+use crate::subject::Subject;
+use crate::unread::{Flaw, Unread, flawed};
+use check_uses::arithmetic::{negative, value};
+use pml_program::expr::{Expr, Target, Turn, Want};
+use pml_program::form::Form;
+use pml_token::token::Token;
+use pml_tree::tree::{Argument, Expr as TreeExpr, Reference, Scalar, Sign, Step};
+use promela_model::mark::Constant;
+use sqlite_items::{Boxed, Items};
+use std::alloc::{AllocError, Global};
+use view_cells::cells::is_chan;
+use view_cells::picture::Picture;
+
+// The number that a token is, behind a sign.
+fn literal(token: &Token<'_>, sign: Sign) -> Result<i32, Unread> {
+    let number = value(token.text());
+    let signed = match sign {
+        Sign::Plus => number,
+        Sign::Minus => negative(number),
+    };
+    match signed {
+        Constant::Is(number) => Ok(number),
+        _ => Err(flawed(Flaw::Number, token.line())),
+    }
+}
+
+// The number that the next variable of a condition has, which is this.
+fn numbered(subject: Subject, subjects: &mut Vec<Subject>) -> Result<usize, AllocError>
+    ensures number { IfOk result (λ n. n ≡ length subjects.old.items) }
+    ensures added { OnOk result (subjects.new.items ≡ subjects.old.items ++ subject ∷ []) }
+{
+    let number = subjects.len();
+    subjects.push(subject)?;
+    Ok(number)
+}
+
+// A fact, as a variable.
+fn fact_read(
+    alloc: Global,
+    subject: Subject,
+    subjects: &mut Vec<Subject>,
+) -> Result<Expr, AllocError> {
+    let mut turns = Items::new(alloc);
+    turns.push(Turn {
+        offset: 0,
+        length: 1,
+        stride: 1,
+        index: None,
+    })?;
+    Ok(Expr::Read(Target {
+        local: false,
+        variable: numbered(subject, subjects)?,
+        form: Form::Plain(Scalar::Bit),
+        turns,
+    }))
+}
+
+/// The index of a variable or a field, which an array has and nothing else.
+#[cycle(resolve)]
+fn index(
+    alloc: Global,
+    is_array: bool,
+    step: &Step<'_>,
+    picture: &Picture<'_, '_, '_>,
+    subjects: &mut Vec<Subject>,
+) -> Result<Option<Boxed<Expr>>, Unread> {
+    match &step.index {
+        None => {
+            if is_array {
+                return Err(flawed(Flaw::Array, step.name.line()));
+            }
+            Ok(None)
+        }
+        Some(e) => {
+            if !is_array {
+                return Err(flawed(Flaw::Index, step.name.line()));
+            }
+            Ok(Some(boxed(alloc, e.get(), picture, subjects)?))
+        }
+    }
+}
+
+/// The turn of a variable, from its first cell on, or of a field.
+#[cycle(resolve)]
+fn turn(
+    alloc: Global,
+    declared: Declaration,
+    step: &Step<'_>,
+    picture: &Picture<'_, '_, '_>,
+    subjects: &mut Vec<Subject>,
+) -> Result<Turn, Unread> {
+    let index = index(alloc, declared.array, step, picture, subjects)?;
+    Ok(Turn {
+        offset: declared.offset,
+        length: declared.length,
+        stride: declared.stride,
+        index,
+    })
+}
+
+/// Adds the turns of fields. The type that they lead to.
+#[cycle(resolve)]
+fn through(
+    alloc: Global,
+    form: Form,
+    steps: &[Step<'_>],
+    picture: &Picture<'_, '_, '_>,
+    subjects: &mut Vec<Subject>,
+    turns: &mut Items<Turn>,
+) -> Result<Form, Unread> {
+    let mut here = form;
+    for step in steps {
+        let typedefs = picture.program().typedefs.as_slice();
+        let Some(declared) = field_named(typedefs, here, step.name.text()) else {
+            return Err(flawed(Flaw::Field, step.name.line()));
+        };
+        turns.push(turn(alloc, declared, step, picture, subjects)?)?;
+        here = declared.form;
+    }
+    Ok(here)
+}
+
+/// Adds the turns of a variable of the globals, which the first name of a reference names. The type that they lead to.
+#[cycle(resolve)]
+fn global_turns(
+    alloc: Global,
+    declared: Declaration,
+    r: &Reference<'_>,
+    picture: &Picture<'_, '_, '_>,
+    subjects: &mut Vec<Subject>,
+    turns: &mut Items<Turn>,
+) -> Result<Form, Unread> {
+    turns.push(turn(alloc, declared, &r.first, picture, subjects)?)?;
+    through(
+        alloc,
+        declared.form,
+        r.fields.as_slice(),
+        picture,
+        subjects,
+        turns,
+    )
+}
+
+/// Adds the turns of a variable of a process, which the first of these fields names. The type that they lead to.
+#[cycle(resolve)]
+fn local_turns(
+    alloc: Global,
+    declared: Declaration,
+    steps: &[Step<'_>],
+    picture: &Picture<'_, '_, '_>,
+    subjects: &mut Vec<Subject>,
+    turns: &mut Items<Turn>,
+) -> Result<Form, Unread> {
+    match steps {
+        [step, rest @ ..] => {
+            turns.push(turn(alloc, declared, step, picture, subjects)?)?;
+            through(alloc, declared.form, rest, picture, subjects, turns)
+        }
+        [] => Ok(declared.form),
+    }
+}
+
+/// The place that a reference leads to, whose first names are found.
+#[cycle(resolve)]
+fn target(
+    alloc: Global,
+    found: Found,
+    r: &Reference<'_>,
+    picture: &Picture<'_, '_, '_>,
+    subjects: &mut Vec<Subject>,
+) -> Result<Target, Unread> {
+    let declared = found.whole();
+    let mut turns = Items::new(alloc);
+    let form = if found.is_local() {
+        let steps = r.fields.as_slice();
+        local_turns(alloc, declared, steps, picture, subjects, &mut turns)?
+    } else {
+        global_turns(alloc, declared, r, picture, subjects, &mut turns)?
+    };
+    if let Form::Struct(_) = form {
+        return Err(flawed(Flaw::Structure, r.first.name.line()));
+    }
+    let variable = numbered(found.subject, subjects)?;
+    Ok(Target {
+        local: false,
+        variable,
+        form,
+        turns,
+    })
+}
+
+/// What a reference is worth.
+#[cycle(resolve)]
+fn read(
+    alloc: Global,
+    r: &Reference<'_>,
+    picture: &Picture<'_, '_, '_>,
+    subjects: &mut Vec<Subject>,
+) -> Result<Expr, Unread> {
+    match base_of(r, picture)? {
+        Base::Number(number) => Ok(Expr::Number(number)),
+        Base::ProcessCount => Ok(Expr::ProcessCount),
+        Base::Fact(subject) => Ok(fact_read(alloc, subject, subjects)?),
+        Base::Variable(found) => Ok(Expr::Read(target(alloc, found, r, picture, subjects)?)),
+    }
+}
+
+/// The place that a reference leads to.
+#[cycle(resolve)]
+fn placed(
+    alloc: Global,
+    r: &Reference<'_>,
+    picture: &Picture<'_, '_, '_>,
+    subjects: &mut Vec<Subject>,
+) -> Result<Target, Unread> {
+    match base_of(r, picture)? {
+        Base::Variable(found) => target(alloc, found, r, picture, subjects),
+        _ => Err(flawed(Flaw::Channel, r.first.name.line())),
+    }
+}
+
+/// A channel that is asked.
+#[cycle(resolve)]
+fn channel(
+    alloc: Global,
+    r: &Reference<'_>,
+    picture: &Picture<'_, '_, '_>,
+    subjects: &mut Vec<Subject>,
+) -> Result<Boxed<Target>, Unread> {
+    let place = placed(alloc, r, picture, subjects)?;
+    if !is_chan(place.form) {
+        return Err(flawed(Flaw::Channel, r.first.name.line()));
+    }
+    Ok(Boxed::new(alloc, place)?)
+}
+
+/// What a name asks of a field of a message.
+#[cycle(resolve)]
+fn into(
+    alloc: Global,
+    r: &Reference<'_>,
+    picture: &Picture<'_, '_, '_>,
+    subjects: &mut Vec<Subject>,
+) -> Result<Want, Unread> {
+    if r.first.name.text() == b"_".as_slice() {
+        return Ok(Want::Anything);
+    }
+    if let Base::Number(number) = base_of(r, picture)? {
+        return Ok(Want::Exactly(number));
+    }
+    Ok(Want::Into(placed(alloc, r, picture, subjects)?))
+}
+
+#[cycle(resolve)]
+fn want(
+    alloc: Global,
+    argument: &Argument<'_>,
+    picture: &Picture<'_, '_, '_>,
+    subjects: &mut Vec<Subject>,
+) -> Result<Want, Unread> {
+    match argument {
+        Argument::Exactly(sign, token) => Ok(Want::Exactly(literal(token, *sign)?)),
+        Argument::Fixed(truth) => Ok(Want::Exactly(if *truth { 1 } else { 0 })),
+        Argument::Eval(e) => Ok(Want::Equal(boxed(alloc, e.get(), picture, subjects)?)),
+        Argument::Into(r) => into(alloc, r, picture, subjects),
+    }
+}
+
+#[cycle(resolve)]
+fn wants(
+    alloc: Global,
+    arguments: &[Argument<'_>],
+    picture: &Picture<'_, '_, '_>,
+    subjects: &mut Vec<Subject>,
+) -> Result<Items<Want>, Unread> {
+    let mut found = Items::new(alloc);
+    for argument in arguments {
+        found.push(want(alloc, argument, picture, subjects)?)?;
+    }
+    Ok(found)
+}
+
+/// An expression, in a box.
+#[cycle(resolve)]
+fn boxed(
+    alloc: Global,
+    e: &TreeExpr<'_>,
+    picture: &Picture<'_, '_, '_>,
+    subjects: &mut Vec<Subject>,
+) -> Result<Boxed<Expr>, Unread> {
+    let worth = resolved(alloc, e, picture, subjects)?;
+    Ok(Boxed::new(alloc, worth)?)
+}
+
+/// An expression with its names replaced; what its variables are is added.
+#[cycle(resolve)]
+pub fn resolved(
+    alloc: Global,
+    e: &TreeExpr<'_>,
+    picture: &Picture<'_, '_, '_>,
+    subjects: &mut Vec<Subject>,
+) -> Result<Expr, Unread> {
+    match e {
+        TreeExpr::Number(token) => Ok(Expr::Number(literal(token, Sign::Plus)?)),
+        TreeExpr::Truth(truth) => Ok(Expr::Number(if *truth { 1 } else { 0 })),
+        TreeExpr::Timeout => Ok(Expr::Timeout),
+        TreeExpr::Read(r) => read(alloc, r, picture, subjects),
+        TreeExpr::Ask(fill, r) => Ok(Expr::Ask(*fill, channel(alloc, r, picture, subjects)?)),
+        TreeExpr::Poll(r, search, arguments) => {
+            let at = channel(alloc, r, picture, subjects)?;
+            let asked = wants(alloc, arguments.as_slice(), picture, subjects)?;
+            Ok(Expr::Poll(at, *search, asked))
+        }
+        TreeExpr::Unary(op, a) => Ok(Expr::Unary(*op, boxed(alloc, a.get(), picture, subjects)?)),
+        TreeExpr::Binary(op, a, b) => {
+            let left = boxed(alloc, a.get(), picture, subjects)?;
+            let right = boxed(alloc, b.get(), picture, subjects)?;
+            Ok(Expr::Binary(*op, left, right))
+        }
+        TreeExpr::Choice(a, b, c) => {
+            let condition = boxed(alloc, a.get(), picture, subjects)?;
+            let one = boxed(alloc, b.get(), picture, subjects)?;
+            let other = boxed(alloc, c.get(), picture, subjects)?;
+            Ok(Expr::Choice(condition, one, other))
+        }
+    }
+}

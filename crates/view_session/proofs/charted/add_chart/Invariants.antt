@@ -1,0 +1,6 @@
+use Rattle.view_text.specs.Written.{Stays}
+use Rattle.view_walk.specs.Walks.{SameModel}
+use Rattle.view_session.proofs.charted.add_chart.Given as goal
+
+abbrev pub invariant-loop-turn : goal.invariant-loop-turn
+invariant-loop-turn l = SameModel l.fn.walk l.walk × Stays l.fn.out l.out

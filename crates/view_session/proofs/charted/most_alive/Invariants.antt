@@ -1,0 +1,5 @@
+use Rattle.view_walk.specs.Walks.{SameModel}
+use Rattle.view_session.proofs.charted.most_alive.Given as goal
+
+abbrev pub invariant-loop-step : goal.invariant-loop-step
+invariant-loop-step l = SameModel l.fn.walk l.walk
