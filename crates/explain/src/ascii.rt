@@ -1,5 +1,8 @@
 //! What is told of characters outside of ASCII.
 
+ghost use Rattle.std.specs.Prelude.{OnOk};
+ghost use Rattle.explain.specs.Said.{Keeps};
+
 use crate::message::Message;
 use std::alloc::AllocError;
 use std::str;
@@ -83,7 +86,9 @@ fn is_blank(sign: &str) -> bool {
 /// What is told of a sign that nothing is known of.
 pub const ANY: &str = "letters and signs outside of ASCII stand only in strings and comments";
 
-fn of_sign(message: &mut Message<'_>, sign: &str) -> Result<(), AllocError> {
+fn of_sign(message: &mut Message<'_>, sign: &str) -> Result<(), AllocError>
+    ensures { OnOk result (Keeps message.old message.new) }
+{
     if is_blank(sign) {
         return message.push("this character is no blank of the language: write a blank for it");
     }
@@ -97,7 +102,9 @@ fn of_sign(message: &mut Message<'_>, sign: &str) -> Result<(), AllocError> {
 }
 
 /// Of a character outside of ASCII.
-pub fn outside_of_ascii(message: &mut Message<'_>, sign: &[u8]) -> Result<(), AllocError> {
+pub fn outside_of_ascii(message: &mut Message<'_>, sign: &[u8]) -> Result<(), AllocError>
+    ensures { OnOk result (Keeps message.old message.new) }
+{
     match str::from_utf8(sign) {
         Ok(sign) => of_sign(message, sign),
         Err(_) => message.push(ANY),

@@ -1,5 +1,8 @@
 //! What is told of arguments, labels, control, numbers, the first state and inlines.
 
+ghost use Rattle.std.specs.Prelude.{OnOk};
+ghost use Rattle.explain.specs.Said.{Keeps};
+
 use crate::message::Message;
 use crate::names::did_you_mean;
 use explain_cause::cause::{
@@ -17,21 +20,27 @@ fn arguments(
     name: Named<'_>,
     given: usize,
     wanted: usize,
-) -> Result<(), AllocError> {
+) -> Result<(), AllocError>
+    ensures { OnOk result (Keeps message.old message.new) }
+{
     message.placed("", name, " (", ") has ")?;
     message.count(wanted, " parameter, and ", " parameters, and ")?;
     message.count(given, " argument is given", " arguments are given")
 }
 
 /// Of another number of values than a text has conversions.
-fn values(message: &mut Message<'_>, given: usize, wanted: usize) -> Result<(), AllocError> {
+fn values(message: &mut Message<'_>, given: usize, wanted: usize) -> Result<(), AllocError>
+    ensures { OnOk result (Keeps message.old message.new) }
+{
     message.push("the text has ")?;
     message.count(wanted, " conversion, and ", " conversions, and ")?;
     message.count(given, " value is given", " values are given")
 }
 
 /// Of a wrong number of arguments.
-pub fn of_count(message: &mut Message<'_>, cause: CountCause<'_>) -> Result<(), AllocError> {
+pub fn of_count(message: &mut Message<'_>, cause: CountCause<'_>) -> Result<(), AllocError>
+    ensures { OnOk result (Keeps message.old message.new) }
+{
     match cause {
         CountCause::Run(name, given, wanted) => arguments(message, name, given, wanted),
         CountCause::Printf(given, wanted) => values(message, given, wanted),
@@ -47,7 +56,9 @@ pub fn of_count(message: &mut Message<'_>, cause: CountCause<'_>) -> Result<(), 
 }
 
 /// Of a label.
-pub fn of_label(message: &mut Message<'_>, cause: LabelCause<'_>) -> Result<(), AllocError> {
+pub fn of_label(message: &mut Message<'_>, cause: LabelCause<'_>) -> Result<(), AllocError>
+    ensures { OnOk result (Keeps message.old message.new) }
+{
     match cause {
         LabelCause::Twice(first) => message.placed("the label ", first, " stands already on ", ""),
         LabelCause::Missing(name, near) => {
@@ -66,7 +77,9 @@ pub fn of_label(message: &mut Message<'_>, cause: LabelCause<'_>) -> Result<(), 
 }
 
 /// The labels of a circle between its first one and the first one again.
-fn way(message: &mut Message<'_>, circle: Circle<'_>) -> Result<(), AllocError> {
+fn way(message: &mut Message<'_>, circle: Circle<'_>) -> Result<(), AllocError>
+    ensures { OnOk result (Keeps message.old message.new) }
+{
     message.around(" leads to ", circle.second, "")?;
     match circle.count {
         0..=2 => Ok(()),
@@ -75,7 +88,9 @@ fn way(message: &mut Message<'_>, circle: Circle<'_>) -> Result<(), AllocError> 
     }
 }
 
-fn of_circle(message: &mut Message<'_>, circle: Circle<'_>) -> Result<(), AllocError> {
+fn of_circle(message: &mut Message<'_>, circle: Circle<'_>) -> Result<(), AllocError>
+    ensures { OnOk result (Keeps message.old message.new) }
+{
     message.name(circle.first)?;
     if circle.count <= 1 {
         return message.push(" leads to itself, and no statement is on the way");
@@ -89,7 +104,9 @@ fn of_circle(message: &mut Message<'_>, circle: Circle<'_>) -> Result<(), AllocE
 }
 
 /// Of breaks, d_steps and circles.
-pub fn of_control(message: &mut Message<'_>, cause: ControlCause<'_>) -> Result<(), AllocError> {
+pub fn of_control(message: &mut Message<'_>, cause: ControlCause<'_>) -> Result<(), AllocError>
+    ensures { OnOk result (Keeps message.old message.new) }
+{
     match cause {
         ControlCause::LooseBreak => message.push(
             "no loop is round it: write `skip` where nothing is to be done, or leave by `goto` and a label",
@@ -128,7 +145,9 @@ fn outside(
     number: i32,
     least: usize,
     most: usize,
-) -> Result<(), AllocError> {
+) -> Result<(), AllocError>
+    ensures { OnOk result (Keeps message.old message.new) }
+{
     message.push(" is ")?;
     message.signed(number)?;
     message.figure(", and may be from ", least, " to ")?;
@@ -143,12 +162,16 @@ fn number_of(
     number: i32,
     least: usize,
     most: usize,
-) -> Result<(), AllocError> {
+) -> Result<(), AllocError>
+    ensures { OnOk result (Keeps message.old message.new) }
+{
     message.around(what, name, "")?;
     outside(message, number, least, most)
 }
 
-fn of_fields(message: &mut Message<'_>, name: &[u8], number: usize) -> Result<(), AllocError> {
+fn of_fields(message: &mut Message<'_>, name: &[u8], number: usize) -> Result<(), AllocError>
+    ensures { OnOk result (Keeps message.old message.new) }
+{
     message.both(
         "the messages of ",
         name,
@@ -159,7 +182,9 @@ fn of_fields(message: &mut Message<'_>, name: &[u8], number: usize) -> Result<()
     message.number(MOST_FIELDS)
 }
 
-fn of_declared(message: &mut Message<'_>, cause: RangeCause<'_>) -> Result<(), AllocError> {
+fn of_declared(message: &mut Message<'_>, cause: RangeCause<'_>) -> Result<(), AllocError>
+    ensures { OnOk result (Keeps message.old message.new) }
+{
     match cause {
         RangeCause::Size(name, number) => {
             number_of(
@@ -193,7 +218,9 @@ fn of_declared(message: &mut Message<'_>, cause: RangeCause<'_>) -> Result<(), A
 }
 
 /// Of numbers and cells.
-pub fn of_range(message: &mut Message<'_>, cause: RangeCause<'_>) -> Result<(), AllocError> {
+pub fn of_range(message: &mut Message<'_>, cause: RangeCause<'_>) -> Result<(), AllocError>
+    ensures { OnOk result (Keeps message.old message.new) }
+{
     match cause {
         RangeCause::Number(digits) => message.around("", digits, " is over 4294967295"),
         RangeCause::Width(digits) => message.both(
@@ -242,7 +269,9 @@ fn deed(fault: Fault) -> &'static str {
 }
 
 /// Of a text in which no process begins.
-fn of_none(message: &mut Message<'_>, proctype: Option<Named<'_>>) -> Result<(), AllocError> {
+fn of_none(message: &mut Message<'_>, proctype: Option<Named<'_>>) -> Result<(), AllocError>
+    ensures { OnOk result (Keeps message.old message.new) }
+{
     match proctype {
         Some(proctype) => message.placed(
             "write `active` before the proctype ",
@@ -255,7 +284,9 @@ fn of_none(message: &mut Message<'_>, proctype: Option<Named<'_>>) -> Result<(),
 }
 
 /// Of the first state.
-pub fn of_start(message: &mut Message<'_>, cause: StartCause<'_>) -> Result<(), AllocError> {
+pub fn of_start(message: &mut Message<'_>, cause: StartCause<'_>) -> Result<(), AllocError>
+    ensures { OnOk result (Keeps message.old message.new) }
+{
     match cause {
         StartCause::NoProcess(proctype) => of_none(message, proctype),
         StartCause::Processes(name) => {
@@ -283,7 +314,9 @@ pub fn of_start(message: &mut Message<'_>, cause: StartCause<'_>) -> Result<(), 
 }
 
 /// Of a call of an inline.
-fn of_call(message: &mut Message<'_>, cause: InlineCause<'_>) -> Result<(), AllocError> {
+fn of_call(message: &mut Message<'_>, cause: InlineCause<'_>) -> Result<(), AllocError>
+    ensures { OnOk result (Keeps message.old message.new) }
+{
     match cause {
         InlineCause::OpenCall(name) => message.around("the call of ", name, " has no `)`"),
         InlineCause::Arguments(name, given, wanted) => arguments(message, name, given, wanted),
@@ -314,7 +347,9 @@ fn of_call(message: &mut Message<'_>, cause: InlineCause<'_>) -> Result<(), Allo
 }
 
 /// Of inlines.
-pub fn of_inline(message: &mut Message<'_>, cause: InlineCause<'_>) -> Result<(), AllocError> {
+pub fn of_inline(message: &mut Message<'_>, cause: InlineCause<'_>) -> Result<(), AllocError>
+    ensures { OnOk result (Keeps message.old message.new) }
+{
     match cause {
         InlineCause::Within => message.push("an inline may be defined only outside of all braces"),
         InlineCause::Form => message.push(

@@ -1,5 +1,8 @@
 //! What is to be written in place of words and forms of other languages.
 
+ghost use Rattle.std.specs.Prelude.{OnOk};
+ghost use Rattle.explain.specs.Said.{Keeps};
+
 use crate::message::Message;
 use explain_cause::cause::{Class, Classes};
 use explain_cause::foreign::Foreign;
@@ -319,11 +322,9 @@ pub fn advice(foreign: Foreign) -> &'static str {
 }
 
 /// Adds what is told of a word of another language.
-pub fn tell_word(
-    message: &mut Message<'_>,
-    foreign: Foreign,
-    word: &[u8],
-) -> Result<(), AllocError> {
+pub fn tell_word(message: &mut Message<'_>, foreign: Foreign, word: &[u8]) -> Result<(), AllocError>
+    ensures { OnOk result (Keeps message.old message.new) }
+{
     message.around("", word, " is no word here: ")?;
     message.push(advice(foreign))
 }
@@ -364,7 +365,9 @@ fn tell_class(
     message: &mut Message<'_>,
     class: Option<Class>,
     next: Option<Class>,
-) -> Result<(), AllocError> {
+) -> Result<(), AllocError>
+    ensures { OnOk result (Keeps message.old message.new) }
+{
     match class {
         Some(class) => {
             message.push(if next.is_some() { ", " } else { " or " })?;
@@ -375,7 +378,9 @@ fn tell_class(
 }
 
 /// Adds what may stand there.
-pub fn tell_classes(message: &mut Message<'_>, classes: Classes) -> Result<(), AllocError> {
+pub fn tell_classes(message: &mut Message<'_>, classes: Classes) -> Result<(), AllocError>
+    ensures { OnOk result (Keeps message.old message.new) }
+{
     if let Some(first) = classes.first {
         message.push(words_of(first))?;
     }

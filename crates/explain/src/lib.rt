@@ -11,7 +11,8 @@ mod syntax;
 mod texts;
 mod told;
 
-ghost use Rattle.std.specs.Prelude.{◌≡◌, [], IfOk, IfSome, string_bytes};
+ghost use Rattle.explain.specs.Said.{Keeps};
+ghost use Rattle.std.specs.Prelude.{◌≡◌, [], IfOk, IfSome, string_bytes, OnOk};
 ghost use Rattle.explain_find.specs.Told.{IsTold};
 ghost use Rattle.explain.specs.Explained.{Explains, ExplainsBeside};
 ghost use Rattle.explain.specs.Request.{asked_for};
@@ -31,7 +32,9 @@ use texts::of_text;
 use told::{Asked, told_alone, told_at};
 
 /// Adds the words of a cause.
-fn tell(message: &mut Message<'_>, cause: Cause<'_>) -> Result<(), AllocError> {
+fn tell(message: &mut Message<'_>, cause: Cause<'_>) -> Result<(), AllocError>
+    ensures { OnOk result (Keeps message.old message.new) }
+{
     match cause {
         Cause::Text(cause) => of_text(message, cause),
         Cause::Syntax(cause) => of_syntax(message, cause),

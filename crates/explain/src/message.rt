@@ -1,5 +1,8 @@
 //! Texts that are put together of words, names and numbers.
 
+ghost use Rattle.std.specs.Prelude.{◌≡◌, [], OnOk, string_bytes};
+ghost use Rattle.explain.specs.Said.{Keeps};
+
 use crate::included::{Included, included_at};
 use explain_cause::cause::Named;
 use itoa::Buffer;
@@ -7,6 +10,7 @@ use source_lines::position::{between, line_number};
 use source_lines::shown::{printable, show_chars};
 use source_lines::signs::{is_unseen, push_number};
 use std::alloc::{AllocError, Global};
+use std::marker::Model;
 use std::str;
 
 /// So many bytes of a name are shown at most.
@@ -21,9 +25,19 @@ pub struct Message<'t> {
     out: String,
 }
 
+impl<'t> Model for Message<'t> {
+    ghost use Rattle.std.specs.Prelude.{ℕ, List, string_bytes};
+
+    ghost Value = { List ℕ };
+
+    ghost view = { λ m. string_bytes m.out };
+}
+
 impl<'t> Message<'t> {
     /// An empty one.
-    pub fn new(alloc: Global, text: &'t [u8], lines: &'t [u8]) -> Message<'t> {
+    pub fn new(alloc: Global, text: &'t [u8], lines: &'t [u8]) -> Message<'t>
+        ensures { result ≡ [] }
+    {
         Message {
             text,
             lines,
@@ -32,7 +46,9 @@ impl<'t> Message<'t> {
     }
 
     /// What it says.
-    pub fn into_text(self) -> String {
+    pub fn into_text(self) -> String
+        ensures { string_bytes result ≡ self }
+    {
         let Message {
             text: _,
             lines: _,
@@ -52,55 +68,71 @@ impl<'t> Message<'t> {
     }
 
     /// Adds words that are not fixed.
-    pub fn push(&mut self, words: &str) -> Result<(), AllocError> {
+    pub fn push(&mut self, words: &str) -> Result<(), AllocError>
+        ensures { OnOk result (Keeps self.old self.new) }
+    {
         self.out.push_str(words)
     }
 
     /// Adds the name of a file as it is shown.
-    pub fn file(&mut self, name: &str) -> Result<(), AllocError> {
+    pub fn file(&mut self, name: &str) -> Result<(), AllocError>
+        ensures { OnOk result (Keeps self.old self.new) }
+    {
         show_chars(&mut self.out, name)
     }
 
     /// Adds a number.
-    pub fn number(&mut self, number: usize) -> Result<(), AllocError> {
+    pub fn number(&mut self, number: usize) -> Result<(), AllocError>
+        ensures { OnOk result (Keeps self.old self.new) }
+    {
         let mut buffer = Buffer::new();
         self.out.push_str(buffer.format(number))
     }
 
     /// Adds a number that may be less than 0.
-    pub fn signed(&mut self, number: i32) -> Result<(), AllocError> {
+    pub fn signed(&mut self, number: i32) -> Result<(), AllocError>
+        ensures { OnOk result (Keeps self.old self.new) }
+    {
         let mut buffer = Buffer::new();
         self.out.push_str(buffer.format(number))
     }
 
-    fn bytes(&mut self, name: &[u8]) -> Result<(), AllocError> {
+    fn bytes(&mut self, name: &[u8]) -> Result<(), AllocError>
+        ensures { OnOk result (Keeps self.old self.new) }
+    {
         for byte in name {
             self.out.push(printable(*byte))?;
         }
         Ok(())
     }
 
-    fn character(&mut self, c: char) -> Result<(), AllocError> {
+    fn character(&mut self, c: char) -> Result<(), AllocError>
+        ensures { OnOk result (Keeps self.old self.new) }
+    {
         if is_unseen(c) {
             return push_number(&mut self.out, c);
         }
         if c.is_ascii() {
             return self.out.push(if c.is_control() { '?' } else { c });
         }
-        for _ in 0..c.len_utf8() {
+        for _turn in 0..c.len_utf8() {
             self.out.push('?')?;
         }
         Ok(())
     }
 
-    fn characters(&mut self, name: &str) -> Result<(), AllocError> {
+    fn characters(&mut self, name: &str) -> Result<(), AllocError>
+        ensures { OnOk result (Keeps self.old self.new) }
+    {
         for c in name.chars() {
             self.character(c)?;
         }
         Ok(())
     }
 
-    fn letters(&mut self, name: &[u8]) -> Result<(), AllocError> {
+    fn letters(&mut self, name: &[u8]) -> Result<(), AllocError>
+        ensures { OnOk result (Keeps self.old self.new) }
+    {
         match str::from_utf8(name) {
             Ok(name) => self.characters(name),
             Err(_) => self.bytes(name),
@@ -108,21 +140,27 @@ impl<'t> Message<'t> {
     }
 
     /// Adds a name or another piece of the model, in backticks.
-    pub fn name(&mut self, name: &[u8]) -> Result<(), AllocError> {
+    pub fn name(&mut self, name: &[u8]) -> Result<(), AllocError>
+        ensures { OnOk result (Keeps self.old self.new) }
+    {
         self.push("`")?;
         self.letters(shown_part(name))?;
         self.push(end_of_name(name))
     }
 
     /// Adds a name between words.
-    pub fn around(&mut self, before: &str, name: &[u8], behind: &str) -> Result<(), AllocError> {
+    pub fn around(&mut self, before: &str, name: &[u8], behind: &str) -> Result<(), AllocError>
+        ensures { OnOk result (Keeps self.old self.new) }
+    {
         self.push(before)?;
         self.name(name)?;
         self.push(behind)
     }
 
     /// Adds a number between words.
-    pub fn figure(&mut self, before: &str, number: usize, behind: &str) -> Result<(), AllocError> {
+    pub fn figure(&mut self, before: &str, number: usize, behind: &str) -> Result<(), AllocError>
+        ensures { OnOk result (Keeps self.old self.new) }
+    {
         self.push(before)?;
         self.number(number)?;
         self.push(behind)
@@ -136,13 +174,17 @@ impl<'t> Message<'t> {
         between: &str,
         number: usize,
         behind: &str,
-    ) -> Result<(), AllocError> {
+    ) -> Result<(), AllocError>
+        ensures { OnOk result (Keeps self.old self.new) }
+    {
         self.around(before, name, "")?;
         self.figure(between, number, behind)
     }
 
     /// Adds the line of the place behind so many bytes, between words.
-    pub fn line(&mut self, before: &str, offset: usize, behind: &str) -> Result<(), AllocError> {
+    pub fn line(&mut self, before: &str, offset: usize, behind: &str) -> Result<(), AllocError>
+        ensures { OnOk result (Keeps self.old self.new) }
+    {
         self.push(before)?;
         match self.included(offset) {
             Some(included) => {
@@ -161,13 +203,17 @@ impl<'t> Message<'t> {
         name: Named<'_>,
         between: &str,
         behind: &str,
-    ) -> Result<(), AllocError> {
+    ) -> Result<(), AllocError>
+        ensures { OnOk result (Keeps self.old self.new) }
+    {
         self.around(before, name.name, "")?;
         self.line(between, name.offset, behind)
     }
 
     /// Adds so many things that these words name, where there is one, and where there are more.
-    pub fn count(&mut self, number: usize, one: &str, more: &str) -> Result<(), AllocError> {
+    pub fn count(&mut self, number: usize, one: &str, more: &str) -> Result<(), AllocError>
+        ensures { OnOk result (Keeps self.old self.new) }
+    {
         self.number(number)?;
         self.push(if number == 1 { one } else { more })
     }

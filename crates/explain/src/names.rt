@@ -1,12 +1,17 @@
 //! What is told of names.
 
+ghost use Rattle.std.specs.Prelude.{OnOk};
+ghost use Rattle.explain.specs.Said.{Keeps};
+
 use crate::foreign::advice;
 use crate::message::Message;
 use explain_cause::cause::{Named, Sort, TwiceCause, UnknownCause, WrongCause};
 use std::alloc::AllocError;
 
 /// Of a name that is declared twice.
-pub fn of_twice(message: &mut Message<'_>, cause: TwiceCause<'_>) -> Result<(), AllocError> {
+pub fn of_twice(message: &mut Message<'_>, cause: TwiceCause<'_>) -> Result<(), AllocError>
+    ensures { OnOk result (Keeps message.old message.new) }
+{
     match cause {
         TwiceCause::Again(name, first) => {
             message.around("", name.name, "")?;
@@ -26,7 +31,9 @@ pub fn of_twice(message: &mut Message<'_>, cause: TwiceCause<'_>) -> Result<(), 
 }
 
 /// The nearest name, if there is one.
-pub fn did_you_mean(message: &mut Message<'_>, near: Option<Named<'_>>) -> Result<(), AllocError> {
+pub fn did_you_mean(message: &mut Message<'_>, near: Option<Named<'_>>) -> Result<(), AllocError>
+    ensures { OnOk result (Keeps message.old message.new) }
+{
     match near {
         Some(near) => message.placed("; did you mean ", near, " (", ")?"),
         None => Ok(()),
@@ -67,7 +74,9 @@ fn no_field(
     field: &[u8],
     holder: Named<'_>,
     near: Option<Named<'_>>,
-) -> Result<(), AllocError> {
+) -> Result<(), AllocError>
+    ensures { OnOk result (Keeps message.old message.new) }
+{
     message.placed("the typedef ", holder, " (", ") has no field ")?;
     message.name(field)?;
     did_you_mean(message, near)
@@ -79,7 +88,9 @@ fn is_instead(
     first: Named<'_>,
     sort: Sort,
     behind: &str,
-) -> Result<(), AllocError> {
+) -> Result<(), AllocError>
+    ensures { OnOk result (Keeps message.old message.new) }
+{
     message.around("", first.name, " is ")?;
     message.push(a_sort(sort))?;
     message.line(" (", first.offset, behind)
@@ -91,7 +102,9 @@ fn of_nowhere(
     sort: Sort,
     name: &[u8],
     near: Option<Named<'_>>,
-) -> Result<(), AllocError> {
+) -> Result<(), AllocError>
+    ensures { OnOk result (Keeps message.old message.new) }
+{
     message.name(name)?;
     match near {
         Some(_) => did_you_mean(message, near),
@@ -115,7 +128,9 @@ fn behind_sort(sort: Sort) -> &'static str {
 }
 
 /// Of a name that is not declared.
-pub fn of_unknown(message: &mut Message<'_>, cause: UnknownCause<'_>) -> Result<(), AllocError> {
+pub fn of_unknown(message: &mut Message<'_>, cause: UnknownCause<'_>) -> Result<(), AllocError>
+    ensures { OnOk result (Keeps message.old message.new) }
+{
     match cause {
         UnknownCause::Nowhere(sort, name, near) => of_nowhere(message, sort, name, near),
         UnknownCause::Later(first) => {
@@ -205,12 +220,16 @@ fn used(cause: WrongCause<'_>) -> &[u8] {
 }
 
 /// Of a field behind a name that has none.
-fn of_field(message: &mut Message<'_>, name: &[u8], field: &[u8]) -> Result<(), AllocError> {
+fn of_field(message: &mut Message<'_>, name: &[u8], field: &[u8]) -> Result<(), AllocError>
+    ensures { OnOk result (Keeps message.old message.new) }
+{
     message.around("", name, " is of no typedef, and has no field ")?;
     message.name(field)
 }
 
-fn of_value(message: &mut Message<'_>, cause: WrongCause<'_>) -> Result<(), AllocError> {
+fn of_value(message: &mut Message<'_>, cause: WrongCause<'_>) -> Result<(), AllocError>
+    ensures { OnOk result (Keeps message.old message.new) }
+{
     match cause {
         WrongCause::OpenSize(name) => message.around(
             "the size of ",
@@ -241,7 +260,9 @@ pub fn of_declared(
     message: &mut Message<'_>,
     cause: WrongCause<'_>,
     first: Option<usize>,
-) -> Result<(), AllocError> {
+) -> Result<(), AllocError>
+    ensures { OnOk result (Keeps message.old message.new) }
+{
     of_wrong(message, cause)?;
     match first {
         Some(offset) => message.line("; it is declared on ", offset, ""),
@@ -250,7 +271,9 @@ pub fn of_declared(
 }
 
 /// Of a name or a value of the wrong kind.
-fn of_wrong(message: &mut Message<'_>, cause: WrongCause<'_>) -> Result<(), AllocError> {
+fn of_wrong(message: &mut Message<'_>, cause: WrongCause<'_>) -> Result<(), AllocError>
+    ensures { OnOk result (Keeps message.old message.new) }
+{
     match cause {
         WrongCause::FieldOfNone(name, field) => of_field(message, name, field),
         WrongCause::ReadUnderscore => {

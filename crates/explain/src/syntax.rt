@@ -1,5 +1,8 @@
 //! What is told of tokens that no rule reads.
 
+ghost use Rattle.std.specs.Prelude.{OnOk};
+ghost use Rattle.explain.specs.Said.{Keeps};
+
 use crate::foreign::{advice, tell_classes, tell_word};
 use crate::message::Message;
 use crate::names::TYPES;
@@ -19,21 +22,27 @@ fn closer(opener: &[u8]) -> &'static str {
 }
 
 /// What closes is missing in front of the token, or of the text's end.
-fn misses_closer(message: &mut Message<'_>, opener: Named<'_>) -> Result<(), AllocError> {
+fn misses_closer(message: &mut Message<'_>, opener: Named<'_>) -> Result<(), AllocError>
+    ensures { OnOk result (Keeps message.old message.new) }
+{
     message.push(closer(opener.name))?;
     message.push(" is missing before it: by the indentation that")?;
     message.placed(" of the ", opener, " of ", "")
 }
 
 /// What closes is wanted in front of a `->`.
-fn wants_closer_at_arrow(message: &mut Message<'_>, opener: Named<'_>) -> Result<(), AllocError> {
+fn wants_closer_at_arrow(message: &mut Message<'_>, opener: Named<'_>) -> Result<(), AllocError>
+    ensures { OnOk result (Keeps message.old message.new) }
+{
     wants_closer_before(message, opener)?;
     let line = line_of(message.text(), opener.offset);
     let column = column(line.bytes, opener.offset.saturating_sub(line.start));
     message.figure(", column ", column, "")
 }
 
-fn wants_closer(message: &mut Message<'_>, opener: Named<'_>) -> Result<(), AllocError> {
+fn wants_closer(message: &mut Message<'_>, opener: Named<'_>) -> Result<(), AllocError>
+    ensures { OnOk result (Keeps message.old message.new) }
+{
     message.push(closer(opener.name))?;
     message.placed(" is wanted, for the ", opener, " of ", "")
 }
@@ -43,7 +52,9 @@ fn wants_inline(
     message: &mut Message<'_>,
     name: &[u8],
     later: Option<Named<'_>>,
-) -> Result<(), AllocError> {
+) -> Result<(), AllocError>
+    ensures { OnOk result (Keeps message.old message.new) }
+{
     match later {
         Some(inline) => {
             message.around("the inline ", name, "")?;
@@ -57,7 +68,9 @@ fn wants_inline(
 }
 
 /// `::` and a condition are wanted.
-fn wants_options(message: &mut Message<'_>, word: &[u8]) -> Result<(), AllocError> {
+fn wants_options(message: &mut Message<'_>, word: &[u8]) -> Result<(), AllocError>
+    ensures { OnOk result (Keeps message.old message.new) }
+{
     message.around("`::` is wanted behind ", word, "")?;
     message.push(match word {
         b"if" => ", as in `if :: x == 1 -> .. :: else -> .. fi`",
@@ -66,13 +79,17 @@ fn wants_options(message: &mut Message<'_>, word: &[u8]) -> Result<(), AllocErro
 }
 
 /// What closes is wanted in front of the token.
-fn wants_closer_before(message: &mut Message<'_>, opener: Named<'_>) -> Result<(), AllocError> {
+fn wants_closer_before(message: &mut Message<'_>, opener: Named<'_>) -> Result<(), AllocError>
+    ensures { OnOk result (Keeps message.old message.new) }
+{
     message.push(closer(opener.name))?;
     message.placed(" is wanted before it, for the ", opener, " of ", "")
 }
 
 /// Of a name in a declaration that has no type.
-fn untyped(message: &mut Message<'_>, name: &[u8]) -> Result<(), AllocError> {
+fn untyped(message: &mut Message<'_>, name: &[u8]) -> Result<(), AllocError>
+    ensures { OnOk result (Keeps message.old message.new) }
+{
     message.around(
         "",
         name,
@@ -86,14 +103,18 @@ fn name_of_inline(
     message: &mut Message<'_>,
     name: &[u8],
     inline: Named<'_>,
-) -> Result<(), AllocError> {
+) -> Result<(), AllocError>
+    ensures { OnOk result (Keeps message.old message.new) }
+{
     message.around("", name, " is an inline")?;
     message.line(" (", inline.offset, "), ")?;
     message.push("and stands for what comes of its call: choose another name for one of the two")
 }
 
 /// What is told of names, where something of theirs is wanted.
-fn wants_of_name(message: &mut Message<'_>, wanted: Wanted<'_>) -> Result<(), AllocError> {
+fn wants_of_name(message: &mut Message<'_>, wanted: Wanted<'_>) -> Result<(), AllocError>
+    ensures { OnOk result (Keeps message.old message.new) }
+{
     match wanted {
         Wanted::Parameters(name) => {
             message.around(
@@ -119,7 +140,9 @@ fn wants_of_name(message: &mut Message<'_>, wanted: Wanted<'_>) -> Result<(), Al
 }
 
 /// A value, or what takes a message, is wanted behind a sign.
-fn wants_operand(message: &mut Message<'_>, operator: &[u8]) -> Result<(), AllocError> {
+fn wants_operand(message: &mut Message<'_>, operator: &[u8]) -> Result<(), AllocError>
+    ensures { OnOk result (Keeps message.old message.new) }
+{
     match operator {
         b"?" | b"??" => message.around(
             "what takes the message is wanted behind ",
@@ -131,7 +154,9 @@ fn wants_operand(message: &mut Message<'_>, operator: &[u8]) -> Result<(), Alloc
 }
 
 /// What is wanted for a separator.
-fn wants_sign(message: &mut Message<'_>, wanted: Wanted<'_>) -> Result<(), AllocError> {
+fn wants_sign(message: &mut Message<'_>, wanted: Wanted<'_>) -> Result<(), AllocError>
+    ensures { OnOk result (Keeps message.old message.new) }
+{
     match wanted {
         Wanted::SemicolonAtLineEnd(last) => message.line(
             "a `;` is wanted at the end of ",
@@ -163,7 +188,9 @@ fn wants_sign(message: &mut Message<'_>, wanted: Wanted<'_>) -> Result<(), Alloc
     }
 }
 
-fn wants(message: &mut Message<'_>, wanted: Wanted<'_>) -> Result<(), AllocError> {
+fn wants(message: &mut Message<'_>, wanted: Wanted<'_>) -> Result<(), AllocError>
+    ensures { OnOk result (Keeps message.old message.new) }
+{
     match wanted {
         Wanted::Statement(label) => message.around(
             "a statement is wanted behind the label ",
@@ -191,25 +218,33 @@ fn wants(message: &mut Message<'_>, wanted: Wanted<'_>) -> Result<(), AllocError
 }
 
 /// Of a name that is no type.
-fn no_type(message: &mut Message<'_>, name: &[u8]) -> Result<(), AllocError> {
+fn no_type(message: &mut Message<'_>, name: &[u8]) -> Result<(), AllocError>
+    ensures { OnOk result (Keeps message.old message.new) }
+{
     message.around("", name, " is no type here: there are ")?;
     message.push(TYPES)
 }
 
 /// Of an inline that stands where a value is wanted.
-fn inline_value(message: &mut Message<'_>, name: &[u8]) -> Result<(), AllocError> {
+fn inline_value(message: &mut Message<'_>, name: &[u8]) -> Result<(), AllocError>
+    ensures { OnOk result (Keeps message.old message.new) }
+{
     message.around("", name, " is an inline, and has no value: ")?;
     message.push("let it store that in a parameter, as in `inline f(a, b) { b = a + 1 }`")
 }
 
 /// Of a variable that is called as a function.
-fn called(message: &mut Message<'_>, name: &[u8]) -> Result<(), AllocError> {
+fn called(message: &mut Message<'_>, name: &[u8]) -> Result<(), AllocError>
+    ensures { OnOk result (Keeps message.old message.new) }
+{
     message.around("", name, " is a variable, and is not called")?;
     message.push("; an element of an array is written `a[1]`")
 }
 
 /// Of a word that is told of itself, without what is found behind it; or else nothing is added, and that is answered.
-fn of_word(message: &mut Message<'_>, wanted: Wanted<'_>) -> Result<bool, AllocError> {
+fn of_word(message: &mut Message<'_>, wanted: Wanted<'_>) -> Result<bool, AllocError>
+    ensures { OnOk result (Keeps message.old message.new) }
+{
     match wanted {
         Wanted::ForeignWord(foreign, word) => tell_word(message, foreign, word.name)?,
         Wanted::RunOf(proctype, _) => {
@@ -240,7 +275,9 @@ fn of_word(message: &mut Message<'_>, wanted: Wanted<'_>) -> Result<bool, AllocE
 }
 
 /// Of tokens that no tree spells.
-pub fn of_syntax(message: &mut Message<'_>, cause: SyntaxCause<'_>) -> Result<(), AllocError> {
+pub fn of_syntax(message: &mut Message<'_>, cause: SyntaxCause<'_>) -> Result<(), AllocError>
+    ensures { OnOk result (Keeps message.old message.new) }
+{
     if let Wanted::EndOf(opener) = cause.wanted {
         message.push("the text ends: ")?;
         return wants_closer(message, opener);

@@ -1,5 +1,8 @@
 //! What is told of texts and words that are left out.
 
+ghost use Rattle.std.specs.Prelude.{OnOk};
+ghost use Rattle.explain.specs.Said.{Keeps};
+
 use crate::ascii::{ANY, outside_of_ascii};
 use crate::message::Message;
 use explain_cause::cause::{Named, TextCause};
@@ -147,7 +150,9 @@ fn is_directive(directive: &[u8]) -> bool {
     )
 }
 
-fn left_out(message: &mut Message<'_>, word: &[u8]) -> Result<(), AllocError> {
+fn left_out(message: &mut Message<'_>, word: &[u8]) -> Result<(), AllocError>
+    ensures { OnOk result (Keeps message.old message.new) }
+{
     if begins(word, b'#') {
         if !is_directive(directive(word)) {
             return message.around("", word, ": a comment is written `/* .. */` or `// ..`");
@@ -159,7 +164,9 @@ fn left_out(message: &mut Message<'_>, word: &[u8]) -> Result<(), AllocError> {
     message.around("", word, about(word))
 }
 
-fn stray(message: &mut Message<'_>, byte: u8) -> Result<(), AllocError> {
+fn stray(message: &mut Message<'_>, byte: u8) -> Result<(), AllocError>
+    ensures { OnOk result (Keeps message.old message.new) }
+{
     if byte == b'#' {
         return message.push(
             "`#` stands only at the beginning of a line: a comment is written `/* .. */` or `// ..`",
@@ -180,7 +187,9 @@ fn stray(message: &mut Message<'_>, byte: u8) -> Result<(), AllocError> {
 }
 
 /// Of what is written as a function, and has a `return`.
-fn of_return(message: &mut Message<'_>, function: Named<'_>) -> Result<(), AllocError> {
+fn of_return(message: &mut Message<'_>, function: Named<'_>) -> Result<(), AllocError>
+    ensures { OnOk result (Keeps message.old message.new) }
+{
     message.placed(
         "",
         function,
@@ -194,13 +203,17 @@ fn of_return(message: &mut Message<'_>, function: Named<'_>) -> Result<(), Alloc
     })
 }
 
-fn too_long(message: &mut Message<'_>, bytes: usize) -> Result<(), AllocError> {
+fn too_long(message: &mut Message<'_>, bytes: usize) -> Result<(), AllocError>
+    ensures { OnOk result (Keeps message.old message.new) }
+{
     message.figure("it has ", bytes, " bytes or more, and may have ")?;
     message.number(MOST_TEXT_BYTES)
 }
 
 /// Of a text that has no tokens, that has words that are left out, or that is too deep.
-pub fn of_text(message: &mut Message<'_>, cause: TextCause<'_>) -> Result<(), AllocError> {
+pub fn of_text(message: &mut Message<'_>, cause: TextCause<'_>) -> Result<(), AllocError>
+    ensures { OnOk result (Keeps message.old message.new) }
+{
     match cause {
         TextCause::TooLong(bytes) => too_long(message, bytes),
         TextCause::Stray(byte) => stray(message, byte),

@@ -1,12 +1,14 @@
 //! Messages over a reader.
 
-ghost use Rattle.std.specs.Prelude.{◌≡◌, IfOk};
+ghost use Rattle.std.specs.Prelude.{◌≡◌, ◌-◌, [], take, drop, length, IfOk, OnOk};
 ghost use Rattle.frames.specs.Framed.{framed};
 
-use crate::front::{Front, front_of, part};
+use crate::front::{Front, front_of};
 use itoa::Buffer;
+use source_lines::position::between;
 use std::alloc::{AllocError, Global};
 use std::io::Read;
+use std::marker::Model;
 
 /// So many bytes are read at once.
 const AT_ONCE: usize = 4_096;
@@ -34,9 +36,19 @@ pub struct Frames {
     held: Vec<u8>,
 }
 
+impl Model for Frames {
+    ghost use Rattle.std.specs.Prelude.{ℕ, List};
+
+    ghost Value = { List ℕ };
+
+    ghost view = { λ f. f.held.items };
+}
+
 impl Frames {
     /// Nothing was read.
-    pub fn new(alloc: Global) -> Frames {
+    pub fn new(alloc: Global) -> Frames
+        ensures { result ≡ [] }
+    {
         Frames {
             held: Vec::new(alloc),
         }
@@ -47,17 +59,20 @@ impl Frames {
         match reader.read(&mut room) {
             Ok(0) => Err(NoMessage::Ended),
             Ok(count) => {
-                self.held.extend_from_slice(part(&room, 0, count))?;
+                self.held.extend_from_slice(between(&room, 0, count))?;
                 Ok(())
             }
             Err(_) => Err(NoMessage::Device),
         }
     }
 
-    fn take(&mut self, from: usize, to: usize) -> Result<Vec<u8>, NoMessage> {
+    fn take(&mut self, from: usize, to: usize) -> Result<Vec<u8>, NoMessage>
+        ensures message { IfOk result (λ m. m.items ≡ take (to - from) (drop from self.old)) }
+        ensures rest { OnOk result (self.new ≡ take (length self.old - to) (drop to self.old)) }
+    {
         let alloc = *self.held.allocator();
-        let message = Vec::from_slice(alloc, part(self.held.as_slice(), from, to))?;
-        let rest = Vec::from_slice(alloc, part(self.held.as_slice(), to, self.held.len()))?;
+        let message = Vec::from_slice(alloc, between(self.held.as_slice(), from, to))?;
+        let rest = Vec::from_slice(alloc, between(self.held.as_slice(), to, self.held.len()))?;
         self.held = rest;
         Ok(message)
     }

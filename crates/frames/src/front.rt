@@ -1,6 +1,9 @@
 //! What stands at the front of bytes that were read.
 
 ghost use Rattle.std.specs.Prelude.{◌≡◌, ◌≤◌, length, IfSome};
+ghost use Rattle.frames.specs.Front.{IsWithin};
+
+use source_lines::position::between;
 
 /// A message has no more bytes than this.
 pub const MOST_BYTES: usize = 16_777_216;
@@ -19,17 +22,10 @@ pub enum Front {
     Bad,
 }
 
-/// The bytes from one place to another.
-pub fn part(bytes: &[u8], from: usize, to: usize) -> &[u8] {
-    if from <= to && to <= bytes.len() {
-        &bytes[from..to]
-    } else {
-        &bytes[..0]
-    }
-}
-
 /// How many of the four bytes of an empty line have come, behind a further byte.
-fn come(so_far: usize, byte: u8) -> usize {
+fn come(so_far: usize, byte: u8) -> usize
+    ensures { result ≤ 4 }
+{
     match (so_far, byte) {
         (1, b'\n') => 2,
         (3, b'\n') => 4,
@@ -53,18 +49,13 @@ fn head_length(bytes: &[u8]) -> Option<usize>
     None
 }
 
-/// The name and the value of a line of a head.
-fn parts_of(line: &str) -> Option<(&str, &str)> {
-    line.split_once(':')
-}
-
 /// The number that a head gives for the length of the body.
 fn length_in(head: &[u8]) -> Option<usize> {
     let Ok(head) = str::from_utf8(head) else {
         return None;
     };
     for line in head.lines() {
-        if let Some((name, value)) = parts_of(line) {
+        if let Some((name, value)) = line.split_once(':') {
             if name.trim().eq_ignore_ascii_case("content-length") {
                 return match value.trim().parse::<usize>() {
                     Ok(length) => Some(length),
@@ -77,7 +68,9 @@ fn length_in(head: &[u8]) -> Option<usize> {
 }
 
 /// A body of so many bytes behind a head.
-fn behind(bytes: &[u8], head: usize, length: usize) -> Front {
+fn behind(bytes: &[u8], head: usize, length: usize) -> Front
+    ensures { IsWithin bytes.now result }
+{
     if length > MOST_BYTES {
         return Front::Bad;
     }
@@ -90,10 +83,12 @@ fn behind(bytes: &[u8], head: usize, length: usize) -> Front {
 }
 
 /// What stands at the front of bytes.
-pub fn front_of(bytes: &[u8]) -> Front {
+pub fn front_of(bytes: &[u8]) -> Front
+    ensures { IsWithin bytes.now result }
+{
     match head_length(bytes) {
         Some(head) if head > MOST_HEAD => Front::Bad,
-        Some(head) => match length_in(part(bytes, 0, head)) {
+        Some(head) => match length_in(between(bytes, 0, head)) {
             Some(length) => behind(bytes, head, length),
             None => Front::Bad,
         },

@@ -25,6 +25,7 @@ pub struct Documents {
 }
 
 impl Documents {
+    /// None is open.
     pub fn new(alloc: Global) -> Documents {
         Documents {
             all: Vec::new(alloc),
