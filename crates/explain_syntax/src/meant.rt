@@ -8,6 +8,7 @@ use crate::tried::is_behind_condition;
 use crate::within::{begins_unit, is_of_fields};
 use crate::words::{foreign_beside, is_declared, near_at};
 use explain_cause::cause::{Named, Segment, Wanted};
+use explain_cause::foreign::Foreign;
 use explain_cause::place::{bytes_at, is_at, kind_at};
 use explain_condition::near::nearest_word;
 use pml_token::token::{Kind, Token};
@@ -52,6 +53,16 @@ fn near_type<'t>(
     }
 }
 
+/// What is told of a word of another language where it stands for the type of a parameter.
+fn of_parameter(wanted: Wanted<'_>) -> Wanted<'_> {
+    match wanted {
+        Wanted::ForeignWord(Foreign::Channel, name) => {
+            Wanted::ForeignWord(Foreign::ChannelParameter, name)
+        }
+        wanted => wanted,
+    }
+}
+
 /// What is told of the type of a parameter, where that is a name which nothing declares: the name of the parameter stands at `at`.
 fn unknown_type<'t>(
     alloc: Global,
@@ -64,7 +75,7 @@ fn unknown_type<'t>(
         return Ok(None);
     };
     if let Some(word) = foreign_beside(text, tokens, at) {
-        return Ok(Some(word));
+        return Ok(Some(of_parameter(word)));
     }
     match near_at(alloc, text, tokens, place)? {
         Some(word) => Ok(Some(word)),
