@@ -250,7 +250,7 @@ fn of_missing(foreign: Foreign) -> &'static str {
             "a proctype has no type: its name stands behind `proctype`, as in `proctype P() { .. }`",
         Foreign::ValueParens => "`true` and `false` stand without parentheses",
         Foreign::CallParens =>
-            "parentheses are wanted there, as in `assert(x == 1)` and `printf(\"..\n\")`",
+            "parentheses are wanted there, as in `assert(x == 1)` and `printf(\"..\\n\")`",
         Foreign::TwoTypes => "one type alone stands before a name, as in `int x`",
         Foreign::AtomicUnit =>
             "`atomic` and `d_step` stand in a body, as in `proctype P() { atomic { .. } }`",

@@ -1,5 +1,7 @@
 //! What the indentation of lines tells of brackets that are not closed.
 
+ghost use Rattle.std.specs.Prelude.{◌≡◌, IfSome, Some};
+
 use crate::stopped::name_at;
 use explain_cause::cause::Segment;
 use explain_cause::place::{between, bytes_at, closes, is_at, kind_at, opens};
@@ -126,11 +128,6 @@ impl<'t> Layout<'t> {
     }
 }
 
-/// Whether a label stands at a token.
-fn is_label(tokens: &[Token<'_>], at: usize) -> bool {
-    is_at(tokens, at, Kind::Name) && is_at(tokens, at.saturating_add(1), Kind::Colon)
-}
-
 /// The `{` in which a token stands as far as it is closed, and by the layout does not: what stands in it first begins a line that is set in
 /// further than the line of the `{`, and the token begins one that is not.
 pub fn left_by_layout(
@@ -138,14 +135,18 @@ pub fn left_by_layout(
     tokens: &[Token<'_>],
     opener: Option<usize>,
     at: usize,
-) -> Option<usize> {
+) -> Option<usize>
+    ensures { IfSome result (λ brace. opener ≡ Some brace) }
+{
     let open = opener?;
     let outer = margin_of(text, tokens, open).width;
     let first = margin_of(text, tokens, open.saturating_add(1));
     let own = margin_of(text, tokens, at);
     let is_set_in = first.fresh && outer < first.width;
     let is_behind = own.fresh && own.width <= outer;
-    let is_statement = !is_label(tokens, at) && !closes(kind_at(tokens, at));
+    let is_label = is_at(tokens, at, Kind::Name)
+        && is_at(tokens, at.saturating_add(1), Kind::Colon);
+    let is_statement = !is_label && !closes(kind_at(tokens, at));
     if is_at(tokens, open, Kind::OpenBrace) && is_statement && is_set_in && is_behind {
         Some(open)
     } else {

@@ -1,5 +1,7 @@
 //! What is told before what is open and what stands beside a token: by the layout of lines, by words that are mistyped, and by a sign for `->`.
 
+ghost use Rattle.std.specs.Prelude.{◌≡◌, ◌+◌, IfSome};
+
 use crate::called::is_call;
 use crate::forms::kind_before;
 use crate::layout::{left_by_layout, unclosed_by_layout};
@@ -8,19 +10,11 @@ use crate::tried::is_behind_condition;
 use crate::within::{begins_unit, is_of_fields};
 use crate::words::{foreign_beside, is_declared, near_at};
 use explain_cause::cause::{Named, Segment, Wanted};
+use explain_cause::foreign::Foreign;
 use explain_cause::place::{bytes_at, is_at, kind_at};
 use explain_condition::near::nearest_word;
 use pml_token::token::{Kind, Token};
 use std::alloc::{AllocError, Global};
-
-/// What closes this token, which by the indentation of the lines is missing.
-fn missing_closer<'t>(
-    text: &'t [u8],
-    tokens: &[Token<'_>],
-    suspect: Option<usize>,
-) -> Option<Wanted<'t>> {
-    Some(Wanted::CloserByLayout(name_at(text, tokens, suspect?)))
-}
 
 /// What closes is missing in front of a token, by the indentation of the lines.
 fn by_layout<'t>(
@@ -35,7 +29,10 @@ fn by_layout<'t>(
     } else {
         left_by_layout(text, tokens, opener, at)
     };
-    Ok(missing_closer(text, tokens, suspect))
+    match suspect {
+        Some(open) => Ok(Some(Wanted::CloserByLayout(name_at(text, tokens, open)))),
+        None => Ok(None),
+    }
 }
 
 /// The type that a mistyped name is near to in the fields of a channel.
@@ -52,6 +49,16 @@ fn near_type<'t>(
     }
 }
 
+/// What is told of a word of another language where it stands for the type of a parameter.
+fn of_parameter(wanted: Wanted<'_>) -> Wanted<'_> {
+    match wanted {
+        Wanted::ForeignWord(Foreign::Channel, name) => {
+            Wanted::ForeignWord(Foreign::ChannelParameter, name)
+        }
+        wanted => wanted,
+    }
+}
+
 /// What is told of the type of a parameter, where that is a name which nothing declares: the name of the parameter stands at `at`.
 fn unknown_type<'t>(
     alloc: Global,
@@ -64,7 +71,7 @@ fn unknown_type<'t>(
         return Ok(None);
     };
     if let Some(word) = foreign_beside(text, tokens, at) {
-        return Ok(Some(word));
+        return Ok(Some(of_parameter(word)));
     }
     match near_at(alloc, text, tokens, place)? {
         Some(word) => Ok(Some(word)),
@@ -73,7 +80,9 @@ fn unknown_type<'t>(
 }
 
 /// The name that stands for a type directly before the name of a parameter, where nothing declares it.
-fn unknown_before(tokens: &[Token<'_>], opener: Option<usize>, at: usize) -> Option<usize> {
+fn unknown_before(tokens: &[Token<'_>], opener: Option<usize>, at: usize) -> Option<usize>
+    ensures { IfSome result (λ place. place + 1 ≡ at) }
+{
     let place = at.checked_sub(1)?;
     let names = is_at(tokens, at, Kind::Name) && is_at(tokens, place, Kind::Name);
     let is_parameter = is_before(tokens, opener?, 2, Kind::Proctype);
@@ -89,14 +98,6 @@ fn unknown_before(tokens: &[Token<'_>], opener: Option<usize>, at: usize) -> Opt
     }
 }
 
-/// Whether a word that is wanted is `run`.
-fn is_run(wanted: Option<Wanted<'_>>) -> bool {
-    match wanted {
-        Some(Wanted::Word(_, word)) => word == b"run".as_slice(),
-        _ => false,
-    }
-}
-
 /// A word in front of a name and its parentheses that is near to `run`.
 fn near_run<'t>(
     alloc: Global,
@@ -107,8 +108,12 @@ fn near_run<'t>(
     if !is_call(tokens, at) || !is_before(tokens, at, 2, Kind::Name) {
         return Ok(None);
     }
-    let wanted = near_at(alloc, text, tokens, at.saturating_sub(2))?;
-    if is_run(wanted) { Ok(wanted) } else { Ok(None) }
+    match near_at(alloc, text, tokens, at.saturating_sub(2))? {
+        Some(Wanted::Word(name, word)) if word == b"run".as_slice() => {
+            Ok(Some(Wanted::Word(name, word)))
+        }
+        _ => Ok(None),
+    }
 }
 
 /// A sign that stands in an option between a condition and an assignment, whose `=` is the token at `at`.

@@ -15,8 +15,8 @@ use crate::tried::wanted_by_trial;
 use crate::typed::is_select_range;
 use crate::unclosed::{Brackets, brackets_of};
 use crate::within::{
-    arrow_between, begins_unit, form_within, is_block, is_declared_word, is_left_open,
-    is_outside_sign, is_statement,
+    arrow_between, begins_unit, form_within, is_declared_word, is_left_open, is_outside_sign,
+    is_statement,
 };
 use crate::words::{
     called_variable, foreign_beside, foreign_call, is_record, is_typed, near_at, near_beside,
@@ -222,7 +222,9 @@ fn by_type<'t>(
 fn outside_form(tokens: &[Token<'_>], at: usize) -> Foreign {
     if is_behind_head(tokens, at) || is_before(tokens, at, 1, Kind::Init) {
         Foreign::BodyBrace
-    } else if begins_unit(kind_behind(tokens, at)) && is_block(kind_at(tokens, at)) {
+    } else if begins_unit(kind_behind(tokens, at))
+        && matches!(kind_at(tokens, at), Kind::Atomic | Kind::DStep)
+    {
         Foreign::AtomicUnit
     } else if is_statement(kind_at(tokens, at)) {
         Foreign::Outside

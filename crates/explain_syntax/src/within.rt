@@ -29,11 +29,6 @@ pub fn is_statement(kind: Kind) -> bool {
     )
 }
 
-/// Whether a word stands before a block that is one step, or goes on alone.
-pub fn is_block(kind: Kind) -> bool {
-    matches!(kind, Kind::Atomic | Kind::DStep)
-}
-
 /// Whether a token begins a unit of a model, which stands in no braces.
 pub fn begins_unit(kind: Kind) -> bool {
     matches!(
