@@ -89,7 +89,7 @@ fn tree_of<'a>(
 }
 
 // Why tokens are none that is nested as deep as a condition may be.
-fn why_none(alloc: Global, tokens: &[Token<'_>], left: usize) -> Unread {
+fn why_none<'a>(alloc: Global, tokens: &'a [Token<'a>], left: usize) -> Unread {
     match tree_of(alloc, MOST_BYTES, tokens) {
         Ok(_) => flawed(Flaw::Deep, u32::MAX),
         Err(ReadFault::Memory) => Unread::Memory,
@@ -98,9 +98,9 @@ fn why_none(alloc: Global, tokens: &[Token<'_>], left: usize) -> Unread {
 }
 
 // The condition that these tokens are, over the states of a model, of which this is one.
-fn condition_of(
+fn condition_of<'a>(
     alloc: Global,
-    tokens: &[Token<'_>],
+    tokens: &'a [Token<'a>],
     picture: &Picture<'_, '_, '_>,
 ) -> Result<Condition, Unread> {
     let mut subjects = Vec::new(alloc);
@@ -127,7 +127,7 @@ pub fn condition_in(
     if let Some(at) = timeout_in(tokens.as_slice()) {
         return Err(flawed(Flaw::Alone, at));
     }
-    condition_of(alloc, tokens.as_slice(), picture)
+    condition_of(alloc, &tokens, picture)
 }
 
 impl Condition {

@@ -104,26 +104,49 @@ fn turn(
     })
 }
 
-/// Adds the turns of fields. The type that they lead to.
+// What is reached of a variable: the type there, and the variable that the next name names, where that is found.
+#[derive(Clone, Copy)]
+struct Reached {
+    form: Form,
+    next: Option<Declaration>,
+}
+
+// What a name behind what is reached is declared as.
+fn declared_by(
+    reached: Reached,
+    name: &Token<'_>,
+    picture: &Picture<'_, '_, '_>,
+) -> Result<Declaration, Unread> {
+    if let Some(declared) = reached.next {
+        return Ok(declared);
+    }
+    let typedefs = picture.program().typedefs.as_slice();
+    match field_named(typedefs, reached.form, name.text()) {
+        Some(declared) => Ok(declared),
+        None => Err(flawed(Flaw::Field, name.line())),
+    }
+}
+
+/// Adds the turns of names that stand behind what is reached. The type that they lead to.
 #[cycle(resolve)]
 fn through(
     alloc: Global,
-    form: Form,
+    reached: Reached,
     steps: &[Step<'_>],
     picture: &Picture<'_, '_, '_>,
     subjects: &mut Vec<Subject>,
     turns: &mut Items<Turn>,
 ) -> Result<Form, Unread> {
-    let mut here = form;
+    let mut here = reached;
     for step in steps {
-        let typedefs = picture.program().typedefs.as_slice();
-        let Some(declared) = field_named(typedefs, here, step.name.text()) else {
-            return Err(flawed(Flaw::Field, step.name.line()));
-        };
+        let declared = declared_by(here, &step.name, picture)?;
         turns.push(turn(alloc, declared, step, picture, subjects)?)?;
-        here = declared.form;
+        here = Reached {
+            form: declared.form,
+            next: None,
+        };
     }
-    Ok(here)
+    Ok(here.form)
 }
 
 /// Adds the turns of a variable of the globals, which the first name of a reference names. The type that they lead to.
@@ -137,33 +160,12 @@ fn global_turns(
     turns: &mut Items<Turn>,
 ) -> Result<Form, Unread> {
     turns.push(turn(alloc, declared, &r.first, picture, subjects)?)?;
-    through(
-        alloc,
-        declared.form,
-        r.fields.as_slice(),
-        picture,
-        subjects,
-        turns,
-    )
-}
-
-/// Adds the turns of a variable of a process, which the first of these fields names. The type that they lead to.
-#[cycle(resolve)]
-fn local_turns(
-    alloc: Global,
-    declared: Declaration,
-    steps: &[Step<'_>],
-    picture: &Picture<'_, '_, '_>,
-    subjects: &mut Vec<Subject>,
-    turns: &mut Items<Turn>,
-) -> Result<Form, Unread> {
-    match steps {
-        [step, rest @ ..] => {
-            turns.push(turn(alloc, declared, step, picture, subjects)?)?;
-            through(alloc, declared.form, rest, picture, subjects, turns)
-        }
-        [] => Ok(declared.form),
-    }
+    let reached = Reached {
+        form: declared.form,
+        next: None,
+    };
+    let steps = r.fields.as_slice();
+    through(alloc, reached, steps, picture, subjects, turns)
 }
 
 /// The place that a reference leads to, whose first names are found.
@@ -178,8 +180,12 @@ fn target(
     let declared = found.whole();
     let mut turns = Items::new(alloc);
     let form = if found.is_local() {
+        let reached = Reached {
+            form: Form::Unknown,
+            next: Some(declared),
+        };
         let steps = r.fields.as_slice();
-        local_turns(alloc, declared, steps, picture, subjects, &mut turns)?
+        through(alloc, reached, steps, picture, subjects, &mut turns)?
     } else {
         global_turns(alloc, declared, r, picture, subjects, &mut turns)?
     };
