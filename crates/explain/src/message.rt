@@ -1,6 +1,6 @@
 //! Texts that are put together of words, names and numbers.
 
-ghost use Rattle.std.specs.Prelude.{◌≡◌, [], OnOk, string_bytes};
+ghost use Rattle.std.specs.Prelude.{◌≡◌, [], OnOk};
 ghost use Rattle.explain.specs.Said.{Keeps};
 
 use crate::included::{Included, included_at};
@@ -46,9 +46,7 @@ impl<'t> Message<'t> {
     }
 
     /// What it says.
-    pub fn into_text(self) -> String
-        ensures { string_bytes result ≡ self }
-    {
+    pub fn into_text(self) -> String {
         let Message {
             text: _,
             lines: _,
@@ -97,11 +95,18 @@ impl<'t> Message<'t> {
         self.out.push_str(buffer.format(number))
     }
 
+    /// Adds a character as it is.
+    fn letter(&mut self, c: char) -> Result<(), AllocError>
+        ensures { OnOk result (Keeps self.old self.new) }
+    {
+        self.out.push(c)
+    }
+
     fn bytes(&mut self, name: &[u8]) -> Result<(), AllocError>
         ensures { OnOk result (Keeps self.old self.new) }
     {
         for byte in name {
-            self.out.push(printable(*byte))?;
+            self.letter(printable(*byte))?;
         }
         Ok(())
     }
@@ -113,10 +118,10 @@ impl<'t> Message<'t> {
             return push_number(&mut self.out, c);
         }
         if c.is_ascii() {
-            return self.out.push(if c.is_control() { '?' } else { c });
+            return self.letter(if c.is_control() { '?' } else { c });
         }
         for _turn in 0..c.len_utf8() {
-            self.out.push('?')?;
+            self.letter('?')?;
         }
         Ok(())
     }
@@ -192,7 +197,10 @@ impl<'t> Message<'t> {
                 self.file(included.file)?;
                 self.push(behind)
             }
-            None => self.figure("line ", line_number(self.text, offset), behind),
+            None => {
+                let number = line_number(self.text(), offset);
+                self.figure("line ", number, behind)
+            }
         }
     }
 
