@@ -189,11 +189,16 @@ const WALK = (() => {
     $("telling").showModal();
   });
   function asksGoal() { $("goal-said").textContent = ""; $("goals").showModal(); $("goal").select(); }
+  // what a session said to its last line: the first line behind the question before it
+  function answered(said) {
+    const lines = said.split("\n").filter(line => line.trim()), questions = lines.flatMap((line, i) => /^at \d+ of \d+/.test(line) ? [i] : []);
+    return lines[questions.length > 1 ? questions[questions.length - 2] + 1 : 0];
+  }
   const until = () => alone(async () => {
     if (view.at() < legs.length) view.go(legs.length);
     const goal = $("goal").value.replace(/\n/g, " "), said = await session(legs, legs.length + MOST, "goto " + legs.length + "\nuntil " + goal + "\n"), stood = [...said.matchAll(/^at (\d+) of \d+/gm)].pop();
     if (stood && +stood[1] > legs.length) { $("goals").close(); await on(+stood[1] - legs.length, 0); }
-    else $("goal-said").textContent = said.split("\n").filter(line => line.trim()).slice(-1)[0] || "It took no step.";
+    else $("goal-said").textContent = answered(said) || "It took no step.";
   });
   async function copied() {
     given = address();
@@ -262,7 +267,7 @@ const WALK = (() => {
   }
   // the walk that an address names
   function named() {
-    const words = new URLSearchParams(location.hash.slice(1)), inFile = text(held("first")).split("\n").map(line => parseInt(line, 10)).filter(n => n > 0);
+    const words = new URLSearchParams(location.hash.slice(1)), inFile = text(held("given")).split("\n").map(line => parseInt(line, 10)).filter(n => n > 0);
     const whole = (word, most) => Math.max(0, Math.min(most, Math.floor(+words.get(word)) || 0)), all = words.has("c") ? words.get("c").split(".").map(Number).filter(n => n > 0 && n < 1e9) : inFile;
     return { all: all.map(choice => ({ choice, of: 2 })), at: words.has("at") ? whole("at", 1000000) : undefined, steps: words.has("n") ? whole("n", 1000000) : all.length ? Math.max(10000, 20 * all.length) : 0 };
   }
