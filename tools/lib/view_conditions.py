@@ -71,10 +71,11 @@ class Names:
         self.locals = sorted((n, name, path) for (n, name), cells in seen.items() for path in cells
                              if all(number(s.processes[n]["locals"][path]) for s in states if n in s.processes and s.processes[n]["name"] == name))
         self.lines = sorted({p["line"] for state in states for p in state.processes.values()})
+        self.stood = {name: sorted({p["line"] for state in states for p in state.processes.values() if p["name"] == name}) for _, name in self.processes}
 
     def atom(self, chance):
         """A condition without `&&`, `||` and `!`."""
-        kinds = ["line", "at", "count"] + ["global"] * 2 * bool(self.globals) + ["local"] * 3 * bool(self.locals) + ["length", "fill"] * bool(self.channels)
+        kinds = ["line", "at", "any", "count"] + ["global"] * 2 * bool(self.globals) + ["local"] * 3 * bool(self.locals) + ["length", "fill"] * bool(self.channels)
         kind = chance.choice(kinds)
         if kind == "global":
             path = chance.choice(self.globals)
@@ -94,6 +95,9 @@ class Names:
         if kind == "line":
             return Drawn("line %d" % line, lambda state: any(p["line"] == line for p in state.processes.values()))
         number, name = chance.choice(self.processes)
+        line = chance.choice(self.stood[name])
+        if kind == "any":
+            return Drawn("%s at line %d" % (name, line), lambda state: any(p["line"] == line and p["name"] == name for p in state.processes.values()))
         return Drawn("%s[%d] at line %d" % (name, number, line), is_at(name, number, line))
 
     def condition(self, chance, depth=2):

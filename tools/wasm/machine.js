@@ -1,8 +1,9 @@
 // The machine: a program of the repository as a WebAssembly module, in a worker of the page, or in node. Bytes in, bytes out.
-// It is given nine calls of the system: two words, a few files, standard input, and what it writes. `read` of standard input may have nothing to give yet:
+// It is given ten calls of the system: two words, a few files, standard input, which is no terminal, and what it writes. `read` of standard input may have nothing to give yet:
 // then the calls of main are put aside (asyncify), and taken up again by `tell`. So a program that reads a line at a time stays alive between the lines,
 // and all of its state stays in its own memory.
-function started(module, words, files, input, waits) {
+// What it writes is handed to `heard` as it comes, where that is given.
+function started(module, words, files, input, waits, heard) {
   const utf8 = new TextEncoder(), args = words.map(word => utf8.encode(word)), names = Object.keys(files);
   const fds = new Map([[0, { data: input, at: 0, waits }]]), written = { 1: [], 2: [] };
   let fd = 2, memory, isAsleep = false, status = null, room = 0, instance = null;
@@ -41,7 +42,12 @@ function started(module, words, files, input, waits) {
       file.at += count;
       return BigInt(count);
     },
-    write(f, p, n) { if (!written[f]) return -1n; written[f].push(bytes(p, n).slice()); return n; },
+    write(f, p, n) {
+      if (!written[f]) return -1n;
+      const piece = bytes(p, n).slice();
+      if (f === 1 && heard) heard(piece); else written[f].push(piece);
+      return n;
+    },
     __write: (f, p, n) => calls.write(f, p, n),
     close: f => (fds.delete(f), 0),
     lseek: () => -1n,
@@ -58,6 +64,7 @@ function started(module, words, files, input, waits) {
     },
     rattle_arg(i, p, n) { const arg = args[N(i)]; if (!arg) return -1n; if (arg.length > N(n)) return -2n; bytes(p, arg.length).set(arg); return BigInt(arg.length); },
     rattle_env: () => -1n,
+    realpath: () => 0n,
   };
   // what the module wants beyond these answers that it failed
   const wanted = {};
@@ -81,43 +88,48 @@ function started(module, words, files, input, waits) {
   };
 }
 const ran = (module, words, files, input) => started(module, words, files, input, false).first;
-// in a worker: {id, what, ..} is answered by {id, ..}; bytes are handed over, and not copied
+// in a worker: {id, what, ..} is answered by {id, ..}, behind {id, piece} for what a walk writes as it comes; bytes are handed over, and not copied
 if (typeof WorkerGlobalScope !== "undefined") {
-  const utf8 = new TextEncoder();
-  let module = null, walk = null, files = {}, name = "", more = [];
-  const words = (called, ...own) => ["spinview", ...more, "--name", called, ...own, "m"];
+  const utf8 = new TextEncoder(), none = new Uint8Array(0);
+  let module = null, walk = null, asking = 0;
+  function decoded(packed) {
+    if (Uint8Array.fromBase64) return Uint8Array.fromBase64(packed.trim());
+    const text = atob(packed.trim()), bytes = new Uint8Array(text.length);
+    for (let i = 0; i < bytes.length; i++) bytes[i] = text.charCodeAt(i);
+    return bytes;
+  }
+  const words = (called, more, steps, ...own) => ["spinview", ...more, "--name", called, ...own, "--choices", "c", "-u", String(steps), "m"];
   const answers = {
-    async load({ bytes }) {
-      const unpacked = new Blob([bytes]).stream().pipeThrough(new DecompressionStream("gzip"));
-      module = await WebAssembly.compile(await new Response(unpacked).arrayBuffer());
+    async load({ packed }) {
+      const unpacked = new Blob([decoded(packed)]).stream().pipeThrough(new DecompressionStream("gzip"));
+      module = await WebAssembly.compileStreaming(new Response(unpacked, { headers: { "Content-Type": "application/wasm" } }));
       return {};
     },
-    // a walk from its first state, behind these choices, of at most so many steps
-    open({ model, called, choices, steps }) {
-      files = { m: model, c: choices };
-      name = called;
-      walk = started(module, words(called, "--ask", "--explain", "--choices", "c", "-u", String(steps)), files, new Uint8Array(0), true);
-      return walk.first;
+    // a walk from its first state, behind these choices, of at most so many steps. Without words that the model was taken with before, it is taken as it is,
+    // or prepared, where the program can do that
+    open({ model, called, more, choices, steps }) {
+      const heard = piece => postMessage({ id: asking, piece }, [piece.buffer]);
+      const begun = how => started(module, words(called, how, steps, "--ask", "--explain"), { m: model, c: choices }, none, true, heard);
+      let taken = more || [];
+      walk = begun(taken);
+      if (!more && walk.first.status === 3) {
+        const second = begun(["--prepare"]);
+        if (second.first.status === null) taken = ["--prepare"];
+        if (second.first.status === null || second.first.status === 3) walk = second;
+      }
+      return { ...walk.first, more: taken };
     },
     tell: ({ line }) => walk.tell(line),
     // lines of a session behind these choices
-    session: ({ choices, steps, input }) => ran(module, words(name, "--choices", "c", "-u", String(steps)), { m: files.m, c: choices }, utf8.encode(input)),
-    // whether a text is a model, and if not, why: as it is, or prepared, where the program can do that
-    take({ model, called }) {
-      const asked = () => ran(module, words(called, "--ask", "--explain", "-u", "0"), { m: model }, new Uint8Array(0));
-      more = [];
-      const first = asked();
-      if (first.status !== 3) return first;
-      more = ["--prepare"];
-      const second = asked();
-      if (second.status === 0) return second;
-      more = [];
-      return second.status === 3 ? second : first;
+    session({ model, called, more, choices, steps, input }) {
+      const { out, ...rest } = ran(module, words(called, more, steps), { m: model, c: choices }, utf8.encode(input));
+      return { ...rest, said: out };
     },
   };
   onmessage = async x => {
     const since = performance.now();
-    try { const answer = await answers[x.data.what](x.data); postMessage({ ...answer, id: x.data.id, ms: performance.now() - since }, [answer.out, answer.err].filter(Boolean).map(b => b.buffer)); }
+    asking = x.data.id;
+    try { const answer = await answers[x.data.what](x.data); postMessage({ ...answer, id: x.data.id, ms: performance.now() - since }, [answer.out, answer.said, answer.err].filter(Boolean).map(b => b.buffer)); }
     catch (e) { postMessage({ id: x.data.id, failed: String(e && e.message || e) }); }
   };
 }

@@ -3,8 +3,19 @@
 const WALK = (() => {
   const utf8 = new TextEncoder(), text = bytes => new TextDecoder().decode(bytes), none = new Uint8Array(0);
   const held = id => Uint8Array.from(atob($(id).textContent.trim()), c => c.charCodeAt(0));
+  // the events of lines that come piece by piece, which are read while the machine goes on
+  function reader() {
+    const decoder = new TextDecoder(), events = [];
+    let rest = "";
+    function take(piece, isLast) {
+      rest += decoder.decode(piece, { stream: !isLast });
+      const end = rest.lastIndexOf("\n") + 1;
+      if (end) { for (const e of parsed(rest.slice(0, end))) events.push(e); rest = rest.slice(end); }
+    }
+    return { take, events, rest: () => rest };
+  }
   // the model's bytes are no text but to be shown and edited; `here` is the step behind which the machine stands, -1 where it does not live
-  let bytes = none, name = "", legs = [], branches = [], view = null, ended = null, isBusy = false, here = -1, last = null, given = "";
+  let bytes = none, name = "", more = [], legs = [], branches = [], view = null, ended = null, isBusy = false, here = -1, last = null, given = "";
   const marks = new Set(), AT_ONCE = 100, MOST = 1000, MOST_IN_ADDRESS = 2000, PATIENCE = 10000;
 
   // ---- the machine, in a worker: `ask` gives what it answers, and stops it after ten seconds
@@ -14,11 +25,20 @@ const WALK = (() => {
       const address = URL.createObjectURL(new Blob([$("machine").textContent], { type: "text/javascript" }));
       this.worker = new Worker(address);
       URL.revokeObjectURL(address);
-      this.worker.onmessage = x => { const call = this.calls.get(x.data.id); if (!call) return; this.calls.delete(x.data.id); clearTimeout(call.timer); x.data.failed ? call.no(new Error(x.data.failed)) : call.yes(x.data); };
-      return this.ready = this.send("load", { bytes: held("wasm") });
+      this.worker.onmessage = x => this.heard(x.data);
+      return this.ready = this.send("load", { packed: $("wasm").textContent });
+    },
+    heard(said) {
+      const call = this.calls.get(said.id);
+      if (!call) return;
+      if (said.piece) { call.lines.take(said.piece, false); return; }
+      this.calls.delete(said.id);
+      clearTimeout(call.timer);
+      if (said.failed) call.no(new Error(said.failed));
+      else { if (said.out) call.lines.take(said.out, true); call.yes({ ...said, events: call.lines.events, rest: call.lines.rest() }); }
     },
     async ask(what, words) { await this.ready; return this.send(what, words); },
-    send(what, words) { return new Promise((yes, no) => { const id = ++this.number; this.calls.set(id, { yes, no, timer: setTimeout(() => this.stop(), PATIENCE) }); this.worker.postMessage({ ...words, id, what }); }); },
+    send(what, words) { return new Promise((yes, no) => { const id = ++this.number; this.calls.set(id, { yes, no, lines: reader(), timer: setTimeout(() => this.stop(), PATIENCE) }); this.worker.postMessage({ ...words, id, what }); }); },
     stop() {
       this.worker.terminate();
       for (const call of this.calls.values()) { clearTimeout(call.timer); call.no(new Error("it was stopped after ten seconds: go back, or on by fewer steps")); }
@@ -36,21 +56,24 @@ const WALK = (() => {
     const since = performance.now();
     let answer;
     try { answer = await machine.ask(what, words); } catch (x) { here = -1; throw x; }
-    const lines = text(answer.out);
-    if (answer.status) { here = -1; if (!lines.trim().endsWith("}")) throw new Error((text(answer.err) || "status " + answer.status).trim()); }
+    if (answer.status) here = -1;
+    if (!answer.events.length || (answer.status && answer.events[answer.events.length - 1].event !== "end")) { const failed = new Error((text(answer.err) || "status " + answer.status).trim()); failed.status = answer.status; throw failed; }
     last = { machine: answer.ms, answer: performance.now() - since };
+    if (answer.more) more = answer.more;
     if (answer.err.length) say(text(answer.err).trim());
-    return parsed(lines);
+    return answer.events;
   }
+  // what a call for a walk of these legs says: of the model that is walked, in the words that it is taken with
+  const asked = (all, steps) => ({ model: bytes, called: name, more, choices: utf8.encode(record(all)), steps });
   // the walk of these legs anew, of so many steps at most, at this one
   async function open(all, at, steps = all.length) {
-    const events = await told("open", { model: bytes, called: name, choices: utf8.encode(record(all)), steps });
+    const events = await told("open", asked(all, steps));
     here = stepsOf(events).length;
     show(events, at);
   }
   // lets the machine stand behind k steps; what it says of that state is known here
   async function stand(k) {
-    if (here < 0) { await told("open", { model: bytes, called: name, choices: utf8.encode(record(legs.slice(0, k))), steps: k }); here = k; }
+    if (here < 0) { await told("open", asked(legs.slice(0, k), k)); here = k; }
     if (here !== k) { await told("tell", { line: "at " + k + "\n" }); here = k; }
   }
   const isMarked = e => (e.processes || []).some(p => marks.has(p.line));
@@ -128,12 +151,8 @@ const WALK = (() => {
     if (is) marks.add(line); else marks.delete(line);
     if (l) { l.classList.toggle("stop", is); l.querySelector(".n").title = is ? "walks stop here" : ""; }
   }
-  // the process and the line of each place of a move's text
-  function places(move) {
-    const place = /^proc (\d+) \(.*?\) line (\d+) \[/, all = [];
-    for (const part of move.split(" -> proc ").slice(0, 2)) { const found = place.exec(all.length ? "proc " + part : part); if (found) all.push({ proc: +found[1], line: +found[2] }); }
-    return all;
-  }
+  // who takes part in a move, each at a line
+  const places = move => move.to ? [move, move.to] : [move], open_moves = () => view.end().choices || [];
 
   // ---- what a walker does
   // takes a choice of the state behind k steps: of the walk's end it goes on, and of its past another way, for which the rest is kept
@@ -146,7 +165,7 @@ const WALK = (() => {
   });
   // takes the one move that is of this process, or on this line
   function taken(is) {
-    const all = [...document.querySelectorAll("#moves button")], moves = view.at() < legs.length ? [] : view.end().moves || [];
+    const all = [...document.querySelectorAll("#moves button")], moves = view.at() < legs.length ? [] : open_moves();
     const found = moves.flatMap((move, i) => places(move).some(is) ? [i] : []);
     all.forEach((button, i) => button.classList.toggle("hint", found.length > 1 && found.includes(i)));
     if (found.length === 1) choose(legs.length, found[0] + 1, moves.length);
@@ -168,7 +187,7 @@ const WALK = (() => {
   const randomly = most => alone(async () => {
     if (view.at() < legs.length) view.go(legs.length);
     for (let i = 0; i < most; i++) {
-      const moves = view.end().moves || [], before = legs.length;
+      const moves = open_moves(), before = legs.length;
       if (!moves.length || view.fault()) break;
       await on(1, moves.length > 1 ? 1 + chance.next() % moves.length : 0);
       if (legs.length === before || (marks.size && isMarked(view.steps[before]))) break;
@@ -182,7 +201,7 @@ const WALK = (() => {
     link.click();
     say(choicesOf(legs).length + " choices are written: spinplay --choices plays them, and -u" + legs.length + " stops at the last step.");
   }
-  const session = async (all, steps, input) => text((await machine.ask("session", { choices: utf8.encode(record(all)), steps, input })).out);
+  const session = async (all, steps, input) => text((await machine.ask("session", { ...asked(all, steps), input })).said);
   const why = () => alone(async () => {
     const k = view.at(), said = await session(legs.slice(0, k), k, "why\n"), lines = said.split("\n"), first = lines.findIndex(line => line.startsWith("at " + k + " of"));
     $("told").textContent = lines.slice(first + 1).join("\n").trim() || said;
@@ -229,21 +248,26 @@ const WALK = (() => {
     $("text").setSelectionRange(before + from, before + to);
     $("text").scrollTop = Math.max(0, (line - 6) * 18);
   }
+  // plays a text, if it is a model: then this is the model that is walked, and else it is shown why not
   const play = (model, called, all = [], at = undefined, steps = 0) => alone(async () => {
-    const answer = await machine.ask("take", { model, called });
-    if (answer.status) { if (!$("editor").open) edit(model, called); refused(text(answer.err).trim() || "status " + answer.status); return; }
+    let events, why = "";
+    const take = most => told("open", { ...asked(most ? all : [], most), model, called, more: null });
+    try { events = await take(steps); }
+    catch (x) {
+      if (!x.status && steps) { events = await take(0); why = "The walk of this address was not made: " + x.message; }
+      else if (!x.status) throw x;
+      else { here = -1; if (!$("editor").open) edit(model, called); refused(x.message); return; }
+    }
     if ($("editor").open) $("editor").close();
-    await take(model, called, all, at, steps);
-  });
-  async function take(model, called, all, at, steps) {
-    bytes = model; name = called; branches = []; here = -1;
+    bytes = model; name = called; branches = [];
     marks.clear();
     document.title = document.querySelector("h1").textContent = called;
     seeded();
-    try { await open(all, at, steps); }
-    catch (x) { await open([]); say("The walk of this address was not made: " + x.message); return; }
-    if (!legs.length && !$("note").textContent) say("Choose: click a choice or press its number, o goes on where there is one move, ? shows the keys.");
-  }
+    here = stepsOf(events).length;
+    show(events, at);
+    if (why) say(why);
+    else if (!legs.length && !$("note").textContent) say("Choose: click a choice or press its number, o goes on where there is one move, ? shows the keys.");
+  });
   async function dropped(file) { if (file) play(new Uint8Array(await file.arrayBuffer()), file.name); }
 
   // ---- keys, clicks and the begin

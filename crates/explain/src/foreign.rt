@@ -252,6 +252,10 @@ fn of_missing(foreign: Foreign) -> &'static str {
         Foreign::CallParens =>
             "parentheses are wanted there, as in `assert(x == 1)` and `printf(\"..\\n\")`",
         Foreign::TwoTypes => "one type alone stands before a name, as in `int x`",
+        Foreign::LoopIn => "write `:` for it, as in `for (i : 0 .. 2)`",
+        Foreign::ArgumentComma =>
+            "write `,` for it: arguments are parted by `,`, as in `run P(1, 2)`",
+        Foreign::NoChannel => "the name of a channel is wanted before it, as in `empty(c)`",
         Foreign::AtomicUnit =>
             "`atomic` and `d_step` stand in a body, as in `proctype P() { atomic { .. } }`",
         Foreign::Leave =>

@@ -111,6 +111,15 @@ fn name_of_inline(
     message.push("and stands for what comes of its call: choose another name for one of the two")
 }
 
+/// Of a call of an inline that has `run` in front of it.
+fn inline_run(message: &mut Message<'_>, name: &[u8], inline: Named<'_>) -> Result<(), AllocError>
+    ensures { OnOk result (Keeps message.old message.new) }
+{
+    message.around("", name, " is an inline")?;
+    message.line(" (", inline.offset, "), ")?;
+    message.push("and its call stands by itself: leave `run` out")
+}
+
 /// What is told of names, where something of theirs is wanted.
 fn wants_of_name(message: &mut Message<'_>, wanted: Wanted<'_>) -> Result<(), AllocError>
     ensures { OnOk result (Keeps message.old message.new) }
@@ -268,6 +277,7 @@ fn of_word(message: &mut Message<'_>, wanted: Wanted<'_>) -> Result<bool, AllocE
         Wanted::InlineValue(name) => inline_value(message, name.name)?,
         Wanted::Inline(name, later) => wants_inline(message, name.name, later)?,
         Wanted::NameOfInline(name, inline) => name_of_inline(message, name.name, inline)?,
+        Wanted::InlineRun(name, inline) => inline_run(message, name.name, inline)?,
         Wanted::Untyped(name) => untyped(message, name.name)?,
         _ => return Ok(false),
     }

@@ -126,6 +126,8 @@ pub enum Wanted<'t> {
     Untyped(Named<'t>),
     /// Another name than this one, which an inline has.
     NameOfInline(Named<'t>, Named<'t>),
+    /// No `run` in front of this call of an inline.
+    InlineRun(Named<'t>, Named<'t>),
     /// One of these.
     OneOf(Classes),
     /// More than one thing may stand there.

@@ -292,4 +292,10 @@ pub enum Foreign {
     TwoTypes,
     /// `atomic proctype P()`
     AtomicUnit,
+    /// `for (i in 1 .. 3)`
+    LoopIn,
+    /// `run P(1; 2)`
+    ArgumentComma,
+    /// `empty()`
+    NoChannel,
 }

@@ -299,7 +299,8 @@ fn is_in_loop(tokens: &[Token<'_>], at: usize) -> bool {
 pub fn meant_at(tokens: &[Token<'_>], at: usize, foreign: Foreign) -> Foreign {
     let is_of_loop = is_in_statement(tokens, at, Kind::For);
     match foreign {
-        Foreign::In if has_range(tokens, at) && !is_of_loop => Foreign::InRange,
+        Foreign::In if has_range(tokens, at) && is_of_loop => Foreign::LoopIn,
+        Foreign::In if has_range(tokens, at) => Foreign::InRange,
         Foreign::EndLoop if !is_in_loop(tokens, at) => Foreign::LabelColon,
         foreign => foreign,
     }
@@ -322,5 +323,8 @@ pub fn inline_at<'t>(
     }
     let call = call_at(text, originals, tokens, at)?;
     let definition = definition_of(text, originals, call.name)?;
-    Some(Wanted::NameOfInline(call, definition))
+    Some(match kind_before(tokens, at, 1) {
+        Kind::Run => Wanted::InlineRun(call, definition),
+        _ => Wanted::NameOfInline(call, definition),
+    })
 }

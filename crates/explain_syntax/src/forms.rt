@@ -49,8 +49,10 @@ fn ranged(before: Kind) -> Foreign {
 
 /// What a `=` is meant for.
 fn at_assign(tokens: &[Token<'_>], at: usize) -> Option<Foreign> {
-    if is_at(tokens, at.saturating_add(1), Kind::Greater) {
-        return Some(Foreign::FatArrow);
+    match kind_behind(tokens, at) {
+        Kind::Greater => return Some(Foreign::FatArrow),
+        Kind::Less => return at_less(tokens, at.saturating_add(1), Kind::Assign),
+        _ => {}
     }
     if is_in_statement(tokens, at, Kind::Proctype) {
         return None;

@@ -15,8 +15,8 @@ use crate::tried::wanted_by_trial;
 use crate::typed::is_select_range;
 use crate::unclosed::{Brackets, brackets_of};
 use crate::within::{
-    arrow_between, begins_unit, form_within, is_declared_word, is_left_open, is_outside_sign,
-    is_statement,
+    arrow_between, begins_unit, form_within, is_declared_word, is_left_open, is_named_there,
+    is_outside_sign, is_statement,
 };
 use crate::words::{
     called_variable, foreign_beside, foreign_call, is_record, is_typed, near_at, near_beside,
@@ -79,7 +79,7 @@ fn by_words<'t>(text: &'t [u8], tokens: &[Token<'_>], at: usize) -> Option<Wante
     if is_select_range(tokens, at) {
         return Some(Wanted::Form(Foreign::SelectRange));
     }
-    let word = foreign_beside(text, tokens, at).or(number_beside(text, tokens, at));
+    let word = number_beside(text, tokens, at).or(foreign_beside(text, tokens, at));
     match word {
         Some(wanted) => Some(wanted),
         None => by_forms(text, tokens, at),
@@ -296,6 +296,7 @@ fn is_outside(tokens: &[Token<'_>], opener: Option<usize>, at: usize) -> bool {
     let kind = kind_at(tokens, at);
     let is_first = is_outside_sign(kind) && begin_of(tokens, at) == at;
     let is_declared = is_typed(tokens, at)
+        || is_named_there(tokens, at)
         || is_before(tokens, at, 2, Kind::Typedef)
         || is_before(tokens, at, 2, Kind::Unsigned);
     opener.is_none() && (is_statement(kind) || is_first) && !is_declared

@@ -19,7 +19,7 @@ fn word_of(wanted: Wanted<'_>) -> Option<Named<'_>> {
         Wanted::Index(name) => Some(name),
         Wanted::InlineValue(name) => Some(name),
         Wanted::Inline(name, _) => Some(name),
-        Wanted::NameOfInline(name, _) => Some(name),
+        Wanted::NameOfInline(name, _) | Wanted::InlineRun(name, _) => Some(name),
         Wanted::Untyped(name) => Some(name),
         Wanted::CommaBefore(name) => Some(name),
         Wanted::ArrowFor(sign) => Some(sign),

@@ -8,7 +8,7 @@ use crate::stopped::{
     begin_of, begins_line, is_before, is_in_statement, name_at, name_before, opener_before,
 };
 use crate::trial::{Change, may_stand, reads_on};
-use crate::within::{has_arrow, is_closed, is_statement};
+use crate::within::{has_arrow, is_closed, is_named_there, is_statement};
 use explain_cause::cause::{Named, Wanted};
 use explain_cause::foreign::Foreign;
 use explain_cause::place::{between, from, is_at, kind_at};
@@ -113,7 +113,7 @@ fn is_name_wanted(alloc: Global, tokens: &[Token<'_>], at: usize) -> Result<bool
 
 /// What is told by reading the tokens with another one in the place of one of them.
 fn by_change(alloc: Global, tokens: &[Token<'_>], at: usize) -> Result<Trial, AllocError> {
-    if same_kind(kind_at(tokens, at), Kind::Run) {
+    if same_kind(kind_at(tokens, at), Kind::Run) && !is_named_there(tokens, at) {
         return Ok(Trial::Run);
     }
     if is_name_wanted(alloc, tokens, at)? {

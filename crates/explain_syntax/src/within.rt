@@ -37,6 +37,12 @@ pub fn begins_unit(kind: Kind) -> bool {
     )
 }
 
+/// Whether a token stands where a declaration has its name: behind a type, `proctype` or `typedef`.
+pub fn is_named_there(tokens: &[Token<'_>], at: usize) -> bool {
+    let before = kind_before(tokens, at, 1);
+    is_type(before) || matches!(before, Kind::Proctype | Kind::Typedef)
+}
+
 /// Whether a word stands where a name is declared: between a type and what goes on with the declaration or ends it.
 pub fn is_declared_word(tokens: &[Token<'_>], at: usize) -> bool {
     is_type(kind_before(tokens, at, 1))
@@ -189,6 +195,31 @@ fn in_parens(before: Kind, kind: Kind) -> Option<Foreign> {
     }
 }
 
+/// What a token is meant for among the arguments of a process, which the one at `opener` opens.
+fn argument(tokens: &[Token<'_>], opener: usize, kind: Kind) -> Option<Foreign> {
+    if !is_before(tokens, opener, 2, Kind::Run) {
+        return None;
+    }
+    match kind {
+        Kind::Semicolon if is_closed(tokens, opener) => Some(Foreign::ArgumentComma),
+        kind if is_type(kind) => Some(Foreign::ArgumentType),
+        _ => None,
+    }
+}
+
+/// What a token is meant for where a channel is asked for.
+fn asked(tokens: &[Token<'_>], opener: usize, at: usize) -> Option<Foreign> {
+    if !asks_channel(kind_before(tokens, opener, 1)) {
+        None
+    } else if is_before(tokens, at, 1, Kind::Name) {
+        Some(Foreign::ChannelAlone)
+    } else if opener.saturating_add(1) == at && is_at(tokens, at, Kind::CloseParen) {
+        Some(Foreign::NoChannel)
+    } else {
+        None
+    }
+}
+
 /// What the token at `at` is meant for within parentheses.
 fn within_parens(tokens: &[Token<'_>], opener: usize, at: usize, kind: Kind) -> Option<Foreign> {
     if is_half_range(tokens, opener, at) {
@@ -201,11 +232,8 @@ fn within_parens(tokens: &[Token<'_>], opener: usize, at: usize, kind: Kind) -> 
     if is_untyped(tokens, opener, at) {
         return Some(untyped(tokens, at));
     }
-    if is_type(kind) && is_before(tokens, opener, 2, Kind::Run) {
-        return Some(Foreign::ArgumentType);
-    }
-    if asks_channel(kind_before(tokens, opener, 1)) && is_before(tokens, at, 1, Kind::Name) {
-        return Some(Foreign::ChannelAlone);
+    if let Some(form) = argument(tokens, opener, kind).or(asked(tokens, opener, at)) {
+        return Some(form);
     }
     if same_kind(kind, Kind::Of) && is_before(tokens, opener, 2, Kind::Proctype) {
         return Some(Foreign::ChannelParameter);

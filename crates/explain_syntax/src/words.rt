@@ -194,13 +194,22 @@ fn joined_at<'t>(text: &'t [u8], tokens: &[Token<'_>], at: usize) -> Option<Name
     }
 }
 
-/// A number of another form, at the token that no rule reads or directly before it.
-pub fn number_beside<'t>(text: &'t [u8], tokens: &[Token<'_>], at: usize) -> Option<Wanted<'t>> {
-    let own = joined_at(text, tokens, at);
-    match own.or(joined_at(text, tokens, at.saturating_sub(1))) {
-        Some(number) => Some(Wanted::ForeignWord(Foreign::Digits, number)),
-        None => None,
+/// What a number with letters behind it is meant for, where a token of this kind stands behind these: a label, or a number.
+fn joined_form(behind: Kind) -> Foreign {
+    match behind {
+        Kind::Colon => Foreign::NameBegins,
+        _ => Foreign::Digits,
     }
+}
+
+/// A number of another form, or a label that begins with one, at the token that no rule reads or directly before it.
+pub fn number_beside<'t>(text: &'t [u8], tokens: &[Token<'_>], at: usize) -> Option<Wanted<'t>> {
+    if let Some(own) = joined_at(text, tokens, at) {
+        return Some(Wanted::ForeignWord(joined_form(kind_behind(tokens, at)), own));
+    }
+    let before = at.checked_sub(1)?;
+    let form = joined_form(kind_at(tokens, at));
+    Some(Wanted::ForeignWord(form, joined_at(text, tokens, before)?))
 }
 
 /// Whether a `=` stands behind two names, as of a type and its variable.

@@ -2,7 +2,7 @@
 
 use std::alloc::{AllocError, Global};
 
-/// So many texts are kept at most; of more the one that was opened first is let go.
+/// So many texts are kept at most; of more the one that was opened or changed longest ago is let go.
 const MOST_DOCUMENTS: usize = 256;
 
 /// A text that a client has opened.

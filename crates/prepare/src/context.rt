@@ -68,7 +68,8 @@ pub enum Supply {
     Skip,
 }
 
-pub(crate) fn deeper(depth: u32) -> u32
+/// One bracket more.
+pub fn deeper(depth: u32) -> u32
     ensures { result ≡ contexts.deeper depth }
 {
     if depth < MOST_DEPTH { depth + 1 } else { depth }

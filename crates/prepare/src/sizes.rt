@@ -148,7 +148,8 @@ fn size_at(stretches: &[Stretch<'_>]) -> u32
 }
 
 impl Reading {
-    fn start() -> Reading
+    /// The beginning of a text.
+    pub fn start() -> Reading
         ensures { result ≡ sizes.start }
     {
         Reading {
@@ -161,7 +162,7 @@ impl Reading {
     }
 
     /// Whether a token of this kind is a name that is declared.
-    fn declares(self, kind: Kind) -> bool
+    pub fn declares(self, kind: Kind) -> bool
         ensures { result ≡ sizes.declares self kind }
     {
         same_kind(kind, Kind::Name)
@@ -182,7 +183,7 @@ impl Reading {
     }
 
     /// What is known behind a token.
-    fn behind(self, kind: Kind, token: &[u8]) -> Reading
+    pub fn behind(self, kind: Kind, token: &[u8]) -> Reading
         ensures { result ≡ sizes.behind self kind token.now }
     {
         let is_typedef = same_kind(kind, Kind::Typedef);

@@ -3,6 +3,9 @@ use Rattle.std.specs.Prelude.{◌≡◌, ◌≤◌, ℕ, Bool, true, false, List
 use Rattle.pml_directives.specs.Plain.{is_plain}
 use Rattle.prepare.specs.declared.TheConstants.{MOST_BYTES}
 use Rattle.prepare.specs.Laws.{lined, prepared, has_tokens_alone}
+use Rattle.declared_steps.specs.Writing.{stepped}
+use Rattle.names_apart.specs.Writing.{joint}
+use Rattle.names_apart.specs.Apart.{IsApart}
 use Rattle.prepared.specs.declared.given.How.{How}
 use Rattle.prepared.specs.declared.made.Prepared.{Prepared}
 
@@ -10,10 +13,14 @@ use Rattle.prepared.specs.declared.made.Prepared.{Prepared}
 abbrev pub TellsTokens : Bool → List ℕ → Type 0
 TellsTokens is_left text = is_left ≡ false → has_tokens_alone (lined text) ≡ true
 
+-- it is a text in which names that bodies declare several times are divided, with underscores that are free in it
+abbrev pub IsDivided : List ℕ → List ℕ → Type 0
+IsDivided text made = IsApart (joint text) text made
+
 -- it is made of a text that is without `#` lines and macros, and has no more bytes than it may
 pub record IsMadeOf (text : List ℕ) (p : Prepared) : Type 0 where
   pub short : length text ≤ MOST_BYTES
-  pub made : p.text.items ≡ prepared text
+  pub made : IsDivided (stepped (prepared text)) p.text.items
   pub told : TellsTokens p.is_left text
 
 -- what a preprocessor may leave of an author's text: the text itself, where it is to be read as it is, and where no macro is given and nothing in it is for one

@@ -24,6 +24,10 @@ pub enum What {
     Subtype,
     // A `for` over what is no array stays.
     Loop,
+    // A declaration that is a step is an assignment.
+    Stepped,
+    // A name that a body declares several times is divided.
+    Divided,
 }
 
 // The lines from one to another.
@@ -73,6 +77,12 @@ impl<'t> Kind<'t> {
                 "the subtypes of 'mtype' are blanked: all its names are of one type here"
             ),
             What::Subtype => format!(in alloc; "a subtype of mtype '{word}' is left as it is"),
+            What::Stepped => format!(in alloc;
+                "a declaration that is a step in Spin is an assignment here"
+            ),
+            What::Divided => format!(in alloc;
+                "'{word}' is declared in several blocks or calls: each has a name of its own"
+            ),
             What::Loop => format!(in alloc;
                 "a 'for' over '{word}' is left as it is: that is no array with one number for its size"
             ),
@@ -128,7 +138,7 @@ impl<'t> Kind<'t> {
 // The word by which a kind is known: of a line for a preprocessor its first word, and of bytes, characters and blanked subtypes none.
 fn key(what: What, word: &[u8]) -> &[u8] {
     match what {
-        What::Apostrophe | What::Bytes | What::Subtypes => b"",
+        What::Apostrophe | What::Bytes | What::Subtypes | What::Stepped => b"",
         _ => match word {
             [b'#', ..] => directive(word),
             _ => word,

@@ -6,13 +6,18 @@ ghost use Rattle.prepare.specs.declared.TheConstants.{MOST_BYTES};
 ghost use Rattle.prepare.specs.Stretches as as_stretches;
 ghost use Rattle.prepare.specs.Spelling as as_spelling;
 ghost use Rattle.prepare.specs.Laws as laws;
-ghost use Rattle.prepared.specs.Made.{TellsTokens, IsMadeOf, IsPreparedOf};
+ghost use Rattle.declared_steps.specs.Writing.{stepped};
+ghost use Rattle.prepared.specs.Made.{TellsTokens, IsDivided, IsMadeOf, IsPreparedOf};
 
 use crate::given::How;
+use crate::kinds::What;
 use crate::lines::lines_of;
 use crate::model::model_text;
 use crate::report::{Called, Report};
 use crate::unprepared::Unprepared;
+use declared_steps::writing::{Stepped, with_steps};
+use names_apart::apart::{DividedText, divide_names};
+use names_apart::candidates::{Candidate, candidates};
 use pml_token::token::{Kind, same_kind};
 use prepare::MOST_BYTES;
 use prepare::changes::{exchanges, respelled};
@@ -81,21 +86,51 @@ fn separated<'t>(
     Ok(WithSeparators { text, are_tokens })
 }
 
-// What is made of it then by its subtypes and its loops over arrays.
+// What is made of a text by its subtypes and its loops over arrays, and the names in it that may be divided.
+#[derive(Drop)]
+struct WithNames<'t> {
+    text: Vec<u8>,
+    names: Vec<Candidate<'t>>,
+}
+
+// What is made of it then by its subtypes and its loops over arrays, of which the report hears.
 fn exchanged<'t>(
     alloc: Global,
     text: &'t [u8],
     report: &mut Report<'t>,
-) -> Result<Vec<u8>, AllocError>
-    ensures { IfOk result (λ v. v.items ≡ laws.exchanged text.now) }
+) -> Result<WithNames<'t>, AllocError>
+    ensures { IfOk result (λ e. e.text.items ≡ laws.exchanged text.now) }
 {
     let tokens = stretches(alloc, text)?;
     let exchanges = exchanges(alloc, &tokens)?;
+    let names = candidates(alloc, &tokens)?;
     drop(tokens);
     for exchange in &exchanges {
         report.exchange(exchange);
     }
-    respelled(alloc, &exchanges)
+    let text = respelled(alloc, &exchanges)?;
+    Ok(WithNames { text, names })
+}
+
+// What is made of it at last by its declarations that are steps, and by its blocks and inlines that declare a name several times, of which the
+// report hears.
+fn divided<'t>(
+    alloc: Global,
+    exchanged: WithNames<'t>,
+    report: &mut Report<'t>,
+) -> Result<Vec<u8>, AllocError>
+    ensures { IfOk result (λ v. IsDivided (stepped exchanged.entry.text.items) v.items) }
+{
+    let WithNames { text, names } = exchanged;
+    let Stepped { text, lines } = with_steps(alloc, text)?;
+    for line in &lines {
+        report.add(What::Stepped, b"", *line);
+    }
+    let DividedText { text, names } = divide_names(alloc, &names, text)?;
+    for candidate in &names {
+        report.add(What::Divided, candidate.name, candidate.line);
+    }
+    Ok(text)
 }
 
 // A text that is made, with what is said of it.
@@ -113,10 +148,11 @@ fn made_of_separated<'t>(
     report: Report<'t>,
     called: Called<'_>,
 ) -> Result<Made, AllocError>
-    ensures { IfOk result (λ m. m.text.items ≡ laws.exchanged text.now) }
+    ensures { IfOk result (λ m. IsDivided (stepped (laws.exchanged text.now)) m.text.items) }
 {
     let mut report = report;
-    let text = exchanged(alloc, text, &mut report)?;
+    let exchanged = exchanged(alloc, text, &mut report)?;
+    let text = divided(alloc, exchanged, &mut report)?;
     let (said, is_left) = report.end(called);
     Ok(Made {
         text,
@@ -128,7 +164,7 @@ fn made_of_separated<'t>(
 // What is made of a text.
 fn made_of(alloc: Global, text: &[u8], called: Called<'_>) -> Result<Made, AllocError>
     requires { length text.now ≤ MOST_BYTES }
-    ensures made { IfOk result (λ m. m.text.items ≡ laws.prepared text.now) }
+    ensures made { IfOk result (λ m. IsDivided (stepped (laws.prepared text.now)) m.text.items) }
     ensures told { IfOk result (λ m. TellsTokens m.is_left text.now) }
 {
     let lines = numbered(alloc, text)?;

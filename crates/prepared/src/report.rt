@@ -1,5 +1,7 @@
 //! What is said on standard error: which blocks are blanked, and what is left as it is, a line for each kind with all its places.
 
+ghost use Rattle.std.specs.Prelude.{◌≤◌, length};
+
 use crate::kinds::{Kinds, What};
 use prepare::changes::{Change, Exchange};
 use prepare::stretch::{Form, Remark, Stretch};
@@ -32,7 +34,9 @@ pub struct Report<'t> {
     is_left: bool,
 }
 
-fn feeds(text: &[u8]) -> u64 {
+fn feeds(text: &[u8]) -> u64
+    ensures { result ≤ length text.now }
+{
     let mut count: u64 = 0;
     for b in text {
         if *b == b'\n' {
@@ -138,6 +142,11 @@ impl<'t> Report<'t> {
             Change::Kept | Change::Colon | Change::Range(_) => {}
         }
         self.line = self.line.saturating_add(feeds(token));
+    }
+
+    /// Something is made otherwise on a line.
+    pub fn add(&mut self, what: What, word: &'t [u8], line: u64) {
+        self.kinds.add(what, word, line, line);
     }
 
     /// All that is to be said, and whether something is left.

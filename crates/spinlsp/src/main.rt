@@ -1,8 +1,8 @@
 // A language server for Promela, over standard input and output: what is wrong with a model, while one types it.
 #![tactic(auto)]
 
-use frames::{Frames, NoMessage, framed};
 use lsp_answers::Server;
+use message_frames::{Frames, NoMessage, framed};
 use serde_json::Value;
 use std::alloc::AllocError;
 use std::io::Write;

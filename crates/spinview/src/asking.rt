@@ -4,18 +4,17 @@ ghost use Rattle.view_walk.specs.Walks.{SameModel};
 
 use crate::opened::Files;
 use crate::output::show_lines;
-use crate::runs::{begin, go_on, tell_choices, why_unread};
+use crate::runs::{begin, begin_behind, go_on, sheet_of, tell_choices, why_unread};
 use crate::shown::without_end;
 use crate::stop::{Device, NoView, failed};
 use devices::SliceSource;
 use program_files::reading::ReadChoices;
 use std::alloc::AllocError;
 use std::io::{BufRead, BufReader};
-use view_json::lines::{Shown, add_end};
+use view_json::lines::add_end;
 use view_run::lines::Sheet;
 use view_session::replay::{Reading, Replay};
 use view_session::seen::picture_of;
-use view_text::writer::Writer;
 use view_walk::walk::Walk;
 use view_words::Asked;
 
@@ -59,8 +58,15 @@ fn go_to(walk: &mut Walk<'_, '_>, step: usize) -> Result<(), AllocError>
 fn add_bad_line(walk: &Walk<'_, '_>, sheet: &mut Sheet) -> Result<(), AllocError> {
     let moves = walk.moves()?;
     let picture = picture_of(walk.world());
-    let lines = &mut sheet.lines;
-    add_end(&picture, walk.at(), "bad line", moves.as_slice(), lines);
+    let moves = moves.as_slice();
+    add_end(
+        &picture,
+        walk.at(),
+        "bad line",
+        moves,
+        None,
+        &mut sheet.lines,
+    );
     Ok(())
 }
 
@@ -71,12 +77,14 @@ fn obey(
     asked: &Asked,
     line: &[u8],
     sheet: &mut Sheet,
-) -> Result<(), NoView> {
+) -> Result<(), NoView>
+    ensures { SameModel walk.old walk.new }
+{
     let (most, choice) = match wish_of(line) {
         Some(Wish::On(most, choice)) => (most, choice),
         Some(Wish::At(step)) => {
             go_to(walk, step)?;
-            sheet.shown = Shown::new(rt.alloc());
+            sheet.show_anew();
             begin(walk, asked, sheet)?;
             (0, "")
         }
@@ -112,13 +120,15 @@ fn answer_lines(
     asked: &Asked,
     files: &mut Files,
     sheet: &mut Sheet,
-) -> Result<(), NoView> {
+) -> Result<(), NoView>
+    ensures { SameModel walk.old walk.new }
+{
     let mut input = match BufReader::new(rt.alloc(), rt.stdin()) {
         Ok(input) => input,
         Err(_) => return Err(NoView::Memory),
     };
     let mut line = Vec::new(rt.alloc());
-    for _ in 0..u64::MAX {
+    for _turn in 0..u64::MAX {
         line.clear();
         match input.read_until(b'\n', &mut line) {
             Ok(0) => break,
@@ -131,6 +141,22 @@ fn answer_lines(
     Ok(())
 }
 
+// The lines of the choices that a run is given. Why they end.
+fn first_lines(
+    rt: &HostRuntime,
+    walk: &mut Walk<'_, '_>,
+    replay: &mut Replay<ReadChoices>,
+    asked: &Asked,
+    sheet: &mut Sheet,
+) -> Result<&'static str, NoView>
+    ensures { SameModel walk.old walk.new }
+{
+    match begin_behind(rt, walk, replay, asked, sheet)? {
+        Some(end) => Ok(end),
+        None => go_on(rt, walk, replay, asked.limit as usize, false, sheet),
+    }
+}
+
 // A run that begins with the choices that it is given, and goes on by lines.
 pub fn run_asking(
     rt: &HostRuntime,
@@ -138,14 +164,11 @@ pub fn run_asking(
     replay: &mut Replay<ReadChoices>,
     asked: &Asked,
     files: &mut Files,
-) -> Result<(), NoView> {
-    let mut sheet = Sheet {
-        lines: Writer::new(rt.alloc()),
-        items: Writer::new(rt.alloc()),
-        shown: Shown::new(rt.alloc()),
-    };
-    begin(walk, asked, &mut sheet)?;
-    match go_on(rt, walk, replay, asked.limit as usize, false, &mut sheet) {
+) -> Result<(), NoView>
+    ensures { SameModel walk.old walk.new }
+{
+    let mut sheet = sheet_of(rt, replay);
+    match first_lines(rt, walk, replay, asked, &mut sheet) {
         Ok(end) => tell_choices(rt, asked, replay, end),
         Err(stop) => return Err(why_unread(stop, replay)),
     }

@@ -5,11 +5,14 @@ mod asking;
 mod opened;
 mod output;
 mod runs;
+mod serving;
 mod shown;
 mod stop;
 mod telling;
 mod trails;
 mod writing;
+
+ghost use Rattle.view_walk.specs.Walks.{SameModel};
 
 use opened::{Files, Opened, Texts, has_session, open_all};
 use output::show;
@@ -23,9 +26,8 @@ use std::process::ExitCode;
 use std::{env, fs, io};
 use stop::NoView;
 use telling::{tell_refusal, tell_stop};
-use trails::follow;
+use trails::{Led, follow};
 use view_session::answers::Setting;
-use view_session::replay::Along;
 use view_trail::marks::Marks;
 use view_walk::walk::Walk;
 use view_words::{Asked, read};
@@ -65,17 +67,19 @@ fn along_trail(
     rt: &HostRuntime,
     asked: &Asked,
     texts: &Texts,
-    marks: &Marks<'_>,
+    marks: &Marks,
     walk: &mut Walk<'_, '_>,
-) -> Result<Option<Along>, NoView> {
+) -> Result<Option<Led>, NoView>
+    ensures { SameModel walk.old walk.new }
+{
     let (Some(name), Some(text)) = (&asked.trail, &texts.trail) else {
         return Ok(None);
     };
-    let (along, first) = follow(rt, asked, name.as_str(), text.as_slice(), marks, walk)?;
+    let (led, first) = follow(rt, asked, name.as_str(), text.as_slice(), marks, walk)?;
     if has_session(asked) {
         show(rt, &first)?;
     }
-    Ok(Some(along))
+    Ok(Some(led))
 }
 
 fn view_walk(
@@ -83,7 +87,7 @@ fn view_walk(
     asked: &Asked,
     texts: &Texts,
     files: Files,
-    marks: &Marks<'_>,
+    marks: &Marks,
     walk: Walk<'_, '_>,
 ) -> Result<(), NoView> {
     let mut walk = walk;
@@ -92,12 +96,12 @@ fn view_walk(
         text: texts.shown(),
         limit: asked.limit as usize,
     };
-    let along = along_trail(rt, asked, texts, marks, &mut walk)?;
+    let led = along_trail(rt, asked, texts, marks, &mut walk)?;
     let is_whole = !has_session(asked);
     let seen = if is_whole {
-        run_all(rt, &mut walk, asked, texts.shown(), &mut files, along)
+        run_all(rt, &mut walk, asked, texts.shown(), &mut files, led)
     } else {
-        run_session(rt, &mut walk, asked, setting, &mut files, along)
+        run_session(rt, &mut walk, asked, setting, &mut files, led)
     };
     if let Some(record) = &mut files.rec {
         record.close(rt, walk.legs(), is_whole)?;
@@ -110,7 +114,7 @@ fn view_model(
     asked: &Asked,
     texts: &Texts,
     files: Files,
-    marks: &Marks<'_>,
+    marks: &Marks,
     checked: &Checked<'_>,
 ) -> Result<(), NoView> {
     match Walk::new(rt.alloc(), checked, asked.is_lossy) {

@@ -122,7 +122,7 @@ fn choices_asked(
         held.add(choices.file, Role::Choices)?;
         return Ok(Some(followed(rt, choices)));
     }
-    let is_asked = has_session(asked) || asked.asks;
+    let is_asked = has_session(asked) || asked.asks || asked.serves;
     if is_asked || asked.seed.is_some() || asked.trail.is_some() {
         return Ok(None);
     }

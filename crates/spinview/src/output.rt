@@ -1,5 +1,6 @@
 // What goes to standard output: bytes that others wrote are shown as a terminal can show them, and lines of JSON have their escapes.
 use crate::stop::{Device, NoView, failed};
+use std::fs;
 use std::io::Write;
 use view_foreign::escaped::add_escaped;
 use view_foreign::shown::add_shown;
@@ -22,6 +23,37 @@ fn send(rt: &HostRuntime, out: &Writer) -> Result<(), NoView> {
         Ok(()) => Ok(()),
         Err(error) => Err(failed(Device::Output, error)),
     }
+}
+
+// Whether lines are typed at a terminal. A pipe or a file gets no prompt, so that what is written there is in whole lines.
+pub fn is_typed(rt: &HostRuntime) -> bool {
+    match fs::canonicalize(rt, "/dev/stdin") {
+        Ok(path) => {
+            let name = path.as_str();
+            name.starts_with("/dev/pts/") || name.starts_with("/dev/tty") || name == "/dev/console"
+        }
+        Err(_) => false,
+    }
+}
+
+fn send_if(rt: &HostRuntime, prompts: bool, text: &[u8]) -> Result<(), NoView> {
+    if !prompts {
+        return Ok(());
+    }
+    match rt.stdout().write_all(text) {
+        Ok(()) => Ok(()),
+        Err(error) => Err(failed(Device::Output, error)),
+    }
+}
+
+// Writes the prompt behind which a line is typed.
+pub fn prompt(rt: &HostRuntime, prompts: bool) -> Result<(), NoView> {
+    send_if(rt, prompts, b"> ")
+}
+
+// Ends the line of a prompt behind which none is typed.
+pub fn end_prompt(rt: &HostRuntime, prompts: bool) -> Result<(), NoView> {
+    send_if(rt, prompts, b"\n")
 }
 
 // So many bytes of a line are escaped at once.

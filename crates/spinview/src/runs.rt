@@ -1,9 +1,14 @@
 // A run without a session: its lines, its chart, its page.
+ghost use Rattle.std.specs.Prelude.{◌≡◌, [], false};
+ghost use Rattle.view_walk.specs.Walks.{SameModel};
+
 use crate::asking::run_asking;
 use crate::opened::Files;
 use crate::output::{show, show_lines};
+use crate::serving::run_driven;
 use crate::stop::{Device, NoView};
 use crate::telling::shown_name;
+use crate::trails::Led;
 use crate::writing::PageFile;
 use devices::Source;
 use program_files::reading::ReadChoices;
@@ -12,13 +17,14 @@ use rand_pcg::Pcg32;
 use session::Answer;
 use std::io;
 use view_foreign::escaped::add_escaped;
-use view_json::lines::{Shown, add_start};
+use view_json::lines::add_start;
 use view_page::page::{Contents, add_page};
 use view_run::lines::{Sheet, add_next};
 use view_run::next::is_misfit;
 use view_run::plain::run;
 use view_run::steps::add_step;
 use view_session::charted::{add_chart, most_alive};
+use view_session::notes::Notes;
 use view_session::replay::{Along, Reading, Replay};
 use view_session::seen::picture_of;
 use view_session::told::Told;
@@ -30,15 +36,38 @@ use view_words::{Asked, Form};
 const AT_ONCE: usize = 60_000;
 
 // The choices of a run: along a trail, of a file or of standard input, or of a generator.
-fn replay_of(asked: &Asked, files: &mut Files, along: Option<Along>) -> Replay<ReadChoices> {
-    if let Some(along) = along {
-        return Replay::Along(along);
+fn replay_of(
+    rt: &HostRuntime,
+    asked: &Asked,
+    files: &mut Files,
+    led: Option<Led>,
+) -> Replay<ReadChoices> {
+    if let Some(led) = led {
+        return Replay::Along(led.along, led.notes);
     }
     match (files.choices.take(), asked.seed) {
         (Some(choices), _) => Replay::Read(Reading::new(ReadChoices::new(choices))),
         (None, Some(seed)) => Replay::Chance(Pcg32::new(u64::from(seed), 54)),
-        (None, None) => Replay::Along(Along::Stop(Answer::Ended)),
+        (None, None) => Replay::Along(Along::Stop(Answer::Ended), Notes::new(rt.alloc())),
     }
+}
+
+// Gives what a trail says beside its steps to the lines of a run, or takes it back.
+fn trade_notes(replay: &mut Replay<ReadChoices>, sheet: &mut Sheet)
+    ensures { sheet.new.lines ≡ sheet.old.lines }
+{
+    if let Some(notes) = replay.notes() {
+        std::mem::swap(notes, &mut sheet.notes);
+    }
+}
+
+// Nothing is written yet of a run of these choices, which gives what a trail says beside its steps.
+pub fn sheet_of(rt: &HostRuntime, replay: &mut Replay<ReadChoices>) -> Sheet
+    ensures { result.lines ≡ record { text = []; refused = false } }
+{
+    let mut sheet = Sheet::new(rt.alloc());
+    trade_notes(replay, &mut sheet);
+    sheet
 }
 
 // What the choices are called.
@@ -97,7 +126,7 @@ pub fn why_unread(stop: NoView, replay: &Replay<ReadChoices>) -> NoView {
 }
 
 // The name of a file without the folders that lead to it.
-fn name_of(name: &str) -> &str {
+pub fn name_of(name: &str) -> &str {
     match name.rsplit_once('/') {
         Some((_, last)) => last,
         None => name,
@@ -116,12 +145,20 @@ fn told(end: &'static str) -> Result<(), NoView> {
 fn write_chart(
     rt: &HostRuntime,
     walk: &mut Walk<'_, '_>,
+    replay: &mut Replay<ReadChoices>,
     most: usize,
     end: &'static str,
-) -> Result<&'static str, NoView> {
+) -> Result<&'static str, NoView>
+    ensures { SameModel walk.old walk.new }
+{
     let steps = walk.legs().len();
     let mut out = Writer::new(rt.alloc());
-    add_chart(walk, steps, most, &mut out)?;
+    let mut none = Notes::new(rt.alloc());
+    let notes = match replay.notes() {
+        Some(notes) => notes,
+        None => &mut none,
+    };
+    add_chart(walk, steps, most, notes, &mut out)?;
     view_chart::chart::add_end(steps, end.as_bytes(), &mut out);
     show(rt, &out)?;
     Ok(end)
@@ -133,10 +170,12 @@ fn run_chart(
     walk: &mut Walk<'_, '_>,
     replay: &mut Replay<ReadChoices>,
     limit: usize,
-) -> Result<&'static str, NoView> {
+) -> Result<&'static str, NoView>
+    ensures { SameModel walk.old walk.new }
+{
     let mut printed = Vec::new(rt.alloc());
     let ran = run(walk, replay, limit, &mut printed)?;
-    write_chart(rt, walk, ran.most, ran.end)
+    write_chart(rt, walk, replay, ran.most, ran.end)
 }
 
 // Writes the line of a state with which lines begin.
@@ -152,6 +191,47 @@ pub fn begin(walk: &Walk<'_, '_>, asked: &Asked, sheet: &mut Sheet) -> Result<()
         &mut sheet.lines,
     )?;
     Ok(())
+}
+
+// Takes the steps before those whose lines are wanted. Why the run ends on the way, where it does: then its last lines are there.
+fn skip<S: Source>(
+    walk: &mut Walk<'_, '_>,
+    replay: &mut Replay<S>,
+    asked: &Asked,
+    sheet: &mut Sheet,
+) -> Result<Option<&'static str>, NoView>
+    ensures { SameModel walk.old walk.new }
+{
+    for _turn in 0..asked.from {
+        let end = add_next(walk, replay, asked.limit as usize, sheet)?;
+        if end.is_some() {
+            return Ok(end);
+        }
+        sheet.lines.clear();
+        sheet.items.clear();
+    }
+    Ok(None)
+}
+
+// Goes behind the steps whose lines are not wanted, and writes the line of the state there, and the last lines of a run that ends on the way. Why it does.
+pub fn begin_behind<S: Source>(
+    rt: &HostRuntime,
+    walk: &mut Walk<'_, '_>,
+    replay: &mut Replay<S>,
+    asked: &Asked,
+    sheet: &mut Sheet,
+) -> Result<Option<&'static str>, NoView>
+    ensures { SameModel walk.old walk.new }
+{
+    let end = skip(walk, replay, asked, sheet)?;
+    let mut last = Writer::new(rt.alloc());
+    last.join(&sheet.lines);
+    sheet.lines.clear();
+    sheet.show_anew();
+    begin(walk, asked, sheet)?;
+    sheet.lines.join(&last);
+    flush(rt, true, sheet)?;
+    Ok(end)
 }
 
 // Writes what there is of the lines, where they are not kept for a page.
@@ -175,8 +255,10 @@ pub fn go_on<S: Source>(
     limit: usize,
     is_kept: bool,
     sheet: &mut Sheet,
-) -> Result<&'static str, NoView> {
-    for _ in 0..u64::MAX {
+) -> Result<&'static str, NoView>
+    ensures { SameModel walk.old walk.new }
+{
+    for _turn in 0..u64::MAX {
         let end = add_next(walk, replay, limit, sheet)?;
         flush(rt, is_kept, sheet)?;
         if let Some(end) = end {
@@ -219,21 +301,22 @@ fn run_sheet(
     asked: &Asked,
     model: &[u8],
     page: &mut Option<PageFile>,
-) -> Result<&'static str, NoView> {
-    let mut sheet = Sheet {
-        lines: Writer::new(rt.alloc()),
-        items: Writer::new(rt.alloc()),
-        shown: Shown::new(rt.alloc()),
-    };
-    begin(walk, asked, &mut sheet)?;
+) -> Result<&'static str, NoView>
+    ensures { SameModel walk.old walk.new }
+{
+    let mut sheet = sheet_of(rt, replay);
     let limit = asked.limit as usize;
-    let end = go_on(rt, walk, replay, limit, page.is_some(), &mut sheet)?;
+    let end = match begin_behind(rt, walk, replay, asked, &mut sheet)? {
+        Some(end) => end,
+        None => go_on(rt, walk, replay, limit, page.is_some(), &mut sheet)?,
+    };
     if asked.form == Form::Json {
         show_lines(rt, &sheet.lines)?;
     }
     if let Some(file) = page {
         write_page(rt, file, asked, model, &sheet)?;
     }
+    trade_notes(replay, &mut sheet);
     Ok(end)
 }
 
@@ -243,9 +326,11 @@ fn run_steps(
     walk: &mut Walk<'_, '_>,
     replay: &mut Replay<ReadChoices>,
     limit: usize,
-) -> Result<&'static str, NoView> {
+) -> Result<&'static str, NoView>
+    ensures { SameModel walk.old walk.new }
+{
     let mut told = Told::new(rt.alloc());
-    for _ in 0..u64::MAX {
+    for _turn in 0..u64::MAX {
         let end = add_step(walk, replay, limit, &mut told)?;
         if told.out.len() > AT_ONCE || end.is_some() {
             show(rt, &told.out)?;
@@ -266,7 +351,9 @@ fn run_forms(
     asked: &Asked,
     model: &[u8],
     page: &mut Option<PageFile>,
-) -> Result<&'static str, NoView> {
+) -> Result<&'static str, NoView>
+    ensures { SameModel walk.old walk.new }
+{
     let limit = asked.limit as usize;
     if asked.form == Form::Json || page.is_some() {
         let end = run_sheet(rt, walk, replay, asked, model, page)?;
@@ -275,7 +362,7 @@ fn run_forms(
         }
         let steps = walk.legs().len();
         let most = most_alive(walk, steps)?;
-        return write_chart(rt, walk, most, end);
+        return write_chart(rt, walk, replay, most, end);
     }
     match asked.form {
         Form::Chart => run_chart(rt, walk, replay, limit),
@@ -290,12 +377,17 @@ pub fn run_all(
     asked: &Asked,
     model: &[u8],
     files: &mut Files,
-    along: Option<Along>,
-) -> Result<(), NoView> {
+    led: Option<Led>,
+) -> Result<(), NoView>
+    ensures { SameModel walk.old walk.new }
+{
     walk.go_to(0)?;
-    let mut replay = replay_of(asked, files, along);
+    let mut replay = replay_of(rt, asked, files, led);
     if asked.asks {
         return run_asking(rt, walk, &mut replay, asked, files);
+    }
+    if asked.serves {
+        return run_driven(rt, walk, &mut replay, asked, files);
     }
     match run_forms(rt, walk, &mut replay, asked, model, &mut files.page) {
         Ok(end) => {

@@ -1,8 +1,12 @@
 // A session: its first choices, and its lines.
+ghost use Rattle.view_text.specs.Written.{Stays};
+ghost use Rattle.view_walk.specs.Walks.{SameModel};
+
 use crate::opened::Files;
-use crate::output::show;
+use crate::output::{end_prompt, is_typed, prompt, show};
 use crate::runs::{tell_choices, why_unread};
 use crate::stop::{Device, NoView, failed};
+use crate::trails::Led;
 use crate::writing::{Unsaved, save};
 use program_files::reading::ReadChoices;
 use session::Answer;
@@ -35,7 +39,9 @@ impl Session {
 }
 
 // Says that choices were saved.
-fn add_saved(walk: &Walk<'_, '_>, out: &mut Writer) {
+fn add_saved(walk: &Walk<'_, '_>, out: &mut Writer)
+    ensures { Stays out.old out.new }
+{
     let count = choice_count(walk.legs());
     out.add(b"saved: ");
     out.number(count);
@@ -55,7 +61,9 @@ fn save_as(
     files: &Files,
     name: &str,
     session: &mut Session,
-) -> Result<(), AllocError> {
+) -> Result<(), AllocError>
+    ensures { Stays session.old.told.out session.new.told.out }
+{
     let is_sure = session.is_sure(name);
     session.sure = None;
     match save(rt, name, is_sure, &files.held, walk.legs()) {
@@ -93,7 +101,10 @@ fn show_all(
 }
 
 // Says that memory was refused, and leads out of that.
-fn recover(walk: &mut Walk<'_, '_>, out: &mut Writer) -> Result<(), NoView> {
+fn recover(walk: &mut Walk<'_, '_>, out: &mut Writer) -> Result<(), NoView>
+    ensures model { SameModel walk.old walk.new }
+    ensures stays { Stays out.old out.new }
+{
     let at = walk.at();
     walk.go_to(at)?;
     out.add(b"out of memory\n");
@@ -108,9 +119,11 @@ fn follow<'l>(
     files: &mut Files,
     first: Result<Reply<'l>, AllocError>,
     session: &mut Session,
-) -> Result<bool, NoView> {
+) -> Result<bool, NoView>
+    ensures { SameModel walk.old walk.new }
+{
     let mut reply = first;
-    for _ in 0..u64::MAX {
+    for _turn in 0..u64::MAX {
         match reply {
             Ok(Reply::Further(command)) => {
                 show(rt, &session.told.out)?;
@@ -145,7 +158,9 @@ fn answer_line(
     files: &mut Files,
     line: &[u8],
     session: &mut Session,
-) -> Result<bool, NoView> {
+) -> Result<bool, NoView>
+    ensures { SameModel walk.old walk.new }
+{
     let first = answer(walk, setting, line, &mut session.told);
     if !is_save(&first) {
         session.sure = None;
@@ -161,7 +176,9 @@ fn take_next(
     walk: &mut Walk<'_, '_>,
     replay: &mut Replay<ReadChoices>,
     printed: &mut Vec<u8>,
-) -> Result<Option<Answer>, NoView> {
+) -> Result<Option<Answer>, NoView>
+    ensures { SameModel walk.old walk.new }
+{
     let moves = walk.moves()?;
     if moves.is_empty() {
         return Ok(Some(Answer::Ended));
@@ -183,9 +200,11 @@ fn take_all(
     walk: &mut Walk<'_, '_>,
     replay: &mut Replay<ReadChoices>,
     limit: usize,
-) -> Result<Answer, NoView> {
+) -> Result<Answer, NoView>
+    ensures { SameModel walk.old walk.new }
+{
     let mut printed = Vec::new(rt.alloc());
-    for _ in walk.at()..limit {
+    for _turn in walk.at()..limit {
         if let Some(said) = take_next(rt, walk, replay, &mut printed)? {
             return Ok(said);
         }
@@ -199,7 +218,9 @@ fn take_first(
     walk: &mut Walk<'_, '_>,
     asked: &Asked,
     files: &mut Files,
-) -> Result<(), NoView> {
+) -> Result<(), NoView>
+    ensures { SameModel walk.old walk.new }
+{
     let Some(choices) = files.choices.take() else {
         return Ok(());
     };
@@ -221,7 +242,10 @@ fn begin_behind(
     files: &mut Files,
     along: Option<Along>,
     told: &mut Told,
-) -> Result<(), NoView> {
+) -> Result<(), NoView>
+    ensures model { SameModel walk.old walk.new }
+    ensures stays { Stays told.old.out told.new.out }
+{
     let limit = asked.limit as usize;
     if let Some(along) = along {
         resume(walk, limit, along, told)?;
@@ -247,16 +271,23 @@ fn answer_lines(
     setting: Setting<'_>,
     files: &mut Files,
     session: &mut Session,
-) -> Result<(), NoView> {
+) -> Result<(), NoView>
+    ensures { SameModel walk.old walk.new }
+{
     let mut input = match BufReader::new(rt.alloc(), rt.stdin()) {
         Ok(input) => input,
         Err(_) => return Err(NoView::Memory),
     };
+    let prompts = is_typed(rt);
     let mut line = Vec::new(rt.alloc());
-    for _ in 0..u64::MAX {
+    for _turn in 0..u64::MAX {
         line.clear();
+        prompt(rt, prompts)?;
         match input.read_until(b'\n', &mut line) {
-            Ok(0) => break,
+            Ok(0) => {
+                end_prompt(rt, prompts)?;
+                break;
+            }
             Ok(_) => {}
             Err(error) => return Err(failed(Device::Input, error)),
         }
@@ -281,12 +312,19 @@ pub fn run_session(
     asked: &Asked,
     setting: Setting<'_>,
     files: &mut Files,
-    along: Option<Along>,
-) -> Result<(), NoView> {
+    led: Option<Led>,
+) -> Result<(), NoView>
+    ensures { SameModel walk.old walk.new }
+{
     let mut session = Session {
         told: Told::new(rt.alloc()),
         sure: None,
     };
+    let mut along = None;
+    if let Some(led) = led {
+        along = Some(led.along);
+        session.told.notes = led.notes;
+    }
     begin_behind(rt, walk, asked, files, along, &mut session.told)?;
     show_all(rt, walk, files, &mut session)?;
     answer_lines(rt, walk, setting, files, &mut session)

@@ -1,12 +1,17 @@
 // A trail of Spin: it is followed, and standard error says where it does not fit.
+ghost use Rattle.view_walk.specs.Walks.{SameModel};
+
 use crate::stop::NoView;
 use std::alloc::{AllocError, Global};
+use view_run::beside::{notes_of, steps_before};
 use view_run::trailed::{Came, Followed, follow_trail};
+use view_session::notes::Notes;
 use view_session::replay::Along;
+use view_session::told::is_state_of;
 use view_text::writer::Writer;
 use view_trail::difference::Difference;
 use view_trail::marks::Marks;
-use view_trail::said::{Said, add_said, said_in};
+use view_trail::said::{Cycle, Said, add_said, said_in};
 use view_walk::walk::Walk;
 use view_words::Asked;
 
@@ -57,16 +62,16 @@ fn tell_held(rt: &HostRuntime, name: &str, valued: Option<usize>) {
     };
 }
 
-// Whether Spin said of a trail that an assertion of the model failed.
+// Whether Spin said of a trail that its last step is an assertion of the model, which failed.
 fn has_failed(said: &Said<'_>) -> bool {
     match said.failed {
-        Some(failed) => !failed.is_of_claim,
+        Some(failed) => failed.is_step && !failed.is_of_claim,
         None => false,
     }
 }
 
 // Says which line of a trail does not fit, where one is left, and what comes otherwise than Spin said.
-fn tell_trail(rt: &HostRuntime, name: &str, came: Came, said: &Said<'_>) {
+fn tell_trail(rt: &HostRuntime, name: &str, came: &Came, said: &Said<'_>) {
     match came.followed {
         Followed::Empty => {
             let _ = eprintln!(rt;
@@ -87,21 +92,69 @@ fn tell_trail(rt: &HostRuntime, name: &str, came: Came, said: &Said<'_>) {
     }
 }
 
-// Follows a trail. How the run goes on there, and what a session says first: what Spin said of the trail.
+// A walk that was led along a trail: how the run goes on there, and what the trail says beside its steps.
+#[derive(Drop)]
+pub struct Led {
+    pub along: Along,
+    pub notes: Notes,
+}
+
+// What is known of the cycle that Spin said a trail to have, where it was followed so far.
+fn cycle_of(
+    rt: &HostRuntime,
+    said: &Said<'_>,
+    came: &Came,
+    walk: &mut Walk<'_, '_>,
+) -> Result<Option<Cycle>, NoView>
+    ensures { SameModel walk.old walk.new }
+{
+    let Some(row) = said.cycle else {
+        return Ok(None);
+    };
+    let before = steps_before(came.rows.as_slice(), row);
+    let mut is_closed = None;
+    if came.followed == Followed::Whole {
+        is_closed = Some(is_state_of(walk, before, rt.alloc())?);
+    }
+    Ok(Some(Cycle { before, is_closed }))
+}
+
+// How a run goes on behind a trail: at its end a claim may have ended it, or the state of a cycle's beginning come again.
+fn along_of(said: &Said<'_>, came: &Came, cycle: Option<Cycle>) -> Along {
+    if came.followed != Followed::Whole {
+        return came.followed.along();
+    }
+    match cycle {
+        Some(cycle) if cycle.is_closed == Some(true) => Along::Cycle,
+        None if said.claim.is_some() => Along::Claim,
+        _ => came.followed.along(),
+    }
+}
+
+// Follows a trail. Where that leads, and what a session says first: what Spin said of the trail.
 pub fn follow(
     rt: &HostRuntime,
     asked: &Asked,
     name: &str,
     text: &[u8],
-    marks: &Marks<'_>,
+    marks: &Marks,
     walk: &mut Walk<'_, '_>,
-) -> Result<(Along, Writer), NoView> {
+) -> Result<(Led, Writer), NoView>
+    ensures { SameModel walk.old walk.new }
+{
     let said = said_in(text);
-    let cycle = said.cycle.unwrap_or(0);
     let limit = asked.limit as usize;
-    let came = follow_trail(walk, marks, text, limit, cycle, Vec::new(rt.alloc()))?;
-    tell_trail(rt, name, came, &said);
+    let came = follow_trail(walk, marks, text, limit, Vec::new(rt.alloc()))?;
+    tell_trail(rt, name, &came, &said);
+    let cycle = cycle_of(rt, &said, &came, walk)?;
     let mut first = Writer::new(rt.alloc());
-    add_said(&said, came.before, &mut first);
-    Ok((came.followed.along(), first))
+    add_said(&said, cycle, &mut first);
+    let before = match cycle {
+        Some(cycle) => Some(cycle.before),
+        None => None,
+    };
+    let rows = came.rows.as_slice();
+    let notes = notes_of(rt.alloc(), text, rows, walk.legs(), before)?;
+    let along = along_of(&said, &came, cycle);
+    Ok((Led { along, notes }, first))
 }

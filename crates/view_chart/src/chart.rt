@@ -67,7 +67,9 @@ fn add_death(width: usize, step: usize, process: usize, out: &mut Writer)
 }
 
 // Writes the row of a rendezvous.
-fn add_pass(row: &mut Row, alive: usize, from: usize, to: usize, label: &[u8]) {
+fn add_pass(row: &mut Row, alive: usize, from: usize, to: usize, label: &[u8])
+    ensures { Stays row.old.text row.new.text }
+{
     let low = from.min(to);
     let high = from.max(to);
     row.living(low);
@@ -76,7 +78,9 @@ fn add_pass(row: &mut Row, alive: usize, from: usize, to: usize, label: &[u8]) {
 }
 
 // Writes the columns of a step in which one process acts.
-fn add_act(row: &mut Row, alive: usize, process: usize, label: &[u8]) {
+fn add_act(row: &mut Row, alive: usize, process: usize, label: &[u8])
+    ensures { Stays row.old.text row.new.text }
+{
     row.living(process);
     row.column(b"*", label);
     row.living(alive.saturating_sub(process).saturating_sub(1));
@@ -127,6 +131,25 @@ pub fn add_row(
     }
     row.end(out);
     out.keep_refusal(&label);
+}
+
+/// Writes a row of words about a step.
+pub fn add_note(step: usize, words: &[u8], out: &mut Writer)
+    ensures { Stays out.old out.new }
+{
+    let mut row = Row::new(out.allocator(), 0, step);
+    row.words(words);
+    row.end(out);
+}
+
+/// Writes the row of a step with which a claim moves to a line: `claim line 4`.
+pub fn add_claim(step: usize, line: usize, out: &mut Writer)
+    ensures { Stays out.old out.new }
+{
+    let mut row = Row::new(out.allocator(), 0, step);
+    row.words(b"claim line ");
+    row.number(line);
+    row.end(out);
 }
 
 /// Writes the last row: `end: valid, steps 9`.

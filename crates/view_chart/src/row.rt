@@ -51,7 +51,9 @@ impl Row {
     }
 
     /// Writes a column: a mark, and a label behind it.
-    pub fn column(&mut self, mark: &[u8], label: &[u8]) {
+    pub fn column(&mut self, mark: &[u8], label: &[u8])
+        ensures { Stays self.old.text self.new.text }
+    {
         let start = self.text.len();
         self.text.add(mark);
         add_cut(label, self.width.saturating_sub(2), &mut self.text);
@@ -60,8 +62,10 @@ impl Row {
     }
 
     /// Writes so many columns of processes that live.
-    pub fn living(&mut self, count: usize) {
-        for _ in 0..count {
+    pub fn living(&mut self, count: usize)
+        ensures { Stays self.old.text self.new.text }
+    {
+        for _turn in 0..count {
             self.column(b"|", b"");
         }
     }
@@ -72,24 +76,30 @@ impl Row {
     }
 
     /// Writes an arrow over so many columns, to the right or to the left.
-    pub fn arrow(&mut self, columns: usize, to_right: bool, label: &[u8]) {
+    pub fn arrow(&mut self, columns: usize, to_right: bool, label: &[u8])
+        ensures { Stays self.old.text self.new.text }
+    {
         let room = self.room(columns);
         self.text.add(if to_right { b"|-" } else { b"|<" });
         let start = self.text.len();
         add_cut(label, room, &mut self.text);
-        for _ in self.text.len().saturating_sub(start)..room {
+        for _turn in self.text.len().saturating_sub(start)..room {
             self.text.add(b"-");
         }
         self.text.add(if to_right { b">" } else { b"-" });
     }
 
     /// Writes words behind the number of the step.
-    pub fn words(&mut self, words: &[u8]) {
+    pub fn words(&mut self, words: &[u8])
+        ensures { Stays self.old.text self.new.text }
+    {
         self.text.add(words);
     }
 
     /// Writes a number.
-    pub fn number(&mut self, number: usize) {
+    pub fn number(&mut self, number: usize)
+        ensures { Stays self.old.text self.new.text }
+    {
         self.text.number(number);
     }
 

@@ -9,21 +9,38 @@ use Rattle.promela_run.specs.Steps.{sorts}
 use Rattle.pml_value.specs.Seen as view
 use Rattle.view_cells.specs.Processes.{line_of}
 use Rattle.view_condition.specs.declared.subject.Whose.{Whose}
+use Rattle.view_condition.specs.declared.subject.Spot.{Spot}
+use Rattle.view_condition.specs.declared.subject.Spot.TheVariants as spot
 use Rattle.view_condition.specs.declared.subject.Subject.{Subject}
-use Rattle.view_condition.specs.declared.subject.Subject.TheVariants.{Global, Local, At, Line}
+use Rattle.view_condition.specs.declared.subject.Subject.TheVariants.{Global, Local, At, Any, Line}
+use Rattle.view_condition.specs.Standing.{is_on}
 use Rattle.view_condition.specs.declared.overview.Overview.{Overview}
 
 abbrev pub is_sort : ℕ → Option ℕ → Bool
 is_sort k None = false
 is_sort k (Some j) = j == k
 
+-- whether the process with this number is of a proctype
+abbrev pub is_of : State → ℕ → ℕ → Bool
+is_of s k p = is_sort k (slice_get (sorts s) p)
+
 -- whether a process lives, and is of this proctype
 abbrev pub is_there : State → Whose → Bool
-is_there s w = is_sort w.sort (slice_get (sorts s) w.process)
+is_there s w = is_of s w.sort w.process
 
--- whether it is there, and stands at this line
-abbrev pub stands_at : State → Whose → ℕ → Bool
-stands_at s w line = is_there s w && (line_of s w.process == line)
+-- whether a process stands there
+abbrev pub at_spot : State → ℕ → Spot → Bool
+at_spot s p (spot.Line line) = line_of s p == line
+at_spot s p (spot.Node node) = is_on s p node
+
+-- whether it is there, and stands at this spot
+abbrev pub stands_at : State → Whose → Spot → Bool
+stands_at s w x = is_there s w && at_spot s w.process x
+
+-- whether one of so many processes is of a proctype, and stands at this spot
+abbrev pub any_of : State → ℕ → Spot → ℕ → Bool
+any_of s k x zero = false
+any_of s k x (suc n) = any_of s k x n || (is_of s k n && at_spot s n x)
 
 -- whether one of so many processes stands at this line
 abbrev pub any_at : State → ℕ → ℕ → Bool
@@ -35,7 +52,8 @@ abbrev pub size_by : State → Option Subject → ℕ
 size_by s None = 0
 size_by s (Some (Global v)) = size_at s.frames 0 v
 size_by s (Some (Local w v)) = if is_there s w then size_at s.frames (w.process + 1) v else 0
-size_by s (Some (At w line)) = 1
+size_by s (Some (At w x)) = 1
+size_by s (Some (Any k x)) = 1
 size_by s (Some (Line line)) = 1
 
 -- the number of a cell of a frame
@@ -47,7 +65,8 @@ abbrev pub number_by : State → Option Subject → ℕ → ℤ
 number_by s None cell = pos 0
 number_by s (Some (Global v)) cell = number_by_frame s 0 v cell
 number_by s (Some (Local w v)) cell = number_by_frame s (w.process + 1) v cell
-number_by s (Some (At w line)) cell = truth (stands_at s w line)
+number_by s (Some (At w x)) cell = truth (stands_at s w x)
+number_by s (Some (Any k x)) cell = truth (any_of s k x (length s.stands))
 number_by s (Some (Line line)) cell = truth (any_at s line (length s.stands))
 
 -- what a condition reads of a state, where its variables are these

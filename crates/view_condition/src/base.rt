@@ -1,13 +1,16 @@
 //! What the first names of a reference lead to.
 
 use crate::names::{Declaration, constant_named, declared_as, sort_named};
-use crate::places::LINE;
-use crate::subject::{Subject, Whose};
+use crate::places::{LABEL, LINE};
+use crate::subject::{Spot, Subject, Whose};
 use crate::unread::{Flaw, Unread, flawed};
 use check_uses::arithmetic::read;
 use pml_tree::tree::{Expr, Reference, Step};
+use std::alloc::Global;
 use view_cells::picture::Picture;
 use view_cells::processes::is_standing_line;
+use view_labels::labels::node_of_label;
+use view_labels::lines::can_stand_at;
 
 /// A variable that is named, and as what it is declared.
 #[derive(Clone, Copy)]
@@ -62,9 +65,8 @@ fn place_in(step: &Step<'_>) -> u32 {
     }
 }
 
-// That somebody stands at a line: this process, or any.
-fn fact(
-    whose: Option<Whose>,
+// That somebody stands at a line, whoever it is.
+fn line_fact(
     step: &Step<'_>,
     rest: &[Step<'_>],
     picture: &Picture<'_, '_, '_>,
@@ -72,14 +74,69 @@ fn fact(
     if let [field, ..] = rest {
         return Err(flawed(Flaw::Field, field.name.line()));
     }
-    match (number_in(step), whose) {
-        (Some(line), _) if !is_standing_line(picture, line) => Err(flawed(
-            Flaw::Line,
-            place_in(step),
-        )),
-        (Some(line), Some(whose)) => Ok(Base::Fact(Subject::At(whose, line))),
-        (Some(line), None) => Ok(Base::Fact(Subject::Line(line))),
-        (None, _) => Err(flawed(Flaw::Number, place_in(step))),
+    match number_in(step) {
+        Some(line) if is_standing_line(picture, line) => Ok(Base::Fact(Subject::Line(line))),
+        Some(_) => Err(flawed(Flaw::Line, place_in(step))),
+        None => Err(flawed(Flaw::Number, place_in(step))),
+    }
+}
+
+// Who is named: processes of the proctype with this number, or the one with that number of these.
+#[derive(Clone, Copy)]
+struct Named {
+    sort: usize,
+    whose: Option<Whose>,
+}
+
+impl Named {
+    // That who is named stands there.
+    fn at(self, spot: Spot) -> Base {
+        match self.whose {
+            Some(whose) => Base::Fact(Subject::At(whose, spot)),
+            None => Base::Fact(Subject::Any(self.sort, spot)),
+        }
+    }
+}
+
+// That who is named stands at a line.
+fn at_line(
+    named: Named,
+    step: &Step<'_>,
+    rest: &[Step<'_>],
+    picture: &Picture<'_, '_, '_>,
+) -> Result<Base, Unread> {
+    if let [field, ..] = rest {
+        return Err(flawed(Flaw::Field, field.name.line()));
+    }
+    match number_in(step) {
+        Some(line) if can_stand_at(picture, named.sort, line) => Ok(named.at(Spot::Line(line))),
+        Some(line) if is_standing_line(picture, line) => {
+            Err(flawed(Flaw::OtherLine, place_in(step)))
+        }
+        Some(_) => Err(flawed(Flaw::Line, place_in(step))),
+        None => Err(flawed(Flaw::Number, place_in(step))),
+    }
+}
+
+// That who is named stands at a label.
+fn at_label(
+    alloc: Global,
+    named: Named,
+    rest: &[Step<'_>],
+    picture: &Picture<'_, '_, '_>,
+) -> Result<Base, Unread> {
+    let [label, behind @ ..] = rest else {
+        return Err(flawed(Flaw::Short, u32::MAX));
+    };
+    if let [field, ..] = behind {
+        return Err(flawed(Flaw::Field, field.name.line()));
+    }
+    if label.index.is_some() {
+        return Err(flawed(Flaw::Index, label.name.line()));
+    }
+    match node_of_label(alloc, picture, named.sort, label.name.text())? {
+        Some(node) => Ok(named.at(Spot::Node(node))),
+        None => Err(flawed(Flaw::Label, label.name.line())),
     }
 }
 
@@ -94,19 +151,23 @@ fn whose_of(sort: usize, step: &Step<'_>) -> Result<Whose, Unread> {
     }
 }
 
-// What a process, of the proctype with this number, has under the name of a field.
-fn of_process(
+// Who is named by a proctype, with or without the number of a process.
+fn named_by(sort: usize, step: &Step<'_>) -> Result<Named, Unread> {
+    let whose = match &step.index {
+        Some(_) => Some(whose_of(sort, step)?),
+        None => None,
+    };
+    Ok(Named { sort, whose })
+}
+
+// A variable of a process, of the proctype with this number.
+fn variable_of(
     sort: usize,
     r: &Reference<'_>,
+    step: &Step<'_>,
     picture: &Picture<'_, '_, '_>,
 ) -> Result<Base, Unread> {
     let whose = whose_of(sort, &r.first)?;
-    let [step, rest @ ..] = r.fields.as_slice() else {
-        return Err(flawed(Flaw::Process, r.first.name.line()));
-    };
-    if step.name.text() == LINE {
-        return fact(Some(whose), step, rest, picture);
-    }
     let Some(proctype) = picture.program().proctypes.as_slice().get(sort) else {
         return Err(flawed(Flaw::Process, r.first.name.line()));
     };
@@ -116,6 +177,27 @@ fn of_process(
             declared,
         })),
         None => Err(flawed(Flaw::Name, step.name.line())),
+    }
+}
+
+// What a process, of the proctype with this number, has under the name of a field, or where it stands.
+fn of_process(
+    alloc: Global,
+    sort: usize,
+    r: &Reference<'_>,
+    picture: &Picture<'_, '_, '_>,
+) -> Result<Base, Unread> {
+    let named = named_by(sort, &r.first)?;
+    let [step, rest @ ..] = r.fields.as_slice() else {
+        return Err(flawed(Flaw::Process, r.first.name.line()));
+    };
+    let name = step.name.text();
+    if name == LINE {
+        at_line(named, step, rest, picture)
+    } else if name == LABEL {
+        at_label(alloc, named, rest, picture)
+    } else {
+        variable_of(sort, r, step, picture)
     }
 }
 
@@ -133,10 +215,14 @@ fn is_alone(name: &[u8]) -> bool {
 }
 
 /// What the first names of a reference lead to.
-pub fn base_of(r: &Reference<'_>, picture: &Picture<'_, '_, '_>) -> Result<Base, Unread> {
+pub fn base_of(
+    alloc: Global,
+    r: &Reference<'_>,
+    picture: &Picture<'_, '_, '_>,
+) -> Result<Base, Unread> {
     let name = r.first.name.text();
     if name == LINE {
-        return fact(None, &r.first, r.fields.as_slice(), picture);
+        return line_fact(&r.first, r.fields.as_slice(), picture);
     }
     if is_alone(name) {
         return Err(flawed(Flaw::Alone, r.first.name.line()));
@@ -155,7 +241,7 @@ pub fn base_of(r: &Reference<'_>, picture: &Picture<'_, '_, '_>) -> Result<Base,
         return plain(Base::Number(number), r);
     }
     match sort_named(program.proctypes.as_slice(), name) {
-        Some(sort) => of_process(sort, r, picture),
+        Some(sort) => of_process(alloc, sort, r, picture),
         None => Err(flawed(Flaw::Name, r.first.name.line())),
     }
 }

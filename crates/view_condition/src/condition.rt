@@ -5,7 +5,7 @@ ghost use Rattle.promela_process.specs.Expressions.{val};
 ghost use Rattle.view_condition.specs.Seen.{all_of};
 
 use crate::overview::Overview;
-use crate::places::respelled;
+use crate::places::{dotted, respelled};
 use crate::resolve::resolved;
 use crate::subject::{Subject, Whose, is_there};
 use crate::unread::{Flaw, Unread, flawed};
@@ -37,10 +37,10 @@ pub struct Condition {
     subjects: Vec<Subject>,
 }
 
-// The tokens of a text, each with its place.
-fn tokens_of<'t>(alloc: Global, text: &'t [u8]) -> Result<Vec<Token<'t>>, Unread> {
-    match placed(alloc, text) {
-        Ok(tokens) => Ok(respelled(alloc, tokens.as_slice())?),
+// The tokens of a text with dots in place of signs, each with its place.
+fn tokens_of<'t>(alloc: Global, dotted: &'t [u8], text: &[u8]) -> Result<Vec<Token<'t>>, Unread> {
+    match placed(alloc, dotted) {
+        Ok(tokens) => Ok(respelled(alloc, tokens.as_slice(), text)?),
         Err(LexError::Memory) => Err(Unread::Memory),
         Err(LexError::Lexical(at)) => Err(flawed(Flaw::Lexical, at)),
         Err(_) => Err(flawed(Flaw::Long, 0)),
@@ -123,7 +123,8 @@ pub fn condition_in(
     if text.len() > MOST_BYTES {
         return Err(flawed(Flaw::Long, u32::MAX));
     }
-    let tokens = tokens_of(alloc, text)?;
+    let dotted = dotted(alloc, text)?;
+    let tokens = tokens_of(alloc, dotted.as_slice(), text)?;
     if let Some(at) = timeout_in(tokens.as_slice()) {
         return Err(flawed(Flaw::Alone, at));
     }

@@ -6,29 +6,79 @@ use std::alloc::{AllocError, Global};
 /// The name that stands for `line` before a number. No variable has it.
 pub const LINE: &[u8] = b"at line";
 
+/// The name that stands before a label. No variable has it.
+pub const LABEL: &[u8] = b"at label";
+
 const LINE_WORD: &[u8] = b"line";
 
 const AT_WORD: &[u8] = b"at";
 
-// Whether the token at a place is this word.
-fn is_word(tokens: &[Token<'_>], at: usize, word: &[u8]) -> bool {
-    at < tokens.len() && tokens[at].text() == word
+/// A text in which a dot stands for each `@`, which no word of the language has.
+pub fn dotted(alloc: Global, text: &[u8]) -> Result<Vec<u8>, AllocError> {
+    let mut own = Vec::new(alloc);
+    for byte in text {
+        own.push(if *byte == b'@' { b'.' } else { *byte })?;
+    }
+    Ok(own)
 }
 
-fn is_kind(tokens: &[Token<'_>], at: usize, kind: Kind) -> bool {
-    at < tokens.len() && tokens[at].kind() == kind
+// The tokens of a condition, and its text, as it was written.
+#[derive(Clone, Copy)]
+struct Read<'s, 't> {
+    tokens: &'s [Token<'t>],
+    text: &'s [u8],
 }
 
-// Whether `line 12` stands at a place.
-fn is_line(tokens: &[Token<'_>], at: usize) -> bool {
-    is_word(tokens, at, LINE_WORD) && is_kind(tokens, at.saturating_add(1), Kind::Number)
-}
+impl Read<'_, '_> {
+    // Whether the token at a place is this word.
+    fn is_word(self, at: usize, word: &[u8]) -> bool {
+        at < self.tokens.len() && self.tokens[at].text() == word
+    }
 
-// Whether `:init:` stands at a place.
-fn is_init(tokens: &[Token<'_>], at: usize) -> bool {
-    is_kind(tokens, at, Kind::Colon)
-        && is_kind(tokens, at.saturating_add(1), Kind::Init)
-        && is_kind(tokens, at.saturating_add(2), Kind::Colon)
+    fn is_kind(self, at: usize, kind: Kind) -> bool {
+        at < self.tokens.len() && self.tokens[at].kind() == kind
+    }
+
+    // Whether `line 12` stands at a place.
+    fn is_line(self, at: usize) -> bool {
+        self.is_word(at, LINE_WORD) && self.is_kind(at.saturating_add(1), Kind::Number)
+    }
+
+    // Whether `:init:` stands at a place.
+    fn is_init(self, at: usize) -> bool {
+        self.is_kind(at, Kind::Colon)
+            && self.is_kind(at.saturating_add(1), Kind::Init)
+            && self.is_kind(at.saturating_add(2), Kind::Colon)
+    }
+
+    // Whether the token at a place was written as `@`.
+    fn is_sign(self, at: usize) -> bool {
+        if at >= self.tokens.len() {
+            return false;
+        }
+        match self.text.get(self.tokens[at].line() as usize) {
+            Some(byte) => *byte == b'@',
+            None => false,
+        }
+    }
+
+    // Whether the name of a process, or its number, ends before a place.
+    fn is_behind_process(self, at: usize) -> bool {
+        if at == 0 {
+            return false;
+        }
+        let before = at - 1;
+        self.is_kind(before, Kind::Name)
+            || self.is_kind(before, Kind::CloseBracket)
+            || self.is_kind(before, Kind::Init)
+            || self.is_kind(before, Kind::Colon)
+    }
+
+    // Whether what stands at a place says that a label follows.
+    fn is_at(self, at: usize) -> bool {
+        self.is_kind(at.saturating_add(1), Kind::Name)
+            && (self.is_sign(at) || (self.is_word(at, AT_WORD) && self.is_behind_process(at)))
+    }
 }
 
 // What becomes of the token at a place.
@@ -36,6 +86,8 @@ fn is_init(tokens: &[Token<'_>], at: usize) -> bool {
 enum Change {
     // `at` before a line: a dot
     Dot,
+    // `at` before a label: a field, whose field is the label
+    Label,
     // `line` before a number: the name of a place
     Line,
     // the number of a line: an index
@@ -47,16 +99,18 @@ enum Change {
     Same,
 }
 
-fn change_at(tokens: &[Token<'_>], at: usize) -> Change {
-    if is_word(tokens, at, AT_WORD) && is_line(tokens, at.saturating_add(1)) {
+fn change_at(read: Read<'_, '_>, at: usize) -> Change {
+    if read.is_line(at.saturating_add(1)) && (read.is_word(at, AT_WORD) || read.is_sign(at)) {
         Change::Dot
-    } else if is_line(tokens, at) {
+    } else if read.is_line(at) {
         Change::Line
-    } else if at > 0 && is_line(tokens, at - 1) {
+    } else if at > 0 && read.is_line(at - 1) {
         Change::Index
-    } else if is_kind(tokens, at, Kind::Init) {
+    } else if read.is_at(at) {
+        Change::Label
+    } else if read.is_kind(at, Kind::Init) {
         Change::Name
-    } else if is_init(tokens, at) || (at > 1 && is_init(tokens, at - 2)) {
+    } else if read.is_init(at) || (at > 1 && read.is_init(at - 2)) {
         Change::Nothing
     } else {
         Change::Same
@@ -71,10 +125,19 @@ fn add_index<'t>(token: &Token<'t>, list: &mut Vec<Token<'t>>) -> Result<(), All
     Ok(())
 }
 
+// Adds a field, whose field stands behind it.
+fn add_label<'t>(token: &Token<'t>, list: &mut Vec<Token<'t>>) -> Result<(), AllocError> {
+    list.push(Token::new(Kind::Dot, token.text(), token.line()))?;
+    list.push(Token::new(Kind::Name, LABEL, token.line()))?;
+    list.push(Token::new(Kind::Dot, token.text(), token.line()))?;
+    Ok(())
+}
+
 // Adds what becomes of a token.
 fn add<'t>(token: &Token<'t>, change: Change, list: &mut Vec<Token<'t>>) -> Result<(), AllocError> {
     match change {
         Change::Dot => list.push(Token::new(Kind::Dot, token.text(), token.line()))?,
+        Change::Label => add_label(token, list)?,
         Change::Line => list.push(Token::new(Kind::Name, LINE, token.line()))?,
         Change::Index => add_index(token, list)?,
         Change::Name => list.push(Token::new(Kind::Name, token.text(), token.line()))?,
@@ -84,12 +147,17 @@ fn add<'t>(token: &Token<'t>, change: Change, list: &mut Vec<Token<'t>>) -> Resu
     Ok(())
 }
 
-/// The tokens of a condition, in which `at line 12` stands as the element 12 of a field, `line 12` as that of a variable, and `:init:` as a
-/// name.
-pub fn respelled<'t>(alloc: Global, tokens: &[Token<'t>]) -> Result<Vec<Token<'t>>, AllocError> {
+/// The tokens of a condition with this text, in which `at line 12` stands as the element 12 of a field, `line 12` as that of a variable,
+/// `at L` as a field of a field, and `:init:` as a name.
+pub fn respelled<'t>(
+    alloc: Global,
+    tokens: &[Token<'t>],
+    text: &[u8],
+) -> Result<Vec<Token<'t>>, AllocError> {
     let mut list = Vec::new(alloc);
+    let read = Read { tokens, text };
     for at in 0..tokens.len() {
-        add(&tokens[at], change_at(tokens, at), &mut list)?;
+        add(&tokens[at], change_at(read, at), &mut list)?;
     }
     Ok(list)
 }

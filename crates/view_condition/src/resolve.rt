@@ -4,6 +4,7 @@ ghost use Rattle.std.specs.Prelude.{◌≡◌, ◌∷◌, ◌++◌, [], IfOk, On
 
 use crate::base::{Base, Found, base_of};
 use crate::names::{Declaration, field_named};
+use crate::places::{LABEL, LINE};
 use crate::subject::Subject;
 use crate::unread::{Flaw, Unread, flawed};
 use check_uses::arithmetic::{negative, value};
@@ -111,6 +112,15 @@ struct Reached {
     next: Option<Declaration>,
 }
 
+// What is wrong where no field has a name, which may be of a place.
+fn no_field(name: &[u8]) -> Flaw {
+    if name == LINE || name == LABEL {
+        Flaw::Place
+    } else {
+        Flaw::Field
+    }
+}
+
 // What a name behind what is reached is declared as.
 fn declared_by(
     reached: Reached,
@@ -123,7 +133,7 @@ fn declared_by(
     let typedefs = picture.program().typedefs.as_slice();
     match field_named(typedefs, reached.form, name.text()) {
         Some(declared) => Ok(declared),
-        None => Err(flawed(Flaw::Field, name.line())),
+        None => Err(flawed(no_field(name.text()), name.line())),
     }
 }
 
@@ -209,7 +219,7 @@ fn read(
     picture: &Picture<'_, '_, '_>,
     subjects: &mut Vec<Subject>,
 ) -> Result<Expr, Unread> {
-    match base_of(r, picture)? {
+    match base_of(alloc, r, picture)? {
         Base::Number(number) => Ok(Expr::Number(number)),
         Base::ProcessCount => Ok(Expr::ProcessCount),
         Base::Fact(subject) => Ok(fact_read(alloc, subject, subjects)?),
@@ -225,7 +235,7 @@ fn placed(
     picture: &Picture<'_, '_, '_>,
     subjects: &mut Vec<Subject>,
 ) -> Result<Target, Unread> {
-    match base_of(r, picture)? {
+    match base_of(alloc, r, picture)? {
         Base::Variable(found) => target(alloc, found, r, picture, subjects),
         _ => Err(flawed(Flaw::Channel, r.first.name.line())),
     }
@@ -257,7 +267,7 @@ fn into(
     if r.first.name.text() == b"_".as_slice() {
         return Ok(Want::Anything);
     }
-    if let Base::Number(number) = base_of(r, picture)? {
+    if let Base::Number(number) = base_of(alloc, r, picture)? {
         return Ok(Want::Exactly(number));
     }
     Ok(Want::Into(placed(alloc, r, picture, subjects)?))

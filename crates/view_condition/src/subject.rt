@@ -1,10 +1,14 @@
 //! What the variables of a condition are in a state.
 
 ghost use Rattle.std.specs.Prelude.{◌≡◌, Some, slice_get};
-ghost use Rattle.view_condition.specs.Seen.{any_at, is_there, stands_at, size_by, number_by, number_by_frame};
+ghost use Rattle.run_state.specs.Standing.{stand_of};
+ghost use Rattle.view_condition.specs.Seen.{any_at, any_of, at_spot, is_of, is_there, stands_at, size_by, number_by, number_by_frame};
+ghost use Rattle.view_condition.specs.Standing.{is_on, same_first};
 
 use pml_eval::operators::number_of;
 use promela_process::place::Place;
+use run_state::live::Live;
+use run_state::seat::{Seat, seat_at};
 use view_cells::cells::{cell_count, number_at};
 use view_cells::picture::Picture;
 use view_cells::processes::line_of;
@@ -16,6 +20,15 @@ pub struct Whose {
     pub sort: usize,
 }
 
+/// Where a process may stand.
+#[derive(Clone, Copy, Debug, PartialEq, Eq)]
+pub enum Spot {
+    /// At a line.
+    Line(u32),
+    /// At a node of its graph.
+    Node(usize),
+}
+
 /// What a variable of a condition is in a state.
 #[derive(Clone, Copy, Debug, PartialEq, Eq)]
 pub enum Subject {
@@ -23,8 +36,10 @@ pub enum Subject {
     Global(usize),
     /// A variable of a process, while it is of this proctype.
     Local(Whose, usize),
-    /// 1 where a process, which is of this proctype, stands at this line, and else 0.
-    At(Whose, u32),
+    /// 1 where a process, which is of this proctype, stands there, and else 0.
+    At(Whose, Spot),
+    /// 1 where any process of this proctype stands there, and else 0.
+    Any(usize, Spot),
     /// 1 where any process stands at this line, and else 0.
     Line(u32),
 }
@@ -34,7 +49,7 @@ impl Subject {
     pub fn whose(self) -> Option<Whose> {
         match self {
             Subject::Local(whose, _) | Subject::At(whose, _) => Some(whose),
-            Subject::Global(_) | Subject::Line(_) => None,
+            Subject::Global(_) | Subject::Any(_, _) | Subject::Line(_) => None,
         }
     }
 }
@@ -49,21 +64,78 @@ pub fn subject_at(subjects: &[Subject], variable: usize) -> Option<Subject>
     }
 }
 
-/// Whether a process lives, and is of this proctype.
-pub fn is_there(picture: &Picture<'_, '_, '_>, whose: Whose) -> bool
-    ensures { result ≡ is_there picture.now whose }
+// Whether the process with this number is of a proctype.
+fn is_of(picture: &Picture<'_, '_, '_>, sort: usize, process: usize) -> bool
+    ensures { result ≡ is_of picture.now sort process }
 {
-    match picture.live().sorts().get(usize::from(whose.process)) {
-        Some(sort) => *sort == whose.sort,
+    match picture.live().sorts().get(process) {
+        Some(other) => *other == sort,
         None => false,
     }
 }
 
-// Whether a process is there, and stands at this line.
-fn stands_at(picture: &Picture<'_, '_, '_>, whose: Whose, line: u32) -> bool
-    ensures { result ≡ stands_at picture.now whose line }
+/// Whether a process lives, and is of this proctype.
+pub fn is_there(picture: &Picture<'_, '_, '_>, whose: Whose) -> bool
+    ensures { result ≡ is_there picture.now whose }
 {
-    is_there(picture, whose) && line_of(picture, usize::from(whose.process)) == line
+    is_of(picture, whose.sort, usize::from(whose.process))
+}
+
+// Whether a process stands at the node of another seat of its proctype.
+fn is_same_seat(live: &Live<'_, '_>, seat: Seat, other: Seat) -> bool
+    requires { seat.sort ≡ other.sort }
+    ensures { let pr = live.now.state.program in result ≡ same_first (stand_of pr other).control (stand_of pr seat).control }
+{
+    match (live.standing(seat), live.standing(other)) {
+        (Some(_), Some(_)) => seat.node == other.node,
+        (None, None) => true,
+        _ => false,
+    }
+}
+
+// Whether a process stands at a node of its graph.
+fn is_on(picture: &Picture<'_, '_, '_>, process: usize, node: usize) -> bool
+    ensures { result ≡ is_on picture.now process node }
+{
+    let live = picture.live();
+    match seat_at(live.seats(), process) {
+        Some(seat) => {
+            let other = Seat {
+                sort: seat.sort,
+                node,
+            };
+            is_same_seat(live, *seat, other)
+        }
+        None => false,
+    }
+}
+
+// Whether a process stands there.
+fn at_spot(picture: &Picture<'_, '_, '_>, process: usize, spot: Spot) -> bool
+    ensures { result ≡ at_spot picture.now process spot }
+{
+    match spot {
+        Spot::Line(line) => line_of(picture, process) == line,
+        Spot::Node(node) => is_on(picture, process, node),
+    }
+}
+
+// Whether a process is there, and stands at this spot.
+fn stands_at(picture: &Picture<'_, '_, '_>, whose: Whose, spot: Spot) -> bool
+    ensures { result ≡ stands_at picture.now whose spot }
+{
+    is_there(picture, whose) && at_spot(picture, usize::from(whose.process), spot)
+}
+
+// Whether one of so many processes is of a proctype, and stands at this spot.
+fn any_of(picture: &Picture<'_, '_, '_>, sort: usize, spot: Spot, count: usize) -> bool
+    ensures { result ≡ any_of picture.now sort spot count }
+{
+    let mut found = false;
+    for process in 0..count {
+        found = found || (is_of(picture, sort, process) && at_spot(picture, process, spot));
+    }
+    found
 }
 
 /// Whether one of so many processes stands at this line.
@@ -95,7 +167,7 @@ pub fn size_by(picture: &Picture<'_, '_, '_>, subject: Option<Subject>) -> usize
     match subject {
         Some(Subject::Global(variable)) => cell_count(picture, 0, variable),
         Some(Subject::Local(whose, variable)) => local_size(picture, whose, variable),
-        Some(Subject::At(_, _)) | Some(Subject::Line(_)) => 1,
+        Some(Subject::At(_, _)) | Some(Subject::Any(_, _)) | Some(Subject::Line(_)) => 1,
         None => 0,
     }
 }
@@ -121,7 +193,10 @@ pub fn number_by(picture: &Picture<'_, '_, '_>, subject: Option<Subject>, cell: 
         Some(Subject::Local(whose, variable)) => {
             number_in(picture, usize::from(whose.process) + 1, variable, cell)
         }
-        Some(Subject::At(whose, line)) => number_of(stands_at(picture, whose, line)),
+        Some(Subject::At(whose, spot)) => number_of(stands_at(picture, whose, spot)),
+        Some(Subject::Any(sort, spot)) => {
+            number_of(any_of(picture, sort, spot, picture.process_count()))
+        }
         Some(Subject::Line(line)) => number_of(any_at(picture, line, picture.process_count())),
         None => 0,
     }

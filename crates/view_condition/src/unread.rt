@@ -37,6 +37,12 @@ pub enum Flaw {
     Number,
     /// No process can stand at the line.
     Line,
+    /// None of that proctype can.
+    OtherLine,
+    /// The proctype has no such label.
+    Label,
+    /// What is no process stands at no line.
+    Place,
     /// It is of one process alone.
     Alone,
 }
@@ -71,6 +77,12 @@ impl Flaw {
             Flaw::Channel => ("", " is no channel"),
             Flaw::Number => ("", " is no number of 32 bits"),
             Flaw::Line => ("no process can stand at line ", ""),
+            Flaw::OtherLine => ("no process of that proctype can stand at line ", ""),
+            Flaw::Label => ("that proctype has no label ", ""),
+            Flaw::Place => (
+                "`",
+                "` stands behind a process alone: P[1] at L, or P at L of any P",
+            ),
             Flaw::Alone => ("", " is of one process, and a condition is of all"),
         }
     }

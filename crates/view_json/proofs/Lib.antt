@@ -7,3 +7,7 @@ pub mod Stepped
 pub mod Run
 pub mod Printable
 pub mod Fronts
+pub mod Choices
+pub mod Ended
+pub mod Asked
+pub mod Counting

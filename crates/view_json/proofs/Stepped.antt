@@ -1,8 +1,8 @@
 -- Lines of steps.
-use Rattle.std.proofs.Common.{◌≡◌, ◌∙◌, ap, sym, refl, subst, ℕ, Bool, true, false, if◌then◌else◌, List, [], ◌∷◌, ◌++◌, append_assoc, codes}
+use Rattle.std.proofs.Common.{◌≡◌, ◌∙◌, ap, sym, refl, subst, ℕ, Bool, true, false, if◌then◌else◌, List, [], ◌∷◌, ◌++◌, append_assoc, codes, Option, Some, None}
 use Rattle.std.specs.List.{flat_map}
 use Rattle.std.proofs.lemmas.Bool.{true≢false}
-use Rattle.json.specs.Token.{Token, end_object}
+use Rattle.json.specs.Token.{Token, end_object, begin_array, key}
 use Rattle.json.specs.Print.{print, print_from, escape_byte, ends, ends_value, ArePrintable}
 use Rattle.json.proofs.Printed.Tokens.{tokens-print}
 use Rattle.view_json.proofs.Printable.{none_printable, one_printable, both_printable}
@@ -14,7 +14,8 @@ use Rattle.view_json.specs.Printed.{Printed, Writes}
 use Rattle.view_json.specs.Objects.{member, cells, frame_cells}
 use Rattle.view_json.specs.Lines.{line, ReadsBack}
 use Rattle.view_json.specs.Shown.{Shown, Told, channels_from, processes_from, new_ones, changed_ones, has_changes, changed_cell, changed_cells, listed}
-use Rattle.view_json.specs.Steps.{printed, globals, changed, counts, told, proctypes, start}
+use Rattle.view_json.specs.declared.steps.Note.{Note}
+use Rattle.view_json.specs.Steps.{printed, globals, changed, claim, cycle, counts, rest, told, proctypes, start}
 use Rattle.view_json.proofs.Listed.{ends_from, on_value, object_ends, array_ends}
 
 pub ends_append : (c : Bool) (xs ys : List Token) → ends_from c (xs ++ ys) ≡ ends_from (ends_from c xs) ys
@@ -66,9 +67,23 @@ told_ends always s ms older cs before t =
     processes = listed always (codes "processes") (changed_ones s before.processes older cs 0 (processes_from s ms 0 t.words))
 
 -- the numbers of processes and channels
-pub counts_text : (s : State) → codes "," ++ (print (counts s) ++ codes "\n") ≡ print_from true (counts s) ++ codes "\n"
+pub counts_text : (s : State) (k : Option ℕ) (n : Note) → codes "," ++ print (counts s k n) ≡ print_from true (counts s k n)
 unfolding print_from escape_byte
-counts_text s = refl
+counts_text s k n = refl
+
+noted_end : (line : Option ℕ) (begins : Bool) → ends_from true (claim line ++ cycle begins) ≡ true
+noted_end None true = refl
+noted_end None false = refl
+noted_end (Some l) true = refl
+noted_end (Some l) false = refl
+
+counts_end : (s : State) (k : Option ℕ) (n : Note) → ends_from true (counts s k n) ≡ true
+counts_end s None n = noted_end n.claim n.begins_cycle
+counts_end s (Some k) n = noted_end n.claim n.begins_cycle
+
+pub choices_heading : codes ",\"choices\":[" ≡ print_from true (key (codes "choices") ∷ begin_array ∷ [])
+unfolding print_from escape_byte
+choices_heading = refl
 
 -- a line of what stands before the objects, the objects, and what stands behind them
 pub closed_line : (first objects last : List Token) → ends_value first ≡ true → ends_from true objects ≡ true
@@ -79,6 +94,27 @@ closed_line first objects last is ends =
     ∙ ap (λ (l : List ℕ). l ++ codes "\n") (sym (on_value true objects last ends)))
     ∙ sym (append_assoc (print first) (print_from true (objects ++ last)) (codes "\n"))
     ∙ ap (λ (l : List ℕ). l ++ codes "\n") (sym (on_value false first (objects ++ last) is))
+
+pub brace_line : codes "}\n" ≡ print_from true (end_object ∷ []) ++ codes "\n"
+unfolding print_from
+brace_line = refl
+
+-- what stands behind the objects of a step
+pub rest_text : (s : State) (k : Option ℕ) (n : Note) (choices : List Token)
+    → print_from true (counts s k n) ++ (print_from true (listed false (codes "choices") choices) ++ codes "}\n") ≡ print_from true (rest s k n choices) ++ codes "\n"
+rest_text s k n choices =
+    ap (λ (l : List ℕ). print_from true (counts s k n) ++ (print_from true (listed false (codes "choices") choices) ++ l)) brace_line
+    ∙ ap (λ (l : List ℕ). print_from true (counts s k n) ++ l)
+    (sym (append_assoc (print_from true (listed false (codes "choices") choices)) (print_from true (end_object ∷ [])) (codes "\n"))
+    ∙ ap (λ (l : List ℕ). l ++ codes "\n") (sym (on_value true (listed false (codes "choices") choices) (end_object ∷ []) (listed_ends false (codes "choices") choices))))
+    ∙ sym (append_assoc (print_from true (counts s k n)) (print_from true (listed false (codes "choices") choices ++ end_object ∷ [])) (codes "\n"))
+    ∙ ap (λ (l : List ℕ). l ++ codes "\n") (sym (on_value true (counts s k n) (listed false (codes "choices") choices ++ end_object ∷ []) (counts_end s k n)))
+
+pub rest_printable : (s : State) (k : Option ℕ) (n : Note) (choices : List Token) → ArePrintable (counts s k n) → ArePrintable (listed false (codes "choices") choices)
+    → ArePrintable (rest s k n choices)
+rest_printable s k n choices one two =
+    both_printable (counts s k n) (listed false (codes "choices") choices ++ end_object ∷ []) one
+    (both_printable (listed false (codes "choices") choices) (end_object ∷ []) two (one_printable end_object [] tt none_printable))
 
 -- a value ends behind what stands before the objects of a step
 pub front_ends : (s : State) (bytes : List ℕ) (cs : List Change) (front : List Token) → ends_value front ≡ true → ends_value (front ++ changed s bytes cs) ≡ true
@@ -108,10 +144,6 @@ printed_as o n k ts is added refused = record {
     before : (r : Bool) → k.refused ≡ r → n.refused ≡ false → k.refused ≡ false
     before true so calm = absurd (true≢false (sym (refused so) ∙ calm))
     before false so calm = so
-
-pub brace_line : codes "}\n" ≡ print_from true (end_object ∷ []) ++ codes "\n"
-unfolding print_from
-brace_line = refl
 
 -- a value ends behind the globals
 pub start_ends : (s : State) (model : List ℕ) (lossy : Bool) → ends_value (start s model lossy) ≡ true

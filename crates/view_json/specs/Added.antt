@@ -1,5 +1,5 @@
 -- What the calls that write the line of a state add to it.
-use Rattle.std.specs.Prelude.{◌≡◌, ℕ, ◌+◌, Bool, true, false, ◌&&◌, not, ltb, if◌then◌else◌, List, [], ◌∷◌, length, map, Option, slice_get, codes}
+use Rattle.std.specs.Prelude.{◌≡◌, ℕ, ◌+◌, Bool, true, false, ◌&&◌, not, ltb, if◌then◌else◌, List, [], ◌∷◌, ◌++◌, length, map, Option, Some, None, slice_get, codes}
 use Rattle.json.specs.Token.{Token, begin_object, begin_array, key}
 use Rattle.json.specs.Print.{print, print_from, ends_value, ArePrintable}
 use Rattle.promela_run.specs.declared.moves.Move.{Move}
@@ -10,9 +10,12 @@ use Rattle.view_waits.specs.Waits.{waits}
 use Rattle.view_json.specs.declared.changed.Behind.{Behind}
 use Rattle.view_json.specs.declared.list.Listing.{Listing}
 use Rattle.view_json.specs.declared.steps.Done.{Done}
-use Rattle.view_json.specs.Objects.{channel, standing}
-use Rattle.view_json.specs.Shown.{Shown, Told, AreTold, is_text, has_changes, locals, with_locals, if_new, listed, channels_from, processes_from, new_ones, changed_ones, if_changed, ListsMore, ListsProcesses}
-use Rattle.view_json.specs.Steps.{Deed, Telling, IsTold, shown_of, told, TellsStart, TellsStep}
+use Rattle.view_json.specs.Objects.{member, channel, standing}
+use Rattle.diagnostics.specs.declared.fault.Fault.{Fault}
+use Rattle.view_json.specs.Lines.{end_tokens, faulted, AddsLine}
+use Rattle.view_json.specs.Choices.{Effect, told_choices}
+use Rattle.view_json.specs.Shown.{Shown, Told, Lists, AreTold, is_text, has_changes, locals, with_locals, if_new, listed, channels_from, processes_from, new_ones, changed_ones, if_changed, ListsMore, ListsProcesses}
+use Rattle.view_json.specs.Steps.{Deed, Telling, IsTold, shown_of, told, rest, TellsStart, TellsStep}
 
 -- what is written, and what was shown last
 abbrev pub telling : Written → Shown → Telling
@@ -115,10 +118,36 @@ AddsObjects always s d a b = d.moves.now ≡ moves s → (t : Told) × IsTold s 
 abbrev pub AddsStart : Telling → Telling → State → List Move → List ℕ → Bool → Type 0
 AddsStart a b s ms model lossy = ms ≡ moves s → (t : Told) × TellsStart a b s ms model lossy t
 
--- what a step did
-abbrev pub deed : Done → Deed
-deed x = record { printed = x.printed.now; older = x.older; changes = x.changes.now }
+-- what a step did, where these are its choices
+abbrev pub deed : Done → List Token → Deed
+deed x choices = record { printed = x.printed.now; older = x.older; changes = x.changes.now; same_as = x.same_as; choices = choices; note = x.note }
 
--- by the moves of the state that a step leads to its line is written, behind what is told of it before it is taken
-abbrev pub AddsStep : Telling → Telling → State → List Move → List Token → Deed → Type 0
-AddsStep a b s ms front d = ms ≡ moves s → ends_value front ≡ true → (t : Told) × TellsStep a b s ms front d t
+-- where these are the choices that are listed, what stands behind the objects of a step is written, and can be printed
+abbrev pub AddsRest : State → Done → Written → Written → Type 0
+AddsRest s x old new = (choices : List Token) → Lists x.choices.now choices
+    → Adds old new (print_from true (rest s x.same_as x.note choices) ++ codes "\n")
+    × (new.refused ≡ false → ArePrintable (rest s x.same_as x.note choices))
+
+-- by the moves of the state that a step leads to its line is written, behind what is told of it before it is taken, with the choices that are listed
+abbrev pub AddsStep : Telling → Telling → State → List Move → List Token → Done → Type 0
+AddsStep a b s ms front x = ms ≡ moves s → ends_value front ≡ true → (choices : List Token) → Lists x.choices.now choices
+    → (t : Told) × TellsStep a b s ms front (deed x choices) t
+
+-- the line of a fault is written behind what is told of its step, with some words, and with the moves that it was one of
+abbrev pub AddsFault : State → List Move → List Token → Fault → Written → Written → Type 0
+AddsFault s ms front f old new = (reads about : List ℕ) × (xs : List Effect)
+    × (length xs ≡ length ms) × AddsLine (front ++ faulted f reads about (told_choices (ltb 1 (length ms)) s ms xs)) old new
+
+-- what led to an end, as a member, where it is told
+abbrev pub told_past : Option (List Token) → List Token
+told_past None = []
+told_past (Some ts) = member (codes "past") ts
+
+-- it is written behind other members, and can be printed
+abbrev pub AddsPast : Written → Written → Type 0
+AddsPast old new = (past : Option (List Token)) × Adds old new (print_from true (told_past past)) × (new.refused ≡ false → ArePrintable (told_past past))
+
+-- the end of a run is written, with its moves each as an object, and with what led there, where it is told
+abbrev pub AddsEnd : State → ℕ → List ℕ → List Move → Written → Written → Type 0
+AddsEnd s steps end ms old new = (xs : List Effect) × (past : Option (List Token))
+    × (length xs ≡ length ms) × AddsLine (end_tokens s steps end ms (told_choices (ltb 0 (length ms)) s ms xs ++ told_past past)) old new

@@ -2,6 +2,9 @@ pub mod Printed
 pub mod Objects
 pub mod Lines
 pub mod Shown
+pub mod Choices
 pub mod Steps
 pub mod Added
 pub mod Run
+pub mod Asked
+pub mod Counts

@@ -1,5 +1,5 @@
 -- The tokens of lines: what is told of a step before it is taken, of a fault, and of the end of a run.
-use Rattle.std.specs.Prelude.{false, ◌≡◌, ℕ, Bool, ◌||◌, ltb, if◌then◌else◌, List, [], ◌∷◌, ◌++◌, length, Option, Some, None, pos, codes}
+use Rattle.std.specs.Prelude.{false, ◌≡◌, ℕ, Bool, ◌||◌, ltb, if◌then◌else◌, List, [], ◌∷◌, ◌++◌, length, Option, Some, None, ℤ, pos, codes}
 use Rattle.std.specs.List.{flat_map, range_with_len}
 use Rattle.std.specs.Str.{bytes_eq}
 use Rattle.json.specs.Token.{Token, begin_object, end_object, string}
@@ -20,8 +20,8 @@ use Rattle.view_waits.specs.declared.transfer.Does.{Does}
 use Rattle.view_waits.specs.declared.transfer.Does.TheVariants as does
 use Rattle.view_waits.specs.declared.transfer.Transfer.{Transfer}
 use Rattle.view_json.specs.declared.lines.Ahead.{Ahead}
-use Rattle.view_json.specs.Objects.{count, text, member, object, array, message, named, offer}
-use Rattle.view_text.specs.Written.{Written}
+use Rattle.view_json.specs.Objects.{count, text, member, detail, object, array, message, named, offer}
+use Rattle.view_text.specs.Written.{Written, Adds}
 
 -- how a line begins that tells of this event
 abbrev pub begun : List ℕ → List Token
@@ -57,13 +57,29 @@ abbrev pub receiver : State → Move → List Token
 receiver s (Pair k j t) = addressee s j
 receiver s m = []
 
+-- What a move does, with which channel, and with which message.
+pub record Dealing : Type 0 where
+  pub does : Does
+  pub channel : ℕ
+  pub message : List ℤ
+
+abbrev pub passed_by : Program → Dealing → Option ChannelState → List Token
+passed_by pr d None = []
+passed_by pr d (Some c) = member (codes "chan") (count d.channel) ++ member (codes "message") (message pr c.types d.message)
+
+-- the same in tokens
+abbrev pub dealing : State → Dealing → List Token
+dealing s d = member (codes "does") (string (does_word d.does) ∷ []) ++ passed_by s.program d (channel_at s.channels (pos d.channel))
+
+abbrev pub dealt : Transfer → Dealing
+dealt e = record { does = e.does; channel = e.channel; message = e.message.items }
+
 abbrev pub passed : Program → Transfer → Option ChannelState → List Token
-passed pr e None = []
-passed pr e (Some c) = member (codes "chan") (count e.channel) ++ member (codes "message") (message pr c.types e.message.items)
+passed pr e c = passed_by pr (dealt e) c
 
 -- what it does, with which channel, and with which message
 abbrev pub transfer : State → Transfer → List Token
-transfer s e = member (codes "does") (string (does_word e.does) ∷ []) ++ passed s.program e (channel_at s.channels (pos e.channel))
+transfer s e = dealing s (dealt e)
 
 -- ---- the end
 
@@ -96,9 +112,9 @@ is_own end = bytes_eq end (codes "invalid") || bytes_eq end (codes "valid")
 abbrev pub ended : ℕ → List ℕ → List Token
 ended steps end = begun (codes "end") ++ (member (codes "steps") (count steps) ++ member (codes "end") (string end ∷ []))
 
--- The line of the end: how many steps, how it ends, where processes may not end, and which moves there are.
-abbrev pub end_tokens : State → ℕ → List ℕ → List Move → List Token
-end_tokens s steps end ms = ended steps end ++ (stuck_where s (is_own end) ++ (open_moves s ms ++ end_object ∷ []))
+-- The line of the end: how many steps, how it ends, where processes may not end, which moves there are, and more of these and of what led there.
+abbrev pub end_tokens : State → ℕ → List ℕ → List Move → List Token → List Token
+end_tokens s steps end ms more = ended steps end ++ (stuck_where s (is_own end) ++ (open_moves s ms ++ (more ++ end_object ∷ [])))
 
 -- ---- a step that is about to be taken
 
@@ -118,9 +134,11 @@ chosen s step choice ms = numbered step choice (length ms) ++ choices s ms
 abbrev pub front : State → List ℕ → Ahead → Move → List Token
 front s event a m = begun event ++ (chosen s a.step a.choice a.moves.now ++ (mover s m ++ (transfer s a.transfer.now ++ receiver s m)))
 
--- A step that comes to a fault.
-abbrev pub faulted : Fault → List Token
-faulted f = member (codes "fault") (count (fault_number f)) ++ (member (codes "words") (text (fault_words f)) ++ end_object ∷ [])
+-- A step that comes to a fault: which, words for what it read, words for what it was about, and more.
+abbrev pub faulted : Fault → List ℕ → List ℕ → List Token → List Token
+faulted f reads about more =
+    member (codes "fault") (count (fault_number f))
+    ++ (member (codes "words") (text (fault_words f)) ++ ((detail (codes "reads") reads ++ detail (codes "about") about) ++ (more ++ end_object ∷ [])))
 
 -- a line
 abbrev pub line : List Token → List ℕ
@@ -133,3 +151,7 @@ ReadsBack ts = tokens (print ts) ≡ ts
 -- what was written with these tokens reads back as them, unless memory was refused
 abbrev pub CanBeRead : Written → List Token → Type 0
 CanBeRead new ts = new.refused ≡ false → ReadsBack ts
+
+-- this line is written, and can be read back
+abbrev pub AddsLine : List Token → Written → Written → Type 0
+AddsLine ts old new = Adds old new (line ts) × CanBeRead new ts

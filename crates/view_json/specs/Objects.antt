@@ -33,6 +33,11 @@ text bs = string (string_of bs) ∷ []
 abbrev pub member : List ℕ → List Token → List Token
 member name ts = key name ∷ ts
 
+-- a text as a member, if it has any bytes
+abbrev pub detail : List ℕ → List ℕ → List Token
+detail name [] = []
+detail name (b ∷ bs) = member name (text (b ∷ bs))
+
 abbrev pub object : List Token → List Token
 object ts = begin_object ∷ (ts ++ end_object ∷ [])
 

@@ -43,6 +43,26 @@ LinesAreTheRun =
     → TellsStart a b s ms model lossy t → TellsAll b xs c → Adds c.text d.text last
     → Adds a.text d.text (line (start_tokens s ms model lossy a.shown t) ++ (step_lines (shown_of s ms t) xs ++ last))
 
+-- the line of the first state, and those of steps
+abbrev pub lines_to : State → List Move → List ℕ → Bool → Shown → Told → List Stage → List ℕ
+lines_to s ms model lossy before t xs = line (start_tokens s ms model lossy before t) ++ step_lines (shown_of s ms t) xs
+
+-- The lines of a longer walk begin with those of a shorter one that it goes on from, but for the last of that.
+abbrev pub LongerWalksBeginSo : Type 0
+LongerWalksBeginSo =
+    (a b c d e f : Telling) (s : State) (ms : List Move) (model : List ℕ) (lossy : Bool) (t : Told) (xs ys : List Stage) (last later : List ℕ)
+    → TellsStart a b s ms model lossy t → TellsAll b xs c → Adds c.text d.text last → TellsAll c ys e → Adds e.text f.text later
+    → Adds a.text d.text (lines_to s ms model lossy a.shown t xs ++ last)
+    × ((more : List ℕ) × Adds a.text f.text (lines_to s ms model lossy a.shown t xs ++ (more ++ later)))
+
+-- Lines that begin with the state behind a step, told as the step told it, go on as those of the whole run do behind that step.
+abbrev pub LinesBehindAStep : Type 0
+LinesBehindAStep =
+    (a b c d : Telling) (x : Stage) (model : List ℕ) (lossy : Bool) (ys : List Stage) (last : List ℕ)
+    → TellsStart a b x.state x.moves model lossy x.told → TellsAll b ys c → Adds c.text d.text last
+    → (later : List ℕ) × Adds a.text d.text (line (start_tokens x.state x.moves model lossy a.shown x.told) ++ (later ++ last))
+    × ((before : Shown) (xs : List Stage) → (sooner : List ℕ) × (step_lines before (xs ++ x ∷ ys) ≡ sooner ++ later))
+
 -- What is told of a step before it is taken ends a value.
 abbrev pub FrontsEnd : Type 0
 FrontsEnd = (s : State) (event : List ℕ) (a : Ahead) (m : Move) → ends_value (front s event a m) ≡ true

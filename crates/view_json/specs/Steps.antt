@@ -1,5 +1,5 @@
 -- The tokens of the lines of the first state and of steps.
-use Rattle.std.specs.Prelude.{◌≡◌, ℕ, Bool, true, false, if◌then◌else◌, List, [], ◌∷◌, ◌++◌, length, map, codes}
+use Rattle.std.specs.Prelude.{◌≡◌, ℕ, Bool, true, false, if◌then◌else◌, List, [], ◌∷◌, ◌++◌, length, map, Option, Some, None, codes}
 use Rattle.std.specs.List.{flat_map}
 use Rattle.json.specs.Token.{Token, end_object, string, boolean}
 use Rattle.json.specs.Print.{print}
@@ -12,6 +12,7 @@ use Rattle.promela_run.specs.State.{State}
 use Rattle.view_text.specs.Written.{Written, Adds}
 use Rattle.view_json.specs.Objects.{count, text, member, object, array, cells}
 use Rattle.view_json.specs.Lines.{begun, line, ReadsBack}
+use Rattle.view_json.specs.declared.steps.Note.{Note}
 use Rattle.view_json.specs.Shown.{Shown, Told, AreTold, channels_from, processes_from, new_ones, changed_ones, has_changes, changed_cells, listed}
 
 -- a name or none is told for each channel, and texts for all that each process waits for
@@ -40,20 +41,47 @@ globals s cs = if has_changes 0 cs then member (codes "globals") (changed_cells 
 abbrev pub changed : State → List ℕ → List Change → List Token
 changed s bytes cs = printed bytes ++ globals s cs
 
--- how many processes and channels there are
-abbrev pub counts : State → List Token
-counts s = member (codes "alive") (count (length s.stands)) ++ (member (codes "open") (count (length s.channels)) ++ end_object ∷ [])
+-- behind how many steps a state stood first, where it stood before
+abbrev pub same : Option ℕ → List Token
+same None = []
+same (Some k) = member (codes "same_as") (count k)
 
--- What a step did: what it printed, how many processes there were before it, and what it changed.
+-- to which line a claim moves, if it moves
+abbrev pub claim : Option ℕ → List Token
+claim None = []
+claim (Some n) = member (codes "claim") (count n)
+
+-- that a cycle begins, if one does
+abbrev pub cycle : Bool → List Token
+cycle begins = if begins then member (codes "cycle") (boolean true ∷ []) else []
+
+-- what a trail says beside a step
+abbrev pub noted : Note → List Token
+noted n = claim n.claim ++ cycle n.begins_cycle
+
+-- how many processes and channels there are, where the state stood before, and what a trail says beside the step
+abbrev pub counts : State → Option ℕ → Note → List Token
+counts s k n =
+    member (codes "alive") (count (length s.stands)) ++ (member (codes "open") (count (length s.channels)) ++ (same k ++ noted n))
+
+-- What a step did: what it printed, how many processes there were before it, what it changed, where the state that it led to stood before, the choices
+-- that it was one of, as objects, and what a trail says beside it.
 pub record Deed : Type 0 where
   pub printed : List ℕ
   pub older : ℕ
   pub changes : List Change
+  pub same_as : Option ℕ
+  pub choices : List Token
+  pub note : Note
+
+-- what stands behind the objects of a step
+abbrev pub rest : State → Option ℕ → Note → List Token → List Token
+rest s k n choices = counts s k n ++ (listed false (codes "choices") choices ++ end_object ∷ [])
 
 -- The line of a step: what is told of it before it is taken, and what differs behind it from what was shown.
 abbrev pub step_tokens : State → List Move → List Token → Deed → Shown → Told → List Token
 step_tokens s ms front d before t =
-    (front ++ changed s d.printed d.changes) ++ (told false s ms d.older d.changes before t ++ counts s)
+    (front ++ changed s d.printed d.changes) ++ (told false s ms d.older d.changes before t ++ rest s d.same_as d.note d.choices)
 
 -- ---- the first state
 

@@ -14,6 +14,7 @@ ghost use Rattle.view_json.specs.Shown.{is_text, AreTold, has_changes, changed_c
 ghost use Rattle.view_json.specs.Added.{told_variables, told_locals, told_unless, is_kept, telling, AddsProcess, PrintsLocals, PrintsChannel, ListsChannel, ListsObject, PrintsProcess, ListsProcess, ListsBehind, AddsChannels, AddsProcesses};
 
 use crate::channel::channel;
+use crate::counted::Counted;
 use crate::list::Listing;
 use crate::objects::{all_cells, cell};
 use crate::process::standing;
@@ -94,7 +95,7 @@ fn channel_bytes(
 fn process_bytes(
     picture: &Picture<'_, '_, '_>,
     alloc: Global,
-    moves: &[Move],
+    moves: &Counted<'_>,
     process: usize,
 ) -> Result<Vec<u8>, AllocError>
     ensures { IfOk result (λ v. PrintsProcess picture.now moves.now process v.items) }
@@ -261,14 +262,16 @@ impl Shown {
         &self,
         picture: &Picture<'_, '_, '_>,
         process: usize,
+        moves: &Counted<'_>,
         behind: Behind<'_>,
         list: &mut Listing,
     ) -> Result<Vec<u8>, AllocError>
         requires { process < MOST_PROCESSES }
-        ensures { IfOk result (λ v. ListsProcess self.now.processes picture.now behind.entry process v.items list.old list.new) }
+        ensures { moves.now ≡ behind.entry.moves.now →
+            IfOk result (λ v. ListsProcess self.now.processes picture.now behind.entry process v.items list.old list.new) }
     {
         let alloc = *self.processes.allocator();
-        let object = process_bytes(picture, alloc, behind.moves, process)?;
+        let object = process_bytes(picture, alloc, moves, process)?;
         let is_same = self.is_as_shown(process, behind, object.as_slice());
         list_process(picture, process, object.as_slice(), is_same, behind, list);
         Ok(object)
@@ -284,9 +287,11 @@ impl Shown {
         ensures { let before = self.now.processes in
             IfOk result (λ v. ListsBehind before picture.now behind.entry (map (λ x. x.items) v.items) list.old list.new) }
     {
-        let mut objects = Vec::new(*self.processes.allocator());
+        let alloc = *self.processes.allocator();
+        let moves = Counted::new(alloc, picture.process_count(), behind.moves)?;
+        let mut objects = Vec::new(alloc);
         for process in 0..picture.process_count() {
-            let object = self.process(picture, process, behind, list)?;
+            let object = self.process(picture, process, &moves, behind, list)?;
             objects.push(object)?;
         }
         Ok(objects)

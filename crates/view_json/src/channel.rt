@@ -151,7 +151,7 @@ fn contents_at(picture: &Picture<'_, '_, '_>, json: &mut Json, n: usize)
 }
 
 // Writes the number of a channel and its name.
-fn channel_heading(picture: &Picture<'_, '_, '_>, json: &mut Json, n: usize)
+pub(crate) fn channel_heading(picture: &Picture<'_, '_, '_>, json: &mut Json, n: usize)
     ensures { (name : Option (List ℕ)) × Writes json.old json.new (channel_heading n name) }
 {
     number(json, "chan", n);

@@ -3,10 +3,13 @@
 
 mod changed;
 pub mod channel;
+pub mod choice;
+pub mod counted;
 pub mod laws;
 pub mod lines;
 mod list;
 pub mod objects;
+mod past;
 pub mod process;
 pub mod start;
 pub mod steps;

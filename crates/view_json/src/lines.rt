@@ -1,21 +1,28 @@
 //! The lines.
 
-ghost use Rattle.std.specs.Prelude.{◌≡◌, ◌++◌, true, false, Some, length, pos, codes};
+ghost use Rattle.std.specs.Prelude.{◌≡◌, ◌++◌, ℕ, List, true, false, Some, ltb, length, pos, codes};
 ghost use Rattle.std.specs.List.{flat_map, range_with_len};
 ghost use Rattle.promela_run.specs.declared.moves.Move.TheVariants.{Death};
 ghost use Rattle.promela_run.specs.State.{channel_at};
 ghost use Rattle.promela_run.specs.World.{move_text};
 ghost use Rattle.view_text.specs.Written.{Adds};
 ghost use Rattle.view_json.specs.Printed.{Writes};
-ghost use Rattle.view_json.specs.Objects.{text};
-ghost use Rattle.view_json.specs.Lines.{begun, texts, does_word, mover, addressee, receiver, passed, transfer, stuck_by, stuck, all_stuck, open_moves, stuck_where, is_own, ended, end_tokens, choices, chosen, front, faulted, line, ReadsBack, CanBeRead};
+ghost use Rattle.view_json.specs.Objects.{text, detail};
+ghost use Rattle.view_json.specs.Lines.{begun, texts, does_word, mover, addressee, receiver, passed, transfer, stuck_by, stuck, all_stuck, open_moves, stuck_where, is_own, ended, choices, chosen, front, line, ReadsBack};
+ghost use Rattle.view_json.specs.Choices.{TellsChoices};
+ghost use Rattle.view_json.specs.Added.{AddsFault, AddsEnd};
 
 pub use crate::changed::Shown;
 use crate::channel::message;
-use crate::objects::{number, text, whole};
+use crate::choice::add_choices;
+pub use crate::choice::choices_of;
+pub use crate::list::Listing;
+use crate::objects::{detail, number, text, whole};
+pub use crate::past::Past;
+use crate::past::add_past;
 use crate::process::{named, picked};
 pub use crate::start::add_start;
-pub use crate::steps::{Done, add_step};
+pub use crate::steps::{Done, Note, add_step};
 use crate::tokens::Json;
 use diagnostics::Fault;
 use promela_run::moves::{Move, Pick};
@@ -26,6 +33,8 @@ use view_cells::channels::channel_at;
 use view_cells::picture::Picture;
 use view_cells::processes::line_of;
 use view_text::writer::Writer;
+use view_waits::fault::{add_detail, detail_of};
+use view_waits::statement::add_statement_reads;
 use view_waits::transfer::{Does, Transfer};
 
 /// A step that is about to be taken: its number, which of the present moves it is, and what it does.
@@ -93,7 +102,7 @@ fn does(does: Does) -> &'static str
 }
 
 // Writes a process that ends, and the line of its closing brace.
-fn ending(picture: &Picture<'_, '_, '_>, json: &mut Json, process: usize)
+pub(crate) fn ending(picture: &Picture<'_, '_, '_>, json: &mut Json, process: usize)
     ensures { Writes json.old json.new (mover picture.now (Death process)) }
 {
     named(picture, json, process);
@@ -124,7 +133,7 @@ fn passed(picture: &Picture<'_, '_, '_>, json: &mut Json, transfer: &Transfer)
 }
 
 // Writes what it does with a message.
-fn transfer(picture: &Picture<'_, '_, '_>, json: &mut Json, done: &Transfer)
+pub(crate) fn transfer(picture: &Picture<'_, '_, '_>, json: &mut Json, done: &Transfer)
     ensures { Writes json.old json.new (transfer picture.now done.now) }
 {
     json.key("does");
@@ -196,14 +205,59 @@ fn end_line(json: Json, out: &mut Writer)
     out.add(b"\n");
 }
 
-/// Writes the line of a step that came to a fault.
-pub fn add_fault(front: Json, fault: Fault, out: &mut Writer)
-    ensures line { Adds out.old out.new (line (front.tokens ++ faulted fault)) }
-    ensures reads_back { CanBeRead out.new (front.tokens ++ faulted fault) }
+// A line without its heading and its end.
+fn bare<'l>(line: &'l [u8], heading: &[u8]) -> &'l [u8] {
+    let line = line.strip_prefix(heading).unwrap_or(line);
+    line.strip_suffix(b"\n").unwrap_or(line)
+}
+
+// Writes what the statement of a move read, and what its fault was about.
+fn details(picture: &Picture<'_, '_, '_>, json: &mut Json, m: &Move, fault: Fault)
+    ensures { (reads about : List ℕ) × Writes json.old json.new (detail (codes "reads") reads ++ detail (codes "about") about) }
+{
+    let mut reads = Writer::new(json.allocator());
+    add_statement_reads(picture, m, &mut reads);
+    let mut about = Writer::new(json.allocator());
+    add_detail(detail_of(picture, m, fault), &mut about);
+    detail(json, "reads", bare(reads.bytes(), b"  reads: "), &reads);
+    detail(json, "about", bare(about.bytes(), b"  "), &about);
+}
+
+// Writes moves, each as an object.
+fn each_choice(picture: &Picture<'_, '_, '_>, json: &mut Json, moves: &[Move])
+    ensures { TellsChoices true picture.now moves.now json.old json.new }
+{
+    json.key("choices");
+    json.begin_array();
+    add_choices(picture, json, moves);
+    json.end_array();
+}
+
+// Writes moves, each as an object, if there are more than so many.
+fn told_choices(picture: &Picture<'_, '_, '_>, json: &mut Json, most: usize, moves: &[Move])
+    ensures { TellsChoices (ltb most (length moves.now)) picture.now moves.now json.old json.new }
+{
+    if moves.len() > most {
+        each_choice(picture, json, moves);
+    }
+}
+
+/// Writes the line of a step by this move, one of these, that came to a fault.
+pub fn add_fault(
+    picture: &Picture<'_, '_, '_>,
+    front: Json,
+    m: &Move,
+    fault: Fault,
+    moves: &[Move],
+    out: &mut Writer,
+)
+    ensures { AddsFault picture.now moves.now front.tokens fault out.old out.new }
 {
     let mut json = front;
     number(&mut json, "fault", fault.number() as usize);
     text(&mut json, "words", fault.words());
+    details(picture, &mut json, m, fault);
+    told_choices(picture, &mut json, 1, moves);
     json.end_object();
     end_line(json, out);
 }
@@ -278,20 +332,22 @@ fn is_own(end: &str) -> bool
     end == "invalid" || end == "valid"
 }
 
-/// Writes the last line.
+/// Writes the last line. At an end of a run that is not valid it tells what led there, where that is known.
 pub fn add_end(
     picture: &Picture<'_, '_, '_>,
     steps: usize,
     end: &str,
     moves: &[Move],
+    past: Option<Past<'_>>,
     out: &mut Writer,
 )
-    ensures line { Adds out.old out.new (line (end_tokens picture.now steps end.now moves.now)) }
-    ensures reads_back { CanBeRead out.new (end_tokens picture.now steps end.now moves.now) }
+    ensures { AddsEnd picture.now steps end.now moves.now out.old out.new }
 {
     let mut json = ended(out.allocator(), steps, end);
     stuck_where(picture, &mut json, is_own(end));
     open_moves(picture, &mut json, moves);
-    json.end_object();
-    end_line(json, out);
+    told_choices(picture, &mut json, 0, moves);
+    json.finish(out);
+    add_past(picture, past, out);
+    out.add(b"}\n");
 }

@@ -4,7 +4,7 @@ ghost use Rattle.std.specs.Prelude.{◌≡◌, [], ◌∷◌, true, codes};
 ghost use Rattle.json.specs.Token.{key};
 ghost use Rattle.view_cells.specs.Cells.{path_of};
 ghost use Rattle.view_json.specs.Printed.{Writes, string_of};
-ghost use Rattle.view_json.specs.Objects.{count, text, member, object, value, held, cell, variable_cells, frame_cells, cells};
+ghost use Rattle.view_json.specs.Objects.{count, text, member, detail, object, value, held, cell, variable_cells, frame_cells, cells};
 
 use crate::tokens::Json;
 use pml_program::form::Form;
@@ -49,6 +49,18 @@ pub fn written(json: &mut Json, name: &str, from: &Writer)
 {
     json.key(name);
     whole(json, from);
+}
+
+/// Writes a member whose text is of these bytes of what a call wrote, if there are any.
+pub fn detail(json: &mut Json, name: &str, bytes: &[u8], from: &Writer)
+    ensures { Writes json.old json.new (detail name.now bytes.now) }
+{
+    if !bytes.is_empty() {
+        text(json, name, bytes);
+    }
+    if from.is_refused() {
+        json.refuse();
+    }
 }
 
 // Writes the number of a channel, as an object.

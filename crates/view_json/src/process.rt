@@ -8,14 +8,15 @@ ghost use Rattle.view_waits.specs.Waits.{waits as all_waits};
 ghost use Rattle.view_json.specs.Printed.{Writes};
 ghost use Rattle.view_json.specs.Objects.{text, member, named, offer, waits_at, because, wait, heading, AddsWaits, AddsStanding};
 
+use crate::counted::Counted;
 use crate::objects::{number, written};
 use crate::tokens::Json;
-use promela_run::moves::{Move, Pick};
+use promela_run::moves::Pick;
 use view_cells::picture::Picture;
 use view_cells::processes::{add_name, line_of};
 use view_text::writer::Writer;
 use view_waits::offers::{add_offer, offer_line};
-use view_waits::waits::{Wait, add_waits, moves_of};
+use view_waits::waits::Wait;
 use view_waits::words::add_words;
 
 // Writes the name of a process's proctype.
@@ -104,27 +105,27 @@ fn waits(picture: &Picture<'_, '_, '_>, json: &mut Json, process: usize, waits: 
 }
 
 // Writes what a process waits for.
-fn all_of(picture: &Picture<'_, '_, '_>, json: &mut Json, moves: &[Move], process: usize)
+fn all_of(picture: &Picture<'_, '_, '_>, json: &mut Json, moves: &Counted<'_>, process: usize)
     ensures { moves.now ≡ all_moves picture.now → AddsWaits picture.now process (all_waits picture.now process) json.old json.new }
 {
     let mut found = Vec::new(json.allocator());
-    match add_waits(picture, moves, process, &mut found) {
+    match moves.add_waits(picture, process, &mut found) {
         Ok(()) => waits(picture, json, process, found.as_slice()),
         Err(_) => json.refuse(),
     }
 }
 
 // Writes where a process stands, and in how many moves it takes part.
-fn place_of(picture: &Picture<'_, '_, '_>, json: &mut Json, moves: &[Move], process: usize)
+fn place_of(picture: &Picture<'_, '_, '_>, json: &mut Json, moves: &Counted<'_>, process: usize)
     ensures { Writes json.old json.new (heading picture.now moves.now process) }
 {
     named(picture, json, process);
     number(json, "line", line_of(picture, process) as usize);
-    number(json, "moves", moves_of(process, moves));
+    number(json, "moves", moves.of(process));
 }
 
 /// Writes the members of a process but for its variables.
-pub fn standing(picture: &Picture<'_, '_, '_>, json: &mut Json, moves: &[Move], process: usize)
+pub fn standing(picture: &Picture<'_, '_, '_>, json: &mut Json, moves: &Counted<'_>, process: usize)
     ensures { moves.now ≡ all_moves picture.now → AddsStanding picture.now moves.now process json.old json.new }
 {
     json.begin_object();

@@ -6,10 +6,11 @@ ghost use Rattle.promela_run.specs.Moves.{moves as all_moves};
 ghost use Rattle.view_text.specs.Written.{Adds};
 ghost use Rattle.view_json.specs.Printed.{Writes};
 ghost use Rattle.view_json.specs.Shown.{Told};
-ghost use Rattle.view_json.specs.Steps.{printed, globals, changed, shown_of, IsTold, told, counts, TellsStep};
-ghost use Rattle.view_json.specs.Added.{telling, deed, AddsObjects, AddsStep};
+ghost use Rattle.view_json.specs.Steps.{printed, globals, changed, shown_of, IsTold, told, same, claim, cycle, noted, counts, TellsStep};
+ghost use Rattle.view_json.specs.Added.{telling, AddsRest, AddsObjects, AddsStep};
 
 use crate::changed::{Behind, Shown, changed_cells, has_changes};
+use crate::list::Listing;
 use crate::objects::{number, text};
 use crate::tokens::Json;
 use promela_run::moves::Move;
@@ -18,12 +19,23 @@ use std::alloc::AllocError;
 use view_cells::picture::Picture;
 use view_text::writer::Writer;
 
-/// What a step printed, how many processes there were before it, and what it changed.
+/// What a trail says beside a step: to which line a claim moves with it, and whether a cycle begins behind it.
+#[derive(Clone, Copy)]
+pub struct Note {
+    pub claim: Option<usize>,
+    pub begins_cycle: bool,
+}
+
+/// What a step printed, how many processes there were before it, what it changed, the choices that it was one of, behind how many steps the state that
+/// it led to stood first, where it stood before, and what a trail says beside it.
 #[derive(Clone, Copy)]
 pub struct Done<'s> {
     pub printed: &'s [u8],
     pub older: usize,
     pub changes: &'s [Change],
+    pub choices: &'s Listing,
+    pub same_as: Option<usize>,
+    pub note: Note,
 }
 
 // Writes what a step printed.
@@ -68,18 +80,63 @@ pub fn add_objects(
     Ok(())
 }
 
-// Writes how many processes and channels there are, and that the line ends.
-fn add_counts(picture: &Picture<'_, '_, '_>, out: &mut Writer)
-    ensures written { Adds out.old out.new (print_from true (counts picture.now) ++ codes "\n") }
-    ensures printable { out.new.refused ≡ false → ArePrintable (counts picture.now) }
+// Writes behind how many steps a state stood first, where it stood before.
+fn same(json: &mut Json, step: Option<usize>)
+    ensures { Writes json.old json.new (same step) }
+{
+    if let Some(step) = step {
+        number(json, "same_as", step);
+    }
+}
+
+// Writes to which line a claim moves with a step, if it moves.
+fn claim(json: &mut Json, line: Option<usize>)
+    ensures { Writes json.old json.new (claim line) }
+{
+    if let Some(line) = line {
+        number(json, "claim", line);
+    }
+}
+
+// Writes that a cycle begins behind a step, if one does.
+fn cycle(json: &mut Json, begins: bool)
+    ensures { Writes json.old json.new (cycle begins) }
+{
+    if begins {
+        json.key("cycle");
+        json.boolean(true);
+    }
+}
+
+// Writes what a trail says beside a step.
+fn noted(json: &mut Json, note: Note)
+    ensures { Writes json.old json.new (noted note) }
+{
+    claim(json, note.claim);
+    cycle(json, note.begins_cycle);
+}
+
+// Writes how many processes and channels there are, where the state stood before, and what a trail says beside the step.
+fn add_counts(picture: &Picture<'_, '_, '_>, step: Option<usize>, note: Note, out: &mut Writer)
+    ensures written { Adds out.old out.new (print_from true (counts picture.now step note)) }
+    ensures printable { out.new.refused ≡ false → ArePrintable (counts picture.now step note) }
 {
     let mut json = Json::new(out.allocator());
     number(&mut json, "alive", picture.process_count());
     number(&mut json, "open", picture.channel_count());
-    json.end_object();
+    same(&mut json, step);
+    noted(&mut json, note);
     out.add(b",");
     json.finish(out);
-    out.add(b"\n");
+}
+
+// Writes what stands behind the objects of a step, and that its line ends.
+fn add_rest(picture: &Picture<'_, '_, '_>, done: Done<'_>, out: &mut Writer)
+    ensures { AddsRest picture.now done.entry out.old out.new }
+{
+    add_counts(picture, done.same_as, done.note, out);
+    done.choices.end(b",\"choices\":[", false, out);
+    out.add(b"}\n");
 }
 
 /// Writes the line of a step that was taken, from what is told of it before.
@@ -92,7 +149,7 @@ pub fn add_step(
     out: &mut Writer,
 ) -> Result<(), AllocError>
     ensures { OnOk result (AddsStep (telling out.old shown.old) (telling out.new shown.new)
-        picture.now moves.now front.tokens (deed done.entry)) }
+        picture.now moves.now front.tokens done.entry) }
 {
     let mut json = front;
     changed(picture, &mut json, done.printed, done.changes);
@@ -103,6 +160,6 @@ pub fn add_step(
         changes: done.changes,
     };
     add_objects(picture, behind, false, shown, out)?;
-    add_counts(picture, out);
+    add_rest(picture, done, out);
     Ok(())
 }

@@ -47,6 +47,8 @@ select { font: inherit; font-size: 13px; color: inherit; background: var(--faint
 #count { font-variant-numeric: tabular-nums; white-space: nowrap; }
 #said { margin-top: 7px; min-height: 21px; overflow-wrap: anywhere; }
 #said .who { font-weight: 600; }
+#said button { padding: 0 7px; font-size: 12px; }
+.past { margin-top: 6px; font-size: 12.5px; overflow-wrap: anywhere; }
 main { display: grid; gap: 12px; padding: 12px 16px; grid-template-columns: minmax(250px, 29fr) minmax(320px, 42fr) minmax(280px, 29fr); align-items: start; }
 .card { background: var(--card); border: 1px solid var(--line); border-radius: 10px; overflow: hidden; }
 .card > h2 { padding: 9px 12px 7px; border-bottom: 1px solid var(--faint); }

@@ -47,15 +47,16 @@ pub fn awaited(
     Some(used.process)
 }
 
-fn next_of(awaits: &[Option<usize>], process: usize) -> Option<usize> {
+/// Whom a process waits for, by these.
+pub fn next_of(awaits: &[Option<usize>], process: usize) -> Option<usize> {
     match awaits.get(process) {
         Some(next) => *next,
         None => None,
     }
 }
 
-// Whether a process is led to itself.
-fn is_in_round(awaits: &[Option<usize>], first: usize) -> bool {
+/// Whether a process is led to itself.
+pub fn is_in_round(awaits: &[Option<usize>], first: usize) -> bool {
     let mut process = first;
     for _ in 0..awaits.len() {
         let Some(next) = next_of(awaits, process) else {

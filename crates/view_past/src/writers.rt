@@ -11,13 +11,13 @@ use run_state::live::Live;
 use std::alloc::{AllocError, Global};
 use view_cells::cells::{add_path, add_value, form_at};
 use view_cells::picture::Picture;
-use view_cells::processes::add_process;
+use view_cells::processes::{add_name, add_process};
 use view_text::writer::Writer;
 use view_waits::because::Because;
 use view_waits::reads::{Read, Reads, add_reads};
 use view_waits::waits::Wait;
 
-/// A step that wrote a cell of the globals, the process that took it, and the number that it left there.
+/// A step that wrote a cell, the process that took it, and the number that it left there.
 #[derive(Clone, Copy, Debug, PartialEq, Eq)]
 pub struct Writing {
     pub place: Place,
@@ -65,8 +65,24 @@ impl Writings {
         Ok(())
     }
 
+    // The cells of processes that have ended are no more.
+    fn let_go(&mut self, processes: usize) {
+        let mut at = 0usize;
+        for _ in 0..self.items.len() {
+            if at >= self.items.len() {
+                break;
+            }
+            if self.items[at].place.frame > processes {
+                let _ = self.items.remove(at);
+            } else {
+                at += 1;
+            }
+        }
+    }
+
     /// So many processes live behind a step.
     pub fn settle(&mut self, processes: usize) {
+        self.let_go(processes);
         let items = self.items.as_mut_slice();
         for at in 0..items.len() {
             let writing = items[at];
@@ -94,8 +110,8 @@ fn add_of_pick(live: &Live<'_, '_>, pick: Pick, timeout: bool, reads: &mut Reads
     }
 }
 
-// What the condition reads that a process waits at.
-fn reads_of(
+/// What the condition reads that a process waits at.
+pub fn reads_of(
     alloc: Global,
     picture: &Picture<'_, '_, '_>,
     wait: &Wait,
@@ -108,10 +124,18 @@ fn reads_of(
     Ok(reads)
 }
 
-// The cell of the globals that is read.
-fn global_of(read: Read) -> Option<Place> {
+/// The cell of the globals that is read.
+pub fn global_of(read: Read) -> Option<Place> {
     match read {
         Read::Cell(place) if place.frame == 0 => Some(place),
+        _ => None,
+    }
+}
+
+// The cell that is read, of the globals or of a process.
+fn cell_of(read: Read) -> Option<Place> {
+    match read {
+        Read::Cell(place) => Some(place),
         _ => None,
     }
 }
@@ -148,8 +172,21 @@ fn writer_of(read: Read, process: usize, writings: &Writings) -> Option<usize> {
     }
 }
 
-// Writes who wrote a cell last: `sem: proc 1 (B) set 0 at step 4`.
-fn add_writing(
+/// Writes the name of a cell, as commands take it: `x`, or `P[2].x` of process 2.
+pub fn add_cell_name(picture: &Picture<'_, '_, '_>, place: Place, out: &mut Writer)
+    ensures { Stays out.old out.new }
+{
+    if place.frame > 0 {
+        add_name(picture, place.frame - 1, out);
+        out.add(b"[");
+        out.number(place.frame - 1);
+        out.add(b"].");
+    }
+    add_path(picture, place, out);
+}
+
+/// Writes who wrote a cell last: `sem: proc 1 (B) set 0 at step 4`.
+pub fn add_writing(
     picture: &Picture<'_, '_, '_>,
     place: Place,
     writing: Option<Writing>,
@@ -157,7 +194,7 @@ fn add_writing(
 )
     ensures { Stays out.old out.new }
 {
-    add_path(picture, place, out);
+    add_cell_name(picture, place, out);
     let Some(writing) = writing else {
         out.add(b": no step set it\n");
         return;
@@ -196,7 +233,7 @@ fn add_known(
 ) -> Result<(), AllocError>
     ensures { Stays out.old out.new }
 {
-    let Some(place) = global_of(read) else {
+    let Some(place) = cell_of(read) else {
         return Ok(());
     };
     if has(known.as_slice(), place) {
@@ -224,7 +261,7 @@ fn add_read(
     Ok(())
 }
 
-/// Writes a line for each cell of the globals that the conditions of these waits read, unless it is known: who wrote it last on this walk.
+/// Writes a line for each cell that the conditions of these waits read, unless it is known: who wrote it last on this walk.
 pub fn add_writers(
     picture: &Picture<'_, '_, '_>,
     waits: &[Wait],

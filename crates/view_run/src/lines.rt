@@ -1,14 +1,23 @@
 //! A run as lines of JSON, and as items of a list.
 
+ghost use Rattle.std.specs.Prelude.{◌≡◌, [], false};
+ghost use Rattle.view_walk.specs.Walks.{SameModel};
+
 use crate::next::{Next, follow, move_at};
 use devices::Source;
 use diagnostics::Fault;
 use promela_run::moves::Move;
 use session::Broken;
-use std::alloc::AllocError;
-use view_json::lines::{Ahead, Done, Shown, add_end, add_fault, add_step, front};
+use std::alloc::{AllocError, Global};
+use view_json::lines::{
+    Ahead, Done, Listing, Note, Past, Shown, add_end, add_fault, add_step, choices_of, front,
+};
 use view_json::tokens::Json;
 use view_page::page::{add_end_item, add_fault_item, add_item};
+use view_past::states::{MOST_STATES, States};
+use view_past::whole::add_whole;
+use view_session::notes::Notes;
+use view_session::past::history_of;
 use view_session::replay::Replay;
 use view_session::seen::picture_of;
 use view_session::steps::choose;
@@ -24,6 +33,57 @@ pub struct Sheet {
     pub items: Writer,
     /// What was shown last.
     pub shown: Shown,
+    /// What a trail says beside steps.
+    pub notes: Notes,
+    /// Those behind the steps that were written, or some of the first of them.
+    states: States,
+}
+
+impl Sheet {
+    /// Nothing is written yet.
+    pub fn new(alloc: Global) -> Sheet
+        ensures { result.lines ≡ record { text = []; refused = false } }
+    {
+        Sheet {
+            lines: Writer::new(alloc),
+            items: Writer::new(alloc),
+            shown: Shown::new(alloc),
+            notes: Notes::new(alloc),
+            states: States::new(alloc),
+        }
+    }
+
+    /// What is written from here on begins with a state of which nothing was shown.
+    pub fn show_anew(&mut self)
+        ensures { self.new.lines ≡ self.old.lines }
+    {
+        self.shown = Shown::new(self.lines.allocator());
+    }
+}
+
+// Keeps the state where a walk stands, if those before it are kept. Behind how many steps it stood first, where it stood before.
+fn keep_state(walk: &Walk<'_, '_>, sheet: &mut Sheet) -> Result<Option<usize>, AllocError>
+    ensures { sheet.new.lines ≡ sheet.old.lines }
+{
+    let at = walk.at();
+    let is_next = sheet.states.len() == at && at < MOST_STATES;
+    if !is_next || sheet.states.is_full() {
+        return Ok(None);
+    }
+    let mut text = Writer::new(sheet.lines.allocator());
+    add_whole(&picture_of(walk.world()), &mut text);
+    let text = text.finish()?;
+    sheet.states.add(text.as_slice())
+}
+
+// A step is to be taken where a walk stands: what came behind it may be another.
+fn step_from(walk: &Walk<'_, '_>, sheet: &mut Sheet) -> Result<(), AllocError>
+    ensures { sheet.new.lines ≡ sheet.old.lines }
+{
+    sheet.states.cut(walk.at().saturating_add(1));
+    sheet.notes.step_from(walk.at());
+    keep_state(walk, sheet)?;
+    Ok(())
 }
 
 /// A step that is about to be taken.
@@ -33,6 +93,14 @@ struct Taking<'s> {
     moves: &'s [Move],
     m: Move,
     transfer: &'s Transfer,
+}
+
+/// A step that was taken: what was told of it before, the choices that it was one of, how many processes there were, and what it printed.
+#[derive(Clone, Copy)]
+struct Taken<'s> {
+    choices: &'s Listing,
+    older: usize,
+    printed: &'s [u8],
 }
 
 // What is told of a step before it is taken.
@@ -47,24 +115,36 @@ fn front_of(walk: &Walk<'_, '_>, event: &str, taking: Taking<'_>, sheet: &Sheet)
     front(&picture, sheet.lines.allocator(), event, ahead, &taking.m)
 }
 
+// What a trail says beside the last step of a walk.
+fn note_of(walk: &Walk<'_, '_>, sheet: &mut Sheet) -> Note
+    ensures { sheet.new.lines ≡ sheet.old.lines }
+{
+    let step = walk.at();
+    Note {
+        claim: sheet.notes.claim_at(step, walk.legs()),
+        begins_cycle: sheet.notes.begins_cycle(step, walk.legs()),
+    }
+}
+
 // Writes a step that was taken.
 fn add_taken(
     walk: &Walk<'_, '_>,
     front: Json,
-    older: usize,
-    printed: &[u8],
+    taken: Taken<'_>,
     sheet: &mut Sheet,
 ) -> Result<(), AllocError> {
     let changes = walk.world().changes()?;
     let moves = walk.moves()?;
     let done = Done {
-        printed,
-        older,
+        printed: taken.printed,
+        older: taken.older,
         changes: changes.as_slice(),
+        choices: taken.choices,
+        same_as: keep_state(walk, sheet)?,
+        note: note_of(walk, sheet),
     };
-    let picture = picture_of(walk.world());
     add_step(
-        &picture,
+        &picture_of(walk.world()),
         front,
         done,
         moves.as_slice(),
@@ -76,9 +156,10 @@ fn add_taken(
 // Writes a step that came to a fault, and that the run ends so.
 fn add_faulted(walk: &Walk<'_, '_>, fault: Fault, taking: Taking<'_>, sheet: &mut Sheet) {
     let again = front_of(walk, "fault", taking, sheet);
-    add_fault(again, fault, &mut sheet.lines);
     let picture = picture_of(walk.world());
-    add_end(&picture, walk.at(), "fault", &[], &mut sheet.lines);
+    let lines = &mut sheet.lines;
+    add_fault(&picture, again, &taking.m, fault, taking.moves, lines);
+    add_end(&picture, walk.at(), "fault", &[], None, lines);
 }
 
 // Takes a step and writes it. Why the run ends, where it does.
@@ -86,13 +167,17 @@ fn take(
     walk: &mut Walk<'_, '_>,
     taking: Taking<'_>,
     sheet: &mut Sheet,
-) -> Result<Option<&'static str>, AllocError> {
+) -> Result<Option<&'static str>, AllocError>
+    ensures { SameModel walk.old walk.new }
+{
     let alloc = sheet.lines.allocator();
     let mut text = Writer::new(alloc);
     add_move(&picture_of(walk.world()), &taking.m, &mut text);
     let front = front_of(walk, "step", taking, sheet);
+    let choices = choices_of(&picture_of(walk.world()), alloc, taking.moves);
     let older = walk.world().process_count();
     let mut printed = Vec::new(alloc);
+    step_from(walk, sheet)?;
     match choose(walk, taking.choice, &mut printed)? {
         Went::On => {
             let of = taking.moves.len();
@@ -104,7 +189,12 @@ fn take(
                 of,
                 &mut sheet.items,
             );
-            add_taken(walk, front, older, printed.as_slice(), sheet)?;
+            let taken = Taken {
+                choices: &choices,
+                older,
+                printed: printed.as_slice(),
+            };
+            add_taken(walk, front, taken, sheet)?;
             Ok(None)
         }
         Went::Faults(fault) => {
@@ -123,7 +213,9 @@ fn take_choice(
     moves: &[Move],
     choice: usize,
     sheet: &mut Sheet,
-) -> Result<Option<&'static str>, AllocError> {
+) -> Result<Option<&'static str>, AllocError>
+    ensures { SameModel walk.old walk.new }
+{
     let Some(m) = move_at(moves, choice) else {
         return Ok(Some("choice misfit"));
     };
@@ -137,20 +229,46 @@ fn take_choice(
     take(walk, taking, sheet)
 }
 
+// Writes how a run ends where a walk stands that has these moves, and what led there, where it is no valid end.
+fn add_ending(
+    walk: &mut Walk<'_, '_>,
+    end: &str,
+    moves: &[Move],
+    sheet: &mut Sheet,
+) -> Result<(), AllocError>
+    ensures { SameModel walk.old walk.new }
+{
+    let at = walk.at();
+    if end != "invalid" {
+        let picture = picture_of(walk.world());
+        add_end(&picture, at, end, moves, None, &mut sheet.lines);
+        return Ok(());
+    }
+    let history = history_of(walk, &sheet.lines)?;
+    let past = Past {
+        uses: &history.uses,
+        writings: &history.writings,
+    };
+    let picture = picture_of(walk.world());
+    add_end(&picture, at, end, moves, Some(past), &mut sheet.lines);
+    Ok(())
+}
+
 /// Takes the next step of a run and writes it, or writes its end. Why it ends, where it does.
 pub fn add_next<S: Source>(
     walk: &mut Walk<'_, '_>,
     replay: &mut Replay<S>,
     limit: usize,
     sheet: &mut Sheet,
-) -> Result<Option<&'static str>, Broken> {
+) -> Result<Option<&'static str>, Broken>
+    ensures { SameModel walk.old walk.new }
+{
     let moves = walk.moves()?;
     let alloc = sheet.lines.allocator();
     match follow(alloc, walk, moves.as_slice(), replay, limit)? {
         Next::Take(choice) => Ok(take_choice(walk, moves.as_slice(), choice, sheet)?),
         Next::End(end) => {
-            let picture = picture_of(walk.world());
-            add_end(&picture, walk.at(), end, moves.as_slice(), &mut sheet.lines);
+            add_ending(walk, end, moves.as_slice(), sheet)?;
             add_end_item(end.as_bytes(), &mut sheet.items);
             Ok(Some(end))
         }

@@ -7,7 +7,7 @@ use devices::Source;
 use promela_run::moves::Move;
 use session::{Answer, Broken};
 use std::alloc::Global;
-use view_session::replay::{Replay, end_of};
+use view_session::replay::Replay;
 use view_session::seen::picture_of;
 use view_state::choices::ending_of;
 use view_walk::walk::Walk;
@@ -43,7 +43,7 @@ pub fn follow<S: Source>(
     }
     match replay.next(alloc, walk, moves)? {
         Answer::Pick(choice) => Ok(Next::Take(choice)),
-        other => Ok(Next::End(end_of(other))),
+        other => Ok(Next::End(replay.end_of(other))),
     }
 }
 

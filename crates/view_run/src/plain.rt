@@ -1,5 +1,7 @@
 //! A run of which nothing is shown.
 
+ghost use Rattle.view_walk.specs.Walks.{SameModel};
+
 use crate::next::{Next, follow};
 use devices::Source;
 use session::Broken;
@@ -20,7 +22,9 @@ fn step<S: Source>(
     replay: &mut Replay<S>,
     limit: usize,
     printed: &mut Vec<u8>,
-) -> Result<Option<&'static str>, Broken> {
+) -> Result<Option<&'static str>, Broken>
+    ensures { SameModel walk.old walk.new }
+{
     let moves = walk.moves()?;
     let alloc = *printed.allocator();
     match follow(alloc, walk, moves.as_slice(), replay, limit)? {
@@ -42,9 +46,11 @@ pub fn run<S: Source>(
     replay: &mut Replay<S>,
     limit: usize,
     printed: &mut Vec<u8>,
-) -> Result<Ran, Broken> {
+) -> Result<Ran, Broken>
+    ensures { SameModel walk.old walk.new }
+{
     let mut most = walk.world().process_count();
-    for _ in 0..u64::MAX {
+    for _turn in 0..u64::MAX {
         if let Some(end) = step(walk, replay, limit, printed)? {
             return Ok(Ran { end, most });
         }

@@ -1,5 +1,7 @@
 //! The ways that were left on a trail, the last first.
 
+ghost use Rattle.view_walk.specs.Walks.{SameModel};
+
 use std::alloc::{AllocError, Global};
 use std::collections::VecDeque;
 use view_session::steps::choose;
@@ -30,8 +32,9 @@ pub struct Search<'t> {
     forks: VecDeque<Fork<'t>>,
     /// The line of the trail that each step was taken for.
     rows: Vec<usize>,
-    /// The choices that led to the farthest line, and that line.
+    /// The choices that led to the farthest line, the lines that their steps were taken for, and that line.
     best: Vec<Leg>,
+    best_rows: Vec<usize>,
     farthest: usize,
     tries: usize,
     steps: usize,
@@ -46,6 +49,7 @@ impl<'t> Search<'t> {
             forks: VecDeque::new(alloc),
             rows: Vec::new(alloc),
             best: Vec::new(alloc),
+            best_rows: Vec::new(alloc),
             farthest: 0,
             tries: 0,
             steps: 0,
@@ -70,15 +74,10 @@ impl<'t> Search<'t> {
         Ok(())
     }
 
-    /// Behind how many steps of a walk of so many this line of the trail stands.
-    pub fn steps_before(&self, at: usize, row: usize) -> usize {
-        let mut count = 0usize;
-        for other in self.rows.as_slice() {
-            if *other < row {
-                count = count.saturating_add(1);
-            }
-        }
-        count.min(at)
+    /// The lines that the steps of a walk of so many were taken for.
+    pub fn rows(&self, at: usize) -> &[usize] {
+        let rows = self.rows.as_slice();
+        &rows[..at.min(rows.len())]
     }
 
     /// No way leads on by this line, to which these choices led. Whether no other line was so far.
@@ -90,6 +89,9 @@ impl<'t> Search<'t> {
         self.tries = 0;
         self.best.clear();
         self.best.extend_from_slice(legs)?;
+        self.best_rows.clear();
+        self.best_rows.extend_from_slice(self.rows.as_slice())?;
+        self.best_rows.truncate(legs.len());
         Ok(true)
     }
 
@@ -111,18 +113,24 @@ impl<'t> Search<'t> {
     }
 
     /// Leads to where the farthest line was come to.
-    pub fn lead(&self, walk: &mut Walk<'_, '_>, printed: &mut Vec<u8>) -> Result<(), AllocError> {
+    pub fn lead(&mut self, walk: &mut Walk<'_, '_>, printed: &mut Vec<u8>) -> Result<(), AllocError>
+        ensures { SameModel walk.old walk.new }
+    {
         go_to(walk, 0)?;
         for leg in self.best.as_slice() {
             printed.clear();
             choose(walk, leg.choice, printed)?;
         }
+        self.rows.clear();
+        self.rows.extend_from_slice(self.best_rows.as_slice())?;
         Ok(())
     }
 }
 
 /// Leads behind so many of the steps of a walk, and forgets those to come.
-pub fn go_to(walk: &mut Walk<'_, '_>, at: usize) -> Result<(), AllocError> {
+pub fn go_to(walk: &mut Walk<'_, '_>, at: usize) -> Result<(), AllocError>
+    ensures { SameModel walk.old walk.new }
+{
     let at = at.min(walk.legs().len());
     walk.go_to(at)?;
     walk.forget();

@@ -1,5 +1,8 @@
 //! A run as the lines of its steps.
 
+ghost use Rattle.view_text.specs.Written.{Stays};
+ghost use Rattle.view_walk.specs.Walks.{SameModel};
+
 use crate::next::{Next, follow};
 use devices::Source;
 use session::Broken;
@@ -12,7 +15,9 @@ use view_text::writer::Writer;
 use view_walk::walk::Walk;
 
 // Writes why a run ends that still has moves.
-fn add_stop(end: &str, steps: usize, out: &mut Writer) {
+fn add_stop(end: &str, steps: usize, out: &mut Writer)
+    ensures { Stays out.old out.new }
+{
     out.add(b"end: ");
     out.add(end.as_bytes());
     out.add(b", steps ");
@@ -20,7 +25,9 @@ fn add_stop(end: &str, steps: usize, out: &mut Writer) {
     out.add(b"\n");
 }
 
-fn add_last(walk: &Walk<'_, '_>, end: &str, has_moves: bool, out: &mut Writer) {
+fn add_last(walk: &Walk<'_, '_>, end: &str, has_moves: bool, out: &mut Writer)
+    ensures { Stays out.old out.new }
+{
     if has_moves {
         add_stop(end, walk.at(), out);
     } else {
@@ -34,7 +41,10 @@ pub fn add_step<S: Source>(
     replay: &mut Replay<S>,
     limit: usize,
     told: &mut Told,
-) -> Result<Option<&'static str>, Broken> {
+) -> Result<Option<&'static str>, Broken>
+    ensures model { SameModel walk.old walk.new }
+    ensures stays { Stays told.old.out told.new.out }
+{
     let moves = walk.moves()?;
     let alloc = told.out.allocator();
     match follow(alloc, walk, moves.as_slice(), replay, limit)? {

@@ -1,8 +1,11 @@
 //! A walk along a trail of Spin.
 
+ghost use Rattle.view_text.specs.Written.{Stays};
+ghost use Rattle.view_walk.specs.Walks.{SameModel};
+
 use crate::search::{Fork, Search, go_to};
 use session::Answer;
-use std::alloc::AllocError;
+use std::alloc::{AllocError, Global};
 use view_session::replay::Along;
 use view_session::seen::picture_of;
 use view_session::steps::choose;
@@ -42,13 +45,13 @@ impl Followed {
 }
 
 /// What came of a trail.
-#[derive(Clone, Copy, Debug)]
+#[derive(Drop)]
 pub struct Came {
     pub followed: Followed,
     /// Not all ways were tried that its lines leave.
     pub is_cut: bool,
-    /// Behind how many steps the line stands that was asked for.
-    pub before: usize,
+    /// The line of the trail that each step was taken for.
+    pub rows: Vec<usize>,
     /// The line of a declaration that gave its variable another number than 0, and was passed over.
     pub valued: Option<usize>,
 }
@@ -64,7 +67,7 @@ struct Arrival<'t> {
 // Where a walk is led along a trail.
 #[derive(Drop)]
 struct Lead<'s, 't> {
-    marks: &'s Marks<'s>,
+    marks: &'s Marks,
     limit: usize,
     trail: Trail<'t>,
     /// How many ways on from here were tried.
@@ -108,11 +111,13 @@ fn faulted(trail: &mut Trail<'_>, choice: usize, at: usize) -> Gone {
 // The ways on from where a walk stands by a line of a trail.
 fn ways_from<'t>(
     walk: &Walk<'_, '_>,
-    marks: &Marks<'_>,
+    marks: &Marks,
     trail: &Trail<'t>,
     entry: &Entry<'_>,
     scratch: &mut Writer,
-) -> Result<Ways<'t>, AllocError> {
+) -> Result<Ways<'t>, AllocError>
+    ensures { Stays scratch.old scratch.new }
+{
     let moves = walk.moves()?;
     let picture = picture_of(walk.world());
     ways_on(&picture, moves.as_slice(), marks, trail, entry, scratch)
@@ -121,11 +126,13 @@ fn ways_from<'t>(
 // For which difference of Spin no way leads on from where a walk stands.
 fn difference_from(
     walk: &Walk<'_, '_>,
-    marks: &Marks<'_>,
+    marks: &Marks,
     trail: &Trail<'_>,
     entry: &Entry<'_>,
     scratch: &mut Writer,
-) -> Option<Difference> {
+) -> Option<Difference>
+    ensures { Stays scratch.old scratch.new }
+{
     difference_at(&picture_of(walk.world()), marks, trail, entry, scratch)
 }
 
@@ -136,7 +143,9 @@ impl<'s, 't> Lead<'s, 't> {
         walk: &mut Walk<'_, '_>,
         choice: usize,
         row: usize,
-    ) -> Result<Gone, AllocError> {
+    ) -> Result<Gone, AllocError>
+        ensures { SameModel walk.old walk.new }
+    {
         self.search.step(walk.at(), row)?;
         self.printed.clear();
         match choose(walk, choice, &mut self.printed)? {
@@ -147,12 +156,9 @@ impl<'s, 't> Lead<'s, 't> {
     }
 
     // Takes a way.
-    fn go(
-        &mut self,
-        walk: &mut Walk<'_, '_>,
-        way: Way<'t>,
-        row: usize,
-    ) -> Result<Gone, AllocError> {
+    fn go(&mut self, walk: &mut Walk<'_, '_>, way: Way<'t>, row: usize) -> Result<Gone, AllocError>
+        ensures { SameModel walk.old walk.new }
+    {
         self.trail = way.trail;
         self.tried = 0;
         match way.choice {
@@ -191,7 +197,9 @@ impl<'s, 't> Lead<'s, 't> {
     }
 
     // Takes the next way on by a line.
-    fn follow(&mut self, walk: &mut Walk<'_, '_>, entry: &Entry<'_>) -> Result<Gone, AllocError> {
+    fn follow(&mut self, walk: &mut Walk<'_, '_>, entry: &Entry<'_>) -> Result<Gone, AllocError>
+        ensures { SameModel walk.old walk.new }
+    {
         let mut scratch = Writer::new(*self.printed.allocator());
         let trail = self.trail;
         let marks = self.marks;
@@ -207,7 +215,9 @@ impl<'s, 't> Lead<'s, 't> {
     }
 
     // Goes on by a way.
-    fn step(&mut self, walk: &mut Walk<'_, '_>) -> Result<Gone, AllocError> {
+    fn step(&mut self, walk: &mut Walk<'_, '_>) -> Result<Gone, AllocError>
+        ensures { SameModel walk.old walk.new }
+    {
         let Some(entry) = self.trail.next() else {
             return Ok(Gone::End(Followed::Whole));
         };
@@ -223,7 +233,9 @@ impl<'s, 't> Lead<'s, 't> {
     }
 
     // Goes back to the last place with a way that is left. Whether there is one.
-    fn back(&mut self, walk: &mut Walk<'_, '_>) -> Result<bool, AllocError> {
+    fn back(&mut self, walk: &mut Walk<'_, '_>) -> Result<bool, AllocError>
+        ensures { SameModel walk.old walk.new }
+    {
         let Some(fork) = self.search.back() else {
             return Ok(false);
         };
@@ -263,9 +275,11 @@ impl<'s, 't> Lead<'s, 't> {
     }
 
     // Follows the trail to its end, or as far as any way leads.
-    fn follow_all(&mut self, walk: &mut Walk<'_, '_>) -> Result<(bool, Followed), AllocError> {
+    fn follow_all(&mut self, walk: &mut Walk<'_, '_>) -> Result<(bool, Followed), AllocError>
+        ensures { SameModel walk.old walk.new }
+    {
         let mut farthest = Followed::Whole;
-        for _ in 0..u64::MAX {
+        for _turn in 0..u64::MAX {
             match self.step(walk)? {
                 Gone::On => {}
                 Gone::End(followed) => return Ok((true, followed)),
@@ -281,7 +295,9 @@ impl<'s, 't> Lead<'s, 't> {
     }
 
     // Follows the trail, and leads to its farthest line where no way leads on. How far that was.
-    fn run(&mut self, walk: &mut Walk<'_, '_>) -> Result<Followed, AllocError> {
+    fn run(&mut self, walk: &mut Walk<'_, '_>) -> Result<Followed, AllocError>
+        ensures { SameModel walk.old walk.new }
+    {
         let (is_end, followed) = self.follow_all(walk)?;
         if is_end {
             return Ok(followed);
@@ -295,15 +311,26 @@ impl<'s, 't> Lead<'s, 't> {
     }
 }
 
-/// Follows the trail that is the text of a file, by at most so many steps; and asks for the place of a line of it.
+// What came of a trail that has no line of one.
+fn empty(alloc: Global) -> Came {
+    Came {
+        followed: Followed::Empty,
+        is_cut: false,
+        rows: Vec::new(alloc),
+        valued: None,
+    }
+}
+
+/// Follows the trail that is the text of a file, by at most so many steps.
 pub fn follow_trail(
     walk: &mut Walk<'_, '_>,
-    marks: &Marks<'_>,
+    marks: &Marks,
     text: &[u8],
     limit: usize,
-    asked: usize,
     printed: Vec<u8>,
-) -> Result<Came, AllocError> {
+) -> Result<Came, AllocError>
+    ensures { SameModel walk.old walk.new }
+{
     let alloc = *printed.allocator();
     let trail = Trail::new(text);
     let first = Arrival {
@@ -323,18 +350,15 @@ pub fn follow_trail(
         printed,
     };
     if lead.trail.next().is_none() && !is_ended(text) {
-        return Ok(Came {
-            followed: Followed::Empty,
-            is_cut: false,
-            before: 0,
-            valued: None,
-        });
+        return Ok(empty(alloc));
     }
     let followed = lead.run(walk)?;
+    let mut rows = Vec::new(alloc);
+    rows.extend_from_slice(lead.search.rows(walk.at()))?;
     Ok(Came {
         followed,
         is_cut: lead.search.is_cut(),
-        before: lead.search.steps_before(walk.at(), asked),
+        rows,
         valued: lead.trail.valued(),
     })
 }

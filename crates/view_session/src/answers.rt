@@ -8,7 +8,8 @@ use crate::command::{Command, MOST_UNASKED, read};
 use crate::going::go;
 use crate::help::{HELP, add_help};
 use crate::listed::{add_moves_of, add_steps};
-use crate::question::{add_cause, add_question, add_whole_question};
+use crate::past::add_past;
+use crate::question::{add_question, add_whole_question};
 use crate::record::add_record;
 use crate::replay::Along;
 use crate::seeking::Mode;
@@ -136,17 +137,29 @@ fn show_why(walk: &mut Walk<'_, '_>, is_all: bool, out: &mut Writer) -> Result<(
 {
     let moves = walk.moves()?;
     add_why(&picture_of(walk.world()), moves.as_slice(), is_all, out)?;
-    add_cause(walk, moves.as_slice(), out)
+    add_past(walk, moves.as_slice(), out)
 }
 
 // Writes the chart of a walk up to where it stands.
-fn show_chart(walk: &mut Walk<'_, '_>, out: &mut Writer) -> Result<(), AllocError>
+fn show_chart(walk: &mut Walk<'_, '_>, told: &mut Told) -> Result<(), AllocError>
     ensures model { SameModel walk.old walk.new }
-    ensures stays { Stays out.old out.new }
+    ensures stays { Stays told.old.out told.new.out }
 {
     let steps = walk.at();
     let most = most_alive(walk, steps)?;
-    add_chart(walk, steps, most, out)
+    add_chart(walk, steps, most, &mut told.notes, &mut told.out)
+}
+
+// Says how the values are shown that a step changes.
+fn show_values(shows: bool, told: &mut Told)
+    ensures { Stays told.old.out told.new.out }
+{
+    told.shows_values = shows;
+    told.out.add(if shows {
+        b"steps show their values in their lines\n"
+    } else {
+        b"steps show their values below their lines\n"
+    });
 }
 
 // Does what a command says that neither ends nor saves. What is still to be done, behind what is shown first.
@@ -165,7 +178,7 @@ fn obey<'l>(
         Command::State(is_all) => add_state(&picture_of(walk.world()), is_all, &mut told.out),
         Command::Why(is_all) => show_why(walk, is_all, &mut told.out)?,
         Command::Moves(true) => add_whole_question(walk, told)?,
-        Command::Chart => show_chart(walk, &mut told.out)?,
+        Command::Chart => show_chart(walk, told)?,
         Command::Source => add_source(&picture_of(walk.world()), setting.text, &mut told.out),
         Command::Record => add_record(walk.legs(), &mut told.out),
         Command::Branches => told.branches.add(walk.legs(), &mut told.out),
@@ -173,8 +186,9 @@ fn obey<'l>(
         Command::HelpOf(name) => add_help(name, &mut told.out),
         Command::Wrong(form) => told.out.add(form.as_bytes()),
         Command::Unknown => told.out.add(b"no such command: help lists them\n"),
-        Command::Steps(from) => add_steps(walk, from, &mut told.out)?,
+        Command::Steps(from) => add_steps(walk, from, told)?,
         Command::MovesOf(process) => add_moves_of(walk, process, &mut told.out)?,
+        Command::Show(shows) => show_values(shows, told),
         Command::Break(_) | Command::Breaks | Command::Delete(_) => {
             show(walk.world(), command, told)?;
         }

@@ -3,11 +3,12 @@
 ghost use Rattle.view_text.specs.Written.{Stays};
 ghost use Rattle.view_walk.specs.Walks.{SameModel};
 
+use crate::notes::Notes;
 use crate::seen::picture_of;
 use crate::steps::move_at;
 use promela_run::moves::Move;
 use std::alloc::AllocError;
-use view_chart::chart::{add_birth, add_row, width_of};
+use view_chart::chart::{add_birth, add_claim, add_note, add_row, width_of};
 use view_text::writer::Writer;
 use view_waits::transfer::transfer_of;
 use view_walk::leg::Leg;
@@ -40,11 +41,25 @@ fn add_move(walk: &Walk<'_, '_>, width: usize, m: &Move, out: &mut Writer) -> Re
     Ok(())
 }
 
+// Writes the rows of what a trail says beside the last step of a walk.
+fn add_notes(walk: &Walk<'_, '_>, notes: &mut Notes, out: &mut Writer)
+    ensures { Stays out.old out.new }
+{
+    let step = walk.at();
+    if let Some(line) = notes.claim_at(step, walk.legs()) {
+        add_claim(step, line, out);
+    }
+    if notes.begins_cycle(step, walk.legs()) {
+        add_note(step, b"the cycle begins", out);
+    }
+}
+
 // Writes the rows of the next step of a walk.
 fn add_step(
     walk: &mut Walk<'_, '_>,
     width: usize,
     leg: Leg,
+    notes: &mut Notes,
     out: &mut Writer,
 ) -> Result<(), AllocError>
     ensures model { SameModel walk.old walk.new }
@@ -58,14 +73,17 @@ fn add_step(
     let step = walk.at().saturating_add(1).min(walk.legs().len());
     walk.go_to(step)?;
     add_births(walk, width, older, out);
+    add_notes(walk, notes, out);
     Ok(())
 }
 
-/// Writes the chart of so many steps of a walk, which stands behind them then. As many processes live at once at most.
+/// Writes the chart of so many steps of a walk, which stands behind them then, with what a trail says beside them. As many processes live
+/// at once at most.
 pub fn add_chart(
     walk: &mut Walk<'_, '_>,
     steps: usize,
     most: usize,
+    notes: &mut Notes,
     out: &mut Writer,
 ) -> Result<(), AllocError>
     ensures model { SameModel walk.old walk.new }
@@ -78,7 +96,7 @@ pub fn add_chart(
         let Some(leg) = walk.next() else {
             break;
         };
-        add_step(walk, width, leg, out)?;
+        add_step(walk, width, leg, notes, out)?;
     }
     Ok(())
 }

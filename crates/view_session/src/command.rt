@@ -44,6 +44,8 @@ pub enum Command<'l> {
     Print(&'l str),
     Display(&'l str),
     Undisplay(usize),
+    /// Whether the line of a step has the values that it changes.
+    Show(bool),
     /// The steps so far, from this one on.
     Steps(Option<usize>),
     /// Back to the last step that changed this variable.

@@ -81,6 +81,16 @@ fn undisplay<'l>(rest: &[&str]) -> Command<'l> {
     }
 }
 
+fn show<'l>(rest: &[&str]) -> Command<'l> {
+    match rest {
+        [word] if *word == "on" => Command::Show(true),
+        [word] if *word == "off" => Command::Show(false),
+        _ => Command::Wrong(
+            "show on, show off: whether the line of a step has the values that it changes; state shows all, print EXPR one\n",
+        ),
+    }
+}
+
 fn steps<'l>(rest: &[&str]) -> Command<'l> {
     if rest.is_empty() {
         return Command::Steps(None);
@@ -111,7 +121,7 @@ fn is_until(rest: &[&str]) -> bool {
 
 // Whether a number behind a word is no part of a condition that ends in that word.
 fn is_seed(before: &str, last: &str) -> bool {
-    if before == "line" || number(last).is_none() {
+    if before == "line" || before.ends_with("@line") || number(last).is_none() {
         return false;
     }
     match before.as_bytes() {
@@ -174,7 +184,7 @@ fn random<'l>(rest: &[&'l str], text: &'l str) -> Command<'l> {
 fn last<'l>(rest: &[&'l str]) -> Command<'l> {
     match rest {
         [path] => Command::Last(path),
-        _ => Command::Wrong("last NAME\n"),
+        _ => Command::Wrong("last NAME, as last x, last a[1], last P[2].x\n"),
     }
 }
 
@@ -263,6 +273,7 @@ pub fn with_words<'l>(name: Name, rest: &[&'l str], text: &'l str) -> Command<'l
         Name::Print => with_text(Command::Print(text), text, "print EXPR\n"),
         Name::Display => with_text(Command::Display(text), text, "display EXPR\n"),
         Name::Undisplay => undisplay(rest),
+        Name::Show => show(rest),
         Name::Steps => steps(rest),
         Name::Last => last(rest),
         Name::Branch => branch(rest),

@@ -3,13 +3,14 @@
 ghost use Rattle.view_text.specs.Written.{Stays};
 
 use crate::names::{Name, long_name, name_of};
+use crate::others::told_of;
 use view_text::writer::Writer;
 
 /// What `help` says.
 pub const HELP: &str = "\
 N [N ..]                take choice N, and then the others
 an empty line, moves    the question again; moves N: the choices of process N
-state, why, source      the state; what each process waits for; the text
+state, why, source      the state; what each process waits for, and for whom; the text
 back [N], forward [N]   steps in time (1); undo is back
 goto K, restart         to the state behind step K; to the first
 steps [K]               20 steps of the walk: the last ones, or those from step K on
@@ -19,6 +20,7 @@ until line L            steps with one move, until a process stands at line L
 until NAME == VALUE     the same, until a variable has a value (or !=); P[1].x of process 1
 until NAME, last NAME   the same, until it changes; back to the last step that changed it
 until COND              the same, until COND holds, as len(q) > 2 && P[2].x == 1, P[2] at line 12
+until P[2] at L         the same, until process 2, a P, stands at the label L; P at L: any P
 p N until COND          steps of process N, until COND holds
 random until COND [S]   steps by chance (seed S, 1), until COND holds
 back until COND         back to the last state where COND held
@@ -27,6 +29,7 @@ breaks, delete N        where each run stops; lets break N go
 print EXPR              what an expression is worth here
 display EXPR            the same at each question
 undisplay N             lets display N go
+show on, show off       the values that a step changes in its line, x: 1 -> 2, or below it
 branches, branch N      the ways that were left for others; goes to the end of one
 random N [SEED]         N steps by chance (1)
 chart                   the messages of the walk up to here
@@ -59,7 +62,11 @@ pub fn add_help(word: &str, out: &mut Writer)
     ensures { Stays out.old out.new }
 {
     let Some(name) = name_of(word) else {
-        out.add(b"no such command: help lists them\n");
+        out.add(
+            told_of(word)
+                .unwrap_or("no such command: help lists them\n")
+                .as_bytes(),
+        );
         return;
     };
     if name == Name::Help {

@@ -4,7 +4,8 @@ ghost use Rattle.view_text.specs.Written.{Stays};
 ghost use Rattle.view_walk.specs.Walks.{SameModel};
 
 use crate::seen::picture_of;
-use crate::steps::{add_step_line, move_at, texts_of};
+use crate::steps::{add_notes, add_step_line, move_at, texts_of};
+use crate::told::Told;
 use std::alloc::AllocError;
 use view_state::choices::add_choices_of;
 use view_text::writer::Writer;
@@ -15,17 +16,20 @@ use view_walk::walk::Walk;
 const PAGE: usize = 20;
 
 // Writes the line of the next step of a walk, and takes it.
-fn add_next(walk: &mut Walk<'_, '_>, leg: Leg, out: &mut Writer) -> Result<(), AllocError>
+fn add_next(walk: &mut Walk<'_, '_>, leg: Leg, told: &mut Told) -> Result<(), AllocError>
     ensures model { SameModel walk.old walk.new }
-    ensures stays { Stays out.old out.new }
+    ensures stays { Stays told.old.out told.new.out }
 {
     let moves = walk.moves()?;
     let step = walk.at().saturating_add(1).min(walk.legs().len());
-    if let Some(m) = move_at(moves.as_slice(), leg.choice) {
-        let texts = texts_of(walk, &m, out.allocator())?;
-        add_step_line(step, &texts, out);
-    }
-    walk.go_to(step)
+    let Some(m) = move_at(moves.as_slice(), leg.choice) else {
+        return walk.go_to(step);
+    };
+    let texts = texts_of(walk, &m, told.out.allocator())?;
+    walk.go_to(step)?;
+    add_step_line(walk, &texts, told)?;
+    add_notes(walk, told);
+    Ok(())
 }
 
 // Writes the lines of steps, from the one behind so many on.
@@ -33,10 +37,10 @@ fn add_page(
     walk: &mut Walk<'_, '_>,
     before: usize,
     last: usize,
-    out: &mut Writer,
+    told: &mut Told,
 ) -> Result<(), AllocError>
     ensures model { SameModel walk.old walk.new }
-    ensures stays { Stays out.old out.new }
+    ensures stays { Stays told.old.out told.new.out }
 {
     let start = before.min(walk.legs().len());
     walk.go_to(start)?;
@@ -44,7 +48,7 @@ fn add_page(
         let Some(leg) = walk.next() else {
             break;
         };
-        add_next(walk, leg, out)?;
+        add_next(walk, leg, told)?;
     }
     Ok(())
 }
@@ -73,10 +77,10 @@ fn add_others(before: usize, last: usize, count: usize, out: &mut Writer)
 pub fn add_steps(
     walk: &mut Walk<'_, '_>,
     from: Option<usize>,
-    out: &mut Writer,
+    told: &mut Told,
 ) -> Result<(), AllocError>
     ensures model { SameModel walk.old walk.new }
-    ensures stays { Stays out.old out.new }
+    ensures stays { Stays told.old.out told.new.out }
 {
     let count = walk.at();
     let before = match from {
@@ -84,16 +88,16 @@ pub fn add_steps(
         None => count.saturating_sub(PAGE),
     };
     if before >= count {
-        out.add(b"no such step: ");
-        out.number(count);
-        out.add(b" stand\n");
+        told.out.add(b"no such step: ");
+        told.out.number(count);
+        told.out.add(b" stand\n");
         return Ok(());
     }
     let last = before.saturating_add(PAGE).min(count);
-    add_page(walk, before, last, out)?;
+    add_page(walk, before, last, told)?;
     let at = count.min(walk.legs().len());
     walk.go_to(at)?;
-    add_others(before, last, count, out);
+    add_others(before, last, count, &mut told.out);
     Ok(())
 }
 

@@ -24,6 +24,7 @@ pub enum Name {
     Print,
     Display,
     Undisplay,
+    Show,
     Steps,
     Branches,
     Branch,
@@ -35,7 +36,7 @@ pub enum Name {
 }
 
 // Each name, and the short one that means it too.
-const NAMES: [(Name, &str, &str); 27] = [
+const NAMES: [(Name, &str, &str); 28] = [
     (Name::Moves, "moves", "m"),
     (Name::State, "state", "s"),
     (Name::Why, "why", "w"),
@@ -55,6 +56,7 @@ const NAMES: [(Name, &str, &str); 27] = [
     (Name::Print, "print", "print"),
     (Name::Display, "display", "display"),
     (Name::Undisplay, "undisplay", "undisplay"),
+    (Name::Show, "show", "show"),
     (Name::Steps, "steps", "steps"),
     (Name::Branches, "branches", "branches"),
     (Name::Branch, "branch", "branch"),

@@ -1,16 +1,19 @@
-//! What led to an invalid end: who used last what processes wait at, and the round of those that wait for one another.
+//! What led to where processes wait: who used and who wrote last what they wait at, and the round of those that wait for one another.
 
 ghost use Rattle.view_text.specs.Written.{Stays};
 ghost use Rattle.view_walk.specs.Walks.{SameModel};
 
 use crate::seen::picture_of;
 use crate::steps::move_at;
+use promela_process::place::Place;
+use promela_run::moves::Move;
 use std::alloc::{AllocError, Global};
 use view_cells::picture::Picture;
 use view_past::channels::add_channels;
 use view_past::round::{add_round, awaited};
 use view_past::uses::Uses;
 use view_past::writers::{Writing, Writings, add_writers, awaited_writer};
+use view_state::counted::counts_of;
 use view_text::writer::Writer;
 use view_waits::waits::{Wait, add_waits, starter_of};
 use view_walk::leg::Leg;
@@ -18,12 +21,29 @@ use view_walk::walk::Walk;
 
 /// Who used each channel last, and who wrote each variable last, on a walk.
 #[derive(Drop)]
-struct History {
-    uses: Uses,
-    writings: Writings,
+pub struct History {
+    pub uses: Uses,
+    pub writings: Writings,
 }
 
-// Keeps what the last step of a walk wrote, which a process took.
+// The process that writes what a move changes: of a rendezvous the one that receives.
+fn writer_of(m: &Move) -> usize {
+    match m {
+        Move::Pair(_, receiver, _) => receiver.process,
+        _ => starter_of(m),
+    }
+}
+
+// The process that wrote a cell by its step: of its own none but itself.
+fn owner_of(place: Place, process: usize) -> usize {
+    if place.frame > 0 {
+        place.frame - 1
+    } else {
+        process
+    }
+}
+
+// Keeps what the last step of a walk wrote, by which a process may have written a global.
 fn keep_writings(
     walk: &Walk<'_, '_>,
     process: usize,
@@ -31,15 +51,13 @@ fn keep_writings(
 ) -> Result<(), AllocError> {
     let changes = walk.world().changes()?;
     for change in changes.as_slice() {
-        if change.place.frame == 0 {
-            writings.keep(Writing {
-                place: change.place,
-                number: change.number,
-                step: walk.at(),
-                process,
-                lives: true,
-            })?;
-        }
+        writings.keep(Writing {
+            place: change.place,
+            number: change.number,
+            step: walk.at(),
+            process: owner_of(change.place, process),
+            lives: true,
+        })?;
     }
     Ok(())
 }
@@ -55,15 +73,15 @@ fn add_step(walk: &mut Walk<'_, '_>, leg: Leg, history: &mut History) -> Result<
     };
     history.uses.add(&picture_of(walk.world()), &m, step)?;
     walk.go_to(step)?;
-    keep_writings(walk, starter_of(&m), &mut history.writings)?;
+    keep_writings(walk, writer_of(&m), &mut history.writings)?;
     let processes = walk.world().process_count();
     history.uses.settle(walk.world().channel_count(), processes);
     history.writings.settle(processes);
     Ok(())
 }
 
-// What came up to where a walk stands, and where it stands then.
-fn history_of(walk: &mut Walk<'_, '_>, out: &Writer) -> Result<History, AllocError>
+/// What came up to where a walk stands, which stands there again.
+pub fn history_of(walk: &mut Walk<'_, '_>, out: &Writer) -> Result<History, AllocError>
     ensures { SameModel walk.old walk.new }
 {
     let mut history = History {
@@ -98,9 +116,10 @@ fn awaited_by(
     }
 }
 
-// Writes who used and who wrote last what each process waits at, and the round.
+// Writes who used and who wrote last what each process waits at that takes part in none of these moves, and the round.
 fn add_uses(
     picture: &Picture<'_, '_, '_>,
+    moves: &[Move],
     history: &History,
     out: &mut Writer,
 ) -> Result<(), AllocError>
@@ -112,7 +131,7 @@ fn add_uses(
     let mut awaits = Vec::new(alloc);
     for process in 0..picture.process_count() {
         let mut waits = Vec::new(alloc);
-        add_waits(picture, &[], process, &mut waits)?;
+        add_waits(picture, moves, process, &mut waits)?;
         let waits = waits.as_slice();
         add_channels(picture, waits, &history.uses, &mut known, out)?;
         add_writers(picture, waits, &history.writings, &mut written, out)?;
@@ -122,11 +141,25 @@ fn add_uses(
     Ok(())
 }
 
-/// Writes what led to the end where a walk stands.
-pub fn add_past(walk: &mut Walk<'_, '_>, out: &mut Writer) -> Result<(), AllocError>
+// Whether a process takes part in none of these moves.
+fn has_waiting(alloc: Global, processes: usize, moves: &[Move]) -> Result<bool, AllocError> {
+    let counts = counts_of(alloc, processes, moves)?;
+    for count in counts.as_slice() {
+        if *count == 0 {
+            return Ok(true);
+        }
+    }
+    Ok(false)
+}
+
+/// Writes what led to where a walk stands, which has these moves.
+pub fn add_past(walk: &mut Walk<'_, '_>, moves: &[Move], out: &mut Writer) -> Result<(), AllocError>
     ensures model { SameModel walk.old walk.new }
     ensures stays { Stays out.old out.new }
 {
+    if !has_waiting(out.allocator(), walk.world().process_count(), moves)? {
+        return Ok(());
+    }
     let history = history_of(walk, out)?;
-    add_uses(&picture_of(walk.world()), &history, out)
+    add_uses(&picture_of(walk.world()), moves, &history, out)
 }

@@ -62,7 +62,7 @@ pub fn add_cause(
     ensures stays { Stays out.old out.new }
 {
     if moves.is_empty() && ending_of(&picture_of(walk.world())) == "invalid" {
-        return add_past(walk, out);
+        return add_past(walk, moves, out);
     }
     Ok(())
 }

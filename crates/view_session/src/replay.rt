@@ -6,6 +6,7 @@ ghost use Rattle.promela_session.specs.Events.{prompt};
 ghost use Rattle.promela_session.specs.declared.form.Stream.TheVariants.{Unread};
 ghost use Rattle.view_session.specs.Replaying.{ReadsAnswer};
 
+use crate::notes::Notes;
 use devices::{Devices, Failed, Nowhere, Sink, Source, ThreeDevices};
 use promela_run::moves::Move;
 use rand_core::utils::NextWord;
@@ -99,6 +100,21 @@ pub enum Along {
     /// By the move with this number, which comes to a fault.
     Fault(usize),
     Stop(Answer),
+    /// It ends there: a claim has ended, which the run violates.
+    Claim,
+    /// It ends there, in a state where it was before: it goes on so without an end.
+    Cycle,
+}
+
+impl Along {
+    // Why a run ends so.
+    fn end(self, said: Answer) -> &'static str {
+        match self {
+            Along::Claim => "claim ended",
+            Along::Cycle => "cycle",
+            Along::Fault(_) | Along::Stop(_) => end_of(said),
+        }
+    }
 }
 
 /// Choices that are still to be taken.
@@ -108,8 +124,8 @@ pub enum Replay<S> {
     Read(Reading<S>),
     /// Those that a generator draws.
     Chance(Pcg32),
-    /// Those of the walk that are still to come, and behind them this.
-    Along(Along),
+    /// Those of the walk that are still to come, and behind them this; and what a trail says beside its steps.
+    Along(Along, Notes),
 }
 
 // What is said where a walk is followed, and this is the next of its choices.
@@ -118,6 +134,7 @@ fn said_along(along: Along, next: Option<Leg>) -> Answer {
         (Some(leg), _) => Answer::Pick(leg.choice),
         (None, Along::Fault(choice)) => Answer::Pick(choice),
         (None, Along::Stop(said)) => said,
+        (None, Along::Claim | Along::Cycle) => Answer::Ended,
     }
 }
 
@@ -140,13 +157,29 @@ impl<S: Source> Replay<S> {
         requires { moves.now ≡ world.moves walk.now.state }
     {
         match self {
-            Replay::Along(along) => Ok(said_along(*along, walk.next())),
+            Replay::Along(along, _) => Ok(said_along(*along, walk.next())),
             _ if moves.len() == 1 => Ok(Answer::Pick(1)),
             Replay::Chance(generator) => Ok(Answer::Pick(drawn(generator, moves.len()))),
             Replay::Read(reading) => {
                 let prompt = prompt_of(alloc, moves.len())?;
                 reading.answer(walk, moves, prompt.as_slice())
             }
+        }
+    }
+
+    /// Why a run ends that is answered so.
+    pub fn end_of(&self, said: Answer) -> &'static str {
+        match self {
+            Replay::Along(along, _) => along.end(said),
+            _ => end_of(said),
+        }
+    }
+
+    /// What a trail says beside the steps, where one is followed.
+    pub fn notes(&mut self) -> Option<&mut Notes> {
+        match self {
+            Replay::Along(_, notes) => Some(notes),
+            _ => None,
         }
     }
 

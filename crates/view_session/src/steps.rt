@@ -7,6 +7,7 @@ ghost use Rattle.view_walk.specs.Walks.{SameModel};
 
 use crate::seen::picture_of;
 use crate::told::{Told, add_same};
+use crate::values::add_values;
 use diagnostics::Fault;
 use pml_sim::world::World;
 use promela_run::moves::Move;
@@ -66,8 +67,8 @@ pub fn texts_of(walk: &Walk<'_, '_>, m: &Move, alloc: Global) -> Result<Texts, A
     Ok(Texts { text, effect })
 }
 
-/// Writes the line of a step: `step 7: proc 1 (P) line 5 [q ! x] sends (3) to q`.
-pub fn add_step_line(step: usize, texts: &Texts, out: &mut Writer)
+// Writes the number and the text of a step: `step 7: proc 1 (P) line 5 [q ! x] sends (3) to q`.
+fn add_step_text(step: usize, texts: &Texts, out: &mut Writer)
     ensures { Stays out.old out.new }
 {
     out.add(b"step ");
@@ -75,26 +76,48 @@ pub fn add_step_line(step: usize, texts: &Texts, out: &mut Writer)
     out.add(b": ");
     out.join(&texts.text);
     out.join(&texts.effect);
-    out.add(b"\n");
 }
 
-// Writes a step that was taken: its line, what it printed and what it changed.
+/// Writes the line of the last step of a walk, which has these texts: `step 7: proc 1 (P) line 5 [x ++] x: 1 -> 2`.
+pub fn add_step_line(walk: &Walk<'_, '_>, texts: &Texts, told: &mut Told) -> Result<(), AllocError>
+    ensures { Stays told.old.out told.new.out }
+{
+    add_step_text(walk.at(), texts, &mut told.out);
+    if told.shows_values {
+        let is_behind = texts.effect.len() > 0;
+        add_values(walk.world(), is_behind, &mut told.out)?;
+    }
+    told.out.add(b"\n");
+    Ok(())
+}
+
+/// Writes what a trail says beside the last step of a walk.
+pub fn add_notes(walk: &Walk<'_, '_>, told: &mut Told)
+    ensures { Stays told.old.out told.new.out }
+{
+    told.notes.add(walk.at(), walk.legs(), &mut told.out);
+}
+
+// Writes the last step of a walk: its line, what it printed and what it changed.
 fn add_step(
-    world: &World<'_, '_>,
-    step: usize,
+    walk: &Walk<'_, '_>,
     texts: &Texts,
     printed: &[u8],
-    out: &mut Writer,
+    told: &mut Told,
 ) -> Result<(), AllocError>
-    ensures { Stays out.old out.new }
+    ensures { Stays told.old.out told.new.out }
 {
-    add_step_line(step, texts, out);
+    add_step_line(walk, texts, told)?;
     if !printed.is_empty() {
-        out.add(b"  prints ");
-        out.quoted(printed);
-        out.add(b"\n");
+        told.out.add(b"  prints ");
+        told.out.quoted(printed);
+        told.out.add(b"\n");
     }
-    add_changes(world, out)
+    if !told.shows_values {
+        add_changes(walk.world(), &mut told.out)?;
+    }
+    add_notes(walk, told);
+    Ok(())
 }
 
 // Writes a step that came to a fault.
@@ -157,14 +180,12 @@ fn take_move(
     ensures model { SameModel walk.old walk.new }
     ensures stays { Stays told.old.out told.new.out }
 {
-    let step = walk.at().saturating_add(1);
     let texts = texts_of(walk, m, told.out.allocator())?;
     let mut printed = Vec::new(told.out.allocator());
     told.step_from(walk.at());
     match choose(walk, choice, &mut printed)? {
         Went::On => {
-            let printed = printed.as_slice();
-            add_step(walk.world(), step, &texts, printed, &mut told.out)?;
+            add_step(walk, &texts, printed.as_slice(), told)?;
             add_same(walk, told)?;
             Ok(Taken::Yes)
         }

@@ -5,6 +5,7 @@ ghost use Rattle.view_text.specs.Written.{Stays};
 ghost use Rattle.view_walk.specs.Walks.{SameModel};
 
 use crate::branches::Branches;
+use crate::notes::Notes;
 use crate::seen::picture_of;
 use crate::stopped::add_break;
 use crate::watches::{Watches, first_met};
@@ -21,6 +22,10 @@ pub struct Told {
     pub branches: Branches,
     pub breaks: Watches,
     pub displays: Watches,
+    /// What a trail says beside steps.
+    pub notes: Notes,
+    /// Whether the line of a step has the values that it changes.
+    pub shows_values: bool,
     /// Those behind the steps before the place where a walk stands, or some of the first of them.
     states: States,
 }
@@ -35,6 +40,8 @@ impl Told {
             branches: Branches::new(alloc),
             breaks: Watches::new(alloc),
             displays: Watches::new(alloc),
+            notes: Notes::new(alloc),
+            shows_values: false,
             states: States::new(alloc),
         }
     }
@@ -44,6 +51,7 @@ impl Told {
         ensures { self.new.out ≡ self.old.out }
     {
         self.states.cut(at.saturating_add(1));
+        self.notes.step_from(at);
     }
 }
 
@@ -110,6 +118,20 @@ pub fn add_same(walk: &mut Walk<'_, '_>, told: &mut Told) -> Result<(), AllocErr
         told.out.add(b"\n");
     }
     Ok(())
+}
+
+/// Whether a walk stands in the state that so many of its steps lead to. It stands where it stood.
+pub fn is_state_of(walk: &mut Walk<'_, '_>, step: usize, alloc: Global) -> Result<bool, AllocError>
+    ensures { SameModel walk.old walk.new }
+{
+    let at = walk.at();
+    let here = whole_of(walk, alloc)?;
+    let step = step.min(walk.legs().len());
+    walk.go_to(step)?;
+    let there = whole_of(walk, alloc)?;
+    let at = at.min(walk.legs().len());
+    walk.go_to(at)?;
+    Ok(here.as_slice() == there.as_slice())
 }
 
 /// The number of the break that a run stops at where a walk stands.

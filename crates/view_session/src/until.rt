@@ -4,6 +4,7 @@ ghost use Rattle.std.specs.Prelude.{◌≡◌};
 ghost use Rattle.std.specs.Ordering.{int_eq};
 ghost use Rattle.promela_process.specs.Numbers.{clipped};
 ghost use Rattle.promela_process.specs.Store.{number_at};
+ghost use Rattle.view_text.specs.Written.{Stays};
 
 use crate::seen::picture_of;
 use crate::written::{Cell, cell_named, is_owned, is_written};
@@ -199,7 +200,9 @@ pub fn aim_of<'l>(
     world: &World<'_, '_>,
     goal: Goal<'l>,
     text: &mut Writer,
-) -> Result<Result<Aim, NoAim>, AllocError> {
+) -> Result<Result<Aim, NoAim>, AllocError>
+    ensures { Stays text.old text.new }
+{
     let picture = picture_of(world);
     match goal {
         Goal::Line(line) if is_standing_line(&picture, line) => Ok(Ok(Aim::Line(line))),

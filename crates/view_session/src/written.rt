@@ -1,5 +1,7 @@
 //! The cells that names name, and the steps that changed them.
 
+ghost use Rattle.std.specs.Prelude.{◌≡◌, false, OnOk};
+ghost use Rattle.view_text.specs.Written.{Stays};
 ghost use Rattle.view_walk.specs.Walks.{SameModel};
 
 use crate::seen::picture_of;
@@ -52,7 +54,9 @@ fn path_within<'l>(
     process: usize,
     path: &'l [u8],
     text: &mut Writer,
-) -> Option<&'l [u8]> {
+) -> Option<&'l [u8]>
+    ensures { Stays text.old text.new }
+{
     text.clear();
     add_name(picture, process, text);
     text.add(b"[");
@@ -62,7 +66,9 @@ fn path_within<'l>(
 }
 
 // What is compared stands there whole, or memory was refused for it.
-fn whole(text: &Writer) -> Result<(), AllocError> {
+fn whole(text: &Writer) -> Result<(), AllocError>
+    ensures { OnOk result (text.now.refused ≡ false) }
+{
     if text.is_refused() {
         return Err(AllocError);
     }
@@ -75,7 +81,9 @@ fn cell_within(
     process: usize,
     within: &[u8],
     text: &mut Writer,
-) -> Option<Cell> {
+) -> Option<Cell>
+    ensures { Stays text.old text.new }
+{
     let place = place_of(picture, process.saturating_add(1), within, text)?;
     Some(Cell {
         place,
@@ -84,7 +92,9 @@ fn cell_within(
 }
 
 // The cell of a process with this path.
-fn found_within(picture: &Picture<'_, '_, '_>, path: &[u8], text: &mut Writer) -> Option<Cell> {
+fn found_within(picture: &Picture<'_, '_, '_>, path: &[u8], text: &mut Writer) -> Option<Cell>
+    ensures { Stays text.old text.new }
+{
     for process in 0..picture.process_count() {
         if let Some(within) = path_within(picture, process, path, text) {
             return cell_within(picture, process, within, text);
@@ -93,7 +103,9 @@ fn found_within(picture: &Picture<'_, '_, '_>, path: &[u8], text: &mut Writer) -
     None
 }
 
-fn found(picture: &Picture<'_, '_, '_>, path: &[u8], text: &mut Writer) -> Option<Cell> {
+fn found(picture: &Picture<'_, '_, '_>, path: &[u8], text: &mut Writer) -> Option<Cell>
+    ensures { Stays text.old text.new }
+{
     match place_of(picture, 0, path, text) {
         Some(place) => Some(Cell { place, owner: None }),
         None => found_within(picture, path, text),
@@ -105,7 +117,9 @@ pub fn cell_named(
     picture: &Picture<'_, '_, '_>,
     path: &[u8],
     text: &mut Writer,
-) -> Result<Option<Cell>, AllocError> {
+) -> Result<Option<Cell>, AllocError>
+    ensures { Stays text.old text.new }
+{
     let cell = found(picture, path, text);
     whole(text)?;
     Ok(cell)

@@ -9,6 +9,7 @@ use view_cells::cells::{add_cell, cell_count, variable_count};
 use view_cells::channels::{add_channel, add_message, channel_at};
 use view_cells::picture::Picture;
 use view_cells::processes::{add_process, line_of};
+use view_labels::labels::add_labels;
 use view_text::filled::Filled;
 use view_text::writer::Writer;
 
@@ -143,12 +144,13 @@ pub fn add_heading(picture: &Picture<'_, '_, '_>, process: usize, out: &mut Writ
     out.pad(start, BEHIND_HEADING);
 }
 
-/// Writes `line L` of where a process stands.
+/// Writes `line L` of where a process stands, and the labels that lead there: `line 12, critical`.
 pub fn add_line(picture: &Picture<'_, '_, '_>, process: usize, out: &mut Writer)
     ensures { Stays out.old out.new }
 {
     out.add(b"line ");
     out.number(line_of(picture, process) as usize);
+    add_labels(picture, process, out);
 }
 
 fn add_one_process(picture: &Picture<'_, '_, '_>, process: usize, room: &mut Room, out: &mut Writer)

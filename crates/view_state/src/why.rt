@@ -8,11 +8,23 @@ use crate::state::{add_heading, add_line};
 use promela_run::moves::Move;
 use std::alloc::AllocError;
 use view_cells::picture::Picture;
-use view_cells::processes::is_at_brace;
+use view_cells::processes::{is_at_brace, line_of};
 use view_text::writer::Writer;
 use view_waits::offers::{add_offer, offer_line};
 use view_waits::waits::{Wait, add_waits};
 use view_waits::words::add_words;
+
+// Writes the line of what a process could do, and, where it stands at that line, the labels that lead there.
+fn add_offer_line(picture: &Picture<'_, '_, '_>, process: usize, line: u32, out: &mut Writer)
+    ensures { Stays out.old out.new }
+{
+    if line == line_of(picture, process) {
+        add_line(picture, process, out);
+    } else {
+        out.add(b"line ");
+        out.number(line as usize);
+    }
+}
 
 // Writes a line: where the process stands, what it could do there, and why it is no move.
 fn add_wait(picture: &Picture<'_, '_, '_>, process: usize, wait: &Wait, out: &mut Writer)
@@ -21,8 +33,7 @@ fn add_wait(picture: &Picture<'_, '_, '_>, process: usize, wait: &Wait, out: &mu
     add_heading(picture, process, out);
     match wait.pick {
         Some(pick) => {
-            out.add(b"line ");
-            out.number(offer_line(picture, pick) as usize);
+            add_offer_line(picture, process, offer_line(picture, pick), out);
             out.add(b" [");
             add_offer(picture, pick, out);
             out.add(b"]");

@@ -1,5 +1,7 @@
 //! Differences of Spin for which a line of its trail fits no move.
 
+ghost use Rattle.view_text.specs.Written.{Stays};
+
 use crate::entry::Entry;
 use crate::fits::text_of;
 use crate::marks::Marks;
@@ -22,7 +24,9 @@ pub enum Difference {
 }
 
 // Whether a process offers an `else`, taken or not.
-fn offers_else(picture: &Picture<'_, '_, '_>, process: usize, out: &mut Writer) -> bool {
+fn offers_else(picture: &Picture<'_, '_, '_>, process: usize, out: &mut Writer) -> bool
+    ensures { Stays out.old out.new }
+{
     for level in 0..usize::MAX {
         for place in 0..usize::MAX {
             let text = text_of(
@@ -51,10 +55,12 @@ fn offers_else(picture: &Picture<'_, '_, '_>, process: usize, out: &mut Writer) 
 // The line of the assignment that a process offers first, where a label stands before the loop that it begins.
 fn labelled_of(
     picture: &Picture<'_, '_, '_>,
-    marks: &Marks<'_>,
+    marks: &Marks,
     process: usize,
     out: &mut Writer,
-) -> Option<usize> {
+) -> Option<usize>
+    ensures { Stays out.old out.new }
+{
     let pick = Pick {
         process,
         level: 0,
@@ -72,11 +78,13 @@ fn labelled_of(
 /// For which difference a line fits no move, as far as that is known.
 pub fn difference_at(
     picture: &Picture<'_, '_, '_>,
-    marks: &Marks<'_>,
+    marks: &Marks,
     trail: &Trail<'_>,
     entry: &Entry<'_>,
     out: &mut Writer,
-) -> Option<Difference> {
+) -> Option<Difference>
+    ensures { Stays out.old out.new }
+{
     if let Some(line) = labelled_of(picture, marks, entry.process, out) {
         return Some(Difference::LabelBeforeLoop(line));
     }

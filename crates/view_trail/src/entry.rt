@@ -53,12 +53,16 @@ fn line_in(place: &[u8]) -> Option<usize> {
     number_last(place)
 }
 
-// What stands behind the number of a process: `(P:1) model.pml:5 (state 2) [x = 1]`, or `terminates`.
+// What stands behind the number of a process: `(P:1) model.pml:5 (state 2) [x = 1]`, `terminates`, or, in a run by chance,
+// `(P:1) terminates`.
 fn event_of(text: &[u8]) -> Option<Event<'_>> {
-    if behind_word(text, b"terminates").is_some() {
+    let behind_name = match parted(text, b") ") {
+        Some((_, behind)) => behind,
+        None => text,
+    };
+    if behind_word(behind_name, b"terminates").is_some() {
         return Some(Event::Death);
     }
-    let (_, behind_name) = parted(text, b") ")?;
     let (place, behind_place) = parted(behind_name, b" (state ")?;
     let line = line_in(place)?;
     let (_, statement) = parted(behind_place, b"[")?;

@@ -2,6 +2,7 @@
 
 ghost use Rattle.std.specs.Prelude.{◌≡◌, IfSome};
 ghost use Rattle.run_search.specs.Laws.{taker};
+ghost use Rattle.view_text.specs.Written.{Stays};
 
 use crate::entry::{Entry, Event};
 use crate::inner::misses;
@@ -26,7 +27,9 @@ const FARTHEST: usize = 10_000_000;
 const MOST_MISSES: usize = 50;
 
 /// The text of the offer that a pick names.
-pub fn text_of(picture: &Picture<'_, '_, '_>, pick: Pick, out: &mut Writer) -> Writer {
+pub fn text_of(picture: &Picture<'_, '_, '_>, pick: Pick, out: &mut Writer) -> Writer
+    ensures { Stays out.old out.new }
+{
     let mut text = Writer::new(out.allocator());
     add_offer(picture, pick, &mut text);
     out.keep_refusal(&text);
@@ -34,7 +37,9 @@ pub fn text_of(picture: &Picture<'_, '_, '_>, pick: Pick, out: &mut Writer) -> W
 }
 
 /// The spelling of a statement.
-pub fn spelling_of(text: &[u8], out: &mut Writer) -> Writer {
+pub fn spelling_of(text: &[u8], out: &mut Writer) -> Writer
+    ensures { Stays out.old out.new }
+{
     let mut spelled = Writer::new(out.allocator());
     add_spelled(text, &mut spelled);
     out.keep_refusal(&spelled);
@@ -59,7 +64,9 @@ fn distance_of_text(
     wanted: &[u8],
     far: usize,
     out: &mut Writer,
-) -> Option<usize> {
+) -> Option<usize>
+    ensures { Stays out.old out.new }
+{
     if is_break(wanted) {
         return if far == 0 && text == b"break".as_slice() {
             Some(0)
@@ -90,7 +97,8 @@ fn distance_of(
     entry: &Entry<'_>,
     out: &mut Writer,
 ) -> Option<usize>
-    ensures { IfSome result (λ n. pick.process ≡ entry.now.process) }
+    ensures process { IfSome result (λ n. pick.process ≡ entry.now.process) }
+    ensures stays { Stays out.old out.new }
 {
     let Event::Statement(line, wanted) = entry.event else {
         return None;
@@ -116,7 +124,8 @@ fn distance_of_pair(
     entry: &Entry<'_>,
     out: &mut Writer,
 ) -> Option<usize>
-    ensures { IfSome result (λ n. sender.process ≡ entry.now.process) }
+    ensures process { IfSome result (λ n. sender.process ≡ entry.now.process) }
+    ensures stays { Stays out.old out.new }
 {
     let first = distance_of(picture, sender, trail, entry, out)?;
     let second = trail.second()?;
@@ -132,7 +141,8 @@ pub fn distance(
     entry: &Entry<'_>,
     out: &mut Writer,
 ) -> Option<usize>
-    ensures { IfSome result (λ n. taker m.now ≡ entry.now.process) }
+    ensures process { IfSome result (λ n. taker m.now ≡ entry.now.process) }
+    ensures stays { Stays out.old out.new }
 {
     match m {
         Move::Death(process) => {

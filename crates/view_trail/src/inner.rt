@@ -1,5 +1,7 @@
 //! What stands in a d_step: of several that begin here, that one fits best in which the most of a trail's lines stand.
 
+ghost use Rattle.view_text.specs.Written.{Stays};
+
 use crate::entry::{Entry, Event};
 use crate::spelled::add_spelled;
 use crate::trail::Trail;
@@ -12,7 +14,9 @@ use view_text::writer::Writer;
 const MOST_LINES: usize = 20;
 
 // Writes the spelling of a statement that a pick names, with all that stands in it.
-fn add_whole(picture: &Picture<'_, '_, '_>, pick: Pick, out: &mut Writer) {
+fn add_whole(picture: &Picture<'_, '_, '_>, pick: Pick, out: &mut Writer)
+    ensures { Stays out.old out.new }
+{
     let Some(offer) = picked(picture.live(), pick) else {
         return;
     };
@@ -49,7 +53,9 @@ fn counted(spelled: &[u8]) -> Option<(&[u8], u8)> {
 }
 
 // Whether a statement stands in a d_step, also as `x++`.
-fn is_in(whole: &[u8], spelled: &[u8], out: &mut Writer) -> bool {
+fn is_in(whole: &[u8], spelled: &[u8], out: &mut Writer) -> bool
+    ensures { Stays out.old out.new }
+{
     if stands_in(whole, spelled) {
         return true;
     }
@@ -64,7 +70,9 @@ fn is_in(whole: &[u8], spelled: &[u8], out: &mut Writer) -> bool {
 }
 
 // Whether a line is of what stands in a d_step.
-fn is_line_in(whole: &[u8], entry: &Entry<'_>, out: &mut Writer) -> bool {
+fn is_line_in(whole: &[u8], entry: &Entry<'_>, out: &mut Writer) -> bool
+    ensures { Stays out.old out.new }
+{
     let Event::Statement(_, text) = entry.event else {
         return false;
     };
@@ -81,13 +89,15 @@ pub fn misses(
     trail: &Trail<'_>,
     entry: &Entry<'_>,
     out: &mut Writer,
-) -> usize {
+) -> usize
+    ensures { Stays out.old out.new }
+{
     let mut whole = Writer::new(out.allocator());
     add_whole(picture, pick, &mut whole);
     out.keep_refusal(&whole);
     let mut ahead = *trail;
     let mut count = 0usize;
-    for _ in 0..MOST_LINES {
+    for _turn in 0..MOST_LINES {
         match ahead.pass() {
             Some(line) if line.process == entry.process && line.step == entry.step => {
                 if !is_line_in(whole.bytes(), &line, out) {

@@ -1,6 +1,8 @@
 //! Trails of Spin: what `spin -t -p` prints, read line by line, and which of the present moves its next line names.
 #![tactic(auto)]
 
+pub mod beside;
+mod declared;
 pub mod difference;
 pub mod entry;
 pub mod fits;

@@ -1,19 +1,17 @@
 //! Where a model declares which names, and where a label stands before a `for` or a `select`: by its tokens, once its inlines are replaced.
 
+ghost use Rattle.std.specs.Prelude.{◌≡◌};
+ghost use Rattle.std.specs.List.{slice_get};
+ghost use Rattle.view_trail.specs.Declarations.{types, kind_of, line_of, labels};
+
+use crate::declared::{Declared, is_closing, is_opening};
 use pml_token::token::{Kind, Token};
 use std::alloc::{AllocError, Global};
 
-/// A name that is declared on a line.
-#[derive(Clone, Copy, Debug)]
-struct Declared<'m> {
-    name: &'m [u8],
-    line: usize,
-}
-
 /// What is marked of a model.
 #[derive(Drop)]
-pub struct Marks<'m> {
-    declared: Vec<Declared<'m>>,
+pub struct Marks {
+    declared: Vec<Declared>,
     /// The lines of labels before loops that begin with an assignment, and of these loops.
     labelled: Vec<usize>,
 }
@@ -27,7 +25,9 @@ struct List {
     is_expected: bool,
 }
 
-fn is_type(kind: Kind) -> bool {
+fn is_type(kind: Kind) -> bool
+    ensures { result ≡ types kind }
+{
     match kind {
         Kind::Bit
         | Kind::Bool
@@ -42,14 +42,18 @@ fn is_type(kind: Kind) -> bool {
     }
 }
 
-fn kind_at(tokens: &[Token<'_>], at: usize) -> Kind {
+fn kind_at(tokens: &[Token<'_>], at: usize) -> Kind
+    ensures { result ≡ kind_of (slice_get tokens.now at) }
+{
     match tokens.get(at) {
         Some(token) => token.kind(),
         None => Kind::End,
     }
 }
 
-fn line_at(tokens: &[Token<'_>], at: usize) -> usize {
+fn line_at(tokens: &[Token<'_>], at: usize) -> usize
+    ensures { result ≡ line_of (slice_get tokens.now at) }
+{
     match tokens.get(at) {
         Some(token) => token.line() as usize,
         None => 0,
@@ -60,14 +64,6 @@ fn line_at(tokens: &[Token<'_>], at: usize) -> usize {
 fn begins(tokens: &[Token<'_>], at: usize) -> bool {
     let kind = kind_at(tokens, at);
     kind_at(tokens, at.saturating_add(1)) == Kind::Name && (is_type(kind) || kind == Kind::Name)
-}
-
-fn is_opening(kind: Kind) -> bool {
-    kind == Kind::OpenParen || kind == Kind::OpenBracket || kind == Kind::OpenBrace
-}
-
-fn is_closing(kind: Kind) -> bool {
-    kind == Kind::CloseParen || kind == Kind::CloseBracket || kind == Kind::CloseBrace
 }
 
 // The list behind a token that stands in no brackets of it; none where it has ended.
@@ -121,34 +117,34 @@ fn opened(tokens: &[Token<'_>], at: usize) -> Option<List> {
     }
 }
 
-// Whether a label stands here, and a `for` or a `select` behind it.
-fn is_labelled(tokens: &[Token<'_>], at: usize) -> bool {
-    let behind = kind_at(tokens, at.saturating_add(2));
-    kind_at(tokens, at) == Kind::Name
-        && kind_at(tokens, at.saturating_add(1)) == Kind::Colon
-        && (behind == Kind::For || behind == Kind::Select)
+// Whether a label stands before a `for` or a `select`, where these kinds are in a row.
+fn is_label(first: Kind, second: Kind, third: Kind) -> bool
+    ensures { result ≡ labels first second third }
+{
+    match (first, second, third) {
+        (Kind::Name, Kind::Colon, Kind::For) | (Kind::Name, Kind::Colon, Kind::Select) => true,
+        _ => false,
+    }
 }
 
-impl<'m> Marks<'m> {
+// Whether a label stands here, and a `for` or a `select` behind it.
+fn is_labelled(tokens: &[Token<'_>], at: usize) -> bool {
+    let second = kind_at(tokens, at.saturating_add(1));
+    let third = kind_at(tokens, at.saturating_add(2));
+    is_label(kind_at(tokens, at), second, third)
+}
+
+impl Marks {
     /// Of no model.
-    pub fn new(alloc: Global) -> Marks<'m> {
+    pub fn new(alloc: Global) -> Marks {
         Marks {
             declared: Vec::new(alloc),
             labelled: Vec::new(alloc),
         }
     }
 
-    // Marks a token that declares a name.
-    fn declare(&mut self, token: &Token<'m>) -> Result<(), AllocError> {
-        self.declared.push(Declared {
-            name: token.text(),
-            line: token.line() as usize,
-        })?;
-        Ok(())
-    }
-
     // Marks the label that stands here.
-    fn label(&mut self, tokens: &[Token<'m>], at: usize) -> Result<(), AllocError> {
+    fn label(&mut self, tokens: &[Token<'_>], at: usize) -> Result<(), AllocError> {
         self.labelled.push(line_at(tokens, at))?;
         self.labelled.push(line_at(tokens, at.saturating_add(2)))?;
         Ok(())
@@ -157,7 +153,7 @@ impl<'m> Marks<'m> {
     // Marks what stands at a token of a list, or of none; the list behind it.
     fn mark(
         &mut self,
-        tokens: &[Token<'m>],
+        tokens: &[Token<'_>],
         at: usize,
         list: Option<List>,
     ) -> Result<Option<List>, AllocError> {
@@ -168,14 +164,18 @@ impl<'m> Marks<'m> {
             return Ok(opened(tokens, at));
         };
         match tokens.get(at) {
-            Some(token) if list.is_expected && token.kind() == Kind::Name => self.declare(token)?,
+            Some(token) if list.is_expected && token.kind() == Kind::Name => {
+                let alloc = *self.declared.allocator();
+                self.declared
+                    .push(Declared::new(tokens, at, token.line() as usize, alloc)?)?;
+            }
             _ => {}
         }
         Ok(behind(list, kind_at(tokens, at)))
     }
 
     /// Marks all of a model.
-    pub fn mark_all(&mut self, tokens: &[Token<'m>]) -> Result<(), AllocError> {
+    pub fn mark_all(&mut self, tokens: &[Token<'_>]) -> Result<(), AllocError> {
         let mut list = None;
         for at in 0..tokens.len() {
             list = self.mark(tokens, at, list)?;
@@ -183,10 +183,10 @@ impl<'m> Marks<'m> {
         Ok(())
     }
 
-    /// Whether a line declares a name.
-    pub fn is_declared(&self, name: &[u8], line: usize) -> bool {
+    /// Whether Spin may show a statement of a line for a declaration there; it is given in one spelling.
+    pub fn is_declared(&self, statement: &[u8], line: usize) -> bool {
         for declared in self.declared.as_slice() {
-            if declared.line == line && declared.name == name {
+            if declared.is_shown_as(statement, line) {
                 return true;
             }
         }

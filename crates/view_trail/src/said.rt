@@ -1,5 +1,7 @@
 //! What Spin says of a trail beside its steps: where a cycle starts, which assertion failed, and the claim that ended it.
 
+ghost use Rattle.view_text.specs.Written.{Stays};
+
 use crate::scan::{before_blanks, behind_blanks, behind_word, parted};
 use view_text::writer::Writer;
 
@@ -20,6 +22,8 @@ pub struct Failed<'t> {
     pub place: &'t [u8],
     pub text: &'t [u8],
     pub is_of_claim: bool,
+    /// Its step is a line of the trail. It is none in a run by chance.
+    pub is_step: bool,
 }
 
 // `  <<<<<START OF CYCLE>>>>>`
@@ -62,6 +66,7 @@ impl<'t> Said<'t> {
                 place,
                 text: b"",
                 is_of_claim: false,
+                is_step: false,
             });
         } else if let Some(failed) = self.failed {
             self.failed = Some(behind_failed(failed, line));
@@ -89,6 +94,7 @@ fn behind_failed<'t>(failed: Failed<'t>, line: &'t [u8]) -> Failed<'t> {
         Some(text) => Failed { text, ..failed },
         None => Failed {
             is_of_claim: failed.is_of_claim || is_of_claim(line),
+            is_step: failed.is_step || parted(line, b"[assert").is_some(),
             ..failed
         },
     }
@@ -114,7 +120,9 @@ pub fn said_in(text: &[u8]) -> Said<'_> {
 }
 
 // Writes which assertion failed.
-fn add_failed(failed: &Failed<'_>, out: &mut Writer) {
+fn add_failed(failed: &Failed<'_>, out: &mut Writer)
+    ensures { Stays out.old out.new }
+{
     out.add(b"trail: assertion violated, ");
     out.add(failed.place);
     out.add(b": ");
@@ -122,19 +130,47 @@ fn add_failed(failed: &Failed<'_>, out: &mut Writer) {
     out.add(b"\n");
 }
 
-/// Writes what is said, a line for each; the cycle starts behind so many steps.
-pub fn add_said(said: &Said<'_>, before: usize, out: &mut Writer) {
-    if said.cycle.is_some() {
-        out.add(b"trail: a cycle starts behind step ");
-        out.number(before);
-        out.add(b"\n");
+/// A cycle of a trail: behind how many steps it begins; and whether the trail ends in the state that is there, where it was followed to its
+/// end.
+#[derive(Clone, Copy, Debug, PartialEq, Eq)]
+pub struct Cycle {
+    pub before: usize,
+    pub is_closed: Option<bool>,
+}
+
+// Writes where a cycle begins.
+fn add_cycle(cycle: Cycle, out: &mut Writer)
+    ensures { Stays out.old out.new }
+{
+    out.add(b"trail: the cycle begins at step ");
+    out.number(cycle.before);
+    match cycle.is_closed {
+        Some(true) => {
+            out.add(b", and the state is that of step ");
+            out.number(cycle.before);
+        }
+        Some(false) => {
+            out.add(b", and the state is not that of step ");
+            out.number(cycle.before);
+        }
+        None => {}
+    }
+    out.add(b"\n");
+}
+
+/// Writes what is said, a line for each, and of a cycle what is known of it.
+pub fn add_said(said: &Said<'_>, cycle: Option<Cycle>, out: &mut Writer)
+    ensures { Stays out.old out.new }
+{
+    if let Some(cycle) = cycle {
+        add_cycle(cycle, out);
     }
     if let Some(failed) = &said.failed {
         add_failed(failed, out);
     }
     if let Some(claim) = said.claim {
-        out.add(b"trail: the claim ");
+        out.add(b"trail: claim ended: the run violates it (");
         out.add(claim);
-        out.add(b" ended it\n");
+        out.add(b")\n");
     }
 }

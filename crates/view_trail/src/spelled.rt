@@ -1,5 +1,7 @@
 //! The text of a statement, as Spin and as the machine write it, in one spelling.
 
+ghost use Rattle.view_text.specs.Written.{Stays};
+
 use view_text::writer::Writer;
 
 fn is_of_word(byte: u8) -> bool {
@@ -28,7 +30,9 @@ pub fn word_size(text: &[u8]) -> usize {
 }
 
 // `skip` and `true` are 1, and `false` is 0.
-fn add_word(word: &[u8], out: &mut Writer) {
+fn add_word(word: &[u8], out: &mut Writer)
+    ensures { Stays out.old out.new }
+{
     if word == b"skip".as_slice() || word == b"true".as_slice() {
         out.add(b"1");
     } else if word == b"false".as_slice() {
@@ -39,9 +43,11 @@ fn add_word(word: &[u8], out: &mut Writer) {
 }
 
 // Writes the words and signs of a text.
-fn add_signs(text: &[u8], out: &mut Writer) {
+fn add_signs(text: &[u8], out: &mut Writer)
+    ensures { Stays out.old out.new }
+{
     let mut at = 0usize;
-    for _ in 0..text.len() {
+    for _turn in 0..text.len() {
         if at >= text.len() {
             break;
         }
@@ -63,7 +69,9 @@ fn counted(text: &[u8], sign: u8) -> Option<&[u8]> {
 }
 
 // `x = x + 1`.
-fn add_counted(before: &[u8], sign: u8, out: &mut Writer) {
+fn add_counted(before: &[u8], sign: u8, out: &mut Writer)
+    ensures { Stays out.old out.new }
+{
     add_signs(before, out);
     out.add(b"=");
     add_signs(before, out);
@@ -72,7 +80,9 @@ fn add_counted(before: &[u8], sign: u8, out: &mut Writer) {
 }
 
 /// Writes the spelling of a statement.
-pub fn add_spelled(text: &[u8], out: &mut Writer) {
+pub fn add_spelled(text: &[u8], out: &mut Writer)
+    ensures { Stays out.old out.new }
+{
     if let Some(before) = counted(text, b'+') {
         add_counted(before, b'+', out);
     } else if let Some(before) = counted(text, b'-') {

@@ -2,13 +2,13 @@
 
 ghost use Rattle.std.specs.Prelude.{◌≡◌, true, IfSome};
 ghost use Rattle.run_search.specs.Laws.{taker};
+ghost use Rattle.view_text.specs.Written.{Stays};
 
 use crate::entry::{Entry, Event};
 use crate::fits::{behind, distance, spelling_of, text_of};
 use crate::marks::Marks;
 use crate::quiet::{is_of_machine, is_of_spin};
 use crate::select::{Stride, counts_to, stride_of};
-use crate::spelled::word_size;
 use crate::trail::Trail;
 use crate::way::{Way, Ways};
 use promela_run::moves::Move;
@@ -31,7 +31,9 @@ fn add_fits<'t>(
     entry: &Entry<'_>,
     ways: &mut Ways<'t>,
     out: &mut Writer,
-) -> Result<(), AllocError> {
+) -> Result<(), AllocError>
+    ensures { Stays out.old out.new }
+{
     for at in 0..moves.len() {
         if let Some(far) = distance(picture, &moves[at], trail, entry, out) {
             let trail = behind(trail, &moves[at], far);
@@ -54,7 +56,8 @@ fn spelled_of(
     process: usize,
     out: &mut Writer,
 ) -> Option<Writer>
-    ensures { IfSome result (λ w. taker m.now ≡ process) }
+    ensures process { IfSome result (λ w. taker m.now ≡ process) }
+    ensures stays { Stays out.old out.new }
 {
     match m {
         Move::Alone(pick, _) if pick.process == process => {
@@ -96,7 +99,9 @@ fn add_selecting<'t>(
     entry: &Entry<'_>,
     ways: &mut Ways<'t>,
     out: &mut Writer,
-) -> Result<(), AllocError> {
+) -> Result<(), AllocError>
+    ensures { Stays out.old out.new }
+{
     let Event::Statement(_, text) = entry.event else {
         return Ok(());
     };
@@ -134,11 +139,12 @@ fn add_counting<'t>(
 }
 
 // Whether Spin may show a line where the machine takes no step: a jump, or a declaration behind a statement.
-fn is_shown_alone(marks: &Marks<'_>, entry: &Entry<'_>) -> bool {
+fn is_shown_alone(marks: &Marks, entry: &Entry<'_>, out: &mut Writer) -> bool
+    ensures { Stays out.old out.new }
+{
     match entry.event {
         Event::Statement(line, text) => {
-            let name = &text[..word_size(text).min(text.len())];
-            is_of_spin(text) || marks.is_declared(name, line)
+            is_of_spin(text) || marks.is_declared(spelling_of(text, out).bytes(), line)
         }
         Event::Death => false,
     }
@@ -159,7 +165,8 @@ fn add_passing<'t>(trail: &Trail<'t>, ways: &mut Ways<'t>) -> Result<(), AllocEr
 
 // Whether a process takes a step by this move that Spin may leave out.
 fn is_quiet(picture: &Picture<'_, '_, '_>, m: &Move, process: usize, out: &mut Writer) -> bool
-    ensures { result ≡ true → taker m.now ≡ process }
+    ensures process { result ≡ true → taker m.now ≡ process }
+    ensures stays { Stays out.old out.new }
 {
     match m {
         Move::Alone(pick, _) if pick.process == process => {
@@ -177,7 +184,9 @@ fn add_quiet<'t>(
     trail: &Trail<'t>,
     ways: &mut Ways<'t>,
     out: &mut Writer,
-) -> Result<(), AllocError> {
+) -> Result<(), AllocError>
+    ensures { Stays out.old out.new }
+{
     let Some(trail) = behind_quiet(trail, None) else {
         return Ok(());
     };
@@ -203,7 +212,9 @@ fn add_unshown<'t>(
     entry: &Entry<'_>,
     ways: &mut Ways<'t>,
     out: &mut Writer,
-) -> Result<(), AllocError> {
+) -> Result<(), AllocError>
+    ensures { Stays out.old out.new }
+{
     add_quiet(picture, moves, entry.process, trail, ways, out)?;
     match picture.holder() {
         Some(holder) if holder != entry.process => {
@@ -218,15 +229,17 @@ fn add_unshown<'t>(
 pub fn ways_on<'t>(
     picture: &Picture<'_, '_, '_>,
     moves: &[Move],
-    marks: &Marks<'_>,
+    marks: &Marks,
     trail: &Trail<'t>,
     entry: &Entry<'_>,
     out: &mut Writer,
-) -> Result<Ways<'t>, AllocError> {
+) -> Result<Ways<'t>, AllocError>
+    ensures { Stays out.old out.new }
+{
     let mut ways = Ways::new(out.allocator());
     add_fits(picture, moves, trail, entry, &mut ways, out)?;
     add_selecting(picture, moves, trail, entry, &mut ways, out)?;
-    if is_shown_alone(marks, entry) {
+    if is_shown_alone(marks, entry, out) {
         add_passing(trail, &mut ways)?;
     }
     add_unshown(picture, moves, trail, entry, &mut ways, out)?;

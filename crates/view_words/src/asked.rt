@@ -41,6 +41,10 @@ pub struct Asked {
     pub form: Form,
     /// Whether lines are read that go on with a run, each answered by lines of JSON.
     pub asks: bool,
+    /// The step behind which lines of JSON begin.
+    pub from: u32,
+    /// Whether a program drives the run, by lines of JSON.
+    pub serves: bool,
     /// Whether messages that are sent to full channels are lost.
     pub is_lossy: bool,
     /// How many steps are taken at most.

@@ -20,6 +20,9 @@ Options:
   --random <SEED>   Answer each question by a generator, without a session
   --json            Without a session: a line of JSON for each step
   --ask             Without a session: lines of JSON for each line of input
+  --from <F>        Without a session: lines of JSON behind step F, and first
+                    its state
+  --serve           Without a session: a program drives it, by lines of JSON
   --chart           Without a session: the chart of messages
   --page <FILE>     Without a session: write FILE, a page for a browser
   -m                Lose messages that are sent to a full channel

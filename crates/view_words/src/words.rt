@@ -44,6 +44,25 @@ fn asks<'a>(alloc: Global) -> Result<Arg<'a>, AllocError> {
         .conflicts_with("page")
 }
 
+// The option of a run whose lines begin behind a step; it has no other form.
+fn from<'a>(alloc: Global) -> Result<Arg<'a>, AllocError> {
+    Arg::new(alloc, "from")
+        .long("from")
+        .action(ArgAction::Set)
+        .value_name("F")
+        .value_parser(value_parser!(u32))
+        .conflicts_with("chart")?
+        .conflicts_with("page")
+}
+
+// The flag of a run that a program drives, which has no other form.
+fn serves<'a>(alloc: Global) -> Result<Arg<'a>, AllocError> {
+    flag(alloc, "serve")
+        .conflicts_with("ask")?
+        .conflicts_with("chart")?
+        .conflicts_with("page")
+}
+
 fn seed<'a>(alloc: Global) -> Arg<'a> {
     Arg::new(alloc, "random")
         .long("random")
@@ -86,6 +105,8 @@ fn command<'a>(alloc: Global) -> Result<Command<'a>, AllocError> {
         .arg(flag(alloc, "json"))?
         .arg(flag(alloc, "chart"))?
         .arg(asks(alloc)?)?
+        .arg(from(alloc)?)?
+        .arg(serves(alloc)?)?
         .arg(lossy(alloc))?
         .arg(limit(alloc))?
         .arg(flag(alloc, "explain"))?
@@ -123,7 +144,9 @@ fn texts_of(alloc: Global, matches: &ArgMatches<'_>, id: &str) -> Result<Vec<Str
 }
 
 fn form_of(matches: &ArgMatches<'_>) -> Form {
-    if matches.get_count("json") > 0 || matches.get_count("ask") > 0 {
+    let goes_on = matches.get_count("ask") > 0 || matches.get_count("serve") > 0;
+    let is_behind = matches.get_one::<u32>("from").is_some();
+    if matches.get_count("json") > 0 || goes_on || is_behind {
         Form::Json
     } else if matches.get_count("chart") > 0 {
         Form::Chart
@@ -161,6 +184,8 @@ pub fn read<'a>(alloc: Global, words: &'a [&'a str]) -> Result<Asked, Error> {
         seed: matches.get_one::<u32>("random"),
         form: form_of(&matches),
         asks: matches.get_count("ask") > 0,
+        from: matches.get_one::<u32>("from").unwrap_or(0),
+        serves: matches.get_count("serve") > 0,
         is_lossy: matches.get_count("m") > 0,
         limit: matches.get_one::<u32>("u").unwrap_or(USUAL_LIMIT),
         explains: matches.get_count("explain") > 0,

@@ -15,3 +15,10 @@ mod Limits
 mod Random1
 mod Random2
 mod Random3
+mod Spin1
+mod Spin2
+mod Spin3
+mod Spin4
+mod Spin5
+mod Spin6
+mod Spin7

@@ -25,6 +25,7 @@ use Rattle.pml_program.specs.declared.program.Seq.{Seq, roll-Seq}
 use Rattle.pml_program.specs.declared.program.Basic.{Basic}
 use Rattle.pml_program.specs.declared.program.Basic as basic
 use Rattle.worked_runs.specs.Seen.{Seen}
+use Rattle.worked_runs.specs.Printed.{Printed, Ending}
 
 -- ---- tokens
 
@@ -164,3 +165,7 @@ text (l ∷ ls) = codes l ++ text ls
 -- output, record, status, and how many bytes are read
 abbrev pub whole : List ℕ → List ℕ → ℕ → ℕ → Seen
 whole output recorded status read = record { output = output; recorded = recorded; status = status; read = read }
+
+-- what is printed along a path that ends so
+abbrev pub shown : List ℕ → Ending → Printed
+shown text ending = record { text = text; ending = ending }

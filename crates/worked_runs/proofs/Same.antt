@@ -1,5 +1,5 @@
 -- The copies are the definitions, so what is seen of a session is what is seen by means that compute.
-use Rattle.std.proofs.Common.{◌≡◌, ℕ, List, Option, Some, None, Result, Ok, Err, refl, ap, ◌∙◌}
+use Rattle.std.proofs.Common.{◌≡◌, ℕ, List, Option, Some, None, Result, Ok, Err, false, refl, ap, ◌∙◌}
 use Rattle.std.specs.Prelude.{option_map}
 use Rattle.std.specs.Int.{int_wrap}
 use Rattle.std.specs.Fmt.{digits}
@@ -22,6 +22,7 @@ use Rattle.promela_process.specs.Numbers.{bits_of, is_signed}
 use Rattle.promela_run.specs.State.{State, first_state}
 use Rattle.promela_run.specs.World.{first, rules}
 use Rattle.worked_runs.specs.Seen.{Seen, seen_of, played, seen}
+use Rattle.worked_runs.specs.Printed.{Printed, printed_from, printed}
 use Rattle.worked_runs.proofs.Means.{Means, stated, computing, means-are}
 use Rattle.worked_runs.proofs.Copies.{state-first_state, world-rules}
 
@@ -56,6 +57,23 @@ pub sees :
     (o : Options) (p : Program) (choices : List ℕ) (x : Seen) → seen_by computing o p choices ≡ Some x → seen o p choices ≡ Some x
 sees o p choices x is = ap (option_map seen_of) (played-is o p choices) ∙ is
 
+-- ---- the same of what is printed along a path
+
+abbrev pub printed_behind_by : Means → ℕ → List ℕ → Result State Fault → Option Printed
+printed_behind_by m steps numbers (Ok s) = Some (printed_from (world-rules m) steps numbers (first s false))
+printed_behind_by m steps numbers (Err f) = None
+
+abbrev pub printed_by : Means → Program → ℕ → List ℕ → Option Printed
+printed_by m p steps numbers = printed_behind_by m steps numbers (state-first_state m p)
+
+printed-is : (p : Program) (steps : ℕ) (numbers : List ℕ) → printed p steps numbers ≡ printed_by computing p steps numbers
+printed-is p steps numbers = ap (λ m. printed_by m p steps numbers) means-are
+
+-- what computes to be printed is printed
+pub prints :
+    (p : Program) (steps : ℕ) (numbers : List ℕ) (x : Printed) → printed_by computing p steps numbers ≡ Some x → printed p steps numbers ≡ Some x
+prints p steps numbers x is = printed-is p steps numbers ∙ is
+
 -- ---- what a run computes with
 
 unfoldable pub session_computes : Unit {0}
@@ -70,10 +88,14 @@ unfoldable pub row_computes : Unit {0}
 unfolding shape-the_row-Target-0 hidden-the_row-Target-0 shape-the_row-Want-1 hidden-the_row-Want-1 shape-the_row-Expr-2 hidden-the_row-Expr-2 shape-the_row-Turn-3 hidden-the_row-Turn-3
 row_computes = tt
 
+unfoldable pub path_computes : Unit {0}
+unfolding printed_from
+path_computes = tt
+
 unfoldable pub body_computes : Unit {0}
 unfolding settle roll out hidden roll-Seq shape-the_row-Stmt-1 hidden-the_row-Stmt-1 shape-the_row-Seq-0 hidden-the_row-Seq-0
 body_computes = tt
 
 unfoldable pub computes : Unit {0}
-unfolding session_computes expression_computes row_computes body_computes
+unfolding session_computes path_computes expression_computes row_computes body_computes
 computes = tt

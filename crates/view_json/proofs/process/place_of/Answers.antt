@@ -8,4 +8,4 @@ pub returns : goal.returns
 returns c =
     chained _ _ _ _ _ c.named.ensures
     (chained _ _ _ _ _ (subst (λ (n : ℕ). Writes c.named.new.json c.number.new.json (member (codes "line") (count n))) c.line_of.ensures c.number.ensures)
-    (subst (λ (n : ℕ). Writes c.number.new.json c.number-2.new.json (member (codes "moves") (count n))) c.moves_of.ensures c.number-2.ensures))
+    (subst (λ (n : ℕ). Writes c.number.new.json c.number-2.new.json (member (codes "moves") (count n))) c.of.ensures c.number-2.ensures))

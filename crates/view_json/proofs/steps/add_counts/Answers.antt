@@ -9,20 +9,19 @@ use Rattle.view_json.proofs.Differing.{finished, written_printable}
 use Rattle.view_json.proofs.Stepped.{counts_text}
 use Rattle.view_json.proofs.steps.add_counts.Goals as goal
 
-numbers : (c : goal.After-add-2) → Writes c.new-json.result c.end_object.new.self (counts c.args.picture.now)
+numbers : (c : goal.After-finish) → Writes c.new-json.result c.noted.new.json (counts c.args.picture.now c.args.step c.args.note)
 numbers c =
     also _ _ _ _ _ (subst (λ (n : ℕ). Writes c.new-json.result c.number.new.json (member (codes "alive") (count n))) c.process_count.ensures.value c.number.ensures)
     (also _ _ _ _ _ (subst (λ (n : ℕ). Writes c.number.new.json c.number-2.new.json (member (codes "open") (count n))) c.channel_count.ensures c.number-2.ensures)
-    c.end_object.ensures)
+    (also _ _ _ _ _ c.same.ensures c.noted.ensures))
 
 pub returns-clause-written : goal.returns-clause-written
 returns-clause-written c =
-    subst (Adds c.args.out.now c.add-2.new.self) (counts_text c.args.picture.now)
+    subst (Adds c.args.out.now c.finish.new.out) (counts_text c.args.picture.now c.args.step c.args.note)
     (chained _ _ _ _ _ c.add.ensures
-    (chained _ _ _ _ _ (finished _ _ _ _ (counts c.args.picture.now) c.new-json.ensures (numbers c) c.finish.ensures.written c.finish.ensures.refused)
-    c.add-2.ensures))
+    (finished _ _ _ _ (counts c.args.picture.now c.args.step c.args.note) c.new-json.ensures (numbers c) c.finish.ensures.written c.finish.ensures.refused))
 
 pub returns-clause-printable : goal.returns-clause-printable
 returns-clause-printable c calm =
-    written_printable c.add-2.new.self _ _ (counts c.args.picture.now) c.new-json.ensures (numbers c) c.finish.ensures.printable
-    (λ so. c.add-2.ensures.stays (c.finish.ensures.refused so)) calm
+    written_printable c.finish.new.out _ _ (counts c.args.picture.now c.args.step c.args.note) c.new-json.ensures (numbers c) c.finish.ensures.printable
+    c.finish.ensures.refused calm

@@ -6,7 +6,7 @@ use Rattle.view_json.proofs.changed.Shown.all_processes.Goals as goal
 
 pub loop-process-preserved : goal.loop-process-preserved
 loop-process-preserved c all =
-    let here = c.in_ok-object.ensures all in
+    let here = c.in_ok-object.ensures c.in_ok-moves.ensures all in
     let f = λ (v : Vec ℕ Global). v.items in
     let s = c.args.picture.now in
     let b = c.args.behind in

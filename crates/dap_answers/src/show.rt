@@ -1,0 +1,94 @@
+//! What is shown of a state: each answer is of a picture of it, and of which stop it is.
+
+use crate::commands::Command;
+use crate::data::info_of as data_info_of;
+use dap_messages::fields::{number_at, text_at};
+use dap_shown::cells::Page;
+use dap_shown::moves::targets_of;
+use dap_shown::processes::{Source, process_of, stack_of, threads_of};
+use dap_shown::references::{Shown, shown_by};
+use dap_shown::variables::{MOST_SHOWN, scopes_of, variables_by};
+use serde_json::{Value, json};
+use std::alloc::{AllocError, Global};
+use view_cells::picture::Picture;
+
+// A process that a request names, if it lives.
+fn process_at(picture: &Picture<'_, '_, '_>, request: &Value, path: &str) -> Option<usize> {
+    let process = process_of(number_at(request, path))?;
+    if process < picture.process_count() {
+        Some(process)
+    } else {
+        None
+    }
+}
+
+// Which variables a request asks for.
+fn page_of(request: &Value) -> Page {
+    let start = number_at(request, "/arguments/start").unwrap_or(0);
+    match number_at(request, "/arguments/count") {
+        Some(count) if count > 0 => Page {
+            start,
+            count: count.min(MOST_SHOWN),
+        },
+        _ => Page {
+            start,
+            count: MOST_SHOWN,
+        },
+    }
+}
+
+// The cells of a variable have no names of their own.
+fn is_none_named(request: &Value, reference: usize) -> bool {
+    let is_named = text_at(request, "/arguments/filter") == "named";
+    is_named && matches!(shown_by(reference), Shown::Cells(_, _))
+}
+
+fn variables(
+    alloc: Global,
+    picture: &Picture<'_, '_, '_>,
+    request: &Value,
+) -> Result<Value, AllocError> {
+    let reference = number_at(request, "/arguments/variablesReference").unwrap_or(0);
+    if is_none_named(request, reference) {
+        return json!(in alloc; {"variables": []});
+    }
+    variables_by(alloc, picture, reference, page_of(request))
+}
+
+// What is shown of a process.
+fn of_process(
+    alloc: Global,
+    picture: &Picture<'_, '_, '_>,
+    process: usize,
+    source: Source<'_>,
+    command: Command,
+    stop: usize,
+) -> Result<Value, AllocError> {
+    match command {
+        Command::StackTrace => stack_of(alloc, picture, process, source),
+        Command::Scopes => scopes_of(alloc, process),
+        _ => targets_of(alloc, picture, process, stop),
+    }
+}
+
+/// What a request shows of a state; none where the process is not there that it names.
+pub fn shown(
+    alloc: Global,
+    picture: &Picture<'_, '_, '_>,
+    source: Source<'_>,
+    stop: usize,
+    command: Command,
+    request: &Value,
+) -> Result<Option<Value>, AllocError> {
+    let path = match command {
+        Command::Threads => return Ok(Some(threads_of(alloc, picture)?)),
+        Command::Variables => return Ok(Some(variables(alloc, picture, request)?)),
+        Command::DataBreakpointInfo => return Ok(Some(data_info_of(alloc, picture, request)?)),
+        Command::StackTrace => "/arguments/threadId",
+        _ => "/arguments/frameId",
+    };
+    match process_at(picture, request, path) {
+        Some(process) => Ok(Some(of_process(alloc, picture, process, source, command, stop)?)),
+        None => Ok(None),
+    }
+}

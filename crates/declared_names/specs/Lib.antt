@@ -1,0 +1,4 @@
+pub mod Sites
+pub mod Meant
+pub mod Tables
+pub mod Firsts

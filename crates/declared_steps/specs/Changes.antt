@@ -1,0 +1,71 @@
+-- What becomes of the tokens of a text where declarations are steps.
+use Rattle.std.specs.Prelude.{ℕ, Bool, true, false, not, ◌&&◌, ◌||◌, ◌==◌, if◌then◌else◌, List, [], ◌∷◌}
+use Rattle.std.specs.Str.{bytes_eq}
+use Rattle.pml_token.specs.declared.token.Kind.{Kind}
+use Rattle.pml_token.specs.declared.token.Kind.TheVariants as kind
+use Rattle.pml_token.specs.Word.{same_kind}
+use Rattle.prepare.specs.Written.{Written}
+use Rattle.prepare.specs.Sizes as sizes
+use Rattle.declared_steps.specs.declared.stage.Item.{Item}
+use Rattle.declared_steps.specs.declared.stage.Item.TheVariants as item
+use Rattle.declared_steps.specs.declared.stage.Stage.{Stage}
+use Rattle.declared_steps.specs.declared.changes.Change.{Change}
+use Rattle.declared_steps.specs.declared.changes.Change.TheVariants as change
+use Rattle.declared_steps.specs.Changed.{Changed}
+use Rattle.declared_steps.specs.Stages.{ends, item_behind, is_first, behind, start}
+
+abbrev pub is_value : Item → Bool
+is_value item.Valued = true
+is_value _ = false
+
+-- an array or a channel gets its value, but for a channel that is made there; without one it is left
+abbrev pub change_of_other : Kind → Bool → Item → Change
+change_of_other k is_array i = if same_kind k kind.Assign && is_value i then change.Assigned is_array else change.Kept
+
+abbrev pub is_name : List ℕ → Written → Bool
+is_name name t = same_kind t.kind kind.Name && bytes_eq t.token name
+
+-- whether a name stands before the end of a statement
+abbrev pub reads : List ℕ → List Written → Bool
+reads name [] = false
+reads name (t ∷ ts) = if ends t.kind then false else (if is_name name t then true else reads name ts)
+
+-- whether a value that is not made of the name is assigned to it at the front of stretches
+abbrev pub is_set : List ℕ → List Written → Bool
+is_set name (t ∷ u ∷ ts) = is_name name t && (same_kind u.kind kind.Assign && not (reads name ts))
+is_set name _ = false
+
+-- a declaration without a value ends with 0, unless a value follows it at once
+abbrev pub change_of_end : Kind → List ℕ → List Written → Change
+change_of_end k name ts = if same_kind k kind.Semicolon && is_set name ts then change.Kept else change.Ended
+
+-- a variable gets its value, or 0
+abbrev pub change_of_variable : Kind → List ℕ → List Written → Change
+change_of_variable k name ts =
+    if same_kind k kind.Assign then change.Assigned false
+    else (if same_kind k kind.Comma then change.Cleared
+    else (if ends k then change_of_end k name ts else change.Kept))
+
+-- what becomes of a token that stands in no brackets of the declaration
+abbrev pub change_of : Item → Kind → List ℕ → List Written → Change
+change_of item.Nothing k name ts = change.Kept
+change_of (item.Named is_array is_channel) k name ts =
+    if is_array || is_channel then change_of_other k is_array (item_behind (item.Named is_array is_channel) k ts) else change_of_variable k name ts
+change_of item.Valued k name ts = if same_kind k kind.Comma then change.Parted else change.Kept
+
+abbrev pub change_at : Stage → Kind → List ℕ → List Written → Change
+change_at s k name ts = if s.reading.depth == 0 then change_of s.item k name ts else change.Kept
+
+abbrev pub either : Bool → List ℕ → List ℕ → List ℕ
+either b one other = if b then one else other
+
+-- what becomes of the rest of the stretches, where `last` is the token before, and `name` and `word` are the name that was declared last and its type
+abbrev pub changes_by : Stage → List ℕ → List ℕ → List ℕ → List Written → List Changed
+changes_by s last name word [] = []
+changes_by s last name word (t ∷ ts) =
+    record { gap = t.gap; token = t.token; change = change_at s t.kind name ts; name = name; word = word }
+    ∷ changes_by (behind s t.kind t.token ts) t.token (either (sizes.declares s.reading t.kind) t.token name) (either (is_first s t.kind) last word) ts
+
+-- what becomes of the tokens of a text where declarations are steps
+abbrev pub changes : List Written → List Changed
+changes ts = changes_by start [] [] [] ts

@@ -1,0 +1,4 @@
+pub mod Changed
+pub mod Stages
+pub mod Changes
+pub mod Writing

@@ -1,0 +1,221 @@
+//! What becomes of each token where declarations are steps.
+
+ghost use Rattle.std.specs.Prelude.{◌≡◌, IfOk};
+ghost use Rattle.declared_steps.specs.Changes as changes;
+
+use crate::stage::{Item, Stage, ends, item_behind};
+use pml_token::token::{Kind, same_kind};
+use prepare::stretch::Stretch;
+use std::alloc::{AllocError, Global};
+use std::marker::Model;
+
+/// What becomes of a token. `NAME` is the name that was declared last, or its first element; `TYPE` is its type.
+#[derive(Clone, Copy)]
+pub enum Change {
+    /// It stays.
+    Kept,
+    /// `; NAME` stands before it, which is `=`; whether the name is an array.
+    Assigned(bool),
+    /// `; NAME = 0` stands before it, which is a comma, and `; TYPE` stands for it.
+    Cleared,
+    /// `; TYPE` stands for it, which is a comma.
+    Parted,
+    /// `; NAME = 0` stands before it.
+    Ended,
+}
+
+/// A token, with what becomes of it.
+#[derive(Drop)]
+pub struct Changed<'t> {
+    gap: &'t [u8],
+    token: &'t [u8],
+    change: Change,
+    name: &'t [u8],
+    word: &'t [u8],
+}
+
+impl<'t> Model for Changed<'t> {
+    ghost use Rattle.declared_steps.specs.Changed.{Changed as Seen};
+
+    ghost Value = { Seen };
+
+    ghost view = { λ c. record { gap = c.gap.now; token = c.token.now; change = c.change; name = c.name.now; word = c.word.now } };
+}
+
+impl<'t> Changed<'t> {
+    /// The blanks and comments before the token.
+    pub fn gap(&self) -> &'t [u8]
+        ensures { result.now ≡ self.now.gap }
+    {
+        self.gap
+    }
+
+    /// The token.
+    pub fn token(&self) -> &'t [u8]
+        ensures { result.now ≡ self.now.token }
+    {
+        self.token
+    }
+
+    /// What becomes of it.
+    pub fn change(&self) -> Change
+        ensures { result ≡ self.now.change }
+    {
+        self.change
+    }
+
+    /// The name that was declared last before it.
+    pub fn name(&self) -> &'t [u8]
+        ensures { result.now ≡ self.now.name }
+    {
+        self.name
+    }
+
+    /// The type of that.
+    pub fn word(&self) -> &'t [u8]
+        ensures { result.now ≡ self.now.word }
+    {
+        self.word
+    }
+}
+
+// What becomes of a token of an array or a channel, which is left without a value.
+fn change_of_other(kind: Kind, is_array: bool, item: Item) -> Change
+    ensures { result ≡ changes.change_of_other kind is_array item }
+{
+    if same_kind(kind, Kind::Assign) && matches!(item, Item::Valued) {
+        Change::Assigned(is_array)
+    } else {
+        Change::Kept
+    }
+}
+
+// Whether a stretch is this name.
+fn is_name(name: &[u8], stretch: &Stretch<'_>) -> bool
+    ensures { result ≡ changes.is_name name.now stretch.now }
+{
+    same_kind(stretch.kind(), Kind::Name) && stretch.token() == name
+}
+
+// Whether a name stands before the end of a statement.
+fn reads(name: &[u8], stretches: &[Stretch<'_>]) -> bool
+    ensures { result ≡ changes.reads name.now stretches.now }
+{
+    let mut rest = stretches;
+    while let [stretch, back @ ..] = rest {
+        if ends(stretch.kind()) {
+            return false;
+        }
+        if is_name(name, stretch) {
+            return true;
+        }
+        rest = back;
+    }
+    false
+}
+
+// Whether a value that is not made of the name is assigned to it at the front of stretches.
+fn is_set(name: &[u8], stretches: &[Stretch<'_>]) -> bool
+    ensures { result ≡ changes.is_set name.now stretches.now }
+{
+    match stretches {
+        [one, two, back @ ..] => {
+            is_name(name, one) && (same_kind(two.kind(), Kind::Assign) && !reads(name, back))
+        }
+        _ => false,
+    }
+}
+
+// What becomes of the end of a declaration without a value.
+fn change_of_end(kind: Kind, name: &[u8], back: &[Stretch<'_>]) -> Change
+    ensures { result ≡ changes.change_of_end kind name.now back.now }
+{
+    if same_kind(kind, Kind::Semicolon) && is_set(name, back) {
+        Change::Kept
+    } else {
+        Change::Ended
+    }
+}
+
+fn change_of_variable(kind: Kind, name: &[u8], back: &[Stretch<'_>]) -> Change
+    ensures { result ≡ changes.change_of_variable kind name.now back.now }
+{
+    if same_kind(kind, Kind::Assign) {
+        Change::Assigned(false)
+    } else if same_kind(kind, Kind::Comma) {
+        Change::Cleared
+    } else if ends(kind) {
+        change_of_end(kind, name, back)
+    } else {
+        Change::Kept
+    }
+}
+
+// What becomes of a token that stands in no brackets of the declaration.
+fn change_of(item: Item, kind: Kind, name: &[u8], back: &[Stretch<'_>]) -> Change
+    ensures { result ≡ changes.change_of item kind name.now back.now }
+{
+    match item {
+        Item::Nothing => Change::Kept,
+        Item::Named(is_array, is_channel) => {
+            if is_array || is_channel {
+                change_of_other(kind, is_array, item_behind(item, kind, back))
+            } else {
+                change_of_variable(kind, name, back)
+            }
+        }
+        Item::Valued => {
+            if same_kind(kind, Kind::Comma) {
+                Change::Parted
+            } else {
+                Change::Kept
+            }
+        }
+    }
+}
+
+fn change_at(stage: Stage, kind: Kind, name: &[u8], back: &[Stretch<'_>]) -> Change
+    ensures { result ≡ changes.change_at stage kind name.now back.now }
+{
+    if stage.reading.depth == 0 {
+        change_of(stage.item, kind, name, back)
+    } else {
+        Change::Kept
+    }
+}
+
+// Of two texts the first, where that is asked for.
+fn either<'t>(is_first: bool, one: &'t [u8], other: &'t [u8]) -> &'t [u8]
+    ensures { result.now ≡ changes.either is_first one.now other.now }
+{
+    if is_first { one } else { other }
+}
+
+/// What becomes of the tokens of a text where declarations are steps.
+pub fn changes<'t>(alloc: Global, stretches: &[Stretch<'t>]) -> Result<Vec<Changed<'t>>, AllocError>
+    ensures { IfOk result (λ v. v.items ≡ changes.changes stretches.now) }
+{
+    let mut out = Vec::new(alloc);
+    let mut stage = Stage::start();
+    let mut last: &'t [u8] = b"";
+    let mut name: &'t [u8] = b"";
+    let mut word: &'t [u8] = b"";
+    let mut rest = stretches;
+    while let [stretch, back @ ..] = rest {
+        let kind = stretch.kind();
+        let token = stretch.token();
+        out.push(Changed {
+            gap: stretch.gap(),
+            token,
+            change: change_at(stage, kind, name, back),
+            name,
+            word,
+        })?;
+        word = either(stage.is_first(kind), last, word);
+        name = either(stage.reading.declares(kind), token, name);
+        stage = stage.behind(kind, token, back);
+        last = token;
+        rest = back;
+    }
+    Ok(out)
+}

@@ -1,0 +1,4 @@
+pub mod Replaced
+pub mod Alike
+pub mod Fronts
+pub mod Renamed

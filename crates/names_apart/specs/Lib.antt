@@ -1,0 +1,9 @@
+pub mod Counted
+pub mod Changed
+pub mod Scopes
+pub mod Tallies
+pub mod Changes
+pub mod Writing
+pub mod Apart
+pub mod Found
+pub mod Laws

@@ -1,0 +1,182 @@
+//! How often inlines declare one name, and whether some body does so several times.
+
+ghost use Rattle.std.specs.Prelude.{◌≡◌, IfOk, OnOk};
+ghost use Rattle.names_apart.specs.Tallies as tallies;
+
+use crate::scope::{MOST_NUMBER, Scope, is_name};
+use pml_token::token::{Kind, same_kind};
+use prepare::stretch::Stretch;
+use std::alloc::{AllocError, Global};
+use std::marker::Model;
+
+/// How often an inline declares the name, with all that it calls.
+#[derive(Drop)]
+pub struct Counted<'t> {
+    inline: &'t [u8],
+    count: u32,
+}
+
+impl<'t> Model for Counted<'t> {
+    ghost use Rattle.names_apart.specs.Counted.{Counted as Seen};
+
+    ghost Value = { Seen };
+
+    ghost view = { λ c. record { inline = c.inline.now; count = c.count } };
+}
+
+impl<'t> Counted<'t> {
+    /// What the inline is called.
+    pub fn inline(&self) -> &'t [u8]
+        ensures { result.now ≡ self.now.inline }
+    {
+        self.inline
+    }
+
+    /// How often it declares the name.
+    pub fn count(&self) -> u32
+        ensures { result ≡ self.now.count }
+    {
+        self.count
+    }
+}
+
+fn count_of(table: &[Counted<'_>], token: &[u8]) -> u32
+    ensures { result ≡ tallies.count_of table.now token.now }
+{
+    let mut rest = table;
+    while let [counted, back @ ..] = rest {
+        if counted.inline() == token {
+            return counted.count();
+        }
+        rest = back;
+    }
+    0
+}
+
+/// How often the inline declares the name that a token is the name of; 0 where it is none.
+pub fn count_at(table: &[Counted<'_>], kind: Kind, token: &[u8]) -> u32
+    ensures { result ≡ tallies.count_at table.now kind token.now }
+{
+    if same_kind(kind, Kind::Name) {
+        count_of(table, token)
+    } else {
+        0
+    }
+}
+
+/// How often inlines declare a name, and what is known of all bodies.
+#[derive(Drop)]
+pub struct Tally<'t> {
+    /// The inlines that declare it.
+    pub table: Vec<Counted<'t>>,
+    /// How often a body that is no inline's declares it at most.
+    pub most: u32,
+    /// Whether it is used where no declaration is in force, or declared outside of bodies.
+    pub is_left: bool,
+}
+
+// Whether a token is the name where no declaration of it is in force.
+fn is_free(scope: Scope, name: &[u8], kind: Kind, token: &[u8]) -> bool
+    ensures { result ≡ tallies.is_free scope name.now kind token.now }
+{
+    let is_variable = is_name(name, kind, token) && !scope.is_field;
+    let is_within = scope.braces > 0 && !scope.reading.is_fields;
+    let is_unknown = !scope.declares(name, kind, token) && !scope.is_parameter;
+    is_variable && (is_within && (is_unknown && scope.force.level == 0))
+}
+
+// Whether a token declares the name outside of bodies and of heads.
+fn is_global(scope: Scope, name: &[u8], kind: Kind, token: &[u8]) -> bool
+    ensures { result ≡ tallies.is_global scope name.now kind token.now }
+{
+    let is_outside = scope.braces == 0 && (scope.parens == 0 && !scope.is_header());
+    is_outside && scope.declares(name, kind, token)
+}
+
+fn most_behind(most: u32, scope: Scope, name: &[u8], kind: Kind, token: &[u8]) -> u32
+    ensures { result ≡ tallies.most_behind most scope name.now kind token.now }
+{
+    if scope.is_inline {
+        return most;
+    }
+    most.max(scope.force_behind(name, kind, token).number)
+}
+
+fn front<'t>(stretches: &[Stretch<'t>]) -> &'t [u8]
+    ensures { result.now ≡ tallies.front stretches.now }
+{
+    match stretches {
+        [stretch, ..] => stretch.token(),
+        _ => b"",
+    }
+}
+
+fn home_behind<'t>(home: &'t [u8], kind: Kind, back: &[Stretch<'t>]) -> &'t [u8]
+    ensures { result.now ≡ tallies.home_behind home.now kind back.now }
+{
+    if same_kind(kind, Kind::Inline) {
+        front(back)
+    } else {
+        home
+    }
+}
+
+// Adds the inline whose body a token ends, if it declares the name.
+fn add_counted<'t>(
+    table: &mut Vec<Counted<'t>>,
+    scope: Scope,
+    home: &'t [u8],
+    kind: Kind,
+) -> Result<(), AllocError>
+    ensures { OnOk result (table.new.items ≡ tallies.table_behind table.old.items scope home.now kind) }
+{
+    let count = scope.force.number;
+    if scope.is_inline && (scope.ends_body(kind) && count > 0) {
+        table.push(Counted {
+            inline: home,
+            count,
+        })?;
+    }
+    Ok(())
+}
+
+/// What is known of a name in a text.
+pub fn tally_of<'t>(
+    alloc: Global,
+    name: &[u8],
+    stretches: &[Stretch<'t>],
+) -> Result<Tally<'t>, AllocError>
+    ensures { IfOk result (λ t. tallies.as_tallied t.table.items t.most t.is_left ≡ tallies.tallied name.now stretches.now) }
+{
+    let mut table: Vec<Counted<'t>> = Vec::new(alloc);
+    let mut scope = Scope::start();
+    let mut home: &'t [u8] = b"";
+    let mut most = 0;
+    let mut is_left = false;
+    let mut rest = stretches;
+    while let [stretch, back @ ..] = rest {
+        let kind = stretch.kind();
+        let token = stretch.token();
+        add_counted(&mut table, scope, home, kind)?;
+        most = most_behind(most, scope, name, kind, token);
+        is_left = is_left
+            || (is_free(scope, name, kind, token) || is_global(scope, name, kind, token));
+        home = home_behind(home, kind, back);
+        scope = scope.behind(name, count_at(&table, kind, token), kind, token);
+        rest = back;
+    }
+    Ok(Tally {
+        table,
+        most,
+        is_left,
+    })
+}
+
+impl<'t> Tally<'t> {
+    /// Whether the declarations of the name get names of their own: a body has several, each use has one in force, and none is outside of bodies.
+    pub fn is_divided(&self) -> bool
+        ensures { result ≡ tallies.is_divided self.now.most self.now.is_left }
+    {
+        self.most > 1 && (self.most < MOST_NUMBER && !self.is_left)
+    }
+}

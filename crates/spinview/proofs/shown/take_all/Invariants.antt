@@ -1,0 +1,5 @@
+use Rattle.view_walk.specs.Walks.{SameModel}
+use Rattle.spinview.proofs.shown.take_all.Given as goal
+
+abbrev pub invariant-loop-turn : goal.invariant-loop-turn
+invariant-loop-turn l = SameModel l.fn.walk l.walk

@@ -1,0 +1,7 @@
+use Rattle.std.proofs.Common.{ap}
+use Rattle.view_json.specs.Printed.{Printed}
+use Rattle.view_json.proofs.Choices.{choice_refused}
+use Rattle.view_json.proofs.choice.add_choice.Goals as goal
+
+pub returns-in-Err : goal.returns-in-Err
+returns-in-Err c = choice_refused c.args.picture.now c.args.m.now c.args.json.now c.refuse.new.self (ap (λ (j : Printed). j.refused) c.refuse.ensures)

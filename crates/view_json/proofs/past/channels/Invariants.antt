@@ -1,0 +1,6 @@
+-- where memory was refused it stays so
+use Rattle.view_json.specs.Printed.{Stays}
+use Rattle.view_json.proofs.past.channels.Given as goal
+
+abbrev pub invariant-loop-wait : goal.invariant-loop-wait
+invariant-loop-wait l = Stays l.fn.json l.json

@@ -1,0 +1,5 @@
+use Rattle.view_text.specs.Written.{Stays}
+use Rattle.view_trail.proofs.which.add_selecting.Given as goal
+
+abbrev pub invariant-loop-at : goal.invariant-loop-at
+invariant-loop-at l = Stays l.fn.out l.out

@@ -1,0 +1,38 @@
+/* Blocks and inlines with variables of their own. */
+#define TURNS 2
+
+byte total
+chan box = [3] of { byte }
+
+inline put(value) {
+  byte twice = 2 * value
+  box!twice
+  total = total + twice
+}
+
+inline put_both(value) {
+  byte next
+  put(value)
+  next = value + 1
+  put(next)
+}
+
+active proctype Worker() {
+  byte turn = 1
+  do
+  :: turn <= TURNS ->
+     byte before = total
+     put(turn)
+     { byte seen; box?seen; printf("took %d of %d\n", seen, total - before) }
+     turn++
+  :: else -> break
+  od
+  atomic {
+    byte seen = 7, more
+    put_both(seen)
+    more++
+    box?seen
+    printf("took %d, %d\n", seen, more)
+  }
+  box?_
+}
