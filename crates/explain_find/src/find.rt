@@ -252,8 +252,8 @@ fn of_list<'t, 'a>(
     ensures { IfOk result (λ f. IfSome f.place (IsOfExpanded refusal list.now)) }
 {
     match marks_of(alloc, list) {
-        Ok(Some(marks)) => of_marks(alloc, refusal, text, list, marks.as_slice()),
-        Ok(None) => of_syntax(alloc, text, originals, list),
+        Ok(Ok(marks)) => of_marks(alloc, refusal, text, list, marks.as_slice()),
+        Ok(Err(line)) => of_syntax(alloc, text, originals, list, line),
         Err(AllocError) => Err(AllocError),
     }
 }

@@ -1,6 +1,6 @@
 //! Trees of tokens, and what is asked of them.
 
-ghost use Rattle.std.specs.Prelude.{◌≡◌, IfOk, MatchOption, Some};
+ghost use Rattle.std.specs.Prelude.{◌≡◌, IfOk, MatchResult, Some};
 ghost use Rattle.pml_tree.specs.declared.tree.Tree.{Tree};
 ghost use Rattle.promela_model.specs.GrammarOfModels.{Spells};
 ghost use Rattle.promela_model.specs.Marks.{of_tree};
@@ -38,16 +38,16 @@ fn marks_of_tree<'a>(alloc: Global, tree: Tree<'a>) -> Result<Items<Mark<'a>>, A
     }
 }
 
-/// The marks of the tree that tokens spell, if they spell one.
+/// The marks of the tree that tokens spell; where they spell none, the line of the token that no rule reads, or of the last one.
 pub fn marks_of<'a>(
     alloc: Global,
     tokens: &'a [Token<'a>],
-) -> Result<Option<Items<Mark<'a>>>, AllocError>
-    ensures { IfOk result (λ o. MatchOption o (NoTree tokens.now) (AreMarks tokens.now)) }
+) -> Result<Result<Items<Mark<'a>>, u32>, AllocError>
+    ensures { IfOk result (λ read. MatchResult read (AreMarks tokens.now) (λ line. NoTree tokens.now)) }
 {
     match parse(alloc, tokens) {
-        Ok(tree) => Ok(Some(marks_of_tree(alloc, tree)?)),
-        Err(SyntaxError::Syntax(_)) => Ok(None),
+        Ok(tree) => Ok(Ok(marks_of_tree(alloc, tree)?)),
+        Err(SyntaxError::Syntax(line)) => Ok(Err(line)),
         Err(SyntaxError::Memory) => Err(AllocError),
     }
 }

@@ -373,14 +373,15 @@ fn empty(text: &[u8]) -> Finding<'_> {
     found_at(end_of(text), &text[..0], Wanted::Untold)
 }
 
-/// Of tokens that no tree spells; `originals` are those of the text.
+/// Of tokens that no tree spells; `originals` are those of the text, and `line` is that of the token that no rule reads, or of the last one.
 pub fn of_syntax<'t>(
     alloc: Global,
     text: &'t [u8],
     originals: &[Token<'_>],
     tokens: &[Token<'_>],
+    line: u32,
 ) -> Result<Finding<'t>, AllocError> {
-    match stop(alloc, tokens) {
+    match stop(alloc, tokens, line) {
         Ok(Some(at)) => {
             if at < tokens.len() {
                 of_stop(alloc, text, originals, tokens, at)

@@ -1,5 +1,8 @@
 //! How far tokens are read, as they stand or with a change.
 
+ghost use Rattle.std.specs.Prelude.{◌≡◌, ◌==◌, IfSome, Some};
+ghost use Rattle.std.specs.List.{position};
+
 use explain_cause::place::between;
 use pml_syntax::{SyntaxError, parse};
 use pml_token::token::{Kind, Token};
@@ -85,10 +88,24 @@ fn stop_of<'a>(alloc: Global, numbered: &'a [Token<'a>]) -> Result<Option<usize>
     }
 }
 
-/// The token that no rule reads, or the last one, where no tree spells the tokens.
-pub fn stop(alloc: Global, tokens: &[Token<'_>]) -> Result<Option<usize>, AllocError> {
-    let list = numbered(alloc, tokens)?;
-    stop_of(alloc, &list)
+/// The place of the only token with this line; none where no token has it, or more than one.
+fn only_at(tokens: &[Token<'_>], line: u32) -> Option<usize>
+    ensures { IfSome result (λ at. position (λ token. token.line == line) tokens.now ≡ Some at) }
+{
+    let first = tokens.iter().position(|token| token.line() == line)?;
+    let last = tokens.iter().rposition(|token| token.line() == line)?;
+    if first == last { Some(first) } else { None }
+}
+
+/// The token that no rule reads, or the last one, where no tree spells the tokens; `line` is its line, which tokens of an inline share.
+pub fn stop(alloc: Global, tokens: &[Token<'_>], line: u32) -> Result<Option<usize>, AllocError> {
+    match only_at(tokens, line) {
+        Some(at) => Ok(Some(at)),
+        None => {
+            let list = numbered(alloc, tokens)?;
+            stop_of(alloc, &list)
+        }
+    }
 }
 
 /// The first token that has to be read behind a change, so that it was of use.

@@ -1,7 +1,11 @@
 //! Messages over a reader.
 
-ghost use Rattle.std.specs.Prelude.{◌≡◌, ◌-◌, [], take, drop, length, IfOk, OnOk};
-ghost use Rattle.message_frames.specs.Framed.{framed};
+ghost use Rattle.std.specs.Prelude.{◌≡◌, ◌≢◌, ◌↔◌, ◌≤◌, ◌<◌, ◌+◌, ◌-◌, true, [], take, drop, length, IfOk, IfErr, OnOk, OnErr};
+ghost use Rattle.std.specs.Io.KnownBytes.{prepend_known, Keeps, Consumes, IsAtEnd};
+ghost use Rattle.message_frames.specs.Front.{front_of};
+ghost use Rattle.message_frames.specs.declared.front.Front.TheVariants.{Part};
+ghost use Rattle.message_frames.specs.Framed.{framed, IsNoRead, TakesFirst, HasNone};
+ghost use Rattle.message_frames.specs.declared.frames.NoMessage.TheVariants.{Device, Memory};
 
 use crate::front::{Front, front_of};
 use itoa::Buffer;
@@ -30,6 +34,24 @@ impl From<AllocError> for NoMessage {
     }
 }
 
+/// Reads into the room behind so many bytes.
+#[tactic(auto, using(crate::proofs::Fronts::at_end))]
+fn read_behind<R: Read>(room: &mut [u8], held: usize, reader: &mut R) -> Result<usize, NoMessage>
+    requires { held < length room.now }
+    ensures held { take held room.new ≡ take held room.old }
+    ensures long { length room.new ≡ length room.old }
+    ensures read { IfOk result (λ n. Consumes (R.remaining reader.old) (R.remaining reader.new) (take n (drop held room.new))) }
+    ensures room { IfOk result (λ n. held + n ≤ length room.old) }
+    ensures ended { IfOk result (λ n. n ≡ 0 → IsAtEnd (R.remaining reader.old)) }
+    ensures kept { OnErr result (Keeps (R.remaining reader.old) (R.remaining reader.new)) }
+    ensures failed { IfErr result (λ why. why ≡ Device) }
+{
+    match reader.read(&mut room[held..]) {
+        Ok(count) => Ok(count),
+        Err(_) => Err(NoMessage::Device),
+    }
+}
+
 /// What was read of a reader and not yet taken.
 #[derive(Drop)]
 pub struct Frames {
@@ -54,37 +76,58 @@ impl Frames {
         }
     }
 
-    fn fill<R: Read>(&mut self, reader: &mut R) -> Result<(), NoMessage> {
-        let mut room = [0u8; AT_ONCE];
-        match reader.read(&mut room) {
+    // Reads once. No byte is lost, also where memory is refused or the reader fails.
+    fn fill<R: Read>(&mut self, reader: &mut R) -> Result<(), NoMessage>
+        ensures kept { Keeps (prepend_known self.old (R.remaining reader.old)) (prepend_known self.new (R.remaining reader.new)) }
+        ensures none { IfErr result (IsNoRead (R.remaining reader.old)) }
+    {
+        let held = self.held.len();
+        if self.held.resize(held.saturating_add(AT_ONCE), 0).is_err() {
+            return Err(NoMessage::Memory);
+        }
+        let answer = read_behind(&mut self.held, held, reader);
+        let count = answer.unwrap_or(0);
+        self.held.truncate(held + count);
+        match answer {
             Ok(0) => Err(NoMessage::Ended),
-            Ok(count) => {
-                self.held.extend_from_slice(between(&room, 0, count))?;
-                Ok(())
-            }
-            Err(_) => Err(NoMessage::Device),
+            Ok(_) => Ok(()),
+            Err(why) => Err(why),
         }
     }
 
     fn take(&mut self, from: usize, to: usize) -> Result<Vec<u8>, NoMessage>
         ensures message { IfOk result (λ m. m.items ≡ take (to - from) (drop from self.old)) }
         ensures rest { OnOk result (self.new ≡ take (length self.old - to) (drop to self.old)) }
+        ensures kept { OnErr result (self.new ≡ self.old) }
+        ensures refused { IfErr result (λ why. why ≡ Memory) }
     {
         let alloc = *self.held.allocator();
-        let message = Vec::from_slice(alloc, between(self.held.as_slice(), from, to))?;
-        let rest = Vec::from_slice(alloc, between(self.held.as_slice(), to, self.held.len()))?;
+        let held = self.held.as_slice();
+        let Ok(message) = Vec::from_slice(alloc, between(held, from, to)) else {
+            return Err(NoMessage::Memory);
+        };
+        let Ok(rest) = Vec::from_slice(alloc, between(held, to, held.len())) else {
+            return Err(NoMessage::Memory);
+        };
         self.held = rest;
         Ok(message)
     }
 
     /// Whether a whole further message was read, or a head that is none.
-    pub fn has_next(&self) -> bool {
+    pub fn has_next(&self) -> bool
+        ensures { result ≡ true ↔ front_of self.now ≢ Part }
+    {
         front_of(self.held.as_slice()) != Front::Part
     }
 
     /// The body of the next message. What is behind it is kept for the next call, and a reader that waits is asked for no more than the message
     /// wants.
-    pub fn next<R: Read>(&mut self, reader: &mut R) -> Result<Vec<u8>, NoMessage> {
+    pub fn next<R: Read>(&mut self, reader: &mut R) -> Result<Vec<u8>, NoMessage>
+        ensures message { IfOk result (λ m. TakesFirst (prepend_known self.old (R.remaining reader.old)) (prepend_known self.new (R.remaining reader.new)) m.items) }
+        // Nothing is lost, and an input that ends within a message, or with none, is told as such.
+        ensures kept { OnErr result (Keeps (prepend_known self.old (R.remaining reader.old)) (prepend_known self.new (R.remaining reader.new))) }
+        ensures none { IfErr result (HasNone (prepend_known self.old (R.remaining reader.old))) }
+    {
         for _turn in 0..u64::MAX {
             match front_of(self.held.as_slice()) {
                 Front::Message(from, to) => return self.take(from, to),
@@ -92,7 +135,7 @@ impl Frames {
                 Front::Part => self.fill(reader)?,
             }
         }
-        Err(NoMessage::Ended)
+        Err(NoMessage::Device)
     }
 }
 

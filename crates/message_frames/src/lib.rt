@@ -3,5 +3,6 @@
 
 mod frames;
 mod front;
+pub mod laws;
 
 pub use frames::{Frames, NoMessage, framed};

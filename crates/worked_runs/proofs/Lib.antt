@@ -22,3 +22,13 @@ mod Spin4
 mod Spin5
 mod Spin6
 mod Spin7
+mod Ends1
+mod Ends2
+mod Ends3
+mod Ends4
+mod Ends5
+mod Ends6
+mod Ends7
+mod Ends8
+mod Ends9
+mod Ends10

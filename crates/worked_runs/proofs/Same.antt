@@ -23,6 +23,7 @@ use Rattle.promela_run.specs.State.{State, first_state}
 use Rattle.promela_run.specs.World.{first, rules}
 use Rattle.worked_runs.specs.Seen.{Seen, seen_of, played, seen}
 use Rattle.worked_runs.specs.Printed.{Printed, printed_from, printed}
+use Rattle.worked_runs.specs.Ends.{paths_from, paths}
 use Rattle.worked_runs.proofs.Means.{Means, stated, computing, means-are}
 use Rattle.worked_runs.proofs.Copies.{state-first_state, world-rules}
 
@@ -74,6 +75,23 @@ pub prints :
     (p : Program) (steps : ℕ) (numbers : List ℕ) (x : Printed) → printed_by computing p steps numbers ≡ Some x → printed p steps numbers ≡ Some x
 prints p steps numbers x is = printed-is p steps numbers ∙ is
 
+-- ---- the same of what each path prints
+
+abbrev pub paths_behind_by : Means → ℕ → Result State Fault → Option (List Printed)
+paths_behind_by m steps (Ok s) = Some (paths_from (world-rules m) steps (first s false))
+paths_behind_by m steps (Err f) = None
+
+abbrev pub paths_by : Means → Program → ℕ → Option (List Printed)
+paths_by m p steps = paths_behind_by m steps (state-first_state m p)
+
+paths-are : (p : Program) (steps : ℕ) → paths p steps ≡ paths_by computing p steps
+paths-are p steps = ap (λ m. paths_by m p steps) means-are
+
+-- what computes to be the paths are the paths
+pub has_paths :
+    (p : Program) (steps : ℕ) (xs : List Printed) → paths_by computing p steps ≡ Some xs → paths p steps ≡ Some xs
+has_paths p steps xs are = paths-are p steps ∙ are
+
 -- ---- what a run computes with
 
 unfoldable pub session_computes : Unit {0}
@@ -89,7 +107,7 @@ unfolding shape-the_row-Target-0 hidden-the_row-Target-0 shape-the_row-Want-1 hi
 row_computes = tt
 
 unfoldable pub path_computes : Unit {0}
-unfolding printed_from
+unfolding printed_from paths_from
 path_computes = tt
 
 unfoldable pub body_computes : Unit {0}

@@ -1,0 +1,3 @@
+mod Own
+mod Fronts
+mod Framing
