@@ -1,5 +1,5 @@
 -- What becomes of the tokens of a text where declarations are steps.
-use Rattle.std.specs.Prelude.{ℕ, Bool, true, false, not, ◌&&◌, ◌||◌, ◌==◌, if◌then◌else◌, List, [], ◌∷◌}
+use Rattle.std.specs.Prelude.{ℕ, Bool, true, false, not, ◌&&◌, ◌==◌, if◌then◌else◌, List, [], ◌∷◌}
 use Rattle.std.specs.Str.{bytes_eq}
 use Rattle.pml_token.specs.declared.token.Kind.{Kind}
 use Rattle.pml_token.specs.declared.token.Kind.TheVariants as kind
@@ -18,9 +18,9 @@ abbrev pub is_value : Item → Bool
 is_value item.Valued = true
 is_value _ = false
 
--- an array or a channel gets its value, but for a channel that is made there; without one it is left
-abbrev pub change_of_other : Kind → Bool → Item → Change
-change_of_other k is_array i = if same_kind k kind.Assign && is_value i then change.Assigned is_array else change.Kept
+-- a channel gets its value, but for one that is made there; without one it is left
+abbrev pub change_of_channel : Kind → Bool → Item → Change
+change_of_channel k is_array i = if same_kind k kind.Assign && is_value i then change.Assigned is_array else change.Kept
 
 abbrev pub is_name : List ℕ → Written → Bool
 is_name name t = same_kind t.kind kind.Name && bytes_eq t.token name
@@ -36,21 +36,21 @@ is_set name (t ∷ u ∷ ts) = is_name name t && (same_kind u.kind kind.Assign &
 is_set name _ = false
 
 -- a declaration without a value ends with 0, unless a value follows it at once
-abbrev pub change_of_end : Kind → List ℕ → List Written → Change
-change_of_end k name ts = if same_kind k kind.Semicolon && is_set name ts then change.Kept else change.Ended
+abbrev pub change_of_end : Bool → Kind → List ℕ → List Written → Change
+change_of_end is_array k name ts = if same_kind k kind.Semicolon && is_set name ts then change.Kept else change.Ended is_array
 
--- a variable gets its value, or 0
-abbrev pub change_of_variable : Kind → List ℕ → List Written → Change
-change_of_variable k name ts =
-    if same_kind k kind.Assign then change.Assigned false
-    else (if same_kind k kind.Comma then change.Cleared
-    else (if ends k then change_of_end k name ts else change.Kept))
+-- a variable gets its value, or 0, and so does the first element of an array
+abbrev pub change_of_variable : Bool → Kind → List ℕ → List Written → Change
+change_of_variable is_array k name ts =
+    if same_kind k kind.Assign then change.Assigned is_array
+    else (if same_kind k kind.Comma then change.Cleared is_array
+    else (if ends k then change_of_end is_array k name ts else change.Kept))
 
 -- what becomes of a token that stands in no brackets of the declaration
 abbrev pub change_of : Item → Kind → List ℕ → List Written → Change
 change_of item.Nothing k name ts = change.Kept
 change_of (item.Named is_array is_channel) k name ts =
-    if is_array || is_channel then change_of_other k is_array (item_behind (item.Named is_array is_channel) k ts) else change_of_variable k name ts
+    if is_channel then change_of_channel k is_array (item_behind (item.Named is_array is_channel) k ts) else change_of_variable is_array k name ts
 change_of item.Valued k name ts = if same_kind k kind.Comma then change.Parted else change.Kept
 
 abbrev pub change_at : Stage → Kind → List ℕ → List Written → Change

@@ -78,7 +78,7 @@ abbrev pub item_behind : Item → Kind → List Written → Item
 item_behind i k ts = if same_kind k kind.Comma || ends k then item.Nothing else item_within i k ts
 
 abbrev pub start : Stage
-start = record { reading = sizes.start; last = kind.End; type_word = kind.End; braces = 0; is_inline = false; is_behind = false; item = item.Nothing }
+start = record { reading = sizes.start; last = kind.End; type_word = kind.End; braces = 0; is_inline = false; is_behind = false; is_claim = false; item = item.Nothing }
 
 -- whether a token is a name that is declared behind its type
 abbrev pub is_first : Stage → Kind → Bool
@@ -88,13 +88,23 @@ is_first s k = sizes.declares s.reading k && is_led_by_type s.reading.lead
 abbrev pub is_step : Stage → Bool
 is_step s = nat_lt 1 s.braces || (nat_lt 0 s.braces && (s.is_inline || s.is_behind))
 
+abbrev pub is_claim_word : Kind → Bool
+is_claim_word kind.Xr = true
+is_claim_word kind.Xs = true
+is_claim_word _ = false
+
+-- whether a token stands in a claim on channels, from its word on
+abbrev pub claims : Stage → Kind → Bool
+claims s k = is_claim_word k || (s.is_claim && not (ends k))
+
 -- whether a token stands in a declaration, or between declarations
 abbrev pub is_quiet : Stage → Kind → List Written → Bool
 is_quiet s k ts =
     let is_word = is_type k || is_modifier k in
     let is_user = same_kind k kind.Name && begins_with kind.Name ts in
     let is_between = same_kind k kind.Semicolon || same_kind k kind.Arrow in
-    (is_word || is_user) || (is_between || (s.reading.goes_on || sizes.declares s.reading k))
+    let is_declared = s.reading.goes_on || sizes.declares s.reading k in
+    (is_word || is_user) || (is_between || (is_declared || claims s k))
 
 abbrev pub ends_body : Stage → Kind → Bool
 ends_body s k = same_kind k kind.CloseBrace && nat_lt s.braces 2
@@ -117,5 +127,6 @@ behind s k t ts =
       braces = braces_behind s.braces k;
       is_inline = same_kind k kind.Inline || (s.is_inline && not (ends_body s k));
       is_behind = not (ends_body s k) && (s.is_behind || (nat_lt 0 s.braces && not (is_quiet s k ts)));
+      is_claim = claims s k;
       item = next_item s k ts;
     }

@@ -16,13 +16,13 @@ target name is_array = codes "; " ++ (name ++ (if is_array then codes "[0]" else
 -- what stands before the gap, on the line where the name or its size ends
 abbrev pub front : List ℕ → Change → List ℕ
 front name (change.Assigned is_array) = target name is_array
-front name change.Cleared = target name false ++ codes " = 0"
-front name change.Ended = target name false ++ codes " = 0"
+front name (change.Cleared is_array) = target name is_array ++ codes " = 0"
+front name (change.Ended is_array) = target name is_array ++ codes " = 0"
 front name _ = []
 
 -- what stands behind the gap: a token, or a new declaration in place of a comma
 abbrev pub shown : List ℕ → Change → List ℕ → List ℕ
-shown word change.Cleared t = codes "; " ++ word
+shown word (change.Cleared is_array) t = codes "; " ++ word
 shown word change.Parted t = codes "; " ++ word
 shown word _ t = t
 

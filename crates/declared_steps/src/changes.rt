@@ -16,12 +16,12 @@ pub enum Change {
     Kept,
     /// `; NAME` stands before it, which is `=`; whether the name is an array.
     Assigned(bool),
-    /// `; NAME = 0` stands before it, which is a comma, and `; TYPE` stands for it.
-    Cleared,
+    /// `; NAME = 0` stands before it, which is a comma, and `; TYPE` stands for it; whether the name is an array.
+    Cleared(bool),
     /// `; TYPE` stands for it, which is a comma.
     Parted,
-    /// `; NAME = 0` stands before it.
-    Ended,
+    /// `; NAME = 0` stands before it; whether the name is an array.
+    Ended(bool),
 }
 
 /// A token, with what becomes of it.
@@ -79,9 +79,9 @@ impl<'t> Changed<'t> {
     }
 }
 
-// What becomes of a token of an array or a channel, which is left without a value.
-fn change_of_other(kind: Kind, is_array: bool, item: Item) -> Change
-    ensures { result ≡ changes.change_of_other kind is_array item }
+// What becomes of a token of a channel, which is left without a value.
+fn change_of_channel(kind: Kind, is_array: bool, item: Item) -> Change
+    ensures { result ≡ changes.change_of_channel kind is_array item }
 {
     if same_kind(kind, Kind::Assign) && matches!(item, Item::Valued) {
         Change::Assigned(is_array)
@@ -127,25 +127,25 @@ fn is_set(name: &[u8], stretches: &[Stretch<'_>]) -> bool
 }
 
 // What becomes of the end of a declaration without a value.
-fn change_of_end(kind: Kind, name: &[u8], back: &[Stretch<'_>]) -> Change
-    ensures { result ≡ changes.change_of_end kind name.now back.now }
+fn change_of_end(is_array: bool, kind: Kind, name: &[u8], back: &[Stretch<'_>]) -> Change
+    ensures { result ≡ changes.change_of_end is_array kind name.now back.now }
 {
     if same_kind(kind, Kind::Semicolon) && is_set(name, back) {
         Change::Kept
     } else {
-        Change::Ended
+        Change::Ended(is_array)
     }
 }
 
-fn change_of_variable(kind: Kind, name: &[u8], back: &[Stretch<'_>]) -> Change
-    ensures { result ≡ changes.change_of_variable kind name.now back.now }
+fn change_of_variable(is_array: bool, kind: Kind, name: &[u8], back: &[Stretch<'_>]) -> Change
+    ensures { result ≡ changes.change_of_variable is_array kind name.now back.now }
 {
     if same_kind(kind, Kind::Assign) {
-        Change::Assigned(false)
+        Change::Assigned(is_array)
     } else if same_kind(kind, Kind::Comma) {
-        Change::Cleared
+        Change::Cleared(is_array)
     } else if ends(kind) {
-        change_of_end(kind, name, back)
+        change_of_end(is_array, kind, name, back)
     } else {
         Change::Kept
     }
@@ -158,10 +158,10 @@ fn change_of(item: Item, kind: Kind, name: &[u8], back: &[Stretch<'_>]) -> Chang
     match item {
         Item::Nothing => Change::Kept,
         Item::Named(is_array, is_channel) => {
-            if is_array || is_channel {
-                change_of_other(kind, is_array, item_behind(item, kind, back))
+            if is_channel {
+                change_of_channel(kind, is_array, item_behind(item, kind, back))
             } else {
-                change_of_variable(kind, name, back)
+                change_of_variable(is_array, kind, name, back)
             }
         }
         Item::Valued => {

@@ -34,6 +34,8 @@ pub struct Stage {
     pub is_inline: bool,
     /// Whether a statement stands before in this body.
     pub is_behind: bool,
+    /// Whether this is a claim on channels, by `xr` or `xs`, and no statement.
+    pub is_claim: bool,
     pub item: Item,
 }
 
@@ -60,6 +62,13 @@ fn is_modifier(kind: Kind) -> bool
         kind,
         Kind::Chan | Kind::Hidden | Kind::Local | Kind::Show | Kind::Xr | Kind::Xs
     )
+}
+
+// Whether a word begins a claim on channels.
+fn is_claim_word(kind: Kind) -> bool
+    ensures { result ≡ stages.is_claim_word kind }
+{
+    matches!(kind, Kind::Xr | Kind::Xs)
 }
 
 /// Whether a token ends a declaration.
@@ -159,6 +168,7 @@ impl Stage {
             braces: 0,
             is_inline: false,
             is_behind: false,
+            is_claim: false,
             item: Item::Nothing,
         }
     }
@@ -177,6 +187,13 @@ impl Stage {
         self.braces > 1 || (self.braces > 0 && (self.is_inline || self.is_behind))
     }
 
+    // Whether a token stands in a claim on channels, from its word on.
+    fn claims(self, kind: Kind) -> bool
+        ensures { result ≡ stages.claims self kind }
+    {
+        is_claim_word(kind) || (self.is_claim && !ends(kind))
+    }
+
     // Whether a token stands in a declaration, or between declarations.
     fn is_quiet(self, kind: Kind, back: &[Stretch<'_>]) -> bool
         ensures { result ≡ stages.is_quiet self kind back.now }
@@ -184,8 +201,8 @@ impl Stage {
         let is_word = is_type(kind) || is_modifier(kind);
         let is_user = same_kind(kind, Kind::Name) && begins_with(Kind::Name, back);
         let is_between = same_kind(kind, Kind::Semicolon) || same_kind(kind, Kind::Arrow);
-        (is_word || is_user)
-            || (is_between || (self.reading.goes_on || self.reading.declares(kind)))
+        let is_declared = self.reading.goes_on || self.reading.declares(kind);
+        (is_word || is_user) || (is_between || (is_declared || self.claims(kind)))
     }
 
     fn ends_body(self, kind: Kind) -> bool
@@ -234,6 +251,7 @@ impl Stage {
             is_inline: same_kind(kind, Kind::Inline) || (self.is_inline && !ends_body),
             is_behind: !ends_body
                 && (self.is_behind || (self.braces > 0 && !self.is_quiet(kind, back))),
+            is_claim: self.claims(kind),
             item: self.next_item(kind, back),
         }
     }

@@ -28,8 +28,8 @@ fn add_front(out: &mut Vec<u8>, changed: &Changed<'_>) -> Result<(), AllocError>
     match changed.change() {
         Change::Kept | Change::Parted => Ok(()),
         Change::Assigned(is_array) => add_name(out, changed.name(), is_array),
-        Change::Cleared | Change::Ended => {
-            add_name(out, changed.name(), false)?;
+        Change::Cleared(is_array) | Change::Ended(is_array) => {
+            add_name(out, changed.name(), is_array)?;
             out.extend_from_slice(b" = 0")
         }
     }
@@ -40,10 +40,10 @@ fn add_shown(out: &mut Vec<u8>, changed: &Changed<'_>) -> Result<(), AllocError>
     ensures { OnOk result (out.new.items ≡ out.old.items ++ writing.shown changed.now.word changed.now.change changed.now.token) }
 {
     match changed.change() {
-        Change::Kept | Change::Assigned(_) | Change::Ended => {
+        Change::Kept | Change::Assigned(_) | Change::Ended(_) => {
             out.extend_from_slice(changed.token())
         }
-        Change::Cleared | Change::Parted => {
+        Change::Cleared(_) | Change::Parted => {
             out.extend_from_slice(b"; ")?;
             out.extend_from_slice(changed.word())
         }

@@ -1,0 +1,2 @@
+pub mod Punctuating
+pub mod Naming

@@ -1,0 +1,6 @@
+use Rattle.std.proofs.Common.{◌≡◌, take}
+use Rattle.mtype_commas.specs.Writing.{written}
+use Rattle.mtype_commas.proofs.writing.written.Given as goal
+
+abbrev pub invariant-loop-changed : goal.invariant-loop-changed
+invariant-loop-changed l = l.out.items ≡ written (take l.changed-index l.all)

@@ -1,0 +1,6 @@
+pub mod Places
+pub mod Changed
+pub mod Changes
+pub mod Writing
+pub mod Names
+pub mod Laws

@@ -1,0 +1,3 @@
+pub mod OpenSince
+pub mod LineEnds
+mod Rows
