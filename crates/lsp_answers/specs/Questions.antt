@@ -67,7 +67,7 @@ IsToldOf Symbols page names ps d = d ≡ symbols_of page names
 IsToldOf q page names ps d = IsToldAt q page names ps d
 
 -- What is answered to a question on a text: by its names, and nothing where it has none.
-pub data IsAnswer (q : Question) (page : Page) (m : Data) : Data → Type 0 where
-  nothing : IsAnswer q page m null
-  by_names : (ps : Data) (names : Names) (d : Data) → get (codes "params") m ≡ Some ps
+pub data IsAnswer (q : Question) (page : Page) (m d : Data) : Type 0 where
+  nothing : d ≡ null → IsAnswer q page m d
+  by_names : (ps : Data) (names : Names) → get (codes "params") m ≡ Some ps
       → AreMeant page.text.now names.meant.items → IsToldOf q page names ps d → IsAnswer q page m d

@@ -78,7 +78,7 @@ fn renamed(
     offset: usize,
     name: &str,
 ) -> Result<Result<Value, Fault>, AllocError>
-    requires { AreMeant page.entry.text.now names.now.meant.items }
+    requires { AreMeant page.text.now names.now.meant.items }
     ensures { IfOk result (λ r. IfOk r (λ v. IsRename page.entry name.now (view v))) }
 {
     match rename(alloc, page, names, offset, name)? {
@@ -95,7 +95,7 @@ fn told_at(
     question: Question,
     parameters: &Value,
 ) -> Result<Result<Value, Fault>, AllocError>
-    requires { AreMeant page.entry.text.now names.now.meant.items }
+    requires { AreMeant page.text.now names.now.meant.items }
     ensures { IfOk result (λ r. IfOk r (λ v. IsToldAt question page.entry names.now (view parameters.now) (view v))) }
 {
     let Some(offset) = offset_in(page, parameters) else {
@@ -115,7 +115,7 @@ fn told_of(
     question: Question,
     parameters: &Value,
 ) -> Result<Result<Value, Fault>, AllocError>
-    requires { AreMeant page.entry.text.now names.now.meant.items }
+    requires { AreMeant page.text.now names.now.meant.items }
     ensures { IfOk result (λ r. IfOk r (λ v. IsToldOf question page.entry names.now (view parameters.now) (view v))) }
 {
     match question {

@@ -11,9 +11,9 @@ use Rattle.lsp_places.specs.declared.page.Page.{Page}
 use Rattle.lsp_places.specs.Places.{range_of}
 
 -- the name at a place that can be renamed is told by where it stands
-pub data IsTarget (page : Page) (names : Names) (offset : ℕ) : Data → Type 0 where
-  is_none : IsTarget page names offset null
-  is_name : (o : Occurrence) → name_at names offset ≡ Some o → IsTarget page names offset (range_of page o.length o.at)
+pub data IsTarget (page : Page) (names : Names) (offset : ℕ) (d : Data) : Type 0 where
+  is_none : d ≡ null → IsTarget page names offset d
+  is_name : (o : Occurrence) → name_at names offset ≡ Some o → d ≡ range_of page o.length o.at → IsTarget page names offset d
 
 -- another name in place of the n bytes behind so many others
 abbrev pub edit_of : Page → ℕ → List ℕ → ℕ → Data

@@ -73,7 +73,7 @@ pub fn rename(
     offset: usize,
     name: &str,
 ) -> Result<Result<Value, NoRenaming>, AllocError>
-    requires { AreMeant page.entry.text.now names.now.meant.items }
+    requires { AreMeant page.text.now names.now.meant.items }
     ensures { IfOk result (λ r. IfOk r (λ v. IsRename page.entry name.now (view v))) }
 {
     match renamed(alloc, page.text, names, offset, name.as_bytes())? {
