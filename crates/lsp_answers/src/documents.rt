@@ -25,6 +25,12 @@ pub struct Document {
 }
 
 impl Document {
+    fn is_named(&self, uri: &str) -> bool
+        ensures { result ≡ is_named uri.now self.now }
+    {
+        self.uri.as_str() == uri
+    }
+
     /// The text as its editor knows it.
     pub fn page(&self, unit: Unit) -> Page<'_>
         ensures text { result.text.now ≡ self.now.text.items }
@@ -124,7 +130,7 @@ impl Documents {
         ensures { option_map (λ d. d.now) result ≡ find (is_named uri.now) self.now.all.items }
     {
         for document in self.all.as_slice() {
-            if uri == document.uri.as_str() {
+            if document.is_named(uri) {
                 return Some(document);
             }
         }
