@@ -1,7 +1,8 @@
 -- Messages of a language server as values of JSON (JSON-RPC 2.0).
-use Rattle.std.specs.Prelude.{◌≡◌, ℕ, ℤ, List, Option, Some, None, codes}
+use Rattle.std.specs.Prelude.{◌≡◌, ℕ, ℤ, List, [], Option, Some, None, codes, option_and_then}
+use Rattle.std.specs.Option.{option_map_or}
 use Rattle.serde_json.specs.Data.{Data, string, object, member, no_members}
-use Rattle.serde_json.specs.Find.{get}
+use Rattle.serde_json.specs.Find.{get, as_str, pointer}
 
 -- the number by which a request is known, or its text; a notification has none
 abbrev pub id_of : Data → Option Data
@@ -19,3 +20,7 @@ refusal_of id fault = object (member (codes "error") fault (member (codes "id") 
 abbrev pub RepliesTo : Data → Option Data → Type 0
 RepliesTo message None = id_of message ≡ None
 RepliesTo message (Some reply) = (id : Data) × (id_of message ≡ Some id) × (id_of reply ≡ Some id)
+
+-- the text at a path, or an empty one
+abbrev pub text_at : List ℕ → Data → List ℕ
+text_at path d = option_map_or (λ t. t) (option_and_then as_str (pointer path d)) []

@@ -1,6 +1,14 @@
 //! The texts that a client has opened.
 
+ghost use Rattle.std.specs.Prelude.{◌≡◌, ◌<◌, [], length, string_bytes, IfOk, IfSome, find, option_map};
+ghost use Rattle.lsp_answers.specs.Questions.{is_named};
+ghost use Rattle.lsp_places.specs.Changes.{all_changed};
+
+use lsp_places::changes::all_changed;
+use lsp_places::page::Page;
+use serde_json::Value;
 use std::alloc::{AllocError, Global};
+use text_places::Unit;
 
 /// So many texts are kept at most; of more the one that was opened or changed longest ago is let go.
 const MOST_DOCUMENTS: usize = 256;
@@ -9,11 +17,52 @@ const MOST_DOCUMENTS: usize = 256;
 #[derive(Drop)]
 pub struct Document {
     pub uri: String,
-    pub text: String,
+    pub text: Vec<u8>,
     /// The number that the client gives this state of the text.
     pub version: Option<i64>,
     /// Whether it is still to be told what is wrong with it.
     pub is_new: bool,
+}
+
+impl Document {
+    fn is_named(&self, uri: &str) -> bool
+        ensures { result ≡ is_named uri.now self.now }
+    {
+        self.uri.as_str() == uri
+    }
+
+    /// The text as its editor knows it.
+    pub fn page(&self, unit: Unit) -> Page<'_>
+        ensures text { result.text.now ≡ self.now.text.items }
+        ensures uri { result.uri.now ≡ string_bytes self.now.uri }
+        ensures unit { result.unit ≡ unit }
+    {
+        Page {
+            uri: self.uri.as_str(),
+            text: self.text.as_slice(),
+            unit,
+        }
+    }
+
+    /// The text behind changes.
+    fn behind(
+        self,
+        alloc: Global,
+        unit: Unit,
+        version: Option<i64>,
+        changes: &[Value],
+    ) -> Result<Document, AllocError>
+        ensures text { IfOk result (λ d. d.text.items ≡ all_changed unit self.text.items changes.now) }
+        ensures uri { IfOk result (λ d. string_bytes d.uri ≡ string_bytes self.uri) }
+    {
+        let Document { uri, text, .. } = self;
+        Ok(Document {
+            uri,
+            text: all_changed(alloc, unit, text, changes)?,
+            version,
+            is_new: true,
+        })
+    }
 }
 
 /// The texts that a client has opened.
@@ -26,14 +75,18 @@ pub struct Documents {
 
 impl Documents {
     /// None is open.
-    pub fn new(alloc: Global) -> Documents {
+    pub fn new(alloc: Global) -> Documents
+        ensures { result.all.items ≡ [] }
+    {
         Documents {
             all: Vec::new(alloc),
             closed: Vec::new(alloc),
         }
     }
 
-    fn number_of(&self, uri: &str) -> Option<usize> {
+    fn number_of(&self, uri: &str) -> Option<usize>
+        ensures { IfSome result (λ n. n < length self.now.all.items) }
+    {
         for (number, document) in self.all.iter().enumerate() {
             if document.uri.as_str() == uri {
                 return Some(number);
@@ -52,11 +105,11 @@ impl Documents {
     ) -> Result<(), AllocError> {
         let document = Document {
             uri: String::from_str(alloc, uri)?,
-            text: String::from_str(alloc, text)?,
+            text: Vec::from_slice(alloc, text.as_bytes())?,
             version,
             is_new: true,
         };
-        self.remove(uri);
+        drop(self.take(uri));
         if self.all.len() >= MOST_DOCUMENTS {
             drop(self.all.remove(0));
         }
@@ -64,19 +117,47 @@ impl Documents {
         Ok(())
     }
 
-    fn remove(&mut self, uri: &str) {
-        if let Some(number) = self.number_of(uri) {
-            if number < self.all.len() {
-                drop(self.all.remove(number));
+    /// The text of this name, which is not kept any more then.
+    fn take(&mut self, uri: &str) -> Option<Document> {
+        match self.number_of(uri) {
+            Some(number) => Some(self.all.remove(number)),
+            None => None,
+        }
+    }
+
+    /// The text of this name.
+    pub fn find(&self, uri: &str) -> Option<&Document>
+        ensures { option_map (λ d. d.now) result ≡ find (is_named uri.now) self.now.all.items }
+    {
+        for document in self.all.as_slice() {
+            if document.is_named(uri) {
+                return Some(document);
             }
         }
+        None
+    }
+
+    /// Changes the text of this name, if it is kept.
+    pub fn change(
+        &mut self,
+        alloc: Global,
+        unit: Unit,
+        uri: &str,
+        version: Option<i64>,
+        changes: &[Value],
+    ) -> Result<(), AllocError> {
+        if let Some(document) = self.take(uri) {
+            self.all
+                .push(document.behind(alloc, unit, version, changes)?)?;
+        }
+        Ok(())
     }
 
     /// Lets a text go, of which nothing more is told then.
     pub fn close(&mut self, alloc: Global, uri: &str) -> Result<(), AllocError> {
         let name = String::from_str(alloc, uri)?;
         self.closed.push(name)?;
-        self.remove(uri);
+        drop(self.take(uri));
         Ok(())
     }
 

@@ -1,8 +1,10 @@
 //! What a language server for Promela answers: a message in, messages out, and no device.
 #![tactic(auto)]
 
+mod answers;
 mod documents;
 mod fields;
+mod questions;
 mod replies;
 mod server;
 mod told;

@@ -5,6 +5,7 @@ ghost use Rattle.serde_json.specs.Find.{get};
 ghost use Rattle.serde_json.specs.View.{view};
 ghost use Rattle.lsp_answers.specs.Messages.{reply_of};
 
+use model_renames::renaming::NoRenaming;
 use serde_json::{Value, json};
 use std::alloc::{AllocError, Global};
 
@@ -18,6 +19,24 @@ pub enum Fault {
     /// It came behind `shutdown`.
     ShutDown,
     NoMethod,
+    /// The text is not open.
+    NotOpen,
+    /// It names no place.
+    NoPlace,
+    /// A name is not renamed.
+    NoRenaming(NoRenaming),
+}
+
+/// Why a name is not renamed, in words.
+fn reason(why: NoRenaming) -> &'static str {
+    match why {
+        NoRenaming::NoModel => "the text is refused as it is",
+        NoRenaming::NoName => "no name that the text declares stands there",
+        NoRenaming::NotAName => "the new name is none, or a word of the language",
+        NoRenaming::Label => "a label that begins with end, progress or accept means more",
+        NoRenaming::Refused(_) => "the text would be refused then",
+        NoRenaming::OtherMeaning => "a name would mean something else then",
+    }
 }
 
 impl Fault {
@@ -27,6 +46,8 @@ impl Fault {
             Fault::NotInitialized => -32002,
             Fault::ShutDown => -32600,
             Fault::NoMethod => -32601,
+            Fault::NotOpen | Fault::NoPlace => -32602,
+            Fault::NoRenaming(_) => -32803,
         }
     }
 
@@ -36,6 +57,9 @@ impl Fault {
             Fault::NotInitialized => "not initialized",
             Fault::ShutDown => "shut down",
             Fault::NoMethod => "no such method",
+            Fault::NotOpen => "not open",
+            Fault::NoPlace => "no place",
+            Fault::NoRenaming(why) => reason(why),
         }
     }
 }

@@ -5,8 +5,10 @@ ghost use Rattle.serde_json.specs.Find.{get};
 ghost use Rattle.serde_json.specs.View.{view};
 ghost use Rattle.lsp_answers.specs.Messages.{RepliesTo};
 
+use crate::answers::answer;
 use crate::documents::Documents;
 use crate::fields::{lists, text_at};
+use crate::questions::Question;
 use crate::replies::{Fault, refused, reply};
 use crate::told::{told_nothing, told_of};
 use serde_json::{Value, json};
@@ -30,7 +32,13 @@ fn capabilities(alloc: Global, unit: Unit) -> Result<Value, AllocError> {
     json!(in alloc; {
         "capabilities": {
             "positionEncoding": encoding,
-            "textDocumentSync": {"openClose": true, "change": 1, "save": false}
+            "textDocumentSync": {"openClose": true, "change": 2, "save": false},
+            "definitionProvider": true,
+            "referencesProvider": true,
+            "documentHighlightProvider": true,
+            "hoverProvider": true,
+            "documentSymbolProvider": true,
+            "renameProvider": {"prepareProvider": true}
         },
         "serverInfo": {"name": "spinlsp", "version": "0.9.0"}
     })
@@ -48,7 +56,9 @@ impl Server {
     }
 
     /// Whether the client has said that it will ask no more.
-    pub fn is_shut(&self) -> bool {
+    pub fn is_shut(&self) -> bool
+        ensures { result ≡ self.now.is_shut }
+    {
         self.is_shut
     }
 
@@ -95,10 +105,35 @@ impl Server {
             self.is_shut = true;
             return reply(alloc, id, &Value::Null);
         }
+        if self.is_ready && !self.is_shut {
+            if let Some(question) = Question::of(method) {
+                return self.answered(alloc, id, question, message);
+            }
+        }
         refused(alloc, id, self.fault_of(method))
     }
 
-    // Keeps a text as it is behind the last of its changes, which each have the whole of it.
+    // Answers a question on a text, if that is open.
+    fn answered(
+        &self,
+        alloc: Global,
+        id: &Value,
+        question: Question,
+        message: &Value,
+    ) -> Result<Value, AllocError>
+        ensures { IfOk result (λ v. get (codes "id") (view v) ≡ Some (view id.now)) }
+    {
+        let uri = text_at(message, "/params/textDocument/uri");
+        let Some(document) = self.documents.find(uri) else {
+            return refused(alloc, id, Fault::NotOpen);
+        };
+        match answer(alloc, document.page(self.unit), question, message)? {
+            Ok(what) => reply(alloc, id, &what),
+            Err(fault) => refused(alloc, id, fault),
+        }
+    }
+
+    // Keeps a text as it is behind its changes.
     fn change(&mut self, alloc: Global, uri: &str, message: &Value) -> Result<(), AllocError> {
         let version = message
             .pointer("/params/textDocument/version")
@@ -109,12 +144,8 @@ impl Server {
         else {
             return Ok(());
         };
-        match changes.as_slice() {
-            [.., last] => self
-                .documents
-                .keep(alloc, uri, text_at(last, "/text"), version),
-            [] => Ok(()),
-        }
+        self.documents
+            .change(alloc, self.unit, uri, version, changes.as_slice())
     }
 
     fn notified(&mut self, alloc: Global, method: &str, message: &Value) -> Result<(), AllocError> {

@@ -1,33 +1,24 @@
 //! What is wrong with a text, as an editor shows it.
 
+ghost use Rattle.std.specs.Prelude.{◌≡◌, max, IfOk};
+ghost use Rattle.serde_json.specs.View.{view};
+ghost use Rattle.source_lines.specs.Places.{shown_offset};
+ghost use Rattle.lsp_places.specs.Places.{range_of};
+
 use crate::documents::Document;
 use itoa::Buffer;
+use lsp_places::page::{Page, range};
 use model_verdicts::{Verdict, verdict_of};
 use serde_json::{Value, json};
 use source_lines::position::shown_offset;
 use std::alloc::{AllocError, Global};
-use text_places::{Unit, place_of};
-
-fn point(alloc: Global, unit: Unit, text: &[u8], offset: usize) -> Result<Value, AllocError> {
-    let place = place_of(text, offset, unit);
-    let line = place.line;
-    let character = place.column;
-    json!(in alloc; {"line": line, "character": character})
-}
+use text_places::Unit;
 
 /// A part of a text of one byte at least.
-fn range(
-    alloc: Global,
-    unit: Unit,
-    text: &[u8],
-    offset: usize,
-    length: usize,
-) -> Result<Value, AllocError> {
-    let start = shown_offset(text, offset);
-    let start = point(alloc, unit, text, start)?;
-    let end = shown_offset(text, offset).saturating_add(length.max(1));
-    let end = point(alloc, unit, text, end.min(text.len()))?;
-    json!(in alloc; {"start": start, "end": end})
+fn part(alloc: Global, page: Page<'_>, offset: usize, length: usize) -> Result<Value, AllocError>
+    ensures { IfOk result (λ v. view v ≡ range_of page.entry (max length 1) (shown_offset page.entry.text.now offset)) }
+{
+    range(alloc, page, shown_offset(page.text, offset), length.max(1))
 }
 
 /// The refusal's own words and what is said behind them.
@@ -48,15 +39,10 @@ fn code(alloc: Global, verdict: &Verdict) -> Result<String, AllocError> {
     Ok(code)
 }
 
-fn diagnostic(
-    alloc: Global,
-    unit: Unit,
-    text: &[u8],
-    verdict: &Verdict,
-) -> Result<Value, AllocError> {
+fn diagnostic(alloc: Global, page: Page<'_>, verdict: &Verdict) -> Result<Value, AllocError> {
     let range = match verdict.place {
-        Some(place) => range(alloc, unit, text, place.offset, place.length)?,
-        None => range(alloc, unit, text, 0, 1)?,
+        Some(place) => part(alloc, page, place.offset, place.length)?,
+        None => part(alloc, page, 0, 1)?,
     };
     let code = code(alloc, verdict)?;
     let words = message(alloc, verdict)?;
@@ -64,10 +50,10 @@ fn diagnostic(
 }
 
 /// All that is wrong with a text.
-fn diagnostics(alloc: Global, unit: Unit, text: &[u8]) -> Result<Value, AllocError> {
-    match verdict_of(alloc, text)? {
+fn diagnostics(alloc: Global, page: Page<'_>) -> Result<Value, AllocError> {
+    match verdict_of(alloc, page.text)? {
         Some(verdict) => {
-            let one = diagnostic(alloc, unit, text, &verdict)?;
+            let one = diagnostic(alloc, page, &verdict)?;
             json!(in alloc; [one])
         }
         None => json!(in alloc; []),
@@ -89,7 +75,7 @@ fn published(
 
 /// The notification of what is wrong with a text.
 pub fn told_of(alloc: Global, unit: Unit, document: &Document) -> Result<Value, AllocError> {
-    let list = diagnostics(alloc, unit, document.text.as_bytes())?;
+    let list = diagnostics(alloc, document.page(unit))?;
     published(alloc, document.uri.as_str(), document.version, &list)
 }
 

@@ -12,7 +12,8 @@ use std::{env, io};
 const HELP: &str = "\
 A language server for Promela (LSP 3.17), which an editor starts: it reads
 messages from standard input and answers on standard output. It tells of each
-text that is open whether spinplay plays it, and if not, why and where.
+text that is open whether spinplay plays it, and if not, why and where; where
+its names are declared and used; and it renames them.
 
 Usage: spinlsp [OPTIONS]
 

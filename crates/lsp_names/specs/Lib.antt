@@ -1,0 +1,4 @@
+pub mod Told
+pub mod Sorts
+pub mod Symbols
+pub mod Hover

@@ -1,0 +1,4 @@
+//! Renames, as a language server tells them.
+#![tactic(auto)]
+
+pub mod renames;

@@ -1,0 +1,273 @@
+"""A second reading of the names of a model that is played, by tokens alone: where each stands, and where it is declared.
+
+Columns of a place are bytes of a text of ASCII. Inlines are replaced with their tokens where they stand, so a token of an inline's body may mean several names."""
+import collections
+import re
+
+TOKEN = re.compile(r"""(?P<gap>\s+|/\*.*?\*/|//[^\n]*)|(?P<string>"(?:[^"\\]|\\.)*")|(?P<char>'(?:[^'\\]|\\.)')|(?P<name>[A-Za-z_]\w*)|(?P<number>\d+)"""
+                   r"""|(?P<sign>::|->|\.\.|\+\+|--|<<|>>|<=|>=|==|!=|&&|\|\||!!|\?\?|.)""", re.S)
+TYPES = {"bit", "bool", "byte", "pid", "short", "int", "mtype", "chan", "unsigned"}
+WORDS = TYPES | set("active assert atomic break d_step do else empty enabled eval false fi for full goto hidden if init inline len local nempty nfull od of "
+                    "pc_value printf printm priority proctype provided run select show skip timeout true typedef unless xr xs".split())
+OWN = {"_", "_pid", "_nr_pr", "_last"}
+Token = collections.namedtuple("Token", "at text kind")
+Declared = collections.namedtuple("Declared", "at sort type")
+
+
+def tokens_of(text):
+    found = []
+    for match in TOKEN.finditer(text):
+        if match.lastgroup != "gap":
+            found.append(Token(match.start(), match.group(), match.lastgroup))
+    return found
+
+
+def is_name(token):
+    return token.kind == "name" and token.text not in WORDS
+
+
+def closing(tokens, at, opens, closes):
+    """The number of the token that closes what the token at `at` opens."""
+    depth = 0
+    for number in range(at, len(tokens)):
+        depth += (tokens[number].text == opens) - (tokens[number].text == closes)
+        if depth == 0:
+            return number
+    return len(tokens)
+
+
+class Reading:
+    """The names of a text. `inner` are those of inlines and of their parameters, `outer` the others: pairs of a place and a declaration's place, in the
+    order in which they are read; `sorts` says of each declaration what it is."""
+
+    def __init__(self, text):
+        self.inner, self.outer, self.sorts, self.lengths = [], [], {}, {}
+        self.inlines, self.globals, self.fields = {}, {}, {}
+        tokens = self.without_inlines(tokens_of(text))
+        self.proctypes = {}
+        for at, token in enumerate(tokens[:-1]):
+            if token.text == "proctype":
+                self.proctypes[tokens[at + 1].text] = tokens[at + 1].at
+        self.units(tokens)
+
+    def note(self, into, token, declared):
+        into.append((token.at, declared))
+        self.lengths[token.at] = len(token.text)
+
+    def without_inlines(self, tokens):
+        rest, at = [], 0
+        while at < len(tokens):
+            if tokens[at].text == "inline":
+                name, end = tokens[at + 1], closing(tokens, at + 2, "(", ")")
+                parameters = [t for t in tokens[at + 3:end] if is_name(t)]
+                last = closing(tokens, end + 1, "{", "}")
+                body = tokens[end + 2:last]
+                self.inlines[name.text] = (name, [p.text for p in parameters], body)
+                self.note(self.inner, name, name.at)
+                self.sorts[name.at] = 12
+                for parameter in parameters:
+                    self.note(self.inner, parameter, parameter.at)
+                    self.sorts[parameter.at] = 13
+                    for token in body:
+                        if is_name(token) and token.text == parameter.text:
+                            self.note(self.inner, token, parameter.at)
+                at = last + 1
+            else:
+                rest.append(tokens[at])
+                at += 1
+        for number, token in enumerate(tokens[:-1]):
+            site = self.inlines.get(token.text)
+            if site and site[0].at != token.at and tokens[number + 1].text == "(":
+                self.note(self.inner, token, site[0].at)
+        return self.replaced(rest)
+
+    def replaced(self, tokens):
+        """The tokens with calls of inlines replaced by their bodies."""
+        out, at = [], 0
+        while at < len(tokens):
+            token = tokens[at]
+            if token.text in self.inlines and at + 1 < len(tokens) and tokens[at + 1].text == "(" and token.kind == "name":
+                _, parameters, body = self.inlines[token.text]
+                end = closing(tokens, at + 1, "(", ")")
+                arguments, depth, one = [], 0, []
+                for part in tokens[at + 2:end]:
+                    depth += (part.text in "([{") - (part.text in ")]}")
+                    if part.text == "," and depth == 0:
+                        arguments.append(one)
+                        one = []
+                    else:
+                        one.append(part)
+                arguments.append(one)
+                with_arguments = dict(zip(parameters, arguments))
+                inside = []
+                for part in body:
+                    inside += with_arguments.get(part.text, [part]) if part.kind == "name" else [part]
+                out += [Token(token.at, "{", "sign")] + self.replaced(inside) + [Token(token.at, "}", "sign")]
+                at = end + 1
+            else:
+                out.append(token)
+                at += 1
+        return out
+
+    def declare(self, scope, token, sort, kind=None):
+        if token.text not in scope:
+            scope[token.text] = Declared(token.at, sort, kind)
+            self.sorts[token.at] = sort
+        self.note(self.outer, token, scope[token.text].at)
+
+    def is_declaration(self, tokens, at):
+        """Whether a declaration of variables begins here: its type's number, behind words that may stand before it, or None."""
+        while at < len(tokens) and tokens[at].text in ("hidden", "show", "local"):
+            at += 1
+        if at + 1 >= len(tokens) or tokens[at].kind != "name":
+            return None
+        if tokens[at].text in TYPES or tokens[at].text in self.fields:
+            if is_name(tokens[at + 1]) or tokens[at].text == "mtype" and tokens[at + 1].text == ":":
+                return at
+        return None
+
+    def variables(self, tokens, at, scope, sort, outer):
+        """Reads the declaration of variables whose type stands at `at`, and answers the number of the token behind it."""
+        kind = tokens[at].text
+        if kind in self.fields:
+            self.note(self.outer, tokens[at], self.globals[kind].at)
+        at += 1
+        depth, is_new = 0, True
+        while at < len(tokens):
+            token = tokens[at]
+            if depth == 0 and token.text in (";", "->", "}", ")", "::"):
+                return at
+            if depth == 0 and token.text == ",":
+                is_new = True
+            elif is_new and is_name(token):
+                self.declare(scope, token, sort, kind)
+                is_new = False
+            elif token.text == "of":
+                at = self.types(tokens, at + 1)
+                continue
+            elif is_name(token) and depth + 1:
+                at = self.reference(tokens, at, scope, outer)
+                continue
+            depth += (token.text in ("(", "[", "{")) - (token.text in (")", "]", "}"))
+            if depth == 0 and not is_new and tokens[at + 1:at + 2] and tokens[at + 1].kind == "name" and self.is_declaration(tokens, at + 1) is not None:
+                return at + 1
+            at += 1
+        return at
+
+    def types(self, tokens, at):
+        """The types of a channel's messages."""
+        while tokens[at].text != "}":
+            if tokens[at].text in self.fields:
+                self.note(self.outer, tokens[at], self.globals[tokens[at].text].at)
+            at += 1
+        return at + 1
+
+    def reference(self, tokens, at, scope, outer):
+        """Reads a name and the fields behind it."""
+        token = tokens[at]
+        found = scope.get(token.text) or outer.get(token.text)
+        if token.text in OWN:
+            return at + 1
+        if found is None:
+            if token.text in self.proctypes:
+                self.note(self.outer, token, self.proctypes[token.text])
+            return at + 1
+        self.note(self.outer, token, found.at)
+        at += 1
+        while at < len(tokens) and tokens[at].text in ("[", "."):
+            if tokens[at].text == "[":
+                end = closing(tokens, at, "[", "]")
+                inside = at + 1
+                while inside < end:
+                    inside = self.reference(tokens, inside, scope, outer) if is_name(tokens[inside]) else inside + 1
+                at = end + 1
+            else:
+                found = self.fields.get(found.type, {}).get(tokens[at + 1].text) if found else None
+                if found:
+                    self.note(self.outer, tokens[at + 1], found.at)
+                at += 2
+        return at
+
+    def body(self, tokens, scope):
+        labels, raised = {}, {}
+        for at, token in enumerate(tokens[:-1]):
+            if is_name(token) and tokens[at + 1].text == ":" and (at == 0 or tokens[at - 1].text in ("{", ";", "->", "::", ":", "}", "fi", "od")):
+                labels.setdefault(token.text, token.at)
+                self.sorts.setdefault(token.at, 20)
+        at = 0
+        while at < len(tokens):
+            token = tokens[at]
+            kind = self.is_declaration(tokens, at)
+            if token.text == "for" and tokens[at + 3].text == ":":
+                # the variable of a loop is raised behind its body, and may be another then
+                raised.setdefault(closing(tokens, closing(tokens, at + 1, "(", ")") + 1, "{", "}"), at + 2)
+            if at in raised:
+                self.reference(tokens, raised[at], scope, self.globals)
+            if kind is not None:
+                at = self.variables(tokens, kind, scope, 13, self.globals)
+            elif token.text == "goto":
+                self.note(self.outer, tokens[at + 1], labels[tokens[at + 1].text])
+                at += 2
+            elif is_name(token) and token.text in labels and tokens[at + 1].text == ":":
+                self.note(self.outer, token, labels[token.text])
+                at += 2
+            elif is_name(token):
+                at = self.reference(tokens, at, scope, self.globals)
+            else:
+                at += 1
+
+    def units(self, tokens):
+        at = 0
+        while at < len(tokens):
+            token, kind = tokens[at], self.is_declaration(tokens, at)
+            if token.text == "typedef":
+                name, end = tokens[at + 1], closing(tokens, at + 2, "{", "}")
+                self.declare(self.globals, name, 23, None)
+                self.fields[name.text] = scope = {}
+                inside, within = at + 3, tokens[:end]
+                while inside < end:
+                    start = self.is_declaration(within, inside)
+                    inside = self.variables(within, start, scope, 8, self.globals) if start is not None else inside + 1
+                at = end + 1
+            elif token.text == "mtype" and tokens[at + 1].text in ("=", "{"):
+                end = closing(tokens, at + 1 + (tokens[at + 1].text == "="), "{", "}")
+                for name in tokens[at:end]:
+                    if is_name(name):
+                        self.declare(self.globals, name, 22)
+                at = end + 1
+            elif token.text == "proctype":
+                name, end = tokens[at + 1], closing(tokens, at + 2, "(", ")")
+                self.declare(self.globals, name, 5)
+                opens = next(number for number in range(end, len(tokens)) if tokens[number].text == "{")
+                last = closing(tokens, opens, "{", "}")
+                scope, inside, within = {}, at + 3, tokens[:end]
+                while inside < end:
+                    start = self.is_declaration(within, inside)
+                    inside = self.variables(within, start, scope, 13, self.globals) if start is not None else inside + 1
+                self.body(tokens[opens + 1:last], scope)
+                at = last + 1
+            elif token.text == "init":
+                self.note(self.outer, token, token.at)
+                opens = next(number for number in range(at, len(tokens)) if tokens[number].text == "{")
+                last = closing(tokens, opens, "{", "}")
+                self.body(tokens[opens + 1:last], {})
+                at = last + 1
+            elif kind is not None:
+                at = self.variables(tokens, kind, self.globals, 13, {})
+            elif is_name(token):
+                at = self.reference(tokens, at, self.globals, {})
+            else:
+                at += 1
+
+    def name_at(self, offset):
+        """The place of the name that touches a place, and where it is declared."""
+        for at, declared in self.inner + self.outer:
+            if at <= offset <= at + self.lengths[at]:
+                return at, declared
+        return None
+
+    def declared_at(self, at):
+        return sorted({d for a, d in self.inner + self.outer if a == at})
+
+    def places_of(self, declared):
+        return sorted({a for a, d in self.inner + self.outer if d == declared})
