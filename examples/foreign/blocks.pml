@@ -24,6 +24,10 @@ active proctype Worker() {
      byte before = total
      put(turn)
      { byte seen; box?seen; printf("took %d of %d\n", seen, total - before) }
+     byte marks[2]
+     marks[0]++
+     marks[1]++
+     printf("%d, %d\n", marks[0], marks[1])
      turn++
   :: else -> break
   od

@@ -1,6 +1,7 @@
 -- What becomes of the tokens of a text where declarations are steps.
 use Rattle.std.specs.Prelude.{ℕ, Bool, true, false, not, ◌&&◌, ◌==◌, if◌then◌else◌, List, [], ◌∷◌}
 use Rattle.std.specs.Str.{bytes_eq}
+use lib.Chars.{codes}
 use Rattle.pml_token.specs.declared.token.Kind.{Kind}
 use Rattle.pml_token.specs.declared.token.Kind.TheVariants as kind
 use Rattle.pml_token.specs.Word.{same_kind}
@@ -30,14 +31,24 @@ abbrev pub reads : List ℕ → List Written → Bool
 reads name [] = false
 reads name (t ∷ ts) = if ends t.kind then false else (if is_name name t then true else reads name ts)
 
--- whether a value that is not made of the name is assigned to it at the front of stretches
-abbrev pub is_set : List ℕ → List Written → Bool
-is_set name (t ∷ u ∷ ts) = is_name name t && (same_kind u.kind kind.Assign && not (reads name ts))
-is_set name _ = false
+-- whether a value that is not made of the name is assigned here
+abbrev pub is_new : List ℕ → List Written → Bool
+is_new name [] = false
+is_new name (t ∷ ts) = same_kind t.kind kind.Assign && not (reads name ts)
+
+-- whether `[0]` stands before what assigns such a value
+abbrev pub is_first_new : List ℕ → List Written → Bool
+is_first_new name (o ∷ n ∷ c ∷ ts) = (same_kind o.kind kind.OpenBracket && (bytes_eq n.token (codes "0") && same_kind c.kind kind.CloseBracket)) && is_new name ts
+is_first_new name _ = false
+
+-- whether a value that is not made of the name is assigned to it, or to its first element, at the front of stretches
+abbrev pub is_set : Bool → List ℕ → List Written → Bool
+is_set is_array name [] = false
+is_set is_array name (t ∷ ts) = is_name name t && (if is_array then is_first_new name ts else is_new name ts)
 
 -- a declaration without a value ends with 0, unless a value follows it at once
 abbrev pub change_of_end : Bool → Kind → List ℕ → List Written → Change
-change_of_end is_array k name ts = if same_kind k kind.Semicolon && is_set name ts then change.Kept else change.Ended is_array
+change_of_end is_array k name ts = if same_kind k kind.Semicolon && is_set is_array name ts then change.Kept else change.Ended is_array
 
 -- a variable gets its value, or 0, and so does the first element of an array
 abbrev pub change_of_variable : Bool → Kind → List ℕ → List Written → Change

@@ -114,13 +114,43 @@ fn reads(name: &[u8], stretches: &[Stretch<'_>]) -> bool
     false
 }
 
-// Whether a value that is not made of the name is assigned to it at the front of stretches.
-fn is_set(name: &[u8], stretches: &[Stretch<'_>]) -> bool
-    ensures { result ≡ changes.is_set name.now stretches.now }
+// Whether a value that is not made of the name is assigned at the front of stretches.
+fn is_new(name: &[u8], stretches: &[Stretch<'_>]) -> bool
+    ensures { result ≡ changes.is_new name.now stretches.now }
 {
     match stretches {
-        [one, two, back @ ..] => {
-            is_name(name, one) && (same_kind(two.kind(), Kind::Assign) && !reads(name, back))
+        [sign, back @ ..] => same_kind(sign.kind(), Kind::Assign) && !reads(name, back),
+        _ => false,
+    }
+}
+
+// Whether `[0]` stands before what assigns such a value.
+fn is_first_new(name: &[u8], stretches: &[Stretch<'_>]) -> bool
+    ensures { result ≡ changes.is_first_new name.now stretches.now }
+{
+    match stretches {
+        [opening, number, closing, back @ ..] => {
+            (same_kind(opening.kind(), Kind::OpenBracket)
+                && (number.token() == b"0".as_slice()
+                    && same_kind(closing.kind(), Kind::CloseBracket)))
+                && is_new(name, back)
+        }
+        _ => false,
+    }
+}
+
+// Whether a value that is not made of the name is assigned to it, or to its first element, at the front of stretches.
+fn is_set(is_array: bool, name: &[u8], stretches: &[Stretch<'_>]) -> bool
+    ensures { result ≡ changes.is_set is_array name.now stretches.now }
+{
+    match stretches {
+        [one, back @ ..] => {
+            is_name(name, one)
+                && (if is_array {
+                    is_first_new(name, back)
+                } else {
+                    is_new(name, back)
+                })
         }
         _ => false,
     }
@@ -130,7 +160,7 @@ fn is_set(name: &[u8], stretches: &[Stretch<'_>]) -> bool
 fn change_of_end(is_array: bool, kind: Kind, name: &[u8], back: &[Stretch<'_>]) -> Change
     ensures { result ≡ changes.change_of_end is_array kind name.now back.now }
 {
-    if same_kind(kind, Kind::Semicolon) && is_set(name, back) {
+    if same_kind(kind, Kind::Semicolon) && is_set(is_array, name, back) {
         Change::Kept
     } else {
         Change::Ended(is_array)
