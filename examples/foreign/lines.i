@@ -43,6 +43,8 @@ init {
   !(n == 0)
   -n
   (n > 0)
+  (n - h
+  - 1 > 0)
   assert(n == 12)
   atomic { n++ }
   d_step { n-- }
@@ -59,5 +61,6 @@ init {
   :: else
   fi
 done:
-  printf("%d %d\n", n, h)
+  printf("%d two %d\n",
+           n, h)
 }
