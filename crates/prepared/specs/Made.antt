@@ -2,7 +2,9 @@
 use Rattle.std.specs.Prelude.{◌≡◌, ◌≤◌, ℕ, Bool, true, false, List, [], length}
 use Rattle.pml_directives.specs.Plain.{is_plain}
 use Rattle.prepare.specs.declared.TheConstants.{MOST_BYTES}
-use Rattle.prepare.specs.Laws.{lined, prepared, has_tokens_alone}
+use Rattle.prepare.specs.Laws.{lined, separated, exchanged, has_tokens_alone}
+use Rattle.mtype_commas.specs.Writing.{punctuated}
+use Rattle.computed_sizes.specs.Resizing.{resized}
 use Rattle.declared_steps.specs.Writing.{stepped}
 use Rattle.names_apart.specs.Writing.{joint}
 use Rattle.names_apart.specs.Apart.{IsApart}
@@ -17,11 +19,15 @@ TellsTokens is_left text = is_left ≡ false → has_tokens_alone (lined text) �
 abbrev pub IsDivided : List ℕ → List ℕ → Type 0
 IsDivided text made = IsApart (joint text) text made
 
+-- what is made of a text by its ends of lines, its blocks, its sizes, its subtypes and its loops over arrays
+abbrev pub rewritten : List ℕ → List ℕ
+rewritten text = exchanged (resized (separated text))
+
 -- it is made of a text that is without `#` lines and macros, and has no more bytes than it may
 pub record IsMadeOf (text : List ℕ) (p : Prepared) : Type 0 where
   pub short : length text ≤ MOST_BYTES
-  pub made : IsDivided (stepped (prepared text)) p.text.items
-  pub told : TellsTokens p.is_left text
+  pub made : IsDivided (stepped (rewritten (punctuated text))) p.text.items
+  pub told : TellsTokens p.is_left (punctuated text)
 
 -- what a preprocessor may leave of an author's text: the text itself, where it is to be read as it is, and where no macro is given and nothing in it is for one
 pub record IsLeftOf (how : How) (own text : List ℕ) : Type 0 where

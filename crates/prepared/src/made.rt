@@ -6,8 +6,9 @@ ghost use Rattle.prepare.specs.declared.TheConstants.{MOST_BYTES};
 ghost use Rattle.prepare.specs.Stretches as as_stretches;
 ghost use Rattle.prepare.specs.Spelling as as_spelling;
 ghost use Rattle.prepare.specs.Laws as laws;
+ghost use Rattle.mtype_commas.specs.Writing.{punctuated};
 ghost use Rattle.declared_steps.specs.Writing.{stepped};
-ghost use Rattle.prepared.specs.Made.{TellsTokens, IsDivided, IsMadeOf, IsPreparedOf};
+ghost use Rattle.prepared.specs.Made.{rewritten, TellsTokens, IsDivided, IsMadeOf, IsPreparedOf};
 
 use crate::given::How;
 use crate::kinds::What;
@@ -15,7 +16,9 @@ use crate::lines::lines_of;
 use crate::model::model_text;
 use crate::report::{Called, Report};
 use crate::unprepared::Unprepared;
+use computed_sizes::writing::with_sizes;
 use declared_steps::writing::{Stepped, with_steps};
+use mtype_commas::writing::with_commas;
 use names_apart::apart::{DividedText, divide_names};
 use names_apart::candidates::{Candidate, candidates};
 use pml_token::token::{Kind, same_kind};
@@ -141,7 +144,7 @@ struct Made {
     is_left: bool,
 }
 
-// What is made of a text with its separators, of which the report has heard.
+// What is made of a text with its separators and its sizes, of which the report has heard.
 fn made_of_separated<'t>(
     alloc: Global,
     text: &'t [u8],
@@ -161,26 +164,37 @@ fn made_of_separated<'t>(
     })
 }
 
-// What is made of a text.
+// What is made of a text whose lists have their commas.
 fn made_of(alloc: Global, text: &[u8], called: Called<'_>) -> Result<Made, AllocError>
     requires { length text.now ≤ MOST_BYTES }
-    ensures made { IfOk result (λ m. IsDivided (stepped (laws.prepared text.now)) m.text.items) }
+    ensures made { IfOk result (λ m. IsDivided (stepped (rewritten text.now)) m.text.items) }
     ensures told { IfOk result (λ m. TellsTokens m.is_left text.now) }
 {
     let lines = numbered(alloc, text)?;
     let numbers = coded(alloc, &lines)?;
     let mut report = Report::new(alloc);
     let separated = separated(alloc, &numbers, &mut report)?;
+    let sized = with_sizes(alloc, &separated.text)?;
     let Made {
         text,
         said,
         is_left,
-    } = made_of_separated(alloc, &separated.text, report, called)?;
+    } = made_of_separated(alloc, &sized, report, called)?;
     Ok(Made {
         text,
         said,
         is_left: is_left || !separated.are_tokens,
     })
+}
+
+// What is made of a text, with commas between the names of each `mtype`.
+fn made_with_commas(alloc: Global, text: &[u8], called: Called<'_>) -> Result<Made, AllocError>
+    requires { length text.now ≤ MOST_BYTES }
+    ensures made { IfOk result (λ m. IsDivided (stepped (rewritten (punctuated text.now))) m.text.items) }
+    ensures told { IfOk result (λ m. TellsTokens m.is_left (punctuated text.now)) }
+{
+    let punctuated = with_commas(alloc, text)?;
+    made_of(alloc, &punctuated, called)
 }
 
 /// What is prepared of a text that is without `#` lines and macros.
@@ -191,7 +205,7 @@ pub fn prepared_from(alloc: Global, text: &[u8], called: Called<'_>) -> Result<P
         return Err(Unprepared::TooLong);
     }
     let lines = lines_of(alloc, text)?;
-    let made = made_of(alloc, text, called)?;
+    let made = made_with_commas(alloc, text, called)?;
     Ok(Prepared {
         text: made.text,
         lines,
