@@ -1,9 +1,9 @@
 //! How far tokens are read, as they stand or with a change.
 
-ghost use Rattle.std.specs.Prelude.{◌≡◌, ◌==◌, IfSome, Some};
-ghost use Rattle.std.specs.List.{position};
+ghost use Rattle.std.specs.Prelude.{◌≡◌, IfSome, Some};
+ghost use Rattle.explain_syntax.specs.Lines.{first_of_line};
 
-use explain_cause::place::between;
+use explain_cause::place::{between, from};
 use pml_syntax::{SyntaxError, parse};
 use pml_token::token::{Kind, Token};
 use std::alloc::{AllocError, Global};
@@ -88,18 +88,36 @@ fn stop_of<'a>(alloc: Global, numbered: &'a [Token<'a>]) -> Result<Option<usize>
     }
 }
 
-/// The place of the only token with this line; none where no token has it, or more than one.
-fn only_at(tokens: &[Token<'_>], line: u32) -> Option<usize>
-    ensures { IfSome result (λ at. position (λ token. token.line == line) tokens.now ≡ Some at) }
+/// The place of the first token with this line.
+fn first_of_line(tokens: &[Token<'_>], line: u32) -> Option<usize>
+    ensures { result ≡ first_of_line line tokens.now }
 {
-    let first = tokens.iter().position(|token| token.line() == line)?;
-    let last = tokens.iter().rposition(|token| token.line() == line)?;
-    if first == last { Some(first) } else { None }
+    let mut passed = 0usize;
+    let mut rest = tokens;
+    while !rest.is_empty() {
+        if rest[0].line() == line {
+            return Some(passed);
+        }
+        passed += 1;
+        rest = &rest[1..];
+    }
+    None
+}
+
+/// The place of the only token with this line; none where no token has it, or more than one.
+fn only_of_line(tokens: &[Token<'_>], line: u32) -> Option<usize>
+    ensures { IfSome result (λ at. first_of_line line tokens.now ≡ Some at) }
+{
+    let at = first_of_line(tokens, line)?;
+    match first_of_line(from(tokens, at.saturating_add(1)), line) {
+        Some(_) => None,
+        None => Some(at),
+    }
 }
 
 /// The token that no rule reads, or the last one, where no tree spells the tokens; `line` is its line, which tokens of an inline share.
 pub fn stop(alloc: Global, tokens: &[Token<'_>], line: u32) -> Result<Option<usize>, AllocError> {
-    match only_at(tokens, line) {
+    match only_of_line(tokens, line) {
         Some(at) => Ok(Some(at)),
         None => {
             let list = numbered(alloc, tokens)?;
