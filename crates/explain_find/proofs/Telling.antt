@@ -1,5 +1,5 @@
 -- What follows of a finding that keeps its place.
-use Rattle.std.proofs.Common.{◌≡◌, ℕ, Bool, true, ◌||◌, List, drop, Option, Some, None, Result, Ok, Err, IfOk, IfSome, MatchOption, ap, sym, subst}
+use Rattle.std.proofs.Common.{◌≡◌, ℕ, Bool, true, ◌||◌, List, drop, Option, Some, None, Result, Ok, Err, IfOk, IfSome, MatchOption, MatchResult, ap, sym, subst}
 use Rattle.diagnostics.specs.declared.refusal.Refusal.{Refusal}
 use Rattle.pml_token.specs.Word.{Word}
 use Rattle.pml_tree.specs.declared.tree.Tree.{Tree}
@@ -83,6 +83,9 @@ told_broken us t x ms b (Err e) same broken here = tt
 
 pub some_of : {X : Type 0} (o : Option X) (x : X) (P : Type 0) (Q : X → Type 0) → o ≡ Some x → MatchOption o P Q → Q x
 some_of o x P Q e h = subst (λ o'. MatchOption o' P Q) e h
+
+pub ok_of : {X E : Type 0} (r : Result X E) (x : X) (P : X → Type 0) (Q : E → Type 0) → r ≡ Ok x → MatchResult r P Q → P x
+ok_of r x P Q e h = subst (λ r'. MatchResult r' P Q) e h
 
 -- of the marks of a tree
 pub told_list : (us : List Word) (x : Refusal) (ms : List Mark) {E : Type 0} (r : Result Finding E) → AreMarks us ms
