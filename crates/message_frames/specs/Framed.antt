@@ -24,6 +24,14 @@ TakesFirst None new body = ⊤
 TakesFirst (Some bytes) None body = ⊥
 TakesFirst (Some bytes) (Some rest) body = IsFirst bytes body rest
 
+-- the same of what is held of a reader and of what it has left, before and behind
+abbrev pub TakesNext : List ℕ → Option (List ℕ) → List ℕ → Option (List ℕ) → List ℕ → Type 0
+TakesNext held left held' left' body = TakesFirst (prepend_known held left) (prepend_known held' left') body
+
+-- of what is held and left together nothing that is known is lost
+abbrev pub KeepsAll : List ℕ → Option (List ℕ) → List ℕ → Option (List ℕ) → Type 0
+KeepsAll held left held' left' = Keeps (prepend_known held left) (prepend_known held' left')
+
 -- nothing was read: a reader has ended, or it or memory failed
 abbrev pub IsNoRead : Option (List ℕ) → NoMessage → Type 0
 IsNoRead left why.Ended = IsAtEnd left

@@ -1,10 +1,10 @@
 //! Messages over a reader.
 
 ghost use Rattle.std.specs.Prelude.{◌≡◌, ◌≢◌, ◌↔◌, ◌≤◌, ◌<◌, ◌+◌, ◌-◌, true, [], take, drop, length, IfOk, IfErr, OnOk, OnErr};
-ghost use Rattle.std.specs.Io.KnownBytes.{prepend_known, Keeps, Consumes, IsAtEnd};
+ghost use Rattle.std.specs.Io.KnownBytes.{Keeps, Consumes, IsAtEnd};
 ghost use Rattle.message_frames.specs.Front.{front_of};
 ghost use Rattle.message_frames.specs.declared.front.Front.TheVariants.{Part};
-ghost use Rattle.message_frames.specs.Framed.{framed, IsNoRead, TakesFirst, HasNone};
+ghost use Rattle.message_frames.specs.Framed.{framed, IsNoRead, TakesNext, KeepsAll, HasNone};
 ghost use Rattle.message_frames.specs.declared.frames.NoMessage.TheVariants.{Device, Memory};
 
 use crate::front::{Front, front_of};
@@ -78,7 +78,7 @@ impl Frames {
 
     // Reads once. No byte is lost, also where memory is refused or the reader fails.
     fn fill<R: Read>(&mut self, reader: &mut R) -> Result<(), NoMessage>
-        ensures kept { Keeps (prepend_known self.old (R.remaining reader.old)) (prepend_known self.new (R.remaining reader.new)) }
+        ensures kept { KeepsAll self.old (R.remaining reader.old) self.new (R.remaining reader.new) }
         ensures none { IfErr result (IsNoRead (R.remaining reader.old)) }
     {
         let held = self.held.len();
@@ -123,9 +123,9 @@ impl Frames {
     /// The body of the next message. What is behind it is kept for the next call, and a reader that waits is asked for no more than the message
     /// wants.
     pub fn next<R: Read>(&mut self, reader: &mut R) -> Result<Vec<u8>, NoMessage>
-        ensures message { IfOk result (λ m. TakesFirst (prepend_known self.old (R.remaining reader.old)) (prepend_known self.new (R.remaining reader.new)) m.items) }
+        ensures message { IfOk result (λ m. TakesNext self.old (R.remaining reader.old) self.new (R.remaining reader.new) m.items) }
         // Nothing is lost, and an input that ends within a message, or with none, is told as such.
-        ensures kept { OnErr result (Keeps (prepend_known self.old (R.remaining reader.old)) (prepend_known self.new (R.remaining reader.new))) }
+        ensures kept { OnErr result (KeepsAll self.old (R.remaining reader.old) self.new (R.remaining reader.new)) }
         ensures none { IfErr result (HasNone (prepend_known self.old (R.remaining reader.old))) }
     {
         for _turn in 0..u64::MAX {

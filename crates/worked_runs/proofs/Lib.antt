@@ -32,3 +32,4 @@ mod Ends7
 mod Ends8
 mod Ends9
 mod Ends10
+mod Ends11
