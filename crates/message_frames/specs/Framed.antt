@@ -1,7 +1,7 @@
 -- A message between an editor and a server: a head that says how many bytes the body has, an empty line, and the body.
 use Rattle.std.specs.Prelude.{◌≡◌, ℕ, List, ◌++◌, ◌-◌, take, drop, length, codes, Option, Some, None, ⊤}
 use Rattle.std.specs.Fmt.{decimal}
-use Rattle.std.specs.Io.KnownBytes.{IsAtEnd}
+use Rattle.std.specs.Io.KnownBytes.{prepend_known, Keeps, IsAtEnd}
 use Rattle.message_frames.specs.declared.front.Front.TheVariants.{Message, Part, Bad}
 use Rattle.message_frames.specs.declared.frames.NoMessage.{NoMessage}
 use Rattle.message_frames.specs.declared.frames.NoMessage.TheVariants as why

@@ -1,7 +1,7 @@
 //! Messages over a reader.
 
 ghost use Rattle.std.specs.Prelude.{◌≡◌, ◌≢◌, ◌↔◌, ◌≤◌, ◌<◌, ◌+◌, ◌-◌, true, [], take, drop, length, IfOk, IfErr, OnOk, OnErr};
-ghost use Rattle.std.specs.Io.KnownBytes.{Keeps, Consumes, IsAtEnd};
+ghost use Rattle.std.specs.Io.KnownBytes.{prepend_known, Keeps, Consumes, IsAtEnd};
 ghost use Rattle.message_frames.specs.Front.{front_of};
 ghost use Rattle.message_frames.specs.declared.front.Front.TheVariants.{Part};
 ghost use Rattle.message_frames.specs.Framed.{framed, IsNoRead, TakesNext, KeepsAll, HasNone};
