@@ -11,3 +11,4 @@ pub mod Keeping
 pub mod Samples
 pub mod Rows
 pub mod EachMove
+pub mod Together

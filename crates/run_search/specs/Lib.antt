@@ -10,3 +10,4 @@ pub mod Kept
 pub mod Laws
 pub mod Viewed
 pub mod Lifted
+pub mod Together

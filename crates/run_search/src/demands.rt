@@ -7,8 +7,10 @@ ghost use Rattle.promela_process.specs.Expressions.{Reading, asked_by};
 ghost use Rattle.pml_value.specs.Seen.{seen};
 ghost use Rattle.run_state.specs.Standing.{stand_of, IsBody, shows, offers_at};
 ghost use Rattle.promela_run.specs.Moves.{Message as Sent, accepts, does_match};
+ghost use Rattle.run_search.specs.Together.{IsWaiting};
 ghost use Rattle.run_search.specs.Demands.{begins_with, may_take, may_at, does_accept, DemandsOn, DemandsDown, DemandsFor, AreDemands};
 
+use crate::common::Waiting;
 use crate::executable::named;
 use crate::lent::lent;
 use crate::message::{Message, is_receive};
@@ -23,7 +25,7 @@ use run_state::seat::Seat;
 use std::alloc::{AllocError, Global};
 
 /// As many processes are enough to look beforehand what each waits for.
-const ENOUGH_PROCESSES: usize = 8;
+pub(crate) const ENOUGH_PROCESSES: usize = 8;
 
 /// What a process may receive, so far as it is said beforehand: nothing; what is sent on the channel with this number; of that only
 /// what begins with this number; or anything.
@@ -203,7 +205,25 @@ fn demand_of(live: &Live<'_, '_>, j: usize, timeout: bool, seat: Seat) -> Demand
     }
 }
 
-/// What each process may receive.
+/// What a process may receive, where it may be known of all who stand there.
+fn demand_known(
+    live: &Live<'_, '_>,
+    j: usize,
+    timeout: bool,
+    seat: Seat,
+    waiting: Waiting,
+) -> Demand
+    requires there { j < length live.now.state.stands }
+    requires known { IsWaiting live.now.state timeout waiting }
+    ensures { DemandsFor live.now.state timeout j (stand_of live.now.state.program seat) result }
+{
+    match waiting.at(live, timeout, seat) {
+        Some(demand) => demand,
+        None => demand_of(live, j, timeout, seat),
+    }
+}
+
+/// What each process may receive. Of many who stand at a seat where all wait for the same one is asked.
 pub(crate) fn all_demands(
     alloc: Global,
     live: &Live<'_, '_>,
@@ -214,8 +234,11 @@ pub(crate) fn all_demands(
 {
     let seats = live.seats();
     let mut demands = Vec::with_capacity(alloc, seats.len())?;
+    let mut waiting = Waiting::unknown();
     for j in 0..seats.len() {
-        demands.push(demand_of(live, j, timeout, seats[j]))?;
+        let demand = demand_known(live, j, timeout, seats[j], waiting);
+        waiting = waiting.after(live, timeout, j, seats[j], demand);
+        demands.push(demand)?;
     }
     Ok(demands)
 }

@@ -2,6 +2,7 @@
 #![tactic(auto)]
 
 pub mod alone;
+pub mod common;
 pub mod d_step;
 pub mod demands;
 pub mod executable;

@@ -3,14 +3,16 @@
 
 #![tactic(auto, using(crate::proofs::Keeping::kept_on, crate::proofs::Keeping::kept_same, crate::proofs::Keeping::kept_push))]
 
-ghost use Rattle.std.specs.Prelude.{◌≡◌, ◌++◌, ◌-◌, ◌<◌, ◌≤◌, true, false, [], OnOk, length, take};
+ghost use Rattle.std.specs.Prelude.{◌≡◌, ◌++◌, ◌-◌, ◌<◌, ◌≤◌, true, false, [], IfOk, OnOk, length, take};
 ghost use Rattle.run_search.specs.Kept.{Extends};
 ghost use Rattle.run_state.specs.Standing.{IsBody};
 ghost use Rattle.promela_run.specs.Moves.{moves_held, moves as all_moves};
 ghost use Rattle.run_search.specs.First.{AreFirst, moves_from, moves_of_level};
-ghost use Rattle.run_search.specs.Round.{IsKnown, round_under, live_under};
+ghost use Rattle.run_search.specs.Together.{IsSilence};
+ghost use Rattle.run_search.specs.Round.{IsKnown, round_at, round_under, live_under};
 
-use crate::demands::{all_demands, are_worth_knowing};
+use crate::common::Silence;
+use crate::demands::{ENOUGH_PROCESSES, all_demands, are_worth_knowing};
 use crate::foremost::first_asked;
 use crate::lent::lent;
 use crate::listeners::{NOBODY, all_listeners};
@@ -40,6 +42,48 @@ fn add_moves_of_all(round: &Round<'_, '_, '_>, moves: &mut Vec<Move>) -> Result<
     Ok(())
 }
 
+/// Adds the moves of a process, none where it is known that nobody has any where it stands; and what is known then.
+fn add_moves_heeding(
+    round: &Round<'_, '_, '_>,
+    process: usize,
+    seat: Seat,
+    silence: Silence,
+    moves: &mut Vec<Move>,
+) -> Result<Silence, AllocError>
+    requires known { IsKnown round.now }
+    requires there { process < length round.now.live.now.state.stands }
+    requires silence { IsSilence round.now silence }
+    ensures added { OnOk result (moves.new.items ≡ moves.old.items ++ round_at round.now process seat) }
+    ensures kept { Extends moves.new.items moves.old.items }
+    ensures silence { IfOk result (λ z. IsSilence round.now z) }
+{
+    if silence.is_at(round, seat) {
+        return Ok(silence);
+    }
+    let before = moves.len();
+    add_moves_at(round, process, seat, moves)?;
+    if moves.len() != before {
+        return Ok(silence);
+    }
+    Ok(silence.after(round, process, seat))
+}
+
+/// Adds the moves of all processes, where many live: of those who stand at one seat and have no moves there one is asked, if it may
+/// answer for all.
+#[inline(never)]
+fn add_moves_of_many(round: &Round<'_, '_, '_>, moves: &mut Vec<Move>) -> Result<(), AllocError>
+    requires { IsKnown round.now }
+    ensures added { OnOk result (moves.new.items ≡ moves.old.items ++ round_under round.now) }
+    ensures kept { Extends moves.new.items moves.old.items }
+{
+    let seats = round.live.seats();
+    let mut silence = Silence::unknown();
+    for process in 0..seats.len() {
+        silence = add_moves_heeding(round, process, seats[process], silence, moves)?;
+    }
+    Ok(())
+}
+
 /// Adds the moves of all processes, where it is worth to know first what each waits for.
 #[inline(never)]
 fn add_moves_knowing(
@@ -60,7 +104,7 @@ fn add_moves_knowing(
         spans: heard.spans.as_slice(),
         any: heard.any,
     };
-    add_moves_of_all(&round, moves)
+    add_moves_of_many(&round, moves)
 }
 
 /// Adds the moves of all processes under a value of `timeout`.
@@ -83,6 +127,9 @@ fn add_moves_under(
         spans: &[],
         any: NOBODY,
     };
+    if live.process_count() >= ENOUGH_PROCESSES {
+        return add_moves_of_many(&round, moves);
+    }
     add_moves_of_all(&round, moves)
 }
 

@@ -6,8 +6,8 @@ use Rattle.run_search.specs.Listeners.{AreHeard}
 use Rattle.run_search.proofs.Listening.{known_all}
 use Rattle.run_search.proofs.search.add_moves_knowing.Goals as goal
 
-pub add_moves_of_all-requires : goal.add_moves_of_all-requires
-add_moves_of_all-requires c =
+pub add_moves_of_many-requires : goal.add_moves_of_many-requires
+add_moves_of_many-requires c =
     let s = c.args.live.now.state in
     let any : Span = c.in_ok-heard.heard.any in
     let ws : List Demand = c.as_slice-2.result.now in

@@ -1,0 +1,167 @@
+//! Seats at which every process can take the same, so that of many who stand there one is asked.
+
+ghost use Rattle.std.specs.Prelude.{◌≡◌, ◌+◌, ◌<◌, true, false, IfSome, Some, ℕ, [], length, map};
+ghost use Rattle.common_offers.specs.Offers.{AreCommonOffers};
+ghost use Rattle.run_state.specs.Standing.{IsBody, shows, stand_of};
+ghost use Rattle.run_search.specs.Together.{IsCommonSeat, IsSilence, IsWaiting};
+ghost use Rattle.run_search.specs.Demands.{DemandsFor};
+ghost use Rattle.run_search.specs.Round.{round_at};
+
+use crate::demands::Demand;
+use crate::round::Round;
+use common_offers::statement::is_common_offer;
+use pml_flow::edge::Edge;
+use run_state::body::Body;
+use run_state::live::Live;
+use run_state::seat::Seat;
+
+/// Whether every process can take all offers of a level, or none can.
+fn is_common_level(body: &Body<'_, '_, '_>, edges: &[Edge]) -> bool
+    requires { IsBody body.now }
+    ensures { result ≡ true → AreCommonOffers (map (shows body.now) edges.now) }
+{
+    for edge in edges {
+        if !is_common_offer(body.basic(*edge)) {
+            return false;
+        }
+    }
+    true
+}
+
+/// Whether of the processes that stand there one can be asked for all. It may say no where that is so.
+#[tactic(auto, using(crate::proofs::Together::common_seat))]
+fn is_common_seat(live: &Live<'_, '_>, seat: Seat) -> bool
+    ensures { result ≡ true → IsCommonSeat live.now.state seat }
+{
+    let Some(body) = live.standing(seat) else {
+        return false;
+    };
+    match body.graph.only_level(seat.node) {
+        Some(edges) => is_common_level(&body, edges),
+        None => false,
+    }
+}
+
+/// Whether two processes stand at one place of one proctype.
+fn is_same(one: Seat, other: Seat) -> bool
+    ensures { result ≡ true → one ≡ other }
+{
+    one.sort == other.sort && one.node == other.node
+}
+
+/// Whether it was this seat that was asked last.
+fn was_asked(asked: Option<Seat>, seat: Seat) -> bool
+    ensures { result ≡ true → asked ≡ Some seat }
+{
+    match asked {
+        Some(last) => is_same(last, seat),
+        None => false,
+    }
+}
+
+/// Whether the process with this number stands there.
+fn stands_there(seats: &[Seat], process: usize, seat: Seat) -> bool {
+    match seats.get(process) {
+        Some(own) => is_same(*own, seat),
+        None => false,
+    }
+}
+
+/// The last seat that was asked in a round, and whether no process has a move there.
+#[derive(Clone, Copy)]
+pub(crate) struct Silence {
+    pub asked: Option<Seat>,
+    pub is_silent: bool,
+}
+
+impl Silence {
+    /// Nothing is known.
+    pub(crate) fn unknown() -> Silence
+        ensures { result.is_silent ≡ false }
+    {
+        Silence {
+            asked: None,
+            is_silent: false,
+        }
+    }
+
+    /// Whether it is known that no process has a move there.
+    pub(crate) fn is_at(self, round: &Round<'_, '_, '_>, seat: Seat) -> bool
+        requires { IsSilence round.now self }
+        ensures { result ≡ true → (m : ℕ) → round_at round.now m seat ≡ [] }
+    {
+        self.is_silent && was_asked(self.asked, seat)
+    }
+
+    /// What is known behind a process that has no move where it stands. It is asked for all only where the next stands there too.
+    pub(crate) fn after(self, round: &Round<'_, '_, '_>, process: usize, seat: Seat) -> Silence
+        requires there { process < length round.now.live.now.state.stands }
+        requires known { IsSilence round.now self }
+        requires none { round_at round.now process seat ≡ [] }
+        ensures { IsSilence round.now result }
+    {
+        if was_asked(self.asked, seat) || !stands_there(round.live.seats(), process + 1, seat) {
+            return self;
+        }
+        Silence {
+            asked: Some(seat),
+            is_silent: is_common_seat(round.live, seat),
+        }
+    }
+}
+
+/// The last seat that was asked what its process waits for, whether each who stands there waits for that, and what it is.
+#[derive(Clone, Copy)]
+pub(crate) struct Waiting {
+    pub asked: Option<Seat>,
+    pub is_common: bool,
+    pub demand: Demand,
+}
+
+impl Waiting {
+    /// Nothing is known.
+    pub(crate) fn unknown() -> Waiting
+        ensures { result.is_common ≡ false }
+    {
+        Waiting {
+            asked: None,
+            is_common: false,
+            demand: Demand::Anything,
+        }
+    }
+
+    /// What each process waits for that stands there, where it is known.
+    pub(crate) fn at(self, live: &Live<'_, '_>, timeout: bool, seat: Seat) -> Option<Demand>
+        requires { IsWaiting live.now.state timeout self }
+        ensures { IfSome result (λ w. (j : ℕ) → DemandsFor live.now.state timeout j (stand_of live.now.state.program seat) w) }
+    {
+        if self.is_common && was_asked(self.asked, seat) {
+            return Some(self.demand);
+        }
+        None
+    }
+
+    /// What is known behind a process that waits so where it stands. It is asked for all only where the next stands there too.
+    pub(crate) fn after(
+        self,
+        live: &Live<'_, '_>,
+        timeout: bool,
+        process: usize,
+        seat: Seat,
+        demand: Demand,
+    ) -> Waiting
+        requires there { process < length live.now.state.stands }
+        requires known { IsWaiting live.now.state timeout self }
+        requires demand { DemandsFor live.now.state timeout process (stand_of live.now.state.program seat) demand }
+        ensures { IsWaiting live.now.state timeout result }
+    {
+        if was_asked(self.asked, seat) || !stands_there(live.seats(), process + 1, seat) {
+            return self;
+        }
+        Waiting {
+            asked: Some(seat),
+            is_common: is_common_seat(live, seat),
+            demand,
+        }
+    }
+}
