@@ -17,11 +17,15 @@ fn is_plain(byte: u8) -> bool
     byte == b'\n' || (b' ' <= byte && byte <= b'~')
 }
 
-/// Whether all bytes are shown as they are.
+/// Whether all bytes are shown as they are. No byte ends the loop, so a machine asks many at once.
 pub fn are_plain(bytes: &[u8]) -> bool
     ensures { result ≡ list_all is_plain bytes.now }
 {
-    bytes.iter().all(|byte| is_plain(*byte))
+    let mut are = true;
+    for byte in bytes {
+        are = are & is_plain(*byte);
+    }
+    are
 }
 
 fn push_sign(out: &mut String, c: char) -> Result<(), AllocError>
