@@ -1,0 +1,104 @@
+-- A text in which a record that is a message is its fields.
+use Rattle.std.specs.Prelude.{◌≡◌, ℕ, Bool, true, false, nat_lt, if◌then◌else◌, List, [], ◌∷◌, ◌++◌, length, ◌⊎◌, ◌×◌}
+use Rattle.std.specs.List.{flat_map}
+use Rattle.std.specs.Str.{bytes_eq}
+use Rattle.std.specs.Fmt.{decimal}
+use lib.Chars.{codes}
+use Rattle.pml_token.specs.declared.token.Kind.{Kind}
+use Rattle.pml_token.specs.declared.token.Kind.TheVariants as kind
+use Rattle.pml_token.specs.Word.{same_kind}
+use Rattle.prepare.specs.declared.TheConstants.{MOST_BYTES}
+use Rattle.prepare.specs.Written.{Written}
+use Rattle.prepare.specs.Stretches.{stretches}
+use Rattle.names_apart.specs.declared.writing.TheConstants.{MOST_JOINT}
+use Rattle.names_apart.specs.Writing.{joint}
+use Rattle.record_messages.specs.declared.changes.TheConstants.{MOST_LOOPS}
+use Rattle.record_messages.specs.declared.changes.Change.{Change}
+use Rattle.record_messages.specs.declared.changes.Change.TheVariants as change
+use Rattle.record_messages.specs.Member.{Member}
+use Rattle.record_messages.specs.Members.{members}
+use Rattle.record_messages.specs.Variable.{Variable}
+use Rattle.record_messages.specs.Variables.{record_of, records}
+use Rattle.record_messages.specs.Changed.{Changed}
+use Rattle.record_messages.specs.Changes.{changes}
+
+abbrev pub divider : Bool → List ℕ
+divider is_front = if is_front then [] else codes ", "
+
+-- the types of the fields of a typedef, in their order
+abbrev pub types : Bool → List Member → List ℕ → List ℕ
+types is_front [] word = []
+types is_front (m ∷ ms) word =
+    if bytes_eq m.home word then divider is_front ++ (m.word ++ types false ms word) else types is_front ms word
+
+-- the fields of a record that is of a typedef, in their order
+abbrev pub fields : Bool → List Member → List ℕ → List ℕ → List ℕ
+fields is_front [] word name = []
+fields is_front (m ∷ ms) word name =
+    if bytes_eq m.home word then divider is_front ++ (name ++ (codes "." ++ (m.name ++ fields false ms word name))) else fields is_front ms word name
+
+-- the counter of the loop of number n
+abbrev pub counter : List ℕ → ℕ → List ℕ
+counter joint n = codes "for" ++ (joint ++ decimal n)
+
+abbrev pub index : Written → Written → List ℕ
+index o i = if same_kind o.kind kind.OpenBracket then codes "[" ++ (i.token ++ codes "]") else []
+
+-- the channel of a loop, by what stands behind its `for`: `(`, a record, `in`, a name, and an index or an end
+abbrev pub channel : List Written → List ℕ
+channel (p ∷ v ∷ n ∷ c ∷ o ∷ i ∷ ts) = c.token ++ index o i
+channel _ = []
+
+abbrev pub variable : List Written → List ℕ
+variable (p ∷ v ∷ ts) = v.token
+variable _ = []
+
+-- a message is received, and sent again
+abbrev pub turned : List ℕ → List ℕ → List ℕ
+turned channel fields = codes " " ++ (channel ++ (codes "?" ++ (fields ++ (codes "; " ++ (channel ++ (codes "!" ++ (fields ++ codes ";")))))))
+
+abbrev pub turn : List Member → List Variable → List Written → List ℕ
+turn ms vs head = turned (channel head) (fields true ms (record_of vs (variable head)) (variable head))
+
+abbrev pub declared : List ℕ → ℕ → List ℕ → List ℕ
+declared joint n t = codes "byte " ++ (counter joint n ++ (codes "; " ++ t))
+
+abbrev pub shown_by : List Member → List Variable → List ℕ → ℕ → List Written → Change → List ℕ → List ℕ
+shown_by ms vs joint n head change.Kept t = t
+shown_by ms vs joint n head change.Types t = types true ms t
+shown_by ms vs joint n head change.Fields t = fields true ms (record_of vs t) t
+shown_by ms vs joint n head change.Declared t = declared joint n t
+shown_by ms vs joint n head change.Counter t = counter joint n
+shown_by ms vs joint n head change.Range t = codes ": 0 .. len("
+shown_by ms vs joint n head change.Ended t = codes ") - 1" ++ t
+shown_by ms vs joint n head change.Turned t = t ++ turn ms vs head
+
+abbrev pub shown : List Member → List Variable → List ℕ → Changed → List ℕ
+shown ms vs joint c = shown_by ms vs joint c.number c.head c.change c.token
+
+abbrev pub one : List Member → List Variable → List ℕ → Changed → List ℕ
+one ms vs joint c = c.gap ++ shown ms vs joint c
+
+abbrev pub written : List Member → List Variable → List ℕ → List Changed → List ℕ
+written ms vs joint cs = flat_map (one ms vs joint) cs
+
+-- all is written; where it is too long, so much of it that this is so
+abbrev pub IsWritten : List ℕ → List ℕ → Type 0
+IsWritten all out = (out ≡ all) ⊎ ((nat_lt MOST_BYTES (length out) ≡ true) × (nat_lt MOST_BYTES (length all) ≡ true))
+
+-- no loop is made where names may have no numbers
+abbrev pub first : List ℕ → ℕ
+first joint = if nat_lt MOST_JOINT (length joint) then MOST_LOOPS else 0
+
+abbrev pub made_of : List ℕ → List Member → List Written → List ℕ
+made_of joint ms ts = written ms (records ms ts) joint (changes ms (records ms ts) (first joint) ts)
+
+abbrev pub made : List ℕ → List ℕ
+made text = made_of (joint text) (members (stretches text)) (stretches text)
+
+abbrev pub unless_long : List ℕ → List ℕ → List ℕ
+unless_long made text = if nat_lt MOST_BYTES (length made) then text else made
+
+-- a text in which a record that is a message is its fields, unless that is too long
+abbrev pub recorded : List ℕ → List ℕ
+recorded text = unless_long (made text) text
