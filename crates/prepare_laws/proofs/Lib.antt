@@ -1,3 +1,4 @@
 pub mod OpenSince
 pub mod LineEnds
+pub mod Twice
 mod Rows

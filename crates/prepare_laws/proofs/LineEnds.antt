@@ -207,7 +207,7 @@ knows_kind c kind.Decrement ks w =
 knows_kind c k ks w =
     plain_behind c k ks c.brackets c.is_head state.Open w refl w.brackets w.head (λ e. cc) (λ e. e) (λ e. e) (open_last k ks (λ m. false≢true m) refl refl refl)
 
-code_by : (b : Bool) (c : Code) (k : Kind) (t : List ℕ) → is_block_word t ≡ b → IsWord k t → code_behind c (role k t) ≡ code_behind c (plain k)
+pub code_by : (b : Bool) (c : Code) (k : Kind) (t : List ℕ) → is_block_word t ≡ b → IsWord k t → code_behind c (role k t) ≡ code_behind c (plain k)
 code_by true c k t e w = ap (λ (x : Bool). code_behind c (cond x as_role.Heads (plain k))) e ∙ ap (λ (x : Kind). code_behind c (plain x)) (sym (w e))
 code_by false c k t e w = ap (λ (x : Bool). code_behind c (cond x as_role.Heads (plain k))) e
 
@@ -218,7 +218,7 @@ stretch_blanked : (p : Context) (k : Kind) (gap t : List ℕ) → is_blanked (st
 unfolding stretch
 stretch_blanked p k gap t = blank_is p.block (role k t)
 
-blanked_is : (p : Context) (u : Written) → IsStretch p u → is_blanked u ≡ contexts.is_blanked p.block (role u.kind u.token)
+pub blanked_is : (p : Context) (u : Written) → IsStretch p u → is_blanked u ≡ contexts.is_blanked p.block (role u.kind u.token)
 blanked_is p u t = ap is_blanked t.is ∙ stretch_blanked p u.kind u.gap u.token
 
 knows_by : (b : Bool) (p : Context) (u : Written) (ks : List Kind) → IsWord u.kind u.token → contexts.is_blanked p.block (role u.kind u.token) ≡ b → is_blanked u ≡ b → Knows p.code ks → Knows (behind p (role u.kind u.token)).code (kinds_behind ks u)
@@ -238,7 +238,7 @@ supply_is : (p : Context) (k : Kind) (gap t : List ℕ) → (stretch p k gap t).
 unfolding stretch
 supply_is p k gap t = refl
 
-given : (p : Context) (u : Written) → IsStretch p u → u.supply ≡ cond (is_blanked u) Nothing (supply p.code (list_any ends_line u.gap) (role u.kind u.token))
+pub given : (p : Context) (u : Written) → IsStretch p u → u.supply ≡ cond (is_blanked u) Nothing (supply p.code (list_any ends_line u.gap) (role u.kind u.token))
 given p u t =
     ap (λ (x : Written). x.supply) t.is ∙ supply_is p u.kind u.gap u.token
     ∙ ap (λ (x : Bool). cond x Nothing (supply p.code (list_any ends_line u.gap) (role u.kind u.token))) (sym (blanked_is p u t))
