@@ -30,8 +30,8 @@ and_none false = refl
 abbrev ended : Code → Code
 ended c = record c { last = state.Ended }
 
-abbrev open : Code → Code
-open c = record c { last = state.Open }
+abbrev halted : Code → Code
+halted c = record c { last = state.Open }
 
 -- before `;` and before `skip` nothing is written where no line ends
 none_before_semicolon : (l : Last) → supply_behind l false as_role.Other ≡ Nothing
@@ -66,7 +66,7 @@ skipped_before state.Ended b r e = absurd (no_skip b e)
 skipped_before _ b r e = cc
 
 -- `;` leads to where the statement before it led
-behind_ended : (c : Code) (r : Role) → code_behind (open c) r ≡ code_behind (ended c) r
+behind_ended : (c : Code) (r : Role) → code_behind (halted c) r ≡ code_behind (ended c) r
 behind_ended c as_role.Opens = refl
 behind_ended c as_role.Closes = refl
 behind_ended c as_role.Enters = refl
@@ -85,7 +85,7 @@ behind_ended c _ = refl
 is_ended : (c : Code) → c.last ≡ state.Ended → ended c ≡ c
 is_ended c e = ap (λ (l : Last). record c { last = l }) (sym e)
 
-behind_semicolon : (c : Code) (r : Role) → c.last ≡ state.Ended → code_behind (open c) r ≡ code_behind c r
+behind_semicolon : (c : Code) (r : Role) → c.last ≡ state.Ended → code_behind (halted c) r ≡ code_behind c r
 behind_semicolon c r e = behind_ended c r ∙ ap (λ (d : Code). code_behind d r) (is_ended c e)
 
 -- behind `skip` nothing is written before what ends a sequence, and that leads to where it led
@@ -119,7 +119,7 @@ stays_by Separator c t ts h e =
     let last : c.last ≡ state.Ended = separated_last c.last (t.is_over && (begins r && has_statements c)) r e in
     plainly c (record { kind = kind.Semicolon; is_over = false }) (t ∷ separated_from d ts) (none_before_semicolon c.last)
     ∙ ap (λ (us : List Piece). record { kind = kind.Semicolon; is_over = false } ∷ us)
-    (plainly (open c) t (separated_from d ts) refl
+    (plainly (halted c) t (separated_from d ts) refl
     ∙ ap (λ (b : Code). t ∷ separated_from b (separated_from d ts)) (behind_semicolon c r last)
     ∙ ap (λ (us : List Piece). t ∷ us) (h d))
 stays_by Skip c t ts h e =

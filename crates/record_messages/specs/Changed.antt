@@ -1,8 +1,14 @@
 -- A token with what becomes of it.
 use Rattle.std.specs.Prelude.{ℕ, List}
 use Rattle.pml_token.specs.declared.token.Kind.{Kind}
-use Rattle.prepare.specs.Written.{Written}
 use Rattle.record_messages.specs.declared.changes.Change.{Change}
+
+-- a loop over messages: its number, its variable, and its channel with the index of that, if it has one
+pub record Loop : Type 0 where
+  pub number : ℕ
+  pub name : List ℕ
+  pub channel : List ℕ
+  pub index : List ℕ
 
 pub record Changed : Type 0 where
   -- the blanks and comments before it
@@ -10,6 +16,5 @@ pub record Changed : Type 0 where
   pub token : List ℕ
   pub kind : Kind
   pub change : Change
-  -- the number of the last loop over messages, and what stands behind its `for`
-  pub number : ℕ
-  pub head : List Written
+  -- the last loop over messages
+  pub loop : Loop

@@ -12,11 +12,11 @@ use Rattle.record_messages.specs.declared.changes.TheConstants.{MOST_LOOPS}
 use Rattle.record_messages.specs.declared.changes.Change.{Change}
 use Rattle.record_messages.specs.declared.changes.Change.TheVariants as change
 use Rattle.record_messages.specs.Member.{Member}
-use Rattle.record_messages.specs.Members.{is_empty, is_record}
+use Rattle.record_messages.specs.Members.{is_empty, is_record, either}
 use Rattle.record_messages.specs.Variable.{Variable}
 use Rattle.record_messages.specs.Variables.{begins_with, record_of}
 use Rattle.record_messages.specs.Places.{behind}
-use Rattle.record_messages.specs.Changed.{Changed}
+use Rattle.record_messages.specs.Changed.{Loop, Changed}
 
 abbrev pub is_in : Written → Bool
 is_in t = same_kind t.kind kind.Name && bytes_eq t.token (codes "in")
@@ -77,19 +77,33 @@ change_or_loop b c = if b then change.Declared else c
 abbrev pub count : Bool → ℕ → ℕ
 count b n = if b then min (n + 1) MOST_LOOPS else n
 
-abbrev pub head_of : Bool → List Written → List Written → List Written
-head_of b ts head = if b then ts else head
+-- the variable of a loop, its channel and the index of that, by what stands behind its `for`: `(`, a record, `in`, a name, and `)` or an index
+abbrev pub variable_at : List Written → List ℕ
+variable_at (o ∷ v ∷ ts) = v.token
+variable_at _ = []
 
--- what becomes of the rest of the stretches, where n loops over messages are made before, and `head` stands behind the `for` of the last one
-abbrev pub changes_by : List Member → List Variable → Place → Kind → ℕ → List Written → List Written → List Changed
-changes_by ms vs p last n head [] = []
-changes_by ms vs p last n head (t ∷ ts) =
-    let begins = is_loop vs n last t.kind ts in
-    let number = count begins n in
-    let ahead = head_of begins ts head in
-    record { gap = t.gap; token = t.token; kind = t.kind; change = change_or_loop begins (change_at ms vs p last t ts); number = number; head = ahead }
-    ∷ changes_by ms vs (behind p begins t.kind) t.kind number ahead ts
+abbrev pub channel_at : List Written → List ℕ
+channel_at (o ∷ v ∷ i ∷ c ∷ ts) = c.token
+channel_at _ = []
+
+abbrev pub index_at : List Written → List ℕ
+index_at (o ∷ v ∷ i ∷ c ∷ b ∷ n ∷ ts) = if same_kind b.kind kind.OpenBracket then n.token else []
+index_at _ = []
+
+-- the last loop, where one may begin before these stretches
+abbrev pub loop_behind : Bool → Loop → List Written → Loop
+loop_behind b l ts =
+    record { number = count b l.number; name = either b (variable_at ts) l.name; channel = either b (channel_at ts) l.channel; index = either b (index_at ts) l.index }
+
+-- what becomes of the rest of the stretches, where `l` is the last loop over messages
+abbrev pub changes_by : List Member → List Variable → Place → Kind → Loop → List Written → List Changed
+changes_by ms vs p last l [] = []
+changes_by ms vs p last l (t ∷ ts) =
+    let begins = is_loop vs l.number last t.kind ts in
+    let loop = loop_behind begins l ts in
+    record { gap = t.gap; token = t.token; kind = t.kind; change = change_or_loop begins (change_at ms vs p last t ts); loop = loop }
+    ∷ changes_by ms vs (behind p begins t.kind) t.kind loop ts
 
 -- what becomes of the tokens of a text, where n loops over messages are made before
 abbrev pub changes : List Member → List Variable → ℕ → List Written → List Changed
-changes ms vs n ts = changes_by ms vs place.Outside kind.End n [] ts
+changes ms vs n ts = changes_by ms vs place.Outside kind.End (record { number = n; name = []; channel = []; index = [] }) ts

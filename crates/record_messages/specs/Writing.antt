@@ -4,9 +4,6 @@ use Rattle.std.specs.List.{flat_map}
 use Rattle.std.specs.Str.{bytes_eq}
 use Rattle.std.specs.Fmt.{decimal}
 use lib.Chars.{codes}
-use Rattle.pml_token.specs.declared.token.Kind.{Kind}
-use Rattle.pml_token.specs.declared.token.Kind.TheVariants as kind
-use Rattle.pml_token.specs.Word.{same_kind}
 use Rattle.prepare.specs.declared.TheConstants.{MOST_BYTES}
 use Rattle.prepare.specs.Written.{Written}
 use Rattle.prepare.specs.Stretches.{stretches}
@@ -16,10 +13,10 @@ use Rattle.record_messages.specs.declared.changes.TheConstants.{MOST_LOOPS}
 use Rattle.record_messages.specs.declared.changes.Change.{Change}
 use Rattle.record_messages.specs.declared.changes.Change.TheVariants as change
 use Rattle.record_messages.specs.Member.{Member}
-use Rattle.record_messages.specs.Members.{members}
+use Rattle.record_messages.specs.Members.{is_empty, members}
 use Rattle.record_messages.specs.Variable.{Variable}
 use Rattle.record_messages.specs.Variables.{record_of, records}
-use Rattle.record_messages.specs.Changed.{Changed}
+use Rattle.record_messages.specs.Changed.{Loop, Changed}
 use Rattle.record_messages.specs.Changes.{changes}
 
 abbrev pub divider : Bool → List ℕ
@@ -41,40 +38,34 @@ fields is_front (m ∷ ms) word name =
 abbrev pub counter : List ℕ → ℕ → List ℕ
 counter joint n = codes "for" ++ (joint ++ decimal n)
 
-abbrev pub index : Written → Written → List ℕ
-index o i = if same_kind o.kind kind.OpenBracket then codes "[" ++ (i.token ++ codes "]") else []
+abbrev pub indexed : List ℕ → List ℕ
+indexed i = if is_empty i then [] else codes "[" ++ (i ++ codes "]")
 
--- the channel of a loop, by what stands behind its `for`: `(`, a record, `in`, a name, and an index or an end
-abbrev pub channel : List Written → List ℕ
-channel (p ∷ v ∷ n ∷ c ∷ o ∷ i ∷ ts) = c.token ++ index o i
-channel _ = []
-
-abbrev pub variable : List Written → List ℕ
-variable (p ∷ v ∷ ts) = v.token
-variable _ = []
+abbrev pub channel : Loop → List ℕ
+channel l = l.channel ++ indexed l.index
 
 -- a message is received, and sent again
 abbrev pub turned : List ℕ → List ℕ → List ℕ
 turned channel fields = codes " " ++ (channel ++ (codes "?" ++ (fields ++ (codes "; " ++ (channel ++ (codes "!" ++ (fields ++ codes ";")))))))
 
-abbrev pub turn : List Member → List Variable → List Written → List ℕ
-turn ms vs head = turned (channel head) (fields true ms (record_of vs (variable head)) (variable head))
+abbrev pub turn : List Member → List Variable → Loop → List ℕ
+turn ms vs l = turned (channel l) (fields true ms (record_of vs l.name) l.name)
 
 abbrev pub declared : List ℕ → ℕ → List ℕ → List ℕ
 declared joint n t = codes "byte " ++ (counter joint n ++ (codes "; " ++ t))
 
-abbrev pub shown_by : List Member → List Variable → List ℕ → ℕ → List Written → Change → List ℕ → List ℕ
-shown_by ms vs joint n head change.Kept t = t
-shown_by ms vs joint n head change.Types t = types true ms t
-shown_by ms vs joint n head change.Fields t = fields true ms (record_of vs t) t
-shown_by ms vs joint n head change.Declared t = declared joint n t
-shown_by ms vs joint n head change.Counter t = counter joint n
-shown_by ms vs joint n head change.Range t = codes ": 0 .. len("
-shown_by ms vs joint n head change.Ended t = codes ") - 1" ++ t
-shown_by ms vs joint n head change.Turned t = t ++ turn ms vs head
+abbrev pub shown_by : List Member → List Variable → List ℕ → Loop → Change → List ℕ → List ℕ
+shown_by ms vs joint l change.Kept t = t
+shown_by ms vs joint l change.Types t = types true ms t
+shown_by ms vs joint l change.Fields t = fields true ms (record_of vs t) t
+shown_by ms vs joint l change.Declared t = declared joint l.number t
+shown_by ms vs joint l change.Counter t = counter joint l.number
+shown_by ms vs joint l change.Range t = codes ": 0 .. len("
+shown_by ms vs joint l change.Ended t = codes ") - 1" ++ t
+shown_by ms vs joint l change.Turned t = t ++ turn ms vs l
 
 abbrev pub shown : List Member → List Variable → List ℕ → Changed → List ℕ
-shown ms vs joint c = shown_by ms vs joint c.number c.head c.change c.token
+shown ms vs joint c = shown_by ms vs joint c.loop c.change c.token
 
 abbrev pub one : List Member → List Variable → List ℕ → Changed → List ℕ
 one ms vs joint c = c.gap ++ shown ms vs joint c

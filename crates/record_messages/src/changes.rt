@@ -3,7 +3,7 @@
 ghost use Rattle.std.specs.Prelude.{◌≡◌, IfOk};
 ghost use Rattle.record_messages.specs.Changes as changes;
 
-use crate::members::{Member, is_record};
+use crate::members::{Member, either, is_record};
 use crate::place::{Place, behind};
 use crate::variables::{Variable, begins_with, record_of};
 use pml_token::token::{Kind, same_kind};
@@ -37,24 +37,32 @@ pub enum Change {
 
 /// A token, with what becomes of it.
 #[derive(Drop)]
-pub struct Changed<'s, 't> {
+pub struct Changed<'t> {
     gap: &'t [u8],
     token: &'t [u8],
     kind: Kind,
     change: Change,
     number: u32,
-    head: &'s [Stretch<'t>],
+    name: &'t [u8],
+    channel: &'t [u8],
+    index: &'t [u8],
 }
 
-impl<'s, 't> Model for Changed<'s, 't> {
+impl<'t> Model for Changed<'t> {
     ghost use Rattle.record_messages.specs.Changed.{Changed as Seen};
 
     ghost Value = { Seen };
 
-    ghost view = { λ c. record { gap = c.gap.now; token = c.token.now; kind = c.kind; change = c.change; number = c.number; head = c.head.now } };
+    ghost view = { λ c. record {
+      gap = c.gap.now;
+      token = c.token.now;
+      kind = c.kind;
+      change = c.change;
+      loop = record { number = c.number; name = c.name.now; channel = c.channel.now; index = c.index.now };
+    } };
 }
 
-impl<'s, 't> Changed<'s, 't> {
+impl<'t> Changed<'t> {
     /// The blanks and comments before the token.
     pub fn gap(&self) -> &'t [u8]
         ensures { result.now ≡ self.now.gap }
@@ -78,16 +86,30 @@ impl<'s, 't> Changed<'s, 't> {
 
     /// The number of the last loop over messages.
     pub fn number(&self) -> u32
-        ensures { result ≡ self.now.number }
+        ensures { result ≡ self.now.loop.number }
     {
         self.number
     }
 
-    /// What stands behind the `for` of that.
-    pub fn head(&self) -> &'s [Stretch<'t>]
-        ensures { result.now ≡ self.now.head }
+    /// Its variable.
+    pub fn name(&self) -> &'t [u8]
+        ensures { result.now ≡ self.now.loop.name }
     {
-        self.head
+        self.name
+    }
+
+    /// Its channel, without an index.
+    pub fn channel(&self) -> &'t [u8]
+        ensures { result.now ≡ self.now.loop.channel }
+    {
+        self.channel
+    }
+
+    /// The index of that; nothing where it has none.
+    pub fn index(&self) -> &'t [u8]
+        ensures { result.now ≡ self.now.loop.index }
+    {
+        self.index
     }
 }
 
@@ -242,45 +264,75 @@ fn count(is_loop: bool, number: u32) -> u32
     }
 }
 
-fn head_of<'s, 't>(
-    is_loop: bool,
-    back: &'s [Stretch<'t>],
-    head: &'s [Stretch<'t>],
-) -> &'s [Stretch<'t>]
-    ensures { result.now ≡ changes.head_of is_loop back.now head.now }
+// The variable of a loop that these stretches go on with.
+fn variable_at<'t>(stretches: &[Stretch<'t>]) -> &'t [u8]
+    ensures { result.now ≡ changes.variable_at stretches.now }
 {
-    if is_loop { back } else { head }
+    match stretches {
+        [_, variable, ..] => variable.token(),
+        _ => b"",
+    }
+}
+
+fn channel_at<'t>(stretches: &[Stretch<'t>]) -> &'t [u8]
+    ensures { result.now ≡ changes.channel_at stretches.now }
+{
+    match stretches {
+        [_, _, _, channel, ..] => channel.token(),
+        _ => b"",
+    }
+}
+
+fn index_at<'t>(stretches: &[Stretch<'t>]) -> &'t [u8]
+    ensures { result.now ≡ changes.index_at stretches.now }
+{
+    match stretches {
+        [_, _, _, _, opening, index, ..] => {
+            if same_kind(opening.kind(), Kind::OpenBracket) {
+                index.token()
+            } else {
+                b""
+            }
+        }
+        _ => b"",
+    }
 }
 
 /// What becomes of the tokens of a text, where so many loops over messages are made before.
-pub fn changes<'s, 't>(
+pub fn changes<'t>(
     alloc: Global,
     members: &[Member<'_>],
     records: &[Variable<'_>],
     first: u32,
-    stretches: &'s [Stretch<'t>],
-) -> Result<Vec<Changed<'s, 't>>, AllocError>
+    stretches: &[Stretch<'t>],
+) -> Result<Vec<Changed<'t>>, AllocError>
     ensures { IfOk result (λ v. v.items ≡ changes.changes members.now records.now first stretches.now) }
 {
     let mut out = Vec::new(alloc);
     let mut place = Place::Outside;
     let mut last = Kind::End;
     let mut number = first;
-    let mut head: &'s [Stretch<'t>] = &[];
+    let mut name: &'t [u8] = b"";
+    let mut channel: &'t [u8] = b"";
+    let mut index: &'t [u8] = b"";
     let mut rest = stretches;
     while let [stretch, back @ ..] = rest {
         let kind = stretch.kind();
         let begins = is_loop(records, number, last, kind, back);
         let change = change_at(members, records, place, last, stretch, back);
         number = count(begins, number);
-        head = head_of(begins, back, head);
+        name = either(begins, variable_at(back), name);
+        channel = either(begins, channel_at(back), channel);
+        index = either(begins, index_at(back), index);
         out.push(Changed {
             gap: stretch.gap(),
             token: stretch.token(),
             kind,
             change: change_or_loop(begins, change),
             number,
-            head,
+            name,
+            channel,
+            index,
         })?;
         place = behind(place, begins, kind);
         last = kind;

@@ -8,9 +8,7 @@ use crate::members::{Member, members};
 use crate::variables::{Variable, record_of, records};
 use itoa::Buffer;
 use names_apart::writing::{MOST_JOINT, joint};
-use pml_token::token::{Kind, same_kind};
 use prepare::MOST_BYTES;
-use prepare::stretch::Stretch;
 use prepare::stretches::stretches;
 use std::alloc::{AllocError, Global};
 
@@ -76,31 +74,16 @@ fn add_counter(out: &mut Vec<u8>, joint: &[u8], number: u32) -> Result<(), Alloc
 }
 
 // Adds the channel of a loop.
-fn add_channel(out: &mut Vec<u8>, head: &[Stretch<'_>]) -> Result<(), AllocError>
-    ensures { OnOk result (out.new.items ≡ out.old.items ++ writing.channel head.now) }
+fn add_channel(out: &mut Vec<u8>, changed: &Changed<'_>) -> Result<(), AllocError>
+    ensures { OnOk result (out.new.items ≡ out.old.items ++ writing.channel changed.now.loop) }
 {
-    match head {
-        [_, _, _, channel, opening, index, ..] => {
-            out.extend_from_slice(channel.token())?;
-            if same_kind(opening.kind(), Kind::OpenBracket) {
-                out.extend_from_slice(b"[")?;
-                out.extend_from_slice(index.token())?;
-                out.extend_from_slice(b"]")?;
-            }
-            Ok(())
-        }
-        _ => Ok(()),
+    out.extend_from_slice(changed.channel())?;
+    if changed.index().is_empty() {
+        return Ok(());
     }
-}
-
-// The variable of a loop.
-fn variable<'t>(head: &[Stretch<'t>]) -> &'t [u8]
-    ensures { result.now ≡ writing.variable head.now }
-{
-    match head {
-        [_, variable, ..] => variable.token(),
-        _ => b"",
-    }
+    out.extend_from_slice(b"[")?;
+    out.extend_from_slice(changed.index())?;
+    out.extend_from_slice(b"]")
 }
 
 // Adds the turn of a message: it is received, and sent again.
@@ -108,18 +91,18 @@ fn add_turn(
     out: &mut Vec<u8>,
     members: &[Member<'_>],
     records: &[Variable<'_>],
-    head: &[Stretch<'_>],
+    changed: &Changed<'_>,
 ) -> Result<(), AllocError>
-    ensures { OnOk result (out.new.items ≡ out.old.items ++ writing.turn members.now records.now head.now) }
+    ensures { OnOk result (out.new.items ≡ out.old.items ++ writing.turn members.now records.now changed.now.loop) }
 {
-    let name = variable(head);
+    let name = changed.name();
     let word = record_of(records, name);
     out.extend_from_slice(b" ")?;
-    add_channel(out, head)?;
+    add_channel(out, changed)?;
     out.extend_from_slice(b"?")?;
     add_fields(out, members, word, name)?;
     out.extend_from_slice(b"; ")?;
-    add_channel(out, head)?;
+    add_channel(out, changed)?;
     out.extend_from_slice(b"!")?;
     add_fields(out, members, word, name)?;
     out.extend_from_slice(b";")
@@ -144,7 +127,7 @@ fn add_shown(
     members: &[Member<'_>],
     records: &[Variable<'_>],
     joint: &[u8],
-    changed: &Changed<'_, '_>,
+    changed: &Changed<'_>,
 ) -> Result<(), AllocError>
     ensures { OnOk result (out.new.items ≡ out.old.items ++ writing.shown members.now records.now joint.now changed.now) }
 {
@@ -162,7 +145,7 @@ fn add_shown(
         }
         Change::Turned => {
             out.extend_from_slice(token)?;
-            add_turn(out, members, records, changed.head())
+            add_turn(out, members, records, changed)
         }
     }
 }
@@ -172,7 +155,7 @@ fn add_changed(
     members: &[Member<'_>],
     records: &[Variable<'_>],
     joint: &[u8],
-    changed: &Changed<'_, '_>,
+    changed: &Changed<'_>,
 ) -> Result<(), AllocError>
     ensures { OnOk result (out.new.items ≡ out.old.items ++ writing.one members.now records.now joint.now changed.now) }
 {
@@ -186,7 +169,7 @@ fn written(
     members: &[Member<'_>],
     records: &[Variable<'_>],
     joint: &[u8],
-    all: &[Changed<'_, '_>],
+    all: &[Changed<'_>],
 ) -> Result<Vec<u8>, AllocError>
     ensures { IfOk result (λ v. writing.IsWritten (writing.written members.now records.now joint.now all.now) v.items) }
 {
