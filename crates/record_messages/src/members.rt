@@ -1,7 +1,7 @@
 //! The fields of typedefs.
 
 ghost use Rattle.std.specs.Prelude.{◌≡◌, IfOk, OnOk, ◌++◌};
-ghost use Rattle.record_messages.specs.Members as members;
+ghost use Rattle.record_messages.specs.Members as as_members;
 
 use pml_token::token::{Kind, same_kind};
 use prepare::stretch::Stretch;
@@ -67,7 +67,7 @@ pub enum Fields {
 }
 
 fn is_plain(kind: Kind) -> bool
-    ensures { result ≡ members.is_plain kind }
+    ensures { result ≡ as_members.is_plain kind }
 {
     matches!(
         kind,
@@ -83,7 +83,7 @@ fn is_plain(kind: Kind) -> bool
 }
 
 fn begun(kind: Kind) -> Fields
-    ensures { result ≡ members.begun kind }
+    ensures { result ≡ as_members.begun kind }
 {
     if same_kind(kind, Kind::Typedef) {
         Fields::Headed
@@ -94,7 +94,7 @@ fn begun(kind: Kind) -> Fields
 
 // Behind a token of this kind, if it is the one that is awaited.
 fn if_kind(wanted: Kind, kind: Kind, next: Fields) -> Fields
-    ensures { result ≡ members.if_kind wanted kind next }
+    ensures { result ≡ as_members.if_kind wanted kind next }
 {
     if same_kind(kind, wanted) {
         next
@@ -104,7 +104,7 @@ fn if_kind(wanted: Kind, kind: Kind, next: Fields) -> Fields
 }
 
 fn behind_lead(kind: Kind) -> Fields
-    ensures { result ≡ members.behind_lead kind }
+    ensures { result ≡ as_members.behind_lead kind }
 {
     if is_plain(kind) {
         Fields::Typed
@@ -114,7 +114,7 @@ fn behind_lead(kind: Kind) -> Fields
 }
 
 fn behind_field(kind: Kind) -> Fields
-    ensures { result ≡ members.behind_field kind }
+    ensures { result ≡ as_members.behind_field kind }
 {
     if same_kind(kind, Kind::Comma) {
         Fields::Typed
@@ -124,7 +124,7 @@ fn behind_field(kind: Kind) -> Fields
 }
 
 fn behind(fields: Fields, kind: Kind) -> Fields
-    ensures { result ≡ members.behind fields kind }
+    ensures { result ≡ as_members.behind fields kind }
 {
     match fields {
         Fields::Outside => begun(kind),
@@ -138,7 +138,7 @@ fn behind(fields: Fields, kind: Kind) -> Fields
 
 // Whether a typedef has something here that is no field of a plain type.
 fn is_odd(fields: Fields, kind: Kind) -> bool
-    ensures { result ≡ members.is_odd fields kind }
+    ensures { result ≡ as_members.is_odd fields kind }
 {
     let is_end = same_kind(kind, Kind::Semicolon) || same_kind(kind, Kind::CloseBrace);
     match fields {
@@ -150,26 +150,26 @@ fn is_odd(fields: Fields, kind: Kind) -> bool
 }
 
 fn is_field(fields: Fields, kind: Kind) -> bool
-    ensures { result ≡ members.is_field fields kind }
+    ensures { result ≡ as_members.is_field fields kind }
 {
     matches!(fields, Fields::Typed) && same_kind(kind, Kind::Name)
 }
 
 fn names_home(fields: Fields, kind: Kind) -> bool
-    ensures { result ≡ members.names_home fields kind }
+    ensures { result ≡ as_members.names_home fields kind }
 {
     matches!(fields, Fields::Headed) && same_kind(kind, Kind::Name)
 }
 
 fn names_type(fields: Fields, kind: Kind) -> bool
-    ensures { result ≡ members.names_type fields kind }
+    ensures { result ≡ as_members.names_type fields kind }
 {
     matches!(fields, Fields::Ahead) && is_plain(kind)
 }
 
 /// Of two texts the first, where that is asked for.
 pub(crate) fn either<'t>(is_first: bool, one: &'t [u8], other: &'t [u8]) -> &'t [u8]
-    ensures { result.now ≡ members.either is_first one.now other.now }
+    ensures { result.now ≡ as_members.either is_first one.now other.now }
 {
     if is_first { one } else { other }
 }
@@ -183,7 +183,7 @@ fn add_member<'t>(
     home: &'t [u8],
     word: &'t [u8],
 ) -> Result<(), AllocError>
-    ensures { OnOk result (out.new.items ≡ out.old.items ++ members.member_at fields kind token.now home.now word.now) }
+    ensures { OnOk result (out.new.items ≡ out.old.items ++ as_members.member_at fields kind token.now home.now word.now) }
 {
     let nothing: &'t [u8] = b"";
     if is_field(fields, kind) || is_odd(fields, kind) {
@@ -198,7 +198,7 @@ fn add_member<'t>(
 
 // What all typedefs of a text have.
 fn all_members<'t>(alloc: Global, stretches: &[Stretch<'t>]) -> Result<Vec<Member<'t>>, AllocError>
-    ensures { IfOk result (λ v. v.items ≡ members.all_members stretches.now) }
+    ensures { IfOk result (λ v. v.items ≡ as_members.all_members stretches.now) }
 {
     let mut out = Vec::new(alloc);
     let mut fields = Fields::Outside;
@@ -219,7 +219,7 @@ fn all_members<'t>(alloc: Global, stretches: &[Stretch<'t>]) -> Result<Vec<Membe
 
 /// The fields of all typedefs of a text, if these are not too many.
 pub fn members<'t>(alloc: Global, stretches: &[Stretch<'t>]) -> Result<Vec<Member<'t>>, AllocError>
-    ensures { IfOk result (λ v. v.items ≡ members.members stretches.now) }
+    ensures { IfOk result (λ v. v.items ≡ as_members.members stretches.now) }
 {
     let all = all_members(alloc, stretches)?;
     if all.len() > MOST_MEMBERS {
@@ -230,7 +230,7 @@ pub fn members<'t>(alloc: Global, stretches: &[Stretch<'t>]) -> Result<Vec<Membe
 
 /// Whether a typedef of this name has fields, all of a plain type.
 pub fn is_record(members: &[Member<'_>], name: &[u8]) -> bool
-    ensures { result ≡ members.is_record members.now name.now }
+    ensures { result ≡ as_members.is_record members.now name.now }
 {
     let mut has_fields = false;
     let mut rest = members;

@@ -1,7 +1,8 @@
 //! The variables that are records.
 
 ghost use Rattle.std.specs.Prelude.{◌≡◌, ◌++◌, IfOk, OnOk};
-ghost use Rattle.record_messages.specs.Variables as variables;
+ghost use Rattle.record_messages.specs.declared.variables.TheConstants.{MOST_RECORDS};
+ghost use Rattle.record_messages.specs.Variables as as_variables;
 
 use crate::members::{Member, either, is_record};
 use pml_token::token::{Kind, same_kind};
@@ -49,7 +50,7 @@ impl<'t> Variable<'t> {
 
 /// Whether a token of this kind stands at the front of stretches.
 pub(crate) fn begins_with(kind: Kind, stretches: &[Stretch<'_>]) -> bool
-    ensures { result ≡ variables.begins_with kind stretches.now }
+    ensures { result ≡ as_variables.begins_with kind stretches.now }
 {
     match stretches {
         [stretch, ..] => same_kind(stretch.kind(), kind),
@@ -58,21 +59,21 @@ pub(crate) fn begins_with(kind: Kind, stretches: &[Stretch<'_>]) -> bool
 }
 
 fn is_led_by_type(lead: Lead) -> bool
-    ensures { result ≡ variables.is_led_by_type lead }
+    ensures { result ≡ as_variables.is_led_by_type lead }
 {
     matches!(lead, Lead::Type)
 }
 
 // Whether a name is declared behind its type.
 fn is_first(reading: Reading, kind: Kind) -> bool
-    ensures { result ≡ variables.is_first reading kind }
+    ensures { result ≡ as_variables.is_first reading kind }
 {
     reading.declares(kind) && is_led_by_type(reading.lead)
 }
 
 // The type of a name that is declared before these stretches.
 fn type_of<'t>(reading: Reading, word: &'t [u8], back: &[Stretch<'_>]) -> &'t [u8]
-    ensures { result.now ≡ variables.type_of reading word.now back.now }
+    ensures { result.now ≡ as_variables.type_of reading word.now back.now }
 {
     if reading.is_header || begins_with(Kind::OpenBracket, back) {
         return b"";
@@ -85,7 +86,7 @@ pub fn variables<'t>(
     alloc: Global,
     stretches: &[Stretch<'t>],
 ) -> Result<Vec<Variable<'t>>, AllocError>
-    ensures { IfOk result (λ v. v.items ≡ variables.variables stretches.now) }
+    ensures { IfOk result (λ v. v.items ≡ as_variables.variables stretches.now) }
 {
     let mut out = Vec::new(alloc);
     let mut reading = Reading::start();
@@ -111,7 +112,7 @@ pub fn variables<'t>(
 
 // Whether all of these that have the name are of the type.
 fn agree(variables: &[Variable<'_>], name: &[u8], word: &[u8]) -> bool
-    ensures { result ≡ variables.agree variables.now name.now word.now }
+    ensures { result ≡ as_variables.agree variables.now name.now word.now }
 {
     let mut rest = variables;
     while let [variable, back @ ..] = rest {
@@ -124,7 +125,7 @@ fn agree(variables: &[Variable<'_>], name: &[u8], word: &[u8]) -> bool
 }
 
 fn is_short(name: &[u8]) -> bool
-    ensures { result ≡ variables.is_short name.now }
+    ensures { result ≡ as_variables.is_short name.now }
 {
     name.len() <= MOST_LENGTH
 }
@@ -135,7 +136,7 @@ fn declared_records<'t>(
     members: &[Member<'_>],
     variables: &[Variable<'t>],
 ) -> Result<Vec<Variable<'t>>, AllocError>
-    ensures { IfOk result (λ v. v.items ≡ variables.declared_records MOST_RECORDS members.now variables.now) }
+    ensures { IfOk result (λ v. v.items ≡ as_variables.declared_records MOST_RECORDS members.now variables.now) }
 {
     let mut out = Vec::new(alloc);
     let mut room = MOST_RECORDS;
@@ -159,7 +160,7 @@ fn settled<'t>(
     all: &[Variable<'_>],
     found: &[Variable<'t>],
 ) -> Result<Vec<Variable<'t>>, AllocError>
-    ensures { IfOk result (λ v. v.items ≡ variables.settled all.now found.now) }
+    ensures { IfOk result (λ v. v.items ≡ as_variables.settled all.now found.now) }
 {
     let mut out = Vec::new(alloc);
     let mut rest = found;
@@ -181,7 +182,7 @@ pub fn records<'t>(
     members: &[Member<'_>],
     stretches: &[Stretch<'t>],
 ) -> Result<Vec<Variable<'t>>, AllocError>
-    ensures { IfOk result (λ v. v.items ≡ variables.records members.now stretches.now) }
+    ensures { IfOk result (λ v. v.items ≡ as_variables.records members.now stretches.now) }
 {
     let all = variables(alloc, stretches)?;
     let found = declared_records(alloc, members, &all)?;
@@ -190,7 +191,7 @@ pub fn records<'t>(
 
 /// The typedef of a record; nothing where this is none.
 pub fn record_of<'t>(records: &[Variable<'t>], name: &[u8]) -> &'t [u8]
-    ensures { result.now ≡ variables.record_of records.now name.now }
+    ensures { result.now ≡ as_variables.record_of records.now name.now }
 {
     let mut rest = records;
     while let [variable, back @ ..] = rest {
