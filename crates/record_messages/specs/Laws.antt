@@ -1,5 +1,5 @@
 -- Words for laws over the definitions.
-use Rattle.std.specs.Prelude.{◌≡◌, ℕ, true, false, List, ◌++◌, ◌⊎◌}
+use Rattle.std.specs.Prelude.{◌≡◌, ℕ, true, false, List, ◌++◌}
 use Rattle.std.specs.List.{flat_map}
 use Rattle.pml_token.specs.declared.token.Kind.TheVariants as kind
 use Rattle.record_messages.specs.declared.changes.Change.TheVariants as change

@@ -1,6 +1,6 @@
 //! Writes a text in which a record that is a message is its fields.
 
-ghost use Rattle.std.specs.Prelude.{◌≡◌, ◌++◌, IfOk, OnOk};
+ghost use Rattle.std.specs.Prelude.{◌≡◌, true, ◌++◌, IfOk, OnOk};
 ghost use Rattle.record_messages.specs.Writing as writing;
 
 use crate::changes::{Change, Changed, MOST_LOOPS, changes};
