@@ -1,7 +1,6 @@
 -- What is written between tokens is written again to itself.
-use Rattle.std.proofs.Common.{◌≡◌, ℕ, Bool, true, false, cond, ◌&&◌, List, [], ◌∷◌, ◌++◌, sym, refl, ap, ◌∙◌, subst}
+use Rattle.std.proofs.Common.{◌≡◌, ℕ, Bool, true, false, cond, ◌&&◌, List, [], ◌∷◌, ◌++◌, sym, refl, ap, ◌∙◌}
 use Rattle.std.specs.List.{list_any}
-use Rattle.std.proofs.lemmas.Bool.{false≢true}
 use Rattle.pml_token.specs.declared.token.Kind.{Kind}
 use Rattle.pml_token.specs.declared.token.Kind.TheVariants as kind
 use Rattle.prepare.specs.declared.roles.Role.{Role}
@@ -13,10 +12,9 @@ use Rattle.prepare.specs.declared.context.Context.{Context}
 use Rattle.prepare.specs.declared.context.Supply.{Supply}
 use Rattle.prepare.specs.declared.context.Supply.TheVariants.{Nothing, Separator, Skip}
 use Rattle.prepare.specs.Roles.{is_block_word, role, begins}
-use Rattle.prepare.specs.Contexts as contexts
 use Rattle.prepare.specs.Contexts.{code_behind, behind, start, has_statements, skip_before, supply_behind, supply}
 use Rattle.prepare.specs.Written.{Written}
-use Rattle.prepare.specs.Stretches.{ends_line, stretch, stretches}
+use Rattle.prepare.specs.Stretches.{ends_line, stretches}
 use Rattle.prepare.specs.Blocks.{is_blanked}
 use Rattle.prepare.proofs.Chain.{IsWord, IsStretch, IsLast, Chain, chained}
 use Rattle.prepare_laws.specs.Twice.{Piece, role_of, inserted, separated_from, separated, piece, pieces, written, OnceIsTwice, IsWrittenOnce}
